@@ -1,0 +1,9 @@
+pub mod Arp
+pub mod Cidr
+pub mod Ethernet
+pub mod Hardware
+pub mod Ip
+pub mod Ipv4
+pub mod Ipv6
+pub mod Octets
+pub mod Prefixes

@@ -1,0 +1,89 @@
+//! The Address Resolution Protocol (RFC 826), for IPv4 over Ethernet.
+ghost use Rattle.std.specs.Prelude.{◌≡◌, ◌+◌, ◌≤◌, ◌++◌, length};
+ghost use Rattle.std.specs.Option.{SomeIff};
+ghost use Rattle.arrayvec.specs.ArrayVec.{array_vec_len};
+ghost use Rattle.ip_wire.specs.Arp as spec;
+
+use crate::emit::append;
+use crate::ethernet::{EthernetAddress, address_at};
+use crate::ipv4::Ipv4Address;
+use crate::octets::{u16_at, u32_at};
+use arrayvec::ArrayVec;
+
+/// What a packet asks or says.
+#[derive(Clone, Copy, Debug, PartialEq, Eq)]
+pub enum ArpOperation {
+    Request,
+    Reply,
+}
+
+impl ArpOperation {
+    /// The number of an operation.
+    const fn number(self) -> u16
+        ensures { result ≡ spec.number_of self }
+    {
+        match self {
+            ArpOperation::Request => 1,
+            ArpOperation::Reply => 2,
+        }
+    }
+}
+
+/// The values of a packet.
+#[derive(Clone, Copy, Debug, PartialEq, Eq)]
+pub struct ArpRepr {
+    pub operation: ArpOperation,
+    pub source_hardware_addr: EthernetAddress,
+    pub source_protocol_addr: Ipv4Address,
+    pub target_hardware_addr: EthernetAddress,
+    pub target_protocol_addr: Ipv4Address,
+}
+
+impl ArpRepr {
+    /// The packet that the octets begin with. What stands behind its 28 octets isn't read. `None`
+    /// exactly if they are fewer, if the packet isn't for IPv4 over Ethernet, or if it is neither a
+    /// request nor a reply.
+    pub fn parse(packet: &[u8]) -> Option<ArpRepr>
+        ensures { SomeIff result (spec.IsArp packet.now) (spec.arp_in packet.now) }
+    {
+        if packet.len() < 28
+            || u16_at(packet, 0) != 1
+            || u16_at(packet, 2) != 0x0800
+            || packet[4] != 6
+            || packet[5] != 4
+        {
+            return None;
+        }
+        let operation = match u16_at(packet, 6) {
+            1 => ArpOperation::Request,
+            2 => ArpOperation::Reply,
+            _ => return None,
+        };
+        Some(ArpRepr {
+            operation,
+            source_hardware_addr: address_at(packet, 8),
+            source_protocol_addr: Ipv4Address {
+                bits: u32_at(packet, 14),
+            },
+            target_hardware_addr: address_at(packet, 18),
+            target_protocol_addr: Ipv4Address {
+                bits: u32_at(packet, 24),
+            },
+        })
+    }
+
+    /// Appends the packet, of 28 octets.
+    #[tactic(auto, unfolding(crate::specs::Arp::ipv4_over_ethernet))]
+    pub fn emit<const N: usize>(&self, out: &mut ArrayVec<u8, N>)
+        requires { array_vec_len out.old + 28 ≤ N }
+        ensures items { out.new.items ≡ out.old.items ++ spec.text self.now }
+        ensures len { array_vec_len out.new ≡ array_vec_len out.old + 28 }
+    {
+        append(out, &[0, 1, 8, 0, 6, 4]);
+        append(out, &self.operation.number().to_be_bytes());
+        append(out, &self.source_hardware_addr.0);
+        append(out, &self.source_protocol_addr.octets());
+        append(out, &self.target_hardware_addr.0);
+        append(out, &self.target_protocol_addr.octets());
+    }
+}

@@ -1,0 +1,126 @@
+//! Ethernet II frames: destination, source, type, payload.
+ghost use Rattle.std.specs.Prelude.{◌≡◌, ◌+◌, ◌≤◌, ◌++◌, length};
+ghost use Rattle.std.specs.Option.{SomeIff, option_map};
+ghost use Rattle.arrayvec.specs.ArrayVec.{array_vec_len};
+ghost use Rattle.ip_wire.specs.Ethernet as spec;
+
+use crate::emit::append;
+use crate::octets::u16_at;
+use arrayvec::ArrayVec;
+
+/// The length of a frame's header, in octets.
+pub const HEADER_LEN: usize = 14;
+
+/// The address of an Ethernet interface: six octets.
+#[derive(Clone, Copy, Debug, PartialEq, Eq, PartialOrd, Ord, Hash)]
+pub struct EthernetAddress(pub [u8; 6]);
+
+impl EthernetAddress {
+    /// The address of all interfaces.
+    pub const BROADCAST: EthernetAddress = EthernetAddress([0xff, 0xff, 0xff, 0xff, 0xff, 0xff]);
+
+    /// Whether it is that of all interfaces: all ones.
+    pub fn is_broadcast(&self) -> bool
+        ensures { result ≡ spec.is_broadcast self.now }
+    {
+        self.0 == [0xff, 0xff, 0xff, 0xff, 0xff, 0xff]
+    }
+
+    /// Whether it is that of a group: its first octet is odd. That of all interfaces is one, too.
+    pub const fn is_multicast(&self) -> bool
+        ensures { result ≡ spec.is_multicast self.now }
+    {
+        self.0[0] % 2 == 1
+    }
+
+    /// Whether it is that of one interface, neither a group's nor that of all.
+    pub fn is_unicast(&self) -> bool
+        ensures { result ≡ spec.is_unicast self.now }
+    {
+        !(self.is_broadcast() || self.is_multicast())
+    }
+}
+
+/// The address of six octets at a place.
+#[inline(always)]
+pub(crate) fn address_at(octets: &[u8], at: usize) -> EthernetAddress
+    requires { at + 6 ≤ length octets.now }
+    ensures { result ≡ spec.address_at octets.now at }
+{
+    let mut address = [0; 6];
+    address.copy_from_slice(&octets[at..at + 6]);
+    EthernetAddress(address)
+}
+
+/// What a frame's payload is.
+#[derive(Clone, Copy, Debug, PartialEq, Eq)]
+pub enum EthernetProtocol {
+    Ipv4,
+    Arp,
+    Ipv6,
+    /// Another type, by its number.
+    Unknown(u16),
+}
+
+impl EthernetProtocol {
+    /// The protocol of a type number.
+    pub const fn from_number(number: u16) -> EthernetProtocol
+        ensures { result ≡ spec.protocol_of number }
+    {
+        match number {
+            0x0800 => EthernetProtocol::Ipv4,
+            0x0806 => EthernetProtocol::Arp,
+            0x86dd => EthernetProtocol::Ipv6,
+            other => EthernetProtocol::Unknown(other),
+        }
+    }
+
+    /// The type number of a protocol.
+    pub const fn number(self) -> u16
+        ensures { result ≡ spec.number_of self }
+    {
+        match self {
+            EthernetProtocol::Ipv4 => 0x0800,
+            EthernetProtocol::Arp => 0x0806,
+            EthernetProtocol::Ipv6 => 0x86dd,
+            EthernetProtocol::Unknown(other) => other,
+        }
+    }
+}
+
+/// The values of a frame's header.
+#[derive(Clone, Copy, Debug, PartialEq, Eq)]
+pub struct EthernetRepr {
+    pub src_addr: EthernetAddress,
+    pub dst_addr: EthernetAddress,
+    pub ethertype: EthernetProtocol,
+}
+
+impl EthernetRepr {
+    /// The header of a frame, and its payload as a part of the frame. `None` exactly if the frame
+    /// is shorter than a header of 14 octets.
+    pub fn parse(frame: &[u8]) -> Option<(EthernetRepr, &[u8])>
+        ensures { SomeIff (option_map spec.parts result) (14 ≤ length frame.now) (spec.ethernet_in frame.now) }
+    {
+        if frame.len() < HEADER_LEN {
+            return None;
+        }
+        let repr = EthernetRepr {
+            src_addr: address_at(frame, 6),
+            dst_addr: address_at(frame, 0),
+            ethertype: EthernetProtocol::from_number(u16_at(frame, 12)),
+        };
+        Some((repr, &frame[HEADER_LEN..]))
+    }
+
+    /// Appends the header, of 14 octets.
+    pub fn emit<const N: usize>(&self, out: &mut ArrayVec<u8, N>)
+        requires { array_vec_len out.old + 14 ≤ N }
+        ensures items { out.new.items ≡ out.old.items ++ spec.header_text self.now }
+        ensures len { array_vec_len out.new ≡ array_vec_len out.old + 14 }
+    {
+        append(out, &self.dst_addr.0);
+        append(out, &self.src_addr.0);
+        append(out, &self.ethertype.number().to_be_bytes());
+    }
+}

@@ -1,0 +1,44 @@
+//! Hardware addresses.
+ghost use Rattle.std.specs.Prelude.{◌≡◌};
+ghost use Rattle.ip_wire.specs.Hardware as spec;
+
+use crate::ethernet::EthernetAddress;
+use net_base::phy::Medium;
+
+/// The address of an interface on its link.
+#[derive(Clone, Copy, Debug, PartialEq, Eq)]
+pub enum HardwareAddress {
+    /// A medium without hardware addresses.
+    Ip,
+    Ethernet(EthernetAddress),
+}
+
+impl HardwareAddress {
+    /// The medium that has such addresses.
+    pub const fn medium(&self) -> Medium
+        ensures { result ≡ spec.medium_of self.now }
+    {
+        match self {
+            HardwareAddress::Ip => Medium::Ip,
+            HardwareAddress::Ethernet(_) => Medium::Ethernet,
+        }
+    }
+
+    /// Whether it is that of one interface. Where there are no hardware addresses it is.
+    pub fn is_unicast(&self) -> bool
+        ensures { result ≡ spec.is_unicast self.now }
+    {
+        match self {
+            HardwareAddress::Ip => true,
+            HardwareAddress::Ethernet(address) => address.is_unicast(),
+        }
+    }
+}
+
+impl Default for HardwareAddress {
+    fn default() -> HardwareAddress
+        ensures { result ≡ HardwareAddress.Ip }
+    {
+        HardwareAddress::Ip
+    }
+}

@@ -1,0 +1,71 @@
+//! IPv4 addresses (RFC 791, RFC 1122).
+ghost use Rattle.std.specs.Prelude.{◌≡◌};
+ghost use Rattle.std.specs.Int.{w32, to_be_bytes};
+ghost use Rattle.ip_wire.specs.Ipv4 as spec;
+
+/// An IPv4 address, as the number of its four octets, the first one highest.
+#[derive(Clone, Copy, Debug, PartialEq, Eq, PartialOrd, Ord, Hash)]
+pub struct Ipv4Address {
+    /// The number.
+    pub bits: u32,
+}
+
+impl Ipv4Address {
+    /// The address of a host that doesn't know its own, 0.0.0.0.
+    pub const UNSPECIFIED: Ipv4Address = Ipv4Address { bits: 0 };
+
+    /// The address of all hosts on the link, 255.255.255.255.
+    pub const BROADCAST: Ipv4Address = Ipv4Address { bits: 0xffff_ffff };
+
+    /// The address of four octets.
+    pub const fn new(a: u8, b: u8, c: u8, d: u8) -> Ipv4Address
+        ensures { result ≡ spec.address_of a b c d }
+    {
+        Ipv4Address {
+            bits: u32::from_be_bytes([a, b, c, d]),
+        }
+    }
+
+    /// Its four octets, the first one first.
+    pub const fn octets(self) -> [u8; 4]
+        ensures { result ≡ to_be_bytes w32 self.bits }
+    {
+        self.bits.to_be_bytes()
+    }
+
+    /// Whether it is 0.0.0.0.
+    pub const fn is_unspecified(&self) -> bool
+        ensures { result ≡ spec.is_unspecified self.now }
+    {
+        self.bits == 0
+    }
+
+    /// Whether it is 255.255.255.255.
+    pub const fn is_broadcast(&self) -> bool
+        ensures { result ≡ spec.is_broadcast self.now }
+    {
+        self.bits == 0xffff_ffff
+    }
+
+    /// Whether it is that of a group: in 224.0.0.0/4.
+    pub const fn is_multicast(&self) -> bool
+        ensures { result ≡ spec.is_multicast self.now }
+    {
+        self.bits >> 28 == 14
+    }
+
+    /// Whether it is that of one host: not a group's, not 255.255.255.255, not 0.0.0.0.
+    pub const fn is_unicast(&self) -> bool
+        ensures { result ≡ spec.is_unicast self.now }
+    {
+        !(self.is_broadcast() || self.is_multicast() || self.is_unspecified())
+    }
+}
+
+impl Default for Ipv4Address {
+    fn default() -> Ipv4Address
+        ensures { result ≡ record { bits = 0 } }
+    {
+        Ipv4Address::UNSPECIFIED
+    }
+}

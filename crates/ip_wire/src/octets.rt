@@ -1,0 +1,21 @@
+//! Big-endian numbers at a place of some octets.
+ghost use Rattle.std.specs.Prelude.{◌≡◌, ◌+◌, ◌≤◌, length};
+ghost use Rattle.ip_wire.specs.Octets as spec;
+
+/// The number of two octets at a place.
+#[inline(always)]
+pub fn u16_at(octets: &[u8], at: usize) -> u16
+    requires { at + 2 ≤ length octets.now }
+    ensures { result ≡ spec.u16_at octets.now at }
+{
+    u16::from_be_bytes([octets[at], octets[at + 1]])
+}
+
+/// The number of four octets at a place.
+#[inline(always)]
+pub fn u32_at(octets: &[u8], at: usize) -> u32
+    requires { at + 4 ≤ length octets.now }
+    ensures { result ≡ spec.u32_at octets.now at }
+{
+    u32::from_be_bytes([octets[at], octets[at + 1], octets[at + 2], octets[at + 3]])
+}

@@ -1,0 +1,4 @@
+pub mod Checksum
+pub mod Device
+pub mod Rand
+pub mod Time
