@@ -1,7 +1,7 @@
 -- ARP (RFC 826), for IPv4 over Ethernet.
-use Rattle.std.specs.Prelude.{◌≡◌, ℕ, ◌≤◌, ◌<◌, ◌^◌, ◌⊎◌, ◌==◌, List, [], ◌∷◌, ◌++◌, length, slice_index, if◌then◌else◌}
+use Rattle.std.specs.Prelude.{◌≡◌, ℕ, ◌≤◌, ◌<◌, ◌^◌, ◌⊎◌, ◌==◌, List, [], ◌∷◌, ◌++◌, length, take, slice_index, if◌then◌else◌}
 use Rattle.std.specs.Int.{w16, w32, to_be_bytes}
-use Rattle.ip_wire.specs.Octets.{u16_at, u32_at}
+use Rattle.ip_wire.specs.Octets.{u16_at, u32_at, AreOctets}
 use Rattle.ip_wire.specs.Ethernet.{address_at}
 use Rattle.ip_wire.specs.declared.arp.ArpOperation.{ArpOperation}
 use Rattle.ip_wire.specs.declared.arp.ArpOperation.TheVariants.{Request, Reply}
@@ -50,3 +50,7 @@ pub record IsPacket (r : ArpRepr) : Type 0 where
 -- a text is read as its values, whatever stands behind it
 abbrev pub ReadAgain : Type 0
 ReadAgain = (r : ArpRepr) (more : List ℕ) → IsPacket r → IsArp (text r ++ more) × (arp_in (text r ++ more) ≡ r)
+
+-- a packet is the text of its values
+abbrev pub WrittenAgain : Type 0
+WrittenAgain = (octets : List ℕ) → AreOctets octets → IsArp octets → text (arp_in octets) ≡ take 28 octets

@@ -1,6 +1,6 @@
 -- Networks (RFC 4632, RFC 4291 2.3): an address is in one whose prefix it shares.
-use Rattle.std.specs.Prelude.{Bool, false, ◌==◌, ◌&&◌}
-use Rattle.ip_wire.specs.Prefixes.{agrees}
+use Rattle.std.specs.Prelude.{ℕ, Bool, false, ◌==◌, ◌&&◌, nat_lt, if◌then◌else◌, Option, Some, None}
+use Rattle.ip_wire.specs.Prefixes.{agrees, last_of}
 use Rattle.ip_wire.specs.declared.ipv4.Ipv4Address.{Ipv4Address}
 use Rattle.ip_wire.specs.declared.ipv6.Ipv6Address.{Ipv6Address}
 use Rattle.ip_wire.specs.declared.ip.IpAddress.{IpAddress}
@@ -27,6 +27,15 @@ contains (cidr.Ipv6 n) (Ipv4 a) = false
 abbrev pub address_of : IpCidr → IpAddress
 address_of (cidr.Ipv4 n) = Ipv4 n.address
 address_of (cidr.Ipv6 n) = Ipv6 n.address
+
+-- how many bits all its addresses share
+abbrev pub prefix_len_of : IpCidr → ℕ
+prefix_len_of (cidr.Ipv4 n) = n.prefix_len
+prefix_len_of (cidr.Ipv6 n) = n.prefix_len
+
+-- the last address of the network (RFC 922); none for 31 or 32 bits, where that is a host (RFC 3021)
+abbrev pub broadcast_of : Ipv4Cidr → Option Ipv4Address
+broadcast_of n = if nat_lt n.prefix_len 31 then Some (record { bits = last_of 32 n.prefix_len n.address.bits }) else None
 
 -- 0.0.0.0/0, or ::/0
 abbrev pub is_whole : IpCidr → Bool

@@ -1,8 +1,8 @@
 -- Ethernet II (IEEE 802.3, RFC 894): destination, source, type, payload.
-use Rattle.std.specs.Prelude.{◌≡◌, ℕ, ◌+◌, ◌%◌, ◌<◌, ◌^◌, ◌==◌, Bool, not, ◌||◌, List, [], ◌∷◌, ◌++◌, length, drop, slice_index, slice_range, if◌then◌else◌}
+use Rattle.std.specs.Prelude.{◌≡◌, ℕ, ◌+◌, ◌%◌, ◌<◌, ◌≤◌, ◌^◌, ◌==◌, Bool, not, ◌||◌, List, [], ◌∷◌, ◌++◌, length, drop, slice_index, slice_range, if◌then◌else◌}
 use Rattle.std.specs.Borrow.{Bor}
 use Rattle.std.specs.Str.{bytes_eq}
-use Rattle.ip_wire.specs.Octets.{u16_at}
+use Rattle.ip_wire.specs.Octets.{u16_at, AreOctets}
 use Rattle.std.specs.Int.{w16, to_be_bytes}
 use Rattle.ip_wire.specs.declared.ethernet.EthernetAddress.{EthernetAddress}
 use Rattle.ip_wire.specs.declared.ethernet.EthernetProtocol.{EthernetProtocol}
@@ -68,3 +68,7 @@ pub record IsHeader (r : EthernetRepr) : Type 0 where
 -- a text is read as its values, whatever stands behind it
 abbrev pub ReadAgain : Type 0
 ReadAgain = (r : EthernetRepr) (payload : List ℕ) → IsHeader r → ethernet_in (header_text r ++ payload) ≡ (r, payload)
+
+-- a frame is the text of its header, and what stands behind it
+abbrev pub WrittenAgain : Type 0
+WrittenAgain = (frame : List ℕ) → AreOctets frame → 14 ≤ length frame → header_text (header_in frame) ++ drop 14 frame ≡ frame

@@ -73,17 +73,32 @@ impl ArpRepr {
     }
 
     /// Appends the packet, of 28 octets.
-    #[tactic(auto, unfolding(crate::specs::Arp::ipv4_over_ethernet))]
     pub fn emit<const N: usize>(&self, out: &mut ArrayVec<u8, N>)
         requires { array_vec_len out.old + 28 ≤ N }
         ensures items { out.new.items ≡ out.old.items ++ spec.text self.now }
         ensures len { array_vec_len out.new ≡ array_vec_len out.old + 28 }
     {
-        append(out, &[0, 1, 8, 0, 6, 4]);
-        append(out, &self.operation.number().to_be_bytes());
-        append(out, &self.source_hardware_addr.0);
-        append(out, &self.source_protocol_addr.octets());
-        append(out, &self.target_hardware_addr.0);
-        append(out, &self.target_protocol_addr.octets());
+        let [o0, o1] = self.operation.number().to_be_bytes();
+        let [s0, s1, s2, s3, s4, s5] = self.source_hardware_addr.0;
+        let [p0, p1, p2, p3] = self.source_protocol_addr.octets();
+        let [t0, t1, t2, t3, t4, t5] = self.target_hardware_addr.0;
+        let [q0, q1, q2, q3] = self.target_protocol_addr.octets();
+        append(
+            out,
+            &[
+                0, 1, 8, 0, 6, 4, o0, o1, s0, s1, s2, s3, s4, s5, p0, p1, p2, p3, t0, t1, t2, t3,
+                t4, t5, q0, q1, q2, q3,
+            ],
+        );
     }
 }
+
+/// A packet that is emitted is read again, whatever stands behind it.
+pub fn read_again()
+    ensures { spec.ReadAgain }
+{}
+
+/// A packet that is read is written again, in the same 28 octets.
+pub fn written_again()
+    ensures { spec.WrittenAgain }
+{}

@@ -1,6 +1,6 @@
 //! IP networks: an address and the length of its prefix (RFC 4632, RFC 4291 2.3).
 ghost use Rattle.std.specs.Prelude.{◌≡◌, ◌≤◌};
-ghost use Rattle.ip_wire.specs.Prefixes.{agrees};
+ghost use Rattle.ip_wire.specs.Prefixes.{agrees, AgreesByBits};
 
 use crate::ip::IpAddress;
 use crate::ipv4::Ipv4Address;
@@ -17,7 +17,7 @@ pub struct Ipv4Cidr {
 
 impl Ipv4Cidr {
     ghost use Rattle.std.specs.Prelude.{◌≡◌, ◌≤◌};
-    ghost use Rattle.ip_wire.specs.Cidr.{contains4};
+    ghost use Rattle.ip_wire.specs.Cidr.{contains4, broadcast_of};
 
     /// The network of an address, with a prefix of at most 32 bits.
     pub fn new(address: Ipv4Address, prefix_len: u8) -> Ipv4Cidr
@@ -36,6 +36,20 @@ impl Ipv4Cidr {
         ensures { result ≡ contains4 self.now address.now }
     {
         agrees32(self.address.bits, address.bits, self.prefix_len)
+    }
+
+    /// The address of all its hosts, its last one. `None` exactly for a prefix of 31 or 32 bits, since
+    /// such a network has no address to spare (RFC 3021).
+    #[tactic(auto, using(crate::proofs::LastAddress::last_address))]
+    pub fn broadcast(&self) -> Option<Ipv4Address>
+        ensures { result ≡ broadcast_of self.now }
+    {
+        if self.prefix_len >= 31 {
+            return None;
+        }
+        Some(Ipv4Address {
+            bits: self.address.bits | (u32::MAX >> self.prefix_len),
+        })
     }
 }
 
@@ -92,7 +106,7 @@ pub enum IpCidr {
 
 impl IpCidr {
     ghost use Rattle.std.specs.Prelude.{◌≡◌};
-    ghost use Rattle.ip_wire.specs.Cidr.{address_of, contains};
+    ghost use Rattle.ip_wire.specs.Cidr.{address_of, contains, prefix_len_of};
 
     /// The address that was given for the network.
     pub const fn address(&self) -> IpAddress
@@ -101,6 +115,16 @@ impl IpCidr {
         match self {
             IpCidr::Ipv4(cidr) => IpAddress::Ipv4(cidr.address),
             IpCidr::Ipv6(cidr) => IpAddress::Ipv6(cidr.address),
+        }
+    }
+
+    /// The length of its prefix, in bits: at most 32, or 128 for IPv6.
+    pub const fn prefix_len(&self) -> u8
+        ensures { result ≡ prefix_len_of self.now }
+    {
+        match self {
+            IpCidr::Ipv4(cidr) => cidr.prefix_len,
+            IpCidr::Ipv6(cidr) => cidr.prefix_len,
         }
     }
 
@@ -142,3 +166,9 @@ fn agrees128(a: u128, b: u128, prefix_len: u8) -> bool
 {
     prefix_len == 0 || a >> (128 - prefix_len) == b >> (128 - prefix_len)
 }
+
+/// The first bits of two numbers agree, as `contains_addr` tests it by their quotients, exactly if
+/// their lists of bits begin alike.
+pub fn agrees_by_bits()
+    ensures { AgreesByBits }
+{}

@@ -7,6 +7,7 @@ ghost use Rattle.ip_wire.specs.Ethernet as spec;
 use crate::emit::append;
 use crate::octets::u16_at;
 use arrayvec::ArrayVec;
+use std::fmt;
 
 /// The length of a frame's header, in octets.
 pub const HEADER_LEN: usize = 14;
@@ -38,6 +39,14 @@ impl EthernetAddress {
         ensures { result ≡ spec.is_unicast self.now }
     {
         !(self.is_broadcast() || self.is_multicast())
+    }
+}
+
+impl fmt::Display for EthernetAddress {
+    /// As its six octets in hexadecimal, with dashes between them: 02-00-00-00-00-01.
+    fn fmt<W: fmt::Write>(&self, f: &mut fmt::Formatter<W>) -> fmt::Result {
+        let [a0, a1, a2, a3, a4, a5] = self.0;
+        write!(f, "{a0:02x}-{a1:02x}-{a2:02x}-{a3:02x}-{a4:02x}-{a5:02x}")
     }
 }
 
@@ -119,8 +128,22 @@ impl EthernetRepr {
         ensures items { out.new.items ≡ out.old.items ++ spec.header_text self.now }
         ensures len { array_vec_len out.new ≡ array_vec_len out.old + 14 }
     {
-        append(out, &self.dst_addr.0);
-        append(out, &self.src_addr.0);
-        append(out, &self.ethertype.number().to_be_bytes());
+        let [d0, d1, d2, d3, d4, d5] = self.dst_addr.0;
+        let [s0, s1, s2, s3, s4, s5] = self.src_addr.0;
+        let [t0, t1] = self.ethertype.number().to_be_bytes();
+        append(
+            out,
+            &[d0, d1, d2, d3, d4, d5, s0, s1, s2, s3, s4, s5, t0, t1],
+        );
     }
 }
+
+/// A header that is emitted is read again, whatever stands behind it.
+pub fn read_again()
+    ensures { spec.ReadAgain }
+{}
+
+/// A frame that is read is written again: its header's text, then its payload.
+pub fn written_again()
+    ensures { spec.WrittenAgain }
+{}

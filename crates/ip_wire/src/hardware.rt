@@ -4,6 +4,7 @@ ghost use Rattle.ip_wire.specs.Hardware as spec;
 
 use crate::ethernet::EthernetAddress;
 use net_base::phy::Medium;
+use std::fmt;
 
 /// The address of an interface on its link.
 #[derive(Clone, Copy, Debug, PartialEq, Eq)]
@@ -40,5 +41,15 @@ impl Default for HardwareAddress {
         ensures { result ≡ HardwareAddress.Ip }
     {
         HardwareAddress::Ip
+    }
+}
+
+impl fmt::Display for HardwareAddress {
+    /// As the Ethernet address, if it has one.
+    fn fmt<W: fmt::Write>(&self, f: &mut fmt::Formatter<W>) -> fmt::Result {
+        match self {
+            HardwareAddress::Ip => write!(f, "no hardware addr"),
+            HardwareAddress::Ethernet(address) => write!(f, "{address}"),
+        }
     }
 }

@@ -1,7 +1,10 @@
 //! IPv4 addresses (RFC 791, RFC 1122).
-ghost use Rattle.std.specs.Prelude.{◌≡◌};
+ghost use Rattle.std.specs.Prelude.{◌≡◌, ◌≤◌};
 ghost use Rattle.std.specs.Int.{w32, to_be_bytes};
 ghost use Rattle.ip_wire.specs.Ipv4 as spec;
+ghost use Rattle.ip_wire.specs.Prefixes.{common_bits};
+
+use std::fmt;
 
 /// An IPv4 address, as the number of its four octets, the first one highest.
 #[derive(Clone, Copy, Debug, PartialEq, Eq, PartialOrd, Ord, Hash)]
@@ -60,6 +63,15 @@ impl Ipv4Address {
     {
         !(self.is_broadcast() || self.is_multicast() || self.is_unspecified())
     }
+
+    /// How many leading bits agree with those of another address, at most `most` of the 32.
+    #[tactic(auto, using(crate::proofs::CommonBits::common))]
+    pub fn common_prefix_len(&self, other: &Ipv4Address, most: u8) -> u8
+        requires { most ≤ 32 }
+        ensures { result ≡ common_bits 32 self.now.bits other.now.bits most }
+    {
+        ((self.bits ^ other.bits).leading_zeros() as u8).min(most)
+    }
 }
 
 impl Default for Ipv4Address {
@@ -67,5 +79,13 @@ impl Default for Ipv4Address {
         ensures { result ≡ record { bits = 0 } }
     {
         Ipv4Address::UNSPECIFIED
+    }
+}
+
+impl fmt::Display for Ipv4Address {
+    /// As its four octets in decimals, with dots between them: 192.168.69.1.
+    fn fmt<W: fmt::Write>(&self, f: &mut fmt::Formatter<W>) -> fmt::Result {
+        let [a, b, c, d] = self.octets();
+        write!(f, "{a}.{b}.{c}.{d}")
     }
 }

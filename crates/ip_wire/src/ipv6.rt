@@ -1,6 +1,7 @@
 //! IPv6 addresses (RFC 4291).
-ghost use Rattle.std.specs.Prelude.{◌≡◌};
+ghost use Rattle.std.specs.Prelude.{◌≡◌, ◌≤◌};
 ghost use Rattle.ip_wire.specs.Ipv6 as spec;
+ghost use Rattle.ip_wire.specs.Prefixes.{common_bits};
 
 /// An IPv6 address, as the number of its sixteen octets, the first one highest.
 #[derive(Clone, Copy, Debug, PartialEq, Eq, PartialOrd, Ord, Hash)]
@@ -63,6 +64,15 @@ impl Ipv6Address {
         } else {
             14
         }
+    }
+
+    /// How many leading bits agree with those of another address, at most `most` of the 128.
+    #[tactic(auto, using(crate::proofs::CommonBits::common))]
+    pub fn common_prefix_len(&self, other: &Ipv6Address, most: u8) -> u8
+        requires { most ≤ 128 }
+        ensures { result ≡ common_bits 128 self.now.bits other.now.bits most }
+    {
+        ((self.bits ^ other.bits).leading_zeros() as u8).min(most)
     }
 }
 

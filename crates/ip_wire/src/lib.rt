@@ -10,6 +10,8 @@ pub mod ip;
 pub mod ipv4;
 pub mod ipv6;
 pub mod octets;
+#[cfg(test)]
+mod tests;
 
 pub use arp::{ArpOperation, ArpRepr};
 pub use cidr::{IpCidr, Ipv4Cidr, Ipv6Cidr};

@@ -1,4 +1,6 @@
 pub mod Checksum
 pub mod Device
+pub mod MemoryDevice
+pub mod MemoryDeviceLaws
 pub mod Rand
 pub mod Time

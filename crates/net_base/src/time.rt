@@ -40,9 +40,7 @@ impl Duration {
         requires { millis * 1000 < 2 ^ 64 }
         ensures { result ≡ millis * 1000 }
     {
-        Duration {
-            micros: millis * 1000,
-        }
+        Duration::from_micros(millis * 1000)
     }
 
     /// A span of so many seconds. It has to fit in 64 bits of microseconds.
@@ -50,9 +48,7 @@ impl Duration {
         requires { secs * 1000000 < 2 ^ 64 }
         ensures { result ≡ secs * 1000000 }
     {
-        Duration {
-            micros: secs * 1_000_000,
-        }
+        Duration::from_micros(secs * 1_000_000)
     }
 
     /// The whole microseconds of the span.
@@ -137,9 +133,7 @@ impl Instant {
         requires high { (millis *ℤ pos 1000) <ℤ pos (2 ^ 63) }
         ensures { result ≡ millis *ℤ pos 1000 }
     {
-        Instant {
-            micros: millis * 1000,
-        }
+        Instant::from_micros(millis * 1000)
     }
 
     /// The moment so many seconds after the origin. It has to fit in 63 bits of microseconds.
@@ -148,9 +142,7 @@ impl Instant {
         requires high { (secs *ℤ pos 1000000) <ℤ pos (2 ^ 63) }
         ensures { result ≡ secs *ℤ pos 1000000 }
     {
-        Instant {
-            micros: secs * 1_000_000,
-        }
+        Instant::from_micros(secs * 1_000_000)
     }
 
     /// The whole microseconds since the origin.

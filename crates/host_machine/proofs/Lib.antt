@@ -1,0 +1,4 @@
+pub mod Walk
+pub mod Spaced
+pub mod Joined
+pub mod Malformed

@@ -1,0 +1,80 @@
+-- A malformed frame is dropped.
+use Rattle.std.proofs.Common.{◌≡◌, ℕ, List, [], ◌∷◌, refl, sym, ◌∙◌, ap, Option, None}
+use Rattle.std.specs.Prelude.{ℤ}
+use Rattle.net_base.specs.Device.{Event, Reception, Received, Frame, Nothing, Withheld, handed, sent}
+use Rattle.ip_wire.specs.declared.ethernet.EthernetAddress.{EthernetAddress}
+use Rattle.ip_wire.specs.declared.ethernet.EthernetProtocol.{EthernetProtocol}
+use Rattle.ip_wire.specs.declared.ethernet.EthernetProtocol.TheVariants as protocol
+use Rattle.ip_wire.specs.declared.hardware.HardwareAddress.{HardwareAddress}
+use Rattle.ip_wire.specs.declared.hardware.HardwareAddress.TheVariants as hardware
+use Rattle.ip_wire.specs.Arp.{IsArp}
+use Rattle.host_machine.specs.declared.results.PollIngressSingleResult.{PollIngressSingleResult}
+use Rattle.host_machine.specs.Note.{Note}
+use Rattle.host_machine.specs.Host.{Host, at}
+use Rattle.host_machine.specs.Frame.{Reply, sends}
+use Rattle.host_machine.specs.Arp.{IsDropped, TakesArp}
+use Rattle.host_machine.specs.Arp as arp
+use Rattle.host_machine.specs.Ethernet.{TakesPayload, TakesEthernet, TakesFrame}
+use Rattle.host_machine.specs.Ethernet as ethernet
+use Rattle.host_machine.specs.Ingress.{Takes, Responds, Ingress}
+use Rattle.host_machine.specs.Laws.{IsMalformed}
+use Rattle.host_machine.specs.Laws as law
+
+arp_dropped : {own : EthernetAddress} {H new : Host} {payload : List ℕ} {reply : Option Reply} {notes : List Note} → TakesArp own H payload reply notes new → (IsArp payload → ⊥) → IsDropped H reply notes new
+arp_dropped (arp.Malformed m d) other = d
+arp_dropped (arp.NotForUs a l d) other = d
+arp_dropped (arp.Learnt a l learns r n) other = absurd (other a)
+
+payload_dropped : (own : EthernetAddress) (H : Host) (p : EthernetProtocol) (payload : List ℕ) (reply : Option Reply) (notes : List Note) (new : Host) →
+    TakesPayload own H p payload reply notes new → p ≡ protocol.Arp → (IsArp payload → ⊥) → IsDropped H reply notes new
+payload_dropped own H protocol.Arp payload reply notes new t e other = arp_dropped t other
+payload_dropped own H protocol.Ipv4 payload reply notes new t e other = t
+payload_dropped own H protocol.Ipv6 payload reply notes new t e other = t
+payload_dropped own H (protocol.Unknown n) payload reply notes new t e other = t
+
+ethernet_dropped : {own : EthernetAddress} {H new : Host} {frame : List ℕ} {reply : Option Reply} {notes : List Note} → TakesEthernet own H frame reply notes new → IsMalformed frame → IsDropped H reply notes new
+ethernet_dropped (ethernet.Malformed m d) bad = d
+ethernet_dropped (ethernet.NotForUs l f d) bad = d
+ethernet_dropped (ethernet.Accepted l f t) (law.Ethernet short) = absurd (short l)
+ethernet_dropped {own} {H} {new} {frame} {reply} {notes} (ethernet.Accepted l f t) (law.Arp e other) = payload_dropped own H _ _ reply notes new t e other
+
+frame_dropped : (h : HardwareAddress) (H : Host) (frame : List ℕ) (reply : Option Reply) (notes : List Note) (new : Host) → TakesFrame h H frame reply notes new → IsMalformed frame → IsDropped H reply notes new
+frame_dropped (hardware.Ethernet own) H frame reply notes new t bad = ethernet_dropped t bad
+frame_dropped hardware.Ip H frame reply notes new t bad = t
+
+handed_by : Reception → List (List ℕ)
+handed_by (Frame f) = f ∷ []
+handed_by Nothing = []
+handed_by Withheld = []
+
+taken_dropped : (H : Host) (r : Reception) (frame : List ℕ) (reply : Option Reply) (notes : List Note) (new : Host) → Takes H r reply notes new → handed (Received r ∷ []) ≡ frame ∷ [] → IsMalformed frame → IsDropped H reply notes new
+taken_dropped H Nothing frame reply notes new t e bad = t
+taken_dropped H Withheld frame reply notes new t e bad = t
+taken_dropped H (Frame []) frame reply notes new t e bad = t
+taken_dropped H (Frame (octet ∷ octets)) frame reply notes new t e bad =
+    let same : octet ∷ octets ≡ frame = cc in
+    frame_dropped H.hardware_addr H (octet ∷ octets) reply notes new t (rw same bad)
+
+handed-sends : (frames : List (List ℕ)) → handed (sends frames) ≡ []
+handed-sends [] = refl
+handed-sends (f ∷ fs) = handed-sends fs
+
+handed-received : (r : Reception) (es : List Event) → handed es ≡ [] → handed (Received r ∷ es) ≡ handed (Received r ∷ [])
+handed-received (Frame f) es e = ap (λ fs. f ∷ fs) e
+handed-received Nothing es e = e
+handed-received Withheld es e = e
+
+sent-sends : (frames : List (List ℕ)) → sent (sends frames) ≡ frames
+sent-sends [] = refl
+sent-sends (f ∷ fs) = ap (λ t. f ∷ t) (sent-sends fs)
+
+nothing_responded : {H new : Host} {reply : Option Reply} {frames : List (List ℕ)} {notes : List Note} → reply ≡ None → Responds H reply frames notes new → (frames ≡ []) × (notes ≡ []) × (new ≡ H)
+nothing_responded {H} {new} {reply} {frames} {notes} e r = rw e at r
+
+pub malformed : (t : ℤ) (answer : PollIngressSingleResult) (old new : Host) (told : List Event) (notes : List Note) (frame : List ℕ) →
+    Ingress t answer old told notes new → handed told ≡ frame ∷ [] → IsMalformed frame → (sent told ≡ []) × (notes ≡ []) × (new ≡ at old t)
+malformed t answer old new told notes frame i is bad =
+    let only : handed (Received i.reception ∷ []) ≡ frame ∷ [] = sym (handed-received i.reception (sends i.frames) (handed-sends i.frames)) ∙ sym (ap handed i.events) ∙ is in
+    let d = taken_dropped (at old t) i.reception frame i.reply i.notes_taking i.taken i.takes only bad in
+    let r = nothing_responded d.silent i.responds in
+    (ap sent i.events ∙ sent-sends i.frames ∙ r.0, i.all_notes ∙ rw (d.unnoted, r.1) refl, r.2 ∙ d.unchanged)

@@ -1,0 +1,38 @@
+-- How a host begins, and which configurations are refused.
+use Rattle.std.specs.Prelude.{ℤ, pos, Bool, true, false, not, List, [], Option, Some, None, nat_lt, if◌then◌else◌}
+use Rattle.std.specs.FinMap as map
+use Rattle.net_base.specs.declared.phy.DeviceCapabilities.{DeviceCapabilities}
+use Rattle.net_base.specs.declared.phy.Medium.{Medium}
+use Rattle.net_base.specs.declared.phy.Medium.TheVariants as medium
+use Rattle.net_base.specs.Checksum.{ip_mtu_of}
+use Rattle.ip_wire.specs.declared.hardware.HardwareAddress.{HardwareAddress}
+use Rattle.ip_wire.specs.Hardware.{medium_of, is_unicast}
+use Rattle.host_machine.specs.declared.results.NewError.{NewError}
+use Rattle.host_machine.specs.declared.results.NewError.TheVariants.{MediumMismatch, NotUnicast, MtuTooSmall, MtuTooLarge}
+use Rattle.host_machine.specs.Host.{Host, Storage}
+
+abbrev pub same_medium : Medium → Medium → Bool
+same_medium medium.Ethernet medium.Ethernet = true
+same_medium medium.Ip medium.Ip = true
+same_medium medium.Ethernet medium.Ip = false
+same_medium medium.Ip medium.Ethernet = false
+
+-- why no interface is made, the first reason that holds: the address isn't one of the medium, or isn't one interface's; the packets
+-- are shorter than the 576 octets that every host must take (RFC 791), or the frames longer than the buffer of 1514 octets
+abbrev pub refusal_of : DeviceCapabilities → HardwareAddress → Option NewError
+refusal_of c h =
+    if not (same_medium (medium_of h) c.medium) then Some MediumMismatch else
+    if not (is_unicast h) then Some NotUnicast else
+    if nat_lt (ip_mtu_of c) 576 then Some MtuTooSmall else
+    if nat_lt 1514 c.max_transmission_unit then Some MtuTooLarge else None
+
+-- a host at first: no address, no neighbour, no silence
+abbrev pub first_host : DeviceCapabilities → HardwareAddress → ℤ → List Storage → Host
+first_host c h t sockets = record {
+  capabilities = c;
+  hardware_addr = h;
+  moment = t;
+  ip_addrs = [];
+  neighbors = record { known = map.empty; silent_until = pos 0 };
+  sockets = sockets;
+}

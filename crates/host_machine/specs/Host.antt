@@ -1,0 +1,52 @@
+-- The state of a host (RFC 1122): what its interface and its sockets stand for.
+use Rattle.std.specs.Prelude.{ℤ, Bool, false, ◌==◌, ◌||◌, List, Option}
+use Rattle.std.specs.Borrow.{Bor}
+use Rattle.std.specs.List.{list_any, list_all}
+use Rattle.net_base.specs.declared.phy.DeviceCapabilities.{DeviceCapabilities}
+use Rattle.ip_wire.specs.declared.ip.IpAddress.{IpAddress}
+use Rattle.ip_wire.specs.declared.ip.IpAddress.TheVariants.{Ipv4, Ipv6}
+use Rattle.ip_wire.specs.declared.cidr.IpCidr.{IpCidr}
+use Rattle.ip_wire.specs.declared.hardware.HardwareAddress.{HardwareAddress}
+use Rattle.ip_wire.specs.Ip.{is_unicast, is_unspecified}
+use Rattle.ip_wire.specs.Cidr.{address_of, contains}
+use Rattle.iface_tables.specs.Neighbor.{Neighbors}
+use Rattle.sockets.specs.declared.socket.SocketOf.{SocketOf}
+
+-- a place of a socket set: it holds a socket, or it is free
+abbrev pub Storage : Type 0
+Storage = Option (SocketOf (Bor (Unit {0})))
+
+pub record Host : Type 0 where
+  pub capabilities : DeviceCapabilities  -- of its device, when the interface was made
+  pub hardware_addr : HardwareAddress
+  pub moment : ℤ  -- of the last call that gave one
+  pub ip_addrs : List IpCidr  -- its addresses with their networks, in the order given
+  pub neighbors : Neighbors  -- which neighbours it knows, and until when it sends no discovery
+  pub sockets : List Storage  -- by index
+
+-- the host at another moment
+abbrev pub at : Host → ℤ → Host
+at H t = record H { moment = t }
+
+-- the host with other neighbours
+abbrev pub with_neighbors : Host → Neighbors → Host
+with_neighbors H n = record H { neighbors = n }
+
+-- the two are one address
+abbrev pub same_address : IpAddress → IpAddress → Bool
+same_address (Ipv4 a) (Ipv4 b) = a.bits == b.bits
+same_address (Ipv6 a) (Ipv6 b) = a.bits == b.bits
+same_address (Ipv4 a) (Ipv6 b) = false
+same_address (Ipv6 a) (Ipv4 b) = false
+
+-- an address of its own
+abbrev pub has_ip_addr : List IpCidr → IpAddress → Bool
+has_ip_addr own a = list_any (λ c. same_address (address_of c) a) own
+
+-- an address in a network of its own
+abbrev pub in_same_network : List IpCidr → IpAddress → Bool
+in_same_network own a = list_any (λ c. contains c a) own
+
+-- addresses that an interface may have: each is one host's, or unspecified
+abbrev pub are_assignable : List IpCidr → Bool
+are_assignable list = list_all (λ c. is_unicast (address_of c) || is_unspecified (address_of c)) list

@@ -1,0 +1,11 @@
+pub mod Note
+pub mod Host
+pub mod Frame
+pub mod Arp
+pub mod Ethernet
+pub mod Ingress
+pub mod Config
+pub mod Step
+pub mod Run
+pub mod Laws
+pub mod Example

@@ -1,0 +1,26 @@
+//! `hostrun` runs a host from a script: it reads commands from standard input, one a line, and
+//! prints the frames that the host sends and what each command answers.
+//!
+//! The words are `rx HEX` (a frame arrives), `addr HEX/LEN ..` (the host's addresses, one to four)
+//! and `ingress` (the host takes one frame). `docs/HOSTRUN.md` has the rest.
+#![tactic(auto)]
+
+mod host;
+mod input;
+mod line;
+mod run;
+#[cfg(test)]
+mod tests;
+
+use run::run;
+use std::process::ExitCode;
+
+fn main(rt: HostRuntime) -> ExitCode {
+    let status = run(
+        rt.alloc(),
+        &mut rt.stdin(),
+        &mut rt.stdout(),
+        &mut rt.stderr(),
+    );
+    ExitCode::from(status)
+}

@@ -1,0 +1,360 @@
+// The tests also hold where any one request for memory is refused.
+ghost use Rattle.std.specs.Prelude.{◌≡◌};
+
+use crate::run::run;
+use arrayvec::ArrayVec;
+use std::alloc::Global;
+use std::io::{self, Read, Write};
+use std::process::Abort;
+
+/// A reader of these pieces, one after the other, that then ends or fails.
+#[derive(Clone, Copy)]
+struct Pieces<'a> {
+    pieces: [&'a [u8]; 3],
+    at: usize,
+    fails: bool,
+}
+
+impl<'a> Pieces<'a> {
+    fn new(pieces: [&'a [u8]; 3]) -> Pieces<'a> {
+        Pieces {
+            pieces,
+            at: 0,
+            fails: false,
+        }
+    }
+
+    // What is left of the piece that is read.
+    fn rest(&self) -> &'a [u8] {
+        let mut at = self.at;
+        for piece in self.pieces {
+            if at < piece.len() {
+                return &piece[at..];
+            }
+            at -= piece.len();
+        }
+        &[]
+    }
+}
+
+impl Read for Pieces<'_> {
+    fn read(&mut self, buf: &mut [u8]) -> io::Result<usize> {
+        let rest = self.rest();
+        if rest.is_empty() && self.fails {
+            return Err(io::ErrorKind::Other.into());
+        }
+        let count = rest.len().min(buf.len());
+        buf[..count].copy_from_slice(&rest[..count]);
+        self.at = self.at.saturating_add(count);
+        Ok(count)
+    }
+}
+
+/// A writer that takes so many octets and then fails.
+#[derive(Drop)]
+struct Page {
+    text: ArrayVec<u8, 512>,
+    room: usize,
+}
+
+impl Page {
+    fn new(room: usize) -> Page {
+        Page {
+            text: ArrayVec::new(),
+            room,
+        }
+    }
+}
+
+impl Write for Page {
+    fn write(&mut self, buf: &[u8]) -> io::Result<usize> {
+        let count = buf.len().min(self.room);
+        if count == 0 || self.text.try_extend_from_slice(&buf[..count]).is_err() {
+            return Err(io::ErrorKind::Other.into());
+        }
+        self.room -= count;
+        Ok(count)
+    }
+
+    fn flush(&mut self) -> io::Result<()> {
+        Ok(())
+    }
+}
+
+/// What a script does where its streams take so many octets.
+#[derive(Clone, Copy)]
+struct Case<'a> {
+    output_room: usize,
+    errors_room: usize,
+    output: &'a [u8],
+    errors: &'a [u8],
+    status: u8,
+}
+
+const fn ends<'a>(output: &'a [u8], errors: &'a [u8], status: u8) -> Case<'a> {
+    Case {
+        output_room: 512,
+        errors_room: 512,
+        output,
+        errors,
+        status,
+    }
+}
+
+// Runs a script. Where memory is refused that is all it says, and the next run does what it has to.
+fn check(rt: &impl Abort, alloc: Global, script: Pieces<'_>, case: Case<'_>) {
+    for _ in 0..2 {
+        let mut input = script;
+        let mut output = Page::new(case.output_room);
+        let mut errors = Page::new(case.errors_room);
+        let status = run(alloc, &mut input, &mut output, &mut errors);
+        if status == 3 {
+            assert_eq!(rt; errors.text.as_slice(), b"out of memory\n".as_slice());
+            assert!(rt; case.output.starts_with(output.text.as_slice()));
+        } else {
+            assert_eq!(rt; output.text.as_slice(), case.output);
+            assert_eq!(rt; errors.text.as_slice(), case.errors);
+            assert_eq!(rt; status, case.status);
+            return;
+        }
+    }
+    assert!(rt; false, "out of memory twice");
+}
+
+const ZEROS: [u8; 4096] = [b'0'; 4096];
+
+// Who has 192.168.69.1? Tell 192.168.69.100 at 02:00:00:00:00:02.
+const REQUEST: &[u8] = b"addr c0a84501/24
+rx ffffffffffff02000000000208060001080006040001020000000002c0a84564000000000000c0a84501
+ingress
+";
+
+const REPLY: &[u8] = b"ok
+ok
+tx 02000000000202000000000108060001080006040002020000000001c0a84501020000000002c0a84564
+SocketStateChanged
+";
+
+#[test]
+fn runs_scripts(rt: HostRuntime) {
+    let scripts: [(&[u8], &[u8]); 14] = [
+        (b"", b""),
+        (b"\n\n", b""),
+        (b"ingress", b"None\n"),
+        (REQUEST, REPLY),
+        // Upper case.
+        (
+            b"addr C0A84501/24
+rx FFFFFFFFFFFF02000000000208060001080006040001020000000002C0A84564000000000000C0A84501
+ingress",
+            REPLY,
+        ),
+        // A sender in no network of the host.
+        (
+            b"addr c0a84501/24
+rx ffffffffffff020000000002080600010800060400010200000000020a000009000000000000c0a84501
+ingress
+",
+            b"ok\nok\nSocketStateChanged\n",
+        ),
+        // The same, where all addresses are in its network.
+        (
+            b"addr c0a84501/0
+rx ffffffffffff020000000002080600010800060400010200000000020a000009000000000000c0a84501
+ingress
+",
+            b"ok
+ok
+tx 02000000000202000000000108060001080006040002020000000001c0a845010200000000020a000009
+SocketStateChanged
+",
+        ),
+        // A network of one address.
+        (
+            b"addr c0a84501/032
+rx ffffffffffff02000000000208060001080006040001020000000002c0a84564000000000000c0a84501
+ingress
+",
+            b"ok\nok\nSocketStateChanged\n",
+        ),
+        // The old addresses stay where the new ones are refused.
+        (
+            b"addr c0a84501/24
+
+addr c0a84501/24 e0000005/24
+rx ffffffffffff02000000000208060001080006040001020000000002c0a84564000000000000c0a84501
+ingress
+ingress
+",
+            b"ok
+NotUnicast
+ok
+tx 02000000000202000000000108060001080006040002020000000001c0a84501020000000002c0a84564
+SocketStateChanged
+None
+",
+        ),
+        // The host answers for the last of four addresses.
+        (
+            b"addr 0a000001/8 ac100001/12 00000000/0 c0a84501/24
+rx ffffffffffff02000000000208060001080006040001020000000002c0a84564000000000000c0a84501
+ingress
+",
+            REPLY,
+        ),
+        (b"addr ffffffff/32\n", b"NotUnicast\n"),
+        (
+            b"rx 00\nrx 0001\ningress\ningress\ningress\n",
+            b"ok\nok\nSocketStateChanged\nSocketStateChanged\nNone\n",
+        ),
+        (b"ingress\ningress\n", b"None\nNone\n"),
+        (b"rx aBcDeF\n", b"ok\n"),
+    ];
+    for (script, output) in scripts {
+        check(
+            &rt,
+            rt.alloc(),
+            Pieces::new([script, b"", b""]),
+            ends(output, b"", 0),
+        );
+    }
+}
+
+#[test]
+fn ends_at_a_bad_line(rt: HostRuntime) {
+    let lines: [&[u8]; 48] = [
+        b"pol 0",
+        b"poll 0 1",
+        b"RX 00",
+        b"Ingress",
+        b"ADDR c0a84501/24",
+        b"ingres",
+        b"ingress0",
+        b"ingress 0",
+        b"ingress ",
+        b" ingress",
+        b"ingress\r",
+        b"\r",
+        b" ",
+        b"\0",
+        b"rx",
+        b"rx ",
+        b"rx 0",
+        b"rx 000",
+        b"rx 0g",
+        b"rx g0",
+        b"rx  00",
+        b"rx 00 ",
+        b"rx 00 00",
+        b" rx 00",
+        b"rx\t00",
+        b"rx 0x00",
+        b"rx 00\r",
+        b"addr",
+        b"addr ",
+        b"addr c0a84501",
+        b"addr c0a84501/",
+        b"addr /24",
+        b"addr c0a84501/33",
+        b"addr c0a84501/256",
+        b"addr c0a84501/4294967320",
+        b"addr c0a84501/18446744073709551640",
+        b"addr c0a84501/+8",
+        b"addr c0a84501/2a",
+        b"addr c0a84501/24/24",
+        b"addr c0a845/24",
+        b"addr c0a845010/24",
+        b"addr c0a8450g/24",
+        b"addr 20010db8000000000000000000000001/32",
+        b"addr  c0a84501/24",
+        b"addr c0a84501/24 ",
+        b"addr c0a84501/24  0a000001/8",
+        b"addr c0a84501/24 0a000001",
+        b"addr c0a84501/24 0a000001/8 ac100001/12 c0a84601/24 c0a84701/24",
+    ];
+    for line in lines {
+        for rest in [b"".as_slice(), b"\ningress\n"] {
+            let script = Pieces::new([b"\ningress\n\n", line, rest]);
+            check(&rt, rt.alloc(), script, ends(b"None\n", b"bad line 4\n", 2));
+        }
+    }
+}
+
+#[test]
+fn takes_lines_of_4096_octets(rt: HostRuntime) {
+    let lines: [(&[u8], &[u8], Case<'_>); 6] = [
+        (&ZEROS[..4082], b"\ningress\n", ends(b"ok\nNone\n", b"", 0)),
+        (&ZEROS[..4082], b"", ends(b"ok\n", b"", 0)),
+        (&ZEROS[..4083], b"", ends(b"", b"bad line 1\n", 2)),
+        (
+            &ZEROS[..4083],
+            b"\ningress\n",
+            ends(b"", b"bad line 1\n", 2),
+        ),
+        (
+            &ZEROS[..4084],
+            b"\ningress\n",
+            ends(b"", b"bad line 1\n", 2),
+        ),
+        (
+            &ZEROS[..4096],
+            b"\ningress\n",
+            ends(b"", b"bad line 1\n", 2),
+        ),
+    ];
+    for (zeros, rest, case) in lines {
+        let script = Pieces::new([b"addr c0a84501/", zeros, rest]);
+        check(&rt, rt.alloc(), script, case);
+    }
+}
+
+#[test]
+fn takes_frames_of_1514_octets(rt: HostRuntime) {
+    let frames: [(&[u8], &[u8]); 3] = [
+        (&ZEROS[..2 * 1514], b"ok\nSocketStateChanged\n"),
+        (&ZEROS[..2 * 1515], b"TooLong\nNone\n"),
+        (&ZEROS[..2 * 2046], b"TooLong\nNone\n"),
+    ];
+    for (zeros, output) in frames {
+        let script = Pieces::new([b"rx ", zeros, b"\ningress\n"]);
+        check(&rt, rt.alloc(), script, ends(output, b"", 0));
+    }
+}
+
+#[test]
+fn ends_where_a_stream_fails(rt: HostRuntime) {
+    // What is read before the failure is run, apart from a line that hasn't ended.
+    let scripts: [(&[u8], &[u8]); 4] = [
+        (b"", b""),
+        (b"ingress\n", b"None\n"),
+        (b"ingress\ningress", b"None\n"),
+        (REQUEST, REPLY),
+    ];
+    for (script, output) in scripts {
+        let broken = Pieces {
+            fails: true,
+            ..Pieces::new([script, b"", b""])
+        };
+        check(&rt, rt.alloc(), broken, ends(output, b"", 4));
+    }
+    let request = Pieces::new([REQUEST, b"", b""]);
+    for output_room in 0..REPLY.len() {
+        let case = Case {
+            output_room,
+            ..ends(&REPLY[..output_room], b"", 4)
+        };
+        check(&rt, rt.alloc(), request, case);
+    }
+    let whole = Case {
+        output_room: REPLY.len(),
+        ..ends(REPLY, b"", 0)
+    };
+    check(&rt, rt.alloc(), request, whole);
+    for errors_room in 0..11 {
+        let case = Case {
+            errors_room,
+            ..ends(b"", &b"bad line 1\n"[..errors_room], 4)
+        };
+        check(&rt, rt.alloc(), Pieces::new([b"pol 0", b"", b""]), case);
+    }
+}

@@ -1,0 +1,3 @@
+pub mod EntriesLemmas
+pub mod NeighborLemmas
+pub mod SocketSetLemmas

@@ -1,0 +1,151 @@
+-- The lists of neighbours, as the finite maps that they make.
+use Rattle.std.proofs.Common.{◌≡◌, ◌≢◌, ℕ, ◌<◌, List, [], ◌∷◌, ◌++◌, length, get_or, refl, sym, ap, subst, ◌∙◌, arith, suc}
+use Rattle.std.proofs.lemmas.Bool.Decides.{nat_tests}
+use Rattle.std.proofs.lemmas.Slice.Eq.{bytes_eq-Decides}
+use Rattle.std.specs.Bool.{Decides}
+use Rattle.ip_wire.specs.Hardware.{octets_of}
+use Rattle.std.specs.Prelude.{unwrap_or, Bool, ◌==◌, ℤ, ◌≤ℤ◌, true, false, cond, Some, None, slice_set, remove}
+use Rattle.std.specs.Ordering.{nat_cmp, eq_by_cmp}
+use Rattle.std.specs.Cmp.{IsTotalOrder, nat_cmp_total}
+use Rattle.std.specs.FinMap as map
+use Rattle.std.specs.FinMap.{IsAntisymmetric, find, from_entries, get-from_entries, from_entries_push}
+use Rattle.std.proofs.lemmas.Cmp.{on_total, then_total}
+use Rattle.std.proofs.lemmas.Map.Lookups.{exact_pairs, exact_unsigned}
+use Rattle.std.proofs.lemmas.List.{get_or_default, set-get_or}
+use Rattle.ip_wire.specs.Ip.{address_cmp, address_key, address_of_key, address_of_key-address_key}
+use Rattle.iface_tables.specs.Entries.{place_of, AreKeysDistinct}
+use Rattle.iface_tables.specs.Neighbor.{Puts, IsLeastEnd, IsLeastPlace, is_same, renewed_from}
+use Rattle.ip_wire.specs.declared.ip.IpAddress.{IpAddress}
+use Rattle.ip_wire.specs.declared.hardware.HardwareAddress.{HardwareAddress}
+use Rattle.ip_wire.specs.declared.hardware.HardwareAddress.TheVariants.{Ip, Ethernet}
+use Rattle.iface_tables.specs.declared.neighbor.Neighbor.{Neighbor}
+use Rattle.iface_tables.proofs.EntriesLemmas.{place_of-le, find-absent, distinct_after-set, distinct_after-push, from_entries-set, find-there, from_entries-remove, len-from_entries, distinct_after-remove, find-at, absent_after-remove}
+
+pub address_total : IsTotalOrder address_cmp
+address_total = then_total (on_total (λ a. (address_key a).0) nat_cmp_total) (on_total (λ a. (address_key a).1) nat_cmp_total)
+
+pub address_same : IsAntisymmetric address_cmp
+address_same a b h =
+    sym (address_of_key-address_key a) ∙ ap address_of_key (exact_pairs nat_cmp nat_cmp exact_unsigned exact_unsigned (address_key a) (address_key b) h) ∙ address_of_key-address_key b
+
+-- what the map that the entries make has at an address
+pub known_at : (es : List (IpAddress × Neighbor)) (a : IpAddress) → map.get (from_entries {R = address_cmp} es) a ≡ find address_cmp a es
+known_at es a = get-from_entries address_total es a
+
+not_none : (n : Neighbor) → Some n ≢ None
+not_none n h = cc
+
+-- a write at the address's place
+pub puts_there : (es : List (IpAddress × Neighbor)) (a : IpAddress) (n : Neighbor) → place_of address_cmp a es < length es → Puts (from_entries es) (from_entries (slice_set es (place_of address_cmp a es) (a, n))) a n
+puts_there es a n h =
+    let e = from_entries-set address_total address_same a n es h in
+    let is : find address_cmp a es ≡ Some (get_or es (place_of address_cmp a es) (a, n)).1 = find-there address_cmp a es (a, n) h in
+    record {
+      there = λ _. e;
+      room = λ _. e;
+      full = λ none _. absurd (not_none _ (sym is ∙ sym (known_at es a) ∙ none));
+    }
+
+-- a push where there is room
+pub puts_room : (es : List (IpAddress × Neighbor)) (a : IpAddress) (n : Neighbor) → find address_cmp a es ≡ None → length es < 4 → AreKeysDistinct address_cmp es → Puts (from_entries es) (from_entries (es ++ (a, n) ∷ [])) a n
+puts_room es a n none h d =
+    let e = from_entries_push address_total address_same es a n none in
+    let len = len-from_entries address_total address_same es d in
+    record { there = λ _. e; room = λ _. e; full = λ _ four. absurd (omega (arith, len)) }
+
+-- what holds of each entry holds of one that is found
+found_has : (P : Neighbor → Type 0) (es : List (IpAddress × Neighbor)) (b : IpAddress) (n : Neighbor) → ((k : ℕ) (d : IpAddress × Neighbor) → k < length es → P (get_or es k d).1) → find address_cmp b es ≡ Some n → P n
+found_has P [] b n each is = absurd (not_none n (sym is))
+found_has P (e ∷ es) b n each is =
+    elim (eq_by_cmp address_cmp b e.0) as (λ t. cond t (Some e.1) (find address_cmp b es) ≡ Some n → P n) [
+      | true ↦ λ is. let same : e.1 ≡ n = cc in subst P same (each 0 e (omega arith))
+      | false ↦ λ is. found_has P es b n (λ k d h. each (suc k) d (omega arith)) is
+    ] is
+
+-- the entry at the least place is one of least end
+pub least_there : (es : List (IpAddress × Neighbor)) (i : ℕ) (d : IpAddress × Neighbor) → IsLeastPlace es (length es) i → AreKeysDistinct address_cmp es → IsLeastEnd (from_entries es) (get_or es i d).0
+least_there es i d h distinct = record {
+  entry = (get_or es i d).1;
+  is_there = known_at es _ ∙ find-at address_total address_same es i d h.within distinct;
+  least = λ b n is. found_has (λ m. (get_or es i d).1.expires_at ≤ℤ m.expires_at) es b n (λ k e k_in. rw (get_or_default es i d e h.within) (h.least k e k_in)) (sym (known_at es b) ∙ is);
+}
+
+-- a push after an entry of least end was taken out
+pub puts_full : (es : List (IpAddress × Neighbor)) (a : IpAddress) (n : Neighbor) (i : ℕ) (d : IpAddress × Neighbor) → find address_cmp a es ≡ None → length es ≡ 4 → IsLeastPlace es (length es) i → AreKeysDistinct address_cmp es → Puts (from_entries es) (from_entries (remove es i ++ (a, n) ∷ [])) a n
+puts_full es a n i d none four least distinct =
+    let len = len-from_entries address_total address_same es distinct in
+    let gone = absent_after-remove address_total address_same a es i d least.within distinct none in
+    record {
+      there = λ t. let u = rw (known_at es a, none) at t in cc;
+      room = λ h. absurd (omega (arith, len));
+      full = λ _ _. ((get_or es i d).0, least_there es i d least distinct, from_entries_push address_total address_same (remove es i) a n gone ∙ ap (λ m. map.insert m a n) (from_entries-remove address_total address_same es i d least.within distinct));
+    }
+
+-- no place below the length is the address's
+absent : (es : List (IpAddress × Neighbor)) (a : IpAddress) (i : ℕ) → i ≡ place_of address_cmp a es → (i < length es → ⊥) → place_of address_cmp a es ≡ length es
+absent es a i e h = let le = place_of-le address_cmp a es in omega arith
+
+-- what putting an entry leaves
+pub record PutsIn (es fs : List (IpAddress × Neighbor)) (a : IpAddress) (n : Neighbor) : Type 0 where
+  pub distinct : AreKeysDistinct address_cmp fs
+  pub puts : Puts (from_entries es) (from_entries fs) a n
+
+pub put_there : (es : List (IpAddress × Neighbor)) (a : IpAddress) (n : Neighbor) (i : ℕ) → AreKeysDistinct address_cmp es → i ≡ place_of address_cmp a es → i < length es → PutsIn es (slice_set es i (a, n)) a n
+put_there es a n i d e h = rw e (record {
+  distinct = distinct_after-set address_total address_same a n es (rw e at h) d;
+  puts = puts_there es a n (rw e at h);
+})
+
+pub put_room : (es : List (IpAddress × Neighbor)) (a : IpAddress) (n : Neighbor) (i : ℕ) → AreKeysDistinct address_cmp es → i ≡ place_of address_cmp a es → (i < length es → ⊥) → length es < 4 → PutsIn es (es ++ (a, n) ∷ []) a n
+put_room es a n i d e h room =
+    let none = find-absent address_cmp a es (absent es a i e h) in
+    record { distinct = distinct_after-push address_total address_same a n es none d; puts = puts_room es a n none room d }
+
+pub put_full : (es : List (IpAddress × Neighbor)) (a : IpAddress) (n : Neighbor) (i v : ℕ) → AreKeysDistinct address_cmp es → i ≡ place_of address_cmp a es → (i < length es → ⊥) → length es ≡ 4 → IsLeastPlace es (length es) v → PutsIn es (remove es v ++ (a, n) ∷ []) a n
+put_full es a n i v d e h four least =
+    let none = find-absent address_cmp a es (absent es a i e h) in
+    record {
+      distinct = distinct_after-push address_total address_same a n (remove es v) (absent_after-remove address_total address_same a es v (a, n) least.within d none) (distinct_after-remove address_total address_same es v least.within d);
+      puts = puts_full es a n v (a, n) none four least d;
+    }
+
+-- the test of hardware addresses holds exactly of equal ones
+pub is_same-Decides : (x y : HardwareAddress) → Decides (is_same x y) (x ≡ y)
+is_same-Decides Ip Ip = (λ _. refl, λ _. refl)
+is_same-Decides Ip (Ethernet y) = (λ h. cc, λ h. cc)
+is_same-Decides (Ethernet x) Ip = (λ h. cc, λ h. cc)
+is_same-Decides (Ethernet x) (Ethernet y) = (
+  λ h. ap (λ (octets : List ℕ). Ethernet (record { 0 = octets })) ((bytes_eq-Decides x.0 y.0).0 h),
+  λ h. (bytes_eq-Decides x.0 y.0).1 (ap (λ (a : HardwareAddress). unwrap_or (octets_of a) x.0) h),
+)
+
+-- what renewing in a list of entries leaves
+pub record RenewsIn (es fs : List (IpAddress × Neighbor)) (a : IpAddress) (h : HardwareAddress) (end : ℤ) : Type 0 where
+  pub distinct : AreKeysDistinct address_cmp fs
+  pub renews : from_entries fs ≡ renewed_from (find address_cmp a es) (from_entries es) a h end
+
+-- the entry at an address's place is the one that is found
+found_is : (es : List (IpAddress × Neighbor)) (a : IpAddress) (e : IpAddress × Neighbor) (i : ℕ) → i ≡ place_of address_cmp a es → i < length es → e ≡ get_or es i e → find address_cmp a es ≡ Some e.1
+found_is es a e i at within is = find-there address_cmp a es e (rw at at within) ∙ ap (λ (d : IpAddress × Neighbor). Some d.1) (sym (rw at at is))
+
+pub renewed_there : (es : List (IpAddress × Neighbor)) (a : IpAddress) (h : HardwareAddress) (end : ℤ) (e : IpAddress × Neighbor) (i : ℕ) → AreKeysDistinct address_cmp es → i ≡ place_of address_cmp a es → i < length es → e ≡ get_or es i e → is_same e.1.hardware_addr h ≡ true → RenewsIn es (slice_set es i (a, record { hardware_addr = h; expires_at = end })) a h end
+renewed_there es a h end e i d at within is same =
+    let n : Neighbor = record { hardware_addr = h; expires_at = end } in
+    let f = found_is es a e i at within is in
+    record {
+      distinct = rw at (distinct_after-set address_total address_same a n es (rw at at within) d);
+      renews = rw (f, same, (is_same-Decides e.1.hardware_addr h).0 same, at) (from_entries-set address_total address_same a n es (rw at at within));
+    }
+
+pub renewed_other : (es : List (IpAddress × Neighbor)) (a : IpAddress) (h : HardwareAddress) (end : ℤ) (e : IpAddress × Neighbor) (i : ℕ) → AreKeysDistinct address_cmp es → i ≡ place_of address_cmp a es → i < length es → e ≡ get_or es i e → is_same e.1.hardware_addr h ≡ false → RenewsIn es (slice_set es i e) a h end
+renewed_other es a h end e i d at within is other =
+    let f = found_is es a e i at within is in
+    let kept : slice_set es i e ≡ es = ap (slice_set es i) is ∙ set-get_or es i e in
+    rw kept (record { distinct = d; renews = rw (f, other) refl })
+
+pub renewed_none : (es : List (IpAddress × Neighbor)) (a : IpAddress) (h : HardwareAddress) (end : ℤ) (i : ℕ) → i ≡ place_of address_cmp a es → (i < length es → ⊥) → from_entries es ≡ renewed_from (find address_cmp a es) (from_entries es) a h end
+renewed_none es a h end i at none = rw (find-absent address_cmp a es (absent es a i at none)) refl
+
+-- what a test for a full table says
+pub four_of_full : (b : Bool) (n : ℕ) → b ≡ (n == 4) → b ≡ true → n ≡ 4
+four_of_full b n e t = grind (arith, nat_tests)

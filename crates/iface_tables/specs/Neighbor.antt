@@ -1,0 +1,103 @@
+-- Neighbours (RFC 826, RFC 4861): a finite map from their addresses, and one silence.
+use Rattle.std.specs.Prelude.{◌≡◌, ℕ, ◌<◌, ◌≤◌, ℤ, pos, ◌+ℤ◌, ◌≤ℤ◌, Bool, true, false, IsTrue, List, length, slice_index_or, Option, Some, None, if◌then◌else◌, refl}
+use Rattle.std.specs.Ordering.{int_cmp, is_lt}
+use Rattle.std.specs.FinMap as map
+use Rattle.std.specs.FinMap.{FinMap}
+use Rattle.std.specs.Coded.{Coded, code_by, coded×, coded_ℤ}
+use Rattle.ip_wire.specs.Ip.{address_cmp, address_code}
+use Rattle.ip_wire.specs.Hardware.{hardware_code}
+use Rattle.std.specs.Str.{bytes_eq}
+use Rattle.ip_wire.specs.declared.ip.IpAddress.{IpAddress}
+use Rattle.ip_wire.specs.declared.hardware.HardwareAddress.{HardwareAddress}
+use Rattle.ip_wire.specs.declared.hardware.HardwareAddress.TheVariants.{Ip, Ethernet}
+use Rattle.iface_tables.specs.declared.neighbor.Neighbor.{Neighbor}
+use Rattle.iface_tables.specs.declared.neighbor.Answer.{Answer}
+use Rattle.iface_tables.specs.declared.neighbor.Answer.TheVariants.{Found, NotFound, RateLimited}
+
+-- the neighbours by address, each until its end, and the moment until which no discovery is sent
+pub record Neighbors : Type 0 where
+  pub known : FinMap address_cmp Neighbor
+  pub silent_until : ℤ
+
+-- the end of an entry that is made or renewed at t: 60 s later
+abbrev pub expiry_from : ℤ → ℤ
+expiry_from t = t +ℤ pos 60000000
+
+-- the end of the silence after a discovery at t: 1 s later
+abbrev pub silence_from : ℤ → ℤ
+silence_from t = t +ℤ pos 1000000
+
+-- whether t lies before the end
+abbrev pub is_before : ℤ → ℤ → Bool
+is_before t end = is_lt (int_cmp t end)
+
+-- what a lookup at t answers where no neighbour is known
+abbrev pub missing : ℤ → ℤ → Answer
+missing silent_until t = if is_before t silent_until then RateLimited else NotFound
+
+-- what a lookup at t answers where this is the entry: a neighbour is known before its end
+abbrev pub answer_from : Option Neighbor → ℤ → ℤ → Answer
+answer_from None silent_until t = missing silent_until t
+answer_from (Some n) silent_until t = if is_before t n.expires_at then Found n.hardware_addr else missing silent_until t
+
+-- what a lookup of a at t answers
+abbrev pub answer_of : Neighbors → IpAddress → ℤ → Answer
+answer_of c a t = answer_from (map.get c.known a) c.silent_until t
+
+-- whether an answer has an address
+abbrev pub is_found : Answer → Bool
+is_found (Found h) = true
+is_found NotFound = false
+is_found RateLimited = false
+
+-- v has an entry, and none ends before it
+pub record IsLeastEnd (m : FinMap address_cmp Neighbor) (v : IpAddress) : Type 0 where
+  pub entry : Neighbor
+  pub is_there : map.get m v ≡ Some entry
+  pub least : (b : IpAddress) (n : Neighbor) → map.get m b ≡ Some n → entry.expires_at ≤ℤ n.expires_at
+
+-- new is old with n at a. Where a is not there and four entries are, any one of least end goes first
+pub record Puts (old new : FinMap address_cmp Neighbor) (a : IpAddress) (n : Neighbor) : Type 0 where
+  pub there : IsTrue (map.contains_key old a) → new ≡ map.insert old a n
+  pub room : map.len old < 4 → new ≡ map.insert old a n
+  pub full : map.get old a ≡ None → 4 ≤ map.len old → (v : IpAddress) × IsLeastEnd old v × (new ≡ map.insert (map.remove old v) a n)
+
+-- filling puts n at a, and keeps the silence
+pub record Fills (old new : Neighbors) (a : IpAddress) (n : Neighbor) : Type 0 where
+  pub puts : Puts old.known new.known a n
+  pub silence : new.silent_until ≡ old.silent_until
+
+-- whether two hardware addresses are one
+abbrev pub is_same : HardwareAddress → HardwareAddress → Bool
+is_same Ip Ip = true
+is_same Ip (Ethernet y) = false
+is_same (Ethernet x) Ip = false
+is_same (Ethernet x) (Ethernet y) = bytes_eq x.0 y.0
+
+-- the entries where this one, at a, ends then if it has the hardware address h
+abbrev pub renewed_from : Option Neighbor → FinMap address_cmp Neighbor → IpAddress → HardwareAddress → ℤ → FinMap address_cmp Neighbor
+renewed_from None m a h end = m
+renewed_from (Some n) m a h end = if is_same n.hardware_addr h then map.insert m a (record n { expires_at = end }) else m
+
+-- the neighbours where an entry at a with the hardware address h ends then
+abbrev pub renewed : Neighbors → IpAddress → HardwareAddress → ℤ → Neighbors
+renewed c a h end = record c { known = renewed_from (map.get c.known a) c.known a h end }
+
+-- of the first i entries, none ends before that at place v
+pub record IsLeastPlace (es : List (IpAddress × Neighbor)) (i v : ℕ) : Type 0 where
+  pub within : v < length es
+  pub least : (k : ℕ) (d : IpAddress × Neighbor) → k < i → (slice_index_or es v d).1.expires_at ≤ℤ (slice_index_or es k d).1.expires_at
+
+-- a neighbour by its parts
+abbrev pub neighbor_code : Coded Neighbor
+neighbor_code =
+    code_by (HardwareAddress × ℤ) (coded× hardware_code coded_ℤ) (λ n. (n.hardware_addr, n.expires_at))
+    (λ p. record { hardware_addr = p.0; expires_at = p.1 })
+    (λ _. refl)
+
+-- a cache by its parts
+abbrev pub neighbors_code : Coded Neighbors
+neighbors_code =
+    code_by (FinMap address_cmp Neighbor × ℤ) (coded× (map.code address_code neighbor_code) coded_ℤ) (λ c. (c.known, c.silent_until))
+    (λ p. record { known = p.0; silent_until = p.1 })
+    (λ _. refl)

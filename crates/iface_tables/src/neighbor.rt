@@ -1,0 +1,303 @@
+//! The neighbour cache (RFC 826, RFC 4861): which hardware address an IP address has, and until when
+//! no discovery is sent.
+ghost use Rattle.std.specs.Prelude.{◌≡◌, ◌<◌, true, pos, length};
+ghost use Rattle.std.specs.FinMap as map;
+ghost use Rattle.std.specs.FinMap.{find};
+ghost use Rattle.std.specs.Ordering.{eq_by_cmp};
+ghost use Rattle.net_base.specs.Time.{IsMoment};
+ghost use Rattle.ip_wire.specs.Ip as ip;
+ghost use Rattle.ip_wire.specs.Ip.{address_cmp};
+ghost use Rattle.ip_wire.specs.Hardware as hardware;
+ghost use Rattle.iface_tables.specs.Entries as entry;
+ghost use Rattle.iface_tables.specs.Entries.{AreKeysDistinct};
+ghost use Rattle.iface_tables.specs.Neighbor as spec;
+ghost use Rattle.iface_tables.specs.Neighbor.{Puts, Fills, IsLeastPlace, renewed, renewed_from, answer_of, expiry_from, silence_from};
+
+use arrayvec::ArrayVec;
+use ip_wire::{HardwareAddress, IpAddress};
+use net_base::time::{Duration, Instant};
+use std::marker::Model;
+
+/// How many neighbours a cache holds.
+pub const IFACE_NEIGHBOR_CACHE_COUNT: usize = 4;
+
+/// A neighbour: its hardware address, and the moment from which that is no longer known.
+#[derive(Clone, Copy, Debug, PartialEq, Eq)]
+pub struct Neighbor {
+    pub hardware_addr: HardwareAddress,
+    pub expires_at: Instant,
+}
+
+impl Default for Neighbor {
+    fn default() -> Neighbor
+        ensures { result ≡ record { hardware_addr = HardwareAddress.Ip; expires_at = pos 0 } }
+    {
+        Neighbor {
+            hardware_addr: HardwareAddress::Ip,
+            expires_at: Instant::ZERO,
+        }
+    }
+}
+
+/// What a lookup answers.
+#[derive(Clone, Copy, Debug, PartialEq, Eq)]
+pub enum Answer {
+    /// The neighbour's hardware address.
+    Found(HardwareAddress),
+    /// No such neighbour is known; it may be asked for.
+    NotFound,
+    /// No such neighbour is known, and a discovery was sent less than a second ago.
+    RateLimited,
+}
+
+impl Answer {
+    /// Whether it is `Found`.
+    pub const fn found(&self) -> bool
+        ensures { result ≡ spec.is_found self.now }
+    {
+        match self {
+            Answer::Found(_) => true,
+            Answer::NotFound | Answer::RateLimited => false,
+        }
+    }
+}
+
+/// A cache of at most four neighbours, and one silence for all discoveries.
+///
+/// In contracts it is a finite map from addresses to neighbours, and the moment until which no
+/// discovery is sent.
+#[derive(Drop)]
+pub struct Cache {
+    entries: ArrayVec<(IpAddress, Neighbor), IFACE_NEIGHBOR_CACHE_COUNT>,
+    silent_until: Instant,
+}
+
+impl Model for Cache {
+    ghost use Rattle.std.specs.FinMap as map;
+    ghost use Rattle.ip_wire.specs.Ip.{address_cmp};
+    ghost use Rattle.iface_tables.specs.Entries.{AreKeysDistinct};
+    ghost use Rattle.iface_tables.specs.Neighbor.{Neighbors, neighbors_code};
+
+    ghost Value = { Neighbors };
+
+    ghost coded = { neighbors_code };
+
+    ghost view = { λ c. record { known = map.from_entries c.entries.items; silent_until = c.silent_until } };
+
+    ghost invariant = { λ c. AreKeysDistinct address_cmp c.entries.items };
+}
+
+impl Cache {
+    /// How long no other discovery is sent after one.
+    pub const SILENT_TIME: Duration = Duration { micros: 1_000_000 };
+
+    /// How long a neighbour is known.
+    pub const ENTRY_LIFETIME: Duration = Duration { micros: 60_000_000 };
+
+    /// A cache that knows nobody and isn't silent.
+    pub fn new() -> Cache
+        ensures { result ≡ record { known = map.empty; silent_until = pos 0 } }
+    {
+        Cache {
+            entries: ArrayVec::new(),
+            silent_until: Instant::ZERO,
+        }
+    }
+
+    /// Puts a neighbour at its address for 60 s. Where that address is new and four others are
+    /// there, one of least end goes. Both addresses have to be unicast.
+    pub fn fill(
+        &mut self,
+        protocol_addr: IpAddress,
+        hardware_addr: HardwareAddress,
+        timestamp: Instant,
+    )
+        requires protocol { ip.is_unicast protocol_addr ≡ true }
+        requires link { hardware.is_unicast hardware_addr ≡ true }
+        requires moment { IsMoment timestamp }
+        ensures { Fills self.old self.new protocol_addr (record { hardware_addr = hardware_addr; expires_at = expiry_from timestamp }) }
+    {
+        let expires_at = timestamp + Cache::ENTRY_LIFETIME;
+        self.fill_with_expiration(protocol_addr, hardware_addr, expires_at);
+    }
+
+    /// Puts a neighbour at its address until an end, which may be any instant. Where that address
+    /// is new and four others are there, one of least end goes. Both addresses have to be unicast.
+    pub fn fill_with_expiration(
+        &mut self,
+        protocol_addr: IpAddress,
+        hardware_addr: HardwareAddress,
+        expires_at: Instant,
+    )
+        requires protocol { ip.is_unicast protocol_addr ≡ true }
+        requires link { hardware.is_unicast hardware_addr ≡ true }
+        ensures { Fills self.old self.new protocol_addr (record { hardware_addr = hardware_addr; expires_at = expires_at }) }
+    {
+        let neighbor = Neighbor {
+            hardware_addr,
+            expires_at,
+        };
+        put_in(&mut self.entries, protocol_addr, neighbor);
+    }
+
+    /// Keeps a neighbour for another 60 s, if the one at this address has this hardware address.
+    /// Else nothing changes.
+    #[tactic(auto, using(crate::proofs::NeighborLemmas::known_at))]
+    pub fn reset_expiry_if_existing(
+        &mut self,
+        protocol_addr: IpAddress,
+        hardware_addr: HardwareAddress,
+        timestamp: Instant,
+    )
+        requires moment { IsMoment timestamp }
+        ensures { self.new ≡ renewed self.old protocol_addr hardware_addr (expiry_from timestamp) }
+    {
+        let expires_at = timestamp + Cache::ENTRY_LIFETIME;
+        renew_in(
+            &mut self.entries,
+            &protocol_addr,
+            &hardware_addr,
+            expires_at,
+        );
+    }
+
+    /// Looks up the hardware address of a neighbour, which is known until its end. The address has
+    /// to be unicast.
+    #[tactic(auto, using(crate::proofs::NeighborLemmas::known_at))]
+    pub fn lookup(&self, protocol_addr: &IpAddress, timestamp: Instant) -> Answer
+        requires { ip.is_unicast protocol_addr.now ≡ true }
+        ensures { result ≡ answer_of self.now protocol_addr.now timestamp }
+    {
+        match find_in(self.entries.as_slice(), protocol_addr) {
+            Some(neighbor) if timestamp < neighbor.expires_at => {
+                Answer::Found(neighbor.hardware_addr)
+            }
+            _ if timestamp < self.silent_until => Answer::RateLimited,
+            _ => Answer::NotFound,
+        }
+    }
+
+    /// Begins a silence of 1 s, in which lookups of all unknown neighbours answer `RateLimited`.
+    pub fn limit_rate(&mut self, timestamp: Instant)
+        requires moment { IsMoment timestamp }
+        ensures { self.new ≡ record self.old { silent_until = silence_from timestamp } }
+    {
+        self.silent_until = timestamp + Cache::SILENT_TIME;
+    }
+
+    /// Forgets all neighbours. A silence stays.
+    pub fn flush(&mut self)
+        ensures { self.new ≡ record self.old { known = map.empty } }
+    {
+        self.entries.clear();
+    }
+}
+
+// Whether the two are one address, by family and number.
+#[inline(always)]
+fn is_at(a: &IpAddress, b: &IpAddress) -> bool
+    ensures { result ≡ eq_by_cmp address_cmp a.now b.now }
+{
+    match (a, b) {
+        (IpAddress::Ipv4(x), IpAddress::Ipv4(y)) => x.bits == y.bits,
+        (IpAddress::Ipv6(x), IpAddress::Ipv6(y)) => x.bits == y.bits,
+        _ => false,
+    }
+}
+
+// Whether the two are one hardware address.
+#[inline(always)]
+fn is_same(a: &HardwareAddress, b: &HardwareAddress) -> bool
+    ensures { result ≡ spec.is_same a.now b.now }
+{
+    match (a, b) {
+        (HardwareAddress::Ip, HardwareAddress::Ip) => true,
+        (HardwareAddress::Ethernet(x), HardwareAddress::Ethernet(y)) => x.0 == y.0,
+        _ => false,
+    }
+}
+
+// The neighbour at an address, if there is one.
+fn find_in(entries: &[(IpAddress, Neighbor)], address: &IpAddress) -> Option<Neighbor>
+    ensures { result ≡ find address_cmp address.now entries.now }
+{
+    for e in entries {
+        if is_at(address, &e.0) {
+            return Some(e.1);
+        }
+    }
+    None
+}
+
+// Where an address stands, or the length.
+fn place_of(entries: &[(IpAddress, Neighbor)], address: &IpAddress) -> usize
+    ensures { result ≡ entry.place_of address_cmp address.now entries.now }
+{
+    for (i, e) in entries.iter().enumerate() {
+        if is_at(address, &e.0) {
+            return i;
+        }
+    }
+    entries.len()
+}
+
+// The place of an entry of least end.
+fn least_end(entries: &[(IpAddress, Neighbor)]) -> usize
+    requires { 0 < length entries.now }
+    ensures { IsLeastPlace entries.now (length entries.now) result }
+{
+    let mut least = 0;
+    for i in 1..entries.len() {
+        if entries[i].1.expires_at < entries[least].1.expires_at {
+            least = i;
+        }
+    }
+    least
+}
+
+// Puts a neighbour at its address. In a full table an entry of least end makes room.
+fn put_in(
+    entries: &mut ArrayVec<(IpAddress, Neighbor), IFACE_NEIGHBOR_CACHE_COUNT>,
+    address: IpAddress,
+    neighbor: Neighbor,
+)
+    requires { AreKeysDistinct address_cmp entries.old.items }
+    ensures distinct { AreKeysDistinct address_cmp entries.new.items }
+    ensures puts { Puts (map.from_entries entries.old.items) (map.from_entries entries.new.items) address neighbor }
+{
+    let place = place_of(entries.as_slice(), &address);
+    if let Some(entry) = entries.get_mut(place) {
+        *entry = (address, neighbor);
+        return;
+    }
+    if !entries.is_full() {
+        entries.push((address, neighbor));
+        return;
+    }
+    let victim = least_end(entries.as_slice());
+    entries.remove(victim);
+    entries.push((address, neighbor));
+}
+
+// Moves the end of the entry at an address, if it has this hardware address.
+fn renew_in(
+    entries: &mut ArrayVec<(IpAddress, Neighbor), IFACE_NEIGHBOR_CACHE_COUNT>,
+    address: &IpAddress,
+    hardware_addr: &HardwareAddress,
+    expires_at: Instant,
+)
+    requires { AreKeysDistinct address_cmp entries.old.items }
+    ensures distinct { AreKeysDistinct address_cmp entries.new.items }
+    ensures renews { map.from_entries entries.new.items ≡ renewed_from (find address_cmp address.now entries.old.items) (map.from_entries entries.old.items) address.now hardware_addr.now expires_at }
+{
+    let place = place_of(entries.as_slice(), address);
+    if let Some(entry) = entries.get_mut(place) {
+        if is_same(&entry.1.hardware_addr, hardware_addr) {
+            let renewed = Neighbor {
+                hardware_addr: *hardware_addr,
+                expires_at,
+            };
+            *entry = (*address, renewed);
+        }
+    }
+}

@@ -1,0 +1,288 @@
+//! Sets of sockets, each with a handle.
+ghost use Rattle.std.specs.Prelude.{◌≡◌, ◌<◌, true, false, not, Some, None, IsOk, IsErr, IsNone, IfOk, IfErr, OnOk, OnErr, length};
+ghost use Rattle.std.specs.Option.{option_copied, option_copied_mut, option_and_then};
+ghost use Rattle.iface_tables.specs.SocketSet.{added, first_free, given_back, handles, has_free, is_full, pairs, socket_at, with_place};
+
+use crate::iter::{HandlesOf, IterOf};
+use sockets::socket::{AnySocketOf, SocketOf};
+use std::fmt;
+use std::marker::Model;
+
+/// A place for one socket, with its lifetime as a type parameter.
+///
+/// In contracts it is the socket that stands there, if there is one.
+#[derive(Drop)]
+pub struct SocketStorageOf<L> {
+    inner: Option<SocketOf<L>>,
+}
+
+/// A place for one socket.
+pub type SocketStorage<'a> = SocketStorageOf<&'a ()>;
+
+impl<L> Model for SocketStorageOf<L> {
+    ghost use Rattle.std.specs.Prelude.{Option};
+    ghost use Rattle.sockets.specs.declared.socket.SocketOf.{SocketOf};
+
+    ghost Value = { Option (SocketOf L) };
+
+    ghost view = { λ s. s.inner };
+}
+
+impl SocketStorageOf<&'static ()> {
+    /// A free place.
+    pub const EMPTY: SocketStorage<'static> = SocketStorageOf { inner: None };
+}
+
+impl<L> SocketStorageOf<L> {
+    ghost use Rattle.std.specs.Borrow.{sem, LendsIf};
+    ghost use Rattle.sockets.specs.contracts.socket.SocketOf.{the_row as socket_row};
+    ghost use Rattle.iface_tables.specs.contracts.socket_set.SocketStorageOf.{the_row as storage_row};
+
+    // The socket, if there is one.
+    pub(crate) fn socket(&self) -> Option<&SocketOf<L>>
+        ensures { option_copied result ≡ self.now }
+    {
+        self.inner.as_ref()
+    }
+
+    // The same, for writing.
+    fn socket_mut(&mut self) -> Option<&mut SocketOf<L>>
+        ensures* lends { sem 𝓛 (LendsIf (storage_row L.row) (socket_row L.row) self.entry result (λ w. Some w) self.old) }
+        ensures value { option_copied_mut result ≡ self.old }
+    {
+        self.inner.as_mut()
+    }
+}
+
+impl<L> Default for SocketStorageOf<L> {
+    fn default() -> SocketStorageOf<L>
+        ensures { result ≡ None }
+    {
+        SocketStorageOf { inner: None }
+    }
+}
+
+/// The name of a socket in a set: the index of its place. It prints as `#` and that number.
+#[derive(Clone, Copy, Debug, PartialEq, Eq, PartialOrd, Ord, Hash)]
+pub struct SocketHandle(usize);
+
+impl Model for SocketHandle {
+    ghost use Rattle.std.specs.Prelude.{ℕ};
+
+    ghost Value = { ℕ };
+
+    ghost view = { λ h. h.0 };
+
+    ghost inverse = { λ n. record { 0 = n } };
+}
+
+impl SocketHandle {
+    // The name of the socket at an index.
+    #[inline(always)]
+    pub(crate) fn from_index(index: usize) -> SocketHandle
+        ensures { result ≡ index }
+    {
+        SocketHandle(index)
+    }
+
+    // The index of its place.
+    #[inline(always)]
+    fn index(self) -> usize
+        ensures { result ≡ self }
+    {
+        self.0
+    }
+}
+
+impl Default for SocketHandle {
+    fn default() -> SocketHandle
+        ensures { result ≡ 0 }
+    {
+        SocketHandle(0)
+    }
+}
+
+impl fmt::Display for SocketHandle {
+    fn fmt<W: fmt::Write>(&self, f: &mut fmt::Formatter<W>) -> fmt::Result {
+        write!(f, "#{}", self.0)
+    }
+}
+
+/// A set of sockets, with their lifetime as a type parameter.
+///
+/// In contracts it is the list of what stands at each place, and whether more places may be made.
+#[derive(Drop)]
+pub struct SocketSetOf<L> {
+    sockets: Vec<SocketStorageOf<L>>,
+    grows: bool,
+}
+
+/// A set of sockets.
+pub type SocketSet<'a> = SocketSetOf<&'a ()>;
+
+impl<L> Model for SocketSetOf<L> {
+    ghost use Rattle.iface_tables.specs.SocketSet.{Sockets};
+
+    ghost Value = { Sockets L };
+
+    ghost view = { λ s. record { places = s.sockets.items; grows = s.grows } };
+}
+
+/// Why a socket found no place. Both give it back.
+#[derive(Drop)]
+pub enum AddError<T> {
+    /// No place is free, and the set never grows.
+    Full(T),
+    /// No place is free, and the memory for another one was refused.
+    NoMemory(T),
+}
+
+impl<T> fmt::Display for AddError<T> {
+    fn fmt<W: fmt::Write>(&self, f: &mut fmt::Formatter<W>) -> fmt::Result {
+        match self {
+            AddError::Full(_) => write!(f, "Full"),
+            AddError::NoMemory(_) => write!(f, "NoMemory"),
+        }
+    }
+}
+
+impl<L> SocketSetOf<L> {
+    /// A set over these places, which makes more of them where none is free.
+    pub fn new(sockets: Vec<SocketStorageOf<L>>) -> SocketSetOf<L>
+        ensures { result ≡ record { places = sockets.items; grows = true } }
+    {
+        SocketSetOf {
+            sockets,
+            grows: true,
+        }
+    }
+
+    /// A set over these places, which never makes more of them.
+    pub fn fixed(sockets: Vec<SocketStorageOf<L>>) -> SocketSetOf<L>
+        ensures { result ≡ record { places = sockets.items; grows = false } }
+    {
+        SocketSetOf {
+            sockets,
+            grows: false,
+        }
+    }
+}
+
+impl<L: Drop> SocketSetOf<L> {
+    ghost use Rattle.std.specs.Borrow.{sem, LendsIf};
+    ghost use Rattle.sockets.specs.contracts.socket.SocketOf.{the_row as socket_row};
+    ghost use Rattle.iface_tables.specs.contracts.socket_set.SocketSetOf.{the_row as set_row};
+
+    /// Puts a socket at the least free index, else at a new one behind all, and names it. Where no
+    /// index is free: `Full` if the set never grows, `NoMemory` if the memory for another place was
+    /// refused. Both give the socket back, and then the set stays as it was.
+    pub fn add<T: AnySocketOf<L>>(&mut self, socket: T) -> Result<SocketHandle, AddError<T>>
+        ensures free { has_free self.old ≡ true → IsOk result }
+        ensures full { has_free self.old ≡ false → self.old.grows ≡ false → IsErr result }
+        ensures handle { IfOk result (λ h. h ≡ first_free self.old.places) }
+        ensures added { OnOk result (self.new ≡ added self.old (T.up socket)) }
+        ensures kind { IfErr result (λ e. is_full e ≡ not self.old.grows) }
+        ensures given_back { IfErr result (λ e. given_back e ≡ socket) }
+        ensures unchanged { OnErr result (self.new ≡ self.old) }
+    {
+        let index = first_free(self.sockets.as_slice());
+        if index < self.sockets.len() {
+            self.sockets[index] = SocketStorageOf {
+                inner: Some(socket.upcast()),
+            };
+            return Ok(SocketHandle(index));
+        }
+        if !self.grows {
+            return Err(AddError::Full(socket));
+        }
+        if self.sockets.try_reserve(1).is_err() {
+            return Err(AddError::NoMemory(socket));
+        }
+        let _ = self.sockets.push(SocketStorageOf {
+            inner: Some(socket.upcast()),
+        });
+        Ok(SocketHandle(index))
+    }
+
+    /// The socket of a handle. `None` exactly for a free place, a socket of another kind, or an
+    /// index out of range.
+    pub fn get<T: AnySocketOf<L>>(&self, handle: SocketHandle) -> Option<&T>
+        ensures { option_copied result ≡ option_and_then T.down (socket_at self.now handle) }
+    {
+        match self.sockets.get(handle.0) {
+            Some(storage) => match storage.socket() {
+                Some(socket) => T::downcast(socket),
+                None => None,
+            },
+            None => None,
+        }
+    }
+
+    /// The same, for writing. At `None` the set stays as it was.
+    pub fn get_mut<T: AnySocketOf<L>>(&mut self, handle: SocketHandle) -> Option<&mut T>
+        ensures* lends { sem 𝓛 (LendsIf (set_row L.row) T.row self.entry result (λ w. with_place self.old handle (Some (T.up w))) self.old) }
+        ensures value { option_copied_mut result ≡ option_and_then T.down (socket_at self.old handle) }
+    {
+        let socket = self.socket_mut(handle.index())?;
+        T::downcast_mut(socket)
+    }
+
+    /// The socket at an index, of whatever kind. `None` exactly for a free place or an index out of
+    /// range; then the set stays as it was.
+    pub fn socket_mut(&mut self, index: usize) -> Option<&mut SocketOf<L>>
+        ensures* lends { sem 𝓛 (LendsIf (set_row L.row) (socket_row L.row) self.entry result (λ w. with_place self.old index (Some w)) self.old) }
+        ensures value { option_copied_mut result ≡ socket_at self.old index }
+    {
+        let storage = self.sockets.get_mut(index)?;
+        storage.socket_mut()
+    }
+
+    /// How many places there are, free or not.
+    pub fn places(&self) -> usize
+        ensures { result ≡ length self.now.places }
+    {
+        self.sockets.len()
+    }
+
+    /// The sockets with their handles, by rising index.
+    pub fn iter(&self) -> IterOf<'_, L>
+        ensures { result ≡ pairs self.now }
+    {
+        IterOf {
+            places: self.sockets.as_slice(),
+            next: 0,
+        }
+    }
+
+    /// The handles of the sockets, by rising index.
+    pub fn handles(&self) -> HandlesOf<'_, L>
+        ensures { result ≡ handles self.now }
+    {
+        HandlesOf { iter: self.iter() }
+    }
+
+    /// Takes out the socket of a handle, and frees its place. `None` exactly for a free place or an
+    /// index out of range; then the set stays as it was.
+    pub fn remove(&mut self, handle: SocketHandle) -> Option<SocketOf<L>>
+        ensures value { result ≡ socket_at self.old handle }
+        ensures freed { handle < length self.old.places → self.new ≡ with_place self.old handle None }
+        ensures unchanged { IsNone result → self.new ≡ self.old }
+    {
+        match self.sockets.get_mut(handle.0) {
+            Some(storage) => storage.inner.take(),
+            None => None,
+        }
+    }
+}
+
+// The least free index, or the number of places.
+fn first_free<L>(places: &[SocketStorageOf<L>]) -> usize
+    ensures { result ≡ first_free places.now }
+{
+    for (i, place) in places.iter().enumerate() {
+        if place.socket().is_none() {
+            return i;
+        }
+    }
+    places.len()
+}

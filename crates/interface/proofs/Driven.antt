@@ -1,0 +1,87 @@
+-- Commands one after the other, over plain variables.
+use Rattle.std.proofs.Common.{◌≡◌, ℕ, List, [], ◌∷◌, ◌++◌, refl, ap, append-nil}
+use Rattle.std.specs.Borrow.{Bor}
+use Rattle.std.specs.Prelude.{ℤ, Result}
+use Rattle.net_base.specs.Device.{Event}
+use Rattle.iface_tables.specs.SocketSet.{Sockets}
+use Rattle.host_machine.specs.declared.command.Command.{Command}
+use Rattle.host_machine.specs.declared.command.Command.TheVariants as command
+use Rattle.host_machine.specs.declared.command.Answer.{Answer}
+use Rattle.host_machine.specs.declared.command.Answer.TheVariants as answer
+use Rattle.host_machine.specs.declared.results.AddrError.{AddrError}
+use Rattle.host_machine.specs.declared.results.PollIngressSingleResult.{PollIngressSingleResult}
+use Rattle.host_machine.specs.Host.{Host, Storage}
+use Rattle.host_machine.specs.Ingress.{Ingress}
+use Rattle.host_machine.specs.Step.{UpdatesIpAddrs, UpdatedIpAddrs, PolledIngressSingle, OwnerActed}
+use Rattle.host_machine.specs.Run.{Ran, Ends, Then, NoAct, ThenAct}
+use Rattle.host_machine.proofs.Joined.{run_laws, ran_on}
+use Rattle.interface.specs.declared.interface.Interface.{Interface}
+use Rattle.interface.specs.Stands.{Addresses, StandsFor, host_with}
+use Rattle.interface.specs.Goes.{Went}
+use Rattle.interface.specs.Commands.{CommandWent, CommandGoes}
+
+module _ {D O : Type 0} (tells : D → List Event → D → Type 0) (did : O → ℕ → List Storage → List Storage → O → Type 0) where
+  -- one command is a run of one place
+  pub ran_one : (d e : D) (o p : O) (c : Command) (a : Answer) (H : Host) (after : Host → Type 0) → CommandWent tells did d e o p c a H after → Ran tells did d e o p (c ∷ []) (a ∷ []) H after
+  ran_one d e o p c a H after went = record {
+    places = record { command = c; answer = a; told = went.told; acts = went.acts; notes = went.notes; before = H; after = went.host } ∷ [];
+    last = went.host;
+    run = Then went.steps Ends;
+    commanded = refl;
+    answered = refl;
+    tells_it = rw append-nil went.tells_it;
+    owner_did = rw append-nil went.owner_did;
+    stands = went.stands;
+    laws = run_laws (Then went.steps Ends);
+  }
+
+  -- a run goes on by one command
+  pub ran_more : ((a b c : D) (xs ys : List Event) → tells a xs b → tells b ys c → tells a (xs ++ ys) c) →
+      (d m e : D) (o p q : O) (commands all_commands : List Command) (c : Command) (answers all_answers : List Answer) (a : Answer) (H : Host) (mid after : Host → Type 0) →
+      all_commands ≡ commands ++ c ∷ [] → all_answers ≡ answers ++ a ∷ [] →
+      Ran tells did d m o p commands answers H mid → CommandGoes tells did m e p q c a mid after → Ran tells did d e o q all_commands all_answers H after
+  ran_more tells_on d m e o p q commands all_commands c answers all_answers a H mid after is_commands is_answers ran goes =
+      rw (is_commands, is_answers) (ran_on tells did tells_on d m e o p q commands (c ∷ []) answers (a ∷ []) H mid after ran (λ K stands. ran_one m e p q c a K after (goes K stands)))
+
+  -- the addresses were replaced, or nothing changed
+  pub addresses_put : (d : D) (o : O) (i j : Interface) (s : Sockets (Bor (Unit {0}))) (list : Addresses) (answered : Result (Unit {0}) AddrError) →
+      ((sockets : List Storage) → UpdatesIpAddrs list.items answered (host_with i sockets) (host_with j sockets)) → tells d [] d →
+      CommandGoes tells did d d o o (command.UpdateIpAddrs list) (answer.UpdateIpAddrs answered) (StandsFor i s) (StandsFor j s)
+  addresses_put d o i j s list answered updates quiet = λ H h. record {
+    told = [];
+    acts = [];
+    notes = [];
+    host = host_with j s.places;
+    tells_it = quiet;
+    owner_did = NoAct;
+    steps = UpdatedIpAddrs (rw h.same (updates s.places));
+    stands = record { same = refl };
+  }
+
+  -- a frame was taken, or none came
+  pub polled : (d e : D) (o : O) (t : ℤ) (answered : PollIngressSingleResult) (H : Host) (after : Host → Type 0) → Went tells d e (Ingress t answered H) after →
+      CommandWent tells did d e o o (command.PollIngressSingle t) (answer.PollIngressSingle answered) H after
+  polled d e o t answered H after went = record {
+    told = went.told;
+    acts = [];
+    notes = went.notes;
+    host = went.host;
+    tells_it = went.tells_it;
+    owner_did = NoAct;
+    steps = PolledIngressSingle went.steps;
+    stands = went.stands;
+  }
+
+  -- the owner acted
+  pub acted : (d : D) (o p : O) (number : ℕ) (i : Interface) (s t : Sockets (Bor (Unit {0}))) → did o number s.places t.places p → tells d [] d →
+      CommandGoes tells did d d o p (command.Owner number) answer.Owner (StandsFor i s) (StandsFor i t)
+  acted d o p number i s t does quiet = λ H h. record {
+    told = [];
+    acts = record { number = number; before = H.sockets; after = t.places } ∷ [];
+    notes = [];
+    host = record H { sockets = t.places };
+    tells_it = quiet;
+    owner_did = ThenAct (rw (ap (λ (K : Host). K.sockets) h.same) does) NoAct;
+    steps = OwnerActed t.places;
+    stands = record { same = ap (λ (K : Host). record K { sockets = t.places }) h.same };
+  }

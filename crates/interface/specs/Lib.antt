@@ -1,0 +1,4 @@
+pub mod Stands
+pub mod Goes
+pub mod Commands
+pub mod Joined

@@ -1,0 +1,94 @@
+-- A device in memory: what it holds, and what it may do at each event.
+use Rattle.std.specs.Prelude.{ℕ, ◌≡◌, ◌≢◌, Bool, true, false, List, [], ◌∷◌, ◌++◌, drop}
+use Rattle.net_base.specs.declared.phy.DeviceCapabilities.{DeviceCapabilities}
+use Rattle.net_base.specs.Device.{Event, Received, Asked, Sent, Frame, Nothing, Withheld, raised, handed, sent as frames_sent}
+
+-- what it can do, the frames that wait, the frames sent, the answers to the next questions for leave (true for refused), the count of refusals, and whether room for a frame to be sent is reserved
+pub record Memory : Type 0 where
+  pub capabilities : DeviceCapabilities
+  pub queued : List (List ℕ)
+  pub sent : List (List ℕ)
+  pub refuse : List Bool
+  pub refusals : ℕ
+  pub has_room : Bool
+
+-- whether the list refuses the next question for leave; a list that has ended refuses none
+abbrev pub is_refused : List Bool → Bool
+is_refused [] = false
+is_refused (answer ∷ answers) = answer
+
+-- the next question has taken its answer
+abbrev pub answered : Memory → Memory
+answered d = record d { refuse = drop 1 d.refuse }
+
+-- a refused leave or a withheld frame is counted
+abbrev pub counted : Memory → Memory
+counted d = record d { refusals = raised d.refusals }
+
+-- room for a frame to be sent is there, or isn't
+abbrev pub with_room : Bool → Memory → Memory
+with_room b d = record d { has_room = b }
+
+-- an attempt to reserve room changes nothing else, and room that was there stays
+pub record Reserves (old new : Memory) (has : Bool) : Type 0 where
+  pub after : new ≡ with_room has old
+  pub stays : old.has_room ≡ true → has ≡ true
+
+-- the first frame that waits is handed over, together with leave
+pub record HandsOver (frame : List ℕ) (old new : Memory) : Type 0 where
+  pub first : old.queued ≡ frame ∷ new.queued
+  pub after : new ≡ record old { queued = new.queued; has_room = true }
+
+-- no frame waits
+pub record HasNothing (old new : Memory) : Type 0 where
+  pub empty : old.queued ≡ []
+  pub after : new ≡ old
+
+-- a frame waits, but there is no room for one to be sent, so it stays
+pub record Withholds (old new : Memory) : Type 0 where
+  pub waits : old.queued ≢ []
+  pub no_room : old.has_room ≡ false
+  pub after : new ≡ counted old
+
+-- leave is given, with room: the list doesn't refuse it
+pub record GivesLeave (old new : Memory) : Type 0 where
+  pub allowed : is_refused old.refuse ≡ false
+  pub after : new ≡ with_room true (answered old)
+
+-- why leave is refused: by the list, or since there is no room for a frame to be sent
+pub data MayRefuse (old : Memory) : Type 0 where
+  ByList : is_refused old.refuse ≡ true → MayRefuse old
+  ForRoom : is_refused old.refuse ≡ false → old.has_room ≡ false → MayRefuse old
+
+-- leave is refused
+pub record RefusesLeave (old new : Memory) : Type 0 where
+  pub cause : MayRefuse old
+  pub after : new ≡ counted (answered old)
+
+-- a frame is sent, in the room for it
+pub record Sends (frame : List ℕ) (old new : Memory) : Type 0 where
+  pub room : old.has_room ≡ true
+  pub after : new ≡ record old { sent = old.sent ++ frame ∷ []; has_room = false }
+
+-- what it may do at one event
+abbrev pub Moves : Event → Memory → Memory → Type 0
+Moves (Received (Frame frame)) old new = HandsOver frame old new
+Moves (Received Nothing) old new = HasNothing old new
+Moves (Received Withheld) old new = Withholds old new
+Moves (Asked true) old new = GivesLeave old new
+Moves (Asked false) old new = RefusesLeave old new
+Moves (Sent id frame) old new = Sends frame old new
+
+-- what it may do at these events, one after the other
+pub data Tells : Memory → List Event → Memory → Type 0 where
+  Stays : {d : Memory} → Tells d [] d
+  Goes : {a b c : Memory} {event : Event} {events : List Event} → Moves event a b → Tells b events c → Tells a (event ∷ events) c
+
+-- the frames that waited are those handed over and those that still wait, in order; those sent come behind those sent before
+pub record KeepsFrames (old : Memory) (events : List Event) (new : Memory) : Type 0 where
+  pub queue : old.queued ≡ handed events ++ new.queued
+  pub sent : new.sent ≡ old.sent ++ frames_sent events
+
+-- no frame is lost or made up, whatever happens
+abbrev pub FramesAreKept : Type 0
+FramesAreKept = (old new : Memory) (events : List Event) → Tells old events new → KeepsFrames old events new

@@ -1,0 +1,3 @@
+pub mod Kinds
+pub mod Queue
+pub mod Udp
