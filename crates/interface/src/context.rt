@@ -24,13 +24,13 @@ pub struct Context {
 }
 
 impl Context {
-    ghost use Rattle.std.specs.Prelude.{◌≡◌};
+    ghost use Rattle.std.specs.Prelude.{◌≡◌, []};
     ghost use Rattle.host_machine.specs.Host as host;
     ghost use Rattle.interface.specs.Stands.{host_of};
 
     /// Whether an address is one of the interface's own.
     pub fn has_ip_addr(&self, address: &IpAddress) -> bool
-        ensures { result ≡ host.has_ip_addr self.now.ip_addrs.items address.now }
+        ensures { result ≡ host.has_ip_addr (host_of self.now []).ip_addrs address.now }
     {
         self.ip_addrs
             .iter()
@@ -39,7 +39,7 @@ impl Context {
 
     /// Whether an address is in a network of the interface's own.
     pub fn in_same_network(&self, address: &IpAddress) -> bool
-        ensures { result ≡ host.in_same_network self.now.ip_addrs.items address.now }
+        ensures { result ≡ host.in_same_network (host_of self.now []).ip_addrs address.now }
     {
         self.ip_addrs.iter().any(|cidr| cidr.contains_addr(address))
     }

@@ -15,7 +15,7 @@ use net_base::phy::FRAME_BUFFER_SIZE;
 
 /// Takes a frame by the medium: frames without an Ethernet header are not there yet.
 pub fn process_frame(context: &mut Context, frame: &[u8]) -> Option<ArpRepr>
-    ensures { (sockets : List Storage) → TakesFrame context.old.hardware_addr (host_of context.old sockets) frame.now (option_map Arp result) [] (host_of context.new sockets) }
+    ensures { (sockets : List Storage) → TakesFrame (host_of context.old sockets).hardware_addr (host_of context.old sockets) frame.now (option_map Arp result) [] (host_of context.new sockets) }
 {
     match context.hardware_addr {
         HardwareAddress::Ethernet(own) => process_ethernet(context, own, frame),
