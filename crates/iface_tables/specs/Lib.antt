@@ -1,3 +1,5 @@
 pub mod Entries
 pub mod Neighbor
+pub mod Route
+pub mod SocketMeta
 pub mod SocketSet

@@ -2,5 +2,10 @@ pub mod AgreeingBits
 pub mod ArpAgain
 pub mod CommonBits
 pub mod EthernetAgain
+pub mod Ipv4Again
 pub mod LastAddress
 pub mod OctetCells
+pub mod Pseudos
+pub mod Sums
+pub mod TcpAgain
+pub mod UdpAgain

@@ -1,1 +1,3 @@
+pub mod IcmpLemmas
 pub mod QueueLemmas
+pub mod RawLemmas

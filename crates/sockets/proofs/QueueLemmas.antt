@@ -1,5 +1,5 @@
 -- Packets whose octets stand one after the other.
-use Rattle.std.proofs.Common.{◌≡◌, ℕ, ◌+◌, ◌<◌, List, [], ◌∷◌, ◌++◌, length, get_or, take, drop, Some, refl, sym, ap, ◌∙◌, arith, add_assoc, suc}
+use Rattle.std.proofs.Common.{◌≡◌, ℕ, ◌+◌, ◌<◌, List, [], ◌∷◌, ◌++◌, length, get_or, take, drop, Some, refl, sym, ap, ◌∙◌, arith, add_assoc, suc, length-append}
 use Rattle.std.proofs.lemmas.List.{take-append-le, drop-append-le, length-drop, length-take-le}
 use Rattle.std.proofs.Math.Seq.{take-length}
 use Rattle.sockets.specs.declared.queue.Entry.{Entry}
@@ -33,6 +33,9 @@ module _ {M : Type 0} where
       ap (λ (ys : List ℕ). (f.meta, ys) ∷ cut (es ++ e ∷ []) (drop f.len (bs ++ xs))) (take-append-le f.len bs xs (omega (arith, h)))
       ∙ ap (λ (ys : List ℕ). (f.meta, take f.len bs) ∷ cut (es ++ e ∷ []) ys) (drop-append-le f.len bs xs (omega (arith, h)))
       ∙ ap (λ (ps : List (M × List ℕ)). (f.meta, take f.len bs) ∷ ps) (cut_append es (drop f.len bs) xs e (rest_is f es bs h) is)
+
+  pub cut_append_parts : (es : List (Entry M)) (bs xs ys : List ℕ) (e : Entry M) → total es ≡ length bs → e.len ≡ length xs + length ys → cut (es ++ e ∷ []) (bs ++ (xs ++ ys)) ≡ cut es bs ++ (e.meta, xs ++ ys) ∷ []
+  cut_append_parts es bs xs ys e h is = cut_append es bs (xs ++ ys) e h (is ∙ sym (length-append xs ys))
 
   pub first_cut : (es : List (Entry M)) (bs : List ℕ) (e : Entry M) → 0 < length es → e ≡ get_or es 0 e → first_of (cut es bs) ≡ Some (e.meta, take e.len bs)
   first_cut [] bs e h is = absurd (omega (arith, h))

@@ -1,13 +1,94 @@
--- The kinds of sockets.
-use Rattle.std.specs.Prelude.{Option, Some}
-use Rattle.sockets.specs.Udp.{UdpSocket}
+-- The kinds of sockets as one.
+use Rattle.std.specs.Prelude.{ℤ, Bool, Option, Some, None}
+use Rattle.std.specs.Option.{option_map}
+use Rattle.ip_wire.specs.declared.ip.IpAddress.{IpAddress}
+use Rattle.sockets.specs.Raw as raw
+use Rattle.sockets.specs.Icmp as icmp
+use Rattle.sockets.specs.Udp as udp
+use Rattle.sockets.specs.Tcp as tcp
+use Rattle.sockets.specs.declared.poll_at.PollAt.{PollAt}
+use Rattle.sockets.specs.declared.socket.Offer.{Offer}
+use Rattle.sockets.specs.declared.socket.Offer.TheVariants as offer
 use Rattle.sockets.specs.declared.socket.SocketOf.{SocketOf}
-use Rattle.sockets.specs.declared.socket.SocketOf.TheVariants.{Udp}
+use Rattle.sockets.specs.declared.socket.SocketOf.TheVariants.{Raw, Icmp, Udp, Tcp}
 
--- a UDP socket as a socket of any kind
-abbrev pub up_udp : {L : Type 0} → UdpSocket → SocketOf L
-up_udp s = Udp s
+-- what a socket offers
+pub data Offered : Type 0 where
+  RawOffer : (packet : raw.Sent) → Offered
+  IcmpOffer : (message : icmp.Sent) → Offered
+  UdpOffer : (datagram : udp.Datagram) → Offered
+  TcpOffer : (segment : tcp.Sent) → Offered
 
--- the UDP socket, if it is one
-abbrev pub down_udp : {L : Type 0} → SocketOf L → Option UdpSocket
-down_udp (Udp s) = Some s
+-- a packet, without where its payload lies
+abbrev pub shown : Offer → Offered
+shown (offer.Raw p) = RawOffer (raw.shown p)
+shown (offer.Icmp p) = IcmpOffer (icmp.shown p)
+shown (offer.Udp p) = UdpOffer (udp.shown p)
+shown (offer.Tcp p) = TcpOffer (tcp.shown p)
+
+module _ {L : Type 0} where
+  -- a socket of a kind as a socket of any kind
+  abbrev pub up_raw : raw.RawSocket → SocketOf L
+  up_raw s = Raw s
+
+  abbrev pub up_icmp : icmp.IcmpSocket → SocketOf L
+  up_icmp s = Icmp s
+
+  abbrev pub up_udp : udp.UdpSocket → SocketOf L
+  up_udp s = Udp s
+
+  abbrev pub up_tcp : tcp.TcpSocket → SocketOf L
+  up_tcp s = Tcp s
+
+  -- the socket of a kind, if it is one
+  abbrev pub down_raw : SocketOf L → Option raw.RawSocket
+  down_raw (Raw s) = Some s
+  down_raw (Icmp s) = None
+  down_raw (Udp s) = None
+  down_raw (Tcp s) = None
+
+  abbrev pub down_icmp : SocketOf L → Option icmp.IcmpSocket
+  down_icmp (Raw s) = None
+  down_icmp (Icmp s) = Some s
+  down_icmp (Udp s) = None
+  down_icmp (Tcp s) = None
+
+  abbrev pub down_udp : SocketOf L → Option udp.UdpSocket
+  down_udp (Raw s) = None
+  down_udp (Icmp s) = None
+  down_udp (Udp s) = Some s
+  down_udp (Tcp s) = None
+
+  abbrev pub down_tcp : SocketOf L → Option tcp.TcpSocket
+  down_tcp (Raw s) = None
+  down_tcp (Icmp s) = None
+  down_tcp (Udp s) = None
+  down_tcp (Tcp s) = Some s
+
+  -- when it has to be polled again
+  abbrev pub poll_at : SocketOf L → PollAt
+  poll_at (Raw s) = raw.poll_at s
+  poll_at (Icmp s) = icmp.poll_at s
+  poll_at (Udp s) = udp.poll_at s
+  poll_at (Tcp s) = tcp.poll_at s
+
+  -- what it has to send first, if that can go
+  abbrev pub offered : ℤ → (IpAddress → Option IpAddress) → SocketOf L → Option Offered
+  offered moment source (Raw s) = option_map RawOffer (raw.offered s)
+  offered moment source (Icmp s) = option_map IcmpOffer (icmp.offered source s)
+  offered moment source (Udp s) = option_map UdpOffer (udp.offered source s)
+  offered moment source (Tcp s) = option_map TcpOffer (tcp.offered moment source s)
+
+  -- what being asked leaves
+  abbrev pub settled : ℤ → (IpAddress → Option IpAddress) → SocketOf L → SocketOf L
+  settled moment source (Raw s) = Raw (raw.settled s)
+  settled moment source (Icmp s) = Icmp (icmp.settled source s)
+  settled moment source (Udp s) = Udp (udp.settled source s)
+  settled moment source (Tcp s) = Tcp (tcp.settled moment source s)
+
+  -- what being told leaves
+  abbrev pub told : Bool → SocketOf L → SocketOf L
+  told is_gone (Raw s) = Raw (raw.told is_gone s)
+  told is_gone (Icmp s) = Icmp (icmp.told is_gone s)
+  told is_gone (Udp s) = Udp (udp.told is_gone s)
+  told is_gone (Tcp s) = Tcp (tcp.told is_gone s)

@@ -1,5 +1,5 @@
 -- What a queue holds: packets in order, each with its octets.
-use Rattle.std.specs.Prelude.{ℕ, ◌+◌, List, [], ◌∷◌, length, take, drop, Option, Some, None}
+use Rattle.std.specs.Prelude.{ℕ, ◌+◌, ◌&&◌, nat_lt, nat_le, Bool, cond, List, [], ◌∷◌, ◌++◌, length, take, drop, Option, Some, None}
 use Rattle.sockets.specs.declared.queue.Entry.{Entry}
 
 -- octets in order, and how many fit
@@ -33,3 +33,16 @@ module _ {M : Type 0} where
 abbrev pub first_of : {A : Type 0} → List A → Option A
 first_of [] = None
 first_of (x ∷ xs) = Some x
+
+module _ {M : Type 0} where
+  -- whether a packet of so many octets fits
+  abbrev pub is_room : Queued M → ℕ → Bool
+  is_room q n = nat_lt (length q.packets) q.most && nat_le (octets_in q.packets + n) q.limit
+
+  -- the queue with a packet more, where it fits
+  abbrev pub put : Queued M → M → List ℕ → Queued M
+  put q m octets = record q { packets = cond (is_room q (length octets)) (q.packets ++ (m, octets) ∷ []) q.packets }
+
+  -- the queue without its first packet
+  abbrev pub popped : Queued M → Queued M
+  popped q = record q { packets = drop 1 q.packets }

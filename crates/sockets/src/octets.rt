@@ -58,6 +58,16 @@ impl Octets {
         let _ = self.items.extend_from_slice(octets);
     }
 
+    /// Appends octets that lie in two parts, one behind the other, which have to fit. It takes no
+    /// memory.
+    pub fn append_parts(&mut self, front: &[u8], back: &[u8])
+        requires { length self.old.octets + (length front.now + length back.now) ≤ self.old.limit }
+        ensures { self.new ≡ record self.old { octets = self.old.octets ++ (front.now ++ back.now) } }
+    {
+        self.append(front);
+        self.append(back);
+    }
+
     /// The first octets, as many as are asked for. There have to be so many.
     pub fn first(&self, count: usize) -> &[u8]
         requires { count ≤ length self.now.octets }

@@ -73,20 +73,28 @@ impl<M: Drop> Queue<M> {
 
     /// Appends a packet. `Full` exactly if as many packets as fit are there, or fewer octets than
     /// it has are free; then the queue stays as it was.
-    #[tactic(auto, using(crate::proofs::QueueLemmas::cut_append, crate::proofs::QueueLemmas::total_append, crate::proofs::QueueLemmas::length_cut, crate::proofs::QueueLemmas::octets_in_cut))]
     pub fn push(&mut self, meta: M, octets: &[u8]) -> Result<(), Full>
         ensures ok { OnOk result (self.new ≡ record self.old { packets = self.old.packets ++ (meta, octets.now) ∷ [] }) }
         ensures fits { IsOk result ↔ ((length self.old.packets < self.old.most) × (octets_in self.old.packets + length octets.now ≤ self.old.limit)) }
         ensures full { OnErr result (self.new ≡ self.old) }
     {
-        if self.entries.len() >= self.most || self.octets.room() < octets.len() {
+        self.push_parts(meta, octets, &[])
+    }
+
+    /// Appends a packet that lies in two parts, one behind the other. It is refused as by
+    /// [`push`](Queue::push).
+    #[tactic(auto, using(crate::proofs::QueueLemmas::cut_append_parts, crate::proofs::QueueLemmas::total_append, crate::proofs::QueueLemmas::length_cut, crate::proofs::QueueLemmas::octets_in_cut))]
+    pub fn push_parts(&mut self, meta: M, front: &[u8], back: &[u8]) -> Result<(), Full>
+        ensures ok { OnOk result (self.new ≡ record self.old { packets = self.old.packets ++ (meta, front.now ++ back.now) ∷ [] }) }
+        ensures fits { IsOk result ↔ ((length self.old.packets < self.old.most) × (octets_in self.old.packets + (length front.now + length back.now) ≤ self.old.limit)) }
+        ensures full { OnErr result (self.new ≡ self.old) }
+    {
+        let len = front.len() + back.len();
+        if self.entries.len() >= self.most || self.octets.room() < len {
             return Err(Full);
         }
-        self.entries.push_back_reserved(Entry {
-            meta,
-            len: octets.len(),
-        });
-        self.octets.append(octets);
+        self.entries.push_back_reserved(Entry { meta, len });
+        self.octets.append_parts(front, back);
         Ok(())
     }
 

@@ -3,16 +3,86 @@ ghost use Rattle.std.specs.Prelude.{◌≡◌, Option};
 ghost use Rattle.std.specs.Option.{option_copied, option_copied_mut};
 ghost use Rattle.std.specs.Borrow.{sem, LendsIf};
 
-use crate::udp;
+use crate::context::SocketContext;
+use crate::poll_at::PollAt;
+use crate::{icmp, raw, tcp, udp};
 
 /// A socket of any kind, with its lifetime as a type parameter.
 #[derive(Drop)]
 pub enum SocketOf<L> {
+    Raw(raw::SocketOf<L>),
+    Icmp(icmp::SocketOf<L>),
     Udp(udp::SocketOf<L>),
+    Tcp(tcp::SocketOf<L>),
 }
 
 /// A socket of any kind.
 pub type Socket<'a> = SocketOf<&'a ()>;
+
+/// What a socket offers to be sent; its payload stays in the socket.
+#[derive(Clone, Copy)]
+pub enum Offer<'p> {
+    Raw(raw::Packet<'p>),
+    Icmp(icmp::Packet<'p>),
+    Udp(udp::Packet<'p>),
+    Tcp(tcp::Packet<'p>),
+}
+
+impl<L: Drop> SocketOf<L> {
+    ghost use Rattle.std.specs.Option.{option_map};
+    ghost use Rattle.sockets.specs.Kinds as spec;
+    ghost use Rattle.sockets.specs.KindsLending.{Settles};
+
+    /// When the socket has to be polled again.
+    pub fn poll_at(&self) -> PollAt
+        ensures { result ≡ spec.poll_at self.now }
+    {
+        match self {
+            SocketOf::Raw(raw) => raw.poll_at(),
+            SocketOf::Icmp(icmp) => icmp.poll_at(),
+            SocketOf::Udp(udp) => udp.poll_at(),
+            SocketOf::Tcp(tcp) => tcp.poll_at(),
+        }
+    }
+
+    /// What the socket has to send first, if it can go. What can't go is dropped, and none is
+    /// offered.
+    pub fn offer<C: SocketContext>(&mut self, context: &C) -> Option<Offer<'_>>
+        ensures* settles { sem 𝓛 (Settles L.row self.entry (C.moment context.now) (C.source_for context.now)) }
+        ensures value { option_map spec.shown result ≡ spec.offered (C.moment context.now) (C.source_for context.now) self.old }
+    {
+        match self {
+            SocketOf::Raw(raw) => match raw.offer() {
+                Some(packet) => Some(Offer::Raw(packet)),
+                None => None,
+            },
+            SocketOf::Icmp(icmp) => match icmp.offer(context) {
+                Some(packet) => Some(Offer::Icmp(packet)),
+                None => None,
+            },
+            SocketOf::Udp(udp) => match udp.offer(context) {
+                Some(packet) => Some(Offer::Udp(packet)),
+                None => None,
+            },
+            SocketOf::Tcp(tcp) => match tcp.offer(context) {
+                Some(packet) => Some(Offer::Tcp(packet)),
+                None => None,
+            },
+        }
+    }
+
+    /// Tells the socket whether what it offered is gone: then it is dropped.
+    pub fn told(&mut self, gone: bool)
+        ensures { self.new ≡ spec.told gone self.old }
+    {
+        match self {
+            SocketOf::Raw(raw) => raw.told(gone),
+            SocketOf::Icmp(icmp) => icmp.told(gone),
+            SocketOf::Udp(udp) => udp.told(gone),
+            SocketOf::Tcp(tcp) => tcp.told(gone),
+        }
+    }
+}
 
 /// A kind of socket, with its lifetime as a type parameter.
 pub trait AnySocketOf<L>: Sized + Drop {
@@ -42,6 +112,54 @@ pub trait AnySocket<'a>: AnySocketOf<&'a ()> {}
 
 impl<'a, T: AnySocketOf<&'a ()>> AnySocket<'a> for T {}
 
+impl<L: Drop> AnySocketOf<L> for raw::SocketOf<L> {
+    ghost use Rattle.sockets.specs.Kinds.{up_raw, down_raw};
+
+    ghost up = { up_raw };
+
+    ghost down = { down_raw };
+
+    fn upcast(self) -> SocketOf<L> {
+        SocketOf::Raw(self)
+    }
+
+    fn downcast(socket: &SocketOf<L>) -> Option<&Self> {
+        if let SocketOf::Raw(s) = socket {
+            Some(s)
+        } else {
+            None
+        }
+    }
+
+    fn downcast_mut(socket: &mut SocketOf<L>) -> Option<&mut Self> {
+        socket.as_raw_mut()
+    }
+}
+
+impl<L: Drop> AnySocketOf<L> for icmp::SocketOf<L> {
+    ghost use Rattle.sockets.specs.Kinds.{up_icmp, down_icmp};
+
+    ghost up = { up_icmp };
+
+    ghost down = { down_icmp };
+
+    fn upcast(self) -> SocketOf<L> {
+        SocketOf::Icmp(self)
+    }
+
+    fn downcast(socket: &SocketOf<L>) -> Option<&Self> {
+        if let SocketOf::Icmp(s) = socket {
+            Some(s)
+        } else {
+            None
+        }
+    }
+
+    fn downcast_mut(socket: &mut SocketOf<L>) -> Option<&mut Self> {
+        socket.as_icmp_mut()
+    }
+}
+
 impl<L: Drop> AnySocketOf<L> for udp::SocketOf<L> {
     ghost use Rattle.sockets.specs.Kinds.{up_udp, down_udp};
 
@@ -54,8 +172,10 @@ impl<L: Drop> AnySocketOf<L> for udp::SocketOf<L> {
     }
 
     fn downcast(socket: &SocketOf<L>) -> Option<&Self> {
-        match socket {
-            SocketOf::Udp(s) => Some(s),
+        if let SocketOf::Udp(s) = socket {
+            Some(s)
+        } else {
+            None
         }
     }
 
@@ -64,18 +184,83 @@ impl<L: Drop> AnySocketOf<L> for udp::SocketOf<L> {
     }
 }
 
+impl<L: Drop> AnySocketOf<L> for tcp::SocketOf<L> {
+    ghost use Rattle.sockets.specs.Kinds.{up_tcp, down_tcp};
+
+    ghost up = { up_tcp };
+
+    ghost down = { down_tcp };
+
+    fn upcast(self) -> SocketOf<L> {
+        SocketOf::Tcp(self)
+    }
+
+    fn downcast(socket: &SocketOf<L>) -> Option<&Self> {
+        if let SocketOf::Tcp(s) = socket {
+            Some(s)
+        } else {
+            None
+        }
+    }
+
+    fn downcast_mut(socket: &mut SocketOf<L>) -> Option<&mut Self> {
+        socket.as_tcp_mut()
+    }
+}
+
 impl<L> SocketOf<L> {
-    ghost use Rattle.sockets.specs.Kinds.{up_udp, down_udp};
+    ghost use Rattle.sockets.specs.Kinds as kinds;
     ghost use Rattle.sockets.specs.contracts.socket.SocketOf.{the_row as socket_row};
+    ghost use Rattle.sockets.specs.contracts.raw.SocketOf.{the_row as raw_row};
+    ghost use Rattle.sockets.specs.contracts.icmp.SocketOf.{the_row as icmp_row};
     ghost use Rattle.sockets.specs.contracts.udp.SocketOf.{the_row as udp_row};
+    ghost use Rattle.sockets.specs.contracts.tcp.SocketOf.{the_row as tcp_row};
+
+    // The raw socket, if it is one.
+    fn as_raw_mut(&mut self) -> Option<&mut raw::SocketOf<L>>
+        ensures* lends { sem 𝓛 (LendsIf (socket_row L.row) (raw_row L.row) self.entry result kinds.up_raw self.old) }
+        ensures value { option_copied_mut result ≡ kinds.down_raw self.old }
+    {
+        if let SocketOf::Raw(s) = self {
+            Some(s)
+        } else {
+            None
+        }
+    }
+
+    // The ICMP socket, if it is one.
+    fn as_icmp_mut(&mut self) -> Option<&mut icmp::SocketOf<L>>
+        ensures* lends { sem 𝓛 (LendsIf (socket_row L.row) (icmp_row L.row) self.entry result kinds.up_icmp self.old) }
+        ensures value { option_copied_mut result ≡ kinds.down_icmp self.old }
+    {
+        if let SocketOf::Icmp(s) = self {
+            Some(s)
+        } else {
+            None
+        }
+    }
 
     // The UDP socket, if it is one.
     fn as_udp_mut(&mut self) -> Option<&mut udp::SocketOf<L>>
-        ensures* lends { sem 𝓛 (LendsIf (socket_row L.row) (udp_row L.row) self.entry result up_udp self.old) }
-        ensures value { option_copied_mut result ≡ down_udp self.old }
+        ensures* lends { sem 𝓛 (LendsIf (socket_row L.row) (udp_row L.row) self.entry result kinds.up_udp self.old) }
+        ensures value { option_copied_mut result ≡ kinds.down_udp self.old }
     {
-        match self {
-            SocketOf::Udp(s) => Some(s),
+        if let SocketOf::Udp(s) = self {
+            Some(s)
+        } else {
+            None
+        }
+    }
+
+    // The TCP socket, if it is one.
+    fn as_tcp_mut(&mut self) -> Option<&mut tcp::SocketOf<L>>
+        ensures* lends { sem 𝓛 (LendsIf (socket_row L.row) (tcp_row L.row) self.entry result kinds.up_tcp self.old) }
+        ensures value { option_copied_mut result ≡ kinds.down_tcp self.old }
+    {
+        if let SocketOf::Tcp(s) = self {
+            Some(s)
+        } else {
+            None
         }
     }
 }

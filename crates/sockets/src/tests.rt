@@ -1,6 +1,79 @@
+ghost use Rattle.std.specs.Prelude.{◌<◌, ◌^◌, length};
+
+use crate::context::SocketContext;
+use crate::endpoint::{IpEndpoint, IpListenEndpoint};
+use crate::poll_at::PollAt;
 use crate::queue::{Full, NoMemory, Queue};
-use std::alloc::AllocError;
+use crate::{icmp, raw, tcp, udp};
+use control_wire::icmpv4::Icmpv4Repr;
+use ip_wire::{
+    IpAddress, IpProtocol, IpVersion, Ipv4Address, Ipv4Repr, TcpControl, TcpRepr, TcpSeqNumber,
+};
+use net_base::time::Instant;
+use std::alloc::{AllocError, Global};
+use std::process::Abort;
 use std::test::Fail;
+
+const OWN: IpAddress = IpAddress::Ipv4(Ipv4Address { bits: 0xc0a8_4501 });
+
+const OTHER: IpAddress = IpAddress::Ipv4(Ipv4Address { bits: 0xc0a8_4564 });
+
+const NETWORK: IpAddress = IpAddress::Ipv4(Ipv4Address { bits: 0xc0a8_45ff });
+
+const GROUP: IpAddress = IpAddress::Ipv4(Ipv4Address { bits: 0xe000_0001 });
+
+const REMOTE: IpEndpoint = IpEndpoint {
+    addr: OTHER,
+    port: 5000,
+};
+
+// A host with at most one source address, in one network.
+#[derive(Drop)]
+struct Host {
+    moment: Instant,
+    source: Option<IpAddress>,
+}
+
+impl SocketContext for Host {
+    ghost use Rattle.sockets.specs.Source.{is_same};
+    ghost use Rattle.sockets.specs.declared.tests.TheConstants.{NETWORK};
+
+    ghost moment = { λ h. h.moment };
+
+    ghost source_for = { λ h peer. h.source };
+
+    ghost is_broadcast_in = { λ h address. is_same address NETWORK };
+
+    fn now(&self) -> Instant {
+        self.moment
+    }
+
+    fn get_source_address(&self, _dst_addr: &IpAddress) -> Option<IpAddress> {
+        self.source
+    }
+
+    fn is_broadcast(&self, address: &IpAddress) -> bool {
+        *address == NETWORK
+    }
+}
+
+const HOST: Host = Host {
+    moment: Instant::ZERO,
+    source: Some(OWN),
+};
+
+// A queue of four packets and 64 octets.
+fn queue<M: Drop>(alloc: Global) -> Result<Queue<M>, Fail> {
+    match Queue::new(alloc, 4, 64) {
+        Ok(queue) => Ok(queue),
+        Err(_) => Err(Fail::from(AllocError)),
+    }
+}
+
+fn udp_at(alloc: Global, addr: Option<IpAddress>) -> Result<udp::Socket<'static>, Fail> {
+    let endpoint = IpListenEndpoint { addr, port: 6969 };
+    Ok(udp::Socket::new(endpoint, queue(alloc)?, queue(alloc)?))
+}
 
 #[test]
 fn a_packet_that_does_not_fit_is_refused(rt: HostRuntime) -> Result<(), Fail> {
@@ -50,5 +123,267 @@ fn errors_print_their_names(rt: HostRuntime) -> Result<(), Fail> {
         format!(in rt.alloc(); "{} {}", Full, NoMemory)?.as_str(),
         "Full NoMemory"
     );
+    Ok(())
+}
+
+#[test]
+fn a_datagram_is_handed_out(rt: HostRuntime) -> Result<(), Fail> {
+    let mut socket = udp_at(rt.alloc(), None)?;
+    assert!(rt; socket.accepts(&HOST, &OWN, 6969));
+    assert!(rt; !socket.accepts(&HOST, &OWN, 6970));
+    assert!(rt; socket.recv().is_none());
+    socket.process(REMOTE, b"hi");
+    match socket.recv() {
+        Some((remote, payload)) => {
+            assert_eq!(rt; *remote, REMOTE);
+            assert_eq!(rt; payload, b"hi".as_slice());
+        }
+        None => assert!(rt; false),
+    }
+    socket.done();
+    assert!(rt; socket.recv().is_none());
+    Ok(())
+}
+
+#[test]
+fn datagrams_to_many_are_heard_at_an_address(rt: HostRuntime) -> Result<(), Fail> {
+    let socket = udp_at(rt.alloc(), Some(OWN))?;
+    for addr in [OWN, NETWORK, GROUP] {
+        assert!(rt; socket.accepts(&HOST, &addr, 6969));
+    }
+    assert!(rt; !socket.accepts(&HOST, &OTHER, 6969));
+    Ok(())
+}
+
+#[test]
+fn a_datagram_is_offered_until_it_is_gone(rt: HostRuntime) -> Result<(), Fail> {
+    let mut socket = udp_at(rt.alloc(), None)?;
+    assert_eq!(rt; socket.poll_at(), PollAt::Ingress);
+    assert_eq!(rt; socket.send(REMOTE, b"hi"), Ok(()));
+    assert_eq!(rt; socket.poll_at(), PollAt::Now);
+    for gone in [false, true] {
+        match socket.offer(&HOST) {
+            Some(packet) => {
+                assert_eq!(rt;
+                    packet.src,
+                    IpEndpoint {
+                        addr: OWN,
+                        port: 6969
+                    }
+                );
+                assert_eq!(rt; packet.dst, REMOTE);
+                assert_eq!(rt; packet.hop_limit, 64);
+                assert_eq!(rt; packet.payload, b"hi".as_slice());
+            }
+            None => assert!(rt; false),
+        }
+        socket.told(gone);
+    }
+    assert!(rt; socket.offer(&HOST).is_none());
+    Ok(())
+}
+
+#[test]
+fn a_datagram_without_a_source_is_dropped(rt: HostRuntime) -> Result<(), Fail> {
+    let mut socket = udp_at(rt.alloc(), None)?;
+    let lost = Host {
+        moment: Instant::ZERO,
+        source: None,
+    };
+    assert_eq!(rt; socket.send(REMOTE, b"hi"), Ok(()));
+    assert!(rt; socket.offer(&lost).is_none());
+    assert_eq!(rt; socket.poll_at(), PollAt::Ingress);
+    Ok(())
+}
+
+fn tcp_at(alloc: Global) -> Result<tcp::Socket<'static>, Fail> {
+    let local = IpListenEndpoint {
+        addr: None,
+        port: 80,
+    };
+    Ok(tcp::Socket::new(local, None, queue(alloc)?, queue(alloc)?))
+}
+
+const SYN: TcpRepr = TcpRepr {
+    src_port: 5000,
+    dst_port: 80,
+    control: TcpControl::Syn,
+    seq_number: TcpSeqNumber { bits: 256 },
+    ack_number: None,
+    window_len: 1024,
+};
+
+#[test]
+fn a_connection_given_up_is_reset(rt: HostRuntime) -> Result<(), Fail> {
+    let mut socket = tcp_at(rt.alloc())?;
+    assert!(rt;
+        socket.accepts(
+            &REMOTE,
+            &IpEndpoint {
+                addr: OWN,
+                port: 80
+            }
+        )
+    );
+    assert_eq!(rt; socket.process(OTHER, &SYN, b""), None);
+    match socket.recv() {
+        Some((segment, _)) => assert_eq!(rt; segment.remote, REMOTE),
+        None => assert!(rt; false),
+    }
+    socket.done();
+    socket.abort();
+    let reset = TcpRepr {
+        src_port: 80,
+        dst_port: 5000,
+        control: TcpControl::Rst,
+        seq_number: TcpSeqNumber { bits: 0 },
+        ack_number: Some(TcpSeqNumber { bits: 257 }),
+        window_len: 0,
+    };
+    assert_eq!(rt; socket.process(OTHER, &SYN, b""), Some(reset));
+    assert_eq!(rt; socket.process(OTHER, &reset, b""), None);
+    assert!(rt; socket.recv().is_none());
+    Ok(())
+}
+
+#[test]
+fn a_segment_is_held_until_its_moment(rt: HostRuntime) -> Result<(), Fail> {
+    let mut socket = tcp_at(rt.alloc())?;
+    let segment = tcp::Segment {
+        remote: REMOTE,
+        control: TcpControl::Psh,
+        seq: TcpSeqNumber { bits: 1 },
+        ack: None,
+        window: 512,
+    };
+    assert_eq!(rt; socket.send(segment, b"hi"), Ok(()));
+    let hold = Instant::from_secs(5);
+    socket.hold_until(hold);
+    assert_eq!(rt; socket.poll_at(), PollAt::Time(hold));
+    for (micros, offered) in [(4_999_999, false), (5_000_000, true)] {
+        let host = Host {
+            moment: Instant::from_micros(micros),
+            source: Some(OWN),
+        };
+        assert_eq!(rt; socket.offer(&host).is_some(), offered);
+    }
+    Ok(())
+}
+
+const PACKET: &[u8] =
+    b"\x45\x00\x00\x1e\x00\x00\x40\x00\x40\x11\x2f\x19\xc0\xa8\x45\x64\xc0\xa8\x45\x01\x13\x88\x1b\x39\x00\x0a\x5c\xf9hi";
+
+#[test]
+fn packets_keep_their_headers(rt: HostRuntime) -> Result<(), Fail> {
+    let mut socket = raw::Socket::new(
+        IpVersion::Ipv4,
+        IpProtocol::Udp,
+        queue(rt.alloc())?,
+        queue(rt.alloc())?,
+    );
+    assert!(rt; socket.accepts(IpVersion::Ipv4, IpProtocol::Udp));
+    assert!(rt; !socket.accepts(IpVersion::Ipv4, IpProtocol::Tcp));
+    assert!(rt; !socket.accepts(IpVersion::Ipv6, IpProtocol::Udp));
+    let Some((header, _, payload)) = Ipv4Repr::parse(PACKET, true) else {
+        assert!(rt; false);
+        return Ok(());
+    };
+    socket.process(&header, payload, true);
+    match socket.recv() {
+        Some((_, octets)) => assert_eq!(rt; octets, PACKET),
+        None => assert!(rt; false),
+    }
+    assert_eq!(rt; socket.send(PACKET), Ok(()));
+    match socket.offer() {
+        Some(packet) => {
+            assert_eq!(rt; packet.header, header);
+            assert_eq!(rt; packet.payload, payload);
+        }
+        None => assert!(rt; false),
+    }
+    socket.told(true);
+    assert_eq!(rt; socket.send(b"no packet"), Ok(()));
+    assert!(rt; socket.offer().is_none());
+    assert_eq!(rt; socket.poll_at(), PollAt::Ingress);
+    Ok(())
+}
+
+// An echo request with the identifier 0x22b and the sequence number 1 (RFC 792), without its
+// checksum.
+const ECHO: &[u8] = b"\x08\x00\x00\x00\x02\x2b\x00\x01hi";
+
+// A port unreachable that quotes a datagram from port 5000.
+const UNREACHABLE: &[u8] =
+    b"\x03\x03\x00\x00\x00\x00\x00\x00\x45\x00\x00\x1e\x00\x00\x40\x00\x40\x11\x2f\x19\xc0\xa8\x45\x64\xc0\xa8\x45\x01\x13\x88\x1b\x39\x00\x0a\x5c\xf9hi";
+
+fn icmp_for(alloc: Global, endpoint: icmp::Endpoint) -> Result<icmp::Socket<'static>, Fail> {
+    Ok(icmp::Socket::new(endpoint, queue(alloc)?, queue(alloc)?))
+}
+
+// Whether the sockets for two endpoints each take a message.
+fn heard(
+    rt: &impl Abort,
+    octets: &[u8],
+    first: &icmp::Socket<'static>,
+    second: &icmp::Socket<'static>,
+) -> (bool, bool)
+    requires { length octets.now < 2 ^ 16 }
+{
+    match Icmpv4Repr::parse(octets, false) {
+        Some((repr, payload)) => (
+            first.accepts(&repr, payload),
+            second.accepts(&repr, payload),
+        ),
+        None => {
+            assert!(rt; false);
+            (false, false)
+        }
+    }
+}
+
+#[test]
+fn messages_are_heard_by_identifier_or_port(rt: HostRuntime) -> Result<(), Fail> {
+    let ident = icmp_for(rt.alloc(), icmp::Endpoint::Ident(0x22b))?;
+    let port = icmp_for(rt.alloc(), icmp::Endpoint::Udp(5000))?;
+    assert_eq!(rt; heard(&rt, ECHO, &ident, &port), (true, false));
+    assert_eq!(rt; heard(&rt, UNREACHABLE, &ident, &port), (false, true));
+    // Seven octets of the quoted datagram aren't enough.
+    assert_eq!(rt;
+        heard(&rt, &UNREACHABLE[..35], &ident, &port),
+        (false, false)
+    );
+    assert_eq!(rt;
+        heard(&rt, &UNREACHABLE[..36], &ident, &port),
+        (false, true)
+    );
+    Ok(())
+}
+
+#[test]
+fn only_echo_messages_are_offered(rt: HostRuntime) -> Result<(), Fail> {
+    let mut socket = icmp_for(rt.alloc(), icmp::Endpoint::Ident(0x22b))?;
+    socket.process(OTHER, UNREACHABLE);
+    match socket.recv() {
+        Some((remote, message)) => {
+            assert_eq!(rt; *remote, OTHER);
+            assert_eq!(rt; message, UNREACHABLE);
+        }
+        None => assert!(rt; false),
+    }
+    assert_eq!(rt; socket.send(OTHER, UNREACHABLE), Ok(()));
+    assert_eq!(rt; socket.send(OTHER, ECHO), Ok(()));
+    assert!(rt; socket.offer(&HOST).is_none());
+    match socket.offer(&HOST) {
+        Some(packet) => {
+            let repr = Icmpv4Repr::EchoRequest {
+                ident: 0x22b,
+                seq_no: 1,
+            };
+            assert_eq!(rt; packet.repr, repr);
+            assert_eq!(rt; packet.src_addr, OWN);
+            assert_eq!(rt; packet.payload, b"hi".as_slice());
+        }
+        None => assert!(rt; false),
+    }
     Ok(())
 }

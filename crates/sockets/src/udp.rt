@@ -1,9 +1,25 @@
 //! UDP sockets (RFC 768).
-ghost use Rattle.std.specs.Prelude.{◌≡◌};
+ghost use Rattle.std.specs.Prelude.{◌≡◌, ◌≢◌, ◌≤◌, length, is_ok, false};
+ghost use Rattle.std.specs.Option.{option_map};
+ghost use Rattle.ip_wire.specs.Ip.{is_unspecified};
+ghost use Rattle.sockets.specs.Queue.{is_room, first_of};
+ghost use Rattle.sockets.specs.Udp as spec;
 
+use crate::context::{SocketContext, source_address};
 use crate::endpoint::{IpEndpoint, IpListenEndpoint};
-use crate::queue::Queue;
+use crate::poll_at::PollAt;
+use crate::queue::{Full, Queue};
+use ip_wire::IpAddress;
 use std::marker::{Model, PhantomData};
+
+/// A datagram to be sent; its payload stays in the socket.
+#[derive(Clone, Copy)]
+pub struct Packet<'p> {
+    pub src: IpEndpoint,
+    pub dst: IpEndpoint,
+    pub hop_limit: u8,
+    pub payload: &'p [u8],
+}
 
 /// A UDP socket, with its lifetime as a type parameter.
 ///
@@ -28,7 +44,7 @@ impl<L> Model for SocketOf<L> {
     ghost view = { λ s. record { endpoint = s.endpoint; hop_limit = s.hop_limit; rx = s.rx; tx = s.tx } };
 }
 
-impl<L> SocketOf<L> {
+impl<L: Drop> SocketOf<L> {
     /// A socket that listens at an end, with a queue for what comes and one for what goes. Its hop
     /// limit is 64.
     pub fn new(
@@ -45,5 +61,123 @@ impl<L> SocketOf<L> {
             tx,
             marker: PhantomData,
         }
+    }
+
+    /// Sets the hop limit of what is sent, which isn't 0.
+    pub fn set_hop_limit(&mut self, hop_limit: u8)
+        requires { hop_limit ≢ 0 }
+        ensures { self.new ≡ record self.old { hop_limit = hop_limit } }
+    {
+        self.hop_limit = hop_limit;
+    }
+
+    /// Whether a datagram to an address and a port is for the socket: the port is its own, and it
+    /// listens at any address or at that one, or the address is a broadcast or a multicast one.
+    pub fn accepts<C: SocketContext>(
+        &self,
+        context: &C,
+        dst_addr: &IpAddress,
+        dst_port: u16,
+    ) -> bool
+        ensures { result ≡ spec.accepts (C.is_broadcast_in context.now) self.now dst_addr.now dst_port }
+    {
+        if self.endpoint.port != dst_port {
+            return false;
+        }
+        match self.endpoint.addr {
+            None => true,
+            Some(addr) => {
+                addr == *dst_addr || context.is_broadcast(dst_addr) || dst_addr.is_multicast()
+            }
+        }
+    }
+
+    /// Takes a datagram that came from an end. Without room for it, it is dropped.
+    pub fn process(&mut self, remote: IpEndpoint, payload: &[u8])
+        ensures { self.new ≡ spec.delivered remote payload.now self.old }
+    {
+        let _ = self.rx.push(remote, payload);
+    }
+
+    /// The first datagram that came and wasn't read, if there is one: where it came from, and its
+    /// payload.
+    pub fn recv(&self) -> Option<(&IpEndpoint, &[u8])>
+        ensures { option_map (λ p. (p.0.now, p.1.now)) result ≡ first_of self.now.rx.packets }
+    {
+        self.rx.front()
+    }
+
+    /// Drops the datagram that `recv` gives, if there is one.
+    pub fn done(&mut self)
+        ensures { self.new ≡ spec.read self.old }
+    {
+        self.rx.pop();
+    }
+
+    /// Queues a datagram to an end, of at most 65,495 octets. `Full` exactly if it doesn't fit; then
+    /// the socket stays as it was.
+    pub fn send(&mut self, remote: IpEndpoint, payload: &[u8]) -> Result<(), Full>
+        requires addr { is_unspecified remote.addr ≡ false }
+        requires port { remote.port ≢ 0 }
+        requires len { length payload.now ≤ 65495 }
+        ensures fits { is_ok result ≡ is_room self.old.tx (length payload.now) }
+        ensures socket { self.new ≡ spec.queued remote payload.now self.old }
+    {
+        self.tx.push(remote, payload)
+    }
+
+    /// When it has to be polled again: at once, if something is to be sent.
+    pub fn poll_at(&self) -> PollAt
+        ensures { result ≡ spec.poll_at self.now }
+    {
+        match self.tx.front() {
+            None => PollAt::Ingress,
+            Some(_) => PollAt::Now,
+        }
+    }
+
+    /// The first datagram to be sent, if it has a source.
+    fn peek<C: SocketContext>(&self, context: &C) -> Option<Packet<'_>>
+        ensures { option_map spec.shown result ≡ spec.offered (C.source_for context.now) self.now }
+    {
+        let (remote, payload) = self.tx.front()?;
+        let addr = source_address(context, self.endpoint.addr, &remote.addr)?;
+        Some(Packet {
+            src: IpEndpoint {
+                addr,
+                port: self.endpoint.port,
+            },
+            dst: *remote,
+            hop_limit: self.hop_limit,
+            payload,
+        })
+    }
+
+    /// Tells the socket whether what it offered is gone: then it is dropped.
+    pub fn told(&mut self, gone: bool)
+        ensures { self.new ≡ spec.told gone self.old }
+    {
+        if gone {
+            self.tx.pop();
+        }
+    }
+}
+
+impl<L: Drop> SocketOf<L> {
+    ghost use Rattle.std.specs.Borrow.{sem};
+    ghost use Rattle.sockets.specs.UdpLending.{Settles};
+
+    /// The first datagram to be sent, if there is one. Its source is the address at which the
+    /// socket listens, if that is given, else the one that the context chooses. Without a source
+    /// of the peer's family the datagram is dropped, and none is offered.
+    pub fn offer<C: SocketContext>(&mut self, context: &C) -> Option<Packet<'_>>
+        ensures* settles { sem 𝓛 (Settles L.row self.entry (C.source_for context.now)) }
+        ensures value { option_map spec.shown result ≡ spec.offered (C.source_for context.now) self.old }
+    {
+        if self.peek(context).is_none() {
+            self.tx.pop();
+            return None;
+        }
+        self.peek(context)
     }
 }

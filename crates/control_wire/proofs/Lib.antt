@@ -1,0 +1,2 @@
+pub mod Icmpv4Sums
+pub mod Icmpv4Again

@@ -1,0 +1,206 @@
+//! ICMP for IPv4 (RFC 792): echo messages, and errors with their quotations.
+ghost use Rattle.std.specs.Prelude.{◌≡◌, ◌+◌, ◌%◌, ◌<◌, ◌≤◌, ◌^◌, ◌++◌, length};
+ghost use Rattle.std.specs.Option.{SomeIff, option_map};
+ghost use Rattle.arrayvec.specs.ArrayVec.{array_vec_len};
+ghost use Rattle.ip_wire.specs.Checksum.{checksum_of};
+ghost use Rattle.control_wire.specs.Icmpv4 as spec;
+
+use arrayvec::ArrayVec;
+use ip_wire::checksum::sum_with;
+use ip_wire::emit::append;
+use ip_wire::ipv4_packet::{Ipv4Fragment, Ipv4Repr};
+use ip_wire::octets::u16_at;
+
+/// The length of a message's header, in octets.
+pub const HEADER_LEN: usize = 8;
+
+/// Why a destination is unreachable.
+#[derive(Clone, Copy, Debug, PartialEq, Eq)]
+pub enum Icmpv4DstUnreachable {
+    /// Nobody there takes packets of this protocol.
+    ProtoUnreachable,
+    /// Nobody there listens at this port.
+    PortUnreachable,
+    /// Another reason, by its code.
+    Unknown(u8),
+}
+
+impl Icmpv4DstUnreachable {
+    /// The reason of a code.
+    pub const fn from_number(code: u8) -> Icmpv4DstUnreachable
+        ensures { result ≡ spec.reason_of code }
+    {
+        match code {
+            2 => Icmpv4DstUnreachable::ProtoUnreachable,
+            3 => Icmpv4DstUnreachable::PortUnreachable,
+            other => Icmpv4DstUnreachable::Unknown(other),
+        }
+    }
+
+    /// The code of a reason.
+    pub const fn number(self) -> u8
+        ensures { result ≡ spec.code_of self }
+    {
+        match self {
+            Icmpv4DstUnreachable::ProtoUnreachable => 2,
+            Icmpv4DstUnreachable::PortUnreachable => 3,
+            Icmpv4DstUnreachable::Unknown(other) => other,
+        }
+    }
+}
+
+/// The values of a message, but its data: what an echo message carries, or what is quoted behind
+/// the header of the packet that brought an error.
+#[derive(Clone, Copy, Debug, PartialEq, Eq)]
+pub enum Icmpv4Repr {
+    EchoRequest {
+        ident: u16,
+        seq_no: u16,
+    },
+    EchoReply {
+        ident: u16,
+        seq_no: u16,
+    },
+    DstUnreachable {
+        reason: Icmpv4DstUnreachable,
+        /// The header of the packet that didn't reach its destination.
+        header: Ipv4Repr,
+    },
+    TimeExceeded {
+        /// 0 in transit, 1 in reassembly.
+        code: u8,
+        /// The header of the packet whose time was exceeded.
+        header: Ipv4Repr,
+    },
+}
+
+impl Icmpv4Repr {
+    /// The message that the octets are, and its data as a part of them. The octets have to be
+    /// fewer than 65,536.
+    ///
+    /// `None` exactly if they are fewer than 8, if they are an echo message with a code other than
+    /// 0, an error that quotes no IPv4 header or a message of another type, or if, where `checked`,
+    /// the checksum over all of them is wrong.
+    pub fn parse(octets: &[u8], checked: bool) -> Option<(Icmpv4Repr, &[u8])>
+        requires { length octets.now < 2 ^ 16 }
+        ensures { SomeIff (option_map spec.parts result) (spec.IsIcmpv4 checked octets.now) (spec.icmpv4_in octets.now) }
+    {
+        if octets.len() < HEADER_LEN {
+            return None;
+        }
+        if checked && sum_with(0, octets) != 0xffff {
+            return None;
+        }
+        parse_body(octets)
+    }
+
+    /// Appends the message with its data, of fewer than 65,536 octets. Its checksum is 0 where it
+    /// isn't `summed`. A quoted header has to be one of a packet of at most 65,535 octets; it is
+    /// emitted anew, as that of a whole packet and with its checksum.
+    pub fn emit<const N: usize>(&self, payload: &[u8], summed: bool, out: &mut ArrayVec<u8, N>)
+        requires quoted { spec.QuotesPacket self.now }
+        requires short { length payload.now < 2 ^ 16 }
+        requires room { array_vec_len out.old + spec.header_len self.now + length payload.now ≤ N }
+        ensures items { out.new.items ≡ out.old.items ++ spec.text summed self.now payload.now }
+        ensures len { array_vec_len out.new ≡ array_vec_len out.old + spec.header_len self.now + length payload.now }
+    {
+        let quoted = quoted(self);
+        let sum = if summed {
+            sum_for(&head_with(0, self), quoted.as_slice(), payload)
+        } else {
+            0
+        };
+        append(out, &head_with(sum, self));
+        append(out, quoted.as_slice());
+        append(out, payload);
+    }
+
+    /// The length of the message without its data, in octets.
+    pub const fn header_len(&self) -> usize
+        ensures { result ≡ spec.header_len self.now }
+    {
+        match self {
+            Icmpv4Repr::EchoRequest { .. } | Icmpv4Repr::EchoReply { .. } => HEADER_LEN,
+            Icmpv4Repr::DstUnreachable { .. } | Icmpv4Repr::TimeExceeded { .. } => 28,
+        }
+    }
+}
+
+/// A message that is emitted is read again.
+pub fn read_again()
+    ensures { spec.ReadAgain }
+{}
+
+/// The first eight octets of a message, with the given checksum.
+#[inline(always)]
+#[tactic(auto, unfolding(crate::specs::Icmpv4::head_with))]
+fn head_with(sum: u16, repr: &Icmpv4Repr) -> [u8; HEADER_LEN]
+    ensures { result ≡ spec.head_with sum repr.now }
+{
+    let [c0, c1] = sum.to_be_bytes();
+    match repr {
+        Icmpv4Repr::EchoRequest { ident, seq_no } => {
+            let [i0, i1] = ident.to_be_bytes();
+            let [s0, s1] = seq_no.to_be_bytes();
+            [8, 0, c0, c1, i0, i1, s0, s1]
+        }
+        Icmpv4Repr::EchoReply { ident, seq_no } => {
+            let [i0, i1] = ident.to_be_bytes();
+            let [s0, s1] = seq_no.to_be_bytes();
+            [0, 0, c0, c1, i0, i1, s0, s1]
+        }
+        Icmpv4Repr::DstUnreachable { reason, .. } => [3, reason.number(), c0, c1, 0, 0, 0, 0],
+        Icmpv4Repr::TimeExceeded { code, .. } => [11, *code, c0, c1, 0, 0, 0, 0],
+    }
+}
+
+/// The quoted header of an error, emitted anew.
+fn quoted(repr: &Icmpv4Repr) -> ArrayVec<u8, 20>
+    requires { spec.QuotesPacket repr.now }
+    ensures items { result.items ≡ spec.quoted repr.now }
+    ensures len { 8 + array_vec_len result ≡ spec.header_len repr.now }
+{
+    let mut octets = ArrayVec::new();
+    match repr {
+        Icmpv4Repr::EchoRequest { .. } | Icmpv4Repr::EchoReply { .. } => {}
+        Icmpv4Repr::DstUnreachable { header, .. } | Icmpv4Repr::TimeExceeded { header, .. } => {
+            header.emit(&Ipv4Fragment::WHOLE, true, &mut octets);
+        }
+    }
+    octets
+}
+
+/// The checksum of a message of these parts.
+fn sum_for(head: &[u8], quoted: &[u8], payload: &[u8]) -> u16
+    requires head_even { length head.now % 2 ≡ 0 }
+    requires quoted_even { length quoted.now % 2 ≡ 0 }
+    requires head_short { length head.now < 2 ^ 16 }
+    requires quoted_short { length quoted.now < 2 ^ 16 }
+    requires payload_short { length payload.now < 2 ^ 16 }
+    ensures { result ≡ checksum_of (head.now ++ quoted.now ++ payload.now) }
+{
+    0xffff - sum_with(sum_with(sum_with(0, head), quoted), payload)
+}
+
+/// The message by its type, and its data.
+fn parse_body(octets: &[u8]) -> Option<(Icmpv4Repr, &[u8])>
+    requires { 8 ≤ length octets.now }
+    ensures { SomeIff (option_map spec.parts result) (spec.IsBody octets.now) (spec.icmpv4_in octets.now) }
+{
+    let ident = u16_at(octets, 4);
+    let seq_no = u16_at(octets, 6);
+    match (octets[0], octets[1]) {
+        (8, 0) => Some((Icmpv4Repr::EchoRequest { ident, seq_no }, &octets[8..])),
+        (0, 0) => Some((Icmpv4Repr::EchoReply { ident, seq_no }, &octets[8..])),
+        (3, code) => {
+            let (header, data) = Ipv4Repr::parse_quoted(&octets[8..])?;
+            let reason = Icmpv4DstUnreachable::from_number(code);
+            Some((Icmpv4Repr::DstUnreachable { reason, header }, data))
+        }
+        (11, code) => {
+            let (header, data) = Ipv4Repr::parse_quoted(&octets[8..])?;
+            Some((Icmpv4Repr::TimeExceeded { code, header }, data))
+        }
+        _ => None,
+    }
+}

@@ -1,0 +1,124 @@
+-- Routes (RFC 1122 3.3.1, RFC 4632 5.1): of those that match an address, the one of longest prefix is taken.
+use Rattle.std.specs.Prelude.{◌≡◌, ℕ, ◌<◌, ◌≤◌, ◌==◌, ◌&&◌, nat_le, ℤ, Bool, true, false, is_none, if◌then◌else◌, List, [], ◌∷◌, ◌++◌, length, slice_get, Option, Some, None, Result, Ok, Err}
+use Rattle.std.specs.List.{find, position_or_len, remove}
+use Rattle.std.specs.Ordering.{int_cmp, is_le}
+use Rattle.std.proofs.Common.{lit≤}
+use Rattle.arrayvec.specs.ArrayVec.{ArrayVec}
+use Rattle.ip_wire.specs.Cidr.{contains, prefix_len_of}
+use Rattle.ip_wire.specs.declared.ip.IpAddress.{IpAddress}
+use Rattle.ip_wire.specs.declared.ip.IpAddress.TheVariants as address
+use Rattle.ip_wire.specs.declared.ipv4.Ipv4Address.{Ipv4Address}
+use Rattle.ip_wire.specs.declared.ipv6.Ipv6Address.{Ipv6Address}
+use Rattle.ip_wire.specs.declared.cidr.IpCidr.{IpCidr}
+use Rattle.ip_wire.specs.declared.cidr.IpCidr.TheVariants.{Ipv4, Ipv6}
+use Rattle.iface_tables.specs.declared.route.Route.{Route}
+use Rattle.iface_tables.specs.declared.route.RouteTableFull.{RouteTableFull}
+use Rattle.iface_tables.specs.declared.route.TheConstants.{IFACE_MAX_ROUTE_COUNT}
+
+-- a list of at most four routes, as it is handed over
+abbrev pub Storage : Type 0
+Storage = ArrayVec Route
+
+-- whether a time with this end has not passed at t: it lasts to its very end, or for good
+abbrev pub is_until : Option ℤ → ℤ → Bool
+is_until None t = true
+is_until (Some end) t = is_le (int_cmp t end)
+
+-- whether a route has not expired at t
+abbrev pub is_live : Route → ℤ → Bool
+is_live r t = is_until r.expires_at t
+
+-- whether a route may be taken to an address at t
+abbrev pub matches : Route → IpAddress → ℤ → Bool
+matches r a t = contains r.cidr a && is_live r t
+
+-- how specific a route is
+abbrev pub prefix_len : Route → ℕ
+prefix_len r = prefix_len_of r.cidr
+
+-- the route at a place matches, no matching route is more specific, and none behind it is as specific
+pub record IsBestAt (rs : List Route) (a : IpAddress) (t : ℤ) (place : ℕ) (r : Route) : Type 0 where
+  pub is_there : slice_get rs place ≡ Some r
+  pub is_match : matches r a t ≡ true
+  pub longest : (k : ℕ) (other : Route) → slice_get rs k ≡ Some other → matches other a t ≡ true → prefix_len other ≤ prefix_len r
+  pub last : (k : ℕ) (other : Route) → place < k → slice_get rs k ≡ Some other → matches other a t ≡ true → prefix_len other < prefix_len r
+
+-- the best route to an address at t, or none where none matches
+abbrev pub IsBest : List Route → IpAddress → ℤ → Option Route → Type 0
+IsBest rs a t (Some r) = (place : ℕ) × IsBestAt rs a t place r
+IsBest rs a t None = (k : ℕ) (other : Route) → slice_get rs k ≡ Some other → matches other a t ≡ false
+
+-- the router of a route, if there is one
+abbrev pub router_of : Option Route → Option IpAddress
+router_of (Some r) = Some r.via_router
+router_of None = None
+
+-- what goes to an address at t goes to this router, or nowhere
+abbrev pub IsRouter : List Route → IpAddress → ℤ → Option IpAddress → Type 0
+IsRouter rs a t router = (best : Option Route) × IsBest rs a t best × (router ≡ router_of best)
+
+-- two best routes are one, and so are their routers
+abbrev pub RouterIsOne : Type 0
+RouterIsOne = (rs : List Route) (a : IpAddress) (t : ℤ) (x y : Option IpAddress) → IsRouter rs a t x → IsRouter rs a t y → x ≡ y
+
+-- of the best route so far and one behind it, the better one
+abbrev pub better : IpAddress → ℤ → Option Route → Route → Option Route
+better a t None r = if matches r a t then Some r else None
+better a t (Some best) r = if matches r a t && nat_le (prefix_len best) (prefix_len r) then Some r else Some best
+
+-- 0.0.0.0/0 and ::/0, the networks of all addresses
+abbrev pub whole_ipv4 : IpCidr
+whole_ipv4 = Ipv4 (record { address = record { bits = 0 }; prefix_len = 0; in_range = lit≤ tt })
+
+abbrev pub whole_ipv6 : IpCidr
+whole_ipv6 = Ipv6 (record { address = record { bits = 0 }; prefix_len = 0; in_range = lit≤ tt })
+
+-- the default route by a gateway, for good (RFC 1122 3.3.1.1)
+abbrev pub ipv4_gateway : Ipv4Address → Route
+ipv4_gateway gateway = record { cidr = whole_ipv4; via_router = address.Ipv4 gateway; preferred_until = None; expires_at = None }
+
+abbrev pub ipv6_gateway : Ipv6Address → Route
+ipv6_gateway gateway = record { cidr = whole_ipv6; via_router = address.Ipv6 gateway; preferred_until = None; expires_at = None }
+
+-- exactly 0.0.0.0/0
+abbrev pub is_whole_ipv4 : IpCidr → Bool
+is_whole_ipv4 (Ipv4 n) = (n.address.bits == 0) && (n.prefix_len == 0)
+is_whole_ipv4 (Ipv6 n) = false
+
+-- exactly ::/0
+abbrev pub is_whole_ipv6 : IpCidr → Bool
+is_whole_ipv6 (Ipv4 n) = false
+is_whole_ipv6 (Ipv6 n) = (n.address.bits == 0) && (n.prefix_len == 0)
+
+-- whether a route is a default route of IPv4
+abbrev pub is_ipv4_gateway : Route → Bool
+is_ipv4_gateway r = is_whole_ipv4 r.cidr
+
+-- whether a route is a default route of IPv6
+abbrev pub is_ipv6_gateway : Route → Bool
+is_ipv6_gateway r = is_whole_ipv6 r.cidr
+
+-- the first route of a kind, if there is one
+abbrev pub first : (Route → Bool) → List Route → Option Route
+first is_kind rs = find is_kind rs
+
+-- the table without the first route of a kind, the others in their order
+abbrev pub without_first : (Route → Bool) → List Route → List Route
+without_first is_kind rs = remove rs (position_or_len is_kind rs)
+
+-- whether a route finds no place: the table is full, and none of its kind makes room
+abbrev pub is_refused : (Route → Bool) → List Route → Bool
+is_refused is_kind rs = is_none (first is_kind rs) && nat_le IFACE_MAX_ROUTE_COUNT (length rs)
+
+-- what a call answers that puts a route in place of the first of its kind
+abbrev pub old_or_full : (Route → Bool) → List Route → Result (Option Route) RouteTableFull
+old_or_full is_kind rs = if is_refused is_kind rs then Err (record {}) else Ok (first is_kind rs)
+
+-- the table with a route behind all, in place of the first of its kind
+abbrev pub with_default : (Route → Bool) → List Route → Route → List Route
+with_default is_kind rs r = if is_refused is_kind rs then rs else without_first is_kind rs ++ r ∷ []
+
+-- a route was put in place of the first of its kind
+pub record Replaces (is_kind : Route → Bool) (old : List Route) (r : Route) (answer : Result (Option Route) RouteTableFull) (new : List Route) : Type 0 where
+  pub answers : answer ≡ old_or_full is_kind old
+  pub leaves : new ≡ with_default is_kind old r

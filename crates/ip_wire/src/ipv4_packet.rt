@@ -1,0 +1,207 @@
+//! IPv4 packets (RFC 791).
+ghost use Rattle.std.specs.Prelude.{◌≡◌, ◌+◌, ◌<◌, ◌≤◌, ◌^◌, ◌++◌, length};
+ghost use Rattle.std.specs.Option.{SomeIff, option_map};
+ghost use Rattle.arrayvec.specs.ArrayVec.{array_vec_len};
+ghost use Rattle.ip_wire.specs.Ipv4Packet as spec;
+
+use crate::checksum::{checksum, sum_with};
+use crate::emit::append;
+use crate::ipv4::Ipv4Address;
+use crate::octets::{u16_at, u32_at};
+use crate::protocol::IpProtocol;
+use arrayvec::ArrayVec;
+
+/// The length of a header without options, in octets.
+pub const HEADER_LEN: usize = 20;
+
+/// The values of a packet's header, but those that tell which fragment it is.
+#[derive(Clone, Copy, Debug, PartialEq, Eq)]
+pub struct Ipv4Repr {
+    pub src_addr: Ipv4Address,
+    pub dst_addr: Ipv4Address,
+    pub next_header: IpProtocol,
+    /// In octets.
+    pub payload_len: u16,
+    pub hop_limit: u8,
+}
+
+/// Which fragment of a packet this is.
+#[derive(Clone, Copy, Debug, PartialEq, Eq)]
+pub struct Ipv4Fragment {
+    /// What the fragments of one packet share.
+    pub identification: u16,
+    /// Whether it is forbidden to fragment it.
+    pub dont_fragment: bool,
+    /// Whether fragments follow.
+    pub more_fragments: bool,
+    /// Where it begins in the packet's payload, in units of eight octets: below 8,192.
+    pub offset: u16,
+}
+
+impl Ipv4Fragment {
+    /// A whole packet, which isn't to be fragmented.
+    pub const WHOLE: Ipv4Fragment = Ipv4Fragment {
+        identification: 0,
+        dont_fragment: true,
+        more_fragments: false,
+        offset: 0,
+    };
+
+    /// Whether it is a part of a packet, and not the whole.
+    pub const fn is_fragment(&self) -> bool
+        ensures { result ≡ spec.is_fragment self.now }
+    {
+        self.more_fragments || self.offset != 0
+    }
+
+    /// Flags and offset, in one word.
+    #[inline(always)]
+    const fn word(&self) -> u16
+        requires { self.now.offset < 0x2000 }
+        ensures { result ≡ spec.fragment_word self.now }
+    {
+        let dont_fragment = if self.dont_fragment { 0x4000 } else { 0 };
+        let more_fragments = if self.more_fragments { 0x2000 } else { 0 };
+        dont_fragment + more_fragments + self.offset
+    }
+}
+
+impl Default for Ipv4Fragment {
+    fn default() -> Ipv4Fragment
+        ensures { result ≡ spec.whole }
+    {
+        Ipv4Fragment::WHOLE
+    }
+}
+
+impl Ipv4Repr {
+    /// The header of the packet that the octets begin with, which fragment that is, and its
+    /// payload as a part of the octets, which ends at the total length. Options are skipped.
+    ///
+    /// `None` exactly if the octets are fewer than 20, the version isn't 4, the header is shorter
+    /// than 20 octets or longer than the total length, that is longer than the octets are, or,
+    /// where `checked`, the header's checksum is wrong.
+    pub fn parse(packet: &[u8], checked: bool) -> Option<(Ipv4Repr, Ipv4Fragment, &[u8])>
+        ensures { SomeIff (option_map spec.parts result) (spec.IsIpv4 checked packet.now) (spec.ipv4_in packet.now) }
+    {
+        if packet.len() < HEADER_LEN || packet[0] / 16 != 4 {
+            return None;
+        }
+        let header_len = usize::from(packet[0] % 16) * 4;
+        let total_len = usize::from(u16_at(packet, 2));
+        if header_len < HEADER_LEN || total_len < header_len || packet.len() < total_len {
+            return None;
+        }
+        if checked && sum_with(0, &packet[..header_len]) != 0xffff {
+            return None;
+        }
+        Some((
+            header_of(packet),
+            fragment_of(packet),
+            &packet[header_len..total_len],
+        ))
+    }
+
+    /// A header that is quoted in a message, and all that stands behind it. The payload's length
+    /// is the total length without the header, or 0 where that is longer.
+    ///
+    /// `None` exactly if the octets are fewer than 20, the version isn't 4, or the header is
+    /// shorter than 20 octets or longer than the octets are. Neither its checksum nor its total
+    /// length is tested.
+    pub fn parse_quoted(octets: &[u8]) -> Option<(Ipv4Repr, &[u8])>
+        ensures { SomeIff (option_map spec.quoted_parts result) (spec.IsQuoted octets.now) (spec.quoted_in octets.now) }
+    {
+        if octets.len() < HEADER_LEN || octets[0] / 16 != 4 {
+            return None;
+        }
+        let header_len = usize::from(octets[0] % 16) * 4;
+        if header_len < HEADER_LEN || octets.len() < header_len {
+            return None;
+        }
+        Some((header_of(octets), &octets[header_len..]))
+    }
+
+    /// Appends the header, of 20 octets, for the given fragment. Its checksum is 0 where it isn't
+    /// `summed`. The packet has to have at most 65,535 octets.
+    pub fn emit<const N: usize>(
+        &self,
+        fragment: &Ipv4Fragment,
+        summed: bool,
+        out: &mut ArrayVec<u8, N>,
+    )
+        requires payload_len { 20 + self.now.payload_len < 2 ^ 16 }
+        requires offset { fragment.now.offset < 0x2000 }
+        requires room { array_vec_len out.old + 20 ≤ N }
+        ensures items { out.new.items ≡ out.old.items ++ spec.header_text summed self.now fragment.now }
+        ensures len { array_vec_len out.new ≡ array_vec_len out.old + 20 }
+    {
+        let sum = if summed {
+            checksum(&header_with(0, self, fragment))
+        } else {
+            0
+        };
+        append(out, &header_with(sum, self, fragment));
+    }
+}
+
+/// The values of a header.
+#[inline(always)]
+fn header_of(octets: &[u8]) -> Ipv4Repr
+    requires { 20 ≤ length octets.now }
+    ensures { result ≡ spec.header_in octets.now }
+{
+    let header_len = u16::from(octets[0] % 16) * 4;
+    Ipv4Repr {
+        src_addr: Ipv4Address {
+            bits: u32_at(octets, 12),
+        },
+        dst_addr: Ipv4Address {
+            bits: u32_at(octets, 16),
+        },
+        next_header: IpProtocol::from_number(octets[9]),
+        payload_len: u16_at(octets, 2).saturating_sub(header_len),
+        hop_limit: octets[8],
+    }
+}
+
+/// Which fragment a header tells of.
+#[inline(always)]
+fn fragment_of(octets: &[u8]) -> Ipv4Fragment
+    requires { 20 ≤ length octets.now }
+    ensures { result ≡ spec.fragment_in octets.now }
+{
+    let word = u16_at(octets, 6);
+    Ipv4Fragment {
+        identification: u16_at(octets, 4),
+        dont_fragment: word / 0x4000 % 2 == 1,
+        more_fragments: word / 0x2000 % 2 == 1,
+        offset: word % 0x2000,
+    }
+}
+
+/// A header with the given checksum.
+#[inline(always)]
+#[tactic(auto, unfolding(crate::specs::Ipv4Packet::header_with, crate::specs::Ipv4Packet::front, crate::specs::Ipv4Packet::back))]
+fn header_with(sum: u16, repr: &Ipv4Repr, fragment: &Ipv4Fragment) -> [u8; HEADER_LEN]
+    requires payload_len { 20 + repr.now.payload_len < 2 ^ 16 }
+    requires offset { fragment.now.offset < 0x2000 }
+    ensures { result ≡ spec.header_with sum repr.now fragment.now }
+{
+    let [l0, l1] = (20 + repr.payload_len).to_be_bytes();
+    let [i0, i1] = fragment.identification.to_be_bytes();
+    let [f0, f1] = fragment.word().to_be_bytes();
+    let [c0, c1] = sum.to_be_bytes();
+    let [s0, s1, s2, s3] = repr.src_addr.octets();
+    let [d0, d1, d2, d3] = repr.dst_addr.octets();
+    let hop_limit = repr.hop_limit;
+    let protocol = repr.next_header.number();
+    [
+        0x45, 0, l0, l1, i0, i1, f0, f1, hop_limit, protocol, c0, c1, s0, s1, s2, s3, d0, d1, d2,
+        d3,
+    ]
+}
+
+/// A packet that is emitted is read again, whatever stands behind it.
+pub fn read_again()
+    ensures { spec.ReadAgain }
+{}

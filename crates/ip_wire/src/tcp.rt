@@ -1,0 +1,231 @@
+//! TCP segments (RFC 9293).
+ghost use Rattle.std.specs.Prelude.{◌≡◌, ◌==◌, ◌+◌, ◌<◌, ◌≤◌, ◌^◌, ◌++◌, length, slice_index, true};
+ghost use Rattle.std.specs.Option.{SomeIff, option_map};
+ghost use Rattle.arrayvec.specs.ArrayVec.{array_vec_len};
+ghost use Rattle.ip_wire.specs.Checksum.{folded, word_sum};
+ghost use Rattle.ip_wire.specs.Pseudo.{pseudo};
+ghost use Rattle.ip_wire.specs.Tcp as spec;
+
+use crate::checksum::sum_with;
+use crate::emit::append;
+use crate::ip::IpAddress;
+use crate::octets::{u16_at, u32_at};
+use crate::pseudo::pseudo_sum;
+use arrayvec::ArrayVec;
+
+/// The length of a header without options, in octets.
+pub const HEADER_LEN: usize = 20;
+
+/// What a segment says by its flags, but ACK.
+#[derive(Clone, Copy, Debug, PartialEq, Eq)]
+pub enum TcpControl {
+    None,
+    Psh,
+    Syn,
+    Fin,
+    Rst,
+}
+
+impl TcpControl {
+    /// What flags say, or `None` if two of FIN, SYN and RST are set.
+    #[inline(always)]
+    #[tactic(auto, unfolding(crate::specs::Tcp::control_of))]
+    const fn from_flags(flags: u8) -> Option<TcpControl>
+        ensures { SomeIff result (spec.IsControl flags) (spec.control_of flags) }
+    {
+        match flags % 8 {
+            0 if flags / 8 % 2 == 1 => Some(TcpControl::Psh),
+            0 => Some(TcpControl::None),
+            1 => Some(TcpControl::Fin),
+            2 => Some(TcpControl::Syn),
+            4 => Some(TcpControl::Rst),
+            _ => None,
+        }
+    }
+
+    /// The flags that say it.
+    #[inline(always)]
+    const fn flags(self) -> u8
+        ensures value { result ≡ spec.flags_of self }
+        ensures small { result < 16 }
+    {
+        match self {
+            TcpControl::None => 0,
+            TcpControl::Fin => 0x01,
+            TcpControl::Syn => 0x02,
+            TcpControl::Rst => 0x04,
+            TcpControl::Psh => 0x08,
+        }
+    }
+}
+
+/// The number of an octet in a stream, modulo 2^32.
+#[derive(Clone, Copy, Debug, PartialEq, Eq)]
+pub struct TcpSeqNumber {
+    pub bits: u32,
+}
+
+/// The values of a segment's header.
+#[derive(Clone, Copy, Debug, PartialEq, Eq)]
+pub struct TcpRepr {
+    pub src_port: u16,
+    pub dst_port: u16,
+    pub control: TcpControl,
+    pub seq_number: TcpSeqNumber,
+    /// Where the segment acknowledges something, the number of the next octet.
+    pub ack_number: Option<TcpSeqNumber>,
+    /// As it stands in the header, not scaled.
+    pub window_len: u16,
+}
+
+impl TcpRepr {
+    /// The header of the segment that the octets are, of which there are fewer than 65,536, and
+    /// its payload as a part of them. Options are skipped. `src` and `dst` are the packet's
+    /// addresses.
+    ///
+    /// `None` exactly if the octets are fewer than 20, the header is shorter than 20 octets or
+    /// longer than the octets are, a port is 0, two of FIN, SYN and RST are set, or, where
+    /// `checked`, the checksum is wrong.
+    pub fn parse<'a>(
+        packet: &'a [u8],
+        src: &IpAddress,
+        dst: &IpAddress,
+        checked: bool,
+    ) -> Option<(TcpRepr, &'a [u8])>
+        requires { length packet.now < 2 ^ 16 }
+        ensures { SomeIff (option_map spec.parts result) (spec.IsTcp checked src.now dst.now packet.now) (spec.tcp_in packet.now) }
+    {
+        if packet.len() < HEADER_LEN {
+            return None;
+        }
+        let header_len = usize::from(packet[12] / 16) * 4;
+        if header_len < HEADER_LEN || packet.len() < header_len {
+            return None;
+        }
+        if u16_at(packet, 0) == 0 || u16_at(packet, 2) == 0 {
+            return None;
+        }
+        let control = TcpControl::from_flags(packet[13])?;
+        if checked && !sums_up(packet, src, dst) {
+            return None;
+        }
+        Some((header_of(packet, control), &packet[header_len..]))
+    }
+
+    /// Appends a segment: the header, of 20 octets, and the payload. `src` and `dst` are the
+    /// packet's addresses. The checksum is 0 where it isn't `summed`. The segment has to have at
+    /// most 65,535 octets.
+    pub fn emit<const N: usize>(
+        &self,
+        src: &IpAddress,
+        dst: &IpAddress,
+        payload: &[u8],
+        summed: bool,
+        out: &mut ArrayVec<u8, N>,
+    )
+        requires fits { 20 + length payload.now < 2 ^ 16 }
+        requires room { array_vec_len out.old + 20 + length payload.now ≤ N }
+        ensures items { out.new.items ≡ out.old.items ++ spec.text summed src.now dst.now self.now payload.now }
+        ensures len { array_vec_len out.new ≡ array_vec_len out.old + 20 + length payload.now }
+    {
+        let sum = if summed {
+            sum_for(self, src, dst, payload)
+        } else {
+            0
+        };
+        append(out, &header_with(sum, self));
+        append(out, payload);
+    }
+}
+
+/// The values of a header that says so much by its flags.
+#[inline(always)]
+fn header_of(packet: &[u8], control: TcpControl) -> TcpRepr
+    requires whole { 20 ≤ length packet.now }
+    requires control { control ≡ spec.control_of (slice_index packet.now 13) }
+    ensures { result ≡ spec.header_in packet.now }
+{
+    TcpRepr {
+        src_port: u16_at(packet, 0),
+        dst_port: u16_at(packet, 2),
+        control,
+        seq_number: TcpSeqNumber {
+            bits: u32_at(packet, 4),
+        },
+        ack_number: ack_number_of(packet),
+        window_len: u16_at(packet, 14),
+    }
+}
+
+/// The acknowledgement number of a header, if it has one.
+#[inline(always)]
+fn ack_number_of(packet: &[u8]) -> Option<TcpSeqNumber>
+    requires { 20 ≤ length packet.now }
+    ensures { result ≡ (spec.header_in packet.now).ack_number }
+{
+    if packet[13] / 16 % 2 == 1 {
+        Some(TcpSeqNumber {
+            bits: u32_at(packet, 8),
+        })
+    } else {
+        None
+    }
+}
+
+/// Whether a segment and its pseudo-header sum up to all ones.
+#[tactic(auto, using(crate::proofs::Pseudos::before))]
+fn sums_up(segment: &[u8], src: &IpAddress, dst: &IpAddress) -> bool
+    requires { length segment.now < 2 ^ 16 }
+    ensures { result ≡ (folded (word_sum (pseudo src.now dst.now 6 (length segment.now) ++ segment.now)) == 65535) }
+{
+    let start = pseudo_sum(src, dst, 6, segment.len() as u16);
+    sum_with(start, segment) == 0xffff
+}
+
+/// ACK where there is an acknowledgement number, and that number or 0.
+#[inline(always)]
+const fn ack_of(ack_number: Option<TcpSeqNumber>) -> (u8, u32)
+    ensures flag { result.0 ≡ spec.ack_flag ack_number }
+    ensures bits { result.1 ≡ spec.ack_bits ack_number }
+    ensures small { result.0 ≤ 16 }
+{
+    match ack_number {
+        Some(number) => (0x10, number.bits),
+        None => (0, 0),
+    }
+}
+
+/// A header with the given checksum.
+#[inline(always)]
+#[tactic(auto, unfolding(crate::specs::Tcp::header_with))]
+fn header_with(sum: u16, repr: &TcpRepr) -> [u8; HEADER_LEN]
+    ensures { result ≡ spec.header_with sum repr.now }
+{
+    let (ack, ack_bits) = ack_of(repr.ack_number);
+    let flags = repr.control.flags() + ack;
+    let [s0, s1] = repr.src_port.to_be_bytes();
+    let [d0, d1] = repr.dst_port.to_be_bytes();
+    let [q0, q1, q2, q3] = repr.seq_number.bits.to_be_bytes();
+    let [a0, a1, a2, a3] = ack_bits.to_be_bytes();
+    let [w0, w1] = repr.window_len.to_be_bytes();
+    let [c0, c1] = sum.to_be_bytes();
+    [
+        s0, s1, d0, d1, q0, q1, q2, q3, a0, a1, a2, a3, 0x50, flags, w0, w1, c0, c1, 0, 0,
+    ]
+}
+
+/// The checksum of a segment.
+#[tactic(auto, using(crate::proofs::Pseudos::segments))]
+fn sum_for(repr: &TcpRepr, src: &IpAddress, dst: &IpAddress, payload: &[u8]) -> u16
+    requires { 20 + length payload.now < 2 ^ 16 }
+    ensures { result ≡ spec.sum_of true src.now dst.now repr.now payload.now }
+{
+    let len = 20 + payload.len() as u16;
+    let start = sum_with(pseudo_sum(src, dst, 6, len), &header_with(0, repr));
+    0xffff - sum_with(start, payload)
+}
+
+/// A segment that is emitted with its checksum is read again.
+pub fn read_again()
+    ensures { spec.ReadAgain }
+{}

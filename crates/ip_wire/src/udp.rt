@@ -1,0 +1,139 @@
+//! UDP datagrams (RFC 768).
+ghost use Rattle.std.specs.Prelude.{◌≡◌, ◌==◌, ◌+◌, ◌<◌, ◌≤◌, ◌^◌, ◌++◌, length, true};
+ghost use Rattle.std.specs.Option.{SomeIff, option_map};
+ghost use Rattle.arrayvec.specs.ArrayVec.{array_vec_len};
+ghost use Rattle.ip_wire.specs.Checksum.{folded, word_sum};
+ghost use Rattle.ip_wire.specs.Pseudo.{pseudo};
+ghost use Rattle.ip_wire.specs.Udp as spec;
+
+use crate::checksum::sum_with;
+use crate::emit::append;
+use crate::ip::IpAddress;
+use crate::octets::u16_at;
+use crate::pseudo::pseudo_sum;
+use arrayvec::ArrayVec;
+
+/// The length of a header, in octets.
+pub const HEADER_LEN: usize = 8;
+
+/// The values of a datagram's header.
+#[derive(Clone, Copy, Debug, PartialEq, Eq)]
+pub struct UdpRepr {
+    pub src_port: u16,
+    pub dst_port: u16,
+}
+
+impl UdpRepr {
+    /// The header of the datagram that the octets begin with, and its payload as a part of them,
+    /// which ends at the datagram's length. `src` and `dst` are the packet's addresses.
+    ///
+    /// `None` exactly if the octets are fewer than 8, the datagram's length is below 8 or longer
+    /// than the octets are, the destination port is 0, or, where `checked`, its checksum is wrong.
+    /// A checksum of 0 over IPv4 isn't tested.
+    pub fn parse<'a>(
+        packet: &'a [u8],
+        src: &IpAddress,
+        dst: &IpAddress,
+        checked: bool,
+    ) -> Option<(UdpRepr, &'a [u8])>
+        ensures { SomeIff (option_map spec.parts result) (spec.IsUdp checked src.now dst.now packet.now) (spec.udp_in packet.now) }
+    {
+        if packet.len() < HEADER_LEN {
+            return None;
+        }
+        let len = usize::from(u16_at(packet, 4));
+        let dst_port = u16_at(packet, 2);
+        if len < HEADER_LEN || packet.len() < len || dst_port == 0 {
+            return None;
+        }
+        if checked && !is_unsummed(packet, dst) && !sums_up(&packet[..len], src, dst) {
+            return None;
+        }
+        let repr = UdpRepr {
+            src_port: u16_at(packet, 0),
+            dst_port,
+        };
+        Some((repr, &packet[HEADER_LEN..len]))
+    }
+
+    /// Appends a datagram: the header, of 8 octets, and the payload. `src` and `dst` are the
+    /// packet's addresses. The checksum is 0 where it isn't `summed`, and else never 0. The
+    /// datagram has to have at most 65,535 octets.
+    pub fn emit<const N: usize>(
+        &self,
+        src: &IpAddress,
+        dst: &IpAddress,
+        payload: &[u8],
+        summed: bool,
+        out: &mut ArrayVec<u8, N>,
+    )
+        requires fits { 8 + length payload.now < 2 ^ 16 }
+        requires room { array_vec_len out.old + 8 + length payload.now ≤ N }
+        ensures items { out.new.items ≡ out.old.items ++ spec.text summed src.now dst.now self.now payload.now }
+        ensures len { array_vec_len out.new ≡ array_vec_len out.old + 8 + length payload.now }
+    {
+        let sum = if summed {
+            sum_for(self, src, dst, payload)
+        } else {
+            0
+        };
+        append(out, &header_with(sum, self, payload.len() as u16));
+        append(out, payload);
+    }
+}
+
+/// Whether a datagram has no checksum.
+#[inline(always)]
+fn is_unsummed(packet: &[u8], dst: &IpAddress) -> bool
+    requires { 8 ≤ length packet.now }
+    ensures { result ≡ spec.is_unsummed dst.now packet.now }
+{
+    match dst {
+        IpAddress::Ipv4(_) => u16_at(packet, 6) == 0,
+        IpAddress::Ipv6(_) => false,
+    }
+}
+
+/// Whether a datagram and its pseudo-header sum up to all ones.
+#[tactic(auto, using(crate::proofs::Pseudos::before))]
+fn sums_up(datagram: &[u8], src: &IpAddress, dst: &IpAddress) -> bool
+    requires { length datagram.now < 2 ^ 16 }
+    ensures { result ≡ (folded (word_sum (pseudo src.now dst.now 17 (length datagram.now) ++ datagram.now)) == 65535) }
+{
+    let start = pseudo_sum(src, dst, 17, datagram.len() as u16);
+    sum_with(start, datagram) == 0xffff
+}
+
+/// A header with the given checksum, before so many octets of payload.
+#[inline(always)]
+#[tactic(auto, unfolding(crate::specs::Udp::header_with))]
+fn header_with(sum: u16, repr: &UdpRepr, payload_len: u16) -> [u8; HEADER_LEN]
+    requires { 8 + payload_len < 2 ^ 16 }
+    ensures { result ≡ spec.header_with sum repr.now payload_len }
+{
+    let [s0, s1] = repr.src_port.to_be_bytes();
+    let [d0, d1] = repr.dst_port.to_be_bytes();
+    let [l0, l1] = (8 + payload_len).to_be_bytes();
+    let [c0, c1] = sum.to_be_bytes();
+    [s0, s1, d0, d1, l0, l1, c0, c1]
+}
+
+/// The checksum of a datagram.
+#[tactic(auto, using(crate::proofs::Pseudos::datagrams))]
+fn sum_for(repr: &UdpRepr, src: &IpAddress, dst: &IpAddress, payload: &[u8]) -> u16
+    requires { 8 + length payload.now < 2 ^ 16 }
+    ensures { result ≡ spec.sum_of true src.now dst.now repr.now payload.now }
+{
+    let len = payload.len() as u16;
+    let start = sum_with(
+        pseudo_sum(src, dst, 17, 8 + len),
+        &header_with(0, repr, len),
+    );
+    let sum = 0xffff - sum_with(start, payload);
+    if sum == 0 { 0xffff } else { sum }
+}
+
+/// A datagram that is emitted with its checksum is read again, whatever stands behind it.
+pub fn read_again()
+    ensures { spec.ReadAgain }
+{}

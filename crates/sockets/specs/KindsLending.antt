@@ -1,0 +1,12 @@
+-- What a socket ends as when what it offered is used.
+use Rattle.std.specs.Prelude.{◌≡◌, ℤ, Option}
+use Rattle.std.specs.Borrow.{MutBor, Fml, RattleType}
+use Rattle.std.specs.Io.BufRead.{Rests}
+use Rattle.ip_wire.specs.declared.ip.IpAddress.{IpAddress}
+use Rattle.sockets.specs.declared.socket.SocketOf.{SocketOf}
+use Rattle.sockets.specs.contracts.socket.SocketOf.{the_row}
+use Rattle.sockets.specs.Kinds.{settled}
+
+module _ (K : RattleType) (s : MutBor (SocketOf K.Denot)) where
+  abbrev pub Settles : ℤ → (IpAddress → Option IpAddress) → Fml
+  Settles moment source = Rests (the_row K) s (λ new. new ≡ settled moment source s.now)
