@@ -81,6 +81,7 @@ impl Icmpv4Repr {
     /// `None` exactly if they are fewer than 8, if they are an echo message with a code other than
     /// 0, an error that quotes no IPv4 header or a message of another type, or if, where `checked`,
     /// the checksum over all of them is wrong.
+    #[inline(always)]
     pub fn parse(octets: &[u8], checked: bool) -> Option<(Icmpv4Repr, &[u8])>
         requires { length octets.now < 2 ^ 16 }
         ensures { SomeIff (option_map spec.parts result) (spec.IsIcmpv4 checked octets.now) (spec.icmpv4_in octets.now) }
@@ -104,15 +105,16 @@ impl Icmpv4Repr {
         ensures items { out.new.items ≡ out.old.items ++ spec.text summed self.now payload.now }
         ensures len { array_vec_len out.new ≡ array_vec_len out.old + spec.header_len self.now + length payload.now }
     {
-        let quoted = quoted(self);
-        let sum = if summed {
-            sum_for(&head_with(0, self), quoted.as_slice(), payload)
-        } else {
-            0
-        };
-        append(out, &head_with(sum, self));
-        append(out, quoted.as_slice());
-        append(out, payload);
+        match self {
+            Icmpv4Repr::EchoRequest { .. } | Icmpv4Repr::EchoReply { .. } => {
+                emit_parts(self, &[], payload, summed, out);
+            }
+            Icmpv4Repr::DstUnreachable { header, .. } | Icmpv4Repr::TimeExceeded { header, .. } => {
+                let mut quoted = ArrayVec::<u8, 20>::new();
+                header.emit(&Ipv4Fragment::WHOLE, true, &mut quoted);
+                emit_parts(self, quoted.as_slice(), payload, summed, out);
+            }
+        }
     }
 
     /// The length of the message without its data, in octets.
@@ -154,23 +156,35 @@ fn head_with(sum: u16, repr: &Icmpv4Repr) -> [u8; HEADER_LEN]
     }
 }
 
-/// The quoted header of an error, emitted anew.
-fn quoted(repr: &Icmpv4Repr) -> ArrayVec<u8, 20>
-    requires { spec.QuotesPacket repr.now }
-    ensures items { result.items ≡ spec.quoted repr.now }
-    ensures len { 8 + array_vec_len result ≡ spec.header_len repr.now }
+/// Appends a message of its first eight octets, what it quotes and its data.
+#[inline(always)]
+fn emit_parts<const N: usize>(
+    message: &Icmpv4Repr,
+    quoted: &[u8],
+    payload: &[u8],
+    summed: bool,
+    out: &mut ArrayVec<u8, N>,
+)
+    requires quoted { quoted.now ≡ spec.quoted message.now }
+    requires quoted_even { length quoted.now % 2 ≡ 0 }
+    requires quoted_short { length quoted.now < 2 ^ 16 }
+    requires short { length payload.now < 2 ^ 16 }
+    requires room { array_vec_len out.old + 8 + length quoted.now + length payload.now ≤ N }
+    ensures items { out.new.items ≡ out.old.items ++ spec.text summed message.now payload.now }
+    ensures len { array_vec_len out.new ≡ array_vec_len out.old + 8 + length quoted.now + length payload.now }
 {
-    let mut octets = ArrayVec::new();
-    match repr {
-        Icmpv4Repr::EchoRequest { .. } | Icmpv4Repr::EchoReply { .. } => {}
-        Icmpv4Repr::DstUnreachable { header, .. } | Icmpv4Repr::TimeExceeded { header, .. } => {
-            header.emit(&Ipv4Fragment::WHOLE, true, &mut octets);
-        }
-    }
-    octets
+    let sum = if summed {
+        sum_for(&head_with(0, message), quoted, payload)
+    } else {
+        0
+    };
+    append(out, &head_with(sum, message));
+    append(out, quoted);
+    append(out, payload);
 }
 
 /// The checksum of a message of these parts.
+#[inline(always)]
 fn sum_for(head: &[u8], quoted: &[u8], payload: &[u8]) -> u16
     requires head_even { length head.now % 2 ≡ 0 }
     requires quoted_even { length quoted.now % 2 ≡ 0 }
@@ -183,6 +197,7 @@ fn sum_for(head: &[u8], quoted: &[u8], payload: &[u8]) -> u16
 }
 
 /// The message by its type, and its data.
+#[inline(always)]
 fn parse_body(octets: &[u8]) -> Option<(Icmpv4Repr, &[u8])>
     requires { 8 ≤ length octets.now }
     ensures { SomeIff (option_map spec.parts result) (spec.IsBody octets.now) (spec.icmpv4_in octets.now) }

@@ -3,7 +3,7 @@ use Rattle.std.proofs.Common.{◌≡◌, ℕ, zero, suc, ◌+◌, ◌-◌, ◌*�
 use Rattle.ip_wire.specs.Checksum.{folded, word_sum, checksum_of, FoldsCarries}
 use Rattle.std.specs.Int.{w16, to_be_bytes}
 use Rattle.std.proofs.lemmas.Bool.{eqb-true}
-use Rattle.ip_wire.specs.Octets.{u32_at}
+use Rattle.ip_wire.specs.Octets.{u32_le_at}
 use Rattle.ip_wire.specs.Udp.{not_zero}
 
 -- 65535 of something more folds alike
@@ -28,13 +28,20 @@ word : (xs : List ℕ) (i j k : ℕ) → j ≡ i + 1 → k ≡ j + 1 → k ≤ l
 unfolding word_sum
 word xs i j k ej ek h = ap word_sum (step xs i j ej (omega arith) ∙ ap (λ (t : List ℕ). get_or xs i 0 ∷ t) (step xs j k ek (omega arith)))
 
--- four octets as one number of 32 bits fold as their two words
-pub chunk_folds : (sum : ℕ) (xs : List ℕ) (i j : ℕ) → j ≡ i + 4 → j ≤ length xs → folded (sum + u32_at xs i + word_sum (drop j xs)) ≡ folded (sum + word_sum (drop i xs))
+-- four octets as one little-endian number, times 256, fold as their two words
+pub chunk_folds : (sum : ℕ) (xs : List ℕ) (i j : ℕ) → j ≡ i + 4 → j ≤ length xs → folded (sum + 256 * u32_le_at xs i + word_sum (drop j xs)) ≡ folded (sum + word_sum (drop i xs))
 chunk_folds sum xs i j e h =
     let high = word xs i (i + 1) (i + 2) refl (omega arith) (omega arith) in
     let low = word xs (i + 2) (i + 3) j (omega arith) (omega arith) (omega arith) in
-    let words : sum + (get_or xs (i + 2) 0 * 256 + get_or xs (i + 3) 0 + word_sum (drop j xs)) + (get_or xs i 0 * 256 + get_or xs (i + 1) 0) ≡ sum + word_sum (drop i xs) = omega (arith, high, low) in
-    folded_shift _ (sum + (get_or xs (i + 2) 0 * 256 + get_or xs (i + 3) 0 + word_sum (drop j xs))) (get_or xs i 0 * 256 + get_or xs (i + 1) 0) (omega arith) ∙ ap folded words
+    let o0 = get_or xs i 0 in
+    let o1 = get_or xs (i + 1) 0 in
+    let o2 = get_or xs (i + 2) 0 in
+    let o3 = get_or xs (i + 3) 0 in
+    let rest = sum + 256 * o0 + word_sum (drop j xs) in
+    let words : rest + o1 + 256 * o2 + o3 ≡ sum + word_sum (drop i xs) = omega (arith, high, low) in
+    folded_shift _ rest (o1 + 256 * o2 + 65536 * o3) (omega arith)
+    ∙ folded_shift (rest + (o1 + 256 * o2 + 65536 * o3)) (rest + o1 + 256 * o2) o3 (omega arith)
+    ∙ ap folded words
 
 pub word_sum-none : (xs : List ℕ) → length xs ≡ 0 → word_sum xs ≡ 0
 unfolding word_sum

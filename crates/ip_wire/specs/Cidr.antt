@@ -37,7 +37,7 @@ prefix_len_of (cidr.Ipv6 n) = n.prefix_len
 abbrev pub broadcast_of : Ipv4Cidr → Option Ipv4Address
 broadcast_of n = if nat_lt n.prefix_len 31 then Some (record { bits = last_of 32 n.prefix_len n.address.bits }) else None
 
--- 0.0.0.0/0, or ::/0
-abbrev pub is_whole : IpCidr → Bool
-is_whole (cidr.Ipv4 n) = (n.address.bits == 0) && (n.prefix_len == 0)
-is_whole (cidr.Ipv6 n) = (n.address.bits == 0) && (n.prefix_len == 0)
+-- 0.0.0.0/0, the network of all IPv4 addresses
+abbrev pub is_whole_ipv4 : IpCidr → Bool
+is_whole_ipv4 (cidr.Ipv4 n) = (n.address.bits == 0) && (n.prefix_len == 0)
+is_whole_ipv4 (cidr.Ipv6 n) = false

@@ -1,4 +1,4 @@
--- Big-endian numbers at a place of some octets.
+-- Numbers at a place of some octets, big-endian where nothing else is said.
 use Rattle.std.specs.Prelude.{ℕ, ◌+◌, ◌*◌, ◌<◌, List, slice_index}
 
 abbrev pub u16_at : List ℕ → ℕ → ℕ
@@ -6,6 +6,10 @@ u16_at octets at = slice_index octets at * 256 + slice_index octets (at + 1)
 
 abbrev pub u32_at : List ℕ → ℕ → ℕ
 u32_at octets at = slice_index octets at * 16777216 + slice_index octets (at + 1) * 65536 + slice_index octets (at + 2) * 256 + slice_index octets (at + 3)
+
+-- little-endian: the lowest octet first
+abbrev pub u32_le_at : List ℕ → ℕ → ℕ
+u32_le_at octets at = slice_index octets at + slice_index octets (at + 1) * 256 + slice_index octets (at + 2) * 65536 + slice_index octets (at + 3) * 16777216
 
 -- each of them is below 256
 abbrev pub AreOctets : List ℕ → Type 0

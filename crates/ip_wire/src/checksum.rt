@@ -2,7 +2,7 @@
 ghost use Rattle.std.specs.Prelude.{◌≡◌, ◌+◌, ◌<◌, ◌^◌, length};
 ghost use Rattle.ip_wire.specs.Checksum as spec;
 
-use crate::octets::u32_at;
+use crate::octets::u32_le_at;
 
 /// A folded sum with the 16-bit words of some octets, of which there are fewer than 65,536, added
 /// to it, folded again. A last odd octet is the high half of a word, so parts are summed one after
@@ -11,12 +11,13 @@ pub fn sum_with(start: u16, octets: &[u8]) -> u16
     requires { length octets.now < 2 ^ 16 }
     ensures { result ≡ spec.folded (start + spec.word_sum octets.now) }
 {
-    let mut sum = u64::from(start);
-    let words = octets.len() / 4;
-    for i in 0..words {
-        sum += u64::from(u32_at(octets, 4 * i));
+    // Read little-endian, four octets need no swap: times 256 they fold as their two words do.
+    let mut swapped = 0u64;
+    let count = octets.len() / 4;
+    for i in 0..count {
+        swapped += u64::from(u32_le_at(octets, 4 * i));
     }
-    fold(sum + tail_sum(&octets[4 * words..]))
+    fold(u64::from(start) + 256 * swapped + tail_sum(&octets[4 * count..]))
 }
 
 /// The sum of the words of the last octets.

@@ -142,10 +142,11 @@ impl IpCidr {
 
 impl Default for IpCidr {
     ghost use Rattle.std.specs.Prelude.{◌≡◌, true};
-    ghost use Rattle.ip_wire.specs.Cidr.{is_whole};
+    ghost use Rattle.ip_wire.specs.Cidr.{is_whole_ipv4};
 
+    /// The network of all IPv4 addresses, 0.0.0.0/0.
     fn default() -> IpCidr
-        ensures { is_whole result ≡ true }
+        ensures { is_whole_ipv4 result ≡ true }
     {
         IpCidr::Ipv4(Ipv4Cidr::default())
     }

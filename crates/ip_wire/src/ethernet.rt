@@ -24,7 +24,7 @@ impl EthernetAddress {
     pub fn is_broadcast(&self) -> bool
         ensures { result ≡ spec.is_broadcast self.now }
     {
-        self.0 == [0xff, 0xff, 0xff, 0xff, 0xff, 0xff]
+        self.0 == EthernetAddress::BROADCAST.0
     }
 
     /// Whether it is that of a group: its first octet is odd. That of all interfaces is one, too.

@@ -47,7 +47,7 @@ impl Ipv4Address {
     pub const fn is_broadcast(&self) -> bool
         ensures { result ≡ spec.is_broadcast self.now }
     {
-        self.bits == 0xffff_ffff
+        self.bits == Ipv4Address::BROADCAST.bits
     }
 
     /// Whether it is that of a group: in 224.0.0.0/4.

@@ -81,6 +81,7 @@ impl Ipv4Repr {
     /// `None` exactly if the octets are fewer than 20, the version isn't 4, the header is shorter
     /// than 20 octets or longer than the total length, that is longer than the octets are, or,
     /// where `checked`, the header's checksum is wrong.
+    #[inline(always)]
     pub fn parse(packet: &[u8], checked: bool) -> Option<(Ipv4Repr, Ipv4Fragment, &[u8])>
         ensures { SomeIff (option_map spec.parts result) (spec.IsIpv4 checked packet.now) (spec.ipv4_in packet.now) }
     {

@@ -28,7 +28,7 @@ impl Ipv6Address {
     pub const fn is_loopback(&self) -> bool
         ensures { result ≡ spec.is_loopback self.now }
     {
-        self.bits == 1
+        self.bits == Ipv6Address::LOCALHOST.bits
     }
 
     /// Whether it is that of a group: in ff00::/8.

@@ -1,4 +1,4 @@
-//! Big-endian numbers at a place of some octets.
+//! Numbers at a place of some octets, big-endian where nothing else is said.
 ghost use Rattle.std.specs.Prelude.{◌≡◌, ◌+◌, ◌≤◌, length};
 ghost use Rattle.ip_wire.specs.Octets as spec;
 
@@ -18,4 +18,13 @@ pub fn u32_at(octets: &[u8], at: usize) -> u32
     ensures { result ≡ spec.u32_at octets.now at }
 {
     u32::from_be_bytes([octets[at], octets[at + 1], octets[at + 2], octets[at + 3]])
+}
+
+/// The number of four octets at a place, little-endian.
+#[inline(always)]
+pub fn u32_le_at(octets: &[u8], at: usize) -> u32
+    requires { at + 4 ≤ length octets.now }
+    ensures { result ≡ spec.u32_le_at octets.now at }
+{
+    u32::from_le_bytes([octets[at], octets[at + 1], octets[at + 2], octets[at + 3]])
 }

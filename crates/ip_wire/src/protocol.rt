@@ -20,6 +20,7 @@ pub enum IpProtocol {
 
 impl IpProtocol {
     /// The protocol of a number.
+    #[inline(always)]
     pub const fn from_number(number: u8) -> IpProtocol
         ensures { result ≡ spec.protocol_of number }
     {

@@ -8,6 +8,7 @@ use crate::ip::IpAddress;
 
 /// The folded sum of the words of a pseudo-header: source, destination, the protocol's number, and
 /// the length of what follows, in octets.
+#[inline(always)]
 #[tactic(auto, using(crate::proofs::Pseudos::sums))]
 pub fn pseudo_sum(src: &IpAddress, dst: &IpAddress, protocol: u8, len: u16) -> u16
     ensures { result ≡ folded (word_sum (spec.pseudo src.now dst.now protocol len)) }

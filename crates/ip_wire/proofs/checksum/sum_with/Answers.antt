@@ -1,5 +1,6 @@
-use Rattle.std.proofs.Common.{rules, arith, ◌≡◌, ◌∙◌, ℕ, ◌+◌, ◌*◌, List}
-use Rattle.ip_wire.specs.Octets.{u32_at}
+use Rattle.std.proofs.Common.{rules, arith, ap, ◌≡◌, ◌∙◌, ℕ, ◌+◌, ◌*◌, List, drop}
+use Rattle.ip_wire.specs.Checksum.{folded, word_sum}
+use Rattle.ip_wire.specs.Octets.{u32_le_at}
 use Rattle.ip_wire.proofs.Sums.{chunk_folds}
 use Rattle.ip_wire.proofs.checksum.sum_with.Goals as goal
 
@@ -8,7 +9,9 @@ loop-i-preserved c = record {
   so_far =
       let xs : List ℕ = c.args.octets.now in
       let i : ℕ = c.loop-i.i in
-      let words : c.from-sum-in-loop-i.result ≡ u32_at xs (4 * i) = c.from-sum-in-loop-i.ensures ∙ c.u32_at.ensures in
-      rw words (chunk_folds c.loop-i.sum xs (4 * i) (4 * (i + 1)) (omega arith) (omega arith) ∙ c.loop-i.invariant.so_far);
+      let before : ℕ = c.args.start + 256 * c.loop-i.swapped in
+      let words : c.from-swapped.result ≡ u32_le_at xs (4 * i) = c.from-swapped.ensures ∙ c.u32_le_at.ensures in
+      let summed : c.args.start + 256 * (c.loop-i.swapped + u32_le_at xs (4 * i)) ≡ before + 256 * u32_le_at xs (4 * i) = omega arith in
+      rw words (ap (λ (t : ℕ). folded (t + word_sum (drop (4 * (i + 1)) xs))) summed ∙ chunk_folds before xs (4 * i) (4 * (i + 1)) (omega arith) (omega arith) ∙ c.loop-i.invariant.so_far);
   small = search rules;
 }
