@@ -1,5 +1,6 @@
 -- Sets of sockets: places in order, each with a socket or free.
-use Rattle.std.specs.Prelude.{ℕ, ◌+◌, nat_lt, Bool, true, false, cond, is_none, List, [], ◌∷◌, ◌++◌, length, map, slice_get, slice_set, if◌then◌else◌, Option, Some, None}
+use Rattle.std.specs.Prelude.{ℕ, ◌+◌, nat_lt, Bool, true, false, cond, is_none, codes, List, [], ◌∷◌, ◌++◌, length, map, slice_get, slice_set, if◌then◌else◌, Option, Some, None}
+use Rattle.std.specs.Fmt.{decimal}
 use Rattle.std.specs.Option.{option_and_then}
 use Rattle.sockets.specs.declared.socket.SocketOf.{SocketOf}
 use Rattle.iface_tables.specs.declared.socket_set.AddError.{AddError}
@@ -62,3 +63,12 @@ given_back (NoMemory t) = t
 abbrev pub is_full : {T : Type 0} → AddError T → Bool
 is_full (Full t) = true
 is_full (NoMemory t) = false
+
+-- a handle as it prints: # and the index
+abbrev pub handle_text : ℕ → List ℕ
+handle_text n = codes "#" ++ decimal n
+
+-- an error as it prints: its name
+abbrev pub error_text : {T : Type 0} → AddError T → List ℕ
+error_text (Full t) = codes "Full"
+error_text (NoMemory t) = codes "NoMemory"

@@ -103,6 +103,10 @@ impl Default for SocketHandle {
 }
 
 impl fmt::Display for SocketHandle {
+    ghost use Rattle.iface_tables.specs.SocketSet.{handle_text};
+
+    ghost output = { λ h. Some (handle_text h) };
+
     fn fmt<W: fmt::Write>(&self, f: &mut fmt::Formatter<W>) -> fmt::Result {
         write!(f, "#{}", self.0)
     }
@@ -128,7 +132,7 @@ impl<L> Model for SocketSetOf<L> {
     ghost view = { λ s. record { places = s.sockets.items; grows = s.grows } };
 }
 
-/// Why a socket found no place. Both give it back.
+/// Why a socket found no place. Both give it back. They print as their names.
 #[derive(Drop)]
 pub enum AddError<T> {
     /// No place is free, and the set never grows.
@@ -138,6 +142,10 @@ pub enum AddError<T> {
 }
 
 impl<T> fmt::Display for AddError<T> {
+    ghost use Rattle.iface_tables.specs.SocketSet.{error_text};
+
+    ghost output = { λ e. Some (error_text e) };
+
     fn fmt<W: fmt::Write>(&self, f: &mut fmt::Formatter<W>) -> fmt::Result {
         match self {
             AddError::Full(_) => write!(f, "Full"),

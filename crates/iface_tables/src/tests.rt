@@ -1,3 +1,4 @@
+// Each test also holds where any one request for memory is refused.
 ghost use Rattle.std.specs.Prelude.{◌≤◌};
 
 use crate::neighbor::{Answer, Cache};
@@ -10,10 +11,11 @@ use ip_wire::{
     Ipv6Cidr,
 };
 use net_base::time::Instant;
-use sockets::queue::Queue;
-use sockets::socket::AnySocket;
-use sockets::{IpEndpoint, IpListenEndpoint, PollAt, udp};
-use std::alloc::{AllocError, Global};
+use sockets::queue::{NoMemory, Queue};
+use sockets::socket::{AnySocket, SocketOf};
+use sockets::{IpEndpoint, IpListenEndpoint, PollAt, tcp, udp};
+use std::alloc::Global;
+use std::process::Abort;
 use std::test::Fail;
 
 // 10.0.0.1 to 10.0.0.4, and fe80::5.
@@ -120,23 +122,29 @@ fn a_silence_is_for_all_and_outlasts_a_flush(rt: HostRuntime) {
     assert!(rt; !cache.lookup(&FIRST, Instant::from_millis(2000)).found());
 }
 
-fn queue(alloc: Global) -> Result<Queue<IpEndpoint>, AllocError> {
-    Queue::new(alloc, 1, 8).map_err(|_| AllocError)
+// An empty queue of one packet and eight octets. If its room is refused, the next call gets it.
+fn queue<M: Drop>(alloc: Global) -> Result<Queue<M>, NoMemory> {
+    match Queue::new(alloc, 1, 8) {
+        Ok(queue) => Ok(queue),
+        Err(NoMemory) => Queue::new(alloc, 1, 8),
+    }
 }
 
-fn udp_socket<'a>(alloc: Global, port: u16) -> Result<udp::Socket<'a>, AllocError> {
+fn udp_socket<'a>(alloc: Global, port: u16) -> Result<udp::Socket<'a>, NoMemory> {
     let endpoint = IpListenEndpoint { addr: None, port };
     Ok(udp::SocketOf::new(endpoint, queue(alloc)?, queue(alloc)?))
 }
 
-// Adds a socket, and gives its handle.
-fn add<'a, T: AnySocket<'a>>(
-    set: &mut SocketSet<'a>,
-    socket: T,
-) -> Result<SocketHandle, AllocError> {
+// Adds a socket, and gives its handle. If the memory for its place is refused, the next call adds
+// it.
+fn add<'a, T: AnySocket<'a>>(set: &mut SocketSet<'a>, socket: T) -> Result<SocketHandle, NoMemory> {
     match set.add(socket) {
         Ok(handle) => Ok(handle),
-        Err(_error) => Err(AllocError),
+        Err(AddError::Full(_socket)) => Err(NoMemory),
+        Err(AddError::NoMemory(socket)) => match set.add(socket) {
+            Ok(handle) => Ok(handle),
+            Err(_error) => Err(NoMemory),
+        },
     }
 }
 
@@ -155,10 +163,9 @@ fn a_freed_place_is_taken_again(rt: HostRuntime) -> Result<(), Fail> {
     let mut set: SocketSet<'_> = SocketSet::new(Vec::new(rt.alloc()));
     let first = add(&mut set, udp_socket(rt.alloc(), 1)?)?;
     let second = add(&mut set, udp_socket(rt.alloc(), 2)?)?;
-    assert_eq!(rt;
-        format!(in rt.alloc(); "{first} {second}")?.as_str(),
-        "#0 #1"
-    );
+    if let Ok(text) = format!(in rt.alloc(); "{first} {second}") {
+        assert_eq!(rt; text.as_str(), "#0 #1");
+    }
     assert!(rt; is_removed(&mut set, first));
     assert!(rt; !is_removed(&mut set, first));
     assert!(rt; !has::<udp::Socket<'_>>(&set, first));
@@ -187,7 +194,9 @@ fn handles_rise(rt: HostRuntime) -> Result<(), Fail> {
 #[test]
 fn a_fixed_set_gives_the_socket_back(rt: HostRuntime) -> Result<(), Fail> {
     let mut places = Vec::new(rt.alloc());
-    places.push(SocketStorage::EMPTY)?;
+    if places.push(SocketStorage::EMPTY).is_err() {
+        places.push(SocketStorage::EMPTY)?;
+    }
     let mut set: SocketSet<'_> = SocketSet::fixed(places);
     let first = add(&mut set, udp_socket(rt.alloc(), 7)?)?;
     assert_eq!(rt; first, SocketHandle::default());
@@ -201,15 +210,110 @@ fn a_fixed_set_gives_the_socket_back(rt: HostRuntime) -> Result<(), Fail> {
     Ok(())
 }
 
+const REMOTE: IpEndpoint = IpEndpoint {
+    addr: SECOND,
+    port: 5000,
+};
+
+// A socket without room for segments, which takes no memory.
+fn tcp_socket<'a>(alloc: Global, port: u16) -> Result<tcp::Socket<'a>, NoMemory> {
+    let local = IpListenEndpoint { addr: None, port };
+    let rx = Queue::new(alloc, 0, 0)?;
+    let tx = Queue::new(alloc, 0, 0)?;
+    Ok(tcp::SocketOf::new(local, None, rx, tx))
+}
+
+// Whether a socket is at a port.
+fn is_at<'a>(socket: &tcp::Socket<'a>, port: u16) -> bool {
+    socket.accepts(&REMOTE, &IpEndpoint { addr: FIRST, port })
+}
+
+// Whether a set's sockets are at these ports, in this order.
+fn are_at<'a>(set: &SocketSet<'a>, ports: &[u16]) -> bool {
+    let mut sockets = set.iter();
+    for port in ports {
+        match sockets.next() {
+            Some((_, SocketOf::Tcp(socket))) if is_at(socket, *port) => {}
+            _ => return false,
+        }
+    }
+    sockets.next().is_none()
+}
+
+// Adds a socket at a port to a set whose sockets are at some ports, and gives its handle. A refusal
+// gives the socket back and leaves the set as it was, and the next call adds it.
+fn grow<'a>(
+    rt: &impl Abort,
+    set: &mut SocketSet<'a>,
+    ports: &[u16],
+    socket: tcp::Socket<'a>,
+    port: u16,
+) -> Result<SocketHandle, NoMemory> {
+    let places = set.places();
+    assert!(rt; are_at(set, ports));
+    match set.add(socket) {
+        Ok(handle) => Ok(handle),
+        Err(AddError::Full(_socket)) => Err(NoMemory),
+        Err(AddError::NoMemory(socket)) => {
+            assert!(rt; is_at(&socket, port));
+            assert_eq!(rt; set.places(), places);
+            assert!(rt; are_at(set, ports));
+            add(set, socket)
+        }
+    }
+}
+
 #[test]
-fn errors_print_their_names(rt: HostRuntime) -> Result<(), Fail> {
+fn a_refused_place_leaves_the_set_as_it_was(rt: HostRuntime) -> Result<(), Fail> {
+    let ports = [1, 2, 3, 4, 5];
+    let mut set: SocketSet<'_> = SocketSet::new(Vec::new(rt.alloc()));
+    for i in 0..5 {
+        let socket = tcp_socket(rt.alloc(), ports[i])?;
+        grow(&rt, &mut set, &ports[..i], socket, ports[i])?;
+        assert_eq!(rt; set.places(), i + 1);
+    }
+    assert!(rt; are_at(&set, &ports));
+    Ok(())
+}
+
+#[test]
+fn a_handle_names_its_place(rt: HostRuntime) -> Result<(), Fail> {
+    let mut set: SocketSet<'_> = SocketSet::new(Vec::new(rt.alloc()));
+    let first = grow(&rt, &mut set, &[], tcp_socket(rt.alloc(), 10)?, 10)?;
+    let second = grow(&rt, &mut set, &[10], tcp_socket(rt.alloc(), 11)?, 11)?;
+    let third = grow(&rt, &mut set, &[10, 11], tcp_socket(rt.alloc(), 12)?, 12)?;
+    let mut larger: SocketSet<'_> = SocketSet::new(Vec::new(rt.alloc()));
+    let mut beyond = first;
+    for _ in 0..4 {
+        beyond = add(&mut larger, tcp_socket(rt.alloc(), 13)?)?;
+    }
+    if let Ok(text) = format!(in rt.alloc(); "{first} {second} {third} {beyond}") {
+        assert_eq!(rt; text.as_str(), "#0 #1 #2 #3");
+    }
+    assert!(rt; is_removed(&mut set, second));
+    assert!(rt; !has::<tcp::Socket<'_>>(&set, second));
+    assert!(rt; are_at(&set, &[10, 12]));
+    let socket = tcp_socket(rt.alloc(), 14)?;
+    assert_eq!(rt; grow(&rt, &mut set, &[10, 12], socket, 14)?, second);
+    assert!(rt; are_at(&set, &[10, 14, 12]));
+    for (handle, port) in [(first, 10), (second, 14), (third, 12)] {
+        match set.get::<tcp::Socket<'_>>(handle) {
+            Some(socket) => assert!(rt; is_at(socket, port)),
+            None => assert!(rt; false),
+        }
+    }
+    assert!(rt; !has::<tcp::Socket<'_>>(&set, beyond));
+    assert!(rt; has::<tcp::Socket<'_>>(&larger, beyond));
+    Ok(())
+}
+
+#[test]
+fn errors_print_their_names(rt: HostRuntime) {
     let full: AddError<u8> = AddError::Full(0);
     let no_memory: AddError<u8> = AddError::NoMemory(0);
-    assert_eq!(rt;
-        format!(in rt.alloc(); "{full} {no_memory}")?.as_str(),
-        "Full NoMemory"
-    );
-    Ok(())
+    if let Ok(text) = format!(in rt.alloc(); "{full}, {no_memory}, {RouteTableFull}") {
+        assert_eq!(rt; text.as_str(), "Full, NoMemory, Route table full");
+    }
 }
 
 // 10.1.2.3.
@@ -345,7 +449,7 @@ fn routes_of_ipv6_are_taken(rt: HostRuntime) {
 }
 
 #[test]
-fn a_default_route_takes_the_place_of_the_old_one(rt: HostRuntime) -> Result<(), Fail> {
+fn a_default_route_takes_the_place_of_the_old_one(rt: HostRuntime) {
     let mut routes = Routes::new();
     for host in 1..5 {
         append(&mut routes, route(PART, 16, router(host), None));
@@ -359,24 +463,19 @@ fn a_default_route_takes_the_place_of_the_old_one(rt: HostRuntime) -> Result<(),
         Err(RouteTableFull)
     );
     assert_eq!(rt; routes.as_slice().len(), 4);
-    assert_eq!(rt;
-        format!(in rt.alloc(); "{RouteTableFull}")?.as_str(),
-        "Route table full"
-    );
     routes.update(|mut list| {
         list.truncate(3);
         list
     });
     assert_eq!(rt; routes.add_default_ipv4_route(router(9)), Ok(None));
-    let old = Route::new_ipv4_gateway(router(9));
-    assert_eq!(rt; routes.get_default_ipv4_route(), Some(old));
-    assert_eq!(rt; routes.add_default_ipv4_route(router(8)), Ok(Some(old)));
+    let old = Some(Route::new_ipv4_gateway(router(9)));
+    assert_eq!(rt; routes.get_default_ipv4_route(), old);
+    assert_eq!(rt; routes.add_default_ipv4_route(router(8)), Ok(old));
     assert_eq!(rt;
         routes.lookup(&FIRST, Instant::ZERO),
         Some(IpAddress::Ipv4(router(8)))
     );
     assert_eq!(rt; routes.as_slice().len(), 4);
-    Ok(())
 }
 
 #[test]

@@ -45,6 +45,7 @@ impl Octets {
     }
 
     /// Appends octets, which have to fit. It takes no memory.
+    #[inline(always)]
     pub fn append(&mut self, octets: &[u8])
         requires { length self.old.octets + length octets.now ≤ self.old.limit }
         ensures { self.new ≡ record self.old { octets = self.old.octets ++ octets.now } }
@@ -60,6 +61,7 @@ impl Octets {
 
     /// Appends octets that lie in two parts, one behind the other, which have to fit. It takes no
     /// memory.
+    #[inline(always)]
     pub fn append_parts(&mut self, front: &[u8], back: &[u8])
         requires { length self.old.octets + (length front.now + length back.now) ≤ self.old.limit }
         ensures { self.new ≡ record self.old { octets = self.old.octets ++ (front.now ++ back.now) } }

@@ -73,6 +73,7 @@ impl<M: Drop> Queue<M> {
 
     /// Appends a packet. `Full` exactly if as many packets as fit are there, or fewer octets than
     /// it has are free; then the queue stays as it was.
+    #[inline(always)]
     pub fn push(&mut self, meta: M, octets: &[u8]) -> Result<(), Full>
         ensures ok { OnOk result (self.new ≡ record self.old { packets = self.old.packets ++ (meta, octets.now) ∷ [] }) }
         ensures fits { IsOk result ↔ ((length self.old.packets < self.old.most) × (octets_in self.old.packets + length octets.now ≤ self.old.limit)) }
@@ -83,6 +84,7 @@ impl<M: Drop> Queue<M> {
 
     /// Appends a packet that lies in two parts, one behind the other. It is refused as by
     /// [`push`](Queue::push).
+    #[inline(always)]
     #[tactic(auto, using(crate::proofs::QueueLemmas::cut_append_parts, crate::proofs::QueueLemmas::total_append, crate::proofs::QueueLemmas::length_cut, crate::proofs::QueueLemmas::octets_in_cut))]
     pub fn push_parts(&mut self, meta: M, front: &[u8], back: &[u8]) -> Result<(), Full>
         ensures ok { OnOk result (self.new ≡ record self.old { packets = self.old.packets ++ (meta, front.now ++ back.now) ∷ [] }) }

@@ -166,11 +166,13 @@ impl<L: Drop> SocketOf<L> {
         self.rx.pop();
     }
 
-    /// Queues a segment to its end, with at most 65,495 octets of payload. `Full` exactly if it
-    /// doesn't fit; then the socket stays as it was.
+    /// Queues a segment with at most 65,495 octets of payload to its end, whose address is specified.
+    /// Neither that end's port nor the socket's own may be 0. `Full` exactly if it doesn't fit; then
+    /// the socket stays as it was.
     pub fn send(&mut self, segment: Segment, payload: &[u8]) -> Result<(), Full>
         requires addr { is_unspecified segment.remote.addr ≡ false }
         requires port { segment.remote.port ≢ 0 }
+        requires own_port { self.old.local.port ≢ 0 }
         requires len { length payload.now ≤ 65495 }
         ensures fits { is_ok result ≡ is_room self.old.tx (length payload.now) }
         ensures socket { self.new ≡ spec.queued segment payload.now self.old }

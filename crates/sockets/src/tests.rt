@@ -1,4 +1,5 @@
-ghost use Rattle.std.specs.Prelude.{◌<◌, ◌^◌, length};
+// Each test also holds where any one request for memory is refused.
+ghost use Rattle.std.specs.Prelude.{◌≡◌, ◌<◌, ◌^◌, length, IfOk};
 
 use crate::context::SocketContext;
 use crate::endpoint::{IpEndpoint, IpListenEndpoint};
@@ -10,7 +11,7 @@ use ip_wire::{
     IpAddress, IpProtocol, IpVersion, Ipv4Address, Ipv4Repr, TcpControl, TcpRepr, TcpSeqNumber,
 };
 use net_base::time::Instant;
-use std::alloc::{AllocError, Global};
+use std::alloc::Global;
 use std::process::Abort;
 use std::test::Fail;
 
@@ -62,25 +63,29 @@ const HOST: Host = Host {
     source: Some(OWN),
 };
 
-// A queue of four packets and 64 octets.
-fn queue<M: Drop>(alloc: Global) -> Result<Queue<M>, Fail> {
-    match Queue::new(alloc, 4, 64) {
+// An empty queue. If its room is refused, the next call gets it.
+fn queue<M: Drop>(alloc: Global, packets: usize, octets: usize) -> Result<Queue<M>, NoMemory> {
+    match Queue::new(alloc, packets, octets) {
         Ok(queue) => Ok(queue),
-        Err(_) => Err(Fail::from(AllocError)),
+        Err(NoMemory) => Queue::new(alloc, packets, octets),
     }
 }
 
-fn udp_at(alloc: Global, addr: Option<IpAddress>) -> Result<udp::Socket<'static>, Fail> {
+// A queue of four packets and 64 octets.
+fn ample<M: Drop>(alloc: Global) -> Result<Queue<M>, NoMemory> {
+    queue(alloc, 4, 64)
+}
+
+fn udp_at(alloc: Global, addr: Option<IpAddress>) -> Result<udp::Socket<'static>, Fail>
+    ensures { IfOk result (λ s. s.endpoint.port ≡ 6969) }
+{
     let endpoint = IpListenEndpoint { addr, port: 6969 };
-    Ok(udp::Socket::new(endpoint, queue(alloc)?, queue(alloc)?))
+    Ok(udp::Socket::new(endpoint, ample(alloc)?, ample(alloc)?))
 }
 
 #[test]
 fn a_packet_that_does_not_fit_is_refused(rt: HostRuntime) -> Result<(), Fail> {
-    let mut queue: Queue<u32> = match Queue::new(rt.alloc(), 1, 8) {
-        Ok(queue) => queue,
-        Err(_) => return Err(Fail::from(AllocError)),
-    };
+    let mut queue: Queue<u32> = queue(rt.alloc(), 1, 8)?;
     assert_eq!(rt; queue.push(1, b"123456789"), Err(Full));
     assert!(rt; queue.front().is_none());
     assert_eq!(rt; queue.push(2, b"12345678"), Ok(()));
@@ -97,10 +102,7 @@ fn a_packet_that_does_not_fit_is_refused(rt: HostRuntime) -> Result<(), Fail> {
 
 #[test]
 fn no_room_is_lost(rt: HostRuntime) -> Result<(), Fail> {
-    let mut queue: Queue<u32> = match Queue::new(rt.alloc(), 3, 10) {
-        Ok(queue) => queue,
-        Err(_) => return Err(Fail::from(AllocError)),
-    };
+    let mut queue: Queue<u32> = queue(rt.alloc(), 3, 10)?;
     assert_eq!(rt; queue.push(1, b"abcdef"), Ok(()));
     assert_eq!(rt; queue.push(2, b"ghi"), Ok(()));
     assert_eq!(rt; queue.push(3, b"jk"), Err(Full));
@@ -117,13 +119,44 @@ fn no_room_is_lost(rt: HostRuntime) -> Result<(), Fail> {
     Ok(())
 }
 
+// Whether a queue's first packet is this one.
+fn is_first(queue: &Queue<u32>, meta: u32, octets: &[u8]) -> bool {
+    match queue.front() {
+        Some((first, payload)) => *first == meta && payload == octets,
+        None => false,
+    }
+}
+
 #[test]
-fn errors_print_their_names(rt: HostRuntime) -> Result<(), Fail> {
-    assert_eq!(rt;
-        format!(in rt.alloc(); "{} {}", Full, NoMemory)?.as_str(),
-        "Full NoMemory"
-    );
+fn a_refused_queue_leaves_another_as_it_was(rt: HostRuntime) -> Result<(), Fail> {
+    let mut kept = queue(rt.alloc(), 2, 4)?;
+    assert_eq!(rt; kept.push(1, b"abc"), Ok(()));
+    assert_eq!(rt; kept.push(2, b"d"), Ok(()));
+    assert!(rt; is_first(&kept, 1, b"abc"));
+    let mut fresh = match Queue::new(rt.alloc(), 1, 5) {
+        Ok(queue) => queue,
+        Err(error) => {
+            assert_eq!(rt; error, NoMemory);
+            assert!(rt; is_first(&kept, 1, b"abc"));
+            Queue::new(rt.alloc(), 1, 5)?
+        }
+    };
+    assert!(rt; fresh.front().is_none());
+    assert_eq!(rt; fresh.push(3, b"12345"), Ok(()));
+    assert!(rt; is_first(&fresh, 3, b"12345"));
+    assert_eq!(rt; kept.push(4, b""), Err(Full));
+    kept.pop();
+    assert!(rt; is_first(&kept, 2, b"d"));
+    kept.pop();
+    assert!(rt; kept.front().is_none());
     Ok(())
+}
+
+#[test]
+fn errors_print_their_names(rt: HostRuntime) {
+    if let Ok(text) = format!(in rt.alloc(); "{} {}", Full, NoMemory) {
+        assert_eq!(rt; text.as_str(), "Full NoMemory");
+    }
 }
 
 #[test]
@@ -196,12 +229,14 @@ fn a_datagram_without_a_source_is_dropped(rt: HostRuntime) -> Result<(), Fail> {
     Ok(())
 }
 
-fn tcp_at(alloc: Global) -> Result<tcp::Socket<'static>, Fail> {
+fn tcp_at(alloc: Global) -> Result<tcp::Socket<'static>, Fail>
+    ensures { IfOk result (λ s. s.local.port ≡ 80) }
+{
     let local = IpListenEndpoint {
         addr: None,
         port: 80,
     };
-    Ok(tcp::Socket::new(local, None, queue(alloc)?, queue(alloc)?))
+    Ok(tcp::Socket::new(local, None, ample(alloc)?, ample(alloc)?))
 }
 
 const SYN: TcpRepr = TcpRepr {
@@ -278,8 +313,8 @@ fn packets_keep_their_headers(rt: HostRuntime) -> Result<(), Fail> {
     let mut socket = raw::Socket::new(
         IpVersion::Ipv4,
         IpProtocol::Udp,
-        queue(rt.alloc())?,
-        queue(rt.alloc())?,
+        ample(rt.alloc())?,
+        ample(rt.alloc())?,
     );
     assert!(rt; socket.accepts(IpVersion::Ipv4, IpProtocol::Udp));
     assert!(rt; !socket.accepts(IpVersion::Ipv4, IpProtocol::Tcp));
@@ -317,7 +352,7 @@ const UNREACHABLE: &[u8] =
     b"\x03\x03\x00\x00\x00\x00\x00\x00\x45\x00\x00\x1e\x00\x00\x40\x00\x40\x11\x2f\x19\xc0\xa8\x45\x64\xc0\xa8\x45\x01\x13\x88\x1b\x39\x00\x0a\x5c\xf9hi";
 
 fn icmp_for(alloc: Global, endpoint: icmp::Endpoint) -> Result<icmp::Socket<'static>, Fail> {
-    Ok(icmp::Socket::new(endpoint, queue(alloc)?, queue(alloc)?))
+    Ok(icmp::Socket::new(endpoint, ample(alloc)?, ample(alloc)?))
 }
 
 // Whether the sockets for two endpoints each take a message.

@@ -63,6 +63,13 @@ impl<L: Drop> SocketOf<L> {
         }
     }
 
+    /// The end at which it listens.
+    pub fn endpoint(&self) -> IpListenEndpoint
+        ensures { result ≡ self.now.endpoint }
+    {
+        self.endpoint
+    }
+
     /// Sets the hop limit of what is sent, which isn't 0.
     pub fn set_hop_limit(&mut self, hop_limit: u8)
         requires { hop_limit ≢ 0 }
@@ -114,11 +121,13 @@ impl<L: Drop> SocketOf<L> {
         self.rx.pop();
     }
 
-    /// Queues a datagram to an end, of at most 65,495 octets. `Full` exactly if it doesn't fit; then
-    /// the socket stays as it was.
+    /// Queues a datagram of at most 65,495 octets to an end whose address is specified. Neither its
+    /// port nor the socket's own may be 0. `Full` exactly if it doesn't fit; then the socket stays as
+    /// it was.
     pub fn send(&mut self, remote: IpEndpoint, payload: &[u8]) -> Result<(), Full>
         requires addr { is_unspecified remote.addr ≡ false }
         requires port { remote.port ≢ 0 }
+        requires own_port { self.old.endpoint.port ≢ 0 }
         requires len { length payload.now ≤ 65495 }
         ensures fits { is_ok result ≡ is_room self.old.tx (length payload.now) }
         ensures socket { self.new ≡ spec.queued remote payload.now self.old }
@@ -137,6 +146,7 @@ impl<L: Drop> SocketOf<L> {
     }
 
     /// The first datagram to be sent, if it has a source.
+    #[inline(always)]
     fn peek<C: SocketContext>(&self, context: &C) -> Option<Packet<'_>>
         ensures { option_map spec.shown result ≡ spec.offered (C.source_for context.now) self.now }
     {
