@@ -1,5 +1,5 @@
 -- A malformed frame is dropped.
-use Rattle.std.proofs.Common.{◌≡◌, ℕ, List, [], ◌∷◌, refl, sym, ◌∙◌, ap, Option, None}
+use Rattle.std.proofs.Common.{◌≡◌, ℕ, List, [], ◌∷◌, refl, sym, ◌∙◌, ap, subst, drop, Option, None}
 use Rattle.std.specs.Prelude.{ℤ}
 use Rattle.net_base.specs.Device.{Event, Reception, Received, Frame, Nothing, Withheld, handed, sent}
 use Rattle.ip_wire.specs.declared.ethernet.EthernetAddress.{EthernetAddress}
@@ -7,7 +7,9 @@ use Rattle.ip_wire.specs.declared.ethernet.EthernetProtocol.{EthernetProtocol}
 use Rattle.ip_wire.specs.declared.ethernet.EthernetProtocol.TheVariants as protocol
 use Rattle.ip_wire.specs.declared.hardware.HardwareAddress.{HardwareAddress}
 use Rattle.ip_wire.specs.declared.hardware.HardwareAddress.TheVariants as hardware
+use Rattle.net_base.specs.Checksum.{is_rx}
 use Rattle.ip_wire.specs.Arp.{IsArp}
+use Rattle.ip_wire.specs.Ipv4Packet.{IsIpv4}
 use Rattle.host_machine.specs.declared.results.PollIngressSingleResult.{PollIngressSingleResult}
 use Rattle.host_machine.specs.Note.{Note}
 use Rattle.host_machine.specs.Host.{Host, at}
@@ -16,6 +18,8 @@ use Rattle.host_machine.specs.Arp.{IsDropped, TakesArp}
 use Rattle.host_machine.specs.Arp as arp
 use Rattle.host_machine.specs.Ethernet.{TakesPayload, TakesEthernet, TakesFrame}
 use Rattle.host_machine.specs.Ethernet as ethernet
+use Rattle.host_machine.specs.Ipv4.{TakesIpv4}
+use Rattle.host_machine.specs.Ipv4 as ipv4
 use Rattle.host_machine.specs.Ingress.{Takes, Responds, Ingress}
 use Rattle.host_machine.specs.Laws.{IsMalformed}
 use Rattle.host_machine.specs.Laws as law
@@ -25,20 +29,37 @@ arp_dropped (arp.Malformed m d) other = d
 arp_dropped (arp.NotForUs a l d) other = d
 arp_dropped (arp.Learnt a l learns r n) other = absurd (other a)
 
-payload_dropped : (own : EthernetAddress) (H : Host) (p : EthernetProtocol) (payload : List ℕ) (reply : Option Reply) (notes : List Note) (new : Host) →
-    TakesPayload own H p payload reply notes new → p ≡ protocol.Arp → (IsArp payload → ⊥) → IsDropped H reply notes new
-payload_dropped own H protocol.Arp payload reply notes new t e other = arp_dropped t other
-payload_dropped own H protocol.Ipv4 payload reply notes new t e other = t
-payload_dropped own H protocol.Ipv6 payload reply notes new t e other = t
-payload_dropped own H (protocol.Unknown n) payload reply notes new t e other = t
+ipv4_dropped : {source : HardwareAddress} {H new : Host} {octets : List ℕ} {reply : Option Reply} {notes : List Note} →
+    TakesIpv4 source H octets reply notes new → (IsIpv4 (is_rx H.capabilities.checksum.ipv4) octets → ⊥) → IsDropped H reply notes new
+ipv4_dropped (ipv4.Malformed m d) other = d
+ipv4_dropped (ipv4.Read i t) other = absurd (other i)
 
-ethernet_dropped : {own : EthernetAddress} {H new : Host} {frame : List ℕ} {reply : Option Reply} {notes : List Note} → TakesEthernet own H frame reply notes new → IsMalformed frame → IsDropped H reply notes new
+-- a payload of ARP or of IPv4 that is none
+abbrev IsNone : Host → EthernetProtocol → List ℕ → Type 0
+IsNone H protocol.Arp payload = IsArp payload → ⊥
+IsNone H protocol.Ipv4 payload = IsIpv4 (is_rx H.capabilities.checksum.ipv4) payload → ⊥
+IsNone H protocol.Ipv6 payload = Unit {0}
+IsNone H (protocol.Unknown n) payload = Unit {0}
+
+payload_dropped : (own source : EthernetAddress) (H : Host) (p : EthernetProtocol) (payload : List ℕ) (reply : Option Reply) (notes : List Note) (new : Host) →
+    TakesPayload own source H p payload reply notes new → IsNone H p payload → IsDropped H reply notes new
+payload_dropped own source H protocol.Arp payload reply notes new t other = arp_dropped t other
+payload_dropped own source H protocol.Ipv4 payload reply notes new t other = ipv4_dropped t other
+payload_dropped own source H protocol.Ipv6 payload reply notes new t other = t
+payload_dropped own source H (protocol.Unknown n) payload reply notes new t other = t
+
+ethernet_dropped : {own : EthernetAddress} {H new : Host} {frame : List ℕ} {reply : Option Reply} {notes : List Note} →
+    TakesEthernet own H frame reply notes new → IsMalformed H.capabilities.checksum frame → IsDropped H reply notes new
 ethernet_dropped (ethernet.Malformed m d) bad = d
 ethernet_dropped (ethernet.NotForUs l f d) bad = d
 ethernet_dropped (ethernet.Accepted l f t) (law.Ethernet short) = absurd (short l)
-ethernet_dropped {own} {H} {new} {frame} {reply} {notes} (ethernet.Accepted l f t) (law.Arp e other) = payload_dropped own H _ _ reply notes new t e other
+ethernet_dropped {own} {H} {new} {frame} {reply} {notes} (ethernet.Accepted l f t) (law.Arp e other) =
+    payload_dropped own _ H _ _ reply notes new t (subst (λ p. IsNone H p (drop 14 frame)) (sym e) other)
+ethernet_dropped {own} {H} {new} {frame} {reply} {notes} (ethernet.Accepted l f t) (law.Ipv4 e other) =
+    payload_dropped own _ H _ _ reply notes new t (subst (λ p. IsNone H p (drop 14 frame)) (sym e) other)
 
-frame_dropped : (h : HardwareAddress) (H : Host) (frame : List ℕ) (reply : Option Reply) (notes : List Note) (new : Host) → TakesFrame h H frame reply notes new → IsMalformed frame → IsDropped H reply notes new
+frame_dropped : (h : HardwareAddress) (H : Host) (frame : List ℕ) (reply : Option Reply) (notes : List Note) (new : Host) →
+    TakesFrame h H frame reply notes new → IsMalformed H.capabilities.checksum frame → IsDropped H reply notes new
 frame_dropped (hardware.Ethernet own) H frame reply notes new t bad = ethernet_dropped t bad
 frame_dropped hardware.Ip H frame reply notes new t bad = t
 
@@ -47,7 +68,7 @@ handed_by (Frame f) = f ∷ []
 handed_by Nothing = []
 handed_by Withheld = []
 
-taken_dropped : (H : Host) (r : Reception) (frame : List ℕ) (reply : Option Reply) (notes : List Note) (new : Host) → Takes H r reply notes new → handed (Received r ∷ []) ≡ frame ∷ [] → IsMalformed frame → IsDropped H reply notes new
+taken_dropped : (H : Host) (r : Reception) (frame : List ℕ) (reply : Option Reply) (notes : List Note) (new : Host) → Takes H r reply notes new → handed (Received r ∷ []) ≡ frame ∷ [] → IsMalformed H.capabilities.checksum frame → IsDropped H reply notes new
 taken_dropped H Nothing frame reply notes new t e bad = t
 taken_dropped H Withheld frame reply notes new t e bad = t
 taken_dropped H (Frame []) frame reply notes new t e bad = t
@@ -68,11 +89,11 @@ sent-sends : (frames : List (List ℕ)) → sent (sends frames) ≡ frames
 sent-sends [] = refl
 sent-sends (f ∷ fs) = ap (λ t. f ∷ t) (sent-sends fs)
 
-nothing_responded : {H new : Host} {reply : Option Reply} {frames : List (List ℕ)} {notes : List Note} → reply ≡ None → Responds H reply frames notes new → (frames ≡ []) × (notes ≡ []) × (new ≡ H)
+nothing_responded : {H new : Host} {reply : Option Reply} {frames : List (List ℕ)} {notes : List Note} → reply ≡ None → Responds reply H frames notes new → (frames ≡ []) × (notes ≡ []) × (new ≡ H)
 nothing_responded {H} {new} {reply} {frames} {notes} e r = rw e at r
 
 pub malformed : (t : ℤ) (answer : PollIngressSingleResult) (old new : Host) (told : List Event) (notes : List Note) (frame : List ℕ) →
-    Ingress t answer old told notes new → handed told ≡ frame ∷ [] → IsMalformed frame → (sent told ≡ []) × (notes ≡ []) × (new ≡ at old t)
+    Ingress t answer old told notes new → handed told ≡ frame ∷ [] → IsMalformed old.capabilities.checksum frame → (sent told ≡ []) × (notes ≡ []) × (new ≡ at old t)
 malformed t answer old new told notes frame i is bad =
     let only : handed (Received i.reception ∷ []) ≡ frame ∷ [] = sym (handed-received i.reception (sends i.frames) (handed-sends i.frames)) ∙ sym (ap handed i.events) ∙ is in
     let d = taken_dropped (at old t) i.reception frame i.reply i.notes_taking i.taken i.takes only bad in

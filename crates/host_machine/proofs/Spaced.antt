@@ -1,7 +1,18 @@
 -- The discovery requests of a run are at least a second apart.
 use Rattle.std.proofs.Common.{◌≡◌, List, [], ◌∷◌, ◌++◌, refl, ap}
-use Rattle.std.specs.Prelude.{ℤ, pos, ◌+ℤ◌}
-use Rattle.host_machine.specs.Host.{Host}
+use Rattle.std.specs.Prelude.{ℤ, pos, ◌+ℤ◌, ◌≤ℤ◌, Option, Some, None, if◌then◌else◌}
+use Rattle.std.specs.FinMap as map
+use Rattle.std.specs.Cmp.{int_cmp_is}
+use Rattle.std.proofs.lemmas.Int.{by_lt_z}
+use Rattle.std.specs.declared.cmp.Ordering.{Ordering}
+use Rattle.std.specs.declared.cmp.Ordering.TheVariants.{Less, Equal, Greater}
+use Rattle.std.specs.Ordering.{int_cmp, is_lt}
+use Rattle.ip_wire.specs.declared.ip.IpAddress.{IpAddress}
+use Rattle.iface_tables.specs.declared.neighbor.Neighbor.{Neighbor}
+use Rattle.iface_tables.specs.declared.neighbor.Answer.TheVariants.{Found, NotFound, RateLimited}
+use Rattle.iface_tables.specs.Neighbor.{answer_of, answer_from, missing}
+use Rattle.host_machine.specs.Dispatch.{silenced}
+use Rattle.host_machine.specs.Host.{Host, with_neighbors}
 use Rattle.host_machine.specs.Note.{Note, Ask, asks}
 use Rattle.host_machine.specs.Run.{AreSpaced, Place, Run, notes_in}
 use Rattle.host_machine.proofs.Walk.{Keeps, walk}
@@ -31,9 +42,31 @@ asks-append (Ask t ∷ xs) ys = ap (λ ts. t ∷ ts) (asks-append xs ys)
 keeps : (old new : Host) → Keeps old new → SpacedOver old [] new
 keeps old new k = record { spaced = tt; is_after = k.silence }
 
+-- who is asked for was looked up, and no silence stood
+limited : RateLimited ≡ NotFound → ⊥
+limited e = absurd cc
+
+missing_passed : (silent t : ℤ) → missing silent t ≡ NotFound → silent ≤ℤ t
+missing_passed silent t unknown =
+    by_lt_z t silent
+    (λ before. absurd (limited (rw (← int_cmp_is t silent Less before) at unknown)))
+    (λ passed. passed)
+
+found_or_passed : (o : Ordering) (n : Neighbor) (silent t : ℤ) → (if is_lt o then Found n.hardware_addr else missing silent t) ≡ NotFound → silent ≤ℤ t
+found_or_passed Less n silent t unknown = absurd cc
+found_or_passed Equal n silent t unknown = missing_passed silent t unknown
+found_or_passed Greater n silent t unknown = missing_passed silent t unknown
+
+silence_passed : (e : Option Neighbor) (silent t : ℤ) → answer_from e silent t ≡ NotFound → silent ≤ℤ t
+silence_passed None silent t unknown = missing_passed silent t unknown
+silence_passed (Some n) silent t unknown = found_or_passed (int_cmp t n.expires_at) n silent t unknown
+
+asked : (H : Host) (hop : IpAddress) → answer_of H.neighbors hop H.moment ≡ NotFound → SpacedOver H (Ask H.moment ∷ []) (with_neighbors H (silenced H.neighbors H))
+asked H hop unknown = record { spaced = (silence_passed (map.get H.neighbors.known hop) H.neighbors.silent_until H.moment unknown, tt); is_after = refl }
+
 on : (a b c : Host) (xs ys : List Note) → SpacedOver a xs b → SpacedOver b ys c → SpacedOver a (xs ++ ys) c
 on a b c xs ys one two = rw asks-append (times_on a.neighbors.silent_until b.neighbors.silent_until c.neighbors.silent_until (asks xs) (asks ys) one two)
 
 -- over a whole run
 pub run_spaced : {first last : Host} {places : List Place} → Run first places last → AreSpaced first.neighbors.silent_until (asks (notes_in places))
-run_spaced r = (walk SpacedOver keeps on r).spaced
+run_spaced r = (walk SpacedOver keeps asked on r).spaced

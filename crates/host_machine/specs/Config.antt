@@ -1,12 +1,17 @@
 -- How a host begins, and which configurations are refused.
-use Rattle.std.specs.Prelude.{ℤ, pos, Bool, true, false, not, List, [], Option, Some, None, nat_lt, if◌then◌else◌}
+use Rattle.std.specs.Prelude.{ℕ, ◌/◌, ◌^◌, ◌==◌, ◌&&◌, ℤ, pos, Bool, true, false, not, List, [], Option, Some, None, nat_lt, if◌then◌else◌}
 use Rattle.std.specs.FinMap as map
 use Rattle.net_base.specs.declared.phy.DeviceCapabilities.{DeviceCapabilities}
 use Rattle.net_base.specs.declared.phy.Medium.{Medium}
 use Rattle.net_base.specs.declared.phy.Medium.TheVariants as medium
 use Rattle.net_base.specs.Checksum.{ip_mtu_of}
+use Rattle.net_base.specs.Rand.{next}
 use Rattle.ip_wire.specs.declared.hardware.HardwareAddress.{HardwareAddress}
+use Rattle.ip_wire.specs.declared.hardware.HardwareAddress.TheVariants as hardware
 use Rattle.ip_wire.specs.Hardware.{medium_of, is_unicast}
+use Rattle.host_machine.specs.declared.results.HardwareError.{HardwareError}
+use Rattle.host_machine.specs.declared.results.HardwareError.TheVariants.{WrongMedium}
+use Rattle.host_machine.specs.declared.results.HardwareError.TheVariants as hardware_error
 use Rattle.host_machine.specs.declared.results.NewError.{NewError}
 use Rattle.host_machine.specs.declared.results.NewError.TheVariants.{MediumMismatch, NotUnicast, MtuTooSmall, MtuTooLarge}
 use Rattle.host_machine.specs.Host.{Host, Storage}
@@ -26,13 +31,37 @@ refusal_of c h =
     if nat_lt (ip_mtu_of c) 576 then Some MtuTooSmall else
     if nat_lt 1514 c.max_transmission_unit then Some MtuTooLarge else None
 
--- a host at first: no address, no neighbour, no silence
-abbrev pub first_host : DeviceCapabilities → HardwareAddress → ℤ → List Storage → Host
-first_host c h t sockets = record {
+-- the first identification: one draw from the seed, and 1 in place of 0
+abbrev pub first_id : ℕ → ℕ
+first_id seed = if next seed / 2 ^ 48 == 0 then 1 else next seed / 2 ^ 48
+
+-- a host at first: no address, no route, no neighbour, no silence
+abbrev pub first_host : DeviceCapabilities → HardwareAddress → ℕ → ℤ → List Storage → Host
+first_host c h seed t sockets = record {
   capabilities = c;
   hardware_addr = h;
   moment = t;
   ip_addrs = [];
+  any_ip = false;
+  routes = [];
   neighbors = record { known = map.empty; silent_until = pos 0 };
+  ipv4_id = first_id seed;
   sockets = sockets;
 }
+
+-- an address of a medium that has addresses
+abbrev pub is_ethernet : HardwareAddress → Bool
+is_ethernet (hardware.Ethernet e) = true
+is_ethernet hardware.Ip = false
+
+-- a hardware address, on a medium that has such
+abbrev pub if_ethernet : HardwareAddress → Option HardwareAddress
+if_ethernet (hardware.Ethernet e) = Some (hardware.Ethernet e)
+if_ethernet hardware.Ip = None
+
+-- why a hardware address isn't taken, the first reason that holds: it is no Ethernet address, or the medium has none; or it isn't one
+-- interface's
+abbrev pub hardware_refusal_of : DeviceCapabilities → HardwareAddress → Option HardwareError
+hardware_refusal_of c h =
+    if not (is_ethernet h && same_medium (medium_of h) c.medium) then Some WrongMedium else
+    if not (is_unicast h) then Some hardware_error.NotUnicast else None

@@ -1,5 +1,6 @@
--- A worked example: an ARP request as it stands on the wire, and what the host of 192.168.69.1/24 at 02:00:00:00:00:01 does with it.
-use Rattle.std.specs.Prelude.{ℕ, pos, List, [], ◌∷◌, None}
+-- Worked examples: an ARP request and an echo request as they stand on the wire, and what the host of 192.168.69.1/24 at
+-- 02:00:00:00:00:01 does with them.
+use Rattle.std.specs.Prelude.{ℕ, ℤ, pos, false, List, [], ◌∷◌, None}
 use Rattle.std.specs.FinMap as map
 use Rattle.std.proofs.Common.{lit≤}
 use Rattle.net_base.specs.Device.{Received, Frame, Sent}
@@ -9,8 +10,11 @@ use Rattle.net_base.specs.declared.phy.Checksum.TheVariants as checksum
 use Rattle.ip_wire.specs.declared.cidr.IpCidr.TheVariants as cidr
 use Rattle.ip_wire.specs.declared.hardware.HardwareAddress.TheVariants as hardware
 use Rattle.ip_wire.specs.declared.ip.IpAddress.TheVariants as ip
-use Rattle.iface_tables.specs.Neighbor.{Neighbors}
+use Rattle.ip_wire.specs.declared.hardware.HardwareAddress.{HardwareAddress}
+use Rattle.ip_wire.specs.declared.ip.IpAddress.{IpAddress}
+use Rattle.iface_tables.specs.Neighbor.{Neighbors, renewed}
 use Rattle.host_machine.specs.declared.results.PollIngressSingleResult.TheVariants as result
+use Rattle.host_machine.specs.Note.{Ask}
 use Rattle.host_machine.specs.Host.{Host}
 use Rattle.host_machine.specs.Ingress.{Ingress}
 
@@ -40,24 +44,72 @@ reply =
     ∷ 0x02 ∷ 0 ∷ 0 ∷ 0 ∷ 0 ∷ 0x02 ∷ 192 ∷ 168 ∷ 69 ∷ 100 ∷ []
 
 -- the neighbour that the request tells of
-abbrev pub learnt : Neighbors
-learnt = record {
-  known = map.insert map.empty (ip.Ipv4 (record { bits = 0xc0a84564 })) (record { hardware_addr = hardware.Ethernet (record { 0 = 2 ∷ 0 ∷ 0 ∷ 0 ∷ 0 ∷ 2 ∷ [] }); expires_at = pos 60000000 });
-  silent_until = pos 0;
-}
+abbrev pub sender : IpAddress
+sender = ip.Ipv4 (record { bits = 0xc0a84564 })
 
-abbrev pub host : Neighbors → Host
-host neighbors = record {
+abbrev pub sender_hardware : HardwareAddress
+sender_hardware = hardware.Ethernet (record { 0 = 2 ∷ 0 ∷ 0 ∷ 0 ∷ 0 ∷ 2 ∷ [] })
+
+abbrev pub learnt : Neighbors
+learnt = record { known = map.insert map.empty sender (record { hardware_addr = sender_hardware; expires_at = pos 60000000 }); silent_until = pos 0 }
+
+-- the same neighbour, heard from again
+abbrev pub heard : Neighbors
+heard = renewed learnt sender sender_hardware (pos 60000000)
+
+-- nobody is known, and there is no silence; or none is sent before a second has passed
+abbrev pub nobody : ℤ → Neighbors
+nobody silent_until = record { known = map.empty; silent_until = silent_until }
+
+abbrev pub host : ℕ → Neighbors → Host
+host ipv4_id neighbors = record {
   capabilities = device;
   hardware_addr = hardware.Ethernet (record { 0 = 2 ∷ 0 ∷ 0 ∷ 0 ∷ 0 ∷ 1 ∷ [] });
   moment = pos 0;
   ip_addrs = cidr.Ipv4 (record { address = record { bits = 0xc0a84501 }; prefix_len = 24; in_range = lit≤ tt }) ∷ [];
+  any_ip = false;
+  routes = [];
   neighbors = neighbors;
+  ipv4_id = ipv4_id;
   sockets = [];
 }
 
--- the request is answered, and its sender known from then on
+-- 192.168.69.100 asks 192.168.69.1 for an echo of `abcd`
+abbrev pub echo_request : List ℕ
+echo_request =
+    0x02 ∷ 0 ∷ 0 ∷ 0 ∷ 0 ∷ 0x01 ∷ 0x02 ∷ 0 ∷ 0 ∷ 0 ∷ 0 ∷ 0x02 ∷ 0x08 ∷ 0
+    ∷ 0x45 ∷ 0 ∷ 0 ∷ 0x20 ∷ 0 ∷ 0 ∷ 0x40 ∷ 0 ∷ 0x40 ∷ 0x01 ∷ 0x2f ∷ 0x27 ∷ 192 ∷ 168 ∷ 69 ∷ 100 ∷ 192 ∷ 168 ∷ 69 ∷ 1
+    ∷ 0x08 ∷ 0 ∷ 0x21 ∷ 0x04 ∷ 0x12 ∷ 0x34 ∷ 0 ∷ 0x01 ∷ 0x61 ∷ 0x62 ∷ 0x63 ∷ 0x64 ∷ []
+
+-- 192.168.69.1 sends it back
+abbrev pub echo_reply : List ℕ
+echo_reply =
+    0x02 ∷ 0 ∷ 0 ∷ 0 ∷ 0 ∷ 0x02 ∷ 0x02 ∷ 0 ∷ 0 ∷ 0 ∷ 0 ∷ 0x01 ∷ 0x08 ∷ 0
+    ∷ 0x45 ∷ 0 ∷ 0 ∷ 0x20 ∷ 0 ∷ 0 ∷ 0x40 ∷ 0 ∷ 0x40 ∷ 0x01 ∷ 0x2f ∷ 0x27 ∷ 192 ∷ 168 ∷ 69 ∷ 1 ∷ 192 ∷ 168 ∷ 69 ∷ 100
+    ∷ 0 ∷ 0 ∷ 0x29 ∷ 0x04 ∷ 0x12 ∷ 0x34 ∷ 0 ∷ 0x01 ∷ 0x61 ∷ 0x62 ∷ 0x63 ∷ 0x64 ∷ []
+
+-- who has 192.168.69.100? Tell 192.168.69.1
+abbrev pub discovery : List ℕ
+discovery =
+    0xff ∷ 0xff ∷ 0xff ∷ 0xff ∷ 0xff ∷ 0xff ∷ 0x02 ∷ 0 ∷ 0 ∷ 0 ∷ 0 ∷ 0x01 ∷ 0x08 ∷ 0x06
+    ∷ 0 ∷ 1 ∷ 0x08 ∷ 0 ∷ 6 ∷ 4 ∷ 0 ∷ 1
+    ∷ 0x02 ∷ 0 ∷ 0 ∷ 0 ∷ 0 ∷ 0x01 ∷ 192 ∷ 168 ∷ 69 ∷ 1
+    ∷ 0xff ∷ 0xff ∷ 0xff ∷ 0xff ∷ 0xff ∷ 0xff ∷ 192 ∷ 168 ∷ 69 ∷ 100 ∷ []
+
+-- the ARP request is answered, and its sender known from then on
 abbrev pub RequestIsAnswered : Type 0
 RequestIsAnswered =
-    Ingress (pos 0) result.SocketStateChanged (host (record { known = map.empty; silent_until = pos 0 }))
-    (Received (Frame request) ∷ Sent 0 reply ∷ []) [] (host learnt)
+    Ingress (pos 0) result.SocketStateChanged (host 0x1405 (nobody (pos 0)))
+    (Received (Frame request) ∷ Sent 0 reply ∷ []) [] (host 0x1405 learnt)
+
+-- an echo request of a known sender is answered, and takes an identification
+abbrev pub EchoIsAnswered : Type 0
+EchoIsAnswered =
+    Ingress (pos 0) result.SocketStateChanged (host 0x1405 learnt)
+    (Received (Frame echo_request) ∷ Sent 0 echo_reply ∷ []) [] (host 0x1406 heard)
+
+-- for the reply to an unknown sender a discovery request goes, and the silence begins
+abbrev pub SenderIsDiscovered : Type 0
+SenderIsDiscovered =
+    Ingress (pos 0) result.SocketStateChanged (host 0x1405 (nobody (pos 0)))
+    (Received (Frame echo_request) ∷ Sent 0 discovery ∷ []) (Ask (pos 0) ∷ []) (host 0x1406 (nobody (pos 1000000)))

@@ -1,18 +1,73 @@
 -- What a host answers to a frame, and the octets of the frames that it sends.
-use Rattle.std.specs.Prelude.{ℕ, List, ◌++◌, map}
+use Rattle.std.specs.Prelude.{ℕ, ◌-◌, ◌*◌, nat_le, List, [], ◌++◌, map, Option, Some, None, if◌then◌else◌}
+use Rattle.net_base.specs.declared.phy.DeviceCapabilities.{DeviceCapabilities}
+use Rattle.net_base.specs.Checksum.{is_tx}
 use Rattle.net_base.specs.Device.{Event, Sent}
 use Rattle.ip_wire.specs.declared.arp.ArpRepr.{ArpRepr}
+use Rattle.ip_wire.specs.declared.ethernet.EthernetProtocol.{EthernetProtocol}
 use Rattle.ip_wire.specs.declared.ethernet.EthernetProtocol.TheVariants as protocol
+use Rattle.ip_wire.specs.declared.hardware.HardwareAddress.{HardwareAddress}
+use Rattle.ip_wire.specs.declared.hardware.HardwareAddress.TheVariants as hardware
+use Rattle.ip_wire.specs.declared.ip.IpAddress.TheVariants as address
 use Rattle.ip_wire.specs.Ethernet.{header_text}
 use Rattle.ip_wire.specs.Arp.{text}
+use Rattle.ip_wire.specs.Ipv4Packet as ipv4
+use Rattle.ip_wire.specs.Tcp as tcp
+use Rattle.ip_wire.specs.Udp as udp
+use Rattle.ip_wire.specs.declared.tcp.TcpRepr.{TcpRepr}
+use Rattle.control_wire.specs.Icmpv4 as icmpv4
+use Rattle.host_machine.specs.Host.{Host}
+use Rattle.host_machine.specs.Packet.{IpPayload, Icmpv4, Udp, Tcp, Raw, PacketV4, Packet, Ipv4, header_of, IsWritable}
 
--- a reply, by protocol
+-- a reply, by the protocol of its frame
 pub data Reply : Type 0 where
   Arp : (packet : ArpRepr) → Reply
+  Ip : (packet : Packet) → Reply
+
+-- a reply that can be written
+abbrev pub IsWritableReply : Option Reply → Type 0
+IsWritableReply None = Unit {0}
+IsWritableReply (Some (Arp packet)) = Unit {0}
+IsWritableReply (Some (Ip packet)) = IsWritable packet
 
 -- an ARP packet goes from its sender's hardware address to its target's
 abbrev pub arp_frame : ArpRepr → List ℕ
 arp_frame r = header_text (record { src_addr = r.source_hardware_addr; dst_addr = r.target_hardware_addr; ethertype = protocol.Arp }) ++ text r
+
+-- a window that a device with a limited burst can take: at most so many segments, each as long as its packets allow
+abbrev pub window_within : Option ℕ → ℕ → ℕ → ℕ
+window_within None mtu window = window
+window_within (Some burst) mtu window = if nat_le window (burst * (mtu - 40)) then window else burst * (mtu - 40)
+
+-- a segment's header as it goes: its window is within the device's
+abbrev pub limited : DeviceCapabilities → TcpRepr → TcpRepr
+limited c r = record r { window_len = window_within c.max_burst_size c.max_transmission_unit r.window_len }
+
+-- a payload, each form with its checksum where the device leaves that to the stack. A checksum covers the pseudo-header, where it has
+-- one, and the payload, and no octet behind it
+abbrev pub payload_text : DeviceCapabilities → PacketV4 → IpPayload → List ℕ
+payload_text c p (Icmpv4 message octets) = icmpv4.text (is_tx c.checksum.icmpv4) message octets
+payload_text c p (Udp header octets) = udp.text (is_tx c.checksum.udp) (address.Ipv4 p.src_addr) (address.Ipv4 p.dst_addr) header octets
+payload_text c p (Tcp header octets) = tcp.text (is_tx c.checksum.tcp) (address.Ipv4 p.src_addr) (address.Ipv4 p.dst_addr) (limited c header) octets
+payload_text c p (Raw number octets) = octets
+
+-- a packet: its header, and its payload
+abbrev pub packet_text : DeviceCapabilities → Packet → List ℕ
+packet_text c (Ipv4 p) = ipv4.header_text (is_tx c.checksum.ipv4) (header_of p) ipv4.whole ++ payload_text c p p.payload
+
+abbrev pub ethertype_of : Packet → EthernetProtocol
+ethertype_of (Ipv4 p) = protocol.Ipv4
+
+-- what stands before a packet on a link that has hardware addresses
+abbrev pub link_header : HardwareAddress → HardwareAddress → EthernetProtocol → List ℕ
+link_header (hardware.Ethernet source) (hardware.Ethernet destination) type = header_text (record { src_addr = source; dst_addr = destination; ethertype = type })
+link_header (hardware.Ethernet source) hardware.Ip type = []
+link_header hardware.Ip (hardware.Ethernet destination) type = []
+link_header hardware.Ip hardware.Ip type = []
+
+-- a packet goes from the host's hardware address to another
+abbrev pub ip_frame : Host → HardwareAddress → Packet → List ℕ
+ip_frame H destination p = link_header H.hardware_addr destination (ethertype_of p) ++ packet_text H.capabilities p
 
 -- frames that are sent, each with metadata 0
 abbrev pub sends : List (List ℕ) → List Event

@@ -1,5 +1,5 @@
 -- The state of a host (RFC 1122): what its interface and its sockets stand for.
-use Rattle.std.specs.Prelude.{ℤ, Bool, false, ◌==◌, ◌||◌, List, Option}
+use Rattle.std.specs.Prelude.{ℕ, ℤ, Bool, false, ◌==◌, ◌||◌, List, Option}
 use Rattle.std.specs.Borrow.{Bor}
 use Rattle.std.specs.List.{list_any, list_all}
 use Rattle.net_base.specs.declared.phy.DeviceCapabilities.{DeviceCapabilities}
@@ -10,6 +10,7 @@ use Rattle.ip_wire.specs.declared.hardware.HardwareAddress.{HardwareAddress}
 use Rattle.ip_wire.specs.Ip.{is_unicast, is_unspecified}
 use Rattle.ip_wire.specs.Cidr.{address_of, contains}
 use Rattle.iface_tables.specs.Neighbor.{Neighbors}
+use Rattle.iface_tables.specs.declared.route.Route.{Route}
 use Rattle.sockets.specs.declared.socket.SocketOf.{SocketOf}
 
 -- a place of a socket set: it holds a socket, or it is free
@@ -21,7 +22,10 @@ pub record Host : Type 0 where
   pub hardware_addr : HardwareAddress
   pub moment : ℤ  -- of the last call that gave one
   pub ip_addrs : List IpCidr  -- its addresses with their networks, in the order given
+  pub any_ip : Bool  -- whether it takes every address for its own
+  pub routes : List Route  -- its routes, in the order in which they are stored
   pub neighbors : Neighbors  -- which neighbours it knows, and until when it sends no discovery
+  pub ipv4_id : ℕ  -- the next identification of a packet, of 16 bits
   pub sockets : List Storage  -- by index
 
 -- the host at another moment
@@ -32,6 +36,10 @@ at H t = record H { moment = t }
 abbrev pub with_neighbors : Host → Neighbors → Host
 with_neighbors H n = record H { neighbors = n }
 
+-- the host with other sockets
+abbrev pub with_sockets : Host → List Storage → Host
+with_sockets H sockets = record H { sockets = sockets }
+
 -- the two are one address
 abbrev pub same_address : IpAddress → IpAddress → Bool
 same_address (Ipv4 a) (Ipv4 b) = a.bits == b.bits
@@ -39,9 +47,13 @@ same_address (Ipv6 a) (Ipv6 b) = a.bits == b.bits
 same_address (Ipv4 a) (Ipv6 b) = false
 same_address (Ipv6 a) (Ipv4 b) = false
 
--- an address of its own
-abbrev pub has_ip_addr : List IpCidr → IpAddress → Bool
-has_ip_addr own a = list_any (λ c. same_address (address_of c) a) own
+-- an address that was given to it
+abbrev pub is_assigned : List IpCidr → IpAddress → Bool
+is_assigned own a = list_any (λ c. same_address (address_of c) a) own
+
+-- an address of its own: one that was given to it, or any
+abbrev pub has_ip_addr : Host → IpAddress → Bool
+has_ip_addr H a = H.any_ip || is_assigned H.ip_addrs a
 
 -- an address in a network of its own
 abbrev pub in_same_network : List IpCidr → IpAddress → Bool

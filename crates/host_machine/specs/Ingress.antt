@@ -5,7 +5,8 @@ use Rattle.host_machine.specs.declared.results.PollIngressSingleResult.{PollIngr
 use Rattle.host_machine.specs.declared.results.PollIngressSingleResult.TheVariants as result
 use Rattle.host_machine.specs.Note.{Note}
 use Rattle.host_machine.specs.Host.{Host, at}
-use Rattle.host_machine.specs.Frame.{Reply, Arp, arp_frame, sends}
+use Rattle.host_machine.specs.Frame.{Reply, Arp, Ip, arp_frame, sends}
+use Rattle.host_machine.specs.Dispatch.{Outcome, Dispatches}
 use Rattle.host_machine.specs.Arp.{IsDropped}
 use Rattle.host_machine.specs.Ethernet.{TakesFrame}
 
@@ -16,10 +17,12 @@ Takes H Withheld reply notes new = IsDropped H reply notes new
 Takes H (Frame []) reply notes new = IsDropped H reply notes new
 Takes H (Frame (octet ∷ octets)) reply notes new = TakesFrame H.hardware_addr H (octet ∷ octets) reply notes new
 
--- how a reply is sent: an ARP reply goes straight to the hardware address that asked
-abbrev pub Responds : Host → Option Reply → List (List ℕ) → List Note → Host → Type 0
-Responds H None frames notes new = (frames ≡ []) × (notes ≡ []) × (new ≡ H)
-Responds H (Some (Arp packet)) frames notes new = (frames ≡ arp_frame packet ∷ []) × (notes ≡ []) × (new ≡ H)
+-- how a reply is sent: an ARP reply goes straight to the hardware address that asked; a packet is dispatched, and what becomes of it is
+-- not asked for
+abbrev pub Responds : Option Reply → Host → List (List ℕ) → List Note → Host → Type 0
+Responds None H frames notes new = (frames ≡ []) × (notes ≡ []) × (new ≡ H)
+Responds (Some (Arp packet)) H frames notes new = (frames ≡ arp_frame packet ∷ []) × (notes ≡ []) × (new ≡ H)
+Responds (Some (Ip packet)) H frames notes new = (outcome : Outcome) × Dispatches packet outcome H frames notes new
 
 -- the answer tells whether there was a frame, and whether it was empty
 abbrev pub answer_to : Reception → PollIngressSingleResult
@@ -36,7 +39,7 @@ pub record Ingress (t : ℤ) (answer : PollIngressSingleResult) (old : Host) (to
   pub notes_taking : List Note
   pub notes_responding : List Note
   pub takes : Takes (at old t) reception reply notes_taking taken
-  pub responds : Responds taken reply frames notes_responding new
+  pub responds : Responds reply taken frames notes_responding new
   pub events : told ≡ Received reception ∷ sends frames
   pub all_notes : notes ≡ notes_taking ++ notes_responding
   pub answers : answer ≡ answer_to reception

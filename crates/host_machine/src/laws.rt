@@ -1,8 +1,8 @@
 //! Laws that follow from the definitions alone, each as the contract of an empty function.
-ghost use Rattle.host_machine.specs.Example.{RequestIsAnswered};
+ghost use Rattle.host_machine.specs.Example.{EchoIsAnswered, RequestIsAnswered, SenderIsDiscovered};
 ghost use Rattle.host_machine.specs.Laws.{MalformedIsDropped, RunsJoin, RunsKeepLaws};
 
-/// A frame whose Ethernet or ARP header is malformed sends nothing, and leaves the host as the same
+/// A frame whose Ethernet, ARP or IPv4 header is malformed sends nothing, and leaves the host as the same
 /// call without a frame does.
 pub fn malformed_is_dropped()
     ensures { MalformedIsDropped }
@@ -22,4 +22,15 @@ pub fn runs_keep_laws()
 /// A worked example: an ARP request, octet by octet, is answered by the reply, octet by octet.
 pub fn request_is_answered()
     ensures { RequestIsAnswered }
+{}
+
+/// A worked example: an echo request of a known sender, octet by octet, is answered by the reply.
+pub fn echo_is_answered()
+    ensures { EchoIsAnswered }
+{}
+
+/// A worked example: where the sender of an echo request isn't known, the request for its hardware
+/// address goes in place of the reply.
+pub fn sender_is_discovered()
+    ensures { SenderIsDiscovered }
 {}

@@ -1,6 +1,9 @@
 //! The host that a script runs.
-ghost use Rattle.std.specs.Prelude.{◌≡◌};
+ghost use Rattle.std.specs.Prelude.{◌≡◌, OnOk, OnErr};
 ghost use Rattle.host_machine.specs.Step.{IsTimely};
+ghost use Rattle.iface_tables.specs.SocketSet.{added};
+ghost use Rattle.sockets.specs.declared.socket.SocketOf.TheVariants.{Udp};
+ghost use Rattle.hostrun.specs.Sockets.{listening};
 
 use iface_tables::socket_set::SocketSet;
 use interface::host::{Owner, drive};
@@ -9,6 +12,7 @@ use ip_wire::{EthernetAddress, HardwareAddress};
 use net_base::MemoryDevice;
 use net_base::phy::{ChecksumCapabilities, Device, DeviceCapabilities, Medium};
 use net_base::time::Instant;
+use sockets::{IpListenEndpoint, NoMemory, Queue, udp};
 use std::alloc::Global;
 
 /// The host's Ethernet address.
@@ -24,6 +28,12 @@ const CAPABILITIES: DeviceCapabilities = DeviceCapabilities {
     checksum: ChecksumCapabilities::ALL,
 };
 
+/// How many packets fit into a queue of a socket.
+const QUEUE_PACKETS: usize = 4;
+
+/// How many octets fit into a queue of a socket.
+const QUEUE_OCTETS: usize = 4096;
+
 /// An owner that leaves the sockets alone.
 #[derive(Drop)]
 pub struct Idle;
@@ -36,9 +46,26 @@ impl Owner for Idle {
     fn act(&mut self, _number: usize, _sockets: &mut SocketSet<'_>) {}
 }
 
+/// Adds a UDP socket that listens at a port of any address. Where memory is refused the set stays as
+/// it was.
+fn add_udp(alloc: Global, sockets: &mut SocketSet<'_>, port: u16) -> Result<(), NoMemory>
+    ensures ok { OnOk result (sockets.new ≡ added sockets.old (Udp (listening port))) }
+    ensures err { OnErr result (sockets.new ≡ sockets.old) }
+{
+    let endpoint = IpListenEndpoint { addr: None, port };
+    let rx = Queue::new(alloc, QUEUE_PACKETS, QUEUE_OCTETS)?;
+    let tx = Queue::new(alloc, QUEUE_PACKETS, QUEUE_OCTETS)?;
+    let socket: udp::Socket<'_> = udp::SocketOf::new(endpoint, rx, tx);
+    match sockets.add(socket) {
+        Ok(_) => Ok(()),
+        Err(_) => Err(NoMemory),
+    }
+}
+
 /// An interface with its device and its sockets.
 #[derive(Drop)]
 pub struct Host<'a> {
+    alloc: Global,
     interface: Interface,
     pub device: MemoryDevice,
     sockets: SocketSet<'a>,
@@ -54,11 +81,17 @@ impl<'a> Host<'a> {
         let config = Config::new(HARDWARE_ADDR);
         let interface = Interface::new(config, &mut device, Instant::ZERO).ok()?;
         Some(Host {
+            alloc,
             interface,
             device,
             sockets: SocketSet::new(Vec::new(alloc)),
             owner: Idle,
         })
+    }
+
+    /// Adds a UDP socket that listens at a port of any address. It fails if memory is refused.
+    pub fn add_udp(&mut self, port: u16) -> Result<(), NoMemory> {
+        add_udp(self.alloc, &mut self.sockets, port)
     }
 
     /// Runs one command.

@@ -1,5 +1,7 @@
 //! What a line says.
-ghost use Rattle.std.specs.Prelude.{◌≤◌, length, IfSome};
+ghost use Rattle.std.specs.Prelude.{◌≡◌, ◌≢◌, ◌≤◌, ◌*◌, ◌↔◌, length, take, Ok, IfSome, IsSome};
+ghost use Rattle.hex.specs.Hex.{decode_of};
+ghost use Rattle.hostrun.specs.Hex.{IsHexUpTo};
 
 use arrayvec::ArrayVec;
 use ip_wire::{IpCidr, Ipv4Address, Ipv4Cidr};
@@ -14,8 +16,14 @@ pub enum Line {
     Rx(usize),
     /// The host's addresses.
     Addr(ArrayVec<IpCidr, 4>),
+    /// The router of the host's default route.
+    Gw(Ipv4Address),
+    /// A UDP socket listens at this port.
+    Udp(u16),
     /// The host takes one frame.
     Ingress,
+    /// The host sends what its sockets have to send.
+    Egress,
 }
 
 /// The line that the text is, if it is one. The frame of `rx` goes into the buffer.
@@ -23,7 +31,10 @@ pub fn parse(text: &[u8], frame: &mut [u8; FRAME_ROOM]) -> Option<Line> {
     match split_at(text, b' ') {
         (b"rx", Some(digits)) => Some(Line::Rx(parse_hex(digits, frame)?)),
         (b"addr", Some(words)) => Some(Line::Addr(parse_addrs(words)?)),
+        (b"gw", Some(digits)) => Some(Line::Gw(parse_ipv4(digits)?)),
+        (b"udp", Some(digits)) => Some(Line::Udp(parse_port(digits)?)),
         (b"ingress", None) => Some(Line::Ingress),
+        (b"egress", None) => Some(Line::Egress),
         _ => None,
     }
 }
@@ -36,9 +47,12 @@ fn split_at(text: &[u8], separator: u8) -> (&[u8], Option<&[u8]>) {
     }
 }
 
-/// Writes the octets of an even number of hex digits, two or more, and says how many they are.
+/// Writes the octets of hex digits, and says how many they are. `None` exactly if it isn't an even
+/// number of hex digits, two or more, or the buffer holds fewer octets.
 fn parse_hex(digits: &[u8], octets: &mut [u8]) -> Option<usize>
-    ensures { IfSome result (λ n. n ≤ length octets.old) }
+    ensures count { IfSome result (λ n. length digits.now ≡ 2 * n) }
+    ensures octets { IfSome result (λ n. decode_of digits.now ≡ Ok (take n octets.new)) }
+    ensures found { IsSome result ↔ IsHexUpTo (length octets.old) digits.now }
 {
     let count = digits.len() / 2;
     if count == 0 || count > octets.len() {
@@ -63,18 +77,35 @@ fn parse_addrs(words: &[u8]) -> Option<ArrayVec<IpCidr, 4>> {
     None
 }
 
-/// A network: an address of eight hex digits, `/` and the length of the prefix, at most 32.
-fn parse_cidr(word: &[u8]) -> Option<IpCidr> {
-    let (digits, prefix_len) = split_at(word, b'/');
+/// An address of eight hex digits.
+fn parse_ipv4(digits: &[u8]) -> Option<Ipv4Address> {
     let mut octets = [0; 4];
     hex::decode_to_slice(digits, &mut octets).ok()?;
     let [a, b, c, d] = octets;
+    Some(Ipv4Address::new(a, b, c, d))
+}
+
+/// A network: an address of eight hex digits, `/` and the length of the prefix, at most 32.
+fn parse_cidr(word: &[u8]) -> Option<IpCidr> {
+    let (digits, prefix_len) = split_at(word, b'/');
+    let address = parse_ipv4(digits)?;
     let prefix_len = parse_number(prefix_len?, 32)?;
     let prefix_len = u8::try_from(prefix_len).ok()?;
     if prefix_len > 32 {
         return None;
     }
-    Some(IpCidr::Ipv4(Ipv4Cidr::new(Ipv4Address::new(a, b, c, d), prefix_len)))
+    Some(IpCidr::Ipv4(Ipv4Cidr::new(address, prefix_len)))
+}
+
+/// A port other than 0.
+fn parse_port(digits: &[u8]) -> Option<u16>
+    ensures { IfSome result (λ port. port ≢ 0) }
+{
+    let port = u16::try_from(parse_number(digits, 65535)?).ok()?;
+    if port == 0 {
+        return None;
+    }
+    Some(port)
 }
 
 /// A number of one or more decimal digits, at most `most`.

@@ -1,8 +1,9 @@
 //! `hostrun` runs a host from a script: it reads commands from standard input, one a line, and
 //! prints the frames that the host sends and what each command answers.
 //!
-//! The words are `rx HEX` (a frame arrives), `addr HEX/LEN ..` (the host's addresses, one to four)
-//! and `ingress` (the host takes one frame). `docs/HOSTRUN.md` has the rest.
+//! The words are `rx HEX` (a frame arrives), `addr HEX/LEN ..` (the host's addresses, one to four),
+//! `gw HEX` (the router of its default route), `udp PORT` (a UDP socket), `ingress` (the host takes
+//! one frame) and `egress` (it sends what its sockets have to send). `docs/HOSTRUN.md` has the rest.
 #![tactic(auto)]
 
 mod host;

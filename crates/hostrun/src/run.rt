@@ -1,12 +1,15 @@
 //! A script, line by line.
+ghost use Rattle.std.specs.Prelude.{◌≡◌};
 
 use crate::host::Host;
 use crate::input::{Input, LineBuffer, LineRead};
 use crate::line::{FRAME_ROOM, Line, parse};
-use interface::{AddrError, Answer, Command, PollIngressSingleResult};
+use iface_tables::route::RouteTableFull;
+use interface::{AddrError, Answer, Command, HardwareError, PollIngressSingleResult, PollResult};
 use net_base::PushError;
 use net_base::phy::{Device, FRAME_BUFFER_SIZE};
 use net_base::time::Instant;
+use sockets::NoMemory;
 use std::alloc::Global;
 use std::io::{self, Read, Write};
 
@@ -21,7 +24,21 @@ enum Stop {
     Failed,
 }
 
+impl From<NoMemory> for Stop {
+    ghost use Rattle.hostrun.specs.declared.run.Stop.TheVariants.{NoMemory};
+
+    ghost from_gives = { λ _ stop. stop ≡ NoMemory };
+
+    fn from(_: NoMemory) -> Stop {
+        Stop::NoMemory
+    }
+}
+
 impl From<io::Error> for Stop {
+    ghost use Rattle.hostrun.specs.declared.run.Stop.TheVariants.{Failed};
+
+    ghost from_gives = { λ _ stop. stop ≡ Failed };
+
     fn from(_: io::Error) -> Stop {
         Stop::Failed
     }
@@ -78,7 +95,13 @@ fn run_line<W: Write>(
     let answer = match line {
         Line::Rx(len) => pushed(host.device.push(&frame[..len.min(FRAME_ROOM)]))?,
         Line::Addr(list) => answer_text(host.run(Command::UpdateIpAddrs(list))),
+        Line::Gw(router) => answer_text(host.run(Command::AddDefaultIpv4Route(router))),
+        Line::Udp(port) => {
+            host.add_udp(port)?;
+            "ok"
+        }
         Line::Ingress => answer_text(host.run(Command::PollIngressSingle(Instant::ZERO))),
+        Line::Egress => answer_text(host.run(Command::PollEgress(Instant::ZERO))),
     };
     if host.device.refusals() != refusals {
         return Err(Stop::NoMemory);
@@ -102,13 +125,22 @@ fn pushed(outcome: Result<(), PushError>) -> Result<&'static str, Stop> {
 /// What is written for an answer.
 fn answer_text(answer: Answer) -> &'static str {
     match answer {
-        Answer::UpdateIpAddrs(Ok(())) | Answer::Owner => "ok",
-        Answer::UpdateIpAddrs(Err(AddrError::NotUnicast)) => "NotUnicast",
-        Answer::PollIngressSingle(PollIngressSingleResult::None) => "None",
+        Answer::UpdateIpAddrs(Ok(()))
+        | Answer::UpdateRoutes
+        | Answer::AddDefaultIpv4Route(Ok(_))
+        | Answer::RemoveDefaultIpv4Route(_)
+        | Answer::SetAnyIp
+        | Answer::SetHardwareAddr(Ok(()))
+        | Answer::Owner => "ok",
+        Answer::UpdateIpAddrs(Err(AddrError::NotUnicast))
+        | Answer::SetHardwareAddr(Err(HardwareError::NotUnicast)) => "NotUnicast",
+        Answer::SetHardwareAddr(Err(HardwareError::WrongMedium)) => "WrongMedium",
+        Answer::AddDefaultIpv4Route(Err(RouteTableFull)) => "RouteTableFull",
+        Answer::PollIngressSingle(PollIngressSingleResult::None)
+        | Answer::PollEgress(PollResult::None) => "None",
         Answer::PollIngressSingle(PollIngressSingleResult::PacketProcessed) => "PacketProcessed",
-        Answer::PollIngressSingle(PollIngressSingleResult::SocketStateChanged) => {
-            "SocketStateChanged"
-        }
+        Answer::PollIngressSingle(PollIngressSingleResult::SocketStateChanged)
+        | Answer::PollEgress(PollResult::SocketStateChanged) => "SocketStateChanged",
     }
 }
 

@@ -10,20 +10,12 @@ use std::process::Abort;
 /// A reader of these pieces, one after the other, that then ends or fails.
 #[derive(Clone, Copy)]
 struct Pieces<'a> {
-    pieces: [&'a [u8]; 3],
+    pieces: &'a [&'a [u8]],
     at: usize,
     fails: bool,
 }
 
 impl<'a> Pieces<'a> {
-    fn new(pieces: [&'a [u8]; 3]) -> Pieces<'a> {
-        Pieces {
-            pieces,
-            at: 0,
-            fails: false,
-        }
-    }
-
     // What is left of the piece that is read.
     fn rest(&self) -> &'a [u8] {
         let mut at = self.at;
@@ -81,9 +73,10 @@ impl Write for Page {
     }
 }
 
-/// What a script does where its streams take so many octets.
+/// What a script does where its streams take so many octets, and reading on at its end fails or not.
 #[derive(Clone, Copy)]
 struct Case<'a> {
+    fails: bool,
     output_room: usize,
     errors_room: usize,
     output: &'a [u8],
@@ -93,6 +86,7 @@ struct Case<'a> {
 
 const fn ends<'a>(output: &'a [u8], errors: &'a [u8], status: u8) -> Case<'a> {
     Case {
+        fails: false,
         output_room: 512,
         errors_room: 512,
         output,
@@ -102,9 +96,13 @@ const fn ends<'a>(output: &'a [u8], errors: &'a [u8], status: u8) -> Case<'a> {
 }
 
 // Runs a script. Where memory is refused that is all it says, and the next run does what it has to.
-fn check(rt: &impl Abort, alloc: Global, script: Pieces<'_>, case: Case<'_>) {
+fn check<'a>(rt: &impl Abort, alloc: Global, pieces: &'a [&'a [u8]], case: Case<'_>) {
     for _ in 0..2 {
-        let mut input = script;
+        let mut input = Pieces {
+            pieces,
+            at: 0,
+            fails: case.fails,
+        };
         let mut output = Page::new(case.output_room);
         let mut errors = Page::new(case.errors_room);
         let status = run(alloc, &mut input, &mut output, &mut errors);
@@ -137,7 +135,7 @@ SocketStateChanged
 
 #[test]
 fn runs_scripts(rt: HostRuntime) {
-    let scripts: [(&[u8], &[u8]); 14] = [
+    let scripts: [(&[u8], &[u8]); 18] = [
         (b"", b""),
         (b"\n\n", b""),
         (b"ingress", b"None\n"),
@@ -209,20 +207,164 @@ ingress
         ),
         (b"ingress\ningress\n", b"None\nNone\n"),
         (b"rx aBcDeF\n", b"ok\n"),
+        (b"egress", b"None\n"),
+        (b"gw c0a845fe\ngw c0a845fe\n", b"ok\nok\n"),
+        (b"gw 0123ABcd\n", b"ok\n"),
+        (
+            b"udp 1\nudp 65535\nudp 65535\negress\n",
+            b"ok\nok\nok\nNone\n",
+        ),
     ];
     for (script, output) in scripts {
-        check(
-            &rt,
-            rt.alloc(),
-            Pieces::new([script, b"", b""]),
-            ends(output, b"", 0),
-        );
+        check(&rt, rt.alloc(), &[script], ends(output, b"", 0));
+    }
+}
+
+// Is 192.168.69.1 there? From 192.168.69.100 at 02:00:00:00:00:02.
+const ECHO: &[u8] = b"rx \
+    0200000000010200000000020800\
+    450000200000400040012f27c0a84564c0a84501\
+    080021041234000161626364\n";
+
+// The same from 10.0.0.9.
+const FAR_ECHO: &[u8] = b"rx \
+    0200000000010200000000020800\
+    450000200000400040012b2b0a000009c0a84501\
+    080021041234000161626364\n";
+
+// A datagram of two octets from 192.168.69.100, port 5000, to port 6969.
+const DATAGRAM: &[u8] = b"rx \
+    0200000000010200000000020800\
+    4500001e0000400040112f19c0a84564c0a84501\
+    13881b39000a5cf9\
+    6869\n";
+
+// What answers the request for the address and then the echo request.
+const ECHOED: &[u8] = b"ok
+ok
+tx 02000000000202000000000108060001080006040002020000000001c0a84501020000000002c0a84564
+SocketStateChanged
+ok
+tx \
+    0200000000020200000000010800\
+    450000200000400040012f27c0a84501c0a84564\
+    000029041234000161626364
+SocketStateChanged
+";
+
+#[test]
+fn answers_echo_requests(rt: HostRuntime) {
+    let scripts: [(&[u8], &[u8]); 3] = [
+        (ECHO, ECHOED),
+        // To the network's broadcast address, in a frame that zeros fill up to 60 octets.
+        (
+            b"rx \
+                0200000000010200000000020800\
+                450000200000400040012e29c0a84564c0a845ff\
+                080021041234000161626364\
+                0000000000000000000000000000\n",
+            ECHOED,
+        ),
+        // The same to all on the link.
+        (
+            b"rx \
+                ffffffffffff0200000000020800\
+                450000200000400040012e29c0a84564c0a845ff\
+                080021041234000161626364\
+                0000000000000000000000000000\n",
+            ECHOED,
+        ),
+    ];
+    for (frame, output) in scripts {
+        let script = [REQUEST, frame, b"ingress\n"];
+        check(&rt, rt.alloc(), &script, ends(output, b"", 0));
+    }
+}
+
+#[test]
+fn asks_for_an_unknown_neighbor(rt: HostRuntime) {
+    // The first request is lost, and the second one answered.
+    let script = [
+        b"addr c0a84501/24\n",
+        ECHO,
+        b"ingress
+rx 02000000000102000000000208060001080006040002020000000002c0a84564020000000001c0a84501
+ingress
+",
+        ECHO,
+        b"ingress\n",
+    ];
+    let output = b"ok
+ok
+tx ffffffffffff02000000000108060001080006040001020000000001c0a84501ffffffffffffc0a84564
+SocketStateChanged
+ok
+SocketStateChanged
+ok
+tx \
+    0200000000020200000000010800\
+    450000200000400040012f27c0a84501c0a84564\
+    000029041234000161626364
+SocketStateChanged
+";
+    check(&rt, rt.alloc(), &script, ends(output, b"", 0));
+}
+
+#[test]
+fn takes_datagrams_for_its_sockets(rt: HostRuntime) {
+    let output = b"ok
+ok
+tx 02000000000202000000000108060001080006040002020000000001c0a84501020000000002c0a84564
+SocketStateChanged
+ok
+ok
+SocketStateChanged
+None
+";
+    let script = [REQUEST, b"udp 6969\n", DATAGRAM, b"ingress\negress\n"];
+    check(&rt, rt.alloc(), &script, ends(output, b"", 0));
+}
+
+#[test]
+fn answers_by_its_default_route(rt: HostRuntime) {
+    // Without one, what comes from elsewhere isn't answered; the last one is taken.
+    let scripts: [(&[u8], &[u8]); 2] = [
+        (
+            b"",
+            b"ok
+ok
+tx 02000000000202000000000108060001080006040002020000000001c0a84501020000000002c0a84564
+SocketStateChanged
+ok
+SocketStateChanged
+",
+        ),
+        (
+            b"gw c0a845fe\ngw C0A84564\n",
+            b"ok
+ok
+tx 02000000000202000000000108060001080006040002020000000001c0a84501020000000002c0a84564
+SocketStateChanged
+ok
+ok
+ok
+tx \
+    0200000000020200000000010800\
+    450000200000400040012b2bc0a845010a000009\
+    000029041234000161626364
+SocketStateChanged
+",
+        ),
+    ];
+    for (words, output) in scripts {
+        let script = [REQUEST, words, FAR_ECHO, b"ingress\n"];
+        check(&rt, rt.alloc(), &script, ends(output, b"", 0));
     }
 }
 
 #[test]
 fn ends_at_a_bad_line(rt: HostRuntime) {
-    let lines: [&[u8]; 48] = [
+    let lines: [&[u8]; 70] = [
         b"pol 0",
         b"poll 0 1",
         b"RX 00",
@@ -271,11 +413,38 @@ fn ends_at_a_bad_line(rt: HostRuntime) {
         b"addr c0a84501/24  0a000001/8",
         b"addr c0a84501/24 0a000001",
         b"addr c0a84501/24 0a000001/8 ac100001/12 c0a84601/24 c0a84701/24",
+        b"gw c0a845",
+        b"gw c0a845fe0",
+        b"gw",
+        b"gw ",
+        b"gw c0a845fe/24",
+        b"gw c0a845f",
+        b"gw c0a845fg",
+        b"gw c0a845fe ",
+        b"gw c0a845fe c0a845fe",
+        b"gw 20010db8000000000000000000000001",
+        b"udp 0",
+        b"udp 65536",
+        b"udp",
+        b"udp ",
+        b"udp 7 8",
+        b"udp x",
+        b"udp 7x",
+        b"udp +7",
+        b"udp 4294967303",
+        b"egress 0",
+        b"egres",
+        b"GW c0a845fe",
     ];
     for line in lines {
         for rest in [b"".as_slice(), b"\ningress\n"] {
-            let script = Pieces::new([b"\ningress\n\n", line, rest]);
-            check(&rt, rt.alloc(), script, ends(b"None\n", b"bad line 4\n", 2));
+            let script = [b"\ningress\n\n", line, rest];
+            check(
+                &rt,
+                rt.alloc(),
+                &script,
+                ends(b"None\n", b"bad line 4\n", 2),
+            );
         }
     }
 }
@@ -303,8 +472,8 @@ fn takes_lines_of_4096_octets(rt: HostRuntime) {
         ),
     ];
     for (zeros, rest, case) in lines {
-        let script = Pieces::new([b"addr c0a84501/", zeros, rest]);
-        check(&rt, rt.alloc(), script, case);
+        let script = [b"addr c0a84501/", zeros, rest];
+        check(&rt, rt.alloc(), &script, case);
     }
 }
 
@@ -316,8 +485,8 @@ fn takes_frames_of_1514_octets(rt: HostRuntime) {
         (&ZEROS[..2 * 2046], b"TooLong\nNone\n"),
     ];
     for (zeros, output) in frames {
-        let script = Pieces::new([b"rx ", zeros, b"\ningress\n"]);
-        check(&rt, rt.alloc(), script, ends(output, b"", 0));
+        let script = [b"rx ", zeros, b"\ningress\n"];
+        check(&rt, rt.alloc(), &script, ends(output, b"", 0));
     }
 }
 
@@ -331,30 +500,30 @@ fn ends_where_a_stream_fails(rt: HostRuntime) {
         (REQUEST, REPLY),
     ];
     for (script, output) in scripts {
-        let broken = Pieces {
+        let broken = Case {
             fails: true,
-            ..Pieces::new([script, b"", b""])
+            ..ends(output, b"", 4)
         };
-        check(&rt, rt.alloc(), broken, ends(output, b"", 4));
+        check(&rt, rt.alloc(), &[script], broken);
     }
-    let request = Pieces::new([REQUEST, b"", b""]);
+    let request = [REQUEST];
     for output_room in 0..REPLY.len() {
         let case = Case {
             output_room,
             ..ends(&REPLY[..output_room], b"", 4)
         };
-        check(&rt, rt.alloc(), request, case);
+        check(&rt, rt.alloc(), &request, case);
     }
     let whole = Case {
         output_room: REPLY.len(),
         ..ends(REPLY, b"", 0)
     };
-    check(&rt, rt.alloc(), request, whole);
+    check(&rt, rt.alloc(), &request, whole);
     for errors_room in 0..11 {
         let case = Case {
             errors_room,
             ..ends(b"", &b"bad line 1\n"[..errors_room], 4)
         };
-        check(&rt, rt.alloc(), Pieces::new([b"pol 0", b"", b""]), case);
+        check(&rt, rt.alloc(), &[b"pol 0"], case);
     }
 }

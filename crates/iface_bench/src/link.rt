@@ -1,8 +1,11 @@
 //! A link that hands over one frame over and over, and counts what is sent.
 ghost use Rattle.std.specs.Prelude.{◌≡◌};
 
-use net_base::phy::{ChecksumCapabilities, Device, DeviceCapabilities, Medium, PacketMeta};
+use net_base::phy::{
+    ChecksumCapabilities, Device, DeviceCapabilities, FRAME_BUFFER_SIZE, Medium, PacketMeta,
+};
 use net_base::time::Instant;
+use std::alloc::Global;
 
 /// What the link can do.
 const CAPABILITIES: DeviceCapabilities = DeviceCapabilities {
@@ -12,23 +15,37 @@ const CAPABILITIES: DeviceCapabilities = DeviceCapabilities {
     checksum: ChecksumCapabilities::ALL,
 };
 
-/// A link that never refuses.
+/// A link that never refuses, and keeps the last frame sent.
 #[derive(Drop)]
 pub struct Link {
     frame: Vec<u8>,
+    last: [u8; FRAME_BUFFER_SIZE],
+    last_len: usize,
     frames_sent: u64,
     octets_sent: u64,
 }
 
 impl Link {
-    /// A link with a frame to hand over. One of more than 1514 octets is cut.
-    pub fn new(mut frame: Vec<u8>) -> Link {
-        frame.truncate(1514);
+    /// A link with no octets to hand over.
+    pub fn new(alloc: Global) -> Link {
         Link {
-            frame,
+            frame: Vec::new(alloc),
+            last: [0; FRAME_BUFFER_SIZE],
+            last_len: 0,
             frames_sent: 0,
             octets_sent: 0,
         }
+    }
+
+    /// Hands over this frame from now on. One of more than 1514 octets is cut.
+    pub fn load(&mut self, mut frame: Vec<u8>) {
+        frame.truncate(FRAME_BUFFER_SIZE);
+        self.frame = frame;
+    }
+
+    /// The last frame sent, or no octets.
+    pub fn last(&self) -> &[u8] {
+        &self.last[..self.last_len.min(FRAME_BUFFER_SIZE)]
     }
 
     /// How many frames were sent.
@@ -71,6 +88,8 @@ impl Device for Link {
     fn send(&mut self, _meta: PacketMeta, frame: &[u8]) {
         self.frames_sent = self.frames_sent.wrapping_add(1);
         self.octets_sent = self.octets_sent.wrapping_add(frame.len() as u64);
+        self.last[..frame.len()].copy_from_slice(frame);
+        self.last_len = frame.len();
     }
 
     fn refusals(&self) -> u64 {

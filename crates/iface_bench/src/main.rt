@@ -1,60 +1,62 @@
-//! Measures an interface: hands it one frame over and over, as many times as the argument says, and
-//! prints how many frames and octets it sent. `docs/PERFORMANCE.md` says how to count instructions
-//! with it.
+//! Measures a host: has it do one thing over and over, and prints what it sent and read.
+//!
+//! The first argument says what: `receive` a frame, `deliver` one to a socket, or `send` a datagram;
+//! the second how many times. The first line of standard input is a frame in hex that is taken once
+//! before, and the second the frame that is taken or the payload that is sent over and over.
+//! `docs/PERFORMANCE.md` says how to count instructions with it.
 #![tactic(auto)]
 
+mod host;
 mod link;
 
-use crate::link::Link;
-use anyhow::{Context, Result};
-use arrayvec::ArrayVec;
-use iface_tables::socket_set::SocketSet;
-use interface::{Config, Interface};
-use ip_wire::{EthernetAddress, HardwareAddress, IpCidr, Ipv4Address, Ipv4Cidr};
-use net_base::time::Instant;
+use crate::host::Host;
+use anyhow::{Context, Result, bail};
 use std::alloc::Global;
 use std::env;
 
-/// The host's Ethernet address.
-const HARDWARE_ADDR: HardwareAddress = HardwareAddress::Ethernet(EthernetAddress([
-    0x02, 0, 0, 0, 0, 0x01,
-]));
-
-/// An interface at 192.168.69.1/24.
-fn interface(link: &mut Link) -> Result<Interface> {
-    let mut interface = Interface::new(Config::new(HARDWARE_ADDR), link, Instant::ZERO)?;
-    let cidr = IpCidr::Ipv4(Ipv4Cidr::new(Ipv4Address::new(192, 168, 69, 1), 24));
-    interface.update_ip_addrs(move |_| {
-        let mut list = ArrayVec::new();
-        list.push(cidr);
-        list
-    })?;
-    Ok(interface)
-}
-
-/// Hands the frame over so many times.
-fn receive(alloc: Global, link: &mut Link, rounds: u64) -> Result<()> {
-    let mut interface = interface(link)?;
-    let mut sockets = SocketSet::new(Vec::new(alloc));
-    for _ in 0..rounds {
-        let _ = interface.poll_ingress_single(Instant::ZERO, link, &mut sockets);
+/// Does it so many times. Answers how many octets were read from the socket.
+fn run(host: &mut Host, work: &str, rounds: u64, octets: Vec<u8>) -> Result<u64> {
+    let mut read = 0u64;
+    match work {
+        "receive" => {
+            host.link.load(octets);
+            for _ in 0..rounds {
+                host.receive();
+            }
+        }
+        "deliver" => {
+            host.link.load(octets);
+            for _ in 0..rounds {
+                read = read.wrapping_add(host.deliver() as u64);
+            }
+        }
+        "send" => {
+            for _ in 0..rounds {
+                host.send(octets.as_slice());
+            }
+        }
+        _ => bail!("receive, deliver or send?"),
     }
-    Ok(())
+    Ok(read)
 }
 
 fn main(rt: HostRuntime) -> Result<()> {
     let alloc = rt.alloc();
-    let rounds = env::args(&rt)?
-        .nth(1)
-        .context("how many rounds?")?
-        .parse::<u64>()?;
+    let mut args = env::args(&rt)?;
+    let work = args.nth(1).context("what is to be done?")?;
+    let rounds = args.next().context("how many times?")?.parse::<u64>()?;
+    let mut host = Host::new(alloc)?;
     let mut digits = String::new(alloc);
     rt.read_line(&mut digits)?;
-    let frame = hex::decode(alloc, digits.as_str().trim())?;
-    let mut link = Link::new(frame);
-    receive(alloc, &mut link, rounds)?;
-    let frames = link.frames_sent();
-    let octets = link.octets_sent();
-    println!(rt; "{frames} frames, {octets} octets")?;
+    host.link.load(hex::decode(alloc, digits.as_str().trim())?);
+    host.receive();
+    digits.clear();
+    rt.read_line(&mut digits)?;
+    let octets = hex::decode(alloc, digits.as_str().trim())?;
+    let read = run(&mut host, work.as_str(), rounds, octets)?;
+    let frames = host.link.frames_sent();
+    let octets = host.link.octets_sent();
+    println!(rt; "sent {frames} frames, {octets} octets; read {read} octets")?;
+    println!(rt; "{}", hex::encode(alloc, host.link.last())?)?;
     Ok(())
 }

@@ -1,7 +1,7 @@
 -- Commands one after the other, over plain variables.
 use Rattle.std.proofs.Common.{◌≡◌, ℕ, List, [], ◌∷◌, ◌++◌, refl, ap, append-nil}
 use Rattle.std.specs.Borrow.{Bor}
-use Rattle.std.specs.Prelude.{ℤ, Result}
+use Rattle.std.specs.Prelude.{ℤ, Bool, Option, Result}
 use Rattle.net_base.specs.Device.{Event}
 use Rattle.iface_tables.specs.SocketSet.{Sockets}
 use Rattle.host_machine.specs.declared.command.Command.{Command}
@@ -11,12 +11,20 @@ use Rattle.host_machine.specs.declared.command.Answer.TheVariants as answer
 use Rattle.host_machine.specs.declared.results.AddrError.{AddrError}
 use Rattle.host_machine.specs.declared.results.PollIngressSingleResult.{PollIngressSingleResult}
 use Rattle.host_machine.specs.Host.{Host, Storage}
+use Rattle.host_machine.specs.declared.results.PollResult.{PollResult}
 use Rattle.host_machine.specs.Ingress.{Ingress}
-use Rattle.host_machine.specs.Step.{UpdatesIpAddrs, UpdatedIpAddrs, PolledIngressSingle, OwnerActed}
+use Rattle.host_machine.specs.Egress.{Egress}
+use Rattle.arrayvec.specs.ArrayVec.{ArrayVec}
+use Rattle.ip_wire.specs.declared.ipv4.Ipv4Address.{Ipv4Address}
+use Rattle.iface_tables.specs.declared.route.Route.{Route}
+use Rattle.iface_tables.specs.declared.route.RouteTableFull.{RouteTableFull}
+use Rattle.iface_tables.specs.Route.{first, ipv4_gateway, is_ipv4_gateway, old_or_full, with_default, without_first}
+use Rattle.host_machine.specs.Step.{Step, UpdatesIpAddrs, UpdatedIpAddrs, PolledIngressSingle, PolledEgress, UpdatedRoutes, AddedDefaultIpv4Route, RemovedDefaultIpv4Route, TookAnyIp, OwnerActed}
 use Rattle.host_machine.specs.Run.{Ran, Ends, Then, NoAct, ThenAct}
 use Rattle.host_machine.proofs.Joined.{run_laws, ran_on}
 use Rattle.interface.specs.declared.interface.Interface.{Interface}
-use Rattle.interface.specs.Stands.{Addresses, StandsFor, host_with}
+use Rattle.iface_send.specs.Stands.{Addresses}
+use Rattle.interface.specs.Stands.{StandsFor, host_with}
 use Rattle.interface.specs.Goes.{Went}
 use Rattle.interface.specs.Commands.{CommandWent, CommandGoes}
 
@@ -85,3 +93,46 @@ module _ {D O : Type 0} (tells : D → List Event → D → Type 0) (did : O →
     steps = OwnerActed t.places;
     stands = record { same = ap (λ (K : Host). record K { sockets = t.places }) h.same };
   }
+
+  -- the sockets have sent what they could
+  pub polled_egress : (d e : D) (o : O) (t : ℤ) (answered : PollResult) (H : Host) (after : Host → Type 0) → Went tells d e (Egress t answered H) after →
+      CommandWent tells did d e o o (command.PollEgress t) (answer.PollEgress answered) H after
+  polled_egress d e o t answered H after went = record {
+    told = went.told;
+    acts = [];
+    notes = went.notes;
+    host = went.host;
+    tells_it = went.tells_it;
+    owner_did = NoAct;
+    steps = PolledEgress went.steps;
+    stands = went.stands;
+  }
+
+  -- a call that only sets something
+  pub was_set : (d : D) (o : O) (i j : Interface) (s : Sockets (Bor (Unit {0}))) (c : Command) (a : Answer) → tells d [] d →
+      Step c a (host_with i s.places) [] [] [] (host_with j s.places) → CommandGoes tells did d d o o c a (StandsFor i s) (StandsFor j s)
+  was_set d o i j s c a quiet steps = λ H h. record {
+    told = [];
+    acts = [];
+    notes = [];
+    host = host_with j s.places;
+    tells_it = quiet;
+    owner_did = NoAct;
+    steps = rw h.same steps;
+    stands = record { same = refl };
+  }
+
+-- what is set, over plain hosts
+pub routes_step : (list : ArrayVec Route) (H K : Host) → K ≡ record H { routes = list.items } → Step (command.UpdateRoutes list) answer.UpdateRoutes H [] [] [] K
+routes_step list H K is = rw is UpdatedRoutes
+
+pub added_step : (gateway : Ipv4Address) (answered : Result (Option Route) RouteTableFull) (H K : Host) → answered ≡ old_or_full is_ipv4_gateway H.routes →
+    K ≡ record H { routes = with_default is_ipv4_gateway H.routes (ipv4_gateway gateway) } → Step (command.AddDefaultIpv4Route gateway) (answer.AddDefaultIpv4Route answered) H [] [] [] K
+added_step gateway answered H K answers is = rw (answers, is) AddedDefaultIpv4Route
+
+pub removed_step : (answered : Option Route) (H K : Host) → answered ≡ first is_ipv4_gateway H.routes →
+    K ≡ record H { routes = without_first is_ipv4_gateway H.routes } → Step command.RemoveDefaultIpv4Route (answer.RemoveDefaultIpv4Route answered) H [] [] [] K
+removed_step answered H K answers is = rw (answers, is) RemovedDefaultIpv4Route
+
+pub any_ip_step : (any_ip : Bool) (H K : Host) → K ≡ record H { any_ip = any_ip } → Step (command.SetAnyIp any_ip) answer.SetAnyIp H [] [] [] K
+any_ip_step any_ip H K is = rw is TookAnyIp

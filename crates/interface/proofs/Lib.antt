@@ -1,2 +1,4 @@
-pub mod Received
-pub mod Driven
+mod Made
+mod Turned
+mod Received
+mod Driven

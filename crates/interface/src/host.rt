@@ -3,6 +3,7 @@ ghost use Rattle.std.specs.Prelude.{◌≡◌, List, length, All};
 ghost use Rattle.host_machine.specs.Host.{Host, Storage};
 ghost use Rattle.host_machine.specs.Step.{IsTimely, UpdatesIpAddrs};
 ghost use Rattle.host_machine.specs.Run.{Ran};
+ghost use Rattle.iface_tables.specs.Route.{first, ipv4_gateway, is_ipv4_gateway, old_or_full, with_default, without_first};
 ghost use Rattle.interface.specs.Stands.{StandsFor, host_with};
 ghost use Rattle.interface.specs.Joined.{DrivesJoin};
 ghost use Rattle.interface.specs.Commands.{CommandGoes};
@@ -10,8 +11,9 @@ ghost use Rattle.interface.specs.Commands.{CommandGoes};
 use crate::interface::{Interface, copied};
 use arrayvec::ArrayVec;
 use host_machine::{AddrError, Answer, Command};
+use iface_tables::route::{Route, RouteTableFull};
 use iface_tables::socket_set::SocketSet;
-use ip_wire::IpCidr;
+use ip_wire::{IpCidr, Ipv4Address};
 use net_base::phy::Device;
 pub use net_base::{MemoryDevice, PushError};
 
@@ -33,8 +35,36 @@ pub trait Owner {
 fn put_ip_addrs(interface: &mut Interface, list: &ArrayVec<IpCidr, 4>) -> Result<(), AddrError>
     ensures { (sockets : List Storage) → UpdatesIpAddrs list.now.items result (host_with interface.old sockets) (host_with interface.new sockets) }
 {
-    let list = copied(list);
+    let list = copied(list.as_slice());
     interface.update_ip_addrs(move |_| list)
+}
+
+/// Replaces the routes by a list.
+fn put_routes(interface: &mut Interface, list: &ArrayVec<Route, 4>)
+    ensures { (sockets : List Storage) → host_with interface.new sockets ≡ record (host_with interface.old sockets) { routes = list.now.items } }
+{
+    let mut routes = ArrayVec::new();
+    let _ = routes.try_extend_from_slice(list.as_slice());
+    interface.routes_mut().update(move |_| routes);
+}
+
+/// Adds a default route of IPv4.
+fn add_default_ipv4_route(
+    interface: &mut Interface,
+    gateway: Ipv4Address,
+) -> Result<Option<Route>, RouteTableFull>
+    ensures answer { (sockets : List Storage) → result ≡ old_or_full is_ipv4_gateway (host_with interface.old sockets).routes }
+    ensures table { (sockets : List Storage) → host_with interface.new sockets ≡ record (host_with interface.old sockets) { routes = with_default is_ipv4_gateway (host_with interface.old sockets).routes (ipv4_gateway gateway) } }
+{
+    interface.routes_mut().add_default_ipv4_route(gateway)
+}
+
+/// Takes out the default route of IPv4.
+fn remove_default_ipv4_route(interface: &mut Interface) -> Option<Route>
+    ensures answer { (sockets : List Storage) → result ≡ first is_ipv4_gateway (host_with interface.old sockets).routes }
+    ensures table { (sockets : List Storage) → host_with interface.new sockets ≡ record (host_with interface.old sockets) { routes = without_first is_ipv4_gateway (host_with interface.old sockets).routes } }
+{
+    interface.routes_mut().remove_default_ipv4_route()
 }
 
 /// Runs one command.
@@ -52,6 +82,26 @@ fn step<D: Device, O: Owner>(
         Command::UpdateIpAddrs(list) => Answer::UpdateIpAddrs(put_ip_addrs(interface, list)),
         Command::PollIngressSingle(timestamp) => {
             Answer::PollIngressSingle(interface.poll_ingress_single(*timestamp, device, sockets))
+        }
+        Command::PollEgress(timestamp) => {
+            Answer::PollEgress(interface.poll_egress(*timestamp, device, sockets))
+        }
+        Command::UpdateRoutes(list) => {
+            put_routes(interface, list);
+            Answer::UpdateRoutes
+        }
+        Command::AddDefaultIpv4Route(gateway) => {
+            Answer::AddDefaultIpv4Route(add_default_ipv4_route(interface, *gateway))
+        }
+        Command::RemoveDefaultIpv4Route => {
+            Answer::RemoveDefaultIpv4Route(remove_default_ipv4_route(interface))
+        }
+        Command::SetAnyIp(any_ip) => {
+            interface.set_any_ip(*any_ip);
+            Answer::SetAnyIp
+        }
+        Command::SetHardwareAddr(hardware_addr) => {
+            Answer::SetHardwareAddr(interface.set_hardware_addr(*hardware_addr))
         }
         Command::Owner(number) => {
             owner.act(*number, sockets);

@@ -1,22 +1,30 @@
 //! An interface over a device.
-ghost use Rattle.std.specs.Prelude.{◌≡◌, false};
-ghost use Rattle.host_machine.specs.Config.{same_medium};
+ghost use Rattle.std.specs.Prelude.{◌≡◌, ◌≤◌, false, true, length};
+ghost use Rattle.host_machine.specs.Config as config;
+ghost use Rattle.host_machine.specs.Config.{same_medium, hardware_refusal_of};
 ghost use Rattle.host_machine.specs.Host.{are_assignable};
 
-use crate::context::{Context, IFACE_MAX_ADDR_COUNT};
-use crate::ethernet::{emit_arp, process_frame};
+use crate::egress::socket_egress;
 use arrayvec::ArrayVec;
-use host_machine::{AddrError, NewError, PollIngressSingleResult};
-use iface_tables::neighbor::Cache;
+use host_machine::{AddrError, HardwareError, NewError, PollIngressSingleResult, PollResult};
+use iface_receive::ethernet::process_frame;
+use iface_send::context::IFACE_MAX_ADDR_COUNT;
+use iface_send::dispatch::respond;
+use iface_send::settings::{routes_mut, set_any_ip, set_hardware_addr, set_ip_addrs, set_moment};
+use iface_send::{Context, settings};
+use iface_tables::route::Routes;
 use iface_tables::socket_set::SocketSet;
-use ip_wire::{ArpRepr, HardwareAddress, IpAddress, IpCidr, Ipv4Address};
-use net_base::phy::{Device, FRAME_BUFFER_SIZE, Medium, PacketMeta};
+use ip_wire::{HardwareAddress, IpAddress, IpCidr, Ipv4Address};
+use net_base::phy::{Device, DeviceCapabilities, FRAME_BUFFER_SIZE, Medium};
+use net_base::rand::Rand;
 use net_base::time::Instant;
+use sockets::SocketContext;
 
 /// How an interface is to be made.
 #[derive(Clone, Copy, Debug, PartialEq, Eq)]
 pub struct Config {
-    /// The seed of the interface's random words, which need not be secret.
+    /// The seed of the interface's random words, which need not be secret. The first of them is the
+    /// first identification of a packet.
     pub random_seed: u64,
     /// The address of the interface on its link. On Ethernet it has to be unicast.
     pub hardware_addr: HardwareAddress,
@@ -51,15 +59,22 @@ impl Interface {
     ghost use Rattle.net_base.specs.Time.{IsMoment};
     ghost use Rattle.host_machine.specs.Host.{Storage};
     ghost use Rattle.host_machine.specs.Host as host;
+    ghost use Rattle.host_machine.specs.Addresses as addresses;
     ghost use Rattle.host_machine.specs.Config.{refusal_of, first_host};
     ghost use Rattle.host_machine.specs.Ingress.{Ingress};
-    ghost use Rattle.host_machine.specs.Step.{UpdatesIpAddrs};
-    ghost use Rattle.interface.specs.Stands.{Addresses, host_with, StandsFor};
+    ghost use Rattle.host_machine.specs.Egress.{Egress};
+    ghost use Rattle.host_machine.specs.Step.{UpdatesIpAddrs, SetsHardwareAddr};
+    ghost use Rattle.iface_send.specs.contracts.context.Context.{the_row as context_row};
+    ghost use Rattle.iface_send.specs.Stands.{Addresses, host_of};
+    ghost use Rattle.std.specs.Borrow.{sem, Lends};
+    ghost use Rattle.iface_tables.specs.contracts.route.Routes.{the_row as routes_row};
+    ghost use Rattle.interface.specs.contracts.interface.Interface.{the_row};
+    ghost use Rattle.interface.specs.Stands.{host_with, with_context, with_routes, StandsFor};
     ghost use Rattle.interface.specs.Goes.{Goes};
 
     /// Makes an interface over a device, of which only the capabilities are read. The errors are
     /// tested in the order in which [`NewError`] lists them, and come exactly as it says. The
-    /// interface has no address and knows no neighbour.
+    /// interface has no address and no route, and knows no neighbour.
     pub fn new<D: Device>(
         config: Config,
         device: &mut D,
@@ -68,7 +83,7 @@ impl Interface {
         requires { IsMoment now }
         ensures made { MatchResult result
             (λ interface. (refusal_of (D.capable device.old) config.hardware_addr ≡ None)
-            × ((sockets : List Storage) → host_with interface sockets ≡ first_host (D.capable device.old) config.hardware_addr now sockets))
+            × ((sockets : List Storage) → host_with interface sockets ≡ first_host (D.capable device.old) config.hardware_addr config.random_seed now sockets))
             (λ error. refusal_of (D.capable device.old) config.hardware_addr ≡ Some error) }
         ensures device { device.new ≡ device.old }
     {
@@ -85,32 +100,120 @@ impl Interface {
         if capabilities.max_transmission_unit > FRAME_BUFFER_SIZE {
             return Err(NewError::MtuTooLarge);
         }
-        let context = Context {
-            capabilities,
-            hardware_addr: config.hardware_addr,
-            moment: now,
-            ip_addrs: ArrayVec::new(),
-            neighbor_cache: Cache::new(),
-        };
+        let ipv4_id = first_id(config.random_seed);
         Ok(Interface {
-            context,
+            context: settings::new(capabilities, config.hardware_addr, ipv4_id, now),
             receive_buffer: [0; FRAME_BUFFER_SIZE],
             transmit_buffer: ArrayVec::new(),
         })
+    }
+
+    /// What the interface knows, for sockets that ask for it.
+    pub fn context(&mut self) -> &mut Context
+        ensures* lends { sem 𝓛 (Lends the_row context_row self.entry result (λ w. with_context self.old w)) }
+        ensures value { (sockets : List Storage) → host_of result.now sockets ≡ host_with self.old sockets }
+    {
+        &mut self.context
+    }
+
+    /// The interface's hardware address, if its medium has such.
+    pub fn hardware_addr(&self) -> Option<HardwareAddress>
+        ensures { (sockets : List Storage) → result ≡ config.if_ethernet (host_with self.now sockets).hardware_addr }
+    {
+        match self.context.hardware_addr() {
+            HardwareAddress::Ethernet(address) => Some(HardwareAddress::Ethernet(address)),
+            HardwareAddress::Ip => None,
+        }
+    }
+
+    /// Gives the interface another address on its link. The errors are tested in the order in which
+    /// [`HardwareError`] lists them, and come exactly as it says; then nothing changes.
+    pub fn set_hardware_addr(&mut self, hardware_addr: HardwareAddress) -> Result<(), HardwareError>
+        ensures { (sockets : List Storage) → SetsHardwareAddr hardware_addr result (host_with self.old sockets) (host_with self.new sockets) }
+    {
+        if let Some(error) = hardware_refusal(&self.context.capabilities(), &hardware_addr) {
+            return Err(error);
+        }
+        set_hardware_addr(&mut self.context, hardware_addr);
+        Ok(())
     }
 
     /// The interface's own addresses with their networks, in the order given.
     pub fn ip_addrs(&self) -> &[IpCidr]
         ensures { (sockets : List Storage) → result.now ≡ (host_with self.now sockets).ip_addrs }
     {
-        self.context.ip_addrs.as_slice()
+        self.context.ip_addrs()
     }
 
-    /// Whether an address is one of the interface's own.
+    /// The first of its IPv4 addresses.
+    pub fn ipv4_addr(&self) -> Option<Ipv4Address>
+        ensures { (sockets : List Storage) → result ≡ addresses.ipv4_addr (host_with self.now sockets).ip_addrs }
+    {
+        self.context.ipv4_addr()
+    }
+
+    /// The source for an IPv4 destination: the first own address whose network contains it, else
+    /// the first own IPv4 address.
+    pub fn get_source_address_ipv4(&self, dst_addr: &Ipv4Address) -> Option<Ipv4Address>
+        ensures { (sockets : List Storage) → result ≡ addresses.source_v4 (host_with self.now sockets).ip_addrs dst_addr.now }
+    {
+        self.context.get_source_address_ipv4(dst_addr)
+    }
+
+    /// Whether an address is one of the interface's own: one that was given to it, or any with
+    /// AnyIP.
     pub fn has_ip_addr(&self, address: IpAddress) -> bool
-        ensures { (sockets : List Storage) → result ≡ host.has_ip_addr (host_with self.now sockets).ip_addrs address }
+        ensures { (sockets : List Storage) → result ≡ host.has_ip_addr (host_with self.now sockets) address }
     {
         self.context.has_ip_addr(&address)
+    }
+
+    /// The source for a destination: for IPv4 as [`Interface::get_source_address_ipv4`] says, for IPv6
+    /// none yet.
+    pub fn get_source_address(&self, dst_addr: &IpAddress) -> Option<IpAddress>
+        ensures { (sockets : List Storage) → result ≡ addresses.source_for (host_with self.now sockets).ip_addrs dst_addr.now }
+    {
+        self.context.get_source_address(dst_addr)
+    }
+
+    /// Whether the interface is a member of a group: of that of all hosts, 224.0.0.1, and no other
+    /// yet.
+    pub fn has_multicast_group(&self, address: IpAddress) -> bool
+        ensures { result ≡ addresses.is_member address }
+    {
+        match address {
+            IpAddress::Ipv4(address) => self.context.has_multicast_group(&address),
+            IpAddress::Ipv6(_) => false,
+        }
+    }
+
+    /// Whether the interface takes every address for an own one.
+    pub fn any_ip(&self) -> bool
+        ensures { (sockets : List Storage) → result ≡ (host_with self.now sockets).any_ip }
+    {
+        self.context.any_ip()
+    }
+
+    /// Takes every address for an own one from now on, or no longer.
+    pub fn set_any_ip(&mut self, any_ip: bool)
+        ensures { (sockets : List Storage) → host_with self.new sockets ≡ record (host_with self.old sockets) { any_ip = any_ip } }
+    {
+        set_any_ip(&mut self.context, any_ip);
+    }
+
+    /// The routes.
+    pub fn routes(&self) -> &Routes
+        ensures { (sockets : List Storage) → result.now ≡ (host_with self.now sockets).routes }
+    {
+        self.context.routes()
+    }
+
+    /// The routes, for writing.
+    pub fn routes_mut(&mut self) -> &mut Routes
+        ensures* lends { sem 𝓛 (Lends the_row routes_row self.entry result (λ w. with_routes self.old w)) }
+        ensures value { (sockets : List Storage) → result.now ≡ (host_with self.old sockets).routes }
+    {
+        routes_mut(&mut self.context)
     }
 
     /// Replaces the addresses by what a function makes of them, and forgets all neighbours.
@@ -123,16 +226,16 @@ impl Interface {
         ensures { (given : Addresses) × (list : Addresses) × F.post f given list
             × ((sockets : List Storage) → (given.items ≡ (host_with self.old sockets).ip_addrs) × UpdatesIpAddrs list.items result (host_with self.old sockets) (host_with self.new sockets)) }
     {
-        let list = f(copied(&self.context.ip_addrs));
+        let list = f(copied(self.context.ip_addrs()));
         if !are_assignable(list.as_slice()) {
             return Err(AddrError::NotUnicast);
         }
-        self.context.ip_addrs = list;
-        self.context.neighbor_cache.flush();
+        set_ip_addrs(&mut self.context, list);
         Ok(())
     }
 
-    /// Sets the moment, takes at most one frame from the device, and sends at most one in reply.
+    /// Sets the moment, takes at most one frame from the device, and sends at most one: the reply, or
+    /// in place of a reply to an unknown neighbour the request for its address.
     pub fn poll_ingress_single<D: Device>(
         &mut self,
         timestamp: Instant,
@@ -142,30 +245,50 @@ impl Interface {
         requires { IsMoment timestamp }
         ensures { Goes D.tells device.old device.new (Ingress timestamp result) (StandsFor self.old sockets.old) (StandsFor self.new sockets.new) }
     {
-        self.context.moment = timestamp;
+        set_moment(&mut self.context, timestamp);
         let Some((len, _)) = device.receive(timestamp, &mut self.receive_buffer) else {
             return PollIngressSingleResult::None;
         };
         if len == 0 {
             return PollIngressSingleResult::PacketProcessed;
         }
-        let reply = process_frame(&mut self.context, &self.receive_buffer[..len]);
-        if let Some(packet) = reply {
-            emit_arp(&mut self.transmit_buffer, &packet);
-            device.send(PacketMeta::EMPTY, self.transmit_buffer.as_slice());
-        }
+        let reply = process_frame(&mut self.context, sockets, &self.receive_buffer[..len]);
+        respond(&mut self.context, device, &mut self.transmit_buffer, reply);
         PollIngressSingleResult::SocketStateChanged
+    }
+
+    /// Sets the moment, and sends what the sockets have to send: one packet of each in order, until
+    /// the device refuses leave. Answers whether a packet counts as gone.
+    pub fn poll_egress<D: Device>(
+        &mut self,
+        timestamp: Instant,
+        device: &mut D,
+        sockets: &mut SocketSet<'_>,
+    ) -> PollResult
+        requires { IsMoment timestamp }
+        ensures { Goes D.tells device.old device.new (Egress timestamp result) (StandsFor self.old sockets.old) (StandsFor self.new sockets.new) }
+    {
+        set_moment(&mut self.context, timestamp);
+        if socket_egress(
+            &mut self.context,
+            device,
+            &mut self.transmit_buffer,
+            sockets,
+        ) {
+            PollResult::SocketStateChanged
+        } else {
+            PollResult::None
+        }
     }
 }
 
 /// The same list.
-pub(crate) fn copied(
-    list: &ArrayVec<IpCidr, IFACE_MAX_ADDR_COUNT>,
-) -> ArrayVec<IpCidr, IFACE_MAX_ADDR_COUNT>
-    ensures { result.items ≡ list.now.items }
+pub(crate) fn copied(list: &[IpCidr]) -> ArrayVec<IpCidr, IFACE_MAX_ADDR_COUNT>
+    requires { length list.now ≤ 4 }
+    ensures { result.items ≡ list.now }
 {
     let mut copy = ArrayVec::new();
-    let _ = copy.try_extend_from_slice(list.as_slice());
+    let _ = copy.try_extend_from_slice(list);
     copy
 }
 
@@ -179,9 +302,39 @@ fn are_assignable(list: &[IpCidr]) -> bool
     })
 }
 
+/// The first identification: a word from the seed, and 1 in place of 0.
+fn first_id(seed: u64) -> u16
+    ensures { result ≡ config.first_id seed }
+{
+    let word = Rand::new(seed).rand_u16();
+    if word == 0 { 1 } else { word }
+}
+
+/// Why a hardware address isn't taken, if it isn't.
+fn hardware_refusal(
+    capabilities: &DeviceCapabilities,
+    hardware_addr: &HardwareAddress,
+) -> Option<HardwareError>
+    ensures { result ≡ hardware_refusal_of capabilities.now hardware_addr.now }
+{
+    match hardware_addr {
+        HardwareAddress::Ethernet(address) => {
+            if !is_same_medium(Medium::Ethernet, capabilities.medium) {
+                Some(HardwareError::WrongMedium)
+            } else if !address.is_unicast() {
+                Some(HardwareError::NotUnicast)
+            } else {
+                None
+            }
+        }
+        HardwareAddress::Ip => Some(HardwareError::WrongMedium),
+    }
+}
+
 /// Whether the two are one medium.
 fn is_same_medium(a: Medium, b: Medium) -> bool
-    ensures { result ≡ same_medium a b }
+    ensures value { result ≡ same_medium a b }
+    ensures same { result ≡ true → a ≡ b }
 {
     match (a, b) {
         (Medium::Ethernet, Medium::Ethernet) | (Medium::Ip, Medium::Ip) => true,

@@ -15,7 +15,7 @@ unfolding ipv4_over_ethernet
 returns c = record {
   reception = Frame example.request;
   reply = Some (Arp (reply_to (record { 0 = 2 ∷ 0 ∷ 0 ∷ 0 ∷ 0 ∷ 1 ∷ [] }) (arp_in (drop 14 example.request))));
-  taken = example.host example.learnt;
+  taken = example.host 0x1405 example.learnt;
   frames = example.reply ∷ [];
   notes_taking = [];
   notes_responding = [];

@@ -1,0 +1,25 @@
+-- Who is known in the worked examples.
+use Rattle.std.proofs.Common.{◌≡◌, refl, Some}
+use Rattle.std.specs.Prelude.{pos}
+use Rattle.std.specs.FinMap as map
+use Rattle.std.specs.FinMap.{get-insert, get-empty}
+use Rattle.iface_tables.specs.declared.neighbor.Neighbor.{Neighbor}
+use Rattle.iface_tables.specs.declared.neighbor.Answer.TheVariants.{Found, NotFound}
+use Rattle.iface_tables.specs.Neighbor.{answer_of, renewed}
+use Rattle.iface_tables.proofs.NeighborLemmas.{address_total}
+use Rattle.host_machine.specs.Example.{sender, sender_hardware, learnt, heard, nobody}
+
+abbrev entry : Neighbor
+entry = record { hardware_addr = sender_hardware; expires_at = pos 60000000 }
+
+is_learnt : map.get learnt.known sender ≡ Some entry
+is_learnt = get-insert address_total map.empty sender entry sender
+
+pub is_known : answer_of heard sender (pos 0) ≡ Found sender_hardware
+is_known = rw (is_learnt, get-insert address_total (map.insert map.empty sender entry) sender entry sender) refl
+
+pub is_unknown : answer_of (nobody (pos 0)) sender (pos 0) ≡ NotFound
+is_unknown = rw get-empty refl
+
+pub none_renewed : renewed (nobody (pos 0)) sender sender_hardware (pos 60000000) ≡ nobody (pos 0)
+none_renewed = rw get-empty refl

@@ -1,0 +1,116 @@
+-- Sending one IP packet, with leave to send a frame (RFC 1122 3.3.1, RFC 826): the next hop, its hardware address, the frame.
+use Rattle.std.specs.Prelude.{◌≡◌, ℕ, ◌+◌, ◌/◌, ◌%◌, ◌^◌, nat_le, true, false, List, [], ◌∷◌, Option, Some, None, Result, Ok, Err, if◌then◌else◌}
+use Rattle.std.specs.Option.{option_and_then}
+use Rattle.net_base.specs.Checksum.{ip_mtu_of}
+use Rattle.ip_wire.specs.declared.ethernet.EthernetAddress.{EthernetAddress}
+use Rattle.ip_wire.specs.declared.hardware.HardwareAddress.{HardwareAddress}
+use Rattle.ip_wire.specs.declared.hardware.HardwareAddress.TheVariants as hardware
+use Rattle.ip_wire.specs.declared.ipv4.Ipv4Address.{Ipv4Address}
+use Rattle.ip_wire.specs.declared.ipv6.Ipv6Address.{Ipv6Address}
+use Rattle.ip_wire.specs.declared.ip.IpAddress.{IpAddress}
+use Rattle.ip_wire.specs.declared.ip.IpAddress.TheVariants.{Ipv4, Ipv6}
+use Rattle.ip_wire.specs.declared.cidr.IpCidr.{IpCidr}
+use Rattle.ip_wire.specs.Ethernet.{broadcast}
+use Rattle.ip_wire.specs.Ip.{is_unicast, is_unspecified}
+use Rattle.ip_wire.specs.Ipv4 as ipv4
+use Rattle.ip_wire.specs.Ipv6 as ipv6
+use Rattle.iface_tables.specs.declared.neighbor.Answer.TheVariants.{Found, NotFound, RateLimited}
+use Rattle.iface_tables.specs.Neighbor.{Neighbors, answer_of, silence_from}
+use Rattle.iface_tables.specs.Route.{IsRouter}
+use Rattle.host_machine.specs.declared.results.DispatchError.{DispatchError}
+use Rattle.host_machine.specs.declared.results.DispatchError.TheVariants.{NoRoute, NeighborPending}
+use Rattle.host_machine.specs.Note.{Note, Ask}
+use Rattle.host_machine.specs.Host.{Host, in_same_network, with_neighbors}
+use Rattle.host_machine.specs.Addresses.{is_broadcast_v4, source_v4}
+use Rattle.host_machine.specs.Packet.{Packet, total_len}
+use Rattle.host_machine.specs.Packet as packet
+use Rattle.host_machine.specs.Arp.{request_for}
+use Rattle.host_machine.specs.Frame.{arp_frame, ip_frame}
+
+-- a packet counts as gone, or why it isn't
+abbrev pub Outcome : Type 0
+Outcome = Result (Unit {0}) DispatchError
+
+abbrev pub destination_of : Packet → IpAddress
+destination_of (packet.Ipv4 p) = Ipv4 p.dst_addr
+
+-- the hardware address of a group: 01:00:5e, and the low 23 bits of the group (RFC 1112 6.4)
+abbrev pub group_address : Ipv4Address → EthernetAddress
+group_address g = record { 0 = 0x01 ∷ 0 ∷ 0x5e ∷ g.bits / 2 ^ 16 % 128 ∷ g.bits / 2 ^ 8 % 256 ∷ g.bits % 256 ∷ [] }
+
+-- that of an IPv6 group: 33:33, and the last four octets of the group (RFC 2464 7)
+abbrev pub group_address_v6 : Ipv6Address → EthernetAddress
+group_address_v6 g = record { 0 = 0x33 ∷ 0x33 ∷ g.bits / 2 ^ 24 % 256 ∷ g.bits / 2 ^ 16 % 256 ∷ g.bits / 2 ^ 8 % 256 ∷ g.bits % 256 ∷ [] }
+
+-- the hardware address for a destination of many hosts, which are not looked up
+abbrev pub many_address : List IpCidr → IpAddress → Option EthernetAddress
+many_address own (Ipv4 a) = if is_broadcast_v4 own a then Some broadcast else if ipv4.is_multicast a then Some (group_address a) else None
+many_address own (Ipv6 a) = if ipv6.is_multicast a then Some (group_address_v6 a) else None
+
+-- a router, if it is one host's address
+abbrev pub if_unicast : IpAddress → Option IpAddress
+if_unicast a = if is_unicast a then Some a else None
+
+-- the next hop to an address: itself in an own network, else the router of the best route, if that is one host; a worse route isn't tried
+pub data IsNextHop (H : Host) (a : IpAddress) (hop : Option IpAddress) : Type 0 where
+  OnLink : in_same_network H.ip_addrs a ≡ true → hop ≡ Some a → IsNextHop H a hop
+  ByRouter : (router : Option IpAddress) → in_same_network H.ip_addrs a ≡ false → IsRouter H.routes a H.moment router →
+      hop ≡ option_and_then if_unicast router → IsNextHop H a hop
+
+-- nothing is sent, and nothing changes
+pub record IsUnsent (H : Host) (frames : List (List ℕ)) (notes : List Note) (new : Host) : Type 0 where
+  pub silent : frames ≡ []
+  pub unnoted : notes ≡ []
+  pub unchanged : new ≡ H
+
+-- the packet goes whole to a hardware address; one that is longer than the device's packets is dropped, and counts as gone
+abbrev pub frames_of : Host → HardwareAddress → Packet → List (List ℕ)
+frames_of H h p = if nat_le (total_len p) (ip_mtu_of H.capabilities) then ip_frame H h p ∷ [] else []
+
+pub record Emits (p : Packet) (h : HardwareAddress) (outcome : Outcome) (H : Host) (frames : List (List ℕ)) (notes : List Note) (new : Host) : Type 0 where
+  pub gone : outcome ≡ Ok tt
+  pub sent : frames ≡ frames_of H h p
+  pub unnoted : notes ≡ []
+  pub unchanged : new ≡ H
+
+-- no discovery is sent for a second
+abbrev pub silenced : Neighbors → Host → Neighbors
+silenced n H = record n { silent_until = silence_from H.moment }
+
+-- a neighbour is asked for by ARP, on behalf of the source for it (RFC 826, packet generation; RFC 1122 2.3.2.1); by IPv6 not yet
+pub data Discovers (own : EthernetAddress) (hop : IpAddress) (outcome : Outcome) (H : Host) (frames : List (List ℕ)) (notes : List Note) (new : Host) : Type 0 where
+  Asked : (target source : Ipv4Address) → hop ≡ Ipv4 target → source_v4 H.ip_addrs target ≡ Some source → outcome ≡ Err NeighborPending →
+      frames ≡ arp_frame (request_for own source target) ∷ [] → notes ≡ Ask H.moment ∷ [] → new ≡ with_neighbors H (silenced H.neighbors H) →
+      Discovers own hop outcome H frames notes new
+  NoSource : (target : Ipv4Address) → hop ≡ Ipv4 target → source_v4 H.ip_addrs target ≡ None → outcome ≡ Err NoRoute → IsUnsent H frames notes new →
+      Discovers own hop outcome H frames notes new
+  NotIpv4 : (target : Ipv6Address) → hop ≡ Ipv6 target → outcome ≡ Err NoRoute → IsUnsent H frames notes new → Discovers own hop outcome H frames notes new
+
+-- by what is known of the hop: its address; nothing, during the silence; or nothing, and it is asked for
+pub data SendsByHop (own : EthernetAddress) (p : Packet) (hop : IpAddress) (outcome : Outcome) (H : Host) (frames : List (List ℕ)) (notes : List Note) (new : Host) : Type 0 where
+  Known : (h : HardwareAddress) → answer_of H.neighbors hop H.moment ≡ Found h → Emits p h outcome H frames notes new → SendsByHop own p hop outcome H frames notes new
+  Silent : answer_of H.neighbors hop H.moment ≡ RateLimited → outcome ≡ Err NeighborPending → IsUnsent H frames notes new → SendsByHop own p hop outcome H frames notes new
+  Unknown : answer_of H.neighbors hop H.moment ≡ NotFound → Discovers own hop outcome H frames notes new → SendsByHop own p hop outcome H frames notes new
+
+-- over Ethernet: to many hosts straight, else by the next hop
+pub data SendsEthernet (own : EthernetAddress) (p : Packet) (outcome : Outcome) (H : Host) (frames : List (List ℕ)) (notes : List Note) (new : Host) : Type 0 where
+  ToMany : (h : EthernetAddress) → many_address H.ip_addrs (destination_of p) ≡ Some h → Emits p (hardware.Ethernet h) outcome H frames notes new →
+      SendsEthernet own p outcome H frames notes new
+  NoHop : many_address H.ip_addrs (destination_of p) ≡ None → IsNextHop H (destination_of p) None → outcome ≡ Err NoRoute → IsUnsent H frames notes new →
+      SendsEthernet own p outcome H frames notes new
+  ByHop : (hop : IpAddress) → many_address H.ip_addrs (destination_of p) ≡ None → IsNextHop H (destination_of p) (Some hop) →
+      SendsByHop own p hop outcome H frames notes new → SendsEthernet own p outcome H frames notes new
+
+-- by the medium: one without hardware addresses asks for none
+abbrev pub SendsOver : HardwareAddress → Packet → Outcome → Host → List (List ℕ) → List Note → Host → Type 0
+SendsOver (hardware.Ethernet own) p outcome H frames notes new = SendsEthernet own p outcome H frames notes new
+SendsOver hardware.Ip p outcome H frames notes new = Emits p hardware.Ip outcome H frames notes new
+
+-- each dispatch takes an identification, whatever becomes of the packet
+abbrev pub identified : Host → Host
+identified H = record H { ipv4_id = (H.ipv4_id + 1) % 2 ^ 16 }
+
+-- a packet to nobody, 0.0.0.0, is dropped, and counts as gone
+pub data Dispatches (p : Packet) (outcome : Outcome) (H : Host) (frames : List (List ℕ)) (notes : List Note) (new : Host) : Type 0 where
+  ToNobody : is_unspecified (destination_of p) ≡ true → outcome ≡ Ok tt → IsUnsent H frames notes new → Dispatches p outcome H frames notes new
+  ToSomebody : is_unspecified (destination_of p) ≡ false → SendsOver H.hardware_addr p outcome (identified H) frames notes new → Dispatches p outcome H frames notes new

@@ -1,0 +1,112 @@
+-- One call that sends: each socket is asked in order, and what it has goes if the device gives leave.
+use Rattle.std.specs.Prelude.{◌≡◌, ℕ, ◌+◌, ℤ, Bool, true, false, ◌||◌, is_ok, List, [], ◌∷◌, ◌++◌, length, slice_get, slice_set, Option, Some, None, Ok, Err, if◌then◌else◌}
+use Rattle.std.specs.Option.{option_and_then}
+use Rattle.std.specs.Borrow.{Bor}
+use Rattle.net_base.specs.Device.{Event, Asked}
+use Rattle.ip_wire.specs.declared.ip.IpAddress.{IpAddress}
+use Rattle.ip_wire.specs.declared.ip.IpAddress.TheVariants as address
+use Rattle.sockets.specs.declared.socket.SocketOf.{SocketOf}
+use Rattle.sockets.specs.Kinds.{Offered, RawOffer, IcmpOffer, UdpOffer, TcpOffer, offered, settled, told}
+use Rattle.control_wire.specs.declared.icmpv4.Icmpv4Repr.{Icmpv4Repr}
+use Rattle.control_wire.specs.declared.icmpv4.Icmpv4Repr.TheVariants.{EchoRequest, EchoReply, DstUnreachable, TimeExceeded}
+use Rattle.host_machine.specs.declared.results.PollResult.{PollResult}
+use Rattle.host_machine.specs.declared.results.PollResult.TheVariants as result
+use Rattle.host_machine.specs.declared.results.Turn.{Turn}
+use Rattle.host_machine.specs.declared.results.Turn.TheVariants.{Idle, Gone, Exhausted}
+use Rattle.host_machine.specs.Note.{Note}
+use Rattle.host_machine.specs.Host.{Host, at, with_sockets}
+use Rattle.host_machine.specs.Addresses.{source_for}
+use Rattle.host_machine.specs.Packet.{IpPayload, Icmpv4, Udp, Tcp, Raw, Packet, Ipv4}
+use Rattle.host_machine.specs.Frame.{sends}
+use Rattle.host_machine.specs.Dispatch.{Outcome, Dispatches}
+
+-- a socket of any kind
+abbrev pub Socket : Type 0
+Socket = SocketOf (Bor (Unit {0}))
+
+-- a packet from one IPv4 address to another; over IPv6 there is none yet
+abbrev pub packet_between : IpAddress → IpAddress → ℕ → IpPayload → Option Packet
+packet_between (address.Ipv4 src) (address.Ipv4 dst) hop_limit payload = Some (Ipv4 (record { src_addr = src; dst_addr = dst; hop_limit = hop_limit; payload = payload }))
+packet_between (address.Ipv4 src) (address.Ipv6 dst) hop_limit payload = None
+packet_between (address.Ipv6 src) (address.Ipv4 dst) hop_limit payload = None
+packet_between (address.Ipv6 src) (address.Ipv6 dst) hop_limit payload = None
+
+-- an ICMP socket sends echo messages alone
+abbrev pub if_echo : Icmpv4Repr → List ℕ → Option IpPayload
+if_echo (EchoRequest ident seq_no) octets = Some (Icmpv4 (EchoRequest ident seq_no) octets)
+if_echo (EchoReply ident seq_no) octets = Some (Icmpv4 (EchoReply ident seq_no) octets)
+if_echo (DstUnreachable reason header) octets = None
+if_echo (TimeExceeded code header) octets = None
+
+-- what a socket offers as a packet; a raw socket's header is written anew from its addresses, its protocol and its hop limit
+abbrev pub packet_of : Offered → Option Packet
+packet_of (RawOffer s) = Some (Ipv4 (record { src_addr = s.header.src_addr; dst_addr = s.header.dst_addr; hop_limit = s.header.hop_limit; payload = Raw s.header.next_header s.payload }))
+packet_of (IcmpOffer m) = option_and_then (packet_between m.src_addr m.dst_addr m.hop_limit) (if_echo m.repr m.payload)
+packet_of (UdpOffer d) = packet_between d.src.addr d.dst.addr d.hop_limit (Udp (record { src_port = d.src.port; dst_port = d.dst.port }) d.payload)
+packet_of (TcpOffer s) = packet_between s.src_addr s.dst_addr s.hop_limit (Tcp s.repr s.payload)
+
+-- the packet that a socket has to send first, and the socket that was asked for it
+abbrev pub packet_from : Host → Socket → Option Packet
+packet_from H s = option_and_then packet_of (offered H.moment (source_for H.ip_addrs) s)
+
+abbrev pub asked : Host → Socket → Socket
+asked H s = settled H.moment (source_for H.ip_addrs) s
+
+-- the host with a socket at an index
+abbrev pub with_socket : Host → ℕ → Socket → Host
+with_socket H i s = with_sockets H (slice_set H.sockets i (Some s))
+
+-- a packet that counts as gone
+abbrev pub turn_of : Outcome → Turn
+turn_of (Ok done) = Gone
+turn_of (Err error) = Idle
+
+-- a socket's turn: without a packet it is only asked; for a packet the device is asked for leave, once, and then the packet is dispatched
+-- and the socket told whether it is gone
+pub data SocketTurn (s : Socket) (turn : Turn) (s' : Socket) (H : Host) (told_it : List Event) (notes : List Note) (new : Host) : Type 0 where
+  Silent : packet_from H s ≡ None → turn ≡ Idle → told_it ≡ [] → notes ≡ [] → new ≡ H → s' ≡ asked H s → SocketTurn s turn s' H told_it notes new
+  Refused : (p : Packet) → packet_from H s ≡ Some p → turn ≡ Exhausted → told_it ≡ Asked false ∷ [] → notes ≡ [] → new ≡ H → s' ≡ asked H s →
+      SocketTurn s turn s' H told_it notes new
+  Sent : (p : Packet) (outcome : Outcome) (frames : List (List ℕ)) → packet_from H s ≡ Some p → Dispatches p outcome H frames notes new →
+      turn ≡ turn_of outcome → told_it ≡ Asked true ∷ sends frames → s' ≡ told (is_ok outcome) (asked H s) → SocketTurn s turn s' H told_it notes new
+
+-- the place of an index has its turn: its socket, or nobody if it is free
+pub data Serves (i : ℕ) (turn : Turn) (H : Host) (told_it : List Event) (notes : List Note) (new : Host) : Type 0 where
+  Free : slice_get H.sockets i ≡ Some None → turn ≡ Idle → told_it ≡ [] → notes ≡ [] → new ≡ H → Serves i turn H told_it notes new
+  Taken : (s s' : Socket) (mid : Host) → slice_get H.sockets i ≡ Some (Some s) → SocketTurn s turn s' H told_it notes mid → new ≡ with_socket mid i s' →
+      Serves i turn H told_it notes new
+
+abbrev pub is_gone : Turn → Bool
+is_gone Gone = true
+is_gone Idle = false
+is_gone Exhausted = false
+
+-- leave was refused
+abbrev pub is_exhausted : Turn → Bool
+is_exhausted Exhausted = true
+is_exhausted Idle = false
+is_exhausted Gone = false
+
+-- the turns of the first n places in order, and whether leave was never refused: a refused leave ends them
+pub data Walks (old : Host) : (n : ℕ) → (going changed : Bool) → List Event → List Note → Host → Type 0 where
+  Begins : Walks old 0 true false [] [] old
+  Goes : {n : ℕ} {changed : Bool} {told_so : List Event} {notes_so : List Note} {mid : Host} (turn : Turn) (told_it : List Event) (notes : List Note) (new : Host) →
+      Walks old n true changed told_so notes_so mid → Serves n turn mid told_it notes new → is_exhausted turn ≡ false →
+      Walks old (n + 1) true (changed || is_gone turn) (told_so ++ told_it) (notes_so ++ notes) new
+  Stops : {n : ℕ} {changed : Bool} {told_so : List Event} {notes_so : List Note} {mid : Host} (turn : Turn) (told_it : List Event) (notes : List Note) (new : Host) →
+      Walks old n true changed told_so notes_so mid → Serves n turn mid told_it notes new → is_exhausted turn ≡ true →
+      Walks old (n + 1) false changed (told_so ++ told_it) (notes_so ++ notes) new
+
+-- all sockets, or those up to a refused leave
+pub data SocketsSend (old : Host) (changed : Bool) (told_it : List Event) (notes : List Note) (new : Host) : Type 0 where
+  Whole : Walks old (length old.sockets) true changed told_it notes new → SocketsSend old changed told_it notes new
+  Stopped : (n : ℕ) → Walks old n false changed told_it notes new → SocketsSend old changed told_it notes new
+
+-- the answer tells whether a socket's packet counts as gone
+abbrev pub answer_of : Bool → PollResult
+answer_of changed = if changed then result.SocketStateChanged else result.None
+
+pub record Egress (t : ℤ) (answer : PollResult) (old : Host) (told_it : List Event) (notes : List Note) (new : Host) : Type 0 where
+  pub changed : Bool
+  pub sockets : SocketsSend (at old t) changed told_it notes new
+  pub answers : answer ≡ answer_of changed

@@ -1,0 +1,11 @@
+-- Hex digits that fit.
+use Rattle.std.specs.Prelude.{◌≡◌, ◌≤◌, ◌<◌, ◌*◌, ◌%◌, ℕ, List, length}
+use Rattle.std.specs.List.{AllPass}
+use Rattle.hex.specs.Hex.{is_hex_digit}
+
+-- an even number of hex digits, two or more, for at most so many octets
+pub record IsHexUpTo (room : ℕ) (digits : List ℕ) : Type 0 where
+  pub some : 0 < length digits
+  pub even : length digits % 2 ≡ 0
+  pub fit : length digits ≤ 2 * room
+  pub valid : AllPass is_hex_digit digits

@@ -1,0 +1,13 @@
+-- The sockets of a script's host.
+use Rattle.std.specs.Prelude.{ℕ, [], None}
+use Rattle.sockets.specs.declared.endpoint.IpEndpoint.{IpEndpoint}
+use Rattle.sockets.specs.Queue.{Queued}
+use Rattle.sockets.specs.Udp.{UdpSocket}
+
+-- no packet; four fit, with 4096 octets together
+abbrev pub empty : Queued IpEndpoint
+empty = record { packets = []; most = 4; limit = 4096 }
+
+-- a UDP socket that listens at a port of any address
+abbrev pub listening : ℕ → UdpSocket
+listening port = record { endpoint = record { addr = None; port = port }; hop_limit = 64; rx = empty; tx = empty }

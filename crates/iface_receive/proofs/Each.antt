@@ -1,0 +1,88 @@
+-- Going over all places, each once.
+use Rattle.std.proofs.Common.{◌≡◌, ℕ, zero, suc, ◌+◌, ◌<◌, ◌≤◌, Bool, true, false, List, [], ◌∷◌, length, map, take, slice_get, slice_set, Option, None, refl, ap, sym, ◌∙◌, arith}
+use Rattle.std.specs.Prelude.{◌||◌}
+use Rattle.std.specs.List.{list_any}
+use Rattle.std.specs.Option.{option_and_then}
+use Rattle.std.proofs.lemmas.List.{take_all, length-take-le}
+
+-- a payload that isn't too long is quoted whole
+pub quoted_whole : (payload : List ℕ) → length payload ≤ 528 → take 528 payload ≡ payload
+quoted_whole payload short = take_all 528 payload short
+
+pub quoted_len : (payload : List ℕ) → 528 < length payload → 528 ≡ length (take 528 payload)
+quoted_len payload long = sym (length-take-le 528 payload (omega (arith, long)))
+
+module _ {S : Type 0} where
+  -- the list with the function applied to its first places
+  abbrev pub mapped : (Option S → Option S) → ℕ → List (Option S) → List (Option S)
+  mapped f zero ps = ps
+  mapped f (suc i) [] = []
+  mapped f (suc i) (p ∷ ps) = f p ∷ mapped f i ps
+
+  -- whether one of the first places meets the test
+  abbrev pub any_of : (Option S → Bool) → ℕ → List (Option S) → Bool
+  any_of test zero ps = false
+  any_of test (suc i) [] = false
+  any_of test (suc i) (p ∷ ps) = test p || any_of test i ps
+
+  -- what stands at a place
+  abbrev pub at_place : List (Option S) → ℕ → Option S
+  at_place ps i = option_and_then (λ p. p) (slice_get ps i)
+
+  pub at_mapped : (f : Option S → Option S) (ps : List (Option S)) (i : ℕ) → at_place (mapped f i ps) i ≡ at_place ps i
+  at_mapped f ps zero = refl
+  at_mapped f [] (suc i) = refl
+  at_mapped f (p ∷ ps) (suc i) = at_mapped f ps i
+
+  pub mapped_more : (f : Option S → Option S) (ps : List (Option S)) (i : ℕ) → i < length ps → slice_set (mapped f i ps) i (f (at_place ps i)) ≡ mapped f (suc i) ps
+  mapped_more f [] i within = absurd (omega arith)
+  mapped_more f (p ∷ ps) zero within = refl
+  mapped_more f (p ∷ ps) (suc i) within = ap (λ (rest : List (Option S)). f p ∷ rest) (mapped_more f ps i (omega arith))
+
+  pub mapped_all : (f : Option S → Option S) (ps : List (Option S)) → mapped f (length ps) ps ≡ map f ps
+  mapped_all f [] = refl
+  mapped_all f (p ∷ ps) = ap (λ (rest : List (Option S)). f p ∷ rest) (mapped_all f ps)
+
+  pub any_more : (test : Option S → Bool) (ps : List (Option S)) (i : ℕ) → i < length ps → any_of test i ps || test (at_place ps i) ≡ any_of test (suc i) ps
+  any_more test [] i within = absurd (omega arith)
+  any_more test (p ∷ ps) zero within = by (test p) where
+    by : (b : Bool) → false || b ≡ b || false
+    by true = refl
+    by false = refl
+  any_more test (p ∷ ps) (suc i) within = by (test p) (any_more test ps i (omega arith)) where
+    by : (b : Bool) → any_of test i ps || test (at_place ps i) ≡ any_of test (suc i) ps → (b || any_of test i ps) || test (at_place ps i) ≡ b || any_of test (suc i) ps
+    by true more = refl
+    by false more = more
+
+  pub any_all : (test : Option S → Bool) (ps : List (Option S)) → any_of test (length ps) ps ≡ list_any test ps
+  any_all test [] = refl
+  any_all test (p ∷ ps) = ap (λ b. test p || b) (any_all test ps)
+
+  -- a free place, put there again
+  pub none_again : (ps : List (Option S)) (i : ℕ) → None ≡ at_place ps i → slice_set ps i None ≡ ps
+  none_again [] i is = refl
+  none_again (p ∷ ps) zero is = ap (λ (q : Option S). q ∷ ps) is
+  none_again (p ∷ ps) (suc i) is = ap (λ (rest : List (Option S)). p ∷ rest) (none_again ps i is)
+
+  -- one place more
+  pub one_mapped : (f : Option S → Option S) (ps now new : List (Option S)) (i : ℕ) → i < length ps → now ≡ mapped f i ps → new ≡ slice_set now i (f (at_place now i)) → new ≡ mapped f (i + 1) ps
+  one_mapped f ps now new i within is changed =
+      let next : i + 1 ≡ suc i = omega arith in
+      rw (changed, is, at_mapped f ps i, next) (mapped_more f ps i within)
+
+  pub one_tested : (f : Option S → Option S) (test : Option S → Bool) (ps now : List (Option S)) (i : ℕ) (so this : Bool) → i < length ps → now ≡ mapped f i ps → so ≡ any_of test i ps →
+      this ≡ test (at_place now i) → so || this ≡ any_of test (i + 1) ps
+  one_tested f test ps now i so this within is was tests =
+      let next : i + 1 ≡ suc i = omega arith in
+      rw (was, tests, is, at_mapped f ps i, next) (any_more test ps i within)
+
+  -- all places
+  pub all_mapped : (f : Option S → Option S) (ps now : List (Option S)) (i n : ℕ) → n ≡ length ps → i ≤ n → n ≤ i → now ≡ mapped f i ps → now ≡ map f ps
+  all_mapped f ps now i n len low high is =
+      let whole : i ≡ length ps = omega (arith, len, low, high) in
+      is ∙ ap (λ k. mapped f k ps) whole ∙ mapped_all f ps
+
+  pub all_tested : (test : Option S → Bool) (ps : List (Option S)) (i n : ℕ) (so : Bool) → n ≡ length ps → i ≤ n → n ≤ i → so ≡ any_of test i ps → so ≡ list_any test ps
+  all_tested test ps i n so len low high is =
+      let whole : i ≡ length ps = omega (arith, len, low, high) in
+      is ∙ ap (λ k. any_of test k ps) whole ∙ any_all test ps

@@ -1,0 +1,2 @@
+mod Received
+mod Each

@@ -1,0 +1,65 @@
+//! What raw sockets hear: every packet of their version and protocol.
+ghost use Rattle.std.specs.Prelude.{◌≡◌, ◌+◌, ◌<◌, ◌^◌, Some, length, slice_set};
+ghost use Rattle.iface_tables.specs.SocketSet.{socket_at};
+ghost use Rattle.host_machine.specs.Delivery.{to_this};
+ghost use Rattle.host_machine.specs.Raw.{accepts, delivered, heard, is_taken};
+ghost use Rattle.iface_send.specs.Stands.{host_of};
+
+use iface_send::Context;
+use iface_tables::socket_set::SocketSet;
+use ip_wire::{IpVersion, Ipv4Repr};
+use sockets::{Socket, SocketOf};
+
+/// Hands a packet, with its header as it is emitted, to each raw socket that takes it, and says
+/// whether there was one.
+pub fn deliver(
+    context: &Context,
+    sockets: &mut SocketSet<'_>,
+    header: &Ipv4Repr,
+    payload: &[u8],
+) -> bool
+    requires quotable { 20 + header.now.payload_len < 2 ^ 16 }
+    ensures taken { result ≡ is_taken header.now (host_of context.now sockets.old.places) }
+    ensures heard { host_of context.now sockets.new.places ≡ heard header.now payload.now (host_of context.now sockets.old.places) }
+{
+    let summed = context.capabilities().checksum.ipv4.tx();
+    let mut taken = false;
+    for index in 0..sockets.places() {
+        taken |= deliver_at(sockets, index, header, payload, summed);
+    }
+    taken
+}
+
+/// Hands a packet to the socket at an index, if that takes it, and says whether it does.
+fn deliver_at(
+    sockets: &mut SocketSet<'_>,
+    index: usize,
+    header: &Ipv4Repr,
+    payload: &[u8],
+    summed: bool,
+) -> bool
+    requires quotable { 20 + header.now.payload_len < 2 ^ 16 }
+    ensures taken { result ≡ accepts header.now.next_header (socket_at sockets.old index) }
+    ensures places { sockets.new.places ≡ slice_set sockets.old.places index (to_this (accepts header.now.next_header) (delivered summed header.now payload.now) (socket_at sockets.old index)) }
+    ensures len { length sockets.new.places ≡ length sockets.old.places }
+{
+    match sockets.socket_mut(index) {
+        Some(socket) => deliver_to(socket, header, payload, summed),
+        None => false,
+    }
+}
+
+/// Hands a packet to a socket, if that takes it, and says whether it does.
+fn deliver_to(socket: &mut Socket<'_>, header: &Ipv4Repr, payload: &[u8], summed: bool) -> bool
+    requires quotable { 20 + header.now.payload_len < 2 ^ 16 }
+    ensures taken { result ≡ accepts header.now.next_header (Some socket.old) }
+    ensures socket { Some socket.new ≡ to_this (accepts header.now.next_header) (delivered summed header.now payload.now) (Some socket.old) }
+{
+    if let SocketOf::Raw(raw) = socket {
+        if raw.accepts(IpVersion::Ipv4, header.next_header) {
+            raw.process(header, payload, summed);
+            return true;
+        }
+    }
+    false
+}

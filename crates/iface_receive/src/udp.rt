@@ -1,0 +1,108 @@
+//! What an interface does with UDP datagrams (RFC 768, RFC 1122 4.1.3).
+ghost use Rattle.std.specs.Prelude.{◌≡◌, ◌+◌, ◌<◌, ◌^◌, [], Some, None, true, false, slice_set, IfSome};
+ghost use Rattle.iface_tables.specs.SocketSet.{socket_at};
+ghost use Rattle.host_machine.specs.Delivery.{DeliversFirst, IsNobody};
+ghost use Rattle.std.specs.Option.{option_map};
+ghost use Rattle.host_machine.specs.Frame.{Ip};
+ghost use Rattle.host_machine.specs.Packet.{IsWritable};
+ghost use Rattle.host_machine.specs.Udp.{TakesUdp};
+ghost use Rattle.iface_send.specs.Shown.{packet};
+ghost use Rattle.iface_send.specs.Stands.{host_of};
+ghost use Rattle.iface_receive.specs.Datagram.{is_taken_by, handed_to};
+
+use crate::ipv4::unreachable;
+use control_wire::icmpv4::Icmpv4DstUnreachable;
+use iface_send::{Context, Packet};
+use iface_tables::socket_set::SocketSet;
+use ip_wire::{IpAddress, Ipv4Repr, UdpRepr};
+use sockets::{IpEndpoint, Socket, SocketOf};
+
+/// Takes the payload of a packet with this header as a UDP datagram (RFC 768): the first socket that
+/// accepts it gets its payload, with its sender, or drops it for want of room; no other socket
+/// changes. For one that nobody accepts an error is sent back, unless a raw socket took the packet.
+/// What is no datagram is dropped.
+pub fn process_udp<'a>(
+    context: &Context,
+    sockets: &mut SocketSet<'_>,
+    header: &Ipv4Repr,
+    octets: &'a [u8],
+    by_raw: bool,
+) -> Option<Packet<'a>>
+    requires quotable { 20 + header.now.payload_len < 2 ^ 16 }
+    ensures takes { TakesUdp by_raw header.now (host_of context.now sockets.old.places) octets.now (option_map (λ p. Ip (packet p)) result) [] (host_of context.now sockets.new.places) }
+    ensures writable { IfSome result (λ p. IsWritable (packet p)) }
+{
+    let checked = context.capabilities().checksum.udp.rx();
+    let source = IpAddress::Ipv4(header.src_addr);
+    let destination = IpAddress::Ipv4(header.dst_addr);
+    let (ports, payload) = UdpRepr::parse(octets, &source, &destination, checked)?;
+    if deliver(context, sockets, header, &ports, payload) {
+        return None;
+    }
+    let reason = Icmpv4DstUnreachable::PortUnreachable;
+    unreachable(context, reason, header, octets, by_raw)
+}
+
+/// Gives a datagram to the first socket that accepts it, and says whether there was one.
+fn deliver(
+    context: &Context,
+    sockets: &mut SocketSet<'_>,
+    header: &Ipv4Repr,
+    ports: &UdpRepr,
+    payload: &[u8],
+) -> bool
+    ensures delivered { result ≡ true → DeliversFirst (is_taken_by (host_of context.now []).ip_addrs header.now ports.now) (handed_to header.now ports.now payload.now) sockets.old.places sockets.new.places }
+    ensures nobody { result ≡ false → IsNobody (is_taken_by (host_of context.now []).ip_addrs header.now ports.now) sockets.old.places }
+    ensures kept { result ≡ false → sockets.new ≡ sockets.old }
+{
+    for index in 0..sockets.places() {
+        if deliver_at(context, sockets, index, header, ports, payload) {
+            return true;
+        }
+    }
+    false
+}
+
+/// Gives a datagram to the socket at an index, if it accepts it, and says whether it did.
+fn deliver_at(
+    context: &Context,
+    sockets: &mut SocketSet<'_>,
+    index: usize,
+    header: &Ipv4Repr,
+    ports: &UdpRepr,
+    payload: &[u8],
+) -> bool
+    ensures accepted { result ≡ is_taken_by (host_of context.now []).ip_addrs header.now ports.now (socket_at sockets.old index) }
+    ensures delivered { result ≡ true → sockets.new.places ≡ slice_set sockets.old.places index (handed_to header.now ports.now payload.now (socket_at sockets.old index)) }
+    ensures kept { result ≡ false → sockets.new ≡ sockets.old }
+{
+    match sockets.socket_mut(index) {
+        Some(socket) => deliver_to(context, socket, header, ports, payload),
+        None => false,
+    }
+}
+
+/// Gives a datagram to a socket, if it accepts it, and says whether it did.
+fn deliver_to(
+    context: &Context,
+    socket: &mut Socket<'_>,
+    header: &Ipv4Repr,
+    ports: &UdpRepr,
+    payload: &[u8],
+) -> bool
+    ensures accepted { result ≡ is_taken_by (host_of context.now []).ip_addrs header.now ports.now (Some socket.old) }
+    ensures delivered { result ≡ true → Some socket.new ≡ handed_to header.now ports.now payload.now (Some socket.old) }
+    ensures kept { result ≡ false → socket.new ≡ socket.old }
+{
+    if let SocketOf::Udp(udp) = socket {
+        if udp.accepts(context, &IpAddress::Ipv4(header.dst_addr), ports.dst_port) {
+            let remote = IpEndpoint {
+                addr: IpAddress::Ipv4(header.src_addr),
+                port: ports.src_port,
+            };
+            udp.process(remote, payload);
+            return true;
+        }
+    }
+    false
+}

@@ -1,0 +1,13 @@
+use Rattle.std.proofs.Common.{refl, sym, ◌∙◌}
+use Rattle.host_machine.specs.Dispatch.{Known, Silent, Unknown}
+use Rattle.iface_send.proofs.Sending.{unsent, nothing, by_rule}
+use Rattle.iface_send.proofs.dispatch.send_by_hop.Goals as goal
+
+pub returns-in-Found : goal.returns-in-Found
+returns-in-Found g c = by_rule c.send_to.ensures (λ sockets frames notes emits. Known c.in-Found.destination (sym c.lookup.ensures ∙ c.in-Found.is) emits)
+
+pub returns-in-RateLimited : goal.returns-in-RateLimited
+returns-in-RateLimited g c = nothing (g.met.D.Device.tells_nothing c.args.device.now) (λ sockets. Silent (sym c.lookup.ensures ∙ c.in-RateLimited.is) refl (unsent _))
+
+pub returns-in-NotFound : goal.returns-in-NotFound
+returns-in-NotFound g c = by_rule c.discover.ensures (λ sockets frames notes discovers. Unknown (sym c.lookup.ensures ∙ c.in-NotFound.is) discovers)

@@ -1,0 +1,3 @@
+pub mod Stands
+pub mod Shown
+pub mod Sent

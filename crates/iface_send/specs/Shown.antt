@@ -1,0 +1,26 @@
+-- Packets as values, without where their octets lie in memory.
+use Rattle.host_machine.specs.Packet as value
+use Rattle.host_machine.specs.Frame as frame
+use Rattle.iface_send.specs.declared.packet.IpPayload.{IpPayload}
+use Rattle.iface_send.specs.declared.packet.IpPayload.TheVariants.{Icmpv4, Udp, Tcp, Raw}
+use Rattle.iface_send.specs.declared.packet.PacketV4.{PacketV4}
+use Rattle.iface_send.specs.declared.packet.Packet.{Packet}
+use Rattle.iface_send.specs.declared.packet.Packet.TheVariants.{Ipv4}
+use Rattle.iface_send.specs.declared.packet.EthernetPacket.{EthernetPacket}
+use Rattle.iface_send.specs.declared.packet.EthernetPacket.TheVariants.{Arp, Ip}
+
+abbrev pub payload : IpPayload → value.IpPayload
+payload (Icmpv4 message octets) = value.Icmpv4 message octets.now
+payload (Udp header octets) = value.Udp header octets.now
+payload (Tcp header octets) = value.Tcp header octets.now
+payload (Raw number octets) = value.Raw number octets.now
+
+abbrev pub packet_v4 : PacketV4 → value.PacketV4
+packet_v4 p = record { src_addr = p.src_addr; dst_addr = p.dst_addr; hop_limit = p.hop_limit; payload = payload p.payload }
+
+abbrev pub packet : Packet → value.Packet
+packet (Ipv4 p) = value.Ipv4 (packet_v4 p)
+
+abbrev pub reply : EthernetPacket → frame.Reply
+reply (Arp p) = frame.Arp p
+reply (Ip p) = frame.Ip (packet p)

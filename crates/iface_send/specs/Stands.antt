@@ -1,0 +1,29 @@
+-- Which host a context stands for.
+use Rattle.std.specs.Prelude.{List}
+use Rattle.arrayvec.specs.ArrayVec.{ArrayVec}
+use Rattle.ip_wire.specs.declared.cidr.IpCidr.{IpCidr}
+use Rattle.iface_tables.specs.declared.route.Route.{Route}
+use Rattle.host_machine.specs.Host.{Host, Storage}
+use Rattle.iface_send.specs.declared.context.Context.{Context}
+
+-- a list of addresses, as an interface keeps it
+abbrev pub Addresses : Type 0
+Addresses = ArrayVec IpCidr
+
+-- a context with other routes
+abbrev pub with_routes : Context → List Route → Context
+with_routes c routes = record c { routes = routes }
+
+-- the host of what a context knows, and of these sockets
+abbrev pub host_of : Context → List Storage → Host
+host_of c sockets = record {
+  capabilities = c.capabilities;
+  hardware_addr = c.hardware_addr;
+  moment = c.moment;
+  ip_addrs = c.ip_addrs.items;
+  any_ip = c.any_ip;
+  routes = c.routes;
+  neighbors = c.neighbor_cache;
+  ipv4_id = c.ipv4_id;
+  sockets = sockets;
+}

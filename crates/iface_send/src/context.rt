@@ -1,0 +1,233 @@
+//! What an interface knows, beside its buffers.
+ghost use Rattle.std.specs.Prelude.{◌≡◌, ◌≤◌};
+ghost use Rattle.std.specs.List.{list_any};
+ghost use Rattle.net_base.specs.Time.{IsMoment};
+ghost use Rattle.ip_wire.specs.Hardware.{medium_of};
+ghost use Rattle.host_machine.specs.Host.{is_assigned, same_address};
+ghost use Rattle.host_machine.specs.Addresses as addresses;
+
+use arrayvec::ArrayVec;
+use iface_tables::neighbor::Cache;
+use iface_tables::route::Routes;
+use ip_wire::{HardwareAddress, IpAddress, IpCidr, Ipv4Address};
+use net_base::phy::DeviceCapabilities;
+use net_base::time::Instant;
+use sockets::SocketContext;
+
+/// How many addresses an interface has at most.
+pub const IFACE_MAX_ADDR_COUNT: usize = 4;
+
+/// What an interface knows: its device, its addresses, its routes, its neighbours and the moment.
+#[derive(Drop)]
+pub struct Context {
+    pub(crate) capabilities: DeviceCapabilities,
+    pub(crate) hardware_addr: HardwareAddress,
+    pub(crate) moment: Instant,
+    pub(crate) ip_addrs: ArrayVec<IpCidr, IFACE_MAX_ADDR_COUNT>,
+    pub(crate) any_ip: bool,
+    pub(crate) routes: Routes,
+    pub(crate) neighbor_cache: Cache,
+    pub(crate) ipv4_id: u16,
+    pub ghost timely: { IsMoment moment },
+    pub ghost short: { capabilities.max_transmission_unit ≤ 1514 },
+    pub ghost of_medium: { medium_of hardware_addr ≡ capabilities.medium },
+}
+
+impl Context {
+    ghost use Rattle.std.specs.Prelude.{◌≡◌, ◌≤◌, [], length};
+    ghost use Rattle.host_machine.specs.Host as host;
+    ghost use Rattle.iface_send.specs.Stands.{host_of};
+
+    /// The capabilities of the device, when the interface was made.
+    #[inline(always)]
+    pub fn capabilities(&self) -> DeviceCapabilities
+        ensures { result ≡ (host_of self.now []).capabilities }
+    {
+        self.capabilities
+    }
+
+    /// The address of the interface on its link.
+    #[inline(always)]
+    pub fn hardware_addr(&self) -> HardwareAddress
+        ensures { result ≡ (host_of self.now []).hardware_addr }
+    {
+        self.hardware_addr
+    }
+
+    /// The interface's own addresses with their networks, in the order given.
+    #[inline(always)]
+    pub fn ip_addrs(&self) -> &[IpCidr]
+        ensures value { result.now ≡ (host_of self.now []).ip_addrs }
+        ensures fits { length result.now ≤ 4 }
+    {
+        self.ip_addrs.as_slice()
+    }
+
+    /// Whether every address is taken for an own one.
+    #[inline(always)]
+    pub fn any_ip(&self) -> bool
+        ensures { result ≡ (host_of self.now []).any_ip }
+    {
+        self.any_ip
+    }
+
+    /// The routes.
+    #[inline(always)]
+    pub fn routes(&self) -> &Routes
+        ensures { result.now ≡ (host_of self.now []).routes }
+    {
+        &self.routes
+    }
+
+    /// Whether an address is one of the interface's own: one that was given to it, or any with
+    /// AnyIP.
+    pub fn has_ip_addr(&self, address: &IpAddress) -> bool
+        ensures { result ≡ host.has_ip_addr (host_of self.now []) address.now }
+    {
+        self.any_ip || is_assigned(self.ip_addrs.as_slice(), address)
+    }
+
+    /// Whether an address is in a network of the interface's own.
+    pub fn in_same_network(&self, address: &IpAddress) -> bool
+        ensures { result ≡ host.in_same_network (host_of self.now []).ip_addrs address.now }
+    {
+        self.ip_addrs.iter().any(|cidr| cidr.contains_addr(address))
+    }
+
+    /// Whether the interface is a member of a group: that of all hosts, 224.0.0.1 (RFC 1112).
+    pub fn has_multicast_group(&self, address: &Ipv4Address) -> bool
+        ensures { result ≡ addresses.has_multicast_group address.now }
+    {
+        address.bits == 0xe000_0001
+    }
+
+    /// Whether it is the broadcast address of all networks, or of one of the interface's own (RFC
+    /// 922).
+    pub fn is_broadcast_v4(&self, address: &Ipv4Address) -> bool
+        ensures { result ≡ addresses.is_broadcast_v4 (host_of self.now []).ip_addrs address.now }
+    {
+        address.is_broadcast() || ends_a_network(self.ip_addrs.as_slice(), address)
+    }
+
+    /// Whether it is the address of one host, as far as the interface can know.
+    pub fn is_unicast_v4(&self, address: &Ipv4Address) -> bool
+        ensures { result ≡ addresses.is_unicast_v4 (host_of self.now []).ip_addrs address.now }
+    {
+        address.is_unicast() && !self.is_broadcast_v4(address)
+    }
+
+    /// The first own IPv4 address.
+    pub fn ipv4_addr(&self) -> Option<Ipv4Address>
+        ensures { result ≡ addresses.ipv4_addr (host_of self.now []).ip_addrs }
+    {
+        first_ipv4(self.ip_addrs.as_slice())
+    }
+
+    /// The source for an IPv4 destination: the first own address whose network contains it, else
+    /// the first own IPv4 address.
+    pub fn get_source_address_ipv4(&self, dst_addr: &Ipv4Address) -> Option<Ipv4Address>
+        ensures { result ≡ addresses.source_v4 (host_of self.now []).ip_addrs dst_addr.now }
+    {
+        match near_ipv4(self.ip_addrs.as_slice(), dst_addr) {
+            Some(near) => Some(near),
+            None => self.ipv4_addr(),
+        }
+    }
+}
+
+impl SocketContext for Context {
+    ghost use Rattle.host_machine.specs.Addresses as addresses;
+
+    ghost moment = { λ c. c.moment };
+
+    ghost source_for = { λ c. addresses.source_for c.ip_addrs.items };
+
+    ghost is_broadcast_in = { λ c. addresses.is_broadcast c.ip_addrs.items };
+
+    fn now(&self) -> Instant {
+        self.moment
+    }
+
+    fn get_source_address(&self, dst_addr: &IpAddress) -> Option<IpAddress> {
+        match dst_addr {
+            IpAddress::Ipv4(dst_addr) => match self.get_source_address_ipv4(dst_addr) {
+                Some(source) => Some(IpAddress::Ipv4(source)),
+                None => None,
+            },
+            IpAddress::Ipv6(_) => None,
+        }
+    }
+
+    fn is_broadcast(&self, address: &IpAddress) -> bool {
+        match address {
+            IpAddress::Ipv4(address) => self.is_broadcast_v4(address),
+            IpAddress::Ipv6(_) => false,
+        }
+    }
+}
+
+/// Whether an address is one of a list.
+fn is_assigned(own: &[IpCidr], address: &IpAddress) -> bool
+    ensures { result ≡ is_assigned own.now address.now }
+{
+    own.iter().any(|cidr| is_same(&cidr.address(), address))
+}
+
+/// Whether an address is the broadcast address of a network of a list.
+fn ends_a_network(own: &[IpCidr], address: &Ipv4Address) -> bool
+    ensures { result ≡ list_any (λ c. addresses.is_broadcast_of c address.now) own.now }
+{
+    own.iter().any(|cidr| is_broadcast_of(cidr, address))
+}
+
+/// Whether the two are one address, by family and number.
+#[inline(always)]
+fn is_same(a: &IpAddress, b: &IpAddress) -> bool
+    ensures { result ≡ same_address a.now b.now }
+{
+    match (a, b) {
+        (IpAddress::Ipv4(x), IpAddress::Ipv4(y)) => x.bits == y.bits,
+        (IpAddress::Ipv6(x), IpAddress::Ipv6(y)) => x.bits == y.bits,
+        _ => false,
+    }
+}
+
+/// Whether it is the broadcast address of a network.
+#[inline(always)]
+fn is_broadcast_of(cidr: &IpCidr, address: &Ipv4Address) -> bool
+    ensures { result ≡ addresses.is_broadcast_of cidr.now address.now }
+{
+    match cidr {
+        IpCidr::Ipv4(cidr) => match cidr.broadcast() {
+            Some(broadcast) => broadcast.bits == address.bits,
+            None => false,
+        },
+        IpCidr::Ipv6(_) => false,
+    }
+}
+
+/// The first IPv4 address of a list.
+fn first_ipv4(own: &[IpCidr]) -> Option<Ipv4Address>
+    ensures { result ≡ addresses.ipv4_addr own.now }
+{
+    for cidr in own {
+        if let IpCidr::Ipv4(cidr) = cidr {
+            return Some(cidr.address);
+        }
+    }
+    None
+}
+
+/// The first IPv4 address of a list whose network contains another.
+fn near_ipv4(own: &[IpCidr], address: &Ipv4Address) -> Option<Ipv4Address>
+    ensures { result ≡ addresses.near_addr own.now address.now }
+{
+    for cidr in own {
+        if let IpCidr::Ipv4(cidr) = cidr {
+            if cidr.contains_addr(address) {
+                return Some(cidr.address);
+            }
+        }
+    }
+    None
+}

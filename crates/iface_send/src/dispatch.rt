@@ -1,0 +1,300 @@
+//! Sending one IP packet: the next hop, its hardware address, the frame (RFC 1122 3.3.1, RFC 826).
+ghost use Rattle.std.specs.Prelude.{◌≡◌, ◌≤◌, true, false, List, [], Some, None, Ok, Err, IfSome};
+ghost use Rattle.std.specs.Option.{option_map};
+ghost use Rattle.arrayvec.specs.ArrayVec.{array_vec_len};
+ghost use Rattle.net_base.specs.Checksum.{ip_mtu_of};
+ghost use Rattle.ip_wire.specs.Ip.{is_unicast, is_unspecified};
+ghost use Rattle.host_machine.specs.Host.{Storage};
+ghost use Rattle.host_machine.specs.Arp.{request_for};
+ghost use Rattle.host_machine.specs.Frame.{IsWritableReply, ip_frame};
+ghost use Rattle.host_machine.specs.Packet.{IsWritable};
+ghost use Rattle.host_machine.specs.Packet as value;
+ghost use Rattle.host_machine.specs.Dispatch as spec;
+ghost use Rattle.host_machine.specs.Ingress.{Responds};
+ghost use Rattle.iface_send.specs.Shown as shown;
+ghost use Rattle.iface_send.specs.Sent.{Sent};
+ghost use Rattle.iface_send.specs.Stands.{host_of};
+
+use crate::context::Context;
+use crate::packet::{EthernetPacket, Packet, emit_arp, emit_link_header};
+use arrayvec::ArrayVec;
+use host_machine::DispatchError;
+use iface_tables::neighbor::Answer;
+use ip_wire::{
+    ArpOperation, ArpRepr, EthernetAddress, EthernetProtocol, HardwareAddress, IpAddress,
+    Ipv4Address, Ipv6Address,
+};
+use net_base::phy::{Device, FRAME_BUFFER_SIZE, PacketMeta};
+
+/// Sends a reply, if there is one: an ARP packet straight to its target, an IP packet by
+/// [`dispatch`]. Leave to send a frame has to stand.
+pub fn respond<D: Device>(
+    context: &mut Context,
+    device: &mut D,
+    out: &mut ArrayVec<u8, FRAME_BUFFER_SIZE>,
+    reply: Option<EthernetPacket<'_>>,
+)
+    requires leave { D.has_leave device.old ≡ true }
+    requires writable { IsWritableReply (option_map shown.reply reply) }
+    ensures { Sent D.tells device.old device.new (Responds (option_map shown.reply reply.entry)) context.old context.new }
+{
+    if let Some(reply) = reply {
+        send_reply(context, device, out, &reply);
+    }
+}
+
+/// Sends a reply.
+fn send_reply<D: Device>(
+    context: &mut Context,
+    device: &mut D,
+    out: &mut ArrayVec<u8, FRAME_BUFFER_SIZE>,
+    reply: &EthernetPacket<'_>,
+)
+    requires leave { D.has_leave device.old ≡ true }
+    requires writable { IsWritableReply (Some (shown.reply reply.now)) }
+    ensures { Sent D.tells device.old device.new (Responds (Some (shown.reply reply.now))) context.old context.new }
+{
+    match reply {
+        EthernetPacket::Arp(packet) => {
+            emit_arp(out, packet);
+            device.send(PacketMeta::EMPTY, out.as_slice());
+        }
+        EthernetPacket::Ip(packet) => {
+            let _ = dispatch(context, device, out, packet);
+        }
+    }
+}
+
+/// Sends an IP packet to the next hop towards its destination. `Ok` if it counts as gone: it was
+/// sent, or dropped since it goes to nobody or is longer than the device's packets. `NoRoute` if
+/// there is no next hop, or no own address from which to ask for it. `NeighborPending` if its
+/// hardware address isn't known; then it was asked for, unless another request went less than a
+/// second ago. At most one frame is sent, for which leave has to stand; the buffer's contents are
+/// lost. A header that the packet quotes has to be that of a packet of at most 65,535 octets.
+pub fn dispatch<D: Device>(
+    context: &mut Context,
+    device: &mut D,
+    out: &mut ArrayVec<u8, FRAME_BUFFER_SIZE>,
+    packet: &Packet<'_>,
+) -> Result<(), DispatchError>
+    requires leave { D.has_leave device.old ≡ true }
+    requires writable { IsWritable (shown.packet packet.now) }
+    ensures { Sent D.tells device.old device.new (spec.Dispatches (shown.packet packet.now) result) context.old context.new }
+{
+    if packet.dst_addr().is_unspecified() {
+        return Ok(());
+    }
+    context.ipv4_id = context.ipv4_id.wrapping_add(1);
+    match context.hardware_addr {
+        HardwareAddress::Ethernet(own) => send_ethernet(context, device, out, own, packet),
+        HardwareAddress::Ip => {
+            send_to(context, device, out, &HardwareAddress::Ip, packet);
+            Ok(())
+        }
+    }
+}
+
+/// Sends a packet over Ethernet: to many hosts straight, else by the next hop.
+fn send_ethernet<D: Device>(
+    context: &mut Context,
+    device: &mut D,
+    out: &mut ArrayVec<u8, FRAME_BUFFER_SIZE>,
+    own: EthernetAddress,
+    packet: &Packet<'_>,
+) -> Result<(), DispatchError>
+    requires leave { D.has_leave device.old ≡ true }
+    requires somebody { is_unspecified (spec.destination_of (shown.packet packet.now)) ≡ false }
+    requires writable { IsWritable (shown.packet packet.now) }
+    ensures { Sent D.tells device.old device.new (spec.SendsEthernet own (shown.packet packet.now) result) context.old context.new }
+{
+    let dst_addr = packet.dst_addr();
+    if let Some(many) = many_address(context, &dst_addr) {
+        send_to(
+            context,
+            device,
+            out,
+            &HardwareAddress::Ethernet(many),
+            packet,
+        );
+        return Ok(());
+    }
+    match next_hop(context, &dst_addr) {
+        Some(hop) => send_by_hop(context, device, out, own, packet, &hop),
+        None => Err(DispatchError::NoRoute),
+    }
+}
+
+/// Sends a packet by a next hop, or asks for that one's hardware address.
+fn send_by_hop<D: Device>(
+    context: &mut Context,
+    device: &mut D,
+    out: &mut ArrayVec<u8, FRAME_BUFFER_SIZE>,
+    own: EthernetAddress,
+    packet: &Packet<'_>,
+    hop: &IpAddress,
+) -> Result<(), DispatchError>
+    requires leave { D.has_leave device.old ≡ true }
+    requires hop { is_unicast hop.now ≡ true }
+    requires writable { IsWritable (shown.packet packet.now) }
+    ensures { Sent D.tells device.old device.new (spec.SendsByHop own (shown.packet packet.now) hop.now result) context.old context.new }
+{
+    match context.neighbor_cache.lookup(hop, context.moment) {
+        Answer::Found(destination) => {
+            send_to(context, device, out, &destination, packet);
+            Ok(())
+        }
+        Answer::RateLimited => Err(DispatchError::NeighborPending),
+        Answer::NotFound => Err(discover(context, device, out, own, hop)),
+    }
+}
+
+/// Asks for the hardware address of a neighbour, and then for nobody's for a second. Answers why
+/// the packet for it isn't gone.
+fn discover<D: Device>(
+    context: &mut Context,
+    device: &mut D,
+    out: &mut ArrayVec<u8, FRAME_BUFFER_SIZE>,
+    own: EthernetAddress,
+    hop: &IpAddress,
+) -> DispatchError
+    requires leave { D.has_leave device.old ≡ true }
+    ensures { Sent D.tells device.old device.new (spec.Discovers own hop.now (Err result)) context.old context.new }
+{
+    let IpAddress::Ipv4(target) = hop else {
+        return DispatchError::NoRoute;
+    };
+    let Some(source) = context.get_source_address_ipv4(target) else {
+        return DispatchError::NoRoute;
+    };
+    emit_arp(out, &request_for(own, source, *target));
+    device.send(PacketMeta::EMPTY, out.as_slice());
+    context.neighbor_cache.limit_rate(context.moment);
+    DispatchError::NeighborPending
+}
+
+/// The request for the hardware address of a target.
+fn request_for(own: EthernetAddress, source: Ipv4Address, target: Ipv4Address) -> ArpRepr
+    ensures { result ≡ request_for own source target }
+{
+    ArpRepr {
+        operation: ArpOperation::Request,
+        source_hardware_addr: own,
+        source_protocol_addr: source,
+        target_hardware_addr: EthernetAddress::BROADCAST,
+        target_protocol_addr: target,
+    }
+}
+
+/// Sends a packet to a hardware address, if it isn't longer than the device's packets.
+fn send_to<D: Device>(
+    context: &Context,
+    device: &mut D,
+    out: &mut ArrayVec<u8, FRAME_BUFFER_SIZE>,
+    destination: &HardwareAddress,
+    packet: &Packet<'_>,
+)
+    requires leave { D.has_leave device.old ≡ true }
+    requires writable { IsWritable (shown.packet packet.now) }
+    ensures { Sent D.tells device.old device.new (spec.Emits (shown.packet packet.now) destination.now (Ok tt)) context.now context.now }
+{
+    if packet.total_len() <= context.capabilities.ip_mtu() {
+        emit_frame(context, destination, packet, out);
+        device.send(PacketMeta::EMPTY, out.as_slice());
+    }
+}
+
+/// Builds the frame of a packet, in place of what the buffer held.
+fn emit_frame(
+    context: &Context,
+    destination: &HardwareAddress,
+    packet: &Packet<'_>,
+    out: &mut ArrayVec<u8, FRAME_BUFFER_SIZE>,
+)
+    requires writable { IsWritable (shown.packet packet.now) }
+    requires fits { value.total_len (shown.packet packet.now) ≤ ip_mtu_of context.now.capabilities }
+    ensures items { out.new.items ≡ ip_frame (host_of context.now []) destination.now (shown.packet packet.now) }
+    ensures len { array_vec_len out.new ≤ 1514 }
+{
+    out.clear();
+    emit_link_header(
+        &context.hardware_addr,
+        destination,
+        EthernetProtocol::Ipv4,
+        out,
+    );
+    packet.emit(&context.capabilities, out);
+}
+
+/// The hardware address for a destination of many hosts: that of all for a broadcast, that of the
+/// group for a group.
+fn many_address(context: &Context, dst_addr: &IpAddress) -> Option<EthernetAddress>
+    ensures value { result ≡ spec.many_address (host_of context.now []).ip_addrs dst_addr.now }
+    ensures else_one { result ≡ None → is_unspecified dst_addr.now ≡ false → is_unicast dst_addr.now ≡ true }
+{
+    match dst_addr {
+        IpAddress::Ipv4(address) => {
+            if context.is_broadcast_v4(address) {
+                Some(EthernetAddress::BROADCAST)
+            } else if address.is_multicast() {
+                Some(group_address(address))
+            } else {
+                None
+            }
+        }
+        IpAddress::Ipv6(address) => {
+            if address.is_multicast() {
+                Some(group_address_v6(address))
+            } else {
+                None
+            }
+        }
+    }
+}
+
+/// The hardware address of an IPv4 group: 01:00:5e, and its low 23 bits (RFC 1112 6.4).
+fn group_address(group: &Ipv4Address) -> EthernetAddress
+    ensures { result ≡ spec.group_address group.now }
+{
+    let bits = group.bits;
+    EthernetAddress([
+        0x01,
+        0x00,
+        0x5e,
+        (bits / 0x1_0000 % 0x80) as u8,
+        (bits / 0x100 % 0x100) as u8,
+        (bits % 0x100) as u8,
+    ])
+}
+
+/// The hardware address of an IPv6 group: 33:33, and its last four octets (RFC 2464 7).
+fn group_address_v6(group: &Ipv6Address) -> EthernetAddress
+    ensures { result ≡ spec.group_address_v6 group.now }
+{
+    let bits = group.bits;
+    EthernetAddress([
+        0x33,
+        0x33,
+        (bits / 0x100_0000 % 0x100) as u8,
+        (bits / 0x1_0000 % 0x100) as u8,
+        (bits / 0x100 % 0x100) as u8,
+        (bits % 0x100) as u8,
+    ])
+}
+
+/// The next hop to an address: itself in an own network, else the router of the best route, if that
+/// is one host.
+fn next_hop(context: &Context, address: &IpAddress) -> Option<IpAddress>
+    requires { is_unicast address.now ≡ true }
+    ensures hop { (sockets : List Storage) → spec.IsNextHop (host_of context.now sockets) address.now result }
+    ensures unicast { IfSome result (λ hop. is_unicast hop ≡ true) }
+{
+    if context.in_same_network(address) {
+        return Some(*address);
+    }
+    let router = context.routes.lookup(address, context.moment)?;
+    if router.is_unicast() {
+        Some(router)
+    } else {
+        None
+    }
+}

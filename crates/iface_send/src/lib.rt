@@ -1,0 +1,12 @@
+//! What an interface knows, and how it sends: the context with its tests of addresses and its choice
+//! of sources, packets as values, and their dispatch to the next hop.
+#![tactic(auto)]
+
+pub mod context;
+pub mod dispatch;
+pub mod neighbors;
+pub mod packet;
+pub mod settings;
+
+pub use context::Context;
+pub use packet::{EthernetPacket, IpPayload, Packet, PacketV4};

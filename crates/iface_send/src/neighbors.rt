@@ -1,0 +1,40 @@
+//! What an interface learns of its neighbours from what it takes.
+ghost use Rattle.std.specs.Prelude.{◌≡◌, List, [], true};
+ghost use Rattle.ip_wire.specs.Hardware as hardware;
+ghost use Rattle.ip_wire.specs.Ip.{is_unicast};
+ghost use Rattle.iface_tables.specs.Neighbor.{Fills, renewed, expiry_from};
+ghost use Rattle.host_machine.specs.Host.{Storage, with_neighbors};
+ghost use Rattle.iface_send.specs.Stands.{host_of};
+
+use crate::context::Context;
+use ip_wire::{HardwareAddress, IpAddress};
+
+/// Puts a neighbour at its address for 60 s from the moment on. Both addresses have to be unicast.
+pub fn fill_neighbor(
+    context: &mut Context,
+    protocol_addr: IpAddress,
+    hardware_addr: HardwareAddress,
+)
+    requires protocol { is_unicast protocol_addr ≡ true }
+    requires link { hardware.is_unicast hardware_addr ≡ true }
+    ensures neighbors { Fills (host_of context.old []).neighbors (host_of context.new []).neighbors protocol_addr (record { hardware_addr = hardware_addr; expires_at = expiry_from (host_of context.old []).moment }) }
+    ensures same { (sockets : List Storage) → host_of context.new sockets ≡ with_neighbors (host_of context.old sockets) (host_of context.new []).neighbors }
+{
+    context
+        .neighbor_cache
+        .fill(protocol_addr, hardware_addr, context.moment);
+}
+
+/// Keeps a neighbour for another 60 s, if the one at this address has this hardware address. Else
+/// nothing changes.
+pub fn renew_neighbor(
+    context: &mut Context,
+    protocol_addr: IpAddress,
+    hardware_addr: HardwareAddress,
+)
+    ensures { (sockets : List Storage) → host_of context.new sockets ≡ with_neighbors (host_of context.old sockets) (renewed (host_of context.old []).neighbors protocol_addr hardware_addr (expiry_from (host_of context.old []).moment)) }
+{
+    context
+        .neighbor_cache
+        .reset_expiry_if_existing(protocol_addr, hardware_addr, context.moment);
+}

@@ -1,0 +1,210 @@
+//! Packets to be sent: their values, with their octets as a slice of where they came from; and the
+//! octets of their frames.
+ghost use Rattle.std.specs.Prelude.{◌≡◌, ◌+◌, ◌<◌, ◌≤◌, ◌^◌, ◌++◌, length};
+ghost use Rattle.arrayvec.specs.ArrayVec.{array_vec_len};
+ghost use Rattle.host_machine.specs.Frame.{arp_frame, limited, link_header, packet_text, payload_text};
+ghost use Rattle.host_machine.specs.Packet.{IsWritable, IsWritablePayload};
+ghost use Rattle.host_machine.specs.Packet as value;
+ghost use Rattle.host_machine.specs.Dispatch.{destination_of};
+ghost use Rattle.iface_send.specs.Shown as shown;
+
+use arrayvec::ArrayVec;
+use control_wire::icmpv4::Icmpv4Repr;
+use ip_wire::emit::append;
+use ip_wire::ipv4_packet::{Ipv4Fragment, Ipv4Repr};
+use ip_wire::{
+    ArpRepr, EthernetProtocol, EthernetRepr, HardwareAddress, IpAddress, IpProtocol, Ipv4Address,
+    TcpRepr, UdpRepr,
+};
+use net_base::phy::{DeviceCapabilities, FRAME_BUFFER_SIZE};
+
+/// What a frame in reply carries.
+#[derive(Clone, Copy)]
+pub enum EthernetPacket<'p> {
+    Arp(ArpRepr),
+    Ip(Packet<'p>),
+}
+
+/// An IP packet.
+#[derive(Clone, Copy)]
+pub enum Packet<'p> {
+    Ipv4(PacketV4<'p>),
+}
+
+/// An IPv4 packet, which goes whole; its header's other values follow from these.
+#[derive(Clone, Copy)]
+pub struct PacketV4<'p> {
+    pub src_addr: Ipv4Address,
+    pub dst_addr: Ipv4Address,
+    pub hop_limit: u8,
+    pub payload: IpPayload<'p>,
+}
+
+/// What an IP packet carries: by protocol, with the octets behind that header; or as it stands.
+#[derive(Clone, Copy)]
+pub enum IpPayload<'p> {
+    Icmpv4(Icmpv4Repr, &'p [u8]),
+    Udp(UdpRepr, &'p [u8]),
+    Tcp(TcpRepr, &'p [u8]),
+    Raw(IpProtocol, &'p [u8]),
+}
+
+impl IpPayload<'_> {
+    /// Its protocol.
+    pub fn protocol(&self) -> IpProtocol
+        ensures { result ≡ value.protocol_of (shown.payload self.now) }
+    {
+        match self {
+            IpPayload::Icmpv4(..) => IpProtocol::Icmp,
+            IpPayload::Udp(..) => IpProtocol::Udp,
+            IpPayload::Tcp(..) => IpProtocol::Tcp,
+            IpPayload::Raw(protocol, _) => *protocol,
+        }
+    }
+
+    /// Its length with the protocol's header, in octets.
+    pub fn len(&self) -> usize
+        ensures value { result ≡ value.payload_len (shown.payload self.now) }
+        ensures short { result < 2 ^ 63 + 28 }
+    {
+        match self {
+            IpPayload::Icmpv4(message, octets) => message.header_len() + octets.len(),
+            IpPayload::Udp(_, octets) => 8 + octets.len(),
+            IpPayload::Tcp(_, octets) => 20 + octets.len(),
+            IpPayload::Raw(_, octets) => octets.len(),
+        }
+    }
+}
+
+impl Packet<'_> {
+    /// Where it goes to.
+    pub fn dst_addr(&self) -> IpAddress
+        ensures { result ≡ destination_of (shown.packet self.now) }
+    {
+        match self {
+            Packet::Ipv4(packet) => IpAddress::Ipv4(packet.dst_addr),
+        }
+    }
+
+    /// Its length with its header, in octets.
+    pub fn total_len(&self) -> usize
+        ensures { result ≡ value.total_len (shown.packet self.now) }
+    {
+        match self {
+            Packet::Ipv4(packet) => 20 + packet.payload.len(),
+        }
+    }
+
+    /// Appends the packet, each of its forms with its checksum where that is on.
+    pub fn emit(&self, capabilities: &DeviceCapabilities, out: &mut ArrayVec<u8, FRAME_BUFFER_SIZE>)
+        requires writable { IsWritable (shown.packet self.now) }
+        requires room { array_vec_len out.old + value.total_len (shown.packet self.now) ≤ 1514 }
+        ensures items { out.new.items ≡ out.old.items ++ packet_text capabilities.now (shown.packet self.now) }
+        ensures len { array_vec_len out.new ≡ array_vec_len out.old + value.total_len (shown.packet self.now) }
+    {
+        match self {
+            Packet::Ipv4(packet) => {
+                let header = Ipv4Repr {
+                    src_addr: packet.src_addr,
+                    dst_addr: packet.dst_addr,
+                    next_header: packet.payload.protocol(),
+                    payload_len: packet.payload.len() as u16,
+                    hop_limit: packet.hop_limit,
+                };
+                header.emit(&Ipv4Fragment::WHOLE, capabilities.checksum.ipv4.tx(), out);
+                emit_payload(packet, capabilities, out);
+            }
+        }
+    }
+}
+
+/// Appends the payload of a packet, with its checksum where that is on.
+pub fn emit_payload(
+    packet: &PacketV4<'_>,
+    capabilities: &DeviceCapabilities,
+    out: &mut ArrayVec<u8, FRAME_BUFFER_SIZE>,
+)
+    requires writable { IsWritablePayload (shown.payload packet.now.payload) }
+    requires room { array_vec_len out.old + value.payload_len (shown.payload packet.now.payload) ≤ 1514 }
+    ensures items { out.new.items ≡ out.old.items ++ payload_text capabilities.now (shown.packet_v4 packet.now) (shown.payload packet.now.payload) }
+    ensures len { array_vec_len out.new ≡ array_vec_len out.old + value.payload_len (shown.payload packet.now.payload) }
+{
+    match &packet.payload {
+        IpPayload::Icmpv4(message, octets) => message.emit(
+            octets,
+            capabilities.checksum.icmpv4.tx(),
+            out,
+        ),
+        IpPayload::Udp(header, octets) => {
+            let src = IpAddress::Ipv4(packet.src_addr);
+            let dst = IpAddress::Ipv4(packet.dst_addr);
+            header.emit(&src, &dst, octets, capabilities.checksum.udp.tx(), out);
+        }
+        IpPayload::Tcp(header, octets) => {
+            let src = IpAddress::Ipv4(packet.src_addr);
+            let dst = IpAddress::Ipv4(packet.dst_addr);
+            let header = limited(capabilities, header);
+            header.emit(&src, &dst, octets, capabilities.checksum.tcp.tx(), out);
+        }
+        IpPayload::Raw(_, octets) => append(out, octets),
+    }
+}
+
+/// A segment's header as it goes: its window is at most what a device with a limited burst can
+/// take, so many segments as long as its packets allow.
+fn limited(capabilities: &DeviceCapabilities, header: &TcpRepr) -> TcpRepr
+    ensures { result ≡ limited capabilities.now header.now }
+{
+    let Some(burst) = capabilities.max_burst_size else {
+        return *header;
+    };
+    let limit = burst.saturating_mul(capabilities.max_transmission_unit.saturating_sub(40));
+    let window_len = if usize::from(header.window_len) <= limit {
+        header.window_len
+    } else {
+        limit as u16
+    };
+    TcpRepr {
+        window_len,
+        ..*header
+    }
+}
+
+/// Appends what stands before a packet on the link from one hardware address to another: an
+/// Ethernet header, or nothing on a medium without hardware addresses.
+pub fn emit_link_header(
+    source: &HardwareAddress,
+    destination: &HardwareAddress,
+    ethertype: EthernetProtocol,
+    out: &mut ArrayVec<u8, FRAME_BUFFER_SIZE>,
+)
+    requires { array_vec_len out.old + 14 ≤ 1514 }
+    ensures items { out.new.items ≡ out.old.items ++ link_header source.now destination.now ethertype }
+    ensures len { array_vec_len out.new ≤ array_vec_len out.old + 14 }
+{
+    if let HardwareAddress::Ethernet(src_addr) = source {
+        if let HardwareAddress::Ethernet(dst_addr) = destination {
+            let header = EthernetRepr {
+                src_addr: *src_addr,
+                dst_addr: *dst_addr,
+                ethertype,
+            };
+            header.emit(out);
+        }
+    }
+}
+
+/// Builds the frame of an ARP packet, in place of what the buffer held.
+pub fn emit_arp(out: &mut ArrayVec<u8, FRAME_BUFFER_SIZE>, packet: &ArpRepr)
+    ensures items { out.new.items ≡ arp_frame packet.now }
+    ensures len { array_vec_len out.new ≡ 42 }
+{
+    out.clear();
+    let header = EthernetRepr {
+        src_addr: packet.source_hardware_addr,
+        dst_addr: packet.target_hardware_addr,
+        ethertype: EthernetProtocol::Arp,
+    };
+    header.emit(out);
+    packet.emit(out);
+}

@@ -1,0 +1,10 @@
+use Rattle.std.proofs.Common.{◌≡◌, length, true}
+use Rattle.iface_send.specs.Stands.{host_of}
+use Rattle.interface.specs.Told.{Told}
+use Rattle.interface.specs.Turns.{AreServed}
+use Rattle.interface.proofs.egress.socket_egress.Given as goal
+
+abbrev pub invariant-loop-index : goal.invariant-loop-index
+invariant-loop-index g l =
+    Told g.D.Device.tells l.fn.device l.device (AreServed l.index true l.changed (host_of l.fn.context l.fn.sockets.places) (host_of l.context l.sockets.places))
+    × (length l.sockets.places ≡ length l.fn.sockets.places)

@@ -1,0 +1,182 @@
+//! What sockets have to send: each is asked in order, until the device refuses leave.
+ghost use Rattle.std.specs.Prelude.{◌≡◌, ◌<◌, length, Some, IfSome};
+ghost use Rattle.std.specs.Option.{option_map};
+ghost use Rattle.sockets.specs.Kinds as kinds;
+ghost use Rattle.sockets.specs.Icmp as icmp;
+ghost use Rattle.sockets.specs.Raw as raw;
+ghost use Rattle.sockets.specs.Udp as udp;
+ghost use Rattle.host_machine.specs.Egress as spec;
+ghost use Rattle.host_machine.specs.Packet.{IsWritable, IsWritablePayload};
+ghost use Rattle.iface_send.specs.Shown as shown;
+ghost use Rattle.iface_send.specs.Stands.{host_of};
+ghost use Rattle.interface.specs.Told.{Told};
+ghost use Rattle.interface.specs.Turns.{HasTurn, IsServed, SocketsServed};
+
+use arrayvec::ArrayVec;
+use control_wire::Icmpv4Repr;
+use host_machine::Turn;
+use iface_send::dispatch::dispatch;
+use iface_send::{Context, IpPayload, Packet, PacketV4};
+use iface_tables::socket_set::SocketSet;
+use ip_wire::{IpAddress, UdpRepr};
+use net_base::phy::{Device, FRAME_BUFFER_SIZE};
+use sockets::{Offer, Socket, SocketContext, icmp, raw, udp};
+
+/// Gives each socket its turn in order, until the device refuses leave to send. Answers whether a
+/// packet of some socket counts as gone.
+pub fn socket_egress<D: Device>(
+    context: &mut Context,
+    device: &mut D,
+    out: &mut ArrayVec<u8, FRAME_BUFFER_SIZE>,
+    sockets: &mut SocketSet<'_>,
+) -> bool
+    ensures { Told D.tells device.old device.new (SocketsServed result (host_of context.old sockets.old.places) (host_of context.new sockets.new.places)) }
+{
+    let mut changed = false;
+    for index in 0..sockets.places() {
+        let turn = serve(context, device, out, sockets, index);
+        if turn.is_exhausted() {
+            return changed;
+        }
+        changed |= turn.is_gone();
+    }
+    changed
+}
+
+/// Gives the place of an index its turn.
+fn serve<D: Device>(
+    context: &mut Context,
+    device: &mut D,
+    out: &mut ArrayVec<u8, FRAME_BUFFER_SIZE>,
+    sockets: &mut SocketSet<'_>,
+    index: usize,
+) -> Turn
+    requires { index < length sockets.old.places }
+    ensures told { Told D.tells device.old device.new (IsServed index result (host_of context.old sockets.old.places) (host_of context.new sockets.new.places)) }
+    ensures places { length sockets.new.places ≡ length sockets.old.places }
+{
+    match sockets.socket_mut(index) {
+        Some(socket) => give_turn(socket, context, device, out),
+        None => Turn::Idle,
+    }
+}
+
+/// Gives a socket its turn: what it offers is dispatched, if the device gives leave, and the socket
+/// told whether it is gone.
+fn give_turn<D: Device>(
+    socket: &mut Socket<'_>,
+    context: &mut Context,
+    device: &mut D,
+    out: &mut ArrayVec<u8, FRAME_BUFFER_SIZE>,
+) -> Turn
+    ensures { Told D.tells device.old device.new (HasTurn socket.old result socket.new context.old context.new) }
+{
+    let Some(offer) = socket.offer(context) else {
+        return Turn::Idle;
+    };
+    let Some(packet) = packet_of(&offer) else {
+        return Turn::Idle;
+    };
+    if !device.transmit(context.now()) {
+        return Turn::Exhausted;
+    }
+    let gone = dispatch(context, device, out, &packet).is_ok();
+    socket.told(gone);
+    if gone { Turn::Gone } else { Turn::Idle }
+}
+
+/// What a socket offers as a packet; over IPv6 none is sent yet.
+fn packet_of<'p>(offer: &Offer<'p>) -> Option<Packet<'p>>
+    ensures value { option_map shown.packet result ≡ spec.packet_of (kinds.shown offer.now) }
+    ensures writable { IfSome result (λ p. IsWritable (shown.packet p)) }
+{
+    match offer {
+        Offer::Raw(packet) => Some(raw_packet(packet)),
+        Offer::Icmp(packet) => icmp_packet(packet),
+        Offer::Udp(packet) => udp_packet(packet),
+        Offer::Tcp(packet) => {
+            let payload = IpPayload::Tcp(packet.repr, packet.payload);
+            packet_between(
+                &packet.src_addr,
+                &packet.dst_addr,
+                packet.hop_limit,
+                payload,
+            )
+        }
+    }
+}
+
+/// A packet of a raw socket, whose header is written anew.
+fn raw_packet<'p>(packet: &raw::Packet<'p>) -> Packet<'p>
+    ensures value { Some (shown.packet result) ≡ spec.packet_of (kinds.RawOffer (raw.shown packet.now)) }
+    ensures writable { IsWritable (shown.packet result) }
+{
+    Packet::Ipv4(PacketV4 {
+        src_addr: packet.header.src_addr,
+        dst_addr: packet.header.dst_addr,
+        hop_limit: packet.header.hop_limit,
+        payload: IpPayload::Raw(packet.header.next_header, packet.payload),
+    })
+}
+
+/// A message of an ICMP socket, which sends echo messages alone.
+fn icmp_packet<'p>(packet: &icmp::Packet<'p>) -> Option<Packet<'p>>
+    ensures value { option_map shown.packet result ≡ spec.packet_of (kinds.IcmpOffer (icmp.shown packet.now)) }
+    ensures writable { IfSome result (λ p. IsWritable (shown.packet p)) }
+{
+    match packet.repr {
+        Icmpv4Repr::EchoRequest { .. } | Icmpv4Repr::EchoReply { .. } => {
+            let payload = IpPayload::Icmpv4(packet.repr, packet.payload);
+            packet_between(
+                &packet.src_addr,
+                &packet.dst_addr,
+                packet.hop_limit,
+                payload,
+            )
+        }
+        Icmpv4Repr::DstUnreachable { .. } | Icmpv4Repr::TimeExceeded { .. } => None,
+    }
+}
+
+/// A datagram as a packet.
+fn udp_packet<'p>(datagram: &udp::Packet<'p>) -> Option<Packet<'p>>
+    ensures value { option_map shown.packet result ≡ spec.packet_of (kinds.UdpOffer (udp.shown datagram.now)) }
+    ensures writable { IfSome result (λ p. IsWritable (shown.packet p)) }
+{
+    let header = UdpRepr {
+        src_port: datagram.src.port,
+        dst_port: datagram.dst.port,
+    };
+    let payload = IpPayload::Udp(header, datagram.payload);
+    packet_between(
+        &datagram.src.addr,
+        &datagram.dst.addr,
+        datagram.hop_limit,
+        payload,
+    )
+}
+
+/// A packet from one IPv4 address to another.
+fn packet_between<'p>(
+    src_addr: &IpAddress,
+    dst_addr: &IpAddress,
+    hop_limit: u8,
+    payload: IpPayload<'p>,
+) -> Option<Packet<'p>>
+    requires { IsWritablePayload (shown.payload payload) }
+    ensures value { option_map shown.packet result ≡ spec.packet_between src_addr.now dst_addr.now hop_limit (shown.payload payload.entry) }
+    ensures writable { IfSome result (λ p. IsWritable (shown.packet p)) }
+{
+    let IpAddress::Ipv4(src_addr) = src_addr else {
+        return None;
+    };
+    let IpAddress::Ipv4(dst_addr) = dst_addr else {
+        return None;
+    };
+    Some(Packet::Ipv4(PacketV4 {
+        src_addr: *src_addr,
+        dst_addr: *dst_addr,
+        hop_limit,
+        payload,
+    }))
+}
