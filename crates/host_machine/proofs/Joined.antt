@@ -4,7 +4,7 @@ use Rattle.std.proofs.lemmas.List.{map-append}
 use Rattle.net_base.specs.Device.{Event}
 use Rattle.host_machine.specs.declared.command.Command.{Command}
 use Rattle.host_machine.specs.declared.command.Answer.{Answer}
-use Rattle.host_machine.specs.Host.{Host, Storage}
+use Rattle.host_machine.specs.Host.{Host, SocketSet}
 use Rattle.host_machine.specs.Step.{Act}
 use Rattle.host_machine.specs.Run.{Place, Run, Ends, Then, Did, NoAct, ThenAct, Laws, Ran, told_in, acts_in}
 use Rattle.host_machine.proofs.Spaced.{run_spaced}
@@ -24,11 +24,11 @@ acts_in-append : (ps qs : List Place) → acts_in (ps ++ qs) ≡ acts_in ps ++ a
 acts_in-append [] qs = refl
 acts_in-append (p ∷ ps) qs = ap (λ t. p.acts ++ t) (acts_in-append ps qs) ∙ sym (append_assoc p.acts (acts_in ps) (acts_in qs))
 
-did_on : {O : Type 0} {did : O → ℕ → List Storage → List Storage → O → Type 0} {o m p : O} {xs ys : List Act} → Did did o xs m → Did did m ys p → Did did o (xs ++ ys) p
+did_on : {O : Type 0} {did : O → ℕ → SocketSet → SocketSet → O → Type 0} {o m p : O} {xs ys : List Act} → Did did o xs m → Did did m ys p → Did did o (xs ++ ys) p
 did_on NoAct more = more
 did_on (ThenAct a d) more = ThenAct a (did_on d more)
 
-module _ {D O : Type 0} (tells : D → List Event → D → Type 0) (did : O → ℕ → List Storage → List Storage → O → Type 0)
+module _ {D O : Type 0} (tells : D → List Event → D → Type 0) (did : O → ℕ → SocketSet → SocketSet → O → Type 0)
     (tells_on : (a b c : D) (xs ys : List Event) → tells a xs b → tells b ys c → tells a (xs ++ ys) c) where
   pub no_commands : (d : D) (o : O) (H : Host) (after : Host → Type 0) → tells d [] d → after H → Ran tells did d d o o [] [] H after
   no_commands d o H after quiet stands = record {

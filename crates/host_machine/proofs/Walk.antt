@@ -197,7 +197,8 @@ module _ (Law : Host → List Note → Host → Type 0)
 
   served : {i : ℕ} {turn : Turn} {H new : Host} {told : List Event} {notes : List Note} → Serves i turn H told notes new → Law H notes new
   served (egress.Free s t o n e) = keeping n (kept e)
-  served {i} {turn} {H} {new} {told} {notes} (egress.Taken s s' mid h t e) =
+  served (egress.Waits s known h k p t o n e) = keeping n (kept e)
+  served {i} {turn} {H} {new} {told} {notes} (egress.Served s s' known mid h k p t e) =
       subst (λ ns. Law H ns new) (append-nil notes) (on H mid new notes [] (had_turn t) (keeps mid new (record { silence = ap (λ (K : Host). K.neighbors.silent_until) e })))
 
   walked : {old new : Host} {n : ℕ} {going changed : Bool} {told : List Event} {notes : List Note} → Walks old n going changed told notes new → Law old notes new

@@ -1,5 +1,5 @@
 -- How a host begins, and which configurations are refused.
-use Rattle.std.specs.Prelude.{ℕ, ◌/◌, ◌^◌, ◌==◌, ◌&&◌, ℤ, pos, Bool, true, false, not, List, [], Option, Some, None, nat_lt, if◌then◌else◌}
+use Rattle.std.specs.Prelude.{ℕ, ◌/◌, ◌^◌, ◌==◌, ◌&&◌, ℤ, pos, Bool, true, false, not, [], Option, Some, None, nat_lt, if◌then◌else◌}
 use Rattle.std.specs.FinMap as map
 use Rattle.net_base.specs.declared.phy.DeviceCapabilities.{DeviceCapabilities}
 use Rattle.net_base.specs.declared.phy.Medium.{Medium}
@@ -14,7 +14,7 @@ use Rattle.host_machine.specs.declared.results.HardwareError.TheVariants.{WrongM
 use Rattle.host_machine.specs.declared.results.HardwareError.TheVariants as hardware_error
 use Rattle.host_machine.specs.declared.results.NewError.{NewError}
 use Rattle.host_machine.specs.declared.results.NewError.TheVariants.{MediumMismatch, NotUnicast, MtuTooSmall, MtuTooLarge}
-use Rattle.host_machine.specs.Host.{Host, Storage}
+use Rattle.host_machine.specs.Host.{Host, SocketSet}
 
 abbrev pub same_medium : Medium → Medium → Bool
 same_medium medium.Ethernet medium.Ethernet = true
@@ -36,7 +36,7 @@ abbrev pub first_id : ℕ → ℕ
 first_id seed = if next seed / 2 ^ 48 == 0 then 1 else next seed / 2 ^ 48
 
 -- a host at first: no address, no route, no neighbour, no silence
-abbrev pub first_host : DeviceCapabilities → HardwareAddress → ℕ → ℤ → List Storage → Host
+abbrev pub first_host : DeviceCapabilities → HardwareAddress → ℕ → ℤ → SocketSet → Host
 first_host c h seed t sockets = record {
   capabilities = c;
   hardware_addr = h;

@@ -1,5 +1,5 @@
 -- Sending one IP packet, with leave to send a frame (RFC 1122 3.3.1, RFC 826): the next hop, its hardware address, the frame.
-use Rattle.std.specs.Prelude.{◌≡◌, ℕ, ◌+◌, ◌/◌, ◌%◌, ◌^◌, nat_le, true, false, List, [], ◌∷◌, Option, Some, None, Result, Ok, Err, if◌then◌else◌}
+use Rattle.std.specs.Prelude.{◌≡◌, ℕ, ◌+◌, ◌/◌, ◌%◌, ◌^◌, nat_le, Bool, true, false, List, [], ◌∷◌, Option, Some, None, Result, Ok, Err, if◌then◌else◌}
 use Rattle.std.specs.Option.{option_and_then}
 use Rattle.net_base.specs.Checksum.{ip_mtu_of}
 use Rattle.ip_wire.specs.declared.ethernet.EthernetAddress.{EthernetAddress}
@@ -15,7 +15,7 @@ use Rattle.ip_wire.specs.Ip.{is_unicast, is_unspecified}
 use Rattle.ip_wire.specs.Ipv4 as ipv4
 use Rattle.ip_wire.specs.Ipv6 as ipv6
 use Rattle.iface_tables.specs.declared.neighbor.Answer.TheVariants.{Found, NotFound, RateLimited}
-use Rattle.iface_tables.specs.Neighbor.{Neighbors, answer_of, silence_from}
+use Rattle.iface_tables.specs.Neighbor.{Neighbors, answer_of, is_found, silence_from}
 use Rattle.iface_tables.specs.Route.{IsRouter}
 use Rattle.host_machine.specs.declared.results.DispatchError.{DispatchError}
 use Rattle.host_machine.specs.declared.results.DispatchError.TheVariants.{NoRoute, NeighborPending}
@@ -56,6 +56,16 @@ pub data IsNextHop (H : Host) (a : IpAddress) (hop : Option IpAddress) : Type 0 
   OnLink : in_same_network H.ip_addrs a ≡ true → hop ≡ Some a → IsNextHop H a hop
   ByRouter : (router : Option IpAddress) → in_same_network H.ip_addrs a ≡ false → IsRouter H.routes a H.moment router →
       hop ≡ option_and_then if_unicast router → IsNextHop H a hop
+
+-- whether the hardware address of a hop is known
+abbrev pub is_known_hop : Host → Option IpAddress → Bool
+is_known_hop H None = false
+is_known_hop H (Some hop) = is_found (answer_of H.neighbors hop H.moment)
+
+-- whether the next hop to an address is a known neighbour; there is none to an address that isn't one host's
+pub data KnowsNextHop (H : Host) (a : IpAddress) (known : Bool) : Type 0 where
+  OfNoHost : is_unicast a ≡ false → known ≡ false → KnowsNextHop H a known
+  OfHost : (hop : Option IpAddress) → is_unicast a ≡ true → IsNextHop H a hop → known ≡ is_known_hop H hop → KnowsNextHop H a known
 
 -- nothing is sent, and nothing changes
 pub record IsUnsent (H : Host) (frames : List (List ℕ)) (notes : List Note) (new : Host) : Type 0 where

@@ -1,5 +1,5 @@
--- One call that sends: each socket is asked in order, and what it has goes if the device gives leave.
-use Rattle.std.specs.Prelude.{◌≡◌, ℕ, ◌+◌, ℤ, Bool, true, false, ◌||◌, is_ok, List, [], ◌∷◌, ◌++◌, length, slice_get, slice_set, Option, Some, None, Ok, Err, if◌then◌else◌}
+-- One call that sends: each socket that needn't wait is asked in order, and what it has goes if the device gives leave.
+use Rattle.std.specs.Prelude.{◌≡◌, ℕ, ◌+◌, ℤ, Bool, true, false, ◌||◌, is_ok, List, [], ◌∷◌, ◌++◌, length, slice_get, Option, Some, None, Ok, Err, if◌then◌else◌}
 use Rattle.std.specs.Option.{option_and_then}
 use Rattle.std.specs.Borrow.{Bor}
 use Rattle.net_base.specs.Device.{Event, Asked}
@@ -9,16 +9,18 @@ use Rattle.sockets.specs.declared.socket.SocketOf.{SocketOf}
 use Rattle.sockets.specs.Kinds.{Offered, RawOffer, IcmpOffer, UdpOffer, TcpOffer, offered, settled, told}
 use Rattle.control_wire.specs.declared.icmpv4.Icmpv4Repr.{Icmpv4Repr}
 use Rattle.control_wire.specs.declared.icmpv4.Icmpv4Repr.TheVariants.{EchoRequest, EchoReply, DstUnreachable, TimeExceeded}
+use Rattle.iface_tables.specs.SocketMeta.{Wait, IsTold, is_permitted, after_asking, silence_from}
+use Rattle.iface_tables.specs.SocketSet.{wait_at, with_place, with_wait}
 use Rattle.host_machine.specs.declared.results.PollResult.{PollResult}
 use Rattle.host_machine.specs.declared.results.PollResult.TheVariants as result
 use Rattle.host_machine.specs.declared.results.Turn.{Turn}
-use Rattle.host_machine.specs.declared.results.Turn.TheVariants.{Idle, Gone, Exhausted}
+use Rattle.host_machine.specs.declared.results.Turn.TheVariants.{Idle, Gone, Unsent, Exhausted}
 use Rattle.host_machine.specs.Note.{Note}
-use Rattle.host_machine.specs.Host.{Host, at, with_sockets}
+use Rattle.host_machine.specs.Host.{Host, at}
 use Rattle.host_machine.specs.Addresses.{source_for}
 use Rattle.host_machine.specs.Packet.{IpPayload, Icmpv4, Udp, Tcp, Raw, Packet, Ipv4}
 use Rattle.host_machine.specs.Frame.{sends}
-use Rattle.host_machine.specs.Dispatch.{Outcome, Dispatches}
+use Rattle.host_machine.specs.Dispatch.{Outcome, Dispatches, KnowsNextHop, destination_of}
 
 -- a socket of any kind
 abbrev pub Socket : Type 0
@@ -52,14 +54,21 @@ packet_from H s = option_and_then packet_of (offered H.moment (source_for H.ip_a
 abbrev pub asked : Host → Socket → Socket
 asked H s = settled H.moment (source_for H.ip_addrs) s
 
--- the host with a socket at an index
-abbrev pub with_socket : Host → ℕ → Socket → Host
-with_socket H i s = with_sockets H (slice_set H.sockets i (Some s))
+-- the host with a socket and its wait at an index
+abbrev pub with_socket : Host → ℕ → Socket → Wait → Host
+with_socket H i s wait = record H { sockets = with_wait (with_place H.sockets i (Some s)) i wait }
 
--- a packet that counts as gone
-abbrev pub turn_of : Outcome → Turn
-turn_of (Ok done) = Gone
-turn_of (Err error) = Idle
+-- what became of a packet: it counts as gone, or it isn't
+abbrev pub turn_of : Packet → Outcome → Turn
+turn_of p (Ok done) = Gone
+turn_of p (Err error) = Unsent (destination_of p)
+
+-- the wait of a socket after its turn at t: one whose packet isn't gone waits for its destination, until 1 s later
+abbrev pub wait_after : Turn → ℤ → Wait → Wait
+wait_after Idle t wait = wait
+wait_after Gone t wait = wait
+wait_after (Unsent destination) t wait = Some (destination, silence_from t)
+wait_after Exhausted t wait = wait
 
 -- a socket's turn: without a packet it is only asked; for a packet the device is asked for leave, once, and then the packet is dispatched
 -- and the socket told whether it is gone
@@ -68,17 +77,22 @@ pub data SocketTurn (s : Socket) (turn : Turn) (s' : Socket) (H : Host) (told_it
   Refused : (p : Packet) → packet_from H s ≡ Some p → turn ≡ Exhausted → told_it ≡ Asked false ∷ [] → notes ≡ [] → new ≡ H → s' ≡ asked H s →
       SocketTurn s turn s' H told_it notes new
   Sent : (p : Packet) (outcome : Outcome) (frames : List (List ℕ)) → packet_from H s ≡ Some p → Dispatches p outcome H frames notes new →
-      turn ≡ turn_of outcome → told_it ≡ Asked true ∷ sends frames → s' ≡ told (is_ok outcome) (asked H s) → SocketTurn s turn s' H told_it notes new
+      turn ≡ turn_of p outcome → told_it ≡ Asked true ∷ sends frames → s' ≡ told (is_ok outcome) (asked H s) → SocketTurn s turn s' H told_it notes new
 
--- the place of an index has its turn: its socket, or nobody if it is free
+-- the place of an index has its turn: nobody if it is free; a socket that waits is not asked until the next hop to the destination
+-- that it waits for is a known neighbour, which ends the wait, or the end of the wait has come
 pub data Serves (i : ℕ) (turn : Turn) (H : Host) (told_it : List Event) (notes : List Note) (new : Host) : Type 0 where
-  Free : slice_get H.sockets i ≡ Some None → turn ≡ Idle → told_it ≡ [] → notes ≡ [] → new ≡ H → Serves i turn H told_it notes new
-  Taken : (s s' : Socket) (mid : Host) → slice_get H.sockets i ≡ Some (Some s) → SocketTurn s turn s' H told_it notes mid → new ≡ with_socket mid i s' →
-      Serves i turn H told_it notes new
+  Free : slice_get H.sockets.places i ≡ Some None → turn ≡ Idle → told_it ≡ [] → notes ≡ [] → new ≡ H → Serves i turn H told_it notes new
+  Waits : (s : Socket) (known : Bool) → slice_get H.sockets.places i ≡ Some (Some s) → IsTold (KnowsNextHop H) (wait_at H.sockets i) known →
+      is_permitted (wait_at H.sockets i) known H.moment ≡ false → turn ≡ Idle → told_it ≡ [] → notes ≡ [] → new ≡ H → Serves i turn H told_it notes new
+  Served : (s s' : Socket) (known : Bool) (mid : Host) → slice_get H.sockets.places i ≡ Some (Some s) → IsTold (KnowsNextHop H) (wait_at H.sockets i) known →
+      is_permitted (wait_at H.sockets i) known H.moment ≡ true → SocketTurn s turn s' H told_it notes mid →
+      new ≡ with_socket mid i s' (wait_after turn H.moment (after_asking (wait_at H.sockets i) known)) → Serves i turn H told_it notes new
 
 abbrev pub is_gone : Turn → Bool
 is_gone Gone = true
 is_gone Idle = false
+is_gone (Unsent destination) = false
 is_gone Exhausted = false
 
 -- leave was refused
@@ -86,6 +100,7 @@ abbrev pub is_exhausted : Turn → Bool
 is_exhausted Exhausted = true
 is_exhausted Idle = false
 is_exhausted Gone = false
+is_exhausted (Unsent destination) = false
 
 -- the turns of the first n places in order, and whether leave was never refused: a refused leave ends them
 pub data Walks (old : Host) : (n : ℕ) → (going changed : Bool) → List Event → List Note → Host → Type 0 where
@@ -97,9 +112,9 @@ pub data Walks (old : Host) : (n : ℕ) → (going changed : Bool) → List Even
       Walks old n true changed told_so notes_so mid → Serves n turn mid told_it notes new → is_exhausted turn ≡ true →
       Walks old (n + 1) false changed (told_so ++ told_it) (notes_so ++ notes) new
 
--- all sockets, or those up to a refused leave
+-- all places, or those up to a refused leave
 pub data SocketsSend (old : Host) (changed : Bool) (told_it : List Event) (notes : List Note) (new : Host) : Type 0 where
-  Whole : Walks old (length old.sockets) true changed told_it notes new → SocketsSend old changed told_it notes new
+  Whole : Walks old (length old.sockets.places) true changed told_it notes new → SocketsSend old changed told_it notes new
   Stopped : (n : ℕ) → Walks old n false changed told_it notes new → SocketsSend old changed told_it notes new
 
 -- the answer tells whether a socket's packet counts as gone

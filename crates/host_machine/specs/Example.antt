@@ -15,7 +15,7 @@ use Rattle.ip_wire.specs.declared.ip.IpAddress.{IpAddress}
 use Rattle.iface_tables.specs.Neighbor.{Neighbors, renewed}
 use Rattle.host_machine.specs.declared.results.PollIngressSingleResult.TheVariants as result
 use Rattle.host_machine.specs.Note.{Ask}
-use Rattle.host_machine.specs.Host.{Host}
+use Rattle.host_machine.specs.Host.{Host, no_sockets}
 use Rattle.host_machine.specs.Ingress.{Ingress}
 
 -- a device with all checksums left to the stack
@@ -71,7 +71,7 @@ host ipv4_id neighbors = record {
   routes = [];
   neighbors = neighbors;
   ipv4_id = ipv4_id;
-  sockets = [];
+  sockets = no_sockets;
 }
 
 -- 192.168.69.100 asks 192.168.69.1 for an echo of `abcd`

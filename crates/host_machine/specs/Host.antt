@@ -1,5 +1,5 @@
 -- The state of a host (RFC 1122): what its interface and its sockets stand for.
-use Rattle.std.specs.Prelude.{ℕ, ℤ, Bool, false, ◌==◌, ◌||◌, List, Option}
+use Rattle.std.specs.Prelude.{ℕ, ℤ, Bool, false, ◌==◌, ◌||◌, List, [], Option}
 use Rattle.std.specs.Borrow.{Bor}
 use Rattle.std.specs.List.{list_any, list_all}
 use Rattle.net_base.specs.declared.phy.DeviceCapabilities.{DeviceCapabilities}
@@ -11,11 +11,20 @@ use Rattle.ip_wire.specs.Ip.{is_unicast, is_unspecified}
 use Rattle.ip_wire.specs.Cidr.{address_of, contains}
 use Rattle.iface_tables.specs.Neighbor.{Neighbors}
 use Rattle.iface_tables.specs.declared.route.Route.{Route}
+use Rattle.iface_tables.specs.SocketSet.{Sockets}
+use Rattle.iface_tables.specs.SocketSet as table
 use Rattle.sockets.specs.declared.socket.SocketOf.{SocketOf}
 
 -- a place of a socket set: it holds a socket, or it is free
 abbrev pub Storage : Type 0
 Storage = Option (SocketOf (Bor (Unit {0})))
+
+-- the sockets that a host serves, by index, each with its wait
+abbrev pub SocketSet : Type 0
+SocketSet = Sockets (Bor (Unit {0}))
+
+abbrev pub no_sockets : SocketSet
+no_sockets = record { places = []; waits = []; grows = false }
 
 pub record Host : Type 0 where
   pub capabilities : DeviceCapabilities  -- of its device, when the interface was made
@@ -26,7 +35,7 @@ pub record Host : Type 0 where
   pub routes : List Route  -- its routes, in the order in which they are stored
   pub neighbors : Neighbors  -- which neighbours it knows, and until when it sends no discovery
   pub ipv4_id : ℕ  -- the next identification of a packet, of 16 bits
-  pub sockets : List Storage  -- by index
+  pub sockets : SocketSet
 
 -- the host at another moment
 abbrev pub at : Host → ℤ → Host
@@ -36,9 +45,9 @@ at H t = record H { moment = t }
 abbrev pub with_neighbors : Host → Neighbors → Host
 with_neighbors H n = record H { neighbors = n }
 
--- the host with other sockets
-abbrev pub with_sockets : Host → List Storage → Host
-with_sockets H sockets = record H { sockets = sockets }
+-- the host with other sockets at its places; their waits stay
+abbrev pub with_places : Host → List Storage → Host
+with_places H places = record H { sockets = table.with_places H.sockets places }
 
 -- the two are one address
 abbrev pub same_address : IpAddress → IpAddress → Bool

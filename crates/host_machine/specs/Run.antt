@@ -4,7 +4,7 @@ use Rattle.net_base.specs.Device.{Event}
 use Rattle.host_machine.specs.declared.command.Command.{Command}
 use Rattle.host_machine.specs.declared.command.Answer.{Answer}
 use Rattle.host_machine.specs.Note.{Note, asks}
-use Rattle.host_machine.specs.Host.{Host, Storage}
+use Rattle.host_machine.specs.Host.{Host, SocketSet}
 use Rattle.host_machine.specs.Step.{Act, Step}
 
 -- one place of a run: the command with its answer, what the device told, what the owner did, what is noted, the host before and after
@@ -38,7 +38,7 @@ notes_in [] = []
 notes_in (p ∷ ps) = p.notes ++ notes_in ps
 
 -- an owner that did these acts, one after the other
-pub data Did {O : Type 0} (did : O → ℕ → List Storage → List Storage → O → Type 0) : O → List Act → O → Type 0 where
+pub data Did {O : Type 0} (did : O → ℕ → SocketSet → SocketSet → O → Type 0) : O → List Act → O → Type 0 where
   NoAct : {o : O} → Did did o [] o
   ThenAct : {o m p : O} {act : Act} {acts : List Act} → did o act.number act.before act.after m → Did did m acts p → Did did o (act ∷ acts) p
 
@@ -52,7 +52,7 @@ pub record Laws (first : Host) (places : List Place) : Type 0 where
   pub spaced : AreSpaced first.neighbors.silent_until (asks (notes_in places))  -- discovery requests are at least a second apart
 
 -- a list of commands was a run: from this host and through these devices and owners, it gave these answers and led to a host that stands after
-pub record Ran {D O : Type 0} (tells : D → List Event → D → Type 0) (did : O → ℕ → List Storage → List Storage → O → Type 0)
+pub record Ran {D O : Type 0} (tells : D → List Event → D → Type 0) (did : O → ℕ → SocketSet → SocketSet → O → Type 0)
     (device device' : D) (owner owner' : O) (commands : List Command) (answers : List Answer) (first : Host) (after : Host → Type 0) : Type 0 where
   pub places : List Place
   pub last : Host

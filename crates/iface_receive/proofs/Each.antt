@@ -4,6 +4,7 @@ use Rattle.std.specs.Prelude.{◌||◌}
 use Rattle.std.specs.List.{list_any}
 use Rattle.std.specs.Option.{option_and_then}
 use Rattle.std.proofs.lemmas.List.{take_all, length-take-le}
+use Rattle.iface_tables.specs.SocketSet.{Sockets, with_places}
 
 -- a payload that isn't too long is quoted whole
 pub quoted_whole : (payload : List ℕ) → length payload ≤ 528 → take 528 payload ≡ payload
@@ -86,3 +87,7 @@ module _ {S : Type 0} where
   all_tested test ps i n so len low high is =
       let whole : i ≡ length ps = omega (arith, len, low, high) in
       is ∙ ap (λ k. any_of test k ps) whole ∙ any_all test ps
+
+-- two changes of sockets one after the other leave the waits as they were
+pub waits_stay : {L : Type 0} (old mid new : Sockets L) → mid ≡ with_places old mid.places → new ≡ with_places mid new.places → new ≡ with_places old new.places
+waits_stay old mid new first second = second ∙ ap (λ (s : Sockets _). with_places s new.places) first

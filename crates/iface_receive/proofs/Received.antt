@@ -1,6 +1,6 @@
 -- What is done with a packet, over plain variables.
 use Rattle.std.proofs.Common.{◌≡◌, ℕ, zero, suc, Bool, true, false, List, [], ◌∷◌, slice_get, slice_set, Option, Some, None, length, ◌<◌, refl, ap, sym, ◌∙◌, arith}
-use Rattle.std.specs.Option.{option_and_then, option_map}
+use Rattle.std.specs.Option.{option_map}
 use Rattle.net_base.specs.Checksum.{is_rx}
 use Rattle.ip_wire.specs.declared.arp.ArpRepr.{ArpRepr}
 use Rattle.ip_wire.specs.declared.ethernet.EthernetAddress.{EthernetAddress}
@@ -14,7 +14,8 @@ use Rattle.ip_wire.specs.Udp.{IsUdp, udp_in}
 use Rattle.sockets.specs.declared.socket.SocketOf.{SocketOf}
 use Rattle.iface_tables.specs.Neighbor.{Neighbors, Fills, expiry_from}
 use Rattle.iface_tables.specs.SocketSet.{Sockets, socket_at, with_place}
-use Rattle.host_machine.specs.Host.{Host, Storage, with_neighbors, with_sockets}
+use Rattle.iface_tables.proofs.SocketSetLemmas as table
+use Rattle.host_machine.specs.Host.{Host, Storage, with_neighbors, with_places}
 use Rattle.host_machine.specs.Frame.{Reply}
 use Rattle.host_machine.specs.Arp.{TakesArp, Learnt, listens, answer_by}
 use Rattle.ip_wire.specs.declared.hardware.HardwareAddress.{HardwareAddress}
@@ -59,32 +60,32 @@ pub taken_by_protocol : (p q : IpProtocol) (raw : Bool) (r : Ipv4Repr) (H K : Ho
 taken_by_protocol p q raw r H K octets reply is takes = rw is takes
 
 -- a datagram is given to the first socket that accepts it
-pub udp_delivered : (raw : Bool) (H : Host) (r : Ipv4Repr) (octets payload : List ℕ) (ports : UdpRepr) (checked : Bool) (sockets : List Storage) →
+pub udp_delivered : (raw : Bool) (H : Host) (r : Ipv4Repr) (octets payload : List ℕ) (ports : UdpRepr) (checked : Bool) (places : List Storage) →
     checked ≡ is_rx H.capabilities.checksum.udp → IsUdp checked (Ipv4 r.src_addr) (Ipv4 r.dst_addr) octets × ((ports, payload) ≡ udp_in octets) →
-    DeliversFirst (is_taken_by H.ip_addrs r ports) (handed_to r ports payload) H.sockets sockets → TakesUdp raw r H octets None [] (with_sockets H sockets)
-udp_delivered raw H r octets payload ports checked sockets tests is delivered =
+    DeliversFirst (is_taken_by H.ip_addrs r ports) (handed_to r ports payload) H.sockets.places places → TakesUdp raw r H octets None [] (with_places H places)
+udp_delivered raw H r octets payload ports checked places tests is delivered =
     let same_ports : ports ≡ (udp_in octets).0 = ap (λ (p : UdpRepr × List ℕ). p.0) is.1 in
     let same_payload : payload ≡ (udp_in octets).1 = ap (λ (p : UdpRepr × List ℕ). p.1) is.1 in
-    Delivered sockets (rw tests at is.0) (rw (same_ports, same_payload) at delivered) refl refl refl
+    Delivered places (rw tests at is.0) (rw (same_ports, same_payload) at delivered) refl refl refl
 
 -- or nobody accepts it
-pub udp_unheard : (raw : Bool) (H : Host) (r : Ipv4Repr) (octets payload : List ℕ) (ports : UdpRepr) (checked : Bool) (sockets : List Storage) (reply : Option Reply) →
+pub udp_unheard : (raw : Bool) (H : Host) (r : Ipv4Repr) (octets payload : List ℕ) (ports : UdpRepr) (checked : Bool) (places : List Storage) (reply : Option Reply) →
     checked ≡ is_rx H.capabilities.checksum.udp → IsUdp checked (Ipv4 r.src_addr) (Ipv4 r.dst_addr) octets × ((ports, payload) ≡ udp_in octets) →
-    IsNobody (is_taken_by H.ip_addrs r ports) H.sockets → sockets ≡ H.sockets → reply ≡ unreachable raw H.ip_addrs PortUnreachable r octets →
-    TakesUdp raw r H octets reply [] (with_sockets H sockets)
-udp_unheard raw H r octets payload ports checked sockets reply tests is nobody same replies =
+    IsNobody (is_taken_by H.ip_addrs r ports) H.sockets.places → places ≡ H.sockets.places → reply ≡ unreachable raw H.ip_addrs PortUnreachable r octets →
+    TakesUdp raw r H octets reply [] (with_places H places)
+udp_unheard raw H r octets payload ports checked places reply tests is nobody same replies =
     let same_ports : ports ≡ (udp_in octets).0 = ap (λ (p : UdpRepr × List ℕ). p.0) is.1 in
-    Unheard (rw tests at is.0) (rw same_ports at nobody) replies refl (ap (with_sockets H) same)
+    Unheard (rw tests at is.0) (rw same_ports at nobody) replies refl (ap (with_places H) same)
 
 -- a message is given to each socket that takes it, and answered
-pub icmpv4_taken : (H : Host) (r : Ipv4Repr) (octets contents : List ℕ) (message : Icmpv4Repr) (checked : Bool) (sockets : List Storage) (reply : Option Reply) →
+pub icmpv4_taken : (H : Host) (r : Ipv4Repr) (octets contents : List ℕ) (message : Icmpv4Repr) (checked : Bool) (places : List Storage) (reply : Option Reply) →
     checked ≡ is_rx H.capabilities.checksum.icmpv4 → IsIcmpv4 checked octets × ((message, contents) ≡ icmpv4_in octets) →
-    sockets ≡ to_each (icmpv4.accepts message contents) (icmpv4.delivered (Ipv4 r.src_addr) octets) H.sockets → reply ≡ icmpv4.answer_to H.ip_addrs r message contents →
-    icmpv4.TakesIcmpv4 r H octets reply [] (with_sockets H sockets)
-icmpv4_taken H r octets contents message checked sockets reply tests is delivered replies =
+    places ≡ to_each (icmpv4.accepts message contents) (icmpv4.delivered (Ipv4 r.src_addr) octets) H.sockets.places → reply ≡ icmpv4.answer_to H.ip_addrs r message contents →
+    icmpv4.TakesIcmpv4 r H octets reply [] (with_places H places)
+icmpv4_taken H r octets contents message checked places reply tests is delivered replies =
     let same_message : message ≡ (icmpv4_in octets).0 = ap (λ (p : Icmpv4Repr × List ℕ). p.0) is.1 in
     let same_contents : contents ≡ (icmpv4_in octets).1 = ap (λ (p : Icmpv4Repr × List ℕ). p.1) is.1 in
-    icmpv4.Taken (rw tests at is.0) (rw (same_message, same_contents) at replies) refl (ap (with_sockets H) (rw (same_message, same_contents) at delivered))
+    icmpv4.Taken (rw tests at is.0) (rw (same_message, same_contents) at replies) refl (ap (with_places H) (rw (same_message, same_contents) at delivered))
 
 there : (ps : List Storage) (i : ℕ) → i < length ps → slice_get ps i ≡ Some (at_place ps i)
 there [] i within = absurd (omega arith)
@@ -104,32 +105,25 @@ segment_taken r t payload old now new i taken answer same within before accepts 
 }
 
 -- a segment is given to the first socket that accepts it, and may be answered
-pub tcp_delivered : (raw : Bool) (H : Host) (r : Ipv4Repr) (octets payload : List ℕ) (t : TcpRepr) (checked : Bool) (sockets : List Storage) (answer : Option TcpRepr) (reply : Option Reply) →
+pub tcp_delivered : (raw : Bool) (H : Host) (r : Ipv4Repr) (octets payload : List ℕ) (t : TcpRepr) (checked : Bool) (places : List Storage) (answer : Option TcpRepr) (reply : Option Reply) →
     tcp.is_between_nobody r ≡ false → checked ≡ is_rx H.capabilities.checksum.tcp → IsTcp checked (Ipv4 r.src_addr) (Ipv4 r.dst_addr) octets × ((t, payload) ≡ tcp_in octets) →
-    IsTaken r t payload H.sockets sockets answer → reply ≡ option_map (tcp.segment_back r) answer → tcp.TakesTcp raw r H octets reply [] (with_sockets H sockets)
-tcp_delivered raw H r octets payload t checked sockets answer reply somebody tests is taken replies =
+    IsTaken r t payload H.sockets.places places answer → reply ≡ option_map (tcp.segment_back r) answer → tcp.TakesTcp raw r H octets reply [] (with_places H places)
+tcp_delivered raw H r octets payload t checked places answer reply somebody tests is taken replies =
     let same_header : t ≡ (tcp_in octets).0 = ap (λ (p : TcpRepr × List ℕ). p.0) is.1 in
     let same_payload : payload ≡ (tcp_in octets).1 = ap (λ (p : TcpRepr × List ℕ). p.1) is.1 in
-    let whole : IsTaken r (tcp_in octets).0 (tcp_in octets).1 H.sockets sockets answer = rw (same_header, same_payload) at taken in
-    tcp.Delivered whole.index whole.place somebody (rw tests at is.0) whole.first (replies ∙ ap (option_map (tcp.segment_back r)) whole.answers) refl (ap (with_sockets H) whole.changed)
+    let whole : IsTaken r (tcp_in octets).0 (tcp_in octets).1 H.sockets.places places answer = rw (same_header, same_payload) at taken in
+    tcp.Delivered whole.index whole.place somebody (rw tests at is.0) whole.first (replies ∙ ap (option_map (tcp.segment_back r)) whole.answers) refl (ap (with_places H) whole.changed)
 
 -- or nobody accepts it
-pub tcp_unheard : (raw : Bool) (H : Host) (r : Ipv4Repr) (octets payload : List ℕ) (t : TcpRepr) (checked : Bool) (sockets : List Storage) (answer : Option TcpRepr) (reply : Option Reply) →
+pub tcp_unheard : (raw : Bool) (H : Host) (r : Ipv4Repr) (octets payload : List ℕ) (t : TcpRepr) (checked : Bool) (places : List Storage) (answer : Option TcpRepr) (reply : Option Reply) →
     tcp.is_between_nobody r ≡ false → checked ≡ is_rx H.capabilities.checksum.tcp → IsTcp checked (Ipv4 r.src_addr) (Ipv4 r.dst_addr) octets × ((t, payload) ≡ tcp_in octets) →
-    IsNobody (tcp.accepts r t) H.sockets → sockets ≡ H.sockets → answer ≡ tcp.reset_for raw t payload → reply ≡ option_map (tcp.segment_back r) answer →
-    tcp.TakesTcp raw r H octets reply [] (with_sockets H sockets)
-tcp_unheard raw H r octets payload t checked sockets answer reply somebody tests is nobody same answers replies =
+    IsNobody (tcp.accepts r t) H.sockets.places → places ≡ H.sockets.places → answer ≡ tcp.reset_for raw t payload → reply ≡ option_map (tcp.segment_back r) answer →
+    tcp.TakesTcp raw r H octets reply [] (with_places H places)
+tcp_unheard raw H r octets payload t checked places answer reply somebody tests is nobody same answers replies =
     let same_header : t ≡ (tcp_in octets).0 = ap (λ (p : TcpRepr × List ℕ). p.0) is.1 in
     let same_payload : payload ≡ (tcp_in octets).1 = ap (λ (p : TcpRepr × List ℕ). p.1) is.1 in
-    tcp.Unheard somebody (rw tests at is.0) (rw same_header at nobody) (rw (same_header, same_payload) at (replies ∙ ap (option_map (tcp.segment_back r)) answers)) refl (ap (with_sockets H) same)
-
-module _ {S : Type 0} where
-  -- a socket that stands at a place, put there again
-  put_again : (ps : List (Option S)) (i : ℕ) (s : S) → Some s ≡ option_and_then (λ q. q) (slice_get ps i) → slice_set ps i (Some s) ≡ ps
-  put_again [] i s is = refl
-  put_again (q ∷ ps) zero s is = ap (λ (p : Option S). p ∷ ps) is
-  put_again (q ∷ ps) (suc i) s is = ap (λ (rest : List (Option S)). q ∷ rest) (put_again ps i s is)
+    tcp.Unheard somebody (rw tests at is.0) (rw same_header at nobody) (rw (same_header, same_payload) at (replies ∙ ap (option_map (tcp.segment_back r)) answers)) refl (ap (with_places H) same)
 
 -- a set with a socket put back as it was
 pub put_back : {L : Type 0} (set : Sockets L) (i : ℕ) (s t : SocketOf L) → t ≡ s → Some s ≡ socket_at set i → with_place set i (Some t) ≡ set
-put_back set i s t same is = ap (λ places. record set { places = places }) (ap (λ x. slice_set set.places i (Some x)) same ∙ put_again set.places i s is)
+put_back set i s t same is = ap (λ places. record set { places = places }) (ap (λ x. slice_set set.places i (Some x)) same ∙ table.put_back set.places i s is)

@@ -19,7 +19,7 @@ pub fn process_frame<'a>(
     sockets: &mut SocketSet<'_>,
     frame: &'a [u8],
 ) -> Option<EthernetPacket<'a>>
-    ensures takes { TakesFrame (host_of context.old sockets.old.places).hardware_addr (host_of context.old sockets.old.places) frame.now (option_map reply result) [] (host_of context.new sockets.new.places) }
+    ensures takes { TakesFrame (host_of context.old sockets.old).hardware_addr (host_of context.old sockets.old) frame.now (option_map reply result) [] (host_of context.new sockets.new) }
     ensures writable { IsWritableReply (option_map reply result) }
 {
     match context.hardware_addr() {
@@ -37,7 +37,7 @@ pub fn process_ethernet<'a>(
     own: EthernetAddress,
     frame: &'a [u8],
 ) -> Option<EthernetPacket<'a>>
-    ensures takes { TakesEthernet own (host_of context.old sockets.old.places) frame.now (option_map reply result) [] (host_of context.new sockets.new.places) }
+    ensures takes { TakesEthernet own (host_of context.old sockets.old) frame.now (option_map reply result) [] (host_of context.new sockets.new) }
     ensures writable { IsWritableReply (option_map reply result) }
 {
     let (header, payload) = EthernetRepr::parse(frame)?;
@@ -55,7 +55,7 @@ fn process_payload<'a>(
     header: &EthernetRepr,
     payload: &'a [u8],
 ) -> Option<EthernetPacket<'a>>
-    ensures takes { TakesPayload own header.now.src_addr (host_of context.old sockets.old.places) header.now.ethertype payload.now (option_map reply result) [] (host_of context.new sockets.new.places) }
+    ensures takes { TakesPayload own header.now.src_addr (host_of context.old sockets.old) header.now.ethertype payload.now (option_map reply result) [] (host_of context.new sockets.new) }
     ensures writable { IsWritableReply (option_map reply result) }
 {
     match header.ethertype {

@@ -1,7 +1,7 @@
 //! What ICMP sockets hear: every message for them.
 ghost use Rattle.std.specs.Prelude.{◌≡◌, Some, length, slice_set};
 ghost use Rattle.ip_wire.specs.declared.ip.IpAddress.TheVariants.{Ipv4};
-ghost use Rattle.iface_tables.specs.SocketSet.{socket_at};
+ghost use Rattle.iface_tables.specs.SocketSet.{socket_at, with_places};
 ghost use Rattle.host_machine.specs.Delivery.{to_each, to_this};
 ghost use Rattle.host_machine.specs.Icmpv4.{accepts, delivered};
 
@@ -19,7 +19,7 @@ pub fn deliver(
     contents: &[u8],
     octets: &[u8],
 )
-    ensures { sockets.new.places ≡ to_each (accepts message.now contents.now) (delivered (Ipv4 header.now.src_addr) octets.now) sockets.old.places }
+    ensures { sockets.new ≡ with_places sockets.old (to_each (accepts message.now contents.now) (delivered (Ipv4 header.now.src_addr) octets.now) sockets.old.places) }
 {
     let remote = IpAddress::Ipv4(header.src_addr);
     for index in 0..sockets.places() {
@@ -38,6 +38,7 @@ fn deliver_at(
 )
     ensures places { sockets.new.places ≡ slice_set sockets.old.places index (to_this (accepts message.now contents.now) (delivered remote octets.now) (socket_at sockets.old index)) }
     ensures len { length sockets.new.places ≡ length sockets.old.places }
+    ensures waits { sockets.new ≡ with_places sockets.old sockets.new.places }
 {
     if let Some(socket) = sockets.socket_mut(index) {
         deliver_to(socket, remote, message, contents, octets);

@@ -4,7 +4,7 @@ ghost use Rattle.std.specs.Prelude.{◌≡◌, ◌+◌, ◌<◌, ◌^◌, List, 
 ghost use Rattle.std.specs.Option.{option_map};
 ghost use Rattle.ip_wire.specs.Ethernet as ethernet;
 ghost use Rattle.ip_wire.specs.Ipv4 as ipv4;
-ghost use Rattle.host_machine.specs.Host.{Storage};
+ghost use Rattle.host_machine.specs.Host.{SocketSet, no_sockets};
 ghost use Rattle.host_machine.specs.Addresses as addresses;
 ghost use Rattle.host_machine.specs.Frame.{Arp, Ip};
 ghost use Rattle.host_machine.specs.Arp.{TakesArp, listens, answer_by};
@@ -31,7 +31,7 @@ use ip_wire::{
 /// a unicast sender in one of its networks, the sender is learnt for 60 s, and the reply to a request
 /// is described. Any other packet changes nothing.
 pub fn process_arp(context: &mut Context, own: EthernetAddress, payload: &[u8]) -> Option<ArpRepr>
-    ensures { (sockets : List Storage) → TakesArp own (host_of context.old sockets) payload.now (option_map Arp result) [] (host_of context.new sockets) }
+    ensures { (sockets : SocketSet) → TakesArp own (host_of context.old sockets) payload.now (option_map Arp result) [] (host_of context.new sockets) }
 {
     let packet = ArpRepr::parse(payload)?;
     if !listens(context, &packet) {
@@ -48,7 +48,7 @@ pub fn process_arp(context: &mut Context, own: EthernetAddress, payload: &[u8]) 
 /// Whether a packet is for one of the interface's addresses, by a unicast sender in one of its
 /// networks.
 fn listens(context: &Context, packet: &ArpRepr) -> bool
-    ensures listens { result ≡ listens (host_of context.now []) packet.now }
+    ensures listens { result ≡ listens (host_of context.now no_sockets) packet.now }
     ensures protocol { result ≡ true → ipv4.is_unicast packet.now.source_protocol_addr ≡ true }
     ensures link { result ≡ true → ethernet.is_unicast packet.now.source_hardware_addr ≡ true }
 {
@@ -86,7 +86,7 @@ pub fn process_ipv4<'a>(
     source: HardwareAddress,
     octets: &'a [u8],
 ) -> Option<Packet<'a>>
-    ensures takes { TakesIpv4 source (host_of context.old sockets.old.places) octets.now (option_map (λ p. Ip (packet p)) result) [] (host_of context.new sockets.new.places) }
+    ensures takes { TakesIpv4 source (host_of context.old sockets.old) octets.now (option_map (λ p. Ip (packet p)) result) [] (host_of context.new sockets.new) }
     ensures writable { IfSome result (λ p. IsWritable (packet p)) }
 {
     let checked = context.capabilities().checksum.ipv4.rx();
@@ -105,7 +105,7 @@ fn process_packet<'a>(
 ) -> Option<Packet<'a>>
     requires short { length payload.now < 2 ^ 16 }
     requires quotable { 20 + header.now.payload_len < 2 ^ 16 }
-    ensures takes { TakesPacket source header.now fragment.now (host_of context.old sockets.old.places) payload.now (option_map (λ p. Ip (packet p)) result) [] (host_of context.new sockets.new.places) }
+    ensures takes { TakesPacket source header.now fragment.now (host_of context.old sockets.old) payload.now (option_map (λ p. Ip (packet p)) result) [] (host_of context.new sockets.new) }
     ensures writable { IfSome result (λ p. IsWritable (packet p)) }
 {
     if !may_be_source(context, &header.src_addr) {
@@ -124,14 +124,14 @@ fn process_packet<'a>(
 
 /// Whether a packet may come from this address: that of one host, or of one that has none yet.
 fn may_be_source(context: &Context, address: &Ipv4Address) -> bool
-    ensures { result ≡ addresses.may_be_source (host_of context.now []).ip_addrs address.now }
+    ensures { result ≡ addresses.may_be_source (host_of context.now no_sockets).ip_addrs address.now }
 {
     context.is_unicast_v4(address) || address.is_unspecified()
 }
 
 /// Whether a packet to this address is for the interface.
 fn is_for_host(context: &Context, address: &Ipv4Address) -> bool
-    ensures { result ≡ addresses.is_for_host (host_of context.now []) address.now }
+    ensures { result ≡ addresses.is_for_host (host_of context.now no_sockets) address.now }
 {
     context.has_ip_addr(&IpAddress::Ipv4(*address))
         || context.has_multicast_group(address)
@@ -140,7 +140,7 @@ fn is_for_host(context: &Context, address: &Ipv4Address) -> bool
 
 /// Keeps the sender of a packet to the interface alone for another 60 s.
 fn heard_from(context: &mut Context, source: HardwareAddress, header: &Ipv4Repr)
-    ensures { (sockets : List Storage) → host_of context.new sockets ≡ heard_from source header.now (host_of context.old sockets) }
+    ensures { (sockets : SocketSet) → host_of context.new sockets ≡ heard_from source header.now (host_of context.old sockets) }
 {
     if context.is_unicast_v4(&header.dst_addr) {
         renew_neighbor(context, IpAddress::Ipv4(header.src_addr), source);
@@ -158,7 +158,7 @@ fn process_protocol<'a>(
 ) -> Option<Packet<'a>>
     requires short { length payload.now < 2 ^ 16 }
     requires quotable { 20 + header.now.payload_len < 2 ^ 16 }
-    ensures takes { TakesProtocol header.now.next_header by_raw header.now (host_of context.now sockets.old.places) payload.now (option_map (λ p. Ip (packet p)) result) [] (host_of context.now sockets.new.places) }
+    ensures takes { TakesProtocol header.now.next_header by_raw header.now (host_of context.now sockets.old) payload.now (option_map (λ p. Ip (packet p)) result) [] (host_of context.now sockets.new) }
     ensures writable { IfSome result (λ p. IsWritable (packet p)) }
 {
     match header.next_header {
@@ -184,7 +184,7 @@ pub fn process_icmpv4<'a>(
     octets: &'a [u8],
 ) -> Option<Packet<'a>>
     requires { length octets.now < 2 ^ 16 }
-    ensures takes { icmpv4.TakesIcmpv4 header.now (host_of context.now sockets.old.places) octets.now (option_map (λ p. Ip (packet p)) result) [] (host_of context.now sockets.new.places) }
+    ensures takes { icmpv4.TakesIcmpv4 header.now (host_of context.now sockets.old) octets.now (option_map (λ p. Ip (packet p)) result) [] (host_of context.now sockets.new) }
     ensures writable { IfSome result (λ p. IsWritable (packet p)) }
 {
     let checked = context.capabilities().checksum.icmpv4.rx();
@@ -200,7 +200,7 @@ fn answer_to<'a>(
     message: &Icmpv4Repr,
     data: &'a [u8],
 ) -> Option<Packet<'a>>
-    ensures reply { option_map (λ p. Ip (packet p)) result ≡ icmpv4.answer_to (host_of context.now []).ip_addrs header.now message.now data.now }
+    ensures reply { option_map (λ p. Ip (packet p)) result ≡ icmpv4.answer_to (host_of context.now no_sockets).ip_addrs header.now message.now data.now }
     ensures writable { IfSome result (λ p. IsWritable (packet p)) }
 {
     match message {
@@ -225,7 +225,7 @@ pub(crate) fn unreachable<'a>(
     by_raw: bool,
 ) -> Option<Packet<'a>>
     requires quotable { 20 + header.now.payload_len < 2 ^ 16 }
-    ensures reply { option_map (λ p. Ip (packet p)) result ≡ icmpv4.unreachable by_raw (host_of context.now []).ip_addrs reason header.now payload.now }
+    ensures reply { option_map (λ p. Ip (packet p)) result ≡ icmpv4.unreachable by_raw (host_of context.now no_sockets).ip_addrs reason header.now payload.now }
     ensures writable { IfSome result (λ p. IsWritable (packet p)) }
 {
     if by_raw {
@@ -257,7 +257,7 @@ fn icmpv4_reply<'a>(
     octets: &'a [u8],
 ) -> Option<Packet<'a>>
     requires quoted { QuotesPacket message }
-    ensures reply { option_map (λ p. Ip (packet p)) result ≡ icmpv4.icmpv4_reply (host_of context.now []).ip_addrs header.now message octets.now }
+    ensures reply { option_map (λ p. Ip (packet p)) result ≡ icmpv4.icmpv4_reply (host_of context.now no_sockets).ip_addrs header.now message octets.now }
     ensures writable { IfSome result (λ p. IsWritable (packet p)) }
 {
     let src_addr = reply_source(context, header, &message)?;
@@ -273,7 +273,7 @@ fn icmpv4_reply<'a>(
 /// one host, and for a broadcast the first own address, where the message may answer one (RFC 1122
 /// 3.2.2, 3.2.2.6). None goes to what isn't one host.
 fn reply_source(context: &Context, header: &Ipv4Repr, message: &Icmpv4Repr) -> Option<Ipv4Address>
-    ensures { result ≡ icmpv4.reply_source (host_of context.now []).ip_addrs header.now message.now }
+    ensures { result ≡ icmpv4.reply_source (host_of context.now no_sockets).ip_addrs header.now message.now }
 {
     if !context.is_unicast_v4(&header.src_addr) {
         return None;

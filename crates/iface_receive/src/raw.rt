@@ -1,6 +1,6 @@
 //! What raw sockets hear: every packet of their version and protocol.
 ghost use Rattle.std.specs.Prelude.{◌≡◌, ◌+◌, ◌<◌, ◌^◌, Some, length, slice_set};
-ghost use Rattle.iface_tables.specs.SocketSet.{socket_at};
+ghost use Rattle.iface_tables.specs.SocketSet.{socket_at, with_places};
 ghost use Rattle.host_machine.specs.Delivery.{to_this};
 ghost use Rattle.host_machine.specs.Raw.{accepts, delivered, heard, is_taken};
 ghost use Rattle.iface_send.specs.Stands.{host_of};
@@ -19,8 +19,8 @@ pub fn deliver(
     payload: &[u8],
 ) -> bool
     requires quotable { 20 + header.now.payload_len < 2 ^ 16 }
-    ensures taken { result ≡ is_taken header.now (host_of context.now sockets.old.places) }
-    ensures heard { host_of context.now sockets.new.places ≡ heard header.now payload.now (host_of context.now sockets.old.places) }
+    ensures taken { result ≡ is_taken header.now (host_of context.now sockets.old) }
+    ensures heard { host_of context.now sockets.new ≡ heard header.now payload.now (host_of context.now sockets.old) }
 {
     let summed = context.capabilities().checksum.ipv4.tx();
     let mut taken = false;
@@ -42,6 +42,7 @@ fn deliver_at(
     ensures taken { result ≡ accepts header.now.next_header (socket_at sockets.old index) }
     ensures places { sockets.new.places ≡ slice_set sockets.old.places index (to_this (accepts header.now.next_header) (delivered summed header.now payload.now) (socket_at sockets.old index)) }
     ensures len { length sockets.new.places ≡ length sockets.old.places }
+    ensures waits { sockets.new ≡ with_places sockets.old sockets.new.places }
 {
     match sockets.socket_mut(index) {
         Some(socket) => deliver_to(socket, header, payload, summed),

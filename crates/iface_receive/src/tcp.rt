@@ -1,7 +1,7 @@
 //! What an interface does with TCP segments (RFC 9293 3.10.7).
 ghost use Rattle.std.specs.Prelude.{◌≡◌, ◌<◌, ◌^◌, [], Some, true, false, length, slice_set, IfSome};
 ghost use Rattle.std.specs.Option.{option_map};
-ghost use Rattle.iface_tables.specs.SocketSet.{socket_at};
+ghost use Rattle.iface_tables.specs.SocketSet.{socket_at, with_places};
 ghost use Rattle.host_machine.specs.Delivery.{IsNobody};
 ghost use Rattle.host_machine.specs.Frame.{Ip};
 ghost use Rattle.host_machine.specs.Packet.{IsWritable};
@@ -28,7 +28,7 @@ pub fn process_tcp<'a>(
     by_raw: bool,
 ) -> Option<Packet<'a>>
     requires { length octets.now < 2 ^ 16 }
-    ensures takes { spec.TakesTcp by_raw header.now (host_of context.now sockets.old.places) octets.now (option_map (λ p. Ip (packet p)) result) [] (host_of context.now sockets.new.places) }
+    ensures takes { spec.TakesTcp by_raw header.now (host_of context.now sockets.old) octets.now (option_map (λ p. Ip (packet p)) result) [] (host_of context.now sockets.new) }
     ensures writable { IfSome result (λ p. IsWritable (packet p)) }
 {
     if is_between_nobody(header) {
@@ -98,6 +98,7 @@ fn deliver(
     ensures taken { result.0 ≡ true → IsTaken header.now repr.now payload.now sockets.old.places sockets.new.places result.1 }
     ensures nobody { result.0 ≡ false → IsNobody (spec.accepts header.now repr.now) sockets.old.places }
     ensures kept { result.0 ≡ false → sockets.new ≡ sockets.old }
+    ensures waits { sockets.new ≡ with_places sockets.old sockets.new.places }
 {
     for index in 0..sockets.places() {
         let (taken, answer) = deliver_at(sockets, index, header, repr, payload);
@@ -122,6 +123,7 @@ fn deliver_at(
     ensures delivered { result.0 ≡ true → sockets.new.places ≡ slice_set sockets.old.places index (spec.delivered header.now repr.now payload.now (socket_at sockets.old index)) }
     ensures replied { result.0 ≡ true → result.1 ≡ spec.replied repr.now payload.now (socket_at sockets.old index) }
     ensures kept { result.0 ≡ false → sockets.new ≡ sockets.old }
+    ensures waits { sockets.new ≡ with_places sockets.old sockets.new.places }
 {
     match sockets.socket_mut(index) {
         Some(socket) => deliver_to(socket, header, repr, payload),

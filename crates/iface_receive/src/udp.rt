@@ -1,11 +1,12 @@
 //! What an interface does with UDP datagrams (RFC 768, RFC 1122 4.1.3).
 ghost use Rattle.std.specs.Prelude.{◌≡◌, ◌+◌, ◌<◌, ◌^◌, [], Some, None, true, false, slice_set, IfSome};
-ghost use Rattle.iface_tables.specs.SocketSet.{socket_at};
+ghost use Rattle.iface_tables.specs.SocketSet.{socket_at, with_places};
 ghost use Rattle.host_machine.specs.Delivery.{DeliversFirst, IsNobody};
 ghost use Rattle.std.specs.Option.{option_map};
 ghost use Rattle.host_machine.specs.Frame.{Ip};
 ghost use Rattle.host_machine.specs.Packet.{IsWritable};
 ghost use Rattle.host_machine.specs.Udp.{TakesUdp};
+ghost use Rattle.host_machine.specs.Host.{no_sockets};
 ghost use Rattle.iface_send.specs.Shown.{packet};
 ghost use Rattle.iface_send.specs.Stands.{host_of};
 ghost use Rattle.iface_receive.specs.Datagram.{is_taken_by, handed_to};
@@ -29,7 +30,7 @@ pub fn process_udp<'a>(
     by_raw: bool,
 ) -> Option<Packet<'a>>
     requires quotable { 20 + header.now.payload_len < 2 ^ 16 }
-    ensures takes { TakesUdp by_raw header.now (host_of context.now sockets.old.places) octets.now (option_map (λ p. Ip (packet p)) result) [] (host_of context.now sockets.new.places) }
+    ensures takes { TakesUdp by_raw header.now (host_of context.now sockets.old) octets.now (option_map (λ p. Ip (packet p)) result) [] (host_of context.now sockets.new) }
     ensures writable { IfSome result (λ p. IsWritable (packet p)) }
 {
     let checked = context.capabilities().checksum.udp.rx();
@@ -51,9 +52,10 @@ fn deliver(
     ports: &UdpRepr,
     payload: &[u8],
 ) -> bool
-    ensures delivered { result ≡ true → DeliversFirst (is_taken_by (host_of context.now []).ip_addrs header.now ports.now) (handed_to header.now ports.now payload.now) sockets.old.places sockets.new.places }
-    ensures nobody { result ≡ false → IsNobody (is_taken_by (host_of context.now []).ip_addrs header.now ports.now) sockets.old.places }
+    ensures delivered { result ≡ true → DeliversFirst (is_taken_by (host_of context.now no_sockets).ip_addrs header.now ports.now) (handed_to header.now ports.now payload.now) sockets.old.places sockets.new.places }
+    ensures nobody { result ≡ false → IsNobody (is_taken_by (host_of context.now no_sockets).ip_addrs header.now ports.now) sockets.old.places }
     ensures kept { result ≡ false → sockets.new ≡ sockets.old }
+    ensures waits { sockets.new ≡ with_places sockets.old sockets.new.places }
 {
     for index in 0..sockets.places() {
         if deliver_at(context, sockets, index, header, ports, payload) {
@@ -72,9 +74,10 @@ fn deliver_at(
     ports: &UdpRepr,
     payload: &[u8],
 ) -> bool
-    ensures accepted { result ≡ is_taken_by (host_of context.now []).ip_addrs header.now ports.now (socket_at sockets.old index) }
+    ensures accepted { result ≡ is_taken_by (host_of context.now no_sockets).ip_addrs header.now ports.now (socket_at sockets.old index) }
     ensures delivered { result ≡ true → sockets.new.places ≡ slice_set sockets.old.places index (handed_to header.now ports.now payload.now (socket_at sockets.old index)) }
     ensures kept { result ≡ false → sockets.new ≡ sockets.old }
+    ensures waits { sockets.new ≡ with_places sockets.old sockets.new.places }
 {
     match sockets.socket_mut(index) {
         Some(socket) => deliver_to(context, socket, header, ports, payload),
@@ -90,7 +93,7 @@ fn deliver_to(
     ports: &UdpRepr,
     payload: &[u8],
 ) -> bool
-    ensures accepted { result ≡ is_taken_by (host_of context.now []).ip_addrs header.now ports.now (Some socket.old) }
+    ensures accepted { result ≡ is_taken_by (host_of context.now no_sockets).ip_addrs header.now ports.now (Some socket.old) }
     ensures delivered { result ≡ true → Some socket.new ≡ handed_to header.now ports.now payload.now (Some socket.old) }
     ensures kept { result ≡ false → socket.new ≡ socket.old }
 {

@@ -2,7 +2,7 @@
 use Rattle.std.specs.Prelude.{ℕ, List}
 use Rattle.net_base.specs.Device.{Event}
 use Rattle.host_machine.specs.Note.{Note}
-use Rattle.host_machine.specs.Host.{Host, Storage}
+use Rattle.host_machine.specs.Host.{Host, SocketSet}
 use Rattle.host_machine.specs.Frame.{sends}
 use Rattle.iface_send.specs.declared.context.Context.{Context}
 use Rattle.iface_send.specs.Stands.{host_of}
@@ -12,4 +12,4 @@ pub record Sent {D : Type 0} (tells : D → List Event → D → Type 0) (device
   pub frames : List (List ℕ)
   pub notes : List Note
   pub tells_it : tells device (sends frames) device'
-  pub follows : (sockets : List Storage) → Rule (host_of old sockets) frames notes (host_of new sockets)
+  pub follows : (sockets : SocketSet) → Rule (host_of old sockets) frames notes (host_of new sockets)

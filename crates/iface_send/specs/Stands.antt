@@ -3,7 +3,7 @@ use Rattle.std.specs.Prelude.{List}
 use Rattle.arrayvec.specs.ArrayVec.{ArrayVec}
 use Rattle.ip_wire.specs.declared.cidr.IpCidr.{IpCidr}
 use Rattle.iface_tables.specs.declared.route.Route.{Route}
-use Rattle.host_machine.specs.Host.{Host, Storage}
+use Rattle.host_machine.specs.Host.{Host, SocketSet}
 use Rattle.iface_send.specs.declared.context.Context.{Context}
 
 -- a list of addresses, as an interface keeps it
@@ -15,7 +15,7 @@ abbrev pub with_routes : Context → List Route → Context
 with_routes c routes = record c { routes = routes }
 
 -- the host of what a context knows, and of these sockets
-abbrev pub host_of : Context → List Storage → Host
+abbrev pub host_of : Context → SocketSet → Host
 host_of c sockets = record {
   capabilities = c.capabilities;
   hardware_addr = c.hardware_addr;

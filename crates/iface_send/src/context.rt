@@ -3,7 +3,7 @@ ghost use Rattle.std.specs.Prelude.{◌≡◌, ◌≤◌};
 ghost use Rattle.std.specs.List.{list_any};
 ghost use Rattle.net_base.specs.Time.{IsMoment};
 ghost use Rattle.ip_wire.specs.Hardware.{medium_of};
-ghost use Rattle.host_machine.specs.Host.{is_assigned, same_address};
+ghost use Rattle.host_machine.specs.Host.{is_assigned, same_address, no_sockets};
 ghost use Rattle.host_machine.specs.Addresses as addresses;
 
 use arrayvec::ArrayVec;
@@ -41,7 +41,7 @@ impl Context {
     /// The capabilities of the device, when the interface was made.
     #[inline(always)]
     pub fn capabilities(&self) -> DeviceCapabilities
-        ensures { result ≡ (host_of self.now []).capabilities }
+        ensures { result ≡ (host_of self.now no_sockets).capabilities }
     {
         self.capabilities
     }
@@ -49,7 +49,7 @@ impl Context {
     /// The address of the interface on its link.
     #[inline(always)]
     pub fn hardware_addr(&self) -> HardwareAddress
-        ensures { result ≡ (host_of self.now []).hardware_addr }
+        ensures { result ≡ (host_of self.now no_sockets).hardware_addr }
     {
         self.hardware_addr
     }
@@ -57,7 +57,7 @@ impl Context {
     /// The interface's own addresses with their networks, in the order given.
     #[inline(always)]
     pub fn ip_addrs(&self) -> &[IpCidr]
-        ensures value { result.now ≡ (host_of self.now []).ip_addrs }
+        ensures value { result.now ≡ (host_of self.now no_sockets).ip_addrs }
         ensures fits { length result.now ≤ 4 }
     {
         self.ip_addrs.as_slice()
@@ -66,7 +66,7 @@ impl Context {
     /// Whether every address is taken for an own one.
     #[inline(always)]
     pub fn any_ip(&self) -> bool
-        ensures { result ≡ (host_of self.now []).any_ip }
+        ensures { result ≡ (host_of self.now no_sockets).any_ip }
     {
         self.any_ip
     }
@@ -74,7 +74,7 @@ impl Context {
     /// The routes.
     #[inline(always)]
     pub fn routes(&self) -> &Routes
-        ensures { result.now ≡ (host_of self.now []).routes }
+        ensures { result.now ≡ (host_of self.now no_sockets).routes }
     {
         &self.routes
     }
@@ -82,14 +82,14 @@ impl Context {
     /// Whether an address is one of the interface's own: one that was given to it, or any with
     /// AnyIP.
     pub fn has_ip_addr(&self, address: &IpAddress) -> bool
-        ensures { result ≡ host.has_ip_addr (host_of self.now []) address.now }
+        ensures { result ≡ host.has_ip_addr (host_of self.now no_sockets) address.now }
     {
         self.any_ip || is_assigned(self.ip_addrs.as_slice(), address)
     }
 
     /// Whether an address is in a network of the interface's own.
     pub fn in_same_network(&self, address: &IpAddress) -> bool
-        ensures { result ≡ host.in_same_network (host_of self.now []).ip_addrs address.now }
+        ensures { result ≡ host.in_same_network (host_of self.now no_sockets).ip_addrs address.now }
     {
         self.ip_addrs.iter().any(|cidr| cidr.contains_addr(address))
     }
@@ -104,21 +104,21 @@ impl Context {
     /// Whether it is the broadcast address of all networks, or of one of the interface's own (RFC
     /// 922).
     pub fn is_broadcast_v4(&self, address: &Ipv4Address) -> bool
-        ensures { result ≡ addresses.is_broadcast_v4 (host_of self.now []).ip_addrs address.now }
+        ensures { result ≡ addresses.is_broadcast_v4 (host_of self.now no_sockets).ip_addrs address.now }
     {
         address.is_broadcast() || ends_a_network(self.ip_addrs.as_slice(), address)
     }
 
     /// Whether it is the address of one host, as far as the interface can know.
     pub fn is_unicast_v4(&self, address: &Ipv4Address) -> bool
-        ensures { result ≡ addresses.is_unicast_v4 (host_of self.now []).ip_addrs address.now }
+        ensures { result ≡ addresses.is_unicast_v4 (host_of self.now no_sockets).ip_addrs address.now }
     {
         address.is_unicast() && !self.is_broadcast_v4(address)
     }
 
     /// The first own IPv4 address.
     pub fn ipv4_addr(&self) -> Option<Ipv4Address>
-        ensures { result ≡ addresses.ipv4_addr (host_of self.now []).ip_addrs }
+        ensures { result ≡ addresses.ipv4_addr (host_of self.now no_sockets).ip_addrs }
     {
         first_ipv4(self.ip_addrs.as_slice())
     }
@@ -126,7 +126,7 @@ impl Context {
     /// The source for an IPv4 destination: the first own address whose network contains it, else
     /// the first own IPv4 address.
     pub fn get_source_address_ipv4(&self, dst_addr: &Ipv4Address) -> Option<Ipv4Address>
-        ensures { result ≡ addresses.source_v4 (host_of self.now []).ip_addrs dst_addr.now }
+        ensures { result ≡ addresses.source_v4 (host_of self.now no_sockets).ip_addrs dst_addr.now }
     {
         match near_ipv4(self.ip_addrs.as_slice(), dst_addr) {
             Some(near) => Some(near),

@@ -4,7 +4,7 @@ ghost use Rattle.std.specs.Option.{option_map};
 ghost use Rattle.arrayvec.specs.ArrayVec.{array_vec_len};
 ghost use Rattle.net_base.specs.Checksum.{ip_mtu_of};
 ghost use Rattle.ip_wire.specs.Ip.{is_unicast, is_unspecified};
-ghost use Rattle.host_machine.specs.Host.{Storage};
+ghost use Rattle.host_machine.specs.Host.{SocketSet, no_sockets};
 ghost use Rattle.host_machine.specs.Arp.{request_for};
 ghost use Rattle.host_machine.specs.Frame.{IsWritableReply, ip_frame};
 ghost use Rattle.host_machine.specs.Packet.{IsWritable};
@@ -212,7 +212,7 @@ fn emit_frame(
 )
     requires writable { IsWritable (shown.packet packet.now) }
     requires fits { value.total_len (shown.packet packet.now) ≤ ip_mtu_of context.now.capabilities }
-    ensures items { out.new.items ≡ ip_frame (host_of context.now []) destination.now (shown.packet packet.now) }
+    ensures items { out.new.items ≡ ip_frame (host_of context.now no_sockets) destination.now (shown.packet packet.now) }
     ensures len { array_vec_len out.new ≤ 1514 }
 {
     out.clear();
@@ -228,7 +228,7 @@ fn emit_frame(
 /// The hardware address for a destination of many hosts: that of all for a broadcast, that of the
 /// group for a group.
 fn many_address(context: &Context, dst_addr: &IpAddress) -> Option<EthernetAddress>
-    ensures value { result ≡ spec.many_address (host_of context.now []).ip_addrs dst_addr.now }
+    ensures value { result ≡ spec.many_address (host_of context.now no_sockets).ip_addrs dst_addr.now }
     ensures else_one { result ≡ None → is_unspecified dst_addr.now ≡ false → is_unicast dst_addr.now ≡ true }
 {
     match dst_addr {
@@ -281,11 +281,26 @@ fn group_address_v6(group: &Ipv6Address) -> EthernetAddress
     ])
 }
 
+/// Whether the next hop to an address is a neighbour whose hardware address is known, so that a packet
+/// goes there without being asked for. An address that isn't one host's has no next hop.
+pub fn has_neighbor(context: &Context, address: &IpAddress) -> bool
+    ensures { (sockets : SocketSet) → spec.KnowsNextHop (host_of context.now sockets) address.now result }
+{
+    if !address.is_unicast() {
+        return false;
+    }
+    match next_hop(context, address) {
+        Some(hop) => context.neighbor_cache.lookup(&hop, context.moment).found(),
+        None => false,
+    }
+}
+
 /// The next hop to an address: itself in an own network, else the router of the best route, if that
 /// is one host.
+#[inline(always)]
 fn next_hop(context: &Context, address: &IpAddress) -> Option<IpAddress>
     requires { is_unicast address.now ≡ true }
-    ensures hop { (sockets : List Storage) → spec.IsNextHop (host_of context.now sockets) address.now result }
+    ensures hop { (sockets : SocketSet) → spec.IsNextHop (host_of context.now sockets) address.now result }
     ensures unicast { IfSome result (λ hop. is_unicast hop ≡ true) }
 {
     if context.in_same_network(address) {

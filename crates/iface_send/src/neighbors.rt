@@ -3,7 +3,7 @@ ghost use Rattle.std.specs.Prelude.{◌≡◌, List, [], true};
 ghost use Rattle.ip_wire.specs.Hardware as hardware;
 ghost use Rattle.ip_wire.specs.Ip.{is_unicast};
 ghost use Rattle.iface_tables.specs.Neighbor.{Fills, renewed, expiry_from};
-ghost use Rattle.host_machine.specs.Host.{Storage, with_neighbors};
+ghost use Rattle.host_machine.specs.Host.{SocketSet, with_neighbors, no_sockets};
 ghost use Rattle.iface_send.specs.Stands.{host_of};
 
 use crate::context::Context;
@@ -17,8 +17,8 @@ pub fn fill_neighbor(
 )
     requires protocol { is_unicast protocol_addr ≡ true }
     requires link { hardware.is_unicast hardware_addr ≡ true }
-    ensures neighbors { Fills (host_of context.old []).neighbors (host_of context.new []).neighbors protocol_addr (record { hardware_addr = hardware_addr; expires_at = expiry_from (host_of context.old []).moment }) }
-    ensures same { (sockets : List Storage) → host_of context.new sockets ≡ with_neighbors (host_of context.old sockets) (host_of context.new []).neighbors }
+    ensures neighbors { Fills (host_of context.old no_sockets).neighbors (host_of context.new no_sockets).neighbors protocol_addr (record { hardware_addr = hardware_addr; expires_at = expiry_from (host_of context.old no_sockets).moment }) }
+    ensures same { (sockets : SocketSet) → host_of context.new sockets ≡ with_neighbors (host_of context.old sockets) (host_of context.new no_sockets).neighbors }
 {
     context
         .neighbor_cache
@@ -32,7 +32,7 @@ pub fn renew_neighbor(
     protocol_addr: IpAddress,
     hardware_addr: HardwareAddress,
 )
-    ensures { (sockets : List Storage) → host_of context.new sockets ≡ with_neighbors (host_of context.old sockets) (renewed (host_of context.old []).neighbors protocol_addr hardware_addr (expiry_from (host_of context.old []).moment)) }
+    ensures { (sockets : SocketSet) → host_of context.new sockets ≡ with_neighbors (host_of context.old sockets) (renewed (host_of context.old no_sockets).neighbors protocol_addr hardware_addr (expiry_from (host_of context.old no_sockets).moment)) }
 {
     context
         .neighbor_cache

@@ -3,7 +3,7 @@ ghost use Rattle.std.specs.Prelude.{◌≡◌, ◌≤◌, List, [], false, pos};
 ghost use Rattle.std.specs.FinMap as map;
 ghost use Rattle.net_base.specs.Time.{IsMoment};
 ghost use Rattle.ip_wire.specs.Hardware.{medium_of};
-ghost use Rattle.host_machine.specs.Host.{Storage, at};
+ghost use Rattle.host_machine.specs.Host.{SocketSet, at, no_sockets};
 ghost use Rattle.host_machine.specs.Step.{flushed};
 ghost use Rattle.iface_send.specs.Stands.{host_of, with_routes};
 ghost use Rattle.std.specs.Borrow.{sem, Lends};
@@ -29,7 +29,7 @@ pub fn new(
     requires timely { IsMoment now }
     requires short { capabilities.max_transmission_unit ≤ 1514 }
     requires of_medium { medium_of hardware_addr ≡ capabilities.medium }
-    ensures { (sockets : List Storage) → host_of result sockets ≡ record {
+    ensures { (sockets : SocketSet) → host_of result sockets ≡ record {
       capabilities = capabilities;
       hardware_addr = hardware_addr;
       moment = now;
@@ -56,14 +56,14 @@ pub fn new(
 /// Sets the moment.
 pub fn set_moment(context: &mut Context, now: Instant)
     requires { IsMoment now }
-    ensures { (sockets : List Storage) → host_of context.new sockets ≡ at (host_of context.old sockets) now }
+    ensures { (sockets : SocketSet) → host_of context.new sockets ≡ at (host_of context.old sockets) now }
 {
     context.moment = now;
 }
 
 /// Replaces the addresses, and forgets all neighbours.
 pub fn set_ip_addrs(context: &mut Context, list: ArrayVec<IpCidr, IFACE_MAX_ADDR_COUNT>)
-    ensures { (sockets : List Storage) → host_of context.new sockets ≡ record (host_of context.old sockets) { ip_addrs = list.items; neighbors = flushed (host_of context.old sockets).neighbors } }
+    ensures { (sockets : SocketSet) → host_of context.new sockets ≡ record (host_of context.old sockets) { ip_addrs = list.items; neighbors = flushed (host_of context.old sockets).neighbors } }
 {
     context.ip_addrs = list;
     context.neighbor_cache.flush();
@@ -71,15 +71,15 @@ pub fn set_ip_addrs(context: &mut Context, list: ArrayVec<IpCidr, IFACE_MAX_ADDR
 
 /// Takes every address for an own one, or no longer.
 pub fn set_any_ip(context: &mut Context, any_ip: bool)
-    ensures { (sockets : List Storage) → host_of context.new sockets ≡ record (host_of context.old sockets) { any_ip = any_ip } }
+    ensures { (sockets : SocketSet) → host_of context.new sockets ≡ record (host_of context.old sockets) { any_ip = any_ip } }
 {
     context.any_ip = any_ip;
 }
 
 /// Gives the interface another address of its medium.
 pub fn set_hardware_addr(context: &mut Context, hardware_addr: HardwareAddress)
-    requires { medium_of hardware_addr ≡ (host_of context.old []).capabilities.medium }
-    ensures { (sockets : List Storage) → host_of context.new sockets ≡ record (host_of context.old sockets) { hardware_addr = hardware_addr } }
+    requires { medium_of hardware_addr ≡ (host_of context.old no_sockets).capabilities.medium }
+    ensures { (sockets : SocketSet) → host_of context.new sockets ≡ record (host_of context.old sockets) { hardware_addr = hardware_addr } }
 {
     context.hardware_addr = hardware_addr;
 }
@@ -87,7 +87,7 @@ pub fn set_hardware_addr(context: &mut Context, hardware_addr: HardwareAddress)
 /// The routes, for writing.
 pub fn routes_mut(context: &mut Context) -> &mut Routes
     ensures* lends { sem 𝓛 (Lends context_row routes_row context.entry result (λ w. with_routes context.old w)) }
-    ensures value { result.now ≡ (host_of context.old []).routes }
+    ensures value { result.now ≡ (host_of context.old no_sockets).routes }
 {
     &mut context.routes
 }

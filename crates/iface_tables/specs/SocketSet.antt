@@ -1,17 +1,28 @@
--- Sets of sockets: places in order, each with a socket or free.
-use Rattle.std.specs.Prelude.{ℕ, ◌+◌, nat_lt, Bool, true, false, cond, is_none, codes, List, [], ◌∷◌, ◌++◌, length, map, slice_get, slice_set, if◌then◌else◌, Option, Some, None}
+-- Sets of sockets: places in order, each with a socket or free, and with the wait of its socket.
+use Rattle.std.specs.Prelude.{ℕ, ◌+◌, nat_lt, Bool, true, false, cond, is_none, codes, List, [], ◌∷◌, ◌++◌, length, map, get_or, slice_get, slice_set, if◌then◌else◌, Option, Some, None}
 use Rattle.std.specs.Fmt.{decimal}
 use Rattle.std.specs.Option.{option_and_then}
 use Rattle.sockets.specs.declared.socket.SocketOf.{SocketOf}
+use Rattle.iface_tables.specs.SocketMeta.{Wait}
 use Rattle.iface_tables.specs.declared.socket_set.AddError.{AddError}
 use Rattle.iface_tables.specs.declared.socket_set.AddError.TheVariants.{Full, NoMemory}
 
--- what stands at each place, and whether more places may be made
+-- what stands at one place; the wait says nothing where it is free
+pub record Storage (L : Type 0) : Type 0 where
+  pub socket : Option (SocketOf L)
+  pub wait : Wait
+
+-- what stands at each place, the wait of each place's socket, and whether more places may be made
 pub record Sockets (L : Type 0) : Type 0 where
   pub places : List (Option (SocketOf L))
+  pub waits : List Wait
   pub grows : Bool
 
 module _ {L : Type 0} where
+  -- a set over these places
+  abbrev pub over : List (Storage L) → Bool → Sockets L
+  over stored grows = record { places = map (λ p. p.socket) stored; waits = map (λ p. p.wait) stored; grows = grows }
+
   -- the socket at an index, if there is one
   abbrev pub socket_at : Sockets L → ℕ → Option (SocketOf L)
   socket_at s i = option_and_then (λ place. place) (slice_get s.places i)
@@ -29,12 +40,24 @@ module _ {L : Type 0} where
   abbrev pub with_place : Sockets L → ℕ → Option (SocketOf L) → Sockets L
   with_place s i place = record s { places = slice_set s.places i place }
 
-  -- the set with a socket at the least free index, or at a new one behind all
+  -- the set with other sockets at its places; the waits stay
+  abbrev pub with_places : Sockets L → List (Option (SocketOf L)) → Sockets L
+  with_places s places = record s { places = places }
+
+  -- the wait of the socket at an index
+  abbrev pub wait_at : Sockets L → ℕ → Wait
+  wait_at s i = get_or s.waits i None
+
+  -- the set with another wait for the socket at an index
+  abbrev pub with_wait : Sockets L → ℕ → Wait → Sockets L
+  with_wait s i wait = record s { waits = slice_set s.waits i wait }
+
+  -- the set with a socket at the least free index, or at a new one behind all; it does not wait
   abbrev pub added : Sockets L → SocketOf L → Sockets L
   added s socket =
       if has_free s
-      then with_place s (first_free s.places) (Some socket)
-      else record s { places = s.places ++ Some socket ∷ [] }
+      then with_wait (with_place s (first_free s.places) (Some socket)) (first_free s.places) None
+      else record s { places = s.places ++ Some socket ∷ []; waits = s.waits ++ None ∷ [] }
 
   -- the list with the socket of index i in front, if there is one
   abbrev pub with_pair : ℕ → Option (SocketOf L) → List (ℕ × SocketOf L) → List (ℕ × SocketOf L)

@@ -18,13 +18,13 @@ pub struct IterOf<'s, L> {
 pub type Iter<'s, 'a> = IterOf<'s, &'a ()>;
 
 impl<'s, L> Model for IterOf<'s, L> {
-    ghost use Rattle.std.specs.Prelude.{ℕ, ◌+◌, ◌<◌, ◌^◌, List, length};
+    ghost use Rattle.std.specs.Prelude.{ℕ, ◌+◌, ◌<◌, ◌^◌, List, length, map};
     ghost use Rattle.sockets.specs.declared.socket.SocketOf.{SocketOf};
     ghost use Rattle.iface_tables.specs.SocketSet.{pairs_from};
 
     ghost Value = { List (ℕ × SocketOf L) };
 
-    ghost view = { λ it. pairs_from it.next it.places.now };
+    ghost view = { λ it. pairs_from it.next (map (λ p. p.socket) it.places.now) };
 
     ghost invariant = { λ it. it.next + length it.places.now < 2 ^ 64 };
 }

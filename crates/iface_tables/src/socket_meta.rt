@@ -47,13 +47,16 @@ impl Default for Meta {
     fn default() -> Meta
         ensures { result ≡ None }
     {
-        Meta {
-            neighbor_state: NeighborState::Active,
-        }
+        Meta::ACTIVE
     }
 }
 
 impl Meta {
+    // Doesn't wait.
+    pub(crate) const ACTIVE: Meta = Meta {
+        neighbor_state: NeighborState::Active,
+    };
+
     /// How long a socket waits before another discovery is sent for it.
     pub const DISCOVERY_SILENT_TIME: Duration = Duration { micros: 1_000_000 };
 

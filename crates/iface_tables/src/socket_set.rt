@@ -1,36 +1,45 @@
 //! Sets of sockets, each with a handle.
-ghost use Rattle.std.specs.Prelude.{◌≡◌, ◌<◌, true, false, not, Some, None, IsOk, IsErr, IsNone, IfOk, IfErr, OnOk, OnErr, length};
+ghost use Rattle.std.specs.Prelude.{◌≡◌, ◌<◌, Bool, true, false, not, Some, None, IsOk, IsErr, IsSome, IsNone, IfOk, IfErr, OnOk, OnErr, length, map};
 ghost use Rattle.std.specs.Option.{option_copied, option_copied_mut, option_and_then};
-ghost use Rattle.iface_tables.specs.SocketSet.{added, first_free, given_back, handles, has_free, is_full, pairs, socket_at, with_place};
+ghost use Rattle.net_base.specs.Time.{IsMoment};
+ghost use Rattle.iface_tables.specs.SocketMeta.{IsTold, after_asking, is_permitted, silence_from};
+ghost use Rattle.iface_tables.specs.SocketSet.{added, first_free, given_back, handles, has_free, is_full, over, pairs, socket_at, wait_at, with_place, with_wait};
 
 use crate::iter::{HandlesOf, IterOf};
+use crate::socket_meta::Meta;
+use ip_wire::IpAddress;
+use net_base::time::Instant;
 use sockets::socket::{AnySocketOf, SocketOf};
 use std::fmt;
 use std::marker::Model;
 
 /// A place for one socket, with its lifetime as a type parameter.
 ///
-/// In contracts it is the socket that stands there, if there is one.
+/// In contracts it is the socket that stands there, if there is one, and whether that waits.
 #[derive(Drop)]
 pub struct SocketStorageOf<L> {
     inner: Option<SocketOf<L>>,
+    // Says nothing where the place is free.
+    meta: Meta,
 }
 
 /// A place for one socket.
 pub type SocketStorage<'a> = SocketStorageOf<&'a ()>;
 
 impl<L> Model for SocketStorageOf<L> {
-    ghost use Rattle.std.specs.Prelude.{Option};
-    ghost use Rattle.sockets.specs.declared.socket.SocketOf.{SocketOf};
+    ghost use Rattle.iface_tables.specs.SocketSet.{Storage};
 
-    ghost Value = { Option (SocketOf L) };
+    ghost Value = { Storage L };
 
-    ghost view = { λ s. s.inner };
+    ghost view = { λ s. record { socket = s.inner; wait = s.meta } };
 }
 
 impl SocketStorageOf<&'static ()> {
     /// A free place.
-    pub const EMPTY: SocketStorage<'static> = SocketStorageOf { inner: None };
+    pub const EMPTY: SocketStorage<'static> = SocketStorageOf {
+        inner: None,
+        meta: Meta::ACTIVE,
+    };
 }
 
 impl<L> SocketStorageOf<L> {
@@ -40,15 +49,15 @@ impl<L> SocketStorageOf<L> {
 
     // The socket, if there is one.
     pub(crate) fn socket(&self) -> Option<&SocketOf<L>>
-        ensures { option_copied result ≡ self.now }
+        ensures { option_copied result ≡ self.now.socket }
     {
         self.inner.as_ref()
     }
 
     // The same, for writing.
     fn socket_mut(&mut self) -> Option<&mut SocketOf<L>>
-        ensures* lends { sem 𝓛 (LendsIf (storage_row L.row) (socket_row L.row) self.entry result (λ w. Some w) self.old) }
-        ensures value { option_copied_mut result ≡ self.old }
+        ensures* lends { sem 𝓛 (LendsIf (storage_row L.row) (socket_row L.row) self.entry result (λ w. record self.old { socket = Some w }) self.old) }
+        ensures value { option_copied_mut result ≡ self.old.socket }
     {
         self.inner.as_mut()
     }
@@ -56,9 +65,12 @@ impl<L> SocketStorageOf<L> {
 
 impl<L> Default for SocketStorageOf<L> {
     fn default() -> SocketStorageOf<L>
-        ensures { result ≡ None }
+        ensures { result ≡ record { socket = None; wait = None } }
     {
-        SocketStorageOf { inner: None }
+        SocketStorageOf {
+            inner: None,
+            meta: Meta::default(),
+        }
     }
 }
 
@@ -114,7 +126,8 @@ impl fmt::Display for SocketHandle {
 
 /// A set of sockets, with their lifetime as a type parameter.
 ///
-/// In contracts it is the list of what stands at each place, and whether more places may be made.
+/// In contracts it is the list of what stands at each place, the list of the waits of the sockets
+/// there, and whether more places may be made.
 #[derive(Drop)]
 pub struct SocketSetOf<L> {
     sockets: Vec<SocketStorageOf<L>>,
@@ -125,11 +138,11 @@ pub struct SocketSetOf<L> {
 pub type SocketSet<'a> = SocketSetOf<&'a ()>;
 
 impl<L> Model for SocketSetOf<L> {
-    ghost use Rattle.iface_tables.specs.SocketSet.{Sockets};
+    ghost use Rattle.iface_tables.specs.SocketSet.{Sockets, over};
 
     ghost Value = { Sockets L };
 
-    ghost view = { λ s. record { places = s.sockets.items; grows = s.grows } };
+    ghost view = { λ s. over s.sockets.items s.grows };
 }
 
 /// Why a socket found no place. Both give it back. They print as their names.
@@ -157,7 +170,7 @@ impl<T> fmt::Display for AddError<T> {
 impl<L> SocketSetOf<L> {
     /// A set over these places, which makes more of them where none is free.
     pub fn new(sockets: Vec<SocketStorageOf<L>>) -> SocketSetOf<L>
-        ensures { result ≡ record { places = sockets.items; grows = true } }
+        ensures { result ≡ over sockets.items true }
     {
         SocketSetOf {
             sockets,
@@ -167,7 +180,7 @@ impl<L> SocketSetOf<L> {
 
     /// A set over these places, which never makes more of them.
     pub fn fixed(sockets: Vec<SocketStorageOf<L>>) -> SocketSetOf<L>
-        ensures { result ≡ record { places = sockets.items; grows = false } }
+        ensures { result ≡ over sockets.items false }
     {
         SocketSetOf {
             sockets,
@@ -197,6 +210,7 @@ impl<L: Drop> SocketSetOf<L> {
         if index < self.sockets.len() {
             self.sockets[index] = SocketStorageOf {
                 inner: Some(socket.upcast()),
+                meta: Meta::default(),
             };
             return Ok(SocketHandle(index));
         }
@@ -208,6 +222,7 @@ impl<L: Drop> SocketSetOf<L> {
         }
         let _ = self.sockets.push(SocketStorageOf {
             inner: Some(socket.upcast()),
+            meta: Meta::default(),
         });
         Ok(SocketHandle(index))
     }
@@ -269,6 +284,40 @@ impl<L: Drop> SocketSetOf<L> {
         HandlesOf { iter: self.iter() }
     }
 
+    /// Whether the socket at an index may be asked for packets at a moment: it doesn't wait, or the
+    /// neighbour that it waits for is known, which ends the wait, or the wait has passed. A free place,
+    /// and an index out of range, has no socket that may.
+    pub fn egress_permitted<F: Fn(IpAddress) -> bool>(
+        &mut self,
+        index: usize,
+        timestamp: Instant,
+        has_neighbor: F,
+    ) -> bool
+        requires { F.IsAlwaysCallable has_neighbor }
+        ensures socket { IsSome (socket_at self.old index) → (known : Bool) × IsTold (F.post has_neighbor) (wait_at self.old index) known
+            × (result ≡ is_permitted (wait_at self.old index) known timestamp) × (self.new ≡ with_wait self.old index (after_asking (wait_at self.old index) known)) }
+        ensures nobody { IsNone (socket_at self.old index) → (result ≡ false) × (self.new ≡ self.old) }
+    {
+        let Some(storage) = self.sockets.get_mut(index) else {
+            return false;
+        };
+        if storage.inner.is_none() {
+            return false;
+        }
+        storage.meta.egress_permitted(timestamp, has_neighbor)
+    }
+
+    /// Lets the socket at an index wait for a neighbour, until 1 s after the moment.
+    pub fn neighbor_missing(&mut self, index: usize, timestamp: Instant, neighbor: IpAddress)
+        requires { IsMoment timestamp }
+        ensures { self.new ≡ with_wait self.old index (Some (neighbor, silence_from timestamp)) }
+    {
+        let Some(storage) = self.sockets.get_mut(index) else {
+            return;
+        };
+        storage.meta.neighbor_missing(timestamp, neighbor);
+    }
+
     /// Takes out the socket of a handle, and frees its place. `None` exactly for a free place or an
     /// index out of range; then the set stays as it was.
     pub fn remove(&mut self, handle: SocketHandle) -> Option<SocketOf<L>>
@@ -276,16 +325,14 @@ impl<L: Drop> SocketSetOf<L> {
         ensures freed { handle < length self.old.places → self.new ≡ with_place self.old handle None }
         ensures unchanged { IsNone result → self.new ≡ self.old }
     {
-        match self.sockets.get_mut(handle.0) {
-            Some(storage) => storage.inner.take(),
-            None => None,
-        }
+        let storage = self.sockets.get_mut(handle.0)?;
+        storage.inner.take()
     }
 }
 
 // The least free index, or the number of places.
 fn first_free<L>(places: &[SocketStorageOf<L>]) -> usize
-    ensures { result ≡ first_free places.now }
+    ensures { result ≡ first_free (map (λ p. p.socket) places.now) }
 {
     for (i, place) in places.iter().enumerate() {
         if place.socket().is_none() {

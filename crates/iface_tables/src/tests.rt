@@ -192,6 +192,37 @@ fn handles_rise(rt: HostRuntime) -> Result<(), Fail> {
 }
 
 #[test]
+fn a_socket_waits_at_its_place(rt: HostRuntime) -> Result<(), Fail> {
+    let mut set: SocketSet<'_> = SocketSet::new(Vec::new(rt.alloc()));
+    let first = add(&mut set, udp_socket(rt.alloc(), 1)?)?;
+    add(&mut set, udp_socket(rt.alloc(), 2)?)?;
+    set.neighbor_missing(0, Instant::from_secs(1), FIRST);
+    set.neighbor_missing(2, Instant::from_secs(1), FIRST);
+    for (index, micros, permitted) in [
+        (0, 1_000_000, false),
+        (0, 1_999_999, false),
+        (0, 2_000_000, true),
+        (0, 1_999_999, false),
+        (1, 1_000_000, true),
+        (2, 2_000_000, false),
+    ] {
+        let timestamp = Instant::from_micros(micros);
+        assert_eq!(rt;
+            set.egress_permitted(index, timestamp, |a| a == SECOND),
+            permitted
+        );
+    }
+    assert!(rt; is_removed(&mut set, first));
+    assert!(rt; !set.egress_permitted(0, Instant::from_secs(3), |_| true));
+    assert_eq!(rt; add(&mut set, udp_socket(rt.alloc(), 3)?)?, first);
+    assert!(rt; set.egress_permitted(0, Instant::ZERO, |_| false));
+    set.neighbor_missing(0, Instant::from_secs(1), FIRST);
+    assert!(rt; set.egress_permitted(0, Instant::ZERO, |a| a == FIRST));
+    assert!(rt; set.egress_permitted(0, Instant::ZERO, |_| false));
+    Ok(())
+}
+
+#[test]
 fn a_fixed_set_gives_the_socket_back(rt: HostRuntime) -> Result<(), Fail> {
     let mut places = Vec::new(rt.alloc());
     if places.push(SocketStorage::EMPTY).is_err() {

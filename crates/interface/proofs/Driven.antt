@@ -10,7 +10,7 @@ use Rattle.host_machine.specs.declared.command.Answer.{Answer}
 use Rattle.host_machine.specs.declared.command.Answer.TheVariants as answer
 use Rattle.host_machine.specs.declared.results.AddrError.{AddrError}
 use Rattle.host_machine.specs.declared.results.PollIngressSingleResult.{PollIngressSingleResult}
-use Rattle.host_machine.specs.Host.{Host, Storage}
+use Rattle.host_machine.specs.Host.{Host, SocketSet}
 use Rattle.host_machine.specs.declared.results.PollResult.{PollResult}
 use Rattle.host_machine.specs.Ingress.{Ingress}
 use Rattle.host_machine.specs.Egress.{Egress}
@@ -28,7 +28,7 @@ use Rattle.interface.specs.Stands.{StandsFor, host_with}
 use Rattle.interface.specs.Goes.{Went}
 use Rattle.interface.specs.Commands.{CommandWent, CommandGoes}
 
-module _ {D O : Type 0} (tells : D → List Event → D → Type 0) (did : O → ℕ → List Storage → List Storage → O → Type 0) where
+module _ {D O : Type 0} (tells : D → List Event → D → Type 0) (did : O → ℕ → SocketSet → SocketSet → O → Type 0) where
   -- one command is a run of one place
   pub ran_one : (d e : D) (o p : O) (c : Command) (a : Answer) (H : Host) (after : Host → Type 0) → CommandWent tells did d e o p c a H after → Ran tells did d e o p (c ∷ []) (a ∷ []) H after
   ran_one d e o p c a H after went = record {
@@ -53,16 +53,16 @@ module _ {D O : Type 0} (tells : D → List Event → D → Type 0) (did : O →
 
   -- the addresses were replaced, or nothing changed
   pub addresses_put : (d : D) (o : O) (i j : Interface) (s : Sockets (Bor (Unit {0}))) (list : Addresses) (answered : Result (Unit {0}) AddrError) →
-      ((sockets : List Storage) → UpdatesIpAddrs list.items answered (host_with i sockets) (host_with j sockets)) → tells d [] d →
+      ((sockets : SocketSet) → UpdatesIpAddrs list.items answered (host_with i sockets) (host_with j sockets)) → tells d [] d →
       CommandGoes tells did d d o o (command.UpdateIpAddrs list) (answer.UpdateIpAddrs answered) (StandsFor i s) (StandsFor j s)
   addresses_put d o i j s list answered updates quiet = λ H h. record {
     told = [];
     acts = [];
     notes = [];
-    host = host_with j s.places;
+    host = host_with j s;
     tells_it = quiet;
     owner_did = NoAct;
-    steps = UpdatedIpAddrs (rw h.same (updates s.places));
+    steps = UpdatedIpAddrs (rw h.same (updates s));
     stands = record { same = refl };
   }
 
@@ -81,17 +81,17 @@ module _ {D O : Type 0} (tells : D → List Event → D → Type 0) (did : O →
   }
 
   -- the owner acted
-  pub acted : (d : D) (o p : O) (number : ℕ) (i : Interface) (s t : Sockets (Bor (Unit {0}))) → did o number s.places t.places p → tells d [] d →
+  pub acted : (d : D) (o p : O) (number : ℕ) (i : Interface) (s t : Sockets (Bor (Unit {0}))) → did o number s t p → tells d [] d →
       CommandGoes tells did d d o p (command.Owner number) answer.Owner (StandsFor i s) (StandsFor i t)
   acted d o p number i s t does quiet = λ H h. record {
     told = [];
-    acts = record { number = number; before = H.sockets; after = t.places } ∷ [];
+    acts = record { number = number; before = H.sockets; after = t } ∷ [];
     notes = [];
-    host = record H { sockets = t.places };
+    host = record H { sockets = t };
     tells_it = quiet;
     owner_did = ThenAct (rw (ap (λ (K : Host). K.sockets) h.same) does) NoAct;
-    steps = OwnerActed t.places;
-    stands = record { same = ap (λ (K : Host). record K { sockets = t.places }) h.same };
+    steps = OwnerActed t;
+    stands = record { same = ap (λ (K : Host). record K { sockets = t }) h.same };
   }
 
   -- the sockets have sent what they could
@@ -110,12 +110,12 @@ module _ {D O : Type 0} (tells : D → List Event → D → Type 0) (did : O →
 
   -- a call that only sets something
   pub was_set : (d : D) (o : O) (i j : Interface) (s : Sockets (Bor (Unit {0}))) (c : Command) (a : Answer) → tells d [] d →
-      Step c a (host_with i s.places) [] [] [] (host_with j s.places) → CommandGoes tells did d d o o c a (StandsFor i s) (StandsFor j s)
+      Step c a (host_with i s) [] [] [] (host_with j s) → CommandGoes tells did d d o o c a (StandsFor i s) (StandsFor j s)
   was_set d o i j s c a quiet steps = λ H h. record {
     told = [];
     acts = [];
     notes = [];
-    host = host_with j s.places;
+    host = host_with j s;
     tells_it = quiet;
     owner_did = NoAct;
     steps = rw h.same steps;

@@ -1,13 +1,13 @@
 -- How an interface begins, over plain variables.
-use Rattle.std.proofs.Common.{◌≡◌, ℕ, ◌≤◌, true, List, [], refl, arith, Option, None}
-use Rattle.std.specs.Prelude.{ℤ, Bool, false, pos}
+use Rattle.std.proofs.Common.{◌≡◌, ℕ, ◌≤◌, true, [], arith, None}
+use Rattle.std.specs.Prelude.{ℤ, false, pos}
 use Rattle.std.specs.FinMap as map
 use Rattle.std.proofs.lemmas.Bool.Decides.{nat_tests}
 use Rattle.net_base.specs.declared.phy.DeviceCapabilities.{DeviceCapabilities}
 use Rattle.net_base.specs.Checksum.{ip_mtu_of}
 use Rattle.ip_wire.specs.declared.hardware.HardwareAddress.{HardwareAddress}
 use Rattle.ip_wire.specs.Hardware.{medium_of, is_unicast}
-use Rattle.host_machine.specs.Host.{Host, Storage}
+use Rattle.host_machine.specs.Host.{Host, SocketSet}
 use Rattle.host_machine.specs.Config.{refusal_of, same_medium, first_host, first_id}
 
 -- no reason to refuse holds
@@ -15,8 +15,8 @@ pub not_refused : (c : DeviceCapabilities) (h : HardwareAddress) → same_medium
 not_refused c h same unicast low high = rw (same, unicast) (grind (arith, nat_tests))
 
 -- the interface is made
-pub made : (c d : DeviceCapabilities) (h : HardwareAddress) (seed id : ℕ) (t : ℤ) (host : List Storage → Host) → c ≡ d → id ≡ first_id seed → refusal_of c h ≡ None →
-    ((sockets : List Storage) → host sockets ≡ record {
+pub made : (c d : DeviceCapabilities) (h : HardwareAddress) (seed id : ℕ) (t : ℤ) (host : SocketSet → Host) → c ≡ d → id ≡ first_id seed → refusal_of c h ≡ None →
+    ((sockets : SocketSet) → host sockets ≡ record {
       capabilities = c;
       hardware_addr = h;
       moment = t;
@@ -27,5 +27,5 @@ pub made : (c d : DeviceCapabilities) (h : HardwareAddress) (seed id : ℕ) (t :
       ipv4_id = id;
       sockets = sockets;
     }) →
-    (refusal_of d h ≡ None) × ((sockets : List Storage) → host sockets ≡ first_host d h seed t sockets)
+    (refusal_of d h ≡ None) × ((sockets : SocketSet) → host sockets ≡ first_host d h seed t sockets)
 made c d h seed id t host same is allowed makes = (rw (← same) allowed, λ sockets. rw (← same, ← is) (makes sockets))

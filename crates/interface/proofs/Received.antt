@@ -1,5 +1,5 @@
 -- What came from a device, over plain variables.
-use Rattle.std.proofs.Common.{◌≡◌, ℕ, ◌<◌, List, [], ◌∷◌, length, refl, sym, subst, arith, Option, Some, None}
+use Rattle.std.proofs.Common.{◌≡◌, ℕ, ◌<◌, List, [], ◌∷◌, length, refl, sym, subst, arith, Option, None}
 use Rattle.std.specs.Prelude.{ℤ}
 use Rattle.net_base.specs.Device.{Event, Received, Frame, Nothing, Withheld, HandsNone, WasEmpty, WasWithheld}
 use Rattle.host_machine.specs.declared.results.PollIngressSingleResult.TheVariants as result

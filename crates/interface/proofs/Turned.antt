@@ -1,22 +1,25 @@
 -- The turns of sockets, from their parts.
-use Rattle.std.proofs.Common.{◌≡◌, ℕ, ◌+◌, ◌<◌, Bool, true, false, List, [], ◌∷◌, ◌++◌, length, ◌≤◌, refl, sym, ◌∙◌, subst, ◌⊎◌, inl, inr, get_or, arith, Option, Some, None, Ok, Err}
-use Rattle.std.specs.Prelude.{ℤ, ◌||◌, is_ok, slice_get, slice_set}
+use Rattle.std.proofs.Common.{◌≡◌, ℕ, ◌+◌, ◌<◌, Bool, true, false, List, [], ◌∷◌, ◌++◌, length, ◌≤◌, refl, sym, ap, ◌∙◌, subst, zero, suc, ◌⊎◌, inl, inr, get_or, arith, Option, Some, None, Ok, Err}
+use Rattle.std.specs.Prelude.{IsSome, IsNone, ℤ, ◌||◌, is_ok, slice_get, slice_set}
 use Rattle.std.specs.Option.{option_map, option_and_then}
-use Rattle.std.proofs.lemmas.Option.{slice_get_past, slice_get_cases}
+use Rattle.std.proofs.lemmas.List.{set-get_or, set-set}
+use Rattle.std.proofs.lemmas.Option.{slice_get_cases}
 use Rattle.net_base.specs.Device.{Event, Asked}
 use Rattle.sockets.specs.Kinds.{offered, told}
 use Rattle.sockets.specs.Kinds as kinds
 use Rattle.sockets.specs.declared.socket.Offer.{Offer}
+use Rattle.ip_wire.specs.declared.ip.IpAddress.{IpAddress}
+use Rattle.iface_tables.specs.SocketMeta.{Wait, IsTold, is_permitted, after_asking}
+use Rattle.iface_tables.specs.SocketSet.{socket_at, wait_at, with_place, with_wait}
 use Rattle.host_machine.specs.declared.results.Turn.{Turn}
-use Rattle.host_machine.specs.declared.results.Turn.TheVariants.{Idle, Gone, Exhausted}
-use Rattle.host_machine.specs.Note.{Note}
+use Rattle.host_machine.specs.declared.results.Turn.TheVariants.{Idle, Gone, Unsent, Exhausted}
 use Rattle.host_machine.specs.declared.results.PollResult.{PollResult}
-use Rattle.host_machine.specs.Host.{Host, Storage, at}
+use Rattle.host_machine.specs.Host.{Host, SocketSet, Storage, at, no_sockets}
 use Rattle.host_machine.specs.Addresses.{source_for}
 use Rattle.host_machine.specs.Packet as value
 use Rattle.host_machine.specs.Frame.{sends}
-use Rattle.host_machine.specs.Dispatch.{Outcome, Dispatches}
-use Rattle.host_machine.specs.Egress.{Socket, packet_of, packet_from, asked, turn_of, is_gone, is_exhausted, SocketTurn, Silent, Refused, Sent, Serves, Free, Taken, Walks, Begins, Goes, Stops, Whole, Stopped, SocketsSend, Egress, answer_of}
+use Rattle.host_machine.specs.Dispatch.{Outcome, Dispatches, KnowsNextHop, destination_of}
+use Rattle.host_machine.specs.Egress.{Socket, packet_of, packet_from, asked, turn_of, is_gone, is_exhausted, Silent, Refused, Sent, Free, Waits, Served, wait_after, Begins, Goes, Stops, Stopped, SocketsSend, Egress, answer_of}
 use Rattle.iface_send.specs.declared.context.Context.{Context}
 use Rattle.iface_send.specs.declared.packet.Packet.{Packet}
 use Rattle.iface_send.specs.Shown as shown
@@ -24,7 +27,7 @@ use Rattle.iface_send.specs.Sent as iface
 use Rattle.iface_send.specs.Stands.{host_of}
 use Rattle.interface.specs.Goes.{Went}
 use Rattle.interface.specs.Told.{Told}
-use Rattle.interface.specs.Turns.{HasTurn, IsServed, AreServed, SocketsServed}
+use Rattle.interface.specs.Turns.{HasTurn, IsDecided, NoSocket, OfSocket, IsServed, AreServed, SocketsServed}
 
 -- a socket that offers nothing has no packet
 pub none_offered : (H : Host) (s : Socket) (r : Option Offer) → option_map kinds.shown r ≡ offered H.moment (source_for H.ip_addrs) s → r ≡ None → packet_from H s ≡ None
@@ -35,25 +38,25 @@ pub packet_is : (H : Host) (s : Socket) (r : Option Offer) (o : Offer) (p : Opti
     option_map shown.packet p ≡ packet_of (kinds.shown o) → packet_from H s ≡ option_map shown.packet p
 packet_is H s r o p offers is shows = rw (← offers, is, shows) refl
 
-gone_turn : (o : Outcome) → is_ok o ≡ true → Gone ≡ turn_of o
-gone_turn (Ok done) is = refl
-gone_turn (Err error) is = absurd cc
+gone_turn : (p : value.Packet) (o : Outcome) → is_ok o ≡ true → Gone ≡ turn_of p o
+gone_turn p (Ok done) is = refl
+gone_turn p (Err error) is = absurd cc
 
-kept_turn : (o : Outcome) → is_ok o ≡ false → Idle ≡ turn_of o
-kept_turn (Ok done) is = absurd cc
-kept_turn (Err error) is = refl
+kept_turn : (p : value.Packet) (o : Outcome) → is_ok o ≡ false → Unsent (destination_of p) ≡ turn_of p o
+kept_turn p (Ok done) is = absurd cc
+kept_turn p (Err error) is = refl
 
 module _ {D : Type 0} {tells : D → List Event → D → Type 0} where
-  pub silent : {d : D} (c : Context) {s s' : Socket} → tells d [] d → packet_from (host_of c []) s ≡ None → s' ≡ asked (host_of c []) s → Told tells d d (HasTurn s Idle s' c c)
+  pub silent : {d : D} (c : Context) {s s' : Socket} → tells d [] d → packet_from (host_of c no_sockets) s ≡ None → s' ≡ asked (host_of c no_sockets) s → Told tells d d (HasTurn s Idle s' c c)
   silent c quiet none settles = record { told = []; notes = []; tells_it = quiet; follows = λ sockets. Silent none refl refl refl refl settles }
 
-  pub refused : {d e : D} (c : Context) {s s' : Socket} (p : value.Packet) → tells d (Asked false ∷ []) e → packet_from (host_of c []) s ≡ Some p → s' ≡ asked (host_of c []) s →
+  pub refused : {d e : D} (c : Context) {s s' : Socket} (p : value.Packet) → tells d (Asked false ∷ []) e → packet_from (host_of c no_sockets) s ≡ Some p → s' ≡ asked (host_of c no_sockets) s →
       Told tells d e (HasTurn s Exhausted s' c c)
   refused c p asks some settles = record { told = Asked false ∷ []; notes = []; tells_it = asks; follows = λ sockets. Refused p some refl refl refl refl settles }
 
   sent : {d m e : D} (c c' : Context) {s s' : Socket} {t : Turn} → ((a b c : D) (xs ys : List Event) → tells a xs b → tells b ys c → tells a (xs ++ ys) c) →
-      (p : value.Packet) (o : Outcome) → tells d (Asked true ∷ []) m → iface.Sent tells m e (Dispatches p o) c c' → packet_from (host_of c []) s ≡ Some p → t ≡ turn_of o →
-      s' ≡ told (is_ok o) (asked (host_of c []) s) → Told tells d e (HasTurn s t s' c c')
+      (p : value.Packet) (o : Outcome) → tells d (Asked true ∷ []) m → iface.Sent tells m e (Dispatches p o) c c' → packet_from (host_of c no_sockets) s ≡ Some p → t ≡ turn_of p o →
+      s' ≡ told (is_ok o) (asked (host_of c no_sockets) s) → Told tells d e (HasTurn s t s' c c')
   sent {d} {m} {e} c c' tells_on p o asks dispatched some turns tells_it = record {
     told = Asked true ∷ sends dispatched.frames;
     notes = dispatched.notes;
@@ -62,21 +65,21 @@ module _ {D : Type 0} {tells : D → List Event → D → Type 0} where
   }
 
   pub sent_gone : {d m e : D} (c c' : Context) {s s' asked_so : Socket} → ((a b c : D) (xs ys : List Event) → tells a xs b → tells b ys c → tells a (xs ++ ys) c) →
-      (p : value.Packet) (o : Outcome) (gone : Bool) → tells d (Asked true ∷ []) m → iface.Sent tells m e (Dispatches p o) c c' → packet_from (host_of c []) s ≡ Some p →
-      gone ≡ is_ok o → gone ≡ true → asked_so ≡ asked (host_of c []) s → s' ≡ told gone asked_so → Told tells d e (HasTurn s Gone s' c c')
+      (p : value.Packet) (o : Outcome) (gone : Bool) → tells d (Asked true ∷ []) m → iface.Sent tells m e (Dispatches p o) c c' → packet_from (host_of c no_sockets) s ≡ Some p →
+      gone ≡ is_ok o → gone ≡ true → asked_so ≡ asked (host_of c no_sockets) s → s' ≡ told gone asked_so → Told tells d e (HasTurn s Gone s' c c')
   sent_gone c c' tells_on p o gone asks dispatched some is_it is settles tells_it =
-      sent c c' tells_on p o asks dispatched some (gone_turn o (sym is_it ∙ is)) (rw (← is_it, ← settles) tells_it)
+      sent c c' tells_on p o asks dispatched some (gone_turn p o (sym is_it ∙ is)) (rw (← is_it, ← settles) tells_it)
 
-  pub sent_kept : {d m e : D} (c c' : Context) {s s' asked_so : Socket} → ((a b c : D) (xs ys : List Event) → tells a xs b → tells b ys c → tells a (xs ++ ys) c) →
-      (p : value.Packet) (o : Outcome) (gone : Bool) → tells d (Asked true ∷ []) m → iface.Sent tells m e (Dispatches p o) c c' → packet_from (host_of c []) s ≡ Some p →
-      gone ≡ is_ok o → gone ≡ false → asked_so ≡ asked (host_of c []) s → s' ≡ told gone asked_so → Told tells d e (HasTurn s Idle s' c c')
-  sent_kept c c' tells_on p o gone asks dispatched some is_it is settles tells_it =
-      sent c c' tells_on p o asks dispatched some (kept_turn o (sym is_it ∙ is)) (rw (← is_it, ← settles) tells_it)
+  pub sent_kept : {d m e : D} (c c' : Context) {s s' asked_so : Socket} {a : IpAddress} → ((a b c : D) (xs ys : List Event) → tells a xs b → tells b ys c → tells a (xs ++ ys) c) →
+      (p : value.Packet) (o : Outcome) (gone : Bool) → tells d (Asked true ∷ []) m → iface.Sent tells m e (Dispatches p o) c c' → packet_from (host_of c no_sockets) s ≡ Some p →
+      gone ≡ is_ok o → gone ≡ false → a ≡ destination_of p → asked_so ≡ asked (host_of c no_sockets) s → s' ≡ told gone asked_so → Told tells d e (HasTurn s (Unsent a) s' c c')
+  sent_kept c c' tells_on p o gone asks dispatched some is_it is goes_to settles tells_it =
+      sent c c' tells_on p o asks dispatched some (ap Unsent goes_to ∙ kept_turn p o (sym is_it ∙ is)) (rw (← is_it, ← settles) tells_it)
 
 none_some : {A : Type 0} {x : A} → None ≡ Some x → ⊥
 none_some is = absurd cc
 
-taken_place : (x : Option Storage) (s : Socket) → Some s ≡ option_and_then (λ place. place) x → x ≡ Some (Some s)
+taken_place : (x : Option Storage) (s : Socket) → option_and_then (λ place. place) x ≡ Some s → x ≡ Some (Some s)
 taken_place None s is = absurd cc
 taken_place (Some None) s is = absurd cc
 taken_place (Some (Some t)) s is = cc
@@ -87,26 +90,72 @@ inside xs i within none = by (slice_get_cases xs i).1 where
   by (inl found) = none_some (sym none ∙ found.2)
   by (inr past) = omega (arith, within, past.0)
 
-free_place : (x : Option Storage) → None ≡ option_and_then (λ place. place) x → (x ≡ None → ⊥) → x ≡ Some None
+free_place : (x : Option Storage) → option_and_then (λ place. place) x ≡ None → (x ≡ None → ⊥) → x ≡ Some None
 free_place None is inside = absurd (inside refl)
 free_place (Some None) is inside = refl
 free_place (Some (Some t)) is inside = absurd cc
 
-module _ {D : Type 0} {tells : D → List Event → D → Type 0} where
-  -- the socket of a place had its turn
-  pub place_served : {d e : D} (c c' : Context) (s s' : Socket) {t : Turn} (places : List Storage) (i : ℕ) → Told tells d e (HasTurn s t s' c c') →
-      Some s ≡ option_and_then (λ place. place) (slice_get places i) → Told tells d e (IsServed i t (host_of c places) (host_of c' (slice_set places i (Some s'))))
-  place_served c c' s s' places i turned is = record {
-    told = turned.told;
-    notes = turned.notes;
-    tells_it = turned.tells_it;
-    follows = Taken s s' (host_of c' places) (taken_place (slice_get places i) s is) (turned.follows places) refl;
-  }
+-- what a closure of this kind is told, the host is told
+told_as : {P Q : IpAddress → Bool → Type 0} (w : Wait) (known : Bool) → ((a : IpAddress) (k : Bool) → P a k → Q a k) → IsTold P w known → IsTold Q w known
+told_as None known tells is = is
+told_as (Some wait) known tells is = tells wait.0 known is
 
-  -- a free place has its turn for nothing
-  pub free_served : {d : D} (c : Context) (places : List Storage) (i : ℕ) → tells d [] d → i < length places → None ≡ option_and_then (λ place. place) (slice_get places i) →
-      Told tells d d (IsServed i Idle (host_of c places) (host_of c places))
-  free_served c places i quiet within is = record { told = []; notes = []; tells_it = quiet; follows = Free (free_place (slice_get places i) is (inside places i within)) refl refl refl refl }
+-- it is decided whether the socket of a place may be asked
+pub decided : {P : IpAddress → Bool → Type 0} (c : Context) (sockets new : SocketSet) (i : ℕ) (permitted : Bool) → ((a : IpAddress) (k : Bool) → P a k → KnowsNextHop (host_of c sockets) a k) →
+    (IsSome (socket_at sockets i) → (known : Bool) × IsTold P (wait_at sockets i) known × (permitted ≡ is_permitted (wait_at sockets i) known c.moment) × (new ≡ with_wait sockets i (after_asking (wait_at sockets i) known))) →
+    (IsNone (socket_at sockets i) → (permitted ≡ false) × (new ≡ sockets)) → IsDecided (host_of c sockets) i permitted new
+decided {P} c sockets new i permitted knows asked none = by (socket_at sockets i) refl where
+  by : (o : Option Socket) → socket_at sockets i ≡ o → IsDecided (host_of c sockets) i permitted new
+  by None is = NoSocket is (none (rw is refl)).0 (none (rw is refl)).1
+  by (Some s) is =
+      let e = asked (rw is refl) in
+      OfSocket s e.0 is (told_as (wait_at sockets i) e.0 knows e.1) e.2 e.3
+
+-- a socket that may not be asked keeps its wait
+waits_on : (w : Wait) (known : Bool) (t : ℤ) → is_permitted w known t ≡ false → after_asking w known ≡ w
+waits_on None known t is = absurd cc
+waits_on (Some wait) true t is = absurd cc
+waits_on (Some wait) false t is = refl
+
+-- the wait after it was decided stands at its place
+decided_wait : (ws : List Wait) (i : ℕ) (known : Bool) → get_or (slice_set ws i (after_asking (get_or ws i None) known)) i None ≡ after_asking (get_or ws i None) known
+decided_wait [] i known = refl
+decided_wait (w ∷ ws) zero known = refl
+decided_wait (w ∷ ws) (suc i) known = decided_wait ws i known
+
+module _ {D : Type 0} {tells : D → List Event → D → Type 0} where
+  -- a place that isn't asked has its turn for nothing
+  pub not_asked : {d : D} (c : Context) (sockets new : SocketSet) (i : ℕ) (permitted : Bool) → tells d [] d → i < length sockets.places → permitted ≡ false →
+      IsDecided (host_of c sockets) i permitted new → Told tells d d (IsServed i Idle (host_of c sockets) (host_of c new))
+  not_asked c sockets new i permitted quiet within refused (NoSocket none isn_t same) =
+      rw same (record { told = []; notes = []; tells_it = quiet; follows = Free (free_place (slice_get sockets.places i) none (inside sockets.places i within)) refl refl refl refl })
+  not_asked c sockets new i permitted quiet within refused (OfSocket s known some knows is same) =
+      let not_permitted : is_permitted (wait_at sockets i) known c.moment ≡ false = sym is ∙ refused in
+      let unchanged : new ≡ sockets = same ∙ ap (with_wait sockets i) (waits_on (wait_at sockets i) known c.moment not_permitted) ∙ ap (λ (ws : List Wait). record sockets { waits = ws }) (set-get_or sockets.waits i None) in
+      rw unchanged (record { told = []; notes = []; tells_it = quiet; follows = Waits s known (taken_place (slice_get sockets.places i) s some) knows not_permitted refl refl refl refl })
+
+  -- the socket of a place had its turn, and waits or not from then on
+  pub was_asked : {d e : D} (c c' : Context) (s s' : Socket) (t : Turn) (sockets mid new : SocketSet) (i : ℕ) (permitted : Bool) → permitted ≡ true →
+      IsDecided (host_of c sockets) i permitted mid → Some s ≡ socket_at mid i → Told tells d e (HasTurn s t s' c c') →
+      new ≡ with_wait (with_place mid i (Some s')) i (wait_after t c.moment (wait_at (with_place mid i (Some s')) i)) →
+      Told tells d e (IsServed i t (host_of c sockets) (host_of c' new))
+  was_asked c c' s s' t sockets mid new i permitted allowed (NoSocket none isn_t same) there turned changed = absurd cc
+  was_asked c c' s s' t sockets mid new i permitted allowed (OfSocket r known some knows is same) there turned changed =
+      let wait = after_asking (wait_at sockets i) known in
+      let stays : wait_at mid i ≡ wait = ap (λ (x : SocketSet). wait_at x i) same ∙ decided_wait sockets.waits i known in
+      let at_place : socket_at sockets i ≡ Some s = ap (λ (x : SocketSet). socket_at x i) (sym same) ∙ sym there in
+      let whole : new ≡ with_wait (with_place sockets i (Some s')) i (wait_after t c.moment wait) =
+      changed
+      ∙ ap (λ (w : Wait). with_wait (with_place mid i (Some s')) i (wait_after t c.moment w)) stays
+      ∙ ap (λ (x : SocketSet). with_wait (with_place x i (Some s')) i (wait_after t c.moment wait)) same
+      ∙ ap (λ (ws : List Wait). record (with_place sockets i (Some s')) { waits = ws }) (set-set sockets.waits i wait (wait_after t c.moment wait))
+      in
+      record {
+        told = turned.told;
+        notes = turned.notes;
+        tells_it = turned.tells_it;
+        follows = Served s s' known (host_of c' sockets) (taken_place (slice_get sockets.places i) s at_place) knows (sym is ∙ allowed) (turned.follows sockets) (ap (host_of c') whole);
+      }
 
   pub none_served : {d : D} (H : Host) → tells d [] d → Told tells d d (AreServed 0 true false H H)
   none_served H quiet = record { told = []; notes = []; tells_it = quiet; follows = Begins }

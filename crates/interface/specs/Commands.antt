@@ -3,13 +3,13 @@ use Rattle.std.specs.Prelude.{ℕ, List}
 use Rattle.net_base.specs.Device.{Event}
 use Rattle.host_machine.specs.declared.command.Command.{Command}
 use Rattle.host_machine.specs.declared.command.Answer.{Answer}
-use Rattle.host_machine.specs.Host.{Host, Storage}
+use Rattle.host_machine.specs.Host.{Host, SocketSet}
 use Rattle.host_machine.specs.Note.{Note}
 use Rattle.host_machine.specs.Step.{Act, Step}
 use Rattle.host_machine.specs.Run.{Did}
 
 -- what a command did: the device told this, the owner did this, these are its notes, and the host is this one after
-pub record CommandWent {D O : Type 0} (tells : D → List Event → D → Type 0) (did : O → ℕ → List Storage → List Storage → O → Type 0)
+pub record CommandWent {D O : Type 0} (tells : D → List Event → D → Type 0) (did : O → ℕ → SocketSet → SocketSet → O → Type 0)
     (device device' : D) (owner owner' : O) (command : Command) (answer : Answer) (H : Host) (after : Host → Type 0) : Type 0 where
   pub told : List Event
   pub acts : List Act
@@ -21,5 +21,5 @@ pub record CommandWent {D O : Type 0} (tells : D → List Event → D → Type 0
   pub stands : after host
 
 -- from each host that stood before, one step leads to a host that stands after
-abbrev pub CommandGoes : {D O : Type 0} → (D → List Event → D → Type 0) → (O → ℕ → List Storage → List Storage → O → Type 0) → D → D → O → O → Command → Answer → (Host → Type 0) → (Host → Type 0) → Type 0
+abbrev pub CommandGoes : {D O : Type 0} → (D → List Event → D → Type 0) → (O → ℕ → SocketSet → SocketSet → O → Type 0) → D → D → O → O → Command → Answer → (Host → Type 0) → (Host → Type 0) → Type 0
 CommandGoes tells did device device' owner owner' command answer before after = (H : Host) → before H → CommandWent tells did device device' owner owner' command answer H after

@@ -3,7 +3,7 @@ use Rattle.std.specs.Prelude.{ℕ, List, ◌++◌}
 use Rattle.net_base.specs.Device.{Event}
 use Rattle.host_machine.specs.declared.command.Command.{Command}
 use Rattle.host_machine.specs.declared.command.Answer.{Answer}
-use Rattle.host_machine.specs.Host.{Host, Storage}
+use Rattle.host_machine.specs.Host.{Host, SocketSet}
 use Rattle.host_machine.specs.Run.{Ran}
 use Rattle.std.specs.Borrow.{Bor}
 use Rattle.iface_tables.specs.SocketSet.{Sockets}
@@ -11,7 +11,7 @@ use Rattle.interface.specs.declared.interface.Interface.{Interface}
 use Rattle.interface.specs.Stands.{StandsFor}
 
 -- what two calls did one after the other is what one call over both lists of commands may do
-abbrev pub DrivesJoin : {D O : Type 0} → (D → List Event → D → Type 0) → (O → ℕ → List Storage → List Storage → O → Type 0) → Type 0
+abbrev pub DrivesJoin : {D O : Type 0} → (D → List Event → D → Type 0) → (O → ℕ → SocketSet → SocketSet → O → Type 0) → Type 0
 DrivesJoin {D} {O} tells did =
     (d e f : D) (o p q : O) (commands more_commands : List Command) (answers more_answers : List Answer) (H : Host) (i j : Interface) (s t : Sockets (Bor (Unit {0}))) →
     Ran tells did d e o p commands answers H (StandsFor i s) →

@@ -1,28 +1,33 @@
-//! What sockets have to send: each is asked in order, until the device refuses leave.
+//! What sockets have to send: each that needn't wait is asked in order, until the device refuses leave.
 ghost use Rattle.std.specs.Prelude.{◌≡◌, ◌<◌, length, Some, IfSome};
 ghost use Rattle.std.specs.Option.{option_map};
 ghost use Rattle.sockets.specs.Kinds as kinds;
 ghost use Rattle.sockets.specs.Icmp as icmp;
 ghost use Rattle.sockets.specs.Raw as raw;
 ghost use Rattle.sockets.specs.Udp as udp;
+ghost use Rattle.net_base.specs.Time.{IsMoment};
+ghost use Rattle.iface_tables.specs.SocketSet.{wait_at, with_wait};
+ghost use Rattle.host_machine.specs.Host.{SocketSet};
+ghost use Rattle.host_machine.specs.Dispatch.{KnowsNextHop};
 ghost use Rattle.host_machine.specs.Egress as spec;
 ghost use Rattle.host_machine.specs.Packet.{IsWritable, IsWritablePayload};
 ghost use Rattle.iface_send.specs.Shown as shown;
 ghost use Rattle.iface_send.specs.Stands.{host_of};
 ghost use Rattle.interface.specs.Told.{Told};
-ghost use Rattle.interface.specs.Turns.{HasTurn, IsServed, SocketsServed};
+ghost use Rattle.interface.specs.Turns.{HasTurn, IsDecided, IsServed, SocketsServed};
 
 use arrayvec::ArrayVec;
 use control_wire::Icmpv4Repr;
 use host_machine::Turn;
-use iface_send::dispatch::dispatch;
+use iface_send::dispatch::{dispatch, has_neighbor};
 use iface_send::{Context, IpPayload, Packet, PacketV4};
 use iface_tables::socket_set::SocketSet;
 use ip_wire::{IpAddress, UdpRepr};
 use net_base::phy::{Device, FRAME_BUFFER_SIZE};
+use net_base::time::Instant;
 use sockets::{Offer, Socket, SocketContext, icmp, raw, udp};
 
-/// Gives each socket its turn in order, until the device refuses leave to send. Answers whether a
+/// Gives each socket that needn't wait its turn in order, until the device refuses leave to send. Answers whether a
 /// packet of some socket counts as gone.
 pub fn socket_egress<D: Device>(
     context: &mut Context,
@@ -30,7 +35,7 @@ pub fn socket_egress<D: Device>(
     out: &mut ArrayVec<u8, FRAME_BUFFER_SIZE>,
     sockets: &mut SocketSet<'_>,
 ) -> bool
-    ensures { Told D.tells device.old device.new (SocketsServed result (host_of context.old sockets.old.places) (host_of context.new sockets.new.places)) }
+    ensures { Told D.tells device.old device.new (SocketsServed result (host_of context.old sockets.old) (host_of context.new sockets.new)) }
 {
     let mut changed = false;
     for index in 0..sockets.places() {
@@ -43,7 +48,8 @@ pub fn socket_egress<D: Device>(
     changed
 }
 
-/// Gives the place of an index its turn.
+/// Gives the place of an index its turn. A socket whose packet isn't gone waits for its destination
+/// from then on.
 fn serve<D: Device>(
     context: &mut Context,
     device: &mut D,
@@ -52,12 +58,43 @@ fn serve<D: Device>(
     index: usize,
 ) -> Turn
     requires { index < length sockets.old.places }
-    ensures told { Told D.tells device.old device.new (IsServed index result (host_of context.old sockets.old.places) (host_of context.new sockets.new.places)) }
+    ensures told { Told D.tells device.old device.new (IsServed index result (host_of context.old sockets.old) (host_of context.new sockets.new)) }
     ensures places { length sockets.new.places ≡ length sockets.old.places }
 {
-    match sockets.socket_mut(index) {
-        Some(socket) => give_turn(socket, context, device, out),
-        None => Turn::Idle,
+    let now = context.now();
+    if !is_permitted(context, sockets, index) {
+        return Turn::Idle;
+    }
+    let Some(socket) = sockets.socket_mut(index) else {
+        return Turn::Idle;
+    };
+    let turn = give_turn(socket, context, device, out);
+    keep_wait(sockets, index, now, turn);
+    turn
+}
+
+/// Whether the socket at an index may be asked for a packet: there is one, and it needn't wait. A known
+/// next hop to the destination that it waits for ends the wait.
+fn is_permitted(context: &Context, sockets: &mut SocketSet<'_>, index: usize) -> bool
+    ensures { IsDecided (host_of context.now sockets.old) index result sockets.new }
+{
+    sockets.egress_permitted(
+        index,
+        context.now(),
+        |address: IpAddress| -> bool
+            ensures { (others : SocketSet) → KnowsNextHop (host_of context.exit.now others) address result }
+        { has_neighbor(context, &address) },
+    )
+}
+
+/// Lets the socket at an index wait for the destination of its packet, if that isn't gone.
+fn keep_wait(sockets: &mut SocketSet<'_>, index: usize, now: Instant, turn: Turn)
+    requires { IsMoment now }
+    ensures { sockets.new ≡ with_wait sockets.old index (spec.wait_after turn now (wait_at sockets.old index)) }
+{
+    match turn {
+        Turn::Unsent(destination) => sockets.neighbor_missing(index, now, destination),
+        Turn::Idle | Turn::Gone | Turn::Exhausted => {}
     }
 }
 
@@ -80,9 +117,14 @@ fn give_turn<D: Device>(
     if !device.transmit(context.now()) {
         return Turn::Exhausted;
     }
+    let destination = packet.dst_addr();
     let gone = dispatch(context, device, out, &packet).is_ok();
     socket.told(gone);
-    if gone { Turn::Gone } else { Turn::Idle }
+    if gone {
+        Turn::Gone
+    } else {
+        Turn::Unsent(destination)
+    }
 }
 
 /// What a socket offers as a packet; over IPv6 none is sent yet.

@@ -1,6 +1,6 @@
 //! Lists of calls, and that they are runs of the host machine.
 ghost use Rattle.std.specs.Prelude.{◌≡◌, List, length, All};
-ghost use Rattle.host_machine.specs.Host.{Host, Storage};
+ghost use Rattle.host_machine.specs.Host.{Host, SocketSet};
 ghost use Rattle.host_machine.specs.Step.{IsTimely, UpdatesIpAddrs};
 ghost use Rattle.host_machine.specs.Run.{Ran};
 ghost use Rattle.iface_tables.specs.Route.{first, ipv4_gateway, is_ipv4_gateway, old_or_full, with_default, without_first};
@@ -19,21 +19,21 @@ pub use net_base::{MemoryDevice, PushError};
 
 /// Who uses the sockets of a host: it acts on them where a list of commands gives it a turn.
 pub trait Owner {
-    ghost use Rattle.std.specs.Prelude.{ℕ, List};
-    ghost use Rattle.host_machine.specs.Host.{Storage};
+    ghost use Rattle.std.specs.Prelude.{ℕ};
+    ghost use Rattle.host_machine.specs.Host.{SocketSet};
 
     /// What it may do at a turn: from one state of its own to another, by the number of the turn,
     /// with the sockets before and after.
-    ghost did: { Self → ℕ → List Storage → List Storage → Self → Type 0 };
+    ghost did: { Self → ℕ → SocketSet → SocketSet → Self → Type 0 };
 
     /// Acts on the sockets.
     fn act(&mut self, number: usize, sockets: &mut SocketSet<'_>)
-        ensures { did self.old number sockets.old.places sockets.new.places self.new };
+        ensures { did self.old number sockets.old sockets.new self.new };
 }
 
 /// Replaces the addresses by a list.
 fn put_ip_addrs(interface: &mut Interface, list: &ArrayVec<IpCidr, 4>) -> Result<(), AddrError>
-    ensures { (sockets : List Storage) → UpdatesIpAddrs list.now.items result (host_with interface.old sockets) (host_with interface.new sockets) }
+    ensures { (sockets : SocketSet) → UpdatesIpAddrs list.now.items result (host_with interface.old sockets) (host_with interface.new sockets) }
 {
     let list = copied(list.as_slice());
     interface.update_ip_addrs(move |_| list)
@@ -41,7 +41,7 @@ fn put_ip_addrs(interface: &mut Interface, list: &ArrayVec<IpCidr, 4>) -> Result
 
 /// Replaces the routes by a list.
 fn put_routes(interface: &mut Interface, list: &ArrayVec<Route, 4>)
-    ensures { (sockets : List Storage) → host_with interface.new sockets ≡ record (host_with interface.old sockets) { routes = list.now.items } }
+    ensures { (sockets : SocketSet) → host_with interface.new sockets ≡ record (host_with interface.old sockets) { routes = list.now.items } }
 {
     let mut routes = ArrayVec::new();
     let _ = routes.try_extend_from_slice(list.as_slice());
@@ -53,16 +53,16 @@ fn add_default_ipv4_route(
     interface: &mut Interface,
     gateway: Ipv4Address,
 ) -> Result<Option<Route>, RouteTableFull>
-    ensures answer { (sockets : List Storage) → result ≡ old_or_full is_ipv4_gateway (host_with interface.old sockets).routes }
-    ensures table { (sockets : List Storage) → host_with interface.new sockets ≡ record (host_with interface.old sockets) { routes = with_default is_ipv4_gateway (host_with interface.old sockets).routes (ipv4_gateway gateway) } }
+    ensures answer { (sockets : SocketSet) → result ≡ old_or_full is_ipv4_gateway (host_with interface.old sockets).routes }
+    ensures table { (sockets : SocketSet) → host_with interface.new sockets ≡ record (host_with interface.old sockets) { routes = with_default is_ipv4_gateway (host_with interface.old sockets).routes (ipv4_gateway gateway) } }
 {
     interface.routes_mut().add_default_ipv4_route(gateway)
 }
 
 /// Takes out the default route of IPv4.
 fn remove_default_ipv4_route(interface: &mut Interface) -> Option<Route>
-    ensures answer { (sockets : List Storage) → result ≡ first is_ipv4_gateway (host_with interface.old sockets).routes }
-    ensures table { (sockets : List Storage) → host_with interface.new sockets ≡ record (host_with interface.old sockets) { routes = without_first is_ipv4_gateway (host_with interface.old sockets).routes } }
+    ensures answer { (sockets : SocketSet) → result ≡ first is_ipv4_gateway (host_with interface.old sockets).routes }
+    ensures table { (sockets : SocketSet) → host_with interface.new sockets ≡ record (host_with interface.old sockets) { routes = without_first is_ipv4_gateway (host_with interface.old sockets).routes } }
 {
     interface.routes_mut().remove_default_ipv4_route()
 }

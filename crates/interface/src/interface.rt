@@ -2,7 +2,7 @@
 ghost use Rattle.std.specs.Prelude.{◌≡◌, ◌≤◌, false, true, length};
 ghost use Rattle.host_machine.specs.Config as config;
 ghost use Rattle.host_machine.specs.Config.{same_medium, hardware_refusal_of};
-ghost use Rattle.host_machine.specs.Host.{are_assignable};
+ghost use Rattle.host_machine.specs.Host.{SocketSet, are_assignable};
 
 use crate::egress::socket_egress;
 use arrayvec::ArrayVec;
@@ -83,7 +83,7 @@ impl Interface {
         requires { IsMoment now }
         ensures made { MatchResult result
             (λ interface. (refusal_of (D.capable device.old) config.hardware_addr ≡ None)
-            × ((sockets : List Storage) → host_with interface sockets ≡ first_host (D.capable device.old) config.hardware_addr config.random_seed now sockets))
+            × ((sockets : SocketSet) → host_with interface sockets ≡ first_host (D.capable device.old) config.hardware_addr config.random_seed now sockets))
             (λ error. refusal_of (D.capable device.old) config.hardware_addr ≡ Some error) }
         ensures device { device.new ≡ device.old }
     {
@@ -111,14 +111,14 @@ impl Interface {
     /// What the interface knows, for sockets that ask for it.
     pub fn context(&mut self) -> &mut Context
         ensures* lends { sem 𝓛 (Lends the_row context_row self.entry result (λ w. with_context self.old w)) }
-        ensures value { (sockets : List Storage) → host_of result.now sockets ≡ host_with self.old sockets }
+        ensures value { (sockets : SocketSet) → host_of result.now sockets ≡ host_with self.old sockets }
     {
         &mut self.context
     }
 
     /// The interface's hardware address, if its medium has such.
     pub fn hardware_addr(&self) -> Option<HardwareAddress>
-        ensures { (sockets : List Storage) → result ≡ config.if_ethernet (host_with self.now sockets).hardware_addr }
+        ensures { (sockets : SocketSet) → result ≡ config.if_ethernet (host_with self.now sockets).hardware_addr }
     {
         match self.context.hardware_addr() {
             HardwareAddress::Ethernet(address) => Some(HardwareAddress::Ethernet(address)),
@@ -129,7 +129,7 @@ impl Interface {
     /// Gives the interface another address on its link. The errors are tested in the order in which
     /// [`HardwareError`] lists them, and come exactly as it says; then nothing changes.
     pub fn set_hardware_addr(&mut self, hardware_addr: HardwareAddress) -> Result<(), HardwareError>
-        ensures { (sockets : List Storage) → SetsHardwareAddr hardware_addr result (host_with self.old sockets) (host_with self.new sockets) }
+        ensures { (sockets : SocketSet) → SetsHardwareAddr hardware_addr result (host_with self.old sockets) (host_with self.new sockets) }
     {
         if let Some(error) = hardware_refusal(&self.context.capabilities(), &hardware_addr) {
             return Err(error);
@@ -140,14 +140,14 @@ impl Interface {
 
     /// The interface's own addresses with their networks, in the order given.
     pub fn ip_addrs(&self) -> &[IpCidr]
-        ensures { (sockets : List Storage) → result.now ≡ (host_with self.now sockets).ip_addrs }
+        ensures { (sockets : SocketSet) → result.now ≡ (host_with self.now sockets).ip_addrs }
     {
         self.context.ip_addrs()
     }
 
     /// The first of its IPv4 addresses.
     pub fn ipv4_addr(&self) -> Option<Ipv4Address>
-        ensures { (sockets : List Storage) → result ≡ addresses.ipv4_addr (host_with self.now sockets).ip_addrs }
+        ensures { (sockets : SocketSet) → result ≡ addresses.ipv4_addr (host_with self.now sockets).ip_addrs }
     {
         self.context.ipv4_addr()
     }
@@ -155,7 +155,7 @@ impl Interface {
     /// The source for an IPv4 destination: the first own address whose network contains it, else
     /// the first own IPv4 address.
     pub fn get_source_address_ipv4(&self, dst_addr: &Ipv4Address) -> Option<Ipv4Address>
-        ensures { (sockets : List Storage) → result ≡ addresses.source_v4 (host_with self.now sockets).ip_addrs dst_addr.now }
+        ensures { (sockets : SocketSet) → result ≡ addresses.source_v4 (host_with self.now sockets).ip_addrs dst_addr.now }
     {
         self.context.get_source_address_ipv4(dst_addr)
     }
@@ -163,7 +163,7 @@ impl Interface {
     /// Whether an address is one of the interface's own: one that was given to it, or any with
     /// AnyIP.
     pub fn has_ip_addr(&self, address: IpAddress) -> bool
-        ensures { (sockets : List Storage) → result ≡ host.has_ip_addr (host_with self.now sockets) address }
+        ensures { (sockets : SocketSet) → result ≡ host.has_ip_addr (host_with self.now sockets) address }
     {
         self.context.has_ip_addr(&address)
     }
@@ -171,7 +171,7 @@ impl Interface {
     /// The source for a destination: for IPv4 as [`Interface::get_source_address_ipv4`] says, for IPv6
     /// none yet.
     pub fn get_source_address(&self, dst_addr: &IpAddress) -> Option<IpAddress>
-        ensures { (sockets : List Storage) → result ≡ addresses.source_for (host_with self.now sockets).ip_addrs dst_addr.now }
+        ensures { (sockets : SocketSet) → result ≡ addresses.source_for (host_with self.now sockets).ip_addrs dst_addr.now }
     {
         self.context.get_source_address(dst_addr)
     }
@@ -189,21 +189,21 @@ impl Interface {
 
     /// Whether the interface takes every address for an own one.
     pub fn any_ip(&self) -> bool
-        ensures { (sockets : List Storage) → result ≡ (host_with self.now sockets).any_ip }
+        ensures { (sockets : SocketSet) → result ≡ (host_with self.now sockets).any_ip }
     {
         self.context.any_ip()
     }
 
     /// Takes every address for an own one from now on, or no longer.
     pub fn set_any_ip(&mut self, any_ip: bool)
-        ensures { (sockets : List Storage) → host_with self.new sockets ≡ record (host_with self.old sockets) { any_ip = any_ip } }
+        ensures { (sockets : SocketSet) → host_with self.new sockets ≡ record (host_with self.old sockets) { any_ip = any_ip } }
     {
         set_any_ip(&mut self.context, any_ip);
     }
 
     /// The routes.
     pub fn routes(&self) -> &Routes
-        ensures { (sockets : List Storage) → result.now ≡ (host_with self.now sockets).routes }
+        ensures { (sockets : SocketSet) → result.now ≡ (host_with self.now sockets).routes }
     {
         self.context.routes()
     }
@@ -211,7 +211,7 @@ impl Interface {
     /// The routes, for writing.
     pub fn routes_mut(&mut self) -> &mut Routes
         ensures* lends { sem 𝓛 (Lends the_row routes_row self.entry result (λ w. with_routes self.old w)) }
-        ensures value { (sockets : List Storage) → result.now ≡ (host_with self.old sockets).routes }
+        ensures value { (sockets : SocketSet) → result.now ≡ (host_with self.old sockets).routes }
     {
         routes_mut(&mut self.context)
     }
@@ -224,7 +224,7 @@ impl Interface {
         F: FnOnce(ArrayVec<IpCidr, IFACE_MAX_ADDR_COUNT>) -> ArrayVec<IpCidr, IFACE_MAX_ADDR_COUNT>,
         requires { F.IsAlwaysCallable f }
         ensures { (given : Addresses) × (list : Addresses) × F.post f given list
-            × ((sockets : List Storage) → (given.items ≡ (host_with self.old sockets).ip_addrs) × UpdatesIpAddrs list.items result (host_with self.old sockets) (host_with self.new sockets)) }
+            × ((sockets : SocketSet) → (given.items ≡ (host_with self.old sockets).ip_addrs) × UpdatesIpAddrs list.items result (host_with self.old sockets) (host_with self.new sockets)) }
     {
         let list = f(copied(self.context.ip_addrs()));
         if !are_assignable(list.as_slice()) {

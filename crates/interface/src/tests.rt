@@ -581,7 +581,7 @@ fn no_worse_route_is_tried(rt: HostRuntime) -> Result<(), Fail> {
     host.expect_sent(&rt, &[]);
     assert_eq!(rt; host.poll_at(handle), Some(PollAt::Now));
     host.run(Command::UpdateRoutes(table(&[route_to_ten(near(2))])));
-    assert_eq!(rt; host.send_all(&rt, 0), KEPT);
+    assert_eq!(rt; host.send_all(&rt, 1_000_000), KEPT);
     host.expect_sent(&rt, &[WHO_HAS_2]);
     assert_eq!(rt; host.poll_at(handle), Some(PollAt::Now));
     Ok(())
@@ -643,6 +643,78 @@ fn a_datagram_waits_for_leave(rt: HostRuntime) -> Result<(), Fail> {
     assert_eq!(rt; host.poll_at(handle), Some(PollAt::Now));
     assert_eq!(rt; host.send_all(&rt, 0), GONE);
     host.expect_sent(&rt, &[REPLY, HI_BACK]);
+    assert_eq!(rt; host.poll_at(handle), Some(PollAt::Ingress));
+    Ok(())
+}
+
+#[test]
+fn a_socket_without_a_route_waits(rt: HostRuntime) -> Result<(), Fail> {
+    let mut host = Host::at_home(&rt, rt.alloc());
+    let distant = Ipv4Address::new(10, 9, 9, 9);
+    let handle = host.add(sending(&rt, rt.alloc(), distant)?)?;
+    assert_eq!(rt; host.send_all(&rt, 0), KEPT);
+    host.refuse_once(rt.alloc())?;
+    for (micros, asked) in [
+        (0, false),
+        (500_000, false),
+        (999_999, false),
+        (1_000_000, true),
+    ] {
+        let refusals = host.device.refusals();
+        assert_eq!(rt; host.send(micros), KEPT);
+        assert_eq!(rt; host.device.refusals() > refusals, asked, "at {micros}");
+    }
+    host.expect_sent(&rt, &[]);
+    assert_eq!(rt; host.poll_at(handle), Some(PollAt::Now));
+    Ok(())
+}
+
+// A refused leave lets no socket wait, so the next call asks again. A socket behind one that waits
+// has its turn.
+#[test]
+fn a_refused_leave_is_no_reason_to_wait(rt: HostRuntime) -> Result<(), Fail> {
+    let mut host = Host::acquainted(&rt, rt.alloc());
+    let waiting = host.add(sending(&rt, rt.alloc(), Ipv4Address::new(10, 9, 9, 9))?)?;
+    let handle = host.add(sending(&rt, rt.alloc(), NEIGHBOR)?)?;
+    host.refuse_once(rt.alloc())?;
+    assert_eq!(rt; host.send(0), KEPT);
+    host.expect_sent(&rt, &[REPLY]);
+    assert_eq!(rt; host.send(0), GONE);
+    host.expect_sent(&rt, &[REPLY, HI_BACK]);
+    assert_eq!(rt; host.poll_at(handle), Some(PollAt::Ingress));
+    assert_eq!(rt; host.poll_at(waiting), Some(PollAt::Now));
+    Ok(())
+}
+
+// The wait lasts from 1 s to 2 s, and ends sooner where the neighbour becomes known.
+#[test]
+fn a_known_neighbor_ends_the_wait(rt: HostRuntime) -> Result<(), Fail> {
+    let mut host = Host::at_home(&rt, rt.alloc());
+    let handle = host.add(sending(&rt, rt.alloc(), NEIGHBOR)?)?;
+    assert_eq!(rt; host.send_all(&rt, 1_000_000), KEPT);
+    host.expect_sent(&rt, &[WHO_HAS_100]);
+    assert_eq!(rt; host.send_all(&rt, 1_500_000), KEPT);
+    host.expect_sent(&rt, &[WHO_HAS_100]);
+    assert_eq!(rt; host.take(&rt, REQUEST), TAKEN);
+    host.expect_sent(&rt, &[WHO_HAS_100, REPLY]);
+    assert_eq!(rt; host.send_all(&rt, 1_500_000), GONE);
+    host.expect_sent(&rt, &[WHO_HAS_100, REPLY, HI_BACK]);
+    assert_eq!(rt; host.poll_at(handle), Some(PollAt::Ingress));
+    Ok(())
+}
+
+// A neighbour that becomes known as a router ends the wait for what lies behind it.
+#[test]
+fn a_known_router_ends_the_wait(rt: HostRuntime) -> Result<(), Fail> {
+    let mut host = Host::at_home(&rt, rt.alloc());
+    let handle = host.add(sending(&rt, rt.alloc(), Ipv4Address::new(10, 9, 9, 9))?)?;
+    assert_eq!(rt; host.send_all(&rt, 0), KEPT);
+    assert_eq!(rt; host.take(&rt, REQUEST), TAKEN);
+    assert_eq!(rt; host.send_all(&rt, 0), KEPT);
+    let set = host.run(Command::UpdateRoutes(table(&[route_to_ten(NEIGHBOR)])));
+    assert_eq!(rt; set, Answer::UpdateRoutes);
+    assert_eq!(rt; host.send_all(&rt, 0), GONE);
+    assert_eq!(rt; host.device.sent().len(), 2);
     assert_eq!(rt; host.poll_at(handle), Some(PollAt::Ingress));
     Ok(())
 }

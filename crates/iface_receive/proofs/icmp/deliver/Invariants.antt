@@ -1,4 +1,5 @@
 use Rattle.std.proofs.Common.{◌≡◌}
+use Rattle.iface_tables.specs.SocketSet.{with_places}
 use Rattle.host_machine.specs.Delivery.{to_this}
 use Rattle.host_machine.specs.Icmpv4.{accepts, delivered}
 use Rattle.iface_receive.proofs.Each.{mapped}
@@ -6,4 +7,6 @@ use Rattle.iface_receive.proofs.icmp.deliver.Given as goal
 
 -- the sockets below the index got the message, if they take it, and the others are as they were
 abbrev pub invariant-loop-index : goal.invariant-loop-index
-invariant-loop-index l = l.sockets.places ≡ mapped (to_this (accepts l.message l.contents) (delivered l.remote l.octets)) l.index l.fn.sockets.places
+invariant-loop-index l =
+    (l.sockets.places ≡ mapped (to_this (accepts l.message l.contents) (delivered l.remote l.octets)) l.index l.fn.sockets.places) ×
+    (l.sockets ≡ with_places l.fn.sockets l.sockets.places)

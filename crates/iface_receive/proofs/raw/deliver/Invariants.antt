@@ -1,4 +1,5 @@
 use Rattle.std.proofs.Common.{◌≡◌}
+use Rattle.iface_tables.specs.SocketSet.{with_places}
 use Rattle.host_machine.specs.Delivery.{to_this}
 use Rattle.host_machine.specs.Raw.{accepts, delivered}
 use Rattle.iface_receive.proofs.Each.{mapped, any_of}
@@ -8,4 +9,5 @@ use Rattle.iface_receive.proofs.raw.deliver.Given as goal
 abbrev pub invariant-loop-index : goal.invariant-loop-index
 invariant-loop-index l =
     (l.sockets.places ≡ mapped (to_this (accepts l.header.next_header) (delivered l.summed l.header l.payload)) l.index l.fn.sockets.places) ×
-    (l.taken ≡ any_of (accepts l.header.next_header) l.index l.fn.sockets.places)
+    (l.taken ≡ any_of (accepts l.header.next_header) l.index l.fn.sockets.places) ×
+    (l.sockets ≡ with_places l.fn.sockets l.sockets.places)

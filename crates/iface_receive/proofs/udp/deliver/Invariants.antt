@@ -1,5 +1,5 @@
-use Rattle.std.proofs.Common.{◌≡◌, ℕ, ◌<◌, false, slice_get, Some, []}
-use Rattle.host_machine.specs.Host.{Storage}
+use Rattle.std.proofs.Common.{◌≡◌, ℕ, ◌<◌, false, slice_get, Some}
+use Rattle.host_machine.specs.Host.{Storage, no_sockets}
 use Rattle.iface_send.specs.Stands.{host_of}
 use Rattle.iface_receive.specs.Datagram.{is_taken_by}
 use Rattle.iface_receive.proofs.udp.deliver.Given as goal
@@ -8,4 +8,4 @@ use Rattle.iface_receive.proofs.udp.deliver.Given as goal
 abbrev pub invariant-loop-index : goal.invariant-loop-index
 invariant-loop-index l =
     (l.sockets ≡ l.fn.sockets) ×
-    ((k : ℕ) (other : Storage) → k < l.index → slice_get l.fn.sockets.places k ≡ Some other → is_taken_by (host_of l.context []).ip_addrs l.header l.ports other ≡ false)
+    ((k : ℕ) (other : Storage) → k < l.index → slice_get l.fn.sockets.places k ≡ Some other → is_taken_by (host_of l.context no_sockets).ip_addrs l.header l.ports other ≡ false)

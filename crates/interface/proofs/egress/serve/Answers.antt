@@ -1,8 +1,11 @@
-use Rattle.interface.proofs.Turned.{place_served, free_served}
+use Rattle.interface.proofs.Turned.{not_asked, was_asked}
 use Rattle.interface.proofs.egress.serve.Goals as goal
 
-pub returns-in-Some-clause-told : goal.returns-in-Some-clause-told
-returns-in-Some-clause-told g c = place_served c.args.context.now c.give_turn.new.context c.in-Some.socket.now c.give_turn.new.socket c.args.sockets.now.places c.args.index c.give_turn.ensures (rw c.in-Some.is at c.socket_mut.ensures.value)
+pub returns-then-not-is_permitted-clause-told : goal.returns-then-not-is_permitted-clause-told
+returns-then-not-is_permitted-clause-told g c =
+    not_asked c.args.context.now c.args.sockets.now c.is_permitted.new.sockets c.args.index c.is_permitted.result (g.met.D.Device.tells_nothing c.args.device.now) c.requires c.if-not-is_permitted.true c.is_permitted.ensures
 
-pub returns-in-None-clause-told : goal.returns-in-None-clause-told
-returns-in-None-clause-told g c = free_served c.args.context.now c.args.sockets.now.places c.args.index (g.met.D.Device.tells_nothing c.args.device.now) c.requires (rw c.in-None.is at c.socket_mut.ensures.value)
+pub returns-clause-told : goal.returns-clause-told
+returns-clause-told g c =
+    was_asked c.args.context.now c.give_turn-turn.new.context c.in-Some.socket.now c.give_turn-turn.new.socket c.give_turn-turn.result c.args.sockets.now c.is_permitted.new.sockets c.keep_wait.new.sockets c.args.index
+    c.is_permitted.result c.if-not-is_permitted.false c.is_permitted.ensures (rw c.in-Some.is at c.socket_mut.ensures.value) c.give_turn-turn.ensures (rw c.now-now.ensures at c.keep_wait.ensures)

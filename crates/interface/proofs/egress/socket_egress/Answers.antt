@@ -4,7 +4,7 @@ use Rattle.interface.proofs.Turned.{none_served, one_served, one_refused}
 use Rattle.interface.proofs.egress.socket_egress.Goals as goal
 
 pub loop-index-init : goal.loop-index-init
-loop-index-init g c = (none_served (host_of c.args.context.now c.args.sockets.now.places) (g.met.D.Device.tells_nothing c.args.device.now), refl)
+loop-index-init g c = (none_served (host_of c.args.context.now c.args.sockets.now) (g.met.D.Device.tells_nothing c.args.device.now), refl)
 
 pub returns-then-is_exhausted : goal.returns-then-is_exhausted
 returns-then-is_exhausted g c =

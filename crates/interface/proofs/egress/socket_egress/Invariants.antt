@@ -6,5 +6,5 @@ use Rattle.interface.proofs.egress.socket_egress.Given as goal
 
 abbrev pub invariant-loop-index : goal.invariant-loop-index
 invariant-loop-index g l =
-    Told g.D.Device.tells l.fn.device l.device (AreServed l.index true l.changed (host_of l.fn.context l.fn.sockets.places) (host_of l.context l.sockets.places))
+    Told g.D.Device.tells l.fn.device l.device (AreServed l.index true l.changed (host_of l.fn.context l.fn.sockets) (host_of l.context l.sockets))
     × (length l.sockets.places ≡ length l.fn.sockets.places)

@@ -1,4 +1,4 @@
-use Rattle.std.proofs.Common.{[], ap, ◌∙◌}
+use Rattle.std.proofs.Common.{ap, ◌∙◌}
 use Rattle.iface_tables.specs.declared.route.Route.{Route}
 use Rattle.std.specs.Prelude.{List}
 use Rattle.iface_tables.specs.Route.{is_ipv4_gateway, ipv4_gateway, old_or_full, with_default}

@@ -1,4 +1,4 @@
-use Rattle.std.proofs.Common.{◌≡◌, ℕ, List, rules, ap, subst, ◌∙◌}
+use Rattle.std.proofs.Common.{◌≡◌, List, rules, ap, subst, ◌∙◌}
 use Rattle.ip_wire.specs.declared.cidr.IpCidr.{IpCidr}
 use Rattle.host_machine.specs.Step.{UpdatesIpAddrs}
 use Rattle.iface_send.specs.Stands.{Addresses}

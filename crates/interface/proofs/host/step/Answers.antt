@@ -21,33 +21,33 @@ pub returns-in-UpdateRoutes : goal.returns-in-UpdateRoutes
 returns-in-UpdateRoutes g c =
     rw c.in-UpdateRoutes.is (was_set g.D.Device.tells g.O.Owner.did c.args.device.now c.args.owner.now c.args.interface.now c.put_routes.new.interface c.args.sockets.now (command.UpdateRoutes c.in-UpdateRoutes.list) answer.UpdateRoutes
     (g.met.D.Device.tells_nothing c.args.device.now)
-    (routes_step c.in-UpdateRoutes.list (host_with c.args.interface.now c.args.sockets.now.places) (host_with c.put_routes.new.interface c.args.sockets.now.places) (c.put_routes.ensures c.args.sockets.now.places)))
+    (routes_step c.in-UpdateRoutes.list (host_with c.args.interface.now c.args.sockets.now) (host_with c.put_routes.new.interface c.args.sockets.now) (c.put_routes.ensures c.args.sockets.now)))
 
 pub returns-in-AddDefaultIpv4Route : goal.returns-in-AddDefaultIpv4Route
 returns-in-AddDefaultIpv4Route g c =
     rw c.in-AddDefaultIpv4Route.is (was_set g.D.Device.tells g.O.Owner.did c.args.device.now c.args.owner.now c.args.interface.now c.add_default_ipv4_route.new.interface c.args.sockets.now
     (command.AddDefaultIpv4Route c.in-AddDefaultIpv4Route.gateway) (answer.AddDefaultIpv4Route c.add_default_ipv4_route.result) (g.met.D.Device.tells_nothing c.args.device.now)
-    (added_step c.in-AddDefaultIpv4Route.gateway c.add_default_ipv4_route.result (host_with c.args.interface.now c.args.sockets.now.places) (host_with c.add_default_ipv4_route.new.interface c.args.sockets.now.places)
-    (c.add_default_ipv4_route.ensures.answer c.args.sockets.now.places) (c.add_default_ipv4_route.ensures.table c.args.sockets.now.places)))
+    (added_step c.in-AddDefaultIpv4Route.gateway c.add_default_ipv4_route.result (host_with c.args.interface.now c.args.sockets.now) (host_with c.add_default_ipv4_route.new.interface c.args.sockets.now)
+    (c.add_default_ipv4_route.ensures.answer c.args.sockets.now) (c.add_default_ipv4_route.ensures.table c.args.sockets.now)))
 
 pub returns-in-RemoveDefaultIpv4Route : goal.returns-in-RemoveDefaultIpv4Route
 returns-in-RemoveDefaultIpv4Route g c =
     rw c.in-RemoveDefaultIpv4Route.is (was_set g.D.Device.tells g.O.Owner.did c.args.device.now c.args.owner.now c.args.interface.now c.remove_default_ipv4_route.new.interface c.args.sockets.now
     command.RemoveDefaultIpv4Route (answer.RemoveDefaultIpv4Route c.remove_default_ipv4_route.result) (g.met.D.Device.tells_nothing c.args.device.now)
-    (removed_step c.remove_default_ipv4_route.result (host_with c.args.interface.now c.args.sockets.now.places) (host_with c.remove_default_ipv4_route.new.interface c.args.sockets.now.places)
-    (c.remove_default_ipv4_route.ensures.answer c.args.sockets.now.places) (c.remove_default_ipv4_route.ensures.table c.args.sockets.now.places)))
+    (removed_step c.remove_default_ipv4_route.result (host_with c.args.interface.now c.args.sockets.now) (host_with c.remove_default_ipv4_route.new.interface c.args.sockets.now)
+    (c.remove_default_ipv4_route.ensures.answer c.args.sockets.now) (c.remove_default_ipv4_route.ensures.table c.args.sockets.now)))
 
 pub returns-in-SetAnyIp : goal.returns-in-SetAnyIp
 returns-in-SetAnyIp g c =
     rw c.in-SetAnyIp.is (was_set g.D.Device.tells g.O.Owner.did c.args.device.now c.args.owner.now c.args.interface.now c.set_any_ip.new.self c.args.sockets.now (command.SetAnyIp c.in-SetAnyIp.any_ip) answer.SetAnyIp
     (g.met.D.Device.tells_nothing c.args.device.now)
-    (any_ip_step c.in-SetAnyIp.any_ip (host_with c.args.interface.now c.args.sockets.now.places) (host_with c.set_any_ip.new.self c.args.sockets.now.places) (c.set_any_ip.ensures c.args.sockets.now.places)))
+    (any_ip_step c.in-SetAnyIp.any_ip (host_with c.args.interface.now c.args.sockets.now) (host_with c.set_any_ip.new.self c.args.sockets.now) (c.set_any_ip.ensures c.args.sockets.now)))
 
 pub returns-in-SetHardwareAddr : goal.returns-in-SetHardwareAddr
 returns-in-SetHardwareAddr g c =
     rw c.in-SetHardwareAddr.is (was_set g.D.Device.tells g.O.Owner.did c.args.device.now c.args.owner.now c.args.interface.now c.set_hardware_addr.new.self c.args.sockets.now
     (command.SetHardwareAddr c.in-SetHardwareAddr.hardware_addr) (answer.SetHardwareAddr c.set_hardware_addr.result) (g.met.D.Device.tells_nothing c.args.device.now)
-    (TookHardwareAddr (c.set_hardware_addr.ensures c.args.sockets.now.places)))
+    (TookHardwareAddr (c.set_hardware_addr.ensures c.args.sockets.now)))
 
 pub returns-in-Owner : goal.returns-in-Owner
 returns-in-Owner g c =

@@ -1,4 +1,4 @@
-use Rattle.std.proofs.Common.{◌≡◌, ◌+◌, ◌<◌, ◌^◌, length}
+use Rattle.std.proofs.Common.{◌≡◌, ◌+◌, ◌<◌, ◌^◌, length, map}
 use Rattle.iface_tables.specs.SocketSet.{pairs_from}
 use Rattle.iface_tables.proofs.iter.IterOfIterator.next.Given as goal
 
@@ -6,7 +6,7 @@ use Rattle.iface_tables.proofs.iter.IterOfIterator.next.Given as goal
 abbrev pub invariant-loop-place : goal.invariant-loop-place
 invariant-loop-place g l =
     (l.self-inside.next + length l.self-inside.places.now < 2 ^ 64)
-    × (pairs_from l.self-inside.next l.self-inside.places.now ≡ l.fn.self)
+    × (pairs_from l.self-inside.next (map (λ p. p.socket) l.self-inside.places.now) ≡ l.fn.self)
 
 abbrev pub decreases-loop-place : goal.decreases-loop-place
 decreases-loop-place g l = length l.self-inside.places.now

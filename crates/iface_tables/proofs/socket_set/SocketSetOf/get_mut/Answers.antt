@@ -12,6 +12,6 @@ returns g c =
     let back : (w : g.row.T.Denot) → Sockets g.row.L.Denot = λ w. with_place set i (Some (g.T.AnySocketOf.up w)) in
     let same = put_back set.places i c.in_ok-socket.socket.now c.in_ok-socket.ensures.value in
     rw (← c.index.ensures) (
-      λ t. read_of (ghost_name_of c.downcast_mut.result) back (record { places = same t; grows = set.grows }),
+      λ t. read_of (ghost_name_of c.downcast_mut.result) back (record { places = same t; waits = set.waits; grows = set.grows }),
       record { lends = tt; value = rw (← c.in_ok-socket.ensures.value) c.downcast_mut.ensures.value },
     )

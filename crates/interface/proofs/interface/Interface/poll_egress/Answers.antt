@@ -6,10 +6,10 @@ use Rattle.interface.proofs.interface.Interface.poll_egress.Goals as goal
 
 pub returns-then-socket_egress : goal.returns-then-socket_egress
 returns-then-socket_egress g c = λ H h.
-    egressed c.args.timestamp H (host_of c.set_moment.new.context c.args.sockets.now.places) (host_of c.socket_egress.new.context c.socket_egress.new.sockets.places) c.socket_egress.result _ _
-    (ap (λ (K : Host). at K c.args.timestamp) h.same ∙ sym (c.set_moment.ensures c.args.sockets.now.places)) c.socket_egress.ensures (rw c.if-socket_egress.true refl) (record { same = refl })
+    egressed c.args.timestamp H (host_of c.set_moment.new.context c.args.sockets.now) (host_of c.socket_egress.new.context c.socket_egress.new.sockets) c.socket_egress.result _ _
+    (ap (λ (K : Host). at K c.args.timestamp) h.same ∙ sym (c.set_moment.ensures c.args.sockets.now)) c.socket_egress.ensures (rw c.if-socket_egress.true refl) (record { same = refl })
 
 pub returns-else-socket_egress : goal.returns-else-socket_egress
 returns-else-socket_egress g c = λ H h.
-    egressed c.args.timestamp H (host_of c.set_moment.new.context c.args.sockets.now.places) (host_of c.socket_egress.new.context c.socket_egress.new.sockets.places) c.socket_egress.result _ _
-    (ap (λ (K : Host). at K c.args.timestamp) h.same ∙ sym (c.set_moment.ensures c.args.sockets.now.places)) c.socket_egress.ensures (rw c.if-socket_egress.false refl) (record { same = refl })
+    egressed c.args.timestamp H (host_of c.set_moment.new.context c.args.sockets.now) (host_of c.socket_egress.new.context c.socket_egress.new.sockets) c.socket_egress.result _ _
+    (ap (λ (K : Host). at K c.args.timestamp) h.same ∙ sym (c.set_moment.ensures c.args.sockets.now)) c.socket_egress.ensures (rw c.if-socket_egress.false refl) (record { same = refl })
