@@ -3,7 +3,7 @@ use Rattle.std.proofs.Common.{◌≡◌, ℕ, zero, suc, ◌+◌, ◌-◌, ◌*�
 use Rattle.ip_wire.specs.Checksum.{folded, word_sum, checksum_of, FoldsCarries}
 use Rattle.std.specs.Int.{w16, to_be_bytes}
 use Rattle.std.proofs.lemmas.Bool.{eqb-true}
-use Rattle.ip_wire.specs.Octets.{u32_le_at}
+use Rattle.ip_wire.specs.Octets.{u32_le_at, u64_le_at}
 use Rattle.ip_wire.specs.Udp.{not_zero}
 
 -- 65535 of something more folds alike
@@ -42,6 +42,53 @@ chunk_folds sum xs i j e h =
     folded_shift _ rest (o1 + 256 * o2 + 65536 * o3) (omega arith)
     ∙ folded_shift (rest + (o1 + 256 * o2 + 65536 * o3)) (rest + o1 + 256 * o2) o3 (omega arith)
     ∙ ap folded words
+
+-- a part above 40 bits folds 32 bits lower
+shift_by_32 : (sum high : ℕ) → folded (sum + 1099511627776 * high) ≡ folded (sum + 256 * high)
+shift_by_32 sum high =
+    folded_shift _ sum (16777216 * high) (omega arith)
+    ∙ folded_shift (sum + 16777216 * high) sum (256 * high) (omega arith)
+
+-- eight octets as one little-endian number, times 256, fold as their four words
+pub octets_fold : (sum : ℕ) (xs : List ℕ) (i j : ℕ) → j ≡ i + 8 → j ≤ length xs → folded (sum + 256 * u64_le_at xs i + word_sum (drop j xs)) ≡ folded (sum + word_sum (drop i xs))
+octets_fold sum xs i j e h =
+    let low = u32_le_at xs i in
+    let high = u32_le_at xs (i + 4) in
+    let rest = sum + 256 * low + word_sum (drop j xs) in
+    let parts : sum + 256 * u64_le_at xs i + word_sum (drop j xs) ≡ rest + 1099511627776 * high = omega arith in
+    let turned : rest + 256 * high ≡ sum + 256 * low + 256 * high + word_sum (drop j xs) = omega arith in
+    ap folded parts ∙ shift_by_32 rest high ∙ ap folded turned
+    ∙ chunk_folds (sum + 256 * low) xs (i + 4) j (omega (arith, e)) h
+    ∙ chunk_folds sum xs i (i + 4) refl (omega (arith, e, h))
+
+-- the sum of the four numbers in 32 octets
+abbrev pub block_sum : List ℕ → ℕ → ℕ
+block_sum octets at = u64_le_at octets at + u64_le_at octets (at + 8) + u64_le_at octets (at + 16) + u64_le_at octets (at + 24)
+
+-- times 256, it folds as their words
+pub block_folds : (sum : ℕ) (xs : List ℕ) (i j : ℕ) → j ≡ i + 32 → j ≤ length xs → folded (sum + 256 * block_sum xs i + word_sum (drop j xs)) ≡ folded (sum + word_sum (drop i xs))
+block_folds sum xs i j e h =
+    let a = u64_le_at xs i in
+    let b = u64_le_at xs (i + 8) in
+    let c = u64_le_at xs (i + 16) in
+    let d = u64_le_at xs (i + 24) in
+    let parts : sum + 256 * block_sum xs i + word_sum (drop j xs) ≡ sum + 256 * a + 256 * b + 256 * c + 256 * d + word_sum (drop j xs) = omega arith in
+    ap folded parts
+    ∙ octets_fold (sum + 256 * a + 256 * b + 256 * c) xs (i + 24) j (omega (arith, e)) h
+    ∙ octets_fold (sum + 256 * a + 256 * b) xs (i + 16) (i + 24) (omega arith) (omega (arith, e, h))
+    ∙ octets_fold (sum + 256 * a) xs (i + 8) (i + 16) (omega arith) (omega (arith, e, h))
+    ∙ octets_fold sum xs i (i + 8) refl (omega (arith, e, h))
+
+-- the parts of a number, times 256, fold as the number does
+pub parts_fold : (sum number rest : ℕ) → folded (sum + 256 * (number % 2 ^ 32 + number / 2 ^ 32 % 2 ^ 32 + number / 2 ^ 32 / 2 ^ 32) + rest) ≡ folded (sum + 256 * number + rest)
+parts_fold sum number rest =
+    let low = number % 2 ^ 32 in
+    let upper = number / 2 ^ 32 in
+    let here : sum + 256 * (low + upper % 2 ^ 32 + upper / 2 ^ 32) + rest ≡ sum + rest + 256 * low + 256 * (upper % 2 ^ 32) + 256 * (upper / 2 ^ 32) = omega arith in
+    let middle : sum + rest + 256 * low + 256 * (upper % 2 ^ 32) + 1099511627776 * (upper / 2 ^ 32) ≡ sum + rest + 256 * low + 256 * upper = omega arith in
+    let there : sum + rest + 256 * low + 1099511627776 * upper ≡ sum + 256 * number + rest = omega arith in
+    ap folded here ∙ sym (shift_by_32 (sum + rest + 256 * low + 256 * (upper % 2 ^ 32)) (upper / 2 ^ 32)) ∙ ap folded middle
+    ∙ sym (shift_by_32 (sum + rest + 256 * low) upper) ∙ ap folded there
 
 pub word_sum-none : (xs : List ℕ) → length xs ≡ 0 → word_sum xs ≡ 0
 unfolding word_sum

@@ -1,5 +1,5 @@
 -- Numbers at a place of some octets, big-endian where nothing else is said.
-use Rattle.std.specs.Prelude.{ℕ, ◌+◌, ◌*◌, ◌<◌, List, slice_index}
+use Rattle.std.specs.Prelude.{ℕ, ◌+◌, ◌*◌, ◌^◌, ◌<◌, List, slice_index}
 
 abbrev pub u16_at : List ℕ → ℕ → ℕ
 u16_at octets at = slice_index octets at * 256 + slice_index octets (at + 1)
@@ -10,6 +10,9 @@ u32_at octets at = slice_index octets at * 16777216 + slice_index octets (at + 1
 -- little-endian: the lowest octet first
 abbrev pub u32_le_at : List ℕ → ℕ → ℕ
 u32_le_at octets at = slice_index octets at + slice_index octets (at + 1) * 256 + slice_index octets (at + 2) * 65536 + slice_index octets (at + 3) * 16777216
+
+abbrev pub u64_le_at : List ℕ → ℕ → ℕ
+u64_le_at octets at = u32_le_at octets at + 2 ^ 32 * u32_le_at octets (at + 4)
 
 -- each of them is below 256
 abbrev pub AreOctets : List ℕ → Type 0

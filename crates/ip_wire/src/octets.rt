@@ -28,3 +28,12 @@ pub fn u32_le_at(octets: &[u8], at: usize) -> u32
 {
     u32::from_le_bytes([octets[at], octets[at + 1], octets[at + 2], octets[at + 3]])
 }
+
+/// The number of eight octets at a place, little-endian.
+#[inline(always)]
+pub fn u64_le_at(octets: &[u8], at: usize) -> u64
+    requires { at + 8 ≤ length octets.now }
+    ensures { result ≡ spec.u64_le_at octets.now at }
+{
+    u64::from(u32_le_at(octets, at)) + 0x1_0000_0000 * u64::from(u32_le_at(octets, at + 4))
+}
