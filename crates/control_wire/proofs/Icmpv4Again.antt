@@ -1,14 +1,14 @@
 -- A message is read as it was written.
-use Rattle.std.proofs.Common.{◌≡◌, ℕ, ◌+◌, ◌-◌, ◌*◌, ◌/◌, ◌%◌, ◌<◌, ◌≤◌, ◌^◌, Bool, true, false, IsTrue, List, [], ◌∷◌, ◌++◌, length, drop, refl, sym, ap, ◌∙◌, append_assoc, append-nil, length-append, arith}
-use Rattle.ip_wire.specs.Checksum.{folded, word_sum, checksum_of}
-use Rattle.ip_wire.specs.Ipv4Packet.{IsHeader, IsQuoted, quoted_in, header_text, header_with, front, back, whole}
+use Rattle.std.proofs.Common.{◌≡◌, ℕ, ◌+◌, ◌-◌, ◌%◌, ◌<◌, ◌≤◌, ◌^◌, Bool, true, false, IsTrue, List, ◌++◌, length, refl, ap, ◌∙◌, length-append, arith}
+use Rattle.ip_wire.specs.Checksum.{folded, word_sum}
+use Rattle.ip_wire.specs.Ipv4Packet.{quoted_in, header_text, header_with, front, back, whole}
 use Rattle.ip_wire.specs.declared.ipv4_packet.Ipv4Repr.{Ipv4Repr}
 use Rattle.ip_wire.proofs.Sums.{summed_up}
 use Rattle.ip_wire.proofs.Ipv4Again.{total, quoted_again}
 use Rattle.control_wire.specs.declared.icmpv4.Icmpv4DstUnreachable.{Icmpv4DstUnreachable}
 use Rattle.control_wire.specs.declared.icmpv4.Icmpv4Repr.{Icmpv4Repr}
 use Rattle.control_wire.specs.declared.icmpv4.Icmpv4Repr.TheVariants.{EchoRequest, EchoReply, DstUnreachable, TimeExceeded}
-use Rattle.control_wire.specs.Icmpv4.{head_with, quoted, sum_of, text, IsBody, Request, Reply, Unreachable, Exceeded, IsMessage, IsIcmpv4, icmpv4_in, reason_of, code_of, ReadAgain}
+use Rattle.control_wire.specs.Icmpv4.{head_with, quoted, sum_of, text, Request, Reply, Unreachable, Exceeded, reason_of, code_of, ReadAgain}
 use Rattle.control_wire.proofs.Icmpv4Sums.{words}
 
 -- the checksum is one of the first words

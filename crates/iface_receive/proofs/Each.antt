@@ -4,7 +4,8 @@ use Rattle.std.specs.Prelude.{◌||◌}
 use Rattle.std.specs.List.{list_any}
 use Rattle.std.specs.Option.{option_and_then}
 use Rattle.std.proofs.lemmas.List.{take_all, length-take-le}
-use Rattle.iface_tables.specs.SocketSet.{Sockets, with_places}
+use Rattle.sockets.specs.declared.socket.SocketOf.{SocketOf}
+use Rattle.iface_tables.specs.SocketSet.{Sockets, socket_at, with_place, with_places}
 
 -- a payload that isn't too long is quoted whole
 pub quoted_whole : (payload : List ℕ) → length payload ≤ 528 → take 528 payload ≡ payload
@@ -66,10 +67,10 @@ module _ {S : Type 0} where
   none_again (p ∷ ps) (suc i) is = ap (λ (rest : List (Option S)). p ∷ rest) (none_again ps i is)
 
   -- one place more
-  pub one_mapped : (f : Option S → Option S) (ps now new : List (Option S)) (i : ℕ) → i < length ps → now ≡ mapped f i ps → new ≡ slice_set now i (f (at_place now i)) → new ≡ mapped f (i + 1) ps
-  one_mapped f ps now new i within is changed =
+  pub one_mapped : (f : Option S → Option S) (ps now : List (Option S)) (i : ℕ) → i < length ps → now ≡ mapped f i ps → slice_set now i (f (at_place now i)) ≡ mapped f (i + 1) ps
+  one_mapped f ps now i within is =
       let next : i + 1 ≡ suc i = omega arith in
-      rw (changed, is, at_mapped f ps i, next) (mapped_more f ps i within)
+      rw (is, at_mapped f ps i, next) (mapped_more f ps i within)
 
   pub one_tested : (f : Option S → Option S) (test : Option S → Bool) (ps now : List (Option S)) (i : ℕ) (so this : Bool) → i < length ps → now ≡ mapped f i ps → so ≡ any_of test i ps →
       this ≡ test (at_place now i) → so || this ≡ any_of test (i + 1) ps
@@ -78,16 +79,18 @@ module _ {S : Type 0} where
       rw (was, tests, is, at_mapped f ps i, next) (any_more test ps i within)
 
   -- all places
-  pub all_mapped : (f : Option S → Option S) (ps now : List (Option S)) (i n : ℕ) → n ≡ length ps → i ≤ n → n ≤ i → now ≡ mapped f i ps → now ≡ map f ps
-  all_mapped f ps now i n len low high is =
+  pub all_mapped : (f : Option S → Option S) (ps : List (Option S)) (i n : ℕ) → n ≡ length ps → i ≤ n → n ≤ i → mapped f i ps ≡ map f ps
+  all_mapped f ps i n len low high =
       let whole : i ≡ length ps = omega (arith, len, low, high) in
-      is ∙ ap (λ k. mapped f k ps) whole ∙ mapped_all f ps
+      ap (λ k. mapped f k ps) whole ∙ mapped_all f ps
 
   pub all_tested : (test : Option S → Bool) (ps : List (Option S)) (i n : ℕ) (so : Bool) → n ≡ length ps → i ≤ n → n ≤ i → so ≡ any_of test i ps → so ≡ list_any test ps
   all_tested test ps i n so len low high is =
       let whole : i ≡ length ps = omega (arith, len, low, high) in
       is ∙ ap (λ k. any_of test k ps) whole ∙ any_all test ps
 
--- two changes of sockets one after the other leave the waits as they were
-pub waits_stay : {L : Type 0} (old mid new : Sockets L) → mid ≡ with_places old mid.places → new ≡ with_places mid new.places → new ≡ with_places old new.places
-waits_stay old mid new first second = second ∙ ap (λ (s : Sockets _). with_places s new.places) first
+-- one place more of a set
+pub one_heard : {L : Type 0} (f : Option (SocketOf L) → Option (SocketOf L)) (old now new : Sockets L) (i : ℕ) → i < length old.places → now ≡ with_places old (mapped f i old.places) →
+    new ≡ with_place now i (f (socket_at now i)) → new ≡ with_places old (mapped f (i + 1) old.places)
+one_heard f old now new i within is changed =
+    changed ∙ ap (λ s. with_place s i (f (socket_at s i))) is ∙ ap (with_places old) (one_mapped f old.places (mapped f i old.places) i within refl)

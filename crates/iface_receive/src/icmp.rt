@@ -1,7 +1,7 @@
 //! What ICMP sockets hear: every message for them.
-ghost use Rattle.std.specs.Prelude.{◌≡◌, Some, length, slice_set};
+ghost use Rattle.std.specs.Prelude.{◌≡◌, Some, length};
 ghost use Rattle.ip_wire.specs.declared.ip.IpAddress.TheVariants.{Ipv4};
-ghost use Rattle.iface_tables.specs.SocketSet.{socket_at, with_places};
+ghost use Rattle.iface_tables.specs.SocketSet.{socket_at, with_place, with_places};
 ghost use Rattle.host_machine.specs.Delivery.{to_each, to_this};
 ghost use Rattle.host_machine.specs.Icmpv4.{accepts, delivered};
 
@@ -36,9 +36,8 @@ fn deliver_at(
     contents: &[u8],
     octets: &[u8],
 )
-    ensures places { sockets.new.places ≡ slice_set sockets.old.places index (to_this (accepts message.now contents.now) (delivered remote octets.now) (socket_at sockets.old index)) }
+    ensures heard { sockets.new ≡ with_place sockets.old index (to_this (accepts message.now contents.now) (delivered remote octets.now) (socket_at sockets.old index)) }
     ensures len { length sockets.new.places ≡ length sockets.old.places }
-    ensures waits { sockets.new ≡ with_places sockets.old sockets.new.places }
 {
     if let Some(socket) = sockets.socket_mut(index) {
         deliver_to(socket, remote, message, contents, octets);

@@ -1,6 +1,6 @@
 //! What raw sockets hear: every packet of their version and protocol.
-ghost use Rattle.std.specs.Prelude.{◌≡◌, ◌+◌, ◌<◌, ◌^◌, Some, length, slice_set};
-ghost use Rattle.iface_tables.specs.SocketSet.{socket_at, with_places};
+ghost use Rattle.std.specs.Prelude.{◌≡◌, ◌+◌, ◌<◌, ◌^◌, Some, length};
+ghost use Rattle.iface_tables.specs.SocketSet.{socket_at, with_place};
 ghost use Rattle.host_machine.specs.Delivery.{to_this};
 ghost use Rattle.host_machine.specs.Raw.{accepts, delivered, heard, is_taken};
 ghost use Rattle.iface_send.specs.Stands.{host_of};
@@ -40,9 +40,8 @@ fn deliver_at(
 ) -> bool
     requires quotable { 20 + header.now.payload_len < 2 ^ 16 }
     ensures taken { result ≡ accepts header.now.next_header (socket_at sockets.old index) }
-    ensures places { sockets.new.places ≡ slice_set sockets.old.places index (to_this (accepts header.now.next_header) (delivered summed header.now payload.now) (socket_at sockets.old index)) }
+    ensures heard { sockets.new ≡ with_place sockets.old index (to_this (accepts header.now.next_header) (delivered summed header.now payload.now) (socket_at sockets.old index)) }
     ensures len { length sockets.new.places ≡ length sockets.old.places }
-    ensures waits { sockets.new ≡ with_places sockets.old sockets.new.places }
 {
     match sockets.socket_mut(index) {
         Some(socket) => deliver_to(socket, header, payload, summed),

@@ -275,14 +275,14 @@ fn are_at<'a>(set: &SocketSet<'a>, ports: &[u16]) -> bool {
 // gives the socket back and leaves the set as it was, and the next call adds it.
 fn grow<'a>(
     rt: &impl Abort,
+    alloc: Global,
     set: &mut SocketSet<'a>,
     ports: &[u16],
-    socket: tcp::Socket<'a>,
     port: u16,
 ) -> Result<SocketHandle, NoMemory> {
     let places = set.places();
     assert!(rt; are_at(set, ports));
-    match set.add(socket) {
+    match set.add(tcp_socket(alloc, port)?) {
         Ok(handle) => Ok(handle),
         Err(AddError::Full(_socket)) => Err(NoMemory),
         Err(AddError::NoMemory(socket)) => {
@@ -299,42 +299,59 @@ fn a_refused_place_leaves_the_set_as_it_was(rt: HostRuntime) -> Result<(), Fail>
     let ports = [1, 2, 3, 4, 5];
     let mut set: SocketSet<'_> = SocketSet::new(Vec::new(rt.alloc()));
     for i in 0..5 {
-        let socket = tcp_socket(rt.alloc(), ports[i])?;
-        grow(&rt, &mut set, &ports[..i], socket, ports[i])?;
+        grow(&rt, rt.alloc(), &mut set, &ports[..i], ports[i])?;
         assert_eq!(rt; set.places(), i + 1);
     }
     assert!(rt; are_at(&set, &ports));
     Ok(())
 }
 
+// Whether a handle names a socket at a port.
+fn names<'a>(set: &SocketSet<'a>, handle: SocketHandle, port: u16) -> bool {
+    match set.get::<tcp::Socket<'_>>(handle) {
+        Some(socket) => is_at(socket, port),
+        None => false,
+    }
+}
+
 #[test]
 fn a_handle_names_its_place(rt: HostRuntime) -> Result<(), Fail> {
     let mut set: SocketSet<'_> = SocketSet::new(Vec::new(rt.alloc()));
-    let first = grow(&rt, &mut set, &[], tcp_socket(rt.alloc(), 10)?, 10)?;
-    let second = grow(&rt, &mut set, &[10], tcp_socket(rt.alloc(), 11)?, 11)?;
-    let third = grow(&rt, &mut set, &[10, 11], tcp_socket(rt.alloc(), 12)?, 12)?;
-    let mut larger: SocketSet<'_> = SocketSet::new(Vec::new(rt.alloc()));
-    let mut beyond = first;
-    for _ in 0..4 {
-        beyond = add(&mut larger, tcp_socket(rt.alloc(), 13)?)?;
-    }
-    if let Ok(text) = format!(in rt.alloc(); "{first} {second} {third} {beyond}") {
-        assert_eq!(rt; text.as_str(), "#0 #1 #2 #3");
-    }
+    let first = grow(&rt, rt.alloc(), &mut set, &[], 10)?;
+    let second = grow(&rt, rt.alloc(), &mut set, &[10], 11)?;
+    let third = grow(&rt, rt.alloc(), &mut set, &[10, 11], 12)?;
     assert!(rt; is_removed(&mut set, second));
     assert!(rt; !has::<tcp::Socket<'_>>(&set, second));
     assert!(rt; are_at(&set, &[10, 12]));
-    let socket = tcp_socket(rt.alloc(), 14)?;
-    assert_eq!(rt; grow(&rt, &mut set, &[10, 12], socket, 14)?, second);
+    let again = grow(&rt, rt.alloc(), &mut set, &[10, 12], 14)?;
+    assert_eq!(rt; again, second);
     assert!(rt; are_at(&set, &[10, 14, 12]));
     for (handle, port) in [(first, 10), (second, 14), (third, 12)] {
-        match set.get::<tcp::Socket<'_>>(handle) {
-            Some(socket) => assert!(rt; is_at(socket, port)),
-            None => assert!(rt; false),
-        }
+        assert!(rt; names(&set, handle, port));
     }
-    assert!(rt; !has::<tcp::Socket<'_>>(&set, beyond));
-    assert!(rt; has::<tcp::Socket<'_>>(&larger, beyond));
+    Ok(())
+}
+
+// A set of sockets at these ports, with the handle of the last.
+fn set_at<'a>(alloc: Global, ports: &[u16]) -> Result<(SocketSet<'a>, SocketHandle), NoMemory> {
+    let mut set: SocketSet<'_> = SocketSet::new(Vec::new(alloc));
+    let mut last = SocketHandle::default();
+    for port in ports {
+        last = add(&mut set, tcp_socket(alloc, *port)?)?;
+    }
+    Ok((set, last))
+}
+
+#[test]
+fn a_handle_beyond_all_places_names_nothing(rt: HostRuntime) -> Result<(), Fail> {
+    let (set, third) = set_at(rt.alloc(), &[10, 11, 12])?;
+    let (larger, fourth) = set_at(rt.alloc(), &[10, 11, 12, 13])?;
+    if let Ok(text) = format!(in rt.alloc(); "{third} {fourth}") {
+        assert_eq!(rt; text.as_str(), "#2 #3");
+    }
+    assert!(rt; names(&set, third, 12));
+    assert!(rt; !has::<tcp::Socket<'_>>(&set, fourth));
+    assert!(rt; names(&larger, fourth, 13));
     Ok(())
 }
 

@@ -8,5 +8,4 @@ use Rattle.iface_receive.proofs.icmp.deliver.Given as goal
 -- the sockets below the index got the message, if they take it, and the others are as they were
 abbrev pub invariant-loop-index : goal.invariant-loop-index
 invariant-loop-index l =
-    (l.sockets.places ≡ mapped (to_this (accepts l.message l.contents) (delivered l.remote l.octets)) l.index l.fn.sockets.places) ×
-    (l.sockets ≡ with_places l.fn.sockets l.sockets.places)
+    l.sockets ≡ with_places l.fn.sockets (mapped (to_this (accepts l.message l.contents) (delivered l.remote l.octets)) l.index l.fn.sockets.places)

@@ -4,16 +4,15 @@ use Rattle.iface_tables.specs.SocketSet.{with_places}
 use Rattle.host_machine.specs.Delivery.{to_this}
 use Rattle.host_machine.specs.Raw.{accepts, delivered}
 use Rattle.iface_send.specs.Stands.{host_of}
-use Rattle.iface_receive.proofs.Each.{one_mapped, one_tested, all_mapped, all_tested, waits_stay}
+use Rattle.iface_receive.proofs.Each.{one_heard, one_tested, all_mapped, all_tested}
 use Rattle.iface_receive.proofs.raw.deliver.Goals as goal
 
 pub loop-index-preserved : goal.loop-index-preserved
 loop-index-preserved c = (
-  one_mapped _ c.args.sockets.now.places c.loop-index.sockets.places c.deliver_at-taken.new.sockets.places c.loop-index.index
-      (rw c.places-index-end.ensures at c.loop-index-test.true) c.loop-index.invariant.0 c.deliver_at-taken.ensures.places,
+  one_heard _ c.args.sockets.now c.loop-index.sockets c.deliver_at-taken.new.sockets c.loop-index.index
+      (rw c.places-index-end.ensures at c.loop-index-test.true) c.loop-index.invariant.0 c.deliver_at-taken.ensures.heard,
   one_tested _ _ c.args.sockets.now.places c.loop-index.sockets.places c.loop-index.index c.loop-index.taken c.deliver_at-taken.result
-      (rw c.places-index-end.ensures at c.loop-index-test.true) c.loop-index.invariant.0 c.loop-index.invariant.1 c.deliver_at-taken.ensures.taken,
-  waits_stay c.args.sockets.now c.loop-index.sockets c.deliver_at-taken.new.sockets c.loop-index.invariant.2 c.deliver_at-taken.ensures.waits,
+      (rw c.places-index-end.ensures at c.loop-index-test.true) (ap (λ s. s.places) c.loop-index.invariant.0) c.loop-index.invariant.1 c.deliver_at-taken.ensures.taken,
 )
 
 pub returns-clause-taken : goal.returns-clause-taken
@@ -21,7 +20,7 @@ returns-clause-taken c = all_tested _ c.args.sockets.now.places c.loop-index.ind
 
 pub returns-clause-heard : goal.returns-clause-heard
 returns-clause-heard c =
-    ap (host_of c.args.context.now) (c.loop-index.invariant.2 ∙ ap (with_places c.args.sockets.now)
-    (all_mapped _ c.args.sockets.now.places c.loop-index.sockets.places c.loop-index.index c.places-index-end.result c.places-index-end.ensures c.loop-index.auto.index-end c.loop-index-test.false c.loop-index.invariant.0
+    ap (host_of c.args.context.now) (c.loop-index.invariant.0 ∙ ap (with_places c.args.sockets.now)
+    (all_mapped _ c.args.sockets.now.places c.loop-index.index c.places-index-end.result c.places-index-end.ensures c.loop-index.auto.index-end c.loop-index-test.false
     ∙ ap (λ (summed : Bool). map (to_this (accepts c.args.header.now.next_header) (delivered summed c.args.header.now c.args.payload.now)) c.args.sockets.now.places)
     (c.tx-summed.ensures ∙ ap (λ x. is_tx x.checksum.ipv4) c.capabilities.ensures)))

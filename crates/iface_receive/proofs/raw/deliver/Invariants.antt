@@ -8,6 +8,5 @@ use Rattle.iface_receive.proofs.raw.deliver.Given as goal
 -- the sockets below the index got the packet, if they take it, and the others are as they were
 abbrev pub invariant-loop-index : goal.invariant-loop-index
 invariant-loop-index l =
-    (l.sockets.places ≡ mapped (to_this (accepts l.header.next_header) (delivered l.summed l.header l.payload)) l.index l.fn.sockets.places) ×
-    (l.taken ≡ any_of (accepts l.header.next_header) l.index l.fn.sockets.places) ×
-    (l.sockets ≡ with_places l.fn.sockets l.sockets.places)
+    (l.sockets ≡ with_places l.fn.sockets (mapped (to_this (accepts l.header.next_header) (delivered l.summed l.header l.payload)) l.index l.fn.sockets.places)) ×
+    (l.taken ≡ any_of (accepts l.header.next_header) l.index l.fn.sockets.places)
