@@ -1,13 +1,11 @@
 //! ICMP for IPv4 (RFC 792): echo messages, and errors with their quotations.
 ghost use Rattle.std.specs.Prelude.{◌≡◌, ◌+◌, ◌%◌, ◌<◌, ◌≤◌, ◌^◌, ◌++◌, length};
 ghost use Rattle.std.specs.Option.{SomeIff, option_map};
-ghost use Rattle.arrayvec.specs.ArrayVec.{array_vec_len};
 ghost use Rattle.ip_wire.specs.Checksum.{checksum_of};
 ghost use Rattle.control_wire.specs.Icmpv4 as spec;
 
-use arrayvec::ArrayVec;
 use ip_wire::checksum::sum_with;
-use ip_wire::emit::append;
+use ip_wire::emit::FrameBuffer;
 use ip_wire::ipv4_packet::{Ipv4Fragment, Ipv4Repr};
 use ip_wire::octets::u16_at;
 
@@ -98,21 +96,20 @@ impl Icmpv4Repr {
     /// Appends the message with its data, of fewer than 65,536 octets. Its checksum is 0 where it
     /// isn't `summed`. A quoted header has to be one of a packet of at most 65,535 octets; it is
     /// emitted anew, as that of a whole packet and with its checksum.
-    pub fn emit<const N: usize>(&self, payload: &[u8], summed: bool, out: &mut ArrayVec<u8, N>)
+    pub fn emit(&self, payload: &[u8], summed: bool, out: &mut FrameBuffer)
         requires quoted { spec.QuotesPacket self.now }
         requires short { length payload.now < 2 ^ 16 }
-        requires room { array_vec_len out.old + spec.header_len self.now + length payload.now ≤ N }
-        ensures items { out.new.items ≡ out.old.items ++ spec.text summed self.now payload.now }
-        ensures len { array_vec_len out.new ≡ array_vec_len out.old + spec.header_len self.now + length payload.now }
+        requires room { length out.old + spec.header_len self.now + length payload.now ≤ 1514 }
+        ensures items { out.new ≡ out.old ++ spec.text summed self.now payload.now }
+        ensures len { length out.new ≡ length out.old + spec.header_len self.now + length payload.now }
     {
         match self {
             Icmpv4Repr::EchoRequest { .. } | Icmpv4Repr::EchoReply { .. } => {
                 emit_parts(self, &[], payload, summed, out);
             }
             Icmpv4Repr::DstUnreachable { header, .. } | Icmpv4Repr::TimeExceeded { header, .. } => {
-                let mut quoted = ArrayVec::<u8, 20>::new();
-                header.emit(&Ipv4Fragment::WHOLE, true, &mut quoted);
-                emit_parts(self, quoted.as_slice(), payload, summed, out);
+                let quoted = header.octets(&Ipv4Fragment::WHOLE, true);
+                emit_parts(self, &quoted, payload, summed, out);
             }
         }
     }
@@ -158,29 +155,29 @@ fn head_with(sum: u16, repr: &Icmpv4Repr) -> [u8; HEADER_LEN]
 
 /// Appends a message of its first eight octets, what it quotes and its data.
 #[inline(always)]
-fn emit_parts<const N: usize>(
+fn emit_parts(
     message: &Icmpv4Repr,
     quoted: &[u8],
     payload: &[u8],
     summed: bool,
-    out: &mut ArrayVec<u8, N>,
+    out: &mut FrameBuffer,
 )
     requires quoted { quoted.now ≡ spec.quoted message.now }
     requires quoted_even { length quoted.now % 2 ≡ 0 }
     requires quoted_short { length quoted.now < 2 ^ 16 }
     requires short { length payload.now < 2 ^ 16 }
-    requires room { array_vec_len out.old + 8 + length quoted.now + length payload.now ≤ N }
-    ensures items { out.new.items ≡ out.old.items ++ spec.text summed message.now payload.now }
-    ensures len { array_vec_len out.new ≡ array_vec_len out.old + 8 + length quoted.now + length payload.now }
+    requires room { length out.old + 8 + length quoted.now + length payload.now ≤ 1514 }
+    ensures items { out.new ≡ out.old ++ spec.text summed message.now payload.now }
+    ensures len { length out.new ≡ length out.old + 8 + length quoted.now + length payload.now }
 {
     let sum = if summed {
         sum_for(&head_with(0, message), quoted, payload)
     } else {
         0
     };
-    append(out, &head_with(sum, message));
-    append(out, quoted);
-    append(out, payload);
+    out.append(&head_with(sum, message));
+    out.append(quoted);
+    out.append(payload);
 }
 
 /// The checksum of a message of these parts.

@@ -1,5 +1,5 @@
 use crate::{Icmpv4DstUnreachable, Icmpv4Repr};
-use arrayvec::ArrayVec;
+use ip_wire::emit::FrameBuffer;
 use ip_wire::ipv4_packet::Ipv4Repr;
 use ip_wire::{IpProtocol, Ipv4Address};
 
@@ -14,8 +14,8 @@ const REPLY: [u8; 12] = [
 ];
 
 /// The octets of a message.
-fn emitted(message: Icmpv4Repr, payload: &[u8; 4], summed: bool) -> ArrayVec<u8, 64> {
-    let mut out = ArrayVec::new();
+fn emitted(message: Icmpv4Repr, payload: &[u8; 4], summed: bool) -> FrameBuffer {
+    let mut out = FrameBuffer::new();
     if let Icmpv4Repr::EchoRequest { .. } | Icmpv4Repr::EchoReply { .. } = message {
         message.emit(payload, summed, &mut out);
     }
@@ -82,12 +82,13 @@ fn a_port_unreachable(rt: HostRuntime) {
         reason: Icmpv4DstUnreachable::PortUnreachable,
         header,
     };
-    let mut out: ArrayVec<u8, 64> = ArrayVec::new();
+    let mut out = FrameBuffer::new();
     message.emit(&datagram, true, &mut out);
+    let out = out.as_slice();
     assert_eq!(rt; out.len(), 38);
     assert_eq!(rt; &out[..2], [3, 3].as_slice());
     assert_eq!(rt; &out[4..8], [0, 0, 0, 0].as_slice());
     assert_eq!(rt; &out[8..12], [0x45, 0, 0, 30].as_slice());
     assert_eq!(rt; &out[28..38], datagram.as_slice());
-    assert!(rt; Icmpv4Repr::parse(&out, true) == Some((message, datagram.as_slice())));
+    assert!(rt; Icmpv4Repr::parse(out, true) == Some((message, datagram.as_slice())));
 }

@@ -1,14 +1,12 @@
 //! The Address Resolution Protocol (RFC 826), for IPv4 over Ethernet.
 ghost use Rattle.std.specs.Prelude.{◌≡◌, ◌+◌, ◌≤◌, ◌++◌, length};
 ghost use Rattle.std.specs.Option.{SomeIff};
-ghost use Rattle.arrayvec.specs.ArrayVec.{array_vec_len};
 ghost use Rattle.ip_wire.specs.Arp as spec;
 
-use crate::emit::append;
+use crate::emit::FrameBuffer;
 use crate::ethernet::{EthernetAddress, address_at};
 use crate::ipv4::Ipv4Address;
 use crate::octets::{u16_at, u32_at};
-use arrayvec::ArrayVec;
 
 /// What a packet asks or says.
 #[derive(Clone, Copy, Debug, PartialEq, Eq)]
@@ -73,23 +71,20 @@ impl ArpRepr {
     }
 
     /// Appends the packet, of 28 octets.
-    pub fn emit<const N: usize>(&self, out: &mut ArrayVec<u8, N>)
-        requires { array_vec_len out.old + 28 ≤ N }
-        ensures items { out.new.items ≡ out.old.items ++ spec.text self.now }
-        ensures len { array_vec_len out.new ≡ array_vec_len out.old + 28 }
+    pub fn emit(&self, out: &mut FrameBuffer)
+        requires { length out.old + 28 ≤ 1514 }
+        ensures items { out.new ≡ out.old ++ spec.text self.now }
+        ensures len { length out.new ≡ length out.old + 28 }
     {
         let [o0, o1] = self.operation.number().to_be_bytes();
         let [s0, s1, s2, s3, s4, s5] = self.source_hardware_addr.0;
         let [p0, p1, p2, p3] = self.source_protocol_addr.octets();
         let [t0, t1, t2, t3, t4, t5] = self.target_hardware_addr.0;
         let [q0, q1, q2, q3] = self.target_protocol_addr.octets();
-        append(
-            out,
-            &[
-                0, 1, 8, 0, 6, 4, o0, o1, s0, s1, s2, s3, s4, s5, p0, p1, p2, p3, t0, t1, t2, t3,
-                t4, t5, q0, q1, q2, q3,
-            ],
-        );
+        out.append(&[
+            0, 1, 8, 0, 6, 4, o0, o1, s0, s1, s2, s3, s4, s5, p0, p1, p2, p3, t0, t1, t2, t3, t4,
+            t5, q0, q1, q2, q3,
+        ]);
     }
 }
 

@@ -1,17 +1,81 @@
 //! Frames are built by appending to one bounded buffer.
-ghost use Rattle.std.specs.Prelude.{◌≡◌, ◌+◌, ◌≤◌, ◌++◌, length};
-ghost use Rattle.arrayvec.specs.ArrayVec.{array_vec_len};
+ghost use Rattle.std.specs.Prelude.{◌≡◌, ◌+◌, ◌≤◌, ◌++◌, ◌==◌, [], length};
 
-use arrayvec::ArrayVec;
+use net_base::phy::FRAME_BUFFER_SIZE;
+use std::marker::Model;
 
-/// Appends octets, for which there has to be room.
-#[inline(always)]
-pub fn append<const N: usize>(out: &mut ArrayVec<u8, N>, octets: &[u8])
-    requires { array_vec_len out.old + length octets.now ≤ N }
-    ensures items { out.new.items ≡ out.old.items ++ octets.now }
-    ensures len { array_vec_len out.new ≡ array_vec_len out.old + length octets.now }
-{
-    let done = out.try_extend_from_slice(octets);
-    prove!(done.is_ok());
-    let _ = done;
+/// A buffer in which a frame is built: room for the octets of the longest one, and how many of them
+/// are there. Nothing is cleared where a new frame begins.
+///
+/// In contracts it is the list of the octets that are there, at most 1,514.
+#[derive(Drop)]
+pub struct FrameBuffer {
+    octets: [u8; FRAME_BUFFER_SIZE],
+    len: usize,
+}
+
+impl Model for FrameBuffer {
+    ghost use Rattle.std.specs.Prelude.{ℕ, List, ◌≤◌, ◌≡◌, take, length};
+
+    ghost Value = { List ℕ };
+
+    ghost view = { λ b. take b.len b.octets };
+
+    ghost invariant = { λ b. (b.len ≤ 1514) × (length b.octets ≡ 1514) };
+}
+
+impl FrameBuffer {
+    /// A buffer with no octets.
+    pub fn new() -> FrameBuffer
+        ensures { result ≡ [] }
+    {
+        FrameBuffer {
+            octets: [0; FRAME_BUFFER_SIZE],
+            len: 0,
+        }
+    }
+
+    /// How many octets are there.
+    #[inline(always)]
+    pub fn len(&self) -> usize
+        ensures value { result ≡ length self.now }
+        ensures fits { result ≤ 1514 }
+    {
+        self.len
+    }
+
+    /// Whether no octets are there.
+    #[inline(always)]
+    pub fn is_empty(&self) -> bool
+        ensures { result ≡ (length self.now == 0) }
+    {
+        self.len == 0
+    }
+
+    /// The octets that are there.
+    #[inline(always)]
+    pub fn as_slice(&self) -> &[u8]
+        ensures { result.now ≡ self.now }
+    {
+        &self.octets[..self.len]
+    }
+
+    /// Begins anew, with no octets.
+    #[inline(always)]
+    pub fn clear(&mut self)
+        ensures { self.new ≡ [] }
+    {
+        self.len = 0;
+    }
+
+    /// Appends octets, for which there has to be room.
+    #[inline(always)]
+    pub fn append(&mut self, octets: &[u8])
+        requires { length self.old + length octets.now ≤ 1514 }
+        ensures { self.new ≡ self.old ++ octets.now }
+    {
+        let end = self.len + octets.len();
+        self.octets[self.len..end].copy_from_slice(octets);
+        self.len = end;
+    }
 }

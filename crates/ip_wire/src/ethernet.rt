@@ -1,12 +1,10 @@
 //! Ethernet II frames: destination, source, type, payload.
 ghost use Rattle.std.specs.Prelude.{◌≡◌, ◌+◌, ◌≤◌, ◌++◌, length};
 ghost use Rattle.std.specs.Option.{SomeIff, option_map};
-ghost use Rattle.arrayvec.specs.ArrayVec.{array_vec_len};
 ghost use Rattle.ip_wire.specs.Ethernet as spec;
 
-use crate::emit::append;
+use crate::emit::FrameBuffer;
 use crate::octets::u16_at;
-use arrayvec::ArrayVec;
 use std::fmt;
 
 /// The length of a frame's header, in octets.
@@ -123,18 +121,17 @@ impl EthernetRepr {
     }
 
     /// Appends the header, of 14 octets.
-    pub fn emit<const N: usize>(&self, out: &mut ArrayVec<u8, N>)
-        requires { array_vec_len out.old + 14 ≤ N }
-        ensures items { out.new.items ≡ out.old.items ++ spec.header_text self.now }
-        ensures len { array_vec_len out.new ≡ array_vec_len out.old + 14 }
+    pub fn emit(&self, out: &mut FrameBuffer)
+        requires { length out.old + 14 ≤ 1514 }
+        ensures items { out.new ≡ out.old ++ spec.header_text self.now }
+        ensures len { length out.new ≡ length out.old + 14 }
     {
         let [d0, d1, d2, d3, d4, d5] = self.dst_addr.0;
         let [s0, s1, s2, s3, s4, s5] = self.src_addr.0;
         let [t0, t1] = self.ethertype.number().to_be_bytes();
-        append(
-            out,
-            &[d0, d1, d2, d3, d4, d5, s0, s1, s2, s3, s4, s5, t0, t1],
-        );
+        out.append(&[
+            d0, d1, d2, d3, d4, d5, s0, s1, s2, s3, s4, s5, t0, t1,
+        ]);
     }
 }
 

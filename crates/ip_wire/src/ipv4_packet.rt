@@ -1,15 +1,13 @@
 //! IPv4 packets (RFC 791).
 ghost use Rattle.std.specs.Prelude.{◌≡◌, ◌+◌, ◌<◌, ◌≤◌, ◌^◌, ◌++◌, length};
 ghost use Rattle.std.specs.Option.{SomeIff, option_map};
-ghost use Rattle.arrayvec.specs.ArrayVec.{array_vec_len};
 ghost use Rattle.ip_wire.specs.Ipv4Packet as spec;
 
 use crate::checksum::{checksum, sum_with};
-use crate::emit::append;
+use crate::emit::FrameBuffer;
 use crate::ipv4::Ipv4Address;
 use crate::octets::{u16_at, u32_at};
 use crate::protocol::IpProtocol;
-use arrayvec::ArrayVec;
 
 /// The length of a header without options, in octets.
 pub const HEADER_LEN: usize = 20;
@@ -122,26 +120,32 @@ impl Ipv4Repr {
         Some((header_of(octets), &octets[header_len..]))
     }
 
-    /// Appends the header, of 20 octets, for the given fragment. Its checksum is 0 where it isn't
-    /// `summed`. The packet has to have at most 65,535 octets.
-    pub fn emit<const N: usize>(
-        &self,
-        fragment: &Ipv4Fragment,
-        summed: bool,
-        out: &mut ArrayVec<u8, N>,
-    )
+    /// The header's 20 octets, for the given fragment. Its checksum is 0 where it isn't `summed`. The
+    /// packet has to have at most 65,535 octets.
+    #[inline(always)]
+    pub fn octets(&self, fragment: &Ipv4Fragment, summed: bool) -> [u8; HEADER_LEN]
         requires payload_len { 20 + self.now.payload_len < 2 ^ 16 }
         requires offset { fragment.now.offset < 0x2000 }
-        requires room { array_vec_len out.old + 20 ≤ N }
-        ensures items { out.new.items ≡ out.old.items ++ spec.header_text summed self.now fragment.now }
-        ensures len { array_vec_len out.new ≡ array_vec_len out.old + 20 }
+        ensures { result ≡ spec.header_text summed self.now fragment.now }
     {
         let sum = if summed {
             checksum(&header_with(0, self, fragment))
         } else {
             0
         };
-        append(out, &header_with(sum, self, fragment));
+        header_with(sum, self, fragment)
+    }
+
+    /// Appends the header, whose octets [`Ipv4Repr::octets`] gives.
+    #[inline(always)]
+    pub fn emit(&self, fragment: &Ipv4Fragment, summed: bool, out: &mut FrameBuffer)
+        requires payload_len { 20 + self.now.payload_len < 2 ^ 16 }
+        requires offset { fragment.now.offset < 0x2000 }
+        requires room { length out.old + 20 ≤ 1514 }
+        ensures items { out.new ≡ out.old ++ spec.header_text summed self.now fragment.now }
+        ensures len { length out.new ≡ length out.old + 20 }
+    {
+        out.append(&self.octets(fragment, summed));
     }
 }
 

@@ -1,4 +1,5 @@
 use crate::checksum::{checksum, sum_with};
+use crate::emit::FrameBuffer;
 use crate::ip::IpAddress;
 use crate::ipv4::Ipv4Address;
 use crate::ipv4_packet::{Ipv4Fragment, Ipv4Repr};
@@ -7,7 +8,6 @@ use crate::protocol::{IpProtocol, IpVersion};
 use crate::pseudo::pseudo_sum;
 use crate::tcp::{TcpControl, TcpRepr, TcpSeqNumber};
 use crate::udp::UdpRepr;
-use arrayvec::ArrayVec;
 use std::test::Fail;
 
 const OWN: Ipv4Address = Ipv4Address { bits: 0xc0a8_4501 };
@@ -108,7 +108,7 @@ fn a_packet(rt: HostRuntime) -> Result<(), Fail> {
         payload_len: 12,
         hop_limit: 64,
     };
-    let mut out: ArrayVec<u8, 20> = ArrayVec::new();
+    let mut out = FrameBuffer::new();
     repr.emit(&Ipv4Fragment::WHOLE, true, &mut out);
     assert_eq!(rt; out.as_slice(), ECHO_HEADER.as_slice());
     assert!(rt; !Ipv4Fragment::WHOLE.is_fragment());
@@ -173,7 +173,7 @@ fn fragments(rt: HostRuntime) -> Result<(), Fail> {
             more_fragments,
             offset,
         };
-        let mut out: ArrayVec<u8, 20> = ArrayVec::new();
+        let mut out = FrameBuffer::new();
         repr.emit(&fragment, true, &mut out);
         assert_eq!(rt; out.as_slice(), header.as_slice());
         let mut packet = [0; 572];
@@ -229,7 +229,7 @@ fn a_datagram(rt: HostRuntime) -> Result<(), Fail> {
         src_port: 5000,
         dst_port: 6969,
     };
-    let mut out: ArrayVec<u8, 10> = ArrayVec::new();
+    let mut out = FrameBuffer::new();
     repr.emit(&OTHER_IP, &OWN_IP, b"hi", true, &mut out);
     assert_eq!(rt; out.as_slice(), DATAGRAM.as_slice());
 
@@ -261,7 +261,7 @@ fn a_datagram(rt: HostRuntime) -> Result<(), Fail> {
     assert!(rt; UdpRepr::parse(&packet, &OTHER_IP, &OWN_IP, true).is_some());
     let localhost = IpAddress::Ipv6(Ipv6Address::LOCALHOST);
     assert!(rt; UdpRepr::parse(&packet, &localhost, &localhost, true).is_none());
-    let mut unsummed: ArrayVec<u8, 10> = ArrayVec::new();
+    let mut unsummed = FrameBuffer::new();
     repr.emit(&OTHER_IP, &OWN_IP, b"hi", false, &mut unsummed);
     assert_eq!(rt; unsummed.as_slice(), &packet[..10]);
     Ok(())
@@ -274,7 +274,7 @@ fn a_checksum_of_0_goes_as_ones(rt: HostRuntime) -> Result<(), Fail> {
         src_port: 5000,
         dst_port: 6969,
     };
-    let mut out: ArrayVec<u8, 10> = ArrayVec::new();
+    let mut out = FrameBuffer::new();
     repr.emit(&OTHER_IP, &OWN_IP, &[0xc5, 0x62], true, &mut out);
     assert_eq!(rt; &out.as_slice()[6..8], [0xff, 0xff].as_slice());
     Ok(())
@@ -290,7 +290,7 @@ fn a_segment(rt: HostRuntime) -> Result<(), Fail> {
         ack_number: Some(TcpSeqNumber { bits: 257 }),
         window_len: 0,
     };
-    let mut out: ArrayVec<u8, 20> = ArrayVec::new();
+    let mut out = FrameBuffer::new();
     repr.emit(&OWN_IP, &OTHER_IP, &[], true, &mut out);
     assert_eq!(rt; out.as_slice(), RESET.as_slice());
     match TcpRepr::parse(&RESET, &OWN_IP, &OTHER_IP, true) {
@@ -352,13 +352,13 @@ fn data_of_segments(rt: HostRuntime) -> Result<(), Fail> {
         ack_number: None,
         window_len: 4096,
     };
-    let mut out: ArrayVec<u8, 23> = ArrayVec::new();
+    let mut out = FrameBuffer::new();
     repr.emit(&OWN_IP, &OTHER_IP, b"abc", false, &mut out);
     assert_eq!(rt;
         &out.as_slice()[16..],
         [0, 0, 0, 0, 0x61, 0x62, 0x63].as_slice()
     );
-    match TcpRepr::parse(&out, &OWN_IP, &OTHER_IP, false) {
+    match TcpRepr::parse(out.as_slice(), &OWN_IP, &OTHER_IP, false) {
         Some((read, payload)) => {
             assert_eq!(rt; read, repr);
             assert_eq!(rt; payload, b"abc".as_slice());
@@ -366,4 +366,21 @@ fn data_of_segments(rt: HostRuntime) -> Result<(), Fail> {
         None => assert!(rt; false),
     }
     Ok(())
+}
+
+#[test]
+fn a_buffer_is_filled_and_begun_anew(rt: HostRuntime) {
+    let mut out = FrameBuffer::new();
+    assert!(rt; out.is_empty());
+    out.append(&[1, 2, 3]);
+    out.append(&[]);
+    out.append(&[4]);
+    assert_eq!(rt; out.as_slice(), [1, 2, 3, 4].as_slice());
+    assert_eq!(rt; out.len(), 4);
+    out.clear();
+    assert!(rt; out.is_empty());
+    out.append(&[0xaa; 1514]);
+    assert_eq!(rt; out.len(), 1514);
+    out.append(&[]);
+    assert_eq!(rt; out.as_slice(), [0xaa; 1514].as_slice());
 }

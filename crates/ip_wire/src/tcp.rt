@@ -1,17 +1,15 @@
 //! TCP segments (RFC 9293).
 ghost use Rattle.std.specs.Prelude.{◌≡◌, ◌==◌, ◌+◌, ◌<◌, ◌≤◌, ◌^◌, ◌++◌, length, slice_index, true};
 ghost use Rattle.std.specs.Option.{SomeIff, option_map};
-ghost use Rattle.arrayvec.specs.ArrayVec.{array_vec_len};
 ghost use Rattle.ip_wire.specs.Checksum.{folded, word_sum};
 ghost use Rattle.ip_wire.specs.Pseudo.{pseudo};
 ghost use Rattle.ip_wire.specs.Tcp as spec;
 
 use crate::checksum::sum_with;
-use crate::emit::append;
+use crate::emit::FrameBuffer;
 use crate::ip::IpAddress;
 use crate::octets::{u16_at, u32_at};
 use crate::pseudo::pseudo_sum;
-use arrayvec::ArrayVec;
 
 /// The length of a header without options, in octets.
 pub const HEADER_LEN: usize = 20;
@@ -115,26 +113,26 @@ impl TcpRepr {
     /// Appends a segment: the header, of 20 octets, and the payload. `src` and `dst` are the
     /// packet's addresses. The checksum is 0 where it isn't `summed`. The segment has to have at
     /// most 65,535 octets.
-    pub fn emit<const N: usize>(
+    pub fn emit(
         &self,
         src: &IpAddress,
         dst: &IpAddress,
         payload: &[u8],
         summed: bool,
-        out: &mut ArrayVec<u8, N>,
+        out: &mut FrameBuffer,
     )
         requires fits { 20 + length payload.now < 2 ^ 16 }
-        requires room { array_vec_len out.old + 20 + length payload.now ≤ N }
-        ensures items { out.new.items ≡ out.old.items ++ spec.text summed src.now dst.now self.now payload.now }
-        ensures len { array_vec_len out.new ≡ array_vec_len out.old + 20 + length payload.now }
+        requires room { length out.old + 20 + length payload.now ≤ 1514 }
+        ensures items { out.new ≡ out.old ++ spec.text summed src.now dst.now self.now payload.now }
+        ensures len { length out.new ≡ length out.old + 20 + length payload.now }
     {
         let sum = if summed {
             sum_for(self, src, dst, payload)
         } else {
             0
         };
-        append(out, &header_with(sum, self));
-        append(out, payload);
+        out.append(&header_with(sum, self));
+        out.append(payload);
     }
 }
 

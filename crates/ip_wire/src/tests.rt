@@ -1,11 +1,11 @@
 use crate::arp::{ArpOperation, ArpRepr};
 use crate::cidr::{IpCidr, Ipv4Cidr, Ipv6Cidr};
+use crate::emit::FrameBuffer;
 use crate::ethernet::{EthernetAddress, EthernetProtocol, EthernetRepr};
 use crate::hardware::HardwareAddress;
 use crate::ip::IpAddress;
 use crate::ipv4::Ipv4Address;
 use crate::ipv6::Ipv6Address;
-use arrayvec::ArrayVec;
 use net_base::phy::Medium;
 use std::test::Fail;
 
@@ -79,7 +79,7 @@ fn a_reply_is_emitted(rt: HostRuntime) -> Result<(), Fail> {
         target_hardware_addr: OTHER,
         target_protocol_addr: Ipv4Address::new(192, 168, 69, 100),
     };
-    let mut frame: ArrayVec<u8, 42> = ArrayVec::new();
+    let mut frame = FrameBuffer::new();
     header.emit(&mut frame);
     reply.emit(&mut frame);
     assert_eq!(rt; frame.as_slice(), REPLY.as_slice());

@@ -6,7 +6,6 @@ ghost use Rattle.sockets.specs.Raw as spec;
 
 use crate::poll_at::PollAt;
 use crate::queue::{Full, Queue};
-use arrayvec::ArrayVec;
 use ip_wire::{IpProtocol, IpVersion, Ipv4Fragment, Ipv4Repr};
 use std::marker::{Model, PhantomData};
 
@@ -74,8 +73,7 @@ impl<L: Drop> SocketOf<L> {
         requires { 20 + header.now.payload_len < 2 ^ 16 }
         ensures { self.new ≡ spec.delivered summed header.now payload.now self.old }
     {
-        let mut text: ArrayVec<u8, 20> = ArrayVec::new();
-        header.emit(&Ipv4Fragment::WHOLE, summed, &mut text);
+        let text = header.octets(&Ipv4Fragment::WHOLE, summed);
         let _ = self.rx.push_parts((), &text, payload);
     }
 
