@@ -13,14 +13,16 @@ use Rattle.ip_wire.specs.Ipv4Packet.{IsIpv4}
 use Rattle.host_machine.specs.declared.results.PollIngressSingleResult.{PollIngressSingleResult}
 use Rattle.host_machine.specs.Note.{Note}
 use Rattle.host_machine.specs.Host.{Host, at}
-use Rattle.host_machine.specs.Frame.{Reply, sends}
-use Rattle.host_machine.specs.Arp.{IsDropped, TakesArp}
+use Rattle.host_machine.specs.Reply.{Reply, IsDropped}
+use Rattle.host_machine.specs.Frame.{sends}
+use Rattle.host_machine.specs.Arp.{TakesArp}
 use Rattle.host_machine.specs.Arp as arp
 use Rattle.host_machine.specs.Ethernet.{TakesPayload, TakesEthernet, TakesFrame}
 use Rattle.host_machine.specs.Ethernet as ethernet
 use Rattle.host_machine.specs.Ipv4.{TakesIpv4}
 use Rattle.host_machine.specs.Ipv4 as ipv4
-use Rattle.host_machine.specs.Ingress.{Takes, Responds, Ingress}
+use Rattle.host_machine.specs.Response.{Responds}
+use Rattle.host_machine.specs.Ingress.{Takes, Ingress}
 use Rattle.host_machine.specs.Laws.{IsMalformed}
 use Rattle.host_machine.specs.Laws as law
 
@@ -96,6 +98,6 @@ pub malformed : (t : ℤ) (answer : PollIngressSingleResult) (old new : Host) (t
     Ingress t answer old told notes new → handed told ≡ frame ∷ [] → IsMalformed old.capabilities.checksum frame → (sent told ≡ []) × (notes ≡ []) × (new ≡ at old t)
 malformed t answer old new told notes frame i is bad =
     let only : handed (Received i.reception ∷ []) ≡ frame ∷ [] = sym (handed-received i.reception (sends i.frames) (handed-sends i.frames)) ∙ sym (ap handed i.events) ∙ is in
-    let d = taken_dropped (at old t) i.reception frame i.reply i.notes_taking i.taken i.takes only bad in
-    let r = nothing_responded d.silent i.responds in
-    (ap sent i.events ∙ sent-sends i.frames ∙ r.0, i.all_notes ∙ rw (d.unnoted, r.1) refl, r.2 ∙ d.unchanged)
+    let d = taken_dropped (at old t) i.reception frame i.response.reply i.response.notes_taking i.response.taken i.response.takes only bad in
+    let r = nothing_responded d.silent i.response.responds in
+    (ap sent i.events ∙ sent-sends i.frames ∙ r.0, i.response.all_notes ∙ rw (d.unnoted, r.1) refl, r.2 ∙ d.unchanged)

@@ -25,8 +25,8 @@ use Rattle.host_machine.specs.declared.results.Turn.{Turn}
 use Rattle.host_machine.specs.Note.{Note, Ask}
 use Rattle.host_machine.specs.Host.{Host, at, with_neighbors}
 use Rattle.host_machine.specs.Packet.{Packet}
-use Rattle.host_machine.specs.Frame.{Reply, Arp, Ip}
-use Rattle.host_machine.specs.Arp.{IsDropped, TakesArp}
+use Rattle.host_machine.specs.Reply.{Reply, Arp, Ip, IsDropped}
+use Rattle.host_machine.specs.Arp.{TakesArp}
 use Rattle.host_machine.specs.Arp as arp
 use Rattle.host_machine.specs.Udp.{TakesUdp}
 use Rattle.host_machine.specs.Udp as udp
@@ -42,7 +42,8 @@ use Rattle.host_machine.specs.Ethernet.{TakesPayload, TakesEthernet, TakesFrame}
 use Rattle.host_machine.specs.Ethernet as ethernet
 use Rattle.host_machine.specs.Dispatch.{Outcome, IsUnsent, Emits, Discovers, SendsByHop, SendsEthernet, SendsOver, Dispatches, identified, silenced}
 use Rattle.host_machine.specs.Dispatch as dispatch
-use Rattle.host_machine.specs.Ingress.{Takes, Responds, Ingress}
+use Rattle.host_machine.specs.Response.{Responds, Response}
+use Rattle.host_machine.specs.Ingress.{Takes, Ingress}
 use Rattle.host_machine.specs.Egress.{Socket, SocketTurn, Serves, Walks, SocketsSend, Egress}
 use Rattle.host_machine.specs.Egress as egress
 use Rattle.host_machine.specs.Step.{Act, Step, UpdatesIpAddrs, Accepted, Refused, SetsHardwareAddr, Taken, NotTaken}
@@ -186,9 +187,10 @@ module _ (Law : Host → List Note → Host → Type 0)
 
   ingress : {t : ℤ} {answer : PollIngressSingleResult} {old new : Host} {told : List Event} {notes : List Note} → Ingress t answer old told notes new → Law old notes new
   ingress {t} {answer} {old} {new} {told} {notes} i =
-      rw i.all_notes (on old i.taken new i.notes_taking i.notes_responding
-      (after (record { silence = refl }) (taken (at old t) i.reception i.reply i.notes_taking i.taken i.takes))
-      (responded i.reply i.taken i.frames i.notes_responding new i.responds))
+      let r = i.response in
+      rw r.all_notes (on old r.taken new r.notes_taking r.notes_responding
+      (after (record { silence = refl }) (taken (at old t) i.reception r.reply r.notes_taking r.taken r.takes))
+      (responded r.reply r.taken i.frames r.notes_responding new r.responds))
 
   had_turn : {s s' : Socket} {turn : Turn} {H new : Host} {told : List Event} {notes : List Note} → SocketTurn s turn s' H told notes new → Law H notes new
   had_turn (egress.Silent p t o n e r) = keeping n (kept e)

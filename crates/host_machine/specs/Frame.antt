@@ -1,5 +1,5 @@
--- What a host answers to a frame, and the octets of the frames that it sends.
-use Rattle.std.specs.Prelude.{ℕ, ◌-◌, ◌*◌, nat_le, List, [], ◌++◌, map, Option, Some, None, if◌then◌else◌}
+-- The octets of the frames that a host sends.
+use Rattle.std.specs.Prelude.{ℕ, ◌-◌, ◌*◌, nat_le, List, [], ◌∷◌, ◌++◌, map, Option, Some, None, if◌then◌else◌}
 use Rattle.net_base.specs.declared.phy.DeviceCapabilities.{DeviceCapabilities}
 use Rattle.net_base.specs.Checksum.{is_tx}
 use Rattle.net_base.specs.Device.{Event, Sent}
@@ -17,18 +17,7 @@ use Rattle.ip_wire.specs.Udp as udp
 use Rattle.ip_wire.specs.declared.tcp.TcpRepr.{TcpRepr}
 use Rattle.control_wire.specs.Icmpv4 as icmpv4
 use Rattle.host_machine.specs.Host.{Host}
-use Rattle.host_machine.specs.Packet.{IpPayload, Icmpv4, Udp, Tcp, Raw, PacketV4, Packet, Ipv4, header_of, IsWritable}
-
--- a reply, by the protocol of its frame
-pub data Reply : Type 0 where
-  Arp : (packet : ArpRepr) → Reply
-  Ip : (packet : Packet) → Reply
-
--- a reply that can be written
-abbrev pub IsWritableReply : Option Reply → Type 0
-IsWritableReply None = Unit {0}
-IsWritableReply (Some (Arp packet)) = Unit {0}
-IsWritableReply (Some (Ip packet)) = IsWritable packet
+use Rattle.host_machine.specs.Packet.{IpPayload, Icmpv4, Udp, Tcp, Raw, PacketV4, Packet, Ipv4, header_of}
 
 -- an ARP packet goes from its sender's hardware address to its target's
 abbrev pub arp_frame : ArpRepr → List ℕ
@@ -72,3 +61,8 @@ ip_frame H destination p = link_header H.hardware_addr destination (ethertype_of
 -- frames that are sent, each with metadata 0
 abbrev pub sends : List (List ℕ) → List Event
 sends frames = map (Sent 0) frames
+
+-- the frame that a buffer holds, if it isn't empty
+abbrev pub frames_in : List ℕ → List (List ℕ)
+frames_in [] = []
+frames_in (octet ∷ octets) = (octet ∷ octets) ∷ []

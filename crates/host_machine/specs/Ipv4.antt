@@ -12,8 +12,7 @@ use Rattle.iface_tables.specs.Neighbor.{renewed, expiry_from}
 use Rattle.host_machine.specs.Note.{Note}
 use Rattle.host_machine.specs.Host.{Host, with_neighbors}
 use Rattle.host_machine.specs.Addresses.{is_for_host, is_unicast_v4, may_be_source}
-use Rattle.host_machine.specs.Frame.{Reply}
-use Rattle.host_machine.specs.Arp.{IsDropped}
+use Rattle.host_machine.specs.Reply.{Reply, IsDropped}
 use Rattle.control_wire.specs.declared.icmpv4.Icmpv4DstUnreachable.TheVariants.{ProtoUnreachable}
 use Rattle.host_machine.specs.Raw.{heard, is_taken}
 use Rattle.host_machine.specs.Icmpv4.{TakesIcmpv4, unreachable}

@@ -2,6 +2,7 @@ pub mod Note
 pub mod Host
 pub mod Addresses
 pub mod Packet
+pub mod Reply
 pub mod Frame
 pub mod Arp
 pub mod Delivery
@@ -12,6 +13,7 @@ pub mod Tcp
 pub mod Ipv4
 pub mod Ethernet
 pub mod Dispatch
+pub mod Response
 pub mod Ingress
 pub mod Egress
 pub mod Config

@@ -1,2 +1,3 @@
+mod Processing
 mod Received
 mod Each

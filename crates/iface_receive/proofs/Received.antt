@@ -1,5 +1,5 @@
 -- What is done with a packet, over plain variables.
-use Rattle.std.proofs.Common.{◌≡◌, ℕ, zero, suc, Bool, true, false, List, [], ◌∷◌, slice_get, slice_set, Option, Some, None, length, ◌<◌, refl, ap, sym, ◌∙◌, arith}
+use Rattle.std.proofs.Common.{◌≡◌, ◌⊎◌, inl, inr, ℕ, zero, suc, Bool, true, false, List, [], ◌∷◌, slice_get, slice_set, Option, Some, None, length, ◌<◌, ◌≤◌, refl, ap, sym, ◌∙◌, arith}
 use Rattle.std.specs.Option.{option_map}
 use Rattle.net_base.specs.Checksum.{is_rx}
 use Rattle.ip_wire.specs.declared.arp.ArpRepr.{ArpRepr}
@@ -8,7 +8,12 @@ use Rattle.ip_wire.specs.declared.hardware.HardwareAddress.TheVariants as hardwa
 use Rattle.ip_wire.specs.declared.ip.IpAddress.TheVariants.{Ipv4}
 use Rattle.ip_wire.specs.declared.ipv4_packet.Ipv4Repr.{Ipv4Repr}
 use Rattle.ip_wire.specs.declared.protocol.IpProtocol.{IpProtocol}
+use Rattle.ip_wire.specs.declared.protocol.IpProtocol.TheVariants as protocol
+use Rattle.ip_wire.specs.declared.ethernet.EthernetProtocol.{EthernetProtocol}
+use Rattle.ip_wire.specs.declared.ethernet.EthernetProtocol.TheVariants as ethertype
 use Rattle.ip_wire.specs.declared.udp.UdpRepr.{UdpRepr}
+use Rattle.ip_wire.specs.declared.ethernet.EthernetRepr.{EthernetRepr}
+use Rattle.ip_wire.specs.Ethernet.{ethernet_in}
 use Rattle.ip_wire.specs.Arp.{IsArp, arp_in}
 use Rattle.ip_wire.specs.Udp.{IsUdp, udp_in}
 use Rattle.sockets.specs.declared.socket.SocketOf.{SocketOf}
@@ -16,25 +21,33 @@ use Rattle.iface_tables.specs.Neighbor.{Neighbors, Fills, expiry_from}
 use Rattle.iface_tables.specs.SocketSet.{Sockets, socket_at, with_place}
 use Rattle.iface_tables.proofs.SocketSetLemmas as table
 use Rattle.host_machine.specs.Host.{Host, Storage, with_neighbors, with_places}
-use Rattle.host_machine.specs.Frame.{Reply}
-use Rattle.host_machine.specs.Arp.{TakesArp, Learnt, listens, answer_by}
+use Rattle.host_machine.specs.Reply.{Reply}
+use Rattle.host_machine.specs.Arp.{TakesArp, Learnt, NotForUs, listens, answer_by}
 use Rattle.ip_wire.specs.declared.hardware.HardwareAddress.{HardwareAddress}
 use Rattle.ip_wire.specs.declared.ipv4_packet.Ipv4Fragment.{Ipv4Fragment}
-use Rattle.ip_wire.specs.Ipv4Packet.{IsIpv4, ipv4_in}
-use Rattle.host_machine.specs.Ipv4.{TakesProtocol, TakesPacket, TakesIpv4, Read}
+use Rattle.ip_wire.specs.Ipv4Packet.{IsIpv4, ipv4_in, is_fragment}
+use Rattle.host_machine.specs.Addresses.{is_for_host, may_be_source}
+use Rattle.host_machine.specs.Raw.{heard, is_taken}
+use Rattle.host_machine.specs.Note.{Note}
+use Rattle.host_machine.specs.Ethernet.{TakesFrame, TakesEthernet, TakesPayload, is_for}
+use Rattle.host_machine.specs.Ethernet as ethernet
+use Rattle.host_machine.specs.Ipv4 as ipv4
+use Rattle.host_machine.specs.Ipv4.{TakesProtocol, TakesPacket, TakesIpv4, Read, heard_from}
 use Rattle.host_machine.specs.Delivery.{DeliversFirst, IsNobody}
 use Rattle.host_machine.specs.Delivery.{to_each}
+use Rattle.host_machine.specs.Udp as udp
 use Rattle.host_machine.specs.Udp.{TakesUdp, Delivered, Unheard}
 use Rattle.host_machine.specs.Icmpv4.{unreachable}
 use Rattle.host_machine.specs.Icmpv4 as icmpv4
 use Rattle.host_machine.specs.Tcp as tcp
 use Rattle.control_wire.specs.Icmpv4.{IsIcmpv4, icmpv4_in}
 use Rattle.control_wire.specs.declared.icmpv4.Icmpv4Repr.{Icmpv4Repr}
-use Rattle.control_wire.specs.declared.icmpv4.Icmpv4DstUnreachable.TheVariants.{PortUnreachable}
+use Rattle.control_wire.specs.declared.icmpv4.Icmpv4DstUnreachable.TheVariants.{PortUnreachable, ProtoUnreachable}
 use Rattle.ip_wire.specs.Tcp.{IsTcp, tcp_in}
 use Rattle.ip_wire.specs.declared.tcp.TcpRepr.{TcpRepr}
 use Rattle.iface_receive.specs.Datagram.{is_taken_by, handed_to}
 use Rattle.iface_receive.specs.Segment.{IsTaken}
+use Rattle.iface_receive.proofs.Processing.{dropped}
 use Rattle.iface_receive.proofs.Each.{at_place}
 
 -- a packet is learnt from, and answered if it asks
@@ -46,18 +59,48 @@ arp_learnt own H K payload r neighbors reply is hears fills same answers =
     Learnt is.0 (rw is.1 at hears) (record { neighbors = neighbors; filled = rw is.1 at fills; same = same }) (rw is.1 at answers) refl
 
 -- a packet is read, and taken
-pub ipv4_read : (source : HardwareAddress) (H K : Host) (octets payload : List ℕ) (r : Ipv4Repr) (f : Ipv4Fragment) (checked : Bool) (reply : Option Reply) →
-    checked ≡ is_rx H.capabilities.checksum.ipv4 → IsIpv4 checked octets × ((r, f, payload) ≡ ipv4_in octets) → TakesPacket source r f H payload reply [] K → TakesIpv4 source H octets reply [] K
-ipv4_read source H K octets payload r f checked reply tests is takes =
+pub ipv4_read : (source : HardwareAddress) (H K : Host) (octets payload : List ℕ) (r : Ipv4Repr) (f : Ipv4Fragment) (checked : Bool) (reply : Option Reply) (notes : List Note) →
+    checked ≡ is_rx H.capabilities.checksum.ipv4 → IsIpv4 checked octets × ((r, f, payload) ≡ ipv4_in octets) → TakesPacket source r f H payload reply notes K → TakesIpv4 source H octets reply notes K
+ipv4_read source H K octets payload r f checked reply notes tests is takes =
     let same_header : r ≡ (ipv4_in octets).0 = ap (λ (p : Ipv4Repr × Ipv4Fragment × List ℕ). p.0) is.1 in
     let same_fragment : f ≡ (ipv4_in octets).1 = ap (λ (p : Ipv4Repr × Ipv4Fragment × List ℕ). p.1) is.1 in
     let same_payload : payload ≡ (ipv4_in octets).2 = ap (λ (p : Ipv4Repr × Ipv4Fragment × List ℕ). p.2) is.1 in
     Read (rw tests at is.0) (rw (same_header, same_fragment, same_payload) at takes)
 
+-- a packet for another host is heard by raw sockets alone
+pub packet_for_others : (source : HardwareAddress) (H K : Host) (r : Ipv4Repr) (f : Ipv4Fragment) (payload : List ℕ) → may_be_source H.ip_addrs r.src_addr ≡ true → is_fragment f ≡ false →
+    is_for_host H r.dst_addr ≡ false → K ≡ heard r payload H → TakesPacket source r f H payload None [] K
+packet_for_others source H K r f payload from whole others hears = rw hears (ipv4.NotForUs from whole others (dropped (heard r payload H)))
+
+-- a packet for the host is taken by its protocol
+pub packet_accepted : (source : HardwareAddress) (H J K L : Host) (r : Ipv4Repr) (f : Ipv4Fragment) (payload : List ℕ) (by_raw : Bool) (reply : Option Reply) (notes : List Note) →
+    may_be_source H.ip_addrs r.src_addr ≡ true → is_fragment f ≡ false → is_for_host H r.dst_addr ≡ true → by_raw ≡ is_taken r H → J ≡ heard r payload H → K ≡ heard_from source r J →
+    TakesProtocol r.next_header by_raw r K payload reply notes L → TakesPacket source r f H payload reply notes L
+packet_accepted source H J K L r f payload by_raw reply notes from whole ours taken hears renews takes =
+    let renewed : K ≡ heard_from source r (heard r payload H) = renews ∙ ap (heard_from source r) hears in
+    ipv4.Accepted from whole ours (rw (renewed, taken) at takes)
+
+-- a protocol that nobody here speaks
+pub protocol_refused : (p : IpProtocol) (raw : Bool) (r : Ipv4Repr) (H : Host) (octets : List ℕ) → (p ≡ protocol.HopByHop) ⊎ ((p ≡ protocol.Icmpv6) ⊎ ((number : ℕ) × (p ≡ protocol.Unknown number))) →
+    TakesProtocol p raw r H octets (unreachable raw H.ip_addrs ProtoUnreachable r octets) [] H
+protocol_refused p raw r H octets (inl is) = rw is (record { replied = refl; unnoted = refl; unchanged = refl })
+protocol_refused p raw r H octets (inr (inl is)) = rw is (record { replied = refl; unnoted = refl; unchanged = refl })
+protocol_refused p raw r H octets (inr (inr unknown)) = rw unknown.1 (record { replied = refl; unnoted = refl; unchanged = refl })
+
+-- a payload of another type
+pub payload_dropped : (t : EthernetProtocol) (own source : EthernetAddress) (H : Host) (payload : List ℕ) → (t ≡ ethertype.Ipv6) ⊎ ((number : ℕ) × (t ≡ ethertype.Unknown number)) →
+    TakesPayload own source H t payload None [] H
+payload_dropped t own source H payload (inl is) = rw is (dropped H)
+payload_dropped t own source H payload (inr unknown) = rw unknown.1 (dropped H)
+
+-- octets that are no packet
+pub ipv4_malformed : (source : HardwareAddress) (H : Host) (octets : List ℕ) (checked : Bool) → checked ≡ is_rx H.capabilities.checksum.ipv4 → (IsIpv4 checked octets → ⊥) → TakesIpv4 source H octets None [] H
+ipv4_malformed source H octets checked tests none = ipv4.Malformed (rw tests at none) (dropped H)
+
 -- a payload is taken by its protocol
-pub taken_by_protocol : (p q : IpProtocol) (raw : Bool) (r : Ipv4Repr) (H K : Host) (octets : List ℕ) (reply : Option Reply) → p ≡ q →
-    TakesProtocol q raw r H octets reply [] K → TakesProtocol p raw r H octets reply [] K
-taken_by_protocol p q raw r H K octets reply is takes = rw is takes
+pub taken_by_protocol : (p q : IpProtocol) (raw : Bool) (r : Ipv4Repr) (H K : Host) (octets : List ℕ) (reply : Option Reply) (notes : List Note) → p ≡ q →
+    TakesProtocol q raw r H octets reply notes K → TakesProtocol p raw r H octets reply notes K
+taken_by_protocol p q raw r H K octets reply notes is takes = rw is takes
 
 -- a datagram is given to the first socket that accepts it
 pub udp_delivered : (raw : Bool) (H : Host) (r : Ipv4Repr) (octets payload : List ℕ) (ports : UdpRepr) (checked : Bool) (places : List Storage) →
@@ -67,6 +110,11 @@ udp_delivered raw H r octets payload ports checked places tests is delivered =
     let same_ports : ports ≡ (udp_in octets).0 = ap (λ (p : UdpRepr × List ℕ). p.0) is.1 in
     let same_payload : payload ≡ (udp_in octets).1 = ap (λ (p : UdpRepr × List ℕ). p.1) is.1 in
     Delivered places (rw tests at is.0) (rw (same_ports, same_payload) at delivered) refl refl refl
+
+-- octets that are no datagram
+pub udp_malformed : (raw : Bool) (H : Host) (r : Ipv4Repr) (octets : List ℕ) (checked : Bool) → checked ≡ is_rx H.capabilities.checksum.udp →
+    (IsUdp checked (Ipv4 r.src_addr) (Ipv4 r.dst_addr) octets → ⊥) → TakesUdp raw r H octets None [] H
+udp_malformed raw H r octets checked tests none = udp.Malformed (rw tests at none) (dropped H)
 
 -- or nobody accepts it
 pub udp_unheard : (raw : Bool) (H : Host) (r : Ipv4Repr) (octets payload : List ℕ) (ports : UdpRepr) (checked : Bool) (places : List Storage) (reply : Option Reply) →
@@ -86,6 +134,10 @@ icmpv4_taken H r octets contents message checked places reply tests is delivered
     let same_message : message ≡ (icmpv4_in octets).0 = ap (λ (p : Icmpv4Repr × List ℕ). p.0) is.1 in
     let same_contents : contents ≡ (icmpv4_in octets).1 = ap (λ (p : Icmpv4Repr × List ℕ). p.1) is.1 in
     icmpv4.Taken (rw tests at is.0) (rw (same_message, same_contents) at replies) refl (ap (with_places H) (rw (same_message, same_contents) at delivered))
+
+-- octets that are no message
+pub icmpv4_malformed : (H : Host) (r : Ipv4Repr) (octets : List ℕ) (checked : Bool) → checked ≡ is_rx H.capabilities.checksum.icmpv4 → (IsIcmpv4 checked octets → ⊥) → icmpv4.TakesIcmpv4 r H octets None [] H
+icmpv4_malformed H r octets checked tests none = icmpv4.Malformed (rw tests at none) (dropped H)
 
 there : (ps : List Storage) (i : ℕ) → i < length ps → slice_get ps i ≡ Some (at_place ps i)
 there [] i within = absurd (omega arith)
@@ -123,6 +175,37 @@ tcp_unheard raw H r octets payload t checked places answer reply somebody tests 
     let same_header : t ≡ (tcp_in octets).0 = ap (λ (p : TcpRepr × List ℕ). p.0) is.1 in
     let same_payload : payload ≡ (tcp_in octets).1 = ap (λ (p : TcpRepr × List ℕ). p.1) is.1 in
     tcp.Unheard somebody (rw tests at is.0) (rw same_header at nobody) (rw (same_header, same_payload) at (replies ∙ ap (option_map (tcp.segment_back r)) answers)) refl (ap (with_places H) same)
+
+-- octets that are no segment
+pub tcp_malformed : (raw : Bool) (H : Host) (r : Ipv4Repr) (octets : List ℕ) (checked : Bool) → tcp.is_between_nobody r ≡ false → checked ≡ is_rx H.capabilities.checksum.tcp →
+    (IsTcp checked (Ipv4 r.src_addr) (Ipv4 r.dst_addr) octets → ⊥) → tcp.TakesTcp raw r H octets None [] H
+tcp_malformed raw H r octets checked somebody tests none = tcp.Malformed somebody (rw tests at none) (dropped H)
+
+-- a frame is taken by its medium
+pub frame_taken : (h : HardwareAddress) (own : EthernetAddress) (H K : Host) (frame : List ℕ) (reply : Option Reply) (notes : List Note) → h ≡ hardware.Ethernet own →
+    TakesEthernet own H frame reply notes K → TakesFrame h H frame reply notes K
+frame_taken h own H K frame reply notes is takes = rw is takes
+
+pub frame_dropped : (h : HardwareAddress) (H : Host) (frame : List ℕ) → h ≡ hardware.Ip → TakesFrame h H frame None [] H
+frame_dropped h H frame is = rw is (dropped H)
+
+-- a frame's payload is taken, or it is for another interface
+pub ethernet_read : (own : EthernetAddress) (H K : Host) (frame payload : List ℕ) (e : EthernetRepr) (reply : Option Reply) (notes : List Note) → 14 ≤ length frame × ((e, payload) ≡ ethernet_in frame) →
+    is_for own e.dst_addr ≡ true → TakesPayload own e.src_addr H e.ethertype payload reply notes K → TakesEthernet own H frame reply notes K
+ethernet_read own H K frame payload e reply notes is ours takes =
+    let same_header : e ≡ (ethernet_in frame).0 = ap (λ (p : EthernetRepr × List ℕ). p.0) is.1 in
+    let same_payload : payload ≡ (ethernet_in frame).1 = ap (λ (p : EthernetRepr × List ℕ). p.1) is.1 in
+    ethernet.Accepted is.0 (rw same_header at ours) (rw (same_header, same_payload) at takes)
+
+pub ethernet_refused : (own : EthernetAddress) (H : Host) (frame payload : List ℕ) (e : EthernetRepr) → 14 ≤ length frame × ((e, payload) ≡ ethernet_in frame) →
+    is_for own e.dst_addr ≡ false → TakesEthernet own H frame None [] H
+ethernet_refused own H frame payload e is others =
+    let same_header : e ≡ (ethernet_in frame).0 = ap (λ (p : EthernetRepr × List ℕ). p.0) is.1 in
+    ethernet.NotForUs is.0 (rw same_header at others) (dropped H)
+
+-- a packet that isn't listened to
+pub arp_unheard : (own : EthernetAddress) (H : Host) (payload : List ℕ) (r : ArpRepr) → IsArp payload × (r ≡ arp_in payload) → listens H r ≡ false → TakesArp own H payload None [] H
+arp_unheard own H payload r is deaf = NotForUs is.0 (rw is.1 at deaf) (dropped H)
 
 -- a set with a socket put back as it was
 pub put_back : {L : Type 0} (set : Sockets L) (i : ℕ) (s t : SocketOf L) → t ≡ s → Some s ≡ socket_at set i → with_place set i (Some t) ≡ set

@@ -1,17 +1,19 @@
 //! What an interface does with TCP segments (RFC 9293 3.10.7).
-ghost use Rattle.std.specs.Prelude.{◌≡◌, ◌<◌, ◌^◌, [], Some, true, false, length, slice_set, IfSome};
+ghost use Rattle.std.specs.Prelude.{◌≡◌, ◌<◌, ◌^◌, [], Some, true, false, length, slice_set};
 ghost use Rattle.std.specs.Option.{option_map};
 ghost use Rattle.iface_tables.specs.SocketSet.{socket_at, with_places};
 ghost use Rattle.host_machine.specs.Delivery.{IsNobody};
-ghost use Rattle.host_machine.specs.Frame.{Ip};
-ghost use Rattle.host_machine.specs.Packet.{IsWritable};
+ghost use Rattle.host_machine.specs.Response.{Responds};
 ghost use Rattle.host_machine.specs.Tcp as spec;
+ghost use Rattle.iface_receive.specs.Processed.{Processed};
 ghost use Rattle.iface_receive.specs.Segment.{IsTaken};
-ghost use Rattle.iface_send.specs.Shown.{packet};
+ghost use Rattle.iface_send.specs.Built.{Built};
 ghost use Rattle.iface_send.specs.Stands.{host_of};
 
+use iface_send::dispatch::dispatch;
 use iface_send::{Context, IpPayload, Packet, PacketV4};
 use iface_tables::socket_set::SocketSet;
+use ip_wire::emit::FrameBuffer;
 use ip_wire::{IpAddress, Ipv4Repr, TcpControl, TcpRepr};
 use sockets::tcp::rst_reply;
 use sockets::{IpEndpoint, Socket, SocketOf};
@@ -19,31 +21,36 @@ use sockets::{IpEndpoint, Socket, SocketOf};
 /// Takes the payload of a packet with this header as a TCP segment, of fewer than 65,536 octets: the
 /// first socket that accepts it gets it, or drops it for want of room, and may answer; no other
 /// socket changes. One that nobody accepts is answered by a reset, unless it is a reset itself or a
-/// raw socket took the packet. What is no segment, or between nobody, is dropped.
-pub fn process_tcp<'a>(
-    context: &Context,
+/// raw socket took the packet. What is no segment, or between nobody, is dropped. The answer is built in
+/// an empty buffer.
+pub fn process_tcp(
+    context: &mut Context,
     sockets: &mut SocketSet<'_>,
     header: &Ipv4Repr,
-    octets: &'a [u8],
+    octets: &[u8],
     by_raw: bool,
-) -> Option<Packet<'a>>
-    requires { length octets.now < 2 ^ 16 }
-    ensures takes { spec.TakesTcp by_raw header.now (host_of context.now sockets.old) octets.now (option_map (λ p. Ip (packet p)) result) [] (host_of context.now sockets.new) }
-    ensures writable { IfSome result (λ p. IsWritable (packet p)) }
+    out: &mut FrameBuffer,
+)
+    requires empty { out.old ≡ [] }
+    requires short { length octets.now < 2 ^ 16 }
+    ensures { Processed out.new (λ H. spec.TakesTcp by_raw header.now H octets.now) (host_of context.old sockets.old) (host_of context.new sockets.new) }
 {
     if is_between_nobody(header) {
-        return None;
+        return;
     }
     let checked = context.capabilities().checksum.tcp.rx();
     let source = IpAddress::Ipv4(header.src_addr);
     let destination = IpAddress::Ipv4(header.dst_addr);
-    let (repr, payload) = TcpRepr::parse(octets, &source, &destination, checked)?;
+    let Some((repr, payload)) = TcpRepr::parse(octets, &source, &destination, checked) else {
+        return;
+    };
     let (taken, answer) = deliver(sockets, header, &repr, payload);
     if taken {
-        return segment_back(header, answer, &octets[..0]);
+        send_back(context, header, answer, out);
+        return;
     }
     let reset = reset_for(&repr, payload, by_raw);
-    segment_back(header, reset, &octets[..0])
+    send_back(context, header, reset, out);
 }
 
 /// Whether nobody is meant, or nobody can be answered.
@@ -67,23 +74,26 @@ fn reset_for(repr: &TcpRepr, payload: &[u8], by_raw: bool) -> Option<TcpRepr>
     }
 }
 
-/// A segment without payload as a packet back to another's source.
-fn segment_back<'a>(
+/// Builds a segment without payload, if there is one, as a packet back to another's source.
+fn send_back(
+    context: &mut Context,
     header: &Ipv4Repr,
     repr: Option<TcpRepr>,
-    nothing: &'a [u8],
-) -> Option<Packet<'a>>
-    requires { nothing.now ≡ [] }
-    ensures reply { option_map (λ p. Ip (packet p)) result ≡ option_map (spec.segment_back header.now) repr }
-    ensures writable { IfSome result (λ p. IsWritable (packet p)) }
+    out: &mut FrameBuffer,
+)
+    requires { out.old ≡ [] }
+    ensures { Built out.new (Responds (option_map (spec.segment_back header.now) repr)) context.old context.new }
 {
-    let repr = repr?;
-    Some(Packet::Ipv4(PacketV4 {
+    let Some(repr) = repr else {
+        return;
+    };
+    let packet = Packet::Ipv4(PacketV4 {
         src_addr: header.dst_addr,
         dst_addr: header.src_addr,
         hop_limit: 64,
-        payload: IpPayload::Tcp(repr, nothing),
-    }))
+        payload: IpPayload::Tcp(repr, &[]),
+    });
+    let _ = dispatch(context, &packet, out);
 }
 
 /// Gives a segment to the first socket that accepts it, and says whether there was one, and what it

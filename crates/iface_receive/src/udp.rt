@@ -1,47 +1,47 @@
 //! What an interface does with UDP datagrams (RFC 768, RFC 1122 4.1.3).
-ghost use Rattle.std.specs.Prelude.{◌≡◌, ◌+◌, ◌<◌, ◌^◌, [], Some, None, true, false, slice_set, IfSome};
+ghost use Rattle.std.specs.Prelude.{◌≡◌, ◌+◌, ◌<◌, ◌^◌, [], Some, true, false, slice_set};
 ghost use Rattle.iface_tables.specs.SocketSet.{socket_at, with_places};
 ghost use Rattle.host_machine.specs.Delivery.{DeliversFirst, IsNobody};
-ghost use Rattle.std.specs.Option.{option_map};
-ghost use Rattle.host_machine.specs.Frame.{Ip};
-ghost use Rattle.host_machine.specs.Packet.{IsWritable};
 ghost use Rattle.host_machine.specs.Udp.{TakesUdp};
 ghost use Rattle.host_machine.specs.Host.{no_sockets};
-ghost use Rattle.iface_send.specs.Shown.{packet};
 ghost use Rattle.iface_send.specs.Stands.{host_of};
+ghost use Rattle.iface_receive.specs.Processed.{Processed};
 ghost use Rattle.iface_receive.specs.Datagram.{is_taken_by, handed_to};
 
-use crate::ipv4::unreachable;
+use crate::icmpv4::refuse;
 use control_wire::icmpv4::Icmpv4DstUnreachable;
-use iface_send::{Context, Packet};
+use iface_send::Context;
 use iface_tables::socket_set::SocketSet;
+use ip_wire::emit::FrameBuffer;
 use ip_wire::{IpAddress, Ipv4Repr, UdpRepr};
 use sockets::{IpEndpoint, Socket, SocketOf};
 
 /// Takes the payload of a packet with this header as a UDP datagram (RFC 768): the first socket that
 /// accepts it gets its payload, with its sender, or drops it for want of room; no other socket
 /// changes. For one that nobody accepts an error is sent back, unless a raw socket took the packet.
-/// What is no datagram is dropped.
-pub fn process_udp<'a>(
-    context: &Context,
+/// What is no datagram is dropped. The error is built in an empty buffer.
+pub fn process_udp(
+    context: &mut Context,
     sockets: &mut SocketSet<'_>,
     header: &Ipv4Repr,
-    octets: &'a [u8],
+    octets: &[u8],
     by_raw: bool,
-) -> Option<Packet<'a>>
+    out: &mut FrameBuffer,
+)
+    requires empty { out.old ≡ [] }
     requires quotable { 20 + header.now.payload_len < 2 ^ 16 }
-    ensures takes { TakesUdp by_raw header.now (host_of context.now sockets.old) octets.now (option_map (λ p. Ip (packet p)) result) [] (host_of context.now sockets.new) }
-    ensures writable { IfSome result (λ p. IsWritable (packet p)) }
+    ensures { Processed out.new (λ H. TakesUdp by_raw header.now H octets.now) (host_of context.old sockets.old) (host_of context.new sockets.new) }
 {
     let checked = context.capabilities().checksum.udp.rx();
     let source = IpAddress::Ipv4(header.src_addr);
     let destination = IpAddress::Ipv4(header.dst_addr);
-    let (ports, payload) = UdpRepr::parse(octets, &source, &destination, checked)?;
-    if deliver(context, sockets, header, &ports, payload) {
-        return None;
+    let Some((ports, payload)) = UdpRepr::parse(octets, &source, &destination, checked) else {
+        return;
+    };
+    if !deliver(context, sockets, header, &ports, payload) {
+        let reason = Icmpv4DstUnreachable::PortUnreachable;
+        refuse(context, reason, header, octets, by_raw, out);
     }
-    let reason = Icmpv4DstUnreachable::PortUnreachable;
-    unreachable(context, reason, header, octets, by_raw)
 }
 
 /// Gives a datagram to the first socket that accepts it, and says whether there was one.

@@ -1,3 +1,3 @@
 pub mod Stands
 pub mod Shown
-pub mod Sent
+pub mod Built

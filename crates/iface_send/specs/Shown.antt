@@ -1,13 +1,10 @@
 -- Packets as values, without where their octets lie in memory.
 use Rattle.host_machine.specs.Packet as value
-use Rattle.host_machine.specs.Frame as frame
 use Rattle.iface_send.specs.declared.packet.IpPayload.{IpPayload}
 use Rattle.iface_send.specs.declared.packet.IpPayload.TheVariants.{Icmpv4, Udp, Tcp, Raw}
 use Rattle.iface_send.specs.declared.packet.PacketV4.{PacketV4}
 use Rattle.iface_send.specs.declared.packet.Packet.{Packet}
 use Rattle.iface_send.specs.declared.packet.Packet.TheVariants.{Ipv4}
-use Rattle.iface_send.specs.declared.packet.EthernetPacket.{EthernetPacket}
-use Rattle.iface_send.specs.declared.packet.EthernetPacket.TheVariants.{Arp, Ip}
 
 abbrev pub payload : IpPayload → value.IpPayload
 payload (Icmpv4 message octets) = value.Icmpv4 message octets.now
@@ -20,7 +17,3 @@ packet_v4 p = record { src_addr = p.src_addr; dst_addr = p.dst_addr; hop_limit =
 
 abbrev pub packet : Packet → value.Packet
 packet (Ipv4 p) = value.Ipv4 (packet_v4 p)
-
-abbrev pub reply : EthernetPacket → frame.Reply
-reply (Arp p) = frame.Arp p
-reply (Ip p) = frame.Ip (packet p)

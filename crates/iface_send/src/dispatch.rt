@@ -1,164 +1,112 @@
-//! Sending one IP packet: the next hop, its hardware address, the frame (RFC 1122 3.3.1, RFC 826).
-ghost use Rattle.std.specs.Prelude.{◌≡◌, ◌≤◌, true, false, List, [], Some, None, Ok, Err, IfSome};
-ghost use Rattle.std.specs.Option.{option_map};
-ghost use Rattle.arrayvec.specs.ArrayVec.{array_vec_len};
+//! Where one IP packet goes: the next hop, its hardware address, and the frame that is built for it (RFC
+//! 1122 3.3.1, RFC 826).
+ghost use Rattle.std.specs.Prelude.{◌≡◌, ◌≤◌, true, false, [], length, None, Ok, Err, IfSome};
 ghost use Rattle.net_base.specs.Checksum.{ip_mtu_of};
 ghost use Rattle.ip_wire.specs.Ip.{is_unicast, is_unspecified};
 ghost use Rattle.host_machine.specs.Host.{SocketSet, no_sockets};
 ghost use Rattle.host_machine.specs.Arp.{request_for};
-ghost use Rattle.host_machine.specs.Frame.{IsWritableReply, ip_frame};
+ghost use Rattle.host_machine.specs.Frame.{ip_frame};
 ghost use Rattle.host_machine.specs.Packet.{IsWritable};
 ghost use Rattle.host_machine.specs.Packet as value;
 ghost use Rattle.host_machine.specs.Dispatch as spec;
-ghost use Rattle.host_machine.specs.Ingress.{Responds};
 ghost use Rattle.iface_send.specs.Shown as shown;
-ghost use Rattle.iface_send.specs.Sent.{Sent};
+ghost use Rattle.iface_send.specs.Built.{Built};
 ghost use Rattle.iface_send.specs.Stands.{host_of};
 
 use crate::context::Context;
-use crate::packet::{EthernetPacket, Packet, emit_arp, emit_link_header};
-use arrayvec::ArrayVec;
+use crate::packet::{Packet, emit_arp, emit_link_header};
 use host_machine::DispatchError;
 use iface_tables::neighbor::Answer;
+use ip_wire::emit::FrameBuffer;
 use ip_wire::{
     ArpOperation, ArpRepr, EthernetAddress, EthernetProtocol, HardwareAddress, IpAddress,
     Ipv4Address, Ipv6Address,
 };
-use net_base::phy::{Device, FRAME_BUFFER_SIZE, PacketMeta};
 
-/// Sends a reply, if there is one: an ARP packet straight to its target, an IP packet by
-/// [`dispatch`]. Leave to send a frame has to stand.
-pub fn respond<D: Device>(
+/// Builds the frame of an IP packet for the next hop towards its destination, in an empty buffer. `Ok`
+/// if the packet counts as gone: its frame is built, or it is dropped since it goes to nobody or is
+/// longer than the device's packets. `NoRoute` if there is no next hop, or no own address from which to
+/// ask for it. `NeighborPending` if its hardware address isn't known; then the request for that is
+/// built, unless another one went less than a second ago. An empty buffer means that nothing is to be
+/// sent. A header that the packet quotes has to be that of a packet of at most 65,535 octets.
+pub fn dispatch(
     context: &mut Context,
-    device: &mut D,
-    out: &mut ArrayVec<u8, FRAME_BUFFER_SIZE>,
-    reply: Option<EthernetPacket<'_>>,
-)
-    requires leave { D.has_leave device.old ≡ true }
-    requires writable { IsWritableReply (option_map shown.reply reply) }
-    ensures { Sent D.tells device.old device.new (Responds (option_map shown.reply reply.entry)) context.old context.new }
-{
-    if let Some(reply) = reply {
-        send_reply(context, device, out, &reply);
-    }
-}
-
-/// Sends a reply.
-fn send_reply<D: Device>(
-    context: &mut Context,
-    device: &mut D,
-    out: &mut ArrayVec<u8, FRAME_BUFFER_SIZE>,
-    reply: &EthernetPacket<'_>,
-)
-    requires leave { D.has_leave device.old ≡ true }
-    requires writable { IsWritableReply (Some (shown.reply reply.now)) }
-    ensures { Sent D.tells device.old device.new (Responds (Some (shown.reply reply.now))) context.old context.new }
-{
-    match reply {
-        EthernetPacket::Arp(packet) => {
-            emit_arp(out, packet);
-            device.send(PacketMeta::EMPTY, out.as_slice());
-        }
-        EthernetPacket::Ip(packet) => {
-            let _ = dispatch(context, device, out, packet);
-        }
-    }
-}
-
-/// Sends an IP packet to the next hop towards its destination. `Ok` if it counts as gone: it was
-/// sent, or dropped since it goes to nobody or is longer than the device's packets. `NoRoute` if
-/// there is no next hop, or no own address from which to ask for it. `NeighborPending` if its
-/// hardware address isn't known; then it was asked for, unless another request went less than a
-/// second ago. At most one frame is sent, for which leave has to stand; the buffer's contents are
-/// lost. A header that the packet quotes has to be that of a packet of at most 65,535 octets.
-pub fn dispatch<D: Device>(
-    context: &mut Context,
-    device: &mut D,
-    out: &mut ArrayVec<u8, FRAME_BUFFER_SIZE>,
     packet: &Packet<'_>,
+    out: &mut FrameBuffer,
 ) -> Result<(), DispatchError>
-    requires leave { D.has_leave device.old ≡ true }
+    requires empty { out.old ≡ [] }
     requires writable { IsWritable (shown.packet packet.now) }
-    ensures { Sent D.tells device.old device.new (spec.Dispatches (shown.packet packet.now) result) context.old context.new }
+    ensures { Built out.new (spec.Dispatches (shown.packet packet.now) result) context.old context.new }
 {
     if packet.dst_addr().is_unspecified() {
         return Ok(());
     }
     context.ipv4_id = context.ipv4_id.wrapping_add(1);
     match context.hardware_addr {
-        HardwareAddress::Ethernet(own) => send_ethernet(context, device, out, own, packet),
+        HardwareAddress::Ethernet(own) => dispatch_ethernet(context, own, packet, out),
         HardwareAddress::Ip => {
-            send_to(context, device, out, &HardwareAddress::Ip, packet);
+            emit_to(context, &HardwareAddress::Ip, packet, out);
             Ok(())
         }
     }
 }
 
-/// Sends a packet over Ethernet: to many hosts straight, else by the next hop.
-fn send_ethernet<D: Device>(
+/// Builds a packet's frame over Ethernet: to many hosts straight, else by the next hop.
+fn dispatch_ethernet(
     context: &mut Context,
-    device: &mut D,
-    out: &mut ArrayVec<u8, FRAME_BUFFER_SIZE>,
     own: EthernetAddress,
     packet: &Packet<'_>,
+    out: &mut FrameBuffer,
 ) -> Result<(), DispatchError>
-    requires leave { D.has_leave device.old ≡ true }
+    requires empty { out.old ≡ [] }
     requires somebody { is_unspecified (spec.destination_of (shown.packet packet.now)) ≡ false }
     requires writable { IsWritable (shown.packet packet.now) }
-    ensures { Sent D.tells device.old device.new (spec.SendsEthernet own (shown.packet packet.now) result) context.old context.new }
+    ensures { Built out.new (spec.SendsEthernet own (shown.packet packet.now) result) context.old context.new }
 {
     let dst_addr = packet.dst_addr();
     if let Some(many) = many_address(context, &dst_addr) {
-        send_to(
-            context,
-            device,
-            out,
-            &HardwareAddress::Ethernet(many),
-            packet,
-        );
+        emit_to(context, &HardwareAddress::Ethernet(many), packet, out);
         return Ok(());
     }
     match next_hop(context, &dst_addr) {
-        Some(hop) => send_by_hop(context, device, out, own, packet, &hop),
+        Some(hop) => dispatch_by_hop(context, own, packet, &hop, out),
         None => Err(DispatchError::NoRoute),
     }
 }
 
-/// Sends a packet by a next hop, or asks for that one's hardware address.
-fn send_by_hop<D: Device>(
+/// Builds a packet's frame for a next hop, or the request for that one's hardware address.
+fn dispatch_by_hop(
     context: &mut Context,
-    device: &mut D,
-    out: &mut ArrayVec<u8, FRAME_BUFFER_SIZE>,
     own: EthernetAddress,
     packet: &Packet<'_>,
     hop: &IpAddress,
+    out: &mut FrameBuffer,
 ) -> Result<(), DispatchError>
-    requires leave { D.has_leave device.old ≡ true }
+    requires empty { out.old ≡ [] }
     requires hop { is_unicast hop.now ≡ true }
     requires writable { IsWritable (shown.packet packet.now) }
-    ensures { Sent D.tells device.old device.new (spec.SendsByHop own (shown.packet packet.now) hop.now result) context.old context.new }
+    ensures { Built out.new (spec.SendsByHop own (shown.packet packet.now) hop.now result) context.old context.new }
 {
     match context.neighbor_cache.lookup(hop, context.moment) {
         Answer::Found(destination) => {
-            send_to(context, device, out, &destination, packet);
+            emit_to(context, &destination, packet, out);
             Ok(())
         }
         Answer::RateLimited => Err(DispatchError::NeighborPending),
-        Answer::NotFound => Err(discover(context, device, out, own, hop)),
+        Answer::NotFound => Err(discover(context, own, hop, out)),
     }
 }
 
-/// Asks for the hardware address of a neighbour, and then for nobody's for a second. Answers why
-/// the packet for it isn't gone.
-fn discover<D: Device>(
+/// Builds the request for the hardware address of a neighbour; for a second nobody's is asked for then.
+/// Answers why the packet for it isn't gone.
+fn discover(
     context: &mut Context,
-    device: &mut D,
-    out: &mut ArrayVec<u8, FRAME_BUFFER_SIZE>,
     own: EthernetAddress,
     hop: &IpAddress,
+    out: &mut FrameBuffer,
 ) -> DispatchError
-    requires leave { D.has_leave device.old ≡ true }
-    ensures { Sent D.tells device.old device.new (spec.Discovers own hop.now (Err result)) context.old context.new }
+    requires empty { out.old ≡ [] }
+    ensures { Built out.new (spec.Discovers own hop.now (Err result)) context.old context.new }
 {
     let IpAddress::Ipv4(target) = hop else {
         return DispatchError::NoRoute;
@@ -166,8 +114,7 @@ fn discover<D: Device>(
     let Some(source) = context.get_source_address_ipv4(target) else {
         return DispatchError::NoRoute;
     };
-    emit_arp(out, &request_for(own, source, *target));
-    device.send(PacketMeta::EMPTY, out.as_slice());
+    emit_arp(&request_for(own, source, *target), out);
     context.neighbor_cache.limit_rate(context.moment);
     DispatchError::NeighborPending
 }
@@ -185,37 +132,35 @@ fn request_for(own: EthernetAddress, source: Ipv4Address, target: Ipv4Address) -
     }
 }
 
-/// Sends a packet to a hardware address, if it isn't longer than the device's packets.
-fn send_to<D: Device>(
+/// Builds the frame of a packet for a hardware address, if it isn't longer than the device's packets.
+fn emit_to(
     context: &Context,
-    device: &mut D,
-    out: &mut ArrayVec<u8, FRAME_BUFFER_SIZE>,
     destination: &HardwareAddress,
     packet: &Packet<'_>,
+    out: &mut FrameBuffer,
 )
-    requires leave { D.has_leave device.old ≡ true }
+    requires empty { out.old ≡ [] }
     requires writable { IsWritable (shown.packet packet.now) }
-    ensures { Sent D.tells device.old device.new (spec.Emits (shown.packet packet.now) destination.now (Ok tt)) context.now context.now }
+    ensures { Built out.new (spec.Emits (shown.packet packet.now) destination.now (Ok tt)) context.now context.now }
 {
     if packet.total_len() <= context.capabilities.ip_mtu() {
         emit_frame(context, destination, packet, out);
-        device.send(PacketMeta::EMPTY, out.as_slice());
     }
 }
 
-/// Builds the frame of a packet, in place of what the buffer held.
+/// Builds the frame of a packet that fits.
 fn emit_frame(
     context: &Context,
     destination: &HardwareAddress,
     packet: &Packet<'_>,
-    out: &mut ArrayVec<u8, FRAME_BUFFER_SIZE>,
+    out: &mut FrameBuffer,
 )
+    requires empty { out.old ≡ [] }
     requires writable { IsWritable (shown.packet packet.now) }
     requires fits { value.total_len (shown.packet packet.now) ≤ ip_mtu_of context.now.capabilities }
-    ensures items { out.new.items ≡ ip_frame (host_of context.now no_sockets) destination.now (shown.packet packet.now) }
-    ensures len { array_vec_len out.new ≤ 1514 }
+    ensures items { out.new ≡ ip_frame (host_of context.now no_sockets) destination.now (shown.packet packet.now) }
+    ensures some { 20 ≤ length out.new }
 {
-    out.clear();
     emit_link_header(
         &context.hardware_addr,
         destination,

@@ -9,4 +9,4 @@ pub mod packet;
 pub mod settings;
 
 pub use context::Context;
-pub use packet::{EthernetPacket, IpPayload, Packet, PacketV4};
+pub use packet::{IpPayload, Packet, PacketV4};

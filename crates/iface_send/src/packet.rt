@@ -1,29 +1,20 @@
-//! Packets to be sent: their values, with their octets as a slice of where they came from; and the
-//! octets of their frames.
-ghost use Rattle.std.specs.Prelude.{◌≡◌, ◌+◌, ◌<◌, ◌≤◌, ◌^◌, ◌++◌, length};
-ghost use Rattle.arrayvec.specs.ArrayVec.{array_vec_len};
+//! Packets to be sent: their values, with their octets as a slice of where they came from; and their
+//! frames, which are appended to a buffer.
+ghost use Rattle.std.specs.Prelude.{◌≡◌, ◌+◌, ◌<◌, ◌≤◌, ◌^◌, ◌++◌, [], length};
 ghost use Rattle.host_machine.specs.Frame.{arp_frame, limited, link_header, packet_text, payload_text};
 ghost use Rattle.host_machine.specs.Packet.{IsWritable, IsWritablePayload};
 ghost use Rattle.host_machine.specs.Packet as value;
 ghost use Rattle.host_machine.specs.Dispatch.{destination_of};
 ghost use Rattle.iface_send.specs.Shown as shown;
 
-use arrayvec::ArrayVec;
 use control_wire::icmpv4::Icmpv4Repr;
-use ip_wire::emit::append;
+use ip_wire::emit::FrameBuffer;
 use ip_wire::ipv4_packet::{Ipv4Fragment, Ipv4Repr};
 use ip_wire::{
     ArpRepr, EthernetProtocol, EthernetRepr, HardwareAddress, IpAddress, IpProtocol, Ipv4Address,
     TcpRepr, UdpRepr,
 };
-use net_base::phy::{DeviceCapabilities, FRAME_BUFFER_SIZE};
-
-/// What a frame in reply carries.
-#[derive(Clone, Copy)]
-pub enum EthernetPacket<'p> {
-    Arp(ArpRepr),
-    Ip(Packet<'p>),
-}
+use net_base::phy::DeviceCapabilities;
 
 /// An IP packet.
 #[derive(Clone, Copy)]
@@ -96,11 +87,11 @@ impl Packet<'_> {
     }
 
     /// Appends the packet, each of its forms with its checksum where that is on.
-    pub fn emit(&self, capabilities: &DeviceCapabilities, out: &mut ArrayVec<u8, FRAME_BUFFER_SIZE>)
+    pub fn emit(&self, capabilities: &DeviceCapabilities, out: &mut FrameBuffer)
         requires writable { IsWritable (shown.packet self.now) }
-        requires room { array_vec_len out.old + value.total_len (shown.packet self.now) ≤ 1514 }
-        ensures items { out.new.items ≡ out.old.items ++ packet_text capabilities.now (shown.packet self.now) }
-        ensures len { array_vec_len out.new ≡ array_vec_len out.old + value.total_len (shown.packet self.now) }
+        requires room { length out.old + value.total_len (shown.packet self.now) ≤ 1514 }
+        ensures items { out.new ≡ out.old ++ packet_text capabilities.now (shown.packet self.now) }
+        ensures len { length out.new ≡ length out.old + value.total_len (shown.packet self.now) }
     {
         match self {
             Packet::Ipv4(packet) => {
@@ -122,12 +113,12 @@ impl Packet<'_> {
 pub fn emit_payload(
     packet: &PacketV4<'_>,
     capabilities: &DeviceCapabilities,
-    out: &mut ArrayVec<u8, FRAME_BUFFER_SIZE>,
+    out: &mut FrameBuffer,
 )
     requires writable { IsWritablePayload (shown.payload packet.now.payload) }
-    requires room { array_vec_len out.old + value.payload_len (shown.payload packet.now.payload) ≤ 1514 }
-    ensures items { out.new.items ≡ out.old.items ++ payload_text capabilities.now (shown.packet_v4 packet.now) (shown.payload packet.now.payload) }
-    ensures len { array_vec_len out.new ≡ array_vec_len out.old + value.payload_len (shown.payload packet.now.payload) }
+    requires room { length out.old + value.payload_len (shown.payload packet.now.payload) ≤ 1514 }
+    ensures items { out.new ≡ out.old ++ payload_text capabilities.now (shown.packet_v4 packet.now) (shown.payload packet.now.payload) }
+    ensures len { length out.new ≡ length out.old + value.payload_len (shown.payload packet.now.payload) }
 {
     match &packet.payload {
         IpPayload::Icmpv4(message, octets) => message.emit(
@@ -146,7 +137,7 @@ pub fn emit_payload(
             let header = limited(capabilities, header);
             header.emit(&src, &dst, octets, capabilities.checksum.tcp.tx(), out);
         }
-        IpPayload::Raw(_, octets) => append(out, octets),
+        IpPayload::Raw(_, octets) => out.append(octets),
     }
 }
 
@@ -176,11 +167,11 @@ pub fn emit_link_header(
     source: &HardwareAddress,
     destination: &HardwareAddress,
     ethertype: EthernetProtocol,
-    out: &mut ArrayVec<u8, FRAME_BUFFER_SIZE>,
+    out: &mut FrameBuffer,
 )
-    requires { array_vec_len out.old + 14 ≤ 1514 }
-    ensures items { out.new.items ≡ out.old.items ++ link_header source.now destination.now ethertype }
-    ensures len { array_vec_len out.new ≤ array_vec_len out.old + 14 }
+    requires { length out.old + 14 ≤ 1514 }
+    ensures items { out.new ≡ out.old ++ link_header source.now destination.now ethertype }
+    ensures len { length out.new ≤ length out.old + 14 }
 {
     if let HardwareAddress::Ethernet(src_addr) = source {
         if let HardwareAddress::Ethernet(dst_addr) = destination {
@@ -194,12 +185,12 @@ pub fn emit_link_header(
     }
 }
 
-/// Builds the frame of an ARP packet, in place of what the buffer held.
-pub fn emit_arp(out: &mut ArrayVec<u8, FRAME_BUFFER_SIZE>, packet: &ArpRepr)
-    ensures items { out.new.items ≡ arp_frame packet.now }
-    ensures len { array_vec_len out.new ≡ 42 }
+/// Builds the frame of an ARP packet, in an empty buffer.
+pub fn emit_arp(packet: &ArpRepr, out: &mut FrameBuffer)
+    requires { out.old ≡ [] }
+    ensures items { out.new ≡ arp_frame packet.now }
+    ensures len { length out.new ≡ 42 }
 {
-    out.clear();
     let header = EthernetRepr {
         src_addr: packet.source_hardware_addr,
         dst_addr: packet.target_hardware_addr,

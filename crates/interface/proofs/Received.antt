@@ -5,7 +5,8 @@ use Rattle.net_base.specs.Device.{Event, Received, Frame, Nothing, Withheld, Han
 use Rattle.host_machine.specs.declared.results.PollIngressSingleResult.TheVariants as result
 use Rattle.host_machine.specs.Host.{Host, at}
 use Rattle.host_machine.specs.Note.{Note}
-use Rattle.host_machine.specs.Frame.{Reply, sends}
+use Rattle.host_machine.specs.Reply.{Reply}
+use Rattle.host_machine.specs.Frame.{sends}
 use Rattle.host_machine.specs.Ethernet.{TakesFrame}
 use Rattle.host_machine.specs.Ingress.{Ingress, Takes, Responds, answer_to}
 use Rattle.interface.specs.Goes.{Went}

@@ -4,7 +4,7 @@ use Rattle.ip_wire.specs.Ipv4Packet.{header_with, front, back}
 use Rattle.control_wire.specs.Icmpv4.{head_with, Request}
 use Rattle.control_wire.specs.declared.icmpv4.Icmpv4Repr.TheVariants.{EchoReply}
 use Rattle.net_base.specs.Device.{Frame}
-use Rattle.host_machine.specs.Frame.{Ip}
+use Rattle.host_machine.specs.Reply.{Ip}
 use Rattle.host_machine.specs.Packet.{Ipv4}
 use Rattle.host_machine.specs.Icmpv4 as icmpv4
 use Rattle.host_machine.specs.Ipv4 as ipv4
@@ -19,20 +19,22 @@ pub returns : goal.returns
 unfolding word_sum header_with front back head_with
 returns c = record {
   reception = Frame example.echo_request;
-  reply = Some (Ip (Ipv4 (record { src_addr = record { bits = 0xc0a84501 }; dst_addr = record { bits = 0xc0a84564 }; hop_limit = 64; payload = packet.Icmpv4 (EchoReply 0x1234 1) (0x61 ∷ 0x62 ∷ 0x63 ∷ 0x64 ∷ []) })));
-  taken = example.host 0x1405 example.heard;
   frames = example.echo_reply ∷ [];
-  notes_taking = [];
-  notes_responding = [];
-  takes = ethernet.Accepted (lit≤ tt) refl (ipv4.Read
-      (record { whole = lit≤ tt; version = refl; header = lit≤ tt; header_fits = lit≤ tt; total_fits = lit≤ tt; sum = λ on. refl })
-      (ipv4.Accepted refl refl refl (icmpv4.Taken (record { whole_header = lit≤ tt; sum = λ on. refl; body = Request refl refl }) refl refl refl)));
-  responds = (
-    Ok tt,
-    ToSomebody refl (ByHop example.sender refl (OnLink refl refl)
-        (Known example.sender_hardware is_known (record { gone = refl; sent = refl; unnoted = refl; unchanged = refl }))),
-  );
+  response = record {
+    reply = Some (Ip (Ipv4 (record { src_addr = record { bits = 0xc0a84501 }; dst_addr = record { bits = 0xc0a84564 }; hop_limit = 64; payload = packet.Icmpv4 (EchoReply 0x1234 1) (0x61 ∷ 0x62 ∷ 0x63 ∷ 0x64 ∷ []) })));
+    taken = example.host 0x1405 example.heard;
+    notes_taking = [];
+    notes_responding = [];
+    takes = ethernet.Accepted (lit≤ tt) refl (ipv4.Read
+        (record { whole = lit≤ tt; version = refl; header = lit≤ tt; header_fits = lit≤ tt; total_fits = lit≤ tt; sum = λ on. refl })
+        (ipv4.Accepted refl refl refl (icmpv4.Taken (record { whole_header = lit≤ tt; sum = λ on. refl; body = Request refl refl }) refl refl refl)));
+    responds = (
+      Ok tt,
+      ToSomebody refl (ByHop example.sender refl (OnLink refl refl)
+          (Known example.sender_hardware is_known (record { gone = refl; sent = refl; unnoted = refl; unchanged = refl }))),
+    );
+    all_notes = refl;
+  };
   events = refl;
-  all_notes = refl;
   answers = refl;
 }

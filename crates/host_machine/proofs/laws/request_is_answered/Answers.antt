@@ -1,6 +1,6 @@
 use Rattle.std.proofs.Common.{[], ◌∷◌, drop, refl, inl, arith, Some, lit≤}
 use Rattle.ip_wire.specs.Arp.{ipv4_over_ethernet, arp_in}
-use Rattle.host_machine.specs.Frame.{Arp}
+use Rattle.host_machine.specs.Reply.{Arp}
 use Rattle.host_machine.specs.Arp.{Learnt, reply_to}
 use Rattle.host_machine.specs.Ethernet.{Accepted}
 use Rattle.std.specs.FinMap.{len-empty}
@@ -14,18 +14,20 @@ pub returns : goal.returns
 unfolding ipv4_over_ethernet
 returns c = record {
   reception = Frame example.request;
-  reply = Some (Arp (reply_to (record { 0 = 2 ∷ 0 ∷ 0 ∷ 0 ∷ 0 ∷ 1 ∷ [] }) (arp_in (drop 14 example.request))));
-  taken = example.host 0x1405 example.learnt;
   frames = example.reply ∷ [];
-  notes_taking = [];
-  notes_responding = [];
-  takes = Accepted (lit≤ tt) refl (Learnt
-      (record { whole = lit≤ tt; hardware = refl; protocol = refl; hardware_len = refl; protocol_len = refl; operation = inl refl })
-      refl
-      (record { neighbors = example.learnt; filled = record { puts = record { there = λ h. refl; room = λ h. refl; full = λ none four. absurd (omega (arith, len-empty address_cmp Neighbor)) }; silence = refl }; same = refl })
-      refl refl);
-  responds = (refl, refl, refl);
+  response = record {
+    reply = Some (Arp (reply_to (record { 0 = 2 ∷ 0 ∷ 0 ∷ 0 ∷ 0 ∷ 1 ∷ [] }) (arp_in (drop 14 example.request))));
+    taken = example.host 0x1405 example.learnt;
+    notes_taking = [];
+    notes_responding = [];
+    takes = Accepted (lit≤ tt) refl (Learnt
+        (record { whole = lit≤ tt; hardware = refl; protocol = refl; hardware_len = refl; protocol_len = refl; operation = inl refl })
+        refl
+        (record { neighbors = example.learnt; filled = record { puts = record { there = λ h. refl; room = λ h. refl; full = λ none four. absurd (omega (arith, len-empty address_cmp Neighbor)) }; silence = refl }; same = refl })
+        refl refl);
+    responds = (refl, refl, refl);
+    all_notes = refl;
+  };
   events = refl;
-  all_notes = refl;
   answers = refl;
 }

@@ -7,7 +7,7 @@ use Rattle.control_wire.specs.declared.icmpv4.Icmpv4Repr.TheVariants.{EchoReply}
 use Rattle.net_base.specs.Device.{Frame}
 use Rattle.host_machine.specs.declared.results.DispatchError.TheVariants.{NeighborPending}
 use Rattle.host_machine.specs.Note.{Ask}
-use Rattle.host_machine.specs.Frame.{Ip}
+use Rattle.host_machine.specs.Reply.{Ip}
 use Rattle.host_machine.specs.Packet.{Ipv4}
 use Rattle.host_machine.specs.Icmpv4 as icmpv4
 use Rattle.host_machine.specs.Ipv4 as ipv4
@@ -22,20 +22,22 @@ pub returns : goal.returns
 unfolding ipv4_over_ethernet word_sum
 returns c = record {
   reception = Frame example.echo_request;
-  reply = Some (Ip (Ipv4 (record { src_addr = record { bits = 0xc0a84501 }; dst_addr = record { bits = 0xc0a84564 }; hop_limit = 64; payload = packet.Icmpv4 (EchoReply 0x1234 1) (0x61 ∷ 0x62 ∷ 0x63 ∷ 0x64 ∷ []) })));
-  taken = example.host 0x1405 (example.nobody (pos 0));
   frames = example.discovery ∷ [];
-  notes_taking = [];
-  notes_responding = Ask (pos 0) ∷ [];
-  takes = ethernet.Accepted (lit≤ tt) refl (ipv4.Read
-      (record { whole = lit≤ tt; version = refl; header = lit≤ tt; header_fits = lit≤ tt; total_fits = lit≤ tt; sum = λ on. refl })
-      (ipv4.Accepted refl refl refl (icmpv4.Taken (record { whole_header = lit≤ tt; sum = λ on. refl; body = Request refl refl }) refl refl (ap (example.host 0x1405) (sym none_renewed)))));
-  responds = (
-    Err NeighborPending,
-    ToSomebody refl (ByHop example.sender refl (OnLink refl refl)
-        (Unknown is_unknown (Asked (record { bits = 0xc0a84564 }) (record { bits = 0xc0a84501 }) refl refl refl refl refl refl))),
-  );
+  response = record {
+    reply = Some (Ip (Ipv4 (record { src_addr = record { bits = 0xc0a84501 }; dst_addr = record { bits = 0xc0a84564 }; hop_limit = 64; payload = packet.Icmpv4 (EchoReply 0x1234 1) (0x61 ∷ 0x62 ∷ 0x63 ∷ 0x64 ∷ []) })));
+    taken = example.host 0x1405 (example.nobody (pos 0));
+    notes_taking = [];
+    notes_responding = Ask (pos 0) ∷ [];
+    takes = ethernet.Accepted (lit≤ tt) refl (ipv4.Read
+        (record { whole = lit≤ tt; version = refl; header = lit≤ tt; header_fits = lit≤ tt; total_fits = lit≤ tt; sum = λ on. refl })
+        (ipv4.Accepted refl refl refl (icmpv4.Taken (record { whole_header = lit≤ tt; sum = λ on. refl; body = Request refl refl }) refl refl (ap (example.host 0x1405) (sym none_renewed)))));
+    responds = (
+      Err NeighborPending,
+      ToSomebody refl (ByHop example.sender refl (OnLink refl refl)
+          (Unknown is_unknown (Asked (record { bits = 0xc0a84564 }) (record { bits = 0xc0a84501 }) refl refl refl refl refl refl))),
+    );
+    all_notes = refl;
+  };
   events = refl;
-  all_notes = refl;
   answers = refl;
 }

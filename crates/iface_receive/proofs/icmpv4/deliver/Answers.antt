@@ -1,7 +1,7 @@
 use Rattle.std.proofs.Common.{ap, ◌∙◌}
 use Rattle.iface_tables.specs.SocketSet.{with_places}
 use Rattle.iface_receive.proofs.Each.{one_heard, all_mapped}
-use Rattle.iface_receive.proofs.icmp.deliver.Goals as goal
+use Rattle.iface_receive.proofs.icmpv4.deliver.Goals as goal
 
 pub loop-index-preserved : goal.loop-index-preserved
 loop-index-preserved c = one_heard _ c.args.sockets.now c.loop-index.sockets c.deliver_at.new.sockets c.loop-index.index

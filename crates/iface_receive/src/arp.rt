@@ -1,0 +1,80 @@
+//! What an interface does with ARP packets (RFC 826).
+ghost use Rattle.std.specs.Prelude.{◌≡◌, [], true};
+ghost use Rattle.ip_wire.specs.Ethernet as ethernet;
+ghost use Rattle.ip_wire.specs.Ipv4 as ipv4;
+ghost use Rattle.host_machine.specs.Host.{SocketSet, no_sockets};
+ghost use Rattle.host_machine.specs.Arp.{TakesArp, answer_by, listens, reply_to};
+ghost use Rattle.host_machine.specs.Response.{Responds};
+ghost use Rattle.iface_send.specs.Built.{Built};
+ghost use Rattle.iface_send.specs.Stands.{host_of};
+ghost use Rattle.iface_receive.specs.Processed.{Processed};
+
+use iface_send::Context;
+use iface_send::neighbors::fill_neighbor;
+use iface_send::packet::emit_arp;
+use ip_wire::emit::FrameBuffer;
+use ip_wire::{ArpOperation, ArpRepr, EthernetAddress, HardwareAddress, IpAddress};
+
+/// Takes the payload of an ARP frame (RFC 826). From a packet for one of the interface's addresses, by
+/// a unicast sender in one of its networks, the sender is learnt for 60 s, and the reply to a request
+/// is built, in an empty buffer. Any other packet changes nothing.
+pub fn process_arp(
+    context: &mut Context,
+    own: EthernetAddress,
+    payload: &[u8],
+    out: &mut FrameBuffer,
+)
+    requires { out.old ≡ [] }
+    ensures { (sockets : SocketSet) → Processed out.new (λ H. TakesArp own H payload.now) (host_of context.old sockets) (host_of context.new sockets) }
+{
+    let Some(packet) = ArpRepr::parse(payload) else {
+        return;
+    };
+    if !listens(context, &packet) {
+        return;
+    }
+    fill_neighbor(
+        context,
+        IpAddress::Ipv4(packet.source_protocol_addr),
+        HardwareAddress::Ethernet(packet.source_hardware_addr),
+    );
+    answer(context, own, &packet, out);
+}
+
+/// Whether a packet is for one of the interface's addresses, by a unicast sender in one of its
+/// networks.
+fn listens(context: &Context, packet: &ArpRepr) -> bool
+    ensures listens { result ≡ listens (host_of context.now no_sockets) packet.now }
+    ensures protocol { result ≡ true → ipv4.is_unicast packet.now.source_protocol_addr ≡ true }
+    ensures link { result ≡ true → ethernet.is_unicast packet.now.source_hardware_addr ≡ true }
+{
+    context.has_ip_addr(&IpAddress::Ipv4(packet.target_protocol_addr))
+        && packet.source_protocol_addr.is_unicast()
+        && packet.source_hardware_addr.is_unicast()
+        && context.in_same_network(&IpAddress::Ipv4(packet.source_protocol_addr))
+}
+
+/// Builds the reply to a request, and none to a reply.
+fn answer(context: &Context, own: EthernetAddress, packet: &ArpRepr, out: &mut FrameBuffer)
+    requires { out.old ≡ [] }
+    ensures { Built out.new (Responds (answer_by packet.now.operation own packet.now)) context.now context.now }
+{
+    match packet.operation {
+        ArpOperation::Request => emit_arp(&reply_to(own, packet), out),
+        ArpOperation::Reply => {}
+    }
+}
+
+/// The reply to a request: sender and target change places, and the interface gives its own hardware
+/// address.
+fn reply_to(own: EthernetAddress, packet: &ArpRepr) -> ArpRepr
+    ensures { result ≡ reply_to own packet.now }
+{
+    ArpRepr {
+        operation: ArpOperation::Reply,
+        source_hardware_addr: own,
+        source_protocol_addr: packet.target_protocol_addr,
+        target_hardware_addr: packet.source_hardware_addr,
+        target_protocol_addr: packet.source_protocol_addr,
+    }
+}

@@ -1,0 +1,202 @@
+//! What an interface does with ICMP messages (RFC 792, RFC 1122 3.2.2), and which it sends in reply.
+ghost use Rattle.std.specs.Prelude.{◌≡◌, ◌+◌, ◌<◌, ◌^◌, [], Some, length};
+ghost use Rattle.ip_wire.specs.declared.ip.IpAddress.TheVariants.{Ipv4};
+ghost use Rattle.iface_tables.specs.SocketSet.{socket_at, with_place, with_places};
+ghost use Rattle.control_wire.specs.Icmpv4.{QuotesPacket};
+ghost use Rattle.host_machine.specs.Host.{no_sockets};
+ghost use Rattle.host_machine.specs.Delivery.{to_each, to_this};
+ghost use Rattle.host_machine.specs.Icmpv4.{accepts, delivered};
+ghost use Rattle.host_machine.specs.Icmpv4 as spec;
+ghost use Rattle.host_machine.specs.Response.{Responds};
+ghost use Rattle.iface_send.specs.Built.{Built};
+ghost use Rattle.iface_send.specs.Stands.{host_of};
+ghost use Rattle.iface_receive.specs.Processed.{Processed};
+
+use control_wire::icmpv4::{Icmpv4DstUnreachable, Icmpv4Repr};
+use iface_send::dispatch::dispatch;
+use iface_send::{Context, IpPayload, Packet, PacketV4};
+use iface_tables::socket_set::SocketSet;
+use ip_wire::emit::FrameBuffer;
+use ip_wire::{IpAddress, Ipv4Address, Ipv4Repr};
+use sockets::{Socket, SocketOf};
+
+/// Takes the payload of a packet with this header as an ICMP message, of fewer than 65,536 octets
+/// (RFC 792). Each ICMP socket that takes it gets it, whole. The reply to an echo request is built, in
+/// an empty buffer: its identifier, its number and its data. Nothing else is answered.
+pub fn process_icmpv4(
+    context: &mut Context,
+    sockets: &mut SocketSet<'_>,
+    header: &Ipv4Repr,
+    octets: &[u8],
+    out: &mut FrameBuffer,
+)
+    requires empty { out.old ≡ [] }
+    requires short { length octets.now < 2 ^ 16 }
+    ensures { Processed out.new (λ H. spec.TakesIcmpv4 header.now H octets.now) (host_of context.old sockets.old) (host_of context.new sockets.new) }
+{
+    let checked = context.capabilities().checksum.icmpv4.rx();
+    let Some((message, contents)) = Icmpv4Repr::parse(octets, checked) else {
+        return;
+    };
+    deliver(sockets, header, &message, contents, octets);
+    answer(context, header, &message, contents, out);
+}
+
+/// Hands a message, whole, with its sender, to each ICMP socket that takes it. `contents` are the octets
+/// behind the message's values.
+fn deliver(
+    sockets: &mut SocketSet<'_>,
+    header: &Ipv4Repr,
+    message: &Icmpv4Repr,
+    contents: &[u8],
+    octets: &[u8],
+)
+    ensures { sockets.new ≡ with_places sockets.old (to_each (accepts message.now contents.now) (delivered (Ipv4 header.now.src_addr) octets.now) sockets.old.places) }
+{
+    let remote = IpAddress::Ipv4(header.src_addr);
+    for index in 0..sockets.places() {
+        deliver_at(sockets, index, remote, message, contents, octets);
+    }
+}
+
+/// Hands a message to the socket at an index, if that takes it.
+fn deliver_at(
+    sockets: &mut SocketSet<'_>,
+    index: usize,
+    remote: IpAddress,
+    message: &Icmpv4Repr,
+    contents: &[u8],
+    octets: &[u8],
+)
+    ensures heard { sockets.new ≡ with_place sockets.old index (to_this (accepts message.now contents.now) (delivered remote octets.now) (socket_at sockets.old index)) }
+    ensures len { length sockets.new.places ≡ length sockets.old.places }
+{
+    if let Some(socket) = sockets.socket_mut(index) {
+        deliver_to(socket, remote, message, contents, octets);
+    }
+}
+
+/// Hands a message to a socket, if that takes it.
+fn deliver_to(
+    socket: &mut Socket<'_>,
+    remote: IpAddress,
+    message: &Icmpv4Repr,
+    contents: &[u8],
+    octets: &[u8],
+)
+    ensures { Some socket.new ≡ to_this (accepts message.now contents.now) (delivered remote octets.now) (Some socket.old) }
+{
+    if let SocketOf::Icmp(icmp) = socket {
+        if icmp.accepts(message, contents) {
+            icmp.process(remote, octets);
+        }
+    }
+}
+
+/// Builds the reply to a message: to an echo request, and to nothing else.
+fn answer(
+    context: &mut Context,
+    header: &Ipv4Repr,
+    message: &Icmpv4Repr,
+    contents: &[u8],
+    out: &mut FrameBuffer,
+)
+    requires { out.old ≡ [] }
+    ensures { Built out.new (Responds (spec.answer_to (host_of context.old no_sockets).ip_addrs header.now message.now contents.now)) context.old context.new }
+{
+    match message {
+        Icmpv4Repr::EchoRequest { ident, seq_no } => {
+            let reply = Icmpv4Repr::EchoReply {
+                ident: *ident,
+                seq_no: *seq_no,
+            };
+            send_back(context, header, reply, contents, out);
+        }
+        _ => {}
+    }
+}
+
+/// Builds an error in reply to a packet, in an empty buffer. It quotes the packet's header and at most
+/// 528 octets of its payload, so that it is at most 576 octets long (RFC 1122 3.2.2). None is built if
+/// a raw socket took the packet.
+pub(crate) fn refuse(
+    context: &mut Context,
+    reason: Icmpv4DstUnreachable,
+    header: &Ipv4Repr,
+    payload: &[u8],
+    by_raw: bool,
+    out: &mut FrameBuffer,
+)
+    requires empty { out.old ≡ [] }
+    requires quotable { 20 + header.now.payload_len < 2 ^ 16 }
+    ensures { Built out.new (Responds (spec.unreachable by_raw (host_of context.old no_sockets).ip_addrs reason header.now payload.now)) context.old context.new }
+{
+    if by_raw {
+        return;
+    }
+    let message = Icmpv4Repr::DstUnreachable {
+        reason,
+        header: *header,
+    };
+    send_back(context, header, message, quoted(payload), out);
+}
+
+/// As much of a payload as an error quotes.
+#[tactic(auto, using(crate::proofs::Each::quoted_whole))]
+fn quoted(payload: &[u8]) -> &[u8]
+    ensures { result.now ≡ spec.quoted payload.now }
+{
+    if payload.len() <= 528 {
+        return payload;
+    }
+    &payload[..528]
+}
+
+/// Builds a message in reply to a packet, with hop limit 64, if it may go.
+fn send_back(
+    context: &mut Context,
+    header: &Ipv4Repr,
+    message: Icmpv4Repr,
+    octets: &[u8],
+    out: &mut FrameBuffer,
+)
+    requires empty { out.old ≡ [] }
+    requires quoted { QuotesPacket message }
+    ensures { Built out.new (Responds (spec.icmpv4_reply (host_of context.old no_sockets).ip_addrs header.now message octets.now)) context.old context.new }
+{
+    let Some(src_addr) = reply_source(context, header, &message) else {
+        return;
+    };
+    let packet = Packet::Ipv4(PacketV4 {
+        src_addr,
+        dst_addr: header.src_addr,
+        hop_limit: 64,
+        payload: IpPayload::Icmpv4(message, octets),
+    });
+    let _ = dispatch(context, &packet, out);
+}
+
+/// The address from which a message goes in reply to a packet: the packet's destination, if that is
+/// one host, and for a broadcast the first own address, where the message may answer one (RFC 1122
+/// 3.2.2, 3.2.2.6). None goes to what isn't one host.
+fn reply_source(context: &Context, header: &Ipv4Repr, message: &Icmpv4Repr) -> Option<Ipv4Address>
+    ensures { result ≡ spec.reply_source (host_of context.now no_sockets).ip_addrs header.now message.now }
+{
+    if !context.is_unicast_v4(&header.src_addr) {
+        return None;
+    }
+    if context.is_unicast_v4(&header.dst_addr) {
+        return Some(header.dst_addr);
+    }
+    if context.is_broadcast_v4(&header.dst_addr) && may_answer_broadcast(message) {
+        return context.ipv4_addr();
+    }
+    None
+}
+
+/// Whether a message may answer a broadcast: an echo reply alone.
+fn may_answer_broadcast(message: &Icmpv4Repr) -> bool
+    ensures { result ≡ spec.may_answer_broadcast message.now }
+{
+    matches!(message, Icmpv4Repr::EchoReply { .. })
+}
