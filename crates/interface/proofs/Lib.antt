@@ -1,4 +1,4 @@
 mod Made
-mod Turned
+mod Egressed
 mod Received
 mod Driven

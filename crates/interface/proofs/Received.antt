@@ -1,15 +1,22 @@
 -- What came from a device, over plain variables.
-use Rattle.std.proofs.Common.{◌≡◌, ℕ, ◌<◌, List, [], ◌∷◌, length, refl, sym, subst, arith, Option, None}
+use Rattle.std.proofs.Common.{◌≡◌, ℕ, ◌<◌, List, [], ◌∷◌, length, refl, sym, subst, arith, Option, None, Some}
 use Rattle.std.specs.Prelude.{ℤ}
 use Rattle.net_base.specs.Device.{Event, Received, Frame, Nothing, Withheld, HandsNone, WasEmpty, WasWithheld}
+use Rattle.host_machine.specs.declared.results.PollIngressSingleResult.{PollIngressSingleResult}
 use Rattle.host_machine.specs.declared.results.PollIngressSingleResult.TheVariants as result
 use Rattle.host_machine.specs.Host.{Host, at}
 use Rattle.host_machine.specs.Note.{Note}
 use Rattle.host_machine.specs.Reply.{Reply}
-use Rattle.host_machine.specs.Frame.{sends}
+use Rattle.host_machine.specs.Frame.{frames_in, sends}
 use Rattle.host_machine.specs.Ethernet.{TakesFrame}
-use Rattle.host_machine.specs.Ingress.{Ingress, Takes, Responds, answer_to}
+use Rattle.host_machine.specs.Response.{Response}
+use Rattle.host_machine.specs.Ingress.{Ingress, Takes, answer_to}
+use Rattle.iface_receive.specs.Processed.{Processed}
 use Rattle.interface.specs.Goes.{Went}
+use Rattle.interface.specs.Receives.{FrameReceived, frames_shown}
+
+nothing_taken : {Takes : Host → Option Reply → List Note → Host → Type 0} (H : Host) → Takes H None [] H → Response Takes H [] [] H
+nothing_taken H takes = record { reply = None; taken = H; notes_taking = []; notes_responding = []; takes = takes; responds = (refl, refl, refl); all_notes = refl }
 
 module _ {D : Type 0} {tells : D → List Event → D → Type 0} {d d' : D} where
   -- no frame came
@@ -19,7 +26,7 @@ module _ {D : Type 0} {tells : D → List Event → D → Type 0} {d d' : D} whe
     notes = [];
     host = at H t;
     tells_it = told;
-    steps = record { reception = Nothing; reply = None; taken = at H t; frames = []; notes_taking = []; notes_responding = []; takes = record { silent = refl; unnoted = refl; unchanged = refl }; responds = (refl, refl, refl); events = refl; all_notes = refl; answers = refl };
+    steps = record { reception = Nothing; frames = []; response = nothing_taken (at H t) (record { silent = refl; unnoted = refl; unchanged = refl }); events = refl; answers = refl };
     stands = stands;
   }
   nothing_came t H after (WasWithheld told) stands = record {
@@ -27,42 +34,66 @@ module _ {D : Type 0} {tells : D → List Event → D → Type 0} {d d' : D} whe
     notes = [];
     host = at H t;
     tells_it = told;
-    steps = record { reception = Withheld; reply = None; taken = at H t; frames = []; notes_taking = []; notes_responding = []; takes = record { silent = refl; unnoted = refl; unchanged = refl }; responds = (refl, refl, refl); events = refl; all_notes = refl; answers = refl };
+    steps = record { reception = Withheld; frames = []; response = nothing_taken (at H t) (record { silent = refl; unnoted = refl; unchanged = refl }); events = refl; answers = refl };
     stands = stands;
   }
 
-  -- an empty frame came
-  pub empty_came : (t : ℤ) (H : Host) (after : Host → Type 0) → tells d (Received (Frame []) ∷ []) d' → after (at H t) → Went tells d d' (Ingress t result.PacketProcessed H) after
-  empty_came t H after told stands = record {
-    told = Received (Frame []) ∷ [];
-    notes = [];
-    host = at H t;
-    tells_it = told;
-    steps = record { reception = Frame []; reply = None; taken = at H t; frames = []; notes_taking = []; notes_responding = []; takes = record { silent = refl; unnoted = refl; unchanged = refl }; responds = (refl, refl, refl); events = refl; all_notes = refl; answers = refl };
-    stands = stands;
-  }
-
+-- a frame that isn't empty
 takes_some : (H K : Host) (f : List ℕ) (reply : Option Reply) (notes : List Note) → 0 < length f → TakesFrame H.hardware_addr H f reply notes K → Takes H (Frame f) reply notes K
 takes_some H K [] reply notes some takes = absurd (omega arith)
 takes_some H K (octet ∷ octets) reply notes some takes = takes
 
-answers_some : (f : List ℕ) → 0 < length f → result.SocketStateChanged ≡ answer_to (Frame f)
+-- an empty frame
+takes_none : (H : Host) (f : List ℕ) → length f ≡ 0 → Takes H (Frame f) None [] H
+takes_none H [] none = record { silent = refl; unnoted = refl; unchanged = refl }
+takes_none H (octet ∷ octets) none = absurd (omega (arith, none))
+
+-- what is done with a frame that isn't empty, by its medium
+pub took_some : (H K : Host) (f buffer : List ℕ) → 0 < length f → Processed buffer (λ L. TakesFrame L.hardware_addr L f) H K → Processed buffer (λ L. Takes L (Frame f)) H K
+took_some H K f buffer some processed =
+    let r = processed.response in record {
+      notes = processed.notes;
+      response = record { reply = r.reply; taken = r.taken; notes_taking = r.notes_taking; notes_responding = r.notes_responding; takes = takes_some H r.taken f r.reply r.notes_taking some r.takes; responds = r.responds; all_notes = r.all_notes };
+    }
+
+-- nothing is built for an empty one
+pub took_none : (H : Host) (f buffer : List ℕ) → length f ≡ 0 → buffer ≡ [] → Processed buffer (λ L. Takes L (Frame f)) H H
+took_none H f buffer none empty = record { notes = []; response = rw empty (nothing_taken H (takes_none H f none)) }
+
+pub answers_none : (f : List ℕ) → length f ≡ 0 → result.PacketProcessed ≡ answer_to (Frame f)
+answers_none [] none = refl
+answers_none (octet ∷ octets) none = absurd (omega (arith, none))
+
+pub answers_some : (f : List ℕ) → 0 < length f → result.SocketStateChanged ≡ answer_to (Frame f)
 answers_some [] some = absurd (omega arith)
 answers_some (octet ∷ octets) some = refl
 
--- a frame came that isn't empty, it was taken, and the reply went, if there was one
-pub answered : (H J K L : Host) (t : ℤ) (f : List ℕ) (reply : Option Reply) (frames : List (List ℕ)) (notes : List Note) → at H t ≡ J → 0 < length f →
-    TakesFrame J.hardware_addr J f reply [] K → Responds reply K frames notes L → Ingress t result.SocketStateChanged H (Received (Frame f) ∷ sends frames) notes L
-answered H J K L t f reply frames notes same some takes responds = record {
+-- a frame came, was taken, and the one built in response went
+pub frame_came : (t : ℤ) (H J K : Host) (f buffer : List ℕ) (answer : PollIngressSingleResult) → at H t ≡ J → (processed : Processed buffer (λ L. Takes L (Frame f)) J K) → answer ≡ answer_to (Frame f) →
+    Ingress t answer H (Received (Frame f) ∷ sends (frames_in buffer)) processed.notes K
+frame_came t H J K f buffer answer same processed answers = record {
   reception = Frame f;
-  reply = reply;
-  taken = K;
-  frames = frames;
-  notes_taking = [];
-  notes_responding = notes;
-  takes = (let P : Host → Type 0 = λ M. TakesFrame M.hardware_addr M f reply [] K in takes_some (at H t) K f reply [] some (subst P (sym same) takes));
-  responds = responds;
+  frames = frames_in buffer;
+  response = subst (λ (L : Host). Response (λ (M : Host). Takes M (Frame f)) L (frames_in buffer) processed.notes K) (sym same) processed.response;
   events = refl;
-  all_notes = refl;
-  answers = answers_some f some;
+  answers = answers;
+}
+
+-- a buffer holds what is shown of it
+pub shows_none : (buffer : List ℕ) → length buffer ≡ 0 → frames_in buffer ≡ frames_shown None
+shows_none [] none = refl
+shows_none (octet ∷ octets) none = absurd (omega (arith, none))
+
+pub shows_some : (buffer shown : List ℕ) → 0 < length buffer → shown ≡ buffer → frames_in buffer ≡ frames_shown (Some shown)
+shows_some [] shown some is = absurd (omega (arith, some))
+shows_some (octet ∷ octets) shown some is = rw is refl
+
+-- the same where its user gives the frame, and the one built is shown
+pub frame_received : (t : ℤ) (H J K : Host) (f buffer : List ℕ) (shown : Option (List ℕ)) (after : Host → Type 0) → at H t ≡ J → Processed buffer (λ L. Takes L (Frame f)) J K → frames_in buffer ≡ frames_shown shown →
+    after K → FrameReceived t f shown H after
+frame_received t H J K f buffer shown after same processed shows stands = record {
+  notes = processed.notes;
+  host = K;
+  steps = rw shows at (frame_came t H J K f buffer (answer_to (Frame f)) same processed refl);
+  stands = stands;
 }

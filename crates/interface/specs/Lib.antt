@@ -1,6 +1,5 @@
 pub mod Stands
 pub mod Goes
+pub mod Receives
 pub mod Commands
 pub mod Joined
-pub mod Told
-pub mod Turns

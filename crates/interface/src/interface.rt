@@ -3,17 +3,22 @@ ghost use Rattle.std.specs.Prelude.{◌≡◌, ◌≤◌, false, true, length};
 ghost use Rattle.host_machine.specs.Config as config;
 ghost use Rattle.host_machine.specs.Config.{same_medium, hardware_refusal_of};
 ghost use Rattle.host_machine.specs.Host.{SocketSet, are_assignable};
+ghost use Rattle.host_machine.specs.Ingress.{Takes};
+ghost use Rattle.net_base.specs.Device.{Frame};
+ghost use Rattle.iface_receive.specs.Processed.{Processed};
+ghost use Rattle.iface_send.specs.Stands.{host_of};
 
-use crate::egress::socket_egress;
 use arrayvec::ArrayVec;
 use host_machine::{AddrError, HardwareError, NewError, PollIngressSingleResult, PollResult};
+use iface_egress::egress::socket_egress;
+use iface_egress::transmit::send_frame;
 use iface_receive::ethernet::process_frame;
 use iface_send::context::IFACE_MAX_ADDR_COUNT;
-use iface_send::dispatch::respond;
 use iface_send::settings::{routes_mut, set_any_ip, set_hardware_addr, set_ip_addrs, set_moment};
 use iface_send::{Context, settings};
 use iface_tables::route::Routes;
 use iface_tables::socket_set::SocketSet;
+use ip_wire::emit::FrameBuffer;
 use ip_wire::{HardwareAddress, IpAddress, IpCidr, Ipv4Address};
 use net_base::phy::{Device, DeviceCapabilities, FRAME_BUFFER_SIZE, Medium};
 use net_base::rand::Rand;
@@ -50,12 +55,14 @@ impl Config {
 pub struct Interface {
     context: Context,
     receive_buffer: [u8; FRAME_BUFFER_SIZE],
-    transmit_buffer: ArrayVec<u8, FRAME_BUFFER_SIZE>,
+    transmit_buffer: FrameBuffer,
 }
 
 impl Interface {
-    ghost use Rattle.std.specs.Prelude.{◌≡◌, List, [], Option, IfOk, IsOk, MatchResult};
-    ghost use Rattle.std.specs.Option.{option_copied};
+    ghost use Rattle.std.specs.Prelude.{◌≡◌, ◌≤◌, List, [], Option, IfOk, IfSome, IsOk, MatchResult, length};
+    ghost use Rattle.std.specs.Option.{option_copied, option_map};
+    ghost use Rattle.std.specs.Io.BufRead.{Rests};
+    ghost use Rattle.interface.specs.Receives.{ReceivesFrame};
     ghost use Rattle.net_base.specs.Time.{IsMoment};
     ghost use Rattle.host_machine.specs.Host.{Storage};
     ghost use Rattle.host_machine.specs.Host as host;
@@ -104,7 +111,7 @@ impl Interface {
         Ok(Interface {
             context: settings::new(capabilities, config.hardware_addr, ipv4_id, now),
             receive_buffer: [0; FRAME_BUFFER_SIZE],
-            transmit_buffer: ArrayVec::new(),
+            transmit_buffer: FrameBuffer::new(),
         })
     }
 
@@ -249,12 +256,38 @@ impl Interface {
         let Some((len, _)) = device.receive(timestamp, &mut self.receive_buffer) else {
             return PollIngressSingleResult::None;
         };
+        let frame = &self.receive_buffer[..len];
+        take_frame(&mut self.context, sockets, frame, &mut self.transmit_buffer);
+        send_frame(device, &self.transmit_buffer);
         if len == 0 {
-            return PollIngressSingleResult::PacketProcessed;
+            PollIngressSingleResult::PacketProcessed
+        } else {
+            PollIngressSingleResult::SocketStateChanged
         }
-        let reply = process_frame(&mut self.context, sockets, &self.receive_buffer[..len]);
-        respond(&mut self.context, device, &mut self.transmit_buffer, reply);
-        PollIngressSingleResult::SocketStateChanged
+    }
+
+    /// Sets the moment, takes a frame of any octets, and shows the frame that is to be sent, if there
+    /// is one: the reply, or in place of a reply to an unknown neighbour the request for its address.
+    /// It does what [`Interface::poll_ingress_single`] does over a device that hands over just this
+    /// frame, for users who own their buffers. The frame that is shown, of at most 1,514 octets, stays in
+    /// the interface until the next call that sends.
+    pub fn receive_frame(
+        &mut self,
+        timestamp: Instant,
+        frame: &[u8],
+        sockets: &mut SocketSet<'_>,
+    ) -> Option<&[u8]>
+        requires { IsMoment timestamp }
+        ensures* received { sem 𝓛 (Rests the_row self.entry (λ new. ReceivesFrame timestamp frame.now (option_map (λ f. f.now) result) (StandsFor self.old sockets.old) (StandsFor new sockets.new))) }
+        ensures short { IfSome result (λ f. length f.now ≤ 1514) }
+    {
+        set_moment(&mut self.context, timestamp);
+        take_frame(&mut self.context, sockets, frame, &mut self.transmit_buffer);
+        if self.transmit_buffer.is_empty() {
+            None
+        } else {
+            Some(self.transmit_buffer.as_slice())
+        }
     }
 
     /// Sets the moment, and sends what the sockets have to send: one packet of each in order, until
@@ -279,6 +312,22 @@ impl Interface {
         } else {
             PollResult::None
         }
+    }
+}
+
+/// Takes a frame, and builds the one that goes in response, if there is one, in place of what the buffer
+/// held. An empty frame changes nothing.
+fn take_frame(
+    context: &mut Context,
+    sockets: &mut SocketSet<'_>,
+    frame: &[u8],
+    out: &mut FrameBuffer,
+)
+    ensures { Processed out.new (λ H. Takes H (Frame frame.now)) (host_of context.old sockets.old) (host_of context.new sockets.new) }
+{
+    out.clear();
+    if !frame.is_empty() {
+        process_frame(context, sockets, frame, out);
     }
 }
 

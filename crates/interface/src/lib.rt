@@ -2,11 +2,11 @@
 //! of the host machine (crate `host_machine`).
 //!
 //! Begin with [`Interface::new`] over a device, give it addresses by `update_ip_addrs`, let it take
-//! frames by `poll_ingress_single`, and send what the sockets have to send by `poll_egress`. The
-//! module [`host`] runs lists of such calls.
+//! frames by `poll_ingress_single`, and send what the sockets have to send by `poll_egress`. Who has
+//! buffers of its own hands frames over by `receive_frame`. The module [`host`] runs lists of such
+//! calls.
 #![tactic(auto)]
 
-pub mod egress;
 pub mod host;
 pub mod interface;
 #[cfg(test)]
@@ -17,5 +17,5 @@ mod tests;
 pub use host_machine::{
     AddrError, Answer, Command, HardwareError, NewError, PollIngressSingleResult, PollResult,
 };
-pub use iface_send::{Context, EthernetPacket, IpPayload, Packet, PacketV4};
+pub use iface_send::{Context, IpPayload, Packet, PacketV4};
 pub use interface::{Config, Interface};

@@ -1,7 +1,7 @@
 use Rattle.std.proofs.Common.{ap, ◌∙◌, sym, refl}
 use Rattle.host_machine.specs.Host.{Host, at}
 use Rattle.iface_send.specs.Stands.{host_of}
-use Rattle.interface.proofs.Turned.{egressed}
+use Rattle.interface.proofs.Egressed.{egressed}
 use Rattle.interface.proofs.interface.Interface.poll_egress.Goals as goal
 
 pub returns-then-socket_egress : goal.returns-then-socket_egress

@@ -13,21 +13,19 @@ use Rattle.iface_tables.specs.SocketMeta.{Wait, IsTold, is_permitted, after_aski
 use Rattle.iface_tables.specs.SocketSet.{socket_at, wait_at, with_place, with_wait}
 use Rattle.host_machine.specs.declared.results.Turn.{Turn}
 use Rattle.host_machine.specs.declared.results.Turn.TheVariants.{Idle, Gone, Unsent, Exhausted}
-use Rattle.host_machine.specs.declared.results.PollResult.{PollResult}
 use Rattle.host_machine.specs.Host.{Host, SocketSet, Storage, at, no_sockets}
 use Rattle.host_machine.specs.Addresses.{source_for}
 use Rattle.host_machine.specs.Packet as value
-use Rattle.host_machine.specs.Frame.{sends}
+use Rattle.host_machine.specs.Frame.{frames_in, sends}
 use Rattle.host_machine.specs.Dispatch.{Outcome, Dispatches, KnowsNextHop, destination_of}
-use Rattle.host_machine.specs.Egress.{Socket, packet_of, packet_from, asked, turn_of, is_gone, is_exhausted, Silent, Refused, Sent, Free, Waits, Served, wait_after, Begins, Goes, Stops, Stopped, SocketsSend, Egress, answer_of}
+use Rattle.host_machine.specs.Egress.{Socket, packet_of, packet_from, asked, turn_of, is_gone, is_exhausted, Silent, Refused, Sent, Free, Waits, Served, wait_after, Begins, Goes, Stops, Stopped, SocketsSend}
 use Rattle.iface_send.specs.declared.context.Context.{Context}
 use Rattle.iface_send.specs.declared.packet.Packet.{Packet}
 use Rattle.iface_send.specs.Shown as shown
-use Rattle.iface_send.specs.Sent as iface
+use Rattle.iface_send.specs.Built.{Built}
 use Rattle.iface_send.specs.Stands.{host_of}
-use Rattle.interface.specs.Goes.{Went}
-use Rattle.interface.specs.Told.{Told}
-use Rattle.interface.specs.Turns.{HasTurn, IsDecided, NoSocket, OfSocket, IsServed, AreServed, SocketsServed}
+use Rattle.iface_egress.specs.Told.{Told}
+use Rattle.iface_egress.specs.Turns.{HasTurn, IsDecided, NoSocket, OfSocket, IsServed, AreServed, SocketsServed}
 
 -- a socket that offers nothing has no packet
 pub none_offered : (H : Host) (s : Socket) (r : Option Offer) → option_map kinds.shown r ≡ offered H.moment (source_for H.ip_addrs) s → r ≡ None → packet_from H s ≡ None
@@ -54,27 +52,27 @@ module _ {D : Type 0} {tells : D → List Event → D → Type 0} where
       Told tells d e (HasTurn s Exhausted s' c c)
   refused c p asks some settles = record { told = Asked false ∷ []; notes = []; tells_it = asks; follows = λ sockets. Refused p some refl refl refl refl settles }
 
-  sent : {d m e : D} (c c' : Context) {s s' : Socket} {t : Turn} → ((a b c : D) (xs ys : List Event) → tells a xs b → tells b ys c → tells a (xs ++ ys) c) →
-      (p : value.Packet) (o : Outcome) → tells d (Asked true ∷ []) m → iface.Sent tells m e (Dispatches p o) c c' → packet_from (host_of c no_sockets) s ≡ Some p → t ≡ turn_of p o →
+  sent : {d m e : D} {buffer : List ℕ} (c c' : Context) {s s' : Socket} {t : Turn} → ((a b c : D) (xs ys : List Event) → tells a xs b → tells b ys c → tells a (xs ++ ys) c) →
+      (p : value.Packet) (o : Outcome) → tells d (Asked true ∷ []) m → Built buffer (Dispatches p o) c c' → tells m (sends (frames_in buffer)) e → packet_from (host_of c no_sockets) s ≡ Some p → t ≡ turn_of p o →
       s' ≡ told (is_ok o) (asked (host_of c no_sockets) s) → Told tells d e (HasTurn s t s' c c')
-  sent {d} {m} {e} c c' tells_on p o asks dispatched some turns tells_it = record {
-    told = Asked true ∷ sends dispatched.frames;
-    notes = dispatched.notes;
-    tells_it = tells_on d m e (Asked true ∷ []) (sends dispatched.frames) asks dispatched.tells_it;
-    follows = λ sockets. Sent p o dispatched.frames some (dispatched.follows sockets) turns refl tells_it;
+  sent {d} {m} {e} {buffer} c c' tells_on p o asks built sends_it some turns tells_it = record {
+    told = Asked true ∷ sends (frames_in buffer);
+    notes = built.notes;
+    tells_it = tells_on d m e (Asked true ∷ []) (sends (frames_in buffer)) asks sends_it;
+    follows = λ sockets. Sent p o (frames_in buffer) some (built.follows sockets) turns refl tells_it;
   }
 
-  pub sent_gone : {d m e : D} (c c' : Context) {s s' asked_so : Socket} → ((a b c : D) (xs ys : List Event) → tells a xs b → tells b ys c → tells a (xs ++ ys) c) →
-      (p : value.Packet) (o : Outcome) (gone : Bool) → tells d (Asked true ∷ []) m → iface.Sent tells m e (Dispatches p o) c c' → packet_from (host_of c no_sockets) s ≡ Some p →
+  pub sent_gone : {d m e : D} {buffer : List ℕ} (c c' : Context) {s s' asked_so : Socket} → ((a b c : D) (xs ys : List Event) → tells a xs b → tells b ys c → tells a (xs ++ ys) c) →
+      (p : value.Packet) (o : Outcome) (gone : Bool) → tells d (Asked true ∷ []) m → Built buffer (Dispatches p o) c c' → tells m (sends (frames_in buffer)) e → packet_from (host_of c no_sockets) s ≡ Some p →
       gone ≡ is_ok o → gone ≡ true → asked_so ≡ asked (host_of c no_sockets) s → s' ≡ told gone asked_so → Told tells d e (HasTurn s Gone s' c c')
-  sent_gone c c' tells_on p o gone asks dispatched some is_it is settles tells_it =
-      sent c c' tells_on p o asks dispatched some (gone_turn p o (sym is_it ∙ is)) (rw (← is_it, ← settles) tells_it)
+  sent_gone c c' tells_on p o gone asks built sends_it some is_it is settles tells_it =
+      sent c c' tells_on p o asks built sends_it some (gone_turn p o (sym is_it ∙ is)) (rw (← is_it, ← settles) tells_it)
 
-  pub sent_kept : {d m e : D} (c c' : Context) {s s' asked_so : Socket} {a : IpAddress} → ((a b c : D) (xs ys : List Event) → tells a xs b → tells b ys c → tells a (xs ++ ys) c) →
-      (p : value.Packet) (o : Outcome) (gone : Bool) → tells d (Asked true ∷ []) m → iface.Sent tells m e (Dispatches p o) c c' → packet_from (host_of c no_sockets) s ≡ Some p →
+  pub sent_kept : {d m e : D} {buffer : List ℕ} (c c' : Context) {s s' asked_so : Socket} {a : IpAddress} → ((a b c : D) (xs ys : List Event) → tells a xs b → tells b ys c → tells a (xs ++ ys) c) →
+      (p : value.Packet) (o : Outcome) (gone : Bool) → tells d (Asked true ∷ []) m → Built buffer (Dispatches p o) c c' → tells m (sends (frames_in buffer)) e → packet_from (host_of c no_sockets) s ≡ Some p →
       gone ≡ is_ok o → gone ≡ false → a ≡ destination_of p → asked_so ≡ asked (host_of c no_sockets) s → s' ≡ told gone asked_so → Told tells d e (HasTurn s (Unsent a) s' c c')
-  sent_kept c c' tells_on p o gone asks dispatched some is_it is goes_to settles tells_it =
-      sent c c' tells_on p o asks dispatched some (ap Unsent goes_to ∙ kept_turn p o (sym is_it ∙ is)) (rw (← is_it, ← settles) tells_it)
+  sent_kept c c' tells_on p o gone asks built sends_it some is_it is goes_to settles tells_it =
+      sent c c' tells_on p o asks built sends_it some (ap Unsent goes_to ∙ kept_turn p o (sym is_it ∙ is)) (rw (← is_it, ← settles) tells_it)
 
 none_some : {A : Type 0} {x : A} → None ≡ Some x → ⊥
 none_some is = absurd cc
@@ -178,16 +176,4 @@ module _ {D : Type 0} {tells : D → List Event → D → Type 0} where
     notes = so.notes ++ one.notes;
     tells_it = tells_on d m e so.told one.told so.tells_it one.tells_it;
     follows = Stopped (n + 1) (Stops t one.told one.notes new so.follows one.follows is);
-  }
-
-  -- one call that sends, from the turns of the sockets at its moment
-  pub egressed : {d e : D} (t : ℤ) (H J K : Host) (changed : Bool) (answer : PollResult) (after : Host → Type 0) → at H t ≡ J → Told tells d e (SocketsServed changed J K) →
-      answer ≡ answer_of changed → after K → Went tells d e (Egress t answer H) after
-  egressed t H J K changed answer after same served answers stands = record {
-    told = served.told;
-    notes = served.notes;
-    host = K;
-    tells_it = served.tells_it;
-    steps = record { changed = changed; sockets = subst (λ M. SocketsSend M changed served.told served.notes K) (sym same) served.follows; answers = answers };
-    stands = stands;
   }

@@ -1,5 +1,5 @@
-use Rattle.interface.proofs.Turned.{not_asked, was_asked}
-use Rattle.interface.proofs.egress.serve.Goals as goal
+use Rattle.iface_egress.proofs.Turned.{not_asked, was_asked}
+use Rattle.iface_egress.proofs.egress.serve.Goals as goal
 
 pub returns-then-not-is_permitted-clause-told : goal.returns-then-not-is_permitted-clause-told
 returns-then-not-is_permitted-clause-told g c =

@@ -1,7 +1,7 @@
 use Rattle.std.proofs.Common.{refl, sym, ◌∙◌}
 use Rattle.iface_send.specs.Stands.{host_of}
-use Rattle.interface.proofs.Turned.{none_served, one_served, one_refused}
-use Rattle.interface.proofs.egress.socket_egress.Goals as goal
+use Rattle.iface_egress.proofs.Turned.{none_served, one_served, one_refused}
+use Rattle.iface_egress.proofs.egress.socket_egress.Goals as goal
 
 pub loop-index-init : goal.loop-index-init
 loop-index-init g c = (none_served (host_of c.args.context.now c.args.sockets.now) (g.met.D.Device.tells_nothing c.args.device.now), refl)

@@ -13,17 +13,18 @@ ghost use Rattle.host_machine.specs.Egress as spec;
 ghost use Rattle.host_machine.specs.Packet.{IsWritable, IsWritablePayload};
 ghost use Rattle.iface_send.specs.Shown as shown;
 ghost use Rattle.iface_send.specs.Stands.{host_of};
-ghost use Rattle.interface.specs.Told.{Told};
-ghost use Rattle.interface.specs.Turns.{HasTurn, IsDecided, IsServed, SocketsServed};
+ghost use Rattle.iface_egress.specs.Told.{Told};
+ghost use Rattle.iface_egress.specs.Turns.{HasTurn, IsDecided, IsServed, SocketsServed};
 
-use arrayvec::ArrayVec;
+use crate::transmit::send_frame;
 use control_wire::Icmpv4Repr;
 use host_machine::Turn;
 use iface_send::dispatch::{dispatch, has_neighbor};
 use iface_send::{Context, IpPayload, Packet, PacketV4};
 use iface_tables::socket_set::SocketSet;
+use ip_wire::emit::FrameBuffer;
 use ip_wire::{IpAddress, UdpRepr};
-use net_base::phy::{Device, FRAME_BUFFER_SIZE};
+use net_base::phy::Device;
 use net_base::time::Instant;
 use sockets::{Offer, Socket, SocketContext, icmp, raw, udp};
 
@@ -32,7 +33,7 @@ use sockets::{Offer, Socket, SocketContext, icmp, raw, udp};
 pub fn socket_egress<D: Device>(
     context: &mut Context,
     device: &mut D,
-    out: &mut ArrayVec<u8, FRAME_BUFFER_SIZE>,
+    out: &mut FrameBuffer,
     sockets: &mut SocketSet<'_>,
 ) -> bool
     ensures { Told D.tells device.old device.new (SocketsServed result (host_of context.old sockets.old) (host_of context.new sockets.new)) }
@@ -53,7 +54,7 @@ pub fn socket_egress<D: Device>(
 fn serve<D: Device>(
     context: &mut Context,
     device: &mut D,
-    out: &mut ArrayVec<u8, FRAME_BUFFER_SIZE>,
+    out: &mut FrameBuffer,
     sockets: &mut SocketSet<'_>,
     index: usize,
 ) -> Turn
@@ -104,7 +105,7 @@ fn give_turn<D: Device>(
     socket: &mut Socket<'_>,
     context: &mut Context,
     device: &mut D,
-    out: &mut ArrayVec<u8, FRAME_BUFFER_SIZE>,
+    out: &mut FrameBuffer,
 ) -> Turn
     ensures { Told D.tells device.old device.new (HasTurn socket.old result socket.new context.old context.new) }
 {
@@ -118,7 +119,9 @@ fn give_turn<D: Device>(
         return Turn::Exhausted;
     }
     let destination = packet.dst_addr();
-    let gone = dispatch(context, device, out, &packet).is_ok();
+    out.clear();
+    let gone = dispatch(context, &packet, out).is_ok();
+    send_frame(device, out);
     socket.told(gone);
     if gone {
         Turn::Gone

@@ -1,8 +1,8 @@
 use Rattle.std.proofs.Common.{◌≡◌, length, true}
 use Rattle.iface_send.specs.Stands.{host_of}
-use Rattle.interface.specs.Told.{Told}
-use Rattle.interface.specs.Turns.{AreServed}
-use Rattle.interface.proofs.egress.socket_egress.Given as goal
+use Rattle.iface_egress.specs.Told.{Told}
+use Rattle.iface_egress.specs.Turns.{AreServed}
+use Rattle.iface_egress.proofs.egress.socket_egress.Given as goal
 
 abbrev pub invariant-loop-index : goal.invariant-loop-index
 invariant-loop-index g l =

@@ -1,5 +1,5 @@
-use Rattle.interface.proofs.Turned.{decided}
-use Rattle.interface.proofs.egress.is_permitted.Goals as goal
+use Rattle.iface_egress.proofs.Turned.{decided}
+use Rattle.iface_egress.proofs.egress.is_permitted.Goals as goal
 
 pub returns : goal.returns
 returns c =
