@@ -256,8 +256,13 @@ impl Interface {
         let Some((len, _)) = device.receive(timestamp, &mut self.receive_buffer) else {
             return PollIngressSingleResult::None;
         };
-        let frame = &self.receive_buffer[..len];
-        take_frame(&mut self.context, sockets, frame, &mut self.transmit_buffer);
+        let received = &self.receive_buffer[..len];
+        take_frame(
+            &mut self.context,
+            sockets,
+            received,
+            &mut self.transmit_buffer,
+        );
         send_frame(device, &self.transmit_buffer);
         if len == 0 {
             PollIngressSingleResult::PacketProcessed

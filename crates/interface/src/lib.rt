@@ -9,10 +9,6 @@
 
 pub mod host;
 pub mod interface;
-#[cfg(test)]
-mod kind_tests;
-#[cfg(test)]
-mod tests;
 
 pub use host_machine::{
     AddrError, Answer, Command, HardwareError, NewError, PollIngressSingleResult, PollResult,

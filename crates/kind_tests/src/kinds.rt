@@ -2,14 +2,11 @@
 // memory is refused.
 ghost use Rattle.std.specs.Prelude.{◌≡◌, IfOk};
 
-use crate::tests::{
-    ECHO, ECHO_REPLY, GONE, HI, HOME, Host, KEPT, NEIGHBOR, OWN, REPLY, REQUEST, TAKEN, networks,
-    octets,
-};
-use crate::{Config, Interface};
 use arrayvec::ArrayVec;
-use host_machine::{Answer, Command};
 use iface_tables::socket_set::{AddError, SocketHandle};
+use interface::{Answer, Command, Config, Interface};
+use interface_tests::frames::{ECHO, ECHO_REPLY, HI, REPLY, REQUEST};
+use interface_tests::host::{GONE, HOME, Host, KEPT, NEIGHBOR, OWN, TAKEN, networks, octets};
 use ip_wire::{IpAddress, IpProtocol, IpVersion, TcpControl, TcpSeqNumber};
 use net_base::MemoryDevice;
 use net_base::phy::{ChecksumCapabilities, Device, DeviceCapabilities, Medium};
