@@ -2,7 +2,5 @@
 #![tactic(auto)]
 
 pub mod icmpv4;
-#[cfg(test)]
-mod tests;
 
 pub use icmpv4::{Icmpv4DstUnreachable, Icmpv4Repr};

@@ -2,18 +2,18 @@
 use Rattle.std.specs.Prelude.{◌≡◌, ℕ, ◌+◌, ◌/◌, ◌%◌, ◌^◌, nat_le, Bool, true, false, List, [], ◌∷◌, Option, Some, None, Result, Ok, Err, if◌then◌else◌}
 use Rattle.std.specs.Option.{option_and_then}
 use Rattle.net_base.specs.Checksum.{ip_mtu_of}
-use Rattle.ip_wire.specs.declared.ethernet.EthernetAddress.{EthernetAddress}
-use Rattle.ip_wire.specs.declared.hardware.HardwareAddress.{HardwareAddress}
-use Rattle.ip_wire.specs.declared.hardware.HardwareAddress.TheVariants as hardware
-use Rattle.ip_wire.specs.declared.ipv4.Ipv4Address.{Ipv4Address}
-use Rattle.ip_wire.specs.declared.ipv6.Ipv6Address.{Ipv6Address}
-use Rattle.ip_wire.specs.declared.ip.IpAddress.{IpAddress}
-use Rattle.ip_wire.specs.declared.ip.IpAddress.TheVariants.{Ipv4, Ipv6}
-use Rattle.ip_wire.specs.declared.cidr.IpCidr.{IpCidr}
-use Rattle.ip_wire.specs.Ethernet.{broadcast}
-use Rattle.ip_wire.specs.Ip.{is_unicast, is_unspecified}
-use Rattle.ip_wire.specs.Ipv4 as ipv4
-use Rattle.ip_wire.specs.Ipv6 as ipv6
+use Rattle.ip_address.specs.declared.ethernet_address.EthernetAddress.{EthernetAddress}
+use Rattle.ip_address.specs.declared.hardware.HardwareAddress.{HardwareAddress}
+use Rattle.ip_address.specs.declared.hardware.HardwareAddress.TheVariants as hardware
+use Rattle.ip_address.specs.declared.ipv4.Ipv4Address.{Ipv4Address}
+use Rattle.ip_address.specs.declared.ipv6.Ipv6Address.{Ipv6Address}
+use Rattle.ip_address.specs.declared.ip.IpAddress.{IpAddress}
+use Rattle.ip_address.specs.declared.ip.IpAddress.TheVariants.{Ipv4, Ipv6}
+use Rattle.ip_address.specs.declared.cidr.IpCidr.{IpCidr}
+use Rattle.ip_address.specs.EthernetAddress.{broadcast}
+use Rattle.ip_address.specs.Ip.{is_unicast, is_unspecified}
+use Rattle.ip_address.specs.Ipv4 as ipv4
+use Rattle.ip_address.specs.Ipv6 as ipv6
 use Rattle.iface_tables.specs.declared.neighbor.Answer.TheVariants.{Found, NotFound, RateLimited}
 use Rattle.iface_tables.specs.Neighbor.{Neighbors, answer_of, is_found, silence_from}
 use Rattle.iface_tables.specs.Route.{IsRouter}

@@ -3,14 +3,14 @@ use Rattle.std.specs.Prelude.{◌≡◌, ℕ, ◌+◌, ℤ, Bool, true, false, �
 use Rattle.std.specs.Option.{option_and_then}
 use Rattle.std.specs.Borrow.{Bor}
 use Rattle.net_base.specs.Device.{Event, Asked}
-use Rattle.ip_wire.specs.declared.ip.IpAddress.{IpAddress}
-use Rattle.ip_wire.specs.declared.ip.IpAddress.TheVariants as address
+use Rattle.ip_address.specs.declared.ip.IpAddress.{IpAddress}
+use Rattle.ip_address.specs.declared.ip.IpAddress.TheVariants as address
 use Rattle.sockets.specs.declared.socket.SocketOf.{SocketOf}
 use Rattle.sockets.specs.Kinds.{Offered, RawOffer, IcmpOffer, UdpOffer, TcpOffer, offered, settled, told}
 use Rattle.control_wire.specs.declared.icmpv4.Icmpv4Repr.{Icmpv4Repr}
 use Rattle.control_wire.specs.declared.icmpv4.Icmpv4Repr.TheVariants.{EchoRequest, EchoReply, DstUnreachable, TimeExceeded}
-use Rattle.iface_tables.specs.SocketMeta.{Wait, IsTold, is_permitted, after_asking, silence_from}
-use Rattle.iface_tables.specs.SocketSet.{wait_at, with_place, with_wait}
+use Rattle.socket_set.specs.SocketMeta.{Wait, IsTold, is_permitted, after_asking, silence_from}
+use Rattle.socket_set.specs.SocketSet.{wait_at, with_place, with_wait}
 use Rattle.host_machine.specs.declared.results.PollResult.{PollResult}
 use Rattle.host_machine.specs.declared.results.PollResult.TheVariants as result
 use Rattle.host_machine.specs.declared.results.Turn.{Turn}

@@ -7,11 +7,11 @@ use Rattle.net_base.specs.Device.{Received, Frame, Sent}
 use Rattle.net_base.specs.declared.phy.DeviceCapabilities.{DeviceCapabilities}
 use Rattle.net_base.specs.declared.phy.Medium.TheVariants as medium
 use Rattle.net_base.specs.declared.phy.Checksum.TheVariants as checksum
-use Rattle.ip_wire.specs.declared.cidr.IpCidr.TheVariants as cidr
-use Rattle.ip_wire.specs.declared.hardware.HardwareAddress.TheVariants as hardware
-use Rattle.ip_wire.specs.declared.ip.IpAddress.TheVariants as ip
-use Rattle.ip_wire.specs.declared.hardware.HardwareAddress.{HardwareAddress}
-use Rattle.ip_wire.specs.declared.ip.IpAddress.{IpAddress}
+use Rattle.ip_address.specs.declared.cidr.IpCidr.TheVariants as cidr
+use Rattle.ip_address.specs.declared.hardware.HardwareAddress.TheVariants as hardware
+use Rattle.ip_address.specs.declared.ip.IpAddress.TheVariants as ip
+use Rattle.ip_address.specs.declared.hardware.HardwareAddress.{HardwareAddress}
+use Rattle.ip_address.specs.declared.ip.IpAddress.{IpAddress}
 use Rattle.iface_tables.specs.Neighbor.{Neighbors, renewed}
 use Rattle.host_machine.specs.declared.results.PollIngressSingleResult.TheVariants as result
 use Rattle.host_machine.specs.Note.{Ask}

@@ -6,9 +6,9 @@ use Rattle.net_base.specs.Device.{Event, Sent}
 use Rattle.ip_wire.specs.declared.arp.ArpRepr.{ArpRepr}
 use Rattle.ip_wire.specs.declared.ethernet.EthernetProtocol.{EthernetProtocol}
 use Rattle.ip_wire.specs.declared.ethernet.EthernetProtocol.TheVariants as protocol
-use Rattle.ip_wire.specs.declared.hardware.HardwareAddress.{HardwareAddress}
-use Rattle.ip_wire.specs.declared.hardware.HardwareAddress.TheVariants as hardware
-use Rattle.ip_wire.specs.declared.ip.IpAddress.TheVariants as address
+use Rattle.ip_address.specs.declared.hardware.HardwareAddress.{HardwareAddress}
+use Rattle.ip_address.specs.declared.hardware.HardwareAddress.TheVariants as hardware
+use Rattle.ip_address.specs.declared.ip.IpAddress.TheVariants as address
 use Rattle.ip_wire.specs.Ethernet.{header_text}
 use Rattle.ip_wire.specs.Arp.{text}
 use Rattle.ip_wire.specs.Ipv4Packet as ipv4

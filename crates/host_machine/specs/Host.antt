@@ -3,16 +3,16 @@ use Rattle.std.specs.Prelude.{ℕ, ℤ, Bool, false, ◌==◌, ◌||◌, List, [
 use Rattle.std.specs.Borrow.{Bor}
 use Rattle.std.specs.List.{list_any, list_all}
 use Rattle.net_base.specs.declared.phy.DeviceCapabilities.{DeviceCapabilities}
-use Rattle.ip_wire.specs.declared.ip.IpAddress.{IpAddress}
-use Rattle.ip_wire.specs.declared.ip.IpAddress.TheVariants.{Ipv4, Ipv6}
-use Rattle.ip_wire.specs.declared.cidr.IpCidr.{IpCidr}
-use Rattle.ip_wire.specs.declared.hardware.HardwareAddress.{HardwareAddress}
-use Rattle.ip_wire.specs.Ip.{is_unicast, is_unspecified}
-use Rattle.ip_wire.specs.Cidr.{address_of, contains}
+use Rattle.ip_address.specs.declared.ip.IpAddress.{IpAddress}
+use Rattle.ip_address.specs.declared.ip.IpAddress.TheVariants.{Ipv4, Ipv6}
+use Rattle.ip_address.specs.declared.cidr.IpCidr.{IpCidr}
+use Rattle.ip_address.specs.declared.hardware.HardwareAddress.{HardwareAddress}
+use Rattle.ip_address.specs.Ip.{is_unicast, is_unspecified}
+use Rattle.ip_address.specs.Cidr.{address_of, contains}
 use Rattle.iface_tables.specs.Neighbor.{Neighbors}
 use Rattle.iface_tables.specs.declared.route.Route.{Route}
-use Rattle.iface_tables.specs.SocketSet.{Sockets}
-use Rattle.iface_tables.specs.SocketSet as table
+use Rattle.socket_set.specs.SocketSet.{Sockets}
+use Rattle.socket_set.specs.SocketSet as table
 use Rattle.sockets.specs.declared.socket.SocketOf.{SocketOf}
 
 -- a place of a socket set: it holds a socket, or it is free

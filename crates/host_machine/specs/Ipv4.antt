@@ -1,12 +1,12 @@
 -- IPv4, reception of packets (RFC 791 3.2, RFC 1122 3.2.1): whose packets are taken, for whom, and by which protocol.
 use Rattle.std.specs.Prelude.{◌≡◌, ℕ, Bool, true, false, List, [], Option, if◌then◌else◌}
 use Rattle.net_base.specs.Checksum.{is_rx}
-use Rattle.ip_wire.specs.declared.hardware.HardwareAddress.{HardwareAddress}
-use Rattle.ip_wire.specs.declared.ip.IpAddress.TheVariants.{Ipv4}
+use Rattle.ip_address.specs.declared.hardware.HardwareAddress.{HardwareAddress}
+use Rattle.ip_address.specs.declared.ip.IpAddress.TheVariants.{Ipv4}
 use Rattle.ip_wire.specs.declared.ipv4_packet.Ipv4Repr.{Ipv4Repr}
 use Rattle.ip_wire.specs.declared.ipv4_packet.Ipv4Fragment.{Ipv4Fragment}
-use Rattle.ip_wire.specs.declared.protocol.IpProtocol.{IpProtocol}
-use Rattle.ip_wire.specs.declared.protocol.IpProtocol.TheVariants as protocol
+use Rattle.ip_address.specs.declared.protocol.IpProtocol.{IpProtocol}
+use Rattle.ip_address.specs.declared.protocol.IpProtocol.TheVariants as protocol
 use Rattle.ip_wire.specs.Ipv4Packet.{IsIpv4, ipv4_in, is_fragment}
 use Rattle.iface_tables.specs.Neighbor.{renewed, expiry_from}
 use Rattle.host_machine.specs.Note.{Note}

@@ -1,11 +1,11 @@
 //! The host that a script runs.
 ghost use Rattle.std.specs.Prelude.{◌≡◌, OnOk, OnErr};
 ghost use Rattle.host_machine.specs.Step.{IsTimely};
-ghost use Rattle.iface_tables.specs.SocketSet.{added};
+ghost use Rattle.socket_set.specs.SocketSet.{added};
 ghost use Rattle.sockets.specs.declared.socket.SocketOf.TheVariants.{Udp};
 ghost use Rattle.hostrun.specs.Sockets.{listening};
 
-use iface_tables::socket_set::SocketSet;
+use socket_set::SocketSet;
 use interface::host::{Owner, drive};
 use interface::{Answer, Command, Config, Interface};
 use ip_wire::{EthernetAddress, HardwareAddress};

@@ -3,7 +3,7 @@
 use crate::link::Link;
 use anyhow::{Context, Result};
 use arrayvec::ArrayVec;
-use iface_tables::socket_set::{SocketHandle, SocketSet};
+use socket_set::{SocketHandle, SocketSet};
 use interface::{Config, Interface};
 use ip_wire::{EthernetAddress, HardwareAddress, IpAddress, IpCidr, Ipv4Address, Ipv4Cidr};
 use net_base::time::Instant;

@@ -8,9 +8,9 @@ use Rattle.net_base.specs.Device.{Event, Asked}
 use Rattle.sockets.specs.Kinds.{offered, told}
 use Rattle.sockets.specs.Kinds as kinds
 use Rattle.sockets.specs.declared.socket.Offer.{Offer}
-use Rattle.ip_wire.specs.declared.ip.IpAddress.{IpAddress}
-use Rattle.iface_tables.specs.SocketMeta.{Wait, IsTold, is_permitted, after_asking}
-use Rattle.iface_tables.specs.SocketSet.{socket_at, wait_at, with_place, with_wait}
+use Rattle.ip_address.specs.declared.ip.IpAddress.{IpAddress}
+use Rattle.socket_set.specs.SocketMeta.{Wait, IsTold, is_permitted, after_asking}
+use Rattle.socket_set.specs.SocketSet.{socket_at, wait_at, with_place, with_wait}
 use Rattle.host_machine.specs.declared.results.Turn.{Turn}
 use Rattle.host_machine.specs.declared.results.Turn.TheVariants.{Idle, Gone, Unsent, Exhausted}
 use Rattle.host_machine.specs.Host.{Host, SocketSet, Storage, at, no_sockets}

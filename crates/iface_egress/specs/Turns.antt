@@ -3,8 +3,8 @@ use Rattle.std.specs.Prelude.{◌≡◌, ℕ, Bool, false, List, Some, None}
 use Rattle.net_base.specs.Device.{Event}
 use Rattle.host_machine.specs.declared.results.Turn.{Turn}
 use Rattle.host_machine.specs.Note.{Note}
-use Rattle.iface_tables.specs.SocketMeta.{IsTold, is_permitted, after_asking}
-use Rattle.iface_tables.specs.SocketSet.{socket_at, wait_at, with_wait}
+use Rattle.socket_set.specs.SocketMeta.{IsTold, is_permitted, after_asking}
+use Rattle.socket_set.specs.SocketSet.{socket_at, wait_at, with_wait}
 use Rattle.host_machine.specs.Host.{Host, SocketSet}
 use Rattle.host_machine.specs.Dispatch.{KnowsNextHop}
 use Rattle.host_machine.specs.Egress.{Socket, SocketTurn, Serves, Walks, SocketsSend}

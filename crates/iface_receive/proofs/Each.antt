@@ -5,7 +5,7 @@ use Rattle.std.specs.List.{list_any}
 use Rattle.std.specs.Option.{option_and_then}
 use Rattle.std.proofs.lemmas.List.{take_all, length-take-le}
 use Rattle.sockets.specs.declared.socket.SocketOf.{SocketOf}
-use Rattle.iface_tables.specs.SocketSet.{Sockets, socket_at, with_place, with_places}
+use Rattle.socket_set.specs.SocketSet.{Sockets, socket_at, with_place, with_places}
 
 -- a payload that isn't too long is quoted whole
 pub quoted_whole : (payload : List ℕ) → length payload ≤ 528 → take 528 payload ≡ payload

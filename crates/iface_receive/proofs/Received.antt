@@ -3,12 +3,12 @@ use Rattle.std.proofs.Common.{◌≡◌, ◌⊎◌, inl, inr, ℕ, zero, suc, Bo
 use Rattle.std.specs.Option.{option_map}
 use Rattle.net_base.specs.Checksum.{is_rx}
 use Rattle.ip_wire.specs.declared.arp.ArpRepr.{ArpRepr}
-use Rattle.ip_wire.specs.declared.ethernet.EthernetAddress.{EthernetAddress}
-use Rattle.ip_wire.specs.declared.hardware.HardwareAddress.TheVariants as hardware
-use Rattle.ip_wire.specs.declared.ip.IpAddress.TheVariants.{Ipv4}
+use Rattle.ip_address.specs.declared.ethernet_address.EthernetAddress.{EthernetAddress}
+use Rattle.ip_address.specs.declared.hardware.HardwareAddress.TheVariants as hardware
+use Rattle.ip_address.specs.declared.ip.IpAddress.TheVariants.{Ipv4}
 use Rattle.ip_wire.specs.declared.ipv4_packet.Ipv4Repr.{Ipv4Repr}
-use Rattle.ip_wire.specs.declared.protocol.IpProtocol.{IpProtocol}
-use Rattle.ip_wire.specs.declared.protocol.IpProtocol.TheVariants as protocol
+use Rattle.ip_address.specs.declared.protocol.IpProtocol.{IpProtocol}
+use Rattle.ip_address.specs.declared.protocol.IpProtocol.TheVariants as protocol
 use Rattle.ip_wire.specs.declared.ethernet.EthernetProtocol.{EthernetProtocol}
 use Rattle.ip_wire.specs.declared.ethernet.EthernetProtocol.TheVariants as ethertype
 use Rattle.ip_wire.specs.declared.udp.UdpRepr.{UdpRepr}
@@ -18,12 +18,12 @@ use Rattle.ip_wire.specs.Arp.{IsArp, arp_in}
 use Rattle.ip_wire.specs.Udp.{IsUdp, udp_in}
 use Rattle.sockets.specs.declared.socket.SocketOf.{SocketOf}
 use Rattle.iface_tables.specs.Neighbor.{Neighbors, Fills, expiry_from}
-use Rattle.iface_tables.specs.SocketSet.{Sockets, socket_at, with_place}
-use Rattle.iface_tables.proofs.SocketSetLemmas as table
+use Rattle.socket_set.specs.SocketSet.{Sockets, socket_at, with_place}
+use Rattle.socket_set.proofs.SocketSetLemmas as table
 use Rattle.host_machine.specs.Host.{Host, Storage, with_neighbors, with_places}
 use Rattle.host_machine.specs.Reply.{Reply}
 use Rattle.host_machine.specs.Arp.{TakesArp, Learnt, NotForUs, listens, answer_by}
-use Rattle.ip_wire.specs.declared.hardware.HardwareAddress.{HardwareAddress}
+use Rattle.ip_address.specs.declared.hardware.HardwareAddress.{HardwareAddress}
 use Rattle.ip_wire.specs.declared.ipv4_packet.Ipv4Fragment.{Ipv4Fragment}
 use Rattle.ip_wire.specs.Ipv4Packet.{IsIpv4, ipv4_in, is_fragment}
 use Rattle.host_machine.specs.Addresses.{is_for_host, may_be_source}

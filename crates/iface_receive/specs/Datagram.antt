@@ -1,7 +1,7 @@
 -- A datagram, by the headers that it came with.
 use Rattle.std.specs.Prelude.{ℕ, Bool, List}
-use Rattle.ip_wire.specs.declared.ip.IpAddress.TheVariants.{Ipv4}
-use Rattle.ip_wire.specs.declared.cidr.IpCidr.{IpCidr}
+use Rattle.ip_address.specs.declared.ip.IpAddress.TheVariants.{Ipv4}
+use Rattle.ip_address.specs.declared.cidr.IpCidr.{IpCidr}
 use Rattle.ip_wire.specs.declared.ipv4_packet.Ipv4Repr.{Ipv4Repr}
 use Rattle.ip_wire.specs.declared.udp.UdpRepr.{UdpRepr}
 use Rattle.host_machine.specs.Host.{Storage}

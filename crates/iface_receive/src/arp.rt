@@ -1,7 +1,7 @@
 //! What an interface does with ARP packets (RFC 826).
 ghost use Rattle.std.specs.Prelude.{◌≡◌, [], true};
-ghost use Rattle.ip_wire.specs.Ethernet as ethernet;
-ghost use Rattle.ip_wire.specs.Ipv4 as ipv4;
+ghost use Rattle.ip_address.specs.EthernetAddress as ethernet;
+ghost use Rattle.ip_address.specs.Ipv4 as ipv4;
 ghost use Rattle.host_machine.specs.Host.{SocketSet, no_sockets};
 ghost use Rattle.host_machine.specs.Arp.{TakesArp, answer_by, listens, reply_to};
 ghost use Rattle.host_machine.specs.Response.{Responds};

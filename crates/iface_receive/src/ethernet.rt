@@ -7,7 +7,7 @@ ghost use Rattle.iface_receive.specs.Processed.{Processed};
 use crate::arp::process_arp;
 use crate::ipv4::process_ipv4;
 use iface_send::Context;
-use iface_tables::socket_set::SocketSet;
+use socket_set::SocketSet;
 use ip_wire::emit::FrameBuffer;
 use ip_wire::{EthernetAddress, EthernetProtocol, EthernetRepr, HardwareAddress};
 

@@ -1,7 +1,7 @@
 //! What an interface does with ICMP messages (RFC 792, RFC 1122 3.2.2), and which it sends in reply.
 ghost use Rattle.std.specs.Prelude.{◌≡◌, ◌+◌, ◌<◌, ◌^◌, [], Some, length};
-ghost use Rattle.ip_wire.specs.declared.ip.IpAddress.TheVariants.{Ipv4};
-ghost use Rattle.iface_tables.specs.SocketSet.{socket_at, with_place, with_places};
+ghost use Rattle.ip_address.specs.declared.ip.IpAddress.TheVariants.{Ipv4};
+ghost use Rattle.socket_set.specs.SocketSet.{socket_at, with_place, with_places};
 ghost use Rattle.control_wire.specs.Icmpv4.{QuotesPacket};
 ghost use Rattle.host_machine.specs.Host.{no_sockets};
 ghost use Rattle.host_machine.specs.Delivery.{to_each, to_this};
@@ -15,7 +15,7 @@ ghost use Rattle.iface_receive.specs.Processed.{Processed};
 use control_wire::icmpv4::{Icmpv4DstUnreachable, Icmpv4Repr};
 use iface_send::dispatch::dispatch;
 use iface_send::{Context, IpPayload, Packet, PacketV4};
-use iface_tables::socket_set::SocketSet;
+use socket_set::SocketSet;
 use ip_wire::emit::FrameBuffer;
 use ip_wire::{IpAddress, Ipv4Address, Ipv4Repr};
 use sockets::{Socket, SocketOf};

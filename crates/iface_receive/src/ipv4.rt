@@ -13,7 +13,7 @@ use crate::udp::process_udp;
 use control_wire::icmpv4::Icmpv4DstUnreachable;
 use iface_send::Context;
 use iface_send::neighbors::renew_neighbor;
-use iface_tables::socket_set::SocketSet;
+use socket_set::SocketSet;
 use ip_wire::emit::FrameBuffer;
 use ip_wire::{HardwareAddress, IpAddress, IpProtocol, Ipv4Address, Ipv4Fragment, Ipv4Repr};
 

@@ -1,12 +1,12 @@
 //! What raw sockets hear: every packet of their version and protocol.
 ghost use Rattle.std.specs.Prelude.{◌≡◌, ◌+◌, ◌<◌, ◌^◌, Some, length};
-ghost use Rattle.iface_tables.specs.SocketSet.{socket_at, with_place};
+ghost use Rattle.socket_set.specs.SocketSet.{socket_at, with_place};
 ghost use Rattle.host_machine.specs.Delivery.{to_this};
 ghost use Rattle.host_machine.specs.Raw.{accepts, delivered, heard, is_taken};
 ghost use Rattle.iface_send.specs.Stands.{host_of};
 
 use iface_send::Context;
-use iface_tables::socket_set::SocketSet;
+use socket_set::SocketSet;
 use ip_wire::{IpVersion, Ipv4Repr};
 use sockets::{Socket, SocketOf};
 

@@ -1,7 +1,7 @@
 //! What an interface does with TCP segments (RFC 9293 3.10.7).
 ghost use Rattle.std.specs.Prelude.{◌≡◌, ◌<◌, ◌^◌, [], Some, true, false, length, slice_set};
 ghost use Rattle.std.specs.Option.{option_map};
-ghost use Rattle.iface_tables.specs.SocketSet.{socket_at, with_places};
+ghost use Rattle.socket_set.specs.SocketSet.{socket_at, with_places};
 ghost use Rattle.host_machine.specs.Delivery.{IsNobody};
 ghost use Rattle.host_machine.specs.Response.{Responds};
 ghost use Rattle.host_machine.specs.Tcp as spec;
@@ -12,7 +12,7 @@ ghost use Rattle.iface_send.specs.Stands.{host_of};
 
 use iface_send::dispatch::dispatch;
 use iface_send::{Context, IpPayload, Packet, PacketV4};
-use iface_tables::socket_set::SocketSet;
+use socket_set::SocketSet;
 use ip_wire::emit::FrameBuffer;
 use ip_wire::{IpAddress, Ipv4Repr, TcpControl, TcpRepr};
 use sockets::tcp::rst_reply;

@@ -1,6 +1,6 @@
 //! What an interface does with UDP datagrams (RFC 768, RFC 1122 4.1.3).
 ghost use Rattle.std.specs.Prelude.{◌≡◌, ◌+◌, ◌<◌, ◌^◌, [], Some, true, false, slice_set};
-ghost use Rattle.iface_tables.specs.SocketSet.{socket_at, with_places};
+ghost use Rattle.socket_set.specs.SocketSet.{socket_at, with_places};
 ghost use Rattle.host_machine.specs.Delivery.{DeliversFirst, IsNobody};
 ghost use Rattle.host_machine.specs.Udp.{TakesUdp};
 ghost use Rattle.host_machine.specs.Host.{no_sockets};
@@ -11,7 +11,7 @@ ghost use Rattle.iface_receive.specs.Datagram.{is_taken_by, handed_to};
 use crate::icmpv4::refuse;
 use control_wire::icmpv4::Icmpv4DstUnreachable;
 use iface_send::Context;
-use iface_tables::socket_set::SocketSet;
+use socket_set::SocketSet;
 use ip_wire::emit::FrameBuffer;
 use ip_wire::{IpAddress, Ipv4Repr, UdpRepr};
 use sockets::{IpEndpoint, Socket, SocketOf};

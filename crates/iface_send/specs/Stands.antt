@@ -1,7 +1,7 @@
 -- Which host a context stands for.
 use Rattle.std.specs.Prelude.{List}
 use Rattle.arrayvec.specs.ArrayVec.{ArrayVec}
-use Rattle.ip_wire.specs.declared.cidr.IpCidr.{IpCidr}
+use Rattle.ip_address.specs.declared.cidr.IpCidr.{IpCidr}
 use Rattle.iface_tables.specs.declared.route.Route.{Route}
 use Rattle.host_machine.specs.Host.{Host, SocketSet}
 use Rattle.iface_send.specs.declared.context.Context.{Context}

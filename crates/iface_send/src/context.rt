@@ -2,7 +2,7 @@
 ghost use Rattle.std.specs.Prelude.{◌≡◌, ◌≤◌};
 ghost use Rattle.std.specs.List.{list_any};
 ghost use Rattle.net_base.specs.Time.{IsMoment};
-ghost use Rattle.ip_wire.specs.Hardware.{medium_of};
+ghost use Rattle.ip_address.specs.Hardware.{medium_of};
 ghost use Rattle.host_machine.specs.Host.{is_assigned, same_address, no_sockets};
 ghost use Rattle.host_machine.specs.Addresses as addresses;
 

@@ -2,7 +2,7 @@
 //! 1122 3.3.1, RFC 826).
 ghost use Rattle.std.specs.Prelude.{◌≡◌, ◌≤◌, true, false, [], length, None, Ok, Err, IfSome};
 ghost use Rattle.net_base.specs.Checksum.{ip_mtu_of};
-ghost use Rattle.ip_wire.specs.Ip.{is_unicast, is_unspecified};
+ghost use Rattle.ip_address.specs.Ip.{is_unicast, is_unspecified};
 ghost use Rattle.host_machine.specs.Host.{SocketSet, no_sockets};
 ghost use Rattle.host_machine.specs.Arp.{request_for};
 ghost use Rattle.host_machine.specs.Frame.{ip_frame};

@@ -1,7 +1,7 @@
 //! What an interface learns of its neighbours from what it takes.
 ghost use Rattle.std.specs.Prelude.{◌≡◌, List, [], true};
-ghost use Rattle.ip_wire.specs.Hardware as hardware;
-ghost use Rattle.ip_wire.specs.Ip.{is_unicast};
+ghost use Rattle.ip_address.specs.Hardware as hardware;
+ghost use Rattle.ip_address.specs.Ip.{is_unicast};
 ghost use Rattle.iface_tables.specs.Neighbor.{Fills, renewed, expiry_from};
 ghost use Rattle.host_machine.specs.Host.{SocketSet, with_neighbors, no_sockets};
 ghost use Rattle.iface_send.specs.Stands.{host_of};

@@ -2,7 +2,7 @@
 ghost use Rattle.std.specs.Prelude.{◌≡◌, ◌≤◌, List, [], false, pos};
 ghost use Rattle.std.specs.FinMap as map;
 ghost use Rattle.net_base.specs.Time.{IsMoment};
-ghost use Rattle.ip_wire.specs.Hardware.{medium_of};
+ghost use Rattle.ip_address.specs.Hardware.{medium_of};
 ghost use Rattle.host_machine.specs.Host.{SocketSet, at, no_sockets};
 ghost use Rattle.host_machine.specs.Step.{flushed};
 ghost use Rattle.iface_send.specs.Stands.{host_of, with_routes};

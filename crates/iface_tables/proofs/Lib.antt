@@ -1,4 +1,3 @@
 pub mod EntriesLemmas
 pub mod NeighborLemmas
 pub mod RouteLemmas
-pub mod SocketSetLemmas

@@ -3,7 +3,7 @@ use Rattle.std.proofs.Common.{◌≡◌, ◌≢◌, ℕ, ◌<◌, List, [], ◌�
 use Rattle.std.proofs.lemmas.Bool.Decides.{nat_tests}
 use Rattle.std.proofs.lemmas.Slice.Eq.{bytes_eq-Decides}
 use Rattle.std.specs.Bool.{Decides}
-use Rattle.ip_wire.specs.Hardware.{octets_of}
+use Rattle.ip_address.specs.Hardware.{octets_of}
 use Rattle.std.specs.Prelude.{unwrap_or, Bool, ◌==◌, ℤ, ◌≤ℤ◌, true, false, cond, Some, None, slice_set, remove}
 use Rattle.std.specs.Ordering.{nat_cmp, eq_by_cmp}
 use Rattle.std.specs.Cmp.{IsTotalOrder, nat_cmp_total}
@@ -12,12 +12,12 @@ use Rattle.std.specs.FinMap.{IsAntisymmetric, find, from_entries, get-from_entri
 use Rattle.std.proofs.lemmas.Cmp.{on_total, then_total}
 use Rattle.std.proofs.lemmas.Map.Lookups.{exact_pairs, exact_unsigned}
 use Rattle.std.proofs.lemmas.List.{get_or_default, set-get_or}
-use Rattle.ip_wire.specs.Ip.{address_cmp, address_key, address_of_key, address_of_key-address_key}
+use Rattle.ip_address.specs.Ip.{address_cmp, address_key, address_of_key, address_of_key-address_key}
 use Rattle.iface_tables.specs.Entries.{place_of, AreKeysDistinct}
 use Rattle.iface_tables.specs.Neighbor.{Puts, IsLeastEnd, IsLeastPlace, is_same, renewed_from}
-use Rattle.ip_wire.specs.declared.ip.IpAddress.{IpAddress}
-use Rattle.ip_wire.specs.declared.hardware.HardwareAddress.{HardwareAddress}
-use Rattle.ip_wire.specs.declared.hardware.HardwareAddress.TheVariants.{Ip, Ethernet}
+use Rattle.ip_address.specs.declared.ip.IpAddress.{IpAddress}
+use Rattle.ip_address.specs.declared.hardware.HardwareAddress.{HardwareAddress}
+use Rattle.ip_address.specs.declared.hardware.HardwareAddress.TheVariants.{Ip, Ethernet}
 use Rattle.iface_tables.specs.declared.neighbor.Neighbor.{Neighbor}
 use Rattle.iface_tables.proofs.EntriesLemmas.{place_of-le, find-absent, distinct_after-set, distinct_after-push, from_entries-set, find-there, from_entries-remove, len-from_entries, distinct_after-remove, find-at, absent_after-remove}
 

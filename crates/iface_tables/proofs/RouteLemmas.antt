@@ -5,15 +5,15 @@ use Rattle.std.proofs.Common.{lit≤}
 use Rattle.std.specs.List.{position_or_len, remove}
 use Rattle.std.proofs.Math.Bridge.{le_prop}
 use Rattle.std.proofs.lemmas.List.Folds.{find_at}
-use Rattle.ip_wire.specs.declared.ip.IpAddress.TheVariants.{Ipv4, Ipv6}
-use Rattle.ip_wire.specs.declared.ipv4.Ipv4Address.{Ipv4Address}
-use Rattle.ip_wire.specs.declared.ipv6.Ipv6Address.{Ipv6Address}
-use Rattle.ip_wire.specs.declared.cidr.IpCidr.TheVariants as cidr
+use Rattle.ip_address.specs.declared.ip.IpAddress.TheVariants.{Ipv4, Ipv6}
+use Rattle.ip_address.specs.declared.ipv4.Ipv4Address.{Ipv4Address}
+use Rattle.ip_address.specs.declared.ipv6.Ipv6Address.{Ipv6Address}
+use Rattle.ip_address.specs.declared.cidr.IpCidr.TheVariants as cidr
 use Rattle.std.proofs.Math.Seq.{take-suc}
 use Rattle.std.proofs.lemmas.Bool.{cases_order}
 use Rattle.std.proofs.lemmas.Bool.Decides.{nat_tests}
 use Rattle.std.proofs.lemmas.Option.{slice_get_cases, slice_get_within}
-use Rattle.ip_wire.specs.declared.ip.IpAddress.{IpAddress}
+use Rattle.ip_address.specs.declared.ip.IpAddress.{IpAddress}
 use Rattle.iface_tables.specs.declared.route.Route.{Route}
 use Rattle.iface_tables.specs.Route.{matches, prefix_len, IsBest, RouterIsOne, router_of, better, first, ipv4_gateway, ipv6_gateway, Replaces}
 

@@ -1,5 +1,3 @@
 pub mod Entries
 pub mod Neighbor
 pub mod Route
-pub mod SocketMeta
-pub mod SocketSet

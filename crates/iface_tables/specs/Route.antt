@@ -4,13 +4,13 @@ use Rattle.std.specs.List.{find, position_or_len, remove}
 use Rattle.std.specs.Ordering.{int_cmp, is_le}
 use Rattle.std.proofs.Common.{lit≤}
 use Rattle.arrayvec.specs.ArrayVec.{ArrayVec}
-use Rattle.ip_wire.specs.Cidr.{contains, prefix_len_of}
-use Rattle.ip_wire.specs.declared.ip.IpAddress.{IpAddress}
-use Rattle.ip_wire.specs.declared.ip.IpAddress.TheVariants as address
-use Rattle.ip_wire.specs.declared.ipv4.Ipv4Address.{Ipv4Address}
-use Rattle.ip_wire.specs.declared.ipv6.Ipv6Address.{Ipv6Address}
-use Rattle.ip_wire.specs.declared.cidr.IpCidr.{IpCidr}
-use Rattle.ip_wire.specs.declared.cidr.IpCidr.TheVariants.{Ipv4, Ipv6}
+use Rattle.ip_address.specs.Cidr.{contains, prefix_len_of}
+use Rattle.ip_address.specs.declared.ip.IpAddress.{IpAddress}
+use Rattle.ip_address.specs.declared.ip.IpAddress.TheVariants as address
+use Rattle.ip_address.specs.declared.ipv4.Ipv4Address.{Ipv4Address}
+use Rattle.ip_address.specs.declared.ipv6.Ipv6Address.{Ipv6Address}
+use Rattle.ip_address.specs.declared.cidr.IpCidr.{IpCidr}
+use Rattle.ip_address.specs.declared.cidr.IpCidr.TheVariants.{Ipv4, Ipv6}
 use Rattle.iface_tables.specs.declared.route.Route.{Route}
 use Rattle.iface_tables.specs.declared.route.RouteTableFull.{RouteTableFull}
 use Rattle.iface_tables.specs.declared.route.TheConstants.{IFACE_MAX_ROUTE_COUNT}

@@ -1,10 +1,5 @@
-//! The bounded tables of an interface: its neighbours, its routes and its sockets.
+//! The bounded tables of an interface: its neighbours and its routes.
 #![tactic(auto)]
 
-pub mod iter;
 pub mod neighbor;
 pub mod route;
-pub mod socket_meta;
-pub mod socket_set;
-#[cfg(test)]
-mod tests;

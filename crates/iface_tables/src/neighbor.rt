@@ -5,9 +5,9 @@ ghost use Rattle.std.specs.FinMap as map;
 ghost use Rattle.std.specs.FinMap.{find};
 ghost use Rattle.std.specs.Ordering.{eq_by_cmp};
 ghost use Rattle.net_base.specs.Time.{IsMoment};
-ghost use Rattle.ip_wire.specs.Ip as ip;
-ghost use Rattle.ip_wire.specs.Ip.{address_cmp};
-ghost use Rattle.ip_wire.specs.Hardware as hardware;
+ghost use Rattle.ip_address.specs.Ip as ip;
+ghost use Rattle.ip_address.specs.Ip.{address_cmp};
+ghost use Rattle.ip_address.specs.Hardware as hardware;
 ghost use Rattle.iface_tables.specs.Entries as entry;
 ghost use Rattle.iface_tables.specs.Entries.{AreKeysDistinct};
 ghost use Rattle.iface_tables.specs.Neighbor as spec;
@@ -74,7 +74,7 @@ pub struct Cache {
 
 impl Model for Cache {
     ghost use Rattle.std.specs.FinMap as map;
-    ghost use Rattle.ip_wire.specs.Ip.{address_cmp};
+    ghost use Rattle.ip_address.specs.Ip.{address_cmp};
     ghost use Rattle.iface_tables.specs.Entries.{AreKeysDistinct};
     ghost use Rattle.iface_tables.specs.Neighbor.{Neighbors, neighbors_code};
 

@@ -1,7 +1,7 @@
 //! Routes: by which router a packet leaves its network (RFC 1122 3.3.1, RFC 4632 5.1).
 ghost use Rattle.std.specs.Prelude.{◌≡◌, ◌≤◌, ◌<◌, Bool, true, [], length, slice_get, OnSome};
 ghost use Rattle.std.specs.List.{position_or_len, remove};
-ghost use Rattle.ip_wire.specs.Ip as ip;
+ghost use Rattle.ip_address.specs.Ip as ip;
 ghost use Rattle.iface_tables.specs.declared.route.Route.{Route};
 ghost use Rattle.iface_tables.specs.Route as spec;
 ghost use Rattle.iface_tables.specs.Route.{IsBest, IsRouter, Replaces, RouterIsOne, Storage, better, first, matches, old_or_full, with_default, without_first};

@@ -3,7 +3,7 @@ use Rattle.std.proofs.Common.{◌≡◌, ℕ, List, [], ◌∷◌, ◌++◌, ref
 use Rattle.std.specs.Borrow.{Bor}
 use Rattle.std.specs.Prelude.{ℤ, Bool, Option, Result}
 use Rattle.net_base.specs.Device.{Event}
-use Rattle.iface_tables.specs.SocketSet.{Sockets}
+use Rattle.socket_set.specs.SocketSet.{Sockets}
 use Rattle.host_machine.specs.declared.command.Command.{Command}
 use Rattle.host_machine.specs.declared.command.Command.TheVariants as command
 use Rattle.host_machine.specs.declared.command.Answer.{Answer}
@@ -15,7 +15,7 @@ use Rattle.host_machine.specs.declared.results.PollResult.{PollResult}
 use Rattle.host_machine.specs.Ingress.{Ingress}
 use Rattle.host_machine.specs.Egress.{Egress}
 use Rattle.arrayvec.specs.ArrayVec.{ArrayVec}
-use Rattle.ip_wire.specs.declared.ipv4.Ipv4Address.{Ipv4Address}
+use Rattle.ip_address.specs.declared.ipv4.Ipv4Address.{Ipv4Address}
 use Rattle.iface_tables.specs.declared.route.Route.{Route}
 use Rattle.iface_tables.specs.declared.route.RouteTableFull.{RouteTableFull}
 use Rattle.iface_tables.specs.Route.{first, ipv4_gateway, is_ipv4_gateway, old_or_full, with_default, without_first}

@@ -5,8 +5,8 @@ use Rattle.std.specs.FinMap as map
 use Rattle.std.proofs.lemmas.Bool.Decides.{nat_tests}
 use Rattle.net_base.specs.declared.phy.DeviceCapabilities.{DeviceCapabilities}
 use Rattle.net_base.specs.Checksum.{ip_mtu_of}
-use Rattle.ip_wire.specs.declared.hardware.HardwareAddress.{HardwareAddress}
-use Rattle.ip_wire.specs.Hardware.{medium_of, is_unicast}
+use Rattle.ip_address.specs.declared.hardware.HardwareAddress.{HardwareAddress}
+use Rattle.ip_address.specs.Hardware.{medium_of, is_unicast}
 use Rattle.host_machine.specs.Host.{Host, SocketSet}
 use Rattle.host_machine.specs.Config.{refusal_of, same_medium, first_host, first_id}
 

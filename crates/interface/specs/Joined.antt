@@ -6,7 +6,7 @@ use Rattle.host_machine.specs.declared.command.Answer.{Answer}
 use Rattle.host_machine.specs.Host.{Host, SocketSet}
 use Rattle.host_machine.specs.Run.{Ran}
 use Rattle.std.specs.Borrow.{Bor}
-use Rattle.iface_tables.specs.SocketSet.{Sockets}
+use Rattle.socket_set.specs.SocketSet.{Sockets}
 use Rattle.interface.specs.declared.interface.Interface.{Interface}
 use Rattle.interface.specs.Stands.{StandsFor}
 

@@ -1,7 +1,7 @@
 -- Which host an interface with its sockets stands for.
 use Rattle.std.specs.Prelude.{◌≡◌, List}
 use Rattle.std.specs.Borrow.{Bor}
-use Rattle.iface_tables.specs.SocketSet.{Sockets}
+use Rattle.socket_set.specs.SocketSet.{Sockets}
 use Rattle.host_machine.specs.Host.{Host, SocketSet}
 use Rattle.iface_tables.specs.declared.route.Route.{Route}
 use Rattle.iface_send.specs.declared.context.Context.{Context}

@@ -12,7 +12,7 @@ use crate::interface::{Interface, copied};
 use arrayvec::ArrayVec;
 use host_machine::{AddrError, Answer, Command};
 use iface_tables::route::{Route, RouteTableFull};
-use iface_tables::socket_set::SocketSet;
+use socket_set::SocketSet;
 use ip_wire::{IpCidr, Ipv4Address};
 use net_base::phy::Device;
 pub use net_base::{MemoryDevice, PushError};

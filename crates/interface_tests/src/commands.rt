@@ -6,7 +6,7 @@ use iface_tables::route::RouteTableFull;
 use interface::{AddrError, Answer, Command, Config, HardwareError, Interface, NewError};
 use ip_wire::{HardwareAddress, IpAddress, Ipv4Address};
 use net_base::MemoryDevice;
-use net_base::phy::Medium;
+use net_base::phy::{Device, Medium};
 use net_base::time::Instant;
 use sockets::PollAt;
 use std::test::Fail;

@@ -6,7 +6,7 @@ ghost use Rattle.host_machine.specs.Step.{IsTimely};
 use crate::frames::{REPLY, REQUEST};
 use arrayvec::ArrayVec;
 use iface_tables::route::Route;
-use iface_tables::socket_set::{AddError, SocketHandle, SocketSet};
+use socket_set::{AddError, SocketHandle, SocketSet};
 use interface::host::{Owner, drive};
 use interface::{Answer, Command, Config, Interface, PollIngressSingleResult, PollResult};
 use ip_wire::{EthernetAddress, HardwareAddress, IpAddress, IpCidr, Ipv4Address, Ipv4Cidr};

@@ -4,7 +4,7 @@ use Rattle.std.specs.Prelude.{slice_range}
 use Rattle.std.proofs.lemmas.Nat.{from_be_bytes-to_be_bytes_4}
 use Rattle.std.proofs.lemmas.List.{take_at}
 use Rattle.ip_wire.specs.Checksum.{folded, word_sum}
-use Rattle.ip_wire.specs.Protocol.{protocol_of, number_of}
+use Rattle.ip_address.specs.Protocol.{protocol_of, number_of}
 use Rattle.ip_wire.specs.declared.ipv4_packet.Ipv4Repr.{Ipv4Repr}
 use Rattle.ip_wire.specs.declared.ipv4_packet.Ipv4Fragment.{Ipv4Fragment}
 use Rattle.ip_wire.specs.Ipv4Packet.{IsHeader, header_in, fragment_in, front, back, header_with, fragment_word, header_text, total_len, IsQuoted, quoted_in, ReadAgain}

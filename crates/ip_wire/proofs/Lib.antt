@@ -1,9 +1,6 @@
-pub mod AgreeingBits
 pub mod ArpAgain
-pub mod CommonBits
 pub mod EthernetAgain
 pub mod Ipv4Again
-pub mod LastAddress
 pub mod OctetCells
 pub mod Pseudos
 pub mod Sums

@@ -4,9 +4,9 @@ use Rattle.ip_wire.specs.Checksum.{folded, word_sum, checksum_of}
 use Rattle.ip_wire.specs.Pseudo.{address_octets, ending, pseudo}
 use Rattle.ip_wire.specs.Udp as udp
 use Rattle.ip_wire.specs.Tcp as tcp
-use Rattle.ip_wire.specs.declared.ipv4.Ipv4Address.{Ipv4Address}
-use Rattle.ip_wire.specs.declared.ip.IpAddress.{IpAddress}
-use Rattle.ip_wire.specs.declared.ip.IpAddress.TheVariants.{Ipv4, Ipv6}
+use Rattle.ip_address.specs.declared.ipv4.Ipv4Address.{Ipv4Address}
+use Rattle.ip_address.specs.declared.ip.IpAddress.{IpAddress}
+use Rattle.ip_address.specs.declared.ip.IpAddress.TheVariants.{Ipv4, Ipv6}
 use Rattle.ip_wire.specs.declared.udp.UdpRepr.{UdpRepr}
 use Rattle.ip_wire.specs.declared.tcp.TcpRepr.{TcpRepr}
 use Rattle.ip_wire.proofs.Sums.{word_sum-append, folded_again, folded_shift}

@@ -5,7 +5,7 @@ use Rattle.std.proofs.lemmas.List.{take_at}
 use Rattle.ip_wire.specs.Checksum.{folded, word_sum}
 use Rattle.ip_wire.specs.Octets.{u16_at}
 use Rattle.ip_wire.specs.Pseudo.{pseudo}
-use Rattle.ip_wire.specs.declared.ip.IpAddress.{IpAddress}
+use Rattle.ip_address.specs.declared.ip.IpAddress.{IpAddress}
 use Rattle.ip_wire.specs.declared.udp.UdpRepr.{UdpRepr}
 use Rattle.ip_wire.specs.Udp.{header_with, not_zero, text, udp_len, ReadAgain}
 use Rattle.ip_wire.proofs.Sums.{summed_up_not_zero}

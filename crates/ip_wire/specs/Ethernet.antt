@@ -1,10 +1,9 @@
 -- Ethernet II (IEEE 802.3, RFC 894): destination, source, type, payload.
-use Rattle.std.specs.Prelude.{◌≡◌, ℕ, ◌+◌, ◌%◌, ◌<◌, ◌≤◌, ◌^◌, ◌==◌, Bool, not, ◌||◌, List, [], ◌∷◌, ◌++◌, length, drop, slice_index, slice_range, if◌then◌else◌}
+use Rattle.std.specs.Prelude.{◌≡◌, ℕ, ◌+◌, ◌<◌, ◌≤◌, ◌^◌, ◌==◌, List, ◌++◌, length, drop, slice_range, if◌then◌else◌}
 use Rattle.std.specs.Borrow.{Bor}
-use Rattle.std.specs.Str.{bytes_eq}
 use Rattle.ip_wire.specs.Octets.{u16_at, AreOctets}
 use Rattle.std.specs.Int.{w16, to_be_bytes}
-use Rattle.ip_wire.specs.declared.ethernet.EthernetAddress.{EthernetAddress}
+use Rattle.ip_address.specs.declared.ethernet_address.EthernetAddress.{EthernetAddress}
 use Rattle.ip_wire.specs.declared.ethernet.EthernetProtocol.{EthernetProtocol}
 use Rattle.ip_wire.specs.declared.ethernet.EthernetProtocol.TheVariants.{Ipv4, Arp, Ipv6, Unknown}
 use Rattle.ip_wire.specs.declared.ethernet.EthernetRepr.{EthernetRepr}
@@ -12,21 +11,6 @@ use Rattle.ip_wire.specs.declared.ethernet.EthernetRepr.{EthernetRepr}
 -- the address of six octets at a place
 abbrev pub address_at : List ℕ → ℕ → EthernetAddress
 address_at octets at = record { 0 = slice_range octets at (at + 6) }
-
--- that of all interfaces is all ones
-abbrev pub broadcast : EthernetAddress
-broadcast = record { 0 = 255 ∷ 255 ∷ 255 ∷ 255 ∷ 255 ∷ 255 ∷ [] }
-
-abbrev pub is_broadcast : EthernetAddress → Bool
-is_broadcast a = bytes_eq a.0 broadcast.0
-
--- that of a group has an odd first octet
-abbrev pub is_multicast : EthernetAddress → Bool
-is_multicast a = slice_index a.0 0 % 2 == 1
-
--- that of one interface is neither
-abbrev pub is_unicast : EthernetAddress → Bool
-is_unicast a = not (is_broadcast a || is_multicast a)
 
 -- the protocols by their type numbers
 abbrev pub number_of : EthernetProtocol → ℕ

@@ -1,15 +1,8 @@
 pub mod Arp
 pub mod Checksum
-pub mod Cidr
 pub mod Ethernet
-pub mod Hardware
-pub mod Ip
-pub mod Ipv4
 pub mod Ipv4Packet
-pub mod Ipv6
 pub mod Octets
-pub mod Prefixes
-pub mod Protocol
 pub mod Pseudo
 pub mod Tcp
 pub mod Udp

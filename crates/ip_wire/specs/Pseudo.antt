@@ -1,8 +1,8 @@
 -- The pseudo-header that the checksums of UDP and TCP cover (RFC 768, RFC 9293 3.1; RFC 8200 8.1).
 use Rattle.std.specs.Prelude.{ℕ, List, [], ◌∷◌, ◌++◌}
 use Rattle.std.specs.Int.{w16, w32, w128, to_be_bytes}
-use Rattle.ip_wire.specs.declared.ip.IpAddress.{IpAddress}
-use Rattle.ip_wire.specs.declared.ip.IpAddress.TheVariants.{Ipv4, Ipv6}
+use Rattle.ip_address.specs.declared.ip.IpAddress.{IpAddress}
+use Rattle.ip_address.specs.declared.ip.IpAddress.TheVariants.{Ipv4, Ipv6}
 
 -- the octets of an address
 abbrev pub address_octets : IpAddress → List ℕ

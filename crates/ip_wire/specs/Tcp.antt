@@ -5,7 +5,7 @@ use Rattle.std.specs.Int.{w16, w32, to_be_bytes}
 use Rattle.ip_wire.specs.Checksum.{folded, word_sum, checksum_of}
 use Rattle.ip_wire.specs.Octets.{u16_at, u32_at}
 use Rattle.ip_wire.specs.Pseudo.{pseudo}
-use Rattle.ip_wire.specs.declared.ip.IpAddress.{IpAddress}
+use Rattle.ip_address.specs.declared.ip.IpAddress.{IpAddress}
 use Rattle.ip_wire.specs.declared.tcp.TcpControl.{TcpControl}
 use Rattle.ip_wire.specs.declared.tcp.TcpControl.TheVariants as control
 use Rattle.ip_wire.specs.declared.tcp.TcpSeqNumber.{TcpSeqNumber}

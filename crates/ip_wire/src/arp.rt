@@ -4,9 +4,9 @@ ghost use Rattle.std.specs.Option.{SomeIff};
 ghost use Rattle.ip_wire.specs.Arp as spec;
 
 use crate::emit::FrameBuffer;
-use crate::ethernet::{EthernetAddress, address_at};
-use crate::ipv4::Ipv4Address;
+use crate::ethernet::address_at;
 use crate::octets::{u16_at, u32_at};
+use ip_address::{EthernetAddress, Ipv4Address};
 
 /// What a packet asks or says.
 #[derive(Clone, Copy, Debug, PartialEq, Eq)]

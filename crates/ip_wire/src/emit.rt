@@ -52,11 +52,10 @@ impl FrameBuffer {
         self.len == 0
     }
 
-    /// The octets that are there, at most 1,514.
+    /// The octets that are there.
     #[inline(always)]
     pub fn as_slice(&self) -> &[u8]
-        ensures value { result.now ≡ self.now }
-        ensures fits { length result.now ≤ 1514 }
+        ensures { result.now ≡ self.now }
     {
         &self.octets[..self.len]
     }

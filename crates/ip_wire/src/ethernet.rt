@@ -5,48 +5,10 @@ ghost use Rattle.ip_wire.specs.Ethernet as spec;
 
 use crate::emit::FrameBuffer;
 use crate::octets::u16_at;
-use std::fmt;
+use ip_address::EthernetAddress;
 
 /// The length of a frame's header, in octets.
 pub const HEADER_LEN: usize = 14;
-
-/// The address of an Ethernet interface: six octets.
-#[derive(Clone, Copy, Debug, PartialEq, Eq, PartialOrd, Ord, Hash)]
-pub struct EthernetAddress(pub [u8; 6]);
-
-impl EthernetAddress {
-    /// The address of all interfaces.
-    pub const BROADCAST: EthernetAddress = EthernetAddress([0xff, 0xff, 0xff, 0xff, 0xff, 0xff]);
-
-    /// Whether it is that of all interfaces: all ones.
-    pub fn is_broadcast(&self) -> bool
-        ensures { result ≡ spec.is_broadcast self.now }
-    {
-        self.0 == EthernetAddress::BROADCAST.0
-    }
-
-    /// Whether it is that of a group: its first octet is odd. That of all interfaces is one, too.
-    pub const fn is_multicast(&self) -> bool
-        ensures { result ≡ spec.is_multicast self.now }
-    {
-        self.0[0] % 2 == 1
-    }
-
-    /// Whether it is that of one interface, neither a group's nor that of all.
-    pub fn is_unicast(&self) -> bool
-        ensures { result ≡ spec.is_unicast self.now }
-    {
-        !(self.is_broadcast() || self.is_multicast())
-    }
-}
-
-impl fmt::Display for EthernetAddress {
-    /// As its six octets in hexadecimal, with dashes between them: 02-00-00-00-00-01.
-    fn fmt<W: fmt::Write>(&self, f: &mut fmt::Formatter<W>) -> fmt::Result {
-        let [a0, a1, a2, a3, a4, a5] = self.0;
-        write!(f, "{a0:02x}-{a1:02x}-{a2:02x}-{a3:02x}-{a4:02x}-{a5:02x}")
-    }
-}
 
 /// The address of six octets at a place.
 #[inline(always)]
@@ -129,9 +91,7 @@ impl EthernetRepr {
         let [d0, d1, d2, d3, d4, d5] = self.dst_addr.0;
         let [s0, s1, s2, s3, s4, s5] = self.src_addr.0;
         let [t0, t1] = self.ethertype.number().to_be_bytes();
-        out.append(&[
-            d0, d1, d2, d3, d4, d5, s0, s1, s2, s3, s4, s5, t0, t1,
-        ]);
+        out.append(&[d0, d1, d2, d3, d4, d5, s0, s1, s2, s3, s4, s5, t0, t1]);
     }
 }
 

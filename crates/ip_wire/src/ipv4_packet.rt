@@ -5,9 +5,8 @@ ghost use Rattle.ip_wire.specs.Ipv4Packet as spec;
 
 use crate::checksum::{checksum, sum_with};
 use crate::emit::FrameBuffer;
-use crate::ipv4::Ipv4Address;
 use crate::octets::{u16_at, u32_at};
-use crate::protocol::IpProtocol;
+use ip_address::{IpProtocol, Ipv4Address};
 
 /// The length of a header without options, in octets.
 pub const HEADER_LEN: usize = 20;

@@ -4,7 +4,7 @@ ghost use Rattle.ip_wire.specs.Checksum.{folded, word_sum};
 ghost use Rattle.ip_wire.specs.Pseudo as spec;
 
 use crate::checksum::{fold, sum_with};
-use crate::ip::IpAddress;
+use ip_address::IpAddress;
 
 /// The folded sum of the words of a pseudo-header: source, destination, the protocol's number, and
 /// the length of what follows, in octets.

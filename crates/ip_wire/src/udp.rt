@@ -7,9 +7,9 @@ ghost use Rattle.ip_wire.specs.Udp as spec;
 
 use crate::checksum::sum_with;
 use crate::emit::FrameBuffer;
-use crate::ip::IpAddress;
 use crate::octets::u16_at;
 use crate::pseudo::pseudo_sum;
+use ip_address::IpAddress;
 
 /// The length of a header, in octets.
 pub const HEADER_LEN: usize = 8;

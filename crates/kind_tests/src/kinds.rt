@@ -3,7 +3,7 @@
 ghost use Rattle.std.specs.Prelude.{◌≡◌, IfOk};
 
 use arrayvec::ArrayVec;
-use iface_tables::socket_set::{AddError, SocketHandle};
+use socket_set::{AddError, SocketHandle};
 use interface::{Answer, Command, Config, Interface};
 use interface_tests::frames::{ECHO, ECHO_REPLY, HI, REPLY, REQUEST};
 use interface_tests::host::{GONE, HOME, Host, KEPT, NEIGHBOR, OWN, TAKEN, networks, octets};

@@ -4,8 +4,6 @@
 pub mod memory_device;
 pub mod phy;
 pub mod rand;
-#[cfg(test)]
-mod tests;
 pub mod time;
 
 pub use memory_device::{MemoryDevice, PushError};

@@ -2,7 +2,7 @@
 use Rattle.std.specs.Prelude.{◌≡◌, ℤ, Option}
 use Rattle.std.specs.Borrow.{MutBor, Fml, RattleType}
 use Rattle.std.specs.Io.BufRead.{Rests}
-use Rattle.ip_wire.specs.declared.ip.IpAddress.{IpAddress}
+use Rattle.ip_address.specs.declared.ip.IpAddress.{IpAddress}
 use Rattle.sockets.specs.declared.socket.SocketOf.{SocketOf}
 use Rattle.sockets.specs.contracts.socket.SocketOf.{the_row}
 use Rattle.sockets.specs.Kinds.{settled}

@@ -1,12 +1,2 @@
-pub mod Icmp
-pub mod IcmpLending
 pub mod Kinds
 pub mod KindsLending
-pub mod Queue
-pub mod Raw
-pub mod RawLending
-pub mod Source
-pub mod Tcp
-pub mod TcpLending
-pub mod Udp
-pub mod UdpLending

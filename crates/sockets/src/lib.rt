@@ -1,21 +1,13 @@
 //! Sockets: what waits to be read and what waits to be sent, packet by packet.
 #![tactic(auto)]
 
-pub mod context;
-pub mod endpoint;
-pub mod icmp;
-pub mod octets;
-pub mod poll_at;
-pub mod queue;
-pub mod raw;
 pub mod socket;
-pub mod tcp;
-#[cfg(test)]
-mod tests;
-pub mod udp;
 
-pub use context::SocketContext;
-pub use endpoint::{IpEndpoint, IpListenEndpoint};
-pub use poll_at::PollAt;
-pub use queue::{Full, NoMemory, Queue};
+pub use network_sockets::{icmp, raw};
 pub use socket::{AnySocket, AnySocketOf, Offer, Socket, SocketOf};
+pub use socket_base::context::SocketContext;
+pub use socket_base::endpoint::{IpEndpoint, IpListenEndpoint};
+pub use socket_base::poll_at::PollAt;
+pub use socket_base::queue::{Full, NoMemory, Queue};
+pub use socket_base::{context, endpoint, octets, poll_at, queue};
+pub use transport_sockets::{tcp, udp};

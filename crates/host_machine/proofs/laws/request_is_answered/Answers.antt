@@ -5,7 +5,7 @@ use Rattle.host_machine.specs.Arp.{Learnt, reply_to}
 use Rattle.host_machine.specs.Ethernet.{Accepted}
 use Rattle.std.specs.FinMap.{len-empty}
 use Rattle.net_base.specs.Device.{Frame}
-use Rattle.ip_wire.specs.Ip.{address_cmp}
+use Rattle.ip_address.specs.Ip.{address_cmp}
 use Rattle.iface_tables.specs.declared.neighbor.Neighbor.{Neighbor}
 use Rattle.host_machine.specs.Example as example
 use Rattle.host_machine.proofs.laws.request_is_answered.Goals as goal

@@ -1,5 +1,5 @@
 use Rattle.std.proofs.Common.{ap, ◌∙◌}
-use Rattle.iface_tables.specs.SocketSet.{with_places}
+use Rattle.socket_set.specs.SocketSet.{with_places}
 use Rattle.iface_receive.proofs.Each.{one_heard, all_mapped}
 use Rattle.iface_receive.proofs.icmpv4.deliver.Goals as goal
 

@@ -1,6 +1,6 @@
 use Rattle.std.proofs.Common.{Bool, map, ap, ◌∙◌}
 use Rattle.net_base.specs.Checksum.{is_tx}
-use Rattle.iface_tables.specs.SocketSet.{with_places}
+use Rattle.socket_set.specs.SocketSet.{with_places}
 use Rattle.host_machine.specs.Delivery.{to_this}
 use Rattle.host_machine.specs.Raw.{accepts, delivered}
 use Rattle.iface_send.specs.Stands.{host_of}

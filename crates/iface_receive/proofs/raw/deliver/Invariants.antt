@@ -1,5 +1,5 @@
 use Rattle.std.proofs.Common.{◌≡◌}
-use Rattle.iface_tables.specs.SocketSet.{with_places}
+use Rattle.socket_set.specs.SocketSet.{with_places}
 use Rattle.host_machine.specs.Delivery.{to_this}
 use Rattle.host_machine.specs.Raw.{accepts, delivered}
 use Rattle.iface_receive.proofs.Each.{mapped, any_of}

@@ -1,5 +1,5 @@
 use Rattle.std.proofs.Common.{ap, sym}
-use Rattle.iface_tables.specs.SocketSet.{with_places}
+use Rattle.socket_set.specs.SocketSet.{with_places}
 use Rattle.iface_receive.proofs.Each.{none_again}
 use Rattle.iface_receive.proofs.raw.deliver_at.Goals as goal
 

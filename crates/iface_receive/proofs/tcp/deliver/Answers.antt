@@ -1,5 +1,5 @@
 use Rattle.std.proofs.Common.{ap}
-use Rattle.iface_tables.specs.SocketSet.{Sockets}
+use Rattle.socket_set.specs.SocketSet.{Sockets}
 use Rattle.iface_receive.proofs.Received.{segment_taken}
 use Rattle.iface_receive.proofs.tcp.deliver.Goals as goal
 

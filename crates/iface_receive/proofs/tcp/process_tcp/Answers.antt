@@ -1,6 +1,6 @@
 use Rattle.std.proofs.Common.{ap, sym, ◌∙◌, refl}
 use Rattle.net_base.specs.Checksum.{is_rx}
-use Rattle.iface_tables.specs.SocketSet.{Sockets}
+use Rattle.socket_set.specs.SocketSet.{Sockets}
 use Rattle.host_machine.specs.Tcp.{BetweenNobody}
 use Rattle.iface_send.specs.Stands.{host_of}
 use Rattle.iface_receive.proofs.Processing.{answered, dropped, unanswered}

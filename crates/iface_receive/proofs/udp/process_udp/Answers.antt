@@ -1,6 +1,6 @@
 use Rattle.std.proofs.Common.{ap, ◌∙◌, refl}
 use Rattle.net_base.specs.Checksum.{is_rx}
-use Rattle.iface_tables.specs.SocketSet.{Sockets}
+use Rattle.socket_set.specs.SocketSet.{Sockets}
 use Rattle.iface_send.specs.Stands.{host_of}
 use Rattle.iface_receive.proofs.Processing.{answered, unanswered}
 use Rattle.iface_receive.proofs.Received.{udp_delivered, udp_malformed, udp_unheard}

@@ -1,5 +1,5 @@
 use Rattle.std.proofs.Common.{refl, sym, subst, Ok}
-use Rattle.ip_wire.specs.declared.hardware.HardwareAddress.{HardwareAddress}
+use Rattle.ip_address.specs.declared.hardware.HardwareAddress.{HardwareAddress}
 use Rattle.host_machine.specs.Dispatch.{SendsOver, ToNobody, ToSomebody, identified}
 use Rattle.iface_send.specs.Shown as shown
 use Rattle.iface_send.specs.Stands.{host_of}

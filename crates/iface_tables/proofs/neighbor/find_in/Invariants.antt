@@ -1,6 +1,6 @@
 use Rattle.std.proofs.Common.{◌≡◌, drop}
 use Rattle.std.specs.FinMap.{find}
-use Rattle.ip_wire.specs.Ip.{address_cmp}
+use Rattle.ip_address.specs.Ip.{address_cmp}
 use Rattle.iface_tables.proofs.neighbor.find_in.Given as goal
 
 abbrev pub invariant-loop-e : goal.invariant-loop-e

@@ -1,5 +1,5 @@
 use Rattle.std.proofs.Common.{◌≡◌, ◌+◌, drop}
-use Rattle.ip_wire.specs.Ip.{address_cmp}
+use Rattle.ip_address.specs.Ip.{address_cmp}
 use Rattle.iface_tables.specs.Entries.{place_of}
 use Rattle.iface_tables.proofs.neighbor.place_of.Given as goal
 

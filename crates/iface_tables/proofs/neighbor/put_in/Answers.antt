@@ -1,5 +1,5 @@
 use Rattle.std.proofs.Common.{refl, ap, ◌∙◌, arith, rules}
-use Rattle.ip_wire.specs.Ip.{address_cmp}
+use Rattle.ip_address.specs.Ip.{address_cmp}
 use Rattle.iface_tables.specs.Entries.{place_of}
 use Rattle.iface_tables.proofs.NeighborLemmas.{PutsIn, put_there, put_room, put_full, four_of_full}
 use Rattle.iface_tables.proofs.neighbor.put_in.Goals as goal

@@ -1,5 +1,5 @@
 use Rattle.std.proofs.Common.{ap, refl, sym, ◌∙◌}
-use Rattle.ip_wire.specs.Ip.{address_cmp}
+use Rattle.ip_address.specs.Ip.{address_cmp}
 use Rattle.iface_tables.specs.Entries.{place_of}
 use Rattle.iface_tables.proofs.NeighborLemmas.{renewed_there, renewed_other, renewed_none}
 use Rattle.iface_tables.proofs.neighbor.renew_in.Goals as goal

@@ -1,5 +1,5 @@
 use Rattle.std.proofs.Common.{◌≡◌, List, rules, ap, subst, ◌∙◌}
-use Rattle.ip_wire.specs.declared.cidr.IpCidr.{IpCidr}
+use Rattle.ip_address.specs.declared.cidr.IpCidr.{IpCidr}
 use Rattle.host_machine.specs.Step.{UpdatesIpAddrs}
 use Rattle.iface_send.specs.Stands.{Addresses}
 use Rattle.interface.specs.Stands.{host_with}

@@ -1,9 +1,0 @@
-use Rattle.iface_tables.specs.SocketSet.{Storage}
-use Rattle.iface_tables.proofs.SocketSetLemmas.{wait_set}
-use Rattle.iface_tables.proofs.socket_set.SocketSetOf.neighbor_missing.Goals as goal
-
-pub returns : goal.returns
-returns g c =
-    let p : Storage g.row.L.Denot = record { socket = c.storage.inside.inner; wait = c.storage.inside.meta } in
-    rw (← c.self.view_is, ← c.neighbor_missing.ensures)
-    (wait_set c.self.inside.grows c.self.inside.sockets.items c.args.index p c.neighbor_missing.new.self (rw (← c.storage.view_is) at c.in-Some.ensures.value))

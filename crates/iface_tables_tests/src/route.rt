@@ -1,0 +1,203 @@
+ghost use Rattle.std.specs.Prelude.{◌≤◌};
+
+use arrayvec::ArrayVec;
+use iface_tables::route::{Route, RouteTableFull, Routes};
+use ip_wire::{IpAddress, IpCidr, Ipv4Address, Ipv4Cidr, Ipv6Address, Ipv6Cidr};
+use net_base::time::Instant;
+
+// 10.0.0.1.
+const NEAR: IpAddress = IpAddress::Ipv4(Ipv4Address { bits: 0x0a00_0001 });
+
+// 10.1.2.3.
+const DISTANT: IpAddress = IpAddress::Ipv4(Ipv4Address { bits: 0x0a01_0203 });
+
+const NETWORK: Ipv4Address = Ipv4Address { bits: 0x0a00_0000 };
+
+const PART: Ipv4Address = Ipv4Address { bits: 0x0a01_0000 };
+
+// An address of 192.168.69.0/24.
+fn router(host: u8) -> Ipv4Address {
+    Ipv4Address {
+        bits: 0xc0a8_4500 + u32::from(host),
+    }
+}
+
+// fe80:0:0:SUBNET::HOST.
+fn address6(subnet: u16, host: u16) -> Ipv6Address {
+    Ipv6Address {
+        bits: 0xfe80_0000_0000_0000_0000_0000_0000_0000
+            + u128::from(subnet) * 0x1_0000_0000_0000_0000
+            + u128::from(host),
+    }
+}
+
+fn route(
+    address: Ipv4Address,
+    prefix_len: u8,
+    via: Ipv4Address,
+    expires_at: Option<Instant>,
+) -> Route
+    requires { prefix_len ≤ 32 }
+{
+    Route {
+        cidr: IpCidr::Ipv4(Ipv4Cidr::new(address, prefix_len)),
+        via_router: IpAddress::Ipv4(via),
+        preferred_until: None,
+        expires_at,
+    }
+}
+
+fn route6(address: Ipv6Address, via: Ipv6Address, expires_at: Option<Instant>) -> Route {
+    Route {
+        cidr: IpCidr::Ipv6(Ipv6Cidr::new(address, 64)),
+        via_router: IpAddress::Ipv6(via),
+        preferred_until: None,
+        expires_at,
+    }
+}
+
+// Puts a route behind all others, if there is room.
+fn append(routes: &mut Routes, route: Route) {
+    routes.update(|mut list| {
+        let _ = put(&mut list, route);
+        list
+    });
+}
+
+// Gives the route back where there is no room.
+fn put(list: &mut ArrayVec<Route, 4>, route: Route) -> Option<Route> {
+    if list.is_full() {
+        return Some(route);
+    }
+    list.push(route);
+    None
+}
+
+// The route at a place of a table.
+fn stored(routes: &Routes, place: usize) -> Option<Route> {
+    routes.as_slice().get(place).copied()
+}
+
+#[test]
+fn the_longest_live_prefix_is_taken(rt: HostRuntime) {
+    let mut routes = Routes::new();
+    append(&mut routes, route(NETWORK, 8, router(2), None));
+    append(
+        &mut routes,
+        route(PART, 16, router(3), Some(Instant::from_secs(10))),
+    );
+    append(
+        &mut routes,
+        route(PART, 16, router(4), Some(Instant::from_secs(9))),
+    );
+    let at = |micros| routes.lookup(&DISTANT, Instant::from_micros(micros));
+    assert_eq!(rt; at(9_000_000), Some(IpAddress::Ipv4(router(4))));
+    assert_eq!(rt; at(10_000_000), Some(IpAddress::Ipv4(router(3))));
+    assert_eq!(rt; at(10_000_001), Some(IpAddress::Ipv4(router(2))));
+}
+
+#[test]
+fn a_router_need_not_be_unicast(rt: HostRuntime) {
+    let mut routes = Routes::new();
+    append(&mut routes, route(NETWORK, 8, router(2), None));
+    append(
+        &mut routes,
+        route(PART, 16, Ipv4Address { bits: 0xffff_ffff }, None),
+    );
+    assert_eq!(rt;
+        routes.lookup(&DISTANT, Instant::ZERO),
+        Some(IpAddress::Ipv4(Ipv4Address { bits: 0xffff_ffff }))
+    );
+}
+
+#[test]
+fn routes_of_ipv6_are_taken(rt: HostRuntime) {
+    let mut routes = Routes::new();
+    append(&mut routes, route6(address6(2, 0), address6(2, 1), None));
+    let near = IpAddress::Ipv6(Ipv6Address {
+        bits: 0xfe80_0000_0000_0002_0000_0000_0000_000d,
+    });
+    assert_eq!(rt;
+        routes.lookup(&near, Instant::ZERO),
+        Some(IpAddress::Ipv6(address6(2, 1)))
+    );
+    let other = IpAddress::Ipv6(Ipv6Address {
+        bits: 0xfe80_0000_0000_3364_0000_0000_0000_0001,
+    });
+    assert_eq!(rt; routes.lookup(&other, Instant::ZERO), None);
+    let end = Instant::from_millis(10);
+    append(
+        &mut routes,
+        route6(address6(0x3364, 0), address6(0x3364, 1), Some(end)),
+    );
+    let far = IpAddress::Ipv6(Ipv6Address {
+        bits: 0xfe80_0000_0000_3364_0000_0000_0000_0015,
+    });
+    assert_eq!(rt;
+        routes.lookup(&far, end),
+        Some(IpAddress::Ipv6(address6(0x3364, 1)))
+    );
+    assert_eq!(rt; routes.lookup(&far, Instant::from_millis(11)), None);
+}
+
+#[test]
+fn a_default_route_takes_the_place_of_the_old_one(rt: HostRuntime) {
+    let mut routes = Routes::new();
+    for host in 1..5 {
+        append(&mut routes, route(PART, 16, router(host), None));
+    }
+    assert_eq!(rt;
+        routes.add_default_ipv4_route(router(9)),
+        Err(RouteTableFull)
+    );
+    assert_eq!(rt;
+        routes.add_default_ipv6_route(address6(0, 9)),
+        Err(RouteTableFull)
+    );
+    assert_eq!(rt; routes.as_slice().len(), 4);
+    routes.update(|mut list| {
+        list.truncate(3);
+        list
+    });
+    assert_eq!(rt; routes.add_default_ipv4_route(router(9)), Ok(None));
+    let old = Some(Route::new_ipv4_gateway(router(9)));
+    assert_eq!(rt; routes.get_default_ipv4_route(), old);
+    assert_eq!(rt; routes.add_default_ipv4_route(router(8)), Ok(old));
+    assert_eq!(rt;
+        routes.lookup(&NEAR, Instant::ZERO),
+        Some(IpAddress::Ipv4(router(8)))
+    );
+    assert_eq!(rt; routes.as_slice().len(), 4);
+}
+
+#[test]
+fn a_default_route_leaves_the_others_in_order(rt: HostRuntime) {
+    let mut routes = Routes::new();
+    assert_eq!(rt; routes.add_default_ipv6_route(address6(0, 1)), Ok(None));
+    append(&mut routes, route(PART, 16, router(3), None));
+    assert_eq!(rt; routes.add_default_ipv4_route(router(1)), Ok(None));
+    let first = Some(Route::new_ipv6_gateway(address6(0, 1)));
+    let last = Some(Route::new_ipv4_gateway(router(1)));
+    let middle = Some(route(PART, 16, router(3), None));
+    assert_eq!(rt; stored(&routes, 0), first);
+    assert_eq!(rt; stored(&routes, 1), middle);
+    assert_eq!(rt; stored(&routes, 2), last);
+    assert_eq!(rt; stored(&routes, 3), None);
+    assert_eq!(rt; routes.get_default_ipv6_route(), first);
+    assert_eq!(rt; routes.remove_default_ipv6_route(), first);
+    assert_eq!(rt; routes.remove_default_ipv6_route(), None);
+    assert_eq!(rt; stored(&routes, 0), middle);
+    assert_eq!(rt; stored(&routes, 1), last);
+    assert_eq!(rt; stored(&routes, 2), None);
+    assert_eq!(rt; routes.remove_default_ipv4_route(), last);
+    assert_eq!(rt; routes.get_default_ipv4_route(), None);
+    assert_eq!(rt; stored(&routes, 0), middle);
+    assert_eq!(rt; stored(&routes, 1), None);
+}
+
+#[test]
+fn a_full_table_says_so(rt: HostRuntime) {
+    if let Ok(text) = format!(in rt.alloc(); "{RouteTableFull}") {
+        assert_eq!(rt; text.as_str(), "Route table full");
+    }
+}

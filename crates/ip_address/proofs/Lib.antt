@@ -1,0 +1,3 @@
+pub mod AgreeingBits
+pub mod CommonBits
+pub mod LastAddress

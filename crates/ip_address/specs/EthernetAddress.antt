@@ -1,0 +1,19 @@
+-- Ethernet addresses (IEEE 802.3): six octets.
+use Rattle.std.specs.Prelude.{◌%◌, ◌==◌, Bool, not, ◌||◌, [], ◌∷◌, slice_index}
+use Rattle.std.specs.Str.{bytes_eq}
+use Rattle.ip_address.specs.declared.ethernet_address.EthernetAddress.{EthernetAddress}
+
+-- that of all interfaces is all ones
+abbrev pub broadcast : EthernetAddress
+broadcast = record { 0 = 255 ∷ 255 ∷ 255 ∷ 255 ∷ 255 ∷ 255 ∷ [] }
+
+abbrev pub is_broadcast : EthernetAddress → Bool
+is_broadcast a = bytes_eq a.0 broadcast.0
+
+-- that of a group has an odd first octet
+abbrev pub is_multicast : EthernetAddress → Bool
+is_multicast a = slice_index a.0 0 % 2 == 1
+
+-- that of one interface is neither
+abbrev pub is_unicast : EthernetAddress → Bool
+is_unicast a = not (is_broadcast a || is_multicast a)

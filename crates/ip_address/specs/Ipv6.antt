@@ -1,0 +1,27 @@
+-- IPv6 addresses (RFC 4291), as the numbers of their octets.
+use Rattle.std.specs.Prelude.{ℕ, ◌/◌, ◌%◌, ◌^◌, ◌==◌, Bool, not, ◌||◌, if◌then◌else◌}
+use Rattle.ip_address.specs.declared.ipv6.Ipv6Address.{Ipv6Address}
+
+-- ::
+abbrev pub is_unspecified : Ipv6Address → Bool
+is_unspecified a = a.bits == 0
+
+-- ::1
+abbrev pub is_loopback : Ipv6Address → Bool
+is_loopback a = a.bits == 1
+
+-- ff00::/8: the first octet is ff
+abbrev pub is_multicast : Ipv6Address → Bool
+is_multicast a = a.bits / 2 ^ 120 == 0xff
+
+-- fe80::/10: the first ten bits are 1111111010
+abbrev pub is_link_local : Ipv6Address → Bool
+is_link_local a = a.bits / 2 ^ 118 == 0x3fa
+
+-- that of one host
+abbrev pub is_unicast : Ipv6Address → Bool
+is_unicast a = not (is_multicast a || is_unspecified a)
+
+-- of a group the low four bits of its second octet; 2 is the link, 14 the world (RFC 6724 3.1)
+abbrev pub scope_of : Ipv6Address → ℕ
+scope_of a = if is_multicast a then a.bits / 2 ^ 112 % 16 else if is_loopback a || is_link_local a then 2 else 14

@@ -1,0 +1,55 @@
+//! Hardware addresses.
+ghost use Rattle.std.specs.Prelude.{◌≡◌};
+ghost use Rattle.ip_address.specs.Hardware as spec;
+
+use crate::ethernet_address::EthernetAddress;
+use net_base::phy::Medium;
+use std::fmt;
+
+/// The address of an interface on its link.
+#[derive(Clone, Copy, Debug, PartialEq, Eq)]
+pub enum HardwareAddress {
+    /// A medium without hardware addresses.
+    Ip,
+    Ethernet(EthernetAddress),
+}
+
+impl HardwareAddress {
+    /// The medium that has such addresses.
+    pub const fn medium(&self) -> Medium
+        ensures { result ≡ spec.medium_of self.now }
+    {
+        match self {
+            HardwareAddress::Ip => Medium::Ip,
+            HardwareAddress::Ethernet(_) => Medium::Ethernet,
+        }
+    }
+
+    /// Whether it is that of one interface. Where there are no hardware addresses it is.
+    pub fn is_unicast(&self) -> bool
+        ensures { result ≡ spec.is_unicast self.now }
+    {
+        match self {
+            HardwareAddress::Ip => true,
+            HardwareAddress::Ethernet(address) => address.is_unicast(),
+        }
+    }
+}
+
+impl Default for HardwareAddress {
+    fn default() -> HardwareAddress
+        ensures { result ≡ HardwareAddress.Ip }
+    {
+        HardwareAddress::Ip
+    }
+}
+
+impl fmt::Display for HardwareAddress {
+    /// As the Ethernet address, if it has one.
+    fn fmt<W: fmt::Write>(&self, f: &mut fmt::Formatter<W>) -> fmt::Result {
+        match self {
+            HardwareAddress::Ip => write!(f, "no hardware addr"),
+            HardwareAddress::Ethernet(address) => write!(f, "{address}"),
+        }
+    }
+}

@@ -1,0 +1,91 @@
+//! IPv4 addresses (RFC 791, RFC 1122).
+ghost use Rattle.std.specs.Prelude.{◌≡◌, ◌≤◌};
+ghost use Rattle.std.specs.Int.{w32, to_be_bytes};
+ghost use Rattle.ip_address.specs.Ipv4 as spec;
+ghost use Rattle.ip_address.specs.Prefixes.{common_bits};
+
+use std::fmt;
+
+/// An IPv4 address, as the number of its four octets, the first one highest.
+#[derive(Clone, Copy, Debug, PartialEq, Eq, PartialOrd, Ord, Hash)]
+pub struct Ipv4Address {
+    /// The number.
+    pub bits: u32,
+}
+
+impl Ipv4Address {
+    /// The address of a host that doesn't know its own, 0.0.0.0.
+    pub const UNSPECIFIED: Ipv4Address = Ipv4Address { bits: 0 };
+
+    /// The address of all hosts on the link, 255.255.255.255.
+    pub const BROADCAST: Ipv4Address = Ipv4Address { bits: 0xffff_ffff };
+
+    /// The address of four octets.
+    pub const fn new(a: u8, b: u8, c: u8, d: u8) -> Ipv4Address
+        ensures { result ≡ spec.address_of a b c d }
+    {
+        Ipv4Address {
+            bits: u32::from_be_bytes([a, b, c, d]),
+        }
+    }
+
+    /// Its four octets, the first one first.
+    pub const fn octets(self) -> [u8; 4]
+        ensures { result ≡ to_be_bytes w32 self.bits }
+    {
+        self.bits.to_be_bytes()
+    }
+
+    /// Whether it is 0.0.0.0.
+    pub const fn is_unspecified(&self) -> bool
+        ensures { result ≡ spec.is_unspecified self.now }
+    {
+        self.bits == 0
+    }
+
+    /// Whether it is 255.255.255.255.
+    pub const fn is_broadcast(&self) -> bool
+        ensures { result ≡ spec.is_broadcast self.now }
+    {
+        self.bits == Ipv4Address::BROADCAST.bits
+    }
+
+    /// Whether it is that of a group: in 224.0.0.0/4.
+    pub const fn is_multicast(&self) -> bool
+        ensures { result ≡ spec.is_multicast self.now }
+    {
+        self.bits >> 28 == 14
+    }
+
+    /// Whether it is that of one host: not a group's, not 255.255.255.255, not 0.0.0.0.
+    pub const fn is_unicast(&self) -> bool
+        ensures { result ≡ spec.is_unicast self.now }
+    {
+        !(self.is_broadcast() || self.is_multicast() || self.is_unspecified())
+    }
+
+    /// How many leading bits agree with those of another address, at most `most` of the 32.
+    #[tactic(auto, using(crate::proofs::CommonBits::common))]
+    pub fn common_prefix_len(&self, other: &Ipv4Address, most: u8) -> u8
+        requires { most ≤ 32 }
+        ensures { result ≡ common_bits 32 self.now.bits other.now.bits most }
+    {
+        ((self.bits ^ other.bits).leading_zeros() as u8).min(most)
+    }
+}
+
+impl Default for Ipv4Address {
+    fn default() -> Ipv4Address
+        ensures { result ≡ record { bits = 0 } }
+    {
+        Ipv4Address::UNSPECIFIED
+    }
+}
+
+impl fmt::Display for Ipv4Address {
+    /// As its four octets in decimals, with dots between them: 192.168.69.1.
+    fn fmt<W: fmt::Write>(&self, f: &mut fmt::Formatter<W>) -> fmt::Result {
+        let [a, b, c, d] = self.octets();
+        write!(f, "{a}.{b}.{c}.{d}")
+    }
+}

@@ -1,0 +1,19 @@
+//! Addresses and networks of both families of IP, hardware addresses, and the numbers of the
+//! protocols over IP.
+#![tactic(auto)]
+
+pub mod cidr;
+pub mod ethernet_address;
+pub mod hardware;
+pub mod ip;
+pub mod ipv4;
+pub mod ipv6;
+pub mod protocol;
+
+pub use cidr::{IpCidr, Ipv4Cidr, Ipv6Cidr};
+pub use ethernet_address::EthernetAddress;
+pub use hardware::HardwareAddress;
+pub use ip::IpAddress;
+pub use ipv4::Ipv4Address;
+pub use ipv6::Ipv6Address;
+pub use protocol::{IpProtocol, IpVersion};

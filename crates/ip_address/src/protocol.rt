@@ -1,0 +1,71 @@
+//! The protocols over IP, by their numbers, and IP's versions.
+ghost use Rattle.std.specs.Prelude.{◌≡◌};
+ghost use Rattle.ip_address.specs.Protocol as spec;
+
+use crate::ip::IpAddress;
+
+/// What a packet's payload is.
+#[derive(Clone, Copy, Debug, PartialEq, Eq)]
+pub enum IpProtocol {
+    /// The hop-by-hop options of IPv6.
+    HopByHop,
+    Icmp,
+    Igmp,
+    Tcp,
+    Udp,
+    Icmpv6,
+    /// Another protocol, by its number.
+    Unknown(u8),
+}
+
+impl IpProtocol {
+    /// The protocol of a number.
+    #[inline(always)]
+    pub const fn from_number(number: u8) -> IpProtocol
+        ensures { result ≡ spec.protocol_of number }
+    {
+        match number {
+            0 => IpProtocol::HopByHop,
+            1 => IpProtocol::Icmp,
+            2 => IpProtocol::Igmp,
+            6 => IpProtocol::Tcp,
+            17 => IpProtocol::Udp,
+            58 => IpProtocol::Icmpv6,
+            other => IpProtocol::Unknown(other),
+        }
+    }
+
+    /// The number of a protocol.
+    pub const fn number(self) -> u8
+        ensures { result ≡ spec.number_of self }
+    {
+        match self {
+            IpProtocol::HopByHop => 0,
+            IpProtocol::Icmp => 1,
+            IpProtocol::Igmp => 2,
+            IpProtocol::Tcp => 6,
+            IpProtocol::Udp => 17,
+            IpProtocol::Icmpv6 => 58,
+            IpProtocol::Unknown(other) => other,
+        }
+    }
+}
+
+/// A version of IP.
+#[derive(Clone, Copy, Debug, PartialEq, Eq)]
+pub enum IpVersion {
+    Ipv4,
+    Ipv6,
+}
+
+impl IpAddress {
+    /// The version of IP that has such addresses.
+    pub const fn version(&self) -> IpVersion
+        ensures { result ≡ spec.version_of self.now }
+    {
+        match self {
+            IpAddress::Ipv4(_) => IpVersion::Ipv4,
+            IpAddress::Ipv6(_) => IpVersion::Ipv6,
+        }
+    }
+}

@@ -1,5 +1,0 @@
-use Rattle.ip_wire.proofs.AgreeingBits.{agrees_by_bits}
-use Rattle.ip_wire.proofs.cidr.agrees_by_bits.Goals as goal
-
-pub returns : goal.returns
-returns c = agrees_by_bits

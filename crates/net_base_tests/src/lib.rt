@@ -1,0 +1,5 @@
+//! The tests of `net_base`.
+#![tactic(auto)]
+
+#[cfg(test)]
+mod tests;

@@ -1,0 +1,2 @@
+pub mod IcmpLemmas
+pub mod RawLemmas

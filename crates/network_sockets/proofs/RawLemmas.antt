@@ -1,0 +1,11 @@
+-- Octets that begin with an IPv4 packet.
+use Rattle.std.proofs.Common.{◌≡◌, ℕ, List, true, false, arith}
+use Rattle.std.proofs.lemmas.Grind.{common_steps}
+use Rattle.ip_wire.specs.Ipv4Packet.{IsIpv4}
+use Rattle.network_sockets.specs.Raw.{is_ipv4}
+
+pub is_ipv4_reads : (octets : List ℕ) → IsIpv4 false octets → is_ipv4 octets ≡ true
+is_ipv4_reads octets h = grind (arith, common_steps, h.whole, h.version, h.header, h.header_fits, h.total_fits)
+
+pub reads_is_ipv4 : (octets : List ℕ) → is_ipv4 octets ≡ true → IsIpv4 false octets
+reads_is_ipv4 octets h = record { whole = grind (arith, common_steps, h); version = grind (arith, common_steps, h); header = grind (arith, common_steps, h); header_fits = grind (arith, common_steps, h); total_fits = grind (arith, common_steps, h); sum = λ no. cc }

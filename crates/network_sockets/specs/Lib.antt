@@ -1,0 +1,4 @@
+pub mod Icmp
+pub mod IcmpLending
+pub mod Raw
+pub mod RawLending

@@ -1,0 +1,90 @@
+-- Raw sockets, which send and receive whole packets of one protocol.
+use Rattle.std.specs.Prelude.{ℕ, ◌/◌, ◌==◌, ◌&&◌, nat_le, Bool, true, false, cond, is_none, List, ◌++◌, length, slice_index, slice_range, Option, Some, None}
+use Rattle.std.specs.Option.{option_and_then}
+use Rattle.ip_wire.specs.Ipv4Packet.{header_len, total_len, header_in, header_text, whole}
+use Rattle.ip_address.specs.Protocol.{number_of}
+use Rattle.ip_wire.specs.declared.ipv4_packet.Ipv4Repr.{Ipv4Repr}
+use Rattle.ip_address.specs.declared.protocol.IpProtocol.{IpProtocol}
+use Rattle.ip_address.specs.declared.protocol.IpVersion.{IpVersion}
+use Rattle.ip_address.specs.declared.protocol.IpVersion.TheVariants.{Ipv4, Ipv6}
+use Rattle.socket_base.specs.Queue.{Queued, first_of, put, popped}
+use Rattle.socket_base.specs.declared.poll_at.PollAt.{PollAt}
+use Rattle.socket_base.specs.declared.poll_at.PollAt.TheVariants.{Now, Ingress}
+use Rattle.network_sockets.specs.declared.raw.Packet.{Packet}
+
+-- the version and the protocol of its packets, and those that wait to be read and to be sent
+pub record RawSocket : Type 0 where
+  pub version : IpVersion
+  pub protocol : IpProtocol
+  pub rx : Queued (Unit {0})
+  pub tx : Queued (Unit {0})
+
+-- a packet by its header
+pub record Sent : Type 0 where
+  pub header : Ipv4Repr
+  pub payload : List ℕ
+
+-- a packet, without where its payload lies
+abbrev pub shown : Packet → Sent
+shown p = record { header = p.header; payload = p.payload.now }
+
+-- one version
+abbrev pub is_same_version : IpVersion → IpVersion → Bool
+is_same_version Ipv4 Ipv4 = true
+is_same_version Ipv4 Ipv6 = false
+is_same_version Ipv6 Ipv4 = false
+is_same_version Ipv6 Ipv6 = true
+
+-- whether packets of a version and a protocol are for the socket
+abbrev pub accepts : RawSocket → IpVersion → IpProtocol → Bool
+accepts s version protocol = is_same_version s.version version && (number_of s.protocol == number_of protocol)
+
+-- a packet as it is kept: its header written anew, of twenty octets and for a whole packet, and its payload
+abbrev pub kept : Bool → Ipv4Repr → List ℕ → List ℕ
+kept summed header payload = header_text summed header whole ++ payload
+
+-- a packet has come
+abbrev pub delivered : Bool → Ipv4Repr → List ℕ → RawSocket → RawSocket
+delivered summed header payload s = record s { rx = put s.rx tt (kept summed header payload) }
+
+-- the first one that came was read
+abbrev pub read : RawSocket → RawSocket
+read s = record s { rx = popped s.rx }
+
+-- a packet is to be sent
+abbrev pub queued : List ℕ → RawSocket → RawSocket
+queued packet s = record s { tx = put s.tx tt packet }
+
+-- the first one to be sent is gone
+abbrev pub gone : RawSocket → RawSocket
+gone s = record s { tx = popped s.tx }
+
+-- at once, if something is to be sent
+abbrev pub poll_at : RawSocket → PollAt
+poll_at s = cond (is_none (first_of s.tx.packets)) Ingress Now
+
+-- some octets begin with an IPv4 packet (RFC 791 3.1), whose checksum isn't tested
+abbrev pub is_ipv4 : List ℕ → Bool
+is_ipv4 octets =
+    nat_le 20 (length octets) && (slice_index octets 0 / 16 == 4) && nat_le 20 (header_len octets)
+    && nat_le (header_len octets) (total_len octets) && nat_le (total_len octets) (length octets)
+
+-- the packet that some octets begin with
+abbrev pub packet_in : List ℕ → Sent
+packet_in octets = record { header = header_in octets; payload = slice_range octets (header_len octets) (total_len octets) }
+
+-- the packet that some octets begin with, if it is for such a socket
+abbrev pub sent : RawSocket → List ℕ → Option Sent
+sent s octets = cond (is_ipv4 octets && accepts s Ipv4 (header_in octets).next_header) (Some (packet_in octets)) None
+
+-- the first one to be sent, if it is a packet of the socket's
+abbrev pub offered : RawSocket → Option Sent
+offered s = option_and_then (λ p. sent s p.1) (first_of s.tx.packets)
+
+-- what being asked leaves: the first one is gone if it isn't a packet of the socket's
+abbrev pub settled : RawSocket → RawSocket
+settled s = cond (is_none (offered s)) (gone s) s
+
+-- what being told leaves
+abbrev pub told : Bool → RawSocket → RawSocket
+told is_gone s = cond is_gone (gone s) s

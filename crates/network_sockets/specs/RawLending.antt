@@ -1,0 +1,10 @@
+-- What a raw socket ends as when what it offered is used.
+use Rattle.std.specs.Prelude.{◌≡◌}
+use Rattle.std.specs.Borrow.{MutBor, Fml, RattleType}
+use Rattle.std.specs.Io.BufRead.{Rests}
+use Rattle.network_sockets.specs.contracts.raw.SocketOf.{the_row}
+use Rattle.network_sockets.specs.Raw.{RawSocket, settled}
+
+module _ (K : RattleType) (s : MutBor RawSocket) where
+  abbrev pub Settles : Fml
+  Settles = Rests (the_row K) s (λ new. new ≡ settled s.now)

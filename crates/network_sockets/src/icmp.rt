@@ -1,0 +1,211 @@
+//! ICMP sockets (RFC 792): echo messages, and what comes back for datagrams that found no port.
+ghost use Rattle.std.specs.Prelude.{◌≡◌, ◌≢◌, ◌≤◌, length, cond, is_ok, false, Some, None};
+ghost use Rattle.std.specs.Option.{option_map};
+ghost use Rattle.control_wire.specs.Icmpv4.{icmpv4_in, parts};
+ghost use Rattle.ip_address.specs.Ip.{is_unspecified};
+ghost use Rattle.socket_base.specs.Queue.{is_room, first_of};
+ghost use Rattle.network_sockets.specs.Icmp as spec;
+
+use control_wire::icmpv4::{Icmpv4DstUnreachable, Icmpv4Repr};
+use ip_wire::octets::u16_at;
+use ip_wire::{IpAddress, IpProtocol, Ipv4Repr};
+use socket_base::buffers::Buffers;
+use socket_base::context::{SocketContext, source_address};
+use socket_base::poll_at::PollAt;
+use socket_base::queue::{Full, Queue};
+use std::marker::{Model, PhantomData};
+
+/// Whose messages a socket takes.
+#[derive(Clone, Copy, Debug, PartialEq, Eq)]
+pub enum Endpoint {
+    /// Echo messages with this identifier.
+    Ident(u16),
+    /// Port unreachables for datagrams of UDP from this port.
+    Udp(u16),
+}
+
+/// An echo message to be sent; what it carries stays in the socket.
+#[derive(Clone, Copy)]
+pub struct Packet<'p> {
+    pub src_addr: IpAddress,
+    pub dst_addr: IpAddress,
+    pub hop_limit: u8,
+    pub repr: Icmpv4Repr,
+    pub payload: &'p [u8],
+}
+
+/// An ICMP socket, with its lifetime as a type parameter.
+///
+/// In contracts it is its endpoint, its hop limit, and its two queues.
+#[derive(Drop)]
+pub struct SocketOf<L> {
+    endpoint: Endpoint,
+    hop_limit: u8,
+    buffers: Buffers<IpAddress>,
+    marker: PhantomData<L>,
+}
+
+/// An ICMP socket.
+pub type Socket<'a> = SocketOf<&'a ()>;
+
+impl<L> Model for SocketOf<L> {
+    ghost use Rattle.network_sockets.specs.Icmp.{IcmpSocket};
+
+    ghost Value = { IcmpSocket };
+
+    ghost view = { λ s. record { endpoint = s.endpoint; hop_limit = s.hop_limit; rx = s.buffers.rx; tx = s.buffers.tx } };
+}
+
+impl<L: Drop> SocketOf<L> {
+    /// A socket for an endpoint, with a queue for what comes and one for what goes. Its hop limit is
+    /// 64.
+    pub fn new(endpoint: Endpoint, rx: Queue<IpAddress>, tx: Queue<IpAddress>) -> SocketOf<L>
+        ensures { result ≡ record { endpoint = endpoint; hop_limit = 64; rx = rx; tx = tx } }
+    {
+        SocketOf {
+            endpoint,
+            hop_limit: 64,
+            buffers: Buffers::new(rx, tx),
+            marker: PhantomData,
+        }
+    }
+
+    /// Sets the hop limit of what is sent, which isn't 0.
+    pub fn set_hop_limit(&mut self, hop_limit: u8)
+        requires { hop_limit ≢ 0 }
+        ensures { self.new ≡ record self.old { hop_limit = hop_limit } }
+    {
+        self.hop_limit = hop_limit;
+    }
+
+    /// Whether a message is for the socket, by its values and what stands behind its header: an
+    /// echo message with the socket's identifier, or a port unreachable that quotes at least eight
+    /// octets of a datagram of UDP from the socket's port.
+    pub fn accepts(&self, repr: &Icmpv4Repr, payload: &[u8]) -> bool
+        ensures { result ≡ spec.accepts self.now repr.now payload.now }
+    {
+        match (self.endpoint, repr) {
+            (
+                Endpoint::Ident(own),
+                Icmpv4Repr::EchoRequest { ident, .. } | Icmpv4Repr::EchoReply { ident, .. },
+            ) => own == *ident,
+            (
+                Endpoint::Udp(port),
+                Icmpv4Repr::DstUnreachable {
+                    reason: Icmpv4DstUnreachable::PortUnreachable,
+                    header,
+                },
+            ) => is_datagram_from(port, header, payload),
+            _ => false,
+        }
+    }
+
+    /// Takes a message that came from an address, whole. Without room for it, it is dropped.
+    pub fn process(&mut self, remote: IpAddress, message: &[u8])
+        ensures { self.new ≡ spec.delivered remote message.now self.old }
+    {
+        self.buffers.process(remote, message);
+    }
+
+    /// The first message that came and wasn't read, if there is one: where it came from, and its
+    /// octets.
+    pub fn recv(&self) -> Option<(&IpAddress, &[u8])>
+        ensures { option_map (λ p. (p.0.now, p.1.now)) result ≡ first_of self.now.rx.packets }
+    {
+        self.buffers.recv()
+    }
+
+    /// Drops the message that `recv` gives, if there is one.
+    pub fn done(&mut self)
+        ensures { self.new ≡ spec.read self.old }
+    {
+        self.buffers.done();
+    }
+
+    /// Queues a message to an address, of at most 65,495 octets. `Full` exactly if it doesn't fit;
+    /// then the socket stays as it was.
+    pub fn send(&mut self, remote: IpAddress, message: &[u8]) -> Result<(), Full>
+        requires addr { is_unspecified remote ≡ false }
+        requires len { length message.now ≤ 65495 }
+        ensures fits { is_ok result ≡ is_room self.old.tx (length message.now) }
+        ensures socket { self.new ≡ spec.queued remote message.now self.old }
+    {
+        self.buffers.send(remote, message)
+    }
+
+    /// When it has to be polled again: at once, if something is to be sent.
+    pub fn poll_at(&self) -> PollAt
+        ensures { result ≡ spec.poll_at self.now }
+    {
+        self.buffers.poll_at(PollAt::Now)
+    }
+
+    /// The first message to be sent, if it is an echo message and has a source.
+    #[inline(always)]
+    fn peek<C: SocketContext>(&self, context: &C) -> Option<Packet<'_>>
+        ensures { option_map spec.shown result ≡ spec.offered (C.source_for context.now) self.now }
+    {
+        let (remote, message) = self.buffers.first()?;
+        let (repr, payload) = parse_echo(message)?;
+        let src_addr = source_address(context, None, remote)?;
+        Some(Packet {
+            src_addr,
+            dst_addr: *remote,
+            hop_limit: self.hop_limit,
+            repr,
+            payload,
+        })
+    }
+
+    /// Tells the socket whether what it offered is gone: then it is dropped.
+    pub fn told(&mut self, gone: bool)
+        ensures { self.new ≡ spec.told gone self.old }
+    {
+        self.buffers.told(gone);
+    }
+}
+
+impl<L: Drop> SocketOf<L> {
+    ghost use Rattle.std.specs.Borrow.{sem};
+    ghost use Rattle.network_sockets.specs.IcmpLending.{Settles};
+
+    /// The first message to be sent, if there is one. Its source is the address that the context
+    /// chooses. Without a source of the peer's family the message is dropped, and none is offered;
+    /// so it is if it isn't an echo message. Its checksum isn't tested.
+    pub fn offer<C: SocketContext>(&mut self, context: &C) -> Option<Packet<'_>>
+        ensures* settles { sem 𝓛 (Settles L.row self.entry (C.source_for context.now)) }
+        ensures value { option_map spec.shown result ≡ spec.offered (C.source_for context.now) self.old }
+    {
+        if self.peek(context).is_none() {
+            self.buffers.told(true);
+            return None;
+        }
+        self.peek(context)
+    }
+}
+
+/// Whether a quotation is that of a datagram of UDP from a port, of which eight octets are there.
+fn is_datagram_from(port: u16, header: &Ipv4Repr, quoted: &[u8]) -> bool
+    ensures { result ≡ spec.is_datagram_from port header.now quoted.now }
+{
+    if header.next_header.number() != IpProtocol::Udp.number() || quoted.len() < 8 {
+        return false;
+    }
+    port == u16_at(quoted, 0)
+}
+
+/// The echo message that some octets are, fewer than 65,536, and what it carries.
+#[inline(always)]
+#[tactic(auto, using(crate::proofs::IcmpLemmas::is_echo_reads))]
+fn parse_echo(message: &[u8]) -> Option<(Icmpv4Repr, &[u8])>
+    ensures { option_map parts result ≡ cond (spec.is_echo message.now) (Some (icmpv4_in message.now)) None }
+{
+    if message.len() >= 65536 {
+        return None;
+    }
+    let (repr, payload) = Icmpv4Repr::parse(message, false)?;
+    match repr {
+        Icmpv4Repr::EchoRequest { .. } | Icmpv4Repr::EchoReply { .. } => Some((repr, payload)),
+        _ => None,
+    }
+}

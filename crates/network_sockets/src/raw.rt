@@ -1,0 +1,156 @@
+//! Raw sockets, which send and receive whole packets of one protocol, with their headers.
+ghost use Rattle.std.specs.Prelude.{◌≡◌, ◌+◌, ◌<◌, ◌≤◌, ◌^◌, length, is_ok};
+ghost use Rattle.std.specs.Option.{option_map};
+ghost use Rattle.socket_base.specs.Queue.{is_room, first_of};
+ghost use Rattle.network_sockets.specs.Raw as spec;
+
+use ip_wire::{IpProtocol, IpVersion, Ipv4Fragment, Ipv4Repr};
+use socket_base::buffers::Buffers;
+use socket_base::poll_at::PollAt;
+use socket_base::queue::{Full, Queue};
+use std::marker::{Model, PhantomData};
+
+/// A packet to be sent; its payload stays in the socket.
+#[derive(Clone, Copy)]
+pub struct Packet<'p> {
+    pub header: Ipv4Repr,
+    pub payload: &'p [u8],
+}
+
+/// A raw socket, with its lifetime as a type parameter.
+///
+/// In contracts it is the version and the protocol of its packets, and its two queues.
+#[derive(Drop)]
+pub struct SocketOf<L> {
+    version: IpVersion,
+    protocol: IpProtocol,
+    buffers: Buffers<()>,
+    marker: PhantomData<L>,
+}
+
+/// A raw socket.
+pub type Socket<'a> = SocketOf<&'a ()>;
+
+impl<L> Model for SocketOf<L> {
+    ghost use Rattle.network_sockets.specs.Raw.{RawSocket};
+
+    ghost Value = { RawSocket };
+
+    ghost view = { λ s. record { version = s.version; protocol = s.protocol; rx = s.buffers.rx; tx = s.buffers.tx } };
+}
+
+impl<L: Drop> SocketOf<L> {
+    /// A socket for the packets of a version of IP and a protocol, with a queue for what comes and
+    /// one for what goes.
+    pub fn new(
+        version: IpVersion,
+        protocol: IpProtocol,
+        rx: Queue<()>,
+        tx: Queue<()>,
+    ) -> SocketOf<L>
+        ensures { result ≡ record { version = version; protocol = protocol; rx = rx; tx = tx } }
+    {
+        SocketOf {
+            version,
+            protocol,
+            buffers: Buffers::new(rx, tx),
+            marker: PhantomData,
+        }
+    }
+
+    /// Whether packets of a version and a protocol are for the socket: both are its own.
+    pub fn accepts(&self, version: IpVersion, protocol: IpProtocol) -> bool
+        ensures { result ≡ spec.accepts self.now version protocol }
+    {
+        self.version == version && self.protocol.number() == protocol.number()
+    }
+
+    /// Takes a packet, of at most 65,535 octets with a header of 20. The header is written anew,
+    /// for a whole packet; its checksum is 0 where it isn't `summed`. Without room for the packet,
+    /// it is dropped.
+    pub fn process(&mut self, header: &Ipv4Repr, payload: &[u8], summed: bool)
+        requires { 20 + header.now.payload_len < 2 ^ 16 }
+        ensures { self.new ≡ spec.delivered summed header.now payload.now self.old }
+    {
+        let text = header.octets(&Ipv4Fragment::WHOLE, summed);
+        self.buffers.process_parts((), &text, payload);
+    }
+
+    /// The first packet that came and wasn't read, if there is one.
+    pub fn recv(&self) -> Option<(&(), &[u8])>
+        ensures { option_map (λ p. (p.0.now, p.1.now)) result ≡ first_of self.now.rx.packets }
+    {
+        self.buffers.recv()
+    }
+
+    /// Drops the packet that `recv` gives, if there is one.
+    pub fn done(&mut self)
+        ensures { self.new ≡ spec.read self.old }
+    {
+        self.buffers.done();
+    }
+
+    /// Queues a packet, header and payload. `Full` exactly if it doesn't fit; then the socket stays
+    /// as it was.
+    pub fn send(&mut self, packet: &[u8]) -> Result<(), Full>
+        ensures fits { is_ok result ≡ is_room self.old.tx (length packet.now) }
+        ensures socket { self.new ≡ spec.queued packet.now self.old }
+    {
+        self.buffers.send((), packet)
+    }
+
+    /// When it has to be polled again: at once, if something is to be sent.
+    pub fn poll_at(&self) -> PollAt
+        ensures { result ≡ spec.poll_at self.now }
+    {
+        self.buffers.poll_at(PollAt::Now)
+    }
+
+    /// The packet that some octets begin with, if it is one of the socket's.
+    #[inline(always)]
+    #[tactic(auto, using(crate::proofs::RawLemmas::is_ipv4_reads, crate::proofs::RawLemmas::reads_is_ipv4))]
+    fn parse<'p>(&self, octets: &'p [u8]) -> Option<Packet<'p>>
+        ensures { option_map spec.shown result ≡ spec.sent self.now octets.now }
+    {
+        let (header, _, payload) = Ipv4Repr::parse(octets, false)?;
+        if self.accepts(IpVersion::Ipv4, header.next_header) {
+            Some(Packet { header, payload })
+        } else {
+            None
+        }
+    }
+
+    /// The first packet to be sent, if it is one of the socket's.
+    #[inline(always)]
+    fn peek(&self) -> Option<Packet<'_>>
+        ensures { option_map spec.shown result ≡ spec.offered self.now }
+    {
+        let (_, octets) = self.buffers.first()?;
+        self.parse(octets)
+    }
+
+    /// Tells the socket whether what it offered is gone: then it is dropped.
+    pub fn told(&mut self, gone: bool)
+        ensures { self.new ≡ spec.told gone self.old }
+    {
+        self.buffers.told(gone);
+    }
+}
+
+impl<L: Drop> SocketOf<L> {
+    ghost use Rattle.std.specs.Borrow.{sem};
+    ghost use Rattle.network_sockets.specs.RawLending.{Settles};
+
+    /// The first packet to be sent, if there is one. Octets that aren't a packet of the socket's
+    /// version and protocol are dropped, and none is offered; the header's checksum isn't tested.
+    pub fn offer(&mut self) -> Option<Packet<'_>>
+        ensures* settles { sem 𝓛 (Settles L.row self.entry) }
+        ensures value { option_map spec.shown result ≡ spec.offered self.old }
+    {
+        if self.peek().is_none() {
+            self.buffers.told(true);
+            return None;
+        }
+        self.peek()
+    }
+}

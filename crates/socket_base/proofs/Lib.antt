@@ -1,0 +1,2 @@
+pub mod OctetsLemmas
+pub mod QueueLemmas

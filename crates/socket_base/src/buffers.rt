@@ -1,0 +1,102 @@
+//! The two queues that each socket holds.
+ghost use Rattle.std.specs.Prelude.{◌≡◌, ◌++◌, length, is_ok};
+ghost use Rattle.std.specs.Option.{option_map};
+ghost use Rattle.socket_base.specs.Buffers as spec;
+ghost use Rattle.socket_base.specs.Queue.{is_room, first_of};
+
+use crate::poll_at::PollAt;
+use crate::queue::{Full, Queue};
+use std::marker::Model;
+
+/// The packets that came and weren't read, and those that are to be sent.
+///
+/// In contracts they are two queues.
+#[derive(Drop)]
+pub struct Buffers<M> {
+    rx: Queue<M>,
+    tx: Queue<M>,
+}
+
+impl<M> Model for Buffers<M> {
+    ghost use Rattle.socket_base.specs.Buffers.{Buffered};
+
+    ghost Value = { Buffered M };
+
+    ghost view = { λ b. record { rx = b.rx; tx = b.tx } };
+}
+
+impl<M: Drop> Buffers<M> {
+    /// A queue for what comes, and one for what goes.
+    pub fn new(rx: Queue<M>, tx: Queue<M>) -> Buffers<M>
+        ensures { result ≡ record { rx = rx; tx = tx } }
+    {
+        Buffers { rx, tx }
+    }
+
+    /// Takes a packet that came. Without room for it, it is dropped.
+    #[inline(always)]
+    pub fn process(&mut self, meta: M, octets: &[u8])
+        ensures { self.new ≡ spec.delivered meta octets.now self.old }
+    {
+        let _ = self.rx.push(meta, octets);
+    }
+
+    /// Takes a packet that came in two parts, one behind the other. Without room for it, it is
+    /// dropped.
+    #[inline(always)]
+    pub fn process_parts(&mut self, meta: M, front: &[u8], back: &[u8])
+        ensures { self.new ≡ spec.delivered meta (front.now ++ back.now) self.old }
+    {
+        let _ = self.rx.push_parts(meta, front, back);
+    }
+
+    /// The first packet that came and wasn't read, if there is one: what is told of it, and its
+    /// octets.
+    pub fn recv(&self) -> Option<(&M, &[u8])>
+        ensures { option_map (λ p. (p.0.now, p.1.now)) result ≡ first_of self.now.rx.packets }
+    {
+        self.rx.front()
+    }
+
+    /// Drops the packet that `recv` gives, if there is one.
+    pub fn done(&mut self)
+        ensures { self.new ≡ spec.read self.old }
+    {
+        self.rx.pop();
+    }
+
+    /// Queues a packet to be sent. `Full` exactly if it doesn't fit; then the queues stay as they
+    /// were.
+    pub fn send(&mut self, meta: M, octets: &[u8]) -> Result<(), Full>
+        ensures fits { is_ok result ≡ is_room self.old.tx (length octets.now) }
+        ensures queues { self.new ≡ spec.queued meta octets.now self.old }
+    {
+        self.tx.push(meta, octets)
+    }
+
+    /// The first packet to be sent, if there is one: what is told of it, and its octets.
+    pub fn first(&self) -> Option<(&M, &[u8])>
+        ensures { option_map (λ p. (p.0.now, p.1.now)) result ≡ first_of self.now.tx.packets }
+    {
+        self.tx.front()
+    }
+
+    /// Drops the packet that `first` gives, if it is gone.
+    pub fn told(&mut self, gone: bool)
+        ensures { self.new ≡ spec.told gone self.old }
+    {
+        if gone {
+            self.tx.pop();
+        }
+    }
+
+    /// When the socket has to be polled again, if what is to be sent may go at `due`.
+    pub fn poll_at(&self, due: PollAt) -> PollAt
+        ensures { result ≡ spec.poll_at due self.now }
+    {
+        match self.tx.front() {
+            None => PollAt::Ingress,
+            Some(_) => due,
+        }
+    }
+}

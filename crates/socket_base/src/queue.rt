@@ -1,0 +1,123 @@
+//! Packets that wait in order.
+ghost use Rattle.std.specs.Prelude.{◌≡◌, ◌+◌, ◌≤◌, ◌<◌, ◌↔◌, [], ◌∷◌, ◌++◌, length, drop, IfOk, IsOk, OnOk, OnErr};
+ghost use Rattle.std.specs.VecDeque.{deque_len, deque_capacity};
+ghost use Rattle.socket_base.specs.Queue.{octets_in, first_of};
+
+use crate::octets::Octets;
+use std::alloc::{AllocError, Global};
+use std::collections::VecDeque;
+use std::marker::Model;
+use thiserror::Error;
+
+/// What stands in a queue's order for one packet.
+#[derive(Drop)]
+pub struct Entry<M> {
+    pub(crate) meta: M,
+    // How many octets the packet has.
+    pub(crate) len: usize,
+}
+
+/// There is no room for the packet, or none for its octets.
+#[derive(Clone, Copy, Debug, PartialEq, Eq, Error)]
+#[error("Full")]
+pub struct Full;
+
+/// The room could not be reserved.
+#[derive(Clone, Copy, Debug, PartialEq, Eq, Error)]
+#[error("NoMemory")]
+pub struct NoMemory;
+
+impl From<AllocError> for NoMemory {
+    fn from(_: AllocError) -> NoMemory {
+        NoMemory
+    }
+}
+
+/// Packets in order, each with its octets and with what is told of it, in room that was reserved
+/// once.
+///
+/// In contracts a queue is the list of its packets, how many of them fit, and how many octets fit.
+#[derive(Drop)]
+pub struct Queue<M> {
+    entries: VecDeque<Entry<M>>,
+    most: usize,
+    octets: Octets,
+}
+
+impl<M> Model for Queue<M> {
+    ghost use Rattle.std.specs.Prelude.{◌≡◌, ◌≤◌, length};
+    ghost use Rattle.std.specs.VecDeque.{deque_len, deque_capacity};
+    ghost use Rattle.socket_base.specs.Queue.{Queued, cut, total};
+
+    ghost Value = { Queued M };
+
+    ghost view = { λ q. record { packets = cut q.entries.items q.octets.octets; most = q.most; limit = q.octets.limit } };
+
+    ghost invariant = { λ q. (total q.entries.items ≡ length q.octets.octets) × (deque_len q.entries ≤ q.most) × (deque_capacity q.entries ≡ q.most) };
+}
+
+impl<M: Drop> Queue<M> {
+    ghost use Rattle.std.specs.Option.{option_map};
+
+    /// An empty queue with room for so many packets, which have so many octets together. It
+    /// reserves twice the octets, and fails with `NoMemory` exactly if that room is refused. No
+    /// other call takes memory.
+    pub fn new(alloc: Global, packets: usize, octets: usize) -> Result<Queue<M>, NoMemory>
+        ensures { IfOk result (λ q. q ≡ record { packets = []; most = packets; limit = octets }) }
+    {
+        Ok(Queue {
+            entries: VecDeque::with_capacity(alloc, packets)?,
+            most: packets,
+            octets: Octets::new(alloc, octets)?,
+        })
+    }
+
+    /// Appends a packet. `Full` exactly if as many packets as fit are there, or fewer octets than
+    /// it has are free; then the queue stays as it was.
+    #[inline(always)]
+    pub fn push(&mut self, meta: M, octets: &[u8]) -> Result<(), Full>
+        ensures ok { OnOk result (self.new ≡ record self.old { packets = self.old.packets ++ (meta, octets.now) ∷ [] }) }
+        ensures fits { IsOk result ↔ ((length self.old.packets < self.old.most) × (octets_in self.old.packets + length octets.now ≤ self.old.limit)) }
+        ensures full { OnErr result (self.new ≡ self.old) }
+    {
+        self.push_parts(meta, octets, &[])
+    }
+
+    /// Appends a packet that lies in two parts, one behind the other. It is refused as by
+    /// [`push`](Queue::push).
+    #[inline(always)]
+    #[tactic(auto, using(crate::proofs::QueueLemmas::cut_append_parts, crate::proofs::QueueLemmas::total_append, crate::proofs::QueueLemmas::length_cut, crate::proofs::QueueLemmas::octets_in_cut))]
+    pub fn push_parts(&mut self, meta: M, front: &[u8], back: &[u8]) -> Result<(), Full>
+        ensures ok { OnOk result (self.new ≡ record self.old { packets = self.old.packets ++ (meta, front.now ++ back.now) ∷ [] }) }
+        ensures fits { IsOk result ↔ ((length self.old.packets < self.old.most) × (octets_in self.old.packets + (length front.now + length back.now) ≤ self.old.limit)) }
+        ensures full { OnErr result (self.new ≡ self.old) }
+    {
+        let len = front.len() + back.len();
+        if self.entries.len() >= self.most || self.octets.room() < len {
+            return Err(Full);
+        }
+        self.entries.push_back_reserved(Entry { meta, len });
+        self.octets.append_parts(front, back);
+        Ok(())
+    }
+
+    /// The first packet, if there is one: what is told of it, and its octets.
+    #[tactic(auto, using(crate::proofs::QueueLemmas::first_cut))]
+    pub fn front(&self) -> Option<(&M, &[u8])>
+        ensures { option_map (λ p. (p.0.now, p.1.now)) result ≡ first_of self.now.packets }
+    {
+        match self.entries.front() {
+            Some(entry) => Some((&entry.meta, self.octets.first(entry.len))),
+            None => None,
+        }
+    }
+
+    /// Drops the first packet, if there is one.
+    pub fn pop(&mut self)
+        ensures { self.new ≡ record self.old { packets = drop 1 self.old.packets } }
+    {
+        if let Some(entry) = self.entries.pop_front() {
+            self.octets.skip(entry.len);
+        }
+    }
+}

@@ -1,0 +1,22 @@
+use Rattle.std.proofs.Common.{◌∙◌, ap, refl}
+use Rattle.socket_set.specs.SocketSet.{Storage, over, with_wait}
+use Rattle.socket_set.proofs.SocketSetLemmas.{wait_set, wait_is, socket_is, some_none}
+use Rattle.socket_set.proofs.socket_set.SocketSetOf.egress_permitted.Goals as goal
+
+pub returns-clause-socket : goal.returns-clause-socket
+returns-clause-socket g c = λ some.
+    let ps = c.self.inside.sockets.items in
+    let i = c.args.index in
+    let grows = c.self.inside.grows in
+    let p : Storage g.row.L.Denot = record { socket = c.storage.inside.inner; wait = c.storage.inside.meta } in
+    let is = rw (← c.storage.view_is) at c.in-Some.ensures.value in
+    let e = c.egress_permitted.ensures in
+    rw (← c.self.view_is, wait_is grows ps i p c.in-Some.ensures.item.3.0 is)
+    (e.0, e.1, e.2, wait_set grows ps i p c.egress_permitted.new.self is ∙ ap (with_wait (over ps grows) i) e.3)
+
+pub returns-clause-nobody : goal.returns-clause-nobody
+returns-clause-nobody g c = λ none.
+    let ps = c.self.inside.sockets.items in
+    let p : Storage g.row.L.Denot = record { socket = c.storage.inside.inner; wait = c.storage.inside.meta } in
+    let is = rw (← c.storage.view_is) at c.in-Some.ensures.value in
+    absurd (some_none c.storage.inside.inner (c.is_none.ensures ∙ rw c.if-is_none.false refl) (rw (← c.self.view_is, socket_is c.self.inside.grows ps c.args.index p c.in-Some.ensures.item.3.0 is) at none))

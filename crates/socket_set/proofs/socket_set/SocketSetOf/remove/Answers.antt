@@ -1,0 +1,16 @@
+use Rattle.std.proofs.Common.{None}
+use Rattle.socket_set.specs.SocketSet.{Storage}
+use Rattle.socket_set.proofs.SocketSetLemmas.{place_set, put_again, none_is}
+use Rattle.socket_set.proofs.socket_set.SocketSetOf.remove.Goals as goal
+
+pub returns-clause-freed : goal.returns-clause-freed
+returns-clause-freed g c = λ within.
+    let p : Storage g.row.L.Denot = record { socket = c.storage.inside.inner; wait = c.storage.inside.meta } in
+    rw (← c.self.view_is, ← c.handle.view_is, c.take.ensures.after)
+    (place_set c.self.inside.grows c.self.inside.sockets.items c.handle.inside.0 p None (rw (← c.storage.view_is) at c.in_ok-storage.ensures.value))
+
+pub returns-clause-unchanged : goal.returns-clause-unchanged
+returns-clause-unchanged g c = λ none.
+    let p : Storage g.row.L.Denot = record { socket = c.storage.inside.inner; wait = c.storage.inside.meta } in
+    rw (← c.self.view_is, c.take.ensures.after, ← none_is c.take.result none, c.take.ensures.value)
+    (put_again c.self.inside.grows c.self.inside.sockets.items c.handle.inside.0 p (rw (← c.storage.view_is) at c.in_ok-storage.ensures.value))

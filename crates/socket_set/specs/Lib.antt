@@ -1,0 +1,2 @@
+pub mod SocketMeta
+pub mod SocketSet

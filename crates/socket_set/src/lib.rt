@@ -1,0 +1,12 @@
+//! The sockets of an interface: a set with a handle for each, and what each waits for.
+#![tactic(auto)]
+
+pub mod iter;
+pub mod socket_meta;
+pub mod socket_set;
+
+pub use iter::{Handles, HandlesOf, Iter, IterOf};
+pub use socket_meta::Meta;
+pub use socket_set::{
+    AddError, SocketHandle, SocketSet, SocketSetOf, SocketStorage, SocketStorageOf,
+};

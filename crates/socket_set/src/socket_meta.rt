@@ -1,0 +1,127 @@
+//! What an interface keeps for each socket: whether it waits for a neighbour that a packet of it
+//! needs.
+ghost use Rattle.std.specs.Prelude.{◌≡◌, Bool, Some, None};
+ghost use Rattle.net_base.specs.Time.{IsMoment};
+ghost use Rattle.socket_set.specs.SocketMeta as spec;
+ghost use Rattle.socket_set.specs.SocketMeta.{IsTold, after_asking, is_permitted, silence_from};
+
+use ip_wire::IpAddress;
+use net_base::time::{Duration, Instant};
+use sockets::PollAt;
+use std::marker::Model;
+
+// Whether a socket may be asked for packets.
+#[derive(Clone, Copy, Debug, PartialEq, Eq)]
+enum NeighborState {
+    // It may.
+    Active,
+    // Not before the neighbor is known or the silence has ended.
+    Waiting {
+        neighbor: IpAddress,
+        silent_until: Instant,
+    },
+}
+
+/// Whether a socket waits, for which neighbour, and until when. The default doesn't wait.
+///
+/// In contracts it is the neighbour and the moment, if it waits.
+#[derive(Clone, Copy, Debug, PartialEq, Eq)]
+pub struct Meta {
+    neighbor_state: NeighborState,
+}
+
+impl Model for Meta {
+    ghost use Rattle.socket_set.specs.SocketMeta.{Wait, wait_of, state_of, state_of-wait_of};
+    ghost use Rattle.std.proofs.Common.{ap};
+
+    ghost Value = { Wait };
+
+    ghost view = { λ m. wait_of m.neighbor_state };
+
+    ghost inverse = { λ w. record { neighbor_state = state_of w } };
+
+    ghost inverse_ok = { λ m _. ap (λ s. record { neighbor_state = s }) (state_of-wait_of m.neighbor_state) };
+}
+
+impl Default for Meta {
+    fn default() -> Meta
+        ensures { result ≡ None }
+    {
+        Meta::ACTIVE
+    }
+}
+
+impl Meta {
+    // Doesn't wait.
+    pub(crate) const ACTIVE: Meta = Meta {
+        neighbor_state: NeighborState::Active,
+    };
+
+    /// How long a socket waits before another discovery is sent for it.
+    pub const DISCOVERY_SILENT_TIME: Duration = Duration { micros: 1_000_000 };
+
+    /// When the socket wants to be asked for a packet, where `socket_poll_at` is its own answer: that,
+    /// unless it has to wait, and then the end of the wait. `has_neighbor` tells whether a neighbour
+    /// is known.
+    pub fn poll_at<F: Fn(IpAddress) -> bool>(
+        &self,
+        socket_poll_at: PollAt,
+        has_neighbor: F,
+        timestamp: Instant,
+    ) -> PollAt
+        requires { F.IsAlwaysCallable has_neighbor }
+        ensures { (known : Bool) × IsTold (F.post has_neighbor) self.now known × (result ≡ spec.poll_at self.now known timestamp socket_poll_at) }
+    {
+        match self.neighbor_state {
+            NeighborState::Active => socket_poll_at,
+            NeighborState::Waiting {
+                neighbor,
+                silent_until,
+            } => {
+                if has_neighbor(neighbor) || silent_until <= timestamp {
+                    socket_poll_at
+                } else {
+                    PollAt::Time(silent_until)
+                }
+            }
+        }
+    }
+
+    /// Whether the socket may be asked for a packet: it doesn't wait, or the neighbour is known, which
+    /// ends the wait, or the wait has passed. In that case it stays written down, so that a moment
+    /// that goes back finds it again.
+    pub fn egress_permitted<F: Fn(IpAddress) -> bool>(
+        &mut self,
+        timestamp: Instant,
+        has_neighbor: F,
+    ) -> bool
+        requires { F.IsAlwaysCallable has_neighbor }
+        ensures { (known : Bool) × IsTold (F.post has_neighbor) self.old known × (result ≡ is_permitted self.old known timestamp) × (self.new ≡ after_asking self.old known) }
+    {
+        let state = self.neighbor_state;
+        match state {
+            NeighborState::Active => true,
+            NeighborState::Waiting {
+                neighbor,
+                silent_until,
+            } => {
+                if has_neighbor(neighbor) {
+                    self.neighbor_state = NeighborState::Active;
+                    return true;
+                }
+                timestamp >= silent_until
+            }
+        }
+    }
+
+    /// Lets the socket wait for a neighbour, until 1 s after the moment.
+    pub fn neighbor_missing(&mut self, timestamp: Instant, neighbor: IpAddress)
+        requires { IsMoment timestamp }
+        ensures { self.new ≡ Some (neighbor, silence_from timestamp) }
+    {
+        self.neighbor_state = NeighborState::Waiting {
+            neighbor,
+            silent_until: timestamp + Meta::DISCOVERY_SILENT_TIME,
+        };
+    }
+}

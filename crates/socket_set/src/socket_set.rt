@@ -1,0 +1,352 @@
+//! Sets of sockets, each with a handle.
+ghost use Rattle.std.specs.Prelude.{◌≡◌, ◌<◌, Bool, true, false, not, Some, None, IsOk, IsErr, IsSome, IsNone, IfOk, IfErr, OnOk, OnErr, length, map};
+ghost use Rattle.std.specs.Option.{option_copied, option_copied_mut, option_and_then};
+ghost use Rattle.net_base.specs.Time.{IsMoment};
+ghost use Rattle.socket_set.specs.SocketMeta.{IsTold, after_asking, is_permitted, silence_from};
+ghost use Rattle.socket_set.specs.SocketSet.{added, first_free, given_back, handles, has_free, is_full, over, pairs, socket_at, wait_at, with_place, with_wait};
+
+use crate::iter::{HandlesOf, IterOf};
+use crate::socket_meta::Meta;
+use ip_wire::IpAddress;
+use net_base::time::Instant;
+use sockets::socket::{AnySocketOf, SocketOf};
+use std::fmt;
+use std::marker::Model;
+
+/// A place for one socket, with its lifetime as a type parameter.
+///
+/// In contracts it is the socket that stands there, if there is one, and whether that waits.
+#[derive(Drop)]
+pub struct SocketStorageOf<L> {
+    inner: Option<SocketOf<L>>,
+    // Says nothing where the place is free.
+    meta: Meta,
+}
+
+/// A place for one socket.
+pub type SocketStorage<'a> = SocketStorageOf<&'a ()>;
+
+impl<L> Model for SocketStorageOf<L> {
+    ghost use Rattle.socket_set.specs.SocketSet.{Storage};
+
+    ghost Value = { Storage L };
+
+    ghost view = { λ s. record { socket = s.inner; wait = s.meta } };
+}
+
+impl SocketStorageOf<&'static ()> {
+    /// A free place.
+    pub const EMPTY: SocketStorage<'static> = SocketStorageOf {
+        inner: None,
+        meta: Meta::ACTIVE,
+    };
+}
+
+impl<L> SocketStorageOf<L> {
+    ghost use Rattle.std.specs.Borrow.{sem, LendsIf};
+    ghost use Rattle.sockets.specs.contracts.socket.SocketOf.{the_row as socket_row};
+    ghost use Rattle.socket_set.specs.contracts.socket_set.SocketStorageOf.{the_row as storage_row};
+
+    // A place with a socket that doesn't wait.
+    fn holding(socket: SocketOf<L>) -> SocketStorageOf<L>
+        ensures { result ≡ record { socket = Some socket; wait = None } }
+    {
+        SocketStorageOf {
+            inner: Some(socket),
+            meta: Meta::default(),
+        }
+    }
+
+    // The socket, if there is one.
+    pub(crate) fn socket(&self) -> Option<&SocketOf<L>>
+        ensures { option_copied result ≡ self.now.socket }
+    {
+        self.inner.as_ref()
+    }
+
+    // The same, for writing.
+    fn socket_mut(&mut self) -> Option<&mut SocketOf<L>>
+        ensures* lends { sem 𝓛 (LendsIf (storage_row L.row) (socket_row L.row) self.entry result (λ w. record self.old { socket = Some w }) self.old) }
+        ensures value { option_copied_mut result ≡ self.old.socket }
+    {
+        self.inner.as_mut()
+    }
+}
+
+impl<L> Default for SocketStorageOf<L> {
+    fn default() -> SocketStorageOf<L>
+        ensures { result ≡ record { socket = None; wait = None } }
+    {
+        SocketStorageOf {
+            inner: None,
+            meta: Meta::default(),
+        }
+    }
+}
+
+/// The name of a socket in a set: the index of its place. It prints as `#` and that number.
+#[derive(Clone, Copy, Debug, PartialEq, Eq, PartialOrd, Ord, Hash)]
+pub struct SocketHandle(usize);
+
+impl Model for SocketHandle {
+    ghost use Rattle.std.specs.Prelude.{ℕ};
+
+    ghost Value = { ℕ };
+
+    ghost view = { λ h. h.0 };
+
+    ghost inverse = { λ n. record { 0 = n } };
+}
+
+impl SocketHandle {
+    // The name of the socket at an index.
+    #[inline(always)]
+    pub(crate) fn from_index(index: usize) -> SocketHandle
+        ensures { result ≡ index }
+    {
+        SocketHandle(index)
+    }
+
+    // The index of its place.
+    #[inline(always)]
+    fn index(self) -> usize
+        ensures { result ≡ self }
+    {
+        self.0
+    }
+}
+
+impl Default for SocketHandle {
+    fn default() -> SocketHandle
+        ensures { result ≡ 0 }
+    {
+        SocketHandle(0)
+    }
+}
+
+impl fmt::Display for SocketHandle {
+    ghost use Rattle.socket_set.specs.SocketSet.{handle_text};
+
+    ghost output = { λ h. Some (handle_text h) };
+
+    fn fmt<W: fmt::Write>(&self, f: &mut fmt::Formatter<W>) -> fmt::Result {
+        write!(f, "#{}", self.0)
+    }
+}
+
+/// A set of sockets, with their lifetime as a type parameter.
+///
+/// In contracts it is the list of what stands at each place, the list of the waits of the sockets
+/// there, and whether more places may be made.
+#[derive(Drop)]
+pub struct SocketSetOf<L> {
+    sockets: Vec<SocketStorageOf<L>>,
+    grows: bool,
+}
+
+/// A set of sockets.
+pub type SocketSet<'a> = SocketSetOf<&'a ()>;
+
+impl<L> Model for SocketSetOf<L> {
+    ghost use Rattle.socket_set.specs.SocketSet.{Sockets, over};
+
+    ghost Value = { Sockets L };
+
+    ghost view = { λ s. over s.sockets.items s.grows };
+}
+
+/// Why a socket found no place. Both give it back. They print as their names.
+#[derive(Drop)]
+pub enum AddError<T> {
+    /// No place is free, and the set never grows.
+    Full(T),
+    /// No place is free, and the memory for another one was refused.
+    NoMemory(T),
+}
+
+impl<T> fmt::Display for AddError<T> {
+    ghost use Rattle.socket_set.specs.SocketSet.{error_text};
+
+    ghost output = { λ e. Some (error_text e) };
+
+    fn fmt<W: fmt::Write>(&self, f: &mut fmt::Formatter<W>) -> fmt::Result {
+        match self {
+            AddError::Full(_) => write!(f, "Full"),
+            AddError::NoMemory(_) => write!(f, "NoMemory"),
+        }
+    }
+}
+
+impl<L> SocketSetOf<L> {
+    /// A set over these places, which makes more of them where none is free.
+    pub fn new(sockets: Vec<SocketStorageOf<L>>) -> SocketSetOf<L>
+        ensures { result ≡ over sockets.items true }
+    {
+        SocketSetOf {
+            sockets,
+            grows: true,
+        }
+    }
+
+    /// A set over these places, which never makes more of them.
+    pub fn fixed(sockets: Vec<SocketStorageOf<L>>) -> SocketSetOf<L>
+        ensures { result ≡ over sockets.items false }
+    {
+        SocketSetOf {
+            sockets,
+            grows: false,
+        }
+    }
+}
+
+impl<L: Drop> SocketSetOf<L> {
+    ghost use Rattle.std.specs.Borrow.{sem, LendsIf};
+    ghost use Rattle.sockets.specs.contracts.socket.SocketOf.{the_row as socket_row};
+    ghost use Rattle.socket_set.specs.contracts.socket_set.SocketSetOf.{the_row as set_row};
+
+    /// Puts a socket at the least free index, else at a new one behind all, and names it. Where no
+    /// index is free: `Full` if the set never grows, `NoMemory` if the memory for another place was
+    /// refused. Both give the socket back, and then the set stays as it was.
+    pub fn add<T: AnySocketOf<L>>(&mut self, socket: T) -> Result<SocketHandle, AddError<T>>
+        ensures free { has_free self.old ≡ true → IsOk result }
+        ensures full { has_free self.old ≡ false → self.old.grows ≡ false → IsErr result }
+        ensures handle { IfOk result (λ h. h ≡ first_free self.old.places) }
+        ensures added { OnOk result (self.new ≡ added self.old (T.up socket)) }
+        ensures kind { IfErr result (λ e. is_full e ≡ not self.old.grows) }
+        ensures given_back { IfErr result (λ e. given_back e ≡ socket) }
+        ensures unchanged { OnErr result (self.new ≡ self.old) }
+    {
+        let index = first_free(self.sockets.as_slice());
+        if index < self.sockets.len() {
+            self.sockets[index] = SocketStorageOf::holding(socket.upcast());
+            return Ok(SocketHandle(index));
+        }
+        if !self.grows {
+            return Err(AddError::Full(socket));
+        }
+        if self.sockets.try_reserve(1).is_err() {
+            return Err(AddError::NoMemory(socket));
+        }
+        self.sockets
+            .push_reserved(SocketStorageOf::holding(socket.upcast()));
+        Ok(SocketHandle(index))
+    }
+
+    /// The socket of a handle. `None` exactly for a free place, a socket of another kind, or an
+    /// index out of range.
+    pub fn get<T: AnySocketOf<L>>(&self, handle: SocketHandle) -> Option<&T>
+        ensures { option_copied result ≡ option_and_then T.down (socket_at self.now handle) }
+    {
+        let socket = self.sockets.get(handle.0)?.socket()?;
+        T::downcast(socket)
+    }
+
+    /// The same, for writing. At `None` the set stays as it was.
+    pub fn get_mut<T: AnySocketOf<L>>(&mut self, handle: SocketHandle) -> Option<&mut T>
+        ensures* lends { sem 𝓛 (LendsIf (set_row L.row) T.row self.entry result (λ w. with_place self.old handle (Some (T.up w))) self.old) }
+        ensures value { option_copied_mut result ≡ option_and_then T.down (socket_at self.old handle) }
+    {
+        self.kind_mut(handle.index())
+    }
+
+    /// The socket at an index, if it is of a kind. `None` exactly for a free place, a socket of another
+    /// kind, or an index out of range; then the set stays as it was.
+    pub fn kind_mut<T: AnySocketOf<L>>(&mut self, index: usize) -> Option<&mut T>
+        ensures* lends { sem 𝓛 (LendsIf (set_row L.row) T.row self.entry result (λ w. with_place self.old index (Some (T.up w))) self.old) }
+        ensures value { option_copied_mut result ≡ option_and_then T.down (socket_at self.old index) }
+    {
+        let socket = self.socket_mut(index)?;
+        T::downcast_mut(socket)
+    }
+
+    /// The socket at an index, of whatever kind. `None` exactly for a free place or an index out of
+    /// range; then the set stays as it was.
+    pub fn socket_mut(&mut self, index: usize) -> Option<&mut SocketOf<L>>
+        ensures* lends { sem 𝓛 (LendsIf (set_row L.row) (socket_row L.row) self.entry result (λ w. with_place self.old index (Some w)) self.old) }
+        ensures value { option_copied_mut result ≡ socket_at self.old index }
+    {
+        let storage = self.sockets.get_mut(index)?;
+        storage.socket_mut()
+    }
+
+    /// How many places there are, free or not.
+    pub fn places(&self) -> usize
+        ensures { result ≡ length self.now.places }
+    {
+        self.sockets.len()
+    }
+
+    /// The sockets with their handles, by rising index.
+    pub fn iter(&self) -> IterOf<'_, L>
+        ensures { result ≡ pairs self.now }
+    {
+        IterOf {
+            places: self.sockets.as_slice(),
+            next: 0,
+        }
+    }
+
+    /// The handles of the sockets, by rising index.
+    pub fn handles(&self) -> HandlesOf<'_, L>
+        ensures { result ≡ handles self.now }
+    {
+        HandlesOf { iter: self.iter() }
+    }
+
+    /// Whether the socket at an index may be asked for packets at a moment: it doesn't wait, or the
+    /// neighbour that it waits for is known, which ends the wait, or the wait has passed. A free place,
+    /// and an index out of range, has no socket that may.
+    pub fn egress_permitted<F: Fn(IpAddress) -> bool>(
+        &mut self,
+        index: usize,
+        timestamp: Instant,
+        has_neighbor: F,
+    ) -> bool
+        requires { F.IsAlwaysCallable has_neighbor }
+        ensures socket { IsSome (socket_at self.old index) → (known : Bool) × IsTold (F.post has_neighbor) (wait_at self.old index) known
+            × (result ≡ is_permitted (wait_at self.old index) known timestamp) × (self.new ≡ with_wait self.old index (after_asking (wait_at self.old index) known)) }
+        ensures nobody { IsNone (socket_at self.old index) → (result ≡ false) × (self.new ≡ self.old) }
+    {
+        let Some(storage) = self.sockets.get_mut(index) else {
+            return false;
+        };
+        if storage.inner.is_none() {
+            return false;
+        }
+        storage.meta.egress_permitted(timestamp, has_neighbor)
+    }
+
+    /// Lets the socket at an index wait for a neighbour, until 1 s after the moment.
+    pub fn neighbor_missing(&mut self, index: usize, timestamp: Instant, neighbor: IpAddress)
+        requires { IsMoment timestamp }
+        ensures { self.new ≡ with_wait self.old index (Some (neighbor, silence_from timestamp)) }
+    {
+        let Some(storage) = self.sockets.get_mut(index) else {
+            return;
+        };
+        storage.meta.neighbor_missing(timestamp, neighbor);
+    }
+
+    /// Takes out the socket of a handle, and frees its place. `None` exactly for a free place or an
+    /// index out of range; then the set stays as it was.
+    pub fn remove(&mut self, handle: SocketHandle) -> Option<SocketOf<L>>
+        ensures value { result ≡ socket_at self.old handle }
+        ensures freed { handle < length self.old.places → self.new ≡ with_place self.old handle None }
+        ensures unchanged { IsNone result → self.new ≡ self.old }
+    {
+        let storage = self.sockets.get_mut(handle.0)?;
+        storage.inner.take()
+    }
+}
+
+// The least free index, or the number of places.
+fn first_free<L>(places: &[SocketStorageOf<L>]) -> usize
+    ensures { result ≡ first_free (map (λ p. p.socket) places.now) }
+{
+    for (i, place) in places.iter().enumerate() {
+        if place.socket().is_none() {
+            return i;
+        }
+    }
+    places.len()
+}

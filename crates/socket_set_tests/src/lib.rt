@@ -1,0 +1,7 @@
+//! The tests of `socket_set`.
+#![tactic(auto)]
+
+#[cfg(test)]
+mod set;
+#[cfg(test)]
+mod waits;

@@ -1,3 +1,0 @@
-pub mod IcmpLemmas
-pub mod QueueLemmas
-pub mod RawLemmas

@@ -1,0 +1,4 @@
+pub mod Tcp
+pub mod TcpLending
+pub mod Udp
+pub mod UdpLending

@@ -1,0 +1,138 @@
+-- TCP sockets, which hand segments in and out (RFC 9293).
+use Rattle.std.specs.Prelude.{ℕ, ◌+◌, ◌%◌, ◌^◌, ◌==◌, ◌&&◌, ℤ, Bool, true, cond, is_none, List, length, Option, Some, None}
+use Rattle.std.specs.Option.{option_and_then, option_map}
+use Rattle.std.specs.Ordering.{int_cmp, is_lt}
+use Rattle.ip_address.specs.declared.ip.IpAddress.{IpAddress}
+use Rattle.ip_wire.specs.declared.tcp.TcpControl.{TcpControl}
+use Rattle.ip_wire.specs.declared.tcp.TcpControl.TheVariants as control
+use Rattle.ip_wire.specs.declared.tcp.TcpSeqNumber.{TcpSeqNumber}
+use Rattle.ip_wire.specs.declared.tcp.TcpRepr.{TcpRepr}
+use Rattle.socket_base.specs.Queue.{Queued, first_of, put, popped}
+use Rattle.socket_base.specs.Source.{is_same, is_same_end, source_of}
+use Rattle.socket_base.specs.declared.endpoint.IpEndpoint.{IpEndpoint}
+use Rattle.socket_base.specs.declared.endpoint.IpListenEndpoint.{IpListenEndpoint}
+use Rattle.socket_base.specs.declared.poll_at.PollAt.{PollAt}
+use Rattle.socket_base.specs.declared.poll_at.PollAt.TheVariants.{Ingress, Time}
+use Rattle.transport_sockets.specs.declared.tcp.Packet.{Packet}
+use Rattle.transport_sockets.specs.declared.tcp.Segment.{Segment}
+
+-- its own end, the other end if it is only one, the hop limit of what it sends, the moment before which it sends nothing, whether the connection was given up, and the segments that wait to be read and to be sent
+pub record TcpSocket : Type 0 where
+  pub local : IpListenEndpoint
+  pub remote : Option IpEndpoint
+  pub hop_limit : ℕ
+  pub hold : ℤ
+  pub is_aborted : Bool
+  pub rx : Queued Segment
+  pub tx : Queued Segment
+
+-- a segment with the addresses between which it goes
+pub record Sent : Type 0 where
+  pub src_addr : IpAddress
+  pub dst_addr : IpAddress
+  pub hop_limit : ℕ
+  pub repr : TcpRepr
+  pub payload : List ℕ
+
+-- a packet, without where its payload lies
+abbrev pub shown : Packet → Sent
+shown p = record { src_addr = p.src_addr; dst_addr = p.dst_addr; hop_limit = p.hop_limit; repr = p.repr; payload = p.payload.now }
+
+-- the address, if one is given
+abbrev pub is_addr_if_given : Option IpAddress → IpAddress → Bool
+is_addr_if_given None a = true
+is_addr_if_given (Some given) a = is_same given a
+
+-- the end, if one is given
+abbrev pub is_end_if_given : Option IpEndpoint → IpEndpoint → Bool
+is_end_if_given None e = true
+is_end_if_given (Some given) e = is_same_end given e
+
+-- whether a segment from one end to another is for the socket
+abbrev pub accepts : TcpSocket → IpEndpoint → IpEndpoint → Bool
+accepts s src dst = (s.local.port == dst.port) && is_addr_if_given s.local.addr dst.addr && is_end_if_given s.remote src
+
+-- what a socket keeps of a segment that came from an address
+abbrev pub segment_of : IpAddress → TcpRepr → Segment
+segment_of src r = record { remote = record { addr = src; port = r.src_port }; control = r.control; seq = r.seq_number; ack = r.ack_number; window = r.window_len }
+
+-- the number it acknowledges, or 0
+abbrev pub ack_or_zero : Option TcpSeqNumber → TcpSeqNumber
+ack_or_zero None = record { bits = 0 }
+ack_or_zero (Some n) = n
+
+-- what a reset acknowledges: a SYN that acknowledges nothing, and its payload
+abbrev pub reset_ack : TcpControl → Option TcpSeqNumber → TcpSeqNumber → ℕ → Option TcpSeqNumber
+reset_ack control.Syn ack seq len = cond (is_none ack) (Some (record { bits = (seq.bits + (1 + len)) % 2 ^ 32 })) None
+reset_ack control.None ack seq len = None
+reset_ack control.Psh ack seq len = None
+reset_ack control.Fin ack seq len = None
+reset_ack control.Rst ack seq len = None
+
+-- the reset that answers a segment with so many octets of payload (RFC 9293 3.5.2)
+abbrev pub reset_of : TcpRepr → ℕ → TcpRepr
+reset_of r len = record { src_port = r.dst_port; dst_port = r.src_port; control = control.Rst; seq_number = ack_or_zero r.ack_number; ack_number = reset_ack r.control r.ack_number r.seq_number len; window_len = 0 }
+
+-- all but resets are answered
+abbrev pub answer_of : TcpControl → TcpRepr → ℕ → Option TcpRepr
+answer_of control.Rst r len = None
+answer_of control.None r len = Some (reset_of r len)
+answer_of control.Psh r len = Some (reset_of r len)
+answer_of control.Syn r len = Some (reset_of r len)
+answer_of control.Fin r len = Some (reset_of r len)
+
+-- a segment has come; a connection that was given up doesn't take it
+abbrev pub delivered : IpAddress → TcpRepr → List ℕ → TcpSocket → TcpSocket
+delivered src r payload s = cond s.is_aborted s (record s { rx = put s.rx (segment_of src r) payload })
+
+-- but answers it
+abbrev pub reply : TcpRepr → List ℕ → TcpSocket → Option TcpRepr
+reply r payload s = cond s.is_aborted (answer_of r.control r (length payload)) None
+
+-- the first one that came was read
+abbrev pub read : TcpSocket → TcpSocket
+read s = record s { rx = popped s.rx }
+
+-- a segment is to be sent
+abbrev pub queued : Segment → List ℕ → TcpSocket → TcpSocket
+queued segment payload s = record s { tx = put s.tx segment payload }
+
+-- the first one to be sent is gone
+abbrev pub gone : TcpSocket → TcpSocket
+gone s = record s { tx = popped s.tx }
+
+-- at the moment before which it sends nothing, if something is to be sent
+abbrev pub poll_at : TcpSocket → PollAt
+poll_at s = cond (is_none (first_of s.tx.packets)) Ingress (Time s.hold)
+
+-- its moment hasn't come
+abbrev pub is_held : ℤ → TcpSocket → Bool
+is_held moment s = is_lt (int_cmp moment s.hold)
+
+-- a segment to be sent, by its header
+abbrev pub repr_of : ℕ → Segment → TcpRepr
+repr_of port segment = record { src_port = port; dst_port = segment.remote.port; control = segment.control; seq_number = segment.seq; ack_number = segment.ack; window_len = segment.window }
+
+-- a segment to be sent, from a source
+abbrev pub sent : TcpSocket → Segment × List ℕ → IpAddress → Sent
+sent s p src = record { src_addr = src; dst_addr = p.0.remote.addr; hop_limit = s.hop_limit; repr = repr_of s.local.port p.0; payload = p.1 }
+
+-- the source of the first one to be sent, if there is one
+abbrev pub first_source : (IpAddress → Option IpAddress) → TcpSocket → Option IpAddress
+first_source source s = option_and_then (λ p. source_of source s.local.addr p.0.remote.addr) (first_of s.tx.packets)
+
+-- the first one to be sent, if it has a source
+abbrev pub first : (IpAddress → Option IpAddress) → TcpSocket → Option Sent
+first source s = option_and_then (λ p. option_map (sent s p) (source_of source s.local.addr p.0.remote.addr)) (first_of s.tx.packets)
+
+-- the first one to be sent, if its moment has come and it has a source
+abbrev pub offered : ℤ → (IpAddress → Option IpAddress) → TcpSocket → Option Sent
+offered moment source s = cond (is_held moment s) None (first source s)
+
+-- what being asked leaves: the first one is gone if its moment has come and it has no source
+abbrev pub settled : ℤ → (IpAddress → Option IpAddress) → TcpSocket → TcpSocket
+settled moment source s = cond (is_held moment s) s (cond (is_none (first source s)) (gone s) s)
+
+-- what being told leaves
+abbrev pub told : Bool → TcpSocket → TcpSocket
+told is_gone s = cond is_gone (gone s) s

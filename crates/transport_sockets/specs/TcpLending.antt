@@ -1,0 +1,11 @@
+-- What a TCP socket ends as when what it offered is used.
+use Rattle.std.specs.Prelude.{◌≡◌, ℤ, Option}
+use Rattle.std.specs.Borrow.{MutBor, Fml, RattleType}
+use Rattle.std.specs.Io.BufRead.{Rests}
+use Rattle.ip_address.specs.declared.ip.IpAddress.{IpAddress}
+use Rattle.transport_sockets.specs.contracts.tcp.SocketOf.{the_row}
+use Rattle.transport_sockets.specs.Tcp.{TcpSocket, settled}
+
+module _ (K : RattleType) (s : MutBor TcpSocket) where
+  abbrev pub Settles : ℤ → (IpAddress → Option IpAddress) → Fml
+  Settles moment source = Rests (the_row K) s (λ new. new ≡ settled moment source s.now)

@@ -1,0 +1,79 @@
+-- UDP sockets (RFC 768).
+use Rattle.std.specs.Prelude.{ℕ, ◌==◌, ◌&&◌, ◌||◌, Bool, true, cond, is_none, List, Option, Some, None}
+use Rattle.std.specs.Option.{option_and_then, option_map}
+use Rattle.ip_address.specs.Ip.{is_multicast}
+use Rattle.ip_address.specs.declared.ip.IpAddress.{IpAddress}
+use Rattle.socket_base.specs.Queue.{Queued, first_of, put, popped}
+use Rattle.socket_base.specs.Source.{is_same, source_of}
+use Rattle.socket_base.specs.declared.endpoint.IpEndpoint.{IpEndpoint}
+use Rattle.socket_base.specs.declared.endpoint.IpListenEndpoint.{IpListenEndpoint}
+use Rattle.socket_base.specs.declared.poll_at.PollAt.{PollAt}
+use Rattle.socket_base.specs.declared.poll_at.PollAt.TheVariants.{Now, Ingress}
+use Rattle.transport_sockets.specs.declared.udp.Packet.{Packet}
+
+-- where a socket listens, the hop limit of what it sends, and the datagrams that wait to be read and to be sent, each with its other end
+pub record UdpSocket : Type 0 where
+  pub endpoint : IpListenEndpoint
+  pub hop_limit : ℕ
+  pub rx : Queued IpEndpoint
+  pub tx : Queued IpEndpoint
+
+-- a datagram with its ends
+pub record Datagram : Type 0 where
+  pub src : IpEndpoint
+  pub dst : IpEndpoint
+  pub hop_limit : ℕ
+  pub payload : List ℕ
+
+-- a packet, without where its payload lies
+abbrev pub shown : Packet → Datagram
+shown p = record { src = p.src; dst = p.dst; hop_limit = p.hop_limit; payload = p.payload.now }
+
+-- a destination is heard at any address, at that address, or if it is that of many hosts
+abbrev pub is_heard : (IpAddress → Bool) → Option IpAddress → IpAddress → Bool
+is_heard broadcast None dst = true
+is_heard broadcast (Some a) dst = is_same a dst || broadcast dst || is_multicast dst
+
+-- whether a datagram to an address and a port is for the socket
+abbrev pub accepts : (IpAddress → Bool) → UdpSocket → IpAddress → ℕ → Bool
+accepts broadcast s dst port = (s.endpoint.port == port) && is_heard broadcast s.endpoint.addr dst
+
+-- a datagram has come
+abbrev pub delivered : IpEndpoint → List ℕ → UdpSocket → UdpSocket
+delivered remote payload s = record s { rx = put s.rx remote payload }
+
+-- the first one that came was read
+abbrev pub read : UdpSocket → UdpSocket
+read s = record s { rx = popped s.rx }
+
+-- a datagram is to be sent
+abbrev pub queued : IpEndpoint → List ℕ → UdpSocket → UdpSocket
+queued remote payload s = record s { tx = put s.tx remote payload }
+
+-- the first one to be sent is gone
+abbrev pub gone : UdpSocket → UdpSocket
+gone s = record s { tx = popped s.tx }
+
+-- at once, if something is to be sent
+abbrev pub poll_at : UdpSocket → PollAt
+poll_at s = cond (is_none (first_of s.tx.packets)) Ingress Now
+
+-- a datagram to be sent, from a source
+abbrev pub datagram : UdpSocket → IpEndpoint × List ℕ → IpAddress → Datagram
+datagram s p src = record { src = record { addr = src; port = s.endpoint.port }; dst = p.0; hop_limit = s.hop_limit; payload = p.1 }
+
+-- the source of the first one to be sent, if there is one
+abbrev pub first_source : (IpAddress → Option IpAddress) → UdpSocket → Option IpAddress
+first_source source s = option_and_then (λ p. source_of source s.endpoint.addr p.0.addr) (first_of s.tx.packets)
+
+-- the first one to be sent, if it has a source
+abbrev pub offered : (IpAddress → Option IpAddress) → UdpSocket → Option Datagram
+offered source s = option_and_then (λ p. option_map (datagram s p) (source_of source s.endpoint.addr p.0.addr)) (first_of s.tx.packets)
+
+-- what being asked leaves: the first one is gone if it has no source
+abbrev pub settled : (IpAddress → Option IpAddress) → UdpSocket → UdpSocket
+settled source s = cond (is_none (offered source s)) (gone s) s
+
+-- what being told leaves
+abbrev pub told : Bool → UdpSocket → UdpSocket
+told is_gone s = cond is_gone (gone s) s

@@ -1,0 +1,11 @@
+-- What a UDP socket ends as when what it offered is used.
+use Rattle.std.specs.Prelude.{◌≡◌, Option}
+use Rattle.std.specs.Borrow.{MutBor, Fml, RattleType}
+use Rattle.std.specs.Io.BufRead.{Rests}
+use Rattle.ip_address.specs.declared.ip.IpAddress.{IpAddress}
+use Rattle.transport_sockets.specs.contracts.udp.SocketOf.{the_row}
+use Rattle.transport_sockets.specs.Udp.{UdpSocket, settled}
+
+module _ (K : RattleType) (s : MutBor UdpSocket) where
+  abbrev pub Settles : (IpAddress → Option IpAddress) → Fml
+  Settles source = Rests (the_row K) s (λ new. new ≡ settled source s.now)

@@ -1,0 +1,5 @@
+//! Sockets of the transport layer: UDP and TCP.
+#![tactic(auto)]
+
+pub mod tcp;
+pub mod udp;

@@ -1,0 +1,302 @@
+//! TCP sockets (RFC 9293), which hand segments in and out: what the segments mean is up to the
+//! caller.
+ghost use Rattle.std.specs.Prelude.{◌≡◌, ◌≢◌, ◌<◌, ◌≤◌, ◌^◌, pos, length, is_ok, true, false};
+ghost use Rattle.std.specs.Option.{option_map};
+ghost use Rattle.ip_address.specs.Ip.{is_unspecified};
+ghost use Rattle.socket_base.specs.Queue.{is_room, first_of};
+ghost use Rattle.transport_sockets.specs.Tcp as spec;
+
+use ip_wire::{IpAddress, TcpControl, TcpRepr, TcpSeqNumber};
+use net_base::time::Instant;
+use socket_base::buffers::Buffers;
+use socket_base::context::{SocketContext, source_address};
+use socket_base::endpoint::{IpEndpoint, IpListenEndpoint, is_same_addr};
+use socket_base::poll_at::PollAt;
+use socket_base::queue::{Full, Queue};
+use std::marker::{Model, PhantomData};
+
+/// A segment without its payload.
+#[derive(Clone, Copy, Debug, PartialEq, Eq)]
+pub struct Segment {
+    /// Where it came from, or where it goes.
+    pub remote: IpEndpoint,
+    pub control: TcpControl,
+    pub seq: TcpSeqNumber,
+    pub ack: Option<TcpSeqNumber>,
+    /// As it stands in the header, not scaled.
+    pub window: u16,
+}
+
+/// A segment to be sent; its payload stays in the socket.
+#[derive(Clone, Copy)]
+pub struct Packet<'p> {
+    pub src_addr: IpAddress,
+    pub dst_addr: IpAddress,
+    pub hop_limit: u8,
+    pub repr: TcpRepr,
+    pub payload: &'p [u8],
+}
+
+/// A TCP socket, with its lifetime as a type parameter.
+///
+/// In contracts it is its own end, the other end if it is only one, its hop limit, the moment
+/// before which it sends nothing, whether the connection was given up, and its two queues.
+#[derive(Drop)]
+pub struct SocketOf<L> {
+    local: IpListenEndpoint,
+    remote: Option<IpEndpoint>,
+    hop_limit: u8,
+    hold: Instant,
+    is_aborted: bool,
+    buffers: Buffers<Segment>,
+    marker: PhantomData<L>,
+}
+
+/// A TCP socket.
+pub type Socket<'a> = SocketOf<&'a ()>;
+
+impl<L> Model for SocketOf<L> {
+    ghost use Rattle.transport_sockets.specs.Tcp.{TcpSocket};
+
+    ghost Value = { TcpSocket };
+
+    ghost view = { λ s. record { local = s.local; remote = s.remote; hop_limit = s.hop_limit; hold = s.hold; is_aborted = s.is_aborted; rx = s.buffers.rx; tx = s.buffers.tx } };
+}
+
+impl<L: Drop> SocketOf<L> {
+    /// A socket between its own end and, if it is given, another one, with a queue for what comes
+    /// and one for what goes. Its hop limit is 64, and it holds nothing back.
+    pub fn new(
+        local: IpListenEndpoint,
+        remote: Option<IpEndpoint>,
+        rx: Queue<Segment>,
+        tx: Queue<Segment>,
+    ) -> SocketOf<L>
+        ensures { result ≡ record { local = local; remote = remote; hop_limit = 64; hold = pos 0; is_aborted = false; rx = rx; tx = tx } }
+    {
+        SocketOf {
+            local,
+            remote,
+            hop_limit: 64,
+            hold: Instant::ZERO,
+            is_aborted: false,
+            buffers: Buffers::new(rx, tx),
+            marker: PhantomData,
+        }
+    }
+
+    /// Sets the hop limit of what is sent, which isn't 0.
+    pub fn set_hop_limit(&mut self, hop_limit: u8)
+        requires { hop_limit ≢ 0 }
+        ensures { self.new ≡ record self.old { hop_limit = hop_limit } }
+    {
+        self.hop_limit = hop_limit;
+    }
+
+    /// Sends nothing before a moment.
+    pub fn hold_until(&mut self, moment: Instant)
+        ensures { self.new ≡ record self.old { hold = moment } }
+    {
+        self.hold = moment;
+    }
+
+    /// Gives the connection up: from now on what comes is answered by a reset.
+    pub fn abort(&mut self)
+        ensures { self.new ≡ record self.old { is_aborted = true } }
+    {
+        self.is_aborted = true;
+    }
+
+    /// Whether a segment from one end to another is for the socket: its own port is the
+    /// segment's, and so are its own address and its other end, where they are given.
+    pub fn accepts(&self, src: &IpEndpoint, dst: &IpEndpoint) -> bool
+        ensures { result ≡ spec.accepts self.now src.now dst.now }
+    {
+        if self.local.port != dst.port {
+            return false;
+        }
+        if let Some(addr) = self.local.addr
+            && !is_same_addr(&addr, &dst.addr)
+        {
+            return false;
+        }
+        match self.remote {
+            None => true,
+            Some(remote) => remote.is_same(src),
+        }
+    }
+
+    /// Takes a segment that came from an address, of fewer than 65,536 octets of payload, and
+    /// gives what answers it.
+    ///
+    /// The socket gets it, and nothing answers it. Without room for it, it is dropped. After
+    /// [`abort`](SocketOf::abort) the socket doesn't get it, and a reset answers all but resets.
+    pub fn process(
+        &mut self,
+        src_addr: IpAddress,
+        repr: &TcpRepr,
+        payload: &[u8],
+    ) -> Option<TcpRepr>
+        requires { length payload.now < 2 ^ 16 }
+        ensures reply { result ≡ spec.reply repr.now payload.now self.old }
+        ensures socket { self.new ≡ spec.delivered src_addr repr.now payload.now self.old }
+    {
+        if !self.is_aborted {
+            self.buffers.process(segment_of(src_addr, repr), payload);
+            return None;
+        }
+        match repr.control {
+            TcpControl::Rst => None,
+            _ => Some(rst_reply(repr, payload.len())),
+        }
+    }
+
+    /// The first segment that came and wasn't read, if there is one, and its payload.
+    pub fn recv(&self) -> Option<(&Segment, &[u8])>
+        ensures { option_map (λ p. (p.0.now, p.1.now)) result ≡ first_of self.now.rx.packets }
+    {
+        self.buffers.recv()
+    }
+
+    /// Drops the segment that `recv` gives, if there is one.
+    pub fn done(&mut self)
+        ensures { self.new ≡ spec.read self.old }
+    {
+        self.buffers.done();
+    }
+
+    /// Queues a segment with at most 65,495 octets of payload to its end, whose address is specified.
+    /// Neither that end's port nor the socket's own may be 0. `Full` exactly if it doesn't fit; then
+    /// the socket stays as it was.
+    pub fn send(&mut self, segment: Segment, payload: &[u8]) -> Result<(), Full>
+        requires addr { is_unspecified segment.remote.addr ≡ false }
+        requires port { segment.remote.port ≢ 0 }
+        requires own_port { self.old.local.port ≢ 0 }
+        requires len { length payload.now ≤ 65495 }
+        ensures fits { is_ok result ≡ is_room self.old.tx (length payload.now) }
+        ensures socket { self.new ≡ spec.queued segment payload.now self.old }
+    {
+        self.buffers.send(segment, payload)
+    }
+
+    /// When it has to be polled again: at the moment until which it holds back, if something is to
+    /// be sent.
+    pub fn poll_at(&self) -> PollAt
+        ensures { result ≡ spec.poll_at self.now }
+    {
+        self.buffers.poll_at(PollAt::Time(self.hold))
+    }
+
+    /// The source of the first segment to be sent, if there is one.
+    #[inline(always)]
+    fn source<C: SocketContext>(&self, context: &C) -> Option<IpAddress>
+        ensures { result ≡ spec.first_source (C.source_for context.now) self.now }
+    {
+        let (segment, _) = self.buffers.first()?;
+        source_address(context, self.local.addr, &segment.remote.addr)
+    }
+
+    /// The first segment to be sent, from a source.
+    #[inline(always)]
+    fn packet(&self, src_addr: IpAddress) -> Option<Packet<'_>>
+        ensures { option_map spec.shown result ≡ option_map (λ p. spec.sent self.now p src_addr) (first_of self.now.tx.packets) }
+    {
+        let (segment, payload) = self.buffers.first()?;
+        Some(Packet {
+            src_addr,
+            dst_addr: segment.remote.addr,
+            hop_limit: self.hop_limit,
+            repr: repr_of(self.local.port, segment),
+            payload,
+        })
+    }
+
+    /// Tells the socket whether what it offered is gone: then it is dropped.
+    pub fn told(&mut self, gone: bool)
+        ensures { self.new ≡ spec.told gone self.old }
+    {
+        self.buffers.told(gone);
+    }
+}
+
+impl<L: Drop> SocketOf<L> {
+    ghost use Rattle.std.specs.Borrow.{sem};
+    ghost use Rattle.transport_sockets.specs.TcpLending.{Settles};
+
+    /// The first segment to be sent, if there is one and the moment until which the socket holds
+    /// back has come. Its source is the socket's own address, if that is given, else the one that
+    /// the context chooses. Without a source of the peer's family the segment is dropped, and none
+    /// is offered.
+    pub fn offer<C: SocketContext>(&mut self, context: &C) -> Option<Packet<'_>>
+        ensures* settles { sem 𝓛 (Settles L.row self.entry (C.moment context.now) (C.source_for context.now)) }
+        ensures value { option_map spec.shown result ≡ spec.offered (C.moment context.now) (C.source_for context.now) self.old }
+    {
+        if context.now() < self.hold {
+            return None;
+        }
+        let Some(src_addr) = self.source(context) else {
+            self.buffers.told(true);
+            return None;
+        };
+        self.packet(src_addr)
+    }
+}
+
+/// What is kept of a segment that came from an address.
+fn segment_of(src_addr: IpAddress, repr: &TcpRepr) -> Segment
+    ensures { result ≡ spec.segment_of src_addr repr.now }
+{
+    Segment {
+        remote: IpEndpoint {
+            addr: src_addr,
+            port: repr.src_port,
+        },
+        control: repr.control,
+        seq: repr.seq_number,
+        ack: repr.ack_number,
+        window: repr.window_len,
+    }
+}
+
+/// The header of a segment that goes out from a port.
+fn repr_of(src_port: u16, segment: &Segment) -> TcpRepr
+    ensures { result ≡ spec.repr_of src_port segment.now }
+{
+    TcpRepr {
+        src_port,
+        dst_port: segment.remote.port,
+        control: segment.control,
+        seq_number: segment.seq,
+        ack_number: segment.ack,
+        window_len: segment.window,
+    }
+}
+
+/// The reset that answers a segment with so many octets of payload, fewer than 65,536 (RFC 9293
+/// 3.5.2).
+///
+/// Its sequence number is the segment's acknowledgement number, or 0. It acknowledges only a SYN
+/// that has none: the number behind the SYN and the payload.
+pub fn rst_reply(repr: &TcpRepr, payload_len: usize) -> TcpRepr
+    requires { payload_len < 2 ^ 16 }
+    ensures { result ≡ spec.reset_of repr.now payload_len }
+{
+    let seq_number = match repr.ack_number {
+        Some(number) => number,
+        None => TcpSeqNumber { bits: 0 },
+    };
+    let ack_number = match (repr.control, repr.ack_number) {
+        (TcpControl::Syn, None) => Some(TcpSeqNumber {
+            bits: repr.seq_number.bits.wrapping_add(1 + payload_len as u32),
+        }),
+        _ => None,
+    };
+    TcpRepr {
+        src_port: repr.dst_port,
+        dst_port: repr.src_port,
+        control: TcpControl::Rst,
+        seq_number,
+        ack_number,
+        window_len: 0,
+    }
+}

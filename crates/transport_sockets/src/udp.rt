@@ -1,0 +1,197 @@
+//! UDP sockets (RFC 768).
+ghost use Rattle.std.specs.Prelude.{◌≡◌, ◌≢◌, ◌≤◌, length, is_ok, false};
+ghost use Rattle.std.specs.Option.{option_map};
+ghost use Rattle.ip_address.specs.Ip.{is_unspecified};
+ghost use Rattle.socket_base.specs.Queue.{is_room, first_of};
+ghost use Rattle.transport_sockets.specs.Udp as spec;
+
+use ip_wire::IpAddress;
+use socket_base::buffers::Buffers;
+use socket_base::context::{SocketContext, source_address};
+use socket_base::endpoint::{IpEndpoint, IpListenEndpoint, is_same_addr};
+use socket_base::poll_at::PollAt;
+use socket_base::queue::{Full, Queue};
+use std::marker::{Model, PhantomData};
+
+/// A datagram to be sent; its payload stays in the socket.
+#[derive(Clone, Copy)]
+pub struct Packet<'p> {
+    pub src: IpEndpoint,
+    pub dst: IpEndpoint,
+    pub hop_limit: u8,
+    pub payload: &'p [u8],
+}
+
+/// A UDP socket, with its lifetime as a type parameter.
+///
+/// In contracts it is the end at which it listens, its hop limit, and its two queues.
+#[derive(Drop)]
+pub struct SocketOf<L> {
+    endpoint: IpListenEndpoint,
+    hop_limit: u8,
+    buffers: Buffers<IpEndpoint>,
+    marker: PhantomData<L>,
+}
+
+/// A UDP socket.
+pub type Socket<'a> = SocketOf<&'a ()>;
+
+impl<L> Model for SocketOf<L> {
+    ghost use Rattle.transport_sockets.specs.Udp.{UdpSocket};
+
+    ghost Value = { UdpSocket };
+
+    ghost view = { λ s. record { endpoint = s.endpoint; hop_limit = s.hop_limit; rx = s.buffers.rx; tx = s.buffers.tx } };
+}
+
+impl<L: Drop> SocketOf<L> {
+    /// A socket that listens at an end, with a queue for what comes and one for what goes. Its hop
+    /// limit is 64.
+    pub fn new(
+        endpoint: IpListenEndpoint,
+        rx: Queue<IpEndpoint>,
+        tx: Queue<IpEndpoint>,
+    ) -> SocketOf<L>
+        ensures { result ≡ record { endpoint = endpoint; hop_limit = 64; rx = rx; tx = tx } }
+    {
+        SocketOf {
+            endpoint,
+            hop_limit: 64,
+            buffers: Buffers::new(rx, tx),
+            marker: PhantomData,
+        }
+    }
+
+    /// The end at which it listens.
+    pub fn endpoint(&self) -> IpListenEndpoint
+        ensures { result ≡ self.now.endpoint }
+    {
+        self.endpoint
+    }
+
+    /// Sets the hop limit of what is sent, which isn't 0.
+    pub fn set_hop_limit(&mut self, hop_limit: u8)
+        requires { hop_limit ≢ 0 }
+        ensures { self.new ≡ record self.old { hop_limit = hop_limit } }
+    {
+        self.hop_limit = hop_limit;
+    }
+
+    /// Whether a datagram to an address and a port is for the socket: the port is its own, and it
+    /// listens at any address or at that one, or the address is a broadcast or a multicast one.
+    pub fn accepts<C: SocketContext>(
+        &self,
+        context: &C,
+        dst_addr: &IpAddress,
+        dst_port: u16,
+    ) -> bool
+        ensures { result ≡ spec.accepts (C.is_broadcast_in context.now) self.now dst_addr.now dst_port }
+    {
+        if self.endpoint.port != dst_port {
+            return false;
+        }
+        match self.endpoint.addr {
+            None => true,
+            Some(addr) => {
+                is_same_addr(&addr, dst_addr)
+                    || context.is_broadcast(dst_addr)
+                    || dst_addr.is_multicast()
+            }
+        }
+    }
+
+    /// Takes a datagram that came from an end. Without room for it, it is dropped.
+    pub fn process(&mut self, remote: IpEndpoint, payload: &[u8])
+        ensures { self.new ≡ spec.delivered remote payload.now self.old }
+    {
+        self.buffers.process(remote, payload);
+    }
+
+    /// The first datagram that came and wasn't read, if there is one: where it came from, and its
+    /// payload.
+    pub fn recv(&self) -> Option<(&IpEndpoint, &[u8])>
+        ensures { option_map (λ p. (p.0.now, p.1.now)) result ≡ first_of self.now.rx.packets }
+    {
+        self.buffers.recv()
+    }
+
+    /// Drops the datagram that `recv` gives, if there is one.
+    pub fn done(&mut self)
+        ensures { self.new ≡ spec.read self.old }
+    {
+        self.buffers.done();
+    }
+
+    /// Queues a datagram of at most 65,495 octets to an end whose address is specified. Neither its
+    /// port nor the socket's own may be 0. `Full` exactly if it doesn't fit; then the socket stays as
+    /// it was.
+    pub fn send(&mut self, remote: IpEndpoint, payload: &[u8]) -> Result<(), Full>
+        requires addr { is_unspecified remote.addr ≡ false }
+        requires port { remote.port ≢ 0 }
+        requires own_port { self.old.endpoint.port ≢ 0 }
+        requires len { length payload.now ≤ 65495 }
+        ensures fits { is_ok result ≡ is_room self.old.tx (length payload.now) }
+        ensures socket { self.new ≡ spec.queued remote payload.now self.old }
+    {
+        self.buffers.send(remote, payload)
+    }
+
+    /// When it has to be polled again: at once, if something is to be sent.
+    pub fn poll_at(&self) -> PollAt
+        ensures { result ≡ spec.poll_at self.now }
+    {
+        self.buffers.poll_at(PollAt::Now)
+    }
+
+    /// The source of the first datagram to be sent, if there is one.
+    #[inline(always)]
+    fn source<C: SocketContext>(&self, context: &C) -> Option<IpAddress>
+        ensures { result ≡ spec.first_source (C.source_for context.now) self.now }
+    {
+        let (remote, _) = self.buffers.first()?;
+        source_address(context, self.endpoint.addr, &remote.addr)
+    }
+
+    /// The first datagram to be sent, from a source.
+    #[inline(always)]
+    fn packet(&self, addr: IpAddress) -> Option<Packet<'_>>
+        ensures { option_map spec.shown result ≡ option_map (λ p. spec.datagram self.now p addr) (first_of self.now.tx.packets) }
+    {
+        let (remote, payload) = self.buffers.first()?;
+        Some(Packet {
+            src: IpEndpoint {
+                addr,
+                port: self.endpoint.port,
+            },
+            dst: *remote,
+            hop_limit: self.hop_limit,
+            payload,
+        })
+    }
+
+    /// Tells the socket whether what it offered is gone: then it is dropped.
+    pub fn told(&mut self, gone: bool)
+        ensures { self.new ≡ spec.told gone self.old }
+    {
+        self.buffers.told(gone);
+    }
+}
+
+impl<L: Drop> SocketOf<L> {
+    ghost use Rattle.std.specs.Borrow.{sem};
+    ghost use Rattle.transport_sockets.specs.UdpLending.{Settles};
+
+    /// The first datagram to be sent, if there is one. Its source is the address at which the
+    /// socket listens, if that is given, else the one that the context chooses. Without a source
+    /// of the peer's family the datagram is dropped, and none is offered.
+    pub fn offer<C: SocketContext>(&mut self, context: &C) -> Option<Packet<'_>>
+        ensures* settles { sem 𝓛 (Settles L.row self.entry (C.source_for context.now)) }
+        ensures value { option_map spec.shown result ≡ spec.offered (C.source_for context.now) self.old }
+    {
+        let Some(addr) = self.source(context) else {
+            self.buffers.told(true);
+            return None;
+        };
+        self.packet(addr)
+    }
+}

@@ -1,0 +1,93 @@
+use ip_wire::emit::FrameBuffer;
+use ip_wire::{
+    ArpOperation, ArpRepr, EthernetAddress, EthernetProtocol, EthernetRepr, Ipv4Address,
+};
+use std::test::Fail;
+
+/// A host that asks for 192.168.69.1, and is 192.168.69.100.
+const REQUEST: [u8; 42] = [
+    0xff, 0xff, 0xff, 0xff, 0xff, 0xff, 0x02, 0x00, 0x00, 0x00, 0x00, 0x02, 0x08, 0x06, 0x00, 0x01,
+    0x08, 0x00, 0x06, 0x04, 0x00, 0x01, 0x02, 0x00, 0x00, 0x00, 0x00, 0x02, 0xc0, 0xa8, 0x45, 0x64,
+    0x00, 0x00, 0x00, 0x00, 0x00, 0x00, 0xc0, 0xa8, 0x45, 0x01,
+];
+
+/// What 192.168.69.1 answers it.
+const REPLY: [u8; 42] = [
+    0x02, 0x00, 0x00, 0x00, 0x00, 0x02, 0x02, 0x00, 0x00, 0x00, 0x00, 0x01, 0x08, 0x06, 0x00, 0x01,
+    0x08, 0x00, 0x06, 0x04, 0x00, 0x02, 0x02, 0x00, 0x00, 0x00, 0x00, 0x01, 0xc0, 0xa8, 0x45, 0x01,
+    0x02, 0x00, 0x00, 0x00, 0x00, 0x02, 0xc0, 0xa8, 0x45, 0x64,
+];
+
+const OWN: EthernetAddress = EthernetAddress([0x02, 0, 0, 0, 0, 0x01]);
+
+const OTHER: EthernetAddress = EthernetAddress([0x02, 0, 0, 0, 0, 0x02]);
+
+#[test]
+fn a_request_is_read(rt: HostRuntime) -> Result<(), Fail> {
+    let header = EthernetRepr {
+        src_addr: OTHER,
+        dst_addr: EthernetAddress::BROADCAST,
+        ethertype: EthernetProtocol::Arp,
+    };
+    let request = ArpRepr {
+        operation: ArpOperation::Request,
+        source_hardware_addr: OTHER,
+        source_protocol_addr: Ipv4Address::new(192, 168, 69, 100),
+        target_hardware_addr: EthernetAddress([0; 6]),
+        target_protocol_addr: Ipv4Address::new(192, 168, 69, 1),
+    };
+    match EthernetRepr::parse(&REQUEST) {
+        Some((repr, payload)) => {
+            assert_eq!(rt; repr, header);
+            assert_eq!(rt; payload.len(), 28);
+            assert_eq!(rt; ArpRepr::parse(payload), Some(request));
+            for len in 0..28 {
+                assert_eq!(rt;
+                    ArpRepr::parse(&REQUEST[14..14 + len]),
+                    None,
+                    "{len} octets"
+                );
+            }
+        }
+        None => assert!(rt; false),
+    }
+    for len in 0..14 {
+        assert!(rt;
+            EthernetRepr::parse(&REQUEST[..len]).is_none(),
+            "{len} octets"
+        );
+    }
+    Ok(())
+}
+
+#[test]
+fn a_reply_is_emitted(rt: HostRuntime) -> Result<(), Fail> {
+    let header = EthernetRepr {
+        src_addr: OWN,
+        dst_addr: OTHER,
+        ethertype: EthernetProtocol::Arp,
+    };
+    let reply = ArpRepr {
+        operation: ArpOperation::Reply,
+        source_hardware_addr: OWN,
+        source_protocol_addr: Ipv4Address::new(192, 168, 69, 1),
+        target_hardware_addr: OTHER,
+        target_protocol_addr: Ipv4Address::new(192, 168, 69, 100),
+    };
+    let mut frame = FrameBuffer::new();
+    header.emit(&mut frame);
+    reply.emit(&mut frame);
+    assert_eq!(rt; frame.as_slice(), REPLY.as_slice());
+    Ok(())
+}
+
+#[test]
+fn packets_for_others_are_refused(rt: HostRuntime) -> Result<(), Fail> {
+    // hardware type 6, protocol IPv6, longer addresses, operation 3 (RARP)
+    for (place, octet) in [(15, 6), (16, 0x86), (18, 8), (19, 16), (21, 3), (21, 0)] {
+        let mut frame = REQUEST;
+        frame[place] = octet;
+        assert_eq!(rt; ArpRepr::parse(&frame[14..]), None, "{octet} at {place}");
+    }
+    Ok(())
+}
