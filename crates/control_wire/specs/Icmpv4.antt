@@ -114,3 +114,14 @@ IsMessage (TimeExceeded code header) = IsHeader header whole
 abbrev pub ReadAgain : Type 0
 ReadAgain = (checked summed : Bool) (r : Icmpv4Repr) (octets : List ℕ) → IsMessage r → (IsTrue checked → IsTrue summed)
     → IsIcmpv4 checked (text summed r octets) × (icmpv4_in (text summed r octets) ≡ (r, octets))
+
+-- an echo request whose checksum is right
+pub record IsEchoRequest (octets : List ℕ) : Type 0 where
+  pub whole_header : 8 ≤ length octets
+  pub type : type_in octets ≡ 8
+  pub code : code_in octets ≡ 0
+  pub sum : folded (word_sum octets) ≡ 65535
+
+-- the reply to it gives its identifier and its number back, and its data
+abbrev pub echo_reply_to : List ℕ → Icmpv4Repr
+echo_reply_to octets = EchoReply (u16_at octets 4) (u16_at octets 6)

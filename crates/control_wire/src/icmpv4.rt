@@ -1,7 +1,9 @@
 //! ICMP for IPv4 (RFC 792): echo messages, and errors with their quotations.
-ghost use Rattle.std.specs.Prelude.{◌≡◌, ◌+◌, ◌%◌, ◌<◌, ◌≤◌, ◌^◌, ◌++◌, length};
+ghost use Rattle.std.specs.Prelude.{◌≡◌, ◌+◌, ◌%◌, ◌<◌, ◌≤◌, ◌^◌, ◌++◌, drop, length, true};
 ghost use Rattle.std.specs.Option.{SomeIff, option_map};
 ghost use Rattle.ip_wire.specs.Checksum.{checksum_of};
+ghost use Rattle.ip_wire.specs.Octets.{u16_at};
+ghost use Rattle.control_wire.specs.Icmpv4.{IsEchoRequest};
 ghost use Rattle.control_wire.specs.Icmpv4 as spec;
 
 use ip_wire::checksum::sum_with;
@@ -123,6 +125,57 @@ impl Icmpv4Repr {
             Icmpv4Repr::DstUnreachable { .. } | Icmpv4Repr::TimeExceeded { .. } => 28,
         }
     }
+}
+
+/// An echo request whose checksum was tested, so that the reply's comes from it.
+#[derive(Clone, Copy)]
+pub struct EchoRequest<'p> {
+    /// All of its octets, fewer than 65,536.
+    pub octets: &'p [u8],
+    pub ghost sound: { IsEchoRequest octets.now },
+    pub ghost short: { length octets.now < 2 ^ 16 },
+}
+
+impl EchoRequest<'_> {
+    /// Appends the reply: the request's identifier, number and data. The reply's checksum, 0 where it
+    /// isn't `summed`, comes from the request's (RFC 1624).
+    #[inline(always)]
+    pub fn emit_reply(&self, summed: bool, out: &mut FrameBuffer)
+        requires room { length out.old + length self.now.octets.now ≤ 1514 }
+        ensures items { out.new ≡ out.old ++ spec.text summed (spec.echo_reply_to self.now.octets.now) (drop 8 self.now.octets.now) }
+        ensures len { length out.new ≡ length out.old + length self.now.octets.now }
+    {
+        let request = self.octets;
+        let reply = Icmpv4Repr::EchoReply {
+            ident: u16_at(request, 4),
+            seq_no: u16_at(request, 6),
+        };
+        let sum = if summed {
+            reply_sum(request, &reply)
+        } else {
+            0
+        };
+        out.append(&head_with(sum, &reply));
+        out.append(&request[HEADER_LEN..]);
+    }
+}
+
+/// The checksum of the reply to an echo request: the request's with the word of the type taken out
+/// (RFC 1624). Where that leaves 0, which stands for two sums, the reply is summed.
+#[inline(always)]
+fn reply_sum(request: &[u8], reply: &Icmpv4Repr) -> u16
+    requires request { spec.IsEchoRequest request.now }
+    requires short { length request.now < 2 ^ 16 }
+    requires reply { reply.now ≡ spec.echo_reply_to request.now }
+    requires ident { u16_at request.now 4 < 2 ^ 16 }
+    requires seq_no { u16_at request.now 6 < 2 ^ 16 }
+    ensures { result ≡ spec.sum_of true reply.now (drop 8 request.now) }
+{
+    let sum = (u32::from(u16_at(request, 2)) + 0x0800) % 0xffff;
+    if sum == 0 {
+        return sum_for(&head_with(0, reply), &[], &request[HEADER_LEN..]);
+    }
+    sum as u16
 }
 
 /// A message that is emitted is read again.

@@ -24,7 +24,8 @@ folded_shift (suc m) n (suc k) e =
 step : (xs : List ℕ) (i j : ℕ) → j ≡ i + 1 → i < length xs → drop i xs ≡ get_or xs i 0 ∷ drop j xs
 step xs i j e h = rw (e, add-one, drop-cons xs i 0) refl
 
-word : (xs : List ℕ) (i j k : ℕ) → j ≡ i + 1 → k ≡ j + 1 → k ≤ length xs → word_sum (drop i xs) ≡ get_or xs i 0 * 256 + get_or xs j 0 + word_sum (drop k xs)
+-- the words from a place on, by the first of them
+pub word : (xs : List ℕ) (i j k : ℕ) → j ≡ i + 1 → k ≡ j + 1 → k ≤ length xs → word_sum (drop i xs) ≡ get_or xs i 0 * 256 + get_or xs j 0 + word_sum (drop k xs)
 unfolding word_sum
 word xs i j k ej ek h = ap word_sum (step xs i j ej (omega arith) ∙ ap (λ (t : List ℕ). get_or xs i 0 ∷ t) (step xs j k ek (omega arith)))
 

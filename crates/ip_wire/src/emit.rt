@@ -52,10 +52,11 @@ impl FrameBuffer {
         self.len == 0
     }
 
-    /// The octets that are there.
+    /// The octets that are there, at most 1,514.
     #[inline(always)]
     pub fn as_slice(&self) -> &[u8]
-        ensures { result.now ≡ self.now }
+        ensures value { result.now ≡ self.now }
+        ensures fits { length result.now ≤ 1514 }
     {
         &self.octets[..self.len]
     }
