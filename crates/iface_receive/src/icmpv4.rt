@@ -1,18 +1,20 @@
 //! What an interface does with ICMP messages (RFC 792, RFC 1122 3.2.2), and which it sends in reply.
-ghost use Rattle.std.specs.Prelude.{◌≡◌, ◌+◌, ◌<◌, ◌^◌, [], Some, length};
+ghost use Rattle.std.specs.Prelude.{◌≡◌, ◌+◌, ◌<◌, ◌^◌, [], Some, IfSome, drop, length};
 ghost use Rattle.ip_address.specs.declared.ip.IpAddress.TheVariants.{Ipv4};
 ghost use Rattle.socket_set.specs.SocketSet.{socket_at, with_place, with_places};
-ghost use Rattle.control_wire.specs.Icmpv4.{QuotesPacket};
+ghost use Rattle.control_wire.specs.Icmpv4.{IsIcmpv4, QuotesPacket, echo_reply_to, icmpv4_in};
 ghost use Rattle.host_machine.specs.Host.{no_sockets};
 ghost use Rattle.host_machine.specs.Delivery.{to_each, to_this};
 ghost use Rattle.host_machine.specs.Icmpv4.{accepts, delivered};
 ghost use Rattle.host_machine.specs.Icmpv4 as spec;
+ghost use Rattle.host_machine.specs.Packet as value;
 ghost use Rattle.host_machine.specs.Response.{Responds};
+ghost use Rattle.iface_send.specs.Shown as shown;
 ghost use Rattle.iface_send.specs.Built.{Built};
 ghost use Rattle.iface_send.specs.Stands.{host_of};
 ghost use Rattle.iface_receive.specs.Processed.{Processed};
 
-use control_wire::icmpv4::{Icmpv4DstUnreachable, Icmpv4Repr};
+use control_wire::icmpv4::{EchoRequest, Icmpv4DstUnreachable, Icmpv4Repr};
 use iface_send::dispatch::dispatch;
 use iface_send::{Context, IpPayload, Packet, PacketV4};
 use socket_set::SocketSet;
@@ -39,7 +41,7 @@ pub fn process_icmpv4(
         return;
     };
     deliver(sockets, header, &message, contents, octets);
-    answer(context, header, &message, contents, out);
+    answer(context, header, &message, contents, octets, checked, out);
 }
 
 /// Hands a message, whole, with its sender, to each ICMP socket that takes it. `contents` are the octets
@@ -93,27 +95,35 @@ fn deliver_to(
     }
 }
 
-/// Builds the reply to a message: to an echo request, and to nothing else.
+/// Builds the reply to a message, of which these are all octets: to an echo request, and to nothing
+/// else. Where its checksum was tested, the reply's comes from it.
 fn answer(
     context: &mut Context,
     header: &Ipv4Repr,
     message: &Icmpv4Repr,
     contents: &[u8],
+    octets: &[u8],
+    checked: bool,
     out: &mut FrameBuffer,
 )
-    requires { out.old ≡ [] }
+    requires empty { out.old ≡ [] }
+    requires short { length octets.now < 2 ^ 16 }
+    requires read { IsIcmpv4 checked octets.now × ((message.now, contents.now) ≡ icmpv4_in octets.now) }
     ensures { Built out.new (Responds (spec.answer_to (host_of context.old no_sockets).ip_addrs header.now message.now contents.now)) context.old context.new }
 {
-    match message {
-        Icmpv4Repr::EchoRequest { ident, seq_no } => {
-            let reply = Icmpv4Repr::EchoReply {
-                ident: *ident,
-                seq_no: *seq_no,
-            };
-            send_back(context, header, reply, contents, out);
-        }
-        _ => {}
-    }
+    let Icmpv4Repr::EchoRequest { ident, seq_no } = message else {
+        return;
+    };
+    let reply = Icmpv4Repr::EchoReply {
+        ident: *ident,
+        seq_no: *seq_no,
+    };
+    let request = if checked {
+        Some(EchoRequest { octets })
+    } else {
+        None
+    };
+    send_back(context, header, reply, contents, request, out);
 }
 
 /// Builds an error in reply to a packet, in an empty buffer. It quotes the packet's header and at most
@@ -138,7 +148,7 @@ pub(crate) fn refuse(
         reason,
         header: *header,
     };
-    send_back(context, header, message, quoted(payload), out);
+    send_back(context, header, message, quoted(payload), None, out);
 }
 
 /// As much of a payload as an error quotes.
@@ -152,16 +162,19 @@ fn quoted(payload: &[u8]) -> &[u8]
     &payload[..528]
 }
 
-/// Builds a message in reply to a packet, with hop limit 64, if it may go.
+/// Builds a message in reply to a packet, with hop limit 64, if it may go. The message may be the reply
+/// to a request whose checksum was tested.
 fn send_back(
     context: &mut Context,
     header: &Ipv4Repr,
     message: Icmpv4Repr,
     octets: &[u8],
+    request: Option<EchoRequest<'_>>,
     out: &mut FrameBuffer,
 )
     requires empty { out.old ≡ [] }
     requires quoted { QuotesPacket message }
+    requires replies { IfSome request (λ r. (message ≡ echo_reply_to r.octets.now) × (octets.now ≡ drop 8 r.octets.now)) }
     ensures { Built out.new (Responds (spec.icmpv4_reply (host_of context.old no_sockets).ip_addrs header.now message octets.now)) context.old context.new }
 {
     let Some(src_addr) = reply_source(context, header, &message) else {
@@ -171,9 +184,25 @@ fn send_back(
         src_addr,
         dst_addr: header.src_addr,
         hop_limit: 64,
-        payload: IpPayload::Icmpv4(message, octets),
+        payload: payload_of(message, octets, request),
     });
     let _ = dispatch(context, &packet, out);
+}
+
+/// A message as a payload.
+#[inline(always)]
+fn payload_of<'p>(
+    message: Icmpv4Repr,
+    octets: &'p [u8],
+    request: Option<EchoRequest<'p>>,
+) -> IpPayload<'p>
+    requires { IfSome request (λ r. (message ≡ echo_reply_to r.octets.now) × (octets.now ≡ drop 8 r.octets.now)) }
+    ensures { shown.payload result ≡ value.Icmpv4 message octets.now }
+{
+    match request {
+        Some(request) => IpPayload::EchoReply(request),
+        None => IpPayload::Icmpv4(message, octets),
+    }
 }
 
 /// The address from which a message goes in reply to a packet: the packet's destination, if that is

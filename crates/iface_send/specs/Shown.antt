@@ -1,13 +1,16 @@
 -- Packets as values, without where their octets lie in memory.
+use Rattle.std.specs.Prelude.{drop}
+use Rattle.control_wire.specs.Icmpv4.{echo_reply_to}
 use Rattle.host_machine.specs.Packet as value
 use Rattle.iface_send.specs.declared.packet.IpPayload.{IpPayload}
-use Rattle.iface_send.specs.declared.packet.IpPayload.TheVariants.{Icmpv4, Udp, Tcp, Raw}
+use Rattle.iface_send.specs.declared.packet.IpPayload.TheVariants.{Icmpv4, EchoReply, Udp, Tcp, Raw}
 use Rattle.iface_send.specs.declared.packet.PacketV4.{PacketV4}
 use Rattle.iface_send.specs.declared.packet.Packet.{Packet}
 use Rattle.iface_send.specs.declared.packet.Packet.TheVariants.{Ipv4}
 
 abbrev pub payload : IpPayload → value.IpPayload
 payload (Icmpv4 message octets) = value.Icmpv4 message octets.now
+payload (EchoReply request) = value.Icmpv4 (echo_reply_to request.octets.now) (drop 8 request.octets.now)
 payload (Udp header octets) = value.Udp header octets.now
 payload (Tcp header octets) = value.Tcp header octets.now
 payload (Raw number octets) = value.Raw number octets.now

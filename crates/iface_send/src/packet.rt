@@ -7,7 +7,7 @@ ghost use Rattle.host_machine.specs.Packet as value;
 ghost use Rattle.host_machine.specs.Dispatch.{destination_of};
 ghost use Rattle.iface_send.specs.Shown as shown;
 
-use control_wire::icmpv4::Icmpv4Repr;
+use control_wire::icmpv4::{EchoRequest, Icmpv4Repr};
 use ip_wire::emit::FrameBuffer;
 use ip_wire::ipv4_packet::{Ipv4Fragment, Ipv4Repr};
 use ip_wire::{
@@ -35,6 +35,8 @@ pub struct PacketV4<'p> {
 #[derive(Clone, Copy)]
 pub enum IpPayload<'p> {
     Icmpv4(Icmpv4Repr, &'p [u8]),
+    /// The reply to an echo request.
+    EchoReply(EchoRequest<'p>),
     Udp(UdpRepr, &'p [u8]),
     Tcp(TcpRepr, &'p [u8]),
     Raw(IpProtocol, &'p [u8]),
@@ -46,7 +48,7 @@ impl IpPayload<'_> {
         ensures { result ≡ value.protocol_of (shown.payload self.now) }
     {
         match self {
-            IpPayload::Icmpv4(..) => IpProtocol::Icmp,
+            IpPayload::Icmpv4(..) | IpPayload::EchoReply(_) => IpProtocol::Icmp,
             IpPayload::Udp(..) => IpProtocol::Udp,
             IpPayload::Tcp(..) => IpProtocol::Tcp,
             IpPayload::Raw(protocol, _) => *protocol,
@@ -60,6 +62,7 @@ impl IpPayload<'_> {
     {
         match self {
             IpPayload::Icmpv4(message, octets) => message.header_len() + octets.len(),
+            IpPayload::EchoReply(request) => request.octets.len(),
             IpPayload::Udp(_, octets) => 8 + octets.len(),
             IpPayload::Tcp(_, octets) => 20 + octets.len(),
             IpPayload::Raw(_, octets) => octets.len(),
@@ -126,6 +129,9 @@ pub fn emit_payload(
             capabilities.checksum.icmpv4.tx(),
             out,
         ),
+        IpPayload::EchoReply(request) => {
+            request.emit_reply(capabilities.checksum.icmpv4.tx(), out);
+        }
         IpPayload::Udp(header, octets) => {
             let src = IpAddress::Ipv4(packet.src_addr);
             let dst = IpAddress::Ipv4(packet.dst_addr);
