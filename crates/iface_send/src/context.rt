@@ -102,10 +102,15 @@ impl Context {
     }
 
     /// Whether it is the broadcast address of all networks, or of one of the interface's own (RFC
-    /// 922).
+    /// 922). Such an address ends in two ones at least, so most are told apart by that.
+    #[inline(always)]
+    #[tactic(auto, using(crate::proofs::Broadcasts::broadcasts))]
     pub fn is_broadcast_v4(&self, address: &Ipv4Address) -> bool
         ensures { result ≡ addresses.is_broadcast_v4 (host_of self.now no_sockets).ip_addrs address.now }
     {
+        if address.bits % 4 != 3 {
+            return false;
+        }
         address.is_broadcast() || ends_a_network(self.ip_addrs.as_slice(), address)
     }
 

@@ -1,5 +1,5 @@
 -- The last address of a network, by setting the bits behind its prefix.
-use Rattle.std.proofs.Common.{◌≡◌, ℕ, ◌+◌, ◌-◌, ◌*◌, ◌/◌, ◌%◌, ◌<◌, ◌≤◌, ◌^◌, arith}
+use Rattle.std.proofs.Common.{◌≡◌, ℕ, ◌+◌, ◌-◌, ◌*◌, ◌/◌, ◌%◌, ◌<◌, ◌≤◌, ◌^◌, suc, ap, sym, ◌∙◌, arith}
 use Rattle.std.specs.Prelude.{bit_or}
 use Rattle.std.proofs.lemmas.Nat.{pow_pos, shr_split, or_lt, or_block, le_or_r, mod_below}
 use Rattle.std.proofs.lemmas.Nat.Bits.{ones_shr}
@@ -20,5 +20,16 @@ or_ones a k =
 
 pub or-max : (a p : ℕ) → p ≤ 32 → bit_or a (4294967295 / 2 ^ p) ≡ last_of 32 p a
 or-max a p le = rw (ones_shr 32 p le) (or_ones a (32 - p))
+
+-- where two bits or more are set so, the number ends in two ones
+pub ends_in_ones : (a p : ℕ) → p < 31 → last_of 32 p a % 4 ≡ 3
+ends_in_ones a p lt =
+    let m = 2 ^ (30 - p) in
+    let some = pow_pos (30 - p) in
+    let bits : 32 - p ≡ suc (suc (30 - p)) = omega (arith, lt) in
+    let size : 2 ^ (32 - p) ≡ m * 4 = ap (λ (n : ℕ). 2 ^ n) bits ∙ omega arith in
+    let q = a / 2 ^ (32 - p) in
+    let whole : q * 2 ^ (32 - p) ≡ q * m * 4 = ap (λ (n : ℕ). q * n) size ∙ sym (mul_assoc q m 4) in
+    omega (arith, some, size, whole)
 
 pub ruleset last_address = (or-max)

@@ -1,5 +1,6 @@
 pub mod ArpAgain
 pub mod EthernetAgain
+mod HeaderSums
 pub mod Ipv4Again
 pub mod OctetCells
 pub mod Pseudos

@@ -1,9 +1,10 @@
 //! IPv4 packets (RFC 791).
 ghost use Rattle.std.specs.Prelude.{◌≡◌, ◌+◌, ◌<◌, ◌≤◌, ◌^◌, ◌++◌, length};
 ghost use Rattle.std.specs.Option.{SomeIff, option_map};
+ghost use Rattle.ip_wire.specs.Checksum.{folded, word_sum};
 ghost use Rattle.ip_wire.specs.Ipv4Packet as spec;
 
-use crate::checksum::{checksum, sum_with};
+use crate::checksum::{fold, sum_with};
 use crate::emit::FrameBuffer;
 use crate::octets::{u16_at, u32_at};
 use ip_address::{IpProtocol, Ipv4Address};
@@ -128,7 +129,7 @@ impl Ipv4Repr {
         ensures { result ≡ spec.header_text summed self.now fragment.now }
     {
         let sum = if summed {
-            checksum(&header_with(0, self, fragment))
+            0xffff - header_sum(self, fragment)
         } else {
             0
         };
@@ -181,6 +182,21 @@ fn fragment_of(octets: &[u8]) -> Ipv4Fragment
         more_fragments: word / 0x2000 % 2 == 1,
         offset: word % 0x2000,
     }
+}
+
+/// The folded sum of the words of a header with checksum 0, from its values.
+#[inline(always)]
+#[tactic(auto, using(crate::proofs::HeaderSums::header_sums))]
+fn header_sum(repr: &Ipv4Repr, fragment: &Ipv4Fragment) -> u16
+    requires payload_len { 20 + repr.now.payload_len < 2 ^ 16 }
+    requires offset { fragment.now.offset < 0x2000 }
+    ensures { result ≡ folded (word_sum (spec.header_with 0 repr.now fragment.now)) }
+{
+    let addresses = u64::from(repr.src_addr.bits) + u64::from(repr.dst_addr.bits);
+    let lengths = 0x4500 + u64::from(20 + repr.payload_len);
+    let fragments = u64::from(fragment.identification) + u64::from(fragment.word());
+    let protocol = u64::from(repr.hop_limit) * 0x100 + u64::from(repr.next_header.number());
+    fold(addresses + lengths + fragments + protocol)
 }
 
 /// A header with the given checksum.
