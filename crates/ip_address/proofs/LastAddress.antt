@@ -1,5 +1,5 @@
 -- The last address of a network, by setting the bits behind its prefix.
-use Rattle.std.proofs.Common.{◌≡◌, ℕ, ◌+◌, ◌-◌, ◌*◌, ◌/◌, ◌%◌, ◌<◌, ◌≤◌, ◌^◌, suc, ap, sym, ◌∙◌, arith}
+use Rattle.std.proofs.Common.{◌≡◌, ℕ, ◌+◌, ◌-◌, ◌*◌, ◌/◌, ◌%◌, ◌<◌, ◌≤◌, ◌^◌, suc, ap, sym, ◌∙◌, mul_assoc, arith}
 use Rattle.std.specs.Prelude.{bit_or}
 use Rattle.std.proofs.lemmas.Nat.{pow_pos, shr_split, or_lt, or_block, le_or_r, mod_below}
 use Rattle.std.proofs.lemmas.Nat.Bits.{ones_shr}

@@ -29,5 +29,3 @@ header_folds r f length fragment is_length is_fragment ll lf li ls ld =
     let w = one_word fragment lf in
     let words : word_sum (header_with 0 r f) ≡ n + k = rw (← is_length, ← is_fragment) (omega (arith, s, d, l, i, w)) in
     folded_shift (r.src_addr.bits + r.dst_addr.bits + (17664 + length) + (f.identification + fragment) + (r.hop_limit * 256 + number_of r.next_header)) n k (omega arith) ∙ ap folded (sym words)
-
-pub ruleset header_sums = (header_folds)

@@ -56,7 +56,8 @@ impl Ipv4Fragment {
     #[inline(always)]
     const fn word(&self) -> u16
         requires { self.now.offset < 0x2000 }
-        ensures { result ≡ spec.fragment_word self.now }
+        ensures value { result ≡ spec.fragment_word self.now }
+        ensures small { result < 2 ^ 16 }
     {
         let dont_fragment = if self.dont_fragment { 0x4000 } else { 0 };
         let more_fragments = if self.more_fragments { 0x2000 } else { 0 };
@@ -186,7 +187,6 @@ fn fragment_of(octets: &[u8]) -> Ipv4Fragment
 
 /// The folded sum of the words of a header with checksum 0, from its values.
 #[inline(always)]
-#[tactic(auto, using(crate::proofs::HeaderSums::header_sums))]
 fn header_sum(repr: &Ipv4Repr, fragment: &Ipv4Fragment) -> u16
     requires payload_len { 20 + repr.now.payload_len < 2 ^ 16 }
     requires offset { fragment.now.offset < 0x2000 }
@@ -194,9 +194,18 @@ fn header_sum(repr: &Ipv4Repr, fragment: &Ipv4Fragment) -> u16
 {
     let addresses = u64::from(repr.src_addr.bits) + u64::from(repr.dst_addr.bits);
     let lengths = 0x4500 + u64::from(20 + repr.payload_len);
-    let fragments = u64::from(fragment.identification) + u64::from(fragment.word());
+    let fragments = two_words(fragment.identification, fragment.word());
     let protocol = u64::from(repr.hop_limit) * 0x100 + u64::from(repr.next_header.number());
     fold(addresses + lengths + fragments + protocol)
+}
+
+/// The sum of two words.
+#[inline(always)]
+fn two_words(first: u16, second: u16) -> u64
+    ensures value { result ≡ first + second }
+    ensures small { (first < 2 ^ 16) × (second < 2 ^ 16) }
+{
+    u64::from(first) + u64::from(second)
 }
 
 /// A header with the given checksum.
