@@ -1,10 +1,9 @@
 -- The state of a host (RFC 1122): what its interface and its sockets stand for.
-use Rattle.std.specs.Prelude.{ℕ, ℤ, Bool, false, ◌==◌, ◌||◌, List, [], Option}
+use Rattle.std.specs.Prelude.{ℕ, ℤ, Bool, false, ◌||◌, List, [], Option}
 use Rattle.std.specs.Borrow.{Bor}
 use Rattle.std.specs.List.{list_any, list_all}
 use Rattle.net_base.specs.declared.phy.DeviceCapabilities.{DeviceCapabilities}
 use Rattle.ip_address.specs.declared.ip.IpAddress.{IpAddress}
-use Rattle.ip_address.specs.declared.ip.IpAddress.TheVariants.{Ipv4, Ipv6}
 use Rattle.ip_address.specs.declared.cidr.IpCidr.{IpCidr}
 use Rattle.ip_address.specs.declared.hardware.HardwareAddress.{HardwareAddress}
 use Rattle.ip_address.specs.Ip.{is_unicast, is_unspecified}
@@ -13,6 +12,7 @@ use Rattle.iface_tables.specs.Neighbor.{Neighbors}
 use Rattle.iface_tables.specs.declared.route.Route.{Route}
 use Rattle.socket_set.specs.SocketSet.{Sockets}
 use Rattle.socket_set.specs.SocketSet as table
+use Rattle.socket_base.specs.Source.{is_same}
 use Rattle.sockets.specs.declared.socket.SocketOf.{SocketOf}
 
 -- a place of a socket set: it holds a socket, or it is free
@@ -49,16 +49,9 @@ with_neighbors H n = record H { neighbors = n }
 abbrev pub with_places : Host → List Storage → Host
 with_places H places = record H { sockets = table.with_places H.sockets places }
 
--- the two are one address
-abbrev pub same_address : IpAddress → IpAddress → Bool
-same_address (Ipv4 a) (Ipv4 b) = a.bits == b.bits
-same_address (Ipv6 a) (Ipv6 b) = a.bits == b.bits
-same_address (Ipv4 a) (Ipv6 b) = false
-same_address (Ipv6 a) (Ipv4 b) = false
-
 -- an address that was given to it
 abbrev pub is_assigned : List IpCidr → IpAddress → Bool
-is_assigned own a = list_any (λ c. same_address (address_of c) a) own
+is_assigned own a = list_any (λ c. is_same (address_of c) a) own
 
 -- an address of its own: one that was given to it, or any
 abbrev pub has_ip_addr : Host → IpAddress → Bool

@@ -1,12 +1,15 @@
-//! The host that is measured, with one UDP socket.
+//! The host that is measured, with one UDP socket or more.
+ghost use Rattle.std.specs.Prelude.{◌≡◌, ◌≢◌, false};
+ghost use Rattle.ip_address.specs.Ip.{is_unspecified};
 
 use crate::link::Link;
 use anyhow::{Context, Result};
 use arrayvec::ArrayVec;
-use socket_set::{SocketHandle, SocketSet};
+use iface_tables::route::Route;
 use interface::{Config, Interface};
 use ip_wire::{EthernetAddress, HardwareAddress, IpAddress, IpCidr, Ipv4Address, Ipv4Cidr};
 use net_base::time::Instant;
+use socket_set::{SocketHandle, SocketSet};
 use sockets::{IpEndpoint, IpListenEndpoint, Queue, udp};
 use std::alloc::Global;
 
@@ -27,6 +30,20 @@ const REMOTE: IpEndpoint = IpEndpoint {
     port: 5000,
 };
 
+/// Where it sends to by a router: the same port of 10.1.2.3.
+const FAR: IpEndpoint = IpEndpoint {
+    addr: IpAddress::Ipv4(Ipv4Address { bits: 0x0a01_0203 }),
+    port: 5000,
+};
+
+/// Its routes, all by 192.168.69.100: an address and the length of its prefix.
+const ROUTES: [(u32, u8); 4] = [
+    (0, 0),
+    (0x0a00_0000, 8),
+    (0x0a01_0000, 16),
+    (0xac10_0000, 12),
+];
+
 /// The longest payload of a datagram, in octets.
 const MAX_PAYLOAD: usize = 65_495;
 
@@ -40,8 +57,9 @@ pub struct Host {
 }
 
 impl Host {
-    /// A host at 192.168.69.1/24, whose socket has room for four datagrams each way.
-    pub fn new(alloc: Global) -> Result<Host> {
+    /// A host at 192.168.69.1/24 with so many sockets at least, of which the last is used: it has room
+    /// for four datagrams each way.
+    pub fn new(alloc: Global, count: u64) -> Result<Host> {
         let mut link = Link::new(alloc);
         let mut interface = Interface::new(Config::new(HARDWARE_ADDR), &mut link, Instant::ZERO)?;
         let cidr = IpCidr::Ipv4(Ipv4Cidr::new(Ipv4Address::new(192, 168, 69, 1), 24));
@@ -50,9 +68,12 @@ impl Host {
             list.push(cidr);
             list
         })?;
+        let mut sockets = SocketSet::new(Vec::new(alloc));
+        for _ in 1..count {
+            add_idle(alloc, &mut sockets)?;
+        }
         let rx = Queue::new(alloc, 4, 8192)?;
         let tx = Queue::new(alloc, 4, 8192)?;
-        let mut sockets = SocketSet::new(Vec::new(alloc));
         let handle = sockets
             .add(udp::SocketOf::new(LOCAL, rx, tx))
             .ok()
@@ -87,17 +108,62 @@ impl Host {
         len
     }
 
-    /// Sends a datagram with this payload. One that is too long is left out.
+    /// Gives the host four routes.
+    pub fn add_routes(&mut self) -> Result<()> {
+        let mut routes = ArrayVec::new();
+        for (bits, prefix_len) in ROUTES {
+            let cidr = Ipv4Cidr::new(Ipv4Address { bits }, prefix_len.min(32));
+            let _ = routes.try_push(Route {
+                cidr: IpCidr::Ipv4(cidr),
+                via_router: REMOTE.addr,
+                preferred_until: None,
+                expires_at: None,
+            });
+        }
+        self.interface.routes_mut().update(move |_| routes);
+        Ok(())
+    }
+
+    /// Sends a datagram with this payload to a neighbour.
     pub fn send(&mut self, payload: &[u8]) {
+        self.send_to(REMOTE, payload);
+    }
+
+    /// Sends a datagram with this payload by a router.
+    pub fn send_far(&mut self, payload: &[u8]) {
+        self.send_to(FAR, payload);
+    }
+
+    /// Sends a datagram with this payload. One that is too long is left out.
+    #[inline(always)]
+    fn send_to(&mut self, remote: IpEndpoint, payload: &[u8])
+        requires addr { is_unspecified remote.addr ≡ false }
+        requires port { remote.port ≢ 0 }
+    {
         let Some(socket) = self.sockets.get_mut::<udp::Socket<'static>>(self.handle) else {
             return;
         };
         if socket.endpoint().port == 0 || payload.len() > MAX_PAYLOAD {
             return;
         }
-        let _ = socket.send(REMOTE, payload);
+        let _ = socket.send(remote, payload);
         let _ = self
             .interface
             .poll_egress(Instant::ZERO, &mut self.link, &mut self.sockets);
     }
+}
+
+/// Adds a socket at port 1, which hears and sends nothing.
+fn add_idle(alloc: Global, sockets: &mut SocketSet<'static>) -> Result<()> {
+    let endpoint = IpListenEndpoint {
+        addr: None,
+        port: 1,
+    };
+    let rx = Queue::new(alloc, 1, 1)?;
+    let tx = Queue::new(alloc, 1, 1)?;
+    sockets
+        .add(udp::SocketOf::new(endpoint, rx, tx))
+        .ok()
+        .context("no memory for a socket")?;
+    Ok(())
 }

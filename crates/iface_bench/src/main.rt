@@ -1,7 +1,8 @@
 //! Measures a host: has it do one thing over and over, and prints what it sent and read.
 //!
-//! The first argument says what: `receive` a frame, `deliver` one to a socket, or `send` a datagram;
-//! the second how many times. The first line of standard input is a frame in hex that is taken once
+//! The first argument says what: `receive` a frame, `deliver` one to a socket, the same to a queue that
+//! is nearly `full`, `send` a datagram, or send it by a `route`; the second how many times; a third, if
+//! there is one, how many sockets the host has. The first line of standard input is a frame in hex that is taken once
 //! before, and the second the frame that is taken or the payload that is sent over and over.
 //! `docs/PERFORMANCE.md` says how to count instructions with it.
 #![tactic(auto)]
@@ -35,7 +36,22 @@ fn run(host: &mut Host, work: &str, rounds: u64, octets: Vec<u8>) -> Result<u64>
                 host.send(octets.as_slice());
             }
         }
-        _ => bail!("receive, deliver or send?"),
+        "route" => {
+            host.add_routes()?;
+            for _ in 0..rounds {
+                host.send_far(octets.as_slice());
+            }
+        }
+        "full" => {
+            host.link.load(octets);
+            for _ in 0..3 {
+                host.receive();
+            }
+            for _ in 0..rounds {
+                read = read.wrapping_add(host.deliver() as u64);
+            }
+        }
+        _ => bail!("receive, deliver, full, send or route?"),
     }
     Ok(read)
 }
@@ -45,7 +61,11 @@ fn main(rt: HostRuntime) -> Result<()> {
     let mut args = env::args(&rt)?;
     let work = args.nth(1).context("what is to be done?")?;
     let rounds = args.next().context("how many times?")?.parse::<u64>()?;
-    let mut host = Host::new(alloc)?;
+    let sockets = match args.next() {
+        Some(count) => count.parse::<u64>()?,
+        None => 1,
+    };
+    let mut host = Host::new(alloc, sockets)?;
     let mut digits = String::new(alloc);
     rt.read_line(&mut digits)?;
     host.link.load(hex::decode(alloc, digits.as_str().trim())?);

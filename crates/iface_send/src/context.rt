@@ -3,7 +3,7 @@ ghost use Rattle.std.specs.Prelude.{◌≡◌, ◌≤◌};
 ghost use Rattle.std.specs.List.{list_any};
 ghost use Rattle.net_base.specs.Time.{IsMoment};
 ghost use Rattle.ip_address.specs.Hardware.{medium_of};
-ghost use Rattle.host_machine.specs.Host.{is_assigned, same_address, no_sockets};
+ghost use Rattle.host_machine.specs.Host.{is_assigned, no_sockets};
 ghost use Rattle.host_machine.specs.Addresses as addresses;
 
 use arrayvec::ArrayVec;
@@ -13,6 +13,7 @@ use ip_wire::{HardwareAddress, IpAddress, IpCidr, Ipv4Address};
 use net_base::phy::DeviceCapabilities;
 use net_base::time::Instant;
 use sockets::SocketContext;
+use sockets::endpoint::is_same_addr;
 
 /// How many addresses an interface has at most.
 pub const IFACE_MAX_ADDR_COUNT: usize = 4;
@@ -175,7 +176,7 @@ impl SocketContext for Context {
 fn is_assigned(own: &[IpCidr], address: &IpAddress) -> bool
     ensures { result ≡ is_assigned own.now address.now }
 {
-    own.iter().any(|cidr| is_same(&cidr.address(), address))
+    own.iter().any(|cidr| is_same_addr(&cidr.address(), address))
 }
 
 /// Whether an address is the broadcast address of a network of a list.
@@ -183,18 +184,6 @@ fn ends_a_network(own: &[IpCidr], address: &Ipv4Address) -> bool
     ensures { result ≡ list_any (λ c. addresses.is_broadcast_of c address.now) own.now }
 {
     own.iter().any(|cidr| is_broadcast_of(cidr, address))
-}
-
-/// Whether the two are one address, by family and number.
-#[inline(always)]
-fn is_same(a: &IpAddress, b: &IpAddress) -> bool
-    ensures { result ≡ same_address a.now b.now }
-{
-    match (a, b) {
-        (IpAddress::Ipv4(x), IpAddress::Ipv4(y)) => x.bits == y.bits,
-        (IpAddress::Ipv6(x), IpAddress::Ipv6(y)) => x.bits == y.bits,
-        _ => false,
-    }
 }
 
 /// Whether it is the broadcast address of a network.

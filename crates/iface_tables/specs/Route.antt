@@ -4,7 +4,7 @@ use Rattle.std.specs.List.{find, position_or_len, remove}
 use Rattle.std.specs.Ordering.{int_cmp, is_le}
 use Rattle.std.proofs.Common.{lit≤}
 use Rattle.arrayvec.specs.ArrayVec.{ArrayVec}
-use Rattle.ip_address.specs.Cidr.{contains, prefix_len_of}
+use Rattle.ip_address.specs.Cidr.{contains, is_whole_ipv4, prefix_len_of}
 use Rattle.ip_address.specs.declared.ip.IpAddress.{IpAddress}
 use Rattle.ip_address.specs.declared.ip.IpAddress.TheVariants as address
 use Rattle.ip_address.specs.declared.ipv4.Ipv4Address.{Ipv4Address}
@@ -79,11 +79,6 @@ ipv4_gateway gateway = record { cidr = whole_ipv4; via_router = address.Ipv4 gat
 
 abbrev pub ipv6_gateway : Ipv6Address → Route
 ipv6_gateway gateway = record { cidr = whole_ipv6; via_router = address.Ipv6 gateway; preferred_until = None; expires_at = None }
-
--- exactly 0.0.0.0/0
-abbrev pub is_whole_ipv4 : IpCidr → Bool
-is_whole_ipv4 (Ipv4 n) = (n.address.bits == 0) && (n.prefix_len == 0)
-is_whole_ipv4 (Ipv6 n) = false
 
 -- exactly ::/0
 abbrev pub is_whole_ipv6 : IpCidr → Bool

@@ -1,4 +1,5 @@
 //! Routes: by which router a packet leaves its network (RFC 1122 3.3.1, RFC 4632 5.1).
+ghost use Rattle.std.specs.Option.{option_copied};
 ghost use Rattle.std.specs.Prelude.{◌≡◌, ◌≤◌, ◌<◌, Bool, true, [], length, slice_get, OnSome};
 ghost use Rattle.std.specs.List.{position_or_len, remove};
 ghost use Rattle.ip_address.specs.Ip as ip;
@@ -290,25 +291,29 @@ fn replace(
 }
 
 // The best route to an address at a moment, if any matches.
-fn best_route(routes: &[Route], address: &IpAddress, timestamp: Instant) -> Option<Route>
-    ensures { IsBest routes.now address.now timestamp result }
+fn best_route<'r>(
+    routes: &'r [Route],
+    address: &IpAddress,
+    timestamp: Instant,
+) -> Option<&'r Route>
+    ensures { IsBest routes.now address.now timestamp (option_copied result) }
 {
     let mut best = None;
     for route in routes {
-        best = better(best, *route, address, timestamp);
+        best = better(best, route, address, timestamp);
     }
     best
 }
 
 // Of the best route so far and one behind it, the better one.
 #[inline(always)]
-fn better(
-    best: Option<Route>,
-    route: Route,
+fn better<'r>(
+    best: Option<&'r Route>,
+    route: &'r Route,
     address: &IpAddress,
     timestamp: Instant,
-) -> Option<Route>
-    ensures { result ≡ better address.now timestamp best route }
+) -> Option<&'r Route>
+    ensures { option_copied result ≡ better address.now timestamp (option_copied best.entry) route.now }
 {
     if !route.matches(address, timestamp) {
         return best;
