@@ -5,13 +5,13 @@ ghost use Rattle.socket_set.specs.SocketSet.{added};
 ghost use Rattle.sockets.specs.declared.socket.SocketOf.TheVariants.{Udp};
 ghost use Rattle.hostrun.specs.Sockets.{listening};
 
-use socket_set::SocketSet;
 use interface::host::{Owner, drive};
 use interface::{Answer, Command, Config, Interface};
 use ip_wire::{EthernetAddress, HardwareAddress};
 use net_base::MemoryDevice;
 use net_base::phy::{ChecksumCapabilities, Device, DeviceCapabilities, Medium};
 use net_base::time::Instant;
+use socket_set::SocketSet;
 use sockets::{IpListenEndpoint, NoMemory, Queue, udp};
 use std::alloc::Global;
 

@@ -21,11 +21,11 @@ use control_wire::Icmpv4Repr;
 use host_machine::Turn;
 use iface_send::dispatch::{dispatch, has_neighbor};
 use iface_send::{Context, IpPayload, Packet, PacketV4};
-use socket_set::SocketSet;
 use ip_wire::emit::FrameBuffer;
 use ip_wire::{IpAddress, UdpRepr};
 use net_base::phy::Device;
 use net_base::time::Instant;
+use socket_set::SocketSet;
 use sockets::{Offer, Socket, SocketContext, icmp, raw, udp};
 
 /// Gives each socket that needn't wait its turn in order, until the device refuses leave to send. Answers whether a

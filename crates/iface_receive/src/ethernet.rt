@@ -7,9 +7,9 @@ ghost use Rattle.iface_receive.specs.Processed.{Processed};
 use crate::arp::process_arp;
 use crate::ipv4::process_ipv4;
 use iface_send::Context;
-use socket_set::SocketSet;
 use ip_wire::emit::FrameBuffer;
 use ip_wire::{EthernetAddress, EthernetProtocol, EthernetRepr, HardwareAddress};
+use socket_set::SocketSet;
 
 /// Takes a frame by the medium, and builds the frame that goes in response, if there is one, in an
 /// empty buffer. A frame that is dropped changes nothing. On the IP medium, which isn't there yet, all

@@ -17,9 +17,9 @@ ghost use Rattle.iface_receive.specs.Processed.{Processed};
 use control_wire::icmpv4::{EchoRequest, Icmpv4DstUnreachable, Icmpv4Repr};
 use iface_send::dispatch::dispatch;
 use iface_send::{Context, IpPayload, Packet, PacketV4};
-use socket_set::SocketSet;
 use ip_wire::emit::FrameBuffer;
 use ip_wire::{IpAddress, Ipv4Address, Ipv4Repr};
+use socket_set::SocketSet;
 use sockets::{Socket, SocketOf};
 
 /// Takes the payload of a packet with this header as an ICMP message, of fewer than 65,536 octets

@@ -13,9 +13,9 @@ use crate::udp::process_udp;
 use control_wire::icmpv4::Icmpv4DstUnreachable;
 use iface_send::Context;
 use iface_send::neighbors::renew_neighbor;
-use socket_set::SocketSet;
 use ip_wire::emit::FrameBuffer;
 use ip_wire::{HardwareAddress, IpAddress, IpProtocol, Ipv4Address, Ipv4Fragment, Ipv4Repr};
+use socket_set::SocketSet;
 
 /// Takes an IPv4 packet that came from a hardware address, and builds the response, if there is one, in
 /// an empty buffer. A sender that is known at that address, and sends to the interface alone, is known

@@ -6,8 +6,8 @@ ghost use Rattle.host_machine.specs.Raw.{accepts, delivered, heard, is_taken};
 ghost use Rattle.iface_send.specs.Stands.{host_of};
 
 use iface_send::Context;
-use socket_set::SocketSet;
 use ip_wire::{IpVersion, Ipv4Repr};
+use socket_set::SocketSet;
 use sockets::{Socket, SocketOf};
 
 /// Hands a packet, with its header as it is emitted, to each raw socket that takes it, and says

@@ -12,9 +12,9 @@ ghost use Rattle.iface_send.specs.Stands.{host_of};
 
 use iface_send::dispatch::dispatch;
 use iface_send::{Context, IpPayload, Packet, PacketV4};
-use socket_set::SocketSet;
 use ip_wire::emit::FrameBuffer;
 use ip_wire::{IpAddress, Ipv4Repr, TcpControl, TcpRepr};
+use socket_set::SocketSet;
 use sockets::tcp::rst_reply;
 use sockets::{IpEndpoint, Socket, SocketOf};
 
@@ -75,12 +75,7 @@ fn reset_for(repr: &TcpRepr, payload: &[u8], by_raw: bool) -> Option<TcpRepr>
 }
 
 /// Builds a segment without payload, if there is one, as a packet back to another's source.
-fn send_back(
-    context: &mut Context,
-    header: &Ipv4Repr,
-    repr: Option<TcpRepr>,
-    out: &mut FrameBuffer,
-)
+fn send_back(context: &mut Context, header: &Ipv4Repr, repr: Option<TcpRepr>, out: &mut FrameBuffer)
     requires { out.old ≡ [] }
     ensures { Built out.new (Responds (option_map (spec.segment_back header.now) repr)) context.old context.new }
 {

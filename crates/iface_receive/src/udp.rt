@@ -11,9 +11,9 @@ ghost use Rattle.iface_receive.specs.Datagram.{is_taken_by, handed_to};
 use crate::icmpv4::refuse;
 use control_wire::icmpv4::Icmpv4DstUnreachable;
 use iface_send::Context;
-use socket_set::SocketSet;
 use ip_wire::emit::FrameBuffer;
 use ip_wire::{IpAddress, Ipv4Repr, UdpRepr};
+use socket_set::SocketSet;
 use sockets::{IpEndpoint, Socket, SocketOf};
 
 /// Takes the payload of a packet with this header as a UDP datagram (RFC 768): the first socket that

@@ -176,7 +176,8 @@ impl SocketContext for Context {
 fn is_assigned(own: &[IpCidr], address: &IpAddress) -> bool
     ensures { result ≡ is_assigned own.now address.now }
 {
-    own.iter().any(|cidr| is_same_addr(&cidr.address(), address))
+    own.iter()
+        .any(|cidr| is_same_addr(&cidr.address(), address))
 }
 
 /// Whether an address is the broadcast address of a network of a list.

@@ -113,11 +113,7 @@ impl Packet<'_> {
 }
 
 /// Appends the payload of a packet, with its checksum where that is on.
-pub fn emit_payload(
-    packet: &PacketV4<'_>,
-    capabilities: &DeviceCapabilities,
-    out: &mut FrameBuffer,
-)
+pub fn emit_payload(packet: &PacketV4<'_>, capabilities: &DeviceCapabilities, out: &mut FrameBuffer)
     requires writable { IsWritablePayload (shown.payload packet.now.payload) }
     requires room { length out.old + value.payload_len (shown.payload packet.now.payload) ≤ 1514 }
     ensures items { out.new ≡ out.old ++ payload_text capabilities.now (shown.packet_v4 packet.now) (shown.payload packet.now.payload) }

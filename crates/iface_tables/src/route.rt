@@ -291,11 +291,7 @@ fn replace(
 }
 
 // The best route to an address at a moment, if any matches.
-fn best_route<'r>(
-    routes: &'r [Route],
-    address: &IpAddress,
-    timestamp: Instant,
-) -> Option<&'r Route>
+fn best_route<'r>(routes: &'r [Route], address: &IpAddress, timestamp: Instant) -> Option<&'r Route>
     ensures { IsBest routes.now address.now timestamp (option_copied result) }
 {
     let mut best = None;

@@ -12,10 +12,10 @@ use crate::interface::{Interface, copied};
 use arrayvec::ArrayVec;
 use host_machine::{AddrError, Answer, Command};
 use iface_tables::route::{Route, RouteTableFull};
-use socket_set::SocketSet;
 use ip_wire::{IpCidr, Ipv4Address};
 use net_base::phy::Device;
 pub use net_base::{MemoryDevice, PushError};
+use socket_set::SocketSet;
 
 /// Who uses the sockets of a host: it acts on them where a list of commands gives it a turn.
 pub trait Owner {

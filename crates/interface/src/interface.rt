@@ -17,12 +17,12 @@ use iface_send::context::IFACE_MAX_ADDR_COUNT;
 use iface_send::settings::{routes_mut, set_any_ip, set_hardware_addr, set_ip_addrs, set_moment};
 use iface_send::{Context, settings};
 use iface_tables::route::Routes;
-use socket_set::SocketSet;
 use ip_wire::emit::FrameBuffer;
 use ip_wire::{HardwareAddress, IpAddress, IpCidr, Ipv4Address};
 use net_base::phy::{Device, DeviceCapabilities, FRAME_BUFFER_SIZE, Medium};
 use net_base::rand::Rand;
 use net_base::time::Instant;
+use socket_set::SocketSet;
 use sockets::SocketContext;
 
 /// How an interface is to be made.

@@ -1,7 +1,14 @@
 // Lists of calls. Each test also holds where any one request for memory is refused.
 
-use crate::frames::{ECHO, ECHO_REPLY, ECHO_TO_77, ECHO_TO_ALL, ECHO_TO_OTHER, HI, HI_BACK, HI_EVERYBODY, HI_GROUP, HI_TO_ALL, REPLY, REPLY_OF_77, REPLY_OF_OTHER, REQUEST, SHORT, STRANGER, UNHEARD, WHO_HAS_100, WHO_HAS_2, WHO_HAS_50, WHO_HAS_STRANGER};
-use crate::host::{EMPTY_FRAME, EVERYBODY, GONE, GROUP, HOME, KEPT, NEIGHBOR, NOTHING, OTHER, OWN, TAKEN, Host, default_route, device_of, end, listening, near, networks, route, route_to_ten, sending, table};
+use crate::frames::{
+    ECHO, ECHO_REPLY, ECHO_TO_77, ECHO_TO_ALL, ECHO_TO_OTHER, HI, HI_BACK, HI_EVERYBODY, HI_GROUP,
+    HI_TO_ALL, REPLY, REPLY_OF_77, REPLY_OF_OTHER, REQUEST, SHORT, STRANGER, UNHEARD, WHO_HAS_2,
+    WHO_HAS_50, WHO_HAS_100, WHO_HAS_STRANGER,
+};
+use crate::host::{
+    EMPTY_FRAME, EVERYBODY, GONE, GROUP, HOME, Host, KEPT, NEIGHBOR, NOTHING, OTHER, OWN, TAKEN,
+    default_route, device_of, end, listening, near, networks, route, route_to_ten, sending, table,
+};
 use iface_tables::route::RouteTableFull;
 use interface::{AddrError, Answer, Command, Config, HardwareError, Interface, NewError};
 use ip_wire::{HardwareAddress, IpAddress, Ipv4Address};

@@ -6,26 +6,26 @@ ghost use Rattle.host_machine.specs.Step.{IsTimely};
 use crate::frames::{REPLY, REQUEST};
 use arrayvec::ArrayVec;
 use iface_tables::route::Route;
-use socket_set::{AddError, SocketHandle, SocketSet};
 use interface::host::{Owner, drive};
 use interface::{Answer, Command, Config, Interface, PollIngressSingleResult, PollResult};
 use ip_wire::{EthernetAddress, HardwareAddress, IpAddress, IpCidr, Ipv4Address, Ipv4Cidr};
 use net_base::MemoryDevice;
 use net_base::phy::{ChecksumCapabilities, Device, DeviceCapabilities, Medium};
 use net_base::time::Instant;
+use socket_set::{AddError, SocketHandle, SocketSet};
 use sockets::queue::{NoMemory, Queue};
 use sockets::{IpEndpoint, IpListenEndpoint, PollAt, udp};
 use std::alloc::Global;
 use std::process::Abort;
 use std::test::Fail;
 
-pub const OWN: HardwareAddress = HardwareAddress::Ethernet(EthernetAddress([
-    2, 0, 0, 0, 0, 1,
-]));
+pub const OWN: HardwareAddress = HardwareAddress::Ethernet(EthernetAddress([2, 0, 0, 0, 0, 1]));
 
 pub const OTHER: HardwareAddress = HardwareAddress::Ethernet(EthernetAddress([2, 0, 0, 0, 0, 3]));
 
-pub const GROUP: HardwareAddress = HardwareAddress::Ethernet(EthernetAddress([1, 0, 0x5e, 0, 0, 1]));
+pub const GROUP: HardwareAddress = HardwareAddress::Ethernet(EthernetAddress([
+    1, 0, 0x5e, 0, 0, 1,
+]));
 
 pub const HOME: Ipv4Address = Ipv4Address { bits: 0xc0a8_4501 };
 
@@ -37,9 +37,7 @@ pub const NOTHING: Answer = Answer::PollIngressSingle(PollIngressSingleResult::N
 
 pub const EMPTY_FRAME: Answer = Answer::PollIngressSingle(PollIngressSingleResult::PacketProcessed);
 
-pub const TAKEN: Answer = Answer::PollIngressSingle(
-    PollIngressSingleResult::SocketStateChanged,
-);
+pub const TAKEN: Answer = Answer::PollIngressSingle(PollIngressSingleResult::SocketStateChanged);
 
 pub const KEPT: Answer = Answer::PollEgress(PollResult::None);
 

@@ -1,10 +1,9 @@
 //! Tests of an interface: its calls, and frames that come and go.
 #![tactic(auto)]
 
-pub mod frames;
-pub mod host;
-
 #[cfg(test)]
 mod commands;
+pub mod frames;
+pub mod host;
 #[cfg(test)]
 mod received;

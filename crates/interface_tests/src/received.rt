@@ -64,7 +64,12 @@ fn polled_and_received_frames_mix(rt: HostRuntime) {
 #[test]
 fn a_request_for_an_unknown_neighbor_is_shown_once_a_second(rt: HostRuntime) {
     let mut host = Host::at_home(&rt, rt.alloc());
-    for (micros, asks) in [(0, true), (999_999, false), (1_000_000, true), (1_000_001, false)] {
+    for (micros, asks) in [
+        (0, true),
+        (999_999, false),
+        (1_000_000, true),
+        (1_000_001, false),
+    ] {
         match host.receive(micros, octets(ECHO).as_slice()) {
             Some(shown) => {
                 assert!(rt; asks);

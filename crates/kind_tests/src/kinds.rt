@@ -3,7 +3,6 @@
 ghost use Rattle.std.specs.Prelude.{◌≡◌, IfOk};
 
 use arrayvec::ArrayVec;
-use socket_set::{AddError, SocketHandle};
 use interface::{Answer, Command, Config, Interface};
 use interface_tests::frames::{ECHO, ECHO_REPLY, HI, REPLY, REQUEST};
 use interface_tests::host::{GONE, HOME, Host, KEPT, NEIGHBOR, OWN, TAKEN, networks, octets};
@@ -11,6 +10,7 @@ use ip_wire::{IpAddress, IpProtocol, IpVersion, TcpControl, TcpSeqNumber};
 use net_base::MemoryDevice;
 use net_base::phy::{ChecksumCapabilities, Device, DeviceCapabilities, Medium};
 use net_base::time::Instant;
+use socket_set::{AddError, SocketHandle};
 use sockets::queue::{NoMemory, Queue};
 use sockets::socket::AnySocketOf;
 use sockets::tcp::Segment;
