@@ -1,9 +1,13 @@
-//! Tests of an interface: its calls, and frames that come and go.
+//! Tests of an interface: its calls, frames that come and go, and sockets of each kind.
 #![tactic(auto)]
 
 #[cfg(test)]
 mod commands;
-pub mod frames;
-pub mod host;
+#[cfg(test)]
+mod frames;
+#[cfg(test)]
+mod host;
+#[cfg(test)]
+mod kinds;
 #[cfg(test)]
 mod received;

@@ -2,10 +2,10 @@
 // memory is refused.
 ghost use Rattle.std.specs.Prelude.{◌≡◌, IfOk};
 
+use crate::frames::{ECHO, ECHO_REPLY, HI, REPLY, REQUEST};
+use crate::host::{GONE, HOME, Host, KEPT, NEIGHBOR, OWN, TAKEN, networks, octets};
 use arrayvec::ArrayVec;
 use interface::{Answer, Command, Config, Interface};
-use interface_tests::frames::{ECHO, ECHO_REPLY, HI, REPLY, REQUEST};
-use interface_tests::host::{GONE, HOME, Host, KEPT, NEIGHBOR, OWN, TAKEN, networks, octets};
 use ip_wire::{IpAddress, IpProtocol, IpVersion, TcpControl, TcpSeqNumber};
 use net_base::MemoryDevice;
 use net_base::phy::{ChecksumCapabilities, Device, DeviceCapabilities, Medium};
