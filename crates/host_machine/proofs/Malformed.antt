@@ -70,24 +70,24 @@ handed_by (Frame f) = f ∷ []
 handed_by Nothing = []
 handed_by Withheld = []
 
-taken_dropped : (H : Host) (r : Reception) (frame : List ℕ) (reply : Option Reply) (notes : List Note) (new : Host) → Takes H r reply notes new → handed (Received r ∷ []) ≡ frame ∷ [] → IsMalformed H.capabilities.checksum frame → IsDropped H reply notes new
-taken_dropped H Nothing frame reply notes new t e bad = t
-taken_dropped H Withheld frame reply notes new t e bad = t
-taken_dropped H (Frame []) frame reply notes new t e bad = t
-taken_dropped H (Frame (octet ∷ octets)) frame reply notes new t e bad =
+taken_dropped : (moment : ℤ) (H : Host) (r : Reception) (frame : List ℕ) (reply : Option Reply) (notes : List Note) (new : Host) → Takes H r reply notes new → handed (Received moment r ∷ []) ≡ frame ∷ [] → IsMalformed H.capabilities.checksum frame → IsDropped H reply notes new
+taken_dropped moment H Nothing frame reply notes new t e bad = t
+taken_dropped moment H Withheld frame reply notes new t e bad = t
+taken_dropped moment H (Frame []) frame reply notes new t e bad = t
+taken_dropped moment H (Frame (octet ∷ octets)) frame reply notes new t e bad =
     let same : octet ∷ octets ≡ frame = cc in
     frame_dropped H.hardware_addr H (octet ∷ octets) reply notes new t (rw same bad)
 
-handed-sends : (frames : List (List ℕ)) → handed (sends frames) ≡ []
+pub handed-sends : (frames : List (List ℕ)) → handed (sends frames) ≡ []
 handed-sends [] = refl
 handed-sends (f ∷ fs) = handed-sends fs
 
-handed-received : (r : Reception) (es : List Event) → handed es ≡ [] → handed (Received r ∷ es) ≡ handed (Received r ∷ [])
-handed-received (Frame f) es e = ap (λ fs. f ∷ fs) e
-handed-received Nothing es e = e
-handed-received Withheld es e = e
+handed-received : (moment : ℤ) (r : Reception) (es : List Event) → handed es ≡ [] → handed (Received moment r ∷ es) ≡ handed (Received moment r ∷ [])
+handed-received moment (Frame f) es e = ap (λ fs. f ∷ fs) e
+handed-received moment Nothing es e = e
+handed-received moment Withheld es e = e
 
-sent-sends : (frames : List (List ℕ)) → sent (sends frames) ≡ frames
+pub sent-sends : (frames : List (List ℕ)) → sent (sends frames) ≡ frames
 sent-sends [] = refl
 sent-sends (f ∷ fs) = ap (λ t. f ∷ t) (sent-sends fs)
 
@@ -97,7 +97,7 @@ nothing_responded {H} {new} {reply} {frames} {notes} e r = rw e at r
 pub malformed : (t : ℤ) (answer : PollIngressSingleResult) (old new : Host) (told : List Event) (notes : List Note) (frame : List ℕ) →
     Ingress t answer old told notes new → handed told ≡ frame ∷ [] → IsMalformed old.capabilities.checksum frame → (sent told ≡ []) × (notes ≡ []) × (new ≡ at old t)
 malformed t answer old new told notes frame i is bad =
-    let only : handed (Received i.reception ∷ []) ≡ frame ∷ [] = sym (handed-received i.reception (sends i.frames) (handed-sends i.frames)) ∙ sym (ap handed i.events) ∙ is in
-    let d = taken_dropped (at old t) i.reception frame i.response.reply i.response.notes_taking i.response.taken i.response.takes only bad in
+    let only : handed (Received t i.reception ∷ []) ≡ frame ∷ [] = sym (handed-received t i.reception (sends i.frames) (handed-sends i.frames)) ∙ sym (ap handed i.events) ∙ is in
+    let d = taken_dropped t (at old t) i.reception frame i.response.reply i.response.notes_taking i.response.taken i.response.takes only bad in
     let r = nothing_responded d.silent i.response.responds in
     (ap sent i.events ∙ sent-sends i.frames ∙ r.0, i.response.all_notes ∙ rw (d.unnoted, r.1) refl, r.2 ∙ d.unchanged)

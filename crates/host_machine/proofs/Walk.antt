@@ -23,7 +23,7 @@ use Rattle.host_machine.specs.declared.results.PollIngressSingleResult.{PollIngr
 use Rattle.host_machine.specs.declared.results.PollResult.{PollResult}
 use Rattle.host_machine.specs.declared.results.Turn.{Turn}
 use Rattle.host_machine.specs.Note.{Note, Ask}
-use Rattle.host_machine.specs.Host.{Host, at, with_neighbors}
+use Rattle.host_machine.specs.Host.{Host, Socket, at, with_neighbors}
 use Rattle.host_machine.specs.Packet.{Packet}
 use Rattle.host_machine.specs.Reply.{Reply, Arp, Ip, IsDropped}
 use Rattle.host_machine.specs.Arp.{TakesArp}
@@ -44,7 +44,7 @@ use Rattle.host_machine.specs.Dispatch.{Outcome, IsUnsent, Emits, Discovers, Sen
 use Rattle.host_machine.specs.Dispatch as dispatch
 use Rattle.host_machine.specs.Response.{Responds, Response}
 use Rattle.host_machine.specs.Ingress.{Takes, Ingress}
-use Rattle.host_machine.specs.Egress.{Socket, SocketTurn, Serves, Walks, SocketsSend, Egress}
+use Rattle.host_machine.specs.Egress.{SocketTurn, Serves, Walks, SocketsSend, Egress}
 use Rattle.host_machine.specs.Egress as egress
 use Rattle.host_machine.specs.Step.{Act, Step, UpdatesIpAddrs, Accepted, Refused, SetsHardwareAddr, Taken, NotTaken}
 use Rattle.host_machine.specs.Step as step

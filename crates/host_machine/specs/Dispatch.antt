@@ -1,6 +1,7 @@
 -- Sending one IP packet, with leave to send a frame (RFC 1122 3.3.1, RFC 826): the next hop, its hardware address, the frame.
 use Rattle.std.specs.Prelude.{◌≡◌, ℕ, ◌+◌, ◌/◌, ◌%◌, ◌^◌, nat_le, Bool, true, false, List, [], ◌∷◌, Option, Some, None, Result, Ok, Err, if◌then◌else◌}
 use Rattle.std.specs.Option.{option_and_then}
+use Rattle.net_base.specs.Time.{silence_from}
 use Rattle.net_base.specs.Checksum.{ip_mtu_of}
 use Rattle.ip_address.specs.declared.ethernet_address.EthernetAddress.{EthernetAddress}
 use Rattle.ip_address.specs.declared.hardware.HardwareAddress.{HardwareAddress}
@@ -15,7 +16,7 @@ use Rattle.ip_address.specs.Ip.{is_unicast, is_unspecified}
 use Rattle.ip_address.specs.Ipv4 as ipv4
 use Rattle.ip_address.specs.Ipv6 as ipv6
 use Rattle.iface_tables.specs.declared.neighbor.Answer.TheVariants.{Found, NotFound, RateLimited}
-use Rattle.iface_tables.specs.Neighbor.{Neighbors, answer_of, is_found, silence_from}
+use Rattle.iface_tables.specs.Neighbor.{Neighbors, answer_of, is_found}
 use Rattle.iface_tables.specs.Route.{IsRouter}
 use Rattle.host_machine.specs.declared.results.DispatchError.{DispatchError}
 use Rattle.host_machine.specs.declared.results.DispatchError.TheVariants.{NoRoute, NeighborPending}

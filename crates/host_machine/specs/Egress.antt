@@ -1,30 +1,25 @@
 -- One call that sends: each socket that needn't wait is asked in order, and what it has goes if the device gives leave.
 use Rattle.std.specs.Prelude.{◌≡◌, ℕ, ◌+◌, ℤ, Bool, true, false, ◌||◌, is_ok, List, [], ◌∷◌, ◌++◌, length, slice_get, Option, Some, None, Ok, Err, if◌then◌else◌}
 use Rattle.std.specs.Option.{option_and_then}
-use Rattle.std.specs.Borrow.{Bor}
 use Rattle.net_base.specs.Device.{Event, Asked}
+use Rattle.net_base.specs.Time.{silence_from}
 use Rattle.ip_address.specs.declared.ip.IpAddress.{IpAddress}
 use Rattle.ip_address.specs.declared.ip.IpAddress.TheVariants as address
-use Rattle.sockets.specs.declared.socket.SocketOf.{SocketOf}
 use Rattle.sockets.specs.Kinds.{Offered, RawOffer, IcmpOffer, UdpOffer, TcpOffer, offered, settled, told}
 use Rattle.control_wire.specs.declared.icmpv4.Icmpv4Repr.{Icmpv4Repr}
 use Rattle.control_wire.specs.declared.icmpv4.Icmpv4Repr.TheVariants.{EchoRequest, EchoReply, DstUnreachable, TimeExceeded}
-use Rattle.socket_set.specs.SocketMeta.{Wait, IsTold, is_permitted, after_asking, silence_from}
+use Rattle.socket_set.specs.SocketMeta.{Wait, IsTold, is_permitted, after_asking}
 use Rattle.socket_set.specs.SocketSet.{wait_at, with_place, with_wait}
 use Rattle.host_machine.specs.declared.results.PollResult.{PollResult}
 use Rattle.host_machine.specs.declared.results.PollResult.TheVariants as result
 use Rattle.host_machine.specs.declared.results.Turn.{Turn}
 use Rattle.host_machine.specs.declared.results.Turn.TheVariants.{Idle, Gone, Unsent, Exhausted}
 use Rattle.host_machine.specs.Note.{Note}
-use Rattle.host_machine.specs.Host.{Host, at}
+use Rattle.host_machine.specs.Host.{Host, Socket, at}
 use Rattle.host_machine.specs.Addresses.{source_for}
 use Rattle.host_machine.specs.Packet.{IpPayload, Icmpv4, Udp, Tcp, Raw, Packet, Ipv4}
 use Rattle.host_machine.specs.Frame.{sends}
 use Rattle.host_machine.specs.Dispatch.{Outcome, Dispatches, KnowsNextHop, destination_of}
-
--- a socket of any kind
-abbrev pub Socket : Type 0
-Socket = SocketOf (Bor (Unit {0}))
 
 -- a packet from one IPv4 address to another; over IPv6 there is none yet
 abbrev pub packet_between : IpAddress → IpAddress → ℕ → IpPayload → Option Packet
@@ -74,10 +69,10 @@ wait_after Exhausted t wait = wait
 -- and the socket told whether it is gone
 pub data SocketTurn (s : Socket) (turn : Turn) (s' : Socket) (H : Host) (told_it : List Event) (notes : List Note) (new : Host) : Type 0 where
   Silent : packet_from H s ≡ None → turn ≡ Idle → told_it ≡ [] → notes ≡ [] → new ≡ H → s' ≡ asked H s → SocketTurn s turn s' H told_it notes new
-  Refused : (p : Packet) → packet_from H s ≡ Some p → turn ≡ Exhausted → told_it ≡ Asked false ∷ [] → notes ≡ [] → new ≡ H → s' ≡ asked H s →
+  Refused : (p : Packet) → packet_from H s ≡ Some p → turn ≡ Exhausted → told_it ≡ Asked H.moment false ∷ [] → notes ≡ [] → new ≡ H → s' ≡ asked H s →
       SocketTurn s turn s' H told_it notes new
   Sent : (p : Packet) (outcome : Outcome) (frames : List (List ℕ)) → packet_from H s ≡ Some p → Dispatches p outcome H frames notes new →
-      turn ≡ turn_of p outcome → told_it ≡ Asked true ∷ sends frames → s' ≡ told (is_ok outcome) (asked H s) → SocketTurn s turn s' H told_it notes new
+      turn ≡ turn_of p outcome → told_it ≡ Asked H.moment true ∷ sends frames → s' ≡ told (is_ok outcome) (asked H s) → SocketTurn s turn s' H told_it notes new
 
 -- the place of an index has its turn: nobody if it is free; a socket that waits is not asked until the next hop to the destination
 -- that it waits for is a known neighbour, which ends the wait, or the end of the wait has come

@@ -100,16 +100,16 @@ discovery =
 abbrev pub RequestIsAnswered : Type 0
 RequestIsAnswered =
     Ingress (pos 0) result.SocketStateChanged (host 0x1405 (nobody (pos 0)))
-    (Received (Frame request) ∷ Sent 0 reply ∷ []) [] (host 0x1405 learnt)
+    (Received (pos 0) (Frame request) ∷ Sent 0 reply ∷ []) [] (host 0x1405 learnt)
 
 -- an echo request of a known sender is answered, and takes an identification
 abbrev pub EchoIsAnswered : Type 0
 EchoIsAnswered =
     Ingress (pos 0) result.SocketStateChanged (host 0x1405 learnt)
-    (Received (Frame echo_request) ∷ Sent 0 echo_reply ∷ []) [] (host 0x1406 heard)
+    (Received (pos 0) (Frame echo_request) ∷ Sent 0 echo_reply ∷ []) [] (host 0x1406 heard)
 
 -- for the reply to an unknown sender a discovery request goes, and the silence begins
 abbrev pub SenderIsDiscovered : Type 0
 SenderIsDiscovered =
     Ingress (pos 0) result.SocketStateChanged (host 0x1405 (nobody (pos 0)))
-    (Received (Frame echo_request) ∷ Sent 0 discovery ∷ []) (Ask (pos 0) ∷ []) (host 0x1406 (nobody (pos 1000000)))
+    (Received (pos 0) (Frame echo_request) ∷ Sent 0 discovery ∷ []) (Ask (pos 0) ∷ []) (host 0x1406 (nobody (pos 1000000)))

@@ -15,9 +15,13 @@ use Rattle.socket_set.specs.SocketSet as table
 use Rattle.socket_base.specs.Source.{is_same}
 use Rattle.sockets.specs.declared.socket.SocketOf.{SocketOf}
 
+-- a socket of any kind
+abbrev pub Socket : Type 0
+Socket = SocketOf (Bor (Unit {0}))
+
 -- a place of a socket set: it holds a socket, or it is free
 abbrev pub Storage : Type 0
-Storage = Option (SocketOf (Bor (Unit {0})))
+Storage = Option Socket
 
 -- the sockets that a host serves, by index, each with its wait
 abbrev pub SocketSet : Type 0

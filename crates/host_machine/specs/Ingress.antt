@@ -28,5 +28,5 @@ pub record Ingress (t : ℤ) (answer : PollIngressSingleResult) (old : Host) (to
   pub reception : Reception
   pub frames : List (List ℕ)
   pub response : Response (λ H reply noted taken. Takes H reception reply noted taken) (at old t) frames notes new
-  pub events : told ≡ Received reception ∷ sends frames
+  pub events : told ≡ Received t reception ∷ sends frames
   pub answers : answer ≡ answer_to reception

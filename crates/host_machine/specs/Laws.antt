@@ -1,15 +1,24 @@
 -- Laws that follow from the definitions.
-use Rattle.std.specs.Prelude.{◌≡◌, ℕ, ℤ, ◌≤◌, List, [], ◌∷◌, ◌++◌, length, drop}
+use Rattle.std.specs.Prelude.{◌≡◌, ℕ, ℤ, ◌+◌, ◌≤◌, ◌==◌, ◌&&◌, Bool, List, [], ◌∷◌, ◌++◌, length, drop, if◌then◌else◌}
 use Rattle.net_base.specs.declared.phy.ChecksumCapabilities.{ChecksumCapabilities}
 use Rattle.net_base.specs.Checksum.{is_rx}
 use Rattle.net_base.specs.Device.{Event, handed, sent}
+use Rattle.ip_address.specs.declared.ethernet_address.EthernetAddress.{EthernetAddress}
+use Rattle.ip_address.specs.declared.hardware.HardwareAddress.{HardwareAddress}
+use Rattle.ip_address.specs.declared.hardware.HardwareAddress.TheVariants as hardware
+use Rattle.ip_address.specs.declared.ip.IpAddress.{IpAddress}
+use Rattle.ip_wire.specs.Octets.{u16_at}
 use Rattle.ip_wire.specs.declared.ethernet.EthernetProtocol.TheVariants as protocol
 use Rattle.ip_wire.specs.Ethernet.{header_in}
 use Rattle.ip_wire.specs.Arp.{IsArp}
 use Rattle.ip_wire.specs.Ipv4Packet.{IsIpv4}
+use Rattle.iface_tables.specs.Neighbor.{answer_of}
+use Rattle.iface_tables.specs.declared.neighbor.Answer.TheVariants.{Found}
 use Rattle.host_machine.specs.declared.results.PollIngressSingleResult.{PollIngressSingleResult}
-use Rattle.host_machine.specs.Note.{Note}
+use Rattle.host_machine.specs.Note.{Note, asks}
 use Rattle.host_machine.specs.Host.{Host, at}
+use Rattle.host_machine.specs.Packet.{Packet}
+use Rattle.host_machine.specs.Dispatch.{Outcome, Dispatches}
 use Rattle.host_machine.specs.Ingress.{Ingress}
 use Rattle.host_machine.specs.Run.{Place, Run, Laws}
 
@@ -24,6 +33,37 @@ abbrev pub MalformedIsDropped : Type 0
 MalformedIsDropped =
     (t : ℤ) (answer : PollIngressSingleResult) (old new : Host) (told : List Event) (notes : List Note) (frame : List ℕ) →
     Ingress t answer old told notes new → handed told ≡ frame ∷ [] → IsMalformed old.capabilities.checksum frame → (sent told ≡ []) × (notes ≡ []) × (new ≡ at old t)
+
+-- one ingress call takes at most one frame, and sends at most one
+abbrev pub IngressIsSingle : Type 0
+IngressIsSingle =
+    (t : ℤ) (answer : PollIngressSingleResult) (old new : Host) (told : List Event) (notes : List Note) →
+    Ingress t answer old told notes new → (length (handed told) ≤ 1) × (length (sent told) ≤ 1)
+
+-- a frame of Ethernet that asks for a hardware address: its type is that of ARP, the operation behind it a request (RFC 826)
+abbrev pub is_arp_request : List ℕ → Bool
+is_arp_request frame = u16_at frame 12 == 0x0806 && u16_at frame 20 == 1
+
+-- how many of the frames do
+abbrev pub requests_in : List (List ℕ) → ℕ
+requests_in [] = 0
+requests_in (frame ∷ frames) = (if is_arp_request frame then 1 else 0) + requests_in frames
+
+-- an address of six octets
+abbrev pub IsEthernet : HardwareAddress → Type 0
+IsEthernet (hardware.Ethernet a) = length a.0 ≡ 6
+IsEthernet hardware.Ip = ⊥
+
+-- a host on Ethernet: its own address and those of its neighbours have six octets
+pub record OnEthernet (H : Host) : Type 0 where
+  pub own : IsEthernet H.hardware_addr
+  pub neighbors : (a : IpAddress) (h : HardwareAddress) → answer_of H.neighbors a H.moment ≡ Found h → IsEthernet h
+
+-- the ARP requests among the frames that a dispatch sends are the discovery requests that it notes: none goes unnoted
+abbrev pub DiscoveriesAreNoted : Type 0
+DiscoveriesAreNoted =
+    (p : Packet) (outcome : Outcome) (H new : Host) (frames : List (List ℕ)) (notes : List Note) →
+    OnEthernet H → Dispatches p outcome H frames notes new → requests_in frames ≡ length (asks notes)
 
 -- the places of one run after those of another are one run
 abbrev pub RunsJoin : Type 0

@@ -16,27 +16,27 @@ capabilities = record {
 -- nothing is withheld and no leave refused
 abbrev pub TellsNoRefusal : List Event → Type 0
 TellsNoRefusal [] = Unit {0}
-TellsNoRefusal (Received (Frame f) ∷ es) = TellsNoRefusal es
-TellsNoRefusal (Received Nothing ∷ es) = TellsNoRefusal es
-TellsNoRefusal (Received Withheld ∷ es) = ⊥
-TellsNoRefusal (Asked true ∷ es) = TellsNoRefusal es
-TellsNoRefusal (Asked false ∷ es) = ⊥
+TellsNoRefusal (Received t (Frame f) ∷ es) = TellsNoRefusal es
+TellsNoRefusal (Received t Nothing ∷ es) = TellsNoRefusal es
+TellsNoRefusal (Received t Withheld ∷ es) = ⊥
+TellsNoRefusal (Asked t true ∷ es) = TellsNoRefusal es
+TellsNoRefusal (Asked t false ∷ es) = ⊥
 TellsNoRefusal (Sent id f ∷ es) = TellsNoRefusal es
 
 pub none_refused : (xs ys : List Event) → TellsNoRefusal xs → TellsNoRefusal ys → TellsNoRefusal (xs ++ ys)
 none_refused [] ys a b = b
-none_refused (Received (Frame f) ∷ es) ys a b = none_refused es ys a b
-none_refused (Received Nothing ∷ es) ys a b = none_refused es ys a b
-none_refused (Received Withheld ∷ es) ys a b = absurd a
-none_refused (Asked true ∷ es) ys a b = none_refused es ys a b
-none_refused (Asked false ∷ es) ys a b = absurd a
+none_refused (Received t (Frame f) ∷ es) ys a b = none_refused es ys a b
+none_refused (Received t Nothing ∷ es) ys a b = none_refused es ys a b
+none_refused (Received t Withheld ∷ es) ys a b = absurd a
+none_refused (Asked t true ∷ es) ys a b = none_refused es ys a b
+none_refused (Asked t false ∷ es) ys a b = absurd a
 none_refused (Sent id f ∷ es) ys a b = none_refused es ys a b
 
 pub refused_none : (xs : List Event) → TellsNoRefusal xs → 0 ≡ refusals_after 0 xs
 refused_none [] a = refl
-refused_none (Received (Frame f) ∷ es) a = refused_none es a
-refused_none (Received Nothing ∷ es) a = refused_none es a
-refused_none (Received Withheld ∷ es) a = absurd a
-refused_none (Asked true ∷ es) a = refused_none es a
-refused_none (Asked false ∷ es) a = absurd a
+refused_none (Received t (Frame f) ∷ es) a = refused_none es a
+refused_none (Received t Nothing ∷ es) a = refused_none es a
+refused_none (Received t Withheld ∷ es) a = absurd a
+refused_none (Asked t true ∷ es) a = refused_none es a
+refused_none (Asked t false ∷ es) a = absurd a
 refused_none (Sent id f ∷ es) a = refused_none es a

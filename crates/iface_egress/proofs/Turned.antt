@@ -13,19 +13,19 @@ use Rattle.socket_set.specs.SocketMeta.{Wait, IsTold, is_permitted, after_asking
 use Rattle.socket_set.specs.SocketSet.{socket_at, wait_at, with_place, with_wait}
 use Rattle.host_machine.specs.declared.results.Turn.{Turn}
 use Rattle.host_machine.specs.declared.results.Turn.TheVariants.{Idle, Gone, Unsent, Exhausted}
-use Rattle.host_machine.specs.Host.{Host, SocketSet, Storage, at, no_sockets}
+use Rattle.host_machine.specs.Host.{Host, Socket, SocketSet, Storage, at, no_sockets}
 use Rattle.host_machine.specs.Addresses.{source_for}
 use Rattle.host_machine.specs.Packet as value
 use Rattle.host_machine.specs.Frame.{frames_in, sends}
 use Rattle.host_machine.specs.Dispatch.{Outcome, Dispatches, KnowsNextHop, destination_of}
-use Rattle.host_machine.specs.Egress.{Socket, packet_of, packet_from, asked, turn_of, is_gone, is_exhausted, Silent, Refused, Sent, Free, Waits, Served, wait_after, Begins, Goes, Stops, Stopped, SocketsSend}
+use Rattle.host_machine.specs.Egress.{packet_of, packet_from, asked, turn_of, is_gone, is_exhausted, Silent, Refused, Sent, Free, Waits, Served, wait_after, Begins, Goes, Stops, Stopped, Serves, Walks, SocketsSend}
 use Rattle.iface_send.specs.declared.context.Context.{Context}
 use Rattle.iface_send.specs.declared.packet.Packet.{Packet}
 use Rattle.iface_send.specs.Shown as shown
 use Rattle.iface_send.specs.Built.{Built}
 use Rattle.iface_send.specs.Stands.{host_of}
 use Rattle.iface_egress.specs.Told.{Told}
-use Rattle.iface_egress.specs.Turns.{HasTurn, IsDecided, NoSocket, OfSocket, IsServed, AreServed, SocketsServed}
+use Rattle.iface_egress.specs.Turns.{HasTurn, IsDecided, NoSocket, OfSocket}
 
 -- a socket that offers nothing has no packet
 pub none_offered : (H : Host) (s : Socket) (r : Option Offer) → option_map kinds.shown r ≡ offered H.moment (source_for H.ip_addrs) s → r ≡ None → packet_from H s ≡ None
@@ -45,32 +45,32 @@ kept_turn p (Ok done) is = absurd cc
 kept_turn p (Err error) is = refl
 
 module _ {D : Type 0} {tells : D → List Event → D → Type 0} where
-  pub silent : {d : D} (c : Context) {s s' : Socket} → tells d [] d → packet_from (host_of c no_sockets) s ≡ None → s' ≡ asked (host_of c no_sockets) s → Told tells d d (HasTurn s Idle s' c c)
+  pub silent : {d : D} (c : Context) {s s' : Socket} → tells d [] d → packet_from (host_of c no_sockets) s ≡ None → s' ≡ asked (host_of c no_sockets) s → Told tells d d (HasTurn s Idle s' c) c
   silent c quiet none settles = record { told = []; notes = []; tells_it = quiet; follows = λ sockets. Silent none refl refl refl refl settles }
 
-  pub refused : {d e : D} (c : Context) {s s' : Socket} (p : value.Packet) → tells d (Asked false ∷ []) e → packet_from (host_of c no_sockets) s ≡ Some p → s' ≡ asked (host_of c no_sockets) s →
-      Told tells d e (HasTurn s Exhausted s' c c)
-  refused c p asks some settles = record { told = Asked false ∷ []; notes = []; tells_it = asks; follows = λ sockets. Refused p some refl refl refl refl settles }
+  pub refused : {d e : D} (c : Context) {s s' : Socket} (p : value.Packet) → tells d (Asked c.moment false ∷ []) e → packet_from (host_of c no_sockets) s ≡ Some p → s' ≡ asked (host_of c no_sockets) s →
+      Told tells d e (HasTurn s Exhausted s' c) c
+  refused c p asks some settles = record { told = Asked c.moment false ∷ []; notes = []; tells_it = asks; follows = λ sockets. Refused p some refl refl refl refl settles }
 
   sent : {d m e : D} {buffer : List ℕ} (c c' : Context) {s s' : Socket} {t : Turn} → ((a b c : D) (xs ys : List Event) → tells a xs b → tells b ys c → tells a (xs ++ ys) c) →
-      (p : value.Packet) (o : Outcome) → tells d (Asked true ∷ []) m → Built buffer (Dispatches p o) c c' → tells m (sends (frames_in buffer)) e → packet_from (host_of c no_sockets) s ≡ Some p → t ≡ turn_of p o →
-      s' ≡ told (is_ok o) (asked (host_of c no_sockets) s) → Told tells d e (HasTurn s t s' c c')
+      (p : value.Packet) (o : Outcome) → tells d (Asked c.moment true ∷ []) m → Built buffer (Dispatches p o) c c' → tells m (sends (frames_in buffer)) e → packet_from (host_of c no_sockets) s ≡ Some p → t ≡ turn_of p o →
+      s' ≡ told (is_ok o) (asked (host_of c no_sockets) s) → Told tells d e (HasTurn s t s' c) c'
   sent {d} {m} {e} {buffer} c c' tells_on p o asks built sends_it some turns tells_it = record {
-    told = Asked true ∷ sends (frames_in buffer);
+    told = Asked c.moment true ∷ sends (frames_in buffer);
     notes = built.notes;
-    tells_it = tells_on d m e (Asked true ∷ []) (sends (frames_in buffer)) asks sends_it;
+    tells_it = tells_on d m e (Asked c.moment true ∷ []) (sends (frames_in buffer)) asks sends_it;
     follows = λ sockets. Sent p o (frames_in buffer) some (built.follows sockets) turns refl tells_it;
   }
 
   pub sent_gone : {d m e : D} {buffer : List ℕ} (c c' : Context) {s s' asked_so : Socket} → ((a b c : D) (xs ys : List Event) → tells a xs b → tells b ys c → tells a (xs ++ ys) c) →
-      (p : value.Packet) (o : Outcome) (gone : Bool) → tells d (Asked true ∷ []) m → Built buffer (Dispatches p o) c c' → tells m (sends (frames_in buffer)) e → packet_from (host_of c no_sockets) s ≡ Some p →
-      gone ≡ is_ok o → gone ≡ true → asked_so ≡ asked (host_of c no_sockets) s → s' ≡ told gone asked_so → Told tells d e (HasTurn s Gone s' c c')
+      (p : value.Packet) (o : Outcome) (gone : Bool) → tells d (Asked c.moment true ∷ []) m → Built buffer (Dispatches p o) c c' → tells m (sends (frames_in buffer)) e → packet_from (host_of c no_sockets) s ≡ Some p →
+      gone ≡ is_ok o → gone ≡ true → asked_so ≡ asked (host_of c no_sockets) s → s' ≡ told gone asked_so → Told tells d e (HasTurn s Gone s' c) c'
   sent_gone c c' tells_on p o gone asks built sends_it some is_it is settles tells_it =
       sent c c' tells_on p o asks built sends_it some (gone_turn p o (sym is_it ∙ is)) (rw (← is_it, ← settles) tells_it)
 
   pub sent_kept : {d m e : D} {buffer : List ℕ} (c c' : Context) {s s' asked_so : Socket} {a : IpAddress} → ((a b c : D) (xs ys : List Event) → tells a xs b → tells b ys c → tells a (xs ++ ys) c) →
-      (p : value.Packet) (o : Outcome) (gone : Bool) → tells d (Asked true ∷ []) m → Built buffer (Dispatches p o) c c' → tells m (sends (frames_in buffer)) e → packet_from (host_of c no_sockets) s ≡ Some p →
-      gone ≡ is_ok o → gone ≡ false → a ≡ destination_of p → asked_so ≡ asked (host_of c no_sockets) s → s' ≡ told gone asked_so → Told tells d e (HasTurn s (Unsent a) s' c c')
+      (p : value.Packet) (o : Outcome) (gone : Bool) → tells d (Asked c.moment true ∷ []) m → Built buffer (Dispatches p o) c c' → tells m (sends (frames_in buffer)) e → packet_from (host_of c no_sockets) s ≡ Some p →
+      gone ≡ is_ok o → gone ≡ false → a ≡ destination_of p → asked_so ≡ asked (host_of c no_sockets) s → s' ≡ told gone asked_so → Told tells d e (HasTurn s (Unsent a) s' c) c'
   sent_kept c c' tells_on p o gone asks built sends_it some is_it is goes_to settles tells_it =
       sent c c' tells_on p o asks built sends_it some (ap Unsent goes_to ∙ kept_turn p o (sym is_it ∙ is)) (rw (← is_it, ← settles) tells_it)
 
@@ -124,7 +124,7 @@ decided_wait (w ∷ ws) (suc i) known = decided_wait ws i known
 module _ {D : Type 0} {tells : D → List Event → D → Type 0} where
   -- a place that isn't asked has its turn for nothing
   pub not_asked : {d : D} (c : Context) (sockets new : SocketSet) (i : ℕ) (permitted : Bool) → tells d [] d → i < length sockets.places → permitted ≡ false →
-      IsDecided (host_of c sockets) i permitted new → Told tells d d (IsServed i Idle (host_of c sockets) (host_of c new))
+      IsDecided (host_of c sockets) i permitted new → Told tells d d (Serves i Idle (host_of c sockets)) (host_of c new)
   not_asked c sockets new i permitted quiet within refused (NoSocket none isn_t same) =
       rw same (record { told = []; notes = []; tells_it = quiet; follows = Free (free_place (slice_get sockets.places i) none (inside sockets.places i within)) refl refl refl refl })
   not_asked c sockets new i permitted quiet within refused (OfSocket s known some knows is same) =
@@ -134,9 +134,9 @@ module _ {D : Type 0} {tells : D → List Event → D → Type 0} where
 
   -- the socket of a place had its turn, and waits or not from then on
   pub was_asked : {d e : D} (c c' : Context) (s s' : Socket) (t : Turn) (sockets mid new : SocketSet) (i : ℕ) (permitted : Bool) → permitted ≡ true →
-      IsDecided (host_of c sockets) i permitted mid → Some s ≡ socket_at mid i → Told tells d e (HasTurn s t s' c c') →
+      IsDecided (host_of c sockets) i permitted mid → Some s ≡ socket_at mid i → Told tells d e (HasTurn s t s' c) c' →
       new ≡ with_wait (with_place mid i (Some s')) i (wait_after t c.moment (wait_at (with_place mid i (Some s')) i)) →
-      Told tells d e (IsServed i t (host_of c sockets) (host_of c' new))
+      Told tells d e (Serves i t (host_of c sockets)) (host_of c' new)
   was_asked c c' s s' t sockets mid new i permitted allowed (NoSocket none isn_t same) there turned changed = absurd cc
   was_asked c c' s s' t sockets mid new i permitted allowed (OfSocket r known some knows is same) there turned changed =
       let wait = after_asking (wait_at sockets i) known in
@@ -155,12 +155,12 @@ module _ {D : Type 0} {tells : D → List Event → D → Type 0} where
         follows = Served s s' known (host_of c' sockets) (taken_place (slice_get sockets.places i) s at_place) knows (sym is ∙ allowed) (turned.follows sockets) (ap (host_of c') whole);
       }
 
-  pub none_served : {d : D} (H : Host) → tells d [] d → Told tells d d (AreServed 0 true false H H)
+  pub none_served : {d : D} (H : Host) → tells d [] d → Told tells d d (Walks H 0 true false) H
   none_served H quiet = record { told = []; notes = []; tells_it = quiet; follows = Begins }
 
   pub one_served : {d m e : D} {old mid new : Host} {n : ℕ} {changed : Bool} → ((a b c : D) (xs ys : List Event) → tells a xs b → tells b ys c → tells a (xs ++ ys) c) →
-      (t : Turn) → Told tells d m (AreServed n true changed old mid) → Told tells m e (IsServed n t mid new) → is_exhausted t ≡ false →
-      Told tells d e (AreServed (n + 1) true (changed || is_gone t) old new)
+      (t : Turn) → Told tells d m (Walks old n true changed) mid → Told tells m e (Serves n t mid) new → is_exhausted t ≡ false →
+      Told tells d e (Walks old (n + 1) true (changed || is_gone t)) new
   one_served {d} {m} {e} {new = new} tells_on t so one going = record {
     told = so.told ++ one.told;
     notes = so.notes ++ one.notes;
@@ -169,8 +169,8 @@ module _ {D : Type 0} {tells : D → List Event → D → Type 0} where
   }
 
   pub one_refused : {d m e : D} {old mid new : Host} {n : ℕ} {changed : Bool} → ((a b c : D) (xs ys : List Event) → tells a xs b → tells b ys c → tells a (xs ++ ys) c) →
-      (t : Turn) → Told tells d m (AreServed n true changed old mid) → Told tells m e (IsServed n t mid new) → is_exhausted t ≡ true →
-      Told tells d e (SocketsServed changed old new)
+      (t : Turn) → Told tells d m (Walks old n true changed) mid → Told tells m e (Serves n t mid) new → is_exhausted t ≡ true →
+      Told tells d e (SocketsSend old changed) new
   one_refused {d} {m} {e} {new = new} {n = n} tells_on t so one is = record {
     told = so.told ++ one.told;
     notes = so.notes ++ one.notes;

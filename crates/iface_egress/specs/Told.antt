@@ -3,9 +3,9 @@ use Rattle.std.specs.Prelude.{List}
 use Rattle.net_base.specs.Device.{Event}
 use Rattle.host_machine.specs.Note.{Note}
 
--- the device told something, which with some notes is what the rule says
-pub record Told {D : Type 0} (tells : D → List Event → D → Type 0) (device device' : D) (Rule : List Event → List Note → Type 0) : Type 0 where
+-- the device told something, which with some notes leads by the rule to what is then
+pub record Told {D State : Type 0} (tells : D → List Event → D → Type 0) (device device' : D) (Rule : List Event → List Note → State → Type 0) (new : State) : Type 0 where
   pub told : List Event
   pub notes : List Note
   pub tells_it : tells device told device'
-  pub follows : Rule told notes
+  pub follows : Rule told notes new

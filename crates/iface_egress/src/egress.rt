@@ -14,7 +14,7 @@ ghost use Rattle.host_machine.specs.Packet.{IsWritable, IsWritablePayload};
 ghost use Rattle.iface_send.specs.Shown as shown;
 ghost use Rattle.iface_send.specs.Stands.{host_of};
 ghost use Rattle.iface_egress.specs.Told.{Told};
-ghost use Rattle.iface_egress.specs.Turns.{HasTurn, IsDecided, IsServed, SocketsServed};
+ghost use Rattle.iface_egress.specs.Turns.{HasTurn, IsDecided};
 
 use crate::transmit::send_frame;
 use control_wire::Icmpv4Repr;
@@ -36,7 +36,7 @@ pub fn socket_egress<D: Device>(
     out: &mut FrameBuffer,
     sockets: &mut SocketSet<'_>,
 ) -> bool
-    ensures { Told D.tells device.old device.new (SocketsServed result (host_of context.old sockets.old) (host_of context.new sockets.new)) }
+    ensures { Told D.tells device.old device.new (spec.SocketsSend (host_of context.old sockets.old) result) (host_of context.new sockets.new) }
 {
     let mut changed = false;
     for index in 0..sockets.places() {
@@ -59,7 +59,7 @@ fn serve<D: Device>(
     index: usize,
 ) -> Turn
     requires { index < length sockets.old.places }
-    ensures told { Told D.tells device.old device.new (IsServed index result (host_of context.old sockets.old) (host_of context.new sockets.new)) }
+    ensures told { Told D.tells device.old device.new (spec.Serves index result (host_of context.old sockets.old)) (host_of context.new sockets.new) }
     ensures places { length sockets.new.places ≡ length sockets.old.places }
 {
     let now = context.now();
@@ -107,7 +107,7 @@ fn give_turn<D: Device>(
     device: &mut D,
     out: &mut FrameBuffer,
 ) -> Turn
-    ensures { Told D.tells device.old device.new (HasTurn socket.old result socket.new context.old context.new) }
+    ensures { Told D.tells device.old device.new (HasTurn socket.old result socket.new context.old) context.new }
 {
     let Some(offer) = socket.offer(context) else {
         return Turn::Idle;

@@ -60,11 +60,11 @@ module _ {S : Type 0} where
   any_all test [] = refl
   any_all test (p ∷ ps) = ap (λ b. test p || b) (any_all test ps)
 
-  -- a free place, put there again
-  pub none_again : (ps : List (Option S)) (i : ℕ) → None ≡ at_place ps i → slice_set ps i None ≡ ps
-  none_again [] i is = refl
-  none_again (p ∷ ps) zero is = ap (λ (q : Option S). q ∷ ps) is
-  none_again (p ∷ ps) (suc i) is = ap (λ (rest : List (Option S)). p ∷ rest) (none_again ps i is)
+  -- what stands at a place, put there again
+  pub put_again : (ps : List (Option S)) (i : ℕ) → slice_set ps i (at_place ps i) ≡ ps
+  put_again [] i = refl
+  put_again (p ∷ ps) zero = refl
+  put_again (p ∷ ps) (suc i) = ap (λ (rest : List (Option S)). p ∷ rest) (put_again ps i)
 
   -- one place more
   pub one_mapped : (f : Option S → Option S) (ps now : List (Option S)) (i : ℕ) → i < length ps → now ≡ mapped f i ps → slice_set now i (f (at_place now i)) ≡ mapped f (i + 1) ps

@@ -1,6 +1,6 @@
 -- What is done with a packet, over plain variables.
 use Rattle.std.proofs.Common.{◌≡◌, ◌⊎◌, inl, inr, ℕ, zero, suc, Bool, true, false, List, [], ◌∷◌, slice_get, slice_set, Option, Some, None, length, ◌<◌, ◌≤◌, refl, ap, sym, ◌∙◌, arith}
-use Rattle.std.specs.Option.{option_map}
+use Rattle.std.specs.Option.{option_and_then, option_map}
 use Rattle.net_base.specs.Checksum.{is_rx}
 use Rattle.ip_wire.specs.declared.arp.ArpRepr.{ArpRepr}
 use Rattle.ip_address.specs.declared.ethernet_address.EthernetAddress.{EthernetAddress}
@@ -20,7 +20,7 @@ use Rattle.sockets.specs.declared.socket.SocketOf.{SocketOf}
 use Rattle.iface_tables.specs.Neighbor.{Neighbors, Fills, expiry_from}
 use Rattle.socket_set.specs.SocketSet.{Sockets, socket_at, with_place}
 use Rattle.socket_set.proofs.SocketSetLemmas as table
-use Rattle.host_machine.specs.Host.{Host, Storage, with_neighbors, with_places}
+use Rattle.host_machine.specs.Host.{Host, Socket, SocketSet, Storage, with_neighbors, with_places}
 use Rattle.host_machine.specs.Reply.{Reply}
 use Rattle.host_machine.specs.Arp.{TakesArp, Learnt, NotForUs, listens, answer_by}
 use Rattle.ip_address.specs.declared.hardware.HardwareAddress.{HardwareAddress}
@@ -34,7 +34,7 @@ use Rattle.host_machine.specs.Ethernet as ethernet
 use Rattle.host_machine.specs.Ipv4 as ipv4
 use Rattle.host_machine.specs.Ipv4.{TakesProtocol, TakesPacket, TakesIpv4, Read, heard_from}
 use Rattle.host_machine.specs.Delivery.{DeliversFirst, IsNobody}
-use Rattle.host_machine.specs.Delivery.{to_each}
+use Rattle.host_machine.specs.Delivery.{holds, to_each, to_this}
 use Rattle.host_machine.specs.Udp as udp
 use Rattle.host_machine.specs.Udp.{TakesUdp, Delivered, Unheard}
 use Rattle.host_machine.specs.Icmpv4.{unreachable}
@@ -48,7 +48,7 @@ use Rattle.ip_wire.specs.declared.tcp.TcpRepr.{TcpRepr}
 use Rattle.iface_receive.specs.Datagram.{is_taken_by, handed_to}
 use Rattle.iface_receive.specs.Segment.{IsTaken}
 use Rattle.iface_receive.proofs.Processing.{dropped}
-use Rattle.iface_receive.proofs.Each.{at_place}
+use Rattle.iface_receive.proofs.Each.{at_place, put_again}
 
 -- a packet is learnt from, and answered if it asks
 pub arp_learnt : (own : EthernetAddress) (H K : Host) (payload : List ℕ) (r : ArpRepr) (neighbors : Neighbors) (reply : Option Reply) →
@@ -208,5 +208,10 @@ pub arp_unheard : (own : EthernetAddress) (H : Host) (payload : List ℕ) (r : A
 arp_unheard own H payload r is deaf = NotForUs is.0 (rw is.1 at deaf) (dropped H)
 
 -- a set with a socket put back as it was
-pub put_back : {L : Type 0} (set : Sockets L) (i : ℕ) (s t : SocketOf L) → t ≡ s → Some s ≡ socket_at set i → with_place set i (Some t) ≡ set
-put_back set i s t same is = ap (λ places. record set { places = places }) (ap (λ x. slice_set set.places i (Some x)) same ∙ table.put_back set.places i s is)
+pub put_back : {L : Type 0} (set : Sockets L) (i : ℕ) (s : SocketOf L) → Some s ≡ socket_at set i → with_place set i (Some s) ≡ set
+put_back set i s is = ap (λ places. record set { places = places }) (table.put_back set.places i s is)
+
+-- a set in which the place holds no socket of the kind that is meant
+pub unheard : {Kind : Type 0} (down : Socket → Option Kind) (test : Kind → Bool) (deliver : Storage → Storage) (set : SocketSet) (i : ℕ) → None ≡ option_and_then down (socket_at set i) →
+    set ≡ with_place set i (to_this (holds down test) deliver (socket_at set i))
+unheard down test deliver set i none = rw (← none) (ap (λ places. record set { places = places }) (sym (put_again set.places i)))

@@ -1,5 +1,5 @@
 //! What an interface does with ICMP messages (RFC 792, RFC 1122 3.2.2), and which it sends in reply.
-ghost use Rattle.std.specs.Prelude.{◌≡◌, ◌+◌, ◌<◌, ◌^◌, [], Some, IfSome, drop, length};
+ghost use Rattle.std.specs.Prelude.{◌≡◌, ◌+◌, ◌<◌, ◌^◌, [], IfSome, drop, length};
 ghost use Rattle.ip_address.specs.declared.ip.IpAddress.TheVariants.{Ipv4};
 ghost use Rattle.socket_set.specs.SocketSet.{socket_at, with_place, with_places};
 ghost use Rattle.control_wire.specs.Icmpv4.{IsIcmpv4, QuotesPacket, echo_reply_to, icmpv4_in};
@@ -20,7 +20,7 @@ use iface_send::{Context, IpPayload, Packet, PacketV4};
 use ip_wire::emit::FrameBuffer;
 use ip_wire::{IpAddress, Ipv4Address, Ipv4Repr};
 use socket_set::SocketSet;
-use sockets::{Socket, SocketOf};
+use sockets::icmp;
 
 /// Takes the payload of a packet with this header as an ICMP message, of fewer than 65,536 octets
 /// (RFC 792). Each ICMP socket that takes it gets it, whole. The reply to an echo request is built, in
@@ -73,25 +73,11 @@ fn deliver_at(
     ensures heard { sockets.new ≡ with_place sockets.old index (to_this (accepts message.now contents.now) (delivered remote octets.now) (socket_at sockets.old index)) }
     ensures len { length sockets.new.places ≡ length sockets.old.places }
 {
-    if let Some(socket) = sockets.socket_mut(index) {
-        deliver_to(socket, remote, message, contents, octets);
-    }
-}
-
-/// Hands a message to a socket, if that takes it.
-fn deliver_to(
-    socket: &mut Socket<'_>,
-    remote: IpAddress,
-    message: &Icmpv4Repr,
-    contents: &[u8],
-    octets: &[u8],
-)
-    ensures { Some socket.new ≡ to_this (accepts message.now contents.now) (delivered remote octets.now) (Some socket.old) }
-{
-    if let SocketOf::Icmp(icmp) = socket {
-        if icmp.accepts(message, contents) {
-            icmp.process(remote, octets);
-        }
+    let Some(socket) = sockets.kind_mut::<icmp::Socket<'_>>(index) else {
+        return;
+    };
+    if socket.accepts(message, contents) {
+        socket.process(remote, octets);
     }
 }
 

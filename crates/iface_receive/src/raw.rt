@@ -1,5 +1,5 @@
 //! What raw sockets hear: every packet of their version and protocol.
-ghost use Rattle.std.specs.Prelude.{◌≡◌, ◌+◌, ◌<◌, ◌^◌, Some, length};
+ghost use Rattle.std.specs.Prelude.{◌≡◌, ◌+◌, ◌<◌, ◌^◌, length};
 ghost use Rattle.socket_set.specs.SocketSet.{socket_at, with_place};
 ghost use Rattle.host_machine.specs.Delivery.{to_this};
 ghost use Rattle.host_machine.specs.Raw.{accepts, delivered, heard, is_taken};
@@ -8,7 +8,7 @@ ghost use Rattle.iface_send.specs.Stands.{host_of};
 use iface_send::Context;
 use ip_wire::{IpVersion, Ipv4Repr};
 use socket_set::SocketSet;
-use sockets::{Socket, SocketOf};
+use sockets::raw;
 
 /// Hands a packet, with its header as it is emitted, to each raw socket that takes it, and says
 /// whether there was one.
@@ -43,23 +43,12 @@ fn deliver_at(
     ensures heard { sockets.new ≡ with_place sockets.old index (to_this (accepts header.now.next_header) (delivered summed header.now payload.now) (socket_at sockets.old index)) }
     ensures len { length sockets.new.places ≡ length sockets.old.places }
 {
-    match sockets.socket_mut(index) {
-        Some(socket) => deliver_to(socket, header, payload, summed),
-        None => false,
+    let Some(socket) = sockets.kind_mut::<raw::Socket<'_>>(index) else {
+        return false;
+    };
+    if !socket.accepts(IpVersion::Ipv4, header.next_header) {
+        return false;
     }
-}
-
-/// Hands a packet to a socket, if that takes it, and says whether it does.
-fn deliver_to(socket: &mut Socket<'_>, header: &Ipv4Repr, payload: &[u8], summed: bool) -> bool
-    requires quotable { 20 + header.now.payload_len < 2 ^ 16 }
-    ensures taken { result ≡ accepts header.now.next_header (Some socket.old) }
-    ensures socket { Some socket.new ≡ to_this (accepts header.now.next_header) (delivered summed header.now payload.now) (Some socket.old) }
-{
-    if let SocketOf::Raw(raw) = socket {
-        if raw.accepts(IpVersion::Ipv4, header.next_header) {
-            raw.process(header, payload, summed);
-            return true;
-        }
-    }
-    false
+    socket.process(header, payload, summed);
+    true
 }

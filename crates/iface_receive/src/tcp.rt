@@ -15,8 +15,8 @@ use iface_send::{Context, IpPayload, Packet, PacketV4};
 use ip_wire::emit::FrameBuffer;
 use ip_wire::{IpAddress, Ipv4Repr, TcpControl, TcpRepr};
 use socket_set::SocketSet;
-use sockets::tcp::rst_reply;
-use sockets::{IpEndpoint, Socket, SocketOf};
+use sockets::IpEndpoint;
+use sockets::tcp::{self, rst_reply};
 
 /// Takes the payload of a packet with this header as a TCP segment, of fewer than 65,536 octets: the
 /// first socket that accepts it gets it, or drops it for want of room, and may answer; no other
@@ -130,25 +130,6 @@ fn deliver_at(
     ensures kept { result.0 ≡ false → sockets.new ≡ sockets.old }
     ensures waits { sockets.new ≡ with_places sockets.old sockets.new.places }
 {
-    match sockets.socket_mut(index) {
-        Some(socket) => deliver_to(socket, header, repr, payload),
-        None => (false, None),
-    }
-}
-
-/// Gives a segment to a socket, if it accepts it, and says whether it did, and what it answers.
-fn deliver_to(
-    socket: &mut Socket<'_>,
-    header: &Ipv4Repr,
-    repr: &TcpRepr,
-    payload: &[u8],
-) -> (bool, Option<TcpRepr>)
-    requires { length payload.now < 2 ^ 16 }
-    ensures accepted { result.0 ≡ spec.accepts header.now repr.now (Some socket.old) }
-    ensures delivered { result.0 ≡ true → Some socket.new ≡ spec.delivered header.now repr.now payload.now (Some socket.old) }
-    ensures replied { result.0 ≡ true → result.1 ≡ spec.replied repr.now payload.now (Some socket.old) }
-    ensures kept { result.0 ≡ false → socket.new ≡ socket.old }
-{
     let source = IpEndpoint {
         addr: IpAddress::Ipv4(header.src_addr),
         port: repr.src_port,
@@ -157,10 +138,11 @@ fn deliver_to(
         addr: IpAddress::Ipv4(header.dst_addr),
         port: repr.dst_port,
     };
-    if let SocketOf::Tcp(tcp) = socket {
-        if tcp.accepts(&source, &destination) {
-            return (true, tcp.process(source.addr, repr, payload));
-        }
+    let Some(socket) = sockets.kind_mut::<tcp::Socket<'_>>(index) else {
+        return (false, None);
+    };
+    if !socket.accepts(&source, &destination) {
+        return (false, None);
     }
-    (false, None)
+    (true, socket.process(source.addr, repr, payload))
 }

@@ -14,7 +14,7 @@ use iface_send::Context;
 use ip_wire::emit::FrameBuffer;
 use ip_wire::{IpAddress, Ipv4Repr, UdpRepr};
 use socket_set::SocketSet;
-use sockets::{IpEndpoint, Socket, SocketOf};
+use sockets::{IpEndpoint, udp};
 
 /// Takes the payload of a packet with this header as a UDP datagram (RFC 768): the first socket that
 /// accepts it gets its payload, with its sender, or drops it for want of room; no other socket
@@ -79,33 +79,16 @@ fn deliver_at(
     ensures kept { result ≡ false → sockets.new ≡ sockets.old }
     ensures waits { sockets.new ≡ with_places sockets.old sockets.new.places }
 {
-    match sockets.socket_mut(index) {
-        Some(socket) => deliver_to(context, socket, header, ports, payload),
-        None => false,
+    let Some(socket) = sockets.kind_mut::<udp::Socket<'_>>(index) else {
+        return false;
+    };
+    if !socket.accepts(context, &IpAddress::Ipv4(header.dst_addr), ports.dst_port) {
+        return false;
     }
-}
-
-/// Gives a datagram to a socket, if it accepts it, and says whether it did.
-fn deliver_to(
-    context: &Context,
-    socket: &mut Socket<'_>,
-    header: &Ipv4Repr,
-    ports: &UdpRepr,
-    payload: &[u8],
-) -> bool
-    ensures accepted { result ≡ is_taken_by (host_of context.now no_sockets).ip_addrs header.now ports.now (Some socket.old) }
-    ensures delivered { result ≡ true → Some socket.new ≡ handed_to header.now ports.now payload.now (Some socket.old) }
-    ensures kept { result ≡ false → socket.new ≡ socket.old }
-{
-    if let SocketOf::Udp(udp) = socket {
-        if udp.accepts(context, &IpAddress::Ipv4(header.dst_addr), ports.dst_port) {
-            let remote = IpEndpoint {
-                addr: IpAddress::Ipv4(header.src_addr),
-                port: ports.src_port,
-            };
-            udp.process(remote, payload);
-            return true;
-        }
-    }
-    false
+    let remote = IpEndpoint {
+        addr: IpAddress::Ipv4(header.src_addr),
+        port: ports.src_port,
+    };
+    socket.process(remote, payload);
+    true
 }

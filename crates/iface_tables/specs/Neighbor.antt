@@ -23,10 +23,6 @@ pub record Neighbors : Type 0 where
 abbrev pub expiry_from : ℤ → ℤ
 expiry_from t = t +ℤ pos 60000000
 
--- the end of the silence after a discovery at t: 1 s later
-abbrev pub silence_from : ℤ → ℤ
-silence_from t = t +ℤ pos 1000000
-
 -- whether t lies before the end
 abbrev pub is_before : ℤ → ℤ → Bool
 is_before t end = is_lt (int_cmp t end)

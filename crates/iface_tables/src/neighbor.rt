@@ -4,14 +4,14 @@ ghost use Rattle.std.specs.Prelude.{◌≡◌, ◌<◌, true, pos, length};
 ghost use Rattle.std.specs.FinMap as map;
 ghost use Rattle.std.specs.FinMap.{find};
 ghost use Rattle.std.specs.Ordering.{eq_by_cmp};
-ghost use Rattle.net_base.specs.Time.{IsMoment};
+ghost use Rattle.net_base.specs.Time.{IsMoment, silence_from};
 ghost use Rattle.ip_address.specs.Ip as ip;
 ghost use Rattle.ip_address.specs.Ip.{address_cmp};
 ghost use Rattle.ip_address.specs.Hardware as hardware;
 ghost use Rattle.iface_tables.specs.Entries as entry;
 ghost use Rattle.iface_tables.specs.Entries.{AreKeysDistinct};
 ghost use Rattle.iface_tables.specs.Neighbor as spec;
-ghost use Rattle.iface_tables.specs.Neighbor.{Puts, Fills, IsLeastPlace, renewed, renewed_from, answer_of, expiry_from, silence_from};
+ghost use Rattle.iface_tables.specs.Neighbor.{Puts, Fills, IsLeastPlace, renewed, renewed_from, answer_of, expiry_from};
 
 use arrayvec::ArrayVec;
 use ip_wire::{HardwareAddress, IpAddress};

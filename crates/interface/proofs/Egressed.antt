@@ -6,12 +6,11 @@ use Rattle.host_machine.specs.declared.results.PollResult.{PollResult}
 use Rattle.host_machine.specs.Host.{Host, at}
 use Rattle.host_machine.specs.Egress.{SocketsSend, Egress, answer_of}
 use Rattle.iface_egress.specs.Told.{Told}
-use Rattle.iface_egress.specs.Turns.{SocketsServed}
 use Rattle.interface.specs.Goes.{Went}
 
 module _ {D : Type 0} {tells : D → List Event → D → Type 0} where
   -- one call that sends, from the turns of the sockets at its moment
-  pub egressed : {d e : D} (t : ℤ) (H J K : Host) (changed : Bool) (answer : PollResult) (after : Host → Type 0) → at H t ≡ J → Told tells d e (SocketsServed changed J K) →
+  pub egressed : {d e : D} (t : ℤ) (H J K : Host) (changed : Bool) (answer : PollResult) (after : Host → Type 0) → at H t ≡ J → Told tells d e (SocketsSend J changed) K →
       answer ≡ answer_of changed → after K → Went tells d e (Egress t answer H) after
   egressed t H J K changed answer after same served answers stands = record {
     told = served.told;

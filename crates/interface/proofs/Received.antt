@@ -20,9 +20,9 @@ nothing_taken H takes = record { reply = None; taken = H; notes_taking = []; not
 
 module _ {D : Type 0} {tells : D → List Event → D → Type 0} {d d' : D} where
   -- no frame came
-  pub nothing_came : (t : ℤ) (H : Host) (after : Host → Type 0) → HandsNone tells d d' → after (at H t) → Went tells d d' (Ingress t result.None H) after
+  pub nothing_came : (t : ℤ) (H : Host) (after : Host → Type 0) → HandsNone tells t d d' → after (at H t) → Went tells d d' (Ingress t result.None H) after
   nothing_came t H after (WasEmpty told) stands = record {
-    told = Received Nothing ∷ [];
+    told = Received t Nothing ∷ [];
     notes = [];
     host = at H t;
     tells_it = told;
@@ -30,7 +30,7 @@ module _ {D : Type 0} {tells : D → List Event → D → Type 0} {d d' : D} whe
     stands = stands;
   }
   nothing_came t H after (WasWithheld told) stands = record {
-    told = Received Withheld ∷ [];
+    told = Received t Withheld ∷ [];
     notes = [];
     host = at H t;
     tells_it = told;
@@ -70,7 +70,7 @@ answers_some (octet ∷ octets) some = refl
 
 -- a frame came, was taken, and the one built in response went
 pub frame_came : (t : ℤ) (H J K : Host) (f buffer : List ℕ) (answer : PollIngressSingleResult) → at H t ≡ J → (processed : Processed buffer (λ L. Takes L (Frame f)) J K) → answer ≡ answer_to (Frame f) →
-    Ingress t answer H (Received (Frame f) ∷ sends (frames_in buffer)) processed.notes K
+    Ingress t answer H (Received t (Frame f) ∷ sends (frames_in buffer)) processed.notes K
 frame_came t H J K f buffer answer same processed answers = record {
   reception = Frame f;
   frames = frames_in buffer;

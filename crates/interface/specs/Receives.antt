@@ -15,7 +15,7 @@ frames_shown (Some frame) = frame ∷ []
 pub record FrameReceived (t : ℤ) (frame : List ℕ) (shown : Option (List ℕ)) (H : Host) (after : Host → Type 0) : Type 0 where
   pub notes : List Note
   pub host : Host
-  pub steps : Ingress t (answer_to (Frame frame)) H (Received (Frame frame) ∷ sends (frames_shown shown)) notes host
+  pub steps : Ingress t (answer_to (Frame frame)) H (Received t (Frame frame) ∷ sends (frames_shown shown)) notes host
   pub stands : after host
 
 -- from each host that stood before, such a step leads to a host that stands after

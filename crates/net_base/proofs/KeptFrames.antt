@@ -5,15 +5,15 @@ use Rattle.net_base.specs.Device.{Event, Received, Asked, Sent, Frame, Nothing, 
 use Rattle.net_base.specs.MemoryDevice.{Memory, Moves, Tells, Stays, Goes, KeepsFrames, FramesAreKept}
 
 handed_first : (event : Event) (events : List Event) → handed (event ∷ events) ≡ handed (event ∷ []) ++ handed events
-handed_first (Received (Frame frame)) events = refl
-handed_first (Received Nothing) events = refl
-handed_first (Received Withheld) events = refl
-handed_first (Asked b) events = refl
+handed_first (Received t (Frame frame)) events = refl
+handed_first (Received t Nothing) events = refl
+handed_first (Received t Withheld) events = refl
+handed_first (Asked t b) events = refl
 handed_first (Sent id frame) events = refl
 
 sent_first : (event : Event) (events : List Event) → frames_sent (event ∷ events) ≡ frames_sent (event ∷ []) ++ frames_sent events
-sent_first (Received r) events = refl
-sent_first (Asked b) events = refl
+sent_first (Received t r) events = refl
+sent_first (Asked t b) events = refl
 sent_first (Sent id frame) events = refl
 
 -- where an event moves no frame
@@ -21,11 +21,11 @@ still : (a b : Memory) → b.queued ≡ a.queued → b.sent ≡ a.sent → (a.qu
 still a b queue sent = (sym queue, sent ∙ sym (append-nil a.sent))
 
 kept_move : (event : Event) (a b : Memory) → Moves event a b → (a.queued ≡ handed (event ∷ []) ++ b.queued) × (b.sent ≡ a.sent ++ frames_sent (event ∷ []))
-kept_move (Received (Frame frame)) a b move = (move.first, ap (λ (d : Memory). d.sent) move.after ∙ sym (append-nil a.sent))
-kept_move (Received Nothing) a b move = still a b (ap (λ (d : Memory). d.queued) move.after) (ap (λ (d : Memory). d.sent) move.after)
-kept_move (Received Withheld) a b move = still a b (ap (λ (d : Memory). d.queued) move.after) (ap (λ (d : Memory). d.sent) move.after)
-kept_move (Asked true) a b move = still a b (ap (λ (d : Memory). d.queued) move.after) (ap (λ (d : Memory). d.sent) move.after)
-kept_move (Asked false) a b move = still a b (ap (λ (d : Memory). d.queued) move.after) (ap (λ (d : Memory). d.sent) move.after)
+kept_move (Received t (Frame frame)) a b move = (move.first, ap (λ (d : Memory). d.sent) move.after ∙ sym (append-nil a.sent))
+kept_move (Received t Nothing) a b move = still a b (ap (λ (d : Memory). d.queued) move.after) (ap (λ (d : Memory). d.sent) move.after)
+kept_move (Received t Withheld) a b move = still a b (ap (λ (d : Memory). d.queued) move.after) (ap (λ (d : Memory). d.sent) move.after)
+kept_move (Asked t true) a b move = still a b (ap (λ (d : Memory). d.queued) move.after) (ap (λ (d : Memory). d.sent) move.after)
+kept_move (Asked t false) a b move = still a b (ap (λ (d : Memory). d.queued) move.after) (ap (λ (d : Memory). d.sent) move.after)
 kept_move (Sent id frame) a b move = (sym (ap (λ (d : Memory). d.queued) move.after), ap (λ (d : Memory). d.sent) move.after)
 
 kept : {a b : Memory} {events : List Event} → Tells a events b → KeepsFrames a events b

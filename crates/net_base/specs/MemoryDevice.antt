@@ -72,11 +72,11 @@ pub record Sends (frame : List ℕ) (old new : Memory) : Type 0 where
 
 -- what it may do at one event
 abbrev pub Moves : Event → Memory → Memory → Type 0
-Moves (Received (Frame frame)) old new = HandsOver frame old new
-Moves (Received Nothing) old new = HasNothing old new
-Moves (Received Withheld) old new = Withholds old new
-Moves (Asked true) old new = GivesLeave old new
-Moves (Asked false) old new = RefusesLeave old new
+Moves (Received t (Frame frame)) old new = HandsOver frame old new
+Moves (Received t Nothing) old new = HasNothing old new
+Moves (Received t Withheld) old new = Withholds old new
+Moves (Asked t true) old new = GivesLeave old new
+Moves (Asked t false) old new = RefusesLeave old new
 Moves (Sent id frame) old new = Sends frame old new
 
 -- what it may do at these events, one after the other

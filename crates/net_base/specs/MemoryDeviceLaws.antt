@@ -11,20 +11,20 @@ told_on (Goes move rest) second = Goes move (told_on rest second)
 
 -- the count after one event
 refusals_move : (event : Event) (a b : Memory) → Moves event a b → b.refusals ≡ refusals_after a.refusals (event ∷ [])
-refusals_move (Received (Frame frame)) a b move = ap (λ (d : Memory). d.refusals) move.after
-refusals_move (Received Nothing) a b move = ap (λ (d : Memory). d.refusals) move.after
-refusals_move (Received Withheld) a b move = ap (λ (d : Memory). d.refusals) move.after
-refusals_move (Asked true) a b move = ap (λ (d : Memory). d.refusals) move.after
-refusals_move (Asked false) a b move = ap (λ (d : Memory). d.refusals) move.after
+refusals_move (Received t (Frame frame)) a b move = ap (λ (d : Memory). d.refusals) move.after
+refusals_move (Received t Nothing) a b move = ap (λ (d : Memory). d.refusals) move.after
+refusals_move (Received t Withheld) a b move = ap (λ (d : Memory). d.refusals) move.after
+refusals_move (Asked t true) a b move = ap (λ (d : Memory). d.refusals) move.after
+refusals_move (Asked t false) a b move = ap (λ (d : Memory). d.refusals) move.after
 refusals_move (Sent id frame) a b move = ap (λ (d : Memory). d.refusals) move.after
 
 -- the count after one event and more
 refusals_first : (n : ℕ) (event : Event) (events : List Event) → refusals_after n (event ∷ events) ≡ refusals_after (refusals_after n (event ∷ [])) events
-refusals_first n (Received (Frame frame)) events = refl
-refusals_first n (Received Nothing) events = refl
-refusals_first n (Received Withheld) events = refl
-refusals_first n (Asked true) events = refl
-refusals_first n (Asked false) events = refl
+refusals_first n (Received t (Frame frame)) events = refl
+refusals_first n (Received t Nothing) events = refl
+refusals_first n (Received t Withheld) events = refl
+refusals_first n (Asked t true) events = refl
+refusals_first n (Asked t false) events = refl
 refusals_first n (Sent id frame) events = refl
 
 pub told_refusals : {a b : Memory} {xs : List Event} → Tells a xs b → b.refusals ≡ refusals_after a.refusals xs

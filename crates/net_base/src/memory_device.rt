@@ -187,7 +187,7 @@ impl Device for MemoryDevice {
 
     fn receive(&mut self, now: Instant, buffer: &mut [u8]) -> Option<(usize, PacketMeta)>
         requires { length buffer.old ≡ 1514 }
-        ensures told { MatchOption result (HandsNone Tells self.old self.new) (λ r. Tells self.old (Received (Frame (take r.0 buffer.new)) ∷ []) self.new) }
+        ensures told { MatchOption result (HandsNone Tells now self.old self.new) (λ r. Tells self.old (Received now (Frame (take r.0 buffer.new)) ∷ []) self.new) }
         ensures fits { IfSome result (λ r. r.0 ≤ 1514) }
         ensures leave { OnSome result (self.new.has_room ≡ true) }
         ensures meta { IfSome result (λ r. r.1 ≡ PacketMeta.EMPTY) }

@@ -137,16 +137,16 @@ pub trait Device {
         ensures { result ≡ capable self.now };
 
     /// Hands over a frame in the front of the buffer, by its length and metadata, together with
-    /// leave to send one frame; or neither.
+    /// leave to send one frame; or neither. `now` is the moment of the call that asks.
     fn receive(&mut self, now: Instant, buffer: &mut [u8]) -> Option<(usize, PacketMeta)>
         requires { length buffer.old ≡ 1514 }
-        ensures told { MatchOption result (HandsNone tells self.old self.new) (λ r. tells self.old (Received (Frame (take r.0 buffer.new)) ∷ []) self.new) }
+        ensures told { MatchOption result (HandsNone tells now self.old self.new) (λ r. tells self.old (Received now (Frame (take r.0 buffer.new)) ∷ []) self.new) }
         ensures fits { IfSome result (λ r. r.0 ≤ 1514) }
         ensures leave { OnSome result (has_leave self.new ≡ true) };
 
-    /// Gives leave to send one frame, or refuses it.
+    /// Gives leave to send one frame, or refuses it. `now` is the moment of the call that asks.
     fn transmit(&mut self, now: Instant) -> bool
-        ensures told { tells self.old (Asked result ∷ []) self.new }
+        ensures told { tells self.old (Asked now result ∷ []) self.new }
         ensures leave { result ≡ true → has_leave self.new ≡ true };
 
     /// Sends a frame. This uses the leave.

@@ -1,6 +1,6 @@
 -- Places of a set.
 use Rattle.std.proofs.Common.{◌≡◌, ℕ, ◌<◌, ◌≤◌, Bool, false, List, [], ◌∷◌, ◌++◌, length, get_or, slice_get, slice_set, Option, Some, None, refl, sym, ap, ◌∙◌, zero, suc, arith}
-use Rattle.std.specs.Prelude.{nat_lt, is_some, true, IsNone}
+use Rattle.std.specs.Prelude.{nat_lt, is_some, true, IsNone, IfSome}
 use Rattle.std.specs.Option.{option_and_then}
 use Rattle.std.proofs.lemmas.List.{set-get_or, length-map}
 use Rattle.sockets.specs.declared.socket.SocketOf.{SocketOf}
@@ -13,6 +13,11 @@ module _ {S : Type 0} where
   put_back [] i s is = refl
   put_back (q ∷ ps) zero s is = ap (λ (p : Option S). p ∷ ps) is
   put_back (q ∷ ps) (suc i) s is = ap (λ (rest : List (Option S)). q ∷ rest) (put_back ps i s is)
+
+-- a socket of a kind stands for the one of its place
+pub stands_for : {T S : Type 0} {s : S} {place : Option S} (up : T → S) (o : Option T) → Some s ≡ place → IfSome o (λ t. s ≡ up t) → IfSome o (λ t. place ≡ Some (up t))
+stands_for up None is whole = tt
+stands_for up (Some t) is whole = sym is ∙ ap Some whole
 
 module _ {S : Type 0} where
   pub none_is : (o : Option S) → IsNone o → o ≡ None

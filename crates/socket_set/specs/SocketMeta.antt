@@ -1,5 +1,5 @@
 -- The wait of a socket: the neighbour that one of its packets needs, and the moment until which it is not asked for again.
-use Rattle.std.specs.Prelude.{◌≡◌, ℤ, pos, ◌+ℤ◌, Bool, true, ◌||◌, if◌then◌else◌, Option, Some, None, refl}
+use Rattle.std.specs.Prelude.{◌≡◌, ℤ, Bool, true, ◌||◌, if◌then◌else◌, Option, Some, None, refl}
 use Rattle.std.specs.Ordering.{int_cmp, is_ge}
 use Rattle.ip_address.specs.declared.ip.IpAddress.{IpAddress}
 use Rattle.socket_base.specs.declared.poll_at.PollAt.{PollAt}
@@ -10,10 +10,6 @@ use Rattle.socket_set.specs.declared.socket_meta.NeighborState.TheVariants.{Acti
 -- the neighbour that a socket waits for, and until when; none where it does not wait
 abbrev pub Wait : Type 0
 Wait = Option (IpAddress × ℤ)
-
--- the end of a wait that begins at t: 1 s later
-abbrev pub silence_from : ℤ → ℤ
-silence_from t = t +ℤ pos 1000000
 
 -- known is what is told of the neighbour that is waited for
 abbrev pub IsTold : (IpAddress → Bool → Type 0) → Wait → Bool → Type 0

@@ -1,9 +1,9 @@
 //! What an interface keeps for each socket: whether it waits for a neighbour that a packet of it
 //! needs.
 ghost use Rattle.std.specs.Prelude.{◌≡◌, Bool, Some, None};
-ghost use Rattle.net_base.specs.Time.{IsMoment};
+ghost use Rattle.net_base.specs.Time.{IsMoment, silence_from};
 ghost use Rattle.socket_set.specs.SocketMeta as spec;
-ghost use Rattle.socket_set.specs.SocketMeta.{IsTold, after_asking, is_permitted, silence_from};
+ghost use Rattle.socket_set.specs.SocketMeta.{IsTold, after_asking, is_permitted};
 
 use ip_wire::IpAddress;
 use net_base::time::{Duration, Instant};

@@ -1,8 +1,8 @@
 //! Sets of sockets, each with a handle.
-ghost use Rattle.std.specs.Prelude.{◌≡◌, ◌<◌, Bool, true, false, not, Some, None, IsOk, IsErr, IsSome, IsNone, IfOk, IfErr, OnOk, OnErr, length, map};
+ghost use Rattle.std.specs.Prelude.{◌≡◌, ◌<◌, Bool, true, false, not, Some, None, IsOk, IsErr, IsSome, IsNone, IfSome, IfOk, IfErr, OnOk, OnErr, length, map};
 ghost use Rattle.std.specs.Option.{option_copied, option_copied_mut, option_and_then};
-ghost use Rattle.net_base.specs.Time.{IsMoment};
-ghost use Rattle.socket_set.specs.SocketMeta.{IsTold, after_asking, is_permitted, silence_from};
+ghost use Rattle.net_base.specs.Time.{IsMoment, silence_from};
+ghost use Rattle.socket_set.specs.SocketMeta.{IsTold, after_asking, is_permitted};
 ghost use Rattle.socket_set.specs.SocketSet.{added, first_free, given_back, handles, has_free, is_full, over, pairs, socket_at, wait_at, with_place, with_wait};
 
 use crate::iter::{HandlesOf, IterOf};
@@ -245,6 +245,7 @@ impl<L: Drop> SocketSetOf<L> {
     pub fn get_mut<T: AnySocketOf<L>>(&mut self, handle: SocketHandle) -> Option<&mut T>
         ensures* lends { sem 𝓛 (LendsIf (set_row L.row) T.row self.entry result (λ w. with_place self.old handle (Some (T.up w))) self.old) }
         ensures value { option_copied_mut result ≡ option_and_then T.down (socket_at self.old handle) }
+        ensures whole { IfSome (option_copied_mut result) (λ s. socket_at self.old handle ≡ Some (T.up s)) }
     {
         self.kind_mut(handle.index())
     }
@@ -254,6 +255,7 @@ impl<L: Drop> SocketSetOf<L> {
     pub fn kind_mut<T: AnySocketOf<L>>(&mut self, index: usize) -> Option<&mut T>
         ensures* lends { sem 𝓛 (LendsIf (set_row L.row) T.row self.entry result (λ w. with_place self.old index (Some (T.up w))) self.old) }
         ensures value { option_copied_mut result ≡ option_and_then T.down (socket_at self.old index) }
+        ensures whole { IfSome (option_copied_mut result) (λ s. socket_at self.old index ≡ Some (T.up s)) }
     {
         let socket = self.socket_mut(index)?;
         T::downcast_mut(socket)

@@ -1,5 +1,5 @@
 //! The kinds of sockets as one type.
-ghost use Rattle.std.specs.Prelude.{◌≡◌, Option};
+ghost use Rattle.std.specs.Prelude.{◌≡◌, Option, IfSome};
 ghost use Rattle.std.specs.Option.{option_copied, option_copied_mut};
 ghost use Rattle.std.specs.Borrow.{sem, LendsIf};
 
@@ -105,7 +105,8 @@ pub trait AnySocketOf<L>: Sized + Drop {
     /// The same, for writing.
     fn downcast_mut(socket: &mut SocketOf<L>) -> Option<&mut Self>
         ensures* lends { sem 𝓛 (LendsIf (socket_row L.row) Self.row socket.entry result up socket.old) }
-        ensures value { option_copied_mut result ≡ down socket.old };
+        ensures value { option_copied_mut result ≡ down socket.old }
+        ensures whole { IfSome (option_copied_mut result) (λ s. socket.old ≡ up s) };
 }
 
 /// A kind of socket.
@@ -221,6 +222,7 @@ impl<L> SocketOf<L> {
     fn as_raw_mut(&mut self) -> Option<&mut raw::SocketOf<L>>
         ensures* lends { sem 𝓛 (LendsIf (socket_row L.row) (raw_row L.row) self.entry result kinds.up_raw self.old) }
         ensures value { option_copied_mut result ≡ kinds.down_raw self.old }
+        ensures whole { IfSome (option_copied_mut result) (λ s. self.old ≡ kinds.up_raw s) }
     {
         if let SocketOf::Raw(s) = self {
             Some(s)
@@ -233,6 +235,7 @@ impl<L> SocketOf<L> {
     fn as_icmp_mut(&mut self) -> Option<&mut icmp::SocketOf<L>>
         ensures* lends { sem 𝓛 (LendsIf (socket_row L.row) (icmp_row L.row) self.entry result kinds.up_icmp self.old) }
         ensures value { option_copied_mut result ≡ kinds.down_icmp self.old }
+        ensures whole { IfSome (option_copied_mut result) (λ s. self.old ≡ kinds.up_icmp s) }
     {
         if let SocketOf::Icmp(s) = self {
             Some(s)
@@ -245,6 +248,7 @@ impl<L> SocketOf<L> {
     fn as_udp_mut(&mut self) -> Option<&mut udp::SocketOf<L>>
         ensures* lends { sem 𝓛 (LendsIf (socket_row L.row) (udp_row L.row) self.entry result kinds.up_udp self.old) }
         ensures value { option_copied_mut result ≡ kinds.down_udp self.old }
+        ensures whole { IfSome (option_copied_mut result) (λ s. self.old ≡ kinds.up_udp s) }
     {
         if let SocketOf::Udp(s) = self {
             Some(s)
@@ -257,6 +261,7 @@ impl<L> SocketOf<L> {
     fn as_tcp_mut(&mut self) -> Option<&mut tcp::SocketOf<L>>
         ensures* lends { sem 𝓛 (LendsIf (socket_row L.row) (tcp_row L.row) self.entry result kinds.up_tcp self.old) }
         ensures value { option_copied_mut result ≡ kinds.down_tcp self.old }
+        ensures whole { IfSome (option_copied_mut result) (λ s. self.old ≡ kinds.up_tcp s) }
     {
         if let SocketOf::Tcp(s) = self {
             Some(s)

@@ -1,7 +1,10 @@
-use Rattle.std.proofs.Common.{ap, sym}
-use Rattle.socket_set.specs.SocketSet.{with_places}
-use Rattle.iface_receive.proofs.Each.{none_again}
+use Rattle.sockets.specs.Kinds.{down_icmp}
+use Rattle.network_sockets.specs.Icmp as icmp
+use Rattle.host_machine.specs.Icmpv4.{delivered}
+use Rattle.iface_receive.proofs.Received.{unheard}
 use Rattle.iface_receive.proofs.icmpv4.deliver_at.Goals as goal
 
 pub returns-in_default-clause-heard : goal.returns-in_default-clause-heard
-returns-in_default-clause-heard c = rw (← c.in_default.ensures.value) (ap (with_places c.args.sockets.now) (sym (none_again c.args.sockets.now.places c.args.index c.in_default.ensures.value)))
+returns-in_default-clause-heard c =
+    unheard down_icmp (λ s. icmp.accepts s c.args.message.now c.args.contents.now) (delivered c.args.remote c.args.octets.now)
+    c.args.sockets.now c.args.index c.in_default.ensures.value

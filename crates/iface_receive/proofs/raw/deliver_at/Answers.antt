@@ -1,7 +1,11 @@
-use Rattle.std.proofs.Common.{ap, sym}
-use Rattle.socket_set.specs.SocketSet.{with_places}
-use Rattle.iface_receive.proofs.Each.{none_again}
+use Rattle.ip_address.specs.declared.protocol.IpVersion.TheVariants.{Ipv4}
+use Rattle.sockets.specs.Kinds.{down_raw}
+use Rattle.network_sockets.specs.Raw as raw
+use Rattle.host_machine.specs.Raw.{delivered}
+use Rattle.iface_receive.proofs.Received.{unheard}
 use Rattle.iface_receive.proofs.raw.deliver_at.Goals as goal
 
-pub returns-in-None-clause-heard : goal.returns-in-None-clause-heard
-returns-in-None-clause-heard c = rw (← c.in-None.ensures.value) (ap (with_places c.args.sockets.now) (sym (none_again c.args.sockets.now.places c.args.index c.in-None.ensures.value)))
+pub returns-in_default-clause-heard : goal.returns-in_default-clause-heard
+returns-in_default-clause-heard c =
+    unheard down_raw (λ s. raw.accepts s Ipv4 c.args.header.now.next_header) (delivered c.args.summed c.args.header.now c.args.payload.now)
+    c.args.sockets.now c.args.index c.in_default.ensures.value

@@ -14,10 +14,10 @@ returns-in_default g c = λ H h.
 pub returns-then-len-eq0 : goal.returns-then-len-eq0
 returns-then-len-eq0 g c = λ H h.
     let frame : List ℕ = take c.in-Some.len c.receive.new.buffer in record {
-      told = Received (Frame frame) ∷ sends (frames_in c.take_frame.new.out);
+      told = Received c.args.timestamp (Frame frame) ∷ sends (frames_in c.take_frame.new.out);
       notes = c.take_frame.ensures.notes;
       host = host_of c.take_frame.new.context c.take_frame.new.sockets;
-      tells_it = g.met.D.Device.tells_on c.args.device.now c.receive.new.self c.send_frame.new.device (Received (Frame frame) ∷ []) (sends (frames_in c.take_frame.new.out))
+      tells_it = g.met.D.Device.tells_on c.args.device.now c.receive.new.self c.send_frame.new.device (Received c.args.timestamp (Frame frame) ∷ []) (sends (frames_in c.take_frame.new.out))
           c.in-Some.ensures.told c.send_frame.ensures;
       steps = frame_came c.args.timestamp H (host_of c.set_moment.new.context c.args.sockets.now) (host_of c.take_frame.new.context c.take_frame.new.sockets) frame c.take_frame.new.out _
           (ap (λ (K : Host). at K c.args.timestamp) h.same ∙ sym (c.set_moment.ensures c.args.sockets.now)) c.take_frame.ensures (answers_none frame (grind (arith, common_steps)));
@@ -27,10 +27,10 @@ returns-then-len-eq0 g c = λ H h.
 pub returns-else-len-eq0 : goal.returns-else-len-eq0
 returns-else-len-eq0 g c = λ H h.
     let frame : List ℕ = take c.in-Some.len c.receive.new.buffer in record {
-      told = Received (Frame frame) ∷ sends (frames_in c.take_frame.new.out);
+      told = Received c.args.timestamp (Frame frame) ∷ sends (frames_in c.take_frame.new.out);
       notes = c.take_frame.ensures.notes;
       host = host_of c.take_frame.new.context c.take_frame.new.sockets;
-      tells_it = g.met.D.Device.tells_on c.args.device.now c.receive.new.self c.send_frame.new.device (Received (Frame frame) ∷ []) (sends (frames_in c.take_frame.new.out))
+      tells_it = g.met.D.Device.tells_on c.args.device.now c.receive.new.self c.send_frame.new.device (Received c.args.timestamp (Frame frame) ∷ []) (sends (frames_in c.take_frame.new.out))
           c.in-Some.ensures.told c.send_frame.ensures;
       steps = frame_came c.args.timestamp H (host_of c.set_moment.new.context c.args.sockets.now) (host_of c.take_frame.new.context c.take_frame.new.sockets) frame c.take_frame.new.out _
           (ap (λ (K : Host). at K c.args.timestamp) h.same ∙ sym (c.set_moment.ensures c.args.sockets.now)) c.take_frame.ensures (answers_some frame (grind (arith, common_steps)));

@@ -3,15 +3,15 @@ use Rattle.net_base.proofs.MemoryMoves.{tells_nothing, tells_withheld, tells_fra
 use Rattle.net_base.proofs.memory_device.MemoryDeviceDevice.receive.Goals as goal
 
 pub returns-then-queued-eq0-clause-told : goal.returns-then-queued-eq0-clause-told
-returns-then-queued-eq0-clause-told c = tells_nothing _ (search rules)
+returns-then-queued-eq0-clause-told c = tells_nothing c.args.now _ (search rules)
 
 pub returns-then-not-reserve-clause-told : goal.returns-then-not-reserve-clause-told
 returns-then-not-reserve-clause-told c =
-    tells_withheld (search rules) c.reserve.ensures c.if-not-reserve.true c.count_refusal.ensures
+    tells_withheld c.args.now (search rules) c.reserve.ensures c.if-not-reserve.true c.count_refusal.ensures
 
 pub returns-clause-told : goal.returns-clause-told
 returns-clause-told c =
-    tells_frame c.reserve.ensures
+    tells_frame c.args.now c.reserve.ensures
     c.if-not-reserve.false
     c.in_ok-frame.ensures.1
     c.in_ok-frame.ensures.2

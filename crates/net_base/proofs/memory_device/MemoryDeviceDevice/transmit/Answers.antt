@@ -7,12 +7,12 @@ pub returns-then-take_answer-clause-told : goal.returns-then-take_answer-clause-
 returns-then-take_answer-clause-told c =
     elim c.then-take_answer.branch [
       | then-take_answer-via-then-take_answer w ↦
-          tells_refused
+          tells_refused c.args.now
           (sym c.take_answer.ensures.refused ∙ w.if-take_answer.true)
           (w.self-is ∙ c.take_answer.ensures.after)
           c.count_refusal.ensures
       | then-take_answer-via-else-take_answer+then-not-reserve w ↦
-          tells_no_room
+          tells_no_room c.args.now
           (sym c.take_answer.ensures.refused ∙ w.if-take_answer.false)
           c.take_answer.ensures.after
           w.reserve.ensures
@@ -22,7 +22,7 @@ returns-then-take_answer-clause-told c =
 
 pub returns-clause-told : goal.returns-clause-told
 returns-clause-told c =
-    tells_leave
+    tells_leave c.args.now
     (sym c.take_answer.ensures.refused ∙ c.if-take_answer.false)
     c.take_answer.ensures.after
     c.reserve.ensures

@@ -1,0 +1,5 @@
+use Rattle.host_machine.proofs.Single.{single}
+use Rattle.host_machine.proofs.laws.ingress_is_single.Goals as goal
+
+pub returns : goal.returns
+returns c = single
