@@ -26,30 +26,32 @@ head_length c (EchoReply ident seq_no) = refl
 head_length c (DstUnreachable reason header) = refl
 head_length c (TimeExceeded code header) = refl
 
-quoted_even : (r : Icmpv4Repr) → length (quoted r) % 2 ≡ 0
+quoted_even : (qs : Bool) (r : Icmpv4Repr) → length (quoted qs r) % 2 ≡ 0
 unfolding header_with front back
-quoted_even (EchoRequest ident seq_no) = refl
-quoted_even (EchoReply ident seq_no) = refl
-quoted_even (DstUnreachable reason header) = refl
-quoted_even (TimeExceeded code header) = refl
+quoted_even qs (EchoRequest ident seq_no) = refl
+quoted_even qs (EchoReply ident seq_no) = refl
+quoted_even qs (DstUnreachable reason header) = refl
+quoted_even qs (TimeExceeded code header) = refl
 
-sums : (r : Icmpv4Repr) (octets : List ℕ) → folded (word_sum (text true r octets)) ≡ 65535
-sums r octets =
-    let before : ℕ = word_sum (head_with 0 r ++ quoted r ++ octets) in
+sums : (qs : Bool) (r : Icmpv4Repr) (octets : List ℕ) → folded (word_sum (text true qs r octets)) ≡ 65535
+sums qs r octets =
+    let before : ℕ = word_sum (head_with 0 r ++ quoted qs r ++ octets) in
     let c : ℕ = 65535 - folded before in
     let even : (n : ℕ) → length (head_with n r) % 2 ≡ 0 = λ n. ap (λ (k : ℕ). k % 2) (head_length n r) in
-    let one = words (head_with 0 r) (quoted r) octets (even 0) (quoted_even r) in
-    let two = words (head_with c r) (quoted r) octets (even c) (quoted_even r) in
+    let one = words (head_with 0 r) (quoted qs r) octets (even 0) (quoted_even qs r) in
+    let two = words (head_with c r) (quoted qs r) octets (even c) (quoted_even qs r) in
     let three = head_words c r (omega arith) in
-    let all : word_sum (head_with c r ++ quoted r ++ octets) ≡ before + c = omega (arith, one, two, three) in
+    let all : word_sum (head_with c r ++ quoted qs r ++ octets) ≡ before + c = omega (arith, one, two, three) in
     ap folded all ∙ summed_up before c refl
 
-checked_sum : (checked summed : Bool) (r : Icmpv4Repr) (octets : List ℕ) → (IsTrue checked → IsTrue summed) → IsTrue checked → folded (word_sum (text summed r octets)) ≡ 65535
-checked_sum checked true r octets both yes' = sums r octets
-checked_sum checked false r octets both yes' = absurd (let bad = both yes' in cc)
+checked_sum : (checked summed qs : Bool) (r : Icmpv4Repr) (octets : List ℕ) → (IsTrue checked → IsTrue summed) → IsTrue checked → folded (word_sum (text summed qs r octets)) ≡ 65535
+checked_sum checked true qs r octets both yes' = sums qs r octets
+checked_sum checked false qs r octets both yes' = absurd (let bad = both yes' in cc)
 
-long : (summed : Bool) (r : Icmpv4Repr) (octets : List ℕ) → 8 ≤ length (text summed r octets)
-long summed r octets = omega (arith, length-append (head_with (sum_of summed r octets) r ++ quoted r) octets, length-append (head_with (sum_of summed r octets) r) (quoted r), head_length (sum_of summed r octets) r)
+long : (summed qs : Bool) (r : Icmpv4Repr) (octets : List ℕ) → 8 ≤ length (text summed qs r octets)
+long summed qs r octets =
+    let c : ℕ = sum_of summed qs r octets in
+    omega (arith, length-append (head_with c r ++ quoted qs r) octets, length-append (head_with c r) (quoted qs r), head_length c r)
 
 request_made : (a b : ℕ) (xs ys : List ℕ) (i s : ℕ) → a ≡ i → b ≡ s → xs ≡ ys → ◌≡◌ {A = Icmpv4Repr × List ℕ} (EchoRequest a b, xs) (EchoRequest i s, ys)
 request_made a b xs ys i s ei es e = rw (ei, es, e) refl
@@ -65,21 +67,21 @@ exceeded_made code p h xs e = rw e refl
 
 pub read_again : ReadAgain
 unfolding head_with
-read_again checked summed (EchoRequest ident seq_no) octets m both = (
-  record { whole_header = long summed (EchoRequest ident seq_no) octets; sum = checked_sum checked summed (EchoRequest ident seq_no) octets both; body = Request refl refl },
+read_again checked summed qs (EchoRequest ident seq_no) octets m both = (
+  record { whole_header = long summed qs (EchoRequest ident seq_no) octets; sum = checked_sum checked summed qs (EchoRequest ident seq_no) octets both; body = Request refl refl },
   request_made _ _ _ _ _ _ (total ident m.0) (total seq_no m.1) refl,
 )
-read_again checked summed (EchoReply ident seq_no) octets m both = (
-  record { whole_header = long summed (EchoReply ident seq_no) octets; sum = checked_sum checked summed (EchoReply ident seq_no) octets both; body = Reply refl refl },
+read_again checked summed qs (EchoReply ident seq_no) octets m both = (
+  record { whole_header = long summed qs (EchoReply ident seq_no) octets; sum = checked_sum checked summed qs (EchoReply ident seq_no) octets both; body = Reply refl refl },
   reply_made _ _ _ _ _ _ (total ident m.0) (total seq_no m.1) refl,
 )
-read_again checked summed (DstUnreachable reason header) octets m both =
-    let q = quoted_again true header whole octets m.1 in (
-      record { whole_header = long summed (DstUnreachable reason header) octets; sum = checked_sum checked summed (DstUnreachable reason header) octets both; body = Unreachable refl q.0 },
-      unreachable_made (reason_of (code_of reason)) reason (quoted_in (header_text true header whole ++ octets)) header octets m.0 q.1,
+read_again checked summed qs (DstUnreachable reason header) octets m both =
+    let q = quoted_again qs header whole octets m.1 in (
+      record { whole_header = long summed qs (DstUnreachable reason header) octets; sum = checked_sum checked summed qs (DstUnreachable reason header) octets both; body = Unreachable refl q.0 },
+      unreachable_made (reason_of (code_of reason)) reason (quoted_in (header_text qs header whole ++ octets)) header octets m.0 q.1,
     )
-read_again checked summed (TimeExceeded code header) octets m both =
-    let q = quoted_again true header whole octets m in (
-      record { whole_header = long summed (TimeExceeded code header) octets; sum = checked_sum checked summed (TimeExceeded code header) octets both; body = Exceeded refl q.0 },
-      exceeded_made code (quoted_in (header_text true header whole ++ octets)) header octets q.1,
+read_again checked summed qs (TimeExceeded code header) octets m both =
+    let q = quoted_again qs header whole octets m in (
+      record { whole_header = long summed qs (TimeExceeded code header) octets; sum = checked_sum checked summed qs (TimeExceeded code header) octets both; body = Exceeded refl q.0 },
+      exceeded_made code (quoted_in (header_text qs header whole ++ octets)) header octets q.1,
     )

@@ -19,6 +19,10 @@ code_of (Unknown n) = n
 abbrev pub reason_of : ℕ → Icmpv4DstUnreachable
 reason_of n = if n == 2 then ProtoUnreachable else if n == 3 then PortUnreachable else Unknown n
 
+-- reasons are the same if their codes are
+abbrev pub is_same : Icmpv4DstUnreachable → Icmpv4DstUnreachable → Bool
+is_same p q = code_of p == code_of q
+
 abbrev pub type_in : List ℕ → ℕ
 type_in octets = slice_index octets 0
 
@@ -81,20 +85,20 @@ rest_of (TimeExceeded code header) = 0 ∷ 0 ∷ 0 ∷ 0 ∷ []
 unfoldable pub head_with : ℕ → Icmpv4Repr → List ℕ
 head_with sum r = type_of r ∷ message_code r ∷ (to_be_bytes w16 sum ++ rest_of r)
 
--- a quoted header is emitted anew from its values, as that of a whole packet
-abbrev pub quoted : Icmpv4Repr → List ℕ
-quoted (EchoRequest ident seq_no) = []
-quoted (EchoReply ident seq_no) = []
-quoted (DstUnreachable reason header) = header_text true header whole
-quoted (TimeExceeded code header) = header_text true header whole
+-- a quoted header is emitted anew from its values, as that of a whole packet, with its checksum or with 0 in its place
+abbrev pub quoted : Bool → Icmpv4Repr → List ℕ
+quoted quoted_summed (EchoRequest ident seq_no) = []
+quoted quoted_summed (EchoReply ident seq_no) = []
+quoted quoted_summed (DstUnreachable reason header) = header_text quoted_summed header whole
+quoted quoted_summed (TimeExceeded code header) = header_text quoted_summed header whole
 
 -- its checksum, or 0 where that is off: that of the message with 0 in its place
-abbrev pub sum_of : Bool → Icmpv4Repr → List ℕ → ℕ
-sum_of summed r octets = if summed then checksum_of (head_with 0 r ++ quoted r ++ octets) else 0
+abbrev pub sum_of : Bool → Bool → Icmpv4Repr → List ℕ → ℕ
+sum_of summed quoted_summed r octets = if summed then checksum_of (head_with 0 r ++ quoted quoted_summed r ++ octets) else 0
 
 -- the text of a message with its data
-abbrev pub text : Bool → Icmpv4Repr → List ℕ → List ℕ
-text summed r octets = head_with (sum_of summed r octets) r ++ quoted r ++ octets
+abbrev pub text : Bool → Bool → Icmpv4Repr → List ℕ → List ℕ
+text summed quoted_summed r octets = head_with (sum_of summed quoted_summed r octets) r ++ quoted quoted_summed r ++ octets
 
 -- a quoted header is one of a packet of at most 65,535 octets
 abbrev pub QuotesPacket : Icmpv4Repr → Type 0
@@ -110,10 +114,10 @@ IsMessage (EchoReply ident seq_no) = (ident < 2 ^ 16) × (seq_no < 2 ^ 16)
 IsMessage (DstUnreachable reason header) = (reason_of (code_of reason) ≡ reason) × IsHeader header whole
 IsMessage (TimeExceeded code header) = IsHeader header whole
 
--- a text is read as its values and its data, if its checksum is there or isn't asked for
+-- a text is read as its values and its data, if its checksum is there or isn't asked for; that of a quoted header is never asked for
 abbrev pub ReadAgain : Type 0
-ReadAgain = (checked summed : Bool) (r : Icmpv4Repr) (octets : List ℕ) → IsMessage r → (IsTrue checked → IsTrue summed)
-    → IsIcmpv4 checked (text summed r octets) × (icmpv4_in (text summed r octets) ≡ (r, octets))
+ReadAgain = (checked summed quoted_summed : Bool) (r : Icmpv4Repr) (octets : List ℕ) → IsMessage r → (IsTrue checked → IsTrue summed)
+    → IsIcmpv4 checked (text summed quoted_summed r octets) × (icmpv4_in (text summed quoted_summed r octets) ≡ (r, octets))
 
 -- an echo request whose checksum is right
 pub record IsEchoRequest (octets : List ℕ) : Type 0 where

@@ -1,6 +1,8 @@
 //! ICMP for IPv4 (RFC 792): echo messages, and errors with their quotations.
-ghost use Rattle.std.specs.Prelude.{◌≡◌, ◌+◌, ◌%◌, ◌<◌, ◌≤◌, ◌^◌, ◌++◌, drop, length, true};
+ghost use Rattle.std.specs.Prelude.{◌≡◌, ◌+◌, ◌%◌, ◌<◌, ◌≤◌, ◌^◌, ◌++◌, drop, length, true, if◌then◌else◌};
 ghost use Rattle.std.specs.Option.{SomeIff, option_map};
+ghost use Rattle.std.specs.Cmp.Rules.{comparing};
+ghost use Rattle.std.proofs.Common.{rules};
 ghost use Rattle.ip_wire.specs.Checksum.{checksum_of};
 ghost use Rattle.ip_wire.specs.Octets.{u16_at};
 ghost use Rattle.control_wire.specs.Icmpv4.{IsEchoRequest};
@@ -14,8 +16,9 @@ use ip_wire::octets::u16_at;
 /// The length of a message's header, in octets.
 pub const HEADER_LEN: usize = 8;
 
-/// Why a destination is unreachable.
-#[derive(Clone, Copy, Debug, PartialEq, Eq)]
+/// Why a destination is unreachable. Reasons are equal if their codes are, so that
+/// [`Icmpv4DstUnreachable::Unknown`] of 3 is [`Icmpv4DstUnreachable::PortUnreachable`].
+#[derive(Clone, Copy, Debug)]
 pub enum Icmpv4DstUnreachable {
     /// Nobody there takes packets of this protocol.
     ProtoUnreachable,
@@ -47,6 +50,21 @@ impl Icmpv4DstUnreachable {
             Icmpv4DstUnreachable::Unknown(other) => other,
         }
     }
+}
+
+/// Equal exactly if the codes are.
+impl PartialEq for Icmpv4DstUnreachable {
+    ghost eq = { spec.is_same };
+
+    ghost laws = { Prim.search (comparing, rules) };
+
+    fn eq(&self, other: &Icmpv4DstUnreachable) -> bool {
+        self.number() == other.number()
+    }
+}
+
+impl Eq for Icmpv4DstUnreachable {
+    ghost laws = { Prim.search (comparing, rules) };
 }
 
 /// The values of a message, but its data: what an echo message carries, or what is quoted behind
@@ -97,12 +115,13 @@ impl Icmpv4Repr {
 
     /// Appends the message with its data, of fewer than 65,536 octets. Its checksum is 0 where it
     /// isn't `summed`. A quoted header has to be one of a packet of at most 65,535 octets; it is
-    /// emitted anew, as that of a whole packet and with its checksum.
-    pub fn emit(&self, payload: &[u8], summed: bool, out: &mut FrameBuffer)
+    /// emitted anew, as that of a whole packet. Its own checksum is 0 where it isn't
+    /// `quoted_summed`.
+    pub fn emit(&self, payload: &[u8], summed: bool, quoted_summed: bool, out: &mut FrameBuffer)
         requires quoted { spec.QuotesPacket self.now }
         requires short { length payload.now < 2 ^ 16 }
         requires room { length out.old + spec.header_len self.now + length payload.now ≤ 1514 }
-        ensures items { out.new ≡ out.old ++ spec.text summed self.now payload.now }
+        ensures items { out.new ≡ out.old ++ spec.text summed quoted_summed self.now payload.now }
         ensures len { length out.new ≡ length out.old + spec.header_len self.now + length payload.now }
     {
         match self {
@@ -110,7 +129,7 @@ impl Icmpv4Repr {
                 emit_parts(self, &[], payload, summed, out);
             }
             Icmpv4Repr::DstUnreachable { header, .. } | Icmpv4Repr::TimeExceeded { header, .. } => {
-                let quoted = header.octets(&Ipv4Fragment::WHOLE, true);
+                let quoted = header.octets(&Ipv4Fragment::WHOLE, quoted_summed);
                 emit_parts(self, &quoted, payload, summed, out);
             }
         }
@@ -142,7 +161,7 @@ impl EchoRequest<'_> {
     #[inline(always)]
     pub fn emit_reply(&self, summed: bool, out: &mut FrameBuffer)
         requires room { length out.old + length self.now.octets.now ≤ 1514 }
-        ensures items { out.new ≡ out.old ++ spec.text summed (spec.echo_reply_to self.now.octets.now) (drop 8 self.now.octets.now) }
+        ensures items { out.new ≡ out.old ++ spec.text summed true (spec.echo_reply_to self.now.octets.now) (drop 8 self.now.octets.now) }
         ensures len { length out.new ≡ length out.old + length self.now.octets.now }
     {
         let request = self.octets;
@@ -169,7 +188,7 @@ fn reply_sum(request: &[u8], reply: &Icmpv4Repr) -> u16
     requires reply { reply.now ≡ spec.echo_reply_to request.now }
     requires ident { u16_at request.now 4 < 2 ^ 16 }
     requires seq_no { u16_at request.now 6 < 2 ^ 16 }
-    ensures { result ≡ spec.sum_of true reply.now (drop 8 request.now) }
+    ensures { result ≡ spec.sum_of true true reply.now (drop 8 request.now) }
 {
     let sum = (u32::from(u16_at(request, 2)) + 0x0800) % 0xffff;
     if sum == 0 {
@@ -215,12 +234,14 @@ fn emit_parts(
     summed: bool,
     out: &mut FrameBuffer,
 )
-    requires quoted { quoted.now ≡ spec.quoted message.now }
     requires quoted_even { length quoted.now % 2 ≡ 0 }
     requires quoted_short { length quoted.now < 2 ^ 16 }
     requires short { length payload.now < 2 ^ 16 }
     requires room { length out.old + 8 + length quoted.now + length payload.now ≤ 1514 }
-    ensures items { out.new ≡ out.old ++ spec.text summed message.now payload.now }
+    ensures items { out.new ≡ out.old ++ spec.head_with
+        (if summed then checksum_of (spec.head_with 0 message.now ++ quoted.now ++ payload.now) else 0)
+        message.now
+        ++ quoted.now ++ payload.now }
     ensures len { length out.new ≡ length out.old + 8 + length quoted.now + length payload.now }
 {
     let sum = if summed {

@@ -4,7 +4,7 @@ use Rattle.std.specs.Prelude.{pos}
 use Rattle.std.specs.FinMap as map
 use Rattle.std.specs.FinMap.{get-insert, get-empty}
 use Rattle.iface_tables.specs.declared.neighbor.Neighbor.{Neighbor}
-use Rattle.iface_tables.specs.declared.neighbor.Answer.TheVariants.{Found, NotFound}
+use Rattle.iface_tables.specs.declared.neighbor.Answer.TheVariants.{Found, NotFound, RateLimited}
 use Rattle.iface_tables.specs.Neighbor.{answer_of, renewed}
 use Rattle.iface_tables.proofs.NeighborLemmas.{address_total}
 use Rattle.host_machine.specs.Example.{sender, sender_hardware, learnt, heard, nobody}
@@ -20,6 +20,13 @@ is_known = rw (is_learnt, get-insert address_total (map.insert map.empty sender 
 
 pub is_unknown : answer_of (nobody (pos 0)) sender (pos 0) ≡ NotFound
 is_unknown = rw get-empty refl
+
+-- a second later the silence has ended, and not before
+pub is_silent : answer_of (nobody (pos 1000000)) sender (pos 999999) ≡ RateLimited
+is_silent = rw get-empty refl
+
+pub is_unknown_later : answer_of (nobody (pos 1000000)) sender (pos 1000000) ≡ NotFound
+is_unknown_later = rw get-empty refl
 
 pub none_renewed : renewed (nobody (pos 0)) sender sender_hardware (pos 60000000) ≡ nobody (pos 0)
 none_renewed = rw get-empty refl

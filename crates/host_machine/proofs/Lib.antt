@@ -5,3 +5,4 @@ pub mod Malformed
 mod Single
 mod Noted
 mod Exchange
+mod Listening

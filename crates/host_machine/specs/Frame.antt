@@ -35,7 +35,7 @@ limited c r = record r { window_len = window_within c.max_burst_size c.max_trans
 -- a payload, each form with its checksum where the device leaves that to the stack. A checksum covers the pseudo-header, where it has
 -- one, and the payload, and no octet behind it
 abbrev pub payload_text : DeviceCapabilities → PacketV4 → IpPayload → List ℕ
-payload_text c p (Icmpv4 message octets) = icmpv4.text (is_tx c.checksum.icmpv4) message octets
+payload_text c p (Icmpv4 message octets) = icmpv4.text (is_tx c.checksum.icmpv4) (is_tx c.checksum.ipv4) message octets
 payload_text c p (Udp header octets) = udp.text (is_tx c.checksum.udp) (address.Ipv4 p.src_addr) (address.Ipv4 p.dst_addr) header octets
 payload_text c p (Tcp header octets) = tcp.text (is_tx c.checksum.tcp) (address.Ipv4 p.src_addr) (address.Ipv4 p.dst_addr) (limited c header) octets
 payload_text c p (Raw number octets) = octets

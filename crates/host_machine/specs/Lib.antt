@@ -21,3 +21,4 @@ pub mod Step
 pub mod Run
 pub mod Laws
 pub mod Example
+pub mod ExampleSockets

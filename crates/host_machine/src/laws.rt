@@ -1,5 +1,6 @@
 //! Laws that follow from the definitions alone, each as the contract of an empty function.
 ghost use Rattle.host_machine.specs.Example.{EchoIsAnswered, RequestIsAnswered, SenderIsDiscovered};
+ghost use Rattle.host_machine.specs.ExampleSockets.{ConfigurationsAreTested, ConnectionIsReset, DatagramIsDelivered, DatagramIsRefused, ProtocolIsRefused, RawSocketHears, SocketWaits, WindowFitsBurst};
 ghost use Rattle.host_machine.specs.Laws.{DiscoveriesAreNoted, IngressIsSingle, MalformedIsDropped, RunsJoin, RunsKeepLaws};
 
 /// A frame whose Ethernet, ARP or IPv4 header is malformed sends nothing, and leaves the host as the same
@@ -44,4 +45,46 @@ pub fn echo_is_answered()
 /// address goes in place of the reply.
 pub fn sender_is_discovered()
     ensures { SenderIsDiscovered }
+{}
+
+/// A worked example: a datagram reaches the socket that listens at its port.
+pub fn datagram_is_delivered()
+    ensures { DatagramIsDelivered }
+{}
+
+/// A worked example: a datagram for a port at which no socket listens is answered by the error,
+/// which quotes it.
+pub fn datagram_is_refused()
+    ensures { DatagramIsRefused }
+{}
+
+/// A worked example: a raw socket hears a whole packet, and no error is sent back for it.
+pub fn raw_socket_hears()
+    ensures { RawSocketHears }
+{}
+
+/// A worked example: a segment that opens a connection, which no socket takes, is answered by a reset.
+pub fn connection_is_reset()
+    ensures { ConnectionIsReset }
+{}
+
+/// A worked example: a packet of a protocol that nobody speaks is answered by the error, which
+/// quotes it.
+pub fn protocol_is_refused()
+    ensures { ProtocolIsRefused }
+{}
+
+/// A worked example: a socket whose destination isn't known waits for a second, and is then asked again.
+pub fn socket_waits()
+    ensures { SocketWaits }
+{}
+
+/// A worked example: a window is at most what a device's bursts can take.
+pub fn window_fits_burst()
+    ensures { WindowFitsBurst }
+{}
+
+/// A worked example: which configurations are refused.
+pub fn configurations_are_tested()
+    ensures { ConfigurationsAreTested }
 {}

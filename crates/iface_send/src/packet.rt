@@ -123,6 +123,7 @@ pub fn emit_payload(packet: &PacketV4<'_>, capabilities: &DeviceCapabilities, ou
         IpPayload::Icmpv4(message, octets) => message.emit(
             octets,
             capabilities.checksum.icmpv4.tx(),
+            capabilities.checksum.ipv4.tx(),
             out,
         ),
         IpPayload::EchoReply(request) => {

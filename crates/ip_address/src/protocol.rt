@@ -1,11 +1,14 @@
 //! The protocols over IP, by their numbers, and IP's versions.
 ghost use Rattle.std.specs.Prelude.{◌≡◌};
+ghost use Rattle.std.specs.Cmp.Rules.{comparing};
+ghost use Rattle.std.proofs.Common.{rules};
 ghost use Rattle.ip_address.specs.Protocol as spec;
 
 use crate::ip::IpAddress;
 
-/// What a packet's payload is.
-#[derive(Clone, Copy, Debug, PartialEq, Eq)]
+/// What a packet's payload is. Protocols are equal if their numbers are, so that
+/// [`IpProtocol::Unknown`] of 17 is [`IpProtocol::Udp`].
+#[derive(Clone, Copy, Debug)]
 pub enum IpProtocol {
     /// The hop-by-hop options of IPv6.
     HopByHop,
@@ -49,6 +52,21 @@ impl IpProtocol {
             IpProtocol::Unknown(other) => other,
         }
     }
+}
+
+/// Equal exactly if the numbers are.
+impl PartialEq for IpProtocol {
+    ghost eq = { spec.is_same };
+
+    ghost laws = { Prim.search (comparing, rules) };
+
+    fn eq(&self, other: &IpProtocol) -> bool {
+        self.number() == other.number()
+    }
+}
+
+impl Eq for IpProtocol {
+    ghost laws = { Prim.search (comparing, rules) };
 }
 
 /// A version of IP.

@@ -1,5 +1,5 @@
 -- Ethernet II (IEEE 802.3, RFC 894): destination, source, type, payload.
-use Rattle.std.specs.Prelude.{◌≡◌, ℕ, ◌+◌, ◌<◌, ◌≤◌, ◌^◌, ◌==◌, List, ◌++◌, length, drop, slice_range, if◌then◌else◌}
+use Rattle.std.specs.Prelude.{◌≡◌, ℕ, ◌+◌, ◌<◌, ◌≤◌, ◌^◌, ◌==◌, Bool, List, ◌++◌, length, drop, slice_range, if◌then◌else◌}
 use Rattle.std.specs.Borrow.{Bor}
 use Rattle.ip_wire.specs.Octets.{u16_at, AreOctets}
 use Rattle.std.specs.Int.{w16, to_be_bytes}
@@ -21,6 +21,10 @@ number_of (Unknown n) = n
 
 abbrev pub protocol_of : ℕ → EthernetProtocol
 protocol_of n = if n == 0x0800 then Ipv4 else if n == 0x0806 then Arp else if n == 0x86dd then Ipv6 else Unknown n
+
+-- protocols are the same if their type numbers are
+abbrev pub is_same : EthernetProtocol → EthernetProtocol → Bool
+is_same p q = number_of p == number_of q
 
 -- a header and a payload, without where that lies in memory
 abbrev pub parts : EthernetRepr × Bor (List ℕ) → EthernetRepr × List ℕ

@@ -1,6 +1,8 @@
 //! Ethernet II frames: destination, source, type, payload.
 ghost use Rattle.std.specs.Prelude.{◌≡◌, ◌+◌, ◌≤◌, ◌++◌, length};
 ghost use Rattle.std.specs.Option.{SomeIff, option_map};
+ghost use Rattle.std.specs.Cmp.Rules.{comparing};
+ghost use Rattle.std.proofs.Common.{rules};
 ghost use Rattle.ip_wire.specs.Ethernet as spec;
 
 use crate::emit::FrameBuffer;
@@ -21,8 +23,9 @@ pub(crate) fn address_at(octets: &[u8], at: usize) -> EthernetAddress
     EthernetAddress(address)
 }
 
-/// What a frame's payload is.
-#[derive(Clone, Copy, Debug, PartialEq, Eq)]
+/// What a frame's payload is. Protocols are equal if their type numbers are, so that
+/// [`EthernetProtocol::Unknown`] of 0x0800 is [`EthernetProtocol::Ipv4`].
+#[derive(Clone, Copy, Debug)]
 pub enum EthernetProtocol {
     Ipv4,
     Arp,
@@ -55,6 +58,21 @@ impl EthernetProtocol {
             EthernetProtocol::Unknown(other) => other,
         }
     }
+}
+
+/// Equal exactly if the type numbers are.
+impl PartialEq for EthernetProtocol {
+    ghost eq = { spec.is_same };
+
+    ghost laws = { Prim.search (comparing, rules) };
+
+    fn eq(&self, other: &EthernetProtocol) -> bool {
+        self.number() == other.number()
+    }
+}
+
+impl Eq for EthernetProtocol {
+    ghost laws = { Prim.search (comparing, rules) };
 }
 
 /// The values of a frame's header.

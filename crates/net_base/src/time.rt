@@ -2,7 +2,7 @@
 //!
 //! An [`Instant`] is a signed number of microseconds since an origin of the caller's choice, a
 //! [`Duration`] an unsigned one. In contracts both are their numbers.
-ghost use Rattle.std.specs.Prelude.{◌≡◌, ◌*◌, ◌<◌, ◌^◌, ℤ, pos, ◌*ℤ◌, ◌<ℤ◌, ◌≤ℤ◌};
+ghost use Rattle.std.specs.Prelude.{◌≡◌, ◌*◌, ◌<◌, ◌^◌, ℤ, pos, neg_ℤ, ◌*ℤ◌, ◌<ℤ◌, ◌≤ℤ◌};
 
 use std::marker::Model;
 use std::ops::{Add, Sub};
@@ -35,7 +35,7 @@ impl Duration {
         Duration { micros }
     }
 
-    /// A span of so many milliseconds. It has to fit in 64 bits of microseconds.
+    /// A span of so many milliseconds. The span has to be shorter than 2^64 microseconds.
     pub const fn from_millis(millis: u64) -> Duration
         requires { millis * 1000 < 2 ^ 64 }
         ensures { result ≡ millis * 1000 }
@@ -43,7 +43,7 @@ impl Duration {
         Duration::from_micros(millis * 1000)
     }
 
-    /// A span of so many seconds. It has to fit in 64 bits of microseconds.
+    /// A span of so many seconds. The span has to be shorter than 2^64 microseconds.
     pub const fn from_secs(secs: u64) -> Duration
         requires { secs * 1000000 < 2 ^ 64 }
         ensures { result ≡ secs * 1000000 }
@@ -67,6 +67,7 @@ impl Default for Duration {
     }
 }
 
+/// The sum of two spans. It has to be shorter than 2^64 microseconds.
 impl Add<Duration> for Duration {
     type Output = Duration;
 
@@ -83,6 +84,7 @@ impl Add<Duration> for Duration {
     }
 }
 
+/// What a span is longer than another. The other may be as long as it, and no longer.
 impl Sub<Duration> for Duration {
     type Output = Duration;
 
@@ -127,18 +129,20 @@ impl Instant {
         Instant { micros }
     }
 
-    /// The moment so many milliseconds after the origin. It has to fit in 63 bits of microseconds.
+    /// The moment so many milliseconds after the origin, or before it where they are negative. The
+    /// moment has to lie from -2^63 microseconds up to before 2^63.
     pub const fn from_millis(millis: i64) -> Instant
-        requires low { pos 0 ≤ℤ millis }
+        requires low { neg_ℤ (pos (2 ^ 63)) ≤ℤ (millis *ℤ pos 1000) }
         requires high { (millis *ℤ pos 1000) <ℤ pos (2 ^ 63) }
         ensures { result ≡ millis *ℤ pos 1000 }
     {
         Instant::from_micros(millis * 1000)
     }
 
-    /// The moment so many seconds after the origin. It has to fit in 63 bits of microseconds.
+    /// The moment so many seconds after the origin, or before it where they are negative. The
+    /// moment has to lie from -2^63 microseconds up to before 2^63.
     pub const fn from_secs(secs: i64) -> Instant
-        requires low { pos 0 ≤ℤ secs }
+        requires low { neg_ℤ (pos (2 ^ 63)) ≤ℤ (secs *ℤ pos 1000000) }
         requires high { (secs *ℤ pos 1000000) <ℤ pos (2 ^ 63) }
         ensures { result ≡ secs *ℤ pos 1000000 }
     {
@@ -161,34 +165,36 @@ impl Default for Instant {
     }
 }
 
+/// The moment so long after another. It has to lie before 2^63 microseconds.
 impl Add<Duration> for Instant {
     type Output = Instant;
 
-    ghost use Rattle.std.specs.Prelude.{◌≡◌, pos, ◌+ℤ◌, ◌<ℤ◌, ◌^◌, ◌<◌};
+    ghost use Rattle.std.specs.Prelude.{◌≡◌, pos, ◌+ℤ◌, ◌<ℤ◌, ◌^◌};
 
-    ghost can_add = { λ t d. ((t +ℤ pos d) <ℤ pos (2 ^ 63)) × (d < 2 ^ 63) };
+    ghost can_add = { λ t d. (t +ℤ pos d) <ℤ pos (2 ^ 63) };
 
     ghost add_gives = { λ t d r. r ≡ t +ℤ pos d };
 
     fn add(self, by: Duration) -> Instant {
         Instant {
-            micros: self.micros + by.micros as i64,
+            micros: (i128::from(self.micros) + i128::from(by.micros)) as i64,
         }
     }
 }
 
+/// The span since another moment. That one may not be the later of the two.
 impl Sub<Instant> for Instant {
     type Output = Duration;
 
     ghost use Rattle.std.specs.Prelude.{◌≡◌, pos, ◌+ℤ◌, ◌≤ℤ◌};
 
-    ghost can_sub = { λ t s. (pos 0 ≤ℤ s) × (s ≤ℤ t) };
+    ghost can_sub = { λ t s. s ≤ℤ t };
 
     ghost sub_gives = { λ t s r. s +ℤ pos r ≡ t };
 
     fn sub(self, since: Instant) -> Duration {
         Duration {
-            micros: (self.micros - since.micros) as u64,
+            micros: self.micros.abs_diff(since.micros),
         }
     }
 }

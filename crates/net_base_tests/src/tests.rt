@@ -1,14 +1,16 @@
-// Each test of the device also holds where any one request for memory is refused.
+// Each test also holds where any one request for memory is refused.
 ghost use Rattle.std.specs.Prelude.{◌≡◌, length};
 
 use net_base::memory_device::{MemoryDevice, PushError};
 use net_base::phy::{
-    ChecksumCapabilities, Device, DeviceCapabilities, FRAME_BUFFER_SIZE, Medium, PacketMeta,
+    Checksum, ChecksumCapabilities, Device, DeviceCapabilities, FRAME_BUFFER_SIZE, Medium,
+    PacketMeta,
 };
 use net_base::rand::Rand;
 use net_base::time::{Duration, Instant};
 use std::alloc::Global;
 use std::process::Abort;
+use std::test::Fail;
 
 const NOW: Instant = Instant::ZERO;
 
@@ -74,10 +76,11 @@ fn takes_frames_up_to_the_buffer(rt: HostRuntime) {
 }
 
 #[test]
-fn refuses_leave_by_the_list(rt: HostRuntime) {
+fn refuses_leave_by_the_list(rt: HostRuntime) -> Result<(), Fail> {
     let mut device = empty(rt.alloc());
-    let Ok(answers) = Vec::from_array(rt.alloc(), [true, false]) else {
-        return;
+    let answers = match Vec::from_array(rt.alloc(), [true, false]) {
+        Ok(answers) => answers,
+        Err(_) => Vec::from_array(rt.alloc(), [true, false])?,
     };
     device.refuse(answers);
     assert!(rt; !device.transmit(NOW));
@@ -86,6 +89,7 @@ fn refuses_leave_by_the_list(rt: HostRuntime) {
         assert_eq!(rt; device.refusals(), 2);
     }
     assert!(rt; device.transmit(NOW));
+    Ok(())
 }
 
 #[test]
@@ -105,15 +109,27 @@ fn sends_with_leave(rt: HostRuntime) {
 }
 
 #[test]
-fn errors_print_their_names(rt: HostRuntime) {
+fn errors_print_their_names(rt: HostRuntime) -> Result<(), Fail> {
     for (error, name) in [
         (PushError::TooLong, "TooLong"),
         (PushError::NoMemory, "NoMemory"),
     ] {
-        if let Ok(text) = format!(in rt.alloc(); "{error}") {
-            assert_eq!(rt; text.as_str(), name);
-        }
+        let text = match format!(in rt.alloc(); "{error}") {
+            Ok(text) => text,
+            Err(_) => format!(in rt.alloc(); "{error}")?,
+        };
+        assert_eq!(rt; text.as_str(), name);
     }
+    Ok(())
+}
+
+#[test]
+fn constants(rt: HostRuntime) {
+    let all = ChecksumCapabilities::ALL;
+    for checksum in [all.ipv4, all.udp, all.tcp, all.icmpv4, all.icmpv6] {
+        assert_eq!(rt; checksum, Checksum::Both);
+    }
+    assert_eq!(rt; PacketMeta::EMPTY.id, 0);
 }
 
 #[test]
@@ -136,4 +152,27 @@ fn adds_and_subtracts_moments(rt: HostRuntime) {
         Duration::from_millis(999)
     );
     assert_eq!(rt; later.total_micros(), 2_500_000);
+}
+
+#[test]
+fn moments_before_the_origin(rt: HostRuntime) {
+    let first = Instant::from_micros(-0x8000_0000_0000_0000);
+    let last = Instant::from_micros(0x7fff_ffff_ffff_ffff);
+    let longest = Duration::from_micros(0xffff_ffff_ffff_ffff);
+    assert_eq!(rt; first + longest, last);
+    assert_eq!(rt; last - first, longest);
+    assert_eq!(rt; Instant::from_secs(-2), Instant::from_millis(-2_000));
+    assert_eq!(rt; Instant::from_millis(-2_000).total_micros(), -2_000_000);
+    assert_eq!(rt;
+        Instant::from_secs(-2) + Duration::from_secs(3),
+        Instant::from_secs(1)
+    );
+    assert_eq!(rt;
+        Instant::from_secs(1) - Instant::from_secs(-2),
+        Duration::from_secs(3)
+    );
+    assert_eq!(rt;
+        Instant::from_secs(-1) - Instant::from_secs(-2),
+        Duration::from_secs(1)
+    );
 }

@@ -151,16 +151,17 @@ fn ipv6_networks(rt: HostRuntime) -> Result<(), Fail> {
 #[test]
 fn printed_addresses(rt: HostRuntime) -> Result<(), Fail> {
     let own = Ipv4Address::new(192, 168, 69, 1);
+    let address = EthernetAddress([0x02, 0x1a, 0x00, 0xc5, 0x7e, 0x01]);
     let ip = HardwareAddress::Ip;
-    let ethernet = HardwareAddress::Ethernet(OWN);
+    let ethernet = HardwareAddress::Ethernet(address);
     assert_eq!(rt; format!(in rt.alloc(); "{own}")?.as_str(), "192.168.69.1");
     assert_eq!(rt;
-        format!(in rt.alloc(); "{OWN}")?.as_str(),
-        "02-00-00-00-00-01"
+        format!(in rt.alloc(); "{address}")?.as_str(),
+        "02-1a-00-c5-7e-01"
     );
     assert_eq!(rt;
         format!(in rt.alloc(); "{ethernet}")?.as_str(),
-        "02-00-00-00-00-01"
+        "02-1a-00-c5-7e-01"
     );
     assert_eq!(rt;
         format!(in rt.alloc(); "{ip}")?.as_str(),

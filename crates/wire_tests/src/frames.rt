@@ -82,6 +82,21 @@ fn a_reply_is_emitted(rt: HostRuntime) -> Result<(), Fail> {
 }
 
 #[test]
+fn types_of_frames(rt: HostRuntime) {
+    for (number, protocol) in [
+        (0x0800, EthernetProtocol::Ipv4),
+        (0x0806, EthernetProtocol::Arp),
+        (0x86dd, EthernetProtocol::Ipv6),
+        (0x88cc, EthernetProtocol::Unknown(0x88cc)),
+    ] {
+        assert_eq!(rt; EthernetProtocol::from_number(number), protocol);
+        assert_eq!(rt; protocol.number(), number);
+        assert_eq!(rt; EthernetProtocol::Unknown(number), protocol);
+        assert_ne!(rt; EthernetProtocol::Unknown(number + 1), protocol);
+    }
+}
+
+#[test]
 fn packets_for_others_are_refused(rt: HostRuntime) -> Result<(), Fail> {
     // hardware type 6, protocol IPv6, longer addresses, operation 3 (RARP)
     for (place, octet) in [(15, 6), (16, 0x86), (18, 8), (19, 16), (21, 3), (21, 0)] {

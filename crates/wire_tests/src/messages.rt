@@ -1,3 +1,5 @@
+ghost use Rattle.std.specs.Prelude.{◌≡◌};
+
 use control_wire::{Icmpv4DstUnreachable, Icmpv4Repr};
 use ip_wire::emit::FrameBuffer;
 use ip_wire::ipv4_packet::Ipv4Repr;
@@ -13,11 +15,49 @@ const REPLY: [u8; 12] = [
     0x00, 0x00, 0x29, 0x04, 0x12, 0x34, 0x00, 0x01, 0x61, 0x62, 0x63, 0x64,
 ];
 
+/// `hi` from 192.168.69.100, port 5000, to 192.168.69.1, port 6969.
+const DATAGRAM: [u8; 10] = [0x13, 0x88, 0x1b, 0x39, 0x00, 0x0a, 0x5c, 0xf9, 0x68, 0x69];
+
+/// A port unreachable that quotes all of it: eight octets, the quoted header, the datagram.
+const PORT_UNREACHABLE: [u8; 38] = [
+    0x03, 0x03, 0x08, 0xcf, 0x00, 0x00, 0x00, 0x00, 0x45, 0x00, 0x00, 0x1e, 0x00, 0x00, 0x40, 0x00,
+    0x40, 0x11, 0x2f, 0x19, 0xc0, 0xa8, 0x45, 0x64, 0xc0, 0xa8, 0x45, 0x01, 0x13, 0x88, 0x1b, 0x39,
+    0x00, 0x0a, 0x5c, 0xf9, 0x68, 0x69,
+];
+
+/// Time exceeded in transit (RFC 792): type 11, code 0, checksum, four octets of 0, the header and
+/// the first eight octets of the datagram.
+const TIME_EXCEEDED: [u8; 36] = [
+    0x0b, 0x00, 0x69, 0x3b, 0x00, 0x00, 0x00, 0x00, 0x45, 0x00, 0x00, 0x1e, 0x00, 0x00, 0x40, 0x00,
+    0x01, 0x11, 0x6e, 0x19, 0xc0, 0xa8, 0x45, 0x64, 0xc0, 0xa8, 0x45, 0x01, 0x13, 0x88, 0x1b, 0x39,
+    0x00, 0x0a, 0x5c, 0xf9,
+];
+
+/// The same with 0 for the quoted header's checksum.
+const UNSUMMED_QUOTATION: [u8; 36] = [
+    0x0b, 0x00, 0xd7, 0x54, 0x00, 0x00, 0x00, 0x00, 0x45, 0x00, 0x00, 0x1e, 0x00, 0x00, 0x40, 0x00,
+    0x01, 0x11, 0x00, 0x00, 0xc0, 0xa8, 0x45, 0x64, 0xc0, 0xa8, 0x45, 0x01, 0x13, 0x88, 0x1b, 0x39,
+    0x00, 0x0a, 0x5c, 0xf9,
+];
+
+/// The header that the datagram comes behind.
+fn quoted_header(hop_limit: u8) -> Ipv4Repr
+    ensures { result.payload_len ≡ 10 }
+{
+    Ipv4Repr {
+        src_addr: Ipv4Address::new(192, 168, 69, 100),
+        dst_addr: Ipv4Address::new(192, 168, 69, 1),
+        next_header: IpProtocol::Udp,
+        payload_len: 10,
+        hop_limit,
+    }
+}
+
 /// The octets of a message.
 fn emitted(message: Icmpv4Repr, payload: &[u8; 4], summed: bool) -> FrameBuffer {
     let mut out = FrameBuffer::new();
     if let Icmpv4Repr::EchoRequest { .. } | Icmpv4Repr::EchoReply { .. } = message {
-        message.emit(payload, summed, &mut out);
+        message.emit(payload, summed, true, &mut out);
     }
     out
 }
@@ -66,29 +106,42 @@ fn what_is_no_message(rt: HostRuntime) {
     assert!(rt; Icmpv4Repr::parse(&no_quotation, false).is_none());
 }
 
-/// A port unreachable that quotes a datagram from 192.168.69.100 to 192.168.69.1, ports 5000 and
-/// 6969: its header, its eight octets and its payload, `hi`.
+#[test]
+fn reasons(rt: HostRuntime) {
+    for (code, reason) in [
+        (2, Icmpv4DstUnreachable::ProtoUnreachable),
+        (3, Icmpv4DstUnreachable::PortUnreachable),
+        (4, Icmpv4DstUnreachable::Unknown(4)),
+    ] {
+        assert_eq!(rt; Icmpv4DstUnreachable::from_number(code), reason);
+        assert_eq!(rt; reason.number(), code);
+        assert_eq!(rt; Icmpv4DstUnreachable::Unknown(code), reason);
+        assert_ne!(rt; Icmpv4DstUnreachable::Unknown(code + 1), reason);
+    }
+}
+
 #[test]
 fn a_port_unreachable(rt: HostRuntime) {
-    let header = Ipv4Repr {
-        src_addr: Ipv4Address::new(192, 168, 69, 100),
-        dst_addr: Ipv4Address::new(192, 168, 69, 1),
-        next_header: IpProtocol::Udp,
-        payload_len: 10,
-        hop_limit: 64,
-    };
-    let datagram = [0x13, 0x88, 0x1b, 0x39, 0x00, 0x0a, 0x5c, 0xf9, 0x68, 0x69];
     let message = Icmpv4Repr::DstUnreachable {
         reason: Icmpv4DstUnreachable::PortUnreachable,
-        header,
+        header: quoted_header(64),
     };
     let mut out = FrameBuffer::new();
-    message.emit(&datagram, true, &mut out);
-    let out = out.as_slice();
-    assert_eq!(rt; out.len(), 38);
-    assert_eq!(rt; &out[..2], [3, 3].as_slice());
-    assert_eq!(rt; &out[4..8], [0, 0, 0, 0].as_slice());
-    assert_eq!(rt; &out[8..12], [0x45, 0, 0, 30].as_slice());
-    assert_eq!(rt; &out[28..38], datagram.as_slice());
-    assert!(rt; Icmpv4Repr::parse(out, true) == Some((message, datagram.as_slice())));
+    message.emit(&DATAGRAM, true, true, &mut out);
+    assert_eq!(rt; out.as_slice(), PORT_UNREACHABLE.as_slice());
+    assert!(rt; Icmpv4Repr::parse(&PORT_UNREACHABLE, true) == Some((message, DATAGRAM.as_slice())));
+}
+
+#[test]
+fn a_time_exceeded(rt: HostRuntime) {
+    let message = Icmpv4Repr::TimeExceeded {
+        code: 0,
+        header: quoted_header(1),
+    };
+    for (quoted_summed, octets) in [(true, TIME_EXCEEDED), (false, UNSUMMED_QUOTATION)] {
+        let mut out = FrameBuffer::new();
+        message.emit(&DATAGRAM[..8], true, quoted_summed, &mut out);
+        assert_eq!(rt; out.as_slice(), octets.as_slice());
+        assert!(rt; Icmpv4Repr::parse(&octets, true) == Some((message, &DATAGRAM[..8])));
+    }
 }

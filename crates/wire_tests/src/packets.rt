@@ -92,6 +92,8 @@ fn protocols(rt: HostRuntime) -> Result<(), Fail> {
     ] {
         assert_eq!(rt; IpProtocol::from_number(number), protocol);
         assert_eq!(rt; protocol.number(), number);
+        assert_eq!(rt; IpProtocol::Unknown(number), protocol);
+        assert_ne!(rt; IpProtocol::Unknown(number + 1), protocol);
     }
     Ok(())
 }

@@ -1,0 +1,35 @@
+use Rattle.std.proofs.Common.{[], ◌∷◌, refl, Some, None, lit≤, arith}
+use Rattle.ip_wire.specs.Checksum.{word_sum}
+use Rattle.ip_wire.specs.Pseudo.{pseudo}
+use Rattle.net_base.specs.Device.{Frame}
+use Rattle.sockets.specs.declared.socket.SocketOf.TheVariants as kind
+use Rattle.host_machine.specs.Udp as udp
+use Rattle.host_machine.specs.Ipv4 as ipv4
+use Rattle.host_machine.specs.Ethernet as ethernet
+use Rattle.host_machine.specs.Example as example
+use Rattle.host_machine.specs.ExampleSockets.{datagram, listening, reached, with_socket}
+use Rattle.host_machine.proofs.Listening.{first_is_free}
+use Rattle.host_machine.proofs.laws.datagram_is_delivered.Goals as goal
+
+pub returns : goal.returns
+unfolding word_sum pseudo
+returns c = record {
+  reception = Frame datagram;
+  frames = [];
+  response = record {
+    reply = None;
+    taken = with_socket reached (example.host 0x1405 example.heard);
+    notes_taking = [];
+    notes_responding = [];
+    takes = ethernet.Accepted (lit≤ tt) refl (ipv4.Read
+        (record { whole = lit≤ tt; version = refl; header = lit≤ tt; header_fits = lit≤ tt; total_fits = lit≤ tt; sum = λ on. refl })
+        (ipv4.Accepted refl refl refl (udp.Delivered (None ∷ Some (kind.Udp reached) ∷ [])
+        (record { whole = lit≤ tt; header_fits = lit≤ tt; fits = lit≤ tt; port = λ e. absurd (omega (arith, e)); sum = λ on summed. refl })
+        (record { index = 1; place = Some (kind.Udp listening); first = record { is_there = refl; accepts = refl; none_before = first_is_free _ (Some (kind.Udp listening) ∷ []) refl }; changed = refl })
+        refl refl refl)));
+    responds = (refl, refl, refl);
+    all_notes = refl;
+  };
+  events = refl;
+  answers = refl;
+}

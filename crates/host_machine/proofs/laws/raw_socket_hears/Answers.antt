@@ -1,0 +1,34 @@
+use Rattle.std.proofs.Common.{[], refl, None, lit≤, arith}
+use Rattle.ip_wire.specs.Checksum.{word_sum}
+use Rattle.ip_wire.specs.Ipv4Packet.{header_with, front, back}
+use Rattle.ip_wire.specs.Pseudo.{pseudo}
+use Rattle.net_base.specs.Device.{Frame}
+use Rattle.host_machine.specs.Udp as udp
+use Rattle.host_machine.specs.Ipv4 as ipv4
+use Rattle.host_machine.specs.Ethernet as ethernet
+use Rattle.host_machine.specs.Example as example
+use Rattle.host_machine.specs.ExampleSockets.{datagram, having_heard, with_raw}
+use Rattle.host_machine.proofs.Listening.{nobody_of_one}
+use Rattle.host_machine.proofs.laws.raw_socket_hears.Goals as goal
+
+pub returns : goal.returns
+unfolding word_sum header_with front back pseudo
+returns c = record {
+  reception = Frame datagram;
+  frames = [];
+  response = record {
+    reply = None;
+    taken = with_raw having_heard (example.host 0x1405 example.heard);
+    notes_taking = [];
+    notes_responding = [];
+    takes = ethernet.Accepted (lit≤ tt) refl (ipv4.Read
+        (record { whole = lit≤ tt; version = refl; header = lit≤ tt; header_fits = lit≤ tt; total_fits = lit≤ tt; sum = λ on. refl })
+        (ipv4.Accepted refl refl refl (udp.Unheard
+        (record { whole = lit≤ tt; header_fits = lit≤ tt; fits = lit≤ tt; port = λ e. absurd (omega (arith, e)); sum = λ on summed. refl })
+        (nobody_of_one _ _ refl) refl refl refl)));
+    responds = (refl, refl, refl);
+    all_notes = refl;
+  };
+  events = refl;
+  answers = refl;
+}
