@@ -1,5 +1,5 @@
 -- Sums over the parts of a message.
-use Rattle.std.proofs.Common.{◌≡◌, ℕ, zero, suc, ◌+◌, ◌-◌, ◌*◌, ◌/◌, ◌%◌, ◌<◌, ◌≤◌, ◌^◌, List, [], ◌++◌, length, drop, refl, sym, ap, ◌∙◌, length-append, arith}
+use Rattle.std.proofs.Common.{◌≡◌, ℕ, zero, suc, ◌+◌, ◌-◌, ◌/◌, ◌%◌, ◌<◌, ◌≤◌, ◌^◌, List, [], ◌++◌, length, drop, refl, sym, ap, ◌∙◌, length-append, arith}
 use Rattle.ip_wire.specs.Checksum.{folded, word_sum, checksum_of}
 use Rattle.ip_wire.proofs.Sums.{word, word_sum-append, folded_again}
 use Rattle.ip_wire.specs.Octets.{u16_at}

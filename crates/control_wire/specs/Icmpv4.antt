@@ -1,5 +1,5 @@
 -- ICMP for IPv4 (RFC 792): echo messages, and errors with their quotations.
-use Rattle.std.specs.Prelude.{◌≡◌, ℕ, ◌+◌, ◌<◌, ◌≤◌, ◌^◌, ◌==◌, Bool, true, IsTrue, List, [], ◌∷◌, ◌++◌, length, drop, slice_index, if◌then◌else◌}
+use Rattle.std.specs.Prelude.{◌≡◌, ℕ, ◌+◌, ◌<◌, ◌≤◌, ◌^◌, ◌==◌, Bool, IsTrue, List, [], ◌∷◌, ◌++◌, length, drop, slice_index, if◌then◌else◌}
 use Rattle.std.specs.Borrow.{Bor}
 use Rattle.std.specs.Int.{w16, to_be_bytes}
 use Rattle.ip_wire.specs.Checksum.{folded, word_sum, checksum_of}

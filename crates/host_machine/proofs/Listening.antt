@@ -1,5 +1,5 @@
 -- Who takes what in the worked examples with sockets.
-use Rattle.std.proofs.Common.{◌≡◌, ℕ, zero, suc, ◌<◌, Bool, false, List, [], ◌∷◌, slice_get, Some, None, arith, refl}
+use Rattle.std.proofs.Common.{◌≡◌, ℕ, zero, suc, ◌<◌, Bool, false, List, [], ◌∷◌, slice_get, Some, None, arith}
 use Rattle.host_machine.specs.Host.{Storage}
 use Rattle.host_machine.specs.Delivery.{IsNobody}
 

@@ -42,7 +42,7 @@ use Rattle.host_machine.specs.Ethernet.{TakesPayload, TakesEthernet, TakesFrame}
 use Rattle.host_machine.specs.Ethernet as ethernet
 use Rattle.host_machine.specs.Dispatch.{Outcome, IsUnsent, Emits, Discovers, SendsByHop, SendsEthernet, SendsOver, Dispatches, identified, silenced}
 use Rattle.host_machine.specs.Dispatch as dispatch
-use Rattle.host_machine.specs.Response.{Responds, Response}
+use Rattle.host_machine.specs.Response.{Responds}
 use Rattle.host_machine.specs.Ingress.{Takes, Ingress}
 use Rattle.host_machine.specs.Egress.{SocketTurn, Serves, Walks, SocketsSend, Egress}
 use Rattle.host_machine.specs.Egress as egress

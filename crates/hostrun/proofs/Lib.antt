@@ -1,1 +1,4 @@
+mod Digits
 mod HexFits
+mod Networks
+mod Separators

@@ -1,2 +1,6 @@
+pub mod Commands
 pub mod Hex
+pub mod Printed
 pub mod Sockets
+pub mod Status
+pub mod Text

@@ -1,12 +1,13 @@
 //! The host that a script runs.
-ghost use Rattle.std.specs.Prelude.{◌≡◌, OnOk, OnErr};
+ghost use Rattle.std.specs.Prelude.{◌≡◌, OnOk, OnErr, Some, IfErr};
+ghost use Rattle.host_machine.specs.Config.{refusal_of};
 ghost use Rattle.host_machine.specs.Step.{IsTimely};
 ghost use Rattle.socket_set.specs.SocketSet.{added};
 ghost use Rattle.sockets.specs.declared.socket.SocketOf.TheVariants.{Udp};
 ghost use Rattle.hostrun.specs.Sockets.{listening};
 
 use interface::host::{Owner, drive};
-use interface::{Answer, Command, Config, Interface};
+use interface::{Answer, Command, Config, Interface, NewError};
 use ip_wire::{EthernetAddress, HardwareAddress};
 use net_base::MemoryDevice;
 use net_base::phy::{ChecksumCapabilities, Device, DeviceCapabilities, Medium};
@@ -75,12 +76,14 @@ pub struct Host<'a> {
 impl<'a> Host<'a> {
     ghost use Rattle.host_machine.specs.Step.{IsTimely};
 
-    /// A host without addresses and sockets.
-    pub fn new(alloc: Global) -> Option<Host<'a>> {
+    /// A host without addresses and sockets, unless its device and its address don't go together.
+    pub fn new(alloc: Global) -> Result<Host<'a>, NewError>
+        ensures { IfErr result (λ error. refusal_of CAPABILITIES HARDWARE_ADDR ≡ Some error) }
+    {
         let mut device = MemoryDevice::new(alloc, CAPABILITIES);
         let config = Config::new(HARDWARE_ADDR);
-        let interface = Interface::new(config, &mut device, Instant::ZERO).ok()?;
-        Some(Host {
+        let interface = Interface::new(config, &mut device, Instant::ZERO)?;
+        Ok(Host {
             alloc,
             interface,
             device,

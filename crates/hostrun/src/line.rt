@@ -1,10 +1,14 @@
 //! What a line says.
-ghost use Rattle.std.specs.Prelude.{◌≡◌, ◌≢◌, ◌≤◌, ◌*◌, ◌↔◌, length, take, Ok, IfSome, IsSome};
+ghost use Rattle.std.specs.Prelude.{◌≡◌, ◌<◌, ◌≤◌, ◌*◌, ◌==◌, ◌↔◌, length, take, Ok, Some, IfSome, IsSome, MatchOption};
+ghost use Rattle.std.specs.List.{before_first, after_first, position_or_len};
 ghost use Rattle.hex.specs.Hex.{decode_of};
 ghost use Rattle.hostrun.specs.Hex.{IsHexUpTo};
+ghost use Rattle.hostrun.specs.Text.{Say, SpellNetworks, address_in, is_space, network_in, number_up_to, parts_of, port_in};
 
 use arrayvec::ArrayVec;
+use interface::Command;
 use ip_wire::{IpCidr, Ipv4Address, Ipv4Cidr};
+use net_base::time::Instant;
 
 /// Room for the longest frame that fits in a line.
 pub const FRAME_ROOM: usize = 2048;
@@ -14,33 +18,65 @@ pub const FRAME_ROOM: usize = 2048;
 pub enum Line {
     /// A frame of this many octets, in the front of the buffer, arrives.
     Rx(usize),
+    /// A UDP socket listens at this port.
+    Udp(u16),
+    /// The host's interface is called.
+    Asks(Call),
+}
+
+/// A call of the host's interface.
+#[derive(Drop)]
+pub enum Call {
     /// The host's addresses.
     Addr(ArrayVec<IpCidr, 4>),
     /// The router of the host's default route.
     Gw(Ipv4Address),
-    /// A UDP socket listens at this port.
-    Udp(u16),
     /// The host takes one frame.
     Ingress,
     /// The host sends what its sockets have to send.
     Egress,
 }
 
-/// The line that the text is, if it is one. The frame of `rx` goes into the buffer.
-pub fn parse(text: &[u8], frame: &mut [u8; FRAME_ROOM]) -> Option<Line> {
+impl Call {
+    ghost use Rattle.std.specs.Prelude.{◌≡◌};
+    ghost use Rattle.host_machine.specs.Step.{IsTimely};
+    ghost use Rattle.hostrun.specs.Commands.{command_of};
+
+    /// The call as a command of the host machine, at moment 0.
+    pub fn command(self) -> Command
+        ensures command { result ≡ command_of self }
+        ensures timely { IsTimely result }
+    {
+        match self {
+            Call::Addr(networks) => Command::UpdateIpAddrs(networks),
+            Call::Gw(router) => Command::AddDefaultIpv4Route(router),
+            Call::Ingress => Command::PollIngressSingle(Instant::ZERO),
+            Call::Egress => Command::PollEgress(Instant::ZERO),
+        }
+    }
+}
+
+/// The line that the text is, if it is one. The frame of `rx` goes into the front of the buffer.
+pub fn parse(text: &[u8], buffer: &mut [u8; FRAME_ROOM]) -> Option<Line>
+    ensures { IfSome result (Say (before_first is_space text.now) (after_first is_space text.now) buffer.new) }
+{
     match split_at(text, b' ') {
-        (b"rx", Some(digits)) => Some(Line::Rx(parse_hex(digits, frame)?)),
-        (b"addr", Some(words)) => Some(Line::Addr(parse_addrs(words)?)),
-        (b"gw", Some(digits)) => Some(Line::Gw(parse_ipv4(digits)?)),
+        (b"rx", Some(digits)) => Some(Line::Rx(parse_hex(digits, buffer)?)),
+        (b"addr", Some(words)) => Some(Line::Asks(Call::Addr(parse_addrs(words)?))),
+        (b"gw", Some(digits)) => Some(Line::Asks(Call::Gw(parse_ipv4(digits)?))),
         (b"udp", Some(digits)) => Some(Line::Udp(parse_port(digits)?)),
-        (b"ingress", None) => Some(Line::Ingress),
-        (b"egress", None) => Some(Line::Egress),
+        (b"ingress", None) => Some(Line::Asks(Call::Ingress)),
+        (b"egress", None) => Some(Line::Asks(Call::Egress)),
         _ => None,
     }
 }
 
 /// The text before the first separator, and what stands behind that, if it is there.
-fn split_at(text: &[u8], separator: u8) -> (&[u8], Option<&[u8]>) {
+fn split_at(text: &[u8], separator: u8) -> (&[u8], Option<&[u8]>)
+    ensures before { result.0.now ≡ before_first (λ octet. octet == separator) text.now }
+    ensures after { MatchOption result.1 (position_or_len (λ octet. octet == separator) text.now ≡ length text.now)
+        (λ rest. (position_or_len (λ octet. octet == separator) text.now < length text.now) × (rest.now ≡ after_first (λ octet. octet == separator) text.now)) }
+{
     match text.iter().position(|octet| *octet == separator) {
         Some(at) => (&text[..at], Some(&text[at + 1..])),
         None => (text, None),
@@ -63,14 +99,16 @@ fn parse_hex(digits: &[u8], octets: &mut [u8]) -> Option<usize>
 }
 
 /// One to four networks, parted by one space.
-fn parse_addrs(words: &[u8]) -> Option<ArrayVec<IpCidr, 4>> {
+fn parse_addrs(words: &[u8]) -> Option<ArrayVec<IpCidr, 4>>
+    ensures { IfSome result (λ list. SpellNetworks words.now list.items) }
+{
     let mut list = ArrayVec::new();
-    let mut words = words;
+    let mut left = words;
     for _ in 0..4 {
-        let (word, rest) = split_at(words, b' ');
+        let (word, rest) = split_at(left, b' ');
         list.try_push(parse_cidr(word)?).ok()?;
         match rest {
-            Some(rest) => words = rest,
+            Some(rest) => left = rest,
             None => return Some(list),
         }
     }
@@ -78,7 +116,9 @@ fn parse_addrs(words: &[u8]) -> Option<ArrayVec<IpCidr, 4>> {
 }
 
 /// An address of eight hex digits.
-fn parse_ipv4(digits: &[u8]) -> Option<Ipv4Address> {
+fn parse_ipv4(digits: &[u8]) -> Option<Ipv4Address>
+    ensures { result ≡ address_in digits.now }
+{
     let mut octets = [0; 4];
     hex::decode_to_slice(digits, &mut octets).ok()?;
     let [a, b, c, d] = octets;
@@ -86,22 +126,20 @@ fn parse_ipv4(digits: &[u8]) -> Option<Ipv4Address> {
 }
 
 /// A network: an address of eight hex digits, `/` and the length of the prefix, at most 32.
-fn parse_cidr(word: &[u8]) -> Option<IpCidr> {
+fn parse_cidr(word: &[u8]) -> Option<IpCidr>
+    ensures { IfSome result (λ network. network_in word.now ≡ parts_of network) }
+{
     let (digits, prefix_len) = split_at(word, b'/');
     let address = parse_ipv4(digits)?;
     let prefix_len = parse_number(prefix_len?, 32)?;
-    let prefix_len = u8::try_from(prefix_len).ok()?;
-    if prefix_len > 32 {
-        return None;
-    }
-    Some(IpCidr::Ipv4(Ipv4Cidr::new(address, prefix_len)))
+    Some(IpCidr::Ipv4(Ipv4Cidr::new(address, prefix_len as u8)))
 }
 
 /// A port other than 0.
 fn parse_port(digits: &[u8]) -> Option<u16>
-    ensures { IfSome result (λ port. port ≢ 0) }
+    ensures { result ≡ port_in digits.now }
 {
-    let port = u16::try_from(parse_number(digits, 65535)?).ok()?;
+    let port = parse_number(digits, u16::MAX)?;
     if port == 0 {
         return None;
     }
@@ -109,21 +147,22 @@ fn parse_port(digits: &[u8]) -> Option<u16>
 }
 
 /// A number of one or more decimal digits, at most `most`.
-fn parse_number(digits: &[u8], most: u64) -> Option<u64> {
+fn parse_number(digits: &[u8], most: u16) -> Option<u16>
+    ensures number { result ≡ number_up_to most digits.now }
+    ensures bound { IfSome result (λ number. number ≤ most) }
+{
     if digits.is_empty() {
         return None;
     }
-    let mut number = 0u64;
+    let mut number = 0u32;
     for digit in digits {
         if !digit.is_ascii_digit() {
             return None;
         }
-        number = number
-            .checked_mul(10)?
-            .checked_add(u64::from(*digit - b'0'))?;
-        if number > most {
+        number = number * 10 + u32::from(*digit - b'0');
+        if number > u32::from(most) {
             return None;
         }
     }
-    Some(number)
+    Some(number as u16)
 }

@@ -1,25 +1,31 @@
 //! A script, line by line.
-ghost use Rattle.std.specs.Prelude.{◌≡◌};
+ghost use Rattle.std.specs.Prelude.{◌≡◌, ◌≤◌, length, Some, None, OnOk, MatchResult};
+ghost use Rattle.std.specs.Io.KnownBytes.{Appends};
+ghost use Rattle.hostrun.specs.Printed.{frame_line, push_text, text_of};
+ghost use Rattle.hostrun.specs.declared.run.Stop.TheVariants as why;
+ghost use Rattle.hostrun.specs.Status as spec;
 
 use crate::host::Host;
 use crate::input::{Input, LineBuffer, LineRead};
 use crate::line::{FRAME_ROOM, Line, parse};
+use arrayvec::ArrayVec;
 use iface_tables::route::RouteTableFull;
-use interface::{AddrError, Answer, Command, HardwareError, PollIngressSingleResult, PollResult};
+use interface::{AddrError, Answer, HardwareError, NewError, PollIngressSingleResult, PollResult};
 use net_base::PushError;
 use net_base::phy::{Device, FRAME_BUFFER_SIZE};
-use net_base::time::Instant;
 use sockets::NoMemory;
 use std::alloc::Global;
 use std::io::{self, Read, Write};
 
 /// Why a script ended early.
 #[derive(Clone, Copy, Debug, PartialEq, Eq)]
-enum Stop {
+pub enum Stop {
     /// The line of this number, counted from 1, isn't one.
     BadLine(u64),
     /// Memory was refused.
     NoMemory,
+    /// The host's interface can't be made.
+    NoHost(NewError),
     /// A standard stream failed.
     Failed,
 }
@@ -31,6 +37,16 @@ impl From<NoMemory> for Stop {
 
     fn from(_: NoMemory) -> Stop {
         Stop::NoMemory
+    }
+}
+
+impl From<NewError> for Stop {
+    ghost use Rattle.hostrun.specs.declared.run.Stop.TheVariants.{NoHost};
+
+    ghost from_gives = { λ error stop. stop ≡ NoHost error };
+
+    fn from(error: NewError) -> Stop {
+        Stop::NoHost(error)
     }
 }
 
@@ -46,25 +62,50 @@ impl From<io::Error> for Stop {
 
 /// Runs the script that is read, writes what the host sends and answers, and answers the exit
 /// status: 0 at the end of the script, 2 at a bad line, which is named on the error stream, 3 where
-/// memory is refused, which is said there, and 4 where a stream fails.
+/// memory is refused, and 4 where the host can't be made, each said there, or where a stream fails.
+/// What was written is flushed at each end.
 pub fn run<R: Read, W: Write, E: Write>(
     alloc: Global,
     input: &mut R,
     output: &mut W,
     errors: &mut E,
 ) -> u8 {
-    let told = match run_lines(alloc, input, output) {
-        Ok(()) => return 0,
-        Err(Stop::BadLine(number)) => writeln!(errors, "bad line {number}").map(|()| 2),
-        Err(Stop::NoMemory) => writeln!(errors, "out of memory").map(|()| 3),
-        Err(Stop::Failed) => Ok(4),
-    };
-    told.unwrap_or(4)
+    let ended = run_lines(alloc, input, output);
+    let flushed = output.flush();
+    let told = tell(ended, errors);
+    exit_status(ended, flushed, told)
+}
+
+/// The exit status, by how the lines ended, whether the output was flushed, and whether the reason
+/// was told.
+fn exit_status(ended: Result<(), Stop>, flushed: io::Result<()>, told: io::Result<()>) -> u8
+    ensures { result ≡ spec.exit_status ended flushed told }
+{
+    if flushed.is_err() || told.is_err() {
+        return 4;
+    }
+    match ended {
+        Ok(()) => 0,
+        Err(Stop::BadLine(_)) => 2,
+        Err(Stop::NoMemory) => 3,
+        Err(Stop::NoHost(_) | Stop::Failed) => 4,
+    }
+}
+
+/// Says on the error stream why the lines ended early, unless a stream failed.
+pub fn tell<E: Write>(ended: Result<(), Stop>, errors: &mut E) -> io::Result<()> {
+    match ended {
+        Ok(()) | Err(Stop::Failed) => return Ok(()),
+        Err(Stop::BadLine(number)) => writeln!(errors, "bad line {number}")?,
+        Err(Stop::NoMemory) => writeln!(errors, "out of memory")?,
+        Err(Stop::NoHost(error)) => writeln!(errors, "no host: {error}")?,
+    }
+    errors.flush()
 }
 
 /// Runs the lines up to the end, or to the first that can't be run.
 fn run_lines<R: Read, W: Write>(alloc: Global, input: &mut R, output: &mut W) -> Result<(), Stop> {
-    let mut host = Host::new(alloc).ok_or(Stop::NoMemory)?;
+    let mut host = Host::new(alloc)?;
     let mut input = Input::new(input);
     let mut text = LineBuffer::new();
     let mut frame = [0; FRAME_ROOM];
@@ -79,7 +120,6 @@ fn run_lines<R: Read, W: Write>(alloc: Global, input: &mut R, output: &mut W) ->
             }
         }
     }
-    output.flush()?;
     Ok(())
 }
 
@@ -94,14 +134,11 @@ fn run_line<W: Write>(
     let refusals = host.device.refusals();
     let answer = match line {
         Line::Rx(len) => pushed(host.device.push(&frame[..len.min(FRAME_ROOM)]))?,
-        Line::Addr(list) => answer_text(host.run(Command::UpdateIpAddrs(list))),
-        Line::Gw(router) => answer_text(host.run(Command::AddDefaultIpv4Route(router))),
         Line::Udp(port) => {
             host.add_udp(port)?;
             "ok"
         }
-        Line::Ingress => answer_text(host.run(Command::PollIngressSingle(Instant::ZERO))),
-        Line::Egress => answer_text(host.run(Command::PollEgress(Instant::ZERO))),
+        Line::Asks(call) => answer_text(host.run(call.command())),
     };
     if host.device.refusals() != refusals {
         return Err(Stop::NoMemory);
@@ -113,8 +150,10 @@ fn run_line<W: Write>(
     Ok(())
 }
 
-/// What is written where a frame arrived, or didn't.
-fn pushed(outcome: Result<(), PushError>) -> Result<&'static str, Stop> {
+/// What is written where a frame arrived, or was too long.
+fn pushed(outcome: Result<(), PushError>) -> Result<&'static str, Stop>
+    ensures { MatchResult result (λ text. push_text outcome ≡ Some text.now) (λ stop. (stop ≡ why.NoMemory) × (push_text outcome ≡ None)) }
+{
     match outcome {
         Ok(()) => Ok("ok"),
         Err(PushError::TooLong) => Ok("TooLong"),
@@ -123,7 +162,9 @@ fn pushed(outcome: Result<(), PushError>) -> Result<&'static str, Stop> {
 }
 
 /// What is written for an answer.
-fn answer_text(answer: Answer) -> &'static str {
+fn answer_text(answer: Answer) -> &'static str
+    ensures { result.now ≡ text_of answer }
+{
     match answer {
         Answer::UpdateIpAddrs(Ok(()))
         | Answer::UpdateRoutes
@@ -144,14 +185,30 @@ fn answer_text(answer: Answer) -> &'static str {
     }
 }
 
-/// Writes a frame in hex.
-fn write_frame<W: Write>(frame: &[u8], output: &mut W) -> Result<(), Stop> {
+/// The longest line that a frame is written as.
+const FRAME_LINE: usize = 2 * FRAME_BUFFER_SIZE + 4;
+
+/// Writes a frame of at most [`FRAME_BUFFER_SIZE`] octets, as every frame sent is: `tx`, and the
+/// octets in hex.
+fn write_frame<W: Write>(frame: &[u8], output: &mut W) -> Result<(), Stop>
+    ensures { length frame.now ≤ FRAME_BUFFER_SIZE → OnOk result (Appends (W.contents output.old) (W.contents output.new) (frame_line frame.now)) }
+{
+    let line = line_of(frame);
+    output.write_all(line.as_slice())?;
+    Ok(())
+}
+
+/// The line that a frame of at most [`FRAME_BUFFER_SIZE`] octets is written as.
+fn line_of(frame: &[u8]) -> ArrayVec<u8, FRAME_LINE>
+    ensures { length frame.now ≤ FRAME_BUFFER_SIZE → result.items ≡ frame_line frame.now }
+{
     let mut digits = [0; 2 * FRAME_BUFFER_SIZE];
     let count = 2 * frame.len().min(FRAME_BUFFER_SIZE);
     let digits = &mut digits[..count];
     let _ = hex::encode_to_slice(frame, digits);
-    output.write_all(b"tx ")?;
-    output.write_all(digits)?;
-    output.write_all(b"\n")?;
-    Ok(())
+    let mut line = ArrayVec::new();
+    let _ = line.try_extend_from_slice(b"tx ");
+    let _ = line.try_extend_from_slice(digits);
+    let _ = line.try_push(b'\n');
+    line
 }

@@ -1,8 +1,9 @@
 // The tests also hold where any one request for memory is refused.
 ghost use Rattle.std.specs.Prelude.{◌≡◌};
 
-use crate::run::run;
+use crate::run::{Stop, run, tell};
 use arrayvec::ArrayVec;
+use interface::NewError;
 use std::alloc::Global;
 use std::io::{self, Read, Write};
 use std::process::Abort;
@@ -42,18 +43,23 @@ impl Read for Pieces<'_> {
     }
 }
 
-/// A writer that takes so many octets and then fails.
+/// A writer that takes so many octets and then fails. It counts how often it was flushed since it
+/// took the last ones.
 #[derive(Drop)]
 struct Page {
     text: ArrayVec<u8, 512>,
     room: usize,
+    flushes: usize,
+    flush_fails: bool,
 }
 
 impl Page {
-    fn new(room: usize) -> Page {
+    fn new(room: usize, flush_fails: bool) -> Page {
         Page {
             text: ArrayVec::new(),
             room,
+            flushes: 0,
+            flush_fails,
         }
     }
 }
@@ -65,18 +71,25 @@ impl Write for Page {
             return Err(io::ErrorKind::Other.into());
         }
         self.room -= count;
+        self.flushes = 0;
         Ok(count)
     }
 
     fn flush(&mut self) -> io::Result<()> {
+        self.flushes = self.flushes.saturating_add(1);
+        if self.flush_fails {
+            return Err(io::ErrorKind::Other.into());
+        }
         Ok(())
     }
 }
 
-/// What a script does where its streams take so many octets, and reading on at its end fails or not.
+/// What a script does where its streams take so many octets, and reading on at its end fails or not,
+/// as does flushing the output.
 #[derive(Clone, Copy)]
 struct Case<'a> {
-    fails: bool,
+    read_fails: bool,
+    flush_fails: bool,
     output_room: usize,
     errors_room: usize,
     output: &'a [u8],
@@ -86,7 +99,8 @@ struct Case<'a> {
 
 const fn ends<'a>(output: &'a [u8], errors: &'a [u8], status: u8) -> Case<'a> {
     Case {
-        fails: false,
+        read_fails: false,
+        flush_fails: false,
         output_room: 512,
         errors_room: 512,
         output,
@@ -101,13 +115,14 @@ fn check<'a>(rt: &impl Abort, alloc: Global, pieces: &'a [&'a [u8]], case: Case<
         let mut input = Pieces {
             pieces,
             at: 0,
-            fails: case.fails,
+            fails: case.read_fails,
         };
-        let mut output = Page::new(case.output_room);
-        let mut errors = Page::new(case.errors_room);
+        let mut output = Page::new(case.output_room, case.flush_fails);
+        let mut errors = Page::new(case.errors_room, false);
         let status = run(alloc, &mut input, &mut output, &mut errors);
-        if status == 3 {
-            assert_eq!(rt; errors.text.as_slice(), b"out of memory\n".as_slice());
+        assert_eq!(rt; output.flushes, 1);
+        if errors.text.as_slice() == b"out of memory\n".as_slice() {
+            assert_eq!(rt; status, if case.flush_fails { 4 } else { 3 });
             assert!(rt; case.output.starts_with(output.text.as_slice()));
         } else {
             assert_eq!(rt; output.text.as_slice(), case.output);
@@ -135,7 +150,7 @@ SocketStateChanged
 
 #[test]
 fn runs_scripts(rt: HostRuntime) {
-    let scripts: [(&[u8], &[u8]); 18] = [
+    let scripts: [(&[u8], &[u8]); 20] = [
         (b"", b""),
         (b"\n\n", b""),
         (b"ingress", b"None\n"),
@@ -146,6 +161,15 @@ fn runs_scripts(rt: HostRuntime) {
 rx FFFFFFFFFFFF02000000000208060001080006040001020000000002C0A84564000000000000C0A84501
 ingress",
             REPLY,
+        ),
+        // The last octet is missing.
+        (
+            b"addr c0a84501/24
+rx ffffffffffff02000000000208060001080006040001020000000002c0a84564000000000000c0a845
+ingress
+ingress
+",
+            b"ok\nok\nSocketStateChanged\nNone\n",
         ),
         // A sender in no network of the host.
         (
@@ -208,6 +232,11 @@ ingress
         (b"ingress\ningress\n", b"None\nNone\n"),
         (b"rx aBcDeF\n", b"ok\n"),
         (b"egress", b"None\n"),
+        // What arrived isn't taken by it.
+        (
+            b"rx 0001\negress\ningress\ningress\n",
+            b"ok\nNone\nSocketStateChanged\nNone\n",
+        ),
         (b"gw c0a845fe\ngw c0a845fe\n", b"ok\nok\n"),
         (b"gw 0123ABcd\n", b"ok\n"),
         (
@@ -279,6 +308,106 @@ fn answers_echo_requests(rt: HostRuntime) {
         let script = [REQUEST, frame, b"ingress\n"];
         check(&rt, rt.alloc(), &script, ends(output, b"", 0));
     }
+}
+
+#[test]
+fn answers_what_nobody_takes(rt: HostRuntime) {
+    let scripts: [(&[u8], &[u8]); 5] = [
+        // The datagram: port unreachable, with the datagram.
+        (
+            DATAGRAM,
+            b"\
+                0200000000020200000000010800\
+                4500003a0000400040012f0dc0a84501c0a84564\
+                030308cf00000000\
+                4500001e0000400040112f19c0a84564c0a84501\
+                13881b39000a5cf9\
+                6869",
+        ),
+        // The same to all in the network.
+        (
+            b"rx \
+                ffffffffffff0200000000020800\
+                4500001e0000400040112e1bc0a84564c0a845ff\
+                13881b39000a5bfb\
+                6869\n",
+            b"",
+        ),
+        // Protocol 253: protocol unreachable, with the packet.
+        (
+            b"rx \
+                0200000000010200000000020800\
+                450000180000400040fd2e33c0a84564c0a84501\
+                61626364\n",
+            b"\
+                0200000000020200000000010800\
+                450000340000400040012f13c0a84501c0a84564\
+                0302383700000000\
+                450000180000400040fd2e33c0a84564c0a84501\
+                61626364",
+        ),
+        // A SYN from port 5000 to port 80: a reset.
+        (
+            b"rx \
+                0200000000010200000000020800\
+                450000280000400040062f1ac0a84564c0a84501\
+                1388005000000100000000005002\
+                10007f540000\n",
+            b"\
+                0200000000020200000000010800\
+                450000280000400040062f1ac0a84501c0a84564\
+                0050138800000000000001015014\
+                00008f410000",
+        ),
+        // A reset.
+        (
+            b"rx \
+                0200000000010200000000020800\
+                450000280000400040062f1ac0a84564c0a84501\
+                1388005000000100000000005004\
+                00008f520000\n",
+            b"",
+        ),
+    ];
+    for (frame, reply) in scripts {
+        let script = [REQUEST, frame, b"ingress\n"];
+        let mut output: ArrayVec<u8, 512> = ArrayVec::new();
+        let _ = output.try_extend_from_slice(REPLY);
+        let _ = output.try_extend_from_slice(b"ok\n");
+        if !reply.is_empty() {
+            let _ = output.try_extend_from_slice(b"tx ");
+            let _ = output.try_extend_from_slice(reply);
+            let _ = output.try_extend_from_slice(b"\n");
+        }
+        let _ = output.try_extend_from_slice(b"SocketStateChanged\n");
+        check(&rt, rt.alloc(), &script, ends(output.as_slice(), b"", 0));
+    }
+}
+
+#[test]
+fn answers_all_from_its_first_address(rt: HostRuntime) {
+    // The host's first address is 192.168.69.2, and the echo request goes to 192.168.69.255.
+    let script = [
+        b"addr c0a84502/24 c0a84501/24\n",
+        &REQUEST[17..],
+        b"rx \
+            ffffffffffff0200000000020800\
+            450000200000400040012e29c0a84564c0a845ff\
+            080021041234000161626364\n",
+        b"ingress\n",
+    ];
+    let output = b"ok
+ok
+tx 02000000000202000000000108060001080006040002020000000001c0a84501020000000002c0a84564
+SocketStateChanged
+ok
+tx \
+    0200000000020200000000010800\
+    450000200000400040012f26c0a84502c0a84564\
+    000029041234000161626364
+SocketStateChanged
+";
+    check(&rt, rt.alloc(), &script, ends(output, b"", 0));
 }
 
 #[test]
@@ -501,7 +630,7 @@ fn ends_where_a_stream_fails(rt: HostRuntime) {
     ];
     for (script, output) in scripts {
         let broken = Case {
-            fails: true,
+            read_fails: true,
             ..ends(output, b"", 4)
         };
         check(&rt, rt.alloc(), &[script], broken);
@@ -525,5 +654,60 @@ fn ends_where_a_stream_fails(rt: HostRuntime) {
             ..ends(b"", &b"bad line 1\n"[..errors_room], 4)
         };
         check(&rt, rt.alloc(), &[b"pol 0"], case);
+    }
+}
+
+#[test]
+fn tells_that_the_output_is_not_flushed(rt: HostRuntime) {
+    let scripts: [(&[u8], &[u8], &[u8]); 3] = [
+        (b"", b"", b""),
+        (REQUEST, REPLY, b""),
+        (b"ingress\npol 0\n", b"None\n", b"bad line 2\n"),
+    ];
+    for (script, output, errors) in scripts {
+        let stuck = Case {
+            flush_fails: true,
+            ..ends(output, errors, 4)
+        };
+        check(&rt, rt.alloc(), &[script], stuck);
+    }
+}
+
+const LINE_FEEDS: [u8; 4096] = [b'\n'; 4096];
+
+#[test]
+fn counts_lines(rt: HostRuntime) {
+    let scripts: [(&[&[u8]], &[u8]); 6] = [
+        (&[&LINE_FEEDS[..9]], b"bad line 10\n"),
+        (&[&LINE_FEEDS[..98]], b"bad line 99\n"),
+        (&[&LINE_FEEDS[..998]], b"bad line 999\n"),
+        (&[&LINE_FEEDS[..999]], b"bad line 1000\n"),
+        (&[&LINE_FEEDS[..1000]], b"bad line 1001\n"),
+        (
+            &[&LINE_FEEDS, &LINE_FEEDS, &LINE_FEEDS, &LINE_FEEDS[..57]],
+            b"bad line 12346\n",
+        ),
+    ];
+    for (feeds, errors) in scripts {
+        let mut pieces: ArrayVec<&[u8], 5> = ArrayVec::new();
+        let _ = pieces.try_extend_from_slice(feeds);
+        let _ = pieces.try_push(b"pol 0");
+        check(&rt, rt.alloc(), pieces.as_slice(), ends(b"", errors, 2));
+    }
+}
+
+#[test]
+fn tells_why_there_is_no_host(rt: HostRuntime) {
+    for (error, text) in [
+        (
+            NewError::MediumMismatch,
+            b"no host: MediumMismatch\n".as_slice(),
+        ),
+        (NewError::MtuTooLarge, b"no host: MtuTooLarge\n"),
+    ] {
+        let mut errors = Page::new(512, false);
+        assert!(rt; tell(Err(Stop::NoHost(error)), &mut errors).is_ok());
+        assert_eq!(rt; errors.text.as_slice(), text);
+        assert_eq!(rt; errors.flushes, 1);
     }
 }

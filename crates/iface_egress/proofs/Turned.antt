@@ -1,5 +1,5 @@
 -- The turns of sockets, from their parts.
-use Rattle.std.proofs.Common.{◌≡◌, ℕ, ◌+◌, ◌<◌, Bool, true, false, List, [], ◌∷◌, ◌++◌, length, ◌≤◌, refl, sym, ap, ◌∙◌, subst, zero, suc, ◌⊎◌, inl, inr, get_or, arith, Option, Some, None, Ok, Err}
+use Rattle.std.proofs.Common.{◌≡◌, ℕ, ◌+◌, ◌<◌, Bool, true, false, List, [], ◌∷◌, ◌++◌, length, ◌≤◌, refl, sym, ap, ◌∙◌, zero, suc, ◌⊎◌, inl, inr, get_or, arith, Option, Some, None, Ok, Err}
 use Rattle.std.specs.Prelude.{IsSome, IsNone, ℤ, ◌||◌, is_ok, slice_get, slice_set}
 use Rattle.std.specs.Option.{option_map, option_and_then}
 use Rattle.std.proofs.lemmas.List.{set-get_or, set-set}
@@ -13,7 +13,7 @@ use Rattle.socket_set.specs.SocketMeta.{Wait, IsTold, is_permitted, after_asking
 use Rattle.socket_set.specs.SocketSet.{socket_at, wait_at, with_place, with_wait}
 use Rattle.host_machine.specs.declared.results.Turn.{Turn}
 use Rattle.host_machine.specs.declared.results.Turn.TheVariants.{Idle, Gone, Unsent, Exhausted}
-use Rattle.host_machine.specs.Host.{Host, Socket, SocketSet, Storage, at, no_sockets}
+use Rattle.host_machine.specs.Host.{Host, Socket, SocketSet, Storage, no_sockets}
 use Rattle.host_machine.specs.Addresses.{source_for}
 use Rattle.host_machine.specs.Packet as value
 use Rattle.host_machine.specs.Frame.{frames_in, sends}

@@ -1,10 +1,9 @@
 -- What was processed, from what was taken and what was built.
-use Rattle.std.proofs.Common.{◌≡◌, ℕ, List, [], ◌∷◌, Option, None, refl, sym, ap, ◌∙◌}
+use Rattle.std.proofs.Common.{◌≡◌, ℕ, List, [], Option, None, refl}
 use Rattle.host_machine.specs.Note.{Note}
 use Rattle.host_machine.specs.Host.{Host, SocketSet}
 use Rattle.host_machine.specs.Reply.{Reply, IsDropped}
-use Rattle.host_machine.specs.Frame.{frames_in}
-use Rattle.host_machine.specs.Response.{Response, Responds}
+use Rattle.host_machine.specs.Response.{Responds}
 use Rattle.iface_send.specs.declared.context.Context.{Context}
 use Rattle.iface_send.specs.Built.{Built}
 use Rattle.iface_send.specs.Stands.{host_of}

@@ -20,14 +20,14 @@ pub struct Octets {
 }
 
 impl Model for Octets {
-    ghost use Rattle.std.specs.Prelude.{◌≡◌, ◌+◌, ◌≤◌, drop, take, vec_len};
+    ghost use Rattle.std.specs.Prelude.{◌≡◌, ◌+◌, ◌≤◌, drop, take, vec_len, vec_capacity};
     ghost use Rattle.socket_base.specs.Queue.{Held};
 
     ghost Value = { Held };
 
     ghost view = { λ o. record { octets = drop o.start (take o.end o.items.items); limit = o.limit } };
 
-    ghost invariant = { λ o. (o.start ≤ o.end) × (o.end ≤ o.start + o.limit) × (o.end ≤ vec_len o.items) × (vec_len o.items ≡ o.limit + o.limit) };
+    ghost invariant = { λ o. (o.start ≤ o.end) × (o.end ≤ o.start + o.limit) × (o.end ≤ vec_len o.items) × (vec_len o.items ≡ o.limit + o.limit) × (vec_capacity o.items ≡ o.limit + o.limit) };
 }
 
 impl Octets {
@@ -39,10 +39,8 @@ impl Octets {
         let Some(places) = limit.checked_mul(2) else {
             return Err(AllocError);
         };
-        let mut items = Vec::with_capacity(alloc, places)?;
-        items.resize(places, 0)?;
         Ok(Octets {
-            items,
+            items: zeros(alloc, places)?,
             start: 0,
             end: 0,
             limit,
@@ -103,6 +101,18 @@ impl Octets {
             self.end = 0;
         }
     }
+}
+
+// So many zeros, in a room for just them.
+fn zeros(alloc: Global, count: usize) -> Result<Vec<u8>, AllocError>
+    ensures len { IfOk result (λ v. vec_len v ≡ count) }
+    ensures capacity { IfOk result (λ v. vec_capacity v ≡ count) }
+{
+    let mut items = Vec::with_capacity(alloc, count)?;
+    for _ in 0..count {
+        items.push_reserved(0);
+    }
+    Ok(items)
 }
 
 // Writes octets from a place on.

@@ -1,4 +1,4 @@
-use Rattle.std.proofs.Common.{[], ◌∷◌, refl, Some, None, Ok, lit≤, arith}
+use Rattle.std.proofs.Common.{[], ◌∷◌, refl, Some, Ok, lit≤, arith}
 use Rattle.ip_wire.specs.Checksum.{word_sum}
 use Rattle.ip_wire.specs.Ipv4Packet.{header_with, front, back}
 use Rattle.ip_wire.specs.Pseudo.{pseudo}

@@ -1,4 +1,4 @@
-use Rattle.std.proofs.Common.{[], ◌∷◌, refl, Some, None, Ok, lit≤, arith}
+use Rattle.std.proofs.Common.{[], ◌∷◌, refl, Some, Ok, lit≤}
 use Rattle.ip_wire.specs.Checksum.{word_sum}
 use Rattle.ip_wire.specs.Ipv4Packet.{header_with, front, back}
 use Rattle.ip_address.specs.declared.protocol.IpProtocol.TheVariants as protocol

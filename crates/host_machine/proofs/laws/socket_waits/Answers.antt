@@ -1,17 +1,11 @@
-use Rattle.std.proofs.Common.{◌≡◌, ℕ, ℤ, [], ◌∷◌, false, refl, Some, None, Err}
+use Rattle.std.proofs.Common.{[], ◌∷◌, false, refl, Some, None, Err}
 use Rattle.std.specs.Prelude.{pos}
 use Rattle.ip_wire.specs.Arp.{ipv4_over_ethernet}
-use Rattle.iface_tables.specs.Neighbor.{answer_of}
-use Rattle.iface_tables.specs.declared.neighbor.Answer.TheVariants.{NotFound}
-use Rattle.net_base.specs.Device as device
 use Rattle.sockets.specs.declared.socket.SocketOf.TheVariants as kind
-use Rattle.socket_set.specs.SocketMeta.{Wait, IsTold, is_permitted, after_asking}
 use Rattle.host_machine.specs.declared.results.DispatchError.TheVariants.{NeighborPending}
-use Rattle.host_machine.specs.declared.results.PollResult.TheVariants as poll
 use Rattle.host_machine.specs.declared.results.Turn.TheVariants.{Idle, Unsent}
-use Rattle.host_machine.specs.Note.{Ask}
 use Rattle.host_machine.specs.Packet.{Ipv4, Udp}
-use Rattle.host_machine.specs.Dispatch.{KnowsNextHop, ToSomebody, ByHop, OfHost, OnLink, Unknown, Asked}
+use Rattle.host_machine.specs.Dispatch.{ToSomebody, ByHop, OfHost, OnLink, Unknown, Asked}
 use Rattle.host_machine.specs.Egress.{Begins, Goes, Sent, Served, Waits, Whole}
 use Rattle.host_machine.specs.Example as example
 use Rattle.host_machine.specs.ExampleSockets.{sending, with_sending}

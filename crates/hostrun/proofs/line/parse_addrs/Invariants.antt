@@ -1,0 +1,8 @@
+use Rattle.std.proofs.Common.{◌≡◌, ◌++◌, map}
+use Rattle.std.specs.List.{slice_split}
+use Rattle.hostrun.specs.Text.{is_space, network_in, parts_of}
+use Rattle.hostrun.proofs.line.parse_addrs.Given as goal
+
+abbrev pub invariant-loop : goal.invariant-loop
+invariant-loop l =
+    map network_in (slice_split is_space l.words) ≡ map parts_of l.list.items ++ map network_in (slice_split is_space l.left)

@@ -1,0 +1,51 @@
+-- What is printed for an answer and for a frame.
+use Rattle.std.specs.Prelude.{ℕ, codes, List, [], ◌∷◌, ◌++◌, Option, Some, None, Result, Ok, Err}
+use Rattle.hex.specs.Hex.{encode_lower}
+use Rattle.net_base.specs.declared.memory_device.PushError.{PushError}
+use Rattle.net_base.specs.declared.memory_device.PushError.TheVariants.{TooLong, NoMemory}
+use Rattle.host_machine.specs.declared.results.HardwareError.{HardwareError}
+use Rattle.host_machine.specs.declared.results.HardwareError.TheVariants.{WrongMedium, NotUnicast}
+use Rattle.host_machine.specs.declared.results.PollResult.{PollResult}
+use Rattle.host_machine.specs.declared.results.PollResult.TheVariants as poll
+use Rattle.host_machine.specs.declared.results.PollIngressSingleResult.{PollIngressSingleResult}
+use Rattle.host_machine.specs.declared.results.PollIngressSingleResult.TheVariants as ingress
+use Rattle.host_machine.specs.declared.command.Answer.{Answer}
+use Rattle.host_machine.specs.declared.command.Answer.TheVariants as answer
+
+abbrev pub ingress_text : PollIngressSingleResult → List ℕ
+ingress_text ingress.None = codes "None"
+ingress_text ingress.PacketProcessed = codes "PacketProcessed"
+ingress_text ingress.SocketStateChanged = codes "SocketStateChanged"
+
+abbrev pub egress_text : PollResult → List ℕ
+egress_text poll.None = codes "None"
+egress_text poll.SocketStateChanged = codes "SocketStateChanged"
+
+abbrev pub hardware_text : HardwareError → List ℕ
+hardware_text WrongMedium = codes "WrongMedium"
+hardware_text NotUnicast = codes "NotUnicast"
+
+-- a result or an error by its name, `ok` for the rest
+abbrev pub text_of : Answer → List ℕ
+text_of (answer.UpdateIpAddrs (Ok done)) = codes "ok"
+text_of (answer.UpdateIpAddrs (Err e)) = codes "NotUnicast"
+text_of (answer.PollIngressSingle result) = ingress_text result
+text_of (answer.PollEgress result) = egress_text result
+text_of answer.UpdateRoutes = codes "ok"
+text_of (answer.AddDefaultIpv4Route (Ok old)) = codes "ok"
+text_of (answer.AddDefaultIpv4Route (Err e)) = codes "RouteTableFull"
+text_of (answer.RemoveDefaultIpv4Route old) = codes "ok"
+text_of answer.SetAnyIp = codes "ok"
+text_of (answer.SetHardwareAddr (Ok done)) = codes "ok"
+text_of (answer.SetHardwareAddr (Err e)) = hardware_text e
+text_of answer.Owner = codes "ok"
+
+-- a frame that arrived or was too long; nothing where memory was refused
+abbrev pub push_text : Result (Unit {0}) PushError → Option (List ℕ)
+push_text (Ok done) = Some (codes "ok")
+push_text (Err TooLong) = Some (codes "TooLong")
+push_text (Err NoMemory) = None
+
+-- `tx` and the octets in hex
+abbrev pub frame_line : List ℕ → List ℕ
+frame_line frame = codes "tx " ++ encode_lower frame ++ 10 ∷ []

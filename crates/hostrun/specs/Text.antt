@@ -1,0 +1,75 @@
+-- What the words of a line say.
+use Rattle.std.specs.Prelude.{◌≡◌, ℕ, ◌==◌, ◌&&◌, nat_lt, nat_le, Bool, if◌then◌else◌, List, codes, length, map, take, slice_index, Option, Some, None, Result, Ok, Err}
+use Rattle.std.specs.List.{list_all, slice_split, before_first, after_first}
+use Rattle.std.specs.Char.{is_ascii_digit}
+use Rattle.std.specs.Str.Parse.{digits_value}
+use Rattle.hex.specs.declared.error.FromHexError.{FromHexError}
+use Rattle.hex.specs.Hex.{decode_of, decode_sized}
+use Rattle.ip_address.specs.declared.ip.IpAddress.{IpAddress}
+use Rattle.ip_address.specs.declared.ip.IpAddress.TheVariants as ip
+use Rattle.ip_address.specs.declared.ipv4.Ipv4Address.{Ipv4Address}
+use Rattle.ip_address.specs.declared.cidr.IpCidr.{IpCidr}
+use Rattle.ip_address.specs.Ipv4.{address_of}
+use Rattle.ip_address.specs.Cidr as cidr
+use Rattle.hostrun.specs.declared.line.Line.{Line}
+use Rattle.hostrun.specs.declared.line.Line.TheVariants.{Rx, Udp, Asks}
+use Rattle.hostrun.specs.declared.line.Call.{Call}
+use Rattle.hostrun.specs.declared.line.Call.TheVariants.{Addr, Gw, Ingress, Egress}
+
+abbrev pub is_space : ℕ → Bool
+is_space octet = octet == 32
+
+abbrev pub is_slash : ℕ → Bool
+is_slash octet = octet == 47
+
+-- one or more decimal digits of a number that is at most `most`
+abbrev pub is_number_up_to : ℕ → List ℕ → Bool
+is_number_up_to most digits = nat_lt 0 (length digits) && (list_all is_ascii_digit digits && nat_le (digits_value 10 digits) most)
+
+-- the number that they spell
+abbrev pub number_up_to : ℕ → List ℕ → Option ℕ
+number_up_to most digits = if is_number_up_to most digits then Some (digits_value 10 digits) else None
+
+-- a port other than 0
+abbrev pub port_in : List ℕ → Option ℕ
+port_in digits = if nat_lt 0 (digits_value 10 digits) then number_up_to 65535 digits else None
+
+-- the address of four octets
+abbrev pub of_octets : Result (List ℕ) FromHexError → Option Ipv4Address
+of_octets (Ok octets) = Some (address_of (slice_index octets 0) (slice_index octets 1) (slice_index octets 2) (slice_index octets 3))
+of_octets (Err e) = None
+
+-- the address that eight hex digits spell
+abbrev pub address_in : List ℕ → Option Ipv4Address
+address_in digits = of_octets (decode_sized digits 4)
+
+-- an address with the length of its prefix
+abbrev pub with_len : Option Ipv4Address → Option ℕ → Option (IpAddress × ℕ)
+with_len (Some address) (Some len) = Some (ip.Ipv4 address, len)
+with_len (Some address) None = None
+with_len None len = None
+
+-- the address and the prefix length, at most 32, that are parted by a slash
+abbrev pub network_in : List ℕ → Option (IpAddress × ℕ)
+network_in word = with_len (address_in (before_first is_slash word)) (number_up_to 32 (after_first is_slash word))
+
+-- the address and the prefix length of a network
+abbrev pub parts_of : IpCidr → Option (IpAddress × ℕ)
+parts_of network = Some (cidr.address_of network, cidr.prefix_len_of network)
+
+-- the words, parted by one space, spell these networks in this order
+abbrev pub SpellNetworks : List ℕ → List IpCidr → Type 0
+SpellNetworks words networks = map network_in (slice_split is_space words) ≡ map parts_of networks
+
+-- the word and its values ask for this call
+abbrev pub SayCall : List ℕ → List ℕ → Call → Type 0
+SayCall word values (Addr networks) = (word ≡ codes "addr") × SpellNetworks values networks.items
+SayCall word values (Gw router) = (word ≡ codes "gw") × (address_in values ≡ Some router)
+SayCall word values Ingress = word ≡ codes "ingress"
+SayCall word values Egress = word ≡ codes "egress"
+
+-- the word and its values, with the frame in the front of the buffer, say this
+abbrev pub Say : List ℕ → List ℕ → List ℕ → Line → Type 0
+Say word values buffer (Rx len) = (word ≡ codes "rx") × (decode_of values ≡ Ok (take len buffer))
+Say word values buffer (Udp port) = (word ≡ codes "udp") × (port_in values ≡ Some port)
+Say word values buffer (Asks call) = SayCall word values call
