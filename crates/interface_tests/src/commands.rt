@@ -1,14 +1,15 @@
 // Lists of calls. Each test also holds where any one request for memory is refused.
 
 use crate::frames::{
-    ECHO, ECHO_REPLY, ECHO_TO_77, ECHO_TO_ALL, ECHO_TO_OTHER, HI, HI_BACK, HI_EVERYBODY, HI_GROUP,
-    HI_TO_ALL, REPLY, REPLY_OF_77, REPLY_OF_OTHER, REQUEST, SHORT, STRANGER, UNHEARD, WHO_HAS_2,
-    WHO_HAS_50, WHO_HAS_100, WHO_HAS_STRANGER,
+    ECHO, ECHO_TO_77, ECHO_TO_OTHER, HI, HI_BACK, HI_EVERYBODY, HI_GROUP, REPLY, REPLY_OF_77,
+    REPLY_OF_OTHER, REQUEST, STRANGER, UNHEARD, WHO_HAS_2, WHO_HAS_50, WHO_HAS_100,
+    WHO_HAS_STRANGER,
 };
 use crate::host::{
     EMPTY_FRAME, EVERYBODY, GONE, GROUP, HOME, Host, KEPT, NEIGHBOR, NOTHING, OTHER, OWN, TAKEN,
-    default_route, device_of, end, listening, near, networks, route, route_to_ten, sending, table,
+    default_route, device_of, near, networks, route, route_to_ten, table,
 };
+use crate::steps::{Leave, Step};
 use iface_tables::route::RouteTableFull;
 use interface::{AddrError, Answer, Command, Config, HardwareError, Interface, NewError};
 use ip_wire::{HardwareAddress, IpAddress, Ipv4Address};
@@ -16,59 +17,62 @@ use net_base::MemoryDevice;
 use net_base::phy::{Device, Medium};
 use net_base::time::Instant;
 use sockets::PollAt;
+use std::alloc::Global;
+use std::fmt::Display;
 use std::test::Fail;
 
+// Addresses of other networks, and a group.
+const TEN_0_0_9: Ipv4Address = Ipv4Address { bits: 0x0a00_0009 };
+
+const TEN_9_9_9: Ipv4Address = Ipv4Address { bits: 0x0a09_0909 };
+
+const SOME_GROUP: Ipv4Address = Ipv4Address { bits: 0xe001_0203 };
+
 #[test]
-fn takes_frames(rt: HostRuntime) {
-    let frames: [(&str, Answer, Option<&str>); 4] = [
-        ("", EMPTY_FRAME, None),
-        (REQUEST, TAKEN, Some(REPLY)),
-        (STRANGER, TAKEN, None),
-        (SHORT, TAKEN, None),
+fn takes_an_empty_frame(rt: HostRuntime) -> Result<(), Fail> {
+    let steps = [
+        Step::Take("", EMPTY_FRAME),
+        Step::Sent(&[]),
+        Step::Poll(NOTHING),
     ];
-    for (frame, answer, reply) in frames {
-        let mut host = Host::at_home(&rt, rt.alloc());
-        assert_eq!(rt; host.take(&rt, frame), answer);
-        assert_eq!(rt; host.device.queued(), 0);
-        match reply {
-            Some(reply) => host.expect_sent(&rt, &[reply]),
-            None => host.expect_sent(&rt, &[]),
-        }
-        assert_eq!(rt; host.poll(), NOTHING);
-    }
+    Host::at_home(&rt, rt.alloc())?.takes(&rt, &steps)
 }
 
 #[test]
 fn learns_from_own_networks(rt: HostRuntime) -> Result<(), Fail> {
-    let mut host = Host::acquainted(&rt, rt.alloc());
-    host.add(sending(&rt, rt.alloc(), NEIGHBOR)?)?;
-    assert_eq!(rt; host.send_all(&rt, 0), GONE);
-    host.expect_sent(&rt, &[REPLY, HI_BACK]);
+    let neighbor = [
+        Step::Say(NEIGHBOR),
+        Step::Send(0, GONE),
+        Step::Sent(&[REPLY, HI_BACK]),
+    ];
+    Host::acquainted(&rt, rt.alloc())?.takes(&rt, &neighbor)?;
+    let stranger = [
+        Step::Routes(&[route_to_ten(TEN_0_0_9)]),
+        Step::Take(STRANGER, TAKEN),
+        Step::Say(TEN_0_0_9),
+        Step::Send(0, KEPT),
+        Step::Sent(&[WHO_HAS_STRANGER]),
+    ];
+    Host::at_home(&rt, rt.alloc())?.takes(&rt, &stranger)
+}
 
-    let stranger = Ipv4Address::new(10, 0, 0, 9);
-    let mut host = Host::at_home(&rt, rt.alloc());
-    host.run(Command::UpdateRoutes(table(&[route_to_ten(stranger)])));
-    assert_eq!(rt; host.take(&rt, STRANGER), TAKEN);
-    host.add(sending(&rt, rt.alloc(), stranger)?)?;
-    assert_eq!(rt; host.send_all(&rt, 0), KEPT);
-    host.expect_sent(&rt, &[WHO_HAS_STRANGER]);
+#[test]
+fn keeps_the_addresses_where_others_are_refused(rt: HostRuntime) -> Result<(), Fail> {
+    let group = Ipv4Address::new(224, 0, 0, 5);
+    let mut host = Host::at_home(&rt, rt.alloc())?;
+    host.takes(
+        &rt,
+        &[Step::Addrs(&[HOME, group], Err(AddrError::NotUnicast))],
+    )?;
+    assert_eq!(rt; host.interface.ip_addrs(), networks(&[HOME]).as_slice());
+    for (addr, is_own) in [(HOME, true), (group, false)] {
+        assert_eq!(rt; host.interface.has_ip_addr(IpAddress::Ipv4(addr)), is_own);
+    }
     Ok(())
 }
 
 #[test]
-fn keeps_the_addresses_where_others_are_refused(rt: HostRuntime) {
-    let mut host = Host::at_home(&rt, rt.alloc());
-    let home = networks(&[HOME]);
-    let group = Ipv4Address::new(224, 0, 0, 5);
-    let refused = host.run(Command::UpdateIpAddrs(networks(&[HOME, group])));
-    assert_eq!(rt; refused, Answer::UpdateIpAddrs(Err(AddrError::NotUnicast)));
-    assert_eq!(rt; host.interface.ip_addrs(), home.as_slice());
-    assert!(rt; host.interface.has_ip_addr(IpAddress::Ipv4(HOME)));
-    assert!(rt; !host.interface.has_ip_addr(IpAddress::Ipv4(group)));
-}
-
-#[test]
-fn runs_commands_in_order(rt: HostRuntime) {
+fn runs_commands_in_order(rt: HostRuntime) -> Result<(), Fail> {
     let mut host = Host::new(&rt, rt.alloc());
     host.queue(&rt, REQUEST);
     let commands = [
@@ -86,264 +90,249 @@ fn runs_commands_in_order(rt: HostRuntime) {
     };
     let set = Answer::UpdateIpAddrs(Ok(()));
     assert_eq!(rt; answers, [Answer::Owner, set, first, second, Answer::Owner]);
-    host.expect_sent(&rt, &[REPLY]);
-    assert_eq!(rt; host.owner.turns, 2);
-    assert_eq!(rt; host.owner.last, 9);
+    assert_eq!(rt; (host.owner.turns, host.owner.last), (2, 9));
+    host.takes(&rt, &[Step::Sent(&[REPLY])])
 }
 
 #[test]
-fn echo_requests_are_answered(rt: HostRuntime) {
-    let frames: [(&str, &[&str]); 3] = [
-        (ECHO, &[REPLY, ECHO_REPLY]),
-        (ECHO_TO_ALL, &[REPLY, ECHO_REPLY]),
-        (HI_TO_ALL, &[REPLY]),
+fn a_reply_to_an_unknown_neighbor_is_lost(rt: HostRuntime) -> Result<(), Fail> {
+    let steps = [
+        Step::Take(ECHO, TAKEN),
+        Step::Sent(&[WHO_HAS_100]),
+        Step::Take(REQUEST, TAKEN),
+        Step::Poll(NOTHING),
+        Step::Send(2_000_000, KEPT),
+        Step::Sent(&[WHO_HAS_100, REPLY]),
     ];
-    for (frame, sent) in frames {
-        let mut host = Host::acquainted(&rt, rt.alloc());
-        assert_eq!(rt; host.take(&rt, frame), TAKEN);
-        host.expect_sent(&rt, sent);
-    }
-}
-
-#[test]
-fn a_reply_to_an_unknown_neighbor_is_lost(rt: HostRuntime) {
-    let mut host = Host::at_home(&rt, rt.alloc());
-    assert_eq!(rt; host.take(&rt, ECHO), TAKEN);
-    host.expect_sent(&rt, &[WHO_HAS_100]);
-    assert_eq!(rt; host.take(&rt, REQUEST), TAKEN);
-    assert_eq!(rt; host.poll(), NOTHING);
-    assert_eq!(rt; host.send_all(&rt, 2_000_000), KEPT);
-    host.expect_sent(&rt, &[WHO_HAS_100, REPLY]);
+    Host::at_home(&rt, rt.alloc())?.takes(&rt, &steps)
 }
 
 #[test]
 fn the_first_socket_of_a_port_hears(rt: HostRuntime) -> Result<(), Fail> {
-    let mut host = Host::at_home(&rt, rt.alloc());
-    let first = host.add(listening(rt.alloc())?)?;
-    let second = host.add(listening(rt.alloc())?)?;
-    assert_eq!(rt; host.take(&rt, HI), TAKEN);
-    match host.heard(first) {
-        Some((remote, payload)) => {
-            assert_eq!(rt; *remote, end(NEIGHBOR));
-            assert_eq!(rt; payload, b"hi".as_slice());
-        }
-        None => assert!(rt; false),
-    }
-    assert!(rt; host.heard(second).is_none());
-    host.expect_sent(&rt, &[]);
-    Ok(())
+    let steps = [
+        Step::Listen,
+        Step::Listen,
+        Step::Take(HI, TAKEN),
+        Step::Heard(0, Some(b"hi")),
+        Step::Heard(1, None),
+        Step::Sent(&[]),
+    ];
+    Host::at_home(&rt, rt.alloc())?.takes(&rt, &steps)
 }
 
 #[test]
 fn bad_packets_are_dropped(rt: HostRuntime) -> Result<(), Fail> {
-    let mut host = Host::acquainted(&rt, rt.alloc());
-    let handle = host.add(listening(rt.alloc())?)?;
+    let mut host = Host::acquainted(&rt, rt.alloc())?;
+    host.takes(&rt, &[Step::Listen])?;
     for frame in UNHEARD {
-        assert_eq!(rt; host.take(&rt, frame), TAKEN);
-        host.expect_sent(&rt, &[REPLY]);
-        assert!(rt; host.heard(handle).is_none());
-        assert_eq!(rt; host.poll_at(handle), Some(PollAt::Ingress));
+        let steps = [
+            Step::Take(frame, TAKEN),
+            Step::Sent(&[REPLY]),
+            Step::Heard(0, None),
+            Step::PollAt(0, PollAt::Ingress),
+        ];
+        host.takes(&rt, &steps)?;
     }
     Ok(())
 }
 
 #[test]
 fn asks_for_one_neighbor_a_second(rt: HostRuntime) -> Result<(), Fail> {
-    let mut host = Host::at_home(&rt, rt.alloc());
-    let first = host.add(sending(&rt, rt.alloc(), near(50))?)?;
-    let second = host.add(sending(&rt, rt.alloc(), near(51))?)?;
-    for (micros, requests) in [
-        (5_000_000, 1),
-        (2_000_000, 1),
-        (5_999_999, 1),
-        (6_000_000, 2),
-    ] {
-        assert_eq!(rt; host.send_all(&rt, micros), KEPT);
-        assert_eq!(rt; host.device.sent().len(), requests, "at {micros}");
-    }
-    host.expect_sent(&rt, &[WHO_HAS_50, WHO_HAS_50]);
-    assert_eq!(rt; host.poll_at(first), Some(PollAt::Now));
-    assert_eq!(rt; host.poll_at(second), Some(PollAt::Now));
-    Ok(())
+    let steps = [
+        Step::Say(near(50)),
+        Step::Say(near(51)),
+        Step::Send(5_000_000, KEPT),
+        Step::Sent(&[WHO_HAS_50]),
+        Step::Send(2_000_000, KEPT),
+        Step::Sent(&[WHO_HAS_50]),
+        Step::Send(5_999_999, KEPT),
+        Step::Sent(&[WHO_HAS_50]),
+        Step::Send(6_000_000, KEPT),
+        Step::Sent(&[WHO_HAS_50, WHO_HAS_50]),
+        Step::PollAt(0, PollAt::Now),
+        Step::PollAt(1, PollAt::Now),
+    ];
+    Host::at_home(&rt, rt.alloc())?.takes(&rt, &steps)
 }
 
 #[test]
 fn no_worse_route_is_tried(rt: HostRuntime) -> Result<(), Fail> {
+    let mut host = Host::at_home(&rt, rt.alloc())?;
     let part = route(Ipv4Address::new(10, 1, 0, 0), 16, EVERYBODY);
-    let mut host = Host::at_home(&rt, rt.alloc());
     let set = host.run(Command::UpdateRoutes(table(&[route_to_ten(near(2)), part])));
     assert_eq!(rt; set, Answer::UpdateRoutes);
-    let distant = Ipv4Address::new(10, 1, 2, 3);
-    let handle = host.add(sending(&rt, rt.alloc(), distant)?)?;
-    assert_eq!(rt; host.send_all(&rt, 0), KEPT);
-    host.expect_sent(&rt, &[]);
-    assert_eq!(rt; host.poll_at(handle), Some(PollAt::Now));
+    let with_part = [
+        Step::Say(Ipv4Address::new(10, 1, 2, 3)),
+        Step::Send(0, KEPT),
+        Step::Sent(&[]),
+        Step::PollAt(0, PollAt::Now),
+    ];
+    host.takes(&rt, &with_part)?;
     host.run(Command::UpdateRoutes(table(&[route_to_ten(near(2))])));
-    assert_eq!(rt; host.send_all(&rt, 1_000_000), KEPT);
-    host.expect_sent(&rt, &[WHO_HAS_2]);
-    assert_eq!(rt; host.poll_at(handle), Some(PollAt::Now));
-    Ok(())
+    let without = [
+        Step::Send(1_000_000, KEPT),
+        Step::Sent(&[WHO_HAS_2]),
+        Step::PollAt(0, PollAt::Now),
+    ];
+    host.takes(&rt, &without)
 }
 
 #[test]
-fn there_is_one_default_route(rt: HostRuntime) {
-    let mut host = Host::at_home(&rt, rt.alloc());
+fn there_is_one_default_route(rt: HostRuntime) -> Result<(), Fail> {
     let second = default_route(near(2));
     let third = default_route(near(3));
-    let added = host.run(Command::AddDefaultIpv4Route(near(2)));
-    assert_eq!(rt; added, Answer::AddDefaultIpv4Route(Ok(None)));
-    let replaced = host.run(Command::AddDefaultIpv4Route(near(3)));
-    assert_eq!(rt; replaced, Answer::AddDefaultIpv4Route(Ok(Some(second))));
-    let removed = host.run(Command::RemoveDefaultIpv4Route);
-    assert_eq!(rt; removed, Answer::RemoveDefaultIpv4Route(Some(third)));
-    let gone = host.run(Command::RemoveDefaultIpv4Route);
-    assert_eq!(rt; gone, Answer::RemoveDefaultIpv4Route(None));
-    assert!(rt; host.interface.routes().as_slice().is_empty());
+    let steps = [
+        Step::AddDefault(near(2), Answer::AddDefaultIpv4Route(Ok(None))),
+        Step::AddDefault(near(3), Answer::AddDefaultIpv4Route(Ok(Some(second)))),
+        Step::RemoveDefault(Some(third)),
+        Step::RemoveDefault(None),
+        Step::HasRoutes(&[]),
+    ];
+    Host::at_home(&rt, rt.alloc())?.takes(&rt, &steps)
 }
 
 #[test]
-fn a_full_table_takes_no_default_route(rt: HostRuntime) {
-    let mut host = Host::at_home(&rt, rt.alloc());
+fn a_full_table_takes_no_default_route(rt: HostRuntime) -> Result<(), Fail> {
     let full = [2, 3, 4, 5].map(|router| route_to_ten(near(router)));
-    host.run(Command::UpdateRoutes(table(&full)));
-    let refused = host.run(Command::AddDefaultIpv4Route(near(6)));
-    assert_eq!(rt; refused, Answer::AddDefaultIpv4Route(Err(RouteTableFull)));
-    let removed = host.run(Command::RemoveDefaultIpv4Route);
-    assert_eq!(rt; removed, Answer::RemoveDefaultIpv4Route(None));
-    assert_eq!(rt; host.interface.routes().as_slice(), full.as_slice());
+    let steps = [
+        Step::Routes(&full),
+        Step::AddDefault(near(6), Answer::AddDefaultIpv4Route(Err(RouteTableFull))),
+        Step::RemoveDefault(None),
+        Step::HasRoutes(&full),
+    ];
+    Host::at_home(&rt, rt.alloc())?.takes(&rt, &steps)
 }
 
 #[test]
 fn datagrams_go(rt: HostRuntime) -> Result<(), Fail> {
-    let group = Ipv4Address::new(224, 1, 2, 3);
     for (addr, frame) in [
         (NEIGHBOR, HI_BACK),
         (EVERYBODY, HI_EVERYBODY),
-        (group, HI_GROUP),
+        (SOME_GROUP, HI_GROUP),
     ] {
-        let mut host = Host::acquainted(&rt, rt.alloc());
-        let handle = host.add(sending(&rt, rt.alloc(), addr)?)?;
-        assert_eq!(rt; host.send_all(&rt, 0), GONE);
-        host.expect_sent(&rt, &[REPLY, frame]);
-        assert_eq!(rt; host.poll_at(handle), Some(PollAt::Ingress));
-        assert_eq!(rt; host.send_all(&rt, 0), KEPT);
+        let steps = [
+            Step::Say(addr),
+            Step::Send(0, GONE),
+            Step::Sent(&[REPLY, frame]),
+            Step::PollAt(0, PollAt::Ingress),
+            Step::Send(0, KEPT),
+        ];
+        Host::acquainted(&rt, rt.alloc())?.takes(&rt, &steps)?;
     }
     Ok(())
 }
 
 #[test]
 fn a_datagram_waits_for_leave(rt: HostRuntime) -> Result<(), Fail> {
-    let mut host = Host::acquainted(&rt, rt.alloc());
-    let handle = host.add(sending(&rt, rt.alloc(), NEIGHBOR)?)?;
-    host.refuse_once(rt.alloc())?;
-    assert_eq!(rt; host.send(0), KEPT);
-    host.expect_sent(&rt, &[REPLY]);
-    assert_eq!(rt; host.poll_at(handle), Some(PollAt::Now));
-    assert_eq!(rt; host.send_all(&rt, 0), GONE);
-    host.expect_sent(&rt, &[REPLY, HI_BACK]);
-    assert_eq!(rt; host.poll_at(handle), Some(PollAt::Ingress));
-    Ok(())
+    let steps = [
+        Step::Say(NEIGHBOR),
+        Step::Refuse,
+        Step::SendOnce(0, KEPT, Leave::Refused),
+        Step::Sent(&[REPLY]),
+        Step::PollAt(0, PollAt::Now),
+        Step::Send(0, GONE),
+        Step::Sent(&[REPLY, HI_BACK]),
+        Step::PollAt(0, PollAt::Ingress),
+    ];
+    Host::acquainted(&rt, rt.alloc())?.takes(&rt, &steps)
 }
 
 #[test]
 fn a_socket_without_a_route_waits(rt: HostRuntime) -> Result<(), Fail> {
-    let mut host = Host::at_home(&rt, rt.alloc());
-    let distant = Ipv4Address::new(10, 9, 9, 9);
-    let handle = host.add(sending(&rt, rt.alloc(), distant)?)?;
-    assert_eq!(rt; host.send_all(&rt, 0), KEPT);
-    host.refuse_once(rt.alloc())?;
-    for (micros, asked) in [
-        (0, false),
-        (500_000, false),
-        (999_999, false),
-        (1_000_000, true),
-    ] {
-        let refusals = host.device.refusals();
-        assert_eq!(rt; host.send(micros), KEPT);
-        assert_eq!(rt; host.device.refusals() > refusals, asked, "at {micros}");
-    }
-    host.expect_sent(&rt, &[]);
-    assert_eq!(rt; host.poll_at(handle), Some(PollAt::Now));
-    Ok(())
+    let steps = [
+        Step::Say(TEN_9_9_9),
+        Step::Send(0, KEPT),
+        Step::Refuse,
+        Step::SendOnce(0, KEPT, Leave::NotRefused),
+        Step::SendOnce(500_000, KEPT, Leave::NotRefused),
+        Step::SendOnce(999_999, KEPT, Leave::NotRefused),
+        Step::SendOnce(1_000_000, KEPT, Leave::Refused),
+        Step::Sent(&[]),
+        Step::PollAt(0, PollAt::Now),
+    ];
+    Host::at_home(&rt, rt.alloc())?.takes(&rt, &steps)
 }
 
 // A refused leave lets no socket wait, so the next call asks again. A socket behind one that waits
 // has its turn.
 #[test]
 fn a_refused_leave_is_no_reason_to_wait(rt: HostRuntime) -> Result<(), Fail> {
-    let mut host = Host::acquainted(&rt, rt.alloc());
-    let waiting = host.add(sending(&rt, rt.alloc(), Ipv4Address::new(10, 9, 9, 9))?)?;
-    let handle = host.add(sending(&rt, rt.alloc(), NEIGHBOR)?)?;
-    host.refuse_once(rt.alloc())?;
-    assert_eq!(rt; host.send(0), KEPT);
-    host.expect_sent(&rt, &[REPLY]);
-    assert_eq!(rt; host.send(0), GONE);
-    host.expect_sent(&rt, &[REPLY, HI_BACK]);
-    assert_eq!(rt; host.poll_at(handle), Some(PollAt::Ingress));
-    assert_eq!(rt; host.poll_at(waiting), Some(PollAt::Now));
-    Ok(())
+    let steps = [
+        Step::Say(TEN_9_9_9),
+        Step::Say(NEIGHBOR),
+        Step::Refuse,
+        Step::SendOnce(0, KEPT, Leave::Refused),
+        Step::Sent(&[REPLY]),
+        Step::SendOnce(0, GONE, Leave::NotRefused),
+        Step::Sent(&[REPLY, HI_BACK]),
+        Step::PollAt(1, PollAt::Ingress),
+        Step::PollAt(0, PollAt::Now),
+    ];
+    Host::acquainted(&rt, rt.alloc())?.takes(&rt, &steps)
 }
 
 // The wait lasts from 1 s to 2 s, and ends sooner where the neighbour becomes known.
 #[test]
 fn a_known_neighbor_ends_the_wait(rt: HostRuntime) -> Result<(), Fail> {
-    let mut host = Host::at_home(&rt, rt.alloc());
-    let handle = host.add(sending(&rt, rt.alloc(), NEIGHBOR)?)?;
-    assert_eq!(rt; host.send_all(&rt, 1_000_000), KEPT);
-    host.expect_sent(&rt, &[WHO_HAS_100]);
-    assert_eq!(rt; host.send_all(&rt, 1_500_000), KEPT);
-    host.expect_sent(&rt, &[WHO_HAS_100]);
-    assert_eq!(rt; host.take(&rt, REQUEST), TAKEN);
-    host.expect_sent(&rt, &[WHO_HAS_100, REPLY]);
-    assert_eq!(rt; host.send_all(&rt, 1_500_000), GONE);
-    host.expect_sent(&rt, &[WHO_HAS_100, REPLY, HI_BACK]);
-    assert_eq!(rt; host.poll_at(handle), Some(PollAt::Ingress));
-    Ok(())
+    let steps = [
+        Step::Say(NEIGHBOR),
+        Step::Send(1_000_000, KEPT),
+        Step::Sent(&[WHO_HAS_100]),
+        Step::Send(1_500_000, KEPT),
+        Step::Sent(&[WHO_HAS_100]),
+        Step::Take(REQUEST, TAKEN),
+        Step::Sent(&[WHO_HAS_100, REPLY]),
+        Step::Send(1_500_000, GONE),
+        Step::Sent(&[WHO_HAS_100, REPLY, HI_BACK]),
+        Step::PollAt(0, PollAt::Ingress),
+    ];
+    Host::at_home(&rt, rt.alloc())?.takes(&rt, &steps)
 }
 
 // A neighbour that becomes known as a router ends the wait for what lies behind it.
 #[test]
 fn a_known_router_ends_the_wait(rt: HostRuntime) -> Result<(), Fail> {
-    let mut host = Host::at_home(&rt, rt.alloc());
-    let handle = host.add(sending(&rt, rt.alloc(), Ipv4Address::new(10, 9, 9, 9))?)?;
-    assert_eq!(rt; host.send_all(&rt, 0), KEPT);
-    assert_eq!(rt; host.take(&rt, REQUEST), TAKEN);
-    assert_eq!(rt; host.send_all(&rt, 0), KEPT);
-    let set = host.run(Command::UpdateRoutes(table(&[route_to_ten(NEIGHBOR)])));
-    assert_eq!(rt; set, Answer::UpdateRoutes);
-    assert_eq!(rt; host.send_all(&rt, 0), GONE);
+    let mut host = Host::at_home(&rt, rt.alloc())?;
+    let steps = [
+        Step::Say(TEN_9_9_9),
+        Step::Send(0, KEPT),
+        Step::Take(REQUEST, TAKEN),
+        Step::Send(0, KEPT),
+        Step::Routes(&[route_to_ten(NEIGHBOR)]),
+        Step::Send(0, GONE),
+        Step::PollAt(0, PollAt::Ingress),
+    ];
+    host.takes(&rt, &steps)?;
     assert_eq!(rt; host.device.sent().len(), 2);
-    assert_eq!(rt; host.poll_at(handle), Some(PollAt::Ingress));
     Ok(())
 }
 
 #[test]
-fn any_address_is_its_own(rt: HostRuntime) {
-    let mut host = Host::acquainted(&rt, rt.alloc());
-    assert_eq!(rt; host.take(&rt, ECHO_TO_77), TAKEN);
-    host.expect_sent(&rt, &[REPLY]);
-    assert_eq!(rt; host.run(Command::SetAnyIp(true)), Answer::SetAnyIp);
-    assert_eq!(rt; host.take(&rt, ECHO_TO_77), TAKEN);
-    host.expect_sent(&rt, &[REPLY, REPLY_OF_77]);
+fn any_address_is_its_own(rt: HostRuntime) -> Result<(), Fail> {
+    let steps = [
+        Step::Take(ECHO_TO_77, TAKEN),
+        Step::Sent(&[REPLY]),
+        Step::TakeAny,
+        Step::Take(ECHO_TO_77, TAKEN),
+        Step::Sent(&[REPLY, REPLY_OF_77]),
+    ];
+    Host::acquainted(&rt, rt.alloc())?.takes(&rt, &steps)
 }
 
 #[test]
-fn takes_frames_to_its_new_hardware_address(rt: HostRuntime) {
-    let mut host = Host::acquainted(&rt, rt.alloc());
-    for (hardware_addr, error) in [
-        (HardwareAddress::Ip, HardwareError::WrongMedium),
-        (GROUP, HardwareError::NotUnicast),
-    ] {
-        let refused = host.run(Command::SetHardwareAddr(hardware_addr));
-        assert_eq!(rt; refused, Answer::SetHardwareAddr(Err(error)));
-        assert_eq!(rt; host.interface.hardware_addr(), Some(OWN));
-    }
-    let set = host.run(Command::SetHardwareAddr(OTHER));
-    assert_eq!(rt; set, Answer::SetHardwareAddr(Ok(())));
-    assert_eq!(rt; host.take(&rt, ECHO), TAKEN);
-    host.expect_sent(&rt, &[REPLY]);
-    assert_eq!(rt; host.take(&rt, ECHO_TO_OTHER), TAKEN);
-    host.expect_sent(&rt, &[REPLY, REPLY_OF_OTHER]);
+fn takes_frames_to_its_new_hardware_address(rt: HostRuntime) -> Result<(), Fail> {
+    let steps = [
+        Step::Hardware(HardwareAddress::Ip, Err(HardwareError::WrongMedium)),
+        Step::HasHardware(OWN),
+        Step::Hardware(GROUP, Err(HardwareError::NotUnicast)),
+        Step::HasHardware(OWN),
+        Step::Hardware(OTHER, Ok(())),
+        Step::Take(ECHO, TAKEN),
+        Step::Sent(&[REPLY]),
+        Step::Take(ECHO_TO_OTHER, TAKEN),
+        Step::Sent(&[REPLY, REPLY_OF_OTHER]),
+    ];
+    Host::acquainted(&rt, rt.alloc())?.takes(&rt, &steps)
 }
 
 #[test]
@@ -373,27 +362,23 @@ fn refuses_configurations_in_order(rt: HostRuntime) {
     }
 }
 
+// Whether a value prints as this text, if there is memory for it.
+fn prints<T: Display>(alloc: Global, value: &T, text: &str) -> bool {
+    match format!(in alloc; "{value}") {
+        Ok(printed) => printed.as_str() == text,
+        Err(_) => true,
+    }
+}
+
 #[test]
 fn errors_print_their_names(rt: HostRuntime) {
-    for (error, name) in [
-        (NewError::MediumMismatch, "MediumMismatch"),
-        (NewError::NotUnicast, "NotUnicast"),
-        (NewError::MtuTooSmall, "MtuTooSmall"),
-        (NewError::MtuTooLarge, "MtuTooLarge"),
-    ] {
-        if let Ok(text) = format!(in rt.alloc(); "{error}") {
-            assert_eq!(rt; text.as_str(), name);
-        }
-    }
-    for (error, name) in [
-        (HardwareError::WrongMedium, "WrongMedium"),
-        (HardwareError::NotUnicast, "NotUnicast"),
-    ] {
-        if let Ok(text) = format!(in rt.alloc(); "{error}") {
-            assert_eq!(rt; text.as_str(), name);
-        }
-    }
-    if let Ok(text) = format!(in rt.alloc(); "{}", AddrError::NotUnicast) {
-        assert_eq!(rt; text.as_str(), "NotUnicast");
-    }
+    let alloc = rt.alloc();
+    let right = prints(alloc, &NewError::MediumMismatch, "MediumMismatch")
+        && prints(alloc, &NewError::NotUnicast, "NotUnicast")
+        && prints(alloc, &NewError::MtuTooSmall, "MtuTooSmall")
+        && prints(alloc, &NewError::MtuTooLarge, "MtuTooLarge")
+        && prints(alloc, &HardwareError::WrongMedium, "WrongMedium")
+        && prints(alloc, &HardwareError::NotUnicast, "NotUnicast")
+        && prints(alloc, &AddrError::NotUnicast, "NotUnicast");
+    assert!(rt; right);
 }

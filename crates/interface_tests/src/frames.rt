@@ -37,13 +37,6 @@ pub const ECHO_TO_OTHER: &str =
 pub const REPLY_OF_OTHER: &str =
     "020000000002 020000000003 0800 4500 0020 0000 4000 4001 2f27 c0a84501 c0a84564 0000 2904 1234 0001 61626364";
 
-/// To 192.168.69.255: an echo request, in a frame of 60 octets, and a datagram.
-pub const ECHO_TO_ALL: &str =
-    "ffffffffffff 020000000002 0800 4500 0020 0000 4000 4001 2e29 c0a84564 c0a845ff 0800 2104 1234 0001 61626364 0000000000000000000000000000";
-
-pub const HI_TO_ALL: &str =
-    "ffffffffffff 020000000002 0800 4500 001e 0000 4000 4011 2e1b c0a84564 c0a845ff 1388 1b39 000a 5bfb 6869";
-
 /// `hi`, from port 5000 of the neighbour to port 6969 of the host, and back.
 pub const HI: &str =
     "020000000001 020000000002 0800 4500 001e 0000 4000 4011 2f19 c0a84564 c0a84501 1388 1b39 000a 5cf9 6869";

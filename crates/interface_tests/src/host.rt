@@ -4,6 +4,7 @@ ghost use Rattle.std.specs.Prelude.{◌≡◌, ◌≤◌, length, All, IfOk};
 ghost use Rattle.host_machine.specs.Step.{IsTimely};
 
 use crate::frames::{REPLY, REQUEST};
+use crate::steps::Step;
 use arrayvec::ArrayVec;
 use iface_tables::route::Route;
 use interface::host::{Owner, drive};
@@ -14,6 +15,7 @@ use net_base::phy::{ChecksumCapabilities, Device, DeviceCapabilities, Medium};
 use net_base::time::Instant;
 use socket_set::{AddError, SocketHandle, SocketSet};
 use sockets::queue::{NoMemory, Queue};
+use sockets::socket::AnySocketOf;
 use sockets::{IpEndpoint, IpListenEndpoint, PollAt, udp};
 use std::alloc::Global;
 use std::process::Abort;
@@ -176,41 +178,59 @@ impl Owner for Idle {
 
 #[derive(Drop)]
 pub struct Host {
+    pub alloc: Global,
     pub interface: Interface,
     pub device: MemoryDevice,
     pub sockets: SocketSet<'static>,
     pub owner: Idle,
+    /// The sockets, in the order in which they came.
+    handles: ArrayVec<Option<SocketHandle>, 4>,
 }
 
 impl Host {
     ghost use Rattle.std.specs.Prelude.{◌≡◌, length, All};
     ghost use Rattle.host_machine.specs.Step.{IsTimely};
 
-    pub fn new(rt: &impl Abort, alloc: Global) -> Host {
-        let mut device = MemoryDevice::new(alloc, device_of(Medium::Ethernet, 1514));
+    /// A host over a device.
+    pub fn over(rt: &impl Abort, alloc: Global, capabilities: DeviceCapabilities) -> Host {
+        let mut device = MemoryDevice::new(alloc, capabilities);
         let made = Interface::new(Config::new(OWN), &mut device, Instant::ZERO);
         Host {
+            alloc,
             interface: made.expect(rt, "a host"),
             device,
             sockets: SocketSet::new(Vec::new(alloc)),
             owner: Idle { turns: 0, last: 0 },
+            handles: ArrayVec::new(),
         }
     }
 
+    pub fn new(rt: &impl Abort, alloc: Global) -> Host {
+        Host::over(rt, alloc, device_of(Medium::Ethernet, 1514))
+    }
+
     /// A host at 192.168.69.1.
-    pub fn at_home(rt: &impl Abort, alloc: Global) -> Host {
+    pub fn at_home(rt: &impl Abort, alloc: Global) -> Result<Host, Fail> {
         let mut host = Host::new(rt, alloc);
-        let accepted = host.run(Command::UpdateIpAddrs(networks(&[HOME])));
-        assert_eq!(rt; accepted, Answer::UpdateIpAddrs(Ok(())));
-        host
+        host.takes(rt, &[Step::Addrs(&[HOME], Ok(()))])?;
+        Ok(host)
     }
 
     /// A host at 192.168.69.1 that knows its neighbour.
-    pub fn acquainted(rt: &impl Abort, alloc: Global) -> Host {
-        let mut host = Host::at_home(rt, alloc);
-        assert_eq!(rt; host.take(rt, REQUEST), TAKEN);
-        host.expect_sent(rt, &[REPLY]);
-        host
+    pub fn acquainted(rt: &impl Abort, alloc: Global) -> Result<Host, Fail> {
+        let mut host = Host::new(rt, alloc);
+        host.meets(rt)?;
+        Ok(host)
+    }
+
+    /// Gives the host its address, and lets it learn of its neighbour.
+    pub fn meets(&mut self, rt: &impl Abort) -> Result<(), Fail> {
+        let steps = [
+            Step::Addrs(&[HOME], Ok(())),
+            Step::Take(REQUEST, TAKEN),
+            Step::Sent(&[REPLY]),
+        ];
+        self.takes(rt, &steps)
     }
 
     pub fn run_all(&mut self, commands: &[Command], answers: &mut [Answer])
@@ -298,41 +318,56 @@ impl Host {
         self.send(micros)
     }
 
-    /// These frames were sent, and no others.
-    pub fn expect_sent(&self, rt: &impl Abort, frames: &[&str]) {
-        assert_eq!(rt; self.device.sent().len(), frames.len());
-        for (sent, frame) in self.device.sent().iter().zip(frames) {
-            assert_eq!(rt; sent.as_slice(), octets(frame).as_slice());
+    /// Whether these frames were sent, and no others.
+    pub fn has_sent(&self, frames: &[&str]) -> bool {
+        let sent = self.device.sent();
+        if sent.len() != frames.len() {
+            return false;
         }
+        for (sent, frame) in sent.iter().zip(frames) {
+            if sent.as_slice() != octets(frame).as_slice() {
+                return false;
+            }
+        }
+        true
     }
 
     /// Adds a socket. If the memory for its place is refused, the next call adds it.
-    pub fn add(&mut self, socket: udp::Socket<'static>) -> Result<SocketHandle, NoMemory> {
-        match self.sockets.add(socket) {
-            Ok(handle) => Ok(handle),
-            Err(AddError::Full(_socket)) => Err(NoMemory),
+    pub fn add<T: AnySocketOf<&'static ()>>(
+        &mut self,
+        socket: T,
+    ) -> Result<SocketHandle, NoMemory> {
+        let handle = match self.sockets.add(socket) {
+            Ok(handle) => handle,
+            Err(AddError::Full(_socket)) => return Err(NoMemory),
             Err(AddError::NoMemory(socket)) => match self.sockets.add(socket) {
-                Ok(handle) => Ok(handle),
-                Err(_error) => Err(NoMemory),
+                Ok(handle) => handle,
+                Err(_error) => return Err(NoMemory),
             },
-        }
+        };
+        let _ = self.handles.try_push(Some(handle));
+        Ok(handle)
+    }
+
+    // The UDP socket that came in this place.
+    fn udp(&self, place: usize) -> Option<&udp::Socket<'static>> {
+        let handle = *self.handles.get(place)?;
+        self.sockets.get::<udp::Socket<'_>>(handle?)
     }
 
     /// When a socket has to be polled again: at once, where it has something to send.
-    pub fn poll_at(&self, handle: SocketHandle) -> Option<PollAt> {
-        let socket = self.sockets.get::<udp::Socket<'_>>(handle)?;
-        Some(socket.poll_at())
+    pub fn poll_at(&self, place: usize) -> Option<PollAt> {
+        Some(self.udp(place)?.poll_at())
     }
 
     /// The datagram that came to a socket first.
-    pub fn heard(&self, handle: SocketHandle) -> Option<(&IpEndpoint, &[u8])> {
-        let socket = self.sockets.get::<udp::Socket<'_>>(handle)?;
-        socket.recv()
+    pub fn heard(&self, place: usize) -> Option<(&IpEndpoint, &[u8])> {
+        self.udp(place)?.recv()
     }
 
     /// Lets the device refuse leave once.
-    pub fn refuse_once(&mut self, alloc: Global) -> Result<(), Fail> {
-        let mut answers = Vec::new(alloc);
+    pub fn refuse_once(&mut self) -> Result<(), Fail> {
+        let mut answers = Vec::new(self.alloc);
         if answers.push(true).is_err() {
             answers.push(true)?;
         }

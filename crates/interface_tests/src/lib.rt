@@ -11,3 +11,5 @@ mod host;
 mod kinds;
 #[cfg(test)]
 mod received;
+#[cfg(test)]
+mod steps;

@@ -2,6 +2,7 @@
 
 use crate::frames::{ECHO, ECHO_REPLY, HI, REPLY, REQUEST, SHORT, STRANGER, WHO_HAS_100};
 use crate::host::{Host, TAKEN, octets};
+use crate::steps::Step;
 use arrayvec::ArrayVec;
 use std::test::Fail;
 
@@ -18,76 +19,63 @@ fn padded(frame: &str, len: usize) -> ArrayVec<u8, 2000> {
 }
 
 #[test]
-fn what_is_received_is_answered_as_what_is_polled(rt: HostRuntime) {
-    let frames: [(&str, Option<&str>); 6] = [
-        ("", None),
-        (SHORT, None),
-        (STRANGER, None),
-        (REQUEST, Some(REPLY)),
-        (ECHO, Some(ECHO_REPLY)),
-        ("02000000000102000000000208", None),
+fn what_is_received_is_answered_as_what_is_polled(rt: HostRuntime) -> Result<(), Fail> {
+    let steps = [
+        Step::Receive(0, "", None),
+        Step::Receive(0, SHORT, None),
+        Step::Receive(0, STRANGER, None),
+        Step::Receive(0, REQUEST, Some(REPLY)),
+        Step::Receive(0, ECHO, Some(ECHO_REPLY)),
+        Step::Receive(0, "02000000000102000000000208", None),
+        Step::Sent(&[]),
     ];
-    let mut host = Host::at_home(&rt, rt.alloc());
-    for (frame, reply) in frames {
-        match (host.receive(0, octets(frame).as_slice()), reply) {
-            (Some(shown), Some(reply)) => {
-                assert_eq!(rt; shown.as_slice(), octets(reply).as_slice());
-            }
-            (shown, reply) => assert!(rt; shown.is_none() && reply.is_none()),
-        }
-        host.expect_sent(&rt, &[]);
-    }
+    Host::at_home(&rt, rt.alloc())?.takes(&rt, &steps)
 }
 
 #[test]
-fn frames_longer_than_the_link_takes_are_read(rt: HostRuntime) {
+fn frames_longer_than_the_link_takes_are_read(rt: HostRuntime) -> Result<(), Fail> {
+    let reply = octets(ECHO_REPLY);
     for len in [46, 1514, 1515, 2000] {
-        let mut host = Host::acquainted(&rt, rt.alloc());
-        match host.receive(0, padded(ECHO, len).as_slice()) {
-            Some(shown) => assert_eq!(rt; shown.as_slice(), octets(ECHO_REPLY).as_slice()),
-            None => assert!(rt; false),
-        }
+        let mut host = Host::acquainted(&rt, rt.alloc())?;
+        let shown = match host.receive(0, padded(ECHO, len).as_slice()) {
+            Some(shown) => shown,
+            None => ArrayVec::new(),
+        };
+        assert_eq!(rt; shown.as_slice(), reply.as_slice(), "at {len}");
     }
+    Ok(())
 }
 
 #[test]
-fn polled_and_received_frames_mix(rt: HostRuntime) {
-    let mut host = Host::acquainted(&rt, rt.alloc());
-    for _ in 0..2 {
-        assert!(rt; host.receive(0, octets(ECHO).as_slice()).is_some());
-        assert!(rt; host.receive(0, octets(SHORT).as_slice()).is_none());
-    }
-    assert_eq!(rt; host.take(&rt, ECHO), TAKEN);
-    host.expect_sent(&rt, &[REPLY, ECHO_REPLY]);
+fn polled_and_received_frames_mix(rt: HostRuntime) -> Result<(), Fail> {
+    let steps = [
+        Step::Receive(0, ECHO, Some(ECHO_REPLY)),
+        Step::Receive(0, SHORT, None),
+        Step::Receive(0, ECHO, Some(ECHO_REPLY)),
+        Step::Receive(0, SHORT, None),
+        Step::Take(ECHO, TAKEN),
+        Step::Sent(&[REPLY, ECHO_REPLY]),
+    ];
+    Host::acquainted(&rt, rt.alloc())?.takes(&rt, &steps)
 }
 
 #[test]
-fn a_request_for_an_unknown_neighbor_is_shown_once_a_second(rt: HostRuntime) {
-    let mut host = Host::at_home(&rt, rt.alloc());
-    for (micros, asks) in [
-        (0, true),
-        (999_999, false),
-        (1_000_000, true),
-        (1_000_001, false),
-    ] {
-        match host.receive(micros, octets(ECHO).as_slice()) {
-            Some(shown) => {
-                assert!(rt; asks);
-                assert_eq!(rt; shown.as_slice(), octets(WHO_HAS_100).as_slice());
-            }
-            None => assert!(rt; !asks),
-        }
-    }
+fn a_request_for_an_unknown_neighbor_is_shown_once_a_second(rt: HostRuntime) -> Result<(), Fail> {
+    let steps = [
+        Step::Receive(0, ECHO, Some(WHO_HAS_100)),
+        Step::Receive(999_999, ECHO, None),
+        Step::Receive(1_000_000, ECHO, Some(WHO_HAS_100)),
+        Step::Receive(1_000_001, ECHO, None),
+    ];
+    Host::at_home(&rt, rt.alloc())?.takes(&rt, &steps)
 }
 
 #[test]
 fn a_received_datagram_is_delivered(rt: HostRuntime) -> Result<(), Fail> {
-    let mut host = Host::acquainted(&rt, rt.alloc());
-    let handle = host.add(crate::host::listening(rt.alloc())?)?;
-    assert!(rt; host.receive(0, octets(HI).as_slice()).is_none());
-    match host.heard(handle) {
-        Some((_, payload)) => assert_eq!(rt; payload, b"hi".as_slice()),
-        None => assert!(rt; false),
-    }
-    Ok(())
+    let steps = [
+        Step::Listen,
+        Step::Receive(0, HI, None),
+        Step::Heard(0, Some(b"hi")),
+    ];
+    Host::acquainted(&rt, rt.alloc())?.takes(&rt, &steps)
 }
