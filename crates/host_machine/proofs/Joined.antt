@@ -6,15 +6,17 @@ use Rattle.host_machine.specs.declared.command.Command.{Command}
 use Rattle.host_machine.specs.declared.command.Answer.{Answer}
 use Rattle.host_machine.specs.Host.{Host, SocketSet}
 use Rattle.host_machine.specs.Step.{Act}
-use Rattle.host_machine.specs.Run.{Place, Run, Ends, Then, Did, NoAct, ThenAct, Laws, Ran, told_in, acts_in}
+use Rattle.host_machine.specs.Run.{Place, Run, Ends, Then, Did, NoAct, ThenAct, told_in, acts_in}
+use Rattle.host_machine.specs.Ran.{Laws, Ran}
 use Rattle.host_machine.proofs.Spaced.{run_spaced}
+use Rattle.host_machine.proofs.Quiet.{run_quiet}
 
 pub run_on : {first mid last : Host} {ps qs : List Place} → Run first ps mid → Run mid qs last → Run first (ps ++ qs) last
 run_on Ends more = more
 run_on (Then s r) more = Then s (run_on r more)
 
 pub run_laws : {first last : Host} {places : List Place} → Run first places last → Laws first places
-run_laws r = record { spaced = run_spaced r }
+run_laws r = record { spaced = run_spaced r; quiet = run_quiet r }
 
 told_in-append : (ps qs : List Place) → told_in (ps ++ qs) ≡ told_in ps ++ told_in qs
 told_in-append [] qs = refl

@@ -23,7 +23,7 @@ use Rattle.host_machine.specs.Ipv4.{TakesIpv4}
 use Rattle.host_machine.specs.Ipv4 as ipv4
 use Rattle.host_machine.specs.Response.{Responds}
 use Rattle.host_machine.specs.Ingress.{Takes, Ingress}
-use Rattle.host_machine.specs.Laws.{IsMalformed}
+use Rattle.host_machine.specs.Laws.{IsMalformed, IsMalformedFrame}
 use Rattle.host_machine.specs.Laws as law
 
 arp_dropped : {own : EthernetAddress} {H new : Host} {payload : List ℕ} {reply : Option Reply} {notes : List Note} → TakesArp own H payload reply notes new → (IsArp payload → ⊥) → IsDropped H reply notes new
@@ -51,7 +51,7 @@ payload_dropped own source H protocol.Ipv6 payload reply notes new t other = t
 payload_dropped own source H (protocol.Unknown n) payload reply notes new t other = t
 
 ethernet_dropped : {own : EthernetAddress} {H new : Host} {frame : List ℕ} {reply : Option Reply} {notes : List Note} →
-    TakesEthernet own H frame reply notes new → IsMalformed H.capabilities.checksum frame → IsDropped H reply notes new
+    TakesEthernet own H frame reply notes new → IsMalformedFrame H.capabilities.checksum frame → IsDropped H reply notes new
 ethernet_dropped (ethernet.Malformed m d) bad = d
 ethernet_dropped (ethernet.NotForUs l f d) bad = d
 ethernet_dropped (ethernet.Accepted l f t) (law.Ethernet short) = absurd (short l)
@@ -61,16 +61,17 @@ ethernet_dropped {own} {H} {new} {frame} {reply} {notes} (ethernet.Accepted l f 
     payload_dropped own _ H _ _ reply notes new t (subst (λ p. IsNone H p (drop 14 frame)) (sym e) other)
 
 frame_dropped : (h : HardwareAddress) (H : Host) (frame : List ℕ) (reply : Option Reply) (notes : List Note) (new : Host) →
-    TakesFrame h H frame reply notes new → IsMalformed H.capabilities.checksum frame → IsDropped H reply notes new
+    TakesFrame h H frame reply notes new → IsMalformed h H.capabilities.checksum frame → IsDropped H reply notes new
 frame_dropped (hardware.Ethernet own) H frame reply notes new t bad = ethernet_dropped t bad
-frame_dropped hardware.Ip H frame reply notes new t bad = t
+frame_dropped hardware.Ip H frame reply notes new (ethernet.Ipv4 v t) bad = ipv4_dropped t bad
+frame_dropped hardware.Ip H frame reply notes new (ethernet.OtherVersion v d) bad = d
 
 handed_by : Reception → List (List ℕ)
 handed_by (Frame f) = f ∷ []
 handed_by Nothing = []
 handed_by Withheld = []
 
-taken_dropped : (moment : ℤ) (H : Host) (r : Reception) (frame : List ℕ) (reply : Option Reply) (notes : List Note) (new : Host) → Takes H r reply notes new → handed (Received moment r ∷ []) ≡ frame ∷ [] → IsMalformed H.capabilities.checksum frame → IsDropped H reply notes new
+taken_dropped : (moment : ℤ) (H : Host) (r : Reception) (frame : List ℕ) (reply : Option Reply) (notes : List Note) (new : Host) → Takes H r reply notes new → handed (Received moment r ∷ []) ≡ frame ∷ [] → IsMalformed H.hardware_addr H.capabilities.checksum frame → IsDropped H reply notes new
 taken_dropped moment H Nothing frame reply notes new t e bad = t
 taken_dropped moment H Withheld frame reply notes new t e bad = t
 taken_dropped moment H (Frame []) frame reply notes new t e bad = t
@@ -91,11 +92,11 @@ pub sent-sends : (frames : List (List ℕ)) → sent (sends frames) ≡ frames
 sent-sends [] = refl
 sent-sends (f ∷ fs) = ap (λ t. f ∷ t) (sent-sends fs)
 
-nothing_responded : {H new : Host} {reply : Option Reply} {frames : List (List ℕ)} {notes : List Note} → reply ≡ None → Responds reply H frames notes new → (frames ≡ []) × (notes ≡ []) × (new ≡ H)
+pub nothing_responded : {H new : Host} {reply : Option Reply} {frames : List (List ℕ)} {notes : List Note} → reply ≡ None → Responds reply H frames notes new → (frames ≡ []) × (notes ≡ []) × (new ≡ H)
 nothing_responded {H} {new} {reply} {frames} {notes} e r = rw e at r
 
 pub malformed : (t : ℤ) (answer : PollIngressSingleResult) (old new : Host) (told : List Event) (notes : List Note) (frame : List ℕ) →
-    Ingress t answer old told notes new → handed told ≡ frame ∷ [] → IsMalformed old.capabilities.checksum frame → (sent told ≡ []) × (notes ≡ []) × (new ≡ at old t)
+    Ingress t answer old told notes new → handed told ≡ frame ∷ [] → IsMalformed old.hardware_addr old.capabilities.checksum frame → (sent told ≡ []) × (notes ≡ []) × (new ≡ at old t)
 malformed t answer old new told notes frame i is bad =
     let only : handed (Received t i.reception ∷ []) ≡ frame ∷ [] = sym (handed-received t i.reception (sends i.frames) (handed-sends i.frames)) ∙ sym (ap handed i.events) ∙ is in
     let d = taken_dropped t (at old t) i.reception frame i.response.reply i.response.notes_taking i.response.taken i.response.takes only bad in

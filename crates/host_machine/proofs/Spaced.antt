@@ -40,7 +40,7 @@ asks-append [] ys = refl
 asks-append (Ask t ∷ xs) ys = ap (λ ts. t ∷ ts) (asks-append xs ys)
 
 keeps : (old new : Host) → Keeps old new → SpacedOver old [] new
-keeps old new k = record { spaced = tt; is_after = k.silence }
+keeps old new k = record { spaced = tt; is_after = ap (λ (H : Host). H.neighbors.silent_until) k.same }
 
 -- who is asked for was looked up, and no silence stood
 limited : RateLimited ≡ NotFound → ⊥

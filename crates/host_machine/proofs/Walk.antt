@@ -1,7 +1,8 @@
 -- A law on what is noted, from the leaves of a step to whole runs.
 use Rattle.std.proofs.Common.{◌≡◌, ℕ, List, [], ◌∷◌, ◌++◌, refl, ◌∙◌, ap, subst, Option, Some, None}
 use Rattle.std.proofs.lemmas.List.{append-nil}
-use Rattle.std.specs.Prelude.{ℤ, Bool, true, false, if◌then◌else◌}
+use Rattle.std.specs.Prelude.{ℤ, pos, Bool, true, false, if◌then◌else◌}
+use Rattle.std.specs.FinMap as map
 use Rattle.net_base.specs.Device.{Event, Reception, Frame, Nothing, Withheld}
 use Rattle.ip_address.specs.declared.cidr.IpCidr.{IpCidr}
 use Rattle.ip_address.specs.declared.ethernet_address.EthernetAddress.{EthernetAddress}
@@ -23,7 +24,7 @@ use Rattle.host_machine.specs.declared.results.PollIngressSingleResult.{PollIngr
 use Rattle.host_machine.specs.declared.results.PollResult.{PollResult}
 use Rattle.host_machine.specs.declared.results.Turn.{Turn}
 use Rattle.host_machine.specs.Note.{Note, Ask}
-use Rattle.host_machine.specs.Host.{Host, Socket, at, with_neighbors}
+use Rattle.host_machine.specs.Host.{Host, Socket, at, no_sockets, with_neighbors}
 use Rattle.host_machine.specs.Packet.{Packet}
 use Rattle.host_machine.specs.Reply.{Reply, Arp, Ip, IsDropped}
 use Rattle.host_machine.specs.Arp.{TakesArp}
@@ -46,23 +47,33 @@ use Rattle.host_machine.specs.Response.{Responds}
 use Rattle.host_machine.specs.Ingress.{Takes, Ingress}
 use Rattle.host_machine.specs.Egress.{SocketTurn, Serves, Walks, SocketsSend, Egress}
 use Rattle.host_machine.specs.Egress as egress
+use Rattle.host_machine.specs.Polling.{Polls}
 use Rattle.host_machine.specs.Step.{Act, Step, UpdatesIpAddrs, Accepted, Refused, SetsHardwareAddr, Taken, NotTaken}
 use Rattle.host_machine.specs.Step as step
 use Rattle.host_machine.specs.Run.{Place, Run, Ends, Then, notes_in}
+use Rattle.host_machine.proofs.Repeated.{polled}
+
+-- what no such law reads, set to one value
+abbrev rest_of : Host → Host
+rest_of H = record H { moment = pos 0; hardware_addr = hardware.Ip; ip_addrs = []; any_ip = false; routes = []; neighbors = record { known = map.empty; silent_until = H.neighbors.silent_until }; ipv4_id = 0; sockets = no_sockets }
 
 -- what such laws read of a host stays
 pub record Keeps (old new : Host) : Type 0 where
-  pub silence : new.neighbors.silent_until ≡ old.neighbors.silent_until
+  pub same : rest_of new ≡ rest_of old
 
 kept : {old new : Host} → new ≡ old → Keeps old new
-kept e = record { silence = ap (λ (H : Host). H.neighbors.silent_until) e }
+kept e = record { same = ap rest_of e }
+
+-- where only the rest is another
+abbrev unread : {old new : Host} → rest_of new ≡ rest_of old → Keeps old new
+unread e = record { same = e }
 
 -- a packet for the host alone may renew a neighbour, and no more
 heard : (source : HardwareAddress) (r : Ipv4Repr) (H : Host) → Keeps H (heard_from source r H)
 heard source r H = by (is_unicast_v4 H.ip_addrs r.dst_addr) where
   by : (b : Bool) → Keeps H (if b then with_neighbors H (renewed H.neighbors (Ipv4 r.src_addr) source (expiry_from H.moment)) else H)
-  by true = record { silence = refl }
-  by false = record { silence = refl }
+  by true = unread refl
+  by false = unread refl
 
 -- a law is given by its leaves: where what it reads stays and nothing is noted; where an unknown neighbour is asked for, and no
 -- silence stands; and where one part follows another
@@ -83,21 +94,22 @@ module _ (Law : Host → List Note → Host → Type 0)
   arp_taken : {own : EthernetAddress} {H new : Host} {payload : List ℕ} {reply : Option Reply} {notes : List Note} → TakesArp own H payload reply notes new → Law H notes new
   arp_taken (arp.Malformed m d) = dropped d
   arp_taken (arp.NotForUs a l d) = dropped d
-  arp_taken (arp.Learnt a l learns r n) = keeping n (record { silence = ap (λ (K : Host). K.neighbors.silent_until) learns.same ∙ learns.filled.silence })
+  arp_taken {H = H} (arp.Learnt a l learns r n) =
+      keeping n (unread (ap rest_of learns.same ∙ ap (λ s. rest_of (record H { neighbors = record { known = map.empty; silent_until = s } })) learns.filled.silence))
 
   udp_taken : {raw : Bool} {r : Ipv4Repr} {H new : Host} {octets : List ℕ} {reply : Option Reply} {notes : List Note} → TakesUdp raw r H octets reply notes new → Law H notes new
   udp_taken (udp.Malformed m d) = dropped d
-  udp_taken (udp.Delivered sockets u f r n e) = keeping n (record { silence = ap (λ (K : Host). K.neighbors.silent_until) e })
+  udp_taken (udp.Delivered sockets u f r n e) = keeping n (unread (ap rest_of e))
   udp_taken (udp.Unheard u none r n e) = keeping n (kept e)
 
   icmpv4_taken : {r : Ipv4Repr} {H new : Host} {octets : List ℕ} {reply : Option Reply} {notes : List Note} → TakesIcmpv4 r H octets reply notes new → Law H notes new
   icmpv4_taken (icmpv4.Malformed m d) = dropped d
-  icmpv4_taken (icmpv4.Taken i r n e) = keeping n (record { silence = ap (λ (K : Host). K.neighbors.silent_until) e })
+  icmpv4_taken (icmpv4.Taken i r n e) = keeping n (unread (ap rest_of e))
 
   tcp_taken : {raw : Bool} {r : Ipv4Repr} {H new : Host} {octets : List ℕ} {reply : Option Reply} {notes : List Note} → TakesTcp raw r H octets reply notes new → Law H notes new
   tcp_taken (tcp.BetweenNobody b d) = dropped d
   tcp_taken (tcp.Malformed b m d) = dropped d
-  tcp_taken (tcp.Delivered index place b t f r n e) = keeping n (record { silence = ap (λ (K : Host). K.neighbors.silent_until) e })
+  tcp_taken (tcp.Delivered index place b t f r n e) = keeping n (unread (ap rest_of e))
   tcp_taken (tcp.Unheard b t none r n e) = keeping n (kept e)
 
   refused : {raw : Bool} {r : Ipv4Repr} {H new : Host} {octets : List ℕ} {reply : Option Reply} {notes : List Note} → IsRefused raw r H octets reply notes new → Law H notes new
@@ -116,9 +128,9 @@ module _ (Law : Host → List Note → Host → Type 0)
       TakesPacket source r f H payload reply notes new → Law H notes new
   packet_taken (ipv4.FromNoHost s d) = dropped d
   packet_taken (ipv4.Fragment s f d) = dropped d
-  packet_taken (ipv4.NotForUs s f u d) = after (record { silence = refl }) (dropped d)
+  packet_taken (ipv4.NotForUs s f u d) = after (unread refl) (dropped d)
   packet_taken {source} {r} {f} {H} {new} {payload} {reply} {notes} (ipv4.Accepted s g u t) =
-      after (record { silence = refl }) (after (heard source r (raw.heard r payload H)) (protocol_taken r.next_header (raw.is_taken r H) r (heard_from source r (raw.heard r payload H)) payload reply notes new t))
+      after (unread refl) (after (heard source r (raw.heard r payload H)) (protocol_taken r.next_header (raw.is_taken r H) r (heard_from source r (raw.heard r payload H)) payload reply notes new t))
 
   ipv4_taken : {source : HardwareAddress} {H new : Host} {octets : List ℕ} {reply : Option Reply} {notes : List Note} → TakesIpv4 source H octets reply notes new → Law H notes new
   ipv4_taken (ipv4.Malformed m d) = dropped d
@@ -138,7 +150,8 @@ module _ (Law : Host → List Note → Host → Type 0)
 
   frame_taken : (h : HardwareAddress) (H : Host) (frame : List ℕ) (reply : Option Reply) (notes : List Note) (new : Host) → TakesFrame h H frame reply notes new → Law H notes new
   frame_taken (hardware.Ethernet own) H frame reply notes new t = ethernet_taken t
-  frame_taken hardware.Ip H frame reply notes new t = dropped t
+  frame_taken hardware.Ip H frame reply notes new (ethernet.Ipv4 v t) = ipv4_taken t
+  frame_taken hardware.Ip H frame reply notes new (ethernet.OtherVersion v d) = dropped d
 
   taken : (H : Host) (r : Reception) (reply : Option Reply) (notes : List Note) (new : Host) → Takes H r reply notes new → Law H notes new
   taken H Nothing reply notes new t = dropped t
@@ -178,7 +191,7 @@ module _ (Law : Host → List Note → Host → Type 0)
   dispatched : {p : Packet} {outcome : Outcome} {H new : Host} {frames : List (List ℕ)} {notes : List Note} → Dispatches p outcome H frames notes new → Law H notes new
   dispatched (dispatch.ToNobody n o u) = unsent u
   dispatched {p} {outcome} {H} {new} {frames} {notes} (dispatch.ToSomebody s d) =
-      after (record { silence = refl }) (sent_over H.hardware_addr p outcome (identified H) frames notes new d)
+      after (unread refl) (sent_over H.hardware_addr p outcome (identified H) frames notes new d)
 
   responded : (reply : Option Reply) (H : Host) (frames : List (List ℕ)) (notes : List Note) (new : Host) → Responds reply H frames notes new → Law H notes new
   responded None H frames notes new r = keeping r.1 (kept r.2)
@@ -189,7 +202,7 @@ module _ (Law : Host → List Note → Host → Type 0)
   ingress {t} {answer} {old} {new} {told} {notes} i =
       let r = i.response in
       rw r.all_notes (on old r.taken new r.notes_taking r.notes_responding
-      (after (record { silence = refl }) (taken (at old t) i.reception r.reply r.notes_taking r.taken r.takes))
+      (after (unread refl) (taken (at old t) i.reception r.reply r.notes_taking r.taken r.takes))
       (responded r.reply r.taken i.frames r.notes_responding new r.responds))
 
   had_turn : {s s' : Socket} {turn : Turn} {H new : Host} {told : List Event} {notes : List Note} → SocketTurn s turn s' H told notes new → Law H notes new
@@ -201,7 +214,7 @@ module _ (Law : Host → List Note → Host → Type 0)
   served (egress.Free s t o n e) = keeping n (kept e)
   served (egress.Waits s known h k p t o n e) = keeping n (kept e)
   served {i} {turn} {H} {new} {told} {notes} (egress.Served s s' known mid h k p t e) =
-      subst (λ ns. Law H ns new) (append-nil notes) (on H mid new notes [] (had_turn t) (keeps mid new (record { silence = ap (λ (K : Host). K.neighbors.silent_until) e })))
+      subst (λ ns. Law H ns new) (append-nil notes) (on H mid new notes [] (had_turn t) (keeps mid new (unread (ap rest_of e))))
 
   walked : {old new : Host} {n : ℕ} {going changed : Bool} {told : List Event} {notes : List Note} → Walks old n going changed told notes new → Law old notes new
   walked egress.Begins = keeping refl (kept refl)
@@ -213,26 +226,35 @@ module _ (Law : Host → List Note → Host → Type 0)
   sockets_sent (egress.Stopped n w) = walked w
 
   egressed : {t : ℤ} {answer : PollResult} {old new : Host} {told : List Event} {notes : List Note} → Egress t answer old told notes new → Law old notes new
-  egressed e = after (record { silence = refl }) (sockets_sent e.sockets)
+  egressed e = after (unread refl) (sockets_sent e.round)
+
+  polls : {t : ℤ} {budget : ℕ} {answer : PollResult} {old new : Host} {told : List Event} {notes : List Note} → Polls t budget answer old told notes new → Law old notes new
+  polls {t} p =
+      polled (λ old told notes new. Law old notes new) (λ H. keeping refl (kept refl)) (λ a b c ts us xs ys one two. on a b c xs ys one two) t
+      (λ H. keeping refl (unread refl)) (λ answer old new told notes i. ingress i) (λ answer old new told notes e. egressed e) p
 
   updates : {list : List IpCidr} {answer : _} {old new : Host} → UpdatesIpAddrs list answer old new → Keeps old new
-  updates (Accepted a r e) = record { silence = ap (λ (H : Host). H.neighbors.silent_until) e }
+  updates (Accepted a r e) = unread (ap rest_of e)
   updates (Refused a r e) = kept e
 
   sets : {h : HardwareAddress} {answer : _} {old new : Host} → SetsHardwareAddr h answer old new → Keeps old new
-  sets (Taken a r e) = record { silence = ap (λ (H : Host). H.neighbors.silent_until) e }
+  sets (Taken a r e) = unread (ap rest_of e)
   sets (NotTaken error a r e) = kept e
 
   stepped : {command : Command} {answer : Answer} {old new : Host} {told : List Event} {acts : List Act} {notes : List Note} → Step command answer old told acts notes new → Law old notes new
   stepped (step.UpdatedIpAddrs u) = keeping refl (updates u)
   stepped (step.PolledIngressSingle i) = ingress i
   stepped (step.PolledEgress e) = egressed e
-  stepped step.UpdatedRoutes = keeping refl (record { silence = refl })
-  stepped step.AddedDefaultIpv4Route = keeping refl (record { silence = refl })
-  stepped step.RemovedDefaultIpv4Route = keeping refl (record { silence = refl })
-  stepped step.TookAnyIp = keeping refl (record { silence = refl })
+  stepped (step.Polled p) = polls p
+  stepped step.PolledMaintenance = keeping refl (unread refl)
+  stepped (step.PolledAt least) = keeping refl (unread refl)
+  stepped (step.PolledDelay end least rest) = keeping refl (unread refl)
+  stepped step.UpdatedRoutes = keeping refl (unread refl)
+  stepped step.AddedDefaultIpv4Route = keeping refl (unread refl)
+  stepped step.RemovedDefaultIpv4Route = keeping refl (unread refl)
+  stepped step.TookAnyIp = keeping refl (unread refl)
   stepped (step.TookHardwareAddr s) = keeping refl (sets s)
-  stepped (step.OwnerActed sockets) = keeping refl (record { silence = refl })
+  stepped (step.OwnerActed sockets) = keeping refl (unread refl)
 
   pub walk : {first last : Host} {places : List Place} → Run first places last → Law first (notes_in places) last
   walk Ends = keeping refl (kept refl)

@@ -16,6 +16,7 @@ use Rattle.host_machine.specs.declared.results.Turn.{Turn}
 use Rattle.host_machine.specs.declared.results.Turn.TheVariants.{Idle, Gone, Unsent, Exhausted}
 use Rattle.host_machine.specs.Note.{Note}
 use Rattle.host_machine.specs.Host.{Host, Socket, at}
+use Rattle.host_machine.specs.Parts.{Part}
 use Rattle.host_machine.specs.Addresses.{source_for}
 use Rattle.host_machine.specs.Packet.{IpPayload, Icmpv4, Udp, Tcp, Raw, Packet, Ipv4}
 use Rattle.host_machine.specs.Frame.{sends}
@@ -116,7 +117,11 @@ pub data SocketsSend (old : Host) (changed : Bool) (told_it : List Event) (notes
 abbrev pub answer_of : Bool → PollResult
 answer_of changed = if changed then result.SocketStateChanged else result.None
 
+-- the parts of a round, in order: so far the sockets alone have something to send; whether a socket's packet counts as gone
+abbrev pub Round : Bool → Part
+Round changed = λ old told_it notes new. SocketsSend old changed told_it notes new
+
 pub record Egress (t : ℤ) (answer : PollResult) (old : Host) (told_it : List Event) (notes : List Note) (new : Host) : Type 0 where
   pub changed : Bool
-  pub sockets : SocketsSend (at old t) changed told_it notes new
+  pub round : Round changed (at old t) told_it notes new
   pub answers : answer ≡ answer_of changed

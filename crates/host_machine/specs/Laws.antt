@@ -19,19 +19,25 @@ use Rattle.host_machine.specs.Host.{Host, at}
 use Rattle.host_machine.specs.Packet.{Packet}
 use Rattle.host_machine.specs.Dispatch.{Outcome, Dispatches}
 use Rattle.host_machine.specs.Ingress.{Ingress}
-use Rattle.host_machine.specs.Run.{Place, Run, Laws}
+use Rattle.host_machine.specs.Run.{Place, Run}
+use Rattle.host_machine.specs.Ran.{Laws}
 
 -- a frame whose Ethernet, ARP or IPv4 header is malformed
-pub data IsMalformed (checksum : ChecksumCapabilities) (frame : List ℕ) : Type 0 where
-  Ethernet : ¬ (14 ≤ length frame) → IsMalformed checksum frame
-  Arp : (header_in frame).ethertype ≡ protocol.Arp → ¬ IsArp (drop 14 frame) → IsMalformed checksum frame
-  Ipv4 : (header_in frame).ethertype ≡ protocol.Ipv4 → ¬ IsIpv4 (is_rx checksum.ipv4) (drop 14 frame) → IsMalformed checksum frame
+pub data IsMalformedFrame (checksum : ChecksumCapabilities) (frame : List ℕ) : Type 0 where
+  Ethernet : ¬ (14 ≤ length frame) → IsMalformedFrame checksum frame
+  Arp : (header_in frame).ethertype ≡ protocol.Arp → ¬ IsArp (drop 14 frame) → IsMalformedFrame checksum frame
+  Ipv4 : (header_in frame).ethertype ≡ protocol.Ipv4 → ¬ IsIpv4 (is_rx checksum.ipv4) (drop 14 frame) → IsMalformedFrame checksum frame
+
+-- by the medium: without hardware addresses a packet whose IPv4 header is malformed
+abbrev pub IsMalformed : HardwareAddress → ChecksumCapabilities → List ℕ → Type 0
+IsMalformed (hardware.Ethernet own) checksum frame = IsMalformedFrame checksum frame
+IsMalformed hardware.Ip checksum frame = ¬ IsIpv4 (is_rx checksum.ipv4) frame
 
 -- where such a frame was handed over nothing is sent, and the host is as after the same call without a frame
 abbrev pub MalformedIsDropped : Type 0
 MalformedIsDropped =
     (t : ℤ) (answer : PollIngressSingleResult) (old new : Host) (told : List Event) (notes : List Note) (frame : List ℕ) →
-    Ingress t answer old told notes new → handed told ≡ frame ∷ [] → IsMalformed old.capabilities.checksum frame → (sent told ≡ []) × (notes ≡ []) × (new ≡ at old t)
+    Ingress t answer old told notes new → handed told ≡ frame ∷ [] → IsMalformed old.hardware_addr old.capabilities.checksum frame → (sent told ≡ []) × (notes ≡ []) × (new ≡ at old t)
 
 -- one ingress call takes at most one frame, and sends at most one
 abbrev pub IngressIsSingle : Type 0

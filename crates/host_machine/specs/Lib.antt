@@ -15,10 +15,16 @@ pub mod Ethernet
 pub mod Dispatch
 pub mod Response
 pub mod Ingress
+pub mod Parts
 pub mod Egress
+pub mod Polling
+pub mod Due
 pub mod Config
 pub mod Step
 pub mod Run
+pub mod Quiet
+pub mod Ran
 pub mod Laws
 pub mod Example
 pub mod ExampleSockets
+pub mod ExamplePolling

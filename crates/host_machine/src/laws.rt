@@ -1,6 +1,8 @@
 //! Laws that follow from the definitions alone, each as the contract of an empty function.
 ghost use Rattle.host_machine.specs.Example.{EchoIsAnswered, RequestIsAnswered, SenderIsDiscovered};
+ghost use Rattle.host_machine.specs.ExamplePolling.{RequestIsPolled, WaitIsDue};
 ghost use Rattle.host_machine.specs.ExampleSockets.{ConfigurationsAreTested, ConnectionIsReset, DatagramIsDelivered, DatagramIsRefused, ProtocolIsRefused, RawSocketHears, SocketWaits, WindowFitsBurst};
+ghost use Rattle.host_machine.specs.Quiet.{SocketsAreQuiet};
 ghost use Rattle.host_machine.specs.Laws.{DiscoveriesAreNoted, IngressIsSingle, MalformedIsDropped, RunsJoin, RunsKeepLaws};
 
 /// A frame whose Ethernet, ARP or IPv4 header is malformed sends nothing, and leaves the host as the same
@@ -29,6 +31,11 @@ pub fn runs_join()
 /// The laws hold of every run.
 pub fn runs_keep_laws()
     ensures { RunsKeepLaws }
+{}
+
+/// A socket that is asked before the instant that it names offers nothing, and stays as it is.
+pub fn sockets_are_quiet()
+    ensures { SocketsAreQuiet }
 {}
 
 /// A worked example: an ARP request, octet by octet, is answered by the reply, octet by octet.
@@ -87,4 +94,14 @@ pub fn window_fits_burst()
 /// A worked example: which configurations are refused.
 pub fn configurations_are_tested()
     ensures { ConfigurationsAreTested }
+{}
+
+/// A worked example: a poll takes an ARP request within its budget, and answers it.
+pub fn request_is_polled()
+    ensures { RequestIsPolled }
+{}
+
+/// A worked example: a socket that waits is due at the end of its wait, and then at once.
+pub fn wait_is_due()
+    ensures { WaitIsDue }
 {}

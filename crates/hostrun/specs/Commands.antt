@@ -1,13 +1,41 @@
 -- The calls of a script as commands of the host machine.
-use Rattle.std.specs.Prelude.{pos}
+use Rattle.std.specs.Prelude.{ℤ}
+use Rattle.net_base.specs.Time.{IsMoment}
 use Rattle.host_machine.specs.declared.command.Command.{Command}
-use Rattle.host_machine.specs.declared.command.Command.TheVariants.{UpdateIpAddrs, PollIngressSingle, PollEgress, AddDefaultIpv4Route}
+use Rattle.host_machine.specs.declared.command.Command.TheVariants as command
+use Rattle.hostrun.specs.declared.line.Line.{Line}
+use Rattle.hostrun.specs.declared.line.Line.TheVariants.{Rx, Udp, Asks}
 use Rattle.hostrun.specs.declared.line.Call.{Call}
-use Rattle.hostrun.specs.declared.line.Call.TheVariants.{Addr, Gw, Ingress, Egress}
+use Rattle.hostrun.specs.declared.line.Call.TheVariants.{Addr, Gw, Ingress, Egress, Poll, At}
 
--- the command of each call; the moment is 0
-abbrev pub command_of : Call → Command
-command_of (Addr networks) = UpdateIpAddrs networks
-command_of (Gw router) = AddDefaultIpv4Route router
-command_of Ingress = PollIngressSingle (pos 0)
-command_of Egress = PollEgress (pos 0)
+-- the moment last given, once a call is made
+abbrev pub moment_after : ℤ → Call → ℤ
+moment_after last (Addr networks) = last
+moment_after last (Gw router) = last
+moment_after last Ingress = last
+moment_after last Egress = last
+moment_after last (Poll t budget) = t
+moment_after last (At t) = t
+
+-- the command of each call, where that moment was last given
+abbrev pub command_of : ℤ → Call → Command
+command_of last (Addr networks) = command.UpdateIpAddrs networks
+command_of last (Gw router) = command.AddDefaultIpv4Route router
+command_of last Ingress = command.PollIngressSingle last
+command_of last Egress = command.PollEgress last
+command_of last (Poll t budget) = command.Poll t budget
+command_of last (At t) = command.PollAt t
+
+-- the moment that a call gives, if it does, is one that may be given
+abbrev pub IsTimelyCall : Call → Type 0
+IsTimelyCall (Addr networks) = Unit {0}
+IsTimelyCall (Gw router) = Unit {0}
+IsTimelyCall Ingress = Unit {0}
+IsTimelyCall Egress = Unit {0}
+IsTimelyCall (Poll t budget) = IsMoment t
+IsTimelyCall (At t) = IsMoment t
+
+abbrev pub IsTimelyLine : Line → Type 0
+IsTimelyLine (Rx len) = Unit {0}
+IsTimelyLine (Udp port) = Unit {0}
+IsTimelyLine (Asks call) = IsTimelyCall call

@@ -1,5 +1,6 @@
 -- What is printed for an answer and for a frame.
-use Rattle.std.specs.Prelude.{ℕ, codes, List, [], ◌∷◌, ◌++◌, Option, Some, None, Result, Ok, Err}
+use Rattle.std.specs.Prelude.{ℕ, ℤ, codes, List, [], ◌∷◌, ◌++◌, Option, Some, None, Result, Ok, Err}
+use Rattle.std.specs.Fmt.{signed_decimal}
 use Rattle.hex.specs.Hex.{encode_lower}
 use Rattle.net_base.specs.declared.memory_device.PushError.{PushError}
 use Rattle.net_base.specs.declared.memory_device.PushError.TheVariants.{TooLong, NoMemory}
@@ -17,20 +18,29 @@ ingress_text ingress.None = codes "None"
 ingress_text ingress.PacketProcessed = codes "PacketProcessed"
 ingress_text ingress.SocketStateChanged = codes "SocketStateChanged"
 
-abbrev pub egress_text : PollResult → List ℕ
-egress_text poll.None = codes "None"
-egress_text poll.SocketStateChanged = codes "SocketStateChanged"
+abbrev pub poll_text : PollResult → List ℕ
+poll_text poll.None = codes "None"
+poll_text poll.SocketStateChanged = codes "SocketStateChanged"
 
 abbrev pub hardware_text : HardwareError → List ℕ
 hardware_text WrongMedium = codes "WrongMedium"
 hardware_text NotUnicast = codes "NotUnicast"
 
--- a result or an error by its name, `ok` for the rest
+-- the instant of the next poll, in microseconds
+abbrev pub next_text : Option ℤ → List ℕ
+next_text (Some instant) = codes "at " ++ signed_decimal instant
+next_text None = codes "at none"
+
+-- a result or an error by its name, the instant of the next poll, `ok` for the rest
 abbrev pub text_of : Answer → List ℕ
 text_of (answer.UpdateIpAddrs (Ok done)) = codes "ok"
 text_of (answer.UpdateIpAddrs (Err e)) = codes "NotUnicast"
 text_of (answer.PollIngressSingle result) = ingress_text result
-text_of (answer.PollEgress result) = egress_text result
+text_of (answer.PollEgress result) = poll_text result
+text_of (answer.Poll result) = poll_text result
+text_of answer.PollMaintenance = codes "ok"
+text_of (answer.PollAt next) = next_text next
+text_of (answer.PollDelay rest) = codes "ok"
 text_of answer.UpdateRoutes = codes "ok"
 text_of (answer.AddDefaultIpv4Route (Ok old)) = codes "ok"
 text_of (answer.AddDefaultIpv4Route (Err e)) = codes "RouteTableFull"
@@ -45,6 +55,10 @@ abbrev pub push_text : Result (Unit {0}) PushError → Option (List ℕ)
 push_text (Ok done) = Some (codes "ok")
 push_text (Err TooLong) = Some (codes "TooLong")
 push_text (Err NoMemory) = None
+
+-- a text, and the end of its line
+abbrev pub text_line : List ℕ → List ℕ
+text_line text = text ++ 10 ∷ []
 
 -- `tx` and the octets in hex
 abbrev pub frame_line : List ℕ → List ℕ

@@ -1,5 +1,5 @@
 -- What the words of a line say.
-use Rattle.std.specs.Prelude.{◌≡◌, ℕ, ◌==◌, ◌&&◌, nat_lt, nat_le, Bool, if◌then◌else◌, List, codes, length, map, take, slice_index, Option, Some, None, Result, Ok, Err}
+use Rattle.std.specs.Prelude.{◌≡◌, ℕ, ℤ, pos, ◌^◌, ◌==◌, ◌&&◌, nat_lt, nat_le, Bool, if◌then◌else◌, List, codes, length, map, take, slice_index, Option, Some, None, Result, Ok, Err}
 use Rattle.std.specs.List.{list_all, slice_split, before_first, after_first}
 use Rattle.std.specs.Char.{is_ascii_digit}
 use Rattle.std.specs.Str.Parse.{digits_value}
@@ -14,7 +14,7 @@ use Rattle.ip_address.specs.Cidr as cidr
 use Rattle.hostrun.specs.declared.line.Line.{Line}
 use Rattle.hostrun.specs.declared.line.Line.TheVariants.{Rx, Udp, Asks}
 use Rattle.hostrun.specs.declared.line.Call.{Call}
-use Rattle.hostrun.specs.declared.line.Call.TheVariants.{Addr, Gw, Ingress, Egress}
+use Rattle.hostrun.specs.declared.line.Call.TheVariants.{Addr, Gw, Ingress, Egress, Poll, At}
 
 abbrev pub is_space : ℕ → Bool
 is_space octet = octet == 32
@@ -33,6 +33,18 @@ number_up_to most digits = if is_number_up_to most digits then Some (digits_valu
 -- a port other than 0
 abbrev pub port_in : List ℕ → Option ℕ
 port_in digits = if nat_lt 0 (digits_value 10 digits) then number_up_to 65535 digits else None
+
+-- a moment: at most 2 ^ 62 microseconds
+abbrev pub instant_of : Option ℕ → Option ℤ
+instant_of (Some micros) = Some (pos micros)
+instant_of None = None
+
+abbrev pub moment_in : List ℕ → Option ℤ
+moment_in digits = instant_of (number_up_to (2 ^ 62) digits)
+
+-- a budget: at most 2 ^ 32 - 1 calls
+abbrev pub budget_in : List ℕ → Option ℕ
+budget_in digits = number_up_to 4294967295 digits
 
 -- the address of four octets
 abbrev pub of_octets : Result (List ℕ) FromHexError → Option Ipv4Address
@@ -61,12 +73,18 @@ parts_of network = Some (cidr.address_of network, cidr.prefix_len_of network)
 abbrev pub SpellNetworks : List ℕ → List IpCidr → Type 0
 SpellNetworks words networks = map network_in (slice_split is_space words) ≡ map parts_of networks
 
+-- a moment and a budget, parted by one space
+abbrev pub SpellPoll : List ℕ → ℤ → ℕ → Type 0
+SpellPoll words t budget = (moment_in (before_first is_space words) ≡ Some t) × (budget_in (after_first is_space words) ≡ Some budget)
+
 -- the word and its values ask for this call
 abbrev pub SayCall : List ℕ → List ℕ → Call → Type 0
 SayCall word values (Addr networks) = (word ≡ codes "addr") × SpellNetworks values networks.items
 SayCall word values (Gw router) = (word ≡ codes "gw") × (address_in values ≡ Some router)
 SayCall word values Ingress = word ≡ codes "ingress"
 SayCall word values Egress = word ≡ codes "egress"
+SayCall word values (Poll t budget) = (word ≡ codes "poll") × SpellPoll values t budget
+SayCall word values (At t) = (word ≡ codes "at") × (moment_in values ≡ Some t)
 
 -- the word and its values, with the frame in the front of the buffer, say this
 abbrev pub Say : List ℕ → List ℕ → List ℕ → Line → Type 0

@@ -1,13 +1,14 @@
 //! The host that a script runs.
 ghost use Rattle.std.specs.Prelude.{◌≡◌, OnOk, OnErr, Some, IfErr};
 ghost use Rattle.host_machine.specs.Config.{refusal_of};
-ghost use Rattle.host_machine.specs.Step.{IsTimely};
+ghost use Rattle.net_base.specs.Time.{IsMoment};
 ghost use Rattle.socket_set.specs.SocketSet.{added};
 ghost use Rattle.sockets.specs.declared.socket.SocketOf.TheVariants.{Udp};
 ghost use Rattle.hostrun.specs.Sockets.{listening};
 
+use crate::line::Call;
 use interface::host::{Owner, drive};
-use interface::{Answer, Command, Config, Interface, NewError};
+use interface::{Answer, Config, Interface, NewError};
 use ip_wire::{EthernetAddress, HardwareAddress};
 use net_base::MemoryDevice;
 use net_base::phy::{ChecksumCapabilities, Device, DeviceCapabilities, Medium};
@@ -71,10 +72,14 @@ pub struct Host<'a> {
     pub device: MemoryDevice,
     sockets: SocketSet<'a>,
     owner: Idle,
+    /// The moment last given by a call, 0 at first.
+    pub moment: Instant,
+    ghost timely: { IsMoment moment },
 }
 
 impl<'a> Host<'a> {
-    ghost use Rattle.host_machine.specs.Step.{IsTimely};
+    ghost use Rattle.std.specs.Prelude.{◌≡◌};
+    ghost use Rattle.hostrun.specs.Commands.{IsTimelyCall, moment_after};
 
     /// A host without addresses and sockets, unless its device and its address don't go together.
     pub fn new(alloc: Global) -> Result<Host<'a>, NewError>
@@ -89,6 +94,7 @@ impl<'a> Host<'a> {
             device,
             sockets: SocketSet::new(Vec::new(alloc)),
             owner: Idle,
+            moment: Instant::ZERO,
         })
     }
 
@@ -97,10 +103,13 @@ impl<'a> Host<'a> {
         add_udp(self.alloc, &mut self.sockets, port)
     }
 
-    /// Runs one command.
-    pub fn run(&mut self, command: Command) -> Answer
-        requires { IsTimely command }
+    /// Makes a call.
+    pub fn run(&mut self, call: Call) -> Answer
+        requires { IsTimelyCall call }
+        ensures { self.new.moment ≡ moment_after self.old.moment call }
     {
+        self.moment = call.moment(self.moment);
+        let command = call.command(self.moment);
         let mut answers = [Answer::Owner];
         drive(
             &mut self.interface,

@@ -2,8 +2,10 @@
 ghost use Rattle.std.specs.Prelude.{◌≡◌, ◌<◌, ◌≤◌, ◌*◌, ◌==◌, ◌↔◌, length, take, Ok, Some, IfSome, IsSome, MatchOption};
 ghost use Rattle.std.specs.List.{before_first, after_first, position_or_len};
 ghost use Rattle.hex.specs.Hex.{decode_of};
+ghost use Rattle.net_base.specs.Time.{IsMoment};
+ghost use Rattle.hostrun.specs.Commands.{IsTimelyLine};
 ghost use Rattle.hostrun.specs.Hex.{IsHexUpTo};
-ghost use Rattle.hostrun.specs.Text.{Say, SpellNetworks, address_in, is_space, network_in, number_up_to, parts_of, port_in};
+ghost use Rattle.hostrun.specs.Text.{Say, SpellNetworks, SpellPoll, address_in, budget_in, is_space, moment_in, network_in, number_up_to, parts_of, port_in};
 
 use arrayvec::ArrayVec;
 use interface::Command;
@@ -24,41 +26,64 @@ pub enum Line {
     Asks(Call),
 }
 
-/// A call of the host's interface.
+/// A call of the host's interface. Moments are microseconds from 0 to 2^62.
 #[derive(Drop)]
 pub enum Call {
     /// The host's addresses.
     Addr(ArrayVec<IpCidr, 4>),
     /// The router of the host's default route.
     Gw(Ipv4Address),
-    /// The host takes one frame.
+    /// The host takes one frame, at the moment last given.
     Ingress,
-    /// The host sends what its sockets have to send.
+    /// The host sends what its sockets have to send, at the moment last given.
     Egress,
+    /// The host is polled at this moment, by at most so many calls of each kind.
+    Poll(Instant, usize),
+    /// The host is asked at this moment when to poll again.
+    At(Instant),
 }
 
 impl Call {
     ghost use Rattle.std.specs.Prelude.{◌≡◌};
+    ghost use Rattle.net_base.specs.Time.{IsMoment};
     ghost use Rattle.host_machine.specs.Step.{IsTimely};
-    ghost use Rattle.hostrun.specs.Commands.{command_of};
+    ghost use Rattle.hostrun.specs.Commands.{IsTimelyCall, command_of, moment_after};
 
-    /// The call as a command of the host machine, at moment 0.
-    pub fn command(self) -> Command
-        ensures command { result ≡ command_of self }
+    /// The moment last given once the call is made: its own, if it gives one, or the one before.
+    pub fn moment(&self, last: Instant) -> Instant
+        requires call { IsTimelyCall self.now }
+        requires last { IsMoment last }
+        ensures moment { result ≡ moment_after last self.now }
+        ensures timely { IsMoment result }
+    {
+        match self {
+            Call::Poll(moment, _) | Call::At(moment) => *moment,
+            Call::Addr(_) | Call::Gw(_) | Call::Ingress | Call::Egress => last,
+        }
+    }
+
+    /// The call as a command of the host machine, where that moment was last given.
+    pub fn command(self, last: Instant) -> Command
+        requires call { IsTimelyCall self }
+        requires last { IsMoment last }
+        ensures command { result ≡ command_of last self }
         ensures timely { IsTimely result }
     {
         match self {
             Call::Addr(networks) => Command::UpdateIpAddrs(networks),
             Call::Gw(router) => Command::AddDefaultIpv4Route(router),
-            Call::Ingress => Command::PollIngressSingle(Instant::ZERO),
-            Call::Egress => Command::PollEgress(Instant::ZERO),
+            Call::Ingress => Command::PollIngressSingle(last),
+            Call::Egress => Command::PollEgress(last),
+            Call::Poll(moment, budget) => Command::Poll(moment, budget),
+            Call::At(moment) => Command::PollAt(moment),
         }
     }
 }
 
 /// The line that the text is, if it is one. The frame of `rx` goes into the front of the buffer.
 pub fn parse(text: &[u8], buffer: &mut [u8; FRAME_ROOM]) -> Option<Line>
-    ensures { IfSome result (Say (before_first is_space text.now) (after_first is_space text.now) buffer.new) }
+    ensures said { IfSome result (Say (before_first is_space text.now) (after_first is_space text.now) buffer.new) }
+    ensures timely { IfSome result IsTimelyLine }
 {
     match split_at(text, b' ') {
         (b"rx", Some(digits)) => Some(Line::Rx(parse_hex(digits, buffer)?)),
@@ -67,6 +92,11 @@ pub fn parse(text: &[u8], buffer: &mut [u8; FRAME_ROOM]) -> Option<Line>
         (b"udp", Some(digits)) => Some(Line::Udp(parse_port(digits)?)),
         (b"ingress", None) => Some(Line::Asks(Call::Ingress)),
         (b"egress", None) => Some(Line::Asks(Call::Egress)),
+        (b"poll", Some(words)) => {
+            let (moment, budget) = parse_poll(words)?;
+            Some(Line::Asks(Call::Poll(moment, budget)))
+        }
+        (b"at", Some(digits)) => Some(Line::Asks(Call::At(parse_moment(digits)?))),
         _ => None,
     }
 }
@@ -135,34 +165,59 @@ fn parse_cidr(word: &[u8]) -> Option<IpCidr>
     Some(IpCidr::Ipv4(Ipv4Cidr::new(address, prefix_len as u8)))
 }
 
+/// A moment and a budget, parted by one space.
+fn parse_poll(words: &[u8]) -> Option<(Instant, usize)>
+    ensures said { IfSome result (λ poll. SpellPoll words.now poll.0 poll.1) }
+    ensures timely { IfSome result (λ poll. IsMoment poll.0) }
+{
+    let (moment, budget) = split_at(words, b' ');
+    Some((parse_moment(moment)?, parse_budget(budget?)?))
+}
+
+/// A moment: at most 2^62 microseconds.
+fn parse_moment(digits: &[u8]) -> Option<Instant>
+    ensures moment { result ≡ moment_in digits.now }
+    ensures timely { IfSome result IsMoment }
+{
+    let micros = parse_number(digits, 1 << 62)?;
+    Some(Instant::from_micros(micros as i64))
+}
+
+/// A budget: at most 2^32 - 1 calls.
+fn parse_budget(digits: &[u8]) -> Option<usize>
+    ensures { result ≡ budget_in digits.now }
+{
+    Some(parse_number(digits, u64::from(u32::MAX))? as usize)
+}
+
 /// A port other than 0.
 fn parse_port(digits: &[u8]) -> Option<u16>
     ensures { result ≡ port_in digits.now }
 {
-    let port = parse_number(digits, u16::MAX)?;
+    let port = parse_number(digits, u64::from(u16::MAX))?;
     if port == 0 {
         return None;
     }
-    Some(port)
+    Some(port as u16)
 }
 
 /// A number of one or more decimal digits, at most `most`.
-fn parse_number(digits: &[u8], most: u16) -> Option<u16>
+fn parse_number(digits: &[u8], most: u64) -> Option<u64>
     ensures number { result ≡ number_up_to most digits.now }
     ensures bound { IfSome result (λ number. number ≤ most) }
 {
     if digits.is_empty() {
         return None;
     }
-    let mut number = 0u32;
+    let mut number = 0u128;
     for digit in digits {
         if !digit.is_ascii_digit() {
             return None;
         }
-        number = number * 10 + u32::from(*digit - b'0');
-        if number > u32::from(most) {
+        number = number * 10 + u128::from(*digit - b'0');
+        if number > u128::from(most) {
             return None;
         }
     }
-    Some(number as u16)
+    Some(number as u64)
 }

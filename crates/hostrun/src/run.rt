@@ -1,7 +1,8 @@
 //! A script, line by line.
 ghost use Rattle.std.specs.Prelude.{◌≡◌, ◌≤◌, length, Some, None, OnOk, MatchResult};
 ghost use Rattle.std.specs.Io.KnownBytes.{Appends};
-ghost use Rattle.hostrun.specs.Printed.{frame_line, push_text, text_of};
+ghost use Rattle.hostrun.specs.Commands.{IsTimelyLine};
+ghost use Rattle.hostrun.specs.Printed.{frame_line, ingress_text, next_text, poll_text, push_text, text_line, text_of};
 ghost use Rattle.hostrun.specs.declared.run.Stop.TheVariants as why;
 ghost use Rattle.hostrun.specs.Status as spec;
 
@@ -13,6 +14,7 @@ use iface_tables::route::RouteTableFull;
 use interface::{AddrError, Answer, HardwareError, NewError, PollIngressSingleResult, PollResult};
 use net_base::PushError;
 use net_base::phy::{Device, FRAME_BUFFER_SIZE};
+use net_base::time::Instant;
 use sockets::NoMemory;
 use std::alloc::Global;
 use std::io::{self, Read, Write};
@@ -129,16 +131,18 @@ fn run_line<W: Write>(
     line: Line,
     frame: &[u8; FRAME_ROOM],
     output: &mut W,
-) -> Result<(), Stop> {
+) -> Result<(), Stop>
+    requires { IsTimelyLine line }
+{
     let sent = host.device.sent().len();
     let refusals = host.device.refusals();
     let answer = match line {
-        Line::Rx(len) => pushed(host.device.push(&frame[..len.min(FRAME_ROOM)]))?,
+        Line::Rx(len) => text(pushed(host.device.push(&frame[..len.min(FRAME_ROOM)]))?),
         Line::Udp(port) => {
             host.add_udp(port)?;
-            "ok"
+            text("ok")
         }
-        Line::Asks(call) => answer_text(host.run(call.command())),
+        Line::Asks(call) => answer_text(host.run(call)),
     };
     if host.device.refusals() != refusals {
         return Err(Stop::NoMemory);
@@ -146,8 +150,7 @@ fn run_line<W: Write>(
     for frame in host.device.sent().iter().skip(sent) {
         write_frame(frame, output)?;
     }
-    writeln!(output, "{answer}")?;
-    Ok(())
+    write_line(&answer, output)
 }
 
 /// What is written where a frame arrived, or was too long.
@@ -161,28 +164,90 @@ fn pushed(outcome: Result<(), PushError>) -> Result<&'static str, Stop>
     }
 }
 
+/// Room for the longest text that an answer is written as.
+const TEXT_ROOM: usize = 32;
+
+/// Room for its line.
+const LINE_ROOM: usize = TEXT_ROOM + 1;
+
+/// What is written for a line, without the end of its line.
+type Text = ArrayVec<u8, TEXT_ROOM>;
+
+/// A name of at most [`TEXT_ROOM`] octets.
+fn text(name: &str) -> Text
+    ensures { length name.now ≤ TEXT_ROOM → result.items ≡ name.now }
+{
+    let mut text = ArrayVec::new();
+    let _ = text.try_extend_from_slice(name.as_bytes());
+    text
+}
+
 /// What is written for an answer.
-fn answer_text(answer: Answer) -> &'static str
-    ensures { result.now ≡ text_of answer }
+fn answer_text(answer: Answer) -> Text
+    ensures { result.items ≡ text_of answer }
 {
     match answer {
+        Answer::PollAt(Some(instant)) => at_text(instant),
+        Answer::PollAt(None) => text("at none"),
         Answer::UpdateIpAddrs(Ok(()))
         | Answer::UpdateRoutes
         | Answer::AddDefaultIpv4Route(Ok(_))
         | Answer::RemoveDefaultIpv4Route(_)
         | Answer::SetAnyIp
         | Answer::SetHardwareAddr(Ok(()))
-        | Answer::Owner => "ok",
+        | Answer::PollMaintenance
+        | Answer::PollDelay(_)
+        | Answer::Owner => text("ok"),
         Answer::UpdateIpAddrs(Err(AddrError::NotUnicast))
-        | Answer::SetHardwareAddr(Err(HardwareError::NotUnicast)) => "NotUnicast",
-        Answer::SetHardwareAddr(Err(HardwareError::WrongMedium)) => "WrongMedium",
-        Answer::AddDefaultIpv4Route(Err(RouteTableFull)) => "RouteTableFull",
-        Answer::PollIngressSingle(PollIngressSingleResult::None)
-        | Answer::PollEgress(PollResult::None) => "None",
-        Answer::PollIngressSingle(PollIngressSingleResult::PacketProcessed) => "PacketProcessed",
-        Answer::PollIngressSingle(PollIngressSingleResult::SocketStateChanged)
-        | Answer::PollEgress(PollResult::SocketStateChanged) => "SocketStateChanged",
+        | Answer::SetHardwareAddr(Err(HardwareError::NotUnicast)) => text("NotUnicast"),
+        Answer::SetHardwareAddr(Err(HardwareError::WrongMedium)) => text("WrongMedium"),
+        Answer::AddDefaultIpv4Route(Err(RouteTableFull)) => text("RouteTableFull"),
+        Answer::PollIngressSingle(result) => text(ingress_name(result)),
+        Answer::PollEgress(result) | Answer::Poll(result) => text(poll_name(result)),
     }
+}
+
+/// The name of what an ingress call answers.
+fn ingress_name(answer: PollIngressSingleResult) -> &'static str
+    ensures { result.now ≡ ingress_text answer }
+{
+    match answer {
+        PollIngressSingleResult::None => "None",
+        PollIngressSingleResult::PacketProcessed => "PacketProcessed",
+        PollIngressSingleResult::SocketStateChanged => "SocketStateChanged",
+    }
+}
+
+/// The name of what a poll or an egress call answers.
+fn poll_name(answer: PollResult) -> &'static str
+    ensures { result.now ≡ poll_text answer }
+{
+    match answer {
+        PollResult::None => "None",
+        PollResult::SocketStateChanged => "SocketStateChanged",
+    }
+}
+
+/// What is written for the instant of the next poll: `at`, and its microseconds.
+fn at_text(instant: Instant) -> Text
+    ensures { result.items ≡ next_text (Some instant) }
+{
+    let mut digits = itoa::Buffer::new();
+    let mut text = ArrayVec::new();
+    let _ = text.try_extend_from_slice(b"at ");
+    let _ = text.try_extend_from_slice(digits.format(instant.total_micros()).as_bytes());
+    text
+}
+
+/// Writes a text and the end of its line.
+fn write_line<W: Write>(text: &Text, output: &mut W) -> Result<(), Stop>
+    ensures { OnOk result (Appends (W.contents output.old) (W.contents output.new) (text_line text.now.items)) }
+{
+    let mut line: ArrayVec<u8, LINE_ROOM> = ArrayVec::new();
+    let _ = line.try_extend_from_slice(text.as_slice());
+    let _ = line.try_push(b'\n');
+    output.write_all(line.as_slice())?;
+    Ok(())
 }
 
 /// The longest line that a frame is written as.

@@ -439,6 +439,135 @@ SocketStateChanged
     check(&rt, rt.alloc(), &script, ends(output, b"", 0));
 }
 
+// The host asks for 192.168.69.100.
+const WHO_HAS: &[u8] =
+    b"tx ffffffffffff02000000000108060001080006040001020000000001c0a84501ffffffffffffc0a84564
+";
+
+// It asks once a second, by the moment last given, which may go back.
+#[test]
+fn keeps_the_moment_last_given(rt: HostRuntime) {
+    let steps: [(&[u8], &[u8], bool); 7] = [
+        (b"at 5000000\n", b"at none\nok\n", true),
+        (b"", b"ok\n", false),
+        (b"poll 5999999 0\n", b"None\nok\n", false),
+        (b"at 6000000\n", b"at none\nok\n", true),
+        (b"at 0\n", b"at none\nok\n", false),
+        (b"poll 7000000 4294967295\n", b"None\nok\n", true),
+        (b"", b"ok\n", false),
+    ];
+    let mut script: ArrayVec<&[u8], 22> = ArrayVec::new();
+    let _ = script.try_push(b"addr c0a84501/24\n");
+    let mut output: ArrayVec<u8, 512> = ArrayVec::new();
+    let _ = output.try_extend_from_slice(b"ok\n");
+    for (words, printed, asks) in steps {
+        let _ = script.try_extend_from_slice(&[words, ECHO, b"ingress\n"]);
+        let _ = output.try_extend_from_slice(printed);
+        if asks {
+            let _ = output.try_extend_from_slice(WHO_HAS);
+        }
+        let _ = output.try_extend_from_slice(b"SocketStateChanged\n");
+    }
+    check(
+        &rt,
+        rt.alloc(),
+        script.as_slice(),
+        ends(output.as_slice(), b"", 0),
+    );
+}
+
+// The request for the address has arrived, and nothing was taken.
+const ARRIVED: &[u8] = b"addr c0a84501/24
+rx ffffffffffff02000000000208060001080006040001020000000002c0a84564000000000000c0a84501
+";
+
+const TX_REPLY: &[u8] =
+    b"tx 02000000000202000000000108060001080006040002020000000001c0a84501020000000002c0a84564
+";
+
+#[test]
+fn polls(rt: HostRuntime) {
+    let scripts: [(&[u8], &[u8], &[u8], &[u8]); 9] = [
+        (
+            b"poll 0 1\nat 0\n",
+            b"",
+            TX_REPLY,
+            b"SocketStateChanged\nat none\n",
+        ),
+        (
+            b"poll 0 0\npoll 0 1\n",
+            b"None\n",
+            TX_REPLY,
+            b"SocketStateChanged\n",
+        ),
+        (
+            b"poll 0 0\negress\ningress\n",
+            b"None\nNone\n",
+            TX_REPLY,
+            b"SocketStateChanged\n",
+        ),
+        // The frames that fit in the budget are taken.
+        (
+            b"rx 00\nrx 01\npoll 9 2\npoll 9 2\ningress\n",
+            b"ok\nok\n",
+            TX_REPLY,
+            b"SocketStateChanged\nSocketStateChanged\nNone\n",
+        ),
+        (
+            b"rx 00\npoll 9 2\ningress\n",
+            b"ok\n",
+            TX_REPLY,
+            b"SocketStateChanged\nNone\n",
+        ),
+        (
+            b"rx 00\npoll 9 1\ningress\ningress\n",
+            b"ok\n",
+            TX_REPLY,
+            b"SocketStateChanged\nSocketStateChanged\nNone\n",
+        ),
+        (
+            b"poll 4611686018427387904 4294967295\nat 4611686018427387904\n",
+            b"",
+            TX_REPLY,
+            b"SocketStateChanged\nat none\n",
+        ),
+        (
+            b"poll 00 01\nat 00\n",
+            b"",
+            TX_REPLY,
+            b"SocketStateChanged\nat none\n",
+        ),
+        (
+            b"udp 7\nat 3\npoll 3 3\n",
+            b"ok\nat none\n",
+            TX_REPLY,
+            b"SocketStateChanged\n",
+        ),
+    ];
+    for (script, before, sent, after) in scripts {
+        let mut output: ArrayVec<u8, 512> = ArrayVec::new();
+        for part in [b"ok\nok\n", before, sent, after] {
+            let _ = output.try_extend_from_slice(part);
+        }
+        check(
+            &rt,
+            rt.alloc(),
+            &[ARRIVED, script],
+            ends(output.as_slice(), b"", 0),
+        );
+    }
+    let mut output: ArrayVec<u8, 512> = ArrayVec::new();
+    for part in [b"ok\nok\n", TX_REPLY, b"SocketStateChanged\nat none\n"] {
+        let _ = output.try_extend_from_slice(part);
+    }
+    check(
+        &rt,
+        rt.alloc(),
+        &[ARRIVED, b"poll 0 1\nat 0\n", b"pol 0"],
+        ends(output.as_slice(), b"bad line 5\n", 2),
+    );
+}
+
 #[test]
 fn takes_datagrams_for_its_sockets(rt: HostRuntime) {
     let output = b"ok
@@ -493,9 +622,33 @@ SocketStateChanged
 
 #[test]
 fn ends_at_a_bad_line(rt: HostRuntime) {
-    let lines: [&[u8]; 70] = [
+    let lines: [&[u8]; 94] = [
         b"pol 0",
-        b"poll 0 1",
+        b"poll",
+        b"poll ",
+        b"poll 0",
+        b"poll 0 ",
+        b"poll 0 1 ",
+        b"poll 0 1 2",
+        b"poll  0 1",
+        b"poll 0  1",
+        b"poll -1 1",
+        b"poll 0 -1",
+        b"poll x 1",
+        b"poll 0 x",
+        b"poll 4611686018427387905 1",
+        b"poll 18446744073709551616 1",
+        b"poll 340282366920938463463374607431768211456 1",
+        b"poll 0 4294967296",
+        b"Poll 0 1",
+        b"at",
+        b"at ",
+        b"at x",
+        b"at 0 0",
+        b"at 0 ",
+        b"at -1",
+        b"at 4611686018427387905",
+        b"AT 0",
         b"RX 00",
         b"Ingress",
         b"ADDR c0a84501/24",

@@ -1,14 +1,20 @@
 -- A link that never refuses.
-use Rattle.std.specs.Prelude.{◌≡◌, List, [], ◌∷◌, ◌++◌, true, false, None, refl}
+use Rattle.std.specs.Prelude.{◌≡◌, ℕ, List, [], ◌∷◌, ◌++◌, true, false, None, refl}
 use Rattle.net_base.specs.Device.{Event, Received, Frame, Nothing, Withheld, Asked, Sent, refusals_after}
 use Rattle.net_base.specs.declared.phy.DeviceCapabilities.{DeviceCapabilities}
+use Rattle.net_base.specs.declared.phy.Medium.{Medium}
 use Rattle.net_base.specs.declared.phy.Medium.TheVariants as medium
 use Rattle.net_base.specs.declared.phy.Checksum.TheVariants as checksum
 
-abbrev pub capabilities : DeviceCapabilities
-capabilities = record {
-  medium = medium.Ethernet;
-  max_transmission_unit = 1514;
+-- packets of 1,500 octets fit
+abbrev pub frame_len : Medium → ℕ
+frame_len medium.Ethernet = 1514
+frame_len medium.Ip = 1500
+
+abbrev pub capabilities_of : Medium → DeviceCapabilities
+capabilities_of m = record {
+  medium = m;
+  max_transmission_unit = frame_len m;
   max_burst_size = None;
   checksum = record { ipv4 = checksum.Both; udp = checksum.Both; tcp = checksum.Both; icmpv4 = checksum.Both; icmpv6 = checksum.Both };
 }

@@ -8,6 +8,7 @@ use arrayvec::ArrayVec;
 use iface_tables::route::Route;
 use interface::{Config, Interface};
 use ip_wire::{EthernetAddress, HardwareAddress, IpAddress, IpCidr, Ipv4Address, Ipv4Cidr};
+use net_base::phy::Medium;
 use net_base::time::Instant;
 use socket_set::{SocketHandle, SocketSet};
 use sockets::{IpEndpoint, IpListenEndpoint, Queue, udp};
@@ -59,9 +60,13 @@ pub struct Host {
 impl Host {
     /// A host at 192.168.69.1/24 with so many sockets at least, of which the last is used: it has room
     /// for four datagrams each way.
-    pub fn new(alloc: Global, count: u64) -> Result<Host> {
-        let mut link = Link::new(alloc);
-        let mut interface = Interface::new(Config::new(HARDWARE_ADDR), &mut link, Instant::ZERO)?;
+    pub fn new(alloc: Global, count: u64, medium: Medium) -> Result<Host> {
+        let mut link = Link::new(alloc, medium);
+        let hardware_addr = match medium {
+            Medium::Ethernet => HARDWARE_ADDR,
+            Medium::Ip => HardwareAddress::Ip,
+        };
+        let mut interface = Interface::new(Config::new(hardware_addr), &mut link, Instant::ZERO)?;
         let cidr = IpCidr::Ipv4(Ipv4Cidr::new(Ipv4Address::new(192, 168, 69, 1), 24));
         interface.update_ip_addrs(move |_| {
             let mut list = ArrayVec::new();
@@ -91,6 +96,18 @@ impl Host {
         let _ = self
             .interface
             .poll_ingress_single(Instant::ZERO, &mut self.link, &mut self.sockets);
+    }
+
+    /// Takes the link's frames, if it has any, and sends what the sockets have to send.
+    pub fn poll(&mut self) {
+        let _ = self.interface.poll(Instant::ZERO, &mut self.link, &mut self.sockets, usize::MAX);
+    }
+
+    /// Whether there is an instant at which to poll again.
+    pub fn poll_at(&mut self) -> bool {
+        self.interface
+            .poll_at(Instant::ZERO, &self.sockets)
+            .is_some()
     }
 
     /// Takes the link's frame, and reads the datagram that it brings. Answers how many octets that

@@ -1,5 +1,6 @@
 //! A link that hands over one frame over and over, and counts what is sent.
 ghost use Rattle.std.specs.Prelude.{◌≡◌};
+ghost use Rattle.iface_bench.specs.Link as spec;
 
 use net_base::phy::{
     ChecksumCapabilities, Device, DeviceCapabilities, FRAME_BUFFER_SIZE, Medium, PacketMeta,
@@ -7,17 +8,25 @@ use net_base::phy::{
 use net_base::time::Instant;
 use std::alloc::Global;
 
-/// What the link can do.
-const CAPABILITIES: DeviceCapabilities = DeviceCapabilities {
-    medium: Medium::Ethernet,
-    max_transmission_unit: 1514,
-    max_burst_size: None,
-    checksum: ChecksumCapabilities::ALL,
-};
+/// What a link can do: packets of 1,500 octets.
+const fn capabilities_of(medium: Medium) -> DeviceCapabilities
+    ensures { result ≡ spec.capabilities_of medium }
+{
+    DeviceCapabilities {
+        medium,
+        max_transmission_unit: match medium {
+            Medium::Ethernet => 1514,
+            Medium::Ip => 1500,
+        },
+        max_burst_size: None,
+        checksum: ChecksumCapabilities::ALL,
+    }
+}
 
 /// A link that never refuses, and keeps the last frame sent.
 #[derive(Drop)]
 pub struct Link {
+    medium: Medium,
     frame: Vec<u8>,
     last: [u8; FRAME_BUFFER_SIZE],
     last_len: usize,
@@ -26,9 +35,10 @@ pub struct Link {
 }
 
 impl Link {
-    /// A link with no octets to hand over.
-    pub fn new(alloc: Global) -> Link {
+    /// A link with no frame to hand over.
+    pub fn new(alloc: Global, medium: Medium) -> Link {
         Link {
+            medium,
             frame: Vec::new(alloc),
             last: [0; FRAME_BUFFER_SIZE],
             last_len: 0,
@@ -37,7 +47,7 @@ impl Link {
         }
     }
 
-    /// Hands over this frame from now on. One of more than 1514 octets is cut.
+    /// Hands over this frame from now on, or none if it has no octets. One of more than 1514 octets is cut.
     pub fn load(&mut self, mut frame: Vec<u8>) {
         frame.truncate(FRAME_BUFFER_SIZE);
         self.frame = frame;
@@ -61,21 +71,24 @@ impl Link {
 
 impl Device for Link {
     ghost use Rattle.std.specs.Prelude.{true};
-    ghost use Rattle.iface_bench.specs.Link.{capabilities, TellsNoRefusal, none_refused, refused_none};
+    ghost use Rattle.iface_bench.specs.Link.{capabilities_of, TellsNoRefusal, none_refused, refused_none};
 
     ghost tells = { λ old events new. TellsNoRefusal events };
 
     ghost has_leave = { λ link. true };
 
-    ghost capable = { λ link. capabilities };
+    ghost capable = { λ link. capabilities_of link.medium };
 
     ghost refused = { λ link. 0 };
 
     fn capabilities(&self) -> DeviceCapabilities {
-        CAPABILITIES
+        capabilities_of(self.medium)
     }
 
     fn receive(&mut self, _now: Instant, buffer: &mut [u8]) -> Option<(usize, PacketMeta)> {
+        if self.frame.is_empty() {
+            return None;
+        }
         let count = self.frame.len().min(buffer.len());
         buffer[..count].copy_from_slice(&self.frame[..count]);
         Some((count, PacketMeta::EMPTY))

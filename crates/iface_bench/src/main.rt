@@ -1,9 +1,11 @@
 //! Measures a host: has it do one thing over and over, and prints what it sent and read.
 //!
 //! The first argument says what: `receive` a frame, `deliver` one to a socket, the same to a queue that
-//! is nearly `full`, `send` a datagram, or send it by a `route`; the second how many times; a third, if
-//! there is one, how many sockets the host has. The first line of standard input is a frame in hex that is taken once
-//! before, and the second the frame that is taken or the payload that is sent over and over.
+//! is nearly `full`, `send` a datagram, or send it by a `route`; receive a `packet` on a medium without
+//! hardware addresses; `poll` where there is nothing to do, or ask when to poll again (`at`). The second
+//! says how many times; a third, if there is one, how many sockets the host has. The first line of
+//! standard input is a frame in hex that is taken once before, and the second the frame that is taken or
+//! the payload that is sent over and over.
 //! `docs/PERFORMANCE.md` says how to count instructions with it.
 #![tactic(auto)]
 
@@ -12,6 +14,7 @@ mod link;
 
 use crate::host::Host;
 use anyhow::{Context, Result, bail};
+use net_base::phy::Medium;
 use std::alloc::Global;
 use std::env;
 
@@ -19,7 +22,7 @@ use std::env;
 fn run(host: &mut Host, work: &str, rounds: u64, octets: Vec<u8>) -> Result<u64> {
     let mut read = 0u64;
     match work {
-        "receive" => {
+        "receive" | "packet" => {
             host.link.load(octets);
             for _ in 0..rounds {
                 host.receive();
@@ -51,7 +54,18 @@ fn run(host: &mut Host, work: &str, rounds: u64, octets: Vec<u8>) -> Result<u64>
                 read = read.wrapping_add(host.deliver() as u64);
             }
         }
-        _ => bail!("receive, deliver, full, send or route?"),
+        "poll" => {
+            host.link.load(octets);
+            for _ in 0..rounds {
+                host.poll();
+            }
+        }
+        "at" => {
+            for _ in 0..rounds {
+                read = read.wrapping_add(u64::from(host.poll_at()));
+            }
+        }
+        _ => bail!("receive, deliver, full, send, route, packet, poll or at?"),
     }
     Ok(read)
 }
@@ -65,7 +79,11 @@ fn main(rt: HostRuntime) -> Result<()> {
         Some(count) => count.parse::<u64>()?,
         None => 1,
     };
-    let mut host = Host::new(alloc, sockets)?;
+    let medium = match work.as_str() {
+        "packet" => Medium::Ip,
+        _ => Medium::Ethernet,
+    };
+    let mut host = Host::new(alloc, sockets, medium)?;
     let mut digits = String::new(alloc);
     rt.read_line(&mut digits)?;
     host.link.load(hex::decode(alloc, digits.as_str().trim())?);

@@ -29,7 +29,7 @@ use Rattle.ip_wire.specs.Ipv4Packet.{IsIpv4, ipv4_in, is_fragment}
 use Rattle.host_machine.specs.Addresses.{is_for_host, may_be_source}
 use Rattle.host_machine.specs.Raw.{heard, is_taken}
 use Rattle.host_machine.specs.Note.{Note}
-use Rattle.host_machine.specs.Ethernet.{TakesFrame, TakesEthernet, TakesPayload, is_for}
+use Rattle.host_machine.specs.Ethernet.{TakesFrame, TakesEthernet, TakesIp, TakesPayload, is_for}
 use Rattle.host_machine.specs.Ethernet as ethernet
 use Rattle.host_machine.specs.Ipv4 as ipv4
 use Rattle.host_machine.specs.Ipv4.{TakesProtocol, TakesPacket, TakesIpv4, Read, heard_from}
@@ -186,8 +186,8 @@ pub frame_taken : (h : HardwareAddress) (own : EthernetAddress) (H K : Host) (fr
     TakesEthernet own H frame reply notes K → TakesFrame h H frame reply notes K
 frame_taken h own H K frame reply notes is takes = rw is takes
 
-pub frame_dropped : (h : HardwareAddress) (H : Host) (frame : List ℕ) → h ≡ hardware.Ip → TakesFrame h H frame None [] H
-frame_dropped h H frame is = rw is (dropped H)
+pub packet_taken : (h : HardwareAddress) (H K : Host) (frame : List ℕ) (reply : Option Reply) (notes : List Note) → h ≡ hardware.Ip → TakesIp H frame reply notes K → TakesFrame h H frame reply notes K
+packet_taken h H K frame reply notes is takes = rw is takes
 
 -- a frame's payload is taken, or it is for another interface
 pub ethernet_read : (own : EthernetAddress) (H K : Host) (frame payload : List ℕ) (e : EthernetRepr) (reply : Option Reply) (notes : List Note) → 14 ≤ length frame × ((e, payload) ≡ ethernet_in frame) →

@@ -1,6 +1,6 @@
 //! What an interface does with frames, by their link's header (RFC 894, RFC 1122 2.4).
-ghost use Rattle.std.specs.Prelude.{◌≡◌, []};
-ghost use Rattle.host_machine.specs.Ethernet.{TakesFrame, TakesEthernet, TakesPayload, is_for};
+ghost use Rattle.std.specs.Prelude.{◌≡◌, ◌<◌, [], length};
+ghost use Rattle.host_machine.specs.Ethernet.{TakesFrame, TakesEthernet, TakesIp, TakesPayload, is_for};
 ghost use Rattle.iface_send.specs.Stands.{host_of};
 ghost use Rattle.iface_receive.specs.Processed.{Processed};
 
@@ -12,20 +12,37 @@ use ip_wire::{EthernetAddress, EthernetProtocol, EthernetRepr, HardwareAddress};
 use socket_set::SocketSet;
 
 /// Takes a frame by the medium, and builds the frame that goes in response, if there is one, in an
-/// empty buffer. A frame that is dropped changes nothing. On the IP medium, which isn't there yet, all
-/// are.
+/// empty buffer. It has to have an octet. A frame that is dropped changes nothing.
 pub fn process_frame(
     context: &mut Context,
     sockets: &mut SocketSet<'_>,
     frame: &[u8],
     out: &mut FrameBuffer,
 )
-    requires { out.old ≡ [] }
+    requires empty { out.old ≡ [] }
+    requires some { 0 < length frame.now }
     ensures { Processed out.new (λ H. TakesFrame H.hardware_addr H frame.now) (host_of context.old sockets.old) (host_of context.new sockets.new) }
 {
     match context.hardware_addr() {
         HardwareAddress::Ethernet(own) => process_ethernet(context, sockets, own, frame, out),
-        HardwareAddress::Ip => {}
+        HardwareAddress::Ip => process_ip(context, sockets, frame, out),
+    }
+}
+
+/// Takes a packet on a medium without hardware addresses, by its version, and builds the response, if
+/// there is one, in an empty buffer. It has to have an octet. IPv6 isn't there yet.
+pub fn process_ip(
+    context: &mut Context,
+    sockets: &mut SocketSet<'_>,
+    packet: &[u8],
+    out: &mut FrameBuffer,
+)
+    requires empty { out.old ≡ [] }
+    requires some { 0 < length packet.now }
+    ensures { Processed out.new (λ H. TakesIp H packet.now) (host_of context.old sockets.old) (host_of context.new sockets.new) }
+{
+    if packet[0] / 16 == 4 {
+        process_ipv4(context, sockets, HardwareAddress::Ip, packet, out);
     }
 }
 

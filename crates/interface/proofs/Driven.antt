@@ -14,13 +14,15 @@ use Rattle.host_machine.specs.Host.{Host, SocketSet}
 use Rattle.host_machine.specs.declared.results.PollResult.{PollResult}
 use Rattle.host_machine.specs.Ingress.{Ingress}
 use Rattle.host_machine.specs.Egress.{Egress}
+use Rattle.host_machine.specs.Polling.{Polls}
 use Rattle.arrayvec.specs.ArrayVec.{ArrayVec}
 use Rattle.ip_address.specs.declared.ipv4.Ipv4Address.{Ipv4Address}
 use Rattle.iface_tables.specs.declared.route.Route.{Route}
 use Rattle.iface_tables.specs.declared.route.RouteTableFull.{RouteTableFull}
 use Rattle.iface_tables.specs.Route.{first, ipv4_gateway, is_ipv4_gateway, old_or_full, with_default, without_first}
-use Rattle.host_machine.specs.Step.{Step, UpdatesIpAddrs, UpdatedIpAddrs, PolledIngressSingle, PolledEgress, UpdatedRoutes, AddedDefaultIpv4Route, RemovedDefaultIpv4Route, TookAnyIp, OwnerActed}
-use Rattle.host_machine.specs.Run.{Ran, Ends, Then, NoAct, ThenAct}
+use Rattle.host_machine.specs.Step.{Step, UpdatesIpAddrs, UpdatedIpAddrs, PolledIngressSingle, PolledEgress, Polled, UpdatedRoutes, AddedDefaultIpv4Route, RemovedDefaultIpv4Route, TookAnyIp, OwnerActed}
+use Rattle.host_machine.specs.Run.{Ends, Then, NoAct, ThenAct}
+use Rattle.host_machine.specs.Ran.{Ran}
 use Rattle.host_machine.proofs.Joined.{run_laws, ran_on}
 use Rattle.interface.specs.declared.interface.Interface.{Interface}
 use Rattle.iface_send.specs.Stands.{Addresses}
@@ -107,6 +109,24 @@ module _ {D O : Type 0} (tells : D → List Event → D → Type 0) (did : O →
     steps = PolledEgress went.steps;
     stands = went.stands;
   }
+
+  -- a poll
+  pub polled_all : (d e : D) (o : O) (t : ℤ) (budget : ℕ) (answered : PollResult) (H : Host) (after : Host → Type 0) → Went tells d e (Polls t budget answered H) after →
+      CommandWent tells did d e o o (command.Poll t budget) (answer.Poll answered) H after
+  polled_all d e o t budget answered H after went = record {
+    told = went.told;
+    acts = [];
+    notes = went.notes;
+    host = went.host;
+    tells_it = went.tells_it;
+    owner_did = NoAct;
+    steps = Polled went.steps;
+    stands = went.stands;
+  }
+
+  -- a step of which nothing is told
+  pub untold : (d : D) (o : O) (c : Command) (a : Answer) (H K : Host) (after : Host → Type 0) → tells d [] d → Step c a H [] [] [] K → after K → CommandWent tells did d d o o c a H after
+  untold d o c a H K after quiet steps stands = record { told = []; acts = []; notes = []; host = K; tells_it = quiet; owner_did = NoAct; steps = steps; stands = stands }
 
   -- a call that only sets something
   pub was_set : (d : D) (o : O) (i j : Interface) (s : Sockets (Bor (Unit {0}))) (c : Command) (a : Answer) → tells d [] d →

@@ -17,6 +17,6 @@ module _ {D : Type 0} {tells : D → List Event → D → Type 0} where
     notes = served.notes;
     host = K;
     tells_it = served.tells_it;
-    steps = record { changed = changed; sockets = subst (λ M. SocketsSend M changed served.told served.notes K) (sym same) served.follows; answers = answers };
+    steps = record { changed = changed; round = subst (λ M. SocketsSend M changed served.told served.notes K) (sym same) served.follows; answers = answers };
     stands = stands;
   }

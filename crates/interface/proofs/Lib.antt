@@ -2,3 +2,4 @@ mod Made
 mod Egressed
 mod Received
 mod Driven
+mod Repeated

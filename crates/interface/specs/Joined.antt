@@ -4,7 +4,7 @@ use Rattle.net_base.specs.Device.{Event}
 use Rattle.host_machine.specs.declared.command.Command.{Command}
 use Rattle.host_machine.specs.declared.command.Answer.{Answer}
 use Rattle.host_machine.specs.Host.{Host, SocketSet}
-use Rattle.host_machine.specs.Run.{Ran}
+use Rattle.host_machine.specs.Ran.{Ran}
 use Rattle.std.specs.Borrow.{Bor}
 use Rattle.socket_set.specs.SocketSet.{Sockets}
 use Rattle.interface.specs.declared.interface.Interface.{Interface}

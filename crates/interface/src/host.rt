@@ -2,7 +2,7 @@
 ghost use Rattle.std.specs.Prelude.{◌≡◌, List, length, All};
 ghost use Rattle.host_machine.specs.Host.{Host, SocketSet};
 ghost use Rattle.host_machine.specs.Step.{IsTimely, UpdatesIpAddrs};
-ghost use Rattle.host_machine.specs.Run.{Ran};
+ghost use Rattle.host_machine.specs.Ran.{Ran};
 ghost use Rattle.iface_tables.specs.Route.{first, ipv4_gateway, is_ipv4_gateway, old_or_full, with_default, without_first};
 ghost use Rattle.interface.specs.Stands.{StandsFor, host_with};
 ghost use Rattle.interface.specs.Joined.{DrivesJoin};
@@ -85,6 +85,17 @@ fn step<D: Device, O: Owner>(
         }
         Command::PollEgress(timestamp) => {
             Answer::PollEgress(interface.poll_egress(*timestamp, device, sockets))
+        }
+        Command::Poll(timestamp, budget) => {
+            Answer::Poll(interface.poll(*timestamp, device, sockets, *budget))
+        }
+        Command::PollMaintenance(timestamp) => {
+            interface.poll_maintenance(*timestamp);
+            Answer::PollMaintenance
+        }
+        Command::PollAt(timestamp) => Answer::PollAt(interface.poll_at(*timestamp, sockets)),
+        Command::PollDelay(timestamp) => {
+            Answer::PollDelay(interface.poll_delay(*timestamp, sockets))
         }
         Command::UpdateRoutes(list) => {
             put_routes(interface, list);

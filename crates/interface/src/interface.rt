@@ -8,6 +8,7 @@ ghost use Rattle.net_base.specs.Device.{Frame};
 ghost use Rattle.iface_receive.specs.Processed.{Processed};
 ghost use Rattle.iface_send.specs.Stands.{host_of};
 
+use crate::polling::{poll_result, sockets_poll_at};
 use arrayvec::ArrayVec;
 use host_machine::{AddrError, HardwareError, NewError, PollIngressSingleResult, PollResult};
 use iface_egress::egress::socket_egress;
@@ -21,7 +22,7 @@ use ip_wire::emit::FrameBuffer;
 use ip_wire::{HardwareAddress, IpAddress, IpCidr, Ipv4Address};
 use net_base::phy::{Device, DeviceCapabilities, FRAME_BUFFER_SIZE, Medium};
 use net_base::rand::Rand;
-use net_base::time::Instant;
+use net_base::time::{Duration, Instant};
 use socket_set::SocketSet;
 use sockets::SocketContext;
 
@@ -69,7 +70,11 @@ impl Interface {
     ghost use Rattle.host_machine.specs.Addresses as addresses;
     ghost use Rattle.host_machine.specs.Config.{refusal_of, first_host};
     ghost use Rattle.host_machine.specs.Ingress.{Ingress};
+    ghost use Rattle.std.specs.Prelude.{ℤ};
+    ghost use Rattle.host_machine.specs.Host.{Host, at};
     ghost use Rattle.host_machine.specs.Egress.{Egress};
+    ghost use Rattle.host_machine.specs.Polling.{Polls, Receives, Sends, maintained};
+    ghost use Rattle.host_machine.specs.Due.{Due, IsLeast, IsRest};
     ghost use Rattle.host_machine.specs.Step.{UpdatesIpAddrs, SetsHardwareAddr};
     ghost use Rattle.iface_send.specs.contracts.context.Context.{the_row as context_row};
     ghost use Rattle.iface_send.specs.Stands.{Addresses, host_of};
@@ -317,6 +322,103 @@ impl Interface {
         } else {
             PollResult::None
         }
+    }
+
+    /// Maintains what has to be, takes frames, and sends what the sockets have to send, all at one moment:
+    /// [`Interface::poll_maintenance`], then calls of [`Interface::poll_ingress_single`] until one has no
+    /// frame, then of [`Interface::poll_egress`] until one has nothing to send, and at most `budget` of
+    /// each. Answers whether some socket may have changed.
+    pub fn poll<D: Device>(
+        &mut self,
+        timestamp: Instant,
+        device: &mut D,
+        sockets: &mut SocketSet<'_>,
+        budget: usize,
+    ) -> PollResult
+        requires { IsMoment timestamp }
+        ensures { Goes D.tells device.old device.new (Polls timestamp budget result) (StandsFor self.old sockets.old) (StandsFor self.new sockets.new) }
+    {
+        self.poll_maintenance(timestamp);
+        let received = self.receive_until(timestamp, device, sockets, budget);
+        let went = self.send_until(timestamp, device, sockets, budget);
+        poll_result(received | went)
+    }
+
+    /// Sets the moment, and maintains what has to be: there is nothing yet.
+    pub fn poll_maintenance(&mut self, timestamp: Instant)
+        requires { IsMoment timestamp }
+        ensures { (sockets : SocketSet) → host_with self.new sockets ≡ maintained (at (host_with self.old sockets) timestamp) }
+    {
+        set_moment(&mut self.context, timestamp);
+    }
+
+    // Takes frames until there is none or the budget is spent. Whether some socket may have changed.
+    fn receive_until<D: Device>(
+        &mut self,
+        timestamp: Instant,
+        device: &mut D,
+        sockets: &mut SocketSet<'_>,
+        budget: usize,
+    ) -> bool
+        requires { IsMoment timestamp }
+        ensures { Goes D.tells device.old device.new (Receives timestamp budget result) (StandsFor self.old sockets.old) (StandsFor self.new sockets.new) }
+    {
+        let mut changed = false;
+        for _ in 0..budget {
+            match self.poll_ingress_single(timestamp, device, sockets) {
+                PollIngressSingleResult::None => return changed,
+                PollIngressSingleResult::PacketProcessed => {}
+                PollIngressSingleResult::SocketStateChanged => changed = true,
+            }
+        }
+        changed
+    }
+
+    // Sends until nothing goes or the budget is spent. Whether a socket changed.
+    fn send_until<D: Device>(
+        &mut self,
+        timestamp: Instant,
+        device: &mut D,
+        sockets: &mut SocketSet<'_>,
+        budget: usize,
+    ) -> bool
+        requires { IsMoment timestamp }
+        ensures { Goes D.tells device.old device.new (Sends timestamp budget result) (StandsFor self.old sockets.old) (StandsFor self.new sockets.new) }
+    {
+        let mut changed = false;
+        for _ in 0..budget {
+            match self.poll_egress(timestamp, device, sockets) {
+                PollResult::None => return changed,
+                PollResult::SocketStateChanged => changed = true,
+            }
+        }
+        changed
+    }
+
+    /// Sets the moment, and tells the instant at which to poll again: the least at which something is due,
+    /// if anything is. What is due at once has instant 0. Until then polls send nothing and change no
+    /// socket, unless a frame comes, a route expires or something is changed.
+    pub fn poll_at(&mut self, timestamp: Instant, sockets: &SocketSet<'_>) -> Option<Instant>
+        requires { IsMoment timestamp }
+        ensures least { (H : Host) → StandsFor self.old sockets.now H → IsLeast (Due (at H timestamp)) result }
+        ensures moment { (H : Host) → StandsFor self.old sockets.now H → StandsFor self.new sockets.now (at H timestamp) }
+    {
+        set_moment(&mut self.context, timestamp);
+        sockets_poll_at(&self.context, sockets)
+    }
+
+    /// Sets the moment, and tells how long it is until the instant of [`Interface::poll_at`]: no time if it
+    /// has passed.
+    pub fn poll_delay(&mut self, timestamp: Instant, sockets: &SocketSet<'_>) -> Option<Duration>
+        requires { IsMoment timestamp }
+        ensures rest { (H : Host) → StandsFor self.old sockets.now H → (end : Option ℤ) × IsLeast (Due (at H timestamp)) end × IsRest timestamp end result }
+        ensures moment { (H : Host) → StandsFor self.old sockets.now H → StandsFor self.new sockets.now (at H timestamp) }
+    {
+        let end = self.poll_at(timestamp, sockets)?;
+        if end <= timestamp {
+            return Some(Duration::ZERO);
+        }
+        Some(end - timestamp)
     }
 }
 

@@ -1,14 +1,15 @@
 //! The interface: it takes frames from a device and sends others, and each of its calls is one step
 //! of the host machine (crate `host_machine`).
 //!
-//! Begin with [`Interface::new`] over a device, give it addresses by `update_ip_addrs`, let it take
-//! frames by `poll_ingress_single`, and send what the sockets have to send by `poll_egress`. Who has
-//! buffers of its own hands frames over by `receive_frame`. The module [`host`] runs lists of such
-//! calls.
+//! Begin with [`Interface::new`] over a device, give it addresses by `update_ip_addrs`, and call `poll`:
+//! it takes frames and sends what the sockets have to send. `poll_at` tells when to call it again, if no
+//! frame comes before. `poll_ingress_single` and `poll_egress` are its parts; who has buffers of its own
+//! hands frames over by `receive_frame`. The module [`host`] runs lists of such calls.
 #![tactic(auto)]
 
 pub mod host;
 pub mod interface;
+mod polling;
 
 pub use host_machine::{
     AddrError, Answer, Command, HardwareError, NewError, PollIngressSingleResult, PollResult,

@@ -2,13 +2,16 @@
 ghost use Rattle.std.specs.Prelude.{◌≡◌, ◌<◌, Bool, true, false, not, Some, None, IsOk, IsErr, IsSome, IsNone, IfSome, IfOk, IfErr, OnOk, OnErr, length, map};
 ghost use Rattle.std.specs.Option.{option_copied, option_copied_mut, option_and_then};
 ghost use Rattle.net_base.specs.Time.{IsMoment, silence_from};
-ghost use Rattle.socket_set.specs.SocketMeta.{IsTold, after_asking, is_permitted};
+ghost use Rattle.sockets.specs.Kinds.{poll_at as own_poll_at};
+ghost use Rattle.socket_base.specs.declared.poll_at.PollAt.TheVariants.{Ingress};
+ghost use Rattle.socket_set.specs.SocketMeta.{poll_at as poll_at_of, IsTold, after_asking, is_permitted};
 ghost use Rattle.socket_set.specs.SocketSet.{added, first_free, given_back, handles, has_free, is_full, over, pairs, socket_at, wait_at, with_place, with_wait};
 
 use crate::iter::{HandlesOf, IterOf};
 use crate::socket_meta::Meta;
 use ip_wire::IpAddress;
 use net_base::time::Instant;
+use sockets::PollAt;
 use sockets::socket::{AnySocketOf, SocketOf};
 use std::fmt;
 use std::marker::Model;
@@ -70,6 +73,21 @@ impl<L> SocketStorageOf<L> {
         ensures value { option_copied_mut result ≡ self.old.socket }
     {
         self.inner.as_mut()
+    }
+}
+
+impl<L: Drop> SocketStorageOf<L> {
+    // When its socket wants to be asked for a packet.
+    fn poll_at<F: Fn(IpAddress) -> bool>(&self, timestamp: Instant, has_neighbor: F) -> PollAt
+        requires { F.IsAlwaysCallable has_neighbor }
+        ensures socket { IfSome self.now.socket (λ s. (known : Bool) × IsTold (F.post has_neighbor) self.now.wait known
+            × (result ≡ poll_at_of self.now.wait known timestamp (own_poll_at s))) }
+        ensures nobody { IsNone self.now.socket → result ≡ Ingress }
+    {
+        match self.socket() {
+            None => PollAt::Ingress,
+            Some(socket) => self.meta.poll_at(socket.poll_at(), has_neighbor, timestamp),
+        }
     }
 }
 
@@ -316,6 +334,26 @@ impl<L: Drop> SocketSetOf<L> {
             return false;
         }
         storage.meta.egress_permitted(timestamp, has_neighbor)
+    }
+
+    /// When the socket at an index wants to be asked for a packet: by its own answer, or at the end of
+    /// its wait where it has to wait. `has_neighbor` tells whether a neighbour is known. A free place,
+    /// and an index out of range, has no socket that does.
+    pub fn poll_at<F: Fn(IpAddress) -> bool>(
+        &self,
+        index: usize,
+        timestamp: Instant,
+        has_neighbor: F,
+    ) -> PollAt
+        requires { F.IsAlwaysCallable has_neighbor }
+        ensures socket { IfSome (socket_at self.now index) (λ s. (known : Bool) × IsTold (F.post has_neighbor) (wait_at self.now index) known
+            × (result ≡ poll_at_of (wait_at self.now index) known timestamp (own_poll_at s))) }
+        ensures nobody { IsNone (socket_at self.now index) → result ≡ Ingress }
+    {
+        let Some(storage) = self.sockets.get(index) else {
+            return PollAt::Ingress;
+        };
+        storage.poll_at(timestamp, has_neighbor)
     }
 
     /// Lets the socket at an index wait for a neighbour, until 1 s after the moment.

@@ -1,8 +1,9 @@
 use Rattle.host_machine.specs.declared.command.Command.TheVariants as command
 use Rattle.host_machine.specs.declared.command.Answer.TheVariants as answer
-use Rattle.host_machine.specs.Step.{TookHardwareAddr}
-use Rattle.interface.specs.Stands.{host_with}
-use Rattle.interface.proofs.Driven.{addresses_put, polled, polled_egress, was_set, routes_step, added_step, removed_step, any_ip_step, acted}
+use Rattle.host_machine.specs.Step.{TookHardwareAddr, PolledMaintenance, PolledAt, PolledDelay}
+use Rattle.host_machine.specs.Host.{at}
+use Rattle.interface.specs.Stands.{host_with, StandsFor}
+use Rattle.interface.proofs.Driven.{addresses_put, polled, polled_egress, polled_all, untold, was_set, routes_step, added_step, removed_step, any_ip_step, acted}
 use Rattle.interface.proofs.host.step.Goals as goal
 
 pub returns-in-UpdateIpAddrs : goal.returns-in-UpdateIpAddrs
@@ -16,6 +17,26 @@ returns-in-PollIngressSingle g c = λ H h.
 pub returns-in-PollEgress : goal.returns-in-PollEgress
 returns-in-PollEgress g c = λ H h.
     rw c.in-PollEgress.is (polled_egress g.D.Device.tells g.O.Owner.did _ _ _ _ _ H _ (c.poll_egress.ensures H h))
+
+pub returns-in-Poll : goal.returns-in-Poll
+returns-in-Poll g c = λ H h.
+    rw c.in-Poll.is (polled_all g.D.Device.tells g.O.Owner.did _ _ _ _ _ _ H _ (c.poll.ensures H h))
+
+pub returns-in-PollMaintenance : goal.returns-in-PollMaintenance
+returns-in-PollMaintenance g c =
+    rw c.in-PollMaintenance.is (was_set g.D.Device.tells g.O.Owner.did c.args.device.now c.args.owner.now c.args.interface.now c.poll_maintenance.new.self c.args.sockets.now (command.PollMaintenance c.in-PollMaintenance.timestamp) answer.PollMaintenance
+    (g.met.D.Device.tells_nothing c.args.device.now) (rw (c.poll_maintenance.ensures c.args.sockets.now) PolledMaintenance))
+
+pub returns-in-PollAt : goal.returns-in-PollAt
+returns-in-PollAt g c = λ H h.
+    rw c.in-PollAt.is (untold g.D.Device.tells g.O.Owner.did c.args.device.now c.args.owner.now (command.PollAt c.in-PollAt.timestamp) (answer.PollAt c.poll_at.result) H (at H c.in-PollAt.timestamp)
+    (StandsFor c.poll_at.new.self c.args.sockets.now) (g.met.D.Device.tells_nothing c.args.device.now) (PolledAt (c.poll_at.ensures.least H h)) (c.poll_at.ensures.moment H h))
+
+pub returns-in-PollDelay : goal.returns-in-PollDelay
+returns-in-PollDelay g c = λ H h.
+    let rest = c.poll_delay.ensures.rest H h in
+    rw c.in-PollDelay.is (untold g.D.Device.tells g.O.Owner.did c.args.device.now c.args.owner.now (command.PollDelay c.in-PollDelay.timestamp) (answer.PollDelay c.poll_delay.result) H (at H c.in-PollDelay.timestamp)
+    (StandsFor c.poll_delay.new.self c.args.sockets.now) (g.met.D.Device.tells_nothing c.args.device.now) (PolledDelay rest.0 rest.1 rest.2) (c.poll_delay.ensures.moment H h))
 
 pub returns-in-UpdateRoutes : goal.returns-in-UpdateRoutes
 returns-in-UpdateRoutes g c =

@@ -1,0 +1,421 @@
+-- Polls that nothing disturbs are quiet until something is due. What stays through them is one lower bound: what is due, as seen at the
+-- moment t0 of the question, was due then. A wait that ends takes nothing away from that, as who is known later was known at t0.
+use Rattle.std.proofs.Common.{◌≡◌, ◌⊎◌, ℕ, zero, suc, List, [], ◌∷◌, ◌++◌, refl, sym, ◌∙◌, ap, subst, arith, inl, inr, Option, Some, None}
+use Rattle.std.proofs.lemmas.Bool.{cases_eq}
+use Rattle.std.proofs.lemmas.Int.{ints}
+use Rattle.std.proofs.lemmas.List.{get_or-set_other, set-get_or}
+use Rattle.std.specs.Cmp.{int_cmp_is}
+use Rattle.std.specs.declared.cmp.Ordering.TheVariants.{Less}
+use Rattle.std.specs.Prelude.{ℤ, pos, ◌≤ℤ◌, ◌<ℤ◌, Bool, true, false, get_or, slice_get, slice_set}
+use Rattle.std.specs.Option.{option_and_then}
+use Rattle.net_base.specs.Device.{Event, Received, Asked, Sent, Reception, Frame, Nothing, Withheld, handed, sent}
+use Rattle.ip_address.specs.declared.ip.IpAddress.{IpAddress}
+use Rattle.socket_base.specs.declared.poll_at.PollAt.{PollAt}
+use Rattle.socket_base.specs.declared.poll_at.PollAt.TheVariants.{Time}
+use Rattle.sockets.specs.Kinds as socket
+use Rattle.socket_set.specs.SocketMeta.{Wait, IsTold, is_permitted, after_asking, poll_at}
+use Rattle.socket_set.specs.SocketSet.{wait_at}
+use Rattle.host_machine.specs.declared.command.Command.{Command}
+use Rattle.host_machine.specs.declared.command.Answer.{Answer}
+use Rattle.host_machine.specs.declared.command.Answer.TheVariants as answer
+use Rattle.host_machine.specs.declared.results.PollIngressSingleResult.{PollIngressSingleResult}
+use Rattle.host_machine.specs.declared.results.PollIngressSingleResult.TheVariants as ingress
+use Rattle.host_machine.specs.declared.results.PollResult.{PollResult}
+use Rattle.host_machine.specs.declared.results.PollResult.TheVariants as result
+use Rattle.host_machine.specs.declared.results.Turn.{Turn}
+use Rattle.host_machine.specs.declared.results.Turn.TheVariants.{Idle}
+use Rattle.host_machine.specs.Note.{Note}
+use Rattle.host_machine.specs.Host.{Host, Socket, Storage, at}
+use Rattle.host_machine.specs.Addresses.{source_for}
+use Rattle.host_machine.specs.Dispatch.{KnowsNextHop, OfNoHost, OfHost, IsNextHop, OnLink, ByRouter}
+use Rattle.host_machine.specs.Reply.{IsDropped}
+use Rattle.host_machine.specs.Ingress.{Ingress, Takes, answer_to}
+use Rattle.host_machine.specs.Egress.{packet_of, packet_from, asked, with_socket, wait_after, SocketTurn, Silent, Refused, Serves, Free, Waits, Served, is_gone, Walks, SocketsSend, Whole, Stopped, Egress}
+use Rattle.host_machine.specs.Egress as egress
+use Rattle.host_machine.specs.Polling.{Repeats, Until, Spent, Done, Polls}
+use Rattle.host_machine.specs.Polling as polling
+use Rattle.host_machine.specs.Due.{Due, OfSocket, SocketDue, IsLeast, instant_of}
+use Rattle.host_machine.specs.Step.{Act, Step}
+use Rattle.host_machine.specs.Step as step
+use Rattle.host_machine.specs.Run.{Place, Run, Ends, Then}
+use Rattle.host_machine.specs.Quiet.{IsBefore, RoutesLast, IsWithin, IsCalm, AnswersNone, QuietWhile, QuietAfter, AreQuiet}
+use Rattle.host_machine.proofs.Malformed.{nothing_responded}
+use Rattle.host_machine.proofs.Earlier.{Knew, knew}
+use Rattle.host_machine.proofs.QuietSockets.{socket_quiet}
+
+-- the host with other waits for its sockets
+abbrev with_waits : Host → List Wait → Host
+with_waits H waits = record H { sockets = record H.sockets { waits = waits } }
+
+-- what is due, as seen at t0, is due after s
+abbrev NoneDue : Host → ℤ → ℤ → Type 0
+NoneDue H t0 s = (x : ℤ) → Due (at H t0) x → s <ℤ x
+
+-- a host at whose moment nothing is due of what could be seen at t0
+record Rests (t0 : ℤ) (H : Host) : Type 0 where
+  low : pos 0 ≤ℤ t0
+  from : t0 ≤ℤ H.moment
+  last : RoutesLast H.routes t0 H.moment
+  none : NoneDue H t0 H.moment
+
+-- what such a host does: nothing is sent, nothing becomes due, and what the next call reads stays
+record Stays (t0 : ℤ) (old new : Host) (told : List Event) : Type 0 where
+  moment : new.moment ≡ old.moment
+  routes : new.routes ≡ old.routes
+  places : new.sockets.places ≡ old.sockets.places
+  due : (x : ℤ) → Due (at new t0) x → Due (at old t0) x
+  silent : sent told ≡ []
+
+sent-append : (xs ys : List Event) → sent xs ≡ [] → sent ys ≡ [] → sent (xs ++ ys) ≡ []
+sent-append [] ys e f = f
+sent-append (Received t r ∷ xs) ys e f = sent-append xs ys e f
+sent-append (Asked t b ∷ xs) ys e f = sent-append xs ys e f
+sent-append (Sent id frame ∷ xs) ys e f = absurd cc
+
+stays : {H new : Host} {told : List Event} (t0 : ℤ) → new ≡ H → sent told ≡ [] → Stays t0 H new told
+stays {H} {new} t0 e silent = record {
+  moment = ap (λ (K : Host). K.moment) e;
+  routes = ap (λ (K : Host). K.routes) e;
+  places = ap (λ (K : Host). K.sockets.places) e;
+  due = λ x d. subst (λ (K : Host). Due (at K t0) x) e d;
+  silent = silent;
+}
+
+stays_on : {old mid new : Host} {told more : List Event} {t0 : ℤ} → Stays t0 old mid told → Stays t0 mid new more → Stays t0 old new (told ++ more)
+stays_on {told = told} {more = more} a b = record {
+  moment = b.moment ∙ a.moment;
+  routes = b.routes ∙ a.routes;
+  places = b.places ∙ a.places;
+  due = λ x d. a.due x (b.due x d);
+  silent = sent-append told more a.silent b.silent;
+}
+
+rests_on : {old new : Host} {told : List Event} {t0 : ℤ} → Stays t0 old new told → Rests t0 old → Rests t0 new
+rests_on a r = record {
+  low = r.low;
+  from = rw a.moment r.from;
+  last = rw (a.moment, a.routes) r.last;
+  none = λ x d. rw a.moment (r.none x (a.due x d));
+}
+
+-- when a socket that may send is due, and one that may not
+may_send : (w : Wait) (known : Bool) (t : ℤ) (own : PollAt) → is_permitted w known t ≡ true → poll_at w known t own ≡ own
+may_send None known t own may = refl
+may_send (Some w) known t own may = rw may refl
+
+record Waiting (w : Wait) (known : Bool) (t : ℤ) (own : PollAt) : Type 0 where
+  end : ℤ
+  due : poll_at w known t own ≡ Time end
+  unknown : known ≡ false
+  waits : (s : ℤ) → s <ℤ end → is_permitted w false s ≡ false
+
+must_wait : (w : Wait) (known : Bool) (t : ℤ) (own : PollAt) → is_permitted w known t ≡ false → Waiting w known t own
+must_wait None known t own not = absurd cc
+must_wait (Some w) true t own not = absurd cc
+must_wait (Some w) false t own not = record { end = w.1; due = rw not refl; unknown = refl; waits = λ s before. rw (← int_cmp_is s w.1 Less before) refl }
+
+known_may : (w : Wait) (known : Bool) (t : ℤ) → known ≡ true → is_permitted w known t ≡ true
+known_may None known t is = refl
+known_may (Some w) known t is = rw is refl
+
+before_own : (s : ℤ) (end : Option ℤ) → ((x : ℤ) → end ≡ Some x → s <ℤ x) → IsBefore s end
+before_own s None after = tt
+before_own s (Some x) after = after x refl
+
+-- who is known now was known at t0
+no_longer : (w : Wait) (known was : Bool) (s : ℤ) → (known ≡ true → was ≡ true) → was ≡ false → is_permitted w false s ≡ false → is_permitted w known s ≡ true → ⊥
+no_longer w true was s stays unknown not may = let e : was ≡ true = stays refl in absurd cc
+no_longer w false was s stays unknown not may = absurd cc
+
+-- a socket that is asked has nothing to send, and stays as it is
+asked_by : (H : Host) (t0 : ℤ) (i : ℕ) (s : Socket) (known : Bool) → Rests t0 H → slice_get H.sockets.places i ≡ Some (Some s) → (k : Knew H t0 (wait_at H.sockets i) known) →
+    is_permitted (wait_at H.sockets i) known H.moment ≡ true → (b : Bool) → is_permitted (wait_at H.sockets i) k.was t0 ≡ b → (packet_from H s ≡ None) × (asked H s ≡ s)
+asked_by H t0 i s known r here k may true might =
+    let low : pos 0 ≤ℤ H.moment = omega (arith, ints, r.low, r.from) in
+    let own = before_own H.moment (instant_of (socket.poll_at s)) (λ x e. r.none x (OfSocket i (record { socket = s; known = k.was; here = here; told = k.told; instant = ap instant_of (may_send (wait_at H.sockets i) k.was t0 (socket.poll_at s) might) ∙ e }))) in
+    let q = socket_quiet (source_for H.ip_addrs) s H.moment low own in
+    (ap (option_and_then packet_of) q.0, q.1)
+asked_by H t0 i s known r here k may false not =
+    let w = must_wait (wait_at H.sockets i) k.was t0 (socket.poll_at s) not in
+    let later = r.none w.end (OfSocket i (record { socket = s; known = k.was; here = here; told = k.told; instant = ap instant_of w.due })) in
+    absurd (no_longer (wait_at H.sockets i) known k.was H.moment k.stays w.unknown (w.waits H.moment later) may)
+
+-- its wait may end: what is due then was due before, by its own answer
+cleared : (waits : List Wait) (i : ℕ) → get_or (slice_set waits i None) i None ≡ None
+cleared [] i = refl
+cleared (w ∷ ws) zero = refl
+cleared (w ∷ ws) (suc i) = cleared ws i
+
+set_there : {A : Type 0} (xs : List A) (i : ℕ) (x : A) → slice_get xs i ≡ Some x → slice_set xs i x ≡ xs
+set_there [] i x is = refl
+set_there (y ∷ ys) zero x is = let e : y ≡ x = cc in ap (λ z. z ∷ ys) (sym e)
+set_there (y ∷ ys) (suc i) x is = ap (λ zs. y ∷ zs) (set_there ys i x is)
+
+-- what is told of a destination doesn't depend on waits
+hop_on : (H : Host) (waits : List Wait) (t0 : ℤ) {a : IpAddress} {hop : Option IpAddress} → IsNextHop (at (with_waits H waits) t0) a hop → IsNextHop (at H t0) a hop
+hop_on H waits t0 (OnLink own e) = OnLink own e
+hop_on H waits t0 (ByRouter router other r e) = ByRouter router other r e
+
+known_on : (H : Host) (waits : List Wait) (t0 : ℤ) {a : IpAddress} {known : Bool} → KnowsNextHop (at (with_waits H waits) t0) a known → KnowsNextHop (at H t0) a known
+known_on H waits t0 (OfNoHost none e) = OfNoHost none e
+known_on H waits t0 (OfHost hop one n e) = OfHost hop one (hop_on H waits t0 n) e
+
+told_on : (H : Host) (waits : List Wait) (t0 : ℤ) (w : Wait) (known : Bool) → IsTold (KnowsNextHop (at (with_waits H waits) t0)) w known → IsTold (KnowsNextHop (at H t0)) w known
+told_on H waits t0 None known told = tt
+told_on H waits t0 (Some w) known told = known_on H waits t0 told
+
+due_by : (H : Host) (t0 : ℤ) (i : ℕ) (was : Bool) → was ≡ true → IsTold (KnowsNextHop (at H t0)) (wait_at H.sockets i) was →
+    (x : ℤ) (j : ℕ) → SocketDue (at (with_waits H (slice_set H.sockets.waits i None)) t0) j x → (j ≡ i) ⊎ (j ≡ i → ⊥) → SocketDue (at H t0) j x
+due_by H t0 i was is told x j d (inl same) =
+    let gone : get_or (slice_set H.sockets.waits i None) j None ≡ None = rw same (cleared H.sockets.waits i) in
+    let own : instant_of (socket.poll_at d.socket) ≡ Some x = sym (ap (λ w. instant_of (poll_at w d.known t0 (socket.poll_at d.socket))) gone) ∙ d.instant in
+    record {
+      socket = d.socket;
+      known = was;
+      here = d.here;
+      told = rw same told;
+      instant = ap instant_of (may_send (wait_at H.sockets j) was t0 (socket.poll_at d.socket) (known_may (wait_at H.sockets j) was t0 is)) ∙ own;
+    }
+due_by H t0 i was is told x j d (inr other) =
+    let kept : get_or (slice_set H.sockets.waits i None) j None ≡ wait_at H.sockets j = get_or-set_other H.sockets.waits i j None None other in
+    record {
+      socket = d.socket;
+      known = d.known;
+      here = d.here;
+      told = subst (λ w. IsTold (KnowsNextHop (at H t0)) w d.known) kept (told_on H (slice_set H.sockets.waits i None) t0 (get_or (slice_set H.sockets.waits i None) j None) d.known d.told);
+      instant = sym (ap (λ w. instant_of (poll_at w d.known t0 (socket.poll_at d.socket))) kept) ∙ d.instant;
+    }
+
+due_cleared : (H : Host) (t0 : ℤ) (i : ℕ) (was : Bool) → was ≡ true → IsTold (KnowsNextHop (at H t0)) (wait_at H.sockets i) was →
+    (x : ℤ) → Due (at (with_waits H (slice_set H.sockets.waits i None)) t0) x → Due (at H t0) x
+due_cleared H t0 i was is told x (OfSocket j d) = OfSocket j (due_by H t0 i was is told x j d (cases_eq j i))
+
+unended : (w : Wait) → after_asking w false ≡ w
+unended None = refl
+unended (Some w) = refl
+
+ended : (w : Wait) → after_asking w true ≡ None
+ended None = refl
+ended (Some w) = refl
+
+-- the wait after the socket was asked
+asked_stays : (H : Host) (t0 : ℤ) (i : ℕ) (known : Bool) → Knew H t0 (wait_at H.sockets i) known →
+    Stays t0 H (with_waits H (slice_set H.sockets.waits i (after_asking (wait_at H.sockets i) known))) []
+asked_stays H t0 i true k =
+    let gone = ended (wait_at H.sockets i) in
+    subst (λ w. Stays t0 H (with_waits H (slice_set H.sockets.waits i w)) []) (sym gone)
+    (record { moment = refl; routes = refl; places = refl; due = due_cleared H t0 i k.was (k.stays refl) k.told; silent = refl })
+asked_stays H t0 i false k =
+    let kept : slice_set H.sockets.waits i (after_asking (wait_at H.sockets i) false) ≡ H.sockets.waits = ap (slice_set H.sockets.waits i) (unended (wait_at H.sockets i)) ∙ set-get_or H.sockets.waits i None in
+    stays t0 (ap (with_waits H) kept) refl
+
+-- the turn of a place
+record Idles (t0 : ℤ) (turn : Turn) (old new : Host) (told : List Event) : Type 0 where
+  idle : turn ≡ Idle
+  stays : Stays t0 old new told
+
+-- the turn of a socket that has nothing to send
+record Passes (s : Socket) (turn : Turn) (s' : Socket) (old new : Host) (told : List Event) : Type 0 where
+  idle : turn ≡ Idle
+  untold : told ≡ []
+  unchanged : new ≡ old
+  same : s' ≡ s
+
+passes : {s s' : Socket} {turn : Turn} {H new : Host} {told : List Event} {notes : List Note} → packet_from H s ≡ None → asked H s ≡ s → SocketTurn s turn s' H told notes new → Passes s turn s' H new told
+passes none same (Silent p t o n e r) = record { idle = t; untold = o; unchanged = e; same = r ∙ same }
+passes none same (Refused p some t o n e r) = absurd cc
+passes none same (egress.Sent p outcome frames some d t o r) = absurd cc
+
+serves_quiet : {H new : Host} {i : ℕ} {turn : Turn} {told : List Event} {notes : List Note} {t0 : ℤ} → Rests t0 H → Serves i turn H told notes new → Idles t0 turn H new told
+serves_quiet {t0 = t0} r (Free s t o n e) = record { idle = t; stays = stays t0 e (ap sent o) }
+serves_quiet {t0 = t0} r (Waits s known here told p t o n e) = record { idle = t; stays = stays t0 e (ap sent o) }
+serves_quiet {H} {new} {i} {turn} {t0 = t0} r (Served s s' known mid here told may turned e) =
+    let k = knew H t0 (wait_at H.sockets i) known r.from r.last told in
+    let q = asked_by H t0 i s known r here k may (is_permitted (wait_at H.sockets i) k.was t0) refl in
+    let p = passes q.0 q.1 turned in
+    let after = after_asking (wait_at H.sockets i) known in
+    let there : slice_set H.sockets.places i (Some s) ≡ H.sockets.places = set_there H.sockets.places i (Some s) here in
+    let whole : new ≡ with_waits H (slice_set H.sockets.waits i after) =
+    e ∙ ap (λ (K : Host). with_socket K i s' (wait_after turn H.moment after)) p.unchanged ∙ ap (λ (z : Socket). with_socket H i z (wait_after turn H.moment after)) p.same
+    ∙ ap (λ (z : Turn). with_socket H i s (wait_after z H.moment after)) p.idle
+    ∙ ap (λ (places : List Storage). record H { sockets = record H.sockets { places = places; waits = slice_set H.sockets.waits i after } }) there in
+    record {
+      idle = p.idle;
+      stays = subst (λ (es : List Event). Stays t0 H new es) (sym p.untold) (subst (λ (K : Host). Stays t0 H K []) (sym whole) (asked_stays H t0 i known k));
+    }
+
+-- the turns of all
+record Walked (t0 : ℤ) (changed : Bool) (old new : Host) (told : List Event) : Type 0 where
+  unchanged : changed ≡ false
+  stays : Stays t0 old new told
+
+walked_quiet : {H new : Host} {n : ℕ} {going changed : Bool} {told : List Event} {notes : List Note} {t0 : ℤ} → Rests t0 H → Walks H n going changed told notes new → Walked t0 changed H new told
+walked_quiet {t0 = t0} r egress.Begins = record { unchanged = refl; stays = stays t0 refl refl }
+walked_quiet r (egress.Goes turn told notes new w s t) =
+    let so_far = walked_quiet r w in
+    let here = serves_quiet (rests_on so_far.stays r) s in
+    record { unchanged = rw (so_far.unchanged, here.idle) refl; stays = stays_on so_far.stays here.stays }
+walked_quiet r (egress.Stops turn told notes new w s t) =
+    let so_far = walked_quiet r w in
+    let here = serves_quiet (rests_on so_far.stays r) s in
+    record { unchanged = so_far.unchanged; stays = stays_on so_far.stays here.stays }
+
+sockets_quiet : {H new : Host} {changed : Bool} {told : List Event} {notes : List Note} {t0 : ℤ} → Rests t0 H → SocketsSend H changed told notes new → Walked t0 changed H new told
+sockets_quiet r (Whole w) = walked_quiet r w
+sockets_quiet r (Stopped n w) = walked_quiet r w
+
+-- a call that has nothing to do
+record Calls {A : Type 0} (t0 : ℤ) (nothing answer : A) (old new : Host) (told : List Event) : Type 0 where
+  answers : answer ≡ nothing
+  stays : Stays t0 old new told
+
+egress_quiet : {t t0 : ℤ} {answer : PollResult} {old new : Host} {told : List Event} {notes : List Note} → Rests t0 (at old t) → Egress t answer old told notes new → Calls t0 result.None answer (at old t) new told
+egress_quiet r e =
+    let w = sockets_quiet r e.round in
+    record { answers = e.answers ∙ ap egress.answer_of w.unchanged; stays = w.stays }
+
+-- a call that receives, where no frame is handed over
+received_nothing : {t : ℤ} {answer : PollIngressSingleResult} {old new : Host} {told : List Event} {notes : List Note} (t0 : ℤ) (i : Ingress t answer old told notes new) →
+    IsDropped (at old t) i.response.reply i.response.notes_taking i.response.taken → answer_to i.reception ≡ ingress.None → Calls t0 ingress.None answer (at old t) new told
+received_nothing t0 i d e =
+    let r = nothing_responded d.silent i.response.responds in
+    record { answers = i.answers ∙ e; stays = stays t0 (r.2 ∙ d.unchanged) (rw (i.events, r.0) refl) }
+
+ingress_by : {t : ℤ} {answer : PollIngressSingleResult} {old new : Host} {told : List Event} {notes : List Note} (t0 : ℤ) → handed told ≡ [] → (i : Ingress t answer old told notes new) →
+    (reception : Reception) → i.reception ≡ reception → Calls t0 ingress.None answer (at old t) new told
+ingress_by t0 none i (Frame f) is = let some = rw (i.events, is) at none in absurd cc
+ingress_by {t} {old = old} t0 none i Nothing is = received_nothing t0 i (subst (λ r. Takes (at old t) r i.response.reply i.response.notes_taking i.response.taken) is i.response.takes) (ap answer_to is)
+ingress_by {t} {old = old} t0 none i Withheld is = received_nothing t0 i (subst (λ r. Takes (at old t) r i.response.reply i.response.notes_taking i.response.taken) is i.response.takes) (ap answer_to is)
+
+ingress_quiet : {t : ℤ} {answer : PollIngressSingleResult} {old new : Host} {told : List Event} {notes : List Note} (t0 : ℤ) → handed told ≡ [] → Ingress t answer old told notes new → Calls t0 ingress.None answer (at old t) new told
+ingress_quiet t0 none i = ingress_by t0 none i i.reception refl
+
+handed-left : (xs ys : List Event) → handed (xs ++ ys) ≡ [] → handed xs ≡ []
+handed-left [] ys e = refl
+handed-left (Received t (Frame f) ∷ xs) ys e = absurd cc
+handed-left (Received t Nothing ∷ xs) ys e = handed-left xs ys e
+handed-left (Received t Withheld ∷ xs) ys e = handed-left xs ys e
+handed-left (Asked t b ∷ xs) ys e = handed-left xs ys e
+handed-left (Sent id f ∷ xs) ys e = handed-left xs ys e
+
+handed-right : (xs ys : List Event) → handed (xs ++ ys) ≡ [] → handed ys ≡ []
+handed-right [] ys e = e
+handed-right (Received t (Frame f) ∷ xs) ys e = absurd cc
+handed-right (Received t Nothing ∷ xs) ys e = handed-right xs ys e
+handed-right (Received t Withheld ∷ xs) ys e = handed-right xs ys e
+handed-right (Asked t b ∷ xs) ys e = handed-right xs ys e
+handed-right (Sent id f ∷ xs) ys e = handed-right xs ys e
+
+-- such calls until one has nothing to do: that is the first one
+module _ {A : Type 0} (call : A → Host → List Event → List Note → Host → Type 0) (nothing : A) (changes : A → Bool) (t0 : ℤ) (H : Host)
+    (calls : (answer : A) (told : List Event) (notes : List Note) (new : Host) → handed told ≡ [] → call answer H told notes new → Calls t0 nothing answer H new told) where
+  record NoCall (changed : Bool) (new : Host) (told : List Event) : Type 0 where
+    unchanged : changed ≡ false
+    untold : told ≡ []
+    same : new ≡ H
+
+  repeated_quiet : {n : ℕ} {changed : Bool} {new : Host} {told : List Event} {notes : List Note} → handed told ≡ [] → Repeats call nothing changes H n told notes new changed → NoCall changed new told
+  repeated_quiet none polling.Begins = record { unchanged = refl; untold = refl; same = refl }
+  repeated_quiet none (polling.Again {told_so = so} {mid = mid} answer told notes new r c some) =
+      let first = repeated_quiet (handed-left so told none) r in
+      let here : call answer H told notes new = subst (λ (K : Host). call answer K told notes new) first.same c in
+      absurd (some (calls answer told notes new (handed-right so told none) here).answers)
+
+  until_quiet : {budget : ℕ} {changed : Bool} {new : Host} {told : List Event} {notes : List Note} → handed told ≡ [] → Until call nothing changes budget changed H told notes new → Walked t0 changed H new told
+  until_quiet none (Spent r) = let first = repeated_quiet none r in record { unchanged = first.unchanged; stays = stays t0 first.same (ap sent first.untold) }
+  until_quiet {new = new} none (Done n told_so told_last notes_so notes_last mid l r c t e) =
+      let parts = rw t at none in
+      let first = repeated_quiet (handed-left told_so told_last parts) r in
+      let here : call nothing H told_last notes_last new = subst (λ (K : Host). call nothing K told_last notes_last new) first.same c in
+      let last = calls nothing told_last notes_last new (handed-right told_so told_last parts) here in
+      record { unchanged = first.unchanged; stays = subst (λ (es : List Event). Stays t0 H new es) (sym (t ∙ ap (λ es. es ++ told_last) first.untold)) last.stays }
+
+polls_quiet : {t t0 : ℤ} {budget : ℕ} {answer : PollResult} {old new : Host} {told : List Event} {notes : List Note} → Rests t0 (at old t) → handed told ≡ [] → Polls t budget answer old told notes new → Calls t0 result.None answer (at old t) new told
+polls_quiet {t} {t0} {budget} {answer} {old} {new} {told} r none p =
+    let parts = rw p.events at none in
+    let first = until_quiet (Ingress t) ingress.None polling.may_change t0 (at old t) (λ answer told notes new e i. ingress_quiet t0 e i) (handed-left p.told_receiving p.told_sending parts) p.receives in
+    let moment : at p.mid t ≡ p.mid = ap (at p.mid) (sym first.stays.moment) in
+    let rests : Rests t0 (at p.mid t) = subst (Rests t0) (sym moment) (rests_on first.stays r) in
+    let calls : (answer : PollResult) (told : List Event) (notes : List Note) (new : Host) → handed told ≡ [] → Egress t answer p.mid told notes new → Calls t0 result.None answer p.mid new told =
+    λ answer told notes new e sends. subst (λ (K : Host). Calls t0 result.None answer K new told) moment (egress_quiet rests sends) in
+    let second = until_quiet (Egress t) result.None polling.is_changed t0 p.mid calls (handed-right p.told_receiving p.told_sending parts) p.sends in
+    record {
+      answers = p.answers ∙ rw (first.unchanged, second.unchanged) refl;
+      stays = subst (λ (es : List Event). Stays t0 (at old t) new es) (sym p.events) (stays_on first.stays second.stays);
+    }
+
+-- one step that nothing disturbs
+record Still (t0 : ℤ) (answer : Answer) (old new : Host) (told : List Event) : Type 0 where
+  answers : AnswersNone answer
+  silent : sent told ≡ []
+  places : new.sockets.places ≡ old.sockets.places
+  due : (x : ℤ) → Due (at new t0) x → Due (at old t0) x
+
+still : {t t0 : ℤ} {old new : Host} {told : List Event} (answer : Answer) → AnswersNone answer → Stays t0 (at old t) new told → Still t0 answer old new told
+still answer answers s = record { answers = answers; silent = s.silent; places = s.places; due = s.due }
+
+unchanged : {t0 : ℤ} {old new : Host} (answer : Answer) → AnswersNone answer → new ≡ old → Still t0 answer old new []
+unchanged {t0} {old} {new} answer answers e = record {
+  answers = answers;
+  silent = refl;
+  places = ap (λ (K : Host). K.sockets.places) e;
+  due = λ x d. subst (λ (K : Host). Due (at K t0) x) e d;
+}
+
+-- what is due from the end on
+abbrev DueFrom : Option ℤ → Host → ℤ → Type 0
+DueFrom end H t0 = (s : ℤ) → IsBefore s end → NoneDue H t0 s
+
+due_from : (H : Host) (t0 : ℤ) (end : Option ℤ) → IsLeast (Due (at H t0)) end → DueFrom end H t0
+due_from H t0 None least = λ s before x d. absurd (least x d)
+due_from H t0 (Some end) least = λ s before x d. let from : end ≤ℤ x = least.1 x d in omega (arith, ints)
+
+rests : {t0 s : ℤ} {end : Option ℤ} (H : Host) → pos 0 ≤ℤ t0 → DueFrom end H t0 → IsWithin t0 end H.routes s → Rests t0 (at H s)
+rests {s = s} H low due within = record { low = low; from = within.from; last = within.routes_last; none = due s within.before }
+
+step_quiet : {command : Command} {answer : Answer} {old new : Host} {told : List Event} {acts : List Act} {notes : List Note} (t0 : ℤ) (end : Option ℤ) → pos 0 ≤ℤ t0 → DueFrom end old t0 →
+    IsCalm t0 end command (record { command = command; answer = answer; told = told; acts = acts; notes = notes; before = old; after = new }) → handed told ≡ [] →
+    Step command answer old told acts notes new → Still t0 answer old new told
+step_quiet t0 end low due calm none (step.PolledIngressSingle {result = result} i) = let c = ingress_quiet t0 none i in still (answer.PollIngressSingle result) c.answers c.stays
+step_quiet t0 end low due calm none (step.PolledEgress {result = result} {old = old} e) = let c = egress_quiet (rests old low due calm) e in still (answer.PollEgress result) c.answers c.stays
+step_quiet t0 end low due calm none (step.Polled {result = result} {old = old} p) = let c = polls_quiet (rests old low due calm) none p in still (answer.Poll result) c.answers c.stays
+step_quiet t0 end low due calm none step.PolledMaintenance = still answer.PollMaintenance tt (stays t0 refl refl)
+step_quiet t0 end low due calm none (step.PolledAt {end = given} least) = still (answer.PollAt given) tt (stays t0 refl refl)
+step_quiet t0 end low due calm none (step.PolledDelay {rest = rest} given least r) = still (answer.PollDelay rest) tt (stays t0 refl refl)
+step_quiet t0 end low due calm none (step.UpdatedIpAddrs {result = result} u) = unchanged (answer.UpdateIpAddrs result) tt calm
+step_quiet t0 end low due calm none step.UpdatedRoutes = unchanged answer.UpdateRoutes tt calm
+step_quiet {answer = given} t0 end low due calm none step.AddedDefaultIpv4Route = unchanged given tt calm
+step_quiet {answer = given} t0 end low due calm none step.RemovedDefaultIpv4Route = unchanged given tt calm
+step_quiet t0 end low due calm none step.TookAnyIp = unchanged answer.SetAnyIp tt calm
+step_quiet t0 end low due calm none (step.TookHardwareAddr {result = result} s) = unchanged (answer.SetHardwareAddr result) tt calm
+step_quiet t0 end low due calm none (step.OwnerActed sockets) = unchanged answer.Owner tt calm
+
+-- a run from where `poll_at` answered, as far as nothing disturbs it
+quiet_while : {first last : Host} {places : List Place} (t0 : ℤ) (end : Option ℤ) → pos 0 ≤ℤ t0 → DueFrom end first t0 → Run first places last → QuietWhile t0 end places
+quiet_while t0 end low due Ends = tt
+quiet_while t0 end low due (Then s r) = λ undisturbed.
+    let q = step_quiet t0 end low due undisturbed.calm undisturbed.no_frame s in (
+      record { sends_nothing = q.silent; answers = q.answers; sockets = q.places },
+      quiet_while t0 end low (λ s before x d. due s before x (q.due x d)) r,
+    )
+
+quiet_after : {command : Command} {answer : Answer} {old mid last : Host} {told : List Event} {acts : List Act} {notes : List Note} {places : List Place} →
+    Step command answer old told acts notes mid → Run mid places last → QuietAfter command answer places
+quiet_after (step.PolledAt {t} {end} {old} least) r = λ low. quiet_while t end low (due_from (at old t) t end least) r
+quiet_after (step.PolledIngressSingle i) r = tt
+quiet_after (step.PolledEgress e) r = tt
+quiet_after (step.Polled p) r = tt
+quiet_after step.PolledMaintenance r = tt
+quiet_after (step.PolledDelay given least rest) r = tt
+quiet_after (step.UpdatedIpAddrs u) r = tt
+quiet_after step.UpdatedRoutes r = tt
+quiet_after step.AddedDefaultIpv4Route r = tt
+quiet_after step.RemovedDefaultIpv4Route r = tt
+quiet_after step.TookAnyIp r = tt
+quiet_after (step.TookHardwareAddr s) r = tt
+quiet_after (step.OwnerActed sockets) r = tt
+
+-- over a whole run
+pub run_quiet : {first last : Host} {places : List Place} → Run first places last → AreQuiet places
+run_quiet Ends = tt
+run_quiet (Then s r) = (quiet_after s r, run_quiet r)

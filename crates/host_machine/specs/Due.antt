@@ -1,0 +1,46 @@
+-- When a host has to be polled again: the instants at which something of it is due.
+use Rattle.std.specs.Prelude.{◌≡◌, ℕ, ℤ, pos, ◌+ℤ◌, ◌≤ℤ◌, Bool, slice_get, Option, Some, None, if◌then◌else◌}
+use Rattle.std.specs.Ordering.{int_cmp, is_lt}
+use Rattle.socket_base.specs.declared.poll_at.PollAt.{PollAt}
+use Rattle.socket_base.specs.declared.poll_at.PollAt.TheVariants.{Now, Time, Ingress}
+use Rattle.sockets.specs.Kinds as kinds
+use Rattle.socket_set.specs.SocketMeta.{IsTold, poll_at}
+use Rattle.socket_set.specs.SocketSet.{wait_at}
+use Rattle.host_machine.specs.Host.{Host}
+use Rattle.host_machine.specs.Dispatch.{KnowsNextHop}
+use Rattle.host_machine.specs.Host.{Socket}
+
+-- the instant that an answer names: that of what is due at once has passed at each moment, and what waits for a frame has none
+abbrev pub instant_of : PollAt → Option ℤ
+instant_of Now = Some (pos 0)
+instant_of (Time t) = Some t
+instant_of Ingress = None
+
+-- a socket is due at the instant of its own answer, or at the end of its wait where it has to wait
+pub record SocketDue (H : Host) (i : ℕ) (x : ℤ) : Type 0 where
+  pub socket : Socket
+  pub known : Bool
+  pub here : slice_get H.sockets.places i ≡ Some (Some socket)
+  pub told : IsTold (KnowsNextHop H) (wait_at H.sockets i) known
+  pub instant : instant_of (poll_at (wait_at H.sockets i) known H.moment (kinds.poll_at socket)) ≡ Some x
+
+-- an instant at which something is due, as the host sees it at its moment: each thing that a poll may do by itself has its case here
+pub data Due (H : Host) (x : ℤ) : Type 0 where
+  OfSocket : (i : ℕ) → SocketDue H i x → Due H x
+
+-- the least of a set of instants, or none if it is empty
+abbrev pub IsLeast : (ℤ → Type 0) → Option ℤ → Type 0
+IsLeast P None = (x : ℤ) → P x → ⊥
+IsLeast P (Some least) = P least × ((x : ℤ) → P x → least ≤ℤ x)
+
+-- how long it is from t to an instant: nothing if that has passed
+pub data IsRest (t : ℤ) : (end : Option ℤ) → (rest : Option ℕ) → Type 0 where
+  Never : IsRest t None None
+  Passed : {x : ℤ} → x ≤ℤ t → IsRest t (Some x) (Some 0)
+  Left : {x : ℤ} {rest : ℕ} → t +ℤ pos rest ≡ x → IsRest t (Some x) (Some rest)
+
+-- the sooner of two instants, where none is later than each
+abbrev pub sooner : Option ℤ → Option ℤ → Option ℤ
+sooner None b = b
+sooner (Some a) None = Some a
+sooner (Some a) (Some b) = if is_lt (int_cmp b a) then Some b else Some a

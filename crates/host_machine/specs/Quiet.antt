@@ -1,0 +1,97 @@
+-- Between an answer of `poll_at` and its instant nothing is due: polls that nothing disturbs send nothing and change no socket.
+use Rattle.std.specs.Prelude.{◌≡◌, ℕ, ℤ, pos, ◌≤ℤ◌, ◌<ℤ◌, List, [], ◌∷◌, slice_get, Option, Some, None}
+use Rattle.net_base.specs.Device.{handed, sent}
+use Rattle.ip_address.specs.declared.ip.IpAddress.{IpAddress}
+use Rattle.iface_tables.specs.declared.route.Route.{Route}
+use Rattle.sockets.specs.Kinds.{offered, settled}
+use Rattle.sockets.specs.Kinds as socket
+use Rattle.host_machine.specs.declared.command.Command.{Command}
+use Rattle.host_machine.specs.declared.command.Command.TheVariants.{UpdateIpAddrs, PollIngressSingle, PollEgress, Poll, PollMaintenance, PollAt, PollDelay, UpdateRoutes, AddDefaultIpv4Route, RemoveDefaultIpv4Route, SetAnyIp, SetHardwareAddr, Owner}
+use Rattle.host_machine.specs.declared.command.Answer.{Answer}
+use Rattle.host_machine.specs.declared.command.Answer.TheVariants as answer
+use Rattle.host_machine.specs.declared.results.PollIngressSingleResult.TheVariants as ingress
+use Rattle.host_machine.specs.declared.results.PollResult.TheVariants as result
+use Rattle.host_machine.specs.Host.{Socket}
+use Rattle.host_machine.specs.Due.{instant_of}
+use Rattle.host_machine.specs.Run.{Place}
+
+-- before the end, if there is one
+abbrev pub IsBefore : ℤ → Option ℤ → Type 0
+IsBefore s None = Unit {0}
+IsBefore s (Some end) = s <ℤ end
+
+-- from t0 until the end a socket that is asked offers nothing and stays as it is
+abbrev pub IsQuietUntil : (IpAddress → Option IpAddress) → Socket → (t0 : ℤ) → (end : Option ℤ) → Type 0
+IsQuietUntil source s t0 end = (t : ℤ) → t0 ≤ℤ t → IsBefore t end → (offered t source s ≡ None) × (settled t source s ≡ s)
+
+-- each socket is so until the instant that it names itself
+abbrev pub SocketsAreQuiet : Type 0
+SocketsAreQuiet = (source : IpAddress → Option IpAddress) (s : Socket) (t0 : ℤ) → pos 0 ≤ℤ t0 → IsQuietUntil source s t0 (instant_of (socket.poll_at s))
+
+-- no route expires from t0 to before s
+abbrev pub RoutesLast : List Route → (t0 s : ℤ) → Type 0
+RoutesLast routes t0 s = (k : ℕ) (r : Route) (end : ℤ) → slice_get routes k ≡ Some r → r.expires_at ≡ Some end → t0 ≤ℤ end → s ≤ℤ end
+
+-- a moment of a poll within the time from t0 to the end; it may be earlier than one before it
+pub record IsWithin (t0 : ℤ) (end : Option ℤ) (routes : List Route) (s : ℤ) : Type 0 where
+  pub from : t0 ≤ℤ s
+  pub before : IsBefore s end
+  pub routes_last : RoutesLast routes t0 s
+
+-- a poll within that time, a question when to poll, or a call that changes nothing
+abbrev pub IsCalm : ℤ → Option ℤ → Command → Place → Type 0
+IsCalm t0 end (PollIngressSingle s) p = IsWithin t0 end p.before.routes s
+IsCalm t0 end (PollEgress s) p = IsWithin t0 end p.before.routes s
+IsCalm t0 end (Poll s budget) p = IsWithin t0 end p.before.routes s
+IsCalm t0 end (PollMaintenance s) p = IsWithin t0 end p.before.routes s
+IsCalm t0 end (PollAt s) p = Unit {0}
+IsCalm t0 end (PollDelay s) p = Unit {0}
+IsCalm t0 end (UpdateIpAddrs list) p = p.after ≡ p.before
+IsCalm t0 end (UpdateRoutes list) p = p.after ≡ p.before
+IsCalm t0 end (AddDefaultIpv4Route gateway) p = p.after ≡ p.before
+IsCalm t0 end RemoveDefaultIpv4Route p = p.after ≡ p.before
+IsCalm t0 end (SetAnyIp any_ip) p = p.after ≡ p.before
+IsCalm t0 end (SetHardwareAddr h) p = p.after ≡ p.before
+IsCalm t0 end (Owner number) p = p.after ≡ p.before
+
+-- nothing disturbs a place: such a call, and no frame handed over
+pub record IsUndisturbed (t0 : ℤ) (end : Option ℤ) (p : Place) : Type 0 where
+  pub calm : IsCalm t0 end p.command p
+  pub no_frame : handed p.told ≡ []
+
+-- a poll answers that nothing was done
+abbrev pub AnswersNone : Answer → Type 0
+AnswersNone (answer.PollIngressSingle r) = r ≡ ingress.None
+AnswersNone (answer.PollEgress r) = r ≡ result.None
+AnswersNone (answer.Poll r) = r ≡ result.None
+AnswersNone answer.PollMaintenance = Unit {0}
+AnswersNone (answer.PollAt r) = Unit {0}
+AnswersNone (answer.PollDelay r) = Unit {0}
+AnswersNone (answer.UpdateIpAddrs r) = Unit {0}
+AnswersNone answer.UpdateRoutes = Unit {0}
+AnswersNone (answer.AddDefaultIpv4Route r) = Unit {0}
+AnswersNone (answer.RemoveDefaultIpv4Route r) = Unit {0}
+AnswersNone answer.SetAnyIp = Unit {0}
+AnswersNone (answer.SetHardwareAddr r) = Unit {0}
+AnswersNone answer.Owner = Unit {0}
+
+-- nothing is sent, a poll answers so, and each socket is as it was; its wait may end
+pub record IsQuiet (p : Place) : Type 0 where
+  pub sends_nothing : sent p.told ≡ []
+  pub answers : AnswersNone p.answer
+  pub sockets : p.after.sockets.places ≡ p.before.sockets.places
+
+-- the places of a run that nothing disturbs, up to the first one that something does, are quiet
+abbrev pub QuietWhile : ℤ → Option ℤ → List Place → Type 0
+QuietWhile t0 end [] = Unit {0}
+QuietWhile t0 end (p ∷ ps) = IsUndisturbed t0 end p → IsQuiet p × QuietWhile t0 end ps
+
+-- what follows from an answer of `poll_at` at a moment from 0
+abbrev pub QuietAfter : Command → Answer → List Place → Type 0
+QuietAfter (PollAt t0) (answer.PollAt end) ps = pos 0 ≤ℤ t0 → QuietWhile t0 end ps
+QuietAfter command given ps = Unit {0}
+
+-- at each place of a run
+abbrev pub AreQuiet : List Place → Type 0
+AreQuiet [] = Unit {0}
+AreQuiet (p ∷ ps) = QuietAfter p.command p.answer ps × AreQuiet ps
