@@ -3,6 +3,7 @@ use Rattle.std.proofs.Common.{◌≡◌, refl, Some}
 use Rattle.std.specs.Prelude.{pos}
 use Rattle.std.specs.FinMap as map
 use Rattle.std.specs.FinMap.{get-insert, get-empty}
+use Rattle.ip_address.specs.declared.hardware.HardwareAddress.TheVariants as hardware
 use Rattle.iface_tables.specs.declared.neighbor.Neighbor.{Neighbor}
 use Rattle.iface_tables.specs.declared.neighbor.Answer.TheVariants.{Found, NotFound, RateLimited}
 use Rattle.iface_tables.specs.Neighbor.{answer_of, renewed}
@@ -30,3 +31,6 @@ is_unknown_later = rw get-empty refl
 
 pub none_renewed : renewed (nobody (pos 0)) sender sender_hardware (pos 60000000) ≡ nobody (pos 0)
 none_renewed = rw get-empty refl
+
+pub nobody_renewed : renewed (nobody (pos 0)) sender hardware.Ip (pos 60000000) ≡ nobody (pos 0)
+nobody_renewed = rw get-empty refl

@@ -1,6 +1,6 @@
 -- Worked examples: an ARP request and an echo request as they stand on the wire, and what the host of 192.168.69.1/24 at
 -- 02:00:00:00:00:01 does with them.
-use Rattle.std.specs.Prelude.{ℕ, ℤ, pos, false, List, [], ◌∷◌, None}
+use Rattle.std.specs.Prelude.{ℕ, ℤ, pos, false, List, [], ◌∷◌, drop, None}
 use Rattle.std.specs.FinMap as map
 use Rattle.std.proofs.Common.{lit≤}
 use Rattle.net_base.specs.Device.{Received, Frame, Sent}
@@ -113,3 +113,13 @@ abbrev pub SenderIsDiscovered : Type 0
 SenderIsDiscovered =
     Ingress (pos 0) result.SocketStateChanged (host 0x1405 (nobody (pos 0)))
     (Received (pos 0) (Frame echo_request) ∷ Sent 0 discovery ∷ []) (Ask (pos 0) ∷ []) (host 0x1406 (nobody (pos 1000000)))
+
+-- the same host on a medium without hardware addresses
+abbrev pub without_hardware : ℕ → Host
+without_hardware ipv4_id = record (host ipv4_id (nobody (pos 0))) { capabilities = record device { medium = medium.Ip; max_transmission_unit = 1500 }; hardware_addr = hardware.Ip }
+
+-- there the packet of the request is answered by that of the reply, and nobody need be known
+abbrev pub PacketIsAnswered : Type 0
+PacketIsAnswered =
+    Ingress (pos 0) result.SocketStateChanged (without_hardware 0x1405)
+    (Received (pos 0) (Frame (drop 14 echo_request)) ∷ Sent 0 (drop 14 echo_reply) ∷ []) [] (without_hardware 0x1406)

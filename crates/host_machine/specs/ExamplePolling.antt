@@ -2,15 +2,16 @@
 use Rattle.std.specs.Prelude.{pos, [], ◌∷◌, Some, None}
 use Rattle.net_base.specs.Device.{Received, Frame, Nothing, Sent}
 use Rattle.host_machine.specs.declared.results.PollResult.TheVariants as poll
+use Rattle.host_machine.specs.Host.{at}
 use Rattle.host_machine.specs.Polling.{Polls}
 use Rattle.host_machine.specs.Due.{Due, IsLeast, IsRest}
 use Rattle.host_machine.specs.Example as example
 use Rattle.host_machine.specs.ExampleSockets.{with_sending}
 
--- an ARP request waits at the device: without a budget nothing is asked for; with a budget of one call it is taken and answered; with
+-- an ARP request waits at the device: without a budget nothing is asked for, and the moment is that of the poll; with a budget of one call it is taken and answered; with
 -- more calls the device is asked once more, and has nothing
 pub record RequestIsPolled : Type 0 where
-  pub not_asked_for : Polls (pos 0) 0 poll.None (example.host 0x1405 (example.nobody (pos 0))) [] [] (example.host 0x1405 (example.nobody (pos 0)))
+  pub not_asked_for : Polls (pos 5) 0 poll.None (example.host 0x1405 (example.nobody (pos 0))) [] [] (at (example.host 0x1405 (example.nobody (pos 0))) (pos 5))
   pub taken : Polls (pos 0) 1 poll.SocketStateChanged (example.host 0x1405 (example.nobody (pos 0)))
       (Received (pos 0) (Frame example.request) ∷ Sent 0 example.reply ∷ []) [] (example.host 0x1405 example.learnt)
   pub taken_alone : Polls (pos 0) 2 poll.SocketStateChanged (example.host 0x1405 (example.nobody (pos 0)))

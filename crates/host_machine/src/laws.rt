@@ -1,5 +1,5 @@
 //! Laws that follow from the definitions alone, each as the contract of an empty function.
-ghost use Rattle.host_machine.specs.Example.{EchoIsAnswered, RequestIsAnswered, SenderIsDiscovered};
+ghost use Rattle.host_machine.specs.Example.{EchoIsAnswered, PacketIsAnswered, RequestIsAnswered, SenderIsDiscovered};
 ghost use Rattle.host_machine.specs.ExamplePolling.{RequestIsPolled, WaitIsDue};
 ghost use Rattle.host_machine.specs.ExampleSockets.{ConfigurationsAreTested, ConnectionIsReset, DatagramIsDelivered, DatagramIsRefused, ProtocolIsRefused, RawSocketHears, SocketWaits, WindowFitsBurst};
 ghost use Rattle.host_machine.specs.Quiet.{SocketsAreQuiet};
@@ -46,6 +46,11 @@ pub fn request_is_answered()
 /// A worked example: an echo request of a known sender, octet by octet, is answered by the reply.
 pub fn echo_is_answered()
     ensures { EchoIsAnswered }
+{}
+
+/// A worked example: on a medium without hardware addresses its packet is answered by that of the reply.
+pub fn packet_is_answered()
+    ensures { PacketIsAnswered }
 {}
 
 /// A worked example: where the sender of an echo request isn't known, the request for its hardware

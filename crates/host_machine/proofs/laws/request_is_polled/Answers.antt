@@ -3,6 +3,7 @@ use Rattle.std.specs.Prelude.{pos}
 use Rattle.net_base.specs.Device.{Received, Frame, Nothing, Sent}
 use Rattle.host_machine.specs.declared.results.PollIngressSingleResult.TheVariants as ingress
 use Rattle.host_machine.specs.Egress.{Begins, Whole}
+use Rattle.host_machine.specs.Host.{at}
 use Rattle.host_machine.specs.Polling as polling
 use Rattle.host_machine.specs.Example as example
 use Rattle.host_machine.proofs.Answered.{request_answered, nothing_taken, nothing_sent}
@@ -11,7 +12,7 @@ use Rattle.host_machine.proofs.laws.request_is_polled.Goals as goal
 pub returns : goal.returns
 returns c = record {
   not_asked_for = record {
-    mid = example.host 0x1405 (example.nobody (pos 0));
+    mid = at (example.host 0x1405 (example.nobody (pos 0))) (pos 5);
     received = false;
     went = false;
     told_receiving = [];
