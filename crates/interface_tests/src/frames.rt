@@ -1,80 +1,126 @@
-//! Frames of the exchanges, in hex, with blanks between their fields.
+//! The frames that scripts name.
 
-/// Who has 192.168.69.1? Tell 192.168.69.100 at 02:00:00:00:00:02.
-pub const REQUEST: &str =
-    "ffffffffffff 020000000002 0806 0001 0800 06 04 0001 020000000002 c0a84564 000000000000 c0a84501";
+ghost use Rattle.std.specs.Prelude.{◌<◌, IfSome};
 
-/// 192.168.69.1 is at 02:00:00:00:00:01.
-pub const REPLY: &str =
-    "020000000002 020000000001 0806 0001 0800 06 04 0002 020000000001 c0a84501 020000000002 c0a84564";
+use crate::words::count;
+use arrayvec::ArrayVec;
 
-/// The request with another sender, 10.0.0.9, which is in no network of the host.
-pub const STRANGER: &str =
-    "ffffffffffff 020000000002 0806 0001 0800 06 04 0001 020000000002 0a000009 000000000000 c0a84501";
+/// The octets of a frame.
+pub type Octets = ArrayVec<u8, 2000>;
 
-/// The request without its last octet.
-pub const SHORT: &str =
-    "ffffffffffff 020000000002 0806 0001 0800 06 04 0001 020000000002 c0a84564 000000000000 c0a845";
+// A frame a line: its name, and its octets in hex with blanks between its fields.
+const FRAMES: &str = "
+EMPTY
+# Who has 192.168.69.1? Tell 192.168.69.100 at 02:00:00:00:00:02.
+REQUEST ffffffffffff 020000000002 0806 0001 0800 06 04 0001 020000000002 c0a84564 000000000000 c0a84501
+# 192.168.69.1 is at 02:00:00:00:00:01.
+REPLY 020000000002 020000000001 0806 0001 0800 06 04 0002 020000000001 c0a84501 020000000002 c0a84564
+# The request with another sender, 10.0.0.9, which is in no network of the host.
+STRANGER ffffffffffff 020000000002 0806 0001 0800 06 04 0001 020000000002 0a000009 000000000000 c0a84501
+# The request without its last octet.
+SHORT ffffffffffff 020000000002 0806 0001 0800 06 04 0001 020000000002 c0a84564 000000000000 c0a845
+# The request with the sender 192.168.69.2, and what answers it.
+REQUEST_OF_2 ffffffffffff 020000000002 0806 0001 0800 06 04 0001 020000000002 c0a84502 000000000000 c0a84501
+REPLY_TO_2 020000000002 020000000001 0806 0001 0800 06 04 0002 020000000001 c0a84501 020000000002 c0a84502
+# Who has 192.168.69.100, .2, .3, .50, 10.0.0.9? Tell 192.168.69.1 at 02:00:00:00:00:01.
+WHO_HAS_100 ffffffffffff 020000000001 0806 0001 0800 06 04 0001 020000000001 c0a84501 ffffffffffff c0a84564
+WHO_HAS_2 ffffffffffff 020000000001 0806 0001 0800 06 04 0001 020000000001 c0a84501 ffffffffffff c0a84502
+WHO_HAS_3 ffffffffffff 020000000001 0806 0001 0800 06 04 0001 020000000001 c0a84501 ffffffffffff c0a84503
+WHO_HAS_50 ffffffffffff 020000000001 0806 0001 0800 06 04 0001 020000000001 c0a84501 ffffffffffff c0a84532
+WHO_HAS_STRANGER ffffffffffff 020000000001 0806 0001 0800 06 04 0001 020000000001 c0a84501 ffffffffffff 0a000009
+# An echo request by the neighbour to the host, and the reply.
+ECHO 020000000001 020000000002 0800 4500 0020 0000 4000 4001 2f27 c0a84564 c0a84501 0800 2104 1234 0001 61626364
+ECHO_REPLY 020000000002 020000000001 0800 4500 0020 0000 4000 4001 2f27 c0a84501 c0a84564 0000 2904 1234 0001 61626364
+# An echo request to 192.168.69.77, and the reply from there.
+ECHO_TO_77 020000000001 020000000002 0800 4500 0020 0000 4000 4001 2edb c0a84564 c0a8454d 0800 2104 1234 0001 61626364
+REPLY_OF_77 020000000002 020000000001 0800 4500 0020 0000 4000 4001 2edb c0a8454d c0a84564 0000 2904 1234 0001 61626364
+# Both, as the hardware address 02:00:00:00:00:03 takes and sends them.
+ECHO_TO_OTHER 020000000003 020000000002 0800 4500 0020 0000 4000 4001 2f27 c0a84564 c0a84501 0800 2104 1234 0001 61626364
+REPLY_OF_OTHER 020000000002 020000000003 0800 4500 0020 0000 4000 4001 2f27 c0a84501 c0a84564 0000 2904 1234 0001 61626364
+# An echo request of the host's own.
+ECHO_OUT 020000000002 020000000001 0800 4500 0020 0000 4000 4001 2f27 c0a84501 c0a84564 0800 2104 1234 0001 61626364
+# `hi`, from port 5000 of the neighbour to port 6969 of the host, and back.
+HI 020000000001 020000000002 0800 4500 001e 0000 4000 4011 2f19 c0a84564 c0a84501 1388 1b39 000a 5cf9 6869
+HI_BACK 020000000002 020000000001 0800 4500 001e 0000 4000 4011 2f19 c0a84501 c0a84564 1b39 1388 000a 5cf9 6869
+# `hi` from the host to all, to the group 224.1.2.3, and to 10.1.2.3 by a router.
+HI_EVERYBODY ffffffffffff 020000000001 0800 4500 001e 0000 4000 4011 3526 c0a84501 ffffffff 1b39 1388 000a 6306 6869
+HI_GROUP 01005e010203 020000000001 0800 4500 001e 0000 4000 4011 5321 c0a84501 e0010203 1b39 1388 000a 8101 6869
+HI_FAR 020000000002 020000000001 0800 4500 001e 0000 4000 4011 2922 c0a84501 0a010203 1b39 1388 000a 5702 6869
+# The headers of a datagram of 600 octets, all 0, and of what answers it.
+LONG 020000000001 020000000002 0800 4500 0274 0000 4000 4011 2cc3 c0a84564 c0a84501 1388 1b39 0260 c0b6
+LONG_UNREACHABLE 020000000002 020000000001 0800 4500 0240 0000 4000 4001 2d07 c0a84501 c0a84564 0303 0b25 00000000 4500 0274 0000 4000 4011 2cc3 c0a84564 c0a84501 1388 1b39 0260 c0b6
+# A packet of protocol 253.
+STRANGE 020000000001 020000000002 0800 4500 0018 0000 4000 40fd 2e33 c0a84564 c0a84501 61626364
+# A SYN from port 5000 to port 80, and the reset that answers it.
+SYN 020000000001 020000000002 0800 4500 0028 0000 4000 4006 2f1a c0a84564 c0a84501 1388 0050 00000100 00000000 5002 1000 7f54 0000
+RESET 020000000002 020000000001 0800 4500 0028 0000 4000 4006 2f1a c0a84501 c0a84564 0050 1388 00000000 00000101 5014 0000 8f41 0000
+# A segment from port 80 to port 5000 with `hi`, whose window is 1474 or 4096.
+SEGMENT_1474 020000000002 020000000001 0800 4500 002a 0000 4000 4006 2f18 c0a84501 c0a84564 0050 1388 00000007 00000000 5000 05c2 2222 0000 6869
+SEGMENT_4096 020000000002 020000000001 0800 4500 002a 0000 4000 4006 2f18 c0a84501 c0a84564 0050 1388 00000007 00000000 5000 1000 17e4 0000 6869
+";
 
-/// An echo request by the neighbour to the host, and the reply.
-pub const ECHO: &str =
-    "020000000001 020000000002 0800 4500 0020 0000 4000 4001 2f27 c0a84564 c0a84501 0800 2104 1234 0001 61626364";
+// What a hex digit says.
+fn digit(byte: u8) -> Option<u8>
+    ensures { IfSome result (λ digit. digit < 16) }
+{
+    match byte {
+        b'0'..=b'9' => Some(byte - b'0'),
+        b'a'..=b'f' => Some(byte - b'a' + 10),
+        _ => None,
+    }
+}
 
-pub const ECHO_REPLY: &str =
-    "020000000002 020000000001 0800 4500 0020 0000 4000 4001 2f27 c0a84501 c0a84564 0000 2904 1234 0001 61626364";
+// Appends the octets that a word spells in hex.
+fn spell(word: &str, list: &mut Octets) -> Option<()> {
+    for pair in word.as_bytes().chunks(2) {
+        let [high, low] = pair else {
+            return None;
+        };
+        list.try_push(16 * digit(*high)? + digit(*low)?).ok()?;
+    }
+    Some(())
+}
 
-/// An echo request to 192.168.69.77, and the reply from there.
-pub const ECHO_TO_77: &str =
-    "020000000001 020000000002 0800 4500 0020 0000 4000 4001 2edb c0a84564 c0a8454d 0800 2104 1234 0001 61626364";
+/// What a text spells in hex, with or without blanks.
+pub fn octets(text: &str) -> Option<Octets> {
+    let mut list = ArrayVec::new();
+    for word in text.split_whitespace() {
+        spell(word, &mut list)?;
+    }
+    Some(list)
+}
 
-pub const REPLY_OF_77: &str =
-    "020000000002 020000000001 0800 4500 0020 0000 4000 4001 2edb c0a8454d c0a84564 0000 2904 1234 0001 61626364";
+// What a word stands for: a name for its frame, and hex for itself.
+fn text_of(word: &str) -> &str {
+    for line in FRAMES.lines() {
+        let (name, text) = line.split_once(' ').unwrap_or((line, ""));
+        if name == word {
+            return text;
+        }
+    }
+    word
+}
 
-/// Both, as the hardware address 02:00:00:00:00:03 takes and sends them.
-pub const ECHO_TO_OTHER: &str =
-    "020000000003 020000000002 0800 4500 0020 0000 4000 4001 2f27 c0a84564 c0a84501 0800 2104 1234 0001 61626364";
+// A word up to a sign, and the number behind it: 0 without the sign.
+fn split_number(word: &str, sign: char) -> Option<(&str, usize)> {
+    match word.split_once(sign) {
+        Some((word, number)) => Some((word, count(number)?)),
+        None => Some((word, 0)),
+    }
+}
 
-pub const REPLY_OF_OTHER: &str =
-    "020000000002 020000000003 0800 4500 0020 0000 4000 4001 2f27 c0a84501 c0a84564 0000 2904 1234 0001 61626364";
-
-/// `hi`, from port 5000 of the neighbour to port 6969 of the host, and back.
-pub const HI: &str =
-    "020000000001 020000000002 0800 4500 001e 0000 4000 4011 2f19 c0a84564 c0a84501 1388 1b39 000a 5cf9 6869";
-
-pub const HI_BACK: &str =
-    "020000000002 020000000001 0800 4500 001e 0000 4000 4011 2f19 c0a84501 c0a84564 1b39 1388 000a 5cf9 6869";
-
-/// `hi` from the host to all, and to the group 224.1.2.3.
-pub const HI_EVERYBODY: &str =
-    "ffffffffffff 020000000001 0800 4500 001e 0000 4000 4011 3526 c0a84501 ffffffff 1b39 1388 000a 6306 6869";
-
-pub const HI_GROUP: &str =
-    "01005e010203 020000000001 0800 4500 001e 0000 4000 4011 5321 c0a84501 e0010203 1b39 1388 000a 8101 6869";
-
-/// Who has 192.168.69.100, .2, .50, 10.0.0.9? Tell 192.168.69.1 at 02:00:00:00:00:01.
-pub const WHO_HAS_100: &str =
-    "ffffffffffff 020000000001 0806 0001 0800 06 04 0001 020000000001 c0a84501 ffffffffffff c0a84564";
-
-pub const WHO_HAS_2: &str =
-    "ffffffffffff 020000000001 0806 0001 0800 06 04 0001 020000000001 c0a84501 ffffffffffff c0a84502";
-
-pub const WHO_HAS_50: &str =
-    "ffffffffffff 020000000001 0806 0001 0800 06 04 0001 020000000001 c0a84501 ffffffffffff c0a84532";
-
-pub const WHO_HAS_STRANGER: &str =
-    "ffffffffffff 020000000001 0806 0001 0800 06 04 0001 020000000001 c0a84501 ffffffffffff 0a000009";
-
-/// Frames that nobody hears: an echo request and a datagram each with a wrong header checksum, as a
-/// first fragment, as a last one, from 192.168.69.255, and to 192.168.69.7.
-pub const UNHEARD: [&str; 10] = [
-    "020000000001 020000000002 0800 4500 0020 0000 4000 4001 2f26 c0a84564 c0a84501 0800 2104 1234 0001 61626364",
-    "020000000001 020000000002 0800 4500 0020 0000 2000 4001 4f27 c0a84564 c0a84501 0800 2104 1234 0001 61626364",
-    "020000000001 020000000002 0800 4500 0020 0000 0001 4001 6f26 c0a84564 c0a84501 0800 2104 1234 0001 61626364",
-    "020000000001 020000000002 0800 4500 0020 0000 4000 4001 2e8c c0a845ff c0a84501 0800 2104 1234 0001 61626364",
-    "020000000001 020000000002 0800 4500 0020 0000 4000 4001 2f21 c0a84564 c0a84507 0800 2104 1234 0001 61626364",
-    "020000000001 020000000002 0800 4500 001e 0000 4000 4011 2f18 c0a84564 c0a84501 1388 1b39 000a 5cf9 6869",
-    "020000000001 020000000002 0800 4500 001e 0000 2000 4011 4f19 c0a84564 c0a84501 1388 1b39 000a 5cf9 6869",
-    "020000000001 020000000002 0800 4500 001e 0000 0001 4011 6f18 c0a84564 c0a84501 1388 1b39 000a 5cf9 6869",
-    "020000000001 020000000002 0800 4500 001e 0000 4000 4011 2e7e c0a845ff c0a84501 1388 1b39 000a 5c5e 6869",
-    "020000000001 020000000002 0800 4500 001e 0000 4000 4011 2f13 c0a84564 c0a84507 1388 1b39 000a 5cf3 6869",
-];
+/// The frame of a word: its name or its hex. Of `ECHO/14` the first 14 octets are left out; `ECHO+60` has
+/// zeros behind it up to 60 octets.
+pub fn frame(word: &str) -> Option<Octets> {
+    let (word, len) = split_number(word, '+')?;
+    let (word, skipped) = split_number(word, '/')?;
+    let whole = octets(text_of(word))?;
+    let mut frame = ArrayVec::new();
+    frame
+        .try_extend_from_slice(whole.as_slice().get(skipped..)?)
+        .ok()?;
+    for _ in frame.len()..len {
+        frame.try_push(0).ok()?;
+    }
+    Some(frame)
+}

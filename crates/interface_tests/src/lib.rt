@@ -10,6 +10,16 @@ mod host;
 #[cfg(test)]
 mod kinds;
 #[cfg(test)]
-mod received;
+mod packets;
 #[cfg(test)]
-mod steps;
+mod polling;
+#[cfg(test)]
+mod receiving;
+#[cfg(test)]
+mod script;
+#[cfg(test)]
+mod sending;
+#[cfg(test)]
+mod settings;
+#[cfg(test)]
+mod words;

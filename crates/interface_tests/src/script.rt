@@ -1,0 +1,338 @@
+//! Scripts that tell what is done with a host, and what has to come of it.
+//!
+//! A line is a call and, behind `=`, what comes of it: its answer, then `refused` if the device refused
+//! leave as it was told to, then `tx` and the frames that were sent in the call. Without `=` the answer is
+//! `ok`. What isn't said mustn't happen. Moments are in microseconds, addresses eight hex digits, frames
+//! names or hex (`frames`).
+//!
+//! | Call | What is done |
+//! |---|---|
+//! | `host HARDWARE MEDIUM MTU [BURST]` | the host is made anew, before it sent anything; a burst may be `max` |
+//! | `addr ADDR/LEN ..` | its addresses become these |
+//! | `addr?` `= ADDR/LEN ..` | they are these |
+//! | `own? ADDR` `= yes`, `no` | whether it takes this one for its own |
+//! | `anyip` | it takes every address for its own |
+//! | `hardware HARDWARE` | it gets this hardware address |
+//! | `hardware?` `= HARDWARE`, `none` | it has this one |
+//! | `routes ADDR/LEN>ROUTER[@EXPIRY] ..` | its routes become these |
+//! | `routes?` `= ADDR/LEN>ROUTER[@EXPIRY] ..` | they are these |
+//! | `gw ROUTER` `= ROUTER`, `none`, `RouteTableFull` | it gets a default route, in place of this one |
+//! | `ungw` `= ROUTER`, `none` | it loses its default route |
+//! | `rx FRAME ..` | a frame arrives: these, one behind the other |
+//! | `rx?` `= COUNT` | so many frames wait |
+//! | `refuse` | the device will refuse the next question for leave |
+//! | `ingress T`, `egress T`, `poll T BUDGET`, `maintain T` | the host is polled |
+//! | `at T` `= T`, `none` | when it has to be polled again |
+//! | `delay T` `= SPAN`, `none` | how long it is until then |
+//! | `receive T FRAME` `= FRAME`, `none` | a frame is handed over, and this one is shown |
+//! | `udp PORT`, `icmp IDENT`, `raw PROTOCOL`, `tcp PORT` .. | a socket: see `kinds` |
+
+ghost use Rattle.host_machine.specs.Step.{IsTimely};
+
+use crate::frames::{Octets, frame};
+use crate::host::{ETHERNET, Host, OWN};
+use crate::words::{Words, address, count, hardware, medium, moment, networks, number, routes};
+use iface_tables::route::{Route, RouteTableFull};
+use interface::{
+    AddrError, Answer, Command, HardwareError, NewError, PollIngressSingleResult, PollResult,
+};
+use ip_wire::IpAddress;
+use net_base::phy::{ChecksumCapabilities, Device, DeviceCapabilities};
+use net_base::time::Duration;
+use std::process::Abort;
+
+/// Runs a script on a host without addresses.
+pub fn bare(rt: &(impl Abort + AllocGlobal), script: &str) {
+    runs(rt, "", script);
+}
+
+/// Runs a script on a host at 192.168.69.1.
+pub fn at_home(rt: &(impl Abort + AllocGlobal), script: &str) {
+    runs(rt, AT_HOME, script);
+}
+
+/// The same for several scripts.
+pub fn each_at_home(rt: &(impl Abort + AllocGlobal), scripts: &[&str]) {
+    for script in scripts {
+        runs(rt, AT_HOME, script);
+    }
+}
+
+/// Runs a script on a host at 192.168.69.1 that knows its neighbour.
+pub fn acquainted(rt: &(impl Abort + AllocGlobal), script: &str) {
+    runs(rt, ACQUAINTED, script);
+}
+
+/// The same for several scripts.
+pub fn each_acquainted(rt: &(impl Abort + AllocGlobal), scripts: &[&str]) {
+    for script in scripts {
+        runs(rt, ACQUAINTED, script);
+    }
+}
+
+const AT_HOME: &str = "addr c0a84501/24";
+
+const ACQUAINTED: &str = "addr c0a84501/24
+    rx REQUEST
+    ingress 0 = SocketStateChanged tx REPLY";
+
+// Runs two parts of a script on a new host, at which no frame may wait in the end.
+fn runs(rt: &(impl Abort + AllocGlobal), first: &str, second: &str) {
+    let mut host = Host::new(rt.alloc(), OWN, ETHERNET).expect(rt, "a host");
+    for part in [first, second] {
+        for (number, line) in part.lines().enumerate() {
+            let outcome = host.follow(line);
+            assert!(rt; outcome.is_some(), "line {number} can't be read: {line}");
+            assert!(rt;
+                outcome == Some(true),
+                "line {number} came otherwise: {line}"
+            );
+        }
+    }
+    assert!(rt;
+        host.kept && host.device.queued() == 0,
+        "a frame waits, or was lost"
+    );
+}
+
+impl Host {
+    // Follows a line, and says whether that came of it which had to. `None` if it isn't one.
+    fn follow(&mut self, line: &str) -> Option<bool> {
+        if line.trim().is_empty() {
+            return Some(true);
+        }
+        let (call, outcome) = line.split_once('=').unwrap_or((line, "ok"));
+        let mut call = call.split_whitespace();
+        let mut outcome = outcome.split_whitespace();
+        let sent = self.device.sent().len();
+        let refusals = self.device.refusals();
+        let word = call.next()?;
+        let is_right = self.calls(word, &mut call, &mut outcome)?;
+        if call.next().is_some() {
+            return None;
+        }
+        let is_refused = self.refusing && self.device.refusals() != refusals;
+        if is_refused {
+            self.refusing = false;
+        }
+        Some(is_right && self.sends(sent, is_refused, &mut outcome)?)
+    }
+
+    // Whether the rest of the outcome tells of the refused leave and of the frames sent, and no more.
+    fn sends(&self, before: usize, is_refused: bool, outcome: &mut Words<'_>) -> Option<bool> {
+        let mut word = outcome.next();
+        if is_refused {
+            if word != Some("refused") {
+                return Some(false);
+            }
+            word = outcome.next();
+        }
+        let sent = self.device.sent().get(before..)?;
+        match word {
+            None => return Some(sent.is_empty()),
+            Some("tx") => {}
+            Some(_) => return Some(false),
+        }
+        for octets in sent {
+            let Some(word) = outcome.next() else {
+                return Some(false);
+            };
+            if octets.as_slice() != frame(word)?.as_slice() {
+                return Some(false);
+            }
+        }
+        Some(outcome.next().is_none())
+    }
+
+    // A call by its word.
+    fn calls(&mut self, word: &str, call: &mut Words<'_>, outcome: &mut Words<'_>) -> Option<bool> {
+        match word {
+            "host" => self.is_made(call, outcome),
+            "addr" => self.asks(Command::UpdateIpAddrs(networks(call)?), outcome),
+            "addr?" => Some(self.interface.ip_addrs() == networks(outcome)?.as_slice()),
+            "own?" => {
+                let addr = IpAddress::Ipv4(address(call.next()?)?);
+                Some(is_told(self.interface.has_ip_addr(addr), outcome.next()?))
+            }
+            "anyip" => self.asks(Command::SetAnyIp(true), outcome),
+            "hardware" => self.asks(Command::SetHardwareAddr(hardware(call.next()?)?), outcome),
+            "hardware?" => self.is_at(outcome.next()?),
+            "routes" => self.asks(Command::UpdateRoutes(routes(call)?), outcome),
+            "routes?" => { Some(self.interface.routes().as_slice() == routes(outcome)?.as_slice()) }
+            "gw" => self.adds_default(call.next()?, outcome.next()?),
+            "ungw" => self.removes_default(outcome.next()?),
+            _ => self.polls(word, call, outcome),
+        }
+    }
+
+    // The same for frames and moments.
+    fn polls(&mut self, word: &str, call: &mut Words<'_>, outcome: &mut Words<'_>) -> Option<bool> {
+        match word {
+            "rx" => {
+                self.queue(frames(call)?.as_slice())?;
+                is_ok(outcome)
+            }
+            "rx?" => Some(self.device.queued() == count(outcome.next()?)?),
+            "refuse" => {
+                self.refuse_once()?;
+                is_ok(outcome)
+            }
+            "ingress" => self.asks(Command::PollIngressSingle(moment(call.next()?)?), outcome),
+            "egress" => self.asks(Command::PollEgress(moment(call.next()?)?), outcome),
+            "poll" => {
+                let timestamp = moment(call.next()?)?;
+                let budget = count(call.next()?)?;
+                self.asks(Command::Poll(timestamp, budget), outcome)
+            }
+            "maintain" => self.asks(Command::PollMaintenance(moment(call.next()?)?), outcome),
+            "at" => self.is_due_at(call.next()?, outcome.next()?),
+            "delay" => self.is_due_in(call.next()?, outcome.next()?),
+            "receive" => self.shows(call, outcome.next()?),
+            _ => self.at_sockets(word, call, outcome),
+        }
+    }
+
+    // Runs a command, whose answer has to read so.
+    fn asks(&mut self, command: Command, outcome: &mut Words<'_>) -> Option<bool>
+        requires { IsTimely command }
+    {
+        let answer = self.run(command);
+        Some(outcome.next()? == text_of(answer))
+    }
+
+    // A host is made, or it is said why it isn't.
+    fn is_made(&mut self, call: &mut Words<'_>, outcome: &mut Words<'_>) -> Option<bool> {
+        let hardware_addr = hardware(call.next()?)?;
+        let capabilities = DeviceCapabilities {
+            medium: medium(call.next()?)?,
+            max_transmission_unit: count(call.next()?)?,
+            max_burst_size: match call.next() {
+                Some("max") => Some(usize::MAX),
+                Some(word) => Some(count(word)?),
+                None => None,
+            },
+            checksum: ChecksumCapabilities::ALL,
+        };
+        let word = outcome.next()?;
+        match Host::new(self.alloc, hardware_addr, capabilities) {
+            Ok(host) => {
+                *self = host;
+                Some(word == "ok")
+            }
+            Err(error) => Some(word == refusal_text(error)),
+        }
+    }
+
+    // Whether it has this hardware address.
+    fn is_at(&self, word: &str) -> Option<bool> {
+        let addr = self.interface.hardware_addr();
+        if word == "none" {
+            return Some(addr.is_none());
+        }
+        Some(addr == Some(hardware(word)?))
+    }
+
+    // It gets a default route, in place of the one by the router that the word says.
+    fn adds_default(&mut self, router: &str, word: &str) -> Option<bool> {
+        let old = match word {
+            "RouteTableFull" => Err(RouteTableFull),
+            _ => Ok(default_by(word)?),
+        };
+        let answer = self.run(Command::AddDefaultIpv4Route(address(router)?));
+        Some(answer == Answer::AddDefaultIpv4Route(old))
+    }
+
+    // It loses its default route, the one by the router that the word says.
+    fn removes_default(&mut self, word: &str) -> Option<bool> {
+        let old = default_by(word)?;
+        let answer = self.run(Command::RemoveDefaultIpv4Route);
+        Some(answer == Answer::RemoveDefaultIpv4Route(old))
+    }
+
+    // Whether it has to be polled again at the instant that the word says.
+    fn is_due_at(&mut self, timestamp: &str, word: &str) -> Option<bool> {
+        let instant = match word {
+            "none" => None,
+            _ => Some(moment(word)?),
+        };
+        let answer = self.run(Command::PollAt(moment(timestamp)?));
+        Some(answer == Answer::PollAt(instant))
+    }
+
+    // Whether that is in so many microseconds.
+    fn is_due_in(&mut self, timestamp: &str, word: &str) -> Option<bool> {
+        let delay = match word {
+            "none" => None,
+            _ => Some(Duration::from_micros(u64::from(number(word)?))),
+        };
+        let answer = self.run(Command::PollDelay(moment(timestamp)?));
+        Some(answer == Answer::PollDelay(delay))
+    }
+
+    // Whether the word's frame is shown in response to the one handed over.
+    fn shows(&mut self, call: &mut Words<'_>, word: &str) -> Option<bool> {
+        let timestamp = moment(call.next()?)?;
+        let handed_over = frame(call.next()?)?;
+        let shown = self
+            .interface
+            .receive_frame(timestamp, handed_over.as_slice(), &mut self.sockets);
+        match shown {
+            None => Some(word == "none"),
+            Some(octets) => Some(word != "none" && octets == frame(word)?.as_slice()),
+        }
+    }
+}
+
+// Whether nothing but `ok` is to come of it.
+fn is_ok(outcome: &mut Words<'_>) -> Option<bool> {
+    Some(outcome.next()? == "ok")
+}
+
+// Whether an answer is the one that the word says.
+fn is_told(answer: bool, word: &str) -> bool {
+    word == if answer { "yes" } else { "no" }
+}
+
+// The frames that are left, one behind the other.
+fn frames(call: &mut Words<'_>) -> Option<Octets> {
+    let mut whole = Octets::new();
+    for word in call {
+        whole.try_extend_from_slice(frame(word)?.as_slice()).ok()?;
+    }
+    Some(whole)
+}
+
+// The default route by a router, or `none`.
+fn default_by(word: &str) -> Option<Option<Route>> {
+    match word {
+        "none" => Some(None),
+        _ => Some(Some(Route::new_ipv4_gateway(address(word)?))),
+    }
+}
+
+// How a refused configuration reads.
+fn refusal_text(error: NewError) -> &'static str {
+    match error {
+        NewError::MediumMismatch => "MediumMismatch",
+        NewError::NotUnicast => "NotUnicast",
+        NewError::MtuTooSmall => "MtuTooSmall",
+        NewError::MtuTooLarge => "MtuTooLarge",
+    }
+}
+
+// How an answer reads that has no value.
+fn text_of(answer: Answer) -> &'static str {
+    match answer {
+        Answer::UpdateIpAddrs(Err(AddrError::NotUnicast))
+        | Answer::SetHardwareAddr(Err(HardwareError::NotUnicast)) => "NotUnicast",
+        Answer::SetHardwareAddr(Err(HardwareError::WrongMedium)) => "WrongMedium",
+        Answer::PollIngressSingle(PollIngressSingleResult::None)
+        | Answer::PollEgress(PollResult::None)
+        | Answer::Poll(PollResult::None) => "None",
+        Answer::PollIngressSingle(PollIngressSingleResult::PacketProcessed) => "PacketProcessed",
+        Answer::PollIngressSingle(PollIngressSingleResult::SocketStateChanged)
+        | Answer::PollEgress(PollResult::SocketStateChanged)
+        | Answer::Poll(PollResult::SocketStateChanged) => "SocketStateChanged",
+        _ => "ok",
+    }
+}

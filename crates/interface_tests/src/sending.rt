@@ -1,0 +1,199 @@
+// What sockets send, and when they wait.
+
+use crate::script::{acquainted, at_home, bare, each_acquainted};
+
+#[test]
+fn asks_for_one_neighbor_a_second(rt: HostRuntime) {
+    at_home(
+        &rt,
+        "udp 6969
+        send 0 c0a84532 5000 6869
+        udp 6969
+        send 1 c0a84533 5000 6869
+        egress 5_000_000 = None tx WHO_HAS_50
+        egress 2_000_000 = None
+        egress 5_999_999 = None
+        egress 6_000_000 = None tx WHO_HAS_50
+        due? 0 = Now
+        due? 1 = Now",
+    );
+}
+
+#[test]
+fn no_worse_route_is_tried(rt: HostRuntime) {
+    at_home(
+        &rt,
+        "routes 0a000000/8>c0a84502 0a010000/16>ffffffff
+        udp 6969
+        send 0 0a010203 5000 6869
+        egress 0 = None
+        due? 0 = Now
+        routes 0a000000/8>c0a84502
+        egress 1_000_000 = None tx WHO_HAS_2
+        due? 0 = Now",
+    );
+}
+
+#[test]
+fn datagrams_go(rt: HostRuntime) {
+    each_acquainted(
+        &rt,
+        &[
+            // To the neighbour.
+            "udp 6969
+            send 0 c0a84564 5000 6869
+            egress 0 = SocketStateChanged tx HI_BACK
+            due? 0 = Ingress
+            egress 0 = None",
+            // To all.
+            "udp 6969
+            send 0 ffffffff 5000 6869
+            egress 0 = SocketStateChanged tx HI_EVERYBODY
+            due? 0 = Ingress
+            egress 0 = None",
+            // To a group.
+            "udp 6969
+            send 0 e0010203 5000 6869
+            egress 0 = SocketStateChanged tx HI_GROUP
+            due? 0 = Ingress
+            egress 0 = None",
+        ],
+    );
+}
+
+#[test]
+fn a_datagram_waits_for_leave(rt: HostRuntime) {
+    acquainted(
+        &rt,
+        "udp 6969
+        send 0 c0a84564 5000 6869
+        refuse
+        egress 0 = None refused
+        due? 0 = Now
+        egress 0 = SocketStateChanged tx HI_BACK
+        due? 0 = Ingress",
+    );
+}
+
+#[test]
+fn a_socket_without_a_route_waits(rt: HostRuntime) {
+    at_home(
+        &rt,
+        "udp 6969
+        send 0 0a090909 5000 6869
+        egress 0 = None
+        refuse
+        egress 0 = None
+        egress 500_000 = None
+        egress 999_999 = None
+        egress 1_000_000 = None refused
+        due? 0 = Now",
+    );
+}
+
+// A refused leave lets no socket wait, so the next call asks again. A socket behind one that waits has its
+// turn.
+#[test]
+fn a_refused_leave_is_no_reason_to_wait(rt: HostRuntime) {
+    acquainted(
+        &rt,
+        "udp 6969
+        send 0 0a090909 5000 6869
+        udp 6969
+        send 1 c0a84564 5000 6869
+        refuse
+        egress 0 = None refused
+        egress 0 = SocketStateChanged tx HI_BACK
+        due? 1 = Ingress
+        due? 0 = Now",
+    );
+}
+
+// The wait lasts from 1 s to 2 s, and ends sooner where the neighbour becomes known.
+#[test]
+fn a_known_neighbor_ends_the_wait(rt: HostRuntime) {
+    at_home(
+        &rt,
+        "udp 6969
+        send 0 c0a84564 5000 6869
+        egress 1_000_000 = None tx WHO_HAS_100
+        egress 1_500_000 = None
+        rx REQUEST
+        ingress 0 = SocketStateChanged tx REPLY
+        egress 1_500_000 = SocketStateChanged tx HI_BACK
+        due? 0 = Ingress",
+    );
+}
+
+// A neighbour that becomes known as a router ends the wait for what lies behind it.
+#[test]
+fn a_known_router_ends_the_wait(rt: HostRuntime) {
+    at_home(
+        &rt,
+        "udp 6969
+        send 0 0a010203 5000 6869
+        egress 0 = None
+        rx REQUEST
+        ingress 0 = SocketStateChanged tx REPLY
+        egress 0 = None
+        routes 0a000000/8>c0a84564
+        egress 0 = SocketStateChanged tx HI_FAR
+        due? 0 = Ingress",
+    );
+}
+
+#[test]
+fn an_icmp_socket_hears_and_sends(rt: HostRuntime) {
+    acquainted(
+        &rt,
+        "icmp 4660
+        send 0 c0a84564 080021041234000161626364
+        egress 0 = SocketStateChanged tx ECHO_OUT
+        rx ECHO
+        ingress 0 = SocketStateChanged tx ECHO_REPLY
+        heard? 0 = c0a84564 080021041234000161626364",
+    );
+}
+
+#[test]
+fn a_raw_socket_sends(rt: HostRuntime) {
+    acquainted(
+        &rt,
+        "raw 1
+        send 0 45000020beef000040010000c0a84501c0a84564080021041234000161626364
+        egress 0 = SocketStateChanged tx ECHO_OUT",
+    );
+}
+
+#[test]
+fn a_held_segment_goes_at_its_moment(rt: HostRuntime) {
+    acquainted(
+        &rt,
+        "segment 80 c0a84564 5000 7 4096 6869
+        hold 0 5_000_000
+        egress 4_999_999 = None
+        egress 5_000_000 = SocketStateChanged tx SEGMENT_4096",
+    );
+}
+
+#[test]
+fn a_window_fits_the_burst(rt: HostRuntime) {
+    bare(
+        &rt,
+        "host 020000000001 ethernet 1514 1
+        addr c0a84501/24
+        rx REQUEST
+        ingress 0 = SocketStateChanged tx REPLY
+        segment 80 c0a84564 5000 7 4096 6869
+        egress 0 = SocketStateChanged tx SEGMENT_1474",
+    );
+    bare(
+        &rt,
+        "host 020000000001 ethernet 1514 max
+        addr c0a84501/24
+        rx REQUEST
+        ingress 0 = SocketStateChanged tx REPLY
+        segment 80 c0a84564 5000 7 4096 6869
+        egress 0 = SocketStateChanged tx SEGMENT_4096",
+    );
+}
