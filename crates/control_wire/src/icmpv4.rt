@@ -124,6 +124,25 @@ impl Icmpv4Repr {
         ensures items { out.new ≡ out.old ++ spec.text summed quoted_summed self.now payload.now }
         ensures len { length out.new ≡ length out.old + spec.header_len self.now + length payload.now }
     {
+        self.emit_header(payload, summed, quoted_summed, out);
+        out.append(payload);
+    }
+
+    /// Appends the message up to its data, as [`Icmpv4Repr::emit`] does, and not the data.
+    #[inline(always)]
+    pub fn emit_header(
+        &self,
+        payload: &[u8],
+        summed: bool,
+        quoted_summed: bool,
+        out: &mut FrameBuffer,
+    )
+        requires quoted { spec.QuotesPacket self.now }
+        requires short { length payload.now < 2 ^ 16 }
+        requires room { length out.old + spec.header_len self.now ≤ 1514 }
+        ensures items { out.new ++ payload.now ≡ out.old ++ spec.text summed quoted_summed self.now payload.now }
+        ensures len { length out.new ≡ length out.old + spec.header_len self.now }
+    {
         match self {
             Icmpv4Repr::EchoRequest { .. } | Icmpv4Repr::EchoReply { .. } => {
                 emit_parts(self, &[], payload, summed, out);
@@ -164,6 +183,25 @@ impl EchoRequest<'_> {
         ensures items { out.new ≡ out.old ++ spec.text summed true (spec.echo_reply_to self.now.octets.now) (drop 8 self.now.octets.now) }
         ensures len { length out.new ≡ length out.old + length self.now.octets.now }
     {
+        self.emit_reply_header(summed, out);
+        out.append(self.payload());
+    }
+
+    /// Its data, which the reply has, too.
+    #[inline(always)]
+    pub fn payload(&self) -> &[u8]
+        ensures { result.now ≡ drop 8 self.now.octets.now }
+    {
+        &self.octets[HEADER_LEN..]
+    }
+
+    /// Appends the reply up to its data, as [`EchoRequest::emit_reply`] does, and not the data.
+    #[inline(always)]
+    pub fn emit_reply_header(&self, summed: bool, out: &mut FrameBuffer)
+        requires room { length out.old + 8 ≤ 1514 }
+        ensures items { out.new ++ drop 8 self.now.octets.now ≡ out.old ++ spec.text summed true (spec.echo_reply_to self.now.octets.now) (drop 8 self.now.octets.now) }
+        ensures len { length out.new ≡ length out.old + 8 }
+    {
         let request = self.octets;
         let reply = Icmpv4Repr::EchoReply {
             ident: u16_at(request, 4),
@@ -175,7 +213,6 @@ impl EchoRequest<'_> {
             0
         };
         out.append(&head_with(sum, &reply));
-        out.append(&request[HEADER_LEN..]);
     }
 }
 
@@ -225,7 +262,7 @@ fn head_with(sum: u16, repr: &Icmpv4Repr) -> [u8; HEADER_LEN]
     }
 }
 
-/// Appends a message of its first eight octets, what it quotes and its data.
+/// Appends a message up to its data: its first eight octets, and what it quotes.
 #[inline(always)]
 fn emit_parts(
     message: &Icmpv4Repr,
@@ -237,12 +274,12 @@ fn emit_parts(
     requires quoted_even { length quoted.now % 2 ≡ 0 }
     requires quoted_short { length quoted.now < 2 ^ 16 }
     requires short { length payload.now < 2 ^ 16 }
-    requires room { length out.old + 8 + length quoted.now + length payload.now ≤ 1514 }
-    ensures items { out.new ≡ out.old ++ spec.head_with
+    requires room { length out.old + 8 + length quoted.now ≤ 1514 }
+    ensures items { out.new ++ payload.now ≡ out.old ++ spec.head_with
         (if summed then checksum_of (spec.head_with 0 message.now ++ quoted.now ++ payload.now) else 0)
         message.now
         ++ quoted.now ++ payload.now }
-    ensures len { length out.new ≡ length out.old + 8 + length quoted.now + length payload.now }
+    ensures len { length out.new ≡ length out.old + 8 + length quoted.now }
 {
     let sum = if summed {
         sum_for(&head_with(0, message), quoted, payload)
@@ -251,7 +288,6 @@ fn emit_parts(
     };
     out.append(&head_with(sum, message));
     out.append(quoted);
-    out.append(payload);
 }
 
 /// The checksum of a message of these parts.

@@ -15,6 +15,8 @@ use Rattle.host_machine.specs.declared.results.PollResult.TheVariants as poll
 use Rattle.host_machine.specs.Ingress.{Ingress}
 use Rattle.host_machine.specs.Egress.{Egress, Begins, Whole}
 use Rattle.host_machine.specs.Example.{RequestIsAnswered}
+use Rattle.host_machine.proofs.Exchange.{no_slots}
+use Rattle.host_machine.proofs.Begun.{no_piece}
 
 pub request_answered : RequestIsAnswered
 unfolding ipv4_over_ethernet
@@ -26,11 +28,11 @@ request_answered = record {
     taken = example.host 0x1405 example.learnt;
     notes_taking = [];
     notes_responding = [];
-    takes = Accepted (lit≤ tt) refl (Learnt
+    takes = rw (no_slots (pos 0)) (Accepted (lit≤ tt) refl (Learnt
         (record { whole = lit≤ tt; hardware = refl; protocol = refl; hardware_len = refl; protocol_len = refl; operation = inl refl })
         refl
         (record { neighbors = example.learnt; filled = record { puts = record { there = λ h. refl; room = λ h. refl; full = λ none four. absurd (omega (arith, len-empty address_cmp Neighbor)) }; silence = refl }; same = refl })
-        refl refl);
+        refl refl));
     responds = (refl, refl, refl);
     all_notes = refl;
   };
@@ -48,7 +50,7 @@ nothing_taken = record {
     taken = example.host 0x1405 example.learnt;
     notes_taking = [];
     notes_responding = [];
-    takes = record { silent = refl; unnoted = refl; unchanged = refl };
+    takes = rw (no_slots (pos 0)) (record { silent = refl; unnoted = refl; unchanged = refl });
     responds = (refl, refl, refl);
     all_notes = refl;
   };
@@ -57,4 +59,4 @@ nothing_taken = record {
 }
 
 pub nothing_sent : Egress (pos 0) poll.None (example.host 0x1405 example.learnt) [] [] (example.host 0x1405 example.learnt)
-nothing_sent = record { changed = false; round = Whole Begins; answers = refl }
+nothing_sent = record { changed = false; round = no_piece refl (Whole Begins); answers = refl }

@@ -1,13 +1,15 @@
 -- Who is known in the worked examples.
-use Rattle.std.proofs.Common.{◌≡◌, refl, Some}
-use Rattle.std.specs.Prelude.{pos}
+use Rattle.std.proofs.Common.{◌≡◌, ◌∙◌, refl, Some}
+use Rattle.std.specs.Prelude.{ℤ, pos}
 use Rattle.std.specs.FinMap as map
-use Rattle.std.specs.FinMap.{get-insert, get-empty}
+use Rattle.std.specs.FinMap.{get-insert, get-empty, same_map}
 use Rattle.ip_address.specs.declared.hardware.HardwareAddress.TheVariants as hardware
 use Rattle.iface_tables.specs.declared.neighbor.Neighbor.{Neighbor}
 use Rattle.iface_tables.specs.declared.neighbor.Answer.TheVariants.{Found, NotFound, RateLimited}
 use Rattle.iface_tables.specs.Neighbor.{answer_of, renewed}
 use Rattle.iface_tables.proofs.NeighborLemmas.{address_total}
+use Rattle.fragmentation.specs.Slots.{left_at}
+use Rattle.host_machine.proofs.Keys.{get-left_at, key_exact, key_total}
 use Rattle.host_machine.specs.Example.{sender, sender_hardware, learnt, heard, nobody}
 
 abbrev entry : Neighbor
@@ -34,3 +36,7 @@ none_renewed = rw get-empty refl
 
 pub nobody_renewed : renewed (nobody (pos 0)) sender hardware.Ip (pos 60000000) ≡ nobody (pos 0)
 nobody_renewed = rw get-empty refl
+
+-- where no slot is taken, none is dropped
+pub no_slots : (t : ℤ) → left_at t map.empty ≡ map.empty
+no_slots t = same_map key_total key_exact (left_at t map.empty) map.empty (λ q. get-left_at t map.empty q ∙ rw get-empty refl)

@@ -18,7 +18,7 @@ use Rattle.sockets.specs.Kinds as kinds
 use Rattle.host_machine.specs.Host.{Host, Storage}
 use Rattle.host_machine.specs.Dispatch.{IsNextHop, OnLink, ByRouter, is_known_hop, if_unicast, KnowsNextHop, OfNoHost, OfHost}
 use Rattle.host_machine.specs.Host.{Socket}
-use Rattle.host_machine.specs.Due.{Due, OfSocket, SocketDue, IsLeast, instant_of, sooner}
+use Rattle.host_machine.specs.Due.{Due, OfPiece, OfSocket, AtOnce, SocketDue, IsLeast, instant_of, at_once, sooner}
 
 -- what is known of a destination is one answer
 hop_is_one : {H : Host} {a : IpAddress} {x y : Option IpAddress} → IsNextHop H a x → IsNextHop H a y → x ≡ y
@@ -108,7 +108,37 @@ pub least_same : (P Q : ℤ → Type 0) (a : Option ℤ) → ((x : ℤ) → P x 
 least_same P Q None there back p = λ x q. p x (back x q)
 least_same P Q (Some a) there back p = (there a p.0, λ x q. p.1 x (back x q))
 
-pub due_least : (H : Host) (a : Option ℤ) → IsLeast (DueBelow H (length H.sockets.places)) a → IsLeast (Due H) a
-due_least H a p = least_same (DueBelow H (length H.sockets.places)) (Due H) a (λ x d. OfSocket d.0 d.2) back p where
-  back : (x : ℤ) → Due H x → DueBelow H (length H.sockets.places) x
-  back x (OfSocket i d) = (i, within H.sockets.places i (Some d.socket) d.here, d)
+-- the places, as one source
+pub sockets_least : (H : Host) (a : Option ℤ) → IsLeast (DueBelow H (length H.sockets.places)) a → IsLeast (λ x. (i : ℕ) × SocketDue H i x) a
+sockets_least H a p = least_same (DueBelow H (length H.sockets.places)) (λ x. (i : ℕ) × SocketDue H i x) a (λ x d. (d.0, d.2)) back p where
+  back : (x : ℤ) → ((i : ℕ) × SocketDue H i x) → DueBelow H (length H.sockets.places) x
+  back x d = (d.0, within H.sockets.places d.0 (Some d.1.socket) d.1.here, d.1)
+
+-- a list that is due while it has an element
+once_least : {A : Type 0} (xs : List A) → IsLeast (AtOnce xs) (at_once xs)
+once_least [] = λ x d. absurd (let e = d.are in cc)
+once_least (y ∷ ys) = (record { first = y; others = ys; are = refl; instant = refl }, λ x d. rw d.instant (omega (arith, ints)))
+
+-- one source or another
+abbrev Or : (ℤ → Type 0) → (ℤ → Type 0) → ℤ → Type 0
+Or P Q x = P x ⊎ Q x
+
+or_least : (P Q : ℤ → Type 0) (a b : Option ℤ) → IsLeast P a → IsLeast Q b → IsLeast (Or P Q) (sooner a b)
+or_least P Q a b p q = least_or P Q (Or P Q) a b p q (λ x d. d) (λ x d. inl d) (λ x d. inr d)
+
+-- all sources
+abbrev Sources : Host → ℤ → Type 0
+Sources H = Or (AtOnce H.left) (λ x. (i : ℕ) × SocketDue H i x)
+
+is_due : (H : Host) (x : ℤ) → Sources H x → Due H x
+is_due H x (inl d) = OfPiece d
+is_due H x (inr d) = OfSocket d.0 d.1
+
+is_source : (H : Host) (x : ℤ) → Due H x → Sources H x
+is_source H x (OfPiece d) = inl d
+is_source H x (OfSocket i d) = inr (i, d)
+
+pub due_least : (H : Host) (a : Option ℤ) → IsLeast (DueBelow H (length H.sockets.places)) a → IsLeast (Due H) (sooner (at_once H.left) a)
+due_least H a p =
+    least_same (Sources H) (Due H) (sooner (at_once H.left) a) (is_due H) (is_source H)
+    (or_least (AtOnce H.left) (λ x. (i : ℕ) × SocketDue H i x) (at_once H.left) a (once_least H.left) (sockets_least H a p))

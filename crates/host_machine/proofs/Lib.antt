@@ -1,7 +1,13 @@
-mod Repeated
+pub mod Notes
+pub mod Keys
+pub mod Six
+pub mod Repeated
 pub mod Walk
 pub mod Spaced
-pub mod Joined
+pub mod Rebuilt
+pub mod Counted
+pub mod Ordered
+pub mod Unfolded
 pub mod Malformed
 mod Single
 mod Noted
@@ -9,6 +15,16 @@ pub mod QuietSockets
 pub mod Earlier
 pub mod Quiet
 pub mod Least
+pub mod Joined
+pub mod Pieces
+pub mod Views
+pub mod Arrived
+pub mod InTime
+pub mod Readings
+pub mod Shown
+pub mod Few
 mod Exchange
+pub mod Begun
 mod Answered
 mod Listening
+mod Fragmented

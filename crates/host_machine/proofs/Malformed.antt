@@ -12,7 +12,7 @@ use Rattle.ip_wire.specs.Arp.{IsArp}
 use Rattle.ip_wire.specs.Ipv4Packet.{IsIpv4}
 use Rattle.host_machine.specs.declared.results.PollIngressSingleResult.{PollIngressSingleResult}
 use Rattle.host_machine.specs.Note.{Note}
-use Rattle.host_machine.specs.Host.{Host, at}
+use Rattle.host_machine.specs.Host.{Host, swept}
 use Rattle.host_machine.specs.Reply.{Reply, IsDropped}
 use Rattle.host_machine.specs.Frame.{sends}
 use Rattle.host_machine.specs.Arp.{TakesArp}
@@ -83,7 +83,7 @@ pub handed-sends : (frames : List (List ℕ)) → handed (sends frames) ≡ []
 handed-sends [] = refl
 handed-sends (f ∷ fs) = handed-sends fs
 
-handed-received : (moment : ℤ) (r : Reception) (es : List Event) → handed es ≡ [] → handed (Received moment r ∷ es) ≡ handed (Received moment r ∷ [])
+pub handed-received : (moment : ℤ) (r : Reception) (es : List Event) → handed es ≡ [] → handed (Received moment r ∷ es) ≡ handed (Received moment r ∷ [])
 handed-received moment (Frame f) es e = ap (λ fs. f ∷ fs) e
 handed-received moment Nothing es e = e
 handed-received moment Withheld es e = e
@@ -96,9 +96,9 @@ pub nothing_responded : {H new : Host} {reply : Option Reply} {frames : List (Li
 nothing_responded {H} {new} {reply} {frames} {notes} e r = rw e at r
 
 pub malformed : (t : ℤ) (answer : PollIngressSingleResult) (old new : Host) (told : List Event) (notes : List Note) (frame : List ℕ) →
-    Ingress t answer old told notes new → handed told ≡ frame ∷ [] → IsMalformed old.hardware_addr old.capabilities.checksum frame → (sent told ≡ []) × (notes ≡ []) × (new ≡ at old t)
+    Ingress t answer old told notes new → handed told ≡ frame ∷ [] → IsMalformed old.hardware_addr old.capabilities.checksum frame → (sent told ≡ []) × (notes ≡ []) × (new ≡ swept old t)
 malformed t answer old new told notes frame i is bad =
     let only : handed (Received t i.reception ∷ []) ≡ frame ∷ [] = sym (handed-received t i.reception (sends i.frames) (handed-sends i.frames)) ∙ sym (ap handed i.events) ∙ is in
-    let d = taken_dropped t (at old t) i.reception frame i.response.reply i.response.notes_taking i.response.taken i.response.takes only bad in
+    let d = taken_dropped t (swept old t) i.reception frame i.response.reply i.response.notes_taking i.response.taken i.response.takes only bad in
     let r = nothing_responded d.silent i.response.responds in
     (ap sent i.events ∙ sent-sends i.frames ∙ r.0, i.response.all_notes ∙ rw (d.unnoted, r.1) refl, r.2 ∙ d.unchanged)

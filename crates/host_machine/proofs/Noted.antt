@@ -1,6 +1,6 @@
 -- The ARP requests among the frames of a dispatch are those that it notes.
-use Rattle.std.proofs.Common.{◌≡◌, ℕ, Bool, true, false, List, [], ◌∷◌, length, Some, None, refl}
-use Rattle.std.specs.Prelude.{if◌then◌else◌}
+use Rattle.std.proofs.Common.{◌≡◌, ℕ, Bool, true, false, List, [], ◌∷◌, ◌++◌, length, Some, None, refl, sym, ap}
+use Rattle.std.specs.Prelude.{map, if◌then◌else◌}
 use Rattle.ip_address.specs.declared.ethernet_address.EthernetAddress.{EthernetAddress}
 use Rattle.ip_address.specs.declared.hardware.HardwareAddress.{HardwareAddress}
 use Rattle.ip_address.specs.declared.hardware.HardwareAddress.TheVariants as hardware
@@ -8,42 +8,58 @@ use Rattle.ip_address.specs.declared.cidr.IpCidr.{IpCidr}
 use Rattle.ip_address.specs.declared.ip.IpAddress.{IpAddress}
 use Rattle.ip_address.specs.declared.ip.IpAddress.TheVariants.{Ipv4, Ipv6}
 use Rattle.ip_address.specs.declared.ipv4.Ipv4Address.{Ipv4Address}
+use Rattle.ip_wire.specs.declared.ethernet.EthernetProtocol.TheVariants as protocol
 use Rattle.ip_wire.specs.Arp.{ipv4_over_ethernet}
 use Rattle.ip_wire.proofs.OctetCells.{six}
 use Rattle.ip_address.specs.EthernetAddress.{broadcast}
 use Rattle.ip_address.specs.Ipv4 as ipv4
 use Rattle.ip_address.specs.Ipv6 as ipv6
+use Rattle.fragmentation.specs.Fragments.{Fragment}
+use Rattle.fragmentation.specs.Cuts.{Datagram, Piece, piece_of, pieces_of}
 use Rattle.host_machine.specs.Note.{Note, asks}
 use Rattle.host_machine.specs.Addresses.{is_broadcast_v4}
 use Rattle.host_machine.specs.Host.{Host}
 use Rattle.host_machine.specs.Packet.{Packet}
 use Rattle.host_machine.specs.Packet as packet
 use Rattle.host_machine.specs.Arp.{request_for}
-use Rattle.host_machine.specs.Frame.{arp_frame, ip_frame}
+use Rattle.host_machine.specs.Frame.{arp_frame, ip_frame, link_header, piece_text}
 use Rattle.host_machine.specs.Dispatch as dispatch
-use Rattle.host_machine.specs.Dispatch.{Outcome, IsUnsent, Emits, Discovers, SendsByHop, SendsEthernet, SendsOver, Dispatches, group_address, group_address_v6, many_address, identified}
-use Rattle.host_machine.specs.Laws.{is_arp_request, requests_in, IsEthernet, OnEthernet}
+use Rattle.host_machine.specs.Dispatch.{Outcome, IsUnsent, Emits, Discovers, SendsByHop, SendsEthernet, SendsOver, Dispatches, group_address, group_address_v6, many_address, datagram_of, identified}
+use Rattle.host_machine.specs.Real.{IsEthernet}
+use Rattle.host_machine.specs.Laws.{is_arp_request, requests_in, OnEthernet}
 
 -- a frame of IP asks for no hardware address
-no_request : (H : Host) (own : EthernetAddress) (h : HardwareAddress) (p : Packet) → H.hardware_addr ≡ hardware.Ethernet own → length own.0 ≡ 6 → IsEthernet h → is_arp_request (ip_frame H h p) ≡ false
-no_request H own (hardware.Ethernet a) (packet.Ipv4 p) is own_len len = let o6 = six own.0 own_len in let a6 = six a.0 len in rw (is, o6.is, a6.is) refl
-no_request H own hardware.Ip p is own_len len = absurd len
+no_request : (H : Host) (own : EthernetAddress) (h : HardwareAddress) (text : List ℕ) → H.hardware_addr ≡ hardware.Ethernet own → length own.0 ≡ 6 → IsEthernet h →
+    is_arp_request (link_header H.hardware_addr h protocol.Ipv4 ++ text) ≡ false
+no_request H own (hardware.Ethernet a) text is own_len len = let o6 = six own.0 own_len in let a6 = six a.0 len in rw (is, o6.is, a6.is) refl
+no_request H own hardware.Ip text is own_len len = absurd len
+
+of_packet : (H : Host) (own : EthernetAddress) (h : HardwareAddress) (p : Packet) → H.hardware_addr ≡ hardware.Ethernet own → length own.0 ≡ 6 → IsEthernet h → is_arp_request (ip_frame H h p) ≡ false
+of_packet H own h (packet.Ipv4 p) is own_len len = no_request H own h _ is own_len len
+
+-- the pieces of a packet go where it goes
+destination_is : (d : Datagram) (fs : List Fragment) (first : Piece) (rest : List Piece) → map (piece_of d) fs ≡ first ∷ rest → first.destination ≡ d.destination
+destination_is d [] first rest e = absurd cc
+destination_is d (f ∷ fs) first rest e = let same : piece_of d f ≡ first = cc in ap (λ (p : Piece). p.destination) (sym same)
+
+goes_to : (H : Host) (h : HardwareAddress) (id : ℕ) (p : Packet) (first : Piece) (rest : List Piece) → pieces_of (datagram_of H h id p) ≡ first ∷ rest → first.destination ≡ h
+goes_to H h id (packet.Ipv4 p) first rest e = destination_is (datagram_of H h id (packet.Ipv4 p)) _ first rest e
 
 -- the frame of a request does
 a_request : (own : EthernetAddress) (source target : Ipv4Address) → length own.0 ≡ 6 → is_arp_request (arp_frame (request_for own source target)) ≡ true
 unfolding ipv4_over_ethernet
 a_request own source target len = let o6 = six own.0 len in rw o6.is refl
 
-emits_none : (fits : Bool) (frame : List ℕ) → is_arp_request frame ≡ false → requests_in (if fits then frame ∷ [] else []) ≡ 0
-emits_none true frame is = rw is refl
-emits_none false frame is = refl
-
 unsent : {H new : Host} {frames : List (List ℕ)} {notes : List Note} → IsUnsent H frames notes new → requests_in frames ≡ length (asks notes)
 unsent u = rw (u.silent, u.unnoted) refl
 
-emitted : {p : Packet} {h : HardwareAddress} {outcome : Outcome} {H new : Host} {frames : List (List ℕ)} {notes : List Note} (own : EthernetAddress) → H.hardware_addr ≡ hardware.Ethernet own →
-    length own.0 ≡ 6 → IsEthernet h → Emits p h outcome H frames notes new → requests_in frames ≡ length (asks notes)
-emitted {p} {h} {outcome} {H} own is len to e = rw (e.sent, e.unnoted) (emits_none _ (ip_frame H h p) (no_request H own h p is len to))
+emitted : {id : ℕ} {p : Packet} {h : HardwareAddress} {outcome : Outcome} {H new : Host} {frames : List (List ℕ)} {notes : List Note} (own : EthernetAddress) → H.hardware_addr ≡ hardware.Ethernet own →
+    length own.0 ≡ 6 → IsEthernet h → Emits id p h outcome H frames notes new → requests_in frames ≡ length (asks notes)
+emitted {id} {p} {h} {outcome} {H} own is len to (dispatch.Whole fits o f n e) = rw (f, n, of_packet H own h p is len to) refl
+emitted {id} {p} {h} {outcome} {H} own is len to (dispatch.InPieces first rest long short pieces fits o f n e) =
+    let there : IsEthernet first.destination = rw (goes_to H h id p first rest pieces) to in
+    rw (f, n, no_request H own first.destination (piece_text H.capabilities first) is len there) refl
+emitted own is len to (dispatch.TooLong long longer o u) = unsent u
 
 discovered : {own : EthernetAddress} {hop : IpAddress} {outcome : Outcome} {H new : Host} {frames : List (List ℕ)} {notes : List Note} →
     length own.0 ≡ 6 → Discovers own hop outcome H frames notes new → requests_in frames ≡ length (asks notes)
@@ -66,17 +82,17 @@ to_many own (Ipv6 a) h is = by (ipv6.is_multicast a) is where
 pub noted : (p : Packet) (outcome : Outcome) (H new : Host) (frames : List (List ℕ)) (notes : List Note) →
     OnEthernet H → Dispatches p outcome H frames notes new → requests_in frames ≡ length (asks notes)
 noted p outcome H new frames notes on (dispatch.ToNobody n o u) = unsent u
-noted p outcome H new frames notes on (dispatch.ToSomebody s d) = by H.hardware_addr refl on.own d where
-  by_hop : (own : EthernetAddress) (hop : IpAddress) → H.hardware_addr ≡ hardware.Ethernet own → length own.0 ≡ 6 → SendsByHop own p hop outcome (identified H) frames notes new → requests_in frames ≡ length (asks notes)
+noted p outcome H new frames notes on (dispatch.ToSomebody more s d n) = rw n (by H.hardware_addr refl on.own d) where
+  by_hop : (own : EthernetAddress) (hop : IpAddress) → H.hardware_addr ≡ hardware.Ethernet own → length own.0 ≡ 6 → SendsByHop H.ipv4_id own p hop outcome (identified H) frames more new → requests_in frames ≡ length (asks more)
   by_hop own hop is len (dispatch.Known h k e) = emitted own is len (on.neighbors hop h k) e
   by_hop own hop is len (dispatch.Silent s o u) = unsent u
   by_hop own hop is len (dispatch.Unknown u d) = discovered len d
 
-  by_ethernet : (own : EthernetAddress) → H.hardware_addr ≡ hardware.Ethernet own → length own.0 ≡ 6 → SendsEthernet own p outcome (identified H) frames notes new → requests_in frames ≡ length (asks notes)
+  by_ethernet : (own : EthernetAddress) → H.hardware_addr ≡ hardware.Ethernet own → length own.0 ≡ 6 → SendsEthernet H.ipv4_id own p outcome (identified H) frames more new → requests_in frames ≡ length (asks more)
   by_ethernet own is len (dispatch.ToMany h m e) = emitted own is len (to_many (identified H).ip_addrs (dispatch.destination_of p) h m) e
   by_ethernet own is len (dispatch.NoHop m n o u) = unsent u
   by_ethernet own is len (dispatch.ByHop hop m n s) = by_hop own hop is len s
 
-  by : (h : HardwareAddress) → H.hardware_addr ≡ h → IsEthernet h → SendsOver h p outcome (identified H) frames notes new → requests_in frames ≡ length (asks notes)
+  by : (h : HardwareAddress) → H.hardware_addr ≡ h → IsEthernet h → SendsOver H.ipv4_id h p outcome (identified H) frames more new → requests_in frames ≡ length (asks more)
   by (hardware.Ethernet own) is len sends = by_ethernet own is len sends
   by hardware.Ip is len sends = absurd len

@@ -25,16 +25,18 @@ use Rattle.host_machine.specs.declared.results.PollResult.TheVariants as result
 use Rattle.host_machine.specs.declared.results.Turn.{Turn}
 use Rattle.host_machine.specs.declared.results.Turn.TheVariants.{Idle}
 use Rattle.host_machine.specs.Note.{Note}
-use Rattle.host_machine.specs.Host.{Host, Socket, Storage, at}
+use Rattle.fragmentation.specs.Slots.{Slots, left_at}
+use Rattle.host_machine.specs.Host.{Host, Socket, Storage, at, swept}
 use Rattle.host_machine.specs.Addresses.{source_for}
 use Rattle.host_machine.specs.Dispatch.{KnowsNextHop, OfNoHost, OfHost, IsNextHop, OnLink, ByRouter}
 use Rattle.host_machine.specs.Reply.{IsDropped}
 use Rattle.host_machine.specs.Ingress.{Ingress, Takes, answer_to}
-use Rattle.host_machine.specs.Egress.{packet_of, packet_from, asked, with_socket, wait_after, SocketTurn, Silent, Refused, Serves, Free, Waits, Served, is_gone, Walks, SocketsSend, Whole, Stopped, Egress}
+use Rattle.host_machine.specs.Parts.{Part, Both}
+use Rattle.host_machine.specs.Egress.{Round, SendsPiece, packet_of, packet_from, asked, with_socket, wait_after, SocketTurn, Silent, Refused, Serves, Free, Waits, Served, is_gone, Walks, SocketsSend, Whole, Stopped, Egress}
 use Rattle.host_machine.specs.Egress as egress
-use Rattle.host_machine.specs.Polling.{Repeats, Until, Spent, Done, Polls}
+use Rattle.host_machine.specs.Polling.{maintained, Repeats, Until, Spent, Done, Polls}
 use Rattle.host_machine.specs.Polling as polling
-use Rattle.host_machine.specs.Due.{Due, OfSocket, SocketDue, IsLeast, instant_of}
+use Rattle.host_machine.specs.Due.{Due, OfPiece, OfSocket, AtOnce, SocketDue, IsLeast, instant_of}
 use Rattle.host_machine.specs.Step.{Act, Step}
 use Rattle.host_machine.specs.Step as step
 use Rattle.host_machine.specs.Run.{Place, Run, Ends, Then}
@@ -46,6 +48,10 @@ use Rattle.host_machine.proofs.QuietSockets.{socket_quiet}
 -- the host with other waits for its sockets
 abbrev with_waits : Host → List Wait → Host
 with_waits H waits = record H { sockets = record H.sockets { waits = waits } }
+
+-- with what may change while nothing is disturbed, as another host has it
+abbrev altered : Host → Host → Host
+altered H K = record H { slots = K.slots; reassembly_timeout = K.reassembly_timeout; sockets = record H.sockets { waits = K.sockets.waits } }
 
 -- what is due, as seen at t0, is due after s
 abbrev NoneDue : Host → ℤ → ℤ → Type 0
@@ -151,18 +157,18 @@ set_there [] i x is = refl
 set_there (y ∷ ys) zero x is = let e : y ≡ x = cc in ap (λ z. z ∷ ys) (sym e)
 set_there (y ∷ ys) (suc i) x is = ap (λ zs. y ∷ zs) (set_there ys i x is)
 
--- what is told of a destination doesn't depend on waits
-hop_on : (H : Host) (waits : List Wait) (t0 : ℤ) {a : IpAddress} {hop : Option IpAddress} → IsNextHop (at (with_waits H waits) t0) a hop → IsNextHop (at H t0) a hop
-hop_on H waits t0 (OnLink own e) = OnLink own e
-hop_on H waits t0 (ByRouter router other r e) = ByRouter router other r e
+-- what is told of a destination depends on none of these
+hop_on : (H : Host) (K : Host) (t0 : ℤ) {a : IpAddress} {hop : Option IpAddress} → IsNextHop (at (altered H K) t0) a hop → IsNextHop (at H t0) a hop
+hop_on H K t0 (OnLink own e) = OnLink own e
+hop_on H K t0 (ByRouter router other r e) = ByRouter router other r e
 
-known_on : (H : Host) (waits : List Wait) (t0 : ℤ) {a : IpAddress} {known : Bool} → KnowsNextHop (at (with_waits H waits) t0) a known → KnowsNextHop (at H t0) a known
-known_on H waits t0 (OfNoHost none e) = OfNoHost none e
-known_on H waits t0 (OfHost hop one n e) = OfHost hop one (hop_on H waits t0 n) e
+known_on : (H : Host) (K : Host) (t0 : ℤ) {a : IpAddress} {known : Bool} → KnowsNextHop (at (altered H K) t0) a known → KnowsNextHop (at H t0) a known
+known_on H K t0 (OfNoHost none e) = OfNoHost none e
+known_on H K t0 (OfHost hop one n e) = OfHost hop one (hop_on H K t0 n) e
 
-told_on : (H : Host) (waits : List Wait) (t0 : ℤ) (w : Wait) (known : Bool) → IsTold (KnowsNextHop (at (with_waits H waits) t0)) w known → IsTold (KnowsNextHop (at H t0)) w known
-told_on H waits t0 None known told = tt
-told_on H waits t0 (Some w) known told = known_on H waits t0 told
+told_on : (H : Host) (K : Host) (t0 : ℤ) (w : Wait) (known : Bool) → IsTold (KnowsNextHop (at (altered H K) t0)) w known → IsTold (KnowsNextHop (at H t0)) w known
+told_on H K t0 None known told = tt
+told_on H K t0 (Some w) known told = known_on H K t0 told
 
 due_by : (H : Host) (t0 : ℤ) (i : ℕ) (was : Bool) → was ≡ true → IsTold (KnowsNextHop (at H t0)) (wait_at H.sockets i) was →
     (x : ℤ) (j : ℕ) → SocketDue (at (with_waits H (slice_set H.sockets.waits i None)) t0) j x → (j ≡ i) ⊎ (j ≡ i → ⊥) → SocketDue (at H t0) j x
@@ -182,13 +188,36 @@ due_by H t0 i was is told x j d (inr other) =
       socket = d.socket;
       known = d.known;
       here = d.here;
-      told = subst (λ w. IsTold (KnowsNextHop (at H t0)) w d.known) kept (told_on H (slice_set H.sockets.waits i None) t0 (get_or (slice_set H.sockets.waits i None) j None) d.known d.told);
+      told = subst (λ w. IsTold (KnowsNextHop (at H t0)) w d.known) kept (told_on H (with_waits H (slice_set H.sockets.waits i None)) t0 (get_or (slice_set H.sockets.waits i None) j None) d.known d.told);
       instant = sym (ap (λ w. instant_of (poll_at w d.known t0 (socket.poll_at d.socket))) kept) ∙ d.instant;
     }
 
+-- what is due where slots and waits are others: by cases, of which only the last reads those
+due_altered : (H : Host) (t0 x : ℤ) (K : Host) →
+    ((j : ℕ) → SocketDue (at (altered H K) t0) j x → SocketDue (at H t0) j x) →
+    Due (at (altered H K) t0) x → Due (at H t0) x
+due_altered H t0 x K of_socket (OfPiece d) = OfPiece d
+due_altered H t0 x K of_socket (OfSocket j d) = OfSocket j (of_socket j d)
+
 due_cleared : (H : Host) (t0 : ℤ) (i : ℕ) (was : Bool) → was ≡ true → IsTold (KnowsNextHop (at H t0)) (wait_at H.sockets i) was →
     (x : ℤ) → Due (at (with_waits H (slice_set H.sockets.waits i None)) t0) x → Due (at H t0) x
-due_cleared H t0 i was is told x (OfSocket j d) = OfSocket j (due_by H t0 i was is told x j d (cases_eq j i))
+due_cleared H t0 i was is told x d = due_altered H t0 x (with_waits H (slice_set H.sockets.waits i None)) (λ j d. due_by H t0 i was is told x j d (cases_eq j i)) d
+
+-- where slots expire, or another timeout is set
+abbrev timed : Host → Slots → ℕ → Host
+timed H slots timeout = record H { slots = slots; reassembly_timeout = timeout }
+
+socket_still : (H : Host) (t0 : ℤ) (slots : Slots) (timeout : ℕ) (x : ℤ) (j : ℕ) → SocketDue (at (timed H slots timeout) t0) j x → SocketDue (at H t0) j x
+socket_still H t0 slots timeout x j d = record {
+  socket = d.socket;
+  known = d.known;
+  here = d.here;
+  told = told_on H (timed H slots timeout) t0 (get_or H.sockets.waits j None) d.known d.told;
+  instant = d.instant;
+}
+
+due_timed : (H : Host) (t0 x : ℤ) (slots : Slots) (timeout : ℕ) → Due (at (timed H slots timeout) t0) x → Due (at H t0) x
+due_timed H t0 x slots timeout d = due_altered H t0 x (timed H slots timeout) (socket_still H t0 slots timeout x) d
 
 unended : (w : Wait) → after_asking w false ≡ w
 unended None = refl
@@ -269,23 +298,58 @@ record Calls {A : Type 0} (t0 : ℤ) (nothing answer : A) (old new : Host) (told
   answers : answer ≡ nothing
   stays : Stays t0 old new told
 
+-- parts one after the other
+abbrev IsStill : ℤ → Part → Type 0
+IsStill t0 part = (old new : Host) (told : List Event) (notes : List Note) → Rests t0 old → part old told notes new → Stays t0 old new told
+
+waits : {A : Type 0} {xs : List A} {y : A} {ys : List A} → xs ≡ y ∷ ys → AtOnce xs (pos 0)
+waits {y = y} {ys = ys} e = record { first = y; others = ys; are = e; instant = refl }
+
+at_once : {t0 : ℤ} {H : Host} → Rests t0 H → Due (at H t0) (pos 0) → ⊥
+at_once {t0} {H} r d = let passed : H.moment <ℤ pos 0 = r.none (pos 0) d in absurd (omega (arith, ints, r.low, r.from))
+
+piece_still : (t0 : ℤ) → IsStill t0 SendsPiece
+piece_still t0 old new told notes r (egress.NoPiece l t n e) = stays t0 e (ap sent t)
+piece_still t0 old new told notes r (egress.NoLeave piece rest l t n e) = absurd (at_once r (OfPiece (waits l)))
+piece_still t0 old new told notes r (egress.PieceGoes piece rest l t n e) = absurd (at_once r (OfPiece (waits l)))
+
+-- the same of what ends with the sockets
+abbrev IsWalked : ℤ → Bool → Part → Type 0
+IsWalked t0 changed part = (old new : Host) (told : List Event) (notes : List Note) → Rests t0 old → part old told notes new → Walked t0 changed old new told
+
+both_walked : {t0 : ℤ} {changed : Bool} {one two : Part} → IsStill t0 one → IsWalked t0 changed two → IsWalked t0 changed (Both one two)
+both_walked {t0} {changed} still walked old new told notes r b =
+    let first = still old b.mid b.told_one b.notes_one r b.begins in
+    let rest = walked b.mid new b.told_two b.notes_two (rests_on first r) b.ends in
+    record { unchanged = rest.unchanged; stays = subst (λ (es : List Event). Stays t0 old new es) (sym b.events) (stays_on first rest.stays) }
+
+round_quiet : (t0 : ℤ) (changed : Bool) → IsWalked t0 changed (Round changed)
+round_quiet t0 changed = both_walked (piece_still t0) (λ old new told notes r w. sockets_quiet r w)
+
+-- slots that have ended are dropped
+swept_still : (t0 : ℤ) (H : Host) → Stays t0 H (swept H H.moment) []
+swept_still t0 H = record { moment = refl; routes = refl; places = refl; due = λ x d. due_timed H t0 x (left_at H.moment H.slots) H.reassembly_timeout d; silent = refl }
+
+maintained_quiet : {t0 : ℤ} (H : Host) → Rests t0 H → Stays t0 H (maintained H) []
+maintained_quiet {t0} H r = swept_still t0 H
+
 egress_quiet : {t t0 : ℤ} {answer : PollResult} {old new : Host} {told : List Event} {notes : List Note} → Rests t0 (at old t) → Egress t answer old told notes new → Calls t0 result.None answer (at old t) new told
-egress_quiet r e =
-    let w = sockets_quiet r e.round in
+egress_quiet {t} {t0} {answer} {old} {new} {told} {notes} r e =
+    let w = round_quiet t0 e.changed (at old t) new told notes r e.round in
     record { answers = e.answers ∙ ap egress.answer_of w.unchanged; stays = w.stays }
 
 -- a call that receives, where no frame is handed over
 received_nothing : {t : ℤ} {answer : PollIngressSingleResult} {old new : Host} {told : List Event} {notes : List Note} (t0 : ℤ) (i : Ingress t answer old told notes new) →
-    IsDropped (at old t) i.response.reply i.response.notes_taking i.response.taken → answer_to i.reception ≡ ingress.None → Calls t0 ingress.None answer (at old t) new told
-received_nothing t0 i d e =
+    IsDropped (swept old t) i.response.reply i.response.notes_taking i.response.taken → answer_to i.reception ≡ ingress.None → Calls t0 ingress.None answer (at old t) new told
+received_nothing {t} {old = old} t0 i d e =
     let r = nothing_responded d.silent i.response.responds in
-    record { answers = i.answers ∙ e; stays = stays t0 (r.2 ∙ d.unchanged) (rw (i.events, r.0) refl) }
+    record { answers = i.answers ∙ e; stays = stays_on (swept_still t0 (at old t)) (stays t0 (r.2 ∙ d.unchanged) (rw (i.events, r.0) refl)) }
 
 ingress_by : {t : ℤ} {answer : PollIngressSingleResult} {old new : Host} {told : List Event} {notes : List Note} (t0 : ℤ) → handed told ≡ [] → (i : Ingress t answer old told notes new) →
     (reception : Reception) → i.reception ≡ reception → Calls t0 ingress.None answer (at old t) new told
 ingress_by t0 none i (Frame f) is = let some = rw (i.events, is) at none in absurd cc
-ingress_by {t} {old = old} t0 none i Nothing is = received_nothing t0 i (subst (λ r. Takes (at old t) r i.response.reply i.response.notes_taking i.response.taken) is i.response.takes) (ap answer_to is)
-ingress_by {t} {old = old} t0 none i Withheld is = received_nothing t0 i (subst (λ r. Takes (at old t) r i.response.reply i.response.notes_taking i.response.taken) is i.response.takes) (ap answer_to is)
+ingress_by {t} {old = old} t0 none i Nothing is = received_nothing t0 i (subst (λ r. Takes (swept old t) r i.response.reply i.response.notes_taking i.response.taken) is i.response.takes) (ap answer_to is)
+ingress_by {t} {old = old} t0 none i Withheld is = received_nothing t0 i (subst (λ r. Takes (swept old t) r i.response.reply i.response.notes_taking i.response.taken) is i.response.takes) (ap answer_to is)
 
 ingress_quiet : {t : ℤ} {answer : PollIngressSingleResult} {old new : Host} {told : List Event} {notes : List Note} (t0 : ℤ) → handed told ≡ [] → Ingress t answer old told notes new → Calls t0 ingress.None answer (at old t) new told
 ingress_quiet t0 none i = ingress_by t0 none i i.reception refl
@@ -333,7 +397,13 @@ module _ {A : Type 0} (call : A → Host → List Event → List Note → Host �
 polls_quiet : {t t0 : ℤ} {budget : ℕ} {answer : PollResult} {old new : Host} {told : List Event} {notes : List Note} → Rests t0 (at old t) → handed told ≡ [] → Polls t budget answer old told notes new → Calls t0 result.None answer (at old t) new told
 polls_quiet {t} {t0} {budget} {answer} {old} {new} {told} r none p =
     let parts = rw p.events at none in
-    let first = until_quiet (Ingress t) ingress.None polling.may_change t0 (at old t) (λ answer told notes new e i. ingress_quiet t0 e i) (handed-left p.told_receiving p.told_sending parts) p.receives in
+    let K : Host = maintained (at old t) in
+    let begun : Stays t0 (at old t) K [] = maintained_quiet (at old t) r in
+    let same : at K t ≡ K = ap (at K) (sym begun.moment) in
+    let receives : (answer : PollIngressSingleResult) (told : List Event) (notes : List Note) (new : Host) → handed told ≡ [] → Ingress t answer K told notes new → Calls t0 ingress.None answer K new told =
+    λ answer told notes new e i. subst (λ (K : Host). Calls t0 ingress.None answer K new told) same (ingress_quiet t0 e i) in
+    let taken = until_quiet (Ingress t) ingress.None polling.may_change t0 K receives (handed-left p.told_receiving p.told_sending parts) p.receives in
+    let first : Walked t0 p.received (at old t) p.mid p.told_receiving = record { unchanged = taken.unchanged; stays = stays_on begun taken.stays } in
     let moment : at p.mid t ≡ p.mid = ap (at p.mid) (sym first.stays.moment) in
     let rests : Rests t0 (at p.mid t) = subst (Rests t0) (sym moment) (rests_on first.stays r) in
     let calls : (answer : PollResult) (told : List Event) (notes : List Note) (new : Host) → handed told ≡ [] → Egress t answer p.mid told notes new → Calls t0 result.None answer p.mid new told =
@@ -362,6 +432,11 @@ unchanged {t0} {old} {new} answer answers e = record {
   due = λ x d. subst (λ (K : Host). Due (at K t0) x) e d;
 }
 
+timeout_still : {t0 : ℤ} {timeout : ℕ} {result : _} {old new : Host} (given : Answer) → AnswersNone given → step.SetsReassemblyTimeout timeout result old new → Still t0 given old new []
+timeout_still {t0} {timeout} {old = old} given answers (step.WithinDay l r e) =
+    rw e (record { answers = answers; silent = refl; places = refl; due = λ x d. due_timed old t0 x old.slots timeout d })
+timeout_still given answers (step.OverDay l r e) = unchanged given answers e
+
 -- what is due from the end on
 abbrev DueFrom : Option ℤ → Host → ℤ → Type 0
 DueFrom end H t0 = (s : ℤ) → IsBefore s end → NoneDue H t0 s
@@ -379,7 +454,7 @@ step_quiet : {command : Command} {answer : Answer} {old new : Host} {told : List
 step_quiet t0 end low due calm none (step.PolledIngressSingle {result = result} i) = let c = ingress_quiet t0 none i in still (answer.PollIngressSingle result) c.answers c.stays
 step_quiet t0 end low due calm none (step.PolledEgress {result = result} {old = old} e) = let c = egress_quiet (rests old low due calm) e in still (answer.PollEgress result) c.answers c.stays
 step_quiet t0 end low due calm none (step.Polled {result = result} {old = old} p) = let c = polls_quiet (rests old low due calm) none p in still (answer.Poll result) c.answers c.stays
-step_quiet t0 end low due calm none step.PolledMaintenance = still answer.PollMaintenance tt (stays t0 refl refl)
+step_quiet t0 end low due calm none (step.PolledMaintenance {t} {old}) = still answer.PollMaintenance tt (maintained_quiet (at old t) (rests old low due calm))
 step_quiet t0 end low due calm none (step.PolledAt {end = given} least) = still (answer.PollAt given) tt (stays t0 refl refl)
 step_quiet t0 end low due calm none (step.PolledDelay {rest = rest} given least r) = still (answer.PollDelay rest) tt (stays t0 refl refl)
 step_quiet t0 end low due calm none (step.UpdatedIpAddrs {result = result} u) = unchanged (answer.UpdateIpAddrs result) tt calm
@@ -388,6 +463,7 @@ step_quiet {answer = given} t0 end low due calm none step.AddedDefaultIpv4Route 
 step_quiet {answer = given} t0 end low due calm none step.RemovedDefaultIpv4Route = unchanged given tt calm
 step_quiet t0 end low due calm none step.TookAnyIp = unchanged answer.SetAnyIp tt calm
 step_quiet t0 end low due calm none (step.TookHardwareAddr {result = result} s) = unchanged (answer.SetHardwareAddr result) tt calm
+step_quiet t0 end low due calm none (step.TookReassemblyTimeout {result = result} s) = timeout_still (answer.SetReassemblyTimeout result) tt s
 step_quiet t0 end low due calm none (step.OwnerActed sockets) = unchanged answer.Owner tt calm
 
 -- a run from where `poll_at` answered, as far as nothing disturbs it
@@ -413,6 +489,7 @@ quiet_after step.AddedDefaultIpv4Route r = tt
 quiet_after step.RemovedDefaultIpv4Route r = tt
 quiet_after step.TookAnyIp r = tt
 quiet_after (step.TookHardwareAddr s) r = tt
+quiet_after (step.TookReassemblyTimeout s) r = tt
 quiet_after (step.OwnerActed sockets) r = tt
 
 -- over a whole run

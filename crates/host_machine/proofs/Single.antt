@@ -1,6 +1,5 @@
 -- At most one frame is taken by one call, and at most one sent.
-use Rattle.std.proofs.Common.{◌≡◌, ℕ, ℤ, ◌≤◌, Bool, true, false, List, [], ◌∷◌, length, Option, Some, None, lit≤}
-use Rattle.std.specs.Prelude.{if◌then◌else◌}
+use Rattle.std.proofs.Common.{◌≡◌, ℕ, ℤ, ◌≤◌, List, [], ◌∷◌, length, Option, Some, None, lit≤}
 use Rattle.net_base.specs.Device.{Event, Reception, Received, Frame, Nothing, Withheld, handed, sent}
 use Rattle.ip_address.specs.declared.hardware.HardwareAddress.{HardwareAddress}
 use Rattle.ip_address.specs.declared.hardware.HardwareAddress.TheVariants as hardware
@@ -16,36 +15,33 @@ use Rattle.host_machine.specs.Response.{Responds}
 use Rattle.host_machine.specs.Ingress.{Ingress}
 use Rattle.host_machine.proofs.Malformed.{handed-sends, sent-sends}
 
--- as many as one, or none
-one_or_none : (fits : Bool) (frame : List ℕ) → length (if fits then frame ∷ [] else []) ≤ 1
-one_or_none true frame = lit≤ tt
-one_or_none false frame = lit≤ tt
-
-emitted : {p : Packet} {h : HardwareAddress} {outcome : Outcome} {H new : Host} {frames : List (List ℕ)} {notes : List Note} → Emits p h outcome H frames notes new → length frames ≤ 1
-emitted {p} {h} {outcome} {H} e = rw e.sent (one_or_none _ _)
+emitted : {id : ℕ} {p : Packet} {h : HardwareAddress} {outcome : Outcome} {H new : Host} {frames : List (List ℕ)} {notes : List Note} → Emits id p h outcome H frames notes new → length frames ≤ 1
+emitted (dispatch.Whole fits o f n e) = rw f (lit≤ tt)
+emitted (dispatch.InPieces first rest long short pieces fits o f n e) = rw f (lit≤ tt)
+emitted (dispatch.TooLong long longer o u) = rw u.silent (lit≤ tt)
 
 discovered : {hop : _} {own : _} {outcome : Outcome} {H new : Host} {frames : List (List ℕ)} {notes : List Note} → Discovers own hop outcome H frames notes new → length frames ≤ 1
 discovered (dispatch.Asked target source h s o f n e) = rw f (lit≤ tt)
 discovered (dispatch.NoSource target h s o u) = rw u.silent (lit≤ tt)
 discovered (dispatch.NotIpv4 target h o u) = rw u.silent (lit≤ tt)
 
-by_hop : {own : _} {p : Packet} {hop : _} {outcome : Outcome} {H new : Host} {frames : List (List ℕ)} {notes : List Note} → SendsByHop own p hop outcome H frames notes new → length frames ≤ 1
+by_hop : {id : ℕ} {own : _} {p : Packet} {hop : _} {outcome : Outcome} {H new : Host} {frames : List (List ℕ)} {notes : List Note} → SendsByHop id own p hop outcome H frames notes new → length frames ≤ 1
 by_hop (dispatch.Known h k e) = emitted e
 by_hop (dispatch.Silent s o u) = rw u.silent (lit≤ tt)
 by_hop (dispatch.Unknown u d) = discovered d
 
-over_ethernet : {own : _} {p : Packet} {outcome : Outcome} {H new : Host} {frames : List (List ℕ)} {notes : List Note} → SendsEthernet own p outcome H frames notes new → length frames ≤ 1
+over_ethernet : {id : ℕ} {own : _} {p : Packet} {outcome : Outcome} {H new : Host} {frames : List (List ℕ)} {notes : List Note} → SendsEthernet id own p outcome H frames notes new → length frames ≤ 1
 over_ethernet (dispatch.ToMany h m e) = emitted e
 over_ethernet (dispatch.NoHop m n o u) = rw u.silent (lit≤ tt)
 over_ethernet (dispatch.ByHop hop m n s) = by_hop s
 
-over : (h : HardwareAddress) (p : Packet) (outcome : Outcome) (H : Host) (frames : List (List ℕ)) (notes : List Note) (new : Host) → SendsOver h p outcome H frames notes new → length frames ≤ 1
-over (hardware.Ethernet own) p outcome H frames notes new s = over_ethernet s
-over hardware.Ip p outcome H frames notes new s = emitted s
+over : (id : ℕ) (h : HardwareAddress) (p : Packet) (outcome : Outcome) (H : Host) (frames : List (List ℕ)) (notes : List Note) (new : Host) → SendsOver id h p outcome H frames notes new → length frames ≤ 1
+over id (hardware.Ethernet own) p outcome H frames notes new s = over_ethernet s
+over id hardware.Ip p outcome H frames notes new s = emitted s
 
 dispatched : {p : Packet} {outcome : Outcome} {H new : Host} {frames : List (List ℕ)} {notes : List Note} → Dispatches p outcome H frames notes new → length frames ≤ 1
 dispatched (dispatch.ToNobody n o u) = rw u.silent (lit≤ tt)
-dispatched {p} {outcome} {H} {new} {frames} {notes} (dispatch.ToSomebody s d) = over H.hardware_addr p outcome (identified H) frames notes new d
+dispatched {p} {outcome} {H} {new} {frames} {notes} (dispatch.ToSomebody more s d n) = over H.ipv4_id H.hardware_addr p outcome (identified H) frames more new d
 
 responded : (reply : Option Reply) (H : Host) (frames : List (List ℕ)) (notes : List Note) (new : Host) → Responds reply H frames notes new → length frames ≤ 1
 responded None H frames notes new r = rw r.0 (lit≤ tt)

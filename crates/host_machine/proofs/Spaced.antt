@@ -1,5 +1,5 @@
 -- The discovery requests of a run are at least a second apart.
-use Rattle.std.proofs.Common.{◌≡◌, List, [], ◌∷◌, ◌++◌, refl, ap}
+use Rattle.std.proofs.Common.{◌≡◌, ℕ, List, [], ◌∷◌, ◌++◌, refl, ap}
 use Rattle.std.specs.Prelude.{ℤ, pos, ◌+ℤ◌, ◌≤ℤ◌, Option, Some, None, if◌then◌else◌}
 use Rattle.std.specs.FinMap as map
 use Rattle.std.specs.Cmp.{int_cmp_is}
@@ -13,8 +13,17 @@ use Rattle.iface_tables.specs.declared.neighbor.Answer.TheVariants.{Found, NotFo
 use Rattle.iface_tables.specs.Neighbor.{answer_of, answer_from, missing}
 use Rattle.host_machine.specs.Dispatch.{silenced}
 use Rattle.host_machine.specs.Host.{Host, with_neighbors}
-use Rattle.host_machine.specs.Note.{Note, Ask, asks}
+use Rattle.ip_address.specs.declared.ethernet_address.EthernetAddress.{EthernetAddress}
+use Rattle.ip_address.specs.declared.hardware.HardwareAddress.TheVariants as hardware
+use Rattle.ip_address.specs.declared.ipv4.Ipv4Address.{Ipv4Address}
+use Rattle.fragmentation.specs.Fragments.{Fragment}
+use Rattle.fragmentation.specs.declared.key.FragKey.{FragKey}
+use Rattle.host_machine.specs.Reassembly.{TakesFragment}
+use Rattle.host_machine.specs.Frame.{arp_frame}
+use Rattle.host_machine.specs.Arp.{request_for}
+use Rattle.host_machine.specs.Note.{Note, OfDiscovery, Ask, asks}
 use Rattle.host_machine.specs.Run.{AreSpaced, Place, Run, notes_in}
+use Rattle.host_machine.proofs.Notes.{asks-append, asks-slots}
 use Rattle.host_machine.proofs.Walk.{Keeps, walk}
 
 -- the silence after requests at these moments
@@ -26,8 +35,8 @@ record Spaces (s : ℤ) (times : List ℤ) (s' : ℤ) : Type 0 where
   spaced : AreSpaced s times
   is_after : s' ≡ silence_after s times
 
-abbrev SpacedOver : Host → List Note → Host → Type 0
-SpacedOver old notes new = Spaces old.neighbors.silent_until (asks notes) new.neighbors.silent_until
+abbrev SpacedOver : Host → List (List ℕ) → List Note → Host → Type 0
+SpacedOver old frames notes new = Spaces old.neighbors.silent_until (asks notes) new.neighbors.silent_until
 
 times_on : (s m s' : ℤ) (xs ys : List ℤ) → Spaces s xs m → Spaces m ys s' → Spaces s (xs ++ ys) s'
 times_on s m s' [] ys a b = rw (← a.is_after) b
@@ -35,12 +44,8 @@ times_on s m s' (x ∷ xs) ys a b =
     let rest = times_on (x +ℤ pos 1000000) m s' xs ys (record { spaced = a.spaced.1; is_after = a.is_after }) b in
     record { spaced = (a.spaced.0, rest.spaced); is_after = rest.is_after }
 
-asks-append : (xs ys : List Note) → asks (xs ++ ys) ≡ asks xs ++ asks ys
-asks-append [] ys = refl
-asks-append (Ask t ∷ xs) ys = ap (λ ts. t ∷ ts) (asks-append xs ys)
-
-keeps : (old new : Host) → Keeps old new → SpacedOver old [] new
-keeps old new k = record { spaced = tt; is_after = ap (λ (H : Host). H.neighbors.silent_until) k.same }
+keeps : (old new : Host) → Keeps old new → SpacedOver old [] [] new
+keeps old new k = record { spaced = tt; is_after = ap (λ (K : Host). K.neighbors.silent_until) k.same }
 
 -- who is asked for was looked up, and no silence stood
 limited : RateLimited ≡ NotFound → ⊥
@@ -61,12 +66,28 @@ silence_passed : (e : Option Neighbor) (silent t : ℤ) → answer_from e silent
 silence_passed None silent t unknown = missing_passed silent t unknown
 silence_passed (Some n) silent t unknown = found_or_passed (int_cmp t n.expires_at) n silent t unknown
 
-asked : (H : Host) (hop : IpAddress) → answer_of H.neighbors hop H.moment ≡ NotFound → SpacedOver H (Ask H.moment ∷ []) (with_neighbors H (silenced H.neighbors H))
-asked H hop unknown = record { spaced = (silence_passed (map.get H.neighbors.known hop) H.neighbors.silent_until H.moment unknown, tt); is_after = refl }
+asked : (H : Host) (own : EthernetAddress) (source target : Ipv4Address) (hop : IpAddress) → H.hardware_addr ≡ hardware.Ethernet own → answer_of H.neighbors hop H.moment ≡ NotFound →
+    SpacedOver H (arp_frame (request_for own source target) ∷ []) (OfDiscovery (Ask H.moment) ∷ []) (with_neighbors H (silenced H.neighbors H))
+asked H own source target hop mine unknown = record { spaced = (silence_passed (map.get H.neighbors.known hop) H.neighbors.silent_until H.moment unknown, tt); is_after = refl }
 
-on : (a b c : Host) (xs ys : List Note) → SpacedOver a xs b → SpacedOver b ys c → SpacedOver a (xs ++ ys) c
-on a b c xs ys one two = rw asks-append (times_on a.neighbors.silent_until b.neighbors.silent_until c.neighbors.silent_until (asks xs) (asks ys) one two)
+on : (a b c : Host) (fs gs : List (List ℕ)) (xs ys : List Note) → SpacedOver a fs xs b → SpacedOver b gs ys c → SpacedOver a (fs ++ gs) (xs ++ ys) c
+on a b c fs gs xs ys one two = rw asks-append (times_on a.neighbors.silent_until b.neighbors.silent_until c.neighbors.silent_until (asks xs) (asks ys) one two)
+
+fragments : (H : Host) (key : FragKey) (f : Fragment) (result : Option (List ℕ)) (notes : List Note) (new : Host) → TakesFragment key f result H notes new → SpacedOver H [] notes new
+fragments H key f result notes new t = rw (t.noted, t.changed, asks-slots t.slot_notes) (record { spaced = tt; is_after = refl })
 
 -- over a whole run
 pub run_spaced : {first last : Host} {places : List Place} → Run first places last → AreSpaced first.neighbors.silent_until (asks (notes_in places))
-run_spaced r = (walk SpacedOver keeps asked on r).spaced
+run_spaced r =
+    (walk SpacedOver keeps on asked
+    (λ H. record { spaced = tt; is_after = refl })
+    (λ H h p reached. record { spaced = tt; is_after = refl })
+    (λ H h id p first rest e form reached. record { spaced = tt; is_after = refl })
+    (λ H t. record { spaced = tt; is_after = refl })
+    fragments
+    (λ H p rest e. record { spaced = tt; is_after = refl })
+    (λ H r'. record { spaced = tt; is_after = refl })
+    (λ H h. record { spaced = tt; is_after = refl })
+    (λ H list. record { spaced = tt; is_after = refl })
+    (λ H timeout. record { spaced = tt; is_after = refl })
+    r).spaced

@@ -3,7 +3,7 @@ use Rattle.std.proofs.Common.{◌≡◌, ℕ, List, [], ◌∷◌, ◌++◌, ref
 use Rattle.std.proofs.lemmas.List.{append-nil}
 use Rattle.std.specs.Prelude.{ℤ, pos, Bool, true, false, if◌then◌else◌}
 use Rattle.std.specs.FinMap as map
-use Rattle.net_base.specs.Device.{Event, Reception, Frame, Nothing, Withheld}
+use Rattle.net_base.specs.Device.{Event, Reception, Frame, Nothing, Withheld, Received, Asked, Sent, sent}
 use Rattle.ip_address.specs.declared.cidr.IpCidr.{IpCidr}
 use Rattle.ip_address.specs.declared.ethernet_address.EthernetAddress.{EthernetAddress}
 use Rattle.ip_wire.specs.declared.ethernet.EthernetProtocol.{EthernetProtocol}
@@ -17,17 +17,26 @@ use Rattle.ip_wire.specs.declared.ipv4_packet.Ipv4Repr.{Ipv4Repr}
 use Rattle.ip_wire.specs.declared.ipv4_packet.Ipv4Fragment.{Ipv4Fragment}
 use Rattle.ip_address.specs.declared.protocol.IpProtocol.{IpProtocol}
 use Rattle.ip_address.specs.declared.protocol.IpProtocol.TheVariants as ip_protocol
-use Rattle.iface_tables.specs.declared.neighbor.Answer.TheVariants.{NotFound}
+use Rattle.iface_tables.specs.declared.neighbor.Answer.TheVariants.{Found, NotFound}
 use Rattle.ip_address.specs.declared.ip.IpAddress.TheVariants.{Ipv4}
 use Rattle.iface_tables.specs.Neighbor.{answer_of, renewed, expiry_from}
 use Rattle.host_machine.specs.declared.results.PollIngressSingleResult.{PollIngressSingleResult}
 use Rattle.host_machine.specs.declared.results.PollResult.{PollResult}
 use Rattle.host_machine.specs.declared.results.Turn.{Turn}
-use Rattle.host_machine.specs.Note.{Note, Ask}
-use Rattle.host_machine.specs.Host.{Host, Socket, at, no_sockets, with_neighbors}
+use Rattle.ip_wire.specs.declared.arp.ArpRepr.{ArpRepr}
+use Rattle.ip_address.specs.declared.ipv4.Ipv4Address.{Ipv4Address}
+use Rattle.fragmentation.specs.Fragments.{Fragment}
+use Rattle.fragmentation.specs.declared.key.FragKey.{FragKey}
+use Rattle.fragmentation.specs.Cuts.{Piece, pieces_of, HasForm}
+use Rattle.host_machine.specs.Reassembly.{TakesFragment}
+use Rattle.host_machine.specs.Real.{AreReal}
+use Rattle.host_machine.proofs.Six.{filled_six, renewed_six, arp_source_six}
+use Rattle.host_machine.specs.Note.{Note, OfDiscovery, OfIdentification, OfCuts, Ask, Identify, Cut, PieceSent}
+use Rattle.host_machine.specs.Host.{Host, Socket, Storage, no_sockets, swept, with_left, with_neighbors, with_places}
 use Rattle.host_machine.specs.Packet.{Packet}
 use Rattle.host_machine.specs.Reply.{Reply, Arp, Ip, IsDropped}
-use Rattle.host_machine.specs.Arp.{TakesArp}
+use Rattle.host_machine.specs.Frame.{arp_frame, ip_frame, piece_frame}
+use Rattle.host_machine.specs.Arp.{TakesArp, request_for}
 use Rattle.host_machine.specs.Arp as arp
 use Rattle.host_machine.specs.Udp.{TakesUdp}
 use Rattle.host_machine.specs.Udp as udp
@@ -36,86 +45,126 @@ use Rattle.host_machine.specs.Icmpv4 as icmpv4
 use Rattle.host_machine.specs.Raw as raw
 use Rattle.host_machine.specs.Tcp.{TakesTcp}
 use Rattle.host_machine.specs.Tcp as tcp
-use Rattle.host_machine.specs.Ipv4.{IsRefused, TakesProtocol, TakesPacket, TakesIpv4, heard_from}
+use Rattle.host_machine.specs.Ipv4.{IsRefused, TakesProtocol, TakesWhole, TakesPacket, TakesIpv4, heard_from}
 use Rattle.host_machine.specs.Ipv4 as ipv4
 use Rattle.host_machine.specs.Addresses.{is_unicast_v4}
 use Rattle.host_machine.specs.Ethernet.{TakesPayload, TakesEthernet, TakesFrame}
 use Rattle.host_machine.specs.Ethernet as ethernet
-use Rattle.host_machine.specs.Dispatch.{Outcome, IsUnsent, Emits, Discovers, SendsByHop, SendsEthernet, SendsOver, Dispatches, identified, silenced}
+use Rattle.host_machine.specs.Dispatch.{Outcome, IsUnsent, Emits, Discovers, SendsByHop, SendsEthernet, SendsOver, Dispatches, identified, silenced, destination_of, many_address, datagram_of}
 use Rattle.host_machine.specs.Dispatch as dispatch
 use Rattle.host_machine.specs.Response.{Responds}
 use Rattle.host_machine.specs.Ingress.{Takes, Ingress}
-use Rattle.host_machine.specs.Egress.{SocketTurn, Serves, Walks, SocketsSend, Egress}
-use Rattle.host_machine.specs.Egress as egress
+use Rattle.host_machine.specs.Egress.{SocketTurn, Serves, Walks, SocketsSend, SendsPiece, Round, Egress}
+use Rattle.host_machine.specs.Parts.{Part}
 use Rattle.host_machine.specs.Polling.{Polls}
-use Rattle.host_machine.specs.Step.{Act, Step, UpdatesIpAddrs, Accepted, Refused, SetsHardwareAddr, Taken, NotTaken}
+use Rattle.host_machine.proofs.Malformed.{sent-sends}
+use Rattle.host_machine.proofs.Repeated.{both, polled}
+use Rattle.host_machine.specs.Egress as egress
+use Rattle.host_machine.specs.Step.{Act, Step, Accepted, Refused, Taken, NotTaken, WithinDay, OverDay, flushed}
 use Rattle.host_machine.specs.Step as step
-use Rattle.host_machine.specs.Run.{Place, Run, Ends, Then, notes_in}
-use Rattle.host_machine.proofs.Repeated.{polled}
+use Rattle.host_machine.specs.Run.{Place, Run, Ends, Then, notes_in, told_in}
 
 -- what no such law reads, set to one value
-abbrev rest_of : Host → Host
-rest_of H = record H { moment = pos 0; hardware_addr = hardware.Ip; ip_addrs = []; any_ip = false; routes = []; neighbors = record { known = map.empty; silent_until = H.neighbors.silent_until }; ipv4_id = 0; sockets = no_sockets }
+abbrev pub rest_of : Host → Host
+rest_of H = record H { moment = pos 0; any_ip = false; routes = []; neighbors = record { known = map.empty; silent_until = H.neighbors.silent_until }; sockets = no_sockets }
 
 -- what such laws read of a host stays
 pub record Keeps (old new : Host) : Type 0 where
   pub same : rest_of new ≡ rest_of old
+  pub real : AreReal old.neighbors → AreReal new.neighbors
 
-kept : {old new : Host} → new ≡ old → Keeps old new
-kept e = record { same = ap rest_of e }
+pub kept : {old new : Host} → new ≡ old → Keeps old new
+kept e = record { same = ap rest_of e; real = λ r. rw e r }
 
--- where only the rest is another
-abbrev unread : {old new : Host} → rest_of new ≡ rest_of old → Keeps old new
-unread e = record { same = e }
+-- a host that is another one, which keeps that
+pub kept_by : {old mid new : Host} → new ≡ mid → Keeps old mid → Keeps old new
+kept_by e k = record { same = ap rest_of e ∙ k.same; real = λ r. rw e (k.real r) }
+
+-- where the neighbours stay too
+abbrev pub unread : {old new : Host} → rest_of new ≡ rest_of old → new.neighbors ≡ old.neighbors → Keeps old new
+unread e n = record { same = e; real = λ r. rw n r }
+
+pub heard_kept : (r : Ipv4Repr) (payload : List ℕ) (H : Host) → Keeps H (raw.heard r payload H)
+heard_kept r payload H = unread refl refl
 
 -- a packet for the host alone may renew a neighbour, and no more
-heard : (source : HardwareAddress) (r : Ipv4Repr) (H : Host) → Keeps H (heard_from source r H)
+pub heard : (source : HardwareAddress) (r : Ipv4Repr) (H : Host) → Keeps H (heard_from source r H)
 heard source r H = by (is_unicast_v4 H.ip_addrs r.dst_addr) where
   by : (b : Bool) → Keeps H (if b then with_neighbors H (renewed H.neighbors (Ipv4 r.src_addr) source (expiry_from H.moment)) else H)
-  by true = unread refl
-  by false = unread refl
+  by true = record { same = refl; real = renewed_six H.neighbors (Ipv4 r.src_addr) source (expiry_from H.moment) }
+  by false = unread refl refl
 
--- a law is given by its leaves: where what it reads stays and nothing is noted; where an unknown neighbour is asked for, and no
--- silence stands; and where one part follows another
-module _ (Law : Host → List Note → Host → Type 0)
-    (keeps : (old new : Host) → Keeps old new → Law old [] new)
-    (asks : (H : Host) (hop : IpAddress) → answer_of H.neighbors hop H.moment ≡ NotFound → Law H (Ask H.moment ∷ []) (with_neighbors H (silenced H.neighbors H)))
-    (on : (a b c : Host) (xs ys : List Note) → Law a xs b → Law b ys c → Law a (xs ++ ys) c) where
-  keeping : {old new : Host} {notes : List Note} → notes ≡ [] → Keeps old new → Law old notes new
-  keeping {old} {new} e k = rw e (keeps old new k)
+-- how the hardware address of a frame was found
+pub data Reached (H : Host) (h : HardwareAddress) : Type 0 where
+  ByNeighbor : (hop : IpAddress) → answer_of H.neighbors hop H.moment ≡ Found h → Reached H h
+  ByGroup : (a : IpAddress) (e : EthernetAddress) → many_address H.ip_addrs a ≡ Some e → h ≡ hardware.Ethernet e → Reached H h
+  WithoutAddresses : H.hardware_addr ≡ hardware.Ip → h ≡ hardware.Ip → Reached H h
 
-  -- a step after one that keeps what the law reads
-  after : {old mid new : Host} {notes : List Note} → Keeps old mid → Law mid notes new → Law old notes new
-  after {old} {mid} {new} {notes} k law = on old mid new [] notes (keeps old mid k) law
+pub sent-append : (xs ys : List Event) → sent (xs ++ ys) ≡ sent xs ++ sent ys
+sent-append [] ys = refl
+sent-append (Received t r ∷ xs) ys = sent-append xs ys
+sent-append (Asked t b ∷ xs) ys = sent-append xs ys
+sent-append (Sent id f ∷ xs) ys = ap (λ fs. f ∷ fs) (sent-append xs ys)
 
-  dropped : {H new : Host} {reply : Option Reply} {notes : List Note} → IsDropped H reply notes new → Law H notes new
-  dropped d = keeping d.unnoted (kept d.unchanged)
+-- A law on the frames that are sent and on what is noted is given by its leaves. Of each: where what it reads stays, and nothing is
+-- sent or noted; and where one part follows another.
+module _ (Law : Host → List (List ℕ) → List Note → Host → Type 0)
+    (keeps : (old new : Host) → Keeps old new → Law old [] [] new)
+    (on : (a b c : Host) (fs gs : List (List ℕ)) (xs ys : List Note) → Law a fs xs b → Law b gs ys c → Law a (fs ++ gs) (xs ++ ys) c) where
+  keeping : {old new : Host} {frames : List (List ℕ)} {notes : List Note} → frames ≡ [] → notes ≡ [] → Keeps old new → Law old frames notes new
+  keeping {old} {new} f e k = rw (f, e) (keeps old new k)
 
-  arp_taken : {own : EthernetAddress} {H new : Host} {payload : List ℕ} {reply : Option Reply} {notes : List Note} → TakesArp own H payload reply notes new → Law H notes new
+  -- a step after one that keeps what the law reads, and before one
+  after : {old mid new : Host} {frames : List (List ℕ)} {notes : List Note} → Keeps old mid → Law mid frames notes new → Law old frames notes new
+  after {old} {mid} {new} {frames} {notes} k law = on old mid new [] frames [] notes (keeps old mid k) law
+
+  before : {old mid new : Host} {frames : List (List ℕ)} {notes : List Note} → Law old frames notes mid → Keeps mid new → Law old frames notes new
+  before {old} {mid} {new} {frames} {notes} law k =
+      subst (λ ns. Law old frames ns new) (append-nil notes) (subst (λ fs. Law old fs (notes ++ []) new) (append-nil frames) (on old mid new frames [] notes [] law (keeps mid new k)))
+
+  -- the same by what the device tells
+  abbrev EventLaw : Part
+  EventLaw old told notes new = Law old (sent told) notes new
+
+  begins : (H : Host) → EventLaw H [] [] H
+  begins H = keeping refl refl (kept refl)
+
+  follows : (a b c : Host) (ts us : List Event) (xs ys : List Note) → EventLaw a ts xs b → EventLaw b us ys c → EventLaw a (ts ++ us) (xs ++ ys) c
+  follows a b c ts us xs ys one two = rw sent-append (on a b c (sent ts) (sent us) xs ys one two)
+
+  pub dropped : {H new : Host} {reply : Option Reply} {notes : List Note} → IsDropped H reply notes new → Law H [] notes new
+  dropped d = keeping refl d.unnoted (kept d.unchanged)
+
+  pub arp_taken : {own : EthernetAddress} {H new : Host} {payload : List ℕ} {reply : Option Reply} {notes : List Note} → TakesArp own H payload reply notes new → Law H [] notes new
   arp_taken (arp.Malformed m d) = dropped d
   arp_taken (arp.NotForUs a l d) = dropped d
-  arp_taken {H = H} (arp.Learnt a l learns r n) =
-      keeping n (unread (ap rest_of learns.same ∙ ap (λ s. rest_of (record H { neighbors = record { known = map.empty; silent_until = s } })) learns.filled.silence))
+  arp_taken {H = H} (arp.Learnt a l learns r n) = keeping refl n (kept_by learns.same (record {
+    same = ap (λ s. rest_of (record H { neighbors = record { known = map.empty; silent_until = s } })) learns.filled.silence;
+    real = filled_six _ _ _ _ (arp_source_six _ a) learns.filled;
+  }))
 
-  udp_taken : {raw : Bool} {r : Ipv4Repr} {H new : Host} {octets : List ℕ} {reply : Option Reply} {notes : List Note} → TakesUdp raw r H octets reply notes new → Law H notes new
+  placed : {H new : Host} {places : List Storage} {notes : List Note} → notes ≡ [] → new ≡ with_places H places → Law H [] notes new
+  placed n e = keeping refl n (kept_by e (unread refl refl))
+
+  udp_taken : {raw : Bool} {r : Ipv4Repr} {H new : Host} {octets : List ℕ} {reply : Option Reply} {notes : List Note} → TakesUdp raw r H octets reply notes new → Law H [] notes new
   udp_taken (udp.Malformed m d) = dropped d
-  udp_taken (udp.Delivered sockets u f r n e) = keeping n (unread (ap rest_of e))
-  udp_taken (udp.Unheard u none r n e) = keeping n (kept e)
+  udp_taken (udp.Delivered sockets u f r n e) = placed n e
+  udp_taken (udp.Unheard u none r n e) = keeping refl n (kept e)
 
-  icmpv4_taken : {r : Ipv4Repr} {H new : Host} {octets : List ℕ} {reply : Option Reply} {notes : List Note} → TakesIcmpv4 r H octets reply notes new → Law H notes new
+  icmpv4_taken : {r : Ipv4Repr} {H new : Host} {octets : List ℕ} {reply : Option Reply} {notes : List Note} → TakesIcmpv4 r H octets reply notes new → Law H [] notes new
   icmpv4_taken (icmpv4.Malformed m d) = dropped d
-  icmpv4_taken (icmpv4.Taken i r n e) = keeping n (unread (ap rest_of e))
+  icmpv4_taken (icmpv4.Taken i r n e) = placed n e
 
-  tcp_taken : {raw : Bool} {r : Ipv4Repr} {H new : Host} {octets : List ℕ} {reply : Option Reply} {notes : List Note} → TakesTcp raw r H octets reply notes new → Law H notes new
+  tcp_taken : {raw : Bool} {r : Ipv4Repr} {H new : Host} {octets : List ℕ} {reply : Option Reply} {notes : List Note} → TakesTcp raw r H octets reply notes new → Law H [] notes new
   tcp_taken (tcp.BetweenNobody b d) = dropped d
   tcp_taken (tcp.Malformed b m d) = dropped d
-  tcp_taken (tcp.Delivered index place b t f r n e) = keeping n (unread (ap rest_of e))
-  tcp_taken (tcp.Unheard b t none r n e) = keeping n (kept e)
+  tcp_taken (tcp.Delivered index place b t f r n e) = placed n e
+  tcp_taken (tcp.Unheard b t none r n e) = keeping refl n (kept e)
 
-  refused : {raw : Bool} {r : Ipv4Repr} {H new : Host} {octets : List ℕ} {reply : Option Reply} {notes : List Note} → IsRefused raw r H octets reply notes new → Law H notes new
-  refused i = keeping i.unnoted (kept i.unchanged)
+  refused : {raw : Bool} {r : Ipv4Repr} {H new : Host} {octets : List ℕ} {reply : Option Reply} {notes : List Note} → IsRefused raw r H octets reply notes new → Law H [] notes new
+  refused i = keeping refl i.unnoted (kept i.unchanged)
 
-  protocol_taken : (p : IpProtocol) (raw : Bool) (r : Ipv4Repr) (H : Host) (octets : List ℕ) (reply : Option Reply) (notes : List Note) (new : Host) → TakesProtocol p raw r H octets reply notes new → Law H notes new
+  protocol_taken : (p : IpProtocol) (raw : Bool) (r : Ipv4Repr) (H : Host) (octets : List ℕ) (reply : Option Reply) (notes : List Note) (new : Host) → TakesProtocol p raw r H octets reply notes new → Law H [] notes new
   protocol_taken ip_protocol.Icmp raw r H octets reply notes new t = icmpv4_taken t
   protocol_taken ip_protocol.Udp raw r H octets reply notes new t = udp_taken t
   protocol_taken ip_protocol.Tcp raw r H octets reply notes new t = tcp_taken t
@@ -124,138 +173,175 @@ module _ (Law : Host → List Note → Host → Type 0)
   protocol_taken ip_protocol.Icmpv6 raw r H octets reply notes new t = refused t
   protocol_taken (ip_protocol.Unknown n) raw r H octets reply notes new t = refused t
 
-  packet_taken : {source : HardwareAddress} {r : Ipv4Repr} {f : Ipv4Fragment} {H new : Host} {payload : List ℕ} {reply : Option Reply} {notes : List Note} →
-      TakesPacket source r f H payload reply notes new → Law H notes new
-  packet_taken (ipv4.FromNoHost s d) = dropped d
-  packet_taken (ipv4.Fragment s f d) = dropped d
-  packet_taken (ipv4.NotForUs s f u d) = after (unread refl) (dropped d)
-  packet_taken {source} {r} {f} {H} {new} {payload} {reply} {notes} (ipv4.Accepted s g u t) =
-      after (unread refl) (after (heard source r (raw.heard r payload H)) (protocol_taken r.next_header (raw.is_taken r H) r (heard_from source r (raw.heard r payload H)) payload reply notes new t))
+  pub whole_taken : {source : HardwareAddress} {r : Ipv4Repr} {H new : Host} {payload : List ℕ} {reply : Option Reply} {notes : List Note} →
+      TakesWhole source r H payload reply notes new → Law H [] notes new
+  whole_taken {source} {r} {H} {new} {payload} (ipv4.NotForUs u d) = after (heard_kept r payload H) (dropped d)
+  whole_taken {source} {r} {H} {new} {payload} {reply} {notes} (ipv4.Accepted u t) =
+      after (heard_kept r payload H) (after (heard source r (raw.heard r payload H)) (protocol_taken r.next_header (raw.is_taken r H) r (heard_from source r (raw.heard r payload H)) payload reply notes new t))
 
-  ipv4_taken : {source : HardwareAddress} {H new : Host} {octets : List ℕ} {reply : Option Reply} {notes : List Note} → TakesIpv4 source H octets reply notes new → Law H notes new
-  ipv4_taken (ipv4.Malformed m d) = dropped d
-  ipv4_taken (ipv4.Read i t) = packet_taken t
+  -- of receiving: where a fragment comes
+  module _ (fragments : (H : Host) (key : FragKey) (f : Fragment) (result : Option (List ℕ)) (notes : List Note) (new : Host) → TakesFragment key f result H notes new → Law H [] notes new) where
+    packet_taken : {source : HardwareAddress} {r : Ipv4Repr} {f : Ipv4Fragment} {H new : Host} {payload : List ℕ} {reply : Option Reply} {notes : List Note} →
+        TakesPacket source r f H payload reply notes new → Law H [] notes new
+    packet_taken (ipv4.FromNoHost s d) = dropped d
+    packet_taken {source} {r} {f} {H} {new} {payload} {reply} {notes} (ipv4.Part s g t e) = fragments H _ _ None notes new t
+    packet_taken {source} {r} {f} {H} {new} {payload} {reply} {notes} (ipv4.Completed octets mid first rest s g t w n) =
+        rw n (on H mid new [] [] first rest (fragments H _ _ (Some octets) first mid t) (whole_taken w))
+    packet_taken (ipv4.Whole s g t) = whole_taken t
 
-  payload_taken : (own source : EthernetAddress) (H : Host) (p : EthernetProtocol) (payload : List ℕ) (reply : Option Reply) (notes : List Note) (new : Host) →
-      TakesPayload own source H p payload reply notes new → Law H notes new
-  payload_taken own source H protocol.Arp payload reply notes new t = arp_taken t
-  payload_taken own source H protocol.Ipv4 payload reply notes new t = ipv4_taken t
-  payload_taken own source H protocol.Ipv6 payload reply notes new t = dropped t
-  payload_taken own source H (protocol.Unknown n) payload reply notes new t = dropped t
+    ipv4_taken : {source : HardwareAddress} {H new : Host} {octets : List ℕ} {reply : Option Reply} {notes : List Note} → TakesIpv4 source H octets reply notes new → Law H [] notes new
+    ipv4_taken (ipv4.Malformed m d) = dropped d
+    ipv4_taken (ipv4.Read i t) = packet_taken t
 
-  ethernet_taken : {own : EthernetAddress} {H new : Host} {frame : List ℕ} {reply : Option Reply} {notes : List Note} → TakesEthernet own H frame reply notes new → Law H notes new
-  ethernet_taken (ethernet.Malformed m d) = dropped d
-  ethernet_taken (ethernet.NotForUs l f d) = dropped d
-  ethernet_taken {own} {H} {new} {frame} {reply} {notes} (ethernet.Accepted l f t) = payload_taken own _ H _ _ reply notes new t
+    payload_taken : (own source : EthernetAddress) (H : Host) (p : EthernetProtocol) (payload : List ℕ) (reply : Option Reply) (notes : List Note) (new : Host) →
+        TakesPayload own source H p payload reply notes new → Law H [] notes new
+    payload_taken own source H protocol.Arp payload reply notes new t = arp_taken t
+    payload_taken own source H protocol.Ipv4 payload reply notes new t = ipv4_taken t
+    payload_taken own source H protocol.Ipv6 payload reply notes new t = dropped t
+    payload_taken own source H (protocol.Unknown n) payload reply notes new t = dropped t
 
-  frame_taken : (h : HardwareAddress) (H : Host) (frame : List ℕ) (reply : Option Reply) (notes : List Note) (new : Host) → TakesFrame h H frame reply notes new → Law H notes new
-  frame_taken (hardware.Ethernet own) H frame reply notes new t = ethernet_taken t
-  frame_taken hardware.Ip H frame reply notes new (ethernet.Ipv4 v t) = ipv4_taken t
-  frame_taken hardware.Ip H frame reply notes new (ethernet.OtherVersion v d) = dropped d
+    ethernet_taken : {own : EthernetAddress} {H new : Host} {frame : List ℕ} {reply : Option Reply} {notes : List Note} → TakesEthernet own H frame reply notes new → Law H [] notes new
+    ethernet_taken (ethernet.Malformed m d) = dropped d
+    ethernet_taken (ethernet.NotForUs l f d) = dropped d
+    ethernet_taken {own} {H} {new} {frame} {reply} {notes} (ethernet.Accepted l f t) = payload_taken own _ H _ _ reply notes new t
 
-  taken : (H : Host) (r : Reception) (reply : Option Reply) (notes : List Note) (new : Host) → Takes H r reply notes new → Law H notes new
-  taken H Nothing reply notes new t = dropped t
-  taken H Withheld reply notes new t = dropped t
-  taken H (Frame []) reply notes new t = dropped t
-  taken H (Frame (octet ∷ octets)) reply notes new t = frame_taken H.hardware_addr H (octet ∷ octets) reply notes new t
+    frame_taken : (h : HardwareAddress) (H : Host) (frame : List ℕ) (reply : Option Reply) (notes : List Note) (new : Host) → TakesFrame h H frame reply notes new → Law H [] notes new
+    frame_taken (hardware.Ethernet own) H frame reply notes new t = ethernet_taken t
+    frame_taken hardware.Ip H frame reply notes new (ethernet.Ipv4 v t) = ipv4_taken t
+    frame_taken hardware.Ip H frame reply notes new (ethernet.OtherVersion v d) = dropped d
 
-  unsent : {H new : Host} {frames : List (List ℕ)} {notes : List Note} → IsUnsent H frames notes new → Law H notes new
-  unsent u = keeping u.unnoted (kept u.unchanged)
+    pub taken : (H : Host) (r : Reception) (reply : Option Reply) (notes : List Note) (new : Host) → Takes H r reply notes new → Law H [] notes new
+    taken H Nothing reply notes new t = dropped t
+    taken H Withheld reply notes new t = dropped t
+    taken H (Frame []) reply notes new t = dropped t
+    taken H (Frame (octet ∷ octets)) reply notes new t = frame_taken H.hardware_addr H (octet ∷ octets) reply notes new t
 
-  emitted : {p : Packet} {h : HardwareAddress} {outcome : Outcome} {H new : Host} {frames : List (List ℕ)} {notes : List Note} → Emits p h outcome H frames notes new → Law H notes new
-  emitted e = keeping e.unnoted (kept e.unchanged)
+  -- of sending: where an unknown neighbour is asked for; where an identification is taken; where a packet goes whole; and where one is cut
+  module _ (asks : (H : Host) (own : EthernetAddress) (source target : Ipv4Address) (hop : IpAddress) → H.hardware_addr ≡ hardware.Ethernet own → answer_of H.neighbors hop H.moment ≡ NotFound →
+      Law H (arp_frame (request_for own source target) ∷ []) (OfDiscovery (Ask H.moment) ∷ []) (with_neighbors H (silenced H.neighbors H)))
+      (identifies : (H : Host) → Law H [] (OfIdentification (Identify H.ipv4_id) ∷ []) (identified H))
+      (whole : (H : Host) (h : HardwareAddress) (p : Packet) → Reached H h → Law H (ip_frame H h p ∷ []) [] H)
+      (cuts : (H : Host) (h : HardwareAddress) (id : ℕ) (p : Packet) (first : Piece) (rest : List Piece) → pieces_of (datagram_of H h id p) ≡ first ∷ rest → HasForm (datagram_of H h id p) → Reached H h →
+      Law H (piece_frame H first ∷ []) (OfCuts (Cut (datagram_of H h id p)) ∷ OfCuts (PieceSent first) ∷ []) (with_left H rest)) where
+    unsent : {H new : Host} {frames : List (List ℕ)} {notes : List Note} → IsUnsent H frames notes new → Law H frames notes new
+    unsent u = keeping u.silent u.unnoted (kept u.unchanged)
 
-  discovered : {own : EthernetAddress} {hop : IpAddress} {outcome : Outcome} {H new : Host} {frames : List (List ℕ)} {notes : List Note} →
-      answer_of H.neighbors hop H.moment ≡ NotFound → Discovers own hop outcome H frames notes new → Law H notes new
-  discovered {own} {hop} {outcome} {H} {new} {frames} {notes} unknown (dispatch.Asked target source h s o f n e) = rw (n, e) (asks H hop unknown)
-  discovered unknown (dispatch.NoSource target h s o u) = unsent u
-  discovered unknown (dispatch.NotIpv4 target h o u) = unsent u
+    emitted : {id : ℕ} {p : Packet} {h : HardwareAddress} {outcome : Outcome} {H new : Host} {frames : List (List ℕ)} {notes : List Note} → Reached H h → Emits id p h outcome H frames notes new → Law H frames notes new
+    emitted {id} {p} {h} {outcome} {H} {new} {frames} {notes} r (dispatch.Whole fits o f n e) = rw (f, n, e) (whole H h p r)
+    emitted {id} {p} {h} {outcome} {H} {new} {frames} {notes} r (dispatch.InPieces first rest long fits pieces form o f n e) = rw (f, n, e) (cuts H h id p first rest pieces form r)
+    emitted r (dispatch.TooLong long longer o u) = unsent u
 
-  sent_by_hop : {own : EthernetAddress} {p : Packet} {hop : IpAddress} {outcome : Outcome} {H new : Host} {frames : List (List ℕ)} {notes : List Note} →
-      SendsByHop own p hop outcome H frames notes new → Law H notes new
-  sent_by_hop (dispatch.Known h k e) = emitted e
-  sent_by_hop (dispatch.Silent s o u) = unsent u
-  sent_by_hop (dispatch.Unknown u d) = discovered u d
+    discovered : {own : EthernetAddress} {hop : IpAddress} {outcome : Outcome} {H new : Host} {frames : List (List ℕ)} {notes : List Note} →
+        H.hardware_addr ≡ hardware.Ethernet own → answer_of H.neighbors hop H.moment ≡ NotFound → Discovers own hop outcome H frames notes new → Law H frames notes new
+    discovered {own} {hop} {outcome} {H} {new} {frames} {notes} mine unknown (dispatch.Asked target source h s o f n e) = rw (f, n, e) (asks H own source target hop mine unknown)
+    discovered mine unknown (dispatch.NoSource target h s o u) = unsent u
+    discovered mine unknown (dispatch.NotIpv4 target h o u) = unsent u
 
-  sent_over_ethernet : {own : EthernetAddress} {p : Packet} {outcome : Outcome} {H new : Host} {frames : List (List ℕ)} {notes : List Note} →
-      SendsEthernet own p outcome H frames notes new → Law H notes new
-  sent_over_ethernet (dispatch.ToMany h m e) = emitted e
-  sent_over_ethernet (dispatch.NoHop m n o u) = unsent u
-  sent_over_ethernet (dispatch.ByHop hop m n s) = sent_by_hop s
+    sent_by_hop : {id : ℕ} {own : EthernetAddress} {p : Packet} {hop : IpAddress} {outcome : Outcome} {H new : Host} {frames : List (List ℕ)} {notes : List Note} →
+        H.hardware_addr ≡ hardware.Ethernet own → SendsByHop id own p hop outcome H frames notes new → Law H frames notes new
+    sent_by_hop {hop = hop} mine (dispatch.Known h k e) = emitted (ByNeighbor hop k) e
+    sent_by_hop mine (dispatch.Silent s o u) = unsent u
+    sent_by_hop mine (dispatch.Unknown u d) = discovered mine u d
 
-  sent_over : (h : HardwareAddress) (p : Packet) (outcome : Outcome) (H : Host) (frames : List (List ℕ)) (notes : List Note) (new : Host) →
-      SendsOver h p outcome H frames notes new → Law H notes new
-  sent_over (hardware.Ethernet own) p outcome H frames notes new s = sent_over_ethernet s
-  sent_over hardware.Ip p outcome H frames notes new s = emitted s
+    sent_over_ethernet : {id : ℕ} {own : EthernetAddress} {p : Packet} {outcome : Outcome} {H new : Host} {frames : List (List ℕ)} {notes : List Note} →
+        H.hardware_addr ≡ hardware.Ethernet own → SendsEthernet id own p outcome H frames notes new → Law H frames notes new
+    sent_over_ethernet {p = p} mine (dispatch.ToMany h m e) = emitted (ByGroup (destination_of p) h m refl) e
+    sent_over_ethernet mine (dispatch.NoHop m n o u) = unsent u
+    sent_over_ethernet mine (dispatch.ByHop hop m n s) = sent_by_hop mine s
 
-  dispatched : {p : Packet} {outcome : Outcome} {H new : Host} {frames : List (List ℕ)} {notes : List Note} → Dispatches p outcome H frames notes new → Law H notes new
-  dispatched (dispatch.ToNobody n o u) = unsent u
-  dispatched {p} {outcome} {H} {new} {frames} {notes} (dispatch.ToSomebody s d) =
-      after (unread refl) (sent_over H.hardware_addr p outcome (identified H) frames notes new d)
+    sent_over : (id : ℕ) (h : HardwareAddress) (p : Packet) (outcome : Outcome) (H : Host) (frames : List (List ℕ)) (notes : List Note) (new : Host) →
+        H.hardware_addr ≡ h → SendsOver id h p outcome H frames notes new → Law H frames notes new
+    sent_over id (hardware.Ethernet own) p outcome H frames notes new mine s = sent_over_ethernet mine s
+    sent_over id hardware.Ip p outcome H frames notes new mine s = emitted (WithoutAddresses mine refl) s
 
-  responded : (reply : Option Reply) (H : Host) (frames : List (List ℕ)) (notes : List Note) (new : Host) → Responds reply H frames notes new → Law H notes new
-  responded None H frames notes new r = keeping r.1 (kept r.2)
-  responded (Some (Arp packet)) H frames notes new r = keeping r.1 (kept r.2)
-  responded (Some (Ip packet)) H frames notes new r = dispatched r.1
+    pub dispatched : {p : Packet} {outcome : Outcome} {H new : Host} {frames : List (List ℕ)} {notes : List Note} → Dispatches p outcome H frames notes new → Law H frames notes new
+    dispatched (dispatch.ToNobody n o u) = unsent u
+    dispatched {p} {outcome} {H} {new} {frames} {notes} (dispatch.ToSomebody more s d n) =
+        rw n (on H (identified H) new [] frames (OfIdentification (Identify H.ipv4_id) ∷ []) more (identifies H) (sent_over H.ipv4_id H.hardware_addr p outcome (identified H) frames more new refl d))
 
-  ingress : {t : ℤ} {answer : PollIngressSingleResult} {old new : Host} {told : List Event} {notes : List Note} → Ingress t answer old told notes new → Law old notes new
-  ingress {t} {answer} {old} {new} {told} {notes} i =
-      let r = i.response in
-      rw r.all_notes (on old r.taken new r.notes_taking r.notes_responding
-      (after (unread refl) (taken (at old t) i.reception r.reply r.notes_taking r.taken r.takes))
-      (responded r.reply r.taken i.frames r.notes_responding new r.responds))
+    -- of a call that sends: where a piece that was left goes
+    module _ (pieces : (H : Host) (p : Piece) (rest : List Piece) → H.left ≡ p ∷ rest → Law H (piece_frame H p ∷ []) (OfCuts (PieceSent p) ∷ []) (with_left H rest)) where
+      had_turn : {s s' : Socket} {turn : Turn} {H new : Host} {told : List Event} {notes : List Note} → SocketTurn s turn s' H told notes new → Law H (sent told) notes new
+      had_turn (egress.Silent p t o n e r) = keeping (ap sent o) n (kept e)
+      had_turn (egress.Refused p q t o n e r) = keeping (ap sent o) n (kept e)
+      had_turn (egress.Sent p outcome frames q d t o r) = rw (o, sent-sends frames) (dispatched d)
 
-  had_turn : {s s' : Socket} {turn : Turn} {H new : Host} {told : List Event} {notes : List Note} → SocketTurn s turn s' H told notes new → Law H notes new
-  had_turn (egress.Silent p t o n e r) = keeping n (kept e)
-  had_turn (egress.Refused p q t o n e r) = keeping n (kept e)
-  had_turn (egress.Sent p outcome frames q d t o r) = dispatched d
+      served : {i : ℕ} {turn : Turn} {H new : Host} {told : List Event} {notes : List Note} → Serves i turn H told notes new → Law H (sent told) notes new
+      served (egress.Free s t o n e) = keeping (ap sent o) n (kept e)
+      served (egress.Waits s known h k p t o n e) = keeping (ap sent o) n (kept e)
+      served {i} {turn} {H} {new} {told} {notes} (egress.Served s s' known mid h k p t e) =
+          before (had_turn t) (kept_by e (unread refl refl))
 
-  served : {i : ℕ} {turn : Turn} {H new : Host} {told : List Event} {notes : List Note} → Serves i turn H told notes new → Law H notes new
-  served (egress.Free s t o n e) = keeping n (kept e)
-  served (egress.Waits s known h k p t o n e) = keeping n (kept e)
-  served {i} {turn} {H} {new} {told} {notes} (egress.Served s s' known mid h k p t e) =
-      subst (λ ns. Law H ns new) (append-nil notes) (on H mid new notes [] (had_turn t) (keeps mid new (unread (ap rest_of e))))
+      walked : {old new : Host} {n : ℕ} {going changed : Bool} {told : List Event} {notes : List Note} → Walks old n going changed told notes new → Law old (sent told) notes new
+      walked egress.Begins = keeping refl refl (kept refl)
+      walked {old} {new} (egress.Goes {told_so = told_so} {notes_so = so} {mid = mid} turn told notes _ w s t) =
+          rw sent-append (on old mid new (sent told_so) (sent told) so notes (walked w) (served s))
+      walked {old} {new} (egress.Stops {told_so = told_so} {notes_so = so} {mid = mid} turn told notes _ w s t) =
+          rw sent-append (on old mid new (sent told_so) (sent told) so notes (walked w) (served s))
 
-  walked : {old new : Host} {n : ℕ} {going changed : Bool} {told : List Event} {notes : List Note} → Walks old n going changed told notes new → Law old notes new
-  walked egress.Begins = keeping refl (kept refl)
-  walked {old} {new} (egress.Goes {notes_so = so} {mid = mid} turn told notes _ w s t) = on old mid new so notes (walked w) (served s)
-  walked {old} {new} (egress.Stops {notes_so = so} {mid = mid} turn told notes _ w s t) = on old mid new so notes (walked w) (served s)
+      sockets_sent : {old new : Host} {changed : Bool} {told : List Event} {notes : List Note} → SocketsSend old changed told notes new → Law old (sent told) notes new
+      sockets_sent (egress.Whole w) = walked w
+      sockets_sent (egress.Stopped n w) = walked w
 
-  sockets_sent : {old new : Host} {changed : Bool} {told : List Event} {notes : List Note} → SocketsSend old changed told notes new → Law old notes new
-  sockets_sent (egress.Whole w) = walked w
-  sockets_sent (egress.Stopped n w) = walked w
+      piece_sent : {H new : Host} {told : List Event} {notes : List Note} → SendsPiece H told notes new → Law H (sent told) notes new
+      piece_sent (egress.NoPiece l t n e) = keeping (ap sent t) n (kept e)
+      piece_sent (egress.NoLeave piece rest l t n e) = keeping (ap sent t) n (kept e)
+      piece_sent {H} {new} {told} {notes} (egress.PieceGoes piece rest l t n e) = rw (t, n, e) (pieces H piece rest l)
 
-  egressed : {t : ℤ} {answer : PollResult} {old new : Host} {told : List Event} {notes : List Note} → Egress t answer old told notes new → Law old notes new
-  egressed e = after (unread refl) (sockets_sent e.round)
+      -- each part of a round, in order
+      round : {changed : Bool} {old new : Host} {told : List Event} {notes : List Note} → Round changed old told notes new → Law old (sent told) notes new
+      round {changed} {old} {new} {told} {notes} r = both EventLaw begins follows (λ o n t ns p. piece_sent p) (λ o n t ns p. sockets_sent p) old new told notes r
 
-  polls : {t : ℤ} {budget : ℕ} {answer : PollResult} {old new : Host} {told : List Event} {notes : List Note} → Polls t budget answer old told notes new → Law old notes new
-  polls {t} p =
-      polled (λ old told notes new. Law old notes new) (λ H. keeping refl (kept refl)) (λ a b c ts us xs ys one two. on a b c xs ys one two) t
-      (λ H. keeping refl (unread refl)) (λ answer old new told notes i. ingress i) (λ answer old new told notes e. egressed e) p
+      pub egressed : {t : ℤ} {answer : PollResult} {old new : Host} {told : List Event} {notes : List Note} → Egress t answer old told notes new → Law old (sent told) notes new
+      egressed e = after (unread refl refl) (round e.round)
 
-  updates : {list : List IpCidr} {answer : _} {old new : Host} → UpdatesIpAddrs list answer old new → Keeps old new
-  updates (Accepted a r e) = unread (ap rest_of e)
-  updates (Refused a r e) = kept e
+    -- of a call that polls: where slots that have ended are dropped; and where an ARP reply goes
+    module _ (sweeps : (H : Host) (t : ℤ) → Law H [] [] (swept H t))
+        (fragments : (H : Host) (key : FragKey) (f : Fragment) (result : Option (List ℕ)) (notes : List Note) (new : Host) → TakesFragment key f result H notes new → Law H [] notes new)
+        (pieces : (H : Host) (p : Piece) (rest : List Piece) → H.left ≡ p ∷ rest → Law H (piece_frame H p ∷ []) (OfCuts (PieceSent p) ∷ []) (with_left H rest))
+        (answers : (H : Host) (r : ArpRepr) → Law H (arp_frame r ∷ []) [] H) where
+      responded : (reply : Option Reply) (H : Host) (frames : List (List ℕ)) (notes : List Note) (new : Host) → Responds reply H frames notes new → Law H frames notes new
+      responded None H frames notes new r = keeping r.0 r.1 (kept r.2)
+      responded (Some (Arp packet)) H frames notes new r = rw (r.0, r.1, r.2) (answers H packet)
+      responded (Some (Ip packet)) H frames notes new r = dispatched r.1
 
-  sets : {h : HardwareAddress} {answer : _} {old new : Host} → SetsHardwareAddr h answer old new → Keeps old new
-  sets (Taken a r e) = unread (ap rest_of e)
-  sets (NotTaken error a r e) = kept e
+      pub ingress : {t : ℤ} {answer : PollIngressSingleResult} {old new : Host} {told : List Event} {notes : List Note} → Ingress t answer old told notes new → Law old (sent told) notes new
+      ingress {t} {answer} {old} {new} {told} {notes} i =
+          let r = i.response in
+          rw (i.events, r.all_notes, sent-sends i.frames) (on old (swept old t) new [] i.frames [] (r.notes_taking ++ r.notes_responding) (sweeps old t)
+          (on (swept old t) r.taken new [] i.frames r.notes_taking r.notes_responding (taken fragments (swept old t) i.reception r.reply r.notes_taking r.taken r.takes)
+          (responded r.reply r.taken i.frames r.notes_responding new r.responds)))
 
-  stepped : {command : Command} {answer : Answer} {old new : Host} {told : List Event} {acts : List Act} {notes : List Note} → Step command answer old told acts notes new → Law old notes new
-  stepped (step.UpdatedIpAddrs u) = keeping refl (updates u)
-  stepped (step.PolledIngressSingle i) = ingress i
-  stepped (step.PolledEgress e) = egressed e
-  stepped (step.Polled p) = polls p
-  stepped step.PolledMaintenance = keeping refl (unread refl)
-  stepped (step.PolledAt least) = keeping refl (unread refl)
-  stepped (step.PolledDelay end least rest) = keeping refl (unread refl)
-  stepped step.UpdatedRoutes = keeping refl (unread refl)
-  stepped step.AddedDefaultIpv4Route = keeping refl (unread refl)
-  stepped step.RemovedDefaultIpv4Route = keeping refl (unread refl)
-  stepped step.TookAnyIp = keeping refl (unread refl)
-  stepped (step.TookHardwareAddr s) = keeping refl (sets s)
-  stepped (step.OwnerActed sockets) = keeping refl (unread refl)
+      polls : {t : ℤ} {budget : ℕ} {answer : PollResult} {old new : Host} {told : List Event} {notes : List Note} → Polls t budget answer old told notes new → Law old (sent told) notes new
+      polls {t} p = polled EventLaw begins follows t (λ H. sweeps H t) (λ answer old new told notes i. ingress i) (λ answer old new told notes e. egressed pieces e) p
 
-  pub walk : {first last : Host} {places : List Place} → Run first places last → Law first (notes_in places) last
-  walk Ends = keeping refl (kept refl)
-  walk (Then {notes = notes} s r) = on _ _ _ notes _ (stepped s) (walk r)
+      -- of whole runs: where the host gets another hardware address; where it gets other addresses, and forgets its neighbours; and where
+      -- it gets another timeout
+      module _ (sets : (H : Host) (h : HardwareAddress) → Law H [] [] (record H { hardware_addr = h }))
+          (moves : (H : Host) (list : List IpCidr) → Law H [] [] (record H { ip_addrs = list; neighbors = flushed H.neighbors }))
+          (lasts : (H : Host) (timeout : ℕ) → Law H [] [] (record H { reassembly_timeout = timeout })) where
+        same : {old new : Host} → rest_of new ≡ rest_of old → new.neighbors ≡ old.neighbors → Law old [] [] new
+        same e n = keeping refl refl (unread e n)
+
+        pub stepped : {command : Command} {answer : Answer} {old new : Host} {told : List Event} {acts : List Act} {notes : List Note} → Step command answer old told acts notes new → Law old (sent told) notes new
+        stepped {old = old} (step.UpdatedIpAddrs {list = list} (Accepted a r e)) = rw e (moves old list.items)
+        stepped (step.UpdatedIpAddrs (Refused a r e)) = keeping refl refl (kept e)
+        stepped (step.PolledIngressSingle i) = ingress i
+        stepped (step.PolledEgress e) = egressed pieces e
+        stepped (step.Polled p) = polls p
+        stepped (step.PolledMaintenance {t} {old}) = sweeps old t
+        stepped (step.PolledAt least) = same refl refl
+        stepped (step.PolledDelay end least rest) = same refl refl
+        stepped step.UpdatedRoutes = same refl refl
+        stepped step.AddedDefaultIpv4Route = same refl refl
+        stepped step.RemovedDefaultIpv4Route = same refl refl
+        stepped step.TookAnyIp = same refl refl
+        stepped {old = old} (step.TookHardwareAddr {h = h} (Taken a r e)) = rw e (sets old h)
+        stepped (step.TookHardwareAddr (NotTaken error a r e)) = keeping refl refl (kept e)
+        stepped {old = old} (step.TookReassemblyTimeout {timeout = timeout} (WithinDay l r e)) = rw e (lasts old timeout)
+        stepped (step.TookReassemblyTimeout (OverDay l r e)) = keeping refl refl (kept e)
+        stepped (step.OwnerActed sockets) = same refl refl
+
+        pub walk : {first last : Host} {places : List Place} → Run first places last → Law first (sent (told_in places)) (notes_in places) last
+        walk Ends = keeping refl refl (kept refl)
+        walk (Then {told = told} {notes = notes} {places = ps} s r) = rw sent-append (on _ _ _ (sent told) (sent (told_in ps)) notes (notes_in ps) (stepped s) (walk r))

@@ -35,7 +35,7 @@ refusal_of c h =
 abbrev pub first_id : ℕ → ℕ
 first_id seed = if next seed / 2 ^ 48 == 0 then 1 else next seed / 2 ^ 48
 
--- a host at first: no address, no route, no neighbour, no silence
+-- a host at first: no address, no route, no neighbour, no silence, no fragment, nothing left to send; slots stand for 60 s (RFC 1122 3.3.2)
 abbrev pub first_host : DeviceCapabilities → HardwareAddress → ℕ → ℤ → SocketSet → Host
 first_host c h seed t sockets = record {
   capabilities = c;
@@ -46,6 +46,9 @@ first_host c h seed t sockets = record {
   routes = [];
   neighbors = record { known = map.empty; silent_until = pos 0 };
   ipv4_id = first_id seed;
+  reassembly_timeout = 60000000;
+  slots = map.empty;
+  left = [];
   sockets = sockets;
 }
 

@@ -1,7 +1,8 @@
 -- Sending one IP packet, with leave to send a frame (RFC 1122 3.3.1, RFC 826): the next hop, its hardware address, the frame.
-use Rattle.std.specs.Prelude.{◌≡◌, ℕ, ◌+◌, ◌/◌, ◌%◌, ◌^◌, nat_le, Bool, true, false, List, [], ◌∷◌, Option, Some, None, Result, Ok, Err, if◌then◌else◌}
+use Rattle.std.specs.Prelude.{◌≡◌, ℕ, ◌+◌, ◌-◌, ◌*◌, ◌/◌, ◌%◌, ◌^◌, ◌≤◌, ◌<◌, Bool, true, false, List, [], ◌∷◌, Option, Some, None, Result, Ok, Err, if◌then◌else◌}
 use Rattle.std.specs.Option.{option_and_then}
 use Rattle.net_base.specs.Time.{silence_from}
+use Rattle.net_base.specs.declared.phy.DeviceCapabilities.{DeviceCapabilities}
 use Rattle.net_base.specs.Checksum.{ip_mtu_of}
 use Rattle.ip_address.specs.declared.ethernet_address.EthernetAddress.{EthernetAddress}
 use Rattle.ip_address.specs.declared.hardware.HardwareAddress.{HardwareAddress}
@@ -20,13 +21,14 @@ use Rattle.iface_tables.specs.Neighbor.{Neighbors, answer_of, is_found}
 use Rattle.iface_tables.specs.Route.{IsRouter}
 use Rattle.host_machine.specs.declared.results.DispatchError.{DispatchError}
 use Rattle.host_machine.specs.declared.results.DispatchError.TheVariants.{NoRoute, NeighborPending}
-use Rattle.host_machine.specs.Note.{Note, Ask}
-use Rattle.host_machine.specs.Host.{Host, in_same_network, with_neighbors}
+use Rattle.fragmentation.specs.Cuts.{Datagram, Piece, pieces_of, HasForm}
+use Rattle.host_machine.specs.Note.{Note, OfDiscovery, OfIdentification, OfCuts, Ask, Identify, Cut, PieceSent}
+use Rattle.host_machine.specs.Host.{Host, in_same_network, with_neighbors, with_left}
 use Rattle.host_machine.specs.Addresses.{is_broadcast_v4, source_v4}
-use Rattle.host_machine.specs.Packet.{Packet, total_len}
+use Rattle.host_machine.specs.Packet.{Packet, total_len, header_of}
 use Rattle.host_machine.specs.Packet as packet
 use Rattle.host_machine.specs.Arp.{request_for}
-use Rattle.host_machine.specs.Frame.{arp_frame, ip_frame}
+use Rattle.host_machine.specs.Frame.{arp_frame, ip_frame, payload_text, piece_frame}
 
 -- a packet counts as gone, or why it isn't
 abbrev pub Outcome : Type 0
@@ -74,15 +76,32 @@ pub record IsUnsent (H : Host) (frames : List (List ℕ)) (notes : List Note) (n
   pub unnoted : notes ≡ []
   pub unchanged : new ≡ H
 
--- the packet goes whole to a hardware address; one that is longer than the device's packets is dropped, and counts as gone
-abbrev pub frames_of : Host → HardwareAddress → Packet → List (List ℕ)
-frames_of H h p = if nat_le (total_len p) (ip_mtu_of H.capabilities) then ip_frame H h p ∷ [] else []
+-- how much of a packet a device takes in one piece: what fits behind the header, in units of eight octets (RFC 791 3.2)
+abbrev pub piece_size : DeviceCapabilities → ℕ
+piece_size c = (ip_mtu_of c - 20) / 8 * 8
 
-pub record Emits (p : Packet) (h : HardwareAddress) (outcome : Outcome) (H : Host) (frames : List (List ℕ)) (notes : List Note) (new : Host) : Type 0 where
-  pub gone : outcome ≡ Ok tt
-  pub sent : frames ≡ frames_of H h p
-  pub unnoted : notes ≡ []
-  pub unchanged : new ≡ H
+-- a packet as it is cut: its payload is the text of the whole, checksum and all
+abbrev pub datagram_of : Host → HardwareAddress → ℕ → Packet → Datagram
+datagram_of H h id (packet.Ipv4 p) = record {
+  destination = h;
+  header = header_of p;
+  identification = id;
+  payload = payload_text H.capabilities p p.payload;
+  size = piece_size H.capabilities;
+}
+
+-- the packet goes to a hardware address, and counts as gone: whole, if the device's packets may be so long; else, if it has at most 4096
+-- octets, its first piece goes and the others are left, in place of what was left before; else it is dropped (RFC 791 3.2). The values of
+-- a packet that is cut fit the fields of a header
+pub data Emits (id : ℕ) (p : Packet) (h : HardwareAddress) (outcome : Outcome) (H : Host) (frames : List (List ℕ))
+    (notes : List Note) (new : Host) : Type 0 where
+  Whole : total_len p ≤ ip_mtu_of H.capabilities → outcome ≡ Ok tt → frames ≡ ip_frame H h p ∷ [] → notes ≡ [] → new ≡ H →
+      Emits id p h outcome H frames notes new
+  InPieces : (first : Piece) (rest : List Piece) → ip_mtu_of H.capabilities < total_len p → total_len p ≤ 4096 →
+      pieces_of (datagram_of H h id p) ≡ first ∷ rest → (fits : HasForm (datagram_of H h id p)) → outcome ≡ Ok tt → frames ≡ piece_frame H first ∷ [] →
+      notes ≡ OfCuts (Cut (datagram_of H h id p)) ∷ OfCuts (PieceSent first) ∷ [] → new ≡ with_left H rest → Emits id p h outcome H frames notes new
+  TooLong : ip_mtu_of H.capabilities < total_len p → 4096 < total_len p → outcome ≡ Ok tt → IsUnsent H frames notes new →
+      Emits id p h outcome H frames notes new
 
 -- no discovery is sent for a second
 abbrev pub silenced : Neighbors → Host → Neighbors
@@ -91,37 +110,43 @@ silenced n H = record n { silent_until = silence_from H.moment }
 -- a neighbour is asked for by ARP, on behalf of the source for it (RFC 826, packet generation; RFC 1122 2.3.2.1); by IPv6 not yet
 pub data Discovers (own : EthernetAddress) (hop : IpAddress) (outcome : Outcome) (H : Host) (frames : List (List ℕ)) (notes : List Note) (new : Host) : Type 0 where
   Asked : (target source : Ipv4Address) → hop ≡ Ipv4 target → source_v4 H.ip_addrs target ≡ Some source → outcome ≡ Err NeighborPending →
-      frames ≡ arp_frame (request_for own source target) ∷ [] → notes ≡ Ask H.moment ∷ [] → new ≡ with_neighbors H (silenced H.neighbors H) →
+      frames ≡ arp_frame (request_for own source target) ∷ [] → notes ≡ OfDiscovery (Ask H.moment) ∷ [] → new ≡ with_neighbors H (silenced H.neighbors H) →
       Discovers own hop outcome H frames notes new
   NoSource : (target : Ipv4Address) → hop ≡ Ipv4 target → source_v4 H.ip_addrs target ≡ None → outcome ≡ Err NoRoute → IsUnsent H frames notes new →
       Discovers own hop outcome H frames notes new
   NotIpv4 : (target : Ipv6Address) → hop ≡ Ipv6 target → outcome ≡ Err NoRoute → IsUnsent H frames notes new → Discovers own hop outcome H frames notes new
 
 -- by what is known of the hop: its address; nothing, during the silence; or nothing, and it is asked for
-pub data SendsByHop (own : EthernetAddress) (p : Packet) (hop : IpAddress) (outcome : Outcome) (H : Host) (frames : List (List ℕ)) (notes : List Note) (new : Host) : Type 0 where
-  Known : (h : HardwareAddress) → answer_of H.neighbors hop H.moment ≡ Found h → Emits p h outcome H frames notes new → SendsByHop own p hop outcome H frames notes new
-  Silent : answer_of H.neighbors hop H.moment ≡ RateLimited → outcome ≡ Err NeighborPending → IsUnsent H frames notes new → SendsByHop own p hop outcome H frames notes new
-  Unknown : answer_of H.neighbors hop H.moment ≡ NotFound → Discovers own hop outcome H frames notes new → SendsByHop own p hop outcome H frames notes new
+pub data SendsByHop (id : ℕ) (own : EthernetAddress) (p : Packet) (hop : IpAddress) (outcome : Outcome) (H : Host)
+    (frames : List (List ℕ)) (notes : List Note) (new : Host) : Type 0 where
+  Known : (h : HardwareAddress) → answer_of H.neighbors hop H.moment ≡ Found h → Emits id p h outcome H frames notes new →
+      SendsByHop id own p hop outcome H frames notes new
+  Silent : answer_of H.neighbors hop H.moment ≡ RateLimited → outcome ≡ Err NeighborPending → IsUnsent H frames notes new →
+      SendsByHop id own p hop outcome H frames notes new
+  Unknown : answer_of H.neighbors hop H.moment ≡ NotFound → Discovers own hop outcome H frames notes new →
+      SendsByHop id own p hop outcome H frames notes new
 
 -- over Ethernet: to many hosts straight, else by the next hop
-pub data SendsEthernet (own : EthernetAddress) (p : Packet) (outcome : Outcome) (H : Host) (frames : List (List ℕ)) (notes : List Note) (new : Host) : Type 0 where
-  ToMany : (h : EthernetAddress) → many_address H.ip_addrs (destination_of p) ≡ Some h → Emits p (hardware.Ethernet h) outcome H frames notes new →
-      SendsEthernet own p outcome H frames notes new
+pub data SendsEthernet (id : ℕ) (own : EthernetAddress) (p : Packet) (outcome : Outcome) (H : Host) (frames : List (List ℕ))
+    (notes : List Note) (new : Host) : Type 0 where
+  ToMany : (h : EthernetAddress) → many_address H.ip_addrs (destination_of p) ≡ Some h → Emits id p (hardware.Ethernet h) outcome H frames notes new →
+      SendsEthernet id own p outcome H frames notes new
   NoHop : many_address H.ip_addrs (destination_of p) ≡ None → IsNextHop H (destination_of p) None → outcome ≡ Err NoRoute → IsUnsent H frames notes new →
-      SendsEthernet own p outcome H frames notes new
+      SendsEthernet id own p outcome H frames notes new
   ByHop : (hop : IpAddress) → many_address H.ip_addrs (destination_of p) ≡ None → IsNextHop H (destination_of p) (Some hop) →
-      SendsByHop own p hop outcome H frames notes new → SendsEthernet own p outcome H frames notes new
+      SendsByHop id own p hop outcome H frames notes new → SendsEthernet id own p outcome H frames notes new
 
 -- by the medium: one without hardware addresses asks for none
-abbrev pub SendsOver : HardwareAddress → Packet → Outcome → Host → List (List ℕ) → List Note → Host → Type 0
-SendsOver (hardware.Ethernet own) p outcome H frames notes new = SendsEthernet own p outcome H frames notes new
-SendsOver hardware.Ip p outcome H frames notes new = Emits p hardware.Ip outcome H frames notes new
+abbrev pub SendsOver : ℕ → HardwareAddress → Packet → Outcome → Host → List (List ℕ) → List Note → Host → Type 0
+SendsOver id (hardware.Ethernet own) p outcome H frames notes new = SendsEthernet id own p outcome H frames notes new
+SendsOver id hardware.Ip p outcome H frames notes new = Emits id p hardware.Ip outcome H frames notes new
 
--- each dispatch takes an identification, whatever becomes of the packet
+-- each dispatch takes an identification, whatever becomes of the packet (RFC 791 3.2)
 abbrev pub identified : Host → Host
 identified H = record H { ipv4_id = (H.ipv4_id + 1) % 2 ^ 16 }
 
 -- a packet to nobody, 0.0.0.0, is dropped, and counts as gone
 pub data Dispatches (p : Packet) (outcome : Outcome) (H : Host) (frames : List (List ℕ)) (notes : List Note) (new : Host) : Type 0 where
   ToNobody : is_unspecified (destination_of p) ≡ true → outcome ≡ Ok tt → IsUnsent H frames notes new → Dispatches p outcome H frames notes new
-  ToSomebody : is_unspecified (destination_of p) ≡ false → SendsOver H.hardware_addr p outcome (identified H) frames notes new → Dispatches p outcome H frames notes new
+  ToSomebody : (more : List Note) → is_unspecified (destination_of p) ≡ false → SendsOver H.ipv4_id H.hardware_addr p outcome (identified H) frames more new →
+      notes ≡ OfIdentification (Identify H.ipv4_id) ∷ more → Dispatches p outcome H frames notes new

@@ -1,5 +1,5 @@
 -- When a host has to be polled again: the instants at which something of it is due.
-use Rattle.std.specs.Prelude.{◌≡◌, ℕ, ℤ, pos, ◌+ℤ◌, ◌≤ℤ◌, Bool, slice_get, Option, Some, None, if◌then◌else◌}
+use Rattle.std.specs.Prelude.{◌≡◌, ℕ, ℤ, pos, ◌+ℤ◌, ◌≤ℤ◌, Bool, List, [], ◌∷◌, slice_get, Option, Some, None, if◌then◌else◌}
 use Rattle.std.specs.Ordering.{int_cmp, is_lt}
 use Rattle.socket_base.specs.declared.poll_at.PollAt.{PollAt}
 use Rattle.socket_base.specs.declared.poll_at.PollAt.TheVariants.{Now, Time, Ingress}
@@ -24,14 +24,27 @@ pub record SocketDue (H : Host) (i : ℕ) (x : ℤ) : Type 0 where
   pub told : IsTold (KnowsNextHop H) (wait_at H.sockets i) known
   pub instant : instant_of (poll_at (wait_at H.sockets i) known H.moment (kinds.poll_at socket)) ≡ Some x
 
+-- while a list has an element, something is due at once
+pub record AtOnce {A : Type 0} (xs : List A) (x : ℤ) : Type 0 where
+  pub first : A
+  pub others : List A
+  pub are : xs ≡ first ∷ others
+  pub instant : x ≡ pos 0
+
 -- an instant at which something is due, as the host sees it at its moment: each thing that a poll may do by itself has its case here
 pub data Due (H : Host) (x : ℤ) : Type 0 where
+  OfPiece : AtOnce H.left x → Due H x
   OfSocket : (i : ℕ) → SocketDue H i x → Due H x
 
 -- the least of a set of instants, or none if it is empty
 abbrev pub IsLeast : (ℤ → Type 0) → Option ℤ → Type 0
 IsLeast P None = (x : ℤ) → P x → ⊥
 IsLeast P (Some least) = P least × ((x : ℤ) → P x → least ≤ℤ x)
+
+-- the instant of a list
+abbrev pub at_once : {A : Type 0} → List A → Option ℤ
+at_once [] = None
+at_once (first ∷ others) = Some (pos 0)
 
 -- how long it is from t to an instant: nothing if that has passed
 pub data IsRest (t : ℤ) : (end : Option ℤ) → (rest : Option ℕ) → Type 0 where

@@ -1,4 +1,5 @@
--- One call that sends: each socket that needn't wait is asked in order, and what it has goes if the device gives leave.
+-- One call that sends: the next piece that is left goes, and then each socket that needn't wait is asked in order, and what it has goes,
+-- each if the device gives leave.
 use Rattle.std.specs.Prelude.{◌≡◌, ℕ, ◌+◌, ℤ, Bool, true, false, ◌||◌, is_ok, List, [], ◌∷◌, ◌++◌, length, slice_get, Option, Some, None, Ok, Err, if◌then◌else◌}
 use Rattle.std.specs.Option.{option_and_then}
 use Rattle.net_base.specs.Device.{Event, Asked}
@@ -14,12 +15,13 @@ use Rattle.host_machine.specs.declared.results.PollResult.{PollResult}
 use Rattle.host_machine.specs.declared.results.PollResult.TheVariants as result
 use Rattle.host_machine.specs.declared.results.Turn.{Turn}
 use Rattle.host_machine.specs.declared.results.Turn.TheVariants.{Idle, Gone, Unsent, Exhausted}
-use Rattle.host_machine.specs.Note.{Note}
-use Rattle.host_machine.specs.Host.{Host, Socket, at}
-use Rattle.host_machine.specs.Parts.{Part}
+use Rattle.fragmentation.specs.Cuts.{Piece}
+use Rattle.host_machine.specs.Note.{Note, OfCuts, PieceSent}
+use Rattle.host_machine.specs.Host.{Host, Socket, at, with_left}
+use Rattle.host_machine.specs.Parts.{Part, Both}
 use Rattle.host_machine.specs.Addresses.{source_for}
 use Rattle.host_machine.specs.Packet.{IpPayload, Icmpv4, Udp, Tcp, Raw, Packet, Ipv4}
-use Rattle.host_machine.specs.Frame.{sends}
+use Rattle.host_machine.specs.Frame.{sends, piece_frame}
 use Rattle.host_machine.specs.Dispatch.{Outcome, Dispatches, KnowsNextHop, destination_of}
 
 -- a packet from one IPv4 address to another; over IPv6 there is none yet
@@ -117,9 +119,17 @@ pub data SocketsSend (old : Host) (changed : Bool) (told_it : List Event) (notes
 abbrev pub answer_of : Bool → PollResult
 answer_of changed = if changed then result.SocketStateChanged else result.None
 
--- the parts of a round, in order: so far the sockets alone have something to send; whether a socket's packet counts as gone
+-- the next of the pieces that are left goes, if the device gives leave, and goes where the first one went; the others stay left
+pub data SendsPiece (H : Host) (told_it : List Event) (notes : List Note) (new : Host) : Type 0 where
+  NoPiece : H.left ≡ [] → told_it ≡ [] → notes ≡ [] → new ≡ H → SendsPiece H told_it notes new
+  NoLeave : (piece : Piece) (rest : List Piece) → H.left ≡ piece ∷ rest → told_it ≡ Asked H.moment false ∷ [] → notes ≡ [] → new ≡ H →
+      SendsPiece H told_it notes new
+  PieceGoes : (piece : Piece) (rest : List Piece) → H.left ≡ piece ∷ rest → told_it ≡ Asked H.moment true ∷ sends (piece_frame H piece ∷ []) →
+      notes ≡ OfCuts (PieceSent piece) ∷ [] → new ≡ with_left H rest → SendsPiece H told_it notes new
+
+-- the parts of a round, in order; whether a socket's packet counts as gone
 abbrev pub Round : Bool → Part
-Round changed = λ old told_it notes new. SocketsSend old changed told_it notes new
+Round changed = Both SendsPiece (λ old told_it notes new. SocketsSend old changed told_it notes new)
 
 pub record Egress (t : ℤ) (answer : PollResult) (old : Host) (told_it : List Event) (notes : List Note) (new : Host) : Type 0 where
   pub changed : Bool

@@ -14,7 +14,7 @@ use Rattle.ip_address.specs.declared.hardware.HardwareAddress.{HardwareAddress}
 use Rattle.ip_address.specs.declared.ip.IpAddress.{IpAddress}
 use Rattle.iface_tables.specs.Neighbor.{Neighbors, renewed}
 use Rattle.host_machine.specs.declared.results.PollIngressSingleResult.TheVariants as result
-use Rattle.host_machine.specs.Note.{Ask}
+use Rattle.host_machine.specs.Note.{Note, OfDiscovery, OfIdentification, Ask, Identify}
 use Rattle.host_machine.specs.Host.{Host, no_sockets}
 use Rattle.host_machine.specs.Ingress.{Ingress}
 
@@ -71,8 +71,15 @@ host ipv4_id neighbors = record {
   routes = [];
   neighbors = neighbors;
   ipv4_id = ipv4_id;
+  reassembly_timeout = 60000000;
+  slots = map.empty;
+  left = [];
   sockets = no_sockets;
 }
+
+-- its next dispatch takes this identification
+abbrev pub identify : Note
+identify = OfIdentification (Identify 0x1405)
 
 -- 192.168.69.100 asks 192.168.69.1 for an echo of `abcd`
 abbrev pub echo_request : List ℕ
@@ -106,13 +113,13 @@ RequestIsAnswered =
 abbrev pub EchoIsAnswered : Type 0
 EchoIsAnswered =
     Ingress (pos 0) result.SocketStateChanged (host 0x1405 learnt)
-    (Received (pos 0) (Frame echo_request) ∷ Sent 0 echo_reply ∷ []) [] (host 0x1406 heard)
+    (Received (pos 0) (Frame echo_request) ∷ Sent 0 echo_reply ∷ []) (identify ∷ []) (host 0x1406 heard)
 
 -- for the reply to an unknown sender a discovery request goes, and the silence begins
 abbrev pub SenderIsDiscovered : Type 0
 SenderIsDiscovered =
     Ingress (pos 0) result.SocketStateChanged (host 0x1405 (nobody (pos 0)))
-    (Received (pos 0) (Frame echo_request) ∷ Sent 0 discovery ∷ []) (Ask (pos 0) ∷ []) (host 0x1406 (nobody (pos 1000000)))
+    (Received (pos 0) (Frame echo_request) ∷ Sent 0 discovery ∷ []) (identify ∷ OfDiscovery (Ask (pos 0)) ∷ []) (host 0x1406 (nobody (pos 1000000)))
 
 -- the same host on a medium without hardware addresses
 abbrev pub without_hardware : ℕ → Host
@@ -122,4 +129,4 @@ without_hardware ipv4_id = record (host ipv4_id (nobody (pos 0))) { capabilities
 abbrev pub PacketIsAnswered : Type 0
 PacketIsAnswered =
     Ingress (pos 0) result.SocketStateChanged (without_hardware 0x1405)
-    (Received (pos 0) (Frame (drop 14 echo_request)) ∷ Sent 0 (drop 14 echo_reply) ∷ []) [] (without_hardware 0x1406)
+    (Received (pos 0) (Frame (drop 14 echo_request)) ∷ Sent 0 (drop 14 echo_reply) ∷ []) (identify ∷ []) (without_hardware 0x1406)

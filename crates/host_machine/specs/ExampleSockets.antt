@@ -18,7 +18,7 @@ use Rattle.host_machine.specs.declared.results.HardwareError.TheVariants as hard
 use Rattle.host_machine.specs.declared.results.NewError.TheVariants as new_error
 use Rattle.host_machine.specs.declared.results.PollIngressSingleResult.TheVariants as result
 use Rattle.host_machine.specs.declared.results.PollResult.TheVariants as poll
-use Rattle.host_machine.specs.Note.{Ask}
+use Rattle.host_machine.specs.Note.{OfDiscovery, OfIdentification, Ask, Identify}
 use Rattle.host_machine.specs.Host.{Host}
 use Rattle.host_machine.specs.Config.{first_id, hardware_refusal_of, refusal_of}
 use Rattle.host_machine.specs.Frame.{limited}
@@ -97,7 +97,7 @@ DatagramIsDelivered =
 abbrev pub DatagramIsRefused : Type 0
 DatagramIsRefused =
     Ingress (pos 0) result.SocketStateChanged (example.host 0x1405 example.learnt)
-    (Received (pos 0) (Frame datagram) ∷ Sent 0 port_unreachable ∷ []) [] (example.host 0x1406 example.heard)
+    (Received (pos 0) (Frame datagram) ∷ Sent 0 port_unreachable ∷ []) (example.identify ∷ []) (example.host 0x1406 example.heard)
 
 -- a raw socket for UDP over IPv4, without a packet and with the one of the datagram
 abbrev pub hearing : RawSocket
@@ -119,13 +119,13 @@ RawSocketHears =
 abbrev pub ConnectionIsReset : Type 0
 ConnectionIsReset =
     Ingress (pos 0) result.SocketStateChanged (with_socket listening (example.host 0x1405 example.learnt))
-    (Received (pos 0) (Frame opening) ∷ Sent 0 reset ∷ []) [] (with_socket listening (example.host 0x1406 example.heard))
+    (Received (pos 0) (Frame opening) ∷ Sent 0 reset ∷ []) (example.identify ∷ []) (with_socket listening (example.host 0x1406 example.heard))
 
 -- for a protocol that nobody speaks the error goes back
 abbrev pub ProtocolIsRefused : Type 0
 ProtocolIsRefused =
     Ingress (pos 0) result.SocketStateChanged (example.host 0x1405 example.learnt)
-    (Received (pos 0) (Frame unknown) ∷ Sent 0 protocol_unreachable ∷ []) [] (example.host 0x1406 example.heard)
+    (Received (pos 0) (Frame unknown) ∷ Sent 0 protocol_unreachable ∷ []) (example.identify ∷ []) (example.host 0x1406 example.heard)
 
 -- a UDP socket with `hi` to send to port 5000 of 192.168.69.100
 abbrev pub sending : UdpSocket
@@ -141,11 +141,13 @@ with_sending wait t ipv4_id silent_until = record (example.host ipv4_id (example
 -- a socket whose destination isn't known waits for a second; then it is asked again, and another discovery request goes
 pub record SocketWaits : Type 0 where
   pub asked : Egress (pos 0) poll.None (with_sending None (pos 0) 0x1405 (pos 0))
-      (Asked (pos 0) true ∷ Sent 0 example.discovery ∷ []) (Ask (pos 0) ∷ []) (with_sending (Some (example.sender, pos 1000000)) (pos 0) 0x1406 (pos 1000000))
+      (Asked (pos 0) true ∷ Sent 0 example.discovery ∷ []) (example.identify ∷ OfDiscovery (Ask (pos 0)) ∷ [])
+      (with_sending (Some (example.sender, pos 1000000)) (pos 0) 0x1406 (pos 1000000))
   pub waits : Egress (pos 999999) poll.None (with_sending (Some (example.sender, pos 1000000)) (pos 0) 0x1406 (pos 1000000))
       [] [] (with_sending (Some (example.sender, pos 1000000)) (pos 999999) 0x1406 (pos 1000000))
   pub asked_again : Egress (pos 1000000) poll.None (with_sending (Some (example.sender, pos 1000000)) (pos 999999) 0x1406 (pos 1000000))
-      (Asked (pos 1000000) true ∷ Sent 0 example.discovery ∷ []) (Ask (pos 1000000) ∷ []) (with_sending (Some (example.sender, pos 2000000)) (pos 1000000) 0x1407 (pos 2000000))
+      (Asked (pos 1000000) true ∷ Sent 0 example.discovery ∷ []) (OfIdentification (Identify 0x1406) ∷ OfDiscovery (Ask (pos 1000000)) ∷ [])
+      (with_sending (Some (example.sender, pos 2000000)) (pos 1000000) 0x1407 (pos 2000000))
 
 -- a segment with the largest window goes with that of two segments of 1,474 octets, where the device takes bursts of two frames of 1,514
 abbrev pub WindowFitsBurst : Type 0

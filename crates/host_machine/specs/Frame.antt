@@ -16,6 +16,7 @@ use Rattle.ip_wire.specs.Tcp as tcp
 use Rattle.ip_wire.specs.Udp as udp
 use Rattle.ip_wire.specs.declared.tcp.TcpRepr.{TcpRepr}
 use Rattle.control_wire.specs.Icmpv4 as icmpv4
+use Rattle.fragmentation.specs.Cuts.{Piece, piece_header, piece_fragment}
 use Rattle.host_machine.specs.Host.{Host}
 use Rattle.host_machine.specs.Packet.{IpPayload, Icmpv4, Udp, Tcp, Raw, PacketV4, Packet, Ipv4, header_of}
 
@@ -57,6 +58,14 @@ link_header hardware.Ip hardware.Ip type = []
 -- a packet goes from the host's hardware address to another
 abbrev pub ip_frame : Host → HardwareAddress → Packet → List ℕ
 ip_frame H destination p = link_header H.hardware_addr destination (ethertype_of p) ++ packet_text H.capabilities p
+
+-- a piece: the header of its packet, and its octets (RFC 791 3.2)
+abbrev pub piece_text : DeviceCapabilities → Piece → List ℕ
+piece_text c p = ipv4.header_text (is_tx c.checksum.ipv4) (piece_header p) (piece_fragment p) ++ p.fragment.octets
+
+-- a piece goes from the host's hardware address to that of its packet
+abbrev pub piece_frame : Host → Piece → List ℕ
+piece_frame H p = link_header H.hardware_addr p.destination protocol.Ipv4 ++ piece_text H.capabilities p
 
 -- frames that are sent, each with metadata 0
 abbrev pub sends : List (List ℕ) → List Event

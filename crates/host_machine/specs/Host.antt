@@ -9,6 +9,8 @@ use Rattle.ip_address.specs.declared.hardware.HardwareAddress.{HardwareAddress}
 use Rattle.ip_address.specs.Ip.{is_unicast, is_unspecified}
 use Rattle.ip_address.specs.Cidr.{address_of, contains}
 use Rattle.iface_tables.specs.Neighbor.{Neighbors}
+use Rattle.fragmentation.specs.Slots.{Slots, left_at}
+use Rattle.fragmentation.specs.Cuts.{Piece}
 use Rattle.iface_tables.specs.declared.route.Route.{Route}
 use Rattle.socket_set.specs.SocketSet.{Sockets}
 use Rattle.socket_set.specs.SocketSet as table
@@ -39,11 +41,26 @@ pub record Host : Type 0 where
   pub routes : List Route  -- its routes, in the order in which they are stored
   pub neighbors : Neighbors  -- which neighbours it knows, and until when it sends no discovery
   pub ipv4_id : ℕ  -- the next identification of a packet, of 16 bits
+  pub reassembly_timeout : ℕ  -- for how many microseconds a slot stands that is taken from now on
+  pub slots : Slots  -- the datagrams of which fragments have come and others are missing
+  pub left : List Piece  -- the pieces that are left to send of the packet that was cut last, in order
   pub sockets : SocketSet
 
 -- the host at another moment
 abbrev pub at : Host → ℤ → Host
 at H t = record H { moment = t }
+
+-- the host with other slots
+abbrev pub with_slots : Host → Slots → Host
+with_slots H slots = record H { slots = slots }
+
+-- the host at another moment, without the slots that have ended then
+abbrev pub swept : Host → ℤ → Host
+swept H t = record H { moment = t; slots = left_at t H.slots }
+
+-- the host with other pieces left to send
+abbrev pub with_left : Host → List Piece → Host
+with_left H left = record H { left = left }
 
 -- the host with other neighbours
 abbrev pub with_neighbors : Host → Neighbors → Host

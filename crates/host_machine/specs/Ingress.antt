@@ -1,10 +1,10 @@
--- One call that takes at most one frame: the device is asked once, and the reply is sent.
+-- One call that takes at most one frame: slots that have ended are dropped, the device is asked once, and the reply is sent.
 use Rattle.std.specs.Prelude.{◌≡◌, ℕ, ℤ, List, [], ◌∷◌, Option}
 use Rattle.net_base.specs.Device.{Event, Received, Reception, Frame, Nothing, Withheld}
 use Rattle.host_machine.specs.declared.results.PollIngressSingleResult.{PollIngressSingleResult}
 use Rattle.host_machine.specs.declared.results.PollIngressSingleResult.TheVariants as result
 use Rattle.host_machine.specs.Note.{Note}
-use Rattle.host_machine.specs.Host.{Host, at}
+use Rattle.host_machine.specs.Host.{Host, swept}
 use Rattle.host_machine.specs.Reply.{Reply, IsDropped}
 use Rattle.host_machine.specs.Frame.{sends}
 use Rattle.host_machine.specs.Response.{Response}
@@ -27,6 +27,6 @@ answer_to (Frame (octet ∷ octets)) = result.SocketStateChanged
 pub record Ingress (t : ℤ) (answer : PollIngressSingleResult) (old : Host) (told : List Event) (notes : List Note) (new : Host) : Type 0 where
   pub reception : Reception
   pub frames : List (List ℕ)
-  pub response : Response (λ H reply noted taken. Takes H reception reply noted taken) (at old t) frames notes new
+  pub response : Response (λ H reply noted taken. Takes H reception reply noted taken) (swept old t) frames notes new
   pub events : told ≡ Received t reception ∷ sends frames
   pub answers : answer ≡ answer_to reception

@@ -1,5 +1,5 @@
 -- IPv4, reception of packets (RFC 791 3.2, RFC 1122 3.2.1): whose packets are taken, for whom, and by which protocol.
-use Rattle.std.specs.Prelude.{◌≡◌, ℕ, Bool, true, false, List, [], Option, if◌then◌else◌}
+use Rattle.std.specs.Prelude.{◌≡◌, ℕ, ◌*◌, Bool, true, false, not, List, [], ◌++◌, length, Option, Some, None, if◌then◌else◌}
 use Rattle.net_base.specs.Checksum.{is_rx}
 use Rattle.ip_address.specs.declared.hardware.HardwareAddress.{HardwareAddress}
 use Rattle.ip_address.specs.declared.ip.IpAddress.TheVariants.{Ipv4}
@@ -9,7 +9,11 @@ use Rattle.ip_address.specs.declared.protocol.IpProtocol.{IpProtocol}
 use Rattle.ip_address.specs.declared.protocol.IpProtocol.TheVariants as protocol
 use Rattle.ip_wire.specs.Ipv4Packet.{IsIpv4, ipv4_in, is_fragment}
 use Rattle.iface_tables.specs.Neighbor.{renewed, expiry_from}
+use Rattle.fragmentation.specs.declared.key.FragKey.{FragKey}
+use Rattle.fragmentation.specs.Keys.{key_of}
+use Rattle.fragmentation.specs.Fragments.{Fragment}
 use Rattle.host_machine.specs.Note.{Note}
+use Rattle.host_machine.specs.Reassembly.{TakesFragment}
 use Rattle.host_machine.specs.Host.{Host, with_neighbors}
 use Rattle.host_machine.specs.Addresses.{is_for_host, is_unicast_v4, may_be_source}
 use Rattle.host_machine.specs.Reply.{Reply, IsDropped}
@@ -40,15 +44,36 @@ TakesProtocol protocol.HopByHop raw r H octets reply notes new = IsRefused raw r
 TakesProtocol protocol.Icmpv6 raw r H octets reply notes new = IsRefused raw r H octets reply notes new
 TakesProtocol (protocol.Unknown number) raw r H octets reply notes new = IsRefused raw r H octets reply notes new
 
--- a packet, by its header, by which fragment it is, and by its payload; raw sockets hear it wherever it goes. Fragments aren't put
--- together yet
+-- a packet that came whole or was put together, by its header and its payload; raw sockets hear it wherever it goes
+pub data TakesWhole (source : HardwareAddress) (r : Ipv4Repr) (H : Host) (payload : List ℕ) (reply : Option Reply)
+    (notes : List Note) (new : Host) : Type 0 where
+  NotForUs : is_for_host H r.dst_addr ≡ false → IsDropped (heard r payload H) reply notes new → TakesWhole source r H payload reply notes new
+  Accepted : is_for_host H r.dst_addr ≡ true →
+      TakesProtocol r.next_header (is_taken r H) r (heard_from source r (heard r payload H)) payload reply notes new →
+      TakesWhole source r H payload reply notes new
+
+-- what the fragments of a packet's datagram share, and the fragment that it is, which tells its place in units of eight octets (RFC 791 3.2)
+abbrev pub key_in : Ipv4Repr → Ipv4Fragment → FragKey
+key_in r f = key_of r f.identification
+
+abbrev pub fragment_in : Ipv4Fragment → List ℕ → Fragment
+fragment_in f payload = record { offset = f.offset * 8; octets = payload; is_last = not f.more_fragments }
+
+-- the header of a rebuilt datagram: that of the fragment which completed it, with the length of the whole payload
+abbrev pub rebuilt_header : Ipv4Repr → List ℕ → Ipv4Repr
+rebuilt_header r octets = record r { payload_len = length octets }
+
+-- a packet, by its header, by which fragment it is, and by its payload: a fragment is put together with those that came before, and the
+-- datagram is taken once it is rebuilt
 pub data TakesPacket (source : HardwareAddress) (r : Ipv4Repr) (f : Ipv4Fragment) (H : Host) (payload : List ℕ) (reply : Option Reply) (notes : List Note) (new : Host) : Type 0 where
   FromNoHost : may_be_source H.ip_addrs r.src_addr ≡ false → IsDropped H reply notes new → TakesPacket source r f H payload reply notes new
-  Fragment : may_be_source H.ip_addrs r.src_addr ≡ true → is_fragment f ≡ true → IsDropped H reply notes new → TakesPacket source r f H payload reply notes new
-  NotForUs : may_be_source H.ip_addrs r.src_addr ≡ true → is_fragment f ≡ false → is_for_host H r.dst_addr ≡ false → IsDropped (heard r payload H) reply notes new →
+  Part : may_be_source H.ip_addrs r.src_addr ≡ true → is_fragment f ≡ true → TakesFragment (key_in r f) (fragment_in f payload) None H notes new →
+      reply ≡ None → TakesPacket source r f H payload reply notes new
+  Completed : (octets : List ℕ) (mid : Host) (first rest : List Note) → may_be_source H.ip_addrs r.src_addr ≡ true → is_fragment f ≡ true →
+      TakesFragment (key_in r f) (fragment_in f payload) (Some octets) H first mid → TakesWhole source (rebuilt_header r octets) mid octets reply rest new →
+      notes ≡ first ++ rest → TakesPacket source r f H payload reply notes new
+  Whole : may_be_source H.ip_addrs r.src_addr ≡ true → is_fragment f ≡ false → TakesWhole source r H payload reply notes new →
       TakesPacket source r f H payload reply notes new
-  Accepted : may_be_source H.ip_addrs r.src_addr ≡ true → is_fragment f ≡ false → is_for_host H r.dst_addr ≡ true →
-      TakesProtocol r.next_header (is_taken r H) r (heard_from source r (heard r payload H)) payload reply notes new → TakesPacket source r f H payload reply notes new
 
 -- what is done with the octets behind a frame's header, which came from this hardware address
 pub data TakesIpv4 (source : HardwareAddress) (H : Host) (octets : List ℕ) (reply : Option Reply) (notes : List Note) (new : Host) : Type 0 where

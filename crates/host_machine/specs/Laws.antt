@@ -1,5 +1,6 @@
 -- Laws that follow from the definitions.
 use Rattle.std.specs.Prelude.{◌≡◌, ℕ, ℤ, ◌+◌, ◌≤◌, ◌==◌, ◌&&◌, Bool, List, [], ◌∷◌, ◌++◌, length, drop, if◌then◌else◌}
+use Rattle.std.specs.List.{AllByRecursion}
 use Rattle.net_base.specs.declared.phy.ChecksumCapabilities.{ChecksumCapabilities}
 use Rattle.net_base.specs.Checksum.{is_rx}
 use Rattle.net_base.specs.Device.{Event, handed, sent}
@@ -15,10 +16,12 @@ use Rattle.iface_tables.specs.Neighbor.{answer_of}
 use Rattle.iface_tables.specs.declared.neighbor.Answer.TheVariants.{Found}
 use Rattle.host_machine.specs.declared.results.PollIngressSingleResult.{PollIngressSingleResult}
 use Rattle.host_machine.specs.Note.{Note, asks}
-use Rattle.host_machine.specs.Host.{Host, at}
+use Rattle.host_machine.specs.Host.{Host, swept}
+use Rattle.host_machine.specs.Real.{IsEthernet}
 use Rattle.host_machine.specs.Packet.{Packet}
 use Rattle.host_machine.specs.Dispatch.{Outcome, Dispatches}
 use Rattle.host_machine.specs.Ingress.{Ingress}
+use Rattle.host_machine.specs.Frames.{ComesInFrames}
 use Rattle.host_machine.specs.Run.{Place, Run}
 use Rattle.host_machine.specs.Ran.{Laws}
 
@@ -33,11 +36,11 @@ abbrev pub IsMalformed : HardwareAddress → ChecksumCapabilities → List ℕ �
 IsMalformed (hardware.Ethernet own) checksum frame = IsMalformedFrame checksum frame
 IsMalformed hardware.Ip checksum frame = ¬ IsIpv4 (is_rx checksum.ipv4) frame
 
--- where such a frame was handed over nothing is sent, and the host is as after the same call without a frame
+-- where such a frame was handed over nothing is sent, and the host is as after the same call without a frame, which drops ended slots
 abbrev pub MalformedIsDropped : Type 0
 MalformedIsDropped =
     (t : ℤ) (answer : PollIngressSingleResult) (old new : Host) (told : List Event) (notes : List Note) (frame : List ℕ) →
-    Ingress t answer old told notes new → handed told ≡ frame ∷ [] → IsMalformed old.hardware_addr old.capabilities.checksum frame → (sent told ≡ []) × (notes ≡ []) × (new ≡ at old t)
+    Ingress t answer old told notes new → handed told ≡ frame ∷ [] → IsMalformed old.hardware_addr old.capabilities.checksum frame → (sent told ≡ []) × (notes ≡ []) × (new ≡ swept old t)
 
 -- one ingress call takes at most one frame, and sends at most one
 abbrev pub IngressIsSingle : Type 0
@@ -53,11 +56,6 @@ is_arp_request frame = u16_at frame 12 == 0x0806 && u16_at frame 20 == 1
 abbrev pub requests_in : List (List ℕ) → ℕ
 requests_in [] = 0
 requests_in (frame ∷ frames) = (if is_arp_request frame then 1 else 0) + requests_in frames
-
--- an address of six octets
-abbrev pub IsEthernet : HardwareAddress → Type 0
-IsEthernet (hardware.Ethernet a) = length a.0 ≡ 6
-IsEthernet hardware.Ip = ⊥
 
 -- a host on Ethernet: its own address and those of its neighbours have six octets
 pub record OnEthernet (H : Host) : Type 0 where
@@ -77,3 +75,7 @@ RunsJoin = (first mid last : Host) (ps qs : List Place) → Run first ps mid →
 -- every run keeps the laws
 abbrev pub RunsKeepLaws : Type 0
 RunsKeepLaws = (first last : Host) (places : List Place) → Run first places last → Laws first places
+
+-- at each place of every run fragments come in frames
+abbrev pub FragmentsComeInFrames : Type 0
+FragmentsComeInFrames = (first last : Host) (places : List Place) → Run first places last → AllByRecursion ComesInFrames places

@@ -10,6 +10,7 @@ pub mod Raw
 pub mod Icmpv4
 pub mod Udp
 pub mod Tcp
+pub mod Reassembly
 pub mod Ipv4
 pub mod Ethernet
 pub mod Dispatch
@@ -21,10 +22,18 @@ pub mod Polling
 pub mod Due
 pub mod Config
 pub mod Step
+pub mod Rebuilding
+pub mod Order
 pub mod Run
 pub mod Quiet
 pub mod Ran
+pub mod Unfolded
+pub mod Frames
+pub mod Arrivals
+pub mod Real
+pub mod Wire
 pub mod Laws
 pub mod Example
 pub mod ExampleSockets
 pub mod ExamplePolling
+pub mod ExampleFragments

@@ -1,5 +1,5 @@
 -- Parts of a call, one after another.
-use Rattle.std.specs.Prelude.{List}
+use Rattle.std.specs.Prelude.{◌≡◌, List, ◌++◌}
 use Rattle.net_base.specs.Device.{Event}
 use Rattle.host_machine.specs.Note.{Note}
 use Rattle.host_machine.specs.Host.{Host}
@@ -7,3 +7,15 @@ use Rattle.host_machine.specs.Host.{Host}
 -- what a part of a call does: from a host, what the device tells and what is noted, to a host
 abbrev pub Part : Type 1
 Part = Host → List Event → List Note → Host → Type 0
+
+-- the one, and then the other
+pub record Both (one two : Part) (old : Host) (told : List Event) (notes : List Note) (new : Host) : Type 0 where
+  pub mid : Host
+  pub told_one : List Event
+  pub told_two : List Event
+  pub notes_one : List Note
+  pub notes_two : List Note
+  pub begins : one old told_one notes_one mid
+  pub ends : two mid told_two notes_two new
+  pub events : told ≡ told_one ++ told_two
+  pub all_notes : notes ≡ notes_one ++ notes_two

@@ -7,7 +7,7 @@ use Rattle.host_machine.specs.declared.results.PollIngressSingleResult.TheVarian
 use Rattle.host_machine.specs.declared.results.PollResult.{PollResult}
 use Rattle.host_machine.specs.declared.results.PollResult.TheVariants as result
 use Rattle.host_machine.specs.Note.{Note}
-use Rattle.host_machine.specs.Host.{Host, at}
+use Rattle.host_machine.specs.Host.{Host, at, swept}
 use Rattle.host_machine.specs.Parts.{Part}
 use Rattle.host_machine.specs.Ingress.{Ingress}
 use Rattle.host_machine.specs.Egress.{Egress, answer_of}
@@ -35,9 +35,9 @@ abbrev pub is_changed : PollResult → Bool
 is_changed result.None = false
 is_changed result.SocketStateChanged = true
 
--- the host after maintenance; it keeps nothing yet that has to be maintained
+-- the host after maintenance: slots that have ended are dropped
 abbrev pub maintained : Host → Host
-maintained H = H
+maintained H = swept H H.moment
 
 -- the calls that receive
 abbrev pub Receives : ℤ → ℕ → Bool → Part

@@ -6,7 +6,7 @@ use Rattle.iface_tables.specs.declared.route.Route.{Route}
 use Rattle.sockets.specs.Kinds.{offered, settled}
 use Rattle.sockets.specs.Kinds as socket
 use Rattle.host_machine.specs.declared.command.Command.{Command}
-use Rattle.host_machine.specs.declared.command.Command.TheVariants.{UpdateIpAddrs, PollIngressSingle, PollEgress, Poll, PollMaintenance, PollAt, PollDelay, UpdateRoutes, AddDefaultIpv4Route, RemoveDefaultIpv4Route, SetAnyIp, SetHardwareAddr, Owner}
+use Rattle.host_machine.specs.declared.command.Command.TheVariants.{UpdateIpAddrs, PollIngressSingle, PollEgress, Poll, PollMaintenance, PollAt, PollDelay, UpdateRoutes, AddDefaultIpv4Route, RemoveDefaultIpv4Route, SetAnyIp, SetHardwareAddr, SetReassemblyTimeout, Owner}
 use Rattle.host_machine.specs.declared.command.Answer.{Answer}
 use Rattle.host_machine.specs.declared.command.Answer.TheVariants as answer
 use Rattle.host_machine.specs.declared.results.PollIngressSingleResult.TheVariants as ingress
@@ -38,7 +38,7 @@ pub record IsWithin (t0 : ℤ) (end : Option ℤ) (routes : List Route) (s : ℤ
   pub before : IsBefore s end
   pub routes_last : RoutesLast routes t0 s
 
--- a poll within that time, a question when to poll, or a call that changes nothing
+-- a poll within that time, a question when to poll, a reassembly timeout, or a call that changes nothing
 abbrev pub IsCalm : ℤ → Option ℤ → Command → Place → Type 0
 IsCalm t0 end (PollIngressSingle s) p = IsWithin t0 end p.before.routes s
 IsCalm t0 end (PollEgress s) p = IsWithin t0 end p.before.routes s
@@ -52,6 +52,7 @@ IsCalm t0 end (AddDefaultIpv4Route gateway) p = p.after ≡ p.before
 IsCalm t0 end RemoveDefaultIpv4Route p = p.after ≡ p.before
 IsCalm t0 end (SetAnyIp any_ip) p = p.after ≡ p.before
 IsCalm t0 end (SetHardwareAddr h) p = p.after ≡ p.before
+IsCalm t0 end (SetReassemblyTimeout timeout) p = Unit {0}
 IsCalm t0 end (Owner number) p = p.after ≡ p.before
 
 -- nothing disturbs a place: such a call, and no frame handed over
@@ -73,6 +74,7 @@ AnswersNone (answer.AddDefaultIpv4Route r) = Unit {0}
 AnswersNone (answer.RemoveDefaultIpv4Route r) = Unit {0}
 AnswersNone answer.SetAnyIp = Unit {0}
 AnswersNone (answer.SetHardwareAddr r) = Unit {0}
+AnswersNone (answer.SetReassemblyTimeout r) = Unit {0}
 AnswersNone answer.Owner = Unit {0}
 
 -- nothing is sent, a poll answers so, and each socket is as it was; its wait may end

@@ -1,12 +1,16 @@
 //! Laws that follow from the definitions alone, each as the contract of an empty function.
 ghost use Rattle.host_machine.specs.Example.{EchoIsAnswered, PacketIsAnswered, RequestIsAnswered, SenderIsDiscovered};
+ghost use Rattle.host_machine.specs.Arrivals.{FewAreKept, PiecesAreRebuilt, PiecesComeInTime};
+ghost use Rattle.host_machine.specs.ExampleFragments.{DatagramIsRebuilt, FragmentWaits, PacketGoesInPieces, TenAreCut, TimeoutsAreTested};
 ghost use Rattle.host_machine.specs.ExamplePolling.{RequestIsPolled, WaitIsDue};
 ghost use Rattle.host_machine.specs.ExampleSockets.{ConfigurationsAreTested, ConnectionIsReset, DatagramIsDelivered, DatagramIsRefused, ProtocolIsRefused, RawSocketHears, SocketWaits, WindowFitsBurst};
 ghost use Rattle.host_machine.specs.Quiet.{SocketsAreQuiet};
-ghost use Rattle.host_machine.specs.Laws.{DiscoveriesAreNoted, IngressIsSingle, MalformedIsDropped, RunsJoin, RunsKeepLaws};
+ghost use Rattle.host_machine.specs.Laws.{DiscoveriesAreNoted, FragmentsComeInFrames, IngressIsSingle, MalformedIsDropped, RunsJoin, RunsKeepLaws};
+ghost use Rattle.host_machine.specs.Unfolded.{RunsUnfold};
+ghost use Rattle.host_machine.specs.Wire.{FragmentsArePieces, StaysReal};
 
 /// A frame whose Ethernet, ARP or IPv4 header is malformed sends nothing, and leaves the host as the same
-/// call without a frame does.
+/// call without a frame does, which drops slots that have ended.
 pub fn malformed_is_dropped()
     ensures { MalformedIsDropped }
 {}
@@ -31,6 +35,45 @@ pub fn runs_join()
 /// The laws hold of every run.
 pub fn runs_keep_laws()
     ensures { RunsKeepLaws }
+{}
+
+/// Every run is one of single calls: a poll is maintenance, then calls that receive, then calls that
+/// send.
+pub fn runs_unfold()
+    ensures { RunsUnfold }
+{}
+
+/// At each place of a run a fragment comes for each frame that is handed over and brings one.
+pub fn fragments_come_in_frames()
+    ensures { FragmentsComeInFrames }
+{}
+
+/// Where all pieces of one payload come under a key, in any order and with repeats before the last
+/// missing one, the payload is rebuilt at that one and not before.
+pub fn pieces_are_rebuilt()
+    ensures { PiecesAreRebuilt }
+{}
+
+/// The same by moments and for polls: within the time of a slot, beside fragments of one other datagram
+/// at most, the payload is rebuilt at the last missing piece and not before.
+pub fn pieces_come_in_time()
+    ensures { PiecesComeInTime }
+{}
+
+/// Over Ethernet, the frames of a run that a host on Ethernet reads as fragments are the pieces that are
+/// noted, in order.
+pub fn fragments_are_pieces()
+    ensures { FragmentsArePieces }
+{}
+
+/// Over Ethernet, it stays Ethernet.
+pub fn stays_real()
+    ensures { StaysReal }
+{}
+
+/// A fragment that follows at most three others leaves at most four separate ranges.
+pub fn few_are_kept()
+    ensures { FewAreKept }
 {}
 
 /// A socket that is asked before the instant that it names offers nothing, and stays as it is.
@@ -109,4 +152,29 @@ pub fn request_is_polled()
 /// A worked example: a socket that waits is due at the end of its wait, and then at once.
 pub fn wait_is_due()
     ensures { WaitIsDue }
+{}
+
+/// A worked example: ten octets in pieces of eight.
+pub fn ten_are_cut()
+    ensures { TenAreCut }
+{}
+
+/// A worked example: the first fragment of a datagram, octet by octet, takes a slot.
+pub fn fragment_waits()
+    ensures { FragmentWaits }
+{}
+
+/// A worked example: the last fragment, octet by octet, completes the datagram.
+pub fn datagram_is_rebuilt()
+    ensures { DatagramIsRebuilt }
+{}
+
+/// A worked example: a packet that is too long for the device goes in pieces, octet by octet.
+pub fn packet_goes_in_pieces()
+    ensures { PacketGoesInPieces }
+{}
+
+/// A worked example: a reassembly timeout of a day is taken, and a longer one refused.
+pub fn timeouts_are_tested()
+    ensures { TimeoutsAreTested }
 {}

@@ -48,6 +48,8 @@ text_of (answer.RemoveDefaultIpv4Route old) = codes "ok"
 text_of answer.SetAnyIp = codes "ok"
 text_of (answer.SetHardwareAddr (Ok done)) = codes "ok"
 text_of (answer.SetHardwareAddr (Err e)) = hardware_text e
+text_of (answer.SetReassemblyTimeout (Ok done)) = codes "ok"
+text_of (answer.SetReassemblyTimeout (Err e)) = codes "TimeoutTooLong"
 text_of answer.Owner = codes "ok"
 
 -- a frame that arrived or was too long; nothing where memory was refused

@@ -11,7 +11,9 @@ use crate::input::{Input, LineBuffer, LineRead};
 use crate::line::{FRAME_ROOM, Line, parse};
 use arrayvec::ArrayVec;
 use iface_tables::route::RouteTableFull;
-use interface::{AddrError, Answer, HardwareError, NewError, PollIngressSingleResult, PollResult};
+use interface::{
+    AddrError, Answer, HardwareError, NewError, PollIngressSingleResult, PollResult, TimeoutError,
+};
 use net_base::PushError;
 use net_base::phy::{Device, FRAME_BUFFER_SIZE};
 use net_base::time::Instant;
@@ -195,6 +197,7 @@ fn answer_text(answer: Answer) -> Text
         | Answer::RemoveDefaultIpv4Route(_)
         | Answer::SetAnyIp
         | Answer::SetHardwareAddr(Ok(()))
+        | Answer::SetReassemblyTimeout(Ok(()))
         | Answer::PollMaintenance
         | Answer::PollDelay(_)
         | Answer::Owner => text("ok"),
@@ -202,6 +205,7 @@ fn answer_text(answer: Answer) -> Text
         | Answer::SetHardwareAddr(Err(HardwareError::NotUnicast)) => text("NotUnicast"),
         Answer::SetHardwareAddr(Err(HardwareError::WrongMedium)) => text("WrongMedium"),
         Answer::AddDefaultIpv4Route(Err(RouteTableFull)) => text("RouteTableFull"),
+        Answer::SetReassemblyTimeout(Err(TimeoutError::TimeoutTooLong)) => text("TimeoutTooLong"),
         Answer::PollIngressSingle(result) => text(ingress_name(result)),
         Answer::PollEgress(result) | Answer::Poll(result) => text(poll_name(result)),
     }

@@ -114,6 +114,11 @@ impl Host {
     /// has.
     pub fn deliver(&mut self) -> usize {
         self.receive();
+        self.read()
+    }
+
+    /// Reads a datagram. Answers how many octets it has.
+    pub fn read(&mut self) -> usize {
         let Some(socket) = self.sockets.get_mut::<udp::Socket<'static>>(self.handle) else {
             return 0;
         };
@@ -123,6 +128,28 @@ impl Host {
         };
         socket.done();
         len
+    }
+
+    /// Takes three frames of IPv4 packets over Ethernet, which stand one behind the other.
+    pub fn receive_three(&mut self, mut frames: &[u8]) {
+        for _ in 0..3 {
+            let Some((frame, rest)) = next_frame(frames) else {
+                return;
+            };
+            let _ = self
+                .interface
+                .receive_frame(Instant::ZERO, frame, &mut self.sockets);
+            frames = rest;
+        }
+    }
+
+    /// Sends two pieces that wait.
+    pub fn send_two_pieces(&mut self) {
+        for _ in 0..2 {
+            let _ = self
+                .interface
+                .poll_egress(Instant::ZERO, &mut self.link, &mut self.sockets);
+        }
     }
 
     /// Gives the host four routes.
@@ -168,6 +195,13 @@ impl Host {
             .interface
             .poll_egress(Instant::ZERO, &mut self.link, &mut self.sockets);
     }
+}
+
+/// The first of frames that stand one behind the other, and the others. It ends with its packet.
+fn next_frame(frames: &[u8]) -> Option<(&[u8], &[u8])> {
+    let high = *frames.get(16)?;
+    let low = *frames.get(17)?;
+    frames.split_at_checked(14 + usize::from(high) * 256 + usize::from(low))
 }
 
 /// Adds a socket at port 1, which hears and sends nothing.

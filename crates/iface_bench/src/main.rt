@@ -2,7 +2,9 @@
 //!
 //! The first argument says what: `receive` a frame, `deliver` one to a socket, the same to a queue that
 //! is nearly `full`, `send` a datagram, or send it by a `route`; receive a `packet` on a medium without
-//! hardware addresses; `poll` where there is nothing to do, or ask when to poll again (`at`). The second
+//! hardware addresses; `poll` where there is nothing to do, or ask when to poll again (`at`). Three frames
+//! one behind the other in one line are `fragments` that bring a datagram to the socket, or a request that is
+//! answered in three pieces (`pieces`); what is sent may be `cut` into three. The second
 //! says how many times; a third, if there is one, how many sockets the host has. The first line of
 //! standard input is a frame in hex that is taken once before, and the second the frame that is taken or
 //! the payload that is sent over and over.
@@ -54,6 +56,24 @@ fn run(host: &mut Host, work: &str, rounds: u64, octets: Vec<u8>) -> Result<u64>
                 read = read.wrapping_add(host.deliver() as u64);
             }
         }
+        "fragments" => {
+            for _ in 0..rounds {
+                host.receive_three(octets.as_slice());
+                read = read.wrapping_add(host.read() as u64);
+            }
+        }
+        "pieces" => {
+            for _ in 0..rounds {
+                host.receive_three(octets.as_slice());
+                host.send_two_pieces();
+            }
+        }
+        "cut" => {
+            for _ in 0..rounds {
+                host.send(octets.as_slice());
+                host.send_two_pieces();
+            }
+        }
         "poll" => {
             host.link.load(octets);
             for _ in 0..rounds {
@@ -65,7 +85,9 @@ fn run(host: &mut Host, work: &str, rounds: u64, octets: Vec<u8>) -> Result<u64>
                 read = read.wrapping_add(u64::from(host.poll_at()));
             }
         }
-        _ => bail!("receive, deliver, full, send, route, packet, poll or at?"),
+        _ => bail!(
+            "receive, deliver, full, send, route, packet, fragments, pieces, cut, poll or at?"
+        ),
     }
     Ok(read)
 }

@@ -1,10 +1,13 @@
 -- The turns of sockets, from their parts.
-use Rattle.std.proofs.Common.{◌≡◌, ℕ, ◌+◌, ◌<◌, Bool, true, false, List, [], ◌∷◌, ◌++◌, length, ◌≤◌, refl, sym, ap, ◌∙◌, zero, suc, ◌⊎◌, inl, inr, get_or, arith, Option, Some, None, Ok, Err}
-use Rattle.std.specs.Prelude.{IsSome, IsNone, ℤ, ◌||◌, is_ok, slice_get, slice_set}
+use Rattle.std.proofs.Common.{◌≡◌, ℕ, ◌+◌, ◌<◌, Bool, true, false, List, [], ◌∷◌, ◌++◌, length, ◌≤◌, refl, sym, ap, ◌∙◌, subst, zero, suc, ◌⊎◌, inl, inr, get_or, arith, Option, Some, None, Ok, Err}
+use Rattle.std.specs.Prelude.{not, IsSome, IsNone, ℤ, ◌||◌, is_ok, slice_get, slice_set}
 use Rattle.std.specs.Option.{option_map, option_and_then}
 use Rattle.std.proofs.lemmas.List.{set-get_or, set-set}
 use Rattle.std.proofs.lemmas.Option.{slice_get_cases}
 use Rattle.net_base.specs.Device.{Event, Asked}
+use Rattle.fragmentation.specs.Slots.{Slots}
+use Rattle.fragmentation.specs.Cuts.{Piece}
+use Rattle.fragmentation.specs.Pending.{is_nil}
 use Rattle.sockets.specs.Kinds.{offered, told}
 use Rattle.sockets.specs.Kinds as kinds
 use Rattle.sockets.specs.declared.socket.Offer.{Offer}
@@ -18,14 +21,15 @@ use Rattle.host_machine.specs.Addresses.{source_for}
 use Rattle.host_machine.specs.Packet as value
 use Rattle.host_machine.specs.Frame.{frames_in, sends}
 use Rattle.host_machine.specs.Dispatch.{Outcome, Dispatches, KnowsNextHop, destination_of}
-use Rattle.host_machine.specs.Egress.{packet_of, packet_from, asked, turn_of, is_gone, is_exhausted, Silent, Refused, Sent, Free, Waits, Served, wait_after, Begins, Goes, Stops, Stopped, Serves, Walks, SocketsSend}
+use Rattle.host_machine.specs.Egress.{packet_of, packet_from, asked, turn_of, is_gone, is_exhausted, Silent, Refused, Sent, Free, Waits, Served, wait_after, Begins, Goes, Stops, Stopped, Whole, Serves, Walks, SocketsSend, SendsPiece, NoPiece, NoLeave, PieceGoes}
 use Rattle.iface_send.specs.declared.context.Context.{Context}
 use Rattle.iface_send.specs.declared.packet.Packet.{Packet}
 use Rattle.iface_send.specs.Shown as shown
 use Rattle.iface_send.specs.Built.{Built}
-use Rattle.iface_send.specs.Stands.{host_of}
+use Rattle.iface_send.specs.Pieces.{NextPieceGoes}
+use Rattle.iface_send.specs.Stands.{host_in, host_of}
 use Rattle.iface_egress.specs.Told.{Told}
-use Rattle.iface_egress.specs.Turns.{HasTurn, IsDecided, NoSocket, OfSocket}
+use Rattle.iface_egress.specs.Turns.{HasTurn, PieceHasTurn, IsDecided, NoSocket, OfSocket}
 
 -- a socket that offers nothing has no packet
 pub none_offered : (H : Host) (s : Socket) (r : Option Offer) → option_map kinds.shown r ≡ offered H.moment (source_for H.ip_addrs) s → r ≡ None → packet_from H s ≡ None
@@ -46,11 +50,11 @@ kept_turn p (Err error) is = refl
 
 module _ {D : Type 0} {tells : D → List Event → D → Type 0} where
   pub silent : {d : D} (c : Context) {s s' : Socket} → tells d [] d → packet_from (host_of c no_sockets) s ≡ None → s' ≡ asked (host_of c no_sockets) s → Told tells d d (HasTurn s Idle s' c) c
-  silent c quiet none settles = record { told = []; notes = []; tells_it = quiet; follows = λ sockets. Silent none refl refl refl refl settles }
+  silent c quiet none settles = record { told = []; notes = []; tells_it = quiet; follows = λ slots sockets. Silent none refl refl refl refl settles }
 
   pub refused : {d e : D} (c : Context) {s s' : Socket} (p : value.Packet) → tells d (Asked c.moment false ∷ []) e → packet_from (host_of c no_sockets) s ≡ Some p → s' ≡ asked (host_of c no_sockets) s →
       Told tells d e (HasTurn s Exhausted s' c) c
-  refused c p asks some settles = record { told = Asked c.moment false ∷ []; notes = []; tells_it = asks; follows = λ sockets. Refused p some refl refl refl refl settles }
+  refused c p asks some settles = record { told = Asked c.moment false ∷ []; notes = []; tells_it = asks; follows = λ slots sockets. Refused p some refl refl refl refl settles }
 
   sent : {d m e : D} {buffer : List ℕ} (c c' : Context) {s s' : Socket} {t : Turn} → ((a b c : D) (xs ys : List Event) → tells a xs b → tells b ys c → tells a (xs ++ ys) c) →
       (p : value.Packet) (o : Outcome) → tells d (Asked c.moment true ∷ []) m → Built buffer (Dispatches p o) c c' → tells m (sends (frames_in buffer)) e → packet_from (host_of c no_sockets) s ≡ Some p → t ≡ turn_of p o →
@@ -59,7 +63,7 @@ module _ {D : Type 0} {tells : D → List Event → D → Type 0} where
     told = Asked c.moment true ∷ sends (frames_in buffer);
     notes = built.notes;
     tells_it = tells_on d m e (Asked c.moment true ∷ []) (sends (frames_in buffer)) asks sends_it;
-    follows = λ sockets. Sent p o (frames_in buffer) some (built.follows sockets) turns refl tells_it;
+    follows = λ slots sockets. Sent p o (frames_in buffer) some (built.follows slots sockets) turns refl tells_it;
   }
 
   pub sent_gone : {d m e : D} {buffer : List ℕ} (c c' : Context) {s s' asked_so : Socket} → ((a b c : D) (xs ys : List Event) → tells a xs b → tells b ys c → tells a (xs ++ ys) c) →
@@ -99,15 +103,15 @@ told_as None known tells is = is
 told_as (Some wait) known tells is = tells wait.0 known is
 
 -- it is decided whether the socket of a place may be asked
-pub decided : {P : IpAddress → Bool → Type 0} (c : Context) (sockets new : SocketSet) (i : ℕ) (permitted : Bool) → ((a : IpAddress) (k : Bool) → P a k → KnowsNextHop (host_of c sockets) a k) →
+pub decided : {P : IpAddress → Bool → Type 0} (c : Context) (sockets new : SocketSet) (i : ℕ) (permitted : Bool) → ((slots : Slots) (a : IpAddress) (k : Bool) → P a k → KnowsNextHop (host_in c slots sockets) a k) →
     (IsSome (socket_at sockets i) → (known : Bool) × IsTold P (wait_at sockets i) known × (permitted ≡ is_permitted (wait_at sockets i) known c.moment) × (new ≡ with_wait sockets i (after_asking (wait_at sockets i) known))) →
-    (IsNone (socket_at sockets i) → (permitted ≡ false) × (new ≡ sockets)) → IsDecided (host_of c sockets) i permitted new
+    (IsNone (socket_at sockets i) → (permitted ≡ false) × (new ≡ sockets)) → IsDecided c sockets i permitted new
 decided {P} c sockets new i permitted knows asked none = by (socket_at sockets i) refl where
-  by : (o : Option Socket) → socket_at sockets i ≡ o → IsDecided (host_of c sockets) i permitted new
+  by : (o : Option Socket) → socket_at sockets i ≡ o → IsDecided c sockets i permitted new
   by None is = NoSocket is (none (rw is refl)).0 (none (rw is refl)).1
   by (Some s) is =
       let e = asked (rw is refl) in
-      OfSocket s e.0 is (told_as (wait_at sockets i) e.0 knows e.1) e.2 e.3
+      OfSocket s e.0 is (λ slots. told_as (wait_at sockets i) e.0 (knows slots) e.1) e.2 e.3
 
 -- a socket that may not be asked keeps its wait
 waits_on : (w : Wait) (known : Bool) (t : ℤ) → is_permitted w known t ≡ false → after_asking w known ≡ w
@@ -123,22 +127,22 @@ decided_wait (w ∷ ws) (suc i) known = decided_wait ws i known
 
 module _ {D : Type 0} {tells : D → List Event → D → Type 0} where
   -- a place that isn't asked has its turn for nothing
-  pub not_asked : {d : D} (c : Context) (sockets new : SocketSet) (i : ℕ) (permitted : Bool) → tells d [] d → i < length sockets.places → permitted ≡ false →
-      IsDecided (host_of c sockets) i permitted new → Told tells d d (Serves i Idle (host_of c sockets)) (host_of c new)
-  not_asked c sockets new i permitted quiet within refused (NoSocket none isn_t same) =
+  pub not_asked : {d : D} (c : Context) (slots : Slots) (sockets new : SocketSet) (i : ℕ) (permitted : Bool) → tells d [] d → i < length sockets.places → permitted ≡ false →
+      IsDecided c sockets i permitted new → Told tells d d (Serves i Idle (host_in c slots sockets)) (host_in c slots new)
+  not_asked c slots sockets new i permitted quiet within refused (NoSocket none isn_t same) =
       rw same (record { told = []; notes = []; tells_it = quiet; follows = Free (free_place (slice_get sockets.places i) none (inside sockets.places i within)) refl refl refl refl })
-  not_asked c sockets new i permitted quiet within refused (OfSocket s known some knows is same) =
+  not_asked c slots sockets new i permitted quiet within refused (OfSocket s known some knows is same) =
       let not_permitted : is_permitted (wait_at sockets i) known c.moment ≡ false = sym is ∙ refused in
       let unchanged : new ≡ sockets = same ∙ ap (with_wait sockets i) (waits_on (wait_at sockets i) known c.moment not_permitted) ∙ ap (λ (ws : List Wait). record sockets { waits = ws }) (set-get_or sockets.waits i None) in
-      rw unchanged (record { told = []; notes = []; tells_it = quiet; follows = Waits s known (taken_place (slice_get sockets.places i) s some) knows not_permitted refl refl refl refl })
+      rw unchanged (record { told = []; notes = []; tells_it = quiet; follows = Waits s known (taken_place (slice_get sockets.places i) s some) (knows slots) not_permitted refl refl refl refl })
 
   -- the socket of a place had its turn, and waits or not from then on
-  pub was_asked : {d e : D} (c c' : Context) (s s' : Socket) (t : Turn) (sockets mid new : SocketSet) (i : ℕ) (permitted : Bool) → permitted ≡ true →
-      IsDecided (host_of c sockets) i permitted mid → Some s ≡ socket_at mid i → Told tells d e (HasTurn s t s' c) c' →
+  pub was_asked : {d e : D} (c c' : Context) (s s' : Socket) (t : Turn) (slots : Slots) (sockets mid new : SocketSet) (i : ℕ) (permitted : Bool) → permitted ≡ true →
+      IsDecided c sockets i permitted mid → Some s ≡ socket_at mid i → Told tells d e (HasTurn s t s' c) c' →
       new ≡ with_wait (with_place mid i (Some s')) i (wait_after t c.moment (wait_at (with_place mid i (Some s')) i)) →
-      Told tells d e (Serves i t (host_of c sockets)) (host_of c' new)
-  was_asked c c' s s' t sockets mid new i permitted allowed (NoSocket none isn_t same) there turned changed = absurd cc
-  was_asked c c' s s' t sockets mid new i permitted allowed (OfSocket r known some knows is same) there turned changed =
+      Told tells d e (Serves i t (host_in c slots sockets)) (host_in c' slots new)
+  was_asked c c' s s' t slots sockets mid new i permitted allowed (NoSocket none isn_t same) there turned changed = absurd cc
+  was_asked c c' s s' t slots sockets mid new i permitted allowed (OfSocket r known some knows is same) there turned changed =
       let wait = after_asking (wait_at sockets i) known in
       let stays : wait_at mid i ≡ wait = ap (λ (x : SocketSet). wait_at x i) same ∙ decided_wait sockets.waits i known in
       let at_place : socket_at sockets i ≡ Some s = ap (λ (x : SocketSet). socket_at x i) (sym same) ∙ sym there in
@@ -152,7 +156,7 @@ module _ {D : Type 0} {tells : D → List Event → D → Type 0} where
         told = turned.told;
         notes = turned.notes;
         tells_it = turned.tells_it;
-        follows = Served s s' known (host_of c' sockets) (taken_place (slice_get sockets.places i) s at_place) knows (sym is ∙ allowed) (turned.follows sockets) (ap (host_of c') whole);
+        follows = Served s s' known (host_in c' slots sockets) (taken_place (slice_get sockets.places i) s at_place) (knows slots) (sym is ∙ allowed) (turned.follows slots sockets) (ap (host_in c' slots) whole);
       }
 
   pub none_served : {d : D} (H : Host) → tells d [] d → Told tells d d (Walks H 0 true false) H
@@ -176,4 +180,34 @@ module _ {D : Type 0} {tells : D → List Event → D → Type 0} where
     notes = so.notes ++ one.notes;
     tells_it = tells_on d m e so.told one.told so.tells_it one.tells_it;
     follows = Stopped (n + 1) (Stops t one.told one.notes new so.follows one.follows is);
+  }
+
+  pub all_served : {d e : D} {old new : Host} {n : ℕ} {changed : Bool} → Told tells d e (Walks old n true changed) new → n ≡ length old.sockets.places → Told tells d e (SocketsSend old changed) new
+  all_served {old = old} {new = new} {changed = changed} so all = record {
+    told = so.told;
+    notes = so.notes;
+    tells_it = so.tells_it;
+    follows = Whole (subst (λ n. Walks old n true changed so.told so.notes new) all so.follows);
+  }
+
+module _ {D : Type 0} {tells : D → List Event → D → Type 0} where
+  pub no_piece : {d : D} (c : Context) → tells d [] d → not (is_nil c.fragmenter.pieces) ≡ false → Told tells d d (PieceHasTurn c) c
+  no_piece c quiet none = record { told = []; notes = []; tells_it = quiet; follows = λ slots sockets. NoPiece (empty c.fragmenter.pieces none) refl refl refl } where
+    empty : (pieces : List Piece) → not (is_nil pieces) ≡ false → pieces ≡ []
+    empty [] is = refl
+    empty (piece ∷ pieces) is = absurd cc
+
+  pub no_leave : {d e : D} (c : Context) → tells d (Asked c.moment false ∷ []) e → is_nil c.fragmenter.pieces ≡ false → Told tells d e (PieceHasTurn c) c
+  no_leave c asks some = record { told = Asked c.moment false ∷ []; notes = []; tells_it = asks; follows = λ slots sockets. by slots sockets c.fragmenter.pieces refl some } where
+    by : (slots : Slots) (sockets : SocketSet) (pieces : List Piece) → c.fragmenter.pieces ≡ pieces → is_nil pieces ≡ false → SendsPiece (host_in c slots sockets) (Asked c.moment false ∷ []) [] (host_in c slots sockets)
+    by slots sockets [] is some = absurd cc
+    by slots sockets (piece ∷ rest) is some = NoLeave piece rest is refl refl refl
+
+  pub piece_goes : {d m e : D} {buffer : List ℕ} (c c' : Context) → ((a b c : D) (xs ys : List Event) → tells a xs b → tells b ys c → tells a (xs ++ ys) c) → tells d (Asked c.moment true ∷ []) m →
+      Built buffer NextPieceGoes c c' → tells m (sends (frames_in buffer)) e → Told tells d e (PieceHasTurn c) c'
+  piece_goes {d} {m} {e} {buffer} c c' tells_on asks built sends_it = record {
+    told = Asked c.moment true ∷ sends (frames_in buffer);
+    notes = built.notes;
+    tells_it = tells_on d m e (Asked c.moment true ∷ []) (sends (frames_in buffer)) asks sends_it;
+    follows = λ slots sockets. let goes = built.follows slots sockets in PieceGoes goes.piece goes.rest goes.is_first (ap (λ frames. Asked c.moment true ∷ sends frames) goes.sent) goes.noted goes.others_left;
   }

@@ -1,4 +1,5 @@
-//! What sockets have to send: each that needn't wait is asked in order, until the device refuses leave.
+//! What a call sends: the next of the pieces that wait, and then what sockets have to send, where each that
+//! needn't wait is asked in order, until the device refuses leave.
 ghost use Rattle.std.specs.Prelude.{◌≡◌, ◌<◌, length, Some, IfSome};
 ghost use Rattle.std.specs.Option.{option_map};
 ghost use Rattle.sockets.specs.Kinds as kinds;
@@ -7,19 +8,21 @@ ghost use Rattle.network_sockets.specs.Raw as raw;
 ghost use Rattle.transport_sockets.specs.Udp as udp;
 ghost use Rattle.net_base.specs.Time.{IsMoment};
 ghost use Rattle.socket_set.specs.SocketSet.{wait_at, with_wait};
+ghost use Rattle.fragmentation.specs.Slots.{Slots};
 ghost use Rattle.host_machine.specs.Host.{SocketSet};
 ghost use Rattle.host_machine.specs.Dispatch.{KnowsNextHop};
 ghost use Rattle.host_machine.specs.Egress as spec;
 ghost use Rattle.host_machine.specs.Packet.{IsWritable, IsWritablePayload};
 ghost use Rattle.iface_send.specs.Shown as shown;
-ghost use Rattle.iface_send.specs.Stands.{host_of};
+ghost use Rattle.iface_send.specs.Stands.{host_in};
 ghost use Rattle.iface_egress.specs.Told.{Told};
-ghost use Rattle.iface_egress.specs.Turns.{HasTurn, IsDecided};
+ghost use Rattle.iface_egress.specs.Turns.{HasTurn, IsDecided, PieceHasTurn};
 
 use crate::transmit::send_frame;
 use control_wire::Icmpv4Repr;
 use host_machine::Turn;
 use iface_send::dispatch::{dispatch, has_neighbor};
+use iface_send::fragments::emit_next_piece;
 use iface_send::{Context, IpPayload, Packet, PacketV4};
 use ip_wire::emit::FrameBuffer;
 use ip_wire::{IpAddress, UdpRepr};
@@ -27,6 +30,22 @@ use net_base::phy::Device;
 use net_base::time::Instant;
 use socket_set::SocketSet;
 use sockets::{Offer, Socket, SocketContext, icmp, raw, udp};
+
+/// Sends the next of the pieces that are left of a packet that was cut, if one is left and the device
+/// gives leave. The others stay left.
+pub fn ipv4_egress<D: Device>(context: &mut Context, device: &mut D, out: &mut FrameBuffer)
+    ensures { Told D.tells device.old device.new (PieceHasTurn context.old) context.new }
+{
+    if !context.has_waiting_piece() {
+        return;
+    }
+    if !device.transmit(context.now()) {
+        return;
+    }
+    out.clear();
+    emit_next_piece(context, out);
+    send_frame(device, out);
+}
 
 /// Gives each socket that needn't wait its turn in order, until the device refuses leave to send. Answers whether a
 /// packet of some socket counts as gone.
@@ -36,7 +55,7 @@ pub fn socket_egress<D: Device>(
     out: &mut FrameBuffer,
     sockets: &mut SocketSet<'_>,
 ) -> bool
-    ensures { Told D.tells device.old device.new (spec.SocketsSend (host_of context.old sockets.old) result) (host_of context.new sockets.new) }
+    ensures { (slots : Slots) → Told D.tells device.old device.new (spec.SocketsSend (host_in context.old slots sockets.old) result) (host_in context.new slots sockets.new) }
 {
     let mut changed = false;
     for index in 0..sockets.places() {
@@ -59,7 +78,7 @@ fn serve<D: Device>(
     index: usize,
 ) -> Turn
     requires { index < length sockets.old.places }
-    ensures told { Told D.tells device.old device.new (spec.Serves index result (host_of context.old sockets.old)) (host_of context.new sockets.new) }
+    ensures told { (slots : Slots) → Told D.tells device.old device.new (spec.Serves index result (host_in context.old slots sockets.old)) (host_in context.new slots sockets.new) }
     ensures places { length sockets.new.places ≡ length sockets.old.places }
 {
     let now = context.now();
@@ -77,13 +96,13 @@ fn serve<D: Device>(
 /// Whether the socket at an index may be asked for a packet: there is one, and it needn't wait. A known
 /// next hop to the destination that it waits for ends the wait.
 fn is_permitted(context: &Context, sockets: &mut SocketSet<'_>, index: usize) -> bool
-    ensures { IsDecided (host_of context.now sockets.old) index result sockets.new }
+    ensures { IsDecided context.now sockets.old index result sockets.new }
 {
     sockets.egress_permitted(
         index,
         context.now(),
         |address: IpAddress| -> bool
-            ensures { (others : SocketSet) → KnowsNextHop (host_of context.exit.now others) address result }
+            ensures { (slots : Slots) (others : SocketSet) → KnowsNextHop (host_in context.exit.now slots others) address result }
         { has_neighbor(context, &address) },
     )
 }

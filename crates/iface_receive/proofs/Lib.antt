@@ -1,3 +1,4 @@
 mod Processing
+mod Fragmented
 mod Received
 mod Each

@@ -25,14 +25,14 @@ use Rattle.host_machine.specs.Reply.{Reply}
 use Rattle.host_machine.specs.Arp.{TakesArp, Learnt, NotForUs, listens, answer_by}
 use Rattle.ip_address.specs.declared.hardware.HardwareAddress.{HardwareAddress}
 use Rattle.ip_wire.specs.declared.ipv4_packet.Ipv4Fragment.{Ipv4Fragment}
-use Rattle.ip_wire.specs.Ipv4Packet.{IsIpv4, ipv4_in, is_fragment}
-use Rattle.host_machine.specs.Addresses.{is_for_host, may_be_source}
+use Rattle.ip_wire.specs.Ipv4Packet.{IsIpv4, ipv4_in}
+use Rattle.host_machine.specs.Addresses.{is_for_host}
 use Rattle.host_machine.specs.Raw.{heard, is_taken}
 use Rattle.host_machine.specs.Note.{Note}
 use Rattle.host_machine.specs.Ethernet.{TakesFrame, TakesEthernet, TakesIp, TakesPayload, is_for}
 use Rattle.host_machine.specs.Ethernet as ethernet
 use Rattle.host_machine.specs.Ipv4 as ipv4
-use Rattle.host_machine.specs.Ipv4.{TakesProtocol, TakesPacket, TakesIpv4, Read, heard_from}
+use Rattle.host_machine.specs.Ipv4.{TakesProtocol, TakesPacket, TakesWhole, TakesIpv4, Read, heard_from}
 use Rattle.host_machine.specs.Delivery.{DeliversFirst, IsNobody}
 use Rattle.host_machine.specs.Delivery.{holds, to_each, to_this}
 use Rattle.host_machine.specs.Udp as udp
@@ -68,17 +68,16 @@ ipv4_read source H K octets payload r f checked reply notes tests is takes =
     Read (rw tests at is.0) (rw (same_header, same_fragment, same_payload) at takes)
 
 -- a packet for another host is heard by raw sockets alone
-pub packet_for_others : (source : HardwareAddress) (H K : Host) (r : Ipv4Repr) (f : Ipv4Fragment) (payload : List ℕ) → may_be_source H.ip_addrs r.src_addr ≡ true → is_fragment f ≡ false →
-    is_for_host H r.dst_addr ≡ false → K ≡ heard r payload H → TakesPacket source r f H payload None [] K
-packet_for_others source H K r f payload from whole others hears = rw hears (ipv4.NotForUs from whole others (dropped (heard r payload H)))
+pub packet_for_others : (source : HardwareAddress) (H K : Host) (r : Ipv4Repr) (payload : List ℕ) → is_for_host H r.dst_addr ≡ false → K ≡ heard r payload H → TakesWhole source r H payload None [] K
+packet_for_others source H K r payload others hears = rw hears (ipv4.NotForUs others (dropped (heard r payload H)))
 
 -- a packet for the host is taken by its protocol
-pub packet_accepted : (source : HardwareAddress) (H J K L : Host) (r : Ipv4Repr) (f : Ipv4Fragment) (payload : List ℕ) (by_raw : Bool) (reply : Option Reply) (notes : List Note) →
-    may_be_source H.ip_addrs r.src_addr ≡ true → is_fragment f ≡ false → is_for_host H r.dst_addr ≡ true → by_raw ≡ is_taken r H → J ≡ heard r payload H → K ≡ heard_from source r J →
-    TakesProtocol r.next_header by_raw r K payload reply notes L → TakesPacket source r f H payload reply notes L
-packet_accepted source H J K L r f payload by_raw reply notes from whole ours taken hears renews takes =
+pub packet_accepted : (source : HardwareAddress) (H J K L : Host) (r : Ipv4Repr) (payload : List ℕ) (by_raw : Bool) (reply : Option Reply) (notes : List Note) →
+    is_for_host H r.dst_addr ≡ true → by_raw ≡ is_taken r H → J ≡ heard r payload H → K ≡ heard_from source r J →
+    TakesProtocol r.next_header by_raw r K payload reply notes L → TakesWhole source r H payload reply notes L
+packet_accepted source H J K L r payload by_raw reply notes ours taken hears renews takes =
     let renewed : K ≡ heard_from source r (heard r payload H) = renews ∙ ap (heard_from source r) hears in
-    ipv4.Accepted from whole ours (rw (renewed, taken) at takes)
+    ipv4.Accepted ours (rw (renewed, taken) at takes)
 
 -- a protocol that nobody here speaks
 pub protocol_refused : (p : IpProtocol) (raw : Bool) (r : Ipv4Repr) (H : Host) (octets : List ℕ) → (p ≡ protocol.HopByHop) ⊎ ((p ≡ protocol.Icmpv6) ⊎ ((number : ℕ) × (p ≡ protocol.Unknown number))) →

@@ -1,11 +1,11 @@
 //! What an interface does with frames, by their link's header (RFC 894, RFC 1122 2.4).
 ghost use Rattle.std.specs.Prelude.{◌≡◌, ◌<◌, [], length};
 ghost use Rattle.host_machine.specs.Ethernet.{TakesFrame, TakesEthernet, TakesIp, TakesPayload, is_for};
-ghost use Rattle.iface_send.specs.Stands.{host_of};
-ghost use Rattle.iface_receive.specs.Processed.{Processed};
+ghost use Rattle.iface_receive.specs.Processed.{Answers, StandsFor};
 
 use crate::arp::process_arp;
 use crate::ipv4::process_ipv4;
+use fragmentation::{FragKey, PacketAssemblerSet};
 use iface_send::Context;
 use ip_wire::emit::FrameBuffer;
 use ip_wire::{EthernetAddress, EthernetProtocol, EthernetRepr, HardwareAddress};
@@ -16,16 +16,19 @@ use socket_set::SocketSet;
 pub fn process_frame(
     context: &mut Context,
     sockets: &mut SocketSet<'_>,
+    fragments: &mut PacketAssemblerSet<FragKey>,
     frame: &[u8],
     out: &mut FrameBuffer,
 )
     requires empty { out.old ≡ [] }
     requires some { 0 < length frame.now }
-    ensures { Processed out.new (λ H. TakesFrame H.hardware_addr H frame.now) (host_of context.old sockets.old) (host_of context.new sockets.new) }
+    ensures { Answers out.new (λ H. TakesFrame H.hardware_addr H frame.now) (StandsFor context.old fragments.old sockets.old) (StandsFor context.new fragments.new sockets.new) }
 {
     match context.hardware_addr() {
-        HardwareAddress::Ethernet(own) => process_ethernet(context, sockets, own, frame, out),
-        HardwareAddress::Ip => process_ip(context, sockets, frame, out),
+        HardwareAddress::Ethernet(own) => process_ethernet(
+            context, sockets, fragments, own, frame, out,
+        ),
+        HardwareAddress::Ip => process_ip(context, sockets, fragments, frame, out),
     }
 }
 
@@ -34,15 +37,23 @@ pub fn process_frame(
 pub fn process_ip(
     context: &mut Context,
     sockets: &mut SocketSet<'_>,
+    fragments: &mut PacketAssemblerSet<FragKey>,
     packet: &[u8],
     out: &mut FrameBuffer,
 )
     requires empty { out.old ≡ [] }
     requires some { 0 < length packet.now }
-    ensures { Processed out.new (λ H. TakesIp H packet.now) (host_of context.old sockets.old) (host_of context.new sockets.new) }
+    ensures { Answers out.new (λ H. TakesIp H packet.now) (StandsFor context.old fragments.old sockets.old) (StandsFor context.new fragments.new sockets.new) }
 {
     if packet[0] / 16 == 4 {
-        process_ipv4(context, sockets, HardwareAddress::Ip, packet, out);
+        process_ipv4(
+            context,
+            sockets,
+            fragments,
+            HardwareAddress::Ip,
+            packet,
+            out,
+        );
     }
 }
 
@@ -52,18 +63,19 @@ pub fn process_ip(
 pub fn process_ethernet(
     context: &mut Context,
     sockets: &mut SocketSet<'_>,
+    fragments: &mut PacketAssemblerSet<FragKey>,
     own: EthernetAddress,
     frame: &[u8],
     out: &mut FrameBuffer,
 )
     requires { out.old ≡ [] }
-    ensures { Processed out.new (λ H. TakesEthernet own H frame.now) (host_of context.old sockets.old) (host_of context.new sockets.new) }
+    ensures { Answers out.new (λ H. TakesEthernet own H frame.now) (StandsFor context.old fragments.old sockets.old) (StandsFor context.new fragments.new sockets.new) }
 {
     let Some((header, payload)) = EthernetRepr::parse(frame) else {
         return;
     };
     if is_for(&own, &header.dst_addr) {
-        process_payload(context, sockets, own, &header, payload, out);
+        process_payload(context, sockets, fragments, own, &header, payload, out);
     }
 }
 
@@ -71,19 +83,20 @@ pub fn process_ethernet(
 fn process_payload(
     context: &mut Context,
     sockets: &mut SocketSet<'_>,
+    fragments: &mut PacketAssemblerSet<FragKey>,
     own: EthernetAddress,
     header: &EthernetRepr,
     payload: &[u8],
     out: &mut FrameBuffer,
 )
     requires { out.old ≡ [] }
-    ensures { Processed out.new (λ H. TakesPayload own header.now.src_addr H header.now.ethertype payload.now) (host_of context.old sockets.old) (host_of context.new sockets.new) }
+    ensures { Answers out.new (λ H. TakesPayload own header.now.src_addr H header.now.ethertype payload.now) (StandsFor context.old fragments.old sockets.old) (StandsFor context.new fragments.new sockets.new) }
 {
     match header.ethertype {
         EthernetProtocol::Arp => process_arp(context, own, payload, out),
         EthernetProtocol::Ipv4 => {
             let source = HardwareAddress::Ethernet(header.src_addr);
-            process_ipv4(context, sockets, source, payload, out);
+            process_ipv4(context, sockets, fragments, source, payload, out);
         }
         EthernetProtocol::Ipv6 | EthernetProtocol::Unknown(_) => {}
     }

@@ -1,49 +1,67 @@
 //! What an interface does with IPv4 packets (RFC 791, RFC 1122 3.2.1).
-ghost use Rattle.std.specs.Prelude.{◌≡◌, ◌+◌, ◌<◌, ◌^◌, [], length};
+ghost use Rattle.std.specs.Prelude.{◌≡◌, ◌+◌, ◌<◌, ◌^◌, true, [], length};
+ghost use Rattle.fragmentation.specs.Slots.{Slots};
 ghost use Rattle.host_machine.specs.Host.{SocketSet, no_sockets};
 ghost use Rattle.host_machine.specs.Addresses as addresses;
-ghost use Rattle.host_machine.specs.Ipv4.{TakesIpv4, TakesPacket, TakesProtocol, heard_from};
-ghost use Rattle.iface_send.specs.Stands.{host_of};
-ghost use Rattle.iface_receive.specs.Processed.{Processed};
+ghost use Rattle.host_machine.specs.Ipv4.{TakesIpv4, TakesPacket, TakesProtocol, TakesWhole, heard_from};
+ghost use Rattle.host_machine.specs.Ipv4 as spec;
+ghost use Rattle.ip_wire.specs.Ipv4Packet.{is_fragment};
+ghost use Rattle.iface_send.specs.Stands.{host_in, host_of};
+ghost use Rattle.iface_receive.specs.Processed.{Answers, Processed, StandsFor};
 
 use crate::icmpv4::{process_icmpv4, refuse};
 use crate::raw;
 use crate::tcp::process_tcp;
 use crate::udp::process_udp;
 use control_wire::icmpv4::Icmpv4DstUnreachable;
+use fragmentation::{FragKey, PacketAssemblerSet, reassemble};
 use iface_send::Context;
 use iface_send::neighbors::renew_neighbor;
 use ip_wire::emit::FrameBuffer;
 use ip_wire::{HardwareAddress, IpAddress, IpProtocol, Ipv4Address, Ipv4Fragment, Ipv4Repr};
 use socket_set::SocketSet;
+use sockets::SocketContext;
 
 /// Takes an IPv4 packet that came from a hardware address, and builds the response, if there is one, in
 /// an empty buffer. A sender that is known at that address, and sends to the interface alone, is known
 /// for another 60 s (RFC 1122 2.3.2.1).
 ///
 /// Dropped are octets that begin with no packet, and packets that come from no host or are for
-/// another one (RFC 1122 3.2.1.3). Fragments are dropped, too: reassembly isn't there yet.
+/// another one (RFC 1122 3.2.1.3). A fragment is put together with those that came before, and its
+/// datagram taken once that is complete (RFC 791 3.2).
 pub fn process_ipv4(
     context: &mut Context,
     sockets: &mut SocketSet<'_>,
+    fragments: &mut PacketAssemblerSet<FragKey>,
     source: HardwareAddress,
     octets: &[u8],
     out: &mut FrameBuffer,
 )
     requires { out.old ≡ [] }
-    ensures { Processed out.new (λ H. TakesIpv4 source H octets.now) (host_of context.old sockets.old) (host_of context.new sockets.new) }
+    ensures { Answers out.new (λ H. TakesIpv4 source H octets.now) (StandsFor context.old fragments.old sockets.old) (StandsFor context.new fragments.new sockets.new) }
 {
     let checked = context.capabilities().checksum.ipv4.rx();
     let Some((header, fragment, payload)) = Ipv4Repr::parse(octets, checked) else {
         return;
     };
-    process_packet(context, sockets, source, &header, &fragment, payload, out);
+    if !may_be_source(context, &header.src_addr) {
+        return;
+    }
+    if fragment.is_fragment() {
+        process_fragment(
+            context, sockets, fragments, source, &header, &fragment, payload, out,
+        );
+    } else {
+        process_whole(context, sockets, source, &header, payload, out);
+    }
 }
 
-/// Takes a packet by its header, by which fragment it is, and by its payload.
-fn process_packet(
+/// Takes a fragment by its packet's header, by its place and by its payload. The datagram that it
+/// completes, if it does, is taken with the length of the whole payload.
+fn process_fragment(
     context: &mut Context,
     sockets: &mut SocketSet<'_>,
+    fragments: &mut PacketAssemblerSet<FragKey>,
     source: HardwareAddress,
     header: &Ipv4Repr,
     fragment: &Ipv4Fragment,
@@ -51,16 +69,47 @@ fn process_packet(
     out: &mut FrameBuffer,
 )
     requires empty { out.old ≡ [] }
+    requires from_host { addresses.may_be_source (host_of context.old no_sockets).ip_addrs header.now.src_addr ≡ true }
+    requires part { is_fragment fragment.now ≡ true }
+    ensures { Answers out.new (λ H. TakesPacket source header.now fragment.now H payload.now) (StandsFor context.old fragments.old sockets.old) (StandsFor context.new fragments.new sockets.new) }
+{
+    let key = FragKey::new(header, fragment.identification);
+    let end = context.now() + context.reassembly_timeout();
+    let offset = usize::from(fragment.offset) * 8;
+    let is_last = !fragment.more_fragments;
+    let Some(octets) = reassemble(fragments, &key, end, payload, offset, is_last) else {
+        return;
+    };
+    let header = rebuilt_header(header, octets);
+    process_whole(context, sockets, source, &header, octets, out);
+}
+
+/// The header of a rebuilt datagram: that of the fragment which completed it, with the length of the
+/// whole payload.
+fn rebuilt_header(header: &Ipv4Repr, octets: &[u8]) -> Ipv4Repr
+    requires { length octets.now < 2 ^ 16 }
+    ensures { result ≡ spec.rebuilt_header header.now octets.now }
+{
+    Ipv4Repr {
+        payload_len: octets.len() as u16,
+        ..*header
+    }
+}
+
+/// Takes a packet that came whole or was put together, by its header and its payload.
+fn process_whole(
+    context: &mut Context,
+    sockets: &mut SocketSet<'_>,
+    source: HardwareAddress,
+    header: &Ipv4Repr,
+    payload: &[u8],
+    out: &mut FrameBuffer,
+)
+    requires empty { out.old ≡ [] }
     requires short { length payload.now < 2 ^ 16 }
     requires quotable { 20 + header.now.payload_len < 2 ^ 16 }
-    ensures { Processed out.new (λ H. TakesPacket source header.now fragment.now H payload.now) (host_of context.old sockets.old) (host_of context.new sockets.new) }
+    ensures { Processed out.new (λ H. TakesWhole source header.now H payload.now) (host_of context.old sockets.old) (host_of context.new sockets.new) }
 {
-    if !may_be_source(context, &header.src_addr) {
-        return;
-    }
-    if fragment.is_fragment() {
-        return;
-    }
     let by_raw = raw::deliver(context, sockets, header, payload);
     if !is_for_host(context, &header.dst_addr) {
         return;
@@ -87,7 +136,7 @@ fn is_for_host(context: &Context, address: &Ipv4Address) -> bool
 
 /// Keeps the sender of a packet to the interface alone for another 60 s.
 fn heard_from(context: &mut Context, source: HardwareAddress, header: &Ipv4Repr)
-    ensures { (sockets : SocketSet) → host_of context.new sockets ≡ heard_from source header.now (host_of context.old sockets) }
+    ensures { (slots : Slots) (sockets : SocketSet) → host_in context.new slots sockets ≡ heard_from source header.now (host_in context.old slots sockets) }
 {
     if context.is_unicast_v4(&header.dst_addr) {
         renew_neighbor(context, IpAddress::Ipv4(header.src_addr), source);

@@ -1,9 +1,11 @@
 -- Which host a context stands for.
 use Rattle.std.specs.Prelude.{List}
+use Rattle.std.specs.FinMap as map
 use Rattle.arrayvec.specs.ArrayVec.{ArrayVec}
 use Rattle.ip_address.specs.declared.cidr.IpCidr.{IpCidr}
 use Rattle.iface_tables.specs.declared.route.Route.{Route}
-use Rattle.host_machine.specs.Host.{Host, SocketSet}
+use Rattle.fragmentation.specs.Slots.{Slots}
+use Rattle.host_machine.specs.Host.{Host, SocketSet, with_slots}
 use Rattle.iface_send.specs.declared.context.Context.{Context}
 
 -- a list of addresses, as an interface keeps it
@@ -14,7 +16,7 @@ Addresses = ArrayVec IpCidr
 abbrev pub with_routes : Context → List Route → Context
 with_routes c routes = record c { routes = routes }
 
--- the host of what a context knows, and of these sockets
+-- the host of what a context knows, and of these sockets; its slots for fragments stand beside the context, so here they are empty
 abbrev pub host_of : Context → SocketSet → Host
 host_of c sockets = record {
   capabilities = c.capabilities;
@@ -25,5 +27,12 @@ host_of c sockets = record {
   routes = c.routes;
   neighbors = c.neighbor_cache;
   ipv4_id = c.ipv4_id;
+  reassembly_timeout = c.reassembly_timeout;
+  slots = map.empty;
+  left = c.fragmenter.pieces;
   sockets = sockets;
 }
+
+-- the host of what a context knows, of these slots, and of these sockets
+abbrev pub host_in : Context → Slots → SocketSet → Host
+host_in c slots sockets = with_slots (host_of c sockets) slots

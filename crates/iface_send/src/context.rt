@@ -1,24 +1,27 @@
 //! What an interface knows, beside its buffers.
-ghost use Rattle.std.specs.Prelude.{◌≡◌, ◌≤◌};
+ghost use Rattle.std.specs.Prelude.{◌≡◌, ◌≤◌, ◌+◌};
 ghost use Rattle.std.specs.List.{list_any};
 ghost use Rattle.net_base.specs.Time.{IsMoment};
+ghost use Rattle.net_base.specs.Checksum.{ip_mtu_of};
 ghost use Rattle.ip_address.specs.Hardware.{medium_of};
 ghost use Rattle.host_machine.specs.Host.{is_assigned, no_sockets};
 ghost use Rattle.host_machine.specs.Addresses as addresses;
 
 use arrayvec::ArrayVec;
+use fragmentation::Fragmenter;
 use iface_tables::neighbor::Cache;
 use iface_tables::route::Routes;
 use ip_wire::{HardwareAddress, IpAddress, IpCidr, Ipv4Address};
 use net_base::phy::DeviceCapabilities;
-use net_base::time::Instant;
+use net_base::time::{Duration, Instant};
 use sockets::SocketContext;
 use sockets::endpoint::is_same_addr;
 
 /// How many addresses an interface has at most.
 pub const IFACE_MAX_ADDR_COUNT: usize = 4;
 
-/// What an interface knows: its device, its addresses, its routes, its neighbours and the moment.
+/// What an interface knows: its device, its addresses, its routes, its neighbours, the moment, and what
+/// waits to be sent of a packet that was cut.
 #[derive(Drop)]
 pub struct Context {
     pub(crate) capabilities: DeviceCapabilities,
@@ -29,13 +32,19 @@ pub struct Context {
     pub(crate) routes: Routes,
     pub(crate) neighbor_cache: Cache,
     pub(crate) ipv4_id: u16,
+    pub(crate) reassembly_timeout: Duration,
+    pub(crate) fragmenter: Fragmenter,
     pub ghost timely: { IsMoment moment },
     pub ghost short: { capabilities.max_transmission_unit ≤ 1514 },
+    pub ghost long: { 576 ≤ ip_mtu_of capabilities },
+    pub ghost within_a_day: { reassembly_timeout ≤ 86400000000 },
+    pub ghost cut_to_fit: { 20 + fragmenter.size ≤ ip_mtu_of capabilities },
     pub ghost of_medium: { medium_of hardware_addr ≡ capabilities.medium },
 }
 
 impl Context {
-    ghost use Rattle.std.specs.Prelude.{◌≡◌, ◌≤◌, [], length};
+    ghost use Rattle.std.specs.Prelude.{◌≡◌, ◌≤◌, [], not, length};
+    ghost use Rattle.fragmentation.specs.Pending.{is_nil};
     ghost use Rattle.host_machine.specs.Host as host;
     ghost use Rattle.iface_send.specs.Stands.{host_of};
 
@@ -70,6 +79,22 @@ impl Context {
         ensures { result ≡ (host_of self.now no_sockets).any_ip }
     {
         self.any_ip
+    }
+
+    /// For how long a slot stands that is taken for fragments from now on.
+    #[inline(always)]
+    pub fn reassembly_timeout(&self) -> Duration
+        ensures value { result ≡ (host_of self.now no_sockets).reassembly_timeout }
+        ensures within_a_day { result ≤ 86400000000 }
+    {
+        self.reassembly_timeout
+    }
+
+    /// Whether pieces of a packet that was cut wait to be sent.
+    pub fn has_waiting_piece(&self) -> bool
+        ensures { result ≡ not (is_nil (host_of self.now no_sockets).left) }
+    {
+        !self.fragmenter.is_empty()
     }
 
     /// The routes.

@@ -3,6 +3,7 @@
 ghost use Rattle.std.specs.Prelude.{◌≡◌, ◌≤◌, true, false, [], length, None, Ok, Err, IfSome};
 ghost use Rattle.net_base.specs.Checksum.{ip_mtu_of};
 ghost use Rattle.ip_address.specs.Ip.{is_unicast, is_unspecified};
+ghost use Rattle.fragmentation.specs.Slots.{Slots};
 ghost use Rattle.host_machine.specs.Host.{SocketSet, no_sockets};
 ghost use Rattle.host_machine.specs.Arp.{request_for};
 ghost use Rattle.host_machine.specs.Frame.{ip_frame};
@@ -11,10 +12,12 @@ ghost use Rattle.host_machine.specs.Packet as value;
 ghost use Rattle.host_machine.specs.Dispatch as spec;
 ghost use Rattle.iface_send.specs.Shown as shown;
 ghost use Rattle.iface_send.specs.Built.{Built};
-ghost use Rattle.iface_send.specs.Stands.{host_of};
+ghost use Rattle.iface_send.specs.Stands.{host_in, host_of};
 
 use crate::context::Context;
+use crate::fragments::emit_in_pieces;
 use crate::packet::{Packet, emit_arp, emit_link_header};
+use fragmentation::fragmenter::FRAGMENTATION_BUFFER_SIZE;
 use host_machine::DispatchError;
 use iface_tables::neighbor::Answer;
 use ip_wire::emit::FrameBuffer;
@@ -24,8 +27,8 @@ use ip_wire::{
 };
 
 /// Builds the frame of an IP packet for the next hop towards its destination, in an empty buffer. `Ok`
-/// if the packet counts as gone: its frame is built, or it is dropped since it goes to nobody or is
-/// longer than the device's packets. `NoRoute` if there is no next hop, or no own address from which to
+/// if the packet counts as gone: its frame is built, or that of its first piece, or it is dropped since
+/// it goes to nobody or has to be cut and has more than 4,096 octets. `NoRoute` if there is no next hop, or no own address from which to
 /// ask for it. `NeighborPending` if its hardware address isn't known; then the request for that is
 /// built, unless another one went less than a second ago. An empty buffer means that nothing is to be
 /// sent. A header that the packet quotes has to be that of a packet of at most 65,535 octets.
@@ -41,11 +44,14 @@ pub fn dispatch(
     if packet.dst_addr().is_unspecified() {
         return Ok(());
     }
-    context.ipv4_id = context.ipv4_id.wrapping_add(1);
+    let identification = context.ipv4_id;
+    context.ipv4_id = identification.wrapping_add(1);
     match context.hardware_addr {
-        HardwareAddress::Ethernet(own) => dispatch_ethernet(context, own, packet, out),
+        HardwareAddress::Ethernet(own) => {
+            dispatch_ethernet(context, identification, own, packet, out)
+        }
         HardwareAddress::Ip => {
-            emit_to(context, &HardwareAddress::Ip, packet, out);
+            emit_to(context, identification, &HardwareAddress::Ip, packet, out);
             Ok(())
         }
     }
@@ -54,6 +60,7 @@ pub fn dispatch(
 /// Builds a packet's frame over Ethernet: to many hosts straight, else by the next hop.
 fn dispatch_ethernet(
     context: &mut Context,
+    identification: u16,
     own: EthernetAddress,
     packet: &Packet<'_>,
     out: &mut FrameBuffer,
@@ -61,15 +68,16 @@ fn dispatch_ethernet(
     requires empty { out.old ≡ [] }
     requires somebody { is_unspecified (spec.destination_of (shown.packet packet.now)) ≡ false }
     requires writable { IsWritable (shown.packet packet.now) }
-    ensures { Built out.new (spec.SendsEthernet own (shown.packet packet.now) result) context.old context.new }
+    ensures { Built out.new (spec.SendsEthernet identification own (shown.packet packet.now) result) context.old context.new }
 {
     let dst_addr = packet.dst_addr();
     if let Some(many) = many_address(context, &dst_addr) {
-        emit_to(context, &HardwareAddress::Ethernet(many), packet, out);
+        let destination = HardwareAddress::Ethernet(many);
+        emit_to(context, identification, &destination, packet, out);
         return Ok(());
     }
     match next_hop(context, &dst_addr) {
-        Some(hop) => dispatch_by_hop(context, own, packet, &hop, out),
+        Some(hop) => dispatch_by_hop(context, identification, own, packet, &hop, out),
         None => Err(DispatchError::NoRoute),
     }
 }
@@ -77,6 +85,7 @@ fn dispatch_ethernet(
 /// Builds a packet's frame for a next hop, or the request for that one's hardware address.
 fn dispatch_by_hop(
     context: &mut Context,
+    identification: u16,
     own: EthernetAddress,
     packet: &Packet<'_>,
     hop: &IpAddress,
@@ -85,11 +94,11 @@ fn dispatch_by_hop(
     requires empty { out.old ≡ [] }
     requires hop { is_unicast hop.now ≡ true }
     requires writable { IsWritable (shown.packet packet.now) }
-    ensures { Built out.new (spec.SendsByHop own (shown.packet packet.now) hop.now result) context.old context.new }
+    ensures { Built out.new (spec.SendsByHop identification own (shown.packet packet.now) hop.now result) context.old context.new }
 {
     match context.neighbor_cache.lookup(hop, context.moment) {
         Answer::Found(destination) => {
-            emit_to(context, &destination, packet, out);
+            emit_to(context, identification, &destination, packet, out);
             Ok(())
         }
         Answer::RateLimited => Err(DispatchError::NeighborPending),
@@ -132,19 +141,24 @@ fn request_for(own: EthernetAddress, source: Ipv4Address, target: Ipv4Address) -
     }
 }
 
-/// Builds the frame of a packet for a hardware address, if it isn't longer than the device's packets.
+/// Builds the frame of a packet for a hardware address: that of the whole packet, or of its first piece
+/// if it is longer than the device's packets. One of more than 4,096 octets is dropped then.
 fn emit_to(
-    context: &Context,
+    context: &mut Context,
+    identification: u16,
     destination: &HardwareAddress,
     packet: &Packet<'_>,
     out: &mut FrameBuffer,
 )
     requires empty { out.old ≡ [] }
     requires writable { IsWritable (shown.packet packet.now) }
-    ensures { Built out.new (spec.Emits (shown.packet packet.now) destination.now (Ok tt)) context.now context.now }
+    ensures { Built out.new (spec.Emits identification (shown.packet packet.now) destination.now (Ok tt)) context.old context.new }
 {
-    if packet.total_len() <= context.capabilities.ip_mtu() {
+    let total_len = packet.total_len();
+    if total_len <= context.capabilities.ip_mtu() {
         emit_frame(context, destination, packet, out);
+    } else if total_len <= FRAGMENTATION_BUFFER_SIZE {
+        emit_in_pieces(context, identification, destination, packet, out);
     }
 }
 
@@ -229,7 +243,7 @@ fn group_address_v6(group: &Ipv6Address) -> EthernetAddress
 /// Whether the next hop to an address is a neighbour whose hardware address is known, so that a packet
 /// goes there without being asked for. An address that isn't one host's has no next hop.
 pub fn has_neighbor(context: &Context, address: &IpAddress) -> bool
-    ensures { (sockets : SocketSet) → spec.KnowsNextHop (host_of context.now sockets) address.now result }
+    ensures { (slots : Slots) (sockets : SocketSet) → spec.KnowsNextHop (host_in context.now slots sockets) address.now result }
 {
     if !address.is_unicast() {
         return false;
@@ -245,7 +259,7 @@ pub fn has_neighbor(context: &Context, address: &IpAddress) -> bool
 #[inline(always)]
 fn next_hop(context: &Context, address: &IpAddress) -> Option<IpAddress>
     requires { is_unicast address.now ≡ true }
-    ensures hop { (sockets : SocketSet) → spec.IsNextHop (host_of context.now sockets) address.now result }
+    ensures hop { (slots : Slots) (sockets : SocketSet) → spec.IsNextHop (host_in context.now slots sockets) address.now result }
     ensures unicast { IfSome result (λ hop. is_unicast hop ≡ true) }
 {
     if context.in_same_network(address) {

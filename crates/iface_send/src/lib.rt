@@ -4,6 +4,7 @@
 
 pub mod context;
 pub mod dispatch;
+pub mod fragments;
 pub mod neighbors;
 pub mod packet;
 pub mod settings;

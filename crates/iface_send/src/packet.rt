@@ -22,7 +22,7 @@ pub enum Packet<'p> {
     Ipv4(PacketV4<'p>),
 }
 
-/// An IPv4 packet, which goes whole; its header's other values follow from these.
+/// An IPv4 packet; its header's other values follow from these.
 #[derive(Clone, Copy)]
 pub struct PacketV4<'p> {
     pub src_addr: Ipv4Address,
@@ -68,6 +68,35 @@ impl IpPayload<'_> {
             IpPayload::Raw(_, octets) => octets.len(),
         }
     }
+
+    /// The octets behind its protocol's header.
+    pub fn octets(&self) -> &[u8]
+        ensures { result.now ≡ shown.octets_behind self.now }
+    {
+        match self {
+            IpPayload::EchoReply(request) => request.payload(),
+            IpPayload::Icmpv4(_, octets)
+            | IpPayload::Udp(_, octets)
+            | IpPayload::Tcp(_, octets)
+            | IpPayload::Raw(_, octets) => octets,
+        }
+    }
+}
+
+impl PacketV4<'_> {
+    /// The values of its header. It has to have at most 65,535 octets.
+    pub fn header(&self) -> Ipv4Repr
+        requires { 20 + value.payload_len (shown.payload self.now.payload) < 2 ^ 16 }
+        ensures { result ≡ value.header_of (shown.packet_v4 self.now) }
+    {
+        Ipv4Repr {
+            src_addr: self.src_addr,
+            dst_addr: self.dst_addr,
+            next_header: self.payload.protocol(),
+            payload_len: self.payload.len() as u16,
+            hop_limit: self.hop_limit,
+        }
+    }
 }
 
 impl Packet<'_> {
@@ -98,49 +127,50 @@ impl Packet<'_> {
     {
         match self {
             Packet::Ipv4(packet) => {
-                let header = Ipv4Repr {
-                    src_addr: packet.src_addr,
-                    dst_addr: packet.dst_addr,
-                    next_header: packet.payload.protocol(),
-                    payload_len: packet.payload.len() as u16,
-                    hop_limit: packet.hop_limit,
-                };
+                let header = packet.header();
                 header.emit(&Ipv4Fragment::WHOLE, capabilities.checksum.ipv4.tx(), out);
-                emit_payload(packet, capabilities, out);
+                emit_payload_header(packet, capabilities, out);
+                out.append(packet.payload.octets());
             }
         }
     }
 }
 
-/// Appends the payload of a packet, with its checksum where that is on.
-pub fn emit_payload(packet: &PacketV4<'_>, capabilities: &DeviceCapabilities, out: &mut FrameBuffer)
+/// Appends the payload of a packet up to the octets behind its protocol's header, with its checksum
+/// where that is on.
+pub fn emit_payload_header(
+    packet: &PacketV4<'_>,
+    capabilities: &DeviceCapabilities,
+    out: &mut FrameBuffer,
+)
     requires writable { IsWritablePayload (shown.payload packet.now.payload) }
-    requires room { length out.old + value.payload_len (shown.payload packet.now.payload) ≤ 1514 }
-    ensures items { out.new ≡ out.old ++ payload_text capabilities.now (shown.packet_v4 packet.now) (shown.payload packet.now.payload) }
-    ensures len { length out.new ≡ length out.old + value.payload_len (shown.payload packet.now.payload) }
+    requires short { value.payload_len (shown.payload packet.now.payload) < 2 ^ 16 }
+    requires room { length out.old + value.payload_len (shown.payload packet.now.payload) ≤ 1514 + length (shown.octets_behind packet.now.payload) }
+    ensures items { out.new ++ shown.octets_behind packet.now.payload ≡ out.old ++ payload_text capabilities.now (shown.packet_v4 packet.now) (shown.payload packet.now.payload) }
+    ensures len { length out.new + length (shown.octets_behind packet.now.payload) ≡ length out.old + value.payload_len (shown.payload packet.now.payload) }
 {
     match &packet.payload {
-        IpPayload::Icmpv4(message, octets) => message.emit(
+        IpPayload::Icmpv4(message, octets) => message.emit_header(
             octets,
             capabilities.checksum.icmpv4.tx(),
             capabilities.checksum.ipv4.tx(),
             out,
         ),
         IpPayload::EchoReply(request) => {
-            request.emit_reply(capabilities.checksum.icmpv4.tx(), out);
+            request.emit_reply_header(capabilities.checksum.icmpv4.tx(), out);
         }
         IpPayload::Udp(header, octets) => {
             let src = IpAddress::Ipv4(packet.src_addr);
             let dst = IpAddress::Ipv4(packet.dst_addr);
-            header.emit(&src, &dst, octets, capabilities.checksum.udp.tx(), out);
+            header.emit_header(&src, &dst, octets, capabilities.checksum.udp.tx(), out);
         }
         IpPayload::Tcp(header, octets) => {
             let src = IpAddress::Ipv4(packet.src_addr);
             let dst = IpAddress::Ipv4(packet.dst_addr);
             let header = limited(capabilities, header);
-            header.emit(&src, &dst, octets, capabilities.checksum.tcp.tx(), out);
+            header.emit_header(&src, &dst, octets, capabilities.checksum.tcp.tx(), out);
         }
-        IpPayload::Raw(_, octets) => out.append(octets),
+        IpPayload::Raw(..) => {}
     }
 }
 

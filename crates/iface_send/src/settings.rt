@@ -2,6 +2,7 @@
 ghost use Rattle.std.specs.Prelude.{◌≡◌, ◌≤◌, List, [], false, pos};
 ghost use Rattle.std.specs.FinMap as map;
 ghost use Rattle.net_base.specs.Time.{IsMoment};
+ghost use Rattle.net_base.specs.Checksum.{ip_mtu_of};
 ghost use Rattle.ip_address.specs.Hardware.{medium_of};
 ghost use Rattle.host_machine.specs.Host.{SocketSet, at, no_sockets};
 ghost use Rattle.host_machine.specs.Step.{flushed};
@@ -12,11 +13,12 @@ ghost use Rattle.iface_send.specs.contracts.context.Context.{the_row as context_
 
 use crate::context::{Context, IFACE_MAX_ADDR_COUNT};
 use arrayvec::ArrayVec;
+use fragmentation::Fragmenter;
 use iface_tables::neighbor::Cache;
 use iface_tables::route::Routes;
 use ip_wire::{HardwareAddress, IpCidr};
 use net_base::phy::DeviceCapabilities;
-use net_base::time::Instant;
+use net_base::time::{Duration, Instant};
 
 /// The context of an interface over a device with these capabilities: no address, no route, no
 /// neighbour.
@@ -28,6 +30,7 @@ pub fn new(
 ) -> Context
     requires timely { IsMoment now }
     requires short { capabilities.max_transmission_unit ≤ 1514 }
+    requires long { 576 ≤ ip_mtu_of capabilities }
     requires of_medium { medium_of hardware_addr ≡ capabilities.medium }
     ensures { (sockets : SocketSet) → host_of result sockets ≡ record {
       capabilities = capabilities;
@@ -38,6 +41,9 @@ pub fn new(
       routes = [];
       neighbors = record { known = map.empty; silent_until = pos 0 };
       ipv4_id = ipv4_id;
+      reassembly_timeout = 60000000;
+      slots = map.empty;
+      left = [];
       sockets = sockets;
     } }
 {
@@ -50,6 +56,8 @@ pub fn new(
         routes: Routes::new(),
         neighbor_cache: Cache::new(),
         ipv4_id,
+        reassembly_timeout: Duration::from_secs(60),
+        fragmenter: Fragmenter::new(),
     }
 }
 
@@ -74,6 +82,14 @@ pub fn set_any_ip(context: &mut Context, any_ip: bool)
     ensures { (sockets : SocketSet) → host_of context.new sockets ≡ record (host_of context.old sockets) { any_ip = any_ip } }
 {
     context.any_ip = any_ip;
+}
+
+/// Lets slots for fragments that are taken from now on stand for so long, at most a day.
+pub fn set_reassembly_timeout(context: &mut Context, timeout: Duration)
+    requires { timeout ≤ 86400000000 }
+    ensures { (sockets : SocketSet) → host_of context.new sockets ≡ record (host_of context.old sockets) { reassembly_timeout = timeout } }
+{
+    context.reassembly_timeout = timeout;
 }
 
 /// Gives the interface another address of its medium.

@@ -1,32 +1,25 @@
 -- Commands one after the other, over plain variables.
 use Rattle.std.proofs.Common.{◌≡◌, ℕ, List, [], ◌∷◌, ◌++◌, refl, ap, append-nil}
 use Rattle.std.specs.Borrow.{Bor}
-use Rattle.std.specs.Prelude.{ℤ, Bool, Option, Result}
+use Rattle.std.specs.Prelude.{ℤ}
 use Rattle.net_base.specs.Device.{Event}
 use Rattle.socket_set.specs.SocketSet.{Sockets}
 use Rattle.host_machine.specs.declared.command.Command.{Command}
 use Rattle.host_machine.specs.declared.command.Command.TheVariants as command
 use Rattle.host_machine.specs.declared.command.Answer.{Answer}
 use Rattle.host_machine.specs.declared.command.Answer.TheVariants as answer
-use Rattle.host_machine.specs.declared.results.AddrError.{AddrError}
 use Rattle.host_machine.specs.declared.results.PollIngressSingleResult.{PollIngressSingleResult}
 use Rattle.host_machine.specs.Host.{Host, SocketSet}
 use Rattle.host_machine.specs.declared.results.PollResult.{PollResult}
 use Rattle.host_machine.specs.Ingress.{Ingress}
 use Rattle.host_machine.specs.Egress.{Egress}
 use Rattle.host_machine.specs.Polling.{Polls}
-use Rattle.arrayvec.specs.ArrayVec.{ArrayVec}
-use Rattle.ip_address.specs.declared.ipv4.Ipv4Address.{Ipv4Address}
-use Rattle.iface_tables.specs.declared.route.Route.{Route}
-use Rattle.iface_tables.specs.declared.route.RouteTableFull.{RouteTableFull}
-use Rattle.iface_tables.specs.Route.{first, ipv4_gateway, is_ipv4_gateway, old_or_full, with_default, without_first}
-use Rattle.host_machine.specs.Step.{Step, UpdatesIpAddrs, UpdatedIpAddrs, PolledIngressSingle, PolledEgress, Polled, UpdatedRoutes, AddedDefaultIpv4Route, RemovedDefaultIpv4Route, TookAnyIp, OwnerActed}
+use Rattle.host_machine.specs.Step.{Step, PolledIngressSingle, PolledEgress, Polled, OwnerActed}
 use Rattle.host_machine.specs.Run.{Ends, Then, NoAct, ThenAct}
 use Rattle.host_machine.specs.Ran.{Ran}
 use Rattle.host_machine.proofs.Joined.{run_laws, ran_on}
 use Rattle.interface.specs.declared.interface.Interface.{Interface}
-use Rattle.iface_send.specs.Stands.{Addresses}
-use Rattle.interface.specs.Stands.{StandsFor, host_with}
+use Rattle.interface.specs.Stands.{StandsFor, Led}
 use Rattle.interface.specs.Goes.{Went}
 use Rattle.interface.specs.Commands.{CommandWent, CommandGoes}
 
@@ -53,20 +46,10 @@ module _ {D O : Type 0} (tells : D → List Event → D → Type 0) (did : O →
   ran_more tells_on d m e o p q commands all_commands c answers all_answers a H mid after is_commands is_answers ran goes =
       rw (is_commands, is_answers) (ran_on tells did tells_on d m e o p q commands (c ∷ []) answers (a ∷ []) H mid after ran (λ K stands. ran_one m e p q c a K after (goes K stands)))
 
-  -- the addresses were replaced, or nothing changed
-  pub addresses_put : (d : D) (o : O) (i j : Interface) (s : Sockets (Bor (Unit {0}))) (list : Addresses) (answered : Result (Unit {0}) AddrError) →
-      ((sockets : SocketSet) → UpdatesIpAddrs list.items answered (host_with i sockets) (host_with j sockets)) → tells d [] d →
-      CommandGoes tells did d d o o (command.UpdateIpAddrs list) (answer.UpdateIpAddrs answered) (StandsFor i s) (StandsFor j s)
-  addresses_put d o i j s list answered updates quiet = λ H h. record {
-    told = [];
-    acts = [];
-    notes = [];
-    host = host_with j s;
-    tells_it = quiet;
-    owner_did = NoAct;
-    steps = UpdatedIpAddrs (rw h.same (updates s));
-    stands = record { same = refl };
-  }
+  -- a call that sets something by a rule, or refuses
+  pub was_led : {Rule : Host → Host → Type 0} (d : D) (o : O) (c : Command) (a : Answer) (H : Host) (after : Host → Type 0) → tells d [] d → Led Rule H after →
+      ((K : Host) → Rule H K → Step c a H [] [] [] K) → CommandWent tells did d d o o c a H after
+  was_led d o c a H after quiet led steps = record { told = []; acts = []; notes = []; host = led.host; tells_it = quiet; owner_did = NoAct; steps = steps led.host led.follows; stands = led.stands }
 
   -- a frame was taken, or none came
   pub polled : (d e : D) (o : O) (t : ℤ) (answered : PollIngressSingleResult) (H : Host) (after : Host → Type 0) → Went tells d e (Ingress t answered H) after →
@@ -93,7 +76,7 @@ module _ {D O : Type 0} (tells : D → List Event → D → Type 0) (did : O →
     tells_it = quiet;
     owner_did = ThenAct (rw (ap (λ (K : Host). K.sockets) h.same) does) NoAct;
     steps = OwnerActed t;
-    stands = record { same = ap (λ (K : Host). record K { sockets = t }) h.same };
+    stands = record { slots = h.slots; stand = h.stand; same = ap (λ (K : Host). record K { sockets = t }) h.same };
   }
 
   -- the sockets have sent what they could
@@ -127,32 +110,3 @@ module _ {D O : Type 0} (tells : D → List Event → D → Type 0) (did : O →
   -- a step of which nothing is told
   pub untold : (d : D) (o : O) (c : Command) (a : Answer) (H K : Host) (after : Host → Type 0) → tells d [] d → Step c a H [] [] [] K → after K → CommandWent tells did d d o o c a H after
   untold d o c a H K after quiet steps stands = record { told = []; acts = []; notes = []; host = K; tells_it = quiet; owner_did = NoAct; steps = steps; stands = stands }
-
-  -- a call that only sets something
-  pub was_set : (d : D) (o : O) (i j : Interface) (s : Sockets (Bor (Unit {0}))) (c : Command) (a : Answer) → tells d [] d →
-      Step c a (host_with i s) [] [] [] (host_with j s) → CommandGoes tells did d d o o c a (StandsFor i s) (StandsFor j s)
-  was_set d o i j s c a quiet steps = λ H h. record {
-    told = [];
-    acts = [];
-    notes = [];
-    host = host_with j s;
-    tells_it = quiet;
-    owner_did = NoAct;
-    steps = rw h.same steps;
-    stands = record { same = refl };
-  }
-
--- what is set, over plain hosts
-pub routes_step : (list : ArrayVec Route) (H K : Host) → K ≡ record H { routes = list.items } → Step (command.UpdateRoutes list) answer.UpdateRoutes H [] [] [] K
-routes_step list H K is = rw is UpdatedRoutes
-
-pub added_step : (gateway : Ipv4Address) (answered : Result (Option Route) RouteTableFull) (H K : Host) → answered ≡ old_or_full is_ipv4_gateway H.routes →
-    K ≡ record H { routes = with_default is_ipv4_gateway H.routes (ipv4_gateway gateway) } → Step (command.AddDefaultIpv4Route gateway) (answer.AddDefaultIpv4Route answered) H [] [] [] K
-added_step gateway answered H K answers is = rw (answers, is) AddedDefaultIpv4Route
-
-pub removed_step : (answered : Option Route) (H K : Host) → answered ≡ first is_ipv4_gateway H.routes →
-    K ≡ record H { routes = without_first is_ipv4_gateway H.routes } → Step command.RemoveDefaultIpv4Route (answer.RemoveDefaultIpv4Route answered) H [] [] [] K
-removed_step answered H K answers is = rw (answers, is) RemovedDefaultIpv4Route
-
-pub any_ip_step : (any_ip : Bool) (H K : Host) → K ≡ record H { any_ip = any_ip } → Step (command.SetAnyIp any_ip) answer.SetAnyIp H [] [] [] K
-any_ip_step any_ip H K is = rw is TookAnyIp

@@ -1,4 +1,5 @@
 mod Made
+mod Setting
 mod Egressed
 mod Received
 mod Driven

@@ -1,5 +1,5 @@
 -- How an interface begins, over plain variables.
-use Rattle.std.proofs.Common.{◌≡◌, ℕ, ◌≤◌, true, [], arith, None}
+use Rattle.std.proofs.Common.{◌≡◌, ℕ, ◌≤◌, true, List, [], arith, None, ap, sym}
 use Rattle.std.specs.Prelude.{ℤ, false, pos}
 use Rattle.std.specs.FinMap as map
 use Rattle.std.proofs.lemmas.Bool.Decides.{nat_tests}
@@ -7,7 +7,13 @@ use Rattle.net_base.specs.declared.phy.DeviceCapabilities.{DeviceCapabilities}
 use Rattle.net_base.specs.Checksum.{ip_mtu_of}
 use Rattle.ip_address.specs.declared.hardware.HardwareAddress.{HardwareAddress}
 use Rattle.ip_address.specs.Hardware.{medium_of, is_unicast}
-use Rattle.host_machine.specs.Host.{Host, SocketSet}
+use Rattle.fragmentation.specs.declared.key.FragKey.{FragKey}
+use Rattle.fragmentation.specs.Assembly.{Assembly}
+use Rattle.fragmentation.specs.Stands.{StandForSlots}
+use Rattle.host_machine.specs.Host.{SocketSet, with_slots}
+use Rattle.iface_send.specs.declared.context.Context.{Context}
+use Rattle.iface_send.specs.Stands.{host_of}
+use Rattle.iface_receive.specs.Processed.{StandsFor}
 use Rattle.host_machine.specs.Config.{refusal_of, same_medium, first_host, first_id}
 
 -- no reason to refuse holds
@@ -15,8 +21,8 @@ pub not_refused : (c : DeviceCapabilities) (h : HardwareAddress) → same_medium
 not_refused c h same unicast low high = rw (same, unicast) (grind (arith, nat_tests))
 
 -- the interface is made
-pub made : (c d : DeviceCapabilities) (h : HardwareAddress) (seed id : ℕ) (t : ℤ) (host : SocketSet → Host) → c ≡ d → id ≡ first_id seed → refusal_of c h ≡ None →
-    ((sockets : SocketSet) → host sockets ≡ record {
+pub made : (c d : DeviceCapabilities) (h : HardwareAddress) (seed id : ℕ) (t : ℤ) (context : Context) (places : List (Assembly FragKey)) → c ≡ d → id ≡ first_id seed → refusal_of c h ≡ None →
+    StandForSlots places map.empty → ((sockets : SocketSet) → host_of context sockets ≡ record {
       capabilities = c;
       hardware_addr = h;
       moment = t;
@@ -25,7 +31,15 @@ pub made : (c d : DeviceCapabilities) (h : HardwareAddress) (seed id : ℕ) (t :
       routes = [];
       neighbors = record { known = map.empty; silent_until = pos 0 };
       ipv4_id = id;
+      reassembly_timeout = 60000000;
+      slots = map.empty;
+      left = [];
       sockets = sockets;
     }) →
-    (refusal_of d h ≡ None) × ((sockets : SocketSet) → host sockets ≡ first_host d h seed t sockets)
-made c d h seed id t host same is allowed makes = (rw (← same) allowed, λ sockets. rw (← same, ← is) (makes sockets))
+    (refusal_of d h ≡ None) × ((sockets : SocketSet) → StandsFor context places sockets (first_host d h seed t sockets))
+made c d h seed id t context places same is allowed stand makes = (
+  rw (← same) allowed,
+  λ sockets.
+      let begins : host_of context sockets ≡ first_host d h seed t sockets = rw (← same, ← is) (makes sockets) in
+      record { slots = map.empty; stand = stand; same = sym (ap (λ H. with_slots H map.empty) begins) },
+)

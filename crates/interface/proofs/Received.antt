@@ -1,17 +1,17 @@
 -- What came from a device, over plain variables.
-use Rattle.std.proofs.Common.{◌≡◌, ℕ, ◌<◌, List, [], ◌∷◌, length, refl, sym, subst, arith, Option, None, Some}
+use Rattle.std.proofs.Common.{◌≡◌, ℕ, ◌<◌, List, [], ◌∷◌, length, refl, arith, Option, None, Some}
 use Rattle.std.specs.Prelude.{ℤ}
 use Rattle.net_base.specs.Device.{Event, Received, Frame, Nothing, Withheld, HandsNone, WasEmpty, WasWithheld}
 use Rattle.host_machine.specs.declared.results.PollIngressSingleResult.{PollIngressSingleResult}
 use Rattle.host_machine.specs.declared.results.PollIngressSingleResult.TheVariants as result
-use Rattle.host_machine.specs.Host.{Host, at}
+use Rattle.host_machine.specs.Host.{Host, swept}
 use Rattle.host_machine.specs.Note.{Note}
 use Rattle.host_machine.specs.Reply.{Reply}
 use Rattle.host_machine.specs.Frame.{frames_in, sends}
 use Rattle.host_machine.specs.Ethernet.{TakesFrame}
 use Rattle.host_machine.specs.Response.{Response}
 use Rattle.host_machine.specs.Ingress.{Ingress, Takes, answer_to}
-use Rattle.iface_receive.specs.Processed.{Processed}
+use Rattle.iface_receive.specs.Processed.{Answers, Responded}
 use Rattle.interface.specs.Goes.{Went}
 use Rattle.interface.specs.Receives.{FrameReceived, frames_shown}
 
@@ -20,21 +20,21 @@ nothing_taken H takes = record { reply = None; taken = H; notes_taking = []; not
 
 module _ {D : Type 0} {tells : D → List Event → D → Type 0} {d d' : D} where
   -- no frame came
-  pub nothing_came : (t : ℤ) (H : Host) (after : Host → Type 0) → HandsNone tells t d d' → after (at H t) → Went tells d d' (Ingress t result.None H) after
+  pub nothing_came : (t : ℤ) (H : Host) (after : Host → Type 0) → HandsNone tells t d d' → after (swept H t) → Went tells d d' (Ingress t result.None H) after
   nothing_came t H after (WasEmpty told) stands = record {
     told = Received t Nothing ∷ [];
     notes = [];
-    host = at H t;
+    host = swept H t;
     tells_it = told;
-    steps = record { reception = Nothing; frames = []; response = nothing_taken (at H t) (record { silent = refl; unnoted = refl; unchanged = refl }); events = refl; answers = refl };
+    steps = record { reception = Nothing; frames = []; response = nothing_taken (swept H t) (record { silent = refl; unnoted = refl; unchanged = refl }); events = refl; answers = refl };
     stands = stands;
   }
   nothing_came t H after (WasWithheld told) stands = record {
     told = Received t Withheld ∷ [];
     notes = [];
-    host = at H t;
+    host = swept H t;
     tells_it = told;
-    steps = record { reception = Withheld; frames = []; response = nothing_taken (at H t) (record { silent = refl; unnoted = refl; unchanged = refl }); events = refl; answers = refl };
+    steps = record { reception = Withheld; frames = []; response = nothing_taken (swept H t) (record { silent = refl; unnoted = refl; unchanged = refl }); events = refl; answers = refl };
     stands = stands;
   }
 
@@ -49,16 +49,19 @@ takes_none H [] none = record { silent = refl; unnoted = refl; unchanged = refl 
 takes_none H (octet ∷ octets) none = absurd (omega (arith, none))
 
 -- what is done with a frame that isn't empty, by its medium
-pub took_some : (H K : Host) (f buffer : List ℕ) → 0 < length f → Processed buffer (λ L. TakesFrame L.hardware_addr L f) H K → Processed buffer (λ L. Takes L (Frame f)) H K
-took_some H K f buffer some processed =
-    let r = processed.response in record {
-      notes = processed.notes;
+pub took_some : {before after : Host → Type 0} (f buffer : List ℕ) → 0 < length f → Answers buffer (λ L. TakesFrame L.hardware_addr L f) before after → Answers buffer (λ L. Takes L (Frame f)) before after
+took_some f buffer some answers H stands =
+    let a = answers H stands in
+    let r = a.response in record {
+      notes = a.notes;
+      host = a.host;
       response = record { reply = r.reply; taken = r.taken; notes_taking = r.notes_taking; notes_responding = r.notes_responding; takes = takes_some H r.taken f r.reply r.notes_taking some r.takes; responds = r.responds; all_notes = r.all_notes };
+      stands = a.stands;
     }
 
 -- nothing is built for an empty one
-pub took_none : (H : Host) (f buffer : List ℕ) → length f ≡ 0 → buffer ≡ [] → Processed buffer (λ L. Takes L (Frame f)) H H
-took_none H f buffer none empty = record { notes = []; response = rw empty (nothing_taken H (takes_none H f none)) }
+pub took_none : {stand : Host → Type 0} (f buffer : List ℕ) → length f ≡ 0 → buffer ≡ [] → Answers buffer (λ L. Takes L (Frame f)) stand stand
+took_none f buffer none empty H stands = record { notes = []; host = H; response = rw empty (nothing_taken H (takes_none H f none)); stands = stands }
 
 pub answers_none : (f : List ℕ) → length f ≡ 0 → result.PacketProcessed ≡ answer_to (Frame f)
 answers_none [] none = refl
@@ -69,12 +72,12 @@ answers_some [] some = absurd (omega arith)
 answers_some (octet ∷ octets) some = refl
 
 -- a frame came, was taken, and the one built in response went
-pub frame_came : (t : ℤ) (H J K : Host) (f buffer : List ℕ) (answer : PollIngressSingleResult) → at H t ≡ J → (processed : Processed buffer (λ L. Takes L (Frame f)) J K) → answer ≡ answer_to (Frame f) →
-    Ingress t answer H (Received t (Frame f) ∷ sends (frames_in buffer)) processed.notes K
-frame_came t H J K f buffer answer same processed answers = record {
+pub frame_came : (t : ℤ) (H : Host) (f buffer : List ℕ) (answer : PollIngressSingleResult) (after : Host → Type 0) (taken : Responded buffer (λ L. Takes L (Frame f)) (swept H t) after) → answer ≡ answer_to (Frame f) →
+    Ingress t answer H (Received t (Frame f) ∷ sends (frames_in buffer)) taken.notes taken.host
+frame_came t H f buffer answer after taken answers = record {
   reception = Frame f;
   frames = frames_in buffer;
-  response = subst (λ (L : Host). Response (λ (M : Host). Takes M (Frame f)) L (frames_in buffer) processed.notes K) (sym same) processed.response;
+  response = taken.response;
   events = refl;
   answers = answers;
 }
@@ -89,11 +92,11 @@ shows_some [] shown some is = absurd (omega (arith, some))
 shows_some (octet ∷ octets) shown some is = rw is refl
 
 -- the same where its user gives the frame, and the one built is shown
-pub frame_received : (t : ℤ) (H J K : Host) (f buffer : List ℕ) (shown : Option (List ℕ)) (after : Host → Type 0) → at H t ≡ J → Processed buffer (λ L. Takes L (Frame f)) J K → frames_in buffer ≡ frames_shown shown →
-    after K → FrameReceived t f shown H after
-frame_received t H J K f buffer shown after same processed shows stands = record {
-  notes = processed.notes;
-  host = K;
-  steps = rw shows at (frame_came t H J K f buffer (answer_to (Frame f)) same processed refl);
-  stands = stands;
+pub frame_received : (t : ℤ) (H : Host) (f buffer : List ℕ) (shown : Option (List ℕ)) (after : Host → Type 0) → Responded buffer (λ L. Takes L (Frame f)) (swept H t) after →
+    frames_in buffer ≡ frames_shown shown → FrameReceived t f shown H after
+frame_received t H f buffer shown after taken shows = record {
+  notes = taken.notes;
+  host = taken.host;
+  steps = rw shows at (frame_came t H f buffer (answer_to (Frame f)) after taken refl);
+  stands = taken.stands;
 }

@@ -1,5 +1,5 @@
 -- Which host an interface with its sockets stands for.
-use Rattle.std.specs.Prelude.{◌≡◌, List}
+use Rattle.std.specs.Prelude.{List}
 use Rattle.std.specs.Borrow.{Bor}
 use Rattle.socket_set.specs.SocketSet.{Sockets}
 use Rattle.host_machine.specs.Host.{Host, SocketSet}
@@ -7,9 +7,10 @@ use Rattle.iface_tables.specs.declared.route.Route.{Route}
 use Rattle.iface_send.specs.declared.context.Context.{Context}
 use Rattle.iface_send.specs.Stands.{host_of}
 use Rattle.iface_send.specs.Stands as context
+use Rattle.iface_receive.specs.Processed as processed
 use Rattle.interface.specs.declared.interface.Interface.{Interface}
 
--- the host of what an interface knows, and of these sockets: its buffers are no part of its meaning
+-- the host of what an interface knows, and of these sockets, without what its slots have: its buffers are no part of its meaning
 abbrev pub host_with : Interface → SocketSet → Host
 host_with i sockets = host_of i.context sockets
 
@@ -21,5 +22,19 @@ with_context i c = record i { context = c }
 abbrev pub with_routes : Interface → List Route → Interface
 with_routes i routes = record i { context = context.with_routes i.context routes }
 
-pub record StandsFor (i : Interface) (s : Sockets (Bor (Unit {0}))) (H : Host) : Type 0 where
-  pub same : H ≡ host_with i s
+-- a host that an interface with its sockets stands for: its places stand for that host's slots
+abbrev pub StandsFor : Interface → Sockets (Bor (Unit {0})) → Host → Type 0
+StandsFor i s H = processed.StandsFor i.context i.fragments s H
+
+-- each host that an interface stood for is changed so
+abbrev pub Becomes : Interface → Interface → (Host → Host) → Type 0
+Becomes old new change = (sockets : SocketSet) (H : Host) → StandsFor old sockets H → StandsFor new sockets (change H)
+
+-- from each host that an interface stood for, a rule leads to one that it stands for
+pub record Led (Rule : Host → Host → Type 0) (H : Host) (after : Host → Type 0) : Type 0 where
+  pub host : Host
+  pub follows : Rule H host
+  pub stands : after host
+
+abbrev pub Follows : Interface → Interface → (Host → Host → Type 0) → Type 0
+Follows old new Rule = (sockets : SocketSet) (H : Host) → StandsFor old sockets H → Led Rule H (StandsFor new sockets)

@@ -4,7 +4,7 @@ ghost use Rattle.host_machine.specs.Host.{Host, SocketSet};
 ghost use Rattle.host_machine.specs.Step.{IsTimely, UpdatesIpAddrs};
 ghost use Rattle.host_machine.specs.Ran.{Ran};
 ghost use Rattle.iface_tables.specs.Route.{first, ipv4_gateway, is_ipv4_gateway, old_or_full, with_default, without_first};
-ghost use Rattle.interface.specs.Stands.{StandsFor, host_with};
+ghost use Rattle.interface.specs.Stands.{StandsFor, Becomes, Follows, host_with};
 ghost use Rattle.interface.specs.Joined.{DrivesJoin};
 ghost use Rattle.interface.specs.Commands.{CommandGoes};
 
@@ -33,7 +33,7 @@ pub trait Owner {
 
 /// Replaces the addresses by a list.
 fn put_ip_addrs(interface: &mut Interface, list: &ArrayVec<IpCidr, 4>) -> Result<(), AddrError>
-    ensures { (sockets : SocketSet) → UpdatesIpAddrs list.now.items result (host_with interface.old sockets) (host_with interface.new sockets) }
+    ensures { Follows interface.old interface.new (UpdatesIpAddrs list.now.items result) }
 {
     let list = copied(list.as_slice());
     interface.update_ip_addrs(move |_| list)
@@ -41,7 +41,7 @@ fn put_ip_addrs(interface: &mut Interface, list: &ArrayVec<IpCidr, 4>) -> Result
 
 /// Replaces the routes by a list.
 fn put_routes(interface: &mut Interface, list: &ArrayVec<Route, 4>)
-    ensures { (sockets : SocketSet) → host_with interface.new sockets ≡ record (host_with interface.old sockets) { routes = list.now.items } }
+    ensures { Becomes interface.old interface.new (λ H. record H { routes = list.now.items }) }
 {
     let mut routes = ArrayVec::new();
     let _ = routes.try_extend_from_slice(list.as_slice());
@@ -54,7 +54,7 @@ fn add_default_ipv4_route(
     gateway: Ipv4Address,
 ) -> Result<Option<Route>, RouteTableFull>
     ensures answer { (sockets : SocketSet) → result ≡ old_or_full is_ipv4_gateway (host_with interface.old sockets).routes }
-    ensures table { (sockets : SocketSet) → host_with interface.new sockets ≡ record (host_with interface.old sockets) { routes = with_default is_ipv4_gateway (host_with interface.old sockets).routes (ipv4_gateway gateway) } }
+    ensures table { Becomes interface.old interface.new (λ H. record H { routes = with_default is_ipv4_gateway H.routes (ipv4_gateway gateway) }) }
 {
     interface.routes_mut().add_default_ipv4_route(gateway)
 }
@@ -62,7 +62,7 @@ fn add_default_ipv4_route(
 /// Takes out the default route of IPv4.
 fn remove_default_ipv4_route(interface: &mut Interface) -> Option<Route>
     ensures answer { (sockets : SocketSet) → result ≡ first is_ipv4_gateway (host_with interface.old sockets).routes }
-    ensures table { (sockets : SocketSet) → host_with interface.new sockets ≡ record (host_with interface.old sockets) { routes = without_first is_ipv4_gateway (host_with interface.old sockets).routes } }
+    ensures table { Becomes interface.old interface.new (λ H. record H { routes = without_first is_ipv4_gateway H.routes }) }
 {
     interface.routes_mut().remove_default_ipv4_route()
 }
@@ -110,6 +110,9 @@ fn step<D: Device, O: Owner>(
         Command::SetAnyIp(any_ip) => {
             interface.set_any_ip(*any_ip);
             Answer::SetAnyIp
+        }
+        Command::SetReassemblyTimeout(timeout) => {
+            Answer::SetReassemblyTimeout(interface.set_reassembly_timeout(*timeout))
         }
         Command::SetHardwareAddr(hardware_addr) => {
             Answer::SetHardwareAddr(interface.set_hardware_addr(*hardware_addr))

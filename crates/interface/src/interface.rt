@@ -5,17 +5,22 @@ ghost use Rattle.host_machine.specs.Config.{same_medium, hardware_refusal_of};
 ghost use Rattle.host_machine.specs.Host.{SocketSet, are_assignable};
 ghost use Rattle.host_machine.specs.Ingress.{Takes};
 ghost use Rattle.net_base.specs.Device.{Frame};
-ghost use Rattle.iface_receive.specs.Processed.{Processed};
-ghost use Rattle.iface_send.specs.Stands.{host_of};
+ghost use Rattle.iface_receive.specs.Processed.{Answers};
+ghost use Rattle.iface_receive.specs.Processed as processed;
 
-use crate::polling::{poll_result, sockets_poll_at};
+use crate::polling::{poll_at, poll_result};
 use arrayvec::ArrayVec;
-use host_machine::{AddrError, HardwareError, NewError, PollIngressSingleResult, PollResult};
-use iface_egress::egress::socket_egress;
+use fragmentation::{FragKey, PacketAssemblerSet};
+use host_machine::{
+    AddrError, HardwareError, NewError, PollIngressSingleResult, PollResult, TimeoutError,
+};
+use iface_egress::egress::{ipv4_egress, socket_egress};
 use iface_egress::transmit::send_frame;
 use iface_receive::ethernet::process_frame;
 use iface_send::context::IFACE_MAX_ADDR_COUNT;
-use iface_send::settings::{routes_mut, set_any_ip, set_hardware_addr, set_ip_addrs, set_moment};
+use iface_send::settings::{
+    routes_mut, set_any_ip, set_hardware_addr, set_ip_addrs, set_moment, set_reassembly_timeout,
+};
 use iface_send::{Context, settings};
 use iface_tables::route::Routes;
 use ip_wire::emit::FrameBuffer;
@@ -55,6 +60,7 @@ impl Config {
 #[derive(Drop)]
 pub struct Interface {
     context: Context,
+    fragments: PacketAssemblerSet<FragKey>,
     receive_buffer: [u8; FRAME_BUFFER_SIZE],
     transmit_buffer: FrameBuffer,
 }
@@ -71,17 +77,17 @@ impl Interface {
     ghost use Rattle.host_machine.specs.Config.{refusal_of, first_host};
     ghost use Rattle.host_machine.specs.Ingress.{Ingress};
     ghost use Rattle.std.specs.Prelude.{ℤ};
-    ghost use Rattle.host_machine.specs.Host.{Host, at};
+    ghost use Rattle.host_machine.specs.Host.{Host, at, swept};
     ghost use Rattle.host_machine.specs.Egress.{Egress};
     ghost use Rattle.host_machine.specs.Polling.{Polls, Receives, Sends, maintained};
     ghost use Rattle.host_machine.specs.Due.{Due, IsLeast, IsRest};
-    ghost use Rattle.host_machine.specs.Step.{UpdatesIpAddrs, SetsHardwareAddr};
+    ghost use Rattle.host_machine.specs.Step.{UpdatesIpAddrs, SetsHardwareAddr, SetsReassemblyTimeout};
     ghost use Rattle.iface_send.specs.contracts.context.Context.{the_row as context_row};
     ghost use Rattle.iface_send.specs.Stands.{Addresses, host_of};
     ghost use Rattle.std.specs.Borrow.{sem, Lends};
     ghost use Rattle.iface_tables.specs.contracts.route.Routes.{the_row as routes_row};
     ghost use Rattle.interface.specs.contracts.interface.Interface.{the_row};
-    ghost use Rattle.interface.specs.Stands.{host_with, with_context, with_routes, StandsFor};
+    ghost use Rattle.interface.specs.Stands.{host_with, with_context, with_routes, StandsFor, Becomes, Follows};
     ghost use Rattle.interface.specs.Goes.{Goes};
 
     /// Makes an interface over a device, of which only the capabilities are read. The errors are
@@ -95,7 +101,7 @@ impl Interface {
         requires { IsMoment now }
         ensures made { MatchResult result
             (λ interface. (refusal_of (D.capable device.old) config.hardware_addr ≡ None)
-            × ((sockets : SocketSet) → host_with interface sockets ≡ first_host (D.capable device.old) config.hardware_addr config.random_seed now sockets))
+            × ((sockets : SocketSet) → StandsFor interface sockets (first_host (D.capable device.old) config.hardware_addr config.random_seed now sockets)))
             (λ error. refusal_of (D.capable device.old) config.hardware_addr ≡ Some error) }
         ensures device { device.new ≡ device.old }
     {
@@ -115,6 +121,7 @@ impl Interface {
         let ipv4_id = first_id(config.random_seed);
         Ok(Interface {
             context: settings::new(capabilities, config.hardware_addr, ipv4_id, now),
+            fragments: PacketAssemblerSet::new(),
             receive_buffer: [0; FRAME_BUFFER_SIZE],
             transmit_buffer: FrameBuffer::new(),
         })
@@ -141,7 +148,7 @@ impl Interface {
     /// Gives the interface another address on its link. The errors are tested in the order in which
     /// [`HardwareError`] lists them, and come exactly as it says; then nothing changes.
     pub fn set_hardware_addr(&mut self, hardware_addr: HardwareAddress) -> Result<(), HardwareError>
-        ensures { (sockets : SocketSet) → SetsHardwareAddr hardware_addr result (host_with self.old sockets) (host_with self.new sockets) }
+        ensures { Follows self.old self.new (SetsHardwareAddr hardware_addr result) }
     {
         if let Some(error) = hardware_refusal(&self.context.capabilities(), &hardware_addr) {
             return Err(error);
@@ -208,9 +215,28 @@ impl Interface {
 
     /// Takes every address for an own one from now on, or no longer.
     pub fn set_any_ip(&mut self, any_ip: bool)
-        ensures { (sockets : SocketSet) → host_with self.new sockets ≡ record (host_with self.old sockets) { any_ip = any_ip } }
+        ensures { Becomes self.old self.new (λ H. record H { any_ip = any_ip }) }
     {
         set_any_ip(&mut self.context, any_ip);
+    }
+
+    /// For how long a slot for fragments stands that is taken from now on: at first 60 s (RFC 1122 3.3.2).
+    pub fn reassembly_timeout(&self) -> Duration
+        ensures { (sockets : SocketSet) → result ≡ (host_with self.now sockets).reassembly_timeout }
+    {
+        self.context.reassembly_timeout()
+    }
+
+    /// Lets slots for fragments that are taken from now on stand for so long. A slot that stands keeps its
+    /// end. `TimeoutTooLong` exactly if it is longer than a day, 86,400 s; then nothing changes.
+    pub fn set_reassembly_timeout(&mut self, timeout: Duration) -> Result<(), TimeoutError>
+        ensures { Follows self.old self.new (SetsReassemblyTimeout timeout result) }
+    {
+        if timeout.total_micros() > 86_400_000_000 {
+            return Err(TimeoutError::TimeoutTooLong);
+        }
+        set_reassembly_timeout(&mut self.context, timeout);
+        Ok(())
     }
 
     /// The routes.
@@ -236,7 +262,7 @@ impl Interface {
         F: FnOnce(ArrayVec<IpCidr, IFACE_MAX_ADDR_COUNT>) -> ArrayVec<IpCidr, IFACE_MAX_ADDR_COUNT>,
         requires { F.IsAlwaysCallable f }
         ensures { (given : Addresses) × (list : Addresses) × F.post f given list
-            × ((sockets : SocketSet) → (given.items ≡ (host_with self.old sockets).ip_addrs) × UpdatesIpAddrs list.items result (host_with self.old sockets) (host_with self.new sockets)) }
+            × ((sockets : SocketSet) → given.items ≡ (host_with self.old sockets).ip_addrs) × Follows self.old self.new (UpdatesIpAddrs list.items result) }
     {
         let list = f(copied(self.context.ip_addrs()));
         if !are_assignable(list.as_slice()) {
@@ -257,7 +283,7 @@ impl Interface {
         requires { IsMoment timestamp }
         ensures { Goes D.tells device.old device.new (Ingress timestamp result) (StandsFor self.old sockets.old) (StandsFor self.new sockets.new) }
     {
-        set_moment(&mut self.context, timestamp);
+        self.sweep(timestamp);
         let Some((len, _)) = device.receive(timestamp, &mut self.receive_buffer) else {
             return PollIngressSingleResult::None;
         };
@@ -265,6 +291,7 @@ impl Interface {
         take_frame(
             &mut self.context,
             sockets,
+            &mut self.fragments,
             received,
             &mut self.transmit_buffer,
         );
@@ -291,8 +318,14 @@ impl Interface {
         ensures* received { sem 𝓛 (Rests the_row self.entry (λ new. ReceivesFrame timestamp frame.now (option_map (λ f. f.now) result) (StandsFor self.old sockets.old) (StandsFor new sockets.new))) }
         ensures short { IfSome result (λ f. length f.now ≤ 1514) }
     {
-        set_moment(&mut self.context, timestamp);
-        take_frame(&mut self.context, sockets, frame, &mut self.transmit_buffer);
+        self.sweep(timestamp);
+        take_frame(
+            &mut self.context,
+            sockets,
+            &mut self.fragments,
+            frame,
+            &mut self.transmit_buffer,
+        );
         if self.transmit_buffer.is_empty() {
             None
         } else {
@@ -300,8 +333,9 @@ impl Interface {
         }
     }
 
-    /// Sets the moment, and sends what the sockets have to send: one packet of each in order, until
-    /// the device refuses leave. Answers whether a packet counts as gone.
+    /// Sets the moment, and sends the next piece of a packet that was cut, if one waits; and then what the
+    /// sockets have to send: one packet of each in order, until the device refuses leave. Answers whether a
+    /// packet of a socket counts as gone.
     pub fn poll_egress<D: Device>(
         &mut self,
         timestamp: Instant,
@@ -312,16 +346,9 @@ impl Interface {
         ensures { Goes D.tells device.old device.new (Egress timestamp result) (StandsFor self.old sockets.old) (StandsFor self.new sockets.new) }
     {
         set_moment(&mut self.context, timestamp);
-        if socket_egress(
-            &mut self.context,
-            device,
-            &mut self.transmit_buffer,
-            sockets,
-        ) {
-            PollResult::SocketStateChanged
-        } else {
-            PollResult::None
-        }
+        let buffer = &mut self.transmit_buffer;
+        ipv4_egress(&mut self.context, device, buffer);
+        poll_result(socket_egress(&mut self.context, device, buffer, sockets))
     }
 
     /// Maintains what has to be, takes frames, and sends what the sockets have to send, all at one moment:
@@ -344,12 +371,21 @@ impl Interface {
         poll_result(received | went)
     }
 
-    /// Sets the moment, and maintains what has to be: there is nothing yet.
+    /// Sets the moment, and drops the fragments whose reassembly timeout has passed.
     pub fn poll_maintenance(&mut self, timestamp: Instant)
         requires { IsMoment timestamp }
-        ensures { (sockets : SocketSet) → host_with self.new sockets ≡ maintained (at (host_with self.old sockets) timestamp) }
+        ensures { Becomes self.old self.new (λ H. maintained (at H timestamp)) }
+    {
+        self.sweep(timestamp);
+    }
+
+    // Sets the moment, and drops the slots that have ended.
+    fn sweep(&mut self, timestamp: Instant)
+        requires { IsMoment timestamp }
+        ensures { Becomes self.old self.new (λ H. swept H timestamp) }
     {
         set_moment(&mut self.context, timestamp);
+        self.fragments.remove_expired(timestamp);
     }
 
     // Takes frames until there is none or the budget is spent. Whether some socket may have changed.
@@ -404,7 +440,7 @@ impl Interface {
         ensures moment { (H : Host) → StandsFor self.old sockets.now H → StandsFor self.new sockets.now (at H timestamp) }
     {
         set_moment(&mut self.context, timestamp);
-        sockets_poll_at(&self.context, sockets)
+        poll_at(&self.context, sockets)
     }
 
     /// Sets the moment, and tells how long it is until the instant of [`Interface::poll_at`]: no time if it
@@ -427,14 +463,15 @@ impl Interface {
 fn take_frame(
     context: &mut Context,
     sockets: &mut SocketSet<'_>,
+    fragments: &mut PacketAssemblerSet<FragKey>,
     frame: &[u8],
     out: &mut FrameBuffer,
 )
-    ensures { Processed out.new (λ H. Takes H (Frame frame.now)) (host_of context.old sockets.old) (host_of context.new sockets.new) }
+    ensures { Answers out.new (λ H. Takes H (Frame frame.now)) (processed.StandsFor context.old fragments.old sockets.old) (processed.StandsFor context.new fragments.new sockets.new) }
 {
     out.clear();
     if !frame.is_empty() {
-        process_frame(context, sockets, frame, out);
+        process_frame(context, sockets, fragments, frame, out);
     }
 }
 

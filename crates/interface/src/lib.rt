@@ -13,6 +13,7 @@ mod polling;
 
 pub use host_machine::{
     AddrError, Answer, Command, HardwareError, NewError, PollIngressSingleResult, PollResult,
+    TimeoutError,
 };
 pub use iface_send::{Context, IpPayload, Packet, PacketV4};
 pub use interface::{Config, Interface};

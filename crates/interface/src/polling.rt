@@ -1,11 +1,12 @@
 //! When an interface has to be polled again.
 ghost use Rattle.std.specs.Prelude.{◌≡◌};
-ghost use Rattle.host_machine.specs.Host.{SocketSet};
+ghost use Rattle.fragmentation.specs.Slots.{Slots};
+ghost use Rattle.host_machine.specs.Host.{SocketSet, no_sockets};
 ghost use Rattle.host_machine.specs.Dispatch.{KnowsNextHop};
 ghost use Rattle.host_machine.specs.Due as spec;
 ghost use Rattle.host_machine.specs.Due.{Due, IsLeast};
 ghost use Rattle.host_machine.specs.Egress.{answer_of};
-ghost use Rattle.iface_send.specs.Stands.{host_of};
+ghost use Rattle.iface_send.specs.Stands.{host_in, host_of};
 
 use host_machine::PollResult;
 use iface_send::Context;
@@ -15,9 +16,10 @@ use net_base::time::Instant;
 use socket_set::SocketSet;
 use sockets::{PollAt, SocketContext};
 
-/// The least instant at which a socket is due, if one is.
-pub fn sockets_poll_at(context: &Context, sockets: &SocketSet<'_>) -> Option<Instant>
-    ensures { IsLeast (Due (host_of context.now sockets.now)) result }
+/// The least instant at which something is due, if anything is: a piece that waits at once, and a socket
+/// at its own instant or at the end of its wait.
+pub fn poll_at(context: &Context, sockets: &SocketSet<'_>) -> Option<Instant>
+    ensures { (slots : Slots) → IsLeast (Due (host_in context.now slots sockets.now)) result }
 {
     let now = context.now();
     let mut least = None;
@@ -26,12 +28,23 @@ pub fn sockets_poll_at(context: &Context, sockets: &SocketSet<'_>) -> Option<Ins
             index,
             now,
             |address: IpAddress| -> bool
-                ensures { (others : SocketSet) → KnowsNextHop (host_of context.exit.now others) address result }
+                ensures { (slots : Slots) (others : SocketSet) → KnowsNextHop (host_in context.exit.now slots others) address result }
             { has_neighbor(context, &address) },
         );
         least = sooner(least, instant_of(own));
     }
-    least
+    sooner(piece_poll_at(context), least)
+}
+
+/// The instant at which a piece that waits is due, if one waits: at once.
+fn piece_poll_at(context: &Context) -> Option<Instant>
+    ensures { result ≡ spec.at_once (host_of context.now no_sockets).left }
+{
+    if context.has_waiting_piece() {
+        Some(Instant::ZERO)
+    } else {
+        None
+    }
 }
 
 /// The instant that an answer names: the origin for what is due at once.

@@ -18,6 +18,9 @@ use std::alloc::Global;
 /// 02:00:00:00:00:01.
 pub const OWN: HardwareAddress = HardwareAddress::Ethernet(EthernetAddress([2, 0, 0, 0, 0, 1]));
 
+// Of this seed the first identification is 7.
+const SEED: u64 = 23_078;
+
 /// An Ethernet device for frames of up to 1514 octets.
 pub const ETHERNET: DeviceCapabilities = DeviceCapabilities {
     medium: Medium::Ethernet,
@@ -62,14 +65,17 @@ impl Host {
     ghost use Rattle.std.specs.Prelude.{◌≡◌, length, All};
     ghost use Rattle.host_machine.specs.Step.{IsTimely};
 
-    /// A host without addresses and sockets.
+    /// A host without addresses and sockets. The first packet that it sends has identification 7.
     pub fn new(
         alloc: Global,
         hardware_addr: HardwareAddress,
         capabilities: DeviceCapabilities,
     ) -> Result<Host, NewError> {
         let mut device = MemoryDevice::new(alloc, capabilities);
-        let config = Config::new(hardware_addr);
+        let config = Config {
+            random_seed: SEED,
+            ..Config::new(hardware_addr)
+        };
         let interface = Interface::new(config, &mut device, Instant::ZERO)?;
         Ok(Host {
             alloc,

@@ -10,6 +10,7 @@
 //! | `send SOCKET ADDR PORT OCTETS`, `ADDR OCTETS`, `OCTETS` | a UDP, ICMP, raw socket gets this to send |
 //! | `hold SOCKET T` | a TCP socket sends nothing before then |
 //! | `abort SOCKET` | a TCP socket gives up |
+//! | `done SOCKET` | a UDP socket drops what came to it first |
 //! | `heard? SOCKET` `= ADDR PORT OCTETS`, `ADDR OCTETS`, `OCTETS`, `none` | this came to it first |
 //! | `due? SOCKET` `= Now`, `Ingress`, T | when it has to be polled again |
 ghost use Rattle.std.specs.Prelude.{◌≡◌, ◌≢◌, IfSome, false};
@@ -24,11 +25,11 @@ use sockets::tcp::Segment;
 use sockets::{IpListenEndpoint, PollAt, SocketOf, icmp, raw, tcp, udp};
 use std::alloc::Global;
 
-// An empty queue of two packets and 64 octets.
+// An empty queue of two packets and 1500 octets.
 fn queue<M: Drop>(alloc: Global) -> Option<Queue<M>> {
-    match Queue::new(alloc, 2, 64) {
+    match Queue::new(alloc, 2, 1500) {
         Ok(queue) => Some(queue),
-        Err(NoMemory) => Queue::new(alloc, 2, 64).ok(),
+        Err(NoMemory) => Queue::new(alloc, 2, 1500).ok(),
     }
 }
 
@@ -84,6 +85,7 @@ impl Host {
             "send" => self.send(call)?,
             "hold" => self.hold(call.next()?, call.next()?)?,
             "abort" => self.abort(call.next()?)?,
+            "done" => self.drop_first(call.next()?)?,
             _ => return None,
         }
         Some(outcome.next()? == "ok")
@@ -153,6 +155,17 @@ impl Host {
         match self.sockets.socket_mut(count(index)?)? {
             SocketOf::Tcp(socket) => {
                 socket.abort();
+                Some(())
+            }
+            _ => None,
+        }
+    }
+
+    // A UDP socket drops what came to it first.
+    fn drop_first(&mut self, index: &str) -> Option<()> {
+        match self.sockets.socket_mut(count(index)?)? {
+            SocketOf::Udp(socket) => {
+                socket.done();
                 Some(())
             }
             _ => None,

@@ -4,6 +4,8 @@
 #[cfg(test)]
 mod commands;
 #[cfg(test)]
+mod fragments;
+#[cfg(test)]
 mod frames;
 #[cfg(test)]
 mod host;

@@ -18,6 +18,8 @@
 //! | `routes?` `= ADDR/LEN>ROUTER[@EXPIRY] ..` | they are these |
 //! | `gw ROUTER` `= ROUTER`, `none`, `RouteTableFull` | it gets a default route, in place of this one |
 //! | `ungw` `= ROUTER`, `none` | it loses its default route |
+//! | `timeout MICROS` `= ok`, `TimeoutTooLong` | slots for fragments stand for so long |
+//! | `timeout?` `= MICROS` | they stand for so long |
 //! | `rx FRAME ..` | a frame arrives: these, one behind the other |
 //! | `rx?` `= COUNT` | so many frames wait |
 //! | `refuse` | the device will refuse the next question for leave |
@@ -31,7 +33,10 @@ ghost use Rattle.host_machine.specs.Step.{IsTimely};
 
 use crate::frames::{Octets, frame};
 use crate::host::{ETHERNET, Host, OWN};
-use crate::words::{Words, address, count, hardware, medium, moment, networks, number, routes};
+use crate::words::{
+    Words, address, count, hardware, medium, moment, networks, number, routes, wide,
+};
+use host_machine::TimeoutError;
 use iface_tables::route::{Route, RouteTableFull};
 use interface::{
     AddrError, Answer, Command, HardwareError, NewError, PollIngressSingleResult, PollResult,
@@ -69,6 +74,18 @@ pub fn each_acquainted(rt: &(impl Abort + AllocGlobal), scripts: &[&str]) {
         runs(rt, ACQUAINTED, script);
     }
 }
+
+/// Runs scripts each on a host that knows its neighbour, and whose packets have at most 576 octets.
+pub fn each_narrow(rt: &(impl Abort + AllocGlobal), scripts: &[&str]) {
+    for script in scripts {
+        runs(rt, NARROW, script);
+    }
+}
+
+const NARROW: &str = "host 020000000001 ethernet 590
+    addr c0a84501/24
+    rx REQUEST
+    ingress 0 = SocketStateChanged tx REPLY";
 
 const AT_HOME: &str = "addr c0a84501/24";
 
@@ -161,6 +178,14 @@ impl Host {
             "routes?" => { Some(self.interface.routes().as_slice() == routes(outcome)?.as_slice()) }
             "gw" => self.adds_default(call.next()?, outcome.next()?),
             "ungw" => self.removes_default(outcome.next()?),
+            "timeout" => {
+                let timeout = Duration::from_micros(wide(call.next()?)?);
+                self.asks(Command::SetReassemblyTimeout(timeout), outcome)
+            }
+            "timeout?" => {
+                let timeout = Duration::from_micros(wide(outcome.next()?)?);
+                Some(self.interface.reassembly_timeout() == timeout)
+            }
             _ => self.polls(word, call, outcome),
         }
     }
@@ -326,6 +351,7 @@ fn text_of(answer: Answer) -> &'static str {
         Answer::UpdateIpAddrs(Err(AddrError::NotUnicast))
         | Answer::SetHardwareAddr(Err(HardwareError::NotUnicast)) => "NotUnicast",
         Answer::SetHardwareAddr(Err(HardwareError::WrongMedium)) => "WrongMedium",
+        Answer::SetReassemblyTimeout(Err(TimeoutError::TimeoutTooLong)) => "TimeoutTooLong",
         Answer::PollIngressSingle(PollIngressSingleResult::None)
         | Answer::PollEgress(PollResult::None)
         | Answer::Poll(PollResult::None) => "None",

@@ -16,19 +16,27 @@ use std::str::SplitWhitespace;
 pub type Words<'a> = SplitWhitespace<'a>;
 
 /// A number of decimal digits, with `_` between them where one likes: `1_000_000`.
-pub fn number(word: &str) -> Option<u32> {
+pub fn wide(word: &str) -> Option<u64> {
     let mut number = None;
     for byte in word.bytes() {
         match byte {
             b'0'..=b'9' => {
-                let tens = number.unwrap_or(0u32).checked_mul(10)?;
-                number = Some(tens.checked_add(u32::from(byte - b'0'))?);
+                let tens = number.unwrap_or(0u64).checked_mul(10)?;
+                number = Some(tens.checked_add(u64::from(byte - b'0'))?);
             }
             b'_' => {}
             _ => return None,
         }
     }
     number
+}
+
+/// A number of at most 32 bits.
+pub fn number(word: &str) -> Option<u32> {
+    match wide(word)?.to_be_bytes() {
+        [0, 0, 0, 0, a, b, c, d] => Some(u32::from_be_bytes([a, b, c, d])),
+        _ => None,
+    }
 }
 
 /// A number of at most 16 bits.

@@ -126,13 +126,32 @@ impl TcpRepr {
         ensures items { out.new ≡ out.old ++ spec.text summed src.now dst.now self.now payload.now }
         ensures len { length out.new ≡ length out.old + 20 + length payload.now }
     {
+        self.emit_header(src, dst, payload, summed, out);
+        out.append(payload);
+    }
+
+    /// Appends the header of a segment with this payload, as [`TcpRepr::emit`] does, and not the
+    /// payload.
+    #[inline(always)]
+    pub fn emit_header(
+        &self,
+        src: &IpAddress,
+        dst: &IpAddress,
+        payload: &[u8],
+        summed: bool,
+        out: &mut FrameBuffer,
+    )
+        requires fits { 20 + length payload.now < 2 ^ 16 }
+        requires room { length out.old + 20 ≤ 1514 }
+        ensures items { out.new ++ payload.now ≡ out.old ++ spec.text summed src.now dst.now self.now payload.now }
+        ensures len { length out.new ≡ length out.old + 20 }
+    {
         let sum = if summed {
             sum_for(self, src, dst, payload)
         } else {
             0
         };
         out.append(&header_with(sum, self));
-        out.append(payload);
     }
 }
 

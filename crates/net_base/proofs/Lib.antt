@@ -1,2 +1,3 @@
 pub mod KeptFrames
 pub mod MemoryMoves
+pub mod RangesLemmas

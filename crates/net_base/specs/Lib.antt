@@ -3,4 +3,5 @@ pub mod Device
 pub mod MemoryDevice
 pub mod MemoryDeviceLaws
 pub mod Rand
+pub mod Ranges
 pub mod Time

@@ -2,4 +2,6 @@
 #![tactic(auto)]
 
 #[cfg(test)]
+mod assembler;
+#[cfg(test)]
 mod tests;

@@ -9,6 +9,8 @@ use Rattle.host_machine.specs.Ethernet as ethernet
 use Rattle.host_machine.specs.Example as example
 use Rattle.host_machine.specs.ExampleSockets.{datagram, listening, reached, with_socket}
 use Rattle.host_machine.proofs.Listening.{first_is_free}
+use Rattle.host_machine.proofs.Exchange.{no_slots}
+use Rattle.std.specs.Prelude.{pos}
 use Rattle.host_machine.proofs.laws.datagram_is_delivered.Goals as goal
 
 pub returns : goal.returns
@@ -21,12 +23,12 @@ returns c = record {
     taken = with_socket reached (example.host 0x1405 example.heard);
     notes_taking = [];
     notes_responding = [];
-    takes = ethernet.Accepted (lit≤ tt) refl (ipv4.Read
+    takes = rw (no_slots (pos 0)) (ethernet.Accepted (lit≤ tt) refl (ipv4.Read
         (record { whole = lit≤ tt; version = refl; header = lit≤ tt; header_fits = lit≤ tt; total_fits = lit≤ tt; sum = λ on. refl })
-        (ipv4.Accepted refl refl refl (udp.Delivered (None ∷ Some (kind.Udp reached) ∷ [])
+        (ipv4.Whole refl refl (ipv4.Accepted refl (udp.Delivered (None ∷ Some (kind.Udp reached) ∷ [])
         (record { whole = lit≤ tt; header_fits = lit≤ tt; fits = lit≤ tt; port = λ e. absurd (omega (arith, e)); sum = λ on summed. refl })
         (record { index = 1; place = Some (kind.Udp listening); first = record { is_there = refl; accepts = refl; none_before = first_is_free _ (Some (kind.Udp listening) ∷ []) refl }; changed = refl })
-        refl refl refl)));
+        refl refl refl)))));
     responds = (refl, refl, refl);
     all_notes = refl;
   };

@@ -15,9 +15,10 @@ use Rattle.host_machine.specs.Packet.{Ipv4}
 use Rattle.host_machine.specs.Packet as packet
 use Rattle.host_machine.specs.Ipv4 as ipv4
 use Rattle.host_machine.specs.Ethernet as ethernet
-use Rattle.host_machine.specs.Dispatch.{ToSomebody, ByHop, OnLink, Known}
+use Rattle.host_machine.specs.Dispatch.{ToSomebody, ByHop, OnLink, Known, Whole}
 use Rattle.host_machine.specs.Example as example
-use Rattle.host_machine.proofs.Exchange.{is_known}
+use Rattle.host_machine.proofs.Exchange.{is_known, no_slots}
+use Rattle.std.specs.Prelude.{pos}
 use Rattle.host_machine.proofs.laws.datagram_is_refused.Goals as goal
 
 pub returns : goal.returns
@@ -29,16 +30,16 @@ returns c = record {
     reply = Some (Ip (Ipv4 (record { src_addr = record { bits = 0xc0a84501 }; dst_addr = record { bits = 0xc0a84564 }; hop_limit = 64; payload = packet.Icmpv4 (DstUnreachable PortUnreachable (record { src_addr = record { bits = 0xc0a84564 }; dst_addr = record { bits = 0xc0a84501 }; next_header = protocol.Udp; payload_len = 10; hop_limit = 64 })) (0x13 ∷ 0x88 ∷ 0x1b ∷ 0x39 ∷ 0 ∷ 0x0a ∷ 0x5c ∷ 0xf9 ∷ 0x68 ∷ 0x69 ∷ []) })));
     taken = example.host 0x1405 example.heard;
     notes_taking = [];
-    notes_responding = [];
-    takes = ethernet.Accepted (lit≤ tt) refl (ipv4.Read
+    notes_responding = example.identify ∷ [];
+    takes = rw (no_slots (pos 0)) (ethernet.Accepted (lit≤ tt) refl (ipv4.Read
         (record { whole = lit≤ tt; version = refl; header = lit≤ tt; header_fits = lit≤ tt; total_fits = lit≤ tt; sum = λ on. refl })
-        (ipv4.Accepted refl refl refl (udp.Unheard
+        (ipv4.Whole refl refl (ipv4.Accepted refl (udp.Unheard
         (record { whole = lit≤ tt; header_fits = lit≤ tt; fits = lit≤ tt; port = λ e. absurd (omega (arith, e)); sum = λ on summed. refl })
-        (nobody _) refl refl refl)));
+        (nobody _) refl refl refl)))));
     responds = (
       Ok tt,
-      ToSomebody refl (ByHop example.sender refl (OnLink refl refl)
-          (Known example.sender_hardware is_known (record { gone = refl; sent = refl; unnoted = refl; unchanged = refl }))),
+      ToSomebody [] refl (ByHop example.sender refl (OnLink refl refl)
+          (Known example.sender_hardware is_known (Whole (lit≤ tt) refl refl refl refl))) refl,
     );
     all_notes = refl;
   };

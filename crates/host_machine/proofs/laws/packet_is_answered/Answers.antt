@@ -12,10 +12,10 @@ use Rattle.host_machine.specs.Packet.{Ipv4}
 use Rattle.host_machine.specs.Icmpv4 as icmpv4
 use Rattle.host_machine.specs.Ipv4 as ipv4
 use Rattle.host_machine.specs.Ethernet as ethernet
-use Rattle.host_machine.specs.Dispatch.{ToSomebody}
+use Rattle.host_machine.specs.Dispatch.{ToSomebody, Whole}
 use Rattle.host_machine.specs.Packet as packet
 use Rattle.host_machine.specs.Example as example
-use Rattle.host_machine.proofs.Exchange.{nobody_renewed}
+use Rattle.host_machine.proofs.Exchange.{nobody_renewed, no_slots}
 use Rattle.host_machine.proofs.laws.packet_is_answered.Goals as goal
 
 pub returns : goal.returns
@@ -27,13 +27,13 @@ returns c = record {
     reply = Some (Ip (Ipv4 (record { src_addr = record { bits = 0xc0a84501 }; dst_addr = record { bits = 0xc0a84564 }; hop_limit = 64; payload = packet.Icmpv4 (EchoReply 0x1234 1) (0x61 ∷ 0x62 ∷ 0x63 ∷ 0x64 ∷ []) })));
     taken = record (example.without_hardware 0x1405) { neighbors = renewed (example.nobody (pos 0)) example.sender hardware.Ip (pos 60000000) };
     notes_taking = [];
-    notes_responding = [];
-    takes = ethernet.Ipv4 refl (ipv4.Read
+    notes_responding = example.identify ∷ [];
+    takes = rw (no_slots (pos 0)) (ethernet.Ipv4 refl (ipv4.Read
         (record { whole = lit≤ tt; version = refl; header = lit≤ tt; header_fits = lit≤ tt; total_fits = lit≤ tt; sum = λ on. refl })
-        (ipv4.Accepted refl refl refl (icmpv4.Taken (record { whole_header = lit≤ tt; sum = λ on. refl; body = Request refl refl }) refl refl refl)));
+        (ipv4.Whole refl refl (ipv4.Accepted refl (icmpv4.Taken (record { whole_header = lit≤ tt; sum = λ on. refl; body = Request refl refl }) refl refl refl)))));
     responds = (
       Ok tt,
-      ToSomebody refl (record { gone = refl; sent = refl; unnoted = refl; unchanged = rw nobody_renewed refl }),
+      ToSomebody [] refl (Whole (lit≤ tt) refl refl refl (rw nobody_renewed refl)) refl,
     );
     all_notes = refl;
   };

@@ -9,6 +9,8 @@ use Rattle.host_machine.specs.Ethernet as ethernet
 use Rattle.host_machine.specs.Example as example
 use Rattle.host_machine.specs.ExampleSockets.{datagram, having_heard, with_raw}
 use Rattle.host_machine.proofs.Listening.{nobody_of_one}
+use Rattle.host_machine.proofs.Exchange.{no_slots}
+use Rattle.std.specs.Prelude.{pos}
 use Rattle.host_machine.proofs.laws.raw_socket_hears.Goals as goal
 
 pub returns : goal.returns
@@ -21,11 +23,11 @@ returns c = record {
     taken = with_raw having_heard (example.host 0x1405 example.heard);
     notes_taking = [];
     notes_responding = [];
-    takes = ethernet.Accepted (lit≤ tt) refl (ipv4.Read
+    takes = rw (no_slots (pos 0)) (ethernet.Accepted (lit≤ tt) refl (ipv4.Read
         (record { whole = lit≤ tt; version = refl; header = lit≤ tt; header_fits = lit≤ tt; total_fits = lit≤ tt; sum = λ on. refl })
-        (ipv4.Accepted refl refl refl (udp.Unheard
+        (ipv4.Whole refl refl (ipv4.Accepted refl (udp.Unheard
         (record { whole = lit≤ tt; header_fits = lit≤ tt; fits = lit≤ tt; port = λ e. absurd (omega (arith, e)); sum = λ on summed. refl })
-        (nobody_of_one _ _ refl) refl refl refl)));
+        (nobody_of_one _ _ refl) refl refl refl)))));
     responds = (refl, refl, refl);
     all_notes = refl;
   };

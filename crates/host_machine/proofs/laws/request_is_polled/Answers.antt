@@ -2,10 +2,10 @@ use Rattle.std.proofs.Common.{[], ◌∷◌, false, true, refl, arith}
 use Rattle.std.specs.Prelude.{pos}
 use Rattle.net_base.specs.Device.{Received, Frame, Nothing, Sent}
 use Rattle.host_machine.specs.declared.results.PollIngressSingleResult.TheVariants as ingress
-use Rattle.host_machine.specs.Egress.{Begins, Whole}
 use Rattle.host_machine.specs.Host.{at}
 use Rattle.host_machine.specs.Polling as polling
 use Rattle.host_machine.specs.Example as example
+use Rattle.host_machine.proofs.Exchange.{no_slots}
 use Rattle.host_machine.proofs.Answered.{request_answered, nothing_taken, nothing_sent}
 use Rattle.host_machine.proofs.laws.request_is_polled.Goals as goal
 
@@ -19,7 +19,7 @@ returns c = record {
     told_sending = [];
     notes_receiving = [];
     notes_sending = [];
-    receives = polling.Spent polling.Begins;
+    receives = rw (no_slots (pos 5)) (polling.Spent polling.Begins);
     sends = polling.Spent polling.Begins;
     events = refl;
     all_notes = refl;
@@ -33,7 +33,7 @@ returns c = record {
     told_sending = [];
     notes_receiving = [];
     notes_sending = [];
-    receives = polling.Spent (polling.Again ingress.SocketStateChanged _ _ _ polling.Begins request_answered (λ same. absurd cc));
+    receives = rw (no_slots (pos 0)) (polling.Spent (polling.Again ingress.SocketStateChanged _ _ _ polling.Begins request_answered (λ same. absurd cc)));
     sends = polling.Done 0 [] [] [] [] _ (omega arith) polling.Begins nothing_sent refl refl;
     events = refl;
     all_notes = refl;
@@ -47,8 +47,8 @@ returns c = record {
     told_sending = [];
     notes_receiving = [];
     notes_sending = [];
-    receives = polling.Done 1 (Received (pos 0) (Frame example.request) ∷ Sent 0 example.reply ∷ []) (Received (pos 0) Nothing ∷ []) [] [] (example.host 0x1405 example.learnt) (omega arith)
-        (polling.Again ingress.SocketStateChanged _ _ _ polling.Begins request_answered (λ same. absurd cc)) nothing_taken refl refl;
+    receives = rw (no_slots (pos 0)) (polling.Done 1 (Received (pos 0) (Frame example.request) ∷ Sent 0 example.reply ∷ []) (Received (pos 0) Nothing ∷ []) [] [] (example.host 0x1405 example.learnt) (omega arith)
+        (polling.Again ingress.SocketStateChanged _ _ _ polling.Begins request_answered (λ same. absurd cc)) nothing_taken refl refl);
     sends = polling.Done 0 [] [] [] [] _ (omega arith) polling.Begins nothing_sent refl refl;
     events = refl;
     all_notes = refl;

@@ -9,6 +9,8 @@ use Rattle.host_machine.specs.Dispatch.{ToSomebody, ByHop, OfHost, OnLink, Unkno
 use Rattle.host_machine.specs.Egress.{Begins, Goes, Sent, Served, Waits, Whole}
 use Rattle.host_machine.specs.Example as example
 use Rattle.host_machine.specs.ExampleSockets.{sending, with_sending}
+use Rattle.host_machine.specs.Note.{OfDiscovery, Ask}
+use Rattle.host_machine.proofs.Begun.{no_piece}
 use Rattle.host_machine.proofs.Exchange.{is_silent, is_unknown, is_unknown_later}
 use Rattle.host_machine.proofs.laws.socket_waits.Goals as goal
 
@@ -17,36 +19,36 @@ unfolding ipv4_over_ethernet
 returns c = record {
   asked = record {
     changed = false;
-    round = Whole (Goes (Unsent example.sender) _ _ _ Begins
+    round = no_piece refl (Whole (Goes (Unsent example.sender) _ _ _ Begins
         (Served (kind.Udp sending) (kind.Udp sending) false (with_sending None (pos 0) 0x1406 (pos 1000000)) refl tt refl
         (Sent (Ipv4 (record { src_addr = record { bits = 0xc0a84501 }; dst_addr = record { bits = 0xc0a84564 }; hop_limit = 64; payload = Udp (record { src_port = 6969; dst_port = 5000 }) (0x68 ∷ 0x69 ∷ []) }))
         (Err NeighborPending) (example.discovery ∷ []) refl
-        (ToSomebody refl (ByHop example.sender refl (OnLink refl refl)
-        (Unknown is_unknown (Asked (record { bits = 0xc0a84564 }) (record { bits = 0xc0a84501 }) refl refl refl refl refl refl))))
+        (ToSomebody (OfDiscovery (Ask (pos 0)) ∷ []) refl (ByHop example.sender refl (OnLink refl refl)
+        (Unknown is_unknown (Asked (record { bits = 0xc0a84564 }) (record { bits = 0xc0a84501 }) refl refl refl refl refl refl))) refl)
         refl refl refl)
         refl)
-        refl);
+        refl));
     answers = refl;
   };
   waits = record {
     changed = false;
-    round = Whole (Goes Idle _ _ _ Begins
+    round = no_piece refl (Whole (Goes Idle _ _ _ Begins
         (Waits (kind.Udp sending) false refl (OfHost (Some example.sender) refl (OnLink refl refl) (rw is_silent refl)) refl refl refl refl refl)
-        refl);
+        refl));
     answers = refl;
   };
   asked_again = record {
     changed = false;
-    round = Whole (Goes (Unsent example.sender) _ _ _ Begins
+    round = no_piece refl (Whole (Goes (Unsent example.sender) _ _ _ Begins
         (Served (kind.Udp sending) (kind.Udp sending) false (with_sending (Some (example.sender, pos 1000000)) (pos 1000000) 0x1407 (pos 2000000)) refl
         (OfHost (Some example.sender) refl (OnLink refl refl) (rw is_unknown_later refl)) refl
         (Sent (Ipv4 (record { src_addr = record { bits = 0xc0a84501 }; dst_addr = record { bits = 0xc0a84564 }; hop_limit = 64; payload = Udp (record { src_port = 6969; dst_port = 5000 }) (0x68 ∷ 0x69 ∷ []) }))
         (Err NeighborPending) (example.discovery ∷ []) refl
-        (ToSomebody refl (ByHop example.sender refl (OnLink refl refl)
-        (Unknown is_unknown_later (Asked (record { bits = 0xc0a84564 }) (record { bits = 0xc0a84501 }) refl refl refl refl refl refl))))
+        (ToSomebody (OfDiscovery (Ask (pos 1000000)) ∷ []) refl (ByHop example.sender refl (OnLink refl refl)
+        (Unknown is_unknown_later (Asked (record { bits = 0xc0a84564 }) (record { bits = 0xc0a84501 }) refl refl refl refl refl refl))) refl)
         refl refl refl)
         refl)
-        refl);
+        refl));
     answers = refl;
   };
 }

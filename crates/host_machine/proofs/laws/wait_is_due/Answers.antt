@@ -1,4 +1,4 @@
-use Rattle.std.proofs.Common.{[], ◌∷◌, false, refl, arith, Some, None, lit≤}
+use Rattle.std.proofs.Common.{false, refl, arith, Some, None}
 use Rattle.std.proofs.lemmas.Int.{ints}
 use Rattle.std.specs.Prelude.{pos}
 use Rattle.sockets.specs.declared.socket.SocketOf.TheVariants as kind

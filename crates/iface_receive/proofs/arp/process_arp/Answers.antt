@@ -1,20 +1,20 @@
-use Rattle.std.proofs.Common.{refl, sym, ◌∙◌}
-use Rattle.host_machine.specs.Host.{no_sockets}
+use Rattle.std.proofs.Common.{refl, ap, sym, ◌∙◌}
+use Rattle.host_machine.specs.Host.{no_sockets, with_slots}
 use Rattle.host_machine.specs.Arp.{Malformed}
-use Rattle.iface_send.specs.Stands.{host_of}
+use Rattle.iface_send.specs.Stands.{host_in, host_of}
 use Rattle.iface_receive.proofs.Processing.{answered, dropped, unanswered}
 use Rattle.iface_receive.proofs.Received.{arp_learnt, arp_unheard}
 use Rattle.iface_receive.proofs.arp.process_arp.Goals as goal
 
 pub returns-in_default : goal.returns-in_default
-returns-in_default c = λ sockets. unanswered c.requires (Malformed c.in_default.ensures (dropped (host_of c.args.context.now sockets)))
+returns-in_default c = λ sockets. unanswered c.requires (λ slots. Malformed c.in_default.ensures (dropped (host_in c.args.context.now slots sockets)))
 
 pub returns-then-not-listens : goal.returns-then-not-listens
 returns-then-not-listens c = λ sockets.
-    unanswered c.requires (arp_unheard c.args.own (host_of c.args.context.now sockets) c.args.payload.now c.in-Some.packet c.in-Some.ensures (sym c.listens.ensures.listens ∙ c.if-not-listens.true))
+    unanswered c.requires (λ slots. arp_unheard c.args.own (host_in c.args.context.now slots sockets) c.args.payload.now c.in-Some.packet c.in-Some.ensures (sym c.listens.ensures.listens ∙ c.if-not-listens.true))
 
 pub returns : goal.returns
 returns c = λ sockets.
-    answered sockets _ (arp_learnt c.args.own (host_of c.args.context.now sockets) (host_of c.fill_neighbor.new.context sockets) c.args.payload.now c.in-Some.packet
+    answered sockets _ (λ slots. arp_learnt c.args.own (host_in c.args.context.now slots sockets) (host_in c.fill_neighbor.new.context slots sockets) c.args.payload.now c.in-Some.packet
     (host_of c.fill_neighbor.new.context no_sockets).neighbors _ c.in-Some.ensures (sym c.listens.ensures.listens ∙ c.if-not-listens.false)
-    c.fill_neighbor.ensures.neighbors (c.fill_neighbor.ensures.same sockets) refl) c.answer.ensures
+    c.fill_neighbor.ensures.neighbors (ap (λ H. with_slots H slots) (c.fill_neighbor.ensures.same sockets)) refl) c.answer.ensures

@@ -1,17 +1,17 @@
 use Rattle.std.proofs.Common.{sym, ◌∙◌}
 use Rattle.host_machine.specs.Ethernet.{Malformed}
-use Rattle.iface_send.specs.Stands.{host_of}
-use Rattle.iface_receive.proofs.Processing.{by_rule, dropped, unanswered}
+use Rattle.iface_send.specs.Stands.{host_in}
+use Rattle.iface_receive.proofs.Processing.{by_law, dropped, in_place, unanswered}
 use Rattle.iface_receive.proofs.Received.{ethernet_read, ethernet_refused}
 use Rattle.iface_receive.proofs.ethernet.process_ethernet.Goals as goal
 
 pub returns-in_default : goal.returns-in_default
-returns-in_default c = unanswered c.requires (Malformed c.in_default.ensures (dropped (host_of c.args.context.now c.args.sockets.now)))
+returns-in_default c = in_place (unanswered c.requires (λ slots. Malformed c.in_default.ensures (dropped (host_in c.args.context.now slots c.args.sockets.now))))
 
 pub returns-then-is_for : goal.returns-then-is_for
-returns-then-is_for c = by_rule c.process_payload.ensures (λ reply notes taken takes.
-    ethernet_read c.args.own (host_of c.args.context.now c.args.sockets.now) taken c.args.frame.now c.in-Some.payload.now c.in-Some.header reply notes c.in-Some.ensures (sym c.is_for.ensures ∙ c.if-is_for.true) takes)
+returns-then-is_for c = by_law c.process_payload.ensures (λ H stands reply notes taken takes.
+    ethernet_read c.args.own H taken c.args.frame.now c.in-Some.payload.now c.in-Some.header reply notes c.in-Some.ensures (sym c.is_for.ensures ∙ c.if-is_for.true) takes)
 
 pub returns-else-is_for : goal.returns-else-is_for
 returns-else-is_for c =
-    unanswered c.requires (ethernet_refused c.args.own (host_of c.args.context.now c.args.sockets.now) c.args.frame.now c.in-Some.payload.now c.in-Some.header c.in-Some.ensures (sym c.is_for.ensures ∙ c.if-is_for.false))
+    in_place (unanswered c.requires (λ slots. ethernet_refused c.args.own (host_in c.args.context.now slots c.args.sockets.now) c.args.frame.now c.in-Some.payload.now c.in-Some.header c.in-Some.ensures (sym c.is_for.ensures ∙ c.if-is_for.false)))

@@ -1,13 +1,13 @@
-use Rattle.iface_send.specs.Stands.{host_of}
-use Rattle.iface_receive.proofs.Processing.{unanswered}
+use Rattle.iface_send.specs.Stands.{host_in}
+use Rattle.iface_receive.proofs.Processing.{in_place, unanswered}
 use Rattle.iface_receive.proofs.Received.{payload_dropped}
 use Rattle.iface_receive.proofs.ethernet.process_payload.Goals as goal
 
 pub returns-in-Arp : goal.returns-in-Arp
-returns-in-Arp c = rw c.in-Arp.is (c.process_arp.ensures c.args.sockets.now)
+returns-in-Arp c = rw c.in-Arp.is (in_place (c.process_arp.ensures c.args.sockets.now))
 
 pub returns-in-Ipv4 : goal.returns-in-Ipv4
 returns-in-Ipv4 c = rw c.in-Ipv4.is c.process_ipv4.ensures
 
 pub returns-in-Ipv6 : goal.returns-in-Ipv6
-returns-in-Ipv6 c = unanswered c.requires (payload_dropped _ c.args.own c.args.header.now.src_addr (host_of c.args.context.now c.args.sockets.now) c.args.payload.now c.in-Ipv6.is)
+returns-in-Ipv6 c = in_place (unanswered c.requires (λ slots. payload_dropped _ c.args.own c.args.header.now.src_addr (host_in c.args.context.now slots c.args.sockets.now) c.args.payload.now c.in-Ipv6.is))

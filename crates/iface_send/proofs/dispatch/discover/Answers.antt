@@ -1,5 +1,5 @@
 use Rattle.std.proofs.Common.{[], ◌∷◌, refl, sym, ◌∙◌, ap, arith}
-use Rattle.host_machine.specs.Note.{Ask}
+use Rattle.host_machine.specs.Note.{OfDiscovery, Ask}
 use Rattle.host_machine.specs.Arp.{request_for}
 use Rattle.host_machine.specs.Frame.{arp_frame}
 use Rattle.host_machine.specs.Dispatch.{Asked, NoSource, NotIpv4}
@@ -7,15 +7,15 @@ use Rattle.iface_send.proofs.Building.{unsent, nothing, one}
 use Rattle.iface_send.proofs.dispatch.discover.Goals as goal
 
 pub returns-in_default : goal.returns-in_default
-returns-in_default c = nothing c.requires.empty (λ sockets. NotIpv4 c.in_default.field-0 c.in_default.is refl (unsent _))
+returns-in_default c = nothing c.requires.empty (λ slots sockets. NotIpv4 c.in_default.field-0 c.in_default.is refl (unsent _))
 
 pub returns-in_default-get_source_address_ipv4 : goal.returns-in_default-get_source_address_ipv4
 returns-in_default-get_source_address_ipv4 c =
     nothing c.requires.empty
-    (λ sockets. NoSource c.in-Ipv4.target c.in-Ipv4.is (sym c.get_source_address_ipv4.ensures ∙ c.in_default-get_source_address_ipv4.is) refl (unsent _))
+    (λ slots sockets. NoSource c.in-Ipv4.target c.in-Ipv4.is (sym c.get_source_address_ipv4.ensures ∙ c.in_default-get_source_address_ipv4.is) refl (unsent _))
 
 pub returns : goal.returns
 returns c =
-    one (arp_frame (request_for c.args.own c.in-Some.source c.in-Ipv4.target)) (Ask c.args.context.now.moment ∷ [])
+    one (arp_frame (request_for c.args.own c.in-Some.source c.in-Ipv4.target)) (OfDiscovery (Ask c.args.context.now.moment) ∷ [])
     (c.emit_arp.ensures.items ∙ ap arp_frame c.request_for.ensures) (omega (arith, c.emit_arp.ensures.len))
-    (λ sockets. Asked c.in-Ipv4.target c.in-Some.source c.in-Ipv4.is (sym c.get_source_address_ipv4.ensures ∙ c.in-Some.is) refl refl refl (rw c.limit_rate.ensures refl))
+    (λ slots sockets. Asked c.in-Ipv4.target c.in-Some.source c.in-Ipv4.is (sym c.get_source_address_ipv4.ensures ∙ c.in-Some.is) refl refl refl (rw c.limit_rate.ensures refl))

@@ -4,9 +4,9 @@ use Rattle.host_machine.specs.Dispatch.{OfHost}
 use Rattle.iface_send.proofs.dispatch.has_neighbor.Goals as goal
 
 pub returns-in-Some : goal.returns-in-Some
-returns-in-Some c = λ sockets.
-    OfHost (Some c.in-Some.hop) (sym c.is_unicast.ensures ∙ c.if-not-is_unicast.false) (rw c.in-Some.is at (c.next_hop.ensures.hop sockets)) (c.found.ensures ∙ ap is_found c.lookup.ensures)
+returns-in-Some c = λ slots sockets.
+    OfHost (Some c.in-Some.hop) (sym c.is_unicast.ensures ∙ c.if-not-is_unicast.false) (rw c.in-Some.is at (c.next_hop.ensures.hop slots sockets)) (c.found.ensures ∙ ap is_found c.lookup.ensures)
 
 pub returns-in-None : goal.returns-in-None
-returns-in-None c = λ sockets.
-    OfHost None (sym c.is_unicast.ensures ∙ c.if-not-is_unicast.false) (rw c.in-None.is at (c.next_hop.ensures.hop sockets)) refl
+returns-in-None c = λ slots sockets.
+    OfHost None (sym c.is_unicast.ensures ∙ c.if-not-is_unicast.false) (rw c.in-None.is at (c.next_hop.ensures.hop slots sockets)) refl

@@ -1,15 +1,9 @@
-use Rattle.std.proofs.Common.{ap, ◌∙◌, sym, refl}
-use Rattle.host_machine.specs.Host.{Host, at}
-use Rattle.iface_send.specs.Stands.{host_of}
+use Rattle.std.proofs.Common.{ap, ◌∙◌, sym}
+use Rattle.host_machine.specs.Host.{Host, at, with_slots}
 use Rattle.interface.proofs.Egressed.{egressed}
 use Rattle.interface.proofs.interface.Interface.poll_egress.Goals as goal
 
-pub returns-then-socket_egress : goal.returns-then-socket_egress
-returns-then-socket_egress g c = λ H h.
-    egressed c.args.timestamp H (host_of c.set_moment.new.context c.args.sockets.now) (host_of c.socket_egress.new.context c.socket_egress.new.sockets) c.socket_egress.result _ _
-    (ap (λ (K : Host). at K c.args.timestamp) h.same ∙ sym (c.set_moment.ensures c.args.sockets.now)) c.socket_egress.ensures (rw c.if-socket_egress.true refl) (record { same = refl })
-
-pub returns-else-socket_egress : goal.returns-else-socket_egress
-returns-else-socket_egress g c = λ H h.
-    egressed c.args.timestamp H (host_of c.set_moment.new.context c.args.sockets.now) (host_of c.socket_egress.new.context c.socket_egress.new.sockets) c.socket_egress.result _ _
-    (ap (λ (K : Host). at K c.args.timestamp) h.same ∙ sym (c.set_moment.ensures c.args.sockets.now)) c.socket_egress.ensures (rw c.if-socket_egress.false refl) (record { same = refl })
+pub returns : goal.returns
+returns g c = λ H h.
+    egressed c.set_moment.new.context c.ipv4_egress.new.context c.socket_egress.new.context c.args.self.now.fragments c.args.sockets.now c.socket_egress.new.sockets c.args.timestamp H h.slots c.socket_egress.result c.poll_result.result
+    g.met.D.Device.tells_on h.stand (ap (λ (K : Host). at K c.args.timestamp) h.same ∙ ap (λ K. with_slots K h.slots) (sym (c.set_moment.ensures c.args.sockets.now))) c.ipv4_egress.ensures (c.socket_egress.ensures h.slots) c.poll_result.ensures

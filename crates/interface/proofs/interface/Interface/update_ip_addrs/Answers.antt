@@ -1,14 +1,23 @@
 use Rattle.std.proofs.Common.{refl, sym, ◌∙◌}
-use Rattle.host_machine.specs.Step.{Accepted}
+use Rattle.host_machine.specs.Step.{Accepted, Refused, flushed}
+use Rattle.interface.proofs.Setting.{kept, led}
 use Rattle.interface.proofs.interface.Interface.update_ip_addrs.Goals as goal
+
+pub returns-then-not-are_assignable : goal.returns-then-not-are_assignable
+returns-then-not-are_assignable g c = (
+  c.copied.result,
+  c.f-list.result,
+  c.f-list.ensures,
+  λ sockets. c.copied.ensures ∙ c.ip_addrs.ensures.value,
+  λ sockets H h. kept H h (Refused (rw (← c.as_slice.ensures.value) (sym c.are_assignable.ensures ∙ c.if-not-are_assignable.true)) refl refl),
+)
 
 pub returns : goal.returns
 returns g c = (
   c.copied.result,
   c.f-list.result,
   c.f-list.ensures,
-  λ sockets. (
-    c.copied.ensures ∙ c.ip_addrs.ensures.value,
-    Accepted (rw (← c.as_slice.ensures.value) (sym c.are_assignable.ensures ∙ c.if-not-are_assignable.false)) refl (c.set_ip_addrs.ensures sockets),
-  ),
+  λ sockets. c.copied.ensures ∙ c.ip_addrs.ensures.value,
+  λ sockets H h. led c.args.self.now.context c.set_ip_addrs.new.context c.args.self.now.fragments sockets H h (λ K. record K { ip_addrs = c.f-list.result.items; neighbors = flushed K.neighbors }) (c.set_ip_addrs.ensures sockets) (λ K slots. refl)
+      (Accepted (rw (← c.as_slice.ensures.value) (sym c.are_assignable.ensures ∙ c.if-not-are_assignable.false)) refl refl),
 )

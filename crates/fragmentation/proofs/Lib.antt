@@ -1,0 +1,6 @@
+pub mod FragmentsLemmas
+pub mod KeyLemmas
+pub mod Pieces
+pub mod PlacesLemmas
+pub mod ReassemblyLemmas
+pub mod SlotsLemmas

@@ -1,0 +1,42 @@
+-- Places of a set.
+use Rattle.std.proofs.Common.{◌≡◌, ◌<◌, ◌≤◌, ◌+◌, ℕ, zero, suc, Bool, true, false, List, [], ◌∷◌, ◌++◌, map, take, drop, length, get_or, slice_set, add-one, ap, ◌∙◌, arith}
+use Rattle.std.proofs.lemmas.Bool.Decides.{nat_tests}
+use Rattle.std.proofs.lemmas.List.{take_all, drop_all, append-nil}
+use Rattle.std.specs.List.{refill}
+use Rattle.std.specs.Prelude.{cond, is_none, ◌==◌}
+use Rattle.fragmentation.specs.Assembly.{Assembly, keyed, free_place, place_for, has_key}
+
+pub choose_keyed : (k n f : ℕ) → k < n → cond (k == n) f k ≡ k
+choose_keyed k n f h = grind (arith, nat_tests)
+
+pub choose_free : (k n f : ℕ) → k ≡ n → cond (k == n) f k ≡ f
+choose_free k n f h = grind (arith, nat_tests)
+
+module _ {K : Type 0} where
+  pub keyed-le : (eq : K → K → Bool) (k : K) (ss : List (Assembly K)) → keyed eq k ss ≤ length ss
+  keyed-le eq k [] = omega arith
+  keyed-le eq k (s ∷ ss) =
+      elim (has_key eq k s.key) as (λ b. cond b 0 (keyed eq k ss + 1) ≤ suc (length ss)) [ true ↦ omega arith | false ↦ let h = keyed-le eq k ss in omega arith ]
+
+  pub free_place-le : (ss : List (Assembly K)) → free_place ss ≤ length ss
+  free_place-le [] = omega arith
+  free_place-le (s ∷ ss) =
+      elim (is_none s.key) as (λ b. cond b 0 (free_place ss + 1) ≤ suc (length ss)) [ true ↦ omega arith | false ↦ let h = free_place-le ss in omega arith ]
+
+  -- a place is at most the length
+  pub place_for-le : (eq : K → K → Bool) (k : K) (ss : List (Assembly K)) → place_for eq k ss ≤ length ss
+  place_for-le eq k ss = elim (keyed eq k ss == length ss) as (λ b. cond b (free_place ss) (keyed eq k ss) ≤ length ss) [ true ↦ free_place-le ss | false ↦ keyed-le eq k ss ]
+
+-- a list that is written anew through a slice of it
+pub refilled : {A : Type 0} (xs ws : List A) → length ws ≡ length xs → refill (length xs) xs ws ≡ ws
+refilled xs ws e = ap (take (length xs)) (ap (λ ys. ws ++ ys) (drop_all (length ws) xs (omega arith)) ∙ append-nil ws) ∙ take_all (length xs) ws (omega arith)
+
+-- a loop that maps each item in its place
+module _ {A : Type 0} (f : A → A) where
+  step : (xs : List A) (i : ℕ) (y d : A) → i < length xs → y ≡ f (get_or (map f (take i xs) ++ drop i xs) i d) → slice_set (map f (take i xs) ++ drop i xs) i y ≡ map f (take (suc i) xs) ++ drop (suc i) xs
+  step [] i y d h e = absurd (omega arith)
+  step (x ∷ xs) zero y d h e = ap (λ (z : A). z ∷ xs) e
+  step (x ∷ xs) (suc i) y d h e = ap (λ (zs : List A). f x ∷ zs) (step xs i y d (omega arith) e)
+
+  pub mapped_more : (xs ys : List A) (i : ℕ) (x y : A) → i < length xs → ys ≡ map f (take i xs) ++ drop i xs → x ≡ get_or ys i x → y ≡ f x → slice_set ys i y ≡ map f (take (i + 1) xs) ++ drop (i + 1) xs
+  mapped_more xs ys i x y h e at k = rw (e, add-one) (step xs i y x h (k ∙ ap f (at ∙ ap (λ (zs : List A). get_or zs i x) e)))

@@ -1,0 +1,85 @@
+-- What a place for a datagram in fragments is seen as.
+use Rattle.std.specs.Prelude.{◌≡◌, ◌+◌, ◌<◌, [], ◌∷◌, ◌++◌, is_none, length, take, drop, ℕ, ℤ, pos, ◌&&◌, ◌||◌, List, Option, None, Some, Bool, true, false, ◌==◌, not, nat_lt, nat_le, int_lt, if◌then◌else◌}
+use Rattle.net_base.specs.declared.assembler.Range.{Range}
+use Rattle.net_base.specs.Ranges.{front, covered, add_range, AreSeparate}
+
+-- whose fragments it takes, none where it is free; its end; the total length, once it is fixed; the places that were got, as ranges; and
+-- the octets
+pub record Assembly (K : Type 0) : Type 0 where
+  pub key : Option K
+  pub expires_at : ℤ
+  pub total : Option ℕ
+  pub ranges : List Range
+  pub octets : List ℕ
+
+-- the ranges are apart and within the buffer
+pub record AreSound (rs : List Range) : Type 0 where
+  pub separate : AreSeparate 0 rs
+  pub within : (p : ℕ) → covered rs p ≡ true → p < 4096
+
+-- whether the total is n
+abbrev pub is_total : Option ℕ → ℕ → Bool
+is_total None n = false
+is_total (Some t) n = t == n
+
+-- whether n may not be the total
+abbrev pub is_refused : Option ℕ → ℕ → Bool
+is_refused None n = nat_lt 4096 n
+is_refused (Some t) n = not (t == n) || nat_lt 4096 n
+
+-- whether this is the key
+abbrev pub has_key : {K : Type 0} → (K → K → Bool) → K → Option K → Bool
+has_key eq k None = false
+has_key eq k (Some j) = eq j k
+
+-- the octets of xs with these from a place on
+abbrev pub written : List ℕ → ℕ → List ℕ → List ℕ
+written xs offset bytes = take offset xs ++ (bytes ++ drop (offset + length bytes) xs)
+
+module _ {K : Type 0} where
+  -- a total was fixed, and it is the first place that wasn't got
+  abbrev pub is_complete : Assembly K → Bool
+  is_complete s = is_total s.total (front s.ranges)
+
+  -- with octets from a place on, where that makes at most four ranges
+  abbrev pub with_octets : ℕ → List ℕ → Assembly K → Assembly K
+  with_octets offset bytes s =
+      let rs = add_range offset (offset + length bytes) s.ranges in
+      if nat_le (length rs) 4 then record s { ranges = rs; octets = written s.octets offset bytes } else s
+
+  -- free
+  abbrev pub freed : Assembly K → Assembly K
+  freed s = record { key = None; expires_at = pos 0; total = None; ranges = []; octets = s.octets }
+
+  abbrev pub IsFree : Assembly K → Type 0
+  IsFree s = s ≡ freed s
+
+  abbrev pub AreFree : List (Assembly K) → Type 0
+  AreFree [] = Unit {0}
+  AreFree (s ∷ ss) = IsFree s × AreFree ss
+
+  -- whether it is taken and its end lies below t
+  abbrev pub is_expired : ℤ → Assembly K → Bool
+  is_expired t s = not (is_none s.key) && int_lt s.expires_at t
+
+  -- what is left of it at t
+  abbrev pub left_at : ℤ → Assembly K → Assembly K
+  left_at t s = if is_expired t s then freed s else s
+
+  -- where it is free, it is taken for a key until an end
+  abbrev pub taken : K → ℤ → Assembly K → Assembly K
+  taken k end s = if is_none s.key then record { key = Some k; expires_at = end; total = None; ranges = []; octets = s.octets } else s
+
+  -- the place of the key, or the length
+  abbrev pub keyed : (K → K → Bool) → K → List (Assembly K) → ℕ
+  keyed eq k [] = 0
+  keyed eq k (s ∷ ss) = if has_key eq k s.key then 0 else keyed eq k ss + 1
+
+  -- the first free place, or the length
+  abbrev pub free_place : List (Assembly K) → ℕ
+  free_place [] = 0
+  free_place (s ∷ ss) = if is_none s.key then 0 else free_place ss + 1
+
+  -- the place that serves a key: its own, or else the first free one
+  abbrev pub place_for : (K → K → Bool) → K → List (Assembly K) → ℕ
+  place_for eq k ss = if keyed eq k ss == length ss then free_place ss else keyed eq k ss

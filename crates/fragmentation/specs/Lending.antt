@@ -1,0 +1,21 @@
+-- What a place, and a set of them, end as once what they lent is given back.
+use Rattle.std.specs.Prelude.{◌≡◌, ℕ, List, slice_set, Result, Option, None, Some}
+use Rattle.std.specs.Borrow.{LendsIfOk, Fml, RattleType, MutBor}
+use Rattle.std.specs.Io.BufRead.{Rests}
+use Rattle.fragmentation.specs.Assembly.{Assembly, freed}
+use Rattle.fragmentation.specs.contracts.reassembly.PacketAssembler.{the_row}
+use Rattle.fragmentation.specs.contracts.reassembly.PacketAssemblerSet as set
+
+-- free where a payload was lent, and as it was where not
+abbrev pub FreedIfLent : {K B : Type 0} → Assembly K → Option B → Assembly K → Type 0
+FreedIfLent old None new = new ≡ old
+FreedIfLent old (Some _) new = new ≡ freed old
+
+module _ (K : RattleType) (s : MutBor (Assembly K.Denot)) where
+  abbrev pub Frees : {B : Type 0} → Option B → Fml
+  Frees r = Rests (the_row K) s (FreedIfLent s.now r)
+
+module _ (K : RattleType) (s : MutBor (List (Assembly K.Denot))) where
+  -- a place ends as what the reference shows last. A refusal changes nothing
+  abbrev pub LendsPlace : {E : Type 0} → ℕ → Result (MutBor (Assembly K.Denot)) E → Fml
+  LendsPlace i r = LendsIfOk (set.the_row K) (the_row K) s r (slice_set s.now i) s.now

@@ -1,0 +1,10 @@
+pub mod Fragments
+pub mod Keys
+pub mod Slots
+pub mod Reassembly
+pub mod Cuts
+pub mod Assembly
+pub mod Stands
+pub mod Lending
+pub mod Reassembled
+pub mod Pending

@@ -1,0 +1,393 @@
+//! Datagrams that are put together from their fragments (RFC 791 3.2, RFC 815).
+//!
+//! A [`PacketAssembler`] is a place for one datagram, and a [`PacketAssemblerSet`] has two, each for
+//! the datagram of one key. What came last decides where fragments overlap.
+ghost use Rattle.std.specs.Prelude.{◌≡◌, List, ◌↔◌, ◌≤◌, ◌<◌, ◌+◌, ◌-◌, ℕ, Bool, nat_le, nat_lt, ◌&&◌, IsTrue, is_none, IsSome, false, IsOk, IsErr, slice_index, slice_index_or, if◌then◌else◌, IfOk, OnOk, OnErr, IfSome, map as each, length, None, Some};
+ghost use Rattle.std.specs.Borrow.{sem};
+ghost use Rattle.fragmentation.specs.Assembly as spec;
+ghost use Rattle.fragmentation.specs.Assembly.{written, keyed, free_place, left_at};
+ghost use Rattle.fragmentation.specs.Stands.{fragment};
+ghost use Rattle.fragmentation.specs.Reassembled.{RestsReassembled};
+
+use crate::key::FragKey;
+use arrayvec::ArrayVec;
+use net_base::assembler::Assembler;
+use net_base::time::Instant;
+use std::marker::Model;
+use thiserror::Error;
+
+/// How many octets a datagram in fragments may have.
+pub const REASSEMBLY_BUFFER_SIZE: usize = 4096;
+
+/// How many datagrams are put together at one time.
+pub const REASSEMBLY_BUFFER_COUNT: usize = 2;
+
+/// There is no free place for a datagram.
+#[derive(Clone, Copy, Debug, PartialEq, Eq, Error)]
+#[error("AssemblerFullError")]
+pub struct AssemblerFullError;
+
+/// Octets that end beyond the 4096th, or another total length.
+#[derive(Clone, Copy, Debug, PartialEq, Eq, Error)]
+#[error("AssemblerError")]
+pub struct AssemblerError;
+
+/// A place for one datagram of at most 4096 octets.
+///
+/// In contracts it is its key (none where it is free), its end, the total length once that is fixed,
+/// the places that were got as a list of ranges, and the octets.
+#[derive(Drop)]
+pub struct PacketAssembler<K> {
+    buffer: [u8; REASSEMBLY_BUFFER_SIZE],
+    assembler: Assembler,
+    total_size: Option<usize>,
+    key: Option<K>,
+    expires_at: Instant,
+}
+
+impl<K> Model for PacketAssembler<K> {
+    ghost use Rattle.fragmentation.specs.Assembly.{Assembly, AreSound};
+
+    ghost Value = { Assembly K };
+
+    ghost view = { λ a. record { key = a.key; expires_at = a.expires_at; total = a.total_size; ranges = a.assembler; octets = a.buffer } };
+
+    ghost invariant = { λ a. AreSound a.assembler };
+}
+
+impl<K> PacketAssembler<K> {
+    ghost use Rattle.fragmentation.specs.Assembly.{IsFree};
+
+    /// A free place.
+    pub fn new() -> PacketAssembler<K>
+        ensures { IsFree result }
+    {
+        PacketAssembler {
+            buffer: [0; REASSEMBLY_BUFFER_SIZE],
+            assembler: Assembler::new(),
+            total_size: None,
+            key: None,
+            expires_at: Instant::ZERO,
+        }
+    }
+
+    /// Until when its fragments are kept.
+    pub fn expires_at(&self) -> Instant
+        ensures { result ≡ self.now.expires_at }
+    {
+        self.expires_at
+    }
+
+    fn is_free(&self) -> bool
+        ensures { result ≡ is_none self.now.key }
+    {
+        self.key.is_none()
+    }
+}
+
+impl<K> Default for PacketAssembler<K> {
+    fn default() -> PacketAssembler<K> {
+        PacketAssembler::new()
+    }
+}
+
+impl<K: Drop> PacketAssembler<K> {
+    ghost use Rattle.fragmentation.specs.Assembly.{is_complete, freed, is_refused, with_octets};
+    ghost use Rattle.fragmentation.specs.Fragments.{Got, Fragment, is_fit, with_one, IsWhole, IsRebuilt};
+    ghost use Rattle.fragmentation.specs.Stands.{fragment, Gathers, with_kept, with_total};
+    ghost use Rattle.fragmentation.specs.Lending.{Frees};
+
+    /// Fixes the datagram's total length, in octets.
+    ///
+    /// `Err` where another total length stands, or it is over 4096; then nothing changes.
+    pub fn set_total_size(&mut self, size: usize) -> Result<(), AssemblerError>
+        ensures refused { IsErr result ↔ IsTrue (is_refused self.old.total size) }
+        ensures ok { OnOk result (self.new ≡ record self.old { total = Some size }) }
+        ensures err { OnErr result (self.new ≡ self.old) }
+        ensures gathers { OnOk result ((g : Got) → Gathers self.old g → Gathers self.new (with_total g size)) }
+    {
+        if let Some(total) = self.total_size {
+            if total != size {
+                return Err(AssemblerError);
+            }
+        }
+        if size > REASSEMBLY_BUFFER_SIZE {
+            return Err(AssemblerError);
+        }
+        self.total_size = Some(size);
+        Ok(())
+    }
+
+    /// Puts octets at a place of the datagram. Where others stood there, these count from now on.
+    ///
+    /// `Err` where they end beyond the 4096th; then nothing changes. Nor does it where they would
+    /// make a fifth separate range, which is `Ok`.
+    pub fn add(&mut self, octets: &[u8], offset: usize) -> Result<(), AssemblerError>
+        ensures refused { IsErr result ↔ (4096 < offset + length octets.now) }
+        ensures ok { OnOk result (self.new ≡ with_octets offset octets.now self.old) }
+        ensures err { OnErr result (self.new ≡ self.old) }
+        ensures gathers { OnOk result ((g : Got) (last : Bool) → Gathers self.old g → Gathers self.new (with_kept g (fragment offset octets.now last))) }
+    {
+        if ends_beyond(octets, offset) {
+            return Err(AssemblerError);
+        }
+        if self.assembler.add(offset, octets.len()).is_ok() {
+            write(&mut self.buffer, offset, octets);
+        }
+        Ok(())
+    }
+
+    /// Whether a total length was fixed, each octet below it was got, and the one behind it wasn't.
+    pub fn is_complete(&self) -> bool
+        ensures value { result ≡ is_complete self.now }
+        ensures whole { (g : Got) → Gathers self.now g → IsTrue result ↔ ((n : ℕ) × IsWhole g n) }
+    {
+        self.total_size == Some(self.assembler.peek_front())
+    }
+
+    /// The octets of the datagram where it is complete, and `None` where it isn't. The place is free
+    /// then, and ready for another datagram.
+    pub fn assemble(&mut self) -> Option<&[u8]>
+        ensures* frees { sem 𝓛 (Frees K.row self.entry result) }
+        ensures found { (g : Got) → Gathers self.old g → IsSome result ↔ ((n : ℕ) × IsWhole g n) }
+        ensures rebuilt { IfSome result (λ s. (g : Got) → Gathers self.old g → IsRebuilt g s.now) }
+        ensures only { IfSome result (λ s. (g : Got) (xs : List ℕ) → Gathers self.old g → IsRebuilt g xs → xs ≡ s.now) }
+        ensures complete { IsSome result ↔ IsTrue (is_complete self.old) }
+        ensures short { IfSome result (λ s. length s.now ≤ 4096) }
+    {
+        if !self.is_complete() {
+            return None;
+        }
+        let len = self.assembler.peek_front();
+        self.reset();
+        Some(&self.buffer[..len])
+    }
+
+    // Takes a fragment, and tells whether it is fit.
+    fn accept(&mut self, octets: &[u8], offset: usize, is_last: bool) -> bool
+        ensures fit { result ≡ is_fit self.old.total (fragment offset octets.now is_last) }
+        ensures unfit { result ≡ false → self.new ≡ self.old }
+        ensures key { self.new.key ≡ self.old.key }
+        ensures end { self.new.expires_at ≡ self.old.expires_at }
+        ensures gathers { (g : Got) → Gathers self.old g → Gathers self.new (with_one g (fragment offset octets.now is_last)) }
+    {
+        if ends_beyond(octets, offset) {
+            return false;
+        }
+        if is_last && self.set_total_size(offset + octets.len()).is_err() {
+            return false;
+        }
+        self.add(octets, offset).is_ok()
+    }
+
+    fn reset(&mut self)
+        ensures { self.new ≡ freed self.old }
+    {
+        self.assembler.clear();
+        self.total_size = None;
+        self.key = None;
+        self.expires_at = Instant::ZERO;
+    }
+
+    // Frees the place if its end lies before a moment.
+    fn leave_at(&mut self, timestamp: Instant)
+        ensures { self.new ≡ left_at timestamp self.old }
+    {
+        if self.key.is_some() && self.expires_at < timestamp {
+            self.reset();
+        }
+    }
+}
+
+impl<K: Eq> PacketAssembler<K> {
+    ghost use Rattle.fragmentation.specs.Assembly.{has_key, taken};
+
+    // Takes the place for the key, where it is free.
+    fn take_for(&mut self, key: &K, end: Instant)
+    where
+        K: Copy,
+        ensures { self.new ≡ taken key.now end self.old }
+    {
+        if self.key.is_none() {
+            self.reset();
+            self.key = Some(*key);
+            self.expires_at = end;
+        }
+    }
+
+    fn is_for(&self, key: &K) -> bool
+        ensures { result ≡ has_key K.eq key.now self.now.key }
+    {
+        match &self.key {
+            Some(k) => *k == *key,
+            None => false,
+        }
+    }
+}
+
+// Whether octets from a place on end beyond the buffer.
+fn ends_beyond(octets: &[u8], offset: usize) -> bool
+    ensures { result ≡ nat_lt 4096 (offset + length octets.now) }
+{
+    offset > REASSEMBLY_BUFFER_SIZE || octets.len() > REASSEMBLY_BUFFER_SIZE - offset
+}
+
+// Writes octets from a place on.
+fn write(buffer: &mut [u8], offset: usize, octets: &[u8])
+    requires { offset + length octets.now ≤ length buffer.old }
+    ensures { buffer.new ≡ written buffer.old offset octets.now }
+{
+    buffer[offset..offset + octets.len()].copy_from_slice(octets);
+}
+
+/// Two places for datagrams, each for the fragments of one key.
+///
+/// In contracts it is the list of the places.
+#[derive(Drop)]
+pub struct PacketAssemblerSet<K> {
+    assemblers: ArrayVec<PacketAssembler<K>, REASSEMBLY_BUFFER_COUNT>,
+}
+
+impl<K> Model for PacketAssemblerSet<K> {
+    ghost use Rattle.std.specs.Prelude.{◌≡◌, List, length};
+    ghost use Rattle.fragmentation.specs.Assembly.{Assembly};
+
+    ghost Value = { List (Assembly K) };
+
+    ghost view = { λ a. a.assemblers.items };
+
+    ghost invariant = { λ a. length a.assemblers.items ≡ 2 };
+}
+
+impl<K: Eq + Copy> PacketAssemblerSet<K> {
+    ghost use Rattle.fragmentation.specs.Assembly.{place_for, taken};
+    ghost use Rattle.fragmentation.specs.Lending.{LendsPlace};
+
+    /// The place of a key, whose end stays. Where it has none, a free one is taken for it, until the
+    /// moment `end`.
+    ///
+    /// `Err` where the key has no place and none is free; then nothing changes.
+    pub fn get(
+        &mut self,
+        key: &K,
+        end: Instant,
+    ) -> Result<&mut PacketAssembler<K>, AssemblerFullError>
+        ensures* lends { sem 𝓛 (LendsPlace K.row self.entry (place_for K.eq key.now self.old) result) }
+        ensures value { IfOk result (λ r. r.now ≡ taken key.now end (slice_index_or self.old (place_for K.eq key.now self.old) r.now)) }
+        ensures refused { IsErr result ↔ (place_for K.eq key.now self.old ≡ length self.old) }
+        ensures within { place_for K.eq key.now self.old ≤ length self.old }
+        ensures two { length self.old ≡ 2 }
+    {
+        let place = place_for(self.assemblers.as_slice(), key);
+        match self.assemblers.get_mut(place) {
+            Some(assembler) => {
+                assembler.take_for(key, end);
+                Ok(assembler)
+            }
+            None => Err(AssemblerFullError),
+        }
+    }
+}
+
+impl<K: Drop> PacketAssemblerSet<K> {
+    ghost use Rattle.std.specs.FinMap as map;
+    ghost use Rattle.fragmentation.specs.declared.key.FragKey.{FragKey};
+    ghost use Rattle.fragmentation.specs.Slots as slots;
+    ghost use Rattle.fragmentation.specs.Slots.{Slots};
+    ghost use Rattle.fragmentation.specs.Assembly.{AreFree};
+    ghost use Rattle.fragmentation.specs.Stands.{StandForSlotsOf};
+
+    /// Two free places.
+    pub fn new() -> PacketAssemblerSet<K>
+        ensures two { length result ≡ 2 }
+        ensures free { AreFree result }
+        ensures stands { (key_of : K → FragKey) → StandForSlotsOf key_of result map.empty }
+    {
+        let mut assemblers = ArrayVec::new();
+        assemblers.push(PacketAssembler::new());
+        assemblers.push(PacketAssembler::new());
+        PacketAssemblerSet { assemblers }
+    }
+
+    /// Frees the places whose end lies before a moment.
+    pub fn remove_expired(&mut self, timestamp: Instant)
+        ensures places { self.new ≡ each (left_at timestamp) self.old }
+        ensures stands { (key_of : K → FragKey) (m : Slots) → StandForSlotsOf key_of self.old m → StandForSlotsOf key_of self.new (slots.left_at timestamp m) }
+    {
+        drop_expired(self.assemblers.as_mut_slice(), timestamp);
+    }
+}
+
+/// Takes a fragment of the datagram of a key: `payload` from the octet `offset` on, the last one or
+/// not. A key without a place gets a free one, until the moment `end`; where none is free, the
+/// fragment is dropped (RFC 791 3.2).
+///
+/// `Some` are the datagram's octets where the fragment completes it; its place is free then. A
+/// fragment that ends beyond the 4096th octet, or is the last one while another total length stands,
+/// changes nothing in the place, and completes nothing.
+pub fn reassemble<'s>(
+    slots: &'s mut PacketAssemblerSet<FragKey>,
+    key: &FragKey,
+    end: Instant,
+    payload: &[u8],
+    offset: usize,
+    is_last: bool,
+) -> Option<&'s [u8]>
+    ensures* rests { sem 𝓛 (RestsReassembled slots.entry end key.now (fragment offset payload.now is_last) result) }
+    ensures short { IfSome result (λ octets. length octets.now ≤ 4096) }
+{
+    match slots.get(key, end) {
+        Ok(assembler) => {
+            if !assembler.accept(payload, offset, is_last) {
+                return None;
+            }
+            assembler.assemble()
+        }
+        Err(_) => None,
+    }
+}
+
+// Frees the places whose end lies before a moment.
+fn drop_expired<K: Drop>(assemblers: &mut [PacketAssembler<K>], timestamp: Instant)
+    ensures { assemblers.new ≡ each (left_at timestamp) assemblers.old }
+{
+    for assembler in assemblers.iter_mut() {
+        assembler.leave_at(timestamp);
+    }
+}
+
+// The place of the key, or else the first free one, or else the length.
+fn place_for<K: Eq>(assemblers: &[PacketAssembler<K>], key: &K) -> usize
+    ensures { result ≡ spec.place_for K.eq key.now assemblers.now }
+{
+    let place = keyed(assemblers, key);
+    if place == assemblers.len() {
+        free_place(assemblers)
+    } else {
+        place
+    }
+}
+
+// The place of the key, or the length.
+fn keyed<K: Eq>(assemblers: &[PacketAssembler<K>], key: &K) -> usize
+    ensures { result ≡ spec.keyed K.eq key.now assemblers.now }
+{
+    for (i, assembler) in assemblers.iter().enumerate() {
+        if assembler.is_for(key) {
+            return i;
+        }
+    }
+    assemblers.len()
+}
+
+// The first free place, or the length.
+fn free_place<K>(assemblers: &[PacketAssembler<K>]) -> usize
+    ensures { result ≡ spec.free_place assemblers.now }
+{
+    for (i, assembler) in assemblers.iter().enumerate() {
+        if assembler.is_free() {
+            return i;
+        }
+    }
+    assemblers.len()
+}

@@ -1,0 +1,336 @@
+-- The frames that a run sends, and the pieces that it notes.
+use Rattle.std.proofs.Common.{◌≡◌, ℕ, List, [], ◌∷◌, ◌++◌, length, refl, ap, subst, Option, Some, None}
+use Rattle.std.specs.Prelude.{ℤ, Bool, true, false, ◌/◌, ◌%◌, ◌^◌, if◌then◌else◌}
+use Rattle.std.specs.List.{AllByRecursion}
+use Rattle.std.specs.Option.{option_map}
+use Rattle.std.specs.FinMap as map
+use Rattle.net_base.specs.Device.{Event, Reception, Frame, Nothing as NoFrame, Withheld, sent}
+use Rattle.ip_wire.specs.declared.arp.ArpRepr.{ArpRepr}
+use Rattle.ip_wire.specs.declared.arp.ArpOperation.{ArpOperation}
+use Rattle.ip_wire.specs.declared.arp.ArpOperation.TheVariants as operation
+use Rattle.ip_address.specs.declared.cidr.IpCidr.{IpCidr}
+use Rattle.ip_address.specs.declared.ethernet_address.EthernetAddress.{EthernetAddress}
+use Rattle.ip_wire.specs.declared.ethernet.EthernetProtocol.{EthernetProtocol}
+use Rattle.ip_wire.specs.declared.ethernet.EthernetProtocol.TheVariants as protocol
+use Rattle.ip_address.specs.declared.hardware.HardwareAddress.{HardwareAddress}
+use Rattle.ip_address.specs.declared.hardware.HardwareAddress.TheVariants as hardware
+use Rattle.ip_address.specs.declared.ip.IpAddress.{IpAddress}
+use Rattle.ip_address.specs.declared.ip.IpAddress.TheVariants as ip
+use Rattle.ip_address.specs.declared.ipv4.Ipv4Address.{Ipv4Address}
+use Rattle.ip_wire.specs.declared.ipv4_packet.Ipv4Repr.{Ipv4Repr}
+use Rattle.ip_wire.specs.declared.ipv4_packet.Ipv4Fragment.{Ipv4Fragment}
+use Rattle.ip_address.specs.declared.protocol.IpProtocol.{IpProtocol}
+use Rattle.ip_address.specs.declared.protocol.IpProtocol.TheVariants as ip_protocol
+use Rattle.ip_wire.specs.declared.tcp.TcpRepr.{TcpRepr}
+use Rattle.ip_address.specs.Ipv4 as ipv4_address
+use Rattle.ip_address.specs.Ipv6 as ipv6_address
+use Rattle.ip_wire.specs.Arp.{arp_in}
+use Rattle.control_wire.specs.declared.icmpv4.Icmpv4Repr.{Icmpv4Repr}
+use Rattle.control_wire.specs.declared.icmpv4.Icmpv4Repr.TheVariants.{EchoRequest, EchoReply, DstUnreachable, TimeExceeded}
+use Rattle.control_wire.specs.declared.icmpv4.Icmpv4DstUnreachable.{Icmpv4DstUnreachable}
+use Rattle.iface_tables.specs.declared.neighbor.Neighbor.{Neighbor}
+use Rattle.iface_tables.specs.declared.neighbor.Answer.TheVariants.{Found, NotFound, RateLimited}
+use Rattle.iface_tables.specs.Neighbor.{answer_of, answer_from, missing, is_before}
+use Rattle.host_machine.specs.declared.command.Command.{Command}
+use Rattle.host_machine.specs.declared.command.Answer.{Answer}
+use Rattle.host_machine.specs.declared.results.PollIngressSingleResult.{PollIngressSingleResult}
+use Rattle.fragmentation.specs.Fragments.{Fragment}
+use Rattle.fragmentation.specs.declared.key.FragKey.{FragKey}
+use Rattle.fragmentation.specs.Cuts.{Piece, pieces_of, HasForm}
+use Rattle.host_machine.specs.Note.{Note, OfDiscovery, OfIdentification, OfCuts, Ask, Identify, CutNote, Cut, PieceSent, cut_notes}
+use Rattle.host_machine.specs.Host.{Host, swept, with_left, with_neighbors}
+use Rattle.host_machine.specs.Addresses.{is_broadcast_v4}
+use Rattle.host_machine.specs.Packet.{Packet}
+use Rattle.host_machine.specs.Packet as packet
+use Rattle.host_machine.specs.Reply.{Reply, Arp, Ip, IsDropped}
+use Rattle.host_machine.specs.Frame.{arp_frame, ip_frame, piece_frame}
+use Rattle.host_machine.specs.Arp.{TakesArp, request_for, reply_to, answer_by}
+use Rattle.host_machine.specs.Arp as arp
+use Rattle.host_machine.specs.Udp.{TakesUdp}
+use Rattle.host_machine.specs.Udp as udp
+use Rattle.host_machine.specs.Icmpv4.{TakesIcmpv4, message_back, reply_source, icmpv4_reply, answer_to, unreachable}
+use Rattle.host_machine.specs.Icmpv4 as icmpv4
+use Rattle.host_machine.specs.Tcp.{TakesTcp, segment_back}
+use Rattle.host_machine.specs.Tcp as tcp
+use Rattle.host_machine.specs.Reassembly.{TakesFragment}
+use Rattle.host_machine.specs.Ipv4.{TakesProtocol, TakesWhole, TakesPacket, TakesIpv4}
+use Rattle.host_machine.specs.Ipv4 as ipv4
+use Rattle.host_machine.specs.Ethernet.{TakesPayload, TakesEthernet, TakesFrame}
+use Rattle.host_machine.specs.Ethernet as ethernet
+use Rattle.host_machine.specs.Dispatch.{many_address, group_address, datagram_of, identified, silenced}
+use Rattle.host_machine.specs.Response.{Responds}
+use Rattle.host_machine.specs.Ingress.{Takes, Ingress}
+use Rattle.host_machine.specs.Step.{Act, Step, UpdatesIpAddrs}
+use Rattle.host_machine.specs.Step as step
+use Rattle.host_machine.specs.Real.{IsEthernet, AreReal, KeepsEthernet}
+use Rattle.host_machine.specs.Wire.{Shows, Nothing, OnePiece, OneCut, OtherFrame, FragmentsArePieces, StaysReal}
+use Rattle.host_machine.specs.Run.{Place, Run, Ends, Then, told_in, notes_in}
+use Rattle.host_machine.specs.Parts.{Part}
+use Rattle.host_machine.proofs.Notes.{cut_notes-append, cut_notes-slots}
+use Rattle.host_machine.proofs.Malformed.{sent-sends}
+use Rattle.host_machine.proofs.Repeated.{polled}
+use Rattle.host_machine.proofs.Six.{none_six, arp_source_six}
+use Rattle.host_machine.proofs.Readings.{arp_other, whole_other}
+use Rattle.host_machine.proofs.Walk.{Keeps, Reached, ByNeighbor, ByGroup, WithoutAddresses, sent-append, dispatched, taken, egressed}
+
+shows_on : {fs gs : List (List ℕ)} {xs ys : List CutNote} → Shows fs xs → Shows gs ys → Shows (fs ++ gs) (xs ++ ys)
+shows_on Nothing more = more
+shows_on (OnePiece H p six s) more = OnePiece H p six (shows_on s more)
+shows_on (OneCut d six s) more = OneCut d six (shows_on s more)
+shows_on (OtherFrame frame other s) more = OtherFrame frame other (shows_on s more)
+
+record Real (H : Host) : Type 0 where
+  hardware : IsEthernet H.hardware_addr
+  neighbors : AreReal H.neighbors
+
+record Shown (frames : List (List ℕ)) (notes : List Note) (new : Host) : Type 0 where
+  shows : Shows frames (cut_notes notes)
+  real : Real new
+
+abbrev ShownOver : Host → List (List ℕ) → List Note → Host → Type 0
+ShownOver old frames notes new = Real old → Shown frames notes new
+
+keeps : (old new : Host) → Keeps old new → ShownOver old [] [] new
+keeps old new k = λ r. record { shows = Nothing; real = record { hardware = let e : new.hardware_addr ≡ old.hardware_addr = ap (λ (K : Host). K.hardware_addr) k.same in rw e r.hardware; neighbors = k.real r.neighbors } }
+
+on : (a b c : Host) (fs gs : List (List ℕ)) (xs ys : List Note) → ShownOver a fs xs b → ShownOver b gs ys c → ShownOver a (fs ++ gs) (xs ++ ys) c
+on a b c fs gs xs ys one two = λ r. let x = one r in let y = two x.real in record { shows = rw cut_notes-append (shows_on x.shows y.shows); real = y.real }
+
+six_own : (own : EthernetAddress) (h : HardwareAddress) → h ≡ hardware.Ethernet own → IsEthernet h → length own.0 ≡ 6
+six_own own h e six = rw e at six
+
+asks : (H : Host) (own : EthernetAddress) (source target : Ipv4Address) (hop : IpAddress) → H.hardware_addr ≡ hardware.Ethernet own → answer_of H.neighbors hop H.moment ≡ NotFound →
+    ShownOver H (arp_frame (request_for own source target) ∷ []) (OfDiscovery (Ask H.moment) ∷ []) (with_neighbors H (silenced H.neighbors H))
+asks H own source target hop mine unknown = λ r. record {
+  shows = OtherFrame (arp_frame (request_for own source target)) (arp_other (request_for own source target) (six_own own H.hardware_addr mine r.hardware) refl) Nothing;
+  real = record { hardware = r.hardware; neighbors = r.neighbors };
+}
+
+identifies : (H : Host) → ShownOver H [] (OfIdentification (Identify H.ipv4_id) ∷ []) (identified H)
+identifies H = λ r. record { shows = Nothing; real = record { hardware = r.hardware; neighbors = r.neighbors } }
+
+-- where a frame goes is an address of six octets
+found_six : (o : Option Neighbor) (silent t : ℤ) (h : HardwareAddress) → ((e : Neighbor) → o ≡ Some e → IsEthernet e.hardware_addr) → answer_from o silent t ≡ Found h → IsEthernet h
+found_six None silent t h all e = by (is_before t silent) e where
+  by : (b : Bool) → (if b then RateLimited else NotFound) ≡ Found h → IsEthernet h
+  by true q = absurd cc
+  by false q = absurd cc
+found_six (Some n) silent t h all e = by (is_before t n.expires_at) e where
+  later : (b : Bool) → (if b then RateLimited else NotFound) ≡ Found h → IsEthernet h
+  later true q = absurd cc
+  later false q = absurd cc
+
+  by : (b : Bool) → (if b then Found n.hardware_addr else missing silent t) ≡ Found h → IsEthernet h
+  by true q = let same : n.hardware_addr ≡ h = cc in subst IsEthernet same (all n refl)
+  by false q = later (is_before t silent) q
+
+group_six : (own : List IpCidr) (a : IpAddress) (e : EthernetAddress) → many_address own a ≡ Some e → length e.0 ≡ 6
+group_six own (ip.Ipv4 a) e is = by (is_broadcast_v4 own a) (ipv4_address.is_multicast a) is where
+  by : (b c : Bool) → (if b then Some (record { 0 = 255 ∷ 255 ∷ 255 ∷ 255 ∷ 255 ∷ 255 ∷ [] }) else if c then Some (group_address a) else None) ≡ Some e → length e.0 ≡ 6
+  by true c q = let same : ◌≡◌ {A = EthernetAddress} (record { 0 = 255 ∷ 255 ∷ 255 ∷ 255 ∷ 255 ∷ 255 ∷ [] }) e = cc in subst (λ (x : EthernetAddress). length x.0 ≡ 6) same refl
+  by false true q = let same : group_address a ≡ e = cc in subst (λ (x : EthernetAddress). length x.0 ≡ 6) same refl
+  by false false q = absurd cc
+group_six own (ip.Ipv6 a) e is = by (ipv6_address.is_multicast a) is where
+  by : (c : Bool) → (if c then Some (record { 0 = 0x33 ∷ 0x33 ∷ a.bits / 2 ^ 24 % 256 ∷ a.bits / 2 ^ 16 % 256 ∷ a.bits / 2 ^ 8 % 256 ∷ a.bits % 256 ∷ [] }) else None) ≡ Some e → length e.0 ≡ 6
+  by true q = let same : ◌≡◌ {A = EthernetAddress} (record { 0 = 0x33 ∷ 0x33 ∷ a.bits / 2 ^ 24 % 256 ∷ a.bits / 2 ^ 16 % 256 ∷ a.bits / 2 ^ 8 % 256 ∷ a.bits % 256 ∷ [] }) e = cc in subst (λ (x : EthernetAddress). length x.0 ≡ 6) same refl
+  by false q = absurd cc
+
+reached_six : (H : Host) (h : HardwareAddress) → Real H → Reached H h → IsEthernet h
+reached_six H h r (ByNeighbor hop k) = found_six (map.get H.neighbors.known hop) H.neighbors.silent_until H.moment h (λ e is. r.neighbors hop e is) k
+reached_six H h r (ByGroup a e m is) = rw is (group_six H.ip_addrs a e m)
+reached_six H h r (WithoutAddresses mine is) = absurd (rw mine at r.hardware)
+
+whole : (H : Host) (h : HardwareAddress) (p : Packet) → Reached H h → ShownOver H (ip_frame H h p ∷ []) [] H
+whole H h p reached = λ r. record { shows = OtherFrame (ip_frame H h p) (whole_other H h p r.hardware (reached_six H h r reached)) Nothing; real = r }
+
+cut_six : (H : Host) (h : HardwareAddress) (id : ℕ) (p : Packet) → IsEthernet h → IsEthernet (datagram_of H h id p).destination
+cut_six H h id (packet.Ipv4 p) six = six
+
+cuts : (H : Host) (h : HardwareAddress) (id : ℕ) (p : Packet) (first : Piece) (rest : List Piece) → pieces_of (datagram_of H h id p) ≡ first ∷ rest → HasForm (datagram_of H h id p) → Reached H h →
+    ShownOver H (piece_frame H first ∷ []) (OfCuts (Cut (datagram_of H h id p)) ∷ OfCuts (PieceSent first) ∷ []) (with_left H rest)
+cuts H h id p first rest e form reached = λ r. record {
+  shows = OneCut (datagram_of H h id p) (cut_six H h id p (reached_six H h r reached)) (OnePiece H first r.hardware Nothing);
+  real = record { hardware = r.hardware; neighbors = r.neighbors };
+}
+
+sweeps : (H : Host) (t : ℤ) → ShownOver H [] [] (swept H t)
+sweeps H t = λ r. record { shows = Nothing; real = record { hardware = r.hardware; neighbors = r.neighbors } }
+
+fragments : (H : Host) (key : FragKey) (f : Fragment) (result : Option (List ℕ)) (notes : List Note) (new : Host) → TakesFragment key f result H notes new → ShownOver H [] notes new
+fragments H key f result notes new t = λ real. rw (t.noted, t.changed) (record { shows = rw (cut_notes-slots t.slot_notes) Nothing; real = record { hardware = real.hardware; neighbors = real.neighbors } })
+
+pieces : (H : Host) (p : Piece) (rest : List Piece) → H.left ≡ p ∷ rest → ShownOver H (piece_frame H p ∷ []) (OfCuts (PieceSent p) ∷ []) (with_left H rest)
+pieces H p rest e = λ r. record { shows = OnePiece H p r.hardware Nothing; real = record { hardware = r.hardware; neighbors = r.neighbors } }
+
+-- an ARP reply goes between addresses of six octets
+abbrev GoodReply : Option Reply → Type 0
+GoodReply None = Unit {0}
+GoodReply (Some (Ip p)) = Unit {0}
+GoodReply (Some (Arp r)) = (length r.source_hardware_addr.0 ≡ 6) × (length r.target_hardware_addr.0 ≡ 6)
+
+no_reply : {reply : Option Reply} → reply ≡ None → GoodReply reply
+no_reply e = rw e tt
+
+drop_good : {H new : Host} {reply : Option Reply} {notes : List Note} → IsDropped H reply notes new → GoodReply reply
+drop_good d = no_reply d.silent
+
+message_good : (r : Ipv4Repr) (m : Icmpv4Repr) (octets : List ℕ) (o : Option Ipv4Address) → GoodReply (option_map (message_back r m octets) o)
+message_good r m octets None = tt
+message_good r m octets (Some a) = tt
+
+unreachable_good : (raw : Bool) (own : List IpCidr) (reason : Icmpv4DstUnreachable) (r : Ipv4Repr) (payload : List ℕ) → GoodReply (unreachable raw own reason r payload)
+unreachable_good true own reason r payload = tt
+unreachable_good false own reason r payload = message_good r (DstUnreachable reason r) (icmpv4.quoted payload) (reply_source own r (DstUnreachable reason r))
+
+answer_good : (own : List IpCidr) (r : Ipv4Repr) (m : Icmpv4Repr) (octets : List ℕ) → GoodReply (answer_to own r m octets)
+answer_good own r (EchoRequest ident seq_no) octets = message_good r (EchoReply ident seq_no) octets (reply_source own r (EchoReply ident seq_no))
+answer_good own r (EchoReply ident seq_no) octets = tt
+answer_good own r (DstUnreachable reason header) octets = tt
+answer_good own r (TimeExceeded code header) octets = tt
+
+segment_good : (r : Ipv4Repr) (o : Option TcpRepr) → GoodReply (option_map (segment_back r) o)
+segment_good r None = tt
+segment_good r (Some t) = tt
+
+reply_good : (op : ArpOperation) (own : EthernetAddress) (r : ArpRepr) → length own.0 ≡ 6 → length r.source_hardware_addr.0 ≡ 6 → GoodReply (answer_by op own r)
+reply_good operation.Request own r s t = (s, t)
+reply_good operation.Reply own r s t = tt
+
+arp_good : {own : EthernetAddress} {H new : Host} {payload : List ℕ} {reply : Option Reply} {notes : List Note} → length own.0 ≡ 6 → TakesArp own H payload reply notes new → GoodReply reply
+arp_good six (arp.Malformed m d) = drop_good d
+arp_good six (arp.NotForUs a l d) = drop_good d
+arp_good {own} {H} {new} {payload} six (arp.Learnt a l learns r n) = rw r (reply_good (arp_in payload).operation own (arp_in payload) six (arp_source_six payload a))
+
+udp_good : {raw : Bool} {r : Ipv4Repr} {H new : Host} {octets : List ℕ} {reply : Option Reply} {notes : List Note} → TakesUdp raw r H octets reply notes new → GoodReply reply
+udp_good (udp.Malformed m d) = drop_good d
+udp_good (udp.Delivered sockets u f r n e) = no_reply r
+udp_good {raw} {r} {H} {new} {octets} (udp.Unheard u none e n s) = rw e (unreachable_good raw H.ip_addrs _ r octets)
+
+icmpv4_good : {r : Ipv4Repr} {H new : Host} {octets : List ℕ} {reply : Option Reply} {notes : List Note} → TakesIcmpv4 r H octets reply notes new → GoodReply reply
+icmpv4_good (icmpv4.Malformed m d) = drop_good d
+icmpv4_good {r} {H} {new} {octets} (icmpv4.Taken i e n s) = rw e (answer_good H.ip_addrs r _ _)
+
+tcp_good : {raw : Bool} {r : Ipv4Repr} {H new : Host} {octets : List ℕ} {reply : Option Reply} {notes : List Note} → TakesTcp raw r H octets reply notes new → GoodReply reply
+tcp_good (tcp.BetweenNobody b d) = drop_good d
+tcp_good (tcp.Malformed b m d) = drop_good d
+tcp_good {raw} {r} (tcp.Delivered index place b t f e n s) = rw e (segment_good r _)
+tcp_good {raw} {r} (tcp.Unheard b t none e n s) = rw e (segment_good r _)
+
+refused_good : {raw : Bool} {r : Ipv4Repr} {H new : Host} {octets : List ℕ} {reply : Option Reply} {notes : List Note} → ipv4.IsRefused raw r H octets reply notes new → GoodReply reply
+refused_good {raw} {r} {H} {new} {octets} i = rw i.replied (unreachable_good raw H.ip_addrs _ r octets)
+
+protocol_good : (p : IpProtocol) (raw : Bool) (r : Ipv4Repr) (H : Host) (octets : List ℕ) (reply : Option Reply) (notes : List Note) (new : Host) → TakesProtocol p raw r H octets reply notes new → GoodReply reply
+protocol_good ip_protocol.Icmp raw r H octets reply notes new t = icmpv4_good t
+protocol_good ip_protocol.Udp raw r H octets reply notes new t = udp_good t
+protocol_good ip_protocol.Tcp raw r H octets reply notes new t = tcp_good t
+protocol_good ip_protocol.Igmp raw r H octets reply notes new t = drop_good t
+protocol_good ip_protocol.HopByHop raw r H octets reply notes new t = refused_good t
+protocol_good ip_protocol.Icmpv6 raw r H octets reply notes new t = refused_good t
+protocol_good (ip_protocol.Unknown n) raw r H octets reply notes new t = refused_good t
+
+whole_good : {source : HardwareAddress} {r : Ipv4Repr} {H new : Host} {payload : List ℕ} {reply : Option Reply} {notes : List Note} → TakesWhole source r H payload reply notes new → GoodReply reply
+whole_good (ipv4.NotForUs u d) = drop_good d
+whole_good {source} {r} {H} {new} {payload} {reply} {notes} (ipv4.Accepted u t) = protocol_good r.next_header _ r _ payload reply notes new t
+
+packet_good : {source : HardwareAddress} {r : Ipv4Repr} {f : Ipv4Fragment} {H new : Host} {payload : List ℕ} {reply : Option Reply} {notes : List Note} → TakesPacket source r f H payload reply notes new → GoodReply reply
+packet_good (ipv4.FromNoHost s d) = drop_good d
+packet_good (ipv4.Part s g t e) = no_reply e
+packet_good (ipv4.Completed octets mid first rest s g t w n) = whole_good w
+packet_good (ipv4.Whole s g t) = whole_good t
+
+ipv4_good : {source : HardwareAddress} {H new : Host} {octets : List ℕ} {reply : Option Reply} {notes : List Note} → TakesIpv4 source H octets reply notes new → GoodReply reply
+ipv4_good (ipv4.Malformed m d) = drop_good d
+ipv4_good (ipv4.Read i t) = packet_good t
+
+payload_good : (own source : EthernetAddress) (H : Host) (p : EthernetProtocol) (payload : List ℕ) (reply : Option Reply) (notes : List Note) (new : Host) → length own.0 ≡ 6 →
+    TakesPayload own source H p payload reply notes new → GoodReply reply
+payload_good own source H protocol.Arp payload reply notes new six t = arp_good six t
+payload_good own source H protocol.Ipv4 payload reply notes new six t = ipv4_good t
+payload_good own source H protocol.Ipv6 payload reply notes new six t = drop_good t
+payload_good own source H (protocol.Unknown n) payload reply notes new six t = drop_good t
+
+ethernet_good : {own : EthernetAddress} {H new : Host} {frame : List ℕ} {reply : Option Reply} {notes : List Note} → length own.0 ≡ 6 → TakesEthernet own H frame reply notes new → GoodReply reply
+ethernet_good six (ethernet.Malformed m d) = drop_good d
+ethernet_good six (ethernet.NotForUs l f d) = drop_good d
+ethernet_good {own} {H} {new} {frame} {reply} {notes} six (ethernet.Accepted l f t) = payload_good own _ H _ _ reply notes new six t
+
+frame_good : (h : HardwareAddress) (H : Host) (frame : List ℕ) (reply : Option Reply) (notes : List Note) (new : Host) → IsEthernet h → TakesFrame h H frame reply notes new → GoodReply reply
+frame_good (hardware.Ethernet own) H frame reply notes new six t = ethernet_good six t
+frame_good hardware.Ip H frame reply notes new six t = absurd six
+
+takes_good : (H : Host) (r : Reception) (reply : Option Reply) (notes : List Note) (new : Host) → Real H → Takes H r reply notes new → GoodReply reply
+takes_good H NoFrame reply notes new real t = drop_good t
+takes_good H Withheld reply notes new real t = drop_good t
+takes_good H (Frame []) reply notes new real t = drop_good t
+takes_good H (Frame (octet ∷ octets)) reply notes new real t = frame_good H.hardware_addr H (octet ∷ octets) reply notes new real.hardware t
+
+silent : {old new : Host} {frames : List (List ℕ)} {notes : List Note} → frames ≡ [] → notes ≡ [] → new ≡ old → Real old → Shown frames notes new
+silent f n e real = rw (f, n, e) (record { shows = Nothing; real = real })
+
+responds : (reply : Option Reply) (H : Host) (frames : List (List ℕ)) (notes : List Note) (new : Host) → GoodReply reply → Responds reply H frames notes new → Real H → Shown frames notes new
+responds None H frames notes new good r = silent r.0 r.1 r.2
+responds (Some (Arp packet)) H frames notes new good r = λ real.
+    rw (r.0, r.1, r.2) (record { shows = OtherFrame (arp_frame packet) (arp_other packet good.0 good.1) Nothing; real = real })
+responds (Some (Ip packet)) H frames notes new good r = dispatched ShownOver keeps on asks identifies whole cuts r.1
+
+ingress : {t : ℤ} {answer : PollIngressSingleResult} {old new : Host} {told : List Event} {notes : List Note} → Ingress t answer old told notes new → Real old → Shown (sent told) notes new
+ingress {t} {answer} {old} {new} {told} {notes} i = λ real.
+    let began = (sweeps old t real).real in
+    let r = i.response in
+    let first = taken ShownOver keeps on fragments (swept old t) i.reception r.reply r.notes_taking r.taken r.takes began in
+    let second = responds r.reply r.taken i.frames r.notes_responding new (takes_good (swept old t) i.reception r.reply r.notes_taking r.taken began r.takes) r.responds first.real in
+    rw (i.events, r.all_notes, sent-sends i.frames) (record { shows = rw cut_notes-append (shows_on first.shows second.shows); real = second.real })
+
+updates_real : {list : List IpCidr} {answer : _} {old new : Host} → UpdatesIpAddrs list answer old new → Real old → Real new
+updates_real {old = old} (step.Accepted a r e) real = rw e (record { hardware = real.hardware; neighbors = none_six old.neighbors })
+updates_real (step.Refused a r e) real = rw e real
+
+sets_real : {h : HardwareAddress} {answer : _} {old new : Host} → IsEthernet h → step.SetsHardwareAddr h answer old new → Real old → Real new
+sets_real six (step.Taken a r e) real = rw e (record { hardware = six; neighbors = real.neighbors })
+sets_real six (step.NotTaken error a r e) real = rw e real
+
+lasts_real : {timeout : ℕ} {answer : _} {old new : Host} → step.SetsReassemblyTimeout timeout answer old new → Real old → Real new
+lasts_real (step.WithinDay l r e) real = rw e (record { hardware = real.hardware; neighbors = real.neighbors })
+lasts_real (step.OverDay l r e) real = rw e real
+
+-- over the calls of a poll
+abbrev Told : Part
+Told old told notes new = ShownOver old (sent told) notes new
+
+begins : (H : Host) → Told H [] [] H
+begins H = λ real. record { shows = Nothing; real = real }
+
+follows : (a b c : Host) (ts us : List Event) (xs ys : List Note) → Told a ts xs b → Told b us ys c → Told a (ts ++ us) (xs ++ ys) c
+follows a b c ts us xs ys one two = rw sent-append (on a b c (sent ts) (sent us) xs ys one two)
+
+stepped : {command : Command} {answer : Answer} {old new : Host} {told : List Event} {acts : List Act} {notes : List Note} → Step command answer old told acts notes new → KeepsEthernet command → Real old → Shown (sent told) notes new
+stepped (step.UpdatedIpAddrs u) six real = record { shows = Nothing; real = updates_real u real }
+stepped (step.PolledIngressSingle i) six real = ingress i real
+stepped (step.PolledEgress e) six real = egressed ShownOver keeps on asks identifies whole cuts pieces e real
+stepped (step.Polled {t} p) six real = polled Told begins follows t (λ H. sweeps H t) (λ answer old new told notes i. ingress i) (λ answer old new told notes e. egressed ShownOver keeps on asks identifies whole cuts pieces e) p real
+stepped (step.PolledMaintenance {t} {old}) six real = sweeps old t real
+stepped (step.PolledAt least) six real = record { shows = Nothing; real = record { hardware = real.hardware; neighbors = real.neighbors } }
+stepped (step.PolledDelay end least rest) six real = record { shows = Nothing; real = record { hardware = real.hardware; neighbors = real.neighbors } }
+stepped step.UpdatedRoutes six real = record { shows = Nothing; real = record { hardware = real.hardware; neighbors = real.neighbors } }
+stepped step.AddedDefaultIpv4Route six real = record { shows = Nothing; real = record { hardware = real.hardware; neighbors = real.neighbors } }
+stepped step.RemovedDefaultIpv4Route six real = record { shows = Nothing; real = record { hardware = real.hardware; neighbors = real.neighbors } }
+stepped step.TookAnyIp six real = record { shows = Nothing; real = record { hardware = real.hardware; neighbors = real.neighbors } }
+stepped (step.TookHardwareAddr s) six real = record { shows = Nothing; real = sets_real six s real }
+stepped (step.TookReassemblyTimeout s) six real = record { shows = Nothing; real = lasts_real s real }
+stepped (step.OwnerActed sockets) six real = record { shows = Nothing; real = record { hardware = real.hardware; neighbors = real.neighbors } }
+
+-- over a whole run
+all_shown : {first last : Host} {places : List Place} → Run first places last → Real first → AllByRecursion (λ p. KeepsEthernet p.command) places → Shown (sent (told_in places)) (notes_in places) last
+all_shown Ends real six = record { shows = Nothing; real = real }
+all_shown (Then s r) real six =
+    let one = stepped s six.0 real in
+    let more = all_shown r one.real six.1 in
+    record { shows = rw (sent-append, cut_notes-append) (shows_on one.shows more.shows); real = more.real }
+
+pub run_shows : FragmentsArePieces
+run_shows first last places r hardware neighbors six = (all_shown r (record { hardware = hardware; neighbors = neighbors }) six).shows
+
+pub run_real : StaysReal
+run_real first last places r hardware neighbors six =
+    let all = all_shown r (record { hardware = hardware; neighbors = neighbors }) six in
+    (all.real.hardware, all.real.neighbors)

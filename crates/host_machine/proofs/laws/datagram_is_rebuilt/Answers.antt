@@ -1,0 +1,46 @@
+use Rattle.std.proofs.Common.{[], ◌∷◌, refl, sym, ap, None, lit≤}
+use Rattle.std.specs.FinMap as map
+use Rattle.std.specs.Prelude.{pos}
+use Rattle.ip_wire.specs.Checksum.{word_sum}
+use Rattle.net_base.specs.Device.{Frame}
+use Rattle.iface_tables.specs.Neighbor.{Neighbors}
+use Rattle.fragmentation.specs.Slots.{left_at}
+use Rattle.fragmentation.specs.Reassembly.{Came, Rebuild, Rebuilt, Stood}
+use Rattle.host_machine.specs.Note.{OfSlots}
+use Rattle.host_machine.specs.Host.{with_neighbors, with_slots}
+use Rattle.host_machine.specs.Ipv4 as ipv4
+use Rattle.host_machine.specs.Ethernet as ethernet
+use Rattle.host_machine.specs.ExampleFragments as example
+use Rattle.host_machine.proofs.Exchange.{none_renewed}
+use Rattle.host_machine.proofs.Fragmented.{still_there, ten_rebuilt}
+use Rattle.host_machine.proofs.laws.datagram_is_rebuilt.Goals as goal
+
+pub returns : goal.returns
+unfolding word_sum
+returns c =
+    let slots = map.remove (left_at (pos 0) example.waiting.slots) example.key in
+    let without = with_slots example.waiting slots in
+    let notes = OfSlots (Came example.key example.two) ∷ OfSlots (Rebuild example.key example.ten) ∷ [] in
+    record {
+      reception = Frame example.last_fragment;
+      frames = [];
+      response = record {
+        reply = None;
+        taken = without;
+        notes_taking = notes;
+        notes_responding = [];
+        takes = ethernet.Accepted (lit≤ tt) refl (ipv4.Read
+            (record { whole = lit≤ tt; version = refl; header = lit≤ tt; header_fits = lit≤ tt; total_fits = lit≤ tt; sum = λ on. refl })
+            (ipv4.Completed example.ten without notes [] refl refl (record {
+              slots = slots;
+              slot_notes = Came example.key example.two ∷ Rebuild example.key example.ten ∷ [];
+              reassembles = Rebuilt example.waiting_slot [] example.ten (Stood still_there refl) refl ten_rebuilt refl refl refl;
+              noted = refl;
+              changed = refl;
+            }) (ipv4.Accepted refl (record { silent = refl; unnoted = refl; unchanged = ap (λ (n : Neighbors). with_neighbors without n) (sym none_renewed) })) refl));
+        responds = (refl, refl, refl);
+        all_notes = refl;
+      };
+      events = refl;
+      answers = refl;
+    }

@@ -1,0 +1,49 @@
+use Rattle.std.proofs.Common.{[], ◌∷◌, false, refl, lit≤}
+use Rattle.ip_wire.specs.Checksum.{word_sum}
+use Rattle.ip_wire.specs.Ipv4Packet.{header_with, front, back}
+use Rattle.fragmentation.specs.Cuts.{piece_of}
+use Rattle.host_machine.specs.Note.{OfCuts, Cut, PieceSent}
+use Rattle.host_machine.specs.Dispatch.{ToSomebody, ByHop, OnLink, Known, InPieces}
+use Rattle.host_machine.specs.Egress.{NoLeave, PieceGoes, Begins, Whole}
+use Rattle.host_machine.specs.Example as host
+use Rattle.host_machine.specs.ExampleFragments as example
+use Rattle.host_machine.proofs.Exchange.{is_known}
+use Rattle.host_machine.proofs.laws.packet_goes_in_pieces.Goals as goal
+
+pub returns : goal.returns
+unfolding word_sum header_with front back
+returns c = record {
+  first = ToSomebody (OfCuts (Cut example.datagram) ∷ OfCuts (PieceSent (piece_of example.datagram example.one)) ∷ []) refl (ByHop host.sender refl (OnLink refl refl)
+      (Known host.sender_hardware is_known (InPieces (piece_of example.datagram example.one) (piece_of example.datagram example.two ∷ []) (lit≤ tt) (lit≤ tt) refl
+      (record { source_addr = lit≤ tt; destination_addr = lit≤ tt; identification = lit≤ tt; payload = lit≤ tt }) refl refl refl refl))) refl;
+  waits = record {
+    changed = false;
+    round = record {
+      mid = example.half_sent;
+      told_one = _;
+      told_two = [];
+      notes_one = [];
+      notes_two = [];
+      begins = NoLeave (piece_of example.datagram example.two) [] refl refl refl refl;
+      ends = Whole Begins;
+      events = refl;
+      all_notes = refl;
+    };
+    answers = refl;
+  };
+  last = record {
+    changed = false;
+    round = record {
+      mid = example.narrow 8;
+      told_one = _;
+      told_two = [];
+      notes_one = OfCuts (PieceSent (piece_of example.datagram example.two)) ∷ [];
+      notes_two = [];
+      begins = PieceGoes (piece_of example.datagram example.two) [] refl refl refl refl;
+      ends = Whole Begins;
+      events = refl;
+      all_notes = refl;
+    };
+    answers = refl;
+  };
+}

@@ -1,0 +1,55 @@
+-- Which fragments come in a run, and in which frames.
+use Rattle.std.specs.Prelude.{◌≡◌, ℕ, ◌≤◌, true, List, [], ◌∷◌, length, drop}
+use Rattle.net_base.specs.Checksum.{is_rx}
+use Rattle.net_base.specs.Device.{handed}
+use Rattle.ip_address.specs.declared.ethernet_address.EthernetAddress.{EthernetAddress}
+use Rattle.ip_address.specs.declared.hardware.HardwareAddress.{HardwareAddress}
+use Rattle.ip_address.specs.declared.hardware.HardwareAddress.TheVariants as hardware
+use Rattle.ip_wire.specs.declared.ethernet.EthernetProtocol.TheVariants as protocol
+use Rattle.ip_wire.specs.Ethernet.{header_in}
+use Rattle.ip_wire.specs.Ipv4Packet.{IsIpv4, ipv4_in, is_fragment}
+use Rattle.fragmentation.specs.declared.key.FragKey.{FragKey}
+use Rattle.fragmentation.specs.Fragments.{Fragment}
+use Rattle.fragmentation.specs.Reassembly.{SlotNote, Take, Came, Rebuild}
+use Rattle.host_machine.specs.Note.{slot_notes}
+use Rattle.host_machine.specs.Host.{Host}
+use Rattle.host_machine.specs.Addresses.{may_be_source}
+use Rattle.host_machine.specs.Ethernet.{is_for, version_in}
+use Rattle.host_machine.specs.Ipv4.{key_in, fragment_in}
+use Rattle.host_machine.specs.Run.{Place}
+
+-- a frame that a host takes has an IPv4 packet in it: over Ethernet behind the header, if the frame is for the host (RFC 894); on a medium
+-- without hardware addresses it is the packet
+pub data Carries (h : HardwareAddress) (frame packet : List ℕ) : Type 0 where
+  OverEthernet : (own : EthernetAddress) → h ≡ hardware.Ethernet own → 14 ≤ length frame → is_for own (header_in frame).dst_addr ≡ true →
+      (header_in frame).ethertype ≡ protocol.Ipv4 → packet ≡ drop 14 frame → Carries h frame packet
+  AsItStands : h ≡ hardware.Ip → version_in frame ≡ 4 → packet ≡ frame → Carries h frame packet
+
+-- a frame brings a fragment under a key: the header of its packet is right, the source may be one, and it is a part of a datagram
+pub record Brings (H : Host) (frame : List ℕ) (key : FragKey) (f : Fragment) : Type 0 where
+  pub packet : List ℕ
+  pub carried : Carries H.hardware_addr frame packet
+  pub ipv4 : IsIpv4 (is_rx H.capabilities.checksum.ipv4) packet
+  pub source : may_be_source H.ip_addrs (ipv4_in packet).0.src_addr ≡ true
+  pub part : is_fragment (ipv4_in packet).1 ≡ true
+  pub key_is : key ≡ key_in (ipv4_in packet).0 (ipv4_in packet).1
+  pub fragment_is : f ≡ fragment_in (ipv4_in packet).1 (ipv4_in packet).2
+
+-- all fragments that came, each with its key
+abbrev pub all_came : List SlotNote → List (FragKey × Fragment)
+all_came [] = []
+all_came (Take k ∷ notes) = all_came notes
+all_came (Came k f ∷ notes) = (k, f) ∷ all_came notes
+all_came (Rebuild k octets ∷ notes) = all_came notes
+
+-- what frames bring that are taken one after the other: each fragment that one brings, and no other
+pub data Bring (H : Host) : List (List ℕ) → List (FragKey × Fragment) → Type 0 where
+  NoFrame : Bring H [] []
+  OneBrings : {frames : List (List ℕ)} {came : List (FragKey × Fragment)} (frame : List ℕ) (key : FragKey) (f : Fragment) →
+      Brings H frame key f → Bring H frames came → Bring H (frame ∷ frames) ((key, f) ∷ came)
+  NoneBrings : {frames : List (List ℕ)} {came : List (FragKey × Fragment)} (frame : List ℕ) →
+      ((key : FragKey) (f : Fragment) → Brings H frame key f → ⊥) → Bring H frames came → Bring H (frame ∷ frames) came
+
+-- at one place: what the frames bring that were handed over comes, in order, and nothing else
+abbrev pub ComesInFrames : Place → Type 0
+ComesInFrames p = Bring p.before (handed p.told) (all_came (slot_notes p.notes))

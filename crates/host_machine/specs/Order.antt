@@ -1,0 +1,37 @@
+-- What a run sends of packets that were cut, and which identifications its dispatches take (RFC 791 3.2).
+use Rattle.std.specs.Prelude.{◌≡◌, ◌≢◌, ℕ, ◌+◌, ◌%◌, ◌^◌, ◌<◌, List, [], ◌∷◌, ◌++◌, length}
+use Rattle.fragmentation.specs.Cuts.{Piece, pieces_of}
+use Rattle.host_machine.specs.Note.{CutNote, Cut, PieceSent}
+
+-- the pieces that are sent up to the next cut, in order
+abbrev pub sent_of_this : List CutNote → List Piece
+sent_of_this [] = []
+sent_of_this (Cut d ∷ notes) = []
+sent_of_this (PieceSent p ∷ notes) = p ∷ sent_of_this notes
+
+abbrev pub IsBeginning : {X : Type 0} → List X → List X → Type 0
+IsBeginning {X} xs ys = (rest : List X) × (xs ++ rest ≡ ys)
+
+-- behind each cut, what is sent up to the next one is a beginning of its pieces; and these are as long as this
+abbrev pub AreBeginnings : ℕ → List CutNote → Type 0
+AreBeginnings size [] = Unit {0}
+AreBeginnings size (Cut d ∷ notes) = (d.size ≡ size) × IsBeginning (sent_of_this notes) (pieces_of d) × AreBeginnings size notes
+AreBeginnings size (PieceSent p ∷ notes) = AreBeginnings size notes
+
+-- each identification is the one before plus one, in 16 bits
+abbrev pub AreCounted : ℕ → List ℕ → Type 0
+AreCounted next [] = Unit {0}
+AreCounted next (n ∷ ns) = (n ≡ next) × AreCounted ((next + 1) % 2 ^ 16) ns
+
+-- none of them is this; and no two are the same
+abbrev pub HasNone : ℕ → List ℕ → Type 0
+HasNone x [] = Unit {0}
+HasNone x (y ∷ ys) = (x ≢ y) × HasNone x ys
+
+abbrev pub AreDistinct : List ℕ → Type 0
+AreDistinct [] = Unit {0}
+AreDistinct (x ∷ xs) = HasNone x xs × AreDistinct xs
+
+-- fewer than 65,536 dispatches take distinct identifications
+abbrev pub AreDistinctIfFew : List ℕ → Type 0
+AreDistinctIfFew ids = length ids < 2 ^ 16 → AreDistinct ids

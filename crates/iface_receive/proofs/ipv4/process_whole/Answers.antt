@@ -1,0 +1,17 @@
+use Rattle.std.proofs.Common.{ap, sym, ◌∙◌}
+use Rattle.host_machine.specs.Host.{with_slots}
+use Rattle.iface_send.specs.Stands.{host_in}
+use Rattle.iface_receive.proofs.Processing.{by_rule, unanswered}
+use Rattle.iface_receive.proofs.Received.{packet_accepted, packet_for_others}
+use Rattle.iface_receive.proofs.ipv4.process_whole.Goals as goal
+
+pub returns-then-not-is_for_host : goal.returns-then-not-is_for_host
+returns-then-not-is_for_host c =
+    unanswered c.requires.empty (λ slots. packet_for_others c.args.source (host_in c.args.context.now slots c.args.sockets.now) (host_in c.args.context.now slots c.deliver-by_raw.new.sockets) c.args.header.now c.args.payload.now
+    (sym c.is_for_host.ensures ∙ c.if-not-is_for_host.true) (ap (λ H. with_slots H slots) c.deliver-by_raw.ensures.heard))
+
+pub returns : goal.returns
+returns c = by_rule c.process_protocol.ensures (λ slots reply notes taken takes.
+    packet_accepted c.args.source (host_in c.args.context.now slots c.args.sockets.now) (host_in c.args.context.now slots c.deliver-by_raw.new.sockets) (host_in c.heard_from.new.context slots c.deliver-by_raw.new.sockets) taken
+    c.args.header.now c.args.payload.now c.deliver-by_raw.result reply notes (sym c.is_for_host.ensures ∙ c.if-not-is_for_host.false)
+    c.deliver-by_raw.ensures.taken (ap (λ H. with_slots H slots) c.deliver-by_raw.ensures.heard) (c.heard_from.ensures slots c.deliver-by_raw.new.sockets) takes)

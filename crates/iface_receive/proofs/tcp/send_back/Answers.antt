@@ -1,0 +1,5 @@
+use Rattle.iface_receive.proofs.Processing.{dispatched}
+use Rattle.iface_receive.proofs.tcp.send_back.Goals as goal
+
+pub returns : goal.returns
+returns c = rw c.in-Some.is (dispatched _ c.dispatch.result c.dispatch.ensures)

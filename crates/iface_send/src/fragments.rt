@@ -1,0 +1,94 @@
+//! Packets that are longer than the device's, and go in pieces (RFC 791 3.2).
+ghost use Rattle.std.specs.Prelude.{◌≡◌, ◌<◌, ◌≤◌, ◌+◌, false, [], length, Ok};
+ghost use Rattle.net_base.specs.Checksum.{ip_mtu_of};
+ghost use Rattle.fragmentation.specs.Cuts.{HasForm, pieces_of};
+ghost use Rattle.fragmentation.specs.Pending.{is_nil};
+ghost use Rattle.host_machine.specs.Host.{SocketSet, no_sockets, with_left};
+ghost use Rattle.host_machine.specs.Packet.{IsWritable};
+ghost use Rattle.host_machine.specs.Packet as value;
+ghost use Rattle.host_machine.specs.Dispatch as spec;
+ghost use Rattle.iface_send.specs.Shown as shown;
+ghost use Rattle.iface_send.specs.Built.{Built};
+ghost use Rattle.iface_send.specs.Pieces.{NextPieceGoes};
+ghost use Rattle.iface_send.specs.Stands.{host_of};
+
+use crate::context::Context;
+use crate::packet::{Packet, emit_link_header, emit_payload_header};
+use ip_wire::emit::FrameBuffer;
+use ip_wire::ipv4_packet::HEADER_LEN;
+use ip_wire::{EthernetProtocol, HardwareAddress};
+
+/// Cuts a packet that is longer than the device's packets, and has at most 4,096 octets: builds the
+/// frame of its first piece, in an empty buffer, and leaves the others to be sent, in place of what was
+/// left before.
+pub(crate) fn emit_in_pieces(
+    context: &mut Context,
+    identification: u16,
+    destination: &HardwareAddress,
+    packet: &Packet<'_>,
+    out: &mut FrameBuffer,
+)
+    requires empty { out.old ≡ [] }
+    requires writable { IsWritable (shown.packet packet.now) }
+    requires long { ip_mtu_of context.old.capabilities < value.total_len (shown.packet packet.now) }
+    requires fits { value.total_len (shown.packet packet.now) ≤ 4096 }
+    ensures { Built out.new (spec.Emits identification (shown.packet packet.now) destination.now (Ok tt)) context.old context.new }
+{
+    cut(context, identification, destination, packet, out);
+    out.clear();
+    emit_next_piece(context, out);
+}
+
+/// Leaves all pieces of a packet to be sent, in place of what was left before. Its protocol's header is
+/// built in an empty buffer.
+fn cut(
+    context: &mut Context,
+    identification: u16,
+    destination: &HardwareAddress,
+    packet: &Packet<'_>,
+    scratch: &mut FrameBuffer,
+)
+    requires empty { scratch.old ≡ [] }
+    requires writable { IsWritable (shown.packet packet.now) }
+    requires some { 20 < value.total_len (shown.packet packet.now) }
+    requires fits { value.total_len (shown.packet packet.now) ≤ 4096 }
+    ensures left { (sockets : SocketSet) → host_of context.new sockets ≡ with_left (host_of context.old sockets)
+        (pieces_of (spec.datagram_of (host_of context.old sockets) destination.now identification (shown.packet packet.now))) }
+    ensures some { is_nil (host_of context.new no_sockets).left ≡ false }
+    ensures fits { HasForm (spec.datagram_of (host_of context.old no_sockets) destination.now identification (shown.packet packet.now)) }
+{
+    let Packet::Ipv4(packet) = packet;
+    emit_payload_header(packet, &context.capabilities, scratch);
+    let size = (context.capabilities.ip_mtu() - HEADER_LEN) / 8 * 8;
+    context.fragmenter.fill(
+        *destination,
+        packet.header(),
+        identification,
+        size,
+        scratch.as_slice(),
+        packet.payload.octets(),
+    );
+}
+
+/// Builds the frame of the next piece that is left to be sent, in an empty buffer; the others stay left.
+/// There has to be one.
+pub fn emit_next_piece(context: &mut Context, out: &mut FrameBuffer)
+    requires empty { out.old ≡ [] }
+    requires some { is_nil (host_of context.old no_sockets).left ≡ false }
+    ensures { Built out.new NextPieceGoes context.old context.new }
+{
+    let Some(piece) = context.fragmenter.peek() else {
+        return;
+    };
+    let destination = &piece.destination;
+    emit_link_header(
+        &context.hardware_addr,
+        destination,
+        EthernetProtocol::Ipv4,
+        out,
+    );
+    let summed = context.capabilities.checksum.ipv4.tx();
+    piece.header.emit(&piece.fragment, summed, out);
+    out.append(piece.octets);
+    context.fragmenter.advance();
+}

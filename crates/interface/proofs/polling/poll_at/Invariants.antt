@@ -1,0 +1,8 @@
+use Rattle.fragmentation.specs.Slots.{Slots}
+use Rattle.host_machine.specs.Due.{IsLeast}
+use Rattle.host_machine.proofs.Least.{DueBelow}
+use Rattle.iface_send.specs.Stands.{host_in}
+use Rattle.interface.proofs.polling.poll_at.Given as goal
+
+abbrev pub invariant-loop-index : goal.invariant-loop-index
+invariant-loop-index l = (slots : Slots) → IsLeast (DueBelow (host_in l.context slots l.sockets) l.index) l.least

@@ -1,0 +1,261 @@
+// Datagrams that come and go in fragments (RFC 791 3.2).
+
+use crate::script::{acquainted, each_acquainted, each_at_home, each_narrow};
+
+#[test]
+fn fragments_in_any_order_are_one_datagram(rt: HostRuntime) {
+    each_at_home(
+        &rt,
+        &[
+            // In order; and a further one waits for its other part.
+            "udp 6969
+            rx HI_START
+            ingress 0 = SocketStateChanged
+            heard? 0 = none
+            rx HI_END
+            ingress 0 = SocketStateChanged
+            heard? 0 = c0a84564 5000 6869
+            done 0
+            heard? 0 = none
+            receive 0 HI_START = none
+            heard? 0 = none
+            receive 0 HI_END = none
+            heard? 0 = c0a84564 5000 6869",
+            // The last one first.
+            "udp 6969
+            receive 0 HI_END = none
+            heard? 0 = none
+            receive 0 HI_START = none
+            heard? 0 = c0a84564 5000 6869
+            done 0
+            heard? 0 = none",
+            // The first one twice.
+            "udp 6969
+            receive 0 HI_START = none
+            receive 0 HI_START = none
+            receive 0 HI_END = none
+            heard? 0 = c0a84564 5000 6869
+            done 0
+            heard? 0 = none",
+        ],
+    );
+}
+
+#[test]
+fn where_fragments_overlap_the_last_one_counts(rt: HostRuntime) {
+    each_at_home(
+        &rt,
+        &[
+            "udp 6969
+            receive 0 LETTERS_A = none
+            receive 0 LETTERS_B = none
+            receive 0 LETTERS_C = none
+            heard? 0 = c0a84564 5000 626262626262626261616161616161616363",
+            "udp 6969
+            receive 0 LETTERS_B = none
+            receive 0 LETTERS_A = none
+            receive 0 LETTERS_C = none
+            heard? 0 = c0a84564 5000 616161616161616161616161616161616363",
+        ],
+    );
+}
+
+#[test]
+fn fragments_are_kept_until_the_timeout(rt: HostRuntime) {
+    each_at_home(
+        &rt,
+        &[
+            // At its last microsecond.
+            "udp 6969
+            timeout 1_000_000
+            receive 0 HI_START = none
+            receive 1_000_000 HI_END = none
+            heard? 0 = c0a84564 5000 6869",
+            // Too late: it waits for another first part.
+            "udp 6969
+            timeout 1_000_000
+            receive 0 HI_START = none
+            receive 1_000_001 HI_END = none
+            heard? 0 = none
+            receive 1_000_001 HI_START = none
+            heard? 0 = c0a84564 5000 6869",
+            // A day at most.
+            "timeout 86_400_000_000
+            timeout? = 86_400_000_000
+            timeout 1_000_000
+            timeout 86_400_000_001 = TimeoutTooLong
+            timeout? = 1_000_000",
+        ],
+    );
+}
+
+#[test]
+fn two_datagrams_are_put_together_at_one_time(rt: HostRuntime) {
+    each_at_home(
+        &rt,
+        &[
+            // Others by their identification and by their source.
+            "udp 6969
+            receive 0 HI_START_8 = none
+            receive 0 HI_START_BY_101 = none
+            receive 0 HI_START = none
+            receive 0 HI_END = none
+            heard? 0 = none
+            receive 0 HI_END_8 = none
+            heard? 0 = c0a84564 5000 6869
+            done 0
+            receive 0 HI_END_BY_101 = none
+            heard? 0 = c0a84565 5000 6869
+            done 0
+            receive 0 HI_START = none
+            receive 0 HI_END = none
+            heard? 0 = c0a84564 5000 6869",
+            // Others by their destination and by their protocol.
+            "addr c0a84501/24 c0a84507/24
+            udp 6969
+            receive 0 REQUEST = REPLY
+            receive 0 HO_START_TO_7 = none
+            receive 0 ECHO_START = none
+            receive 0 HI_START = none
+            receive 0 HI_END = none
+            heard? 0 = none
+            receive 0 ECHO_END = ECHO_REPLY
+            receive 0 HO_END_TO_7 = none
+            heard? 0 = c0a84564 5000 686f",
+        ],
+    );
+}
+
+#[test]
+fn fragments_from_one_host_to_any_are_kept(rt: HostRuntime) {
+    each_at_home(
+        &rt,
+        &[
+            // To another host.
+            "udp 6969
+            receive 0 HO_START_TO_7 = none
+            receive 0 HI_START_8 = none
+            receive 0 HI_START = none
+            receive 0 HI_END = none
+            heard? 0 = none
+            receive 0 HO_END_TO_7 = none
+            heard? 0 = none
+            receive 0 HI_END_8 = none
+            heard? 0 = c0a84564 5000 6869",
+            // From no host.
+            "udp 6969
+            receive 0 HI_START_BY_ALL = none
+            receive 0 HI_START_8 = none
+            receive 0 HI_START = none
+            receive 0 HI_END = none
+            heard? 0 = c0a84564 5000 6869",
+        ],
+    );
+}
+
+#[test]
+fn a_long_datagram_goes_in_pieces(rt: HostRuntime) {
+    each_narrow(
+        &rt,
+        &[
+            // By polls.
+            "udp 6969
+            send 0 c0a84564 5000 ~0+1000
+            poll 0 1 = SocketStateChanged tx PIECE_552~0+544
+            at 0 = 0
+            poll 0 1 = None tx PIECE_456~544+456
+            at 0 = none",
+            // By calls that send.
+            "udp 6969
+            send 0 c0a84564 5000 ~0+1000
+            egress 0 = SocketStateChanged tx PIECE_552~0+544
+            egress 0 = None tx PIECE_456~544+456
+            egress 0 = None",
+            // Where the first one went.
+            "udp 6969
+            send 0 c0a84564 5000 ~0+1000
+            egress 0 = SocketStateChanged tx PIECE_552~0+544
+            rx MOVED
+            ingress 0 = SocketStateChanged
+            send 0 c0a84564 5000 6869
+            egress 0 = SocketStateChanged tx PIECE_456~544+456 HI_BACK_TO_OTHER",
+        ],
+    );
+}
+
+#[test]
+fn a_piece_waits_for_leave(rt: HostRuntime) {
+    each_narrow(
+        &rt,
+        &[
+            "udp 6969
+            send 0 c0a84564 5000 ~0+1000
+            egress 0 = SocketStateChanged tx PIECE_552~0+544
+            refuse
+            egress 0 = None refused
+            at 0 = 0
+            egress 0 = None tx PIECE_456~544+456",
+            // What a socket sends goes behind it.
+            "udp 6969
+            send 0 c0a84564 5000 ~0+1000
+            egress 0 = SocketStateChanged tx PIECE_552~0+544
+            send 0 c0a84564 5000 6869
+            egress 0 = SocketStateChanged tx PIECE_456~544+456 HI_BACK
+            egress 0 = None",
+            // Another long datagram goes in its place.
+            "udp 6969
+            send 0 c0a84564 5000 ~0+1000
+            udp 6969
+            send 1 c0a84564 5000 ~100+1000
+            egress 0 = SocketStateChanged tx PIECE_552~0+544 NEXT_552~100+544
+            egress 0 = None tx NEXT_456~644+456
+            egress 0 = None",
+        ],
+    );
+}
+
+#[test]
+fn what_fits_the_link_goes_whole(rt: HostRuntime) {
+    acquainted(
+        &rt,
+        "udp 6969
+        send 0 c0a84564 5000 ~0+1472
+        egress 0 = SocketStateChanged tx WHOLE_1480~0+1472
+        egress 0 = None
+        send 0 c0a84564 5000 ~0+1473
+        egress 0 = SocketStateChanged tx PIECE_1480~0+1472
+        egress 0 = None tx PIECE_1~1472+1
+        egress 0 = None",
+    );
+}
+
+#[test]
+fn a_long_echo_request_is_answered_in_pieces(rt: HostRuntime) {
+    each_acquainted(
+        &rt,
+        &[
+            // By a packet of 4096 octets.
+            "rx PING_1~0+1472
+            ingress 0 = SocketStateChanged
+            rx PING_2~1472+1480
+            ingress 0 = SocketStateChanged
+            rx PING_3~2952+1116
+            ingress 0 = SocketStateChanged tx PONG_1~0+1472
+            egress 0 = None tx PONG_2~1472+1480
+            egress 0 = None tx PONG_3~2952+1116
+            egress 0 = None",
+            // But not by a longer one. Both slots are free then.
+            "udp 6969
+            receive 0 LONGER_PING_1~0+1472 = none
+            receive 0 PING_2~1472+1480 = none
+            receive 0 LONGER_PING_3~2952+1117 = none
+            egress 0 = None
+            at 0 = none
+            receive 0 HI_START = none
+            receive 0 ECHO_START = none
+            receive 0 HI_END = none
+            heard? 0 = c0a84564 5000 6869
+            receive 0 ECHO_END = ECHO_REPLY",
+        ],
+    );
+}

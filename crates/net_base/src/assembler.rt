@@ -1,0 +1,161 @@
+//! Sets of covered places, such as those of the octets that were got of a datagram (RFC 791 3.2).
+ghost use Rattle.std.specs.Prelude.{◌≡◌, ◌↔◌, ◌≤◌, ◌<◌, ◌+◌, ℕ, ◌^◌, [], ◌∷◌, ◌++◌, IsTrue, false, IsOk, IsErr, IfOk, OnOk, OnErr, length, List};
+ghost use Rattle.net_base.specs.Ranges.{add_range, front, AreSeparate, joined, places_before, IsMet, IsApart, IsUnion};
+
+use arrayvec::ArrayVec;
+use std::marker::Model;
+use thiserror::Error;
+
+/// How many separate ranges an [`Assembler`] holds.
+pub const ASSEMBLER_MAX_SEGMENT_COUNT: usize = 4;
+
+/// There would be a fifth range.
+#[derive(Clone, Copy, Debug, PartialEq, Eq, Error)]
+#[error("TooManyHolesError")]
+pub struct TooManyHolesError;
+
+/// The places from `start` to below `end`.
+#[derive(Clone, Copy, Debug, PartialEq, Eq)]
+pub struct Range {
+    pub start: usize,
+    pub end: usize,
+}
+
+impl Default for Range {
+    fn default() -> Range
+        ensures { result ≡ record { start = 0; end = 0 } }
+    {
+        Range { start: 0, end: 0 }
+    }
+}
+
+/// A set of covered places that falls into at most four separate ranges.
+///
+/// In contracts it is the list of these ranges in their order. None is empty, and between two of
+/// them there is a place that is not covered.
+#[derive(Drop)]
+pub struct Assembler {
+    ranges: ArrayVec<Range, ASSEMBLER_MAX_SEGMENT_COUNT>,
+}
+
+impl Model for Assembler {
+    ghost use Rattle.std.specs.Prelude.{List, length, ◌≤◌};
+    ghost use Rattle.net_base.specs.declared.assembler.Range.{Range};
+    ghost use Rattle.net_base.specs.Ranges.{AreSeparate};
+
+    ghost Value = { List Range };
+
+    ghost view = { λ a. a.ranges.items };
+
+    ghost invariant = { λ a. AreSeparate 0 a.ranges.items × (length a.ranges.items ≤ 4) };
+}
+
+impl Assembler {
+    /// No place is covered.
+    pub fn new() -> Assembler
+        ensures { result ≡ [] }
+    {
+        Assembler {
+            ranges: ArrayVec::new(),
+        }
+    }
+
+    /// Uncovers all places.
+    pub fn clear(&mut self)
+        ensures { self.new ≡ [] }
+    {
+        self.ranges.clear();
+    }
+
+    /// How many places are covered from 0 on, up to the first that isn't.
+    pub fn peek_front(&self) -> usize
+        ensures { result ≡ front self.now }
+    {
+        if !self.ranges.is_empty() && self.ranges[0].start == 0 {
+            self.ranges[0].end
+        } else {
+            0
+        }
+    }
+
+    /// Covers `len` places from `offset` on. Their end has to be below 2^64.
+    ///
+    /// `Err` where there are four ranges and this one neither overlaps nor touches any of them;
+    /// then nothing changes. No places are never refused, and change nothing.
+    pub fn add(&mut self, offset: usize, len: usize) -> Result<(), TooManyHolesError>
+        requires { offset + len < 2 ^ 64 }
+        ensures refused { IsErr result ↔ (4 < length (add_range offset (offset + len) self.old)) }
+        ensures ok { OnOk result (self.new ≡ add_range offset (offset + len) self.old) }
+        ensures err { OnErr result (self.new ≡ self.old) }
+        ensures few { length self.old ≤ 4 }
+        ensures added { IsUnion self.old (add_range offset (offset + len) self.old) offset (offset + len) }
+    {
+        let _ = &self.ranges;
+        if len == 0 {
+            return Ok(());
+        }
+        put_range(&mut self.ranges, offset, offset + len)
+    }
+}
+
+// Puts a range that is not empty among separate ranges.
+fn put_range(
+    ranges: &mut ArrayVec<Range, ASSEMBLER_MAX_SEGMENT_COUNT>,
+    start: usize,
+    end: usize,
+) -> Result<(), TooManyHolesError>
+    requires order { start < end }
+    requires few { length ranges.old.items ≤ 4 }
+    ensures refused { IsErr result ↔ (4 < length (add_range start end ranges.old.items)) }
+    ensures ok { OnOk result (ranges.new.items ≡ add_range start end ranges.old.items) }
+    ensures err { OnErr result (ranges.new ≡ ranges.old) }
+{
+    let first = places_before(ranges.as_slice(), start);
+    if !is_met(ranges.as_slice(), first, end) {
+        if ranges.is_full() {
+            return Err(TooManyHolesError);
+        }
+        ranges.insert(first, Range { start, end });
+        return Ok(());
+    }
+    let met = ranges.remove(first);
+    let mut merged = joined(Range { start, end }, met);
+    while is_met(ranges.as_slice(), first, merged.end) {
+        let met = ranges.remove(first);
+        merged = joined(merged, met);
+    }
+    ranges.insert(first, merged);
+    Ok(())
+}
+
+// Whether a range that ends at `end` meets the one at place `i`.
+fn is_met(ranges: &[Range], i: usize, end: usize) -> bool
+    requires { i ≤ length ranges.now }
+    ensures met { IsTrue result → IsMet ranges.now i end }
+    ensures apart { result ≡ false → IsApart ranges.now i end }
+{
+    i < ranges.len() && ranges[i].start <= end
+}
+
+// The smallest range that has both.
+fn joined(a: Range, b: Range) -> Range
+    ensures { result ≡ joined a b }
+{
+    Range {
+        start: a.start.min(b.start),
+        end: a.end.max(b.end),
+    }
+}
+
+// How many ranges end before `start` without touching it.
+fn places_before(ranges: &[Range], start: usize) -> usize
+    ensures value { result ≡ places_before start ranges.now }
+    ensures within { result ≤ length ranges.now }
+{
+    for (i, range) in ranges.iter().enumerate() {
+        if start <= range.end {
+            return i;
+        }
+    }
+    ranges.len()
+}
