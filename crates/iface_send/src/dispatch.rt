@@ -143,6 +143,7 @@ fn request_for(own: EthernetAddress, source: Ipv4Address, target: Ipv4Address) -
 
 /// Builds the frame of a packet for a hardware address: that of the whole packet, or of its first piece
 /// if it is longer than the device's packets. One of more than 4,096 octets is dropped then.
+#[inline(always)]
 fn emit_to(
     context: &mut Context,
     identification: u16,

@@ -21,6 +21,7 @@ use ip_wire::{EthernetProtocol, HardwareAddress};
 /// Cuts a packet that is longer than the device's packets, and has at most 4,096 octets: builds the
 /// frame of its first piece, in an empty buffer, and leaves the others to be sent, in place of what was
 /// left before.
+#[inline(never)]
 pub(crate) fn emit_in_pieces(
     context: &mut Context,
     identification: u16,

@@ -380,6 +380,7 @@ impl Interface {
     }
 
     // Sets the moment, and drops the slots that have ended.
+    #[inline(always)]
     fn sweep(&mut self, timestamp: Instant)
         requires { IsMoment timestamp }
         ensures { Becomes self.old self.new (λ H. swept H timestamp) }

@@ -43,11 +43,11 @@ impl Model for MemoryDevice {
 
     ghost view = { λ a. record { capabilities = a.capabilities; queued = map (λ v. v.items) a.queue.items; sent = map (λ v. v.items) a.sent.items; refuse = a.refuse.items; refusals = a.refusals; has_room = is_some a.room } };
 
-    ghost invariant = { λ a. All (λ v. vec_len v ≤ 1514) a.queue.items × ForSome a.room (λ v. (v.items ≡ []) × (1514 ≤ vec_capacity v) × (vec_len a.sent < vec_capacity a.sent)) };
+    ghost invariant = { λ a. All (λ v. vec_len v ≤ 1514) a.queue.items × All (λ v. vec_len v ≤ 1514) a.sent.items × ForSome a.room (λ v. (v.items ≡ []) × (1514 ≤ vec_capacity v) × (vec_len a.sent < vec_capacity a.sent)) };
 }
 
 impl MemoryDevice {
-    ghost use Rattle.std.specs.Prelude.{◌<◌, ◌↔◌, ◌++◌, false, map, OnOk, OnErr, vec_len};
+    ghost use Rattle.std.specs.Prelude.{◌<◌, ◌↔◌, ◌++◌, false, map, All, OnOk, OnErr, vec_len};
     ghost use Rattle.std.specs.Result.{IsErrOf};
     ghost use Rattle.net_base.specs.MemoryDevice.{is_refused, answered, counted, Reserves};
 
@@ -95,9 +95,10 @@ impl MemoryDevice {
         self.refuse = VecDeque::from_vec(answers);
     }
 
-    /// The frames that were sent, in order.
+    /// The frames that were sent, in order. Each has at most 1514 octets.
     pub fn sent(&self) -> &[Vec<u8>]
-        ensures { map (λ v. v.items) result.now ≡ self.now.sent }
+        ensures value { map (λ v. v.items) result.now ≡ self.now.sent }
+        ensures short { All (λ v. vec_len v ≤ 1514) result.now }
     {
         &self.sent
     }
