@@ -1,5 +1,5 @@
 -- Hardware addresses.
-use Rattle.std.specs.Prelude.{◌≡◌, ℕ, Bool, true, List, Option, Some, None, refl}
+use Rattle.std.specs.Prelude.{◌≡◌, ℕ, Bool, true, List, length, Option, Some, None, refl}
 use Rattle.std.specs.Coded.{Coded, code_by, coded_ℕ, coded_list, coded_option}
 use Rattle.net_base.specs.declared.phy.Medium.{Medium}
 use Rattle.net_base.specs.declared.phy.Medium.TheVariants as medium
@@ -11,6 +11,13 @@ use Rattle.ip_address.specs.EthernetAddress as ethernet
 abbrev pub medium_of : HardwareAddress → Medium
 medium_of Ip = medium.Ip
 medium_of (Ethernet e) = medium.Ethernet
+
+-- an address of a medium, as a program holds it: of six octets on Ethernet (RFC 894), and none elsewhere
+abbrev pub IsOf : Medium → HardwareAddress → Type 0
+IsOf medium.Ethernet (Ethernet e) = length e.0 ≡ 6
+IsOf medium.Ethernet Ip = ⊥
+IsOf medium.Ip (Ethernet e) = ⊥
+IsOf medium.Ip Ip = Unit {0}
 
 -- that of one interface
 abbrev pub is_unicast : HardwareAddress → Bool

@@ -1,5 +1,6 @@
 //! Hardware addresses.
-ghost use Rattle.std.specs.Prelude.{◌≡◌};
+ghost use Rattle.std.specs.Prelude.{◌≡◌, length};
+ghost use Rattle.net_base.specs.declared.phy.Medium.TheVariants as medium;
 ghost use Rattle.ip_address.specs.Hardware as spec;
 
 use crate::ethernet_address::EthernetAddress;
@@ -14,14 +15,24 @@ pub enum HardwareAddress {
     Ethernet(EthernetAddress),
 }
 
+// The medium that has addresses of six octets.
+#[inline(always)]
+const fn medium_with(octets: &[u8; 6]) -> Medium
+    ensures medium { result ≡ medium.Ethernet }
+    ensures six { length octets.now ≡ 6 }
+{
+    Medium::Ethernet
+}
+
 impl HardwareAddress {
     /// The medium that has such addresses.
     pub const fn medium(&self) -> Medium
-        ensures { result ≡ spec.medium_of self.now }
+        ensures value { result ≡ spec.medium_of self.now }
+        ensures of { spec.IsOf result self.now }
     {
         match self {
             HardwareAddress::Ip => Medium::Ip,
-            HardwareAddress::Ethernet(_) => Medium::Ethernet,
+            HardwareAddress::Ethernet(address) => medium_with(&address.0),
         }
     }
 
