@@ -24,7 +24,8 @@ pub fn process_arp(
     payload: &[u8],
     out: &mut FrameBuffer,
 )
-    requires { out.old ≡ [] }
+    requires empty { out.old ≡ [] }
+    requires own { (host_of context.old no_sockets).hardware_addr ≡ HardwareAddress.Ethernet own }
     ensures { (sockets : SocketSet) → Processed out.new (λ H. TakesArp own H payload.now) (host_of context.old sockets) (host_of context.new sockets) }
 {
     let Some(packet) = ArpRepr::parse(payload) else {

@@ -1,6 +1,8 @@
 //! What an interface does with frames, by their link's header (RFC 894, RFC 1122 2.4).
 ghost use Rattle.std.specs.Prelude.{◌≡◌, ◌<◌, [], length};
 ghost use Rattle.host_machine.specs.Ethernet.{TakesFrame, TakesEthernet, TakesIp, TakesPayload, is_for};
+ghost use Rattle.host_machine.specs.Host.{no_sockets};
+ghost use Rattle.iface_send.specs.Stands.{host_of};
 ghost use Rattle.iface_receive.specs.Processed.{Answers, StandsFor};
 
 use crate::arp::process_arp;
@@ -68,7 +70,8 @@ pub fn process_ethernet(
     frame: &[u8],
     out: &mut FrameBuffer,
 )
-    requires { out.old ≡ [] }
+    requires empty { out.old ≡ [] }
+    requires own { (host_of context.old no_sockets).hardware_addr ≡ HardwareAddress.Ethernet own }
     ensures { Answers out.new (λ H. TakesEthernet own H frame.now) (StandsFor context.old fragments.old sockets.old) (StandsFor context.new fragments.new sockets.new) }
 {
     let Some((header, payload)) = EthernetRepr::parse(frame) else {
@@ -89,7 +92,8 @@ fn process_payload(
     payload: &[u8],
     out: &mut FrameBuffer,
 )
-    requires { out.old ≡ [] }
+    requires empty { out.old ≡ [] }
+    requires own { (host_of context.old no_sockets).hardware_addr ≡ HardwareAddress.Ethernet own }
     ensures { Answers out.new (λ H. TakesPayload own header.now.src_addr H header.now.ethertype payload.now) (StandsFor context.old fragments.old sockets.old) (StandsFor context.new fragments.new sockets.new) }
 {
     match header.ethertype {

@@ -3,7 +3,8 @@ ghost use Rattle.std.specs.Prelude.{◌≡◌, ◌≤◌, ◌+◌};
 ghost use Rattle.std.specs.List.{list_any};
 ghost use Rattle.net_base.specs.Time.{IsMoment};
 ghost use Rattle.net_base.specs.Checksum.{ip_mtu_of};
-ghost use Rattle.ip_address.specs.Hardware.{medium_of};
+ghost use Rattle.ip_address.specs.Hardware.{IsOf, IsOf-prop, medium_of};
+ghost use Rattle.iface_tables.specs.Neighbor.{AreOf, AreOf-prop};
 ghost use Rattle.host_machine.specs.Host.{is_assigned, no_sockets};
 ghost use Rattle.host_machine.specs.Addresses as addresses;
 
@@ -40,6 +41,8 @@ pub struct Context {
     pub ghost within_a_day: { reassembly_timeout ≤ 86400000000 },
     pub ghost cut_to_fit: { 20 + fragmenter.size ≤ ip_mtu_of capabilities },
     pub ghost of_medium: { medium_of hardware_addr ≡ capabilities.medium },
+    pub ghost own: { IsOf capabilities.medium hardware_addr } by { IsOf-prop capabilities.medium hardware_addr },
+    pub ghost neighbors: { AreOf capabilities.medium neighbor_cache } by { AreOf-prop capabilities.medium neighbor_cache },
 }
 
 impl Context {

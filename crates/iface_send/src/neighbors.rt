@@ -17,6 +17,7 @@ pub fn fill_neighbor(
 )
     requires protocol { is_unicast protocol_addr ≡ true }
     requires link { hardware.is_unicast hardware_addr ≡ true }
+    requires of_medium { hardware.medium_of hardware_addr ≡ (host_of context.old no_sockets).capabilities.medium }
     ensures neighbors { Fills (host_of context.old no_sockets).neighbors (host_of context.new no_sockets).neighbors protocol_addr (record { hardware_addr = hardware_addr; expires_at = expiry_from (host_of context.old no_sockets).moment }) }
     ensures same { (sockets : SocketSet) → host_of context.new sockets ≡ with_neighbors (host_of context.old sockets) (host_of context.new no_sockets).neighbors }
 {

@@ -3,7 +3,7 @@ ghost use Rattle.std.specs.Prelude.{◌≡◌, ◌≤◌, List, [], false, pos};
 ghost use Rattle.std.specs.FinMap as map;
 ghost use Rattle.net_base.specs.Time.{IsMoment};
 ghost use Rattle.net_base.specs.Checksum.{ip_mtu_of};
-ghost use Rattle.ip_address.specs.Hardware.{medium_of};
+ghost use Rattle.ip_address.specs.Hardware.{IsOf, medium_of};
 ghost use Rattle.host_machine.specs.Host.{SocketSet, at, no_sockets};
 ghost use Rattle.host_machine.specs.Step.{flushed};
 ghost use Rattle.iface_send.specs.Stands.{host_of, with_routes};
@@ -32,6 +32,7 @@ pub fn new(
     requires short { capabilities.max_transmission_unit ≤ 1514 }
     requires long { 576 ≤ ip_mtu_of capabilities }
     requires of_medium { medium_of hardware_addr ≡ capabilities.medium }
+    requires own { IsOf capabilities.medium hardware_addr }
     ensures { (sockets : SocketSet) → host_of result sockets ≡ record {
       capabilities = capabilities;
       hardware_addr = hardware_addr;
@@ -94,7 +95,8 @@ pub fn set_reassembly_timeout(context: &mut Context, timeout: Duration)
 
 /// Gives the interface another address of its medium.
 pub fn set_hardware_addr(context: &mut Context, hardware_addr: HardwareAddress)
-    requires { medium_of hardware_addr ≡ (host_of context.old no_sockets).capabilities.medium }
+    requires of_medium { medium_of hardware_addr ≡ (host_of context.old no_sockets).capabilities.medium }
+    requires own { IsOf (host_of context.old no_sockets).capabilities.medium hardware_addr }
     ensures { (sockets : SocketSet) → host_of context.new sockets ≡ record (host_of context.old sockets) { hardware_addr = hardware_addr } }
 {
     context.hardware_addr = hardware_addr;

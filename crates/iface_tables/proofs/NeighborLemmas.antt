@@ -1,20 +1,21 @@
 -- The lists of neighbours, as the finite maps that they make.
-use Rattle.std.proofs.Common.{◌≡◌, ◌≢◌, ℕ, ◌<◌, List, [], ◌∷◌, ◌++◌, length, get_or, refl, sym, ap, subst, ◌∙◌, arith, suc}
+use Rattle.std.proofs.Common.{◌≡◌, ◌≢◌, ℕ, ◌<◌, ◌≤◌, List, [], ◌∷◌, ◌++◌, length, get_or, refl, sym, ap, subst, ◌∙◌, arith, suc}
 use Rattle.std.proofs.lemmas.Bool.Decides.{nat_tests}
 use Rattle.std.proofs.lemmas.Slice.Eq.{bytes_eq-Decides}
 use Rattle.std.specs.Bool.{Decides}
-use Rattle.ip_address.specs.Hardware.{octets_of}
-use Rattle.std.specs.Prelude.{unwrap_or, Bool, ◌==◌, ℤ, ◌≤ℤ◌, true, false, cond, Some, None, slice_set, remove}
+use Rattle.ip_address.specs.Hardware.{IsOf, octets_of}
+use Rattle.std.specs.Prelude.{Option, is_some, nat_lt, IsTrue, if◌then◌else◌, unwrap_or, Bool, ◌==◌, ℤ, pos, ◌≤ℤ◌, true, false, cond, Some, None, slice_set, remove}
 use Rattle.std.specs.Ordering.{nat_cmp, eq_by_cmp}
 use Rattle.std.specs.Cmp.{IsTotalOrder, nat_cmp_total}
 use Rattle.std.specs.FinMap as map
-use Rattle.std.specs.FinMap.{IsAntisymmetric, find, from_entries, get-from_entries, from_entries_push}
+use Rattle.std.specs.FinMap.{FinMap, get-insert, get-remove, get-empty, IsAntisymmetric, find, from_entries, get-from_entries, from_entries_push}
 use Rattle.std.proofs.lemmas.Cmp.{on_total, then_total}
 use Rattle.std.proofs.lemmas.Map.Lookups.{exact_pairs, exact_unsigned}
 use Rattle.std.proofs.lemmas.List.{get_or_default, set-get_or}
 use Rattle.ip_address.specs.Ip.{address_cmp, address_key, address_of_key, address_of_key-address_key}
 use Rattle.iface_tables.specs.Entries.{place_of, AreKeysDistinct}
-use Rattle.iface_tables.specs.Neighbor.{Puts, IsLeastEnd, IsLeastPlace, is_same, renewed_from}
+use Rattle.iface_tables.specs.Neighbor.{AreOf, Neighbors, Puts, IsLeastEnd, IsLeastPlace, is_same, renewed, renewed_from}
+use Rattle.net_base.specs.declared.phy.Medium.{Medium}
 use Rattle.ip_address.specs.declared.ip.IpAddress.{IpAddress}
 use Rattle.ip_address.specs.declared.hardware.HardwareAddress.{HardwareAddress}
 use Rattle.ip_address.specs.declared.hardware.HardwareAddress.TheVariants.{Ip, Ethernet}
@@ -149,3 +150,51 @@ renewed_none es a h end i at none = rw (find-absent address_cmp a es (absent es 
 -- what a test for a full table says
 pub four_of_full : (b : Bool) (n : ℕ) → b ≡ (n == 4) → b ≡ true → n ≡ 4
 four_of_full b n e t = grind (arith, nat_tests)
+
+-- the entries of a map, each of a medium
+abbrev EachOf : Medium → FinMap address_cmp Neighbor → Type 0
+EachOf m k = (a : IpAddress) (n : Neighbor) → map.get k a ≡ Some n → IsOf m n.hardware_addr
+
+inserted_of : (m : Medium) (k : FinMap address_cmp Neighbor) (a : IpAddress) (n : Neighbor) → IsOf m n.hardware_addr → EachOf m k → EachOf m (map.insert k a n)
+inserted_of m k a n of all b e is = by (eq_by_cmp address_cmp b a) (sym (get-insert address_total k a n b) ∙ is) where
+  by : (t : Bool) → cond t (Some n) (map.get k b) ≡ Some e → IsOf m e.hardware_addr
+  by true h = let same : n ≡ e = cc in subst (λ (x : Neighbor). IsOf m x.hardware_addr) same of
+  by false h = all b e h
+
+removed_of : (m : Medium) (k : FinMap address_cmp Neighbor) (a : IpAddress) → EachOf m k → EachOf m (map.remove k a)
+removed_of m k a all b e is = by (eq_by_cmp address_cmp b a) (sym (get-remove address_total k a b) ∙ is) where
+  by : (t : Bool) → cond t None (map.get k b) ≡ Some e → IsOf m e.hardware_addr
+  by true h = absurd cc
+  by false h = all b e h
+
+-- what is put keeps the medium
+pub put_of : (m : Medium) (old new : FinMap address_cmp Neighbor) (a : IpAddress) (n : Neighbor) → IsOf m n.hardware_addr → Puts old new a n → EachOf m old → EachOf m new
+put_of m old new a n of p all = by (map.get old a) refl where
+  room : (k : ℕ) → map.len old ≡ k → map.get old a ≡ None → EachOf m new
+  room k is none = elim (nat_lt k 4) as (λ b. nat_lt k 4 ≡ b → EachOf m new) [
+    | true ↦ λ t. let h : map.len old < 4 = grind (arith, nat_tests) in rw (p.room h) (inserted_of m old a n of all)
+    | false ↦ λ t. let h : 4 ≤ map.len old = grind (arith, nat_tests) in let f = p.full none h in rw f.2 (inserted_of m (map.remove old f.0) a n of (removed_of m old f.0 all))
+  ] refl
+
+  by : (o : Option Neighbor) → map.get old a ≡ o → EachOf m new
+  by None is = room (map.len old) refl is
+  by (Some x) is = let t : IsTrue (is_some (map.get old a)) = rw is refl in rw (p.there t) (inserted_of m old a n of all)
+
+pub renewed_of : (m : Medium) (c : Neighbors) (a : IpAddress) (h : HardwareAddress) (end : ℤ) → AreOf m c → AreOf m (renewed c a h end)
+renewed_of m c a h end all = by (map.get c.known a) refl where
+  by : (o : Option Neighbor) → map.get c.known a ≡ o → EachOf m (renewed_from o c.known a h end)
+  by None is = all
+  by (Some e) is = here (is_same e.hardware_addr h) where
+    here : (b : Bool) → EachOf m (if b then map.insert c.known a (record e { expires_at = end }) else c.known)
+    here true = inserted_of m c.known a (record e { expires_at = end }) (all a e is) all
+    here false = all
+
+-- an empty list of entries
+pub none_in : (m : Medium) → EachOf m (from_entries {R = address_cmp} [])
+none_in m a n is = let bad : None ≡ Some n = rw get-empty at is in absurd cc
+
+-- a list in which one entry was renewed
+pub renewed_in : (m : Medium) (es fs : List (IpAddress × Neighbor)) (a : IpAddress) (h : HardwareAddress) (end : ℤ) →
+    from_entries {R = address_cmp} fs ≡ renewed_from (find address_cmp a es) (from_entries es) a h end → EachOf m (from_entries es) → EachOf m (from_entries {R = address_cmp} fs)
+renewed_in m es fs a h end e all =
+    rw (e, ← known_at es a) (renewed_of m (record { known = from_entries es; silent_until = pos 0 }) a h end all)

@@ -5,7 +5,8 @@ use Rattle.std.specs.FinMap as map
 use Rattle.std.specs.FinMap.{FinMap}
 use Rattle.std.specs.Coded.{Coded, code_by, coded×, coded_ℤ}
 use Rattle.ip_address.specs.Ip.{address_cmp, address_code}
-use Rattle.ip_address.specs.Hardware.{hardware_code}
+use Rattle.net_base.specs.declared.phy.Medium.{Medium}
+use Rattle.ip_address.specs.Hardware.{IsOf, IsOf-prop, hardware_code}
 use Rattle.std.specs.Str.{bytes_eq}
 use Rattle.ip_address.specs.declared.ip.IpAddress.{IpAddress}
 use Rattle.ip_address.specs.declared.hardware.HardwareAddress.{HardwareAddress}
@@ -57,6 +58,13 @@ pub record Puts (old new : FinMap address_cmp Neighbor) (a : IpAddress) (n : Nei
   pub there : IsTrue (map.contains_key old a) → new ≡ map.insert old a n
   pub room : map.len old < 4 → new ≡ map.insert old a n
   pub full : map.get old a ≡ None → 4 ≤ map.len old → (v : IpAddress) × IsLeastEnd old v × (new ≡ map.insert (map.remove old v) a n)
+
+-- each known neighbour has an address of that medium
+abbrev pub AreOf : Medium → Neighbors → Type 0
+AreOf m c = (a : IpAddress) (n : Neighbor) → map.get c.known a ≡ Some n → IsOf m n.hardware_addr
+
+pub AreOf-prop : (m : Medium) (c : Neighbors) → IsProp (AreOf m c)
+AreOf-prop m c p q = λ i a n is. IsOf-prop m n.hardware_addr (p a n is) (q a n is) i
 
 -- filling puts n at a, and keeps the silence
 pub record Fills (old new : Neighbors) (a : IpAddress) (n : Neighbor) : Type 0 where

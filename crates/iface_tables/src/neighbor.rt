@@ -7,11 +7,13 @@ ghost use Rattle.std.specs.Ordering.{eq_by_cmp};
 ghost use Rattle.net_base.specs.Time.{IsMoment, silence_from};
 ghost use Rattle.ip_address.specs.Ip as ip;
 ghost use Rattle.ip_address.specs.Ip.{address_cmp};
+ghost use Rattle.net_base.specs.declared.phy.Medium.{Medium};
 ghost use Rattle.ip_address.specs.Hardware as hardware;
+ghost use Rattle.ip_address.specs.Hardware.{medium_of};
 ghost use Rattle.iface_tables.specs.Entries as entry;
 ghost use Rattle.iface_tables.specs.Entries.{AreKeysDistinct};
 ghost use Rattle.iface_tables.specs.Neighbor as spec;
-ghost use Rattle.iface_tables.specs.Neighbor.{Puts, Fills, IsLeastPlace, renewed, renewed_from, answer_of, expiry_from};
+ghost use Rattle.iface_tables.specs.Neighbor.{AreOf, Puts, Fills, IsLeastPlace, renewed, renewed_from, answer_of, expiry_from};
 
 use arrayvec::ArrayVec;
 use ip_wire::{HardwareAddress, IpAddress};
@@ -96,7 +98,8 @@ impl Cache {
 
     /// A cache that knows nobody and isn't silent.
     pub fn new() -> Cache
-        ensures { result ≡ record { known = map.empty; silent_until = pos 0 } }
+        ensures value { result ≡ record { known = map.empty; silent_until = pos 0 } }
+        ensures of { (m : Medium) → AreOf m result }
     {
         Cache {
             entries: ArrayVec::new(),
@@ -115,7 +118,8 @@ impl Cache {
         requires protocol { ip.is_unicast protocol_addr ≡ true }
         requires link { hardware.is_unicast hardware_addr ≡ true }
         requires moment { IsMoment timestamp }
-        ensures { Fills self.old self.new protocol_addr (record { hardware_addr = hardware_addr; expires_at = expiry_from timestamp }) }
+        ensures fills { Fills self.old self.new protocol_addr (record { hardware_addr = hardware_addr; expires_at = expiry_from timestamp }) }
+        ensures of { AreOf (medium_of hardware_addr) self.old → AreOf (medium_of hardware_addr) self.new }
     {
         let expires_at = timestamp + Cache::ENTRY_LIFETIME;
         self.fill_with_expiration(protocol_addr, hardware_addr, expires_at);
@@ -131,8 +135,11 @@ impl Cache {
     )
         requires protocol { ip.is_unicast protocol_addr ≡ true }
         requires link { hardware.is_unicast hardware_addr ≡ true }
-        ensures { Fills self.old self.new protocol_addr (record { hardware_addr = hardware_addr; expires_at = expires_at }) }
+        ensures fills { Fills self.old self.new protocol_addr (record { hardware_addr = hardware_addr; expires_at = expires_at }) }
+        ensures of { AreOf (medium_of hardware_addr) self.old → AreOf (medium_of hardware_addr) self.new }
     {
+        // It has as many octets as those of its medium have.
+        let _ = hardware_addr.medium();
         let neighbor = Neighbor {
             hardware_addr,
             expires_at,
@@ -150,7 +157,8 @@ impl Cache {
         timestamp: Instant,
     )
         requires moment { IsMoment timestamp }
-        ensures { self.new ≡ renewed self.old protocol_addr hardware_addr (expiry_from timestamp) }
+        ensures value { self.new ≡ renewed self.old protocol_addr hardware_addr (expiry_from timestamp) }
+        ensures of { (m : Medium) → AreOf m self.old → AreOf m self.new }
     {
         let expires_at = timestamp + Cache::ENTRY_LIFETIME;
         renew_in(
@@ -187,7 +195,8 @@ impl Cache {
 
     /// Forgets all neighbours. A silence stays.
     pub fn flush(&mut self)
-        ensures { self.new ≡ record self.old { known = map.empty } }
+        ensures value { self.new ≡ record self.old { known = map.empty } }
+        ensures of { (m : Medium) → AreOf m self.new }
     {
         self.entries.clear();
     }

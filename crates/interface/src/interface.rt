@@ -509,11 +509,12 @@ fn hardware_refusal(
     capabilities: &DeviceCapabilities,
     hardware_addr: &HardwareAddress,
 ) -> Option<HardwareError>
-    ensures { result ≡ hardware_refusal_of capabilities.now hardware_addr.now }
+    ensures value { result ≡ hardware_refusal_of capabilities.now hardware_addr.now }
+    ensures of { result ≡ None → IsOf capabilities.now.medium hardware_addr.now }
 {
     match hardware_addr {
         HardwareAddress::Ethernet(address) => {
-            if !is_same_medium(Medium::Ethernet, capabilities.medium) {
+            if !is_same_medium(hardware_addr.medium(), capabilities.medium) {
                 Some(HardwareError::WrongMedium)
             } else if !address.is_unicast() {
                 Some(HardwareError::NotUnicast)

@@ -1,5 +1,6 @@
 -- Hardware addresses.
 use Rattle.std.specs.Prelude.{◌≡◌, ℕ, Bool, true, List, length, Option, Some, None, refl}
+use native.Mathlib.Nat.{ℕ_set}
 use Rattle.std.specs.Coded.{Coded, code_by, coded_ℕ, coded_list, coded_option}
 use Rattle.net_base.specs.declared.phy.Medium.{Medium}
 use Rattle.net_base.specs.declared.phy.Medium.TheVariants as medium
@@ -18,6 +19,12 @@ IsOf medium.Ethernet (Ethernet e) = length e.0 ≡ 6
 IsOf medium.Ethernet Ip = ⊥
 IsOf medium.Ip (Ethernet e) = ⊥
 IsOf medium.Ip Ip = Unit {0}
+
+pub IsOf-prop : (m : Medium) (h : HardwareAddress) → IsProp (IsOf m h)
+IsOf-prop medium.Ethernet (Ethernet e) p q = ℕ_set _ _ p q
+IsOf-prop medium.Ethernet Ip p q = absurd p
+IsOf-prop medium.Ip (Ethernet e) p q = absurd p
+IsOf-prop medium.Ip Ip p q = refl
 
 -- that of one interface
 abbrev pub is_unicast : HardwareAddress → Bool

@@ -7,11 +7,11 @@ use Rattle.iface_receive.proofs.Received.{arp_learnt, arp_unheard}
 use Rattle.iface_receive.proofs.arp.process_arp.Goals as goal
 
 pub returns-in_default : goal.returns-in_default
-returns-in_default c = λ sockets. unanswered c.requires (λ slots. Malformed c.in_default.ensures (dropped (host_in c.args.context.now slots sockets)))
+returns-in_default c = λ sockets. unanswered c.requires.empty (λ slots. Malformed c.in_default.ensures (dropped (host_in c.args.context.now slots sockets)))
 
 pub returns-then-not-listens : goal.returns-then-not-listens
 returns-then-not-listens c = λ sockets.
-    unanswered c.requires (λ slots. arp_unheard c.args.own (host_in c.args.context.now slots sockets) c.args.payload.now c.in-Some.packet c.in-Some.ensures (sym c.listens.ensures.listens ∙ c.if-not-listens.true))
+    unanswered c.requires.empty (λ slots. arp_unheard c.args.own (host_in c.args.context.now slots sockets) c.args.payload.now c.in-Some.packet c.in-Some.ensures (sym c.listens.ensures.listens ∙ c.if-not-listens.true))
 
 pub returns : goal.returns
 returns c = λ sockets.

@@ -10,4 +10,4 @@ pub returns-in-Ipv4 : goal.returns-in-Ipv4
 returns-in-Ipv4 c = rw c.in-Ipv4.is c.process_ipv4.ensures
 
 pub returns-in-Ipv6 : goal.returns-in-Ipv6
-returns-in-Ipv6 c = in_place (unanswered c.requires (λ slots. payload_dropped _ c.args.own c.args.header.now.src_addr (host_in c.args.context.now slots c.args.sockets.now) c.args.payload.now c.in-Ipv6.is))
+returns-in-Ipv6 c = in_place (unanswered c.requires.empty (λ slots. payload_dropped _ c.args.own c.args.header.now.src_addr (host_in c.args.context.now slots c.args.sockets.now) c.args.payload.now c.in-Ipv6.is))
