@@ -19,3 +19,17 @@ returns c =
     one (arp_frame (request_for c.args.own c.in-Some.source c.in-Ipv4.target)) (OfDiscovery (Ask c.args.context.now.moment) ∷ [])
     (c.emit_arp.ensures.items ∙ ap arp_frame c.request_for.ensures) (omega (arith, c.emit_arp.ensures.len))
     (λ slots sockets. Asked c.in-Ipv4.target c.in-Some.source c.in-Ipv4.is (sym c.get_source_address_ipv4.ensures ∙ c.in-Some.is) refl refl refl (rw c.limit_rate.ensures refl))
+
+pub invariant_of-context : goal.invariant_of-context
+invariant_of-context c =
+    let k = c.args.context.now in
+    record {
+      timely = k.timely;
+      short = k.short;
+      long = k.long;
+      within_a_day = k.within_a_day;
+      cut_to_fit = k.cut_to_fit;
+      of_medium = k.of_medium;
+      own = k.own;
+      neighbors = rw c.limit_rate.ensures k.neighbors;
+    }
