@@ -1,9 +1,10 @@
 -- What a host reads in a frame that another one on the same medium wrote.
-use Rattle.std.proofs.Common.{◌≡◌, ℕ, ◌/◌, ◌*◌, Bool, true, false, List, [], ◌++◌, length, drop, refl, sym, ◌∙◌, ap, subst, arith}
+use Rattle.std.proofs.Common.{◌≡◌, ℕ, ◌/◌, ◌*◌, Bool, true, false, List, [], ◌++◌, length, length-append, drop, refl, sym, ◌∙◌, ap, subst, arith}
 use Rattle.std.proofs.lemmas.List.{append-nil}
-use Rattle.std.specs.Prelude.{not, ◌==◌, if◌then◌else◌}
+use Rattle.std.specs.Prelude.{IsTrue, ◌≤◌, not, ◌==◌, if◌then◌else◌}
+use Rattle.std.specs.Int.{w16, to_be_bytes}
 use Rattle.std.proofs.lemmas.Bool.Decides.{nat_tests}
-use Rattle.net_base.specs.Checksum.{is_tx}
+use Rattle.net_base.specs.Checksum.{is_rx, is_tx}
 use Rattle.net_base.specs.declared.phy.Medium.{Medium}
 use Rattle.net_base.specs.declared.phy.Medium.TheVariants as medium
 use Rattle.ip_address.specs.declared.ethernet_address.EthernetAddress.{EthernetAddress}
@@ -34,6 +35,9 @@ use Rattle.host_machine.specs.Frames.{Carries, OverEthernet, AsItStands, Brings}
 use Rattle.host_machine.specs.Ipv4.{key_in, fragment_in}
 use Rattle.host_machine.specs.Real.{IsOf}
 use Rattle.host_machine.specs.Wire.{BringsNone}
+use Rattle.host_machine.specs.TwoHosts.{reaches}
+use Rattle.host_machine.specs.Addresses.{may_be_source}
+use Rattle.host_machine.specs.Ethernet.{is_for, version_in}
 use Rattle.host_machine.proofs.Views.{on_ethernet}
 
 not_ipv4 : protocol.Arp ≡ protocol.Ipv4 → ⊥
@@ -156,3 +160,56 @@ piece_reads m H p own w K key f mine b = (
 
   same : fragment_in (piece_fragment p) p.fragment.octets ≡ p.fragment
   same = rw (w.eights, twice) refl
+
+-- the frame of a packet carries it to a host that it is for
+header_len : (own destination : EthernetAddress) (rest : List ℕ) → length own.0 ≡ 6 → length destination.0 ≡ 6 → 14 ≤ length (header_text (record { src_addr = own; dst_addr = destination; ethertype = protocol.Ipv4 }) ++ rest)
+header_len own destination rest s t =
+    let a = length-append (destination.0 ++ own.0 ++ to_be_bytes w16 0x0800) rest in
+    let b = length-append (destination.0 ++ own.0) (to_be_bytes w16 0x0800) in
+    let c = length-append destination.0 own.0 in
+    let d : length (to_be_bytes w16 0x0800) ≡ 2 = refl in
+    omega arith
+
+carries : (m : Medium) (own far mine : HardwareAddress) (text : List ℕ) → IsOf m own → IsOf m far → IsOf m mine → reaches far mine ≡ true → version_in text ≡ 4 →
+    Carries mine (link_header own far protocol.Ipv4 ++ text) text
+carries medium.Ethernet (hardware.Ethernet own) (hardware.Ethernet far) (hardware.Ethernet mine) text s t u for v =
+    let again = ethernet_again.read_again (record { src_addr = own; dst_addr = far; ethertype = protocol.Ipv4 }) text (record { destination = t; source = s; number = omega arith; protocol = refl }) in
+    OverEthernet mine refl (header_len own far text s t) (ap (λ (x : EthernetRepr × List ℕ). is_for mine x.0.dst_addr) again ∙ for)
+    (ap (λ (x : EthernetRepr × List ℕ). x.0.ethertype) again) (sym (behind own far text s t))
+carries medium.Ethernet (hardware.Ethernet own) (hardware.Ethernet far) hardware.Ip text s t u for v = absurd u
+carries medium.Ethernet (hardware.Ethernet own) hardware.Ip mine text s t u for v = absurd t
+carries medium.Ethernet hardware.Ip far mine text s t u for v = absurd s
+carries medium.Ip (hardware.Ethernet own) far mine text s t u for v = absurd s
+carries medium.Ip hardware.Ip (hardware.Ethernet far) mine text s t u for v = absurd t
+carries medium.Ip hardware.Ip hardware.Ip (hardware.Ethernet mine) text s t u for v = absurd u
+carries medium.Ip hardware.Ip hardware.Ip hardware.Ip text s t u for v = AsItStands refl v refl
+
+-- and a host brings a piece in, if it is for it and from one host, and its checksum is there where it is tested
+pub piece_brings : (m : Medium) (H K : Host) (p : Piece) → IsOf m H.hardware_addr → IsOf m K.hardware_addr → IsWritten m p → is_fragment (piece_fragment p) ≡ true →
+    reaches p.destination K.hardware_addr ≡ true → may_be_source K.ip_addrs p.header.src_addr ≡ true →
+    (IsTrue (is_rx K.capabilities.checksum.ipv4) → IsTrue (is_tx H.capabilities.checksum.ipv4)) → Brings K (piece_frame H p) (key_of p.header p.identification) p.fragment
+piece_brings m H K p own mine w part for source sums = record {
+  packet = piece_text H.capabilities p;
+  carried = carries m H.hardware_addr p.destination K.hardware_addr (piece_text H.capabilities p) own w.destination mine for is_ipv4.version;
+  ipv4 = is_ipv4;
+  source = ap (λ (x : Ipv4Repr × Ipv4Fragment × List ℕ). may_be_source K.ip_addrs x.0.src_addr) values ∙ source;
+  part = ap (λ (x : Ipv4Repr × Ipv4Fragment × List ℕ). is_fragment x.1) values ∙ part;
+  key_is = sym (ap (λ (x : Ipv4Repr × Ipv4Fragment × List ℕ). key_in x.0 x.1) values ∙ ap (λ n. key_by n) (number_again (number_of p.header.next_header)));
+  fragment_is = sym (ap (λ (x : Ipv4Repr × Ipv4Fragment × List ℕ). fragment_in x.1 x.2) values ∙ rw (w.eights, twice) refl);
+} where
+  key_by : ℕ → FragKey
+  key_by n = record { identification = p.identification; src_addr = p.header.src_addr; dst_addr = p.header.dst_addr; protocol = n }
+
+  read : ipv4.IsIpv4 (is_rx K.capabilities.checksum.ipv4) (ipv4.header_text (is_tx H.capabilities.checksum.ipv4) (read_header (piece_header p)) (piece_fragment p) ++ p.fragment.octets ++ [])
+      × (ipv4_in (ipv4.header_text (is_tx H.capabilities.checksum.ipv4) (read_header (piece_header p)) (piece_fragment p) ++ p.fragment.octets ++ []) ≡ (read_header (piece_header p), piece_fragment p, p.fragment.octets))
+  read = ipv4_again.read_again (is_rx K.capabilities.checksum.ipv4) (is_tx H.capabilities.checksum.ipv4) (read_header (piece_header p)) (piece_fragment p) p.fragment.octets [] w.header refl sums
+
+  text : ipv4.header_text (is_tx H.capabilities.checksum.ipv4) (read_header (piece_header p)) (piece_fragment p) ++ p.fragment.octets ++ [] ≡ piece_text H.capabilities p
+  text = append-nil (ipv4.header_text (is_tx H.capabilities.checksum.ipv4) (read_header (piece_header p)) (piece_fragment p) ++ p.fragment.octets)
+      ∙ ap (λ (t : List ℕ). t ++ p.fragment.octets) (text_same (is_tx H.capabilities.checksum.ipv4) (piece_header p) (piece_fragment p))
+
+  is_ipv4 : ipv4.IsIpv4 (is_rx K.capabilities.checksum.ipv4) (piece_text H.capabilities p)
+  is_ipv4 = subst (ipv4.IsIpv4 (is_rx K.capabilities.checksum.ipv4)) text read.0
+
+  values : ipv4_in (piece_text H.capabilities p) ≡ (read_header (piece_header p), piece_fragment p, p.fragment.octets)
+  values = ap ipv4_in (sym text) ∙ read.1

@@ -1,7 +1,10 @@
 -- What one host rebuilds of what another one cut.
-use Rattle.std.proofs.Common.{◌≡◌, ℕ, ◌-◌, ◌*◌, ◌/◌, ◌<◌, ◌≤◌, List, [], ◌∷◌, ◌++◌, length, map, refl, sym, ◌∙◌, ap, subst, arith, Option, None, inl, inr}
+use Rattle.std.proofs.Common.{◌≡◌, ℕ, zero, suc, ◌+◌, ◌-◌, ◌*◌, ◌/◌, ◌<◌, ◌≤◌, List, [], ◌∷◌, ◌++◌, length, map, refl, sym, ◌∙◌, ap, subst, arith, Option, None, inl, inr}
 use native.Mathlib.Nat.{mul_assoc}
-use Rattle.std.specs.Prelude.{Bool, true, false, ◌⊎◌, if◌then◌else◌}
+use Rattle.std.specs.Prelude.{Bool, true, false, not, nat_le, ◌⊎◌, ◌==◌, ◌||◌, if◌then◌else◌}
+use Rattle.std.proofs.lemmas.Bool.Decides.{nat_tests}
+use Rattle.std.proofs.lemmas.Nat.{mul-le}
+use Rattle.ip_wire.specs.Ipv4Packet.{is_fragment}
 use Rattle.std.specs.List.{AllByRecursion, Contains}
 use Rattle.std.specs.FinMap as finite
 use Rattle.net_base.specs.declared.phy.Medium.{Medium}
@@ -12,7 +15,7 @@ use Rattle.fragmentation.specs.declared.key.FragKey.{FragKey}
 use Rattle.fragmentation.specs.Keys.{same_key, key_of}
 use Rattle.fragmentation.specs.Fragments.{Fragment, Got, nothing, is_fit, keeps_few, total_with, with_one, IsRebuilt}
 use Rattle.fragmentation.specs.Reassembly.{SlotNote, Take, Came, Rebuild}
-use Rattle.fragmentation.specs.Cuts.{Datagram, Piece, piece_of, pieces_of, piece_header, cut, HasForm}
+use Rattle.fragmentation.specs.Cuts.{Datagram, Piece, piece_at, piece_of, pieces_of, piece_header, piece_fragment, cut, HasForm}
 use Rattle.host_machine.specs.Note.{Note, CutNote, Cut, PieceSent, cut_notes, slot_notes}
 use Rattle.host_machine.specs.Host.{Host}
 use Rattle.host_machine.specs.Frame.{piece_frame}
@@ -25,7 +28,7 @@ use Rattle.host_machine.specs.Arrivals.{came, rebuilt, slot_notes_in}
 use Rattle.host_machine.specs.Frames.{Brings, Bring, NoFrame, OneBrings, NoneBrings, all_came, ComesInFrames}
 use Rattle.host_machine.specs.Wire.{Shows, Nothing, OnePiece, OneCut, OtherFrame}
 use Rattle.host_machine.specs.Real.{IsOf, IsReal, GivesSix}
-use Rattle.host_machine.specs.TwoHosts.{cuts, cuts_in, key_of_cut, HaveOwnKeys, RebuildsWhatWasCut}
+use Rattle.host_machine.specs.TwoHosts.{cuts, cuts_in, key_of_cut, HaveOwnKeys, RebuildsWhatWasCut, PiecesAreRead}
 use Rattle.host_machine.proofs.Keys.{same_is}
 use Rattle.host_machine.proofs.Notes.{cut_notes-append, cut_notes-slots, slot_notes-append}
 use Rattle.host_machine.proofs.Walk.{walk}
@@ -34,7 +37,7 @@ use Rattle.host_machine.proofs.Ordered.{run_ordered, run_first}
 use Rattle.host_machine.proofs.Pieces.{IsIn, is_in, contains_in, IsPiece, piece_in, IsPartOf, part_of, AreParts, IsTotal, total_stays, rebuilds_payload}
 use Rattle.host_machine.proofs.Views.{handed-append}
 use Rattle.host_machine.proofs.Arrived.{run_comes, all_came-append, all_push}
-use Rattle.host_machine.proofs.Readings.{IsWritten, protocol_again, piece_reads}
+use Rattle.host_machine.proofs.Readings.{IsWritten, protocol_again, piece_reads, piece_brings}
 use Rattle.host_machine.proofs.Shown.{run_shows, stepped}
 
 two_ways : (b : Bool) → b ≡ true → b ≡ false → ⊥
@@ -310,3 +313,32 @@ run_rebuilds a a' b b' ps qs ra rb may a_six b_six were own free =
     only d.payload (key_of_cut d) (began b) (slot_notes_in qs) (run_rebuilt rb)
     (began_of d.payload b (key_of_cut d) (all_in (λ e. finite.get b.slots (key_of_cut e) ≡ None) (cuts_in ps) d free i))
     (parts_under (cuts_in ps) d (slot_notes_in qs) own i came_all))
+
+-- a piece of two or more is a part
+is_part : (y : ℕ) (d : Datagram) (f : Fragment) → d.size ≡ y * 8 → 0 < d.size → d.size < length d.payload → IsPiece d.size d.payload f → is_fragment (piece_fragment (piece_of d f)) ≡ true
+is_part y d f size pos more piece = rw piece.is (by piece.number) where
+  above : (a b : ℕ) → b < a → nat_le a b ≡ false
+  above a b l = grind (arith, nat_tests)
+
+  or_true : (b c : Bool) → c ≡ true → (b || c) ≡ true
+  or_true true c e = refl
+  or_true false c e = e
+
+  positive : (n : ℕ) → 0 < n → not (n == 0) ≡ true
+  positive n l = grind (arith, nat_tests)
+
+  by : (k : ℕ) → is_fragment (piece_fragment (piece_of d (piece_at d.size d.payload k))) ≡ true
+  by zero =
+      let z : 0 * d.size + d.size ≡ d.size = omega arith in
+      let last : nat_le (length d.payload) (0 * d.size + d.size) ≡ false = rw z (above (length d.payload) d.size more) in
+      rw last refl
+  by (suc k) =
+      let l : 1 * d.size ≤ suc k * d.size = mul-le 1 d.size (suc k) d.size (omega arith) (omega arith) in
+      let big : 8 ≤ suc k * d.size = omega arith in
+      or_true (not (nat_le (length d.payload) (suc k * d.size + d.size))) (not (suc k * d.size / 8 == 0)) (positive (suc k * d.size / 8) (omega arith))
+
+pub pieces_read : PiecesAreRead
+pieces_read m a b d y f own mine far form size pos more there for source sums =
+    let piece = piece_in d.size d.payload f there in
+    let w = written m d y f form far size pos piece in
+    piece_brings m a b (piece_of d f) own mine w (is_part y d f size pos more piece) for source sums

@@ -1,15 +1,23 @@
 -- What one host rebuilds of what another cut, over a link that loses, repeats and reorders frames, and changes none.
-use Rattle.std.specs.Prelude.{◌≡◌, ◌≤◌, false, List, [], ◌∷◌, None}
+use Rattle.std.specs.Prelude.{◌≡◌, ℕ, ◌*◌, ◌<◌, ◌≤◌, Bool, true, false, IsTrue, List, [], ◌∷◌, length, None}
 use Rattle.std.specs.List.{AllByRecursion, Contains}
 use Rattle.std.specs.FinMap as map
-use Rattle.net_base.specs.Checksum.{ip_mtu_of}
+use Rattle.net_base.specs.declared.phy.Medium.{Medium}
+use Rattle.net_base.specs.Checksum.{ip_mtu_of, is_rx, is_tx}
 use Rattle.net_base.specs.Device.{handed, sent}
+use Rattle.ip_address.specs.declared.hardware.HardwareAddress.{HardwareAddress}
+use Rattle.ip_address.specs.declared.hardware.HardwareAddress.TheVariants as hardware
 use Rattle.fragmentation.specs.declared.key.FragKey.{FragKey}
 use Rattle.fragmentation.specs.Keys.{same_key, key_of}
-use Rattle.fragmentation.specs.Cuts.{Datagram}
+use Rattle.fragmentation.specs.Fragments.{Fragment}
+use Rattle.fragmentation.specs.Cuts.{Datagram, HasForm, cut, piece_of}
 use Rattle.host_machine.specs.Note.{CutNote, Cut, PieceSent, cut_notes}
 use Rattle.host_machine.specs.Host.{Host}
-use Rattle.host_machine.specs.Real.{IsReal, GivesSix}
+use Rattle.host_machine.specs.Addresses.{may_be_source}
+use Rattle.host_machine.specs.Ethernet.{is_for}
+use Rattle.host_machine.specs.Frame.{piece_frame}
+use Rattle.host_machine.specs.Frames.{Brings}
+use Rattle.host_machine.specs.Real.{IsOf, IsReal, GivesSix}
 use Rattle.host_machine.specs.Run.{Place, Run, told_in, notes_in}
 use Rattle.host_machine.specs.Arrivals.{rebuilt, slot_notes_in}
 
@@ -54,3 +62,20 @@ RebuildsWhatWasCut =
     (a a' b b' : Host) (ps qs : List Place) → Run a ps a' → Run b qs b' → MayExchange a b →
     AllByRecursion (λ p. GivesSix p.command) ps → AllByRecursion (λ q. GivesSix q.command) qs → WereSent ps qs →
     HaveOwnKeys (cuts_in ps) → AllByRecursion (λ d. map.get b.slots (key_of_cut d) ≡ None) (cuts_in ps) → RebuildsThese (cuts_in ps) qs
+
+-- whether a frame to a hardware address is for a host with another: where there are no such addresses, each frame is
+abbrev pub reaches : HardwareAddress → HardwareAddress → Bool
+reaches (hardware.Ethernet destination) (hardware.Ethernet own) = is_for own destination
+reaches (hardware.Ethernet destination) hardware.Ip = false
+reaches hardware.Ip (hardware.Ethernet own) = false
+reaches hardware.Ip hardware.Ip = true
+
+-- What a host sends of a packet that it cut into two pieces or more comes to another host on its medium as the pieces of its payload, if
+-- it is for that host and comes from one host, and if its checksum is there where the other tests it.
+abbrev pub PiecesAreRead : Type 0
+PiecesAreRead =
+    (m : Medium) (a b : Host) (d : Datagram) (y : ℕ) (f : Fragment) → IsOf m a.hardware_addr → IsOf m b.hardware_addr → IsOf m d.destination →
+    HasForm d → d.size ≡ y * 8 → 0 < d.size → d.size < length d.payload → Contains (cut d.size d.payload) f →
+    reaches d.destination b.hardware_addr ≡ true → may_be_source b.ip_addrs d.header.src_addr ≡ true →
+    (IsTrue (is_rx b.capabilities.checksum.ipv4) → IsTrue (is_tx a.capabilities.checksum.ipv4)) →
+    Brings b (piece_frame a (piece_of d f)) (key_of_cut d) f

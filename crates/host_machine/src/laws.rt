@@ -7,7 +7,7 @@ ghost use Rattle.host_machine.specs.ExampleSockets.{ConfigurationsAreTested, Con
 ghost use Rattle.host_machine.specs.Quiet.{SocketsAreQuiet};
 ghost use Rattle.host_machine.specs.Laws.{DiscoveriesAreNoted, FragmentsComeInFrames, IngressIsSingle, MalformedIsDropped, RunsJoin, RunsKeepLaws};
 ghost use Rattle.host_machine.specs.Unfolded.{RunsUnfold};
-ghost use Rattle.host_machine.specs.TwoHosts.{RebuildsWhatWasCut};
+ghost use Rattle.host_machine.specs.TwoHosts.{PiecesAreRead, RebuildsWhatWasCut};
 ghost use Rattle.host_machine.specs.Wire.{FragmentsArePieces, StaysReal};
 
 /// A frame whose Ethernet, ARP or IPv4 header is malformed sends nothing, and leaves the host as the same
@@ -78,6 +78,12 @@ pub fn stays_real()
 /// before, and it cuts no two packets under one key; the one has no slot with such a key at first.
 pub fn rebuilds_what_was_cut()
     ensures { RebuildsWhatWasCut }
+{}
+
+/// What a host sends of a packet that it cut comes to another on its medium as the pieces of its payload,
+/// if it is for that host and comes from one host, and its checksum is there where it is tested.
+pub fn pieces_are_read()
+    ensures { PiecesAreRead }
 {}
 
 /// A fragment that follows at most three others leaves at most four separate ranges.
