@@ -22,6 +22,7 @@ pub mod Arrived
 pub mod InTime
 pub mod Readings
 pub mod Shown
+pub mod TwoHosts
 pub mod Few
 mod Exchange
 pub mod Begun

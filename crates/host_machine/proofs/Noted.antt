@@ -25,16 +25,17 @@ use Rattle.host_machine.specs.Arp.{request_for}
 use Rattle.host_machine.specs.Frame.{arp_frame, ip_frame, link_header, piece_text}
 use Rattle.host_machine.specs.Dispatch as dispatch
 use Rattle.host_machine.specs.Dispatch.{Outcome, IsUnsent, Emits, Discovers, SendsByHop, SendsEthernet, SendsOver, Dispatches, group_address, group_address_v6, many_address, datagram_of, identified}
-use Rattle.host_machine.specs.Real.{IsEthernet}
+use Rattle.net_base.specs.declared.phy.Medium.TheVariants as medium
+use Rattle.host_machine.specs.Real.{IsOf}
 use Rattle.host_machine.specs.Laws.{is_arp_request, requests_in, OnEthernet}
 
 -- a frame of IP asks for no hardware address
-no_request : (H : Host) (own : EthernetAddress) (h : HardwareAddress) (text : List ℕ) → H.hardware_addr ≡ hardware.Ethernet own → length own.0 ≡ 6 → IsEthernet h →
+no_request : (H : Host) (own : EthernetAddress) (h : HardwareAddress) (text : List ℕ) → H.hardware_addr ≡ hardware.Ethernet own → length own.0 ≡ 6 → IsOf medium.Ethernet h →
     is_arp_request (link_header H.hardware_addr h protocol.Ipv4 ++ text) ≡ false
 no_request H own (hardware.Ethernet a) text is own_len len = let o6 = six own.0 own_len in let a6 = six a.0 len in rw (is, o6.is, a6.is) refl
 no_request H own hardware.Ip text is own_len len = absurd len
 
-of_packet : (H : Host) (own : EthernetAddress) (h : HardwareAddress) (p : Packet) → H.hardware_addr ≡ hardware.Ethernet own → length own.0 ≡ 6 → IsEthernet h → is_arp_request (ip_frame H h p) ≡ false
+of_packet : (H : Host) (own : EthernetAddress) (h : HardwareAddress) (p : Packet) → H.hardware_addr ≡ hardware.Ethernet own → length own.0 ≡ 6 → IsOf medium.Ethernet h → is_arp_request (ip_frame H h p) ≡ false
 of_packet H own h (packet.Ipv4 p) is own_len len = no_request H own h _ is own_len len
 
 -- the pieces of a packet go where it goes
@@ -54,10 +55,10 @@ unsent : {H new : Host} {frames : List (List ℕ)} {notes : List Note} → IsUns
 unsent u = rw (u.silent, u.unnoted) refl
 
 emitted : {id : ℕ} {p : Packet} {h : HardwareAddress} {outcome : Outcome} {H new : Host} {frames : List (List ℕ)} {notes : List Note} (own : EthernetAddress) → H.hardware_addr ≡ hardware.Ethernet own →
-    length own.0 ≡ 6 → IsEthernet h → Emits id p h outcome H frames notes new → requests_in frames ≡ length (asks notes)
+    length own.0 ≡ 6 → IsOf medium.Ethernet h → Emits id p h outcome H frames notes new → requests_in frames ≡ length (asks notes)
 emitted {id} {p} {h} {outcome} {H} own is len to (dispatch.Whole fits o f n e) = rw (f, n, of_packet H own h p is len to) refl
 emitted {id} {p} {h} {outcome} {H} own is len to (dispatch.InPieces first rest long short pieces fits o f n e) =
-    let there : IsEthernet first.destination = rw (goes_to H h id p first rest pieces) to in
+    let there : IsOf medium.Ethernet first.destination = rw (goes_to H h id p first rest pieces) to in
     rw (f, n, no_request H own first.destination (piece_text H.capabilities first) is len there) refl
 emitted own is len to (dispatch.TooLong long longer o u) = unsent u
 
@@ -93,6 +94,6 @@ noted p outcome H new frames notes on (dispatch.ToSomebody more s d n) = rw n (b
   by_ethernet own is len (dispatch.NoHop m n o u) = unsent u
   by_ethernet own is len (dispatch.ByHop hop m n s) = by_hop own hop is len s
 
-  by : (h : HardwareAddress) → H.hardware_addr ≡ h → IsEthernet h → SendsOver H.ipv4_id h p outcome (identified H) frames more new → requests_in frames ≡ length (asks more)
+  by : (h : HardwareAddress) → H.hardware_addr ≡ h → IsOf medium.Ethernet h → SendsOver H.ipv4_id h p outcome (identified H) frames more new → requests_in frames ≡ length (asks more)
   by (hardware.Ethernet own) is len sends = by_ethernet own is len sends
   by hardware.Ip is len sends = absurd len

@@ -1,6 +1,6 @@
 -- The frames that a run sends, and the pieces that it notes.
-use Rattle.std.proofs.Common.{◌≡◌, ℕ, List, [], ◌∷◌, ◌++◌, length, refl, ap, subst, Option, Some, None}
-use Rattle.std.specs.Prelude.{ℤ, Bool, true, false, ◌/◌, ◌%◌, ◌^◌, if◌then◌else◌}
+use Rattle.std.proofs.Common.{◌≡◌, ℕ, List, [], ◌∷◌, ◌++◌, length, refl, sym, ◌∙◌, ap, subst, Option, Some, None}
+use Rattle.std.specs.Prelude.{ℤ, Bool, true, false, not, ◌&&◌, ◌/◌, ◌%◌, ◌^◌, if◌then◌else◌}
 use Rattle.std.specs.List.{AllByRecursion}
 use Rattle.std.specs.Option.{option_map}
 use Rattle.std.specs.FinMap as map
@@ -38,6 +38,13 @@ use Rattle.fragmentation.specs.Fragments.{Fragment}
 use Rattle.fragmentation.specs.declared.key.FragKey.{FragKey}
 use Rattle.fragmentation.specs.Cuts.{Piece, pieces_of, HasForm}
 use Rattle.host_machine.specs.Note.{Note, OfDiscovery, OfIdentification, OfCuts, Ask, Identify, CutNote, Cut, PieceSent, cut_notes}
+use Rattle.net_base.specs.declared.phy.DeviceCapabilities.{DeviceCapabilities}
+use Rattle.net_base.specs.declared.phy.Medium.{Medium}
+use Rattle.net_base.specs.declared.phy.Medium.TheVariants as medium
+use Rattle.ip_address.specs.EthernetAddress.{broadcast}
+use Rattle.ip_address.specs.Hardware.{is_unicast}
+use Rattle.host_machine.specs.Config.{same_medium, hardware_refusal_of}
+use Rattle.host_machine.specs.declared.results.HardwareError.TheVariants.{WrongMedium, NotUnicast}
 use Rattle.host_machine.specs.Host.{Host, swept, with_left, with_neighbors}
 use Rattle.host_machine.specs.Addresses.{is_broadcast_v4}
 use Rattle.host_machine.specs.Packet.{Packet}
@@ -62,66 +69,77 @@ use Rattle.host_machine.specs.Response.{Responds}
 use Rattle.host_machine.specs.Ingress.{Takes, Ingress}
 use Rattle.host_machine.specs.Step.{Act, Step, UpdatesIpAddrs}
 use Rattle.host_machine.specs.Step as step
-use Rattle.host_machine.specs.Real.{IsEthernet, AreReal, KeepsEthernet}
+use Rattle.host_machine.specs.Real.{IsSix, IsOf, IsReal, GivesSix}
 use Rattle.host_machine.specs.Wire.{Shows, Nothing, OnePiece, OneCut, OtherFrame, FragmentsArePieces, StaysReal}
 use Rattle.host_machine.specs.Run.{Place, Run, Ends, Then, told_in, notes_in}
 use Rattle.host_machine.specs.Parts.{Part}
 use Rattle.host_machine.proofs.Notes.{cut_notes-append, cut_notes-slots}
 use Rattle.host_machine.proofs.Malformed.{sent-sends}
 use Rattle.host_machine.proofs.Repeated.{polled}
-use Rattle.host_machine.proofs.Six.{none_six, arp_source_six}
+use Rattle.host_machine.proofs.Six.{none_of, arp_source_of}
 use Rattle.host_machine.proofs.Readings.{arp_other, whole_other}
 use Rattle.host_machine.proofs.Walk.{Keeps, Reached, ByNeighbor, ByGroup, WithoutAddresses, sent-append, dispatched, taken, egressed}
 
-shows_on : {fs gs : List (List ℕ)} {xs ys : List CutNote} → Shows fs xs → Shows gs ys → Shows (fs ++ gs) (xs ++ ys)
+shows_on : {m : Medium} {fs gs : List (List ℕ)} {xs ys : List CutNote} → Shows m fs xs → Shows m gs ys → Shows m (fs ++ gs) (xs ++ ys)
 shows_on Nothing more = more
-shows_on (OnePiece H p six s) more = OnePiece H p six (shows_on s more)
-shows_on (OneCut d six s) more = OneCut d six (shows_on s more)
+shows_on (OnePiece H p of s) more = OnePiece H p of (shows_on s more)
+shows_on (OneCut d of s) more = OneCut d of (shows_on s more)
 shows_on (OtherFrame frame other s) more = OtherFrame frame other (shows_on s more)
 
-record Real (H : Host) : Type 0 where
-  hardware : IsEthernet H.hardware_addr
-  neighbors : AreReal H.neighbors
-
-record Shown (frames : List (List ℕ)) (notes : List Note) (new : Host) : Type 0 where
-  shows : Shows frames (cut_notes notes)
-  real : Real new
+pub record Shown (old : Host) (frames : List (List ℕ)) (notes : List Note) (new : Host) : Type 0 where
+  pub shows : Shows old.capabilities.medium frames (cut_notes notes)
+  pub same : new.capabilities ≡ old.capabilities
+  pub real : IsReal new
 
 abbrev ShownOver : Host → List (List ℕ) → List Note → Host → Type 0
-ShownOver old frames notes new = Real old → Shown frames notes new
+ShownOver old frames notes new = IsReal old → Shown old frames notes new
+
+-- where the addresses stay
+stays : (old : Host) (frames : List (List ℕ)) (notes : List Note) (new : Host) → Shows old.capabilities.medium frames (cut_notes notes) → new.capabilities ≡ old.capabilities → new.hardware_addr ≡ old.hardware_addr →
+    new.neighbors.known ≡ old.neighbors.known → IsReal old → Shown old frames notes new
+stays old frames notes new s c h n r = record {
+  shows = s;
+  same = c;
+  real = record { own = rw (c, h) r.own; neighbors = rw (c, n) r.neighbors };
+}
 
 keeps : (old new : Host) → Keeps old new → ShownOver old [] [] new
-keeps old new k = λ r. record { shows = Nothing; real = record { hardware = let e : new.hardware_addr ≡ old.hardware_addr = ap (λ (K : Host). K.hardware_addr) k.same in rw e r.hardware; neighbors = k.real r.neighbors } }
+keeps old new k = λ r. record { shows = Nothing; same = ap (λ (K : Host). K.capabilities) k.same; real = k.real r }
 
 on : (a b c : Host) (fs gs : List (List ℕ)) (xs ys : List Note) → ShownOver a fs xs b → ShownOver b gs ys c → ShownOver a (fs ++ gs) (xs ++ ys) c
-on a b c fs gs xs ys one two = λ r. let x = one r in let y = two x.real in record { shows = rw cut_notes-append (shows_on x.shows y.shows); real = y.real }
+on a b c fs gs xs ys one two = λ r.
+    let x = one r in
+    let y = two x.real in
+    let more : Shows a.capabilities.medium gs (cut_notes ys) = subst (λ (d : DeviceCapabilities). Shows d.medium gs (cut_notes ys)) x.same y.shows in
+    record { shows = rw cut_notes-append (shows_on x.shows more); same = y.same ∙ x.same; real = y.real }
 
-six_own : (own : EthernetAddress) (h : HardwareAddress) → h ≡ hardware.Ethernet own → IsEthernet h → length own.0 ≡ 6
-six_own own h e six = rw e at six
+-- a request goes from the host's own address to all
+of_all : (m : Medium) (own : EthernetAddress) → IsOf m (hardware.Ethernet own) → IsOf m (hardware.Ethernet broadcast)
+of_all medium.Ethernet own of = refl
+of_all medium.Ip own of = of
 
 asks : (H : Host) (own : EthernetAddress) (source target : Ipv4Address) (hop : IpAddress) → H.hardware_addr ≡ hardware.Ethernet own → answer_of H.neighbors hop H.moment ≡ NotFound →
     ShownOver H (arp_frame (request_for own source target) ∷ []) (OfDiscovery (Ask H.moment) ∷ []) (with_neighbors H (silenced H.neighbors H))
-asks H own source target hop mine unknown = λ r. record {
-  shows = OtherFrame (arp_frame (request_for own source target)) (arp_other (request_for own source target) (six_own own H.hardware_addr mine r.hardware) refl) Nothing;
-  real = record { hardware = r.hardware; neighbors = r.neighbors };
-}
+asks H own source target hop mine unknown = λ r.
+    let of : IsOf H.capabilities.medium (hardware.Ethernet own) = rw mine at r.own in
+    stays H _ _ _ (OtherFrame (arp_frame (request_for own source target)) (arp_other H.capabilities.medium (request_for own source target) of (of_all H.capabilities.medium own of)) Nothing) refl refl refl r
 
 identifies : (H : Host) → ShownOver H [] (OfIdentification (Identify H.ipv4_id) ∷ []) (identified H)
-identifies H = λ r. record { shows = Nothing; real = record { hardware = r.hardware; neighbors = r.neighbors } }
+identifies H = λ r. stays H _ _ _ Nothing refl refl refl r
 
--- where a frame goes is an address of six octets
-found_six : (o : Option Neighbor) (silent t : ℤ) (h : HardwareAddress) → ((e : Neighbor) → o ≡ Some e → IsEthernet e.hardware_addr) → answer_from o silent t ≡ Found h → IsEthernet h
-found_six None silent t h all e = by (is_before t silent) e where
-  by : (b : Bool) → (if b then RateLimited else NotFound) ≡ Found h → IsEthernet h
+-- where a frame goes is an address of the medium
+found_of : (m : Medium) (o : Option Neighbor) (silent t : ℤ) (h : HardwareAddress) → ((e : Neighbor) → o ≡ Some e → IsOf m e.hardware_addr) → answer_from o silent t ≡ Found h → IsOf m h
+found_of m None silent t h all e = by (is_before t silent) e where
+  by : (b : Bool) → (if b then RateLimited else NotFound) ≡ Found h → IsOf m h
   by true q = absurd cc
   by false q = absurd cc
-found_six (Some n) silent t h all e = by (is_before t n.expires_at) e where
-  later : (b : Bool) → (if b then RateLimited else NotFound) ≡ Found h → IsEthernet h
+found_of m (Some n) silent t h all e = by (is_before t n.expires_at) e where
+  later : (b : Bool) → (if b then RateLimited else NotFound) ≡ Found h → IsOf m h
   later true q = absurd cc
   later false q = absurd cc
 
-  by : (b : Bool) → (if b then Found n.hardware_addr else missing silent t) ≡ Found h → IsEthernet h
-  by true q = let same : n.hardware_addr ≡ h = cc in subst IsEthernet same (all n refl)
+  by : (b : Bool) → (if b then Found n.hardware_addr else missing silent t) ≡ Found h → IsOf m h
+  by true q = let same : n.hardware_addr ≡ h = cc in subst (IsOf m) same (all n refl)
   by false q = later (is_before t silent) q
 
 group_six : (own : List IpCidr) (a : IpAddress) (e : EthernetAddress) → many_address own a ≡ Some e → length e.0 ≡ 6
@@ -135,202 +153,213 @@ group_six own (ip.Ipv6 a) e is = by (ipv6_address.is_multicast a) is where
   by true q = let same : ◌≡◌ {A = EthernetAddress} (record { 0 = 0x33 ∷ 0x33 ∷ a.bits / 2 ^ 24 % 256 ∷ a.bits / 2 ^ 16 % 256 ∷ a.bits / 2 ^ 8 % 256 ∷ a.bits % 256 ∷ [] }) e = cc in subst (λ (x : EthernetAddress). length x.0 ≡ 6) same refl
   by false q = absurd cc
 
-reached_six : (H : Host) (h : HardwareAddress) → Real H → Reached H h → IsEthernet h
-reached_six H h r (ByNeighbor hop k) = found_six (map.get H.neighbors.known hop) H.neighbors.silent_until H.moment h (λ e is. r.neighbors hop e is) k
-reached_six H h r (ByGroup a e m is) = rw is (group_six H.ip_addrs a e m)
-reached_six H h r (WithoutAddresses mine is) = absurd (rw mine at r.hardware)
+group_of : (m : Medium) (own : EthernetAddress) (list : List IpCidr) (a : IpAddress) (e : EthernetAddress) → IsOf m (hardware.Ethernet own) → many_address list a ≡ Some e → IsOf m (hardware.Ethernet e)
+group_of medium.Ethernet own list a e of is = group_six list a e is
+group_of medium.Ip own list a e of is = absurd of
+
+reached_of : (H : Host) (h : HardwareAddress) → IsReal H → Reached H h → IsOf H.capabilities.medium h
+reached_of H h r (ByNeighbor hop k) = found_of H.capabilities.medium (map.get H.neighbors.known hop) H.neighbors.silent_until H.moment h (λ e is. r.neighbors hop e is) k
+reached_of H h r (ByGroup own a e mine many is) = rw is (group_of H.capabilities.medium own H.ip_addrs a e (rw mine at r.own) many)
+reached_of H h r (WithoutAddresses mine is) = rw is (rw mine at r.own)
 
 whole : (H : Host) (h : HardwareAddress) (p : Packet) → Reached H h → ShownOver H (ip_frame H h p ∷ []) [] H
-whole H h p reached = λ r. record { shows = OtherFrame (ip_frame H h p) (whole_other H h p r.hardware (reached_six H h r reached)) Nothing; real = r }
+whole H h p reached = λ r. stays H _ _ _ (OtherFrame (ip_frame H h p) (whole_other H.capabilities.medium H h p r.own (reached_of H h r reached)) Nothing) refl refl refl r
 
-cut_six : (H : Host) (h : HardwareAddress) (id : ℕ) (p : Packet) → IsEthernet h → IsEthernet (datagram_of H h id p).destination
-cut_six H h id (packet.Ipv4 p) six = six
+cut_of : (m : Medium) (H : Host) (h : HardwareAddress) (id : ℕ) (p : Packet) → IsOf m h → IsOf m (datagram_of H h id p).destination
+cut_of m H h id (packet.Ipv4 p) of = of
 
 cuts : (H : Host) (h : HardwareAddress) (id : ℕ) (p : Packet) (first : Piece) (rest : List Piece) → pieces_of (datagram_of H h id p) ≡ first ∷ rest → HasForm (datagram_of H h id p) → Reached H h →
     ShownOver H (piece_frame H first ∷ []) (OfCuts (Cut (datagram_of H h id p)) ∷ OfCuts (PieceSent first) ∷ []) (with_left H rest)
-cuts H h id p first rest e form reached = λ r. record {
-  shows = OneCut (datagram_of H h id p) (cut_six H h id p (reached_six H h r reached)) (OnePiece H first r.hardware Nothing);
-  real = record { hardware = r.hardware; neighbors = r.neighbors };
-}
+cuts H h id p first rest e form reached = λ r.
+    stays H _ _ _ (OneCut (datagram_of H h id p) (cut_of H.capabilities.medium H h id p (reached_of H h r reached)) (OnePiece H first r.own Nothing)) refl refl refl r
 
 sweeps : (H : Host) (t : ℤ) → ShownOver H [] [] (swept H t)
-sweeps H t = λ r. record { shows = Nothing; real = record { hardware = r.hardware; neighbors = r.neighbors } }
+sweeps H t = λ r. stays H [] [] _ Nothing refl refl refl r
 
 fragments : (H : Host) (key : FragKey) (f : Fragment) (result : Option (List ℕ)) (notes : List Note) (new : Host) → TakesFragment key f result H notes new → ShownOver H [] notes new
-fragments H key f result notes new t = λ real. rw (t.noted, t.changed) (record { shows = rw (cut_notes-slots t.slot_notes) Nothing; real = record { hardware = real.hardware; neighbors = real.neighbors } })
+fragments H key f result notes new t = λ r. rw (t.noted, t.changed) (stays H [] _ _ (rw (cut_notes-slots t.slot_notes) Nothing) refl refl refl r)
 
 pieces : (H : Host) (p : Piece) (rest : List Piece) → H.left ≡ p ∷ rest → ShownOver H (piece_frame H p ∷ []) (OfCuts (PieceSent p) ∷ []) (with_left H rest)
-pieces H p rest e = λ r. record { shows = OnePiece H p r.hardware Nothing; real = record { hardware = r.hardware; neighbors = r.neighbors } }
+pieces H p rest e = λ r. stays H _ _ _ (OnePiece H p r.own Nothing) refl refl refl r
 
--- an ARP reply goes between addresses of six octets
-abbrev GoodReply : Option Reply → Type 0
-GoodReply None = Unit {0}
-GoodReply (Some (Ip p)) = Unit {0}
-GoodReply (Some (Arp r)) = (length r.source_hardware_addr.0 ≡ 6) × (length r.target_hardware_addr.0 ≡ 6)
+-- an ARP reply goes between addresses of the medium
+abbrev GoodReply : Medium → Option Reply → Type 0
+GoodReply m None = Unit {0}
+GoodReply m (Some (Ip p)) = Unit {0}
+GoodReply m (Some (Arp r)) = IsOf m (hardware.Ethernet r.source_hardware_addr) × IsOf m (hardware.Ethernet r.target_hardware_addr)
 
-no_reply : {reply : Option Reply} → reply ≡ None → GoodReply reply
-no_reply e = rw e tt
+module _ (kind : Medium) where
+  no_reply : {reply : Option Reply} → reply ≡ None → GoodReply kind reply
+  no_reply e = rw e tt
 
-drop_good : {H new : Host} {reply : Option Reply} {notes : List Note} → IsDropped H reply notes new → GoodReply reply
-drop_good d = no_reply d.silent
+  drop_good : {H new : Host} {reply : Option Reply} {notes : List Note} → IsDropped H reply notes new → GoodReply kind reply
+  drop_good d = no_reply d.silent
 
-message_good : (r : Ipv4Repr) (m : Icmpv4Repr) (octets : List ℕ) (o : Option Ipv4Address) → GoodReply (option_map (message_back r m octets) o)
-message_good r m octets None = tt
-message_good r m octets (Some a) = tt
+  message_good : (r : Ipv4Repr) (m : Icmpv4Repr) (octets : List ℕ) (o : Option Ipv4Address) → GoodReply kind (option_map (message_back r m octets) o)
+  message_good r m octets None = tt
+  message_good r m octets (Some a) = tt
 
-unreachable_good : (raw : Bool) (own : List IpCidr) (reason : Icmpv4DstUnreachable) (r : Ipv4Repr) (payload : List ℕ) → GoodReply (unreachable raw own reason r payload)
-unreachable_good true own reason r payload = tt
-unreachable_good false own reason r payload = message_good r (DstUnreachable reason r) (icmpv4.quoted payload) (reply_source own r (DstUnreachable reason r))
+  unreachable_good : (raw : Bool) (own : List IpCidr) (reason : Icmpv4DstUnreachable) (r : Ipv4Repr) (payload : List ℕ) → GoodReply kind (unreachable raw own reason r payload)
+  unreachable_good true own reason r payload = tt
+  unreachable_good false own reason r payload = message_good r (DstUnreachable reason r) (icmpv4.quoted payload) (reply_source own r (DstUnreachable reason r))
 
-answer_good : (own : List IpCidr) (r : Ipv4Repr) (m : Icmpv4Repr) (octets : List ℕ) → GoodReply (answer_to own r m octets)
-answer_good own r (EchoRequest ident seq_no) octets = message_good r (EchoReply ident seq_no) octets (reply_source own r (EchoReply ident seq_no))
-answer_good own r (EchoReply ident seq_no) octets = tt
-answer_good own r (DstUnreachable reason header) octets = tt
-answer_good own r (TimeExceeded code header) octets = tt
+  answer_good : (own : List IpCidr) (r : Ipv4Repr) (m : Icmpv4Repr) (octets : List ℕ) → GoodReply kind (answer_to own r m octets)
+  answer_good own r (EchoRequest ident seq_no) octets = message_good r (EchoReply ident seq_no) octets (reply_source own r (EchoReply ident seq_no))
+  answer_good own r (EchoReply ident seq_no) octets = tt
+  answer_good own r (DstUnreachable reason header) octets = tt
+  answer_good own r (TimeExceeded code header) octets = tt
 
-segment_good : (r : Ipv4Repr) (o : Option TcpRepr) → GoodReply (option_map (segment_back r) o)
-segment_good r None = tt
-segment_good r (Some t) = tt
+  segment_good : (r : Ipv4Repr) (o : Option TcpRepr) → GoodReply kind (option_map (segment_back r) o)
+  segment_good r None = tt
+  segment_good r (Some t) = tt
 
-reply_good : (op : ArpOperation) (own : EthernetAddress) (r : ArpRepr) → length own.0 ≡ 6 → length r.source_hardware_addr.0 ≡ 6 → GoodReply (answer_by op own r)
-reply_good operation.Request own r s t = (s, t)
-reply_good operation.Reply own r s t = tt
+  reply_good : (op : ArpOperation) (own : EthernetAddress) (r : ArpRepr) → IsOf kind (hardware.Ethernet own) → IsOf kind (hardware.Ethernet r.source_hardware_addr) → GoodReply kind (answer_by op own r)
+  reply_good operation.Request own r s t = (s, t)
+  reply_good operation.Reply own r s t = tt
 
-arp_good : {own : EthernetAddress} {H new : Host} {payload : List ℕ} {reply : Option Reply} {notes : List Note} → length own.0 ≡ 6 → TakesArp own H payload reply notes new → GoodReply reply
-arp_good six (arp.Malformed m d) = drop_good d
-arp_good six (arp.NotForUs a l d) = drop_good d
-arp_good {own} {H} {new} {payload} six (arp.Learnt a l learns r n) = rw r (reply_good (arp_in payload).operation own (arp_in payload) six (arp_source_six payload a))
+  arp_good : {own : EthernetAddress} {H new : Host} {payload : List ℕ} {reply : Option Reply} {notes : List Note} → IsOf kind (hardware.Ethernet own) → TakesArp own H payload reply notes new → GoodReply kind reply
+  arp_good of (arp.Malformed m d) = drop_good d
+  arp_good of (arp.NotForUs a l d) = drop_good d
+  arp_good {own} {H} {new} {payload} of (arp.Learnt a l learns r n) = rw r (reply_good (arp_in payload).operation own (arp_in payload) of (arp_source_of kind own payload of a))
 
-udp_good : {raw : Bool} {r : Ipv4Repr} {H new : Host} {octets : List ℕ} {reply : Option Reply} {notes : List Note} → TakesUdp raw r H octets reply notes new → GoodReply reply
-udp_good (udp.Malformed m d) = drop_good d
-udp_good (udp.Delivered sockets u f r n e) = no_reply r
-udp_good {raw} {r} {H} {new} {octets} (udp.Unheard u none e n s) = rw e (unreachable_good raw H.ip_addrs _ r octets)
+  udp_good : {raw : Bool} {r : Ipv4Repr} {H new : Host} {octets : List ℕ} {reply : Option Reply} {notes : List Note} → TakesUdp raw r H octets reply notes new → GoodReply kind reply
+  udp_good (udp.Malformed m d) = drop_good d
+  udp_good (udp.Delivered sockets u f r n e) = no_reply r
+  udp_good {raw} {r} {H} {new} {octets} (udp.Unheard u none e n s) = rw e (unreachable_good raw H.ip_addrs _ r octets)
 
-icmpv4_good : {r : Ipv4Repr} {H new : Host} {octets : List ℕ} {reply : Option Reply} {notes : List Note} → TakesIcmpv4 r H octets reply notes new → GoodReply reply
-icmpv4_good (icmpv4.Malformed m d) = drop_good d
-icmpv4_good {r} {H} {new} {octets} (icmpv4.Taken i e n s) = rw e (answer_good H.ip_addrs r _ _)
+  icmpv4_good : {r : Ipv4Repr} {H new : Host} {octets : List ℕ} {reply : Option Reply} {notes : List Note} → TakesIcmpv4 r H octets reply notes new → GoodReply kind reply
+  icmpv4_good (icmpv4.Malformed m d) = drop_good d
+  icmpv4_good {r} {H} {new} {octets} (icmpv4.Taken i e n s) = rw e (answer_good H.ip_addrs r _ _)
 
-tcp_good : {raw : Bool} {r : Ipv4Repr} {H new : Host} {octets : List ℕ} {reply : Option Reply} {notes : List Note} → TakesTcp raw r H octets reply notes new → GoodReply reply
-tcp_good (tcp.BetweenNobody b d) = drop_good d
-tcp_good (tcp.Malformed b m d) = drop_good d
-tcp_good {raw} {r} (tcp.Delivered index place b t f e n s) = rw e (segment_good r _)
-tcp_good {raw} {r} (tcp.Unheard b t none e n s) = rw e (segment_good r _)
+  tcp_good : {raw : Bool} {r : Ipv4Repr} {H new : Host} {octets : List ℕ} {reply : Option Reply} {notes : List Note} → TakesTcp raw r H octets reply notes new → GoodReply kind reply
+  tcp_good (tcp.BetweenNobody b d) = drop_good d
+  tcp_good (tcp.Malformed b m d) = drop_good d
+  tcp_good {raw} {r} (tcp.Delivered index place b t f e n s) = rw e (segment_good r _)
+  tcp_good {raw} {r} (tcp.Unheard b t none e n s) = rw e (segment_good r _)
 
-refused_good : {raw : Bool} {r : Ipv4Repr} {H new : Host} {octets : List ℕ} {reply : Option Reply} {notes : List Note} → ipv4.IsRefused raw r H octets reply notes new → GoodReply reply
-refused_good {raw} {r} {H} {new} {octets} i = rw i.replied (unreachable_good raw H.ip_addrs _ r octets)
+  refused_good : {raw : Bool} {r : Ipv4Repr} {H new : Host} {octets : List ℕ} {reply : Option Reply} {notes : List Note} → ipv4.IsRefused raw r H octets reply notes new → GoodReply kind reply
+  refused_good {raw} {r} {H} {new} {octets} i = rw i.replied (unreachable_good raw H.ip_addrs _ r octets)
 
-protocol_good : (p : IpProtocol) (raw : Bool) (r : Ipv4Repr) (H : Host) (octets : List ℕ) (reply : Option Reply) (notes : List Note) (new : Host) → TakesProtocol p raw r H octets reply notes new → GoodReply reply
-protocol_good ip_protocol.Icmp raw r H octets reply notes new t = icmpv4_good t
-protocol_good ip_protocol.Udp raw r H octets reply notes new t = udp_good t
-protocol_good ip_protocol.Tcp raw r H octets reply notes new t = tcp_good t
-protocol_good ip_protocol.Igmp raw r H octets reply notes new t = drop_good t
-protocol_good ip_protocol.HopByHop raw r H octets reply notes new t = refused_good t
-protocol_good ip_protocol.Icmpv6 raw r H octets reply notes new t = refused_good t
-protocol_good (ip_protocol.Unknown n) raw r H octets reply notes new t = refused_good t
+  protocol_good : (p : IpProtocol) (raw : Bool) (r : Ipv4Repr) (H : Host) (octets : List ℕ) (reply : Option Reply) (notes : List Note) (new : Host) → TakesProtocol p raw r H octets reply notes new → GoodReply kind reply
+  protocol_good ip_protocol.Icmp raw r H octets reply notes new t = icmpv4_good t
+  protocol_good ip_protocol.Udp raw r H octets reply notes new t = udp_good t
+  protocol_good ip_protocol.Tcp raw r H octets reply notes new t = tcp_good t
+  protocol_good ip_protocol.Igmp raw r H octets reply notes new t = drop_good t
+  protocol_good ip_protocol.HopByHop raw r H octets reply notes new t = refused_good t
+  protocol_good ip_protocol.Icmpv6 raw r H octets reply notes new t = refused_good t
+  protocol_good (ip_protocol.Unknown n) raw r H octets reply notes new t = refused_good t
 
-whole_good : {source : HardwareAddress} {r : Ipv4Repr} {H new : Host} {payload : List ℕ} {reply : Option Reply} {notes : List Note} → TakesWhole source r H payload reply notes new → GoodReply reply
-whole_good (ipv4.NotForUs u d) = drop_good d
-whole_good {source} {r} {H} {new} {payload} {reply} {notes} (ipv4.Accepted u t) = protocol_good r.next_header _ r _ payload reply notes new t
+  whole_good : {source : HardwareAddress} {r : Ipv4Repr} {H new : Host} {payload : List ℕ} {reply : Option Reply} {notes : List Note} → TakesWhole source r H payload reply notes new → GoodReply kind reply
+  whole_good (ipv4.NotForUs u d) = drop_good d
+  whole_good {source} {r} {H} {new} {payload} {reply} {notes} (ipv4.Accepted u t) = protocol_good r.next_header _ r _ payload reply notes new t
 
-packet_good : {source : HardwareAddress} {r : Ipv4Repr} {f : Ipv4Fragment} {H new : Host} {payload : List ℕ} {reply : Option Reply} {notes : List Note} → TakesPacket source r f H payload reply notes new → GoodReply reply
-packet_good (ipv4.FromNoHost s d) = drop_good d
-packet_good (ipv4.Part s g t e) = no_reply e
-packet_good (ipv4.Completed octets mid first rest s g t w n) = whole_good w
-packet_good (ipv4.Whole s g t) = whole_good t
+  packet_good : {source : HardwareAddress} {r : Ipv4Repr} {f : Ipv4Fragment} {H new : Host} {payload : List ℕ} {reply : Option Reply} {notes : List Note} → TakesPacket source r f H payload reply notes new → GoodReply kind reply
+  packet_good (ipv4.FromNoHost s d) = drop_good d
+  packet_good (ipv4.Part s g t e) = no_reply e
+  packet_good (ipv4.Completed octets mid first rest s g t w n) = whole_good w
+  packet_good (ipv4.Whole s g t) = whole_good t
 
-ipv4_good : {source : HardwareAddress} {H new : Host} {octets : List ℕ} {reply : Option Reply} {notes : List Note} → TakesIpv4 source H octets reply notes new → GoodReply reply
-ipv4_good (ipv4.Malformed m d) = drop_good d
-ipv4_good (ipv4.Read i t) = packet_good t
+  ipv4_good : {source : HardwareAddress} {H new : Host} {octets : List ℕ} {reply : Option Reply} {notes : List Note} → TakesIpv4 source H octets reply notes new → GoodReply kind reply
+  ipv4_good (ipv4.Malformed m d) = drop_good d
+  ipv4_good (ipv4.Read i t) = packet_good t
 
-payload_good : (own source : EthernetAddress) (H : Host) (p : EthernetProtocol) (payload : List ℕ) (reply : Option Reply) (notes : List Note) (new : Host) → length own.0 ≡ 6 →
-    TakesPayload own source H p payload reply notes new → GoodReply reply
-payload_good own source H protocol.Arp payload reply notes new six t = arp_good six t
-payload_good own source H protocol.Ipv4 payload reply notes new six t = ipv4_good t
-payload_good own source H protocol.Ipv6 payload reply notes new six t = drop_good t
-payload_good own source H (protocol.Unknown n) payload reply notes new six t = drop_good t
+  payload_good : (own source : EthernetAddress) (H : Host) (p : EthernetProtocol) (payload : List ℕ) (reply : Option Reply) (notes : List Note) (new : Host) → IsOf kind (hardware.Ethernet own) →
+      TakesPayload own source H p payload reply notes new → GoodReply kind reply
+  payload_good own source H protocol.Arp payload reply notes new of t = arp_good of t
+  payload_good own source H protocol.Ipv4 payload reply notes new of t = ipv4_good t
+  payload_good own source H protocol.Ipv6 payload reply notes new of t = drop_good t
+  payload_good own source H (protocol.Unknown n) payload reply notes new of t = drop_good t
 
-ethernet_good : {own : EthernetAddress} {H new : Host} {frame : List ℕ} {reply : Option Reply} {notes : List Note} → length own.0 ≡ 6 → TakesEthernet own H frame reply notes new → GoodReply reply
-ethernet_good six (ethernet.Malformed m d) = drop_good d
-ethernet_good six (ethernet.NotForUs l f d) = drop_good d
-ethernet_good {own} {H} {new} {frame} {reply} {notes} six (ethernet.Accepted l f t) = payload_good own _ H _ _ reply notes new six t
+  ethernet_good : {own : EthernetAddress} {H new : Host} {frame : List ℕ} {reply : Option Reply} {notes : List Note} → IsOf kind (hardware.Ethernet own) → TakesEthernet own H frame reply notes new → GoodReply kind reply
+  ethernet_good of (ethernet.Malformed m d) = drop_good d
+  ethernet_good of (ethernet.NotForUs l f d) = drop_good d
+  ethernet_good {own} {H} {new} {frame} {reply} {notes} of (ethernet.Accepted l f t) = payload_good own _ H _ _ reply notes new of t
 
-frame_good : (h : HardwareAddress) (H : Host) (frame : List ℕ) (reply : Option Reply) (notes : List Note) (new : Host) → IsEthernet h → TakesFrame h H frame reply notes new → GoodReply reply
-frame_good (hardware.Ethernet own) H frame reply notes new six t = ethernet_good six t
-frame_good hardware.Ip H frame reply notes new six t = absurd six
+  frame_good : (h : HardwareAddress) (H : Host) (frame : List ℕ) (reply : Option Reply) (notes : List Note) (new : Host) → IsOf kind h → TakesFrame h H frame reply notes new → GoodReply kind reply
+  frame_good (hardware.Ethernet own) H frame reply notes new of t = ethernet_good of t
+  frame_good hardware.Ip H frame reply notes new of (ethernet.Ipv4 v t) = ipv4_good t
+  frame_good hardware.Ip H frame reply notes new of (ethernet.OtherVersion v d) = drop_good d
 
-takes_good : (H : Host) (r : Reception) (reply : Option Reply) (notes : List Note) (new : Host) → Real H → Takes H r reply notes new → GoodReply reply
-takes_good H NoFrame reply notes new real t = drop_good t
-takes_good H Withheld reply notes new real t = drop_good t
-takes_good H (Frame []) reply notes new real t = drop_good t
-takes_good H (Frame (octet ∷ octets)) reply notes new real t = frame_good H.hardware_addr H (octet ∷ octets) reply notes new real.hardware t
+takes_good : (H : Host) (r : Reception) (reply : Option Reply) (notes : List Note) (new : Host) → IsReal H → Takes H r reply notes new → GoodReply H.capabilities.medium reply
+takes_good H NoFrame reply notes new real t = drop_good H.capabilities.medium t
+takes_good H Withheld reply notes new real t = drop_good H.capabilities.medium t
+takes_good H (Frame []) reply notes new real t = drop_good H.capabilities.medium t
+takes_good H (Frame (octet ∷ octets)) reply notes new real t = frame_good H.capabilities.medium H.hardware_addr H (octet ∷ octets) reply notes new real.own t
 
-silent : {old new : Host} {frames : List (List ℕ)} {notes : List Note} → frames ≡ [] → notes ≡ [] → new ≡ old → Real old → Shown frames notes new
-silent f n e real = rw (f, n, e) (record { shows = Nothing; real = real })
+silent : {old new : Host} {frames : List (List ℕ)} {notes : List Note} → frames ≡ [] → notes ≡ [] → new ≡ old → ShownOver old frames notes new
+silent {old} f n e = λ real. rw (f, n, e) (stays old [] [] old Nothing refl refl refl real)
 
-responds : (reply : Option Reply) (H : Host) (frames : List (List ℕ)) (notes : List Note) (new : Host) → GoodReply reply → Responds reply H frames notes new → Real H → Shown frames notes new
+responds : (reply : Option Reply) (H : Host) (frames : List (List ℕ)) (notes : List Note) (new : Host) → GoodReply H.capabilities.medium reply → Responds reply H frames notes new → ShownOver H frames notes new
 responds None H frames notes new good r = silent r.0 r.1 r.2
 responds (Some (Arp packet)) H frames notes new good r = λ real.
-    rw (r.0, r.1, r.2) (record { shows = OtherFrame (arp_frame packet) (arp_other packet good.0 good.1) Nothing; real = real })
+    rw (r.0, r.1, r.2) (stays H _ [] H (OtherFrame (arp_frame packet) (arp_other H.capabilities.medium packet good.0 good.1) Nothing) refl refl refl real)
 responds (Some (Ip packet)) H frames notes new good r = dispatched ShownOver keeps on asks identifies whole cuts r.1
 
-ingress : {t : ℤ} {answer : PollIngressSingleResult} {old new : Host} {told : List Event} {notes : List Note} → Ingress t answer old told notes new → Real old → Shown (sent told) notes new
+ingress : {t : ℤ} {answer : PollIngressSingleResult} {old new : Host} {told : List Event} {notes : List Note} → Ingress t answer old told notes new → ShownOver old (sent told) notes new
 ingress {t} {answer} {old} {new} {told} {notes} i = λ real.
     let began = (sweeps old t real).real in
     let r = i.response in
-    let first = taken ShownOver keeps on fragments (swept old t) i.reception r.reply r.notes_taking r.taken r.takes began in
-    let second = responds r.reply r.taken i.frames r.notes_responding new (takes_good (swept old t) i.reception r.reply r.notes_taking r.taken began r.takes) r.responds first.real in
-    rw (i.events, r.all_notes, sent-sends i.frames) (record { shows = rw cut_notes-append (shows_on first.shows second.shows); real = second.real })
+    let first = taken ShownOver keeps on fragments (swept old t) i.reception r.reply r.notes_taking r.taken r.takes in
+    let good = takes_good (swept old t) i.reception r.reply r.notes_taking r.taken began r.takes in
+    let same = (first began).same in
+    let second = responds r.reply r.taken i.frames r.notes_responding new (subst (λ (d : DeviceCapabilities). GoodReply d.medium r.reply) (sym same) good) r.responds in
+    rw (i.events, r.all_notes, sent-sends i.frames) (on old (swept old t) new [] i.frames [] (r.notes_taking ++ r.notes_responding) (sweeps old t)
+    (on (swept old t) r.taken new [] i.frames r.notes_taking r.notes_responding first second) real)
 
-updates_real : {list : List IpCidr} {answer : _} {old new : Host} → UpdatesIpAddrs list answer old new → Real old → Real new
-updates_real {old = old} (step.Accepted a r e) real = rw e (record { hardware = real.hardware; neighbors = none_six old.neighbors })
-updates_real (step.Refused a r e) real = rw e real
+-- a hardware address that is taken is one of the medium
+given : (c : DeviceCapabilities) (h : HardwareAddress) → hardware_refusal_of c h ≡ None → IsSix h → IsOf c.medium h
+given c (hardware.Ethernet a) none six = by c.medium none where
+  by : (m : Medium) → (if not (true && same_medium medium.Ethernet m) then Some WrongMedium else if not (is_unicast (hardware.Ethernet a)) then Some NotUnicast else None) ≡ None → IsOf m (hardware.Ethernet a)
+  by medium.Ethernet e = six
+  by medium.Ip e = absurd cc
+given c hardware.Ip none six = absurd cc
 
-sets_real : {h : HardwareAddress} {answer : _} {old new : Host} → IsEthernet h → step.SetsHardwareAddr h answer old new → Real old → Real new
-sets_real six (step.Taken a r e) real = rw e (record { hardware = six; neighbors = real.neighbors })
-sets_real six (step.NotTaken error a r e) real = rw e real
+updates : {list : List IpCidr} {answer : _} {old new : Host} → UpdatesIpAddrs list answer old new → ShownOver old [] [] new
+updates {old = old} (step.Accepted a r e) = λ real. rw e (record { shows = Nothing; same = refl; real = record { own = real.own; neighbors = none_of old.capabilities.medium old.neighbors } })
+updates (step.Refused a r e) = silent refl refl e
 
-lasts_real : {timeout : ℕ} {answer : _} {old new : Host} → step.SetsReassemblyTimeout timeout answer old new → Real old → Real new
-lasts_real (step.WithinDay l r e) real = rw e (record { hardware = real.hardware; neighbors = real.neighbors })
-lasts_real (step.OverDay l r e) real = rw e real
+sets : {h : HardwareAddress} {answer : _} {old new : Host} → IsSix h → step.SetsHardwareAddr h answer old new → ShownOver old [] [] new
+sets {h = h} {old = old} six (step.Taken a r e) = λ real. rw e (record { shows = Nothing; same = refl; real = record { own = given old.capabilities h a six; neighbors = real.neighbors } })
+sets six (step.NotTaken error a r e) = silent refl refl e
+
+lasts : {timeout : ℕ} {answer : _} {old new : Host} → step.SetsReassemblyTimeout timeout answer old new → ShownOver old [] [] new
+lasts {old = old} (step.WithinDay l r e) = λ real. rw e (stays old [] [] _ Nothing refl refl refl real)
+lasts (step.OverDay l r e) = silent refl refl e
 
 -- over the calls of a poll
 abbrev Told : Part
 Told old told notes new = ShownOver old (sent told) notes new
 
 begins : (H : Host) → Told H [] [] H
-begins H = λ real. record { shows = Nothing; real = real }
+begins H = λ real. stays H [] [] H Nothing refl refl refl real
 
 follows : (a b c : Host) (ts us : List Event) (xs ys : List Note) → Told a ts xs b → Told b us ys c → Told a (ts ++ us) (xs ++ ys) c
 follows a b c ts us xs ys one two = rw sent-append (on a b c (sent ts) (sent us) xs ys one two)
 
-stepped : {command : Command} {answer : Answer} {old new : Host} {told : List Event} {acts : List Act} {notes : List Note} → Step command answer old told acts notes new → KeepsEthernet command → Real old → Shown (sent told) notes new
-stepped (step.UpdatedIpAddrs u) six real = record { shows = Nothing; real = updates_real u real }
+pub stepped : {command : Command} {answer : Answer} {old new : Host} {told : List Event} {acts : List Act} {notes : List Note} → Step command answer old told acts notes new → GivesSix command → IsReal old → Shown old (sent told) notes new
+stepped (step.UpdatedIpAddrs u) six real = updates u real
 stepped (step.PolledIngressSingle i) six real = ingress i real
 stepped (step.PolledEgress e) six real = egressed ShownOver keeps on asks identifies whole cuts pieces e real
 stepped (step.Polled {t} p) six real = polled Told begins follows t (λ H. sweeps H t) (λ answer old new told notes i. ingress i) (λ answer old new told notes e. egressed ShownOver keeps on asks identifies whole cuts pieces e) p real
 stepped (step.PolledMaintenance {t} {old}) six real = sweeps old t real
-stepped (step.PolledAt least) six real = record { shows = Nothing; real = record { hardware = real.hardware; neighbors = real.neighbors } }
-stepped (step.PolledDelay end least rest) six real = record { shows = Nothing; real = record { hardware = real.hardware; neighbors = real.neighbors } }
-stepped step.UpdatedRoutes six real = record { shows = Nothing; real = record { hardware = real.hardware; neighbors = real.neighbors } }
-stepped step.AddedDefaultIpv4Route six real = record { shows = Nothing; real = record { hardware = real.hardware; neighbors = real.neighbors } }
-stepped step.RemovedDefaultIpv4Route six real = record { shows = Nothing; real = record { hardware = real.hardware; neighbors = real.neighbors } }
-stepped step.TookAnyIp six real = record { shows = Nothing; real = record { hardware = real.hardware; neighbors = real.neighbors } }
-stepped (step.TookHardwareAddr s) six real = record { shows = Nothing; real = sets_real six s real }
-stepped (step.TookReassemblyTimeout s) six real = record { shows = Nothing; real = lasts_real s real }
-stepped (step.OwnerActed sockets) six real = record { shows = Nothing; real = record { hardware = real.hardware; neighbors = real.neighbors } }
+stepped {old = old} (step.PolledAt least) six real = stays old [] [] _ Nothing refl refl refl real
+stepped {old = old} (step.PolledDelay end least rest) six real = stays old [] [] _ Nothing refl refl refl real
+stepped {old = old} step.UpdatedRoutes six real = stays old [] [] _ Nothing refl refl refl real
+stepped {old = old} step.AddedDefaultIpv4Route six real = stays old [] [] _ Nothing refl refl refl real
+stepped {old = old} step.RemovedDefaultIpv4Route six real = stays old [] [] _ Nothing refl refl refl real
+stepped {old = old} step.TookAnyIp six real = stays old [] [] _ Nothing refl refl refl real
+stepped (step.TookHardwareAddr s) six real = sets six s real
+stepped (step.TookReassemblyTimeout s) six real = lasts s real
+stepped {old = old} (step.OwnerActed sockets) six real = stays old [] [] _ Nothing refl refl refl real
 
 -- over a whole run
-all_shown : {first last : Host} {places : List Place} → Run first places last → Real first → AllByRecursion (λ p. KeepsEthernet p.command) places → Shown (sent (told_in places)) (notes_in places) last
-all_shown Ends real six = record { shows = Nothing; real = real }
-all_shown (Then s r) real six =
-    let one = stepped s six.0 real in
-    let more = all_shown r one.real six.1 in
-    record { shows = rw (sent-append, cut_notes-append) (shows_on one.shows more.shows); real = more.real }
+all_shown : {first last : Host} {places : List Place} → Run first places last → IsReal first → AllByRecursion (λ p. GivesSix p.command) places → Shown first (sent (told_in places)) (notes_in places) last
+all_shown {first} Ends real six = stays first [] [] first Nothing refl refl refl real
+all_shown (Then {told = told} {notes = notes} {places = ps} s r) real six =
+    rw sent-append (on _ _ _ (sent told) (sent (told_in ps)) notes (notes_in ps) (λ x. stepped s six.0 x) (λ x. all_shown r x six.1) real)
 
 pub run_shows : FragmentsArePieces
-run_shows first last places r hardware neighbors six = (all_shown r (record { hardware = hardware; neighbors = neighbors }) six).shows
+run_shows first last places r real six = (all_shown r real six).shows
 
 pub run_real : StaysReal
-run_real first last places r hardware neighbors six =
-    let all = all_shown r (record { hardware = hardware; neighbors = neighbors }) six in
-    (all.real.hardware, all.real.neighbors)
+run_real first last places r real six = let all = all_shown r real six in (all.same, all.real)

@@ -41,7 +41,8 @@ use Rattle.host_machine.specs.Egress as egress
 use Rattle.host_machine.specs.Step.{Act, Step, UpdatesIpAddrs, Accepted, Refused, SetsHardwareAddr}
 use Rattle.host_machine.specs.Step as step
 use Rattle.host_machine.specs.Arrivals.{slots_then}
-use Rattle.host_machine.specs.Real.{IsEthernet}
+use Rattle.net_base.specs.declared.phy.Medium.TheVariants as medium
+use Rattle.host_machine.specs.Real.{IsOf}
 use Rattle.host_machine.specs.Frames.{Carries, OverEthernet, AsItStands, Brings}
 use Rattle.host_machine.specs.Parts.{Part}
 use Rattle.host_machine.proofs.Repeated.{both}
@@ -96,8 +97,8 @@ responds_still (Some (Ip packet)) H frames notes new r = sends_still r.1
 drop_still : {H new : Host} {reply : Option Reply} {notes : List Note} → IsDropped H reply notes new → Still H notes new
 drop_still d = dropped StillOver still_kept still_on d
 
-arp_still : {own : EthernetAddress} {H new : Host} {payload : List ℕ} {reply : Option Reply} {notes : List Note} → TakesArp own H payload reply notes new → Still H notes new
-arp_still t = arp_taken StillOver still_kept still_on t
+arp_still : {own : EthernetAddress} {H new : Host} {payload : List ℕ} {reply : Option Reply} {notes : List Note} → H.hardware_addr ≡ hardware.Ethernet own → TakesArp own H payload reply notes new → Still H notes new
+arp_still mine t = arp_taken StillOver still_kept still_on mine t
 
 whole_still : {source : HardwareAddress} {r : Ipv4Repr} {H new : Host} {payload : List ℕ} {reply : Option Reply} {notes : List Note} → TakesWhole source r H payload reply notes new → Still H notes new
 whole_still t = whole_taken StillOver still_kept still_on t
@@ -155,15 +156,15 @@ abbrev pub IsPayloadOf : Host → EthernetProtocol → List ℕ → FragKey → 
 IsPayloadOf H p octets key g = (p ≡ protocol.Ipv4) × IsIpv4Of H octets key g
 
 payload_view : (own source : EthernetAddress) (H : Host) (p : EthernetProtocol) (payload : List ℕ) (reply : Option Reply) (notes : List Note) (new : Host) →
-    TakesPayload own source H p payload reply notes new → View (IsPayloadOf H p payload) H notes new
-payload_view own source H protocol.Arp payload reply notes new t = NoFragment (λ key g i. absurd (other i.0)) (arp_still t) where
+    H.hardware_addr ≡ hardware.Ethernet own → TakesPayload own source H p payload reply notes new → View (IsPayloadOf H p payload) H notes new
+payload_view own source H protocol.Arp payload reply notes new mine t = NoFragment (λ key g i. absurd (other i.0)) (arp_still mine t) where
   other : protocol.Arp ≡ protocol.Ipv4 → ⊥
   other e = cc
-payload_view own source H protocol.Ipv4 payload reply notes new t = view_by (λ key g f. (refl, f)) (λ key g f. f.1) (ipv4_view t)
-payload_view own source H protocol.Ipv6 payload reply notes new t = NoFragment (λ key g i. absurd (other i.0)) (drop_still t) where
+payload_view own source H protocol.Ipv4 payload reply notes new mine t = view_by (λ key g f. (refl, f)) (λ key g f. f.1) (ipv4_view t)
+payload_view own source H protocol.Ipv6 payload reply notes new mine t = NoFragment (λ key g i. absurd (other i.0)) (drop_still t) where
   other : protocol.Ipv6 ≡ protocol.Ipv4 → ⊥
   other e = cc
-payload_view own source H (protocol.Unknown n) payload reply notes new t = NoFragment (λ key g i. absurd (other i.0)) (drop_still t) where
+payload_view own source H (protocol.Unknown n) payload reply notes new mine t = NoFragment (λ key g i. absurd (other i.0)) (drop_still t) where
   other : protocol.Unknown n ≡ protocol.Ipv4 → ⊥
   other e = cc
 
@@ -202,9 +203,9 @@ over_ethernet {H} {frame} {key} {g} own mine b = by b.carried where
       record { whole = whole; taken = rw same at for; payload = (type, subst (λ p. IsIpv4Of H p key g) is (packet_of b)) }
   by (AsItStands e v is) = absurd (no_address own (sym e ∙ mine))
 
-pub on_ethernet : {H : Host} {frame : List ℕ} {key : FragKey} {g : Fragment} → IsEthernet H.hardware_addr → Brings H frame key g → IsPayloadOf H (header_in frame).ethertype (drop 14 frame) key g
+pub on_ethernet : {H : Host} {frame : List ℕ} {key : FragKey} {g : Fragment} → IsOf medium.Ethernet H.hardware_addr → Brings H frame key g → IsPayloadOf H (header_in frame).ethertype (drop 14 frame) key g
 on_ethernet {H} {frame} {key} {g} is b = by H.hardware_addr refl is where
-  by : (h : HardwareAddress) → H.hardware_addr ≡ h → IsEthernet h → IsPayloadOf H (header_in frame).ethertype (drop 14 frame) key g
+  by : (h : HardwareAddress) → H.hardware_addr ≡ h → IsOf medium.Ethernet h → IsPayloadOf H (header_in frame).ethertype (drop 14 frame) key g
   by (hardware.Ethernet own) mine six = (over_ethernet own mine b).payload
   by hardware.Ip mine six = absurd six
 
@@ -218,7 +219,7 @@ ethernet_view : {own : EthernetAddress} {H new : Host} {frame : List ℕ} {reply
 ethernet_view {own} mine (ethernet.Malformed m d) = NoFragment (λ key g b. m (over_ethernet own mine b).whole) (drop_still d)
 ethernet_view {own} {H} {new} {frame} mine (ethernet.NotForUs l f d) = NoFragment (λ key g b. two_ways _ (over_ethernet own mine b).taken f) (drop_still d)
 ethernet_view {own} {H} {new} {frame} {reply} {notes} mine (ethernet.Accepted l f t) =
-    view_by (λ key g i. brings (OverEthernet own mine l f i.0 refl) i.1) (λ key g b. (over_ethernet own mine b).payload) (payload_view own _ H _ _ reply notes new t)
+    view_by (λ key g i. brings (OverEthernet own mine l f i.0 refl) i.1) (λ key g b. (over_ethernet own mine b).payload) (payload_view own _ H _ _ reply notes new mine t)
 
 frame_view : (h : HardwareAddress) (H : Host) (frame : List ℕ) (reply : Option Reply) (notes : List Note) (new : Host) → H.hardware_addr ≡ h → TakesFrame h H frame reply notes new → View (Brings H frame) H notes new
 frame_view (hardware.Ethernet own) H frame reply notes new mine t = ethernet_view mine t

@@ -29,8 +29,8 @@ use Rattle.fragmentation.specs.Fragments.{Fragment}
 use Rattle.fragmentation.specs.declared.key.FragKey.{FragKey}
 use Rattle.fragmentation.specs.Cuts.{Piece, pieces_of, HasForm}
 use Rattle.host_machine.specs.Reassembly.{TakesFragment}
-use Rattle.host_machine.specs.Real.{AreReal}
-use Rattle.host_machine.proofs.Six.{filled_six, renewed_six, arp_source_six}
+use Rattle.host_machine.specs.Real.{IsOf, IsReal}
+use Rattle.host_machine.proofs.Six.{filled_of, renewed_of, arp_source_of}
 use Rattle.host_machine.specs.Note.{Note, OfDiscovery, OfIdentification, OfCuts, Ask, Identify, Cut, PieceSent}
 use Rattle.host_machine.specs.Host.{Host, Socket, Storage, no_sockets, swept, with_left, with_neighbors, with_places}
 use Rattle.host_machine.specs.Packet.{Packet}
@@ -71,7 +71,7 @@ rest_of H = record H { moment = pos 0; any_ip = false; routes = []; neighbors = 
 -- what such laws read of a host stays
 pub record Keeps (old new : Host) : Type 0 where
   pub same : rest_of new ≡ rest_of old
-  pub real : AreReal old.neighbors → AreReal new.neighbors
+  pub real : IsReal old → IsReal new
 
 pub kept : {old new : Host} → new ≡ old → Keeps old new
 kept e = record { same = ap rest_of e; real = λ r. rw e r }
@@ -82,7 +82,13 @@ kept_by e k = record { same = ap rest_of e ∙ k.same; real = λ r. rw e (k.real
 
 -- where the neighbours stay too
 abbrev pub unread : {old new : Host} → rest_of new ≡ rest_of old → new.neighbors ≡ old.neighbors → Keeps old new
-unread e n = record { same = e; real = λ r. rw n r }
+unread {old} {new} e n = record {
+  same = e;
+  real = λ r.
+      let h : new.hardware_addr ≡ old.hardware_addr = ap (λ (K : Host). K.hardware_addr) e in
+      let c : new.capabilities ≡ old.capabilities = ap (λ (K : Host). K.capabilities) e in
+      record { own = rw (h, c) r.own; neighbors = rw (n, c) r.neighbors };
+}
 
 pub heard_kept : (r : Ipv4Repr) (payload : List ℕ) (H : Host) → Keeps H (raw.heard r payload H)
 heard_kept r payload H = unread refl refl
@@ -91,13 +97,13 @@ heard_kept r payload H = unread refl refl
 pub heard : (source : HardwareAddress) (r : Ipv4Repr) (H : Host) → Keeps H (heard_from source r H)
 heard source r H = by (is_unicast_v4 H.ip_addrs r.dst_addr) where
   by : (b : Bool) → Keeps H (if b then with_neighbors H (renewed H.neighbors (Ipv4 r.src_addr) source (expiry_from H.moment)) else H)
-  by true = record { same = refl; real = renewed_six H.neighbors (Ipv4 r.src_addr) source (expiry_from H.moment) }
+  by true = record { same = refl; real = λ x. record { own = x.own; neighbors = renewed_of H.capabilities.medium H.neighbors (Ipv4 r.src_addr) source (expiry_from H.moment) x.neighbors } }
   by false = unread refl refl
 
 -- how the hardware address of a frame was found
 pub data Reached (H : Host) (h : HardwareAddress) : Type 0 where
   ByNeighbor : (hop : IpAddress) → answer_of H.neighbors hop H.moment ≡ Found h → Reached H h
-  ByGroup : (a : IpAddress) (e : EthernetAddress) → many_address H.ip_addrs a ≡ Some e → h ≡ hardware.Ethernet e → Reached H h
+  ByGroup : (own : EthernetAddress) (a : IpAddress) (e : EthernetAddress) → H.hardware_addr ≡ hardware.Ethernet own → many_address H.ip_addrs a ≡ Some e → h ≡ hardware.Ethernet e → Reached H h
   WithoutAddresses : H.hardware_addr ≡ hardware.Ip → h ≡ hardware.Ip → Reached H h
 
 pub sent-append : (xs ys : List Event) → sent (xs ++ ys) ≡ sent xs ++ sent ys
@@ -135,12 +141,14 @@ module _ (Law : Host → List (List ℕ) → List Note → Host → Type 0)
   pub dropped : {H new : Host} {reply : Option Reply} {notes : List Note} → IsDropped H reply notes new → Law H [] notes new
   dropped d = keeping refl d.unnoted (kept d.unchanged)
 
-  pub arp_taken : {own : EthernetAddress} {H new : Host} {payload : List ℕ} {reply : Option Reply} {notes : List Note} → TakesArp own H payload reply notes new → Law H [] notes new
-  arp_taken (arp.Malformed m d) = dropped d
-  arp_taken (arp.NotForUs a l d) = dropped d
-  arp_taken {H = H} (arp.Learnt a l learns r n) = keeping refl n (kept_by learns.same (record {
+  pub arp_taken : {own : EthernetAddress} {H new : Host} {payload : List ℕ} {reply : Option Reply} {notes : List Note} → H.hardware_addr ≡ hardware.Ethernet own → TakesArp own H payload reply notes new → Law H [] notes new
+  arp_taken mine (arp.Malformed m d) = dropped d
+  arp_taken mine (arp.NotForUs a l d) = dropped d
+  arp_taken {own = own} {H = H} {payload = payload} mine (arp.Learnt a l learns r n) = keeping refl n (kept_by learns.same (record {
     same = ap (λ s. rest_of (record H { neighbors = record { known = map.empty; silent_until = s } })) learns.filled.silence;
-    real = filled_six _ _ _ _ (arp_source_six _ a) learns.filled;
+    real = λ r.
+        let there : IsOf H.capabilities.medium (hardware.Ethernet own) = rw mine at r.own in
+        record { own = r.own; neighbors = filled_of H.capabilities.medium _ _ _ _ (arp_source_of H.capabilities.medium own payload there a) learns.filled r.neighbors };
   }))
 
   placed : {H new : Host} {places : List Storage} {notes : List Note} → notes ≡ [] → new ≡ with_places H places → Law H [] notes new
@@ -194,27 +202,27 @@ module _ (Law : Host → List (List ℕ) → List Note → Host → Type 0)
     ipv4_taken (ipv4.Read i t) = packet_taken t
 
     payload_taken : (own source : EthernetAddress) (H : Host) (p : EthernetProtocol) (payload : List ℕ) (reply : Option Reply) (notes : List Note) (new : Host) →
-        TakesPayload own source H p payload reply notes new → Law H [] notes new
-    payload_taken own source H protocol.Arp payload reply notes new t = arp_taken t
-    payload_taken own source H protocol.Ipv4 payload reply notes new t = ipv4_taken t
-    payload_taken own source H protocol.Ipv6 payload reply notes new t = dropped t
-    payload_taken own source H (protocol.Unknown n) payload reply notes new t = dropped t
+        H.hardware_addr ≡ hardware.Ethernet own → TakesPayload own source H p payload reply notes new → Law H [] notes new
+    payload_taken own source H protocol.Arp payload reply notes new mine t = arp_taken mine t
+    payload_taken own source H protocol.Ipv4 payload reply notes new mine t = ipv4_taken t
+    payload_taken own source H protocol.Ipv6 payload reply notes new mine t = dropped t
+    payload_taken own source H (protocol.Unknown n) payload reply notes new mine t = dropped t
 
-    ethernet_taken : {own : EthernetAddress} {H new : Host} {frame : List ℕ} {reply : Option Reply} {notes : List Note} → TakesEthernet own H frame reply notes new → Law H [] notes new
-    ethernet_taken (ethernet.Malformed m d) = dropped d
-    ethernet_taken (ethernet.NotForUs l f d) = dropped d
-    ethernet_taken {own} {H} {new} {frame} {reply} {notes} (ethernet.Accepted l f t) = payload_taken own _ H _ _ reply notes new t
+    ethernet_taken : {own : EthernetAddress} {H new : Host} {frame : List ℕ} {reply : Option Reply} {notes : List Note} → H.hardware_addr ≡ hardware.Ethernet own → TakesEthernet own H frame reply notes new → Law H [] notes new
+    ethernet_taken mine (ethernet.Malformed m d) = dropped d
+    ethernet_taken mine (ethernet.NotForUs l f d) = dropped d
+    ethernet_taken {own} {H} {new} {frame} {reply} {notes} mine (ethernet.Accepted l f t) = payload_taken own _ H _ _ reply notes new mine t
 
-    frame_taken : (h : HardwareAddress) (H : Host) (frame : List ℕ) (reply : Option Reply) (notes : List Note) (new : Host) → TakesFrame h H frame reply notes new → Law H [] notes new
-    frame_taken (hardware.Ethernet own) H frame reply notes new t = ethernet_taken t
-    frame_taken hardware.Ip H frame reply notes new (ethernet.Ipv4 v t) = ipv4_taken t
-    frame_taken hardware.Ip H frame reply notes new (ethernet.OtherVersion v d) = dropped d
+    frame_taken : (h : HardwareAddress) (H : Host) (frame : List ℕ) (reply : Option Reply) (notes : List Note) (new : Host) → H.hardware_addr ≡ h → TakesFrame h H frame reply notes new → Law H [] notes new
+    frame_taken (hardware.Ethernet own) H frame reply notes new mine t = ethernet_taken mine t
+    frame_taken hardware.Ip H frame reply notes new mine (ethernet.Ipv4 v t) = ipv4_taken t
+    frame_taken hardware.Ip H frame reply notes new mine (ethernet.OtherVersion v d) = dropped d
 
     pub taken : (H : Host) (r : Reception) (reply : Option Reply) (notes : List Note) (new : Host) → Takes H r reply notes new → Law H [] notes new
     taken H Nothing reply notes new t = dropped t
     taken H Withheld reply notes new t = dropped t
     taken H (Frame []) reply notes new t = dropped t
-    taken H (Frame (octet ∷ octets)) reply notes new t = frame_taken H.hardware_addr H (octet ∷ octets) reply notes new t
+    taken H (Frame (octet ∷ octets)) reply notes new t = frame_taken H.hardware_addr H (octet ∷ octets) reply notes new refl t
 
   -- of sending: where an unknown neighbour is asked for; where an identification is taken; where a packet goes whole; and where one is cut
   module _ (asks : (H : Host) (own : EthernetAddress) (source target : Ipv4Address) (hop : IpAddress) → H.hardware_addr ≡ hardware.Ethernet own → answer_of H.neighbors hop H.moment ≡ NotFound →
@@ -245,7 +253,7 @@ module _ (Law : Host → List (List ℕ) → List Note → Host → Type 0)
 
     sent_over_ethernet : {id : ℕ} {own : EthernetAddress} {p : Packet} {outcome : Outcome} {H new : Host} {frames : List (List ℕ)} {notes : List Note} →
         H.hardware_addr ≡ hardware.Ethernet own → SendsEthernet id own p outcome H frames notes new → Law H frames notes new
-    sent_over_ethernet {p = p} mine (dispatch.ToMany h m e) = emitted (ByGroup (destination_of p) h m refl) e
+    sent_over_ethernet {own = own} {p = p} mine (dispatch.ToMany h m e) = emitted (ByGroup own (destination_of p) h mine m refl) e
     sent_over_ethernet mine (dispatch.NoHop m n o u) = unsent u
     sent_over_ethernet mine (dispatch.ByHop hop m n s) = sent_by_hop mine s
 

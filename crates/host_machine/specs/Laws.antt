@@ -17,7 +17,8 @@ use Rattle.iface_tables.specs.declared.neighbor.Answer.TheVariants.{Found}
 use Rattle.host_machine.specs.declared.results.PollIngressSingleResult.{PollIngressSingleResult}
 use Rattle.host_machine.specs.Note.{Note, asks}
 use Rattle.host_machine.specs.Host.{Host, swept}
-use Rattle.host_machine.specs.Real.{IsEthernet}
+use Rattle.net_base.specs.declared.phy.Medium.TheVariants as medium
+use Rattle.host_machine.specs.Real.{IsOf}
 use Rattle.host_machine.specs.Packet.{Packet}
 use Rattle.host_machine.specs.Dispatch.{Outcome, Dispatches}
 use Rattle.host_machine.specs.Ingress.{Ingress}
@@ -59,8 +60,8 @@ requests_in (frame ∷ frames) = (if is_arp_request frame then 1 else 0) + reque
 
 -- a host on Ethernet: its own address and those of its neighbours have six octets
 pub record OnEthernet (H : Host) : Type 0 where
-  pub own : IsEthernet H.hardware_addr
-  pub neighbors : (a : IpAddress) (h : HardwareAddress) → answer_of H.neighbors a H.moment ≡ Found h → IsEthernet h
+  pub own : IsOf medium.Ethernet H.hardware_addr
+  pub neighbors : (a : IpAddress) (h : HardwareAddress) → answer_of H.neighbors a H.moment ≡ Found h → IsOf medium.Ethernet h
 
 -- the ARP requests among the frames that a dispatch sends are the discovery requests that it notes: none goes unnoted
 abbrev pub DiscoveriesAreNoted : Type 0

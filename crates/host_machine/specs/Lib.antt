@@ -32,6 +32,7 @@ pub mod Frames
 pub mod Arrivals
 pub mod Real
 pub mod Wire
+pub mod TwoHosts
 pub mod Laws
 pub mod Example
 pub mod ExampleSockets

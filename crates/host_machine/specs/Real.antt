@@ -1,6 +1,8 @@
--- Hardware addresses as they stand in Ethernet's frames: six octets each (RFC 894).
+-- Hardware addresses as a medium has them: of six octets on Ethernet (RFC 894), and none elsewhere.
 use Rattle.std.specs.Prelude.{◌≡◌, length, Some}
 use Rattle.std.specs.FinMap as map
+use Rattle.net_base.specs.declared.phy.Medium.{Medium}
+use Rattle.net_base.specs.declared.phy.Medium.TheVariants as medium
 use Rattle.ip_address.specs.declared.hardware.HardwareAddress.{HardwareAddress}
 use Rattle.ip_address.specs.declared.hardware.HardwareAddress.TheVariants as hardware
 use Rattle.ip_address.specs.declared.ip.IpAddress.{IpAddress}
@@ -8,29 +10,42 @@ use Rattle.iface_tables.specs.declared.neighbor.Neighbor.{Neighbor}
 use Rattle.iface_tables.specs.Neighbor.{Neighbors}
 use Rattle.host_machine.specs.declared.command.Command.{Command}
 use Rattle.host_machine.specs.declared.command.Command.TheVariants.{UpdateIpAddrs, PollIngressSingle, PollEgress, Poll, PollMaintenance, PollAt, PollDelay, UpdateRoutes, AddDefaultIpv4Route, RemoveDefaultIpv4Route, SetAnyIp, SetHardwareAddr, SetReassemblyTimeout, Owner}
+use Rattle.host_machine.specs.Host.{Host}
 
--- an Ethernet address of six octets
-abbrev pub IsEthernet : HardwareAddress → Type 0
-IsEthernet (hardware.Ethernet a) = length a.0 ≡ 6
-IsEthernet hardware.Ip = ⊥
+-- an address of six octets, if it is one of Ethernet, as each is that a program holds
+abbrev pub IsSix : HardwareAddress → Type 0
+IsSix (hardware.Ethernet a) = length a.0 ≡ 6
+IsSix hardware.Ip = Unit {0}
 
--- each known neighbour has one
-abbrev pub AreReal : Neighbors → Type 0
-AreReal n = (a : IpAddress) (e : Neighbor) → map.get n.known a ≡ Some e → IsEthernet e.hardware_addr
+-- an address of a medium
+abbrev pub IsOf : Medium → HardwareAddress → Type 0
+IsOf medium.Ethernet (hardware.Ethernet a) = length a.0 ≡ 6
+IsOf medium.Ethernet hardware.Ip = ⊥
+IsOf medium.Ip (hardware.Ethernet a) = ⊥
+IsOf medium.Ip hardware.Ip = Unit {0}
 
--- a command that sets the host's address sets such a one
-abbrev pub KeepsEthernet : Command → Type 0
-KeepsEthernet (SetHardwareAddr h) = IsEthernet h
-KeepsEthernet (UpdateIpAddrs list) = Unit {0}
-KeepsEthernet (PollIngressSingle t) = Unit {0}
-KeepsEthernet (PollEgress t) = Unit {0}
-KeepsEthernet (Poll t budget) = Unit {0}
-KeepsEthernet (PollMaintenance t) = Unit {0}
-KeepsEthernet (PollAt t) = Unit {0}
-KeepsEthernet (PollDelay t) = Unit {0}
-KeepsEthernet (UpdateRoutes list) = Unit {0}
-KeepsEthernet (AddDefaultIpv4Route gateway) = Unit {0}
-KeepsEthernet RemoveDefaultIpv4Route = Unit {0}
-KeepsEthernet (SetAnyIp any_ip) = Unit {0}
-KeepsEthernet (SetReassemblyTimeout timeout) = Unit {0}
-KeepsEthernet (Owner number) = Unit {0}
+-- each known neighbour has one of that medium
+abbrev pub AreOf : Medium → Neighbors → Type 0
+AreOf m n = (a : IpAddress) (e : Neighbor) → map.get n.known a ≡ Some e → IsOf m e.hardware_addr
+
+-- a host has the hardware addresses of its medium, as each has that an interface stands for
+pub record IsReal (H : Host) : Type 0 where
+  pub own : IsOf H.capabilities.medium H.hardware_addr
+  pub neighbors : AreOf H.capabilities.medium H.neighbors
+
+-- a command that gives a hardware address gives one of six octets, or none
+abbrev pub GivesSix : Command → Type 0
+GivesSix (SetHardwareAddr h) = IsSix h
+GivesSix (UpdateIpAddrs list) = Unit {0}
+GivesSix (PollIngressSingle t) = Unit {0}
+GivesSix (PollEgress t) = Unit {0}
+GivesSix (Poll t budget) = Unit {0}
+GivesSix (PollMaintenance t) = Unit {0}
+GivesSix (PollAt t) = Unit {0}
+GivesSix (PollDelay t) = Unit {0}
+GivesSix (UpdateRoutes list) = Unit {0}
+GivesSix (AddDefaultIpv4Route gateway) = Unit {0}
+GivesSix RemoveDefaultIpv4Route = Unit {0}
+GivesSix (SetAnyIp any_ip) = Unit {0}
+GivesSix (SetReassemblyTimeout timeout) = Unit {0}
+GivesSix (Owner number) = Unit {0}

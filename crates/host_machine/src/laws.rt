@@ -7,6 +7,7 @@ ghost use Rattle.host_machine.specs.ExampleSockets.{ConfigurationsAreTested, Con
 ghost use Rattle.host_machine.specs.Quiet.{SocketsAreQuiet};
 ghost use Rattle.host_machine.specs.Laws.{DiscoveriesAreNoted, FragmentsComeInFrames, IngressIsSingle, MalformedIsDropped, RunsJoin, RunsKeepLaws};
 ghost use Rattle.host_machine.specs.Unfolded.{RunsUnfold};
+ghost use Rattle.host_machine.specs.TwoHosts.{PiecesAreRead, RebuildsWhatWasCut};
 ghost use Rattle.host_machine.specs.Wire.{FragmentsArePieces, StaysReal};
 
 /// A frame whose Ethernet, ARP or IPv4 header is malformed sends nothing, and leaves the host as the same
@@ -60,15 +61,29 @@ pub fn pieces_come_in_time()
     ensures { PiecesComeInTime }
 {}
 
-/// Over Ethernet, the frames of a run that a host on Ethernet reads as fragments are the pieces that are
-/// noted, in order.
+/// The frames of a run that a host on the same medium reads as fragments are the pieces that are noted,
+/// in order.
 pub fn fragments_are_pieces()
     ensures { FragmentsArePieces }
 {}
 
-/// Over Ethernet, it stays Ethernet.
+/// What a device can do stays in a run, and hardware addresses stay those of its medium.
 pub fn stays_real()
     ensures { StaysReal }
+{}
+
+/// Where one host takes no frame but those that another on its medium sent, in any order, some of them
+/// lost and some repeated, whatever it rebuilds under the key of a packet that the other cut is that
+/// packet's payload. The other's device takes packets of 576 octets, no piece is left of what it cut
+/// before, and it cuts no two packets under one key; the one has no slot with such a key at first.
+pub fn rebuilds_what_was_cut()
+    ensures { RebuildsWhatWasCut }
+{}
+
+/// What a host sends of a packet that it cut comes to another on its medium as the pieces of its payload,
+/// if it is for that host and comes from one host, and its checksum is there where it is tested.
+pub fn pieces_are_read()
+    ensures { PiecesAreRead }
 {}
 
 /// A fragment that follows at most three others leaves at most four separate ranges.
