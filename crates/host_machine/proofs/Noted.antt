@@ -26,7 +26,7 @@ use Rattle.host_machine.specs.Frame.{arp_frame, ip_frame, link_header, piece_tex
 use Rattle.host_machine.specs.Dispatch as dispatch
 use Rattle.host_machine.specs.Dispatch.{Outcome, IsUnsent, Emits, Discovers, SendsByHop, SendsEthernet, SendsOver, Dispatches, group_address, group_address_v6, many_address, datagram_of, identified}
 use Rattle.net_base.specs.declared.phy.Medium.TheVariants as medium
-use Rattle.host_machine.specs.Real.{IsOf}
+use Rattle.ip_address.specs.Hardware.{IsOf}
 use Rattle.host_machine.specs.Laws.{is_arp_request, requests_in, OnEthernet}
 
 -- a frame of IP asks for no hardware address

@@ -33,7 +33,7 @@ use Rattle.host_machine.specs.Packet as packet
 use Rattle.host_machine.specs.Frame.{arp_frame, ip_frame, piece_frame, piece_text, link_header, packet_text}
 use Rattle.host_machine.specs.Frames.{Carries, OverEthernet, AsItStands, Brings}
 use Rattle.host_machine.specs.Ipv4.{key_in, fragment_in}
-use Rattle.host_machine.specs.Real.{IsOf}
+use Rattle.ip_address.specs.Hardware.{IsOf}
 use Rattle.host_machine.specs.Wire.{BringsNone}
 use Rattle.host_machine.specs.TwoHosts.{reaches}
 use Rattle.host_machine.specs.Addresses.{may_be_source}

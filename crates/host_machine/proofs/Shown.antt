@@ -69,7 +69,8 @@ use Rattle.host_machine.specs.Response.{Responds}
 use Rattle.host_machine.specs.Ingress.{Takes, Ingress}
 use Rattle.host_machine.specs.Step.{Act, Step, UpdatesIpAddrs}
 use Rattle.host_machine.specs.Step as step
-use Rattle.host_machine.specs.Real.{IsSix, IsOf, IsReal, GivesSix}
+use Rattle.ip_address.specs.Hardware.{IsOf}
+use Rattle.host_machine.specs.Real.{IsSix, IsReal, GivesSix}
 use Rattle.host_machine.specs.Wire.{Shows, Nothing, OnePiece, OneCut, OtherFrame, FragmentsArePieces, StaysReal}
 use Rattle.host_machine.specs.Run.{Place, Run, Ends, Then, told_in, notes_in}
 use Rattle.host_machine.specs.Parts.{Part}

@@ -14,7 +14,8 @@ use Rattle.std.proofs.lemmas.List.{length-take, length-drop}
 use Rattle.iface_tables.specs.declared.neighbor.Neighbor.{Neighbor}
 use Rattle.iface_tables.specs.Neighbor.{Neighbors, Puts, Fills, is_same, renewed, renewed_from}
 use Rattle.iface_tables.proofs.NeighborLemmas.{address_total}
-use Rattle.host_machine.specs.Real.{IsOf, AreOf}
+use Rattle.ip_address.specs.Hardware.{IsOf}
+use Rattle.iface_tables.specs.Neighbor.{AreOf}
 use Rattle.net_base.specs.declared.phy.Medium.{Medium}
 use Rattle.net_base.specs.declared.phy.Medium.TheVariants as medium
 use Rattle.ip_address.specs.declared.ethernet_address.EthernetAddress.{EthernetAddress}

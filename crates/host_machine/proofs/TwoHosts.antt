@@ -27,7 +27,8 @@ use Rattle.host_machine.specs.Run.{Place, Run, Ends, Then, told_in, notes_in}
 use Rattle.host_machine.specs.Arrivals.{came, rebuilt, slot_notes_in}
 use Rattle.host_machine.specs.Frames.{Brings, Bring, NoFrame, OneBrings, NoneBrings, all_came, ComesInFrames}
 use Rattle.host_machine.specs.Wire.{Shows, Nothing, OnePiece, OneCut, OtherFrame}
-use Rattle.host_machine.specs.Real.{IsOf, IsReal, GivesSix}
+use Rattle.ip_address.specs.Hardware.{IsOf}
+use Rattle.host_machine.specs.Real.{IsReal, GivesSix}
 use Rattle.host_machine.specs.TwoHosts.{cuts, cuts_in, key_of_cut, HaveOwnKeys, RebuildsWhatWasCut, PiecesAreRead}
 use Rattle.host_machine.proofs.Keys.{same_is}
 use Rattle.host_machine.proofs.Notes.{cut_notes-append, cut_notes-slots, slot_notes-append}

@@ -42,7 +42,7 @@ use Rattle.host_machine.specs.Step.{Act, Step, UpdatesIpAddrs, Accepted, Refused
 use Rattle.host_machine.specs.Step as step
 use Rattle.host_machine.specs.Arrivals.{slots_then}
 use Rattle.net_base.specs.declared.phy.Medium.TheVariants as medium
-use Rattle.host_machine.specs.Real.{IsOf}
+use Rattle.ip_address.specs.Hardware.{IsOf}
 use Rattle.host_machine.specs.Frames.{Carries, OverEthernet, AsItStands, Brings}
 use Rattle.host_machine.specs.Parts.{Part}
 use Rattle.host_machine.proofs.Repeated.{both}

@@ -29,7 +29,8 @@ use Rattle.fragmentation.specs.Fragments.{Fragment}
 use Rattle.fragmentation.specs.declared.key.FragKey.{FragKey}
 use Rattle.fragmentation.specs.Cuts.{Piece, pieces_of, HasForm}
 use Rattle.host_machine.specs.Reassembly.{TakesFragment}
-use Rattle.host_machine.specs.Real.{IsOf, IsReal}
+use Rattle.ip_address.specs.Hardware.{IsOf}
+use Rattle.host_machine.specs.Real.{IsReal}
 use Rattle.host_machine.proofs.Six.{filled_of, renewed_of, arp_source_of}
 use Rattle.host_machine.specs.Note.{Note, OfDiscovery, OfIdentification, OfCuts, Ask, Identify, Cut, PieceSent}
 use Rattle.host_machine.specs.Host.{Host, Socket, Storage, no_sockets, swept, with_left, with_neighbors, with_places}

@@ -18,7 +18,7 @@ use Rattle.host_machine.specs.declared.results.PollIngressSingleResult.{PollIngr
 use Rattle.host_machine.specs.Note.{Note, asks}
 use Rattle.host_machine.specs.Host.{Host, swept}
 use Rattle.net_base.specs.declared.phy.Medium.TheVariants as medium
-use Rattle.host_machine.specs.Real.{IsOf}
+use Rattle.ip_address.specs.Hardware.{IsOf}
 use Rattle.host_machine.specs.Packet.{Packet}
 use Rattle.host_machine.specs.Dispatch.{Outcome, Dispatches}
 use Rattle.host_machine.specs.Ingress.{Ingress}

@@ -1,13 +1,9 @@
 -- Hardware addresses as a medium has them: of six octets on Ethernet (RFC 894), and none elsewhere.
-use Rattle.std.specs.Prelude.{◌≡◌, length, Some}
-use Rattle.std.specs.FinMap as map
-use Rattle.net_base.specs.declared.phy.Medium.{Medium}
-use Rattle.net_base.specs.declared.phy.Medium.TheVariants as medium
+use Rattle.std.specs.Prelude.{◌≡◌, length}
 use Rattle.ip_address.specs.declared.hardware.HardwareAddress.{HardwareAddress}
 use Rattle.ip_address.specs.declared.hardware.HardwareAddress.TheVariants as hardware
-use Rattle.ip_address.specs.declared.ip.IpAddress.{IpAddress}
-use Rattle.iface_tables.specs.declared.neighbor.Neighbor.{Neighbor}
-use Rattle.iface_tables.specs.Neighbor.{Neighbors}
+use Rattle.ip_address.specs.Hardware.{IsOf}
+use Rattle.iface_tables.specs.Neighbor.{AreOf}
 use Rattle.host_machine.specs.declared.command.Command.{Command}
 use Rattle.host_machine.specs.declared.command.Command.TheVariants.{UpdateIpAddrs, PollIngressSingle, PollEgress, Poll, PollMaintenance, PollAt, PollDelay, UpdateRoutes, AddDefaultIpv4Route, RemoveDefaultIpv4Route, SetAnyIp, SetHardwareAddr, SetReassemblyTimeout, Owner}
 use Rattle.host_machine.specs.Host.{Host}
@@ -16,17 +12,6 @@ use Rattle.host_machine.specs.Host.{Host}
 abbrev pub IsSix : HardwareAddress → Type 0
 IsSix (hardware.Ethernet a) = length a.0 ≡ 6
 IsSix hardware.Ip = Unit {0}
-
--- an address of a medium
-abbrev pub IsOf : Medium → HardwareAddress → Type 0
-IsOf medium.Ethernet (hardware.Ethernet a) = length a.0 ≡ 6
-IsOf medium.Ethernet hardware.Ip = ⊥
-IsOf medium.Ip (hardware.Ethernet a) = ⊥
-IsOf medium.Ip hardware.Ip = Unit {0}
-
--- each known neighbour has one of that medium
-abbrev pub AreOf : Medium → Neighbors → Type 0
-AreOf m n = (a : IpAddress) (e : Neighbor) → map.get n.known a ≡ Some e → IsOf m e.hardware_addr
 
 -- a host has the hardware addresses of its medium, as each has that an interface stands for
 pub record IsReal (H : Host) : Type 0 where

@@ -17,7 +17,8 @@ use Rattle.host_machine.specs.Addresses.{may_be_source}
 use Rattle.host_machine.specs.Ethernet.{is_for}
 use Rattle.host_machine.specs.Frame.{piece_frame}
 use Rattle.host_machine.specs.Frames.{Brings}
-use Rattle.host_machine.specs.Real.{IsOf, IsReal, GivesSix}
+use Rattle.ip_address.specs.Hardware.{IsOf}
+use Rattle.host_machine.specs.Real.{IsReal, GivesSix}
 use Rattle.host_machine.specs.Run.{Place, Run, told_in, notes_in}
 use Rattle.host_machine.specs.Arrivals.{rebuilt, slot_notes_in}
 

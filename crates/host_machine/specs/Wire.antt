@@ -10,7 +10,8 @@ use Rattle.host_machine.specs.Note.{CutNote, Cut, PieceSent, cut_notes}
 use Rattle.host_machine.specs.Host.{Host}
 use Rattle.host_machine.specs.Frame.{piece_frame}
 use Rattle.host_machine.specs.Frames.{Brings}
-use Rattle.host_machine.specs.Real.{IsOf, IsReal, GivesSix}
+use Rattle.ip_address.specs.Hardware.{IsOf}
+use Rattle.host_machine.specs.Real.{IsReal, GivesSix}
 use Rattle.host_machine.specs.Run.{Place, Run, told_in, notes_in}
 
 -- no host on the medium reads a fragment in a frame
