@@ -15,6 +15,7 @@ use socket_set::SocketSet;
 
 /// Takes a frame by the medium, and builds the frame that goes in response, if there is one, in an
 /// empty buffer. It has to have an octet. A frame that is dropped changes nothing.
+#[inline(always)]
 pub fn process_frame(
     context: &mut Context,
     sockets: &mut SocketSet<'_>,
@@ -36,6 +37,7 @@ pub fn process_frame(
 
 /// Takes a packet on a medium without hardware addresses, by its version, and builds the response, if
 /// there is one, in an empty buffer. It has to have an octet. IPv6 isn't there yet.
+#[inline(always)]
 pub fn process_ip(
     context: &mut Context,
     sockets: &mut SocketSet<'_>,
@@ -62,6 +64,7 @@ pub fn process_ip(
 /// Takes an Ethernet frame that is for all, for a group or for the interface's own address (RFC 1122
 /// 2.4), and builds the response, if there is one, in an empty buffer. It is dropped if it is shorter
 /// than its header of 14 octets, or for another interface.
+#[inline(always)]
 pub fn process_ethernet(
     context: &mut Context,
     sockets: &mut SocketSet<'_>,
@@ -83,6 +86,7 @@ pub fn process_ethernet(
 }
 
 /// Takes the payload of a frame by its type.
+#[inline(always)]
 fn process_payload(
     context: &mut Context,
     sockets: &mut SocketSet<'_>,

@@ -98,7 +98,6 @@ fn rebuilt_header(header: &Ipv4Repr, octets: &[u8]) -> Ipv4Repr
 }
 
 /// Takes a packet that came whole or was put together, by its header and its payload.
-#[inline(always)]
 fn process_whole(
     context: &mut Context,
     sockets: &mut SocketSet<'_>,

@@ -461,6 +461,7 @@ impl Interface {
 
 /// Takes a frame, and builds the one that goes in response, if there is one, in place of what the buffer
 /// held. An empty frame changes nothing.
+#[inline(always)]
 fn take_frame(
     context: &mut Context,
     sockets: &mut SocketSet<'_>,
