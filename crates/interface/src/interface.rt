@@ -1,5 +1,6 @@
 //! An interface over a device.
-ghost use Rattle.std.specs.Prelude.{◌≡◌, ◌≤◌, false, true, length};
+ghost use Rattle.std.specs.Prelude.{◌≡◌, ◌≤◌, None, false, true, length};
+ghost use Rattle.ip_address.specs.Hardware.{IsOf};
 ghost use Rattle.host_machine.specs.Config as config;
 ghost use Rattle.host_machine.specs.Config.{same_medium, hardware_refusal_of};
 ghost use Rattle.host_machine.specs.Host.{SocketSet, are_assignable};
@@ -77,6 +78,10 @@ impl Interface {
     ghost use Rattle.host_machine.specs.Config.{refusal_of, first_host};
     ghost use Rattle.host_machine.specs.Ingress.{Ingress};
     ghost use Rattle.std.specs.Prelude.{ℤ};
+    ghost use Rattle.std.specs.Borrow.{Bor};
+    ghost use Rattle.net_base.specs.Checksum.{ip_mtu_of};
+    ghost use Rattle.socket_set.specs.SocketSet.{Sockets};
+    ghost use Rattle.host_machine.specs.Real.{IsReal};
     ghost use Rattle.host_machine.specs.Host.{Host, at, swept};
     ghost use Rattle.host_machine.specs.Egress.{Egress};
     ghost use Rattle.host_machine.specs.Polling.{Polls, Receives, Sends, maintained};
@@ -144,6 +149,14 @@ impl Interface {
             HardwareAddress::Ip => None,
         }
     }
+
+    /// States, for those who prove something of an interface, that whatever host it stands for has the
+    /// hardware addresses of its medium, of six octets on Ethernet (RFC 894), and carries IP packets of
+    /// 576 octets (RFC 791). It does nothing.
+    pub fn is_on_its_medium(&self)
+        ensures real { (sockets : Sockets (Bor (Unit {0}))) (H : Host) → StandsFor self.now sockets H → IsReal H }
+        ensures mtu { (sockets : Sockets (Bor (Unit {0}))) (H : Host) → StandsFor self.now sockets H → 576 ≤ ip_mtu_of H.capabilities }
+    {}
 
     /// Gives the interface another address on its link. The errors are tested in the order in which
     /// [`HardwareError`] lists them, and come exactly as it says; then nothing changes.
