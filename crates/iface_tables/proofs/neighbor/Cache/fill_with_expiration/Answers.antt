@@ -1,5 +1,4 @@
 use Rattle.iface_tables.proofs.NeighborLemmas.{put_of}
-use Rattle.iface_tables.specs.Neighbor.{AreOf}
 use Rattle.iface_tables.proofs.neighbor.Cache.fill_with_expiration.Goals as goal
 
 pub returns-clause-of : goal.returns-clause-of

@@ -1,4 +1,4 @@
-use Rattle.iface_tables.proofs.NeighborLemmas.{known_at, renewed_in}
+use Rattle.iface_tables.proofs.NeighborLemmas.{renewed_in}
 use Rattle.iface_tables.proofs.neighbor.Cache.reset_expiry_if_existing.Goals as goal
 
 pub returns-clause-of : goal.returns-clause-of
