@@ -14,16 +14,8 @@ use socket_set::{SocketHandle, SocketSet};
 use sockets::{IpEndpoint, IpListenEndpoint, Queue, udp};
 use std::alloc::Global;
 
-/// Its Ethernet address.
-const HARDWARE_ADDR: HardwareAddress = HardwareAddress::Ethernet(EthernetAddress([
-    0x02, 0, 0, 0, 0, 0x01,
-]));
-
 /// Where its socket listens.
-const LOCAL: IpListenEndpoint = IpListenEndpoint {
-    addr: None,
-    port: 4000,
-};
+const PORT: u16 = 4000;
 
 /// Where it sends to: a port of 192.168.69.100.
 const REMOTE: IpEndpoint = IpEndpoint {
@@ -61,13 +53,31 @@ impl Host {
     /// A host at 192.168.69.1/24 with so many sockets at least, of which the last is used: it has room
     /// for four datagrams each way.
     pub fn new(alloc: Global, count: u64, medium: Medium) -> Result<Host> {
-        let mut link = Link::new(alloc, medium);
         let hardware_addr = match medium {
-            Medium::Ethernet => HARDWARE_ADDR,
+            Medium::Ethernet => HardwareAddress::Ethernet(EthernetAddress([2, 0, 0, 0, 0, 1])),
             Medium::Ip => HardwareAddress::Ip,
         };
+        Host::at(alloc, count, medium, hardware_addr, 1, PORT)
+    }
+
+    /// The host at 192.168.69.100/24 to which it sends, with one socket.
+    pub fn peer(alloc: Global) -> Result<Host> {
+        let hardware_addr = HardwareAddress::Ethernet(EthernetAddress([2, 0, 0, 0, 0, 2]));
+        Host::at(alloc, 1, Medium::Ethernet, hardware_addr, 100, REMOTE.port)
+    }
+
+    /// A host at 192.168.69.N/24, whose socket listens at a port.
+    fn at(
+        alloc: Global,
+        count: u64,
+        medium: Medium,
+        hardware_addr: HardwareAddress,
+        n: u8,
+        port: u16,
+    ) -> Result<Host> {
+        let mut link = Link::new(alloc, medium);
         let mut interface = Interface::new(Config::new(hardware_addr), &mut link, Instant::ZERO)?;
-        let cidr = IpCidr::Ipv4(Ipv4Cidr::new(Ipv4Address::new(192, 168, 69, 1), 24));
+        let cidr = IpCidr::Ipv4(Ipv4Cidr::new(Ipv4Address::new(192, 168, 69, n), 24));
         interface.update_ip_addrs(move |_| {
             let mut list = ArrayVec::new();
             list.push(cidr);
@@ -80,7 +90,7 @@ impl Host {
         let rx = Queue::new(alloc, 4, 8192)?;
         let tx = Queue::new(alloc, 4, 8192)?;
         let handle = sockets
-            .add(udp::SocketOf::new(LOCAL, rx, tx))
+            .add(udp::SocketOf::new(IpListenEndpoint { addr: None, port }, rx, tx))
             .ok()
             .context("no memory for the socket")?;
         Ok(Host {
@@ -143,12 +153,24 @@ impl Host {
         }
     }
 
+    /// Takes the last frame that another host has sent.
+    pub fn receive_last(&mut self, link: &Link) {
+        let _ = self
+            .interface
+            .receive_frame(Instant::ZERO, link.last(), &mut self.sockets);
+    }
+
+    /// Sends a piece that waits.
+    pub fn send_piece(&mut self) {
+        let _ = self
+            .interface
+            .poll_egress(Instant::ZERO, &mut self.link, &mut self.sockets);
+    }
+
     /// Sends two pieces that wait.
     pub fn send_two_pieces(&mut self) {
         for _ in 0..2 {
-            let _ = self
-                .interface
-                .poll_egress(Instant::ZERO, &mut self.link, &mut self.sockets);
+            self.send_piece();
         }
     }
 

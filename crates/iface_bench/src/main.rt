@@ -4,10 +4,10 @@
 //! is nearly `full`, `send` a datagram, or send it by a `route`; receive a `packet` on a medium without
 //! hardware addresses; `poll` where there is nothing to do, or ask when to poll again (`at`). Three frames
 //! one behind the other in one line are `fragments` that bring a datagram to the socket, or a request that is
-//! answered in three pieces (`pieces`); what is sent may be `cut` into three. The second
-//! says how many times; a third, if there is one, how many sockets the host has. The first line of
-//! standard input is a frame in hex that is taken once before, and the second the frame that is taken or
-//! the payload that is sent over and over.
+//! answered in three pieces (`pieces`); what is sent may be `cut` into three, and each of them taken by
+//! another host, whose socket gets the datagram (`link`). The second says how many times; a third, if there
+//! is one, how many sockets the host has. The first line of standard input is a frame in hex that is taken
+//! once before, and the second the frame that is taken or the payload that is sent over and over.
 //! `docs/PERFORMANCE.md` says how to count instructions with it.
 #![tactic(auto)]
 
@@ -20,8 +20,8 @@ use net_base::phy::Medium;
 use std::alloc::Global;
 use std::env;
 
-/// Does it so many times. Answers how many octets were read from the socket.
-fn run(host: &mut Host, work: &str, rounds: u64, octets: Vec<u8>) -> Result<u64> {
+/// Does it so many times. Answers how many octets were read from the host's socket, or the peer's.
+fn run(host: &mut Host, peer: &mut Host, work: &str, rounds: u64, octets: Vec<u8>) -> Result<u64> {
     let mut read = 0u64;
     match work {
         "receive" | "packet" => {
@@ -74,6 +74,17 @@ fn run(host: &mut Host, work: &str, rounds: u64, octets: Vec<u8>) -> Result<u64>
                 host.send_two_pieces();
             }
         }
+        "link" => {
+            for _ in 0..rounds {
+                host.send(octets.as_slice());
+                peer.receive_last(&host.link);
+                for _ in 0..2 {
+                    host.send_piece();
+                    peer.receive_last(&host.link);
+                }
+                read = read.wrapping_add(peer.read() as u64);
+            }
+        }
         "poll" => {
             host.link.load(octets);
             for _ in 0..rounds {
@@ -86,7 +97,7 @@ fn run(host: &mut Host, work: &str, rounds: u64, octets: Vec<u8>) -> Result<u64>
             }
         }
         _ => bail!(
-            "receive, deliver, full, send, route, packet, fragments, pieces, cut, poll or at?"
+            "receive, deliver, full, send, route, packet, fragments, pieces, cut, link, poll or at?"
         ),
     }
     Ok(read)
@@ -106,6 +117,7 @@ fn main(rt: HostRuntime) -> Result<()> {
         _ => Medium::Ethernet,
     };
     let mut host = Host::new(alloc, sockets, medium)?;
+    let mut peer = Host::peer(alloc)?;
     let mut digits = String::new(alloc);
     rt.read_line(&mut digits)?;
     host.link.load(hex::decode(alloc, digits.as_str().trim())?);
@@ -113,7 +125,7 @@ fn main(rt: HostRuntime) -> Result<()> {
     digits.clear();
     rt.read_line(&mut digits)?;
     let octets = hex::decode(alloc, digits.as_str().trim())?;
-    let read = run(&mut host, work.as_str(), rounds, octets)?;
+    let read = run(&mut host, &mut peer, work.as_str(), rounds, octets)?;
     let frames = host.link.frames_sent();
     let octets = host.link.octets_sent();
     println!(rt; "sent {frames} frames, {octets} octets; read {read} octets")?;
