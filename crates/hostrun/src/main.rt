@@ -6,10 +6,10 @@
 //! one frame) and `egress` (it sends what its sockets have to send). `docs/HOSTRUN.md` has the rest.
 #![tactic(auto)]
 
-mod host;
 mod input;
 mod line;
 mod run;
+mod script_host;
 #[cfg(test)]
 mod tests;
 

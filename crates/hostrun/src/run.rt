@@ -6,9 +6,9 @@ ghost use Rattle.hostrun.specs.Printed.{frame_line, ingress_text, next_text, pol
 ghost use Rattle.hostrun.specs.declared.run.Stop.TheVariants as why;
 ghost use Rattle.hostrun.specs.Status as spec;
 
-use crate::host::Host;
 use crate::input::{Input, LineBuffer, LineRead};
 use crate::line::{FRAME_ROOM, Line, parse};
+use crate::script_host::Host;
 use arrayvec::ArrayVec;
 use iface_tables::route::RouteTableFull;
 use interface::{

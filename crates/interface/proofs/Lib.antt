@@ -1,6 +1,5 @@
 mod Made
-mod Setting
+pub mod Setting
 mod Egressed
 mod Received
-mod Driven
 mod Repeated

@@ -491,7 +491,7 @@ fn take_frame(
 }
 
 /// The same list.
-pub(crate) fn copied(list: &[IpCidr]) -> ArrayVec<IpCidr, IFACE_MAX_ADDR_COUNT>
+fn copied(list: &[IpCidr]) -> ArrayVec<IpCidr, IFACE_MAX_ADDR_COUNT>
     requires { length list.now ≤ 4 }
     ensures { result.items ≡ list.now }
 {

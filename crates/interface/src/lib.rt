@@ -4,10 +4,9 @@
 //! Begin with [`Interface::new`] over a device, give it addresses by `update_ip_addrs`, and call `poll`:
 //! it takes frames and sends what the sockets have to send. `poll_at` tells when to call it again, if no
 //! frame comes before. `poll_ingress_single` and `poll_egress` are its parts; who has buffers of its own
-//! hands frames over by `receive_frame`. The module [`host`] runs lists of such calls.
+//! hands frames over by `receive_frame`. The crate `host` runs lists of such calls.
 #![tactic(auto)]
 
-pub mod host;
 pub mod interface;
 mod polling;
 

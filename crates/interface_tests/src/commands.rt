@@ -1,7 +1,7 @@
 // Lists of commands, with turns of the sockets' owner among them.
 
 use crate::frames::frame;
-use crate::host::{ETHERNET, Host, OWN};
+use crate::test_host::{ETHERNET, Host, OWN};
 use crate::words::networks;
 use interface::{Answer, Command, PollIngressSingleResult};
 use net_base::phy::Device;

@@ -17,7 +17,7 @@ ghost use Rattle.std.specs.Prelude.{◌≡◌, ◌≢◌, IfSome, false};
 ghost use Rattle.ip_address.specs.Ip.{is_unspecified};
 
 use crate::frames::frame;
-use crate::host::Host;
+use crate::test_host::Host;
 use crate::words::{Words, address, count, end, moment, number, octet, short};
 use ip_wire::{IpAddress, IpProtocol, IpVersion, TcpControl, TcpSeqNumber};
 use sockets::queue::{NoMemory, Queue};

@@ -8,8 +8,6 @@ mod fragments;
 #[cfg(test)]
 mod frames;
 #[cfg(test)]
-mod host;
-#[cfg(test)]
 mod kinds;
 #[cfg(test)]
 mod packets;
@@ -23,5 +21,7 @@ mod script;
 mod sending;
 #[cfg(test)]
 mod settings;
+#[cfg(test)]
+mod test_host;
 #[cfg(test)]
 mod words;

@@ -32,7 +32,7 @@
 ghost use Rattle.host_machine.specs.Step.{IsTimely};
 
 use crate::frames::{Octets, frame};
-use crate::host::{ETHERNET, Host, OWN};
+use crate::test_host::{ETHERNET, Host, OWN};
 use crate::words::{
     Words, address, count, hardware, medium, moment, networks, number, routes, wide,
 };

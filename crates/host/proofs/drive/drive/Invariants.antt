@@ -1,0 +1,10 @@
+use Rattle.std.proofs.Common.{take}
+use Rattle.host_machine.specs.Host.{Host}
+use Rattle.host_machine.specs.Ran.{Ran}
+use Rattle.interface.specs.Stands.{StandsFor}
+use Rattle.host.proofs.drive.drive.Given as goal
+
+abbrev pub invariant-loop-i : goal.invariant-loop-i
+invariant-loop-i g l =
+    (H : Host) → StandsFor l.fn.interface l.fn.sockets H →
+    Ran g.D.Device.tells g.O.Owner.did l.fn.device l.device l.fn.owner l.owner (take l.i l.commands) (take l.i l.answers) H (StandsFor l.interface l.sockets)

@@ -1,0 +1,149 @@
+-- Two hosts on a link that loses, repeats and reorders frames, and changes none.
+use Rattle.std.specs.Prelude.{◌≡◌, ℕ, ℤ, List, [], ◌∷◌, ◌++◌, length, take, drop, slice_get, Option, Some, None, Result, Ok, Err}
+use Rattle.std.specs.List.{AllByRecursion}
+use Rattle.std.specs.FinMap as map
+use Rattle.net_base.specs.Time.{IsMoment}
+use Rattle.net_base.specs.MemoryDevice.{Memory, Tells}
+use Rattle.host_machine.specs.declared.command.Command.TheVariants.{PollIngressSingle}
+use Rattle.host_machine.specs.Host.{Host, SocketSet}
+use Rattle.host_machine.specs.Step.{Step, IsTimely}
+use Rattle.host_machine.specs.Run.{Place, Run, Did}
+use Rattle.host_machine.specs.Real.{GivesSix}
+use Rattle.host_machine.specs.TwoHosts.{HaveOwnKeys, RebuildsThese, WereSent, cuts_in, key_of_cut}
+use Rattle.host_machine.specs.Ran.{Laws}
+use Rattle.host_machine.specs.declared.command.Answer.{Answer}
+use Rattle.interface.specs.Stands.{StandsFor}
+use Rattle.host.specs.Commands.{CommandGoes}
+use Rattle.host.specs.declared.link.Host.{Host as Linked}
+use Rattle.host.specs.declared.link.LinkStep.{LinkStep}
+use Rattle.host.specs.declared.link.LinkStep.TheVariants as step
+use Rattle.host.specs.declared.link.LinkError.{LinkError}
+use Rattle.host.specs.declared.link.LinkError.TheVariants.{NoMemory}
+
+-- a step's moment, if it has one, is from 0 to 2 ^ 62 microseconds
+abbrev pub IsTimelyStep : LinkStep → Type 0
+IsTimelyStep (step.A command) = IsTimely command
+IsTimelyStep (step.B command) = IsTimely command
+IsTimelyStep (step.ToA k t) = IsMoment t
+IsTimelyStep (step.ToB k t) = IsMoment t
+
+-- one end of a link: its host, its device in memory, and the owner of its sockets
+pub record End (O : Type 0) : Type 0 where
+  pub host : Host
+  pub device : Memory
+  pub owner : O
+
+-- what an owner may do at a turn
+abbrev pub Owns : Type 0 → Type 1
+Owns O = O → ℕ → SocketSet → SocketSet → O → Type 0
+
+-- one place of an end's run: its device told what the place says, and its owner did it. A hardware address that its command gives has
+-- six octets, if it is one of Ethernet, as each has that a program holds
+pub record Acts {O : Type 0} (did : Owns O) (p : Place) (old new : End O) : Type 0 where
+  pub step : Step p.command p.answer old.host p.told p.acts p.notes new.host
+  pub before : p.before ≡ old.host
+  pub after : p.after ≡ new.host
+  pub tells : Tells old.device p.told new.device
+  pub owner_did : Did did old.owner p.acts new.owner
+  pub six : GivesSix p.command
+
+-- a device with a copy of a frame behind those that are queued
+abbrev pub with_frame : Memory → List ℕ → Memory
+with_frame d frame = record d { queued = d.queued ++ frame ∷ [] }
+
+abbrev pub pushed : {O : Type 0} → End O → List ℕ → End O
+pushed e frame = record e { device = with_frame e.device frame }
+
+-- frame k, from 0, of those that a device has sent since the link began, where it had sent so many before
+abbrev pub sent_since : ℕ → Memory → ℕ → Option (List ℕ)
+sent_since before d k = slice_get (drop before d.sent) k
+
+-- Steps on a link between two ends, which had sent m and n frames before it began, and the places of their runs: a command on one end;
+-- or a copy of a frame that the one has sent is queued for the other, which is then polled for a frame. Where there is no such frame,
+-- nothing is done.
+pub data Links {O P : Type 0} (did_a : Owns O) (did_b : Owns P) (m n : ℕ) : List LinkStep → End O → End P → List Place → List Place → End O → End P → Type 0 where
+  Stops : {a : End O} {b : End P} → Links did_a did_b m n [] a b [] [] a b
+  OnA : {steps : List LinkStep} {a c a' : End O} {b b' : End P} {p : Place} {ps qs : List Place} →
+      Acts did_a p a c → Links did_a did_b m n steps c b ps qs a' b' → Links did_a did_b m n (step.A p.command ∷ steps) a b (p ∷ ps) qs a' b'
+  OnB : {steps : List LinkStep} {a a' : End O} {b c b' : End P} {q : Place} {ps qs : List Place} →
+      Acts did_b q b c → Links did_a did_b m n steps a c ps qs a' b' → Links did_a did_b m n (step.B q.command ∷ steps) a b ps (q ∷ qs) a' b'
+  ToA : {steps : List LinkStep} {a c a' : End O} {b b' : End P} {p : Place} {ps qs : List Place} (k : ℕ) (t : ℤ) (frame : List ℕ) →
+      sent_since n b.device k ≡ Some frame → p.command ≡ PollIngressSingle t → Acts did_a p (pushed a frame) c → Links did_a did_b m n steps c b ps qs a' b' →
+      Links did_a did_b m n (step.ToA k t ∷ steps) a b (p ∷ ps) qs a' b'
+  ToB : {steps : List LinkStep} {a a' : End O} {b c b' : End P} {q : Place} {ps qs : List Place} (k : ℕ) (t : ℤ) (frame : List ℕ) →
+      sent_since m a.device k ≡ Some frame → q.command ≡ PollIngressSingle t → Acts did_b q (pushed b frame) c → Links did_a did_b m n steps a c ps qs a' b' →
+      Links did_a did_b m n (step.ToB k t ∷ steps) a b ps (q ∷ qs) a' b'
+  NoneToA : {steps : List LinkStep} {a a' : End O} {b b' : End P} {ps qs : List Place} (k : ℕ) (t : ℤ) →
+      sent_since n b.device k ≡ None → Links did_a did_b m n steps a b ps qs a' b' → Links did_a did_b m n (step.ToA k t ∷ steps) a b ps qs a' b'
+  NoneToB : {steps : List LinkStep} {a a' : End O} {b b' : End P} {ps qs : List Place} (k : ℕ) (t : ℤ) →
+      sent_since m a.device k ≡ None → Links did_a did_b m n steps a b ps qs a' b' → Links did_a did_b m n (step.ToB k t ∷ steps) a b ps qs a' b'
+
+-- there is a frame so numbered
+abbrev pub IsThere : ℕ → Memory → ℕ → Type 0
+IsThere before d k = (frame : List ℕ) × (sent_since before d k ≡ Some frame)
+
+-- a step copies a frame that is there
+abbrev pub Copies : ℕ → ℕ → LinkStep → Memory → Memory → Type 0
+Copies m n (step.A command) a b = ⊥
+Copies m n (step.B command) a b = ⊥
+Copies m n (step.ToA k t) a b = IsThere n b k
+Copies m n (step.ToB k t) a b = IsThere m a k
+
+-- which steps were done: all; or those before the one whose copy was refused, which alone may be
+pub data IsDone (steps : List LinkStep) (m n : ℕ) (a b : Memory) : Result (Unit {0}) LinkError → List LinkStep → Type 0 where
+  All : IsDone steps m n a b (Ok tt) steps
+  Before : (k : ℕ) (refused : LinkStep) → slice_get steps k ≡ Some refused → Copies m n refused a b → IsDone steps m n a b (Err (NoMemory k)) (take k steps)
+
+-- the end of a link that a host of a program is, where its interface and sockets stand for a host of the machine
+abbrev pub end_of : {O : Type 0} → Linked O → Host → End O
+end_of h H = record { host = H; device = h.device; owner = h.owner }
+
+-- what these steps did, from hosts that both stood for: the places of both runs, and the hosts that they stand for after
+pub record Went {O P : Type 0} (did_a : Owns O) (did_b : Owns P) (m n : ℕ) (steps : List LinkStep) (a a' : Linked O) (b b' : Linked P) (H K : Host) : Type 0 where
+  pub ps : List Place
+  pub qs : List Place
+  pub last_a : Host
+  pub last_b : Host
+  pub links : Links did_a did_b m n steps (end_of a H) (end_of b K) ps qs (end_of a' last_a) (end_of b' last_b)
+  pub stands_a : StandsFor a'.interface a'.sockets last_a
+  pub stands_b : StandsFor b'.interface b'.sockets last_b
+
+-- what is done with a number of a frame: where a device has sent none so numbered, nothing; else a copy is queued for an end, which is
+-- then polled
+pub data HandsOver {O : Type 0} (did : Owns O) (before : ℕ) (from : Memory) (k : ℕ) (t : ℤ) (old new : Linked O) : Type 0 where
+  NoFrame : sent_since before from k ≡ None → new ≡ old → HandsOver did before from k t old new
+  OneFrame : (frame : List ℕ) (answer : Answer) → sent_since before from k ≡ Some frame →
+      CommandGoes Tells did (with_frame old.device frame) new.device old.owner new.owner (PollIngressSingle t) answer (StandsFor old.interface old.sockets) (StandsFor new.interface new.sockets) →
+      HandsOver did before from k t old new
+
+-- so it went from all hosts that both stood for
+abbrev pub Goes : {O P : Type 0} → Owns O → Owns P → ℕ → ℕ → List LinkStep → Linked O → Linked O → Linked P → Linked P → Type 0
+Goes did_a did_b m n steps a a' b b' =
+    (H K : Host) → StandsFor a.interface a.sockets H → StandsFor b.interface b.sockets K → Went did_a did_b m n steps a a' b b' H K
+
+-- Whatever an end rebuilds under the key of a packet that the other cut is that packet's payload. Both are on one medium; the other had
+-- no piece left when the link began, and cuts no two packets under one key; and the one had no slot with such a key.
+abbrev pub RebuildsCuts : Host → Host → List Place → List Place → Type 0
+RebuildsCuts H K ps qs =
+    K.capabilities.medium ≡ H.capabilities.medium → H.left ≡ [] → HaveOwnKeys (cuts_in ps) →
+    AllByRecursion (λ d. map.get K.slots (key_of_cut d) ≡ None) (cuts_in ps) → RebuildsThese (cuts_in ps) qs
+
+-- what `link` did: some of its steps, which ones by its answer; so the ends went along runs, of which the laws hold, what was handed
+-- over in each was sent in the other, and what one end rebuilds is what the other cut
+pub record LinkWent {O P : Type 0} (did_a : Owns O) (did_b : Owns P) (steps : List LinkStep) (answer : Result (Unit {0}) LinkError) (a a' : Linked O) (b b' : Linked P) (H K : Host) : Type 0 where
+  pub done : List LinkStep
+  pub is_done : IsDone steps (length a.device.sent) (length b.device.sent) a'.device b'.device answer done
+  pub went : Went did_a did_b (length a.device.sent) (length b.device.sent) done a a' b b' H K
+  pub run_a : Run H went.ps went.last_a
+  pub run_b : Run K went.qs went.last_b
+  pub laws_a : Laws H went.ps
+  pub laws_b : Laws K went.qs
+  pub to_b : WereSent went.ps went.qs
+  pub to_a : WereSent went.qs went.ps
+  pub rebuilds_b : RebuildsCuts H K went.ps went.qs
+  pub rebuilds_a : RebuildsCuts K H went.qs went.ps
+
+-- so it goes from all hosts that both stood for
+abbrev pub LinkGoes : {O P : Type 0} → Owns O → Owns P → List LinkStep → Result (Unit {0}) LinkError → Linked O → Linked O → Linked P → Linked P → Type 0
+LinkGoes did_a did_b steps answer a a' b b' =
+    (H K : Host) → StandsFor a.interface a.sockets H → StandsFor b.interface b.sockets K → LinkWent did_a did_b steps answer a a' b b' H K

@@ -1,0 +1,152 @@
+//! Lists of calls, and that they are runs of the host machine.
+ghost use Rattle.std.specs.Prelude.{◌≡◌, List, length, All};
+ghost use Rattle.host_machine.specs.Host.{Host, SocketSet};
+ghost use Rattle.host_machine.specs.Step.{IsTimely, UpdatesIpAddrs};
+ghost use Rattle.host_machine.specs.Ran.{Ran};
+ghost use Rattle.iface_tables.specs.Route.{first, ipv4_gateway, is_ipv4_gateway, old_or_full, with_default, without_first};
+ghost use Rattle.interface.specs.Stands.{StandsFor, Becomes, Follows, host_with};
+ghost use Rattle.host.specs.Joined.{DrivesJoin};
+ghost use Rattle.host.specs.Commands.{CommandGoes};
+
+use arrayvec::ArrayVec;
+use host_machine::{AddrError, Answer, Command};
+use iface_tables::route::{Route, RouteTableFull};
+use interface::Interface;
+use ip_wire::{IpCidr, Ipv4Address};
+use net_base::phy::Device;
+pub use net_base::{MemoryDevice, PushError};
+use socket_set::SocketSet;
+
+/// Who uses the sockets of a host: it acts on them where a list of commands gives it a turn.
+pub trait Owner {
+    ghost use Rattle.std.specs.Prelude.{ℕ};
+    ghost use Rattle.host_machine.specs.Host.{SocketSet};
+
+    /// What it may do at a turn: from one state of its own to another, by the number of the turn,
+    /// with the sockets before and after.
+    ghost did: { Self → ℕ → SocketSet → SocketSet → Self → Type 0 };
+
+    /// Acts on the sockets.
+    fn act(&mut self, number: usize, sockets: &mut SocketSet<'_>)
+        ensures { did self.old number sockets.old sockets.new self.new };
+}
+
+/// Replaces the addresses by a list.
+fn put_ip_addrs(interface: &mut Interface, list: &ArrayVec<IpCidr, 4>) -> Result<(), AddrError>
+    ensures { Follows interface.old interface.new (UpdatesIpAddrs list.now.items result) }
+{
+    let mut addrs = ArrayVec::new();
+    let _ = addrs.try_extend_from_slice(list.as_slice());
+    interface.update_ip_addrs(move |_| addrs)
+}
+
+/// Replaces the routes by a list.
+fn put_routes(interface: &mut Interface, list: &ArrayVec<Route, 4>)
+    ensures { Becomes interface.old interface.new (λ H. record H { routes = list.now.items }) }
+{
+    let mut routes = ArrayVec::new();
+    let _ = routes.try_extend_from_slice(list.as_slice());
+    interface.routes_mut().update(move |_| routes);
+}
+
+/// Adds a default route of IPv4.
+fn add_default_ipv4_route(
+    interface: &mut Interface,
+    gateway: Ipv4Address,
+) -> Result<Option<Route>, RouteTableFull>
+    ensures answer { (sockets : SocketSet) → result ≡ old_or_full is_ipv4_gateway (host_with interface.old sockets).routes }
+    ensures table { Becomes interface.old interface.new (λ H. record H { routes = with_default is_ipv4_gateway H.routes (ipv4_gateway gateway) }) }
+{
+    interface.routes_mut().add_default_ipv4_route(gateway)
+}
+
+/// Takes out the default route of IPv4.
+fn remove_default_ipv4_route(interface: &mut Interface) -> Option<Route>
+    ensures answer { (sockets : SocketSet) → result ≡ first is_ipv4_gateway (host_with interface.old sockets).routes }
+    ensures table { Becomes interface.old interface.new (λ H. record H { routes = without_first is_ipv4_gateway H.routes }) }
+{
+    interface.routes_mut().remove_default_ipv4_route()
+}
+
+/// Runs one command.
+pub(crate) fn step<D: Device, O: Owner>(
+    interface: &mut Interface,
+    device: &mut D,
+    sockets: &mut SocketSet<'_>,
+    owner: &mut O,
+    command: &Command,
+) -> Answer
+    requires { IsTimely command.now }
+    ensures { CommandGoes D.tells O.did device.old device.new owner.old owner.new command.now result (StandsFor interface.old sockets.old) (StandsFor interface.new sockets.new) }
+{
+    match command {
+        Command::UpdateIpAddrs(list) => Answer::UpdateIpAddrs(put_ip_addrs(interface, list)),
+        Command::PollIngressSingle(timestamp) => {
+            Answer::PollIngressSingle(interface.poll_ingress_single(*timestamp, device, sockets))
+        }
+        Command::PollEgress(timestamp) => {
+            Answer::PollEgress(interface.poll_egress(*timestamp, device, sockets))
+        }
+        Command::Poll(timestamp, budget) => {
+            Answer::Poll(interface.poll(*timestamp, device, sockets, *budget))
+        }
+        Command::PollMaintenance(timestamp) => {
+            interface.poll_maintenance(*timestamp);
+            Answer::PollMaintenance
+        }
+        Command::PollAt(timestamp) => Answer::PollAt(interface.poll_at(*timestamp, sockets)),
+        Command::PollDelay(timestamp) => {
+            Answer::PollDelay(interface.poll_delay(*timestamp, sockets))
+        }
+        Command::UpdateRoutes(list) => {
+            put_routes(interface, list);
+            Answer::UpdateRoutes
+        }
+        Command::AddDefaultIpv4Route(gateway) => {
+            Answer::AddDefaultIpv4Route(add_default_ipv4_route(interface, *gateway))
+        }
+        Command::RemoveDefaultIpv4Route => {
+            Answer::RemoveDefaultIpv4Route(remove_default_ipv4_route(interface))
+        }
+        Command::SetAnyIp(any_ip) => {
+            interface.set_any_ip(*any_ip);
+            Answer::SetAnyIp
+        }
+        Command::SetReassemblyTimeout(timeout) => {
+            Answer::SetReassemblyTimeout(interface.set_reassembly_timeout(*timeout))
+        }
+        Command::SetHardwareAddr(hardware_addr) => {
+            Answer::SetHardwareAddr(interface.set_hardware_addr(*hardware_addr))
+        }
+        Command::Owner(number) => {
+            owner.act(*number, sockets);
+            Answer::Owner
+        }
+    }
+}
+
+/// Runs the commands in order, and writes each answer to its place. That is a run of the host
+/// machine, from each state that the interface and its sockets stand for. There have to be as many
+/// places as commands. It takes no memory, apart from what its device and its owner take.
+pub fn drive<D: Device, O: Owner>(
+    interface: &mut Interface,
+    device: &mut D,
+    sockets: &mut SocketSet<'_>,
+    owner: &mut O,
+    commands: &[Command],
+    answers: &mut [Answer],
+)
+    requires room { length answers.old ≡ length commands.now }
+    requires timely { All IsTimely commands.now }
+    ensures { (H : Host) → StandsFor interface.old sockets.old H →
+        Ran D.tells O.did device.old device.new owner.old owner.new commands.now answers.new H (StandsFor interface.new sockets.new) }
+{
+    for i in 0..commands.len() {
+        answers[i] = step(interface, device, sockets, owner, &commands[i]);
+    }
+}
+
+/// Calls of [`drive`] one after the other are one run.
+pub fn drives_join<D: Device, O: Owner>()
+    ensures { DrivesJoin D.tells O.did }
+{}

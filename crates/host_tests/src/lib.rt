@@ -1,0 +1,7 @@
+//! Tests of two hosts on a link.
+#![tactic(auto)]
+
+#[cfg(test)]
+mod ends;
+#[cfg(test)]
+mod link;
