@@ -10,7 +10,7 @@ use Rattle.ip_address.specs.declared.ip.IpAddress.TheVariants.{Ipv4, Ipv6}
 use Rattle.ip_address.specs.declared.ipv4.Ipv4Address.{Ipv4Address}
 use Rattle.ip_wire.specs.declared.ethernet.EthernetProtocol.TheVariants as protocol
 use Rattle.ip_wire.specs.Arp.{ipv4_over_ethernet}
-use Rattle.ip_wire.proofs.OctetCells.{six}
+use Rattle.ip_address.proofs.SixOctets.{six}
 use Rattle.ip_address.specs.EthernetAddress.{broadcast}
 use Rattle.ip_address.specs.Ipv4 as ipv4
 use Rattle.ip_address.specs.Ipv6 as ipv6

@@ -1,3 +1,4 @@
 pub mod Processed
+pub mod Ipv4
 pub mod Datagram
 pub mod Segment

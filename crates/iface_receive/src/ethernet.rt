@@ -80,7 +80,7 @@ pub fn process_ethernet(
     let Some((header, payload)) = EthernetRepr::parse(frame) else {
         return;
     };
-    if is_for(&own, &header.dst_addr) {
+    if is_for(context, &header.dst_addr) {
         process_payload(context, sockets, fragments, own, &header, payload, out);
     }
 }
@@ -110,9 +110,15 @@ fn process_payload(
     }
 }
 
-/// Whether a frame to this address is for the interface.
-fn is_for(own: &EthernetAddress, destination: &EthernetAddress) -> bool
-    ensures { result ≡ is_for own.now destination.now }
+/// Whether a frame to this address is for the interface: for all, for a group, or for its own address.
+#[inline(always)]
+fn is_for(context: &Context, destination: &EthernetAddress) -> bool
+    ensures { (own : EthernetAddress) → (host_of context.now no_sockets).hardware_addr ≡ HardwareAddress.Ethernet own → result ≡ is_for own destination.now }
 {
-    destination.is_broadcast() || destination.is_multicast() || destination.0 == own.0
+    match context.hardware_addr() {
+        HardwareAddress::Ethernet(own) => {
+            destination.is_broadcast() || destination.is_multicast() || destination.is_same(&own)
+        }
+        HardwareAddress::Ip => false,
+    }
 }

@@ -1,12 +1,14 @@
 //! What an interface does with IPv4 packets (RFC 791, RFC 1122 3.2.1).
-ghost use Rattle.std.specs.Prelude.{◌≡◌, ◌+◌, ◌<◌, ◌^◌, true, [], length};
+ghost use Rattle.std.specs.Prelude.{◌≡◌, ◌+◌, ◌<◌, ◌≤◌, ◌^◌, [], length, IfSome};
+ghost use Rattle.std.specs.Borrow.{sem};
 ghost use Rattle.fragmentation.specs.Slots.{Slots};
+ghost use Rattle.fragmentation.specs.Reassembled.{RestsReassembled};
 ghost use Rattle.host_machine.specs.Host.{SocketSet, no_sockets};
 ghost use Rattle.host_machine.specs.Addresses as addresses;
-ghost use Rattle.host_machine.specs.Ipv4.{TakesIpv4, TakesPacket, TakesProtocol, TakesWhole, heard_from};
+ghost use Rattle.host_machine.specs.Ipv4.{TakesIpv4, TakesProtocol, TakesWhole, heard_from};
 ghost use Rattle.host_machine.specs.Ipv4 as spec;
-ghost use Rattle.ip_wire.specs.Ipv4Packet.{is_fragment};
 ghost use Rattle.iface_send.specs.Stands.{host_in, host_of};
+ghost use Rattle.iface_receive.specs.Ipv4.{RestsDatagram, end_of_slots};
 ghost use Rattle.iface_receive.specs.Processed.{Answers, Processed, StandsFor};
 
 use crate::icmpv4::{process_icmpv4, refuse};
@@ -47,47 +49,57 @@ pub fn process_ipv4(
     if !may_be_source(context, &header.src_addr) {
         return;
     }
-    if fragment.is_fragment() {
-        process_fragment(
-            context, sockets, fragments, source, &header, &fragment, payload, out,
-        );
-    } else {
-        process_whole(context, sockets, source, &header, payload, out);
-    }
+    let Some(payload) = datagram(fragments, context, &header, &fragment, payload) else {
+        return;
+    };
+    let header = header_of_datagram(&header, payload);
+    process_whole(context, sockets, source, &header, payload, out);
 }
 
-/// Takes a fragment by its packet's header, by its place and by its payload. The datagram that it
-/// completes, if it does, is taken with the length of the whole payload.
-#[inline(never)]
-fn process_fragment(
-    context: &mut Context,
-    sockets: &mut SocketSet<'_>,
-    fragments: &mut PacketAssemblerSet<FragKey>,
-    source: HardwareAddress,
+/// The payload of the datagram that a packet belongs to, by the packet's header, by which fragment it
+/// is and by its payload: that payload where the packet is whole, and what is rebuilt from slots where
+/// it is a fragment (RFC 791 3.2). `None` while other fragments are missing, and where it is dropped.
+#[inline(always)]
+fn datagram<'p>(
+    fragments: &'p mut PacketAssemblerSet<FragKey>,
+    context: &Context,
     header: &Ipv4Repr,
     fragment: &Ipv4Fragment,
-    payload: &[u8],
-    out: &mut FrameBuffer,
-)
-    requires empty { out.old ≡ [] }
-    requires from_host { addresses.may_be_source (host_of context.old no_sockets).ip_addrs header.now.src_addr ≡ true }
-    requires part { is_fragment fragment.now ≡ true }
-    ensures { Answers out.new (λ H. TakesPacket source header.now fragment.now H payload.now) (StandsFor context.old fragments.old sockets.old) (StandsFor context.new fragments.new sockets.new) }
+    payload: &'p [u8],
+) -> Option<&'p [u8]>
+    requires { length payload.now + 20 < 2 ^ 16 }
+    ensures* rests { sem 𝓛 (RestsDatagram fragments.entry (end_of_slots context.now) header.now fragment.now payload.now result) }
+    ensures short { IfSome result (λ octets. length octets.now + 20 < 2 ^ 16) }
 {
-    let key = FragKey::new(header, fragment.identification);
+    if !fragment.is_fragment() {
+        return Some(payload);
+    }
+    rebuilt(fragments, context, *header, *fragment, payload)
+}
+
+/// Puts a fragment together with those that came before, and gives the payload of its datagram if that
+/// is complete now.
+#[inline(never)]
+fn rebuilt<'s>(
+    fragments: &'s mut PacketAssemblerSet<FragKey>,
+    context: &Context,
+    header: Ipv4Repr,
+    fragment: Ipv4Fragment,
+    payload: &[u8],
+) -> Option<&'s [u8]>
+    ensures* rests { sem 𝓛 (RestsReassembled fragments.entry (end_of_slots context.now) (spec.key_in header fragment) (spec.fragment_in fragment payload.now) result) }
+    ensures short { IfSome result (λ octets. length octets.now ≤ 4096) }
+{
+    let key = FragKey::new(&header, fragment.identification);
     let end = context.now() + context.reassembly_timeout();
     let offset = usize::from(fragment.offset) * 8;
     let is_last = !fragment.more_fragments;
-    let Some(octets) = reassemble(fragments, &key, end, payload, offset, is_last) else {
-        return;
-    };
-    let header = rebuilt_header(header, octets);
-    process_whole(context, sockets, source, &header, octets, out);
+    reassemble(fragments, &key, end, payload, offset, is_last)
 }
 
-/// The header of a rebuilt datagram: that of the fragment which completed it, with the length of the
+/// The header of a datagram: that of the packet which brought or completed it, with the length of the
 /// whole payload.
-fn rebuilt_header(header: &Ipv4Repr, octets: &[u8]) -> Ipv4Repr
+fn header_of_datagram(header: &Ipv4Repr, octets: &[u8]) -> Ipv4Repr
     requires { length octets.now < 2 ^ 16 }
     ensures { result ≡ spec.rebuilt_header header.now octets.now }
 {

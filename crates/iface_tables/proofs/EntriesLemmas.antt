@@ -81,6 +81,15 @@ module _ {K X : Type 0} {R : K → K → Ordering} (o : IsTotalOrder R) (same : 
             ∙ swapped (eq_by_cmp R q e.0) (eq_by_cmp R q k) (Some e.1) (Some v) (find R q es) (λ a b. not_true _ t (rw (← tied o same q k b, ← tied o same q e.0 a) (tied_itself o same q))))
       ] refl h
 
+  -- the entry at the place of a key that is there has this key
+  pub key-there : (k : K) (es : List (K × X)) (d : K × X) → place_of R k es < length es → (get_or es (place_of R k es) d).0 ≡ k
+  key-there k [] d h = absurd (omega arith)
+  key-there k (e ∷ es) d h =
+      elim (eq_by_cmp R k e.0) as (λ b. eq_by_cmp R k e.0 ≡ b → cond b 0 (place_of R k es + 1) < suc (length es) → (get_or (e ∷ es) (cond b 0 (place_of R k es + 1)) d).0 ≡ k) [
+        | true ↦ λ t h. sym (tied o same k e.0 t)
+        | false ↦ λ t h. rw add-one (key-there k es d (omega arith))
+      ] refl h
+
   pub from_entries-set : (k : K) (v : X) (es : List (K × X)) → place_of R k es < length es → from_entries {R = R} (slice_set es (place_of R k es) (k, v)) ≡ insert (from_entries es) k v
   from_entries-set k v es h = same_map o same _ _ (λ q.
       get-from_entries o _ q ∙ find-set k v q es h ∙ sym (get-insert o (from_entries es) k v q ∙ ap (cond (eq_by_cmp R q k) (Some v)) (get-from_entries o es q)))

@@ -1,10 +1,8 @@
 -- The lists of neighbours, as the finite maps that they make.
 use Rattle.std.proofs.Common.{◌≡◌, ◌≢◌, ℕ, ◌<◌, ◌≤◌, List, [], ◌∷◌, ◌++◌, length, get_or, refl, sym, ap, subst, ◌∙◌, arith, suc}
 use Rattle.std.proofs.lemmas.Bool.Decides.{nat_tests}
-use Rattle.std.proofs.lemmas.Slice.Eq.{bytes_eq-Decides}
-use Rattle.std.specs.Bool.{Decides}
-use Rattle.ip_address.specs.Hardware.{IsOf, octets_of}
-use Rattle.std.specs.Prelude.{Option, is_some, nat_lt, IsTrue, if◌then◌else◌, unwrap_or, Bool, ◌==◌, ℤ, pos, ◌≤ℤ◌, true, false, cond, Some, None, slice_set, remove}
+use Rattle.ip_address.specs.Hardware.{IsOf}
+use Rattle.std.specs.Prelude.{Option, is_some, nat_lt, IsTrue, if◌then◌else◌, Bool, ◌==◌, ℤ, pos, ◌≤ℤ◌, true, false, cond, Some, None, slice_set, remove}
 use Rattle.std.specs.Ordering.{nat_cmp, eq_by_cmp}
 use Rattle.std.specs.Cmp.{IsTotalOrder, nat_cmp_total}
 use Rattle.std.specs.FinMap as map
@@ -18,9 +16,8 @@ use Rattle.iface_tables.specs.Neighbor.{AreOf, Neighbors, Puts, IsLeastEnd, IsLe
 use Rattle.net_base.specs.declared.phy.Medium.{Medium}
 use Rattle.ip_address.specs.declared.ip.IpAddress.{IpAddress}
 use Rattle.ip_address.specs.declared.hardware.HardwareAddress.{HardwareAddress}
-use Rattle.ip_address.specs.declared.hardware.HardwareAddress.TheVariants.{Ip, Ethernet}
 use Rattle.iface_tables.specs.declared.neighbor.Neighbor.{Neighbor}
-use Rattle.iface_tables.proofs.EntriesLemmas.{place_of-le, find-absent, distinct_after-set, distinct_after-push, from_entries-set, find-there, from_entries-remove, len-from_entries, distinct_after-remove, find-at, absent_after-remove}
+use Rattle.iface_tables.proofs.EntriesLemmas.{place_of-le, find-absent, distinct_after-set, distinct_after-push, from_entries-set, find-there, key-there, from_entries-remove, len-from_entries, distinct_after-remove, find-at, absent_after-remove}
 
 pub address_total : IsTotalOrder address_cmp
 address_total = then_total (on_total (λ a. (address_key a).0) nat_cmp_total) (on_total (λ a. (address_key a).1) nat_cmp_total)
@@ -110,16 +107,6 @@ put_full es a n i v d e h four least =
       puts = puts_full es a n v (a, n) none four least d;
     }
 
--- the test of hardware addresses holds exactly of equal ones
-pub is_same-Decides : (x y : HardwareAddress) → Decides (is_same x y) (x ≡ y)
-is_same-Decides Ip Ip = (λ _. refl, λ _. refl)
-is_same-Decides Ip (Ethernet y) = (λ h. cc, λ h. cc)
-is_same-Decides (Ethernet x) Ip = (λ h. cc, λ h. cc)
-is_same-Decides (Ethernet x) (Ethernet y) = (
-  λ h. ap (λ (octets : List ℕ). Ethernet (record { 0 = octets })) ((bytes_eq-Decides x.0 y.0).0 h),
-  λ h. (bytes_eq-Decides x.0 y.0).1 (ap (λ (a : HardwareAddress). unwrap_or (octets_of a) x.0) h),
-)
-
 -- what renewing in a list of entries leaves
 pub record RenewsIn (es fs : List (IpAddress × Neighbor)) (a : IpAddress) (h : HardwareAddress) (end : ℤ) : Type 0 where
   pub distinct : AreKeysDistinct address_cmp fs
@@ -129,13 +116,14 @@ pub record RenewsIn (es fs : List (IpAddress × Neighbor)) (a : IpAddress) (h : 
 found_is : (es : List (IpAddress × Neighbor)) (a : IpAddress) (e : IpAddress × Neighbor) (i : ℕ) → i ≡ place_of address_cmp a es → i < length es → e ≡ get_or es i e → find address_cmp a es ≡ Some e.1
 found_is es a e i at within is = find-there address_cmp a es e (rw at at within) ∙ ap (λ (d : IpAddress × Neighbor). Some d.1) (sym (rw at at is))
 
-pub renewed_there : (es : List (IpAddress × Neighbor)) (a : IpAddress) (h : HardwareAddress) (end : ℤ) (e : IpAddress × Neighbor) (i : ℕ) → AreKeysDistinct address_cmp es → i ≡ place_of address_cmp a es → i < length es → e ≡ get_or es i e → is_same e.1.hardware_addr h ≡ true → RenewsIn es (slice_set es i (a, record { hardware_addr = h; expires_at = end })) a h end
+pub renewed_there : (es : List (IpAddress × Neighbor)) (a : IpAddress) (h : HardwareAddress) (end : ℤ) (e : IpAddress × Neighbor) (i : ℕ) → AreKeysDistinct address_cmp es → i ≡ place_of address_cmp a es → i < length es → e ≡ get_or es i e → is_same e.1.hardware_addr h ≡ true → RenewsIn es (slice_set es i (e.0, record e.1 { expires_at = end })) a h end
 renewed_there es a h end e i d at within is same =
-    let n : Neighbor = record { hardware_addr = h; expires_at = end } in
+    let n : Neighbor = record e.1 { expires_at = end } in
     let f = found_is es a e i at within is in
+    let key : e.0 ≡ a = ap (λ (x : IpAddress × Neighbor). x.0) (rw at at is) ∙ key-there address_total address_same a es e (rw at at within) in
     record {
-      distinct = rw at (distinct_after-set address_total address_same a n es (rw at at within) d);
-      renews = rw (f, same, (is_same-Decides e.1.hardware_addr h).0 same, at) (from_entries-set address_total address_same a n es (rw at at within));
+      distinct = rw (key, at) (distinct_after-set address_total address_same a n es (rw at at within) d);
+      renews = rw (key, f, same, at) (from_entries-set address_total address_same a n es (rw at at within));
     }
 
 pub renewed_other : (es : List (IpAddress × Neighbor)) (a : IpAddress) (h : HardwareAddress) (end : ℤ) (e : IpAddress × Neighbor) (i : ℕ) → AreKeysDistinct address_cmp es → i ≡ place_of address_cmp a es → i < length es → e ≡ get_or es i e → is_same e.1.hardware_addr h ≡ false → RenewsIn es (slice_set es i e) a h end

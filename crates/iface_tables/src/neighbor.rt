@@ -221,7 +221,7 @@ fn is_same(a: &HardwareAddress, b: &HardwareAddress) -> bool
 {
     match (a, b) {
         (HardwareAddress::Ip, HardwareAddress::Ip) => true,
-        (HardwareAddress::Ethernet(x), HardwareAddress::Ethernet(y)) => x.0 == y.0,
+        (HardwareAddress::Ethernet(x), HardwareAddress::Ethernet(y)) => x.is_same(y),
         _ => false,
     }
 }
@@ -302,11 +302,7 @@ fn renew_in(
     let place = place_of(entries.as_slice(), address);
     if let Some(entry) = entries.get_mut(place) {
         if is_same(&entry.1.hardware_addr, hardware_addr) {
-            let renewed = Neighbor {
-                hardware_addr: *hardware_addr,
-                expires_at,
-            };
-            *entry = (*address, renewed);
+            entry.1.expires_at = expires_at;
         }
     }
 }

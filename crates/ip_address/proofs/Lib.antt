@@ -1,3 +1,4 @@
 pub mod AgreeingBits
 pub mod CommonBits
 pub mod LastAddress
+pub mod SixOctets

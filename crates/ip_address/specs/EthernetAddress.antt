@@ -7,6 +7,10 @@ use Rattle.ip_address.specs.declared.ethernet_address.EthernetAddress.{EthernetA
 abbrev pub broadcast : EthernetAddress
 broadcast = record { 0 = 255 ∷ 255 ∷ 255 ∷ 255 ∷ 255 ∷ 255 ∷ [] }
 
+-- two are one address exactly if all octets are the same
+abbrev pub is_same : EthernetAddress → EthernetAddress → Bool
+is_same a b = bytes_eq a.0 b.0
+
 abbrev pub is_broadcast : EthernetAddress → Bool
 is_broadcast a = bytes_eq a.0 broadcast.0
 

@@ -1,5 +1,6 @@
 //! Ethernet addresses (IEEE 802.3).
 ghost use Rattle.std.specs.Prelude.{◌≡◌};
+ghost use Rattle.std.specs.Str.{bytes_eq};
 ghost use Rattle.ip_address.specs.EthernetAddress as spec;
 
 use std::fmt;
@@ -8,18 +9,39 @@ use std::fmt;
 #[derive(Clone, Copy, Debug, PartialEq, Eq, PartialOrd, Ord, Hash)]
 pub struct EthernetAddress(pub [u8; 6]);
 
+// Whether all octets are the same. They are compared as two numbers, of four octets and of two.
+#[inline(always)]
+const fn are_same(a: &[u8; 6], b: &[u8; 6]) -> bool
+    ensures { result ≡ bytes_eq a.now b.now }
+{
+    let [a0, a1, a2, a3, a4, a5] = *a;
+    let [b0, b1, b2, b3, b4, b5] = *b;
+    u32::from_le_bytes([a0, a1, a2, a3]) == u32::from_le_bytes([b0, b1, b2, b3])
+        && u16::from_le_bytes([a4, a5]) == u16::from_le_bytes([b4, b5])
+}
+
 impl EthernetAddress {
     /// The address of all interfaces.
     pub const BROADCAST: EthernetAddress = EthernetAddress([0xff, 0xff, 0xff, 0xff, 0xff, 0xff]);
 
+    /// Whether the two are one address.
+    #[inline(always)]
+    pub const fn is_same(&self, other: &EthernetAddress) -> bool
+        ensures { result ≡ spec.is_same self.now other.now }
+    {
+        are_same(&self.0, &other.0)
+    }
+
     /// Whether it is that of all interfaces: all ones.
+    #[inline(always)]
     pub fn is_broadcast(&self) -> bool
         ensures { result ≡ spec.is_broadcast self.now }
     {
-        self.0 == EthernetAddress::BROADCAST.0
+        are_same(&self.0, &EthernetAddress::BROADCAST.0)
     }
 
     /// Whether it is that of a group: its first octet is odd. That of all interfaces is one, too.
+    #[inline(always)]
     pub const fn is_multicast(&self) -> bool
         ensures { result ≡ spec.is_multicast self.now }
     {

@@ -5,7 +5,7 @@ use Rattle.ip_wire.specs.declared.ethernet.EthernetProtocol.{EthernetProtocol}
 use Rattle.ip_address.specs.declared.ethernet_address.EthernetAddress.{EthernetAddress}
 use Rattle.ip_wire.specs.declared.ethernet.EthernetRepr.{EthernetRepr}
 use Rattle.ip_wire.specs.Ethernet.{protocol_of, number_of, ethernet_in, ReadAgain}
-use Rattle.ip_wire.proofs.OctetCells.{Six, six}
+use Rattle.ip_address.proofs.SixOctets.{Six, six}
 
 number : (n : ℕ) → n < 2 ^ 16 → n / 256 % 256 * 256 + n % 256 ≡ n
 number n lt = omega arith
