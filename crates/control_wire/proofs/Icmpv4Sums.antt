@@ -1,8 +1,8 @@
 -- Sums over the parts of a message.
 use Rattle.std.proofs.Common.{◌≡◌, ℕ, zero, suc, ◌+◌, ◌-◌, ◌/◌, ◌%◌, ◌<◌, ◌≤◌, ◌^◌, List, [], ◌++◌, length, drop, refl, sym, ap, ◌∙◌, length-append, arith}
-use Rattle.ip_wire.specs.Checksum.{folded, word_sum, checksum_of}
-use Rattle.ip_wire.proofs.Sums.{word, word_sum-append, folded_again}
-use Rattle.ip_wire.specs.Octets.{u16_at}
+use Rattle.wire_base.specs.Checksum.{folded, word_sum, checksum_of}
+use Rattle.wire_base.proofs.Sums.{word, word_sum-append, folded_again}
+use Rattle.wire_base.specs.Octets.{u16_at}
 use Rattle.control_wire.specs.declared.icmpv4.Icmpv4Repr.TheVariants.{EchoReply}
 use Rattle.control_wire.specs.Icmpv4.{IsEchoRequest, code_in, echo_reply_to, head_with, type_in}
 

@@ -2,8 +2,8 @@
 use Rattle.std.specs.Prelude.{◌≡◌, ℕ, ◌+◌, ◌<◌, ◌≤◌, ◌^◌, ◌==◌, Bool, IsTrue, List, [], ◌∷◌, ◌++◌, length, drop, slice_index, if◌then◌else◌}
 use Rattle.std.specs.Borrow.{Bor}
 use Rattle.std.specs.Int.{w16, to_be_bytes}
-use Rattle.ip_wire.specs.Checksum.{folded, word_sum, checksum_of}
-use Rattle.ip_wire.specs.Octets.{u16_at}
+use Rattle.wire_base.specs.Checksum.{folded, word_sum, checksum_of}
+use Rattle.wire_base.specs.Octets.{u16_at}
 use Rattle.ip_wire.specs.Ipv4Packet.{IsQuoted, quoted_in, header_text, whole, IsHeader}
 use Rattle.control_wire.specs.declared.icmpv4.Icmpv4DstUnreachable.{Icmpv4DstUnreachable}
 use Rattle.control_wire.specs.declared.icmpv4.Icmpv4DstUnreachable.TheVariants.{ProtoUnreachable, PortUnreachable, Unknown}

@@ -21,5 +21,7 @@ pub record CommandWent {D O : Type 0} (tells : D → List Event → D → Type 0
   pub stands : after host
 
 -- from each host that stood before, one step leads to a host that stands after
-abbrev pub CommandGoes : {D O : Type 0} → (D → List Event → D → Type 0) → (O → ℕ → SocketSet → SocketSet → O → Type 0) → D → D → O → O → Command → Answer → (Host → Type 0) → (Host → Type 0) → Type 0
-CommandGoes tells did device device' owner owner' command answer before after = (H : Host) → before H → CommandWent tells did device device' owner owner' command answer H after
+abbrev pub CommandGoes : {D O : Type 0} → (D → List Event → D → Type 0) → (O → ℕ → SocketSet → SocketSet → O → Type 0) →
+    D → D → O → O → Command → Answer → (Host → Type 0) → (Host → Type 0) → Type 0
+CommandGoes tells did device device' owner owner' command answer before after =
+    (H : Host) → before H → CommandWent tells did device device' owner owner' command answer H after

@@ -61,7 +61,8 @@ sent_since before d k = slice_get (drop before d.sent) k
 -- Steps on a link between two ends, which had sent m and n frames before it began, and the places of their runs: a command on one end;
 -- or a copy of a frame that the one has sent is queued for the other, which is then polled for a frame. Where there is no such frame,
 -- nothing is done.
-pub data Links {O P : Type 0} (did_a : Owns O) (did_b : Owns P) (m n : ℕ) : List LinkStep → End O → End P → List Place → List Place → End O → End P → Type 0 where
+pub data Links {O P : Type 0} (did_a : Owns O) (did_b : Owns P) (m n : ℕ) :
+    List LinkStep → End O → End P → List Place → List Place → End O → End P → Type 0 where
   Stops : {a : End O} {b : End P} → Links did_a did_b m n [] a b [] [] a b
   OnA : {steps : List LinkStep} {a c a' : End O} {b b' : End P} {p : Place} {ps qs : List Place} →
       Acts did_a p a c → Links did_a did_b m n steps c b ps qs a' b' → Links did_a did_b m n (step.A p.command ∷ steps) a b (p ∷ ps) qs a' b'
@@ -99,7 +100,8 @@ abbrev pub end_of : {O : Type 0} → Linked O → Host → End O
 end_of h H = record { host = H; device = h.device; owner = h.owner }
 
 -- what these steps did, from hosts that both stood for: the places of both runs, and the hosts that they stand for after
-pub record Went {O P : Type 0} (did_a : Owns O) (did_b : Owns P) (m n : ℕ) (steps : List LinkStep) (a a' : Linked O) (b b' : Linked P) (H K : Host) : Type 0 where
+pub record Went {O P : Type 0} (did_a : Owns O) (did_b : Owns P) (m n : ℕ) (steps : List LinkStep) (a a' : Linked O) (b b' : Linked P)
+    (H K : Host) : Type 0 where
   pub ps : List Place
   pub qs : List Place
   pub last_a : Host
@@ -113,7 +115,8 @@ pub record Went {O P : Type 0} (did_a : Owns O) (did_b : Owns P) (m n : ℕ) (st
 pub data HandsOver {O : Type 0} (did : Owns O) (before : ℕ) (from : Memory) (k : ℕ) (t : ℤ) (old new : Linked O) : Type 0 where
   NoFrame : sent_since before from k ≡ None → new ≡ old → HandsOver did before from k t old new
   OneFrame : (frame : List ℕ) (answer : Answer) → sent_since before from k ≡ Some frame →
-      CommandGoes Tells did (with_frame old.device frame) new.device old.owner new.owner (PollIngressSingle t) answer (StandsFor old.interface old.sockets) (StandsFor new.interface new.sockets) →
+      CommandGoes Tells did (with_frame old.device frame) new.device old.owner new.owner (PollIngressSingle t) answer
+      (StandsFor old.interface old.sockets) (StandsFor new.interface new.sockets) →
       HandsOver did before from k t old new
 
 -- so it went from all hosts that both stood for
@@ -130,7 +133,8 @@ RebuildsCuts H K ps qs =
 
 -- what `link` did: some of its steps, which ones by its answer; so the ends went along runs, of which the laws hold, what was handed
 -- over in each was sent in the other, and what one end rebuilds is what the other cut
-pub record LinkWent {O P : Type 0} (did_a : Owns O) (did_b : Owns P) (steps : List LinkStep) (answer : Result (Unit {0}) LinkError) (a a' : Linked O) (b b' : Linked P) (H K : Host) : Type 0 where
+pub record LinkWent {O P : Type 0} (did_a : Owns O) (did_b : Owns P) (steps : List LinkStep) (answer : Result (Unit {0}) LinkError)
+    (a a' : Linked O) (b b' : Linked P) (H K : Host) : Type 0 where
   pub done : List LinkStep
   pub is_done : IsDone steps (length a.device.sent) (length b.device.sent) a'.device b'.device answer done
   pub went : Went did_a did_b (length a.device.sent) (length b.device.sent) done a a' b b' H K

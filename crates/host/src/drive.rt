@@ -3,7 +3,7 @@ ghost use Rattle.std.specs.Prelude.{◌≡◌, List, length, All};
 ghost use Rattle.host_machine.specs.Host.{Host, SocketSet};
 ghost use Rattle.host_machine.specs.Step.{IsTimely, UpdatesIpAddrs};
 ghost use Rattle.host_machine.specs.Ran.{Ran};
-ghost use Rattle.iface_tables.specs.Route.{first, ipv4_gateway, is_ipv4_gateway, old_or_full, with_default, without_first};
+ghost use Rattle.iface_tables.specs.Route.{first, ipv4_gateway, ipv6_gateway, is_ipv4_gateway, is_ipv6_gateway, old_or_full, with_default, without_first};
 ghost use Rattle.interface.specs.Stands.{StandsFor, Becomes, Follows, host_with};
 ghost use Rattle.host.specs.Joined.{DrivesJoin};
 ghost use Rattle.host.specs.Commands.{CommandGoes};
@@ -12,7 +12,7 @@ use arrayvec::ArrayVec;
 use host_machine::{AddrError, Answer, Command};
 use iface_tables::route::{Route, RouteTableFull};
 use interface::Interface;
-use ip_wire::{IpCidr, Ipv4Address};
+use ip_wire::{IpCidr, Ipv4Address, Ipv6Address};
 use net_base::phy::Device;
 pub use net_base::{MemoryDevice, PushError};
 use socket_set::SocketSet;
@@ -68,6 +68,25 @@ fn remove_default_ipv4_route(interface: &mut Interface) -> Option<Route>
     interface.routes_mut().remove_default_ipv4_route()
 }
 
+/// Adds a default route of IPv6.
+fn add_default_ipv6_route(
+    interface: &mut Interface,
+    gateway: Ipv6Address,
+) -> Result<Option<Route>, RouteTableFull>
+    ensures answer { (sockets : SocketSet) → result ≡ old_or_full is_ipv6_gateway (host_with interface.old sockets).routes }
+    ensures table { Becomes interface.old interface.new (λ H. record H { routes = with_default is_ipv6_gateway H.routes (ipv6_gateway gateway) }) }
+{
+    interface.routes_mut().add_default_ipv6_route(gateway)
+}
+
+/// Takes out the default route of IPv6.
+fn remove_default_ipv6_route(interface: &mut Interface) -> Option<Route>
+    ensures answer { (sockets : SocketSet) → result ≡ first is_ipv6_gateway (host_with interface.old sockets).routes }
+    ensures table { Becomes interface.old interface.new (λ H. record H { routes = without_first is_ipv6_gateway H.routes }) }
+{
+    interface.routes_mut().remove_default_ipv6_route()
+}
+
 /// Runs one command.
 pub(crate) fn step<D: Device, O: Owner>(
     interface: &mut Interface,
@@ -107,6 +126,12 @@ pub(crate) fn step<D: Device, O: Owner>(
         }
         Command::RemoveDefaultIpv4Route => {
             Answer::RemoveDefaultIpv4Route(remove_default_ipv4_route(interface))
+        }
+        Command::AddDefaultIpv6Route(gateway) => {
+            Answer::AddDefaultIpv6Route(add_default_ipv6_route(interface, *gateway))
+        }
+        Command::RemoveDefaultIpv6Route => {
+            Answer::RemoveDefaultIpv6Route(remove_default_ipv6_route(interface))
         }
         Command::SetAnyIp(any_ip) => {
             interface.set_any_ip(*any_ip);

@@ -373,7 +373,8 @@ itself H = record { hardware = refl; capabilities = refl; addresses = refl; time
 pub ingress_alike : {t : ℤ} {answer : PollIngressSingleResult} {old new : Host} {told : List Event} {notes : List Note} → Ingress t answer old told notes new → Alike old new
 ingress_alike i =
     ingress AlikeOver (λ old new k. alike k.same) (λ a b c fs gs xs ys one two. alike_on one two)
-    (λ H own source target hop mine unknown. record { hardware = refl; capabilities = refl; addresses = refl; timeout = refl })
+    (λ H own source target mine. itself H)
+    (λ H hop unknown. record { hardware = refl; capabilities = refl; addresses = refl; timeout = refl })
     (λ H. record { hardware = refl; capabilities = refl; addresses = refl; timeout = refl })
     (λ H h p reached. itself H)
     (λ H h id p first rest e form reached. record { hardware = refl; capabilities = refl; addresses = refl; timeout = refl })
@@ -386,7 +387,8 @@ ingress_alike i =
 pub egress_alike : {t : ℤ} {answer : PollResult} {old new : Host} {told : List Event} {notes : List Note} → Egress t answer old told notes new → Alike old new
 egress_alike e =
     egressed AlikeOver (λ old new k. alike k.same) (λ a b c fs gs xs ys one two. alike_on one two)
-    (λ H own source target hop mine unknown. record { hardware = refl; capabilities = refl; addresses = refl; timeout = refl })
+    (λ H own source target mine. itself H)
+    (λ H hop unknown. record { hardware = refl; capabilities = refl; addresses = refl; timeout = refl })
     (λ H. record { hardware = refl; capabilities = refl; addresses = refl; timeout = refl })
     (λ H h p reached. itself H)
     (λ H h id p first rest e form reached. record { hardware = refl; capabilities = refl; addresses = refl; timeout = refl })
@@ -460,6 +462,8 @@ comes (step.PolledDelay end least rest) = NoFrame
 comes step.UpdatedRoutes = NoFrame
 comes step.AddedDefaultIpv4Route = NoFrame
 comes step.RemovedDefaultIpv4Route = NoFrame
+comes step.AddedDefaultIpv6Route = NoFrame
+comes step.RemovedDefaultIpv6Route = NoFrame
 comes step.TookAnyIp = NoFrame
 comes (step.TookHardwareAddr s) = NoFrame
 comes (step.TookReassemblyTimeout s) = NoFrame

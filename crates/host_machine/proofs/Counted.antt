@@ -39,7 +39,8 @@ fragments H key f result notes new t = rw (t.noted, t.changed, identifications-s
 pub run_counted : {first last : Host} {places : List Place} → Run first places last → AreCounted first.ipv4_id (identifications (notes_in places))
 run_counted r =
     (walk CountedOver (λ old new k. record { counted = tt; is_after = ap (λ (K : Host). K.ipv4_id) k.same }) on
-    (λ H own source target hop mine unknown. record { counted = tt; is_after = refl })
+    (λ H own source target mine. record { counted = tt; is_after = refl })
+    (λ H hop unknown. record { counted = tt; is_after = refl })
     (λ H. record { counted = (refl, tt); is_after = refl })
     (λ H h p reached. record { counted = tt; is_after = refl })
     (λ H h id p first rest e form reached. record { counted = tt; is_after = refl })

@@ -274,6 +274,8 @@ module _ (key other : FragKey) (t0 end : ℤ) where
   timeout_of single step.UpdatedRoutes = inl refl
   timeout_of single step.AddedDefaultIpv4Route = inl refl
   timeout_of single step.RemovedDefaultIpv4Route = inl refl
+  timeout_of single step.AddedDefaultIpv6Route = inl refl
+  timeout_of single step.RemovedDefaultIpv6Route = inl refl
   timeout_of single step.TookAnyIp = inl refl
   timeout_of single (step.TookHardwareAddr s) = inl (address_set s)
   timeout_of single (step.TookReassemblyTimeout {timeout = timeout} (step.WithinDay l r e)) = inr (timeout, refl, ap (λ (K : Host). K.reassembly_timeout) e)

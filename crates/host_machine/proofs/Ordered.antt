@@ -6,8 +6,7 @@ use Rattle.fragmentation.specs.declared.key.FragKey.{FragKey}
 use Rattle.fragmentation.specs.Cuts.{Piece, pieces_of, HasForm}
 use Rattle.host_machine.specs.Note.{Note, CutNote, Cut, PieceSent, cut_notes}
 use Rattle.host_machine.specs.Host.{Host}
-use Rattle.host_machine.specs.Packet.{Packet}
-use Rattle.host_machine.specs.Packet as packet
+use Rattle.host_machine.specs.Packet.{PacketV4}
 use Rattle.host_machine.specs.Dispatch.{datagram_of, piece_size}
 use Rattle.ip_address.specs.declared.hardware.HardwareAddress.{HardwareAddress}
 use Rattle.host_machine.specs.Reassembly.{TakesFragment}
@@ -67,13 +66,10 @@ on a b c fs gs xs ys one two = rw cut_notes-append (goes_on a.capabilities b.cap
 fragments : (H : Host) (key : FragKey) (f : Fragment) (result : Option (List ℕ)) (notes : List Note) (new : Host) → TakesFragment key f result H notes new → OrderedOver H [] notes new
 fragments H key f result notes new t = rw (t.noted, t.changed, cut_notes-slots t.slot_notes) (record { order = tt; is_left = refl; same = refl })
 
-size_is : (H : Host) (h : HardwareAddress) (id : ℕ) (p : Packet) → (datagram_of H h id p).size ≡ piece_size H.capabilities
-size_is H h id (packet.Ipv4 p) = refl
-
-cuts : (H : Host) (h : HardwareAddress) (id : ℕ) (p : Packet) (first : Piece) (rest : List Piece) → pieces_of (datagram_of H h id p) ≡ first ∷ rest → HasForm (datagram_of H h id p) → Reached H h →
+cuts : (H : Host) (h : HardwareAddress) (id : ℕ) (p : PacketV4) (first : Piece) (rest : List Piece) → pieces_of (datagram_of H h id p) ≡ first ∷ rest → HasForm (datagram_of H h id p) → Reached H h →
     Goes H.capabilities H.left (Cut (datagram_of H h id p) ∷ PieceSent first ∷ []) H.capabilities rest
 cuts H h id p first rest e form reached = record {
-  order = (size_is H h id p, rw e (refl, tt));
+  order = (refl, rw e (refl, tt));
   is_left = rw e refl;
   same = refl;
 }
@@ -98,7 +94,8 @@ begins size left (PieceSent p ∷ notes) o = next_begins size left p notes o.0 (
 run_goes : {first last : Host} {places : List Place} → Run first places last → Goes first.capabilities first.left (cut_notes (notes_in places)) last.capabilities last.left
 run_goes r =
     walk OrderedOver (λ old new k. record { order = tt; is_left = ap (λ (K : Host). K.left) k.same; same = ap (λ (K : Host). K.capabilities) k.same }) on
-    (λ H own source target hop mine unknown. record { order = tt; is_left = refl; same = refl })
+    (λ H own source target mine. record { order = tt; is_left = refl; same = refl })
+    (λ H hop unknown. record { order = tt; is_left = refl; same = refl })
     (λ H. record { order = tt; is_left = refl; same = refl })
     (λ H h p reached. record { order = tt; is_left = refl; same = refl })
     cuts

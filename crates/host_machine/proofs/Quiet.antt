@@ -461,6 +461,8 @@ step_quiet t0 end low due calm none (step.UpdatedIpAddrs {result = result} u) = 
 step_quiet t0 end low due calm none step.UpdatedRoutes = unchanged answer.UpdateRoutes tt calm
 step_quiet {answer = given} t0 end low due calm none step.AddedDefaultIpv4Route = unchanged given tt calm
 step_quiet {answer = given} t0 end low due calm none step.RemovedDefaultIpv4Route = unchanged given tt calm
+step_quiet {answer = given} t0 end low due calm none step.AddedDefaultIpv6Route = unchanged given tt calm
+step_quiet {answer = given} t0 end low due calm none step.RemovedDefaultIpv6Route = unchanged given tt calm
 step_quiet t0 end low due calm none step.TookAnyIp = unchanged answer.SetAnyIp tt calm
 step_quiet t0 end low due calm none (step.TookHardwareAddr {result = result} s) = unchanged (answer.SetHardwareAddr result) tt calm
 step_quiet t0 end low due calm none (step.TookReassemblyTimeout {result = result} s) = timeout_still (answer.SetReassemblyTimeout result) tt s
@@ -487,6 +489,8 @@ quiet_after (step.UpdatedIpAddrs u) r = tt
 quiet_after step.UpdatedRoutes r = tt
 quiet_after step.AddedDefaultIpv4Route r = tt
 quiet_after step.RemovedDefaultIpv4Route r = tt
+quiet_after step.AddedDefaultIpv6Route r = tt
+quiet_after step.RemovedDefaultIpv6Route r = tt
 quiet_after step.TookAnyIp r = tt
 quiet_after (step.TookHardwareAddr s) r = tt
 quiet_after (step.TookReassemblyTimeout s) r = tt

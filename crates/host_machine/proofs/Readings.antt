@@ -21,6 +21,8 @@ use Rattle.ip_wire.specs.Ethernet.{header_in, header_text}
 use Rattle.ip_wire.specs.Arp as arp
 use Rattle.ip_wire.specs.Ipv4Packet.{ipv4_in, is_fragment, whole, front, back, header_with}
 use Rattle.ip_wire.specs.Ipv4Packet as ipv4
+use Rattle.ipv6_wire.specs.Ipv6Packet as ipv6
+use Rattle.ipv6_wire.specs.declared.ipv6_packet.Ipv6Repr.{Ipv6Repr}
 use Rattle.ip_wire.proofs.EthernetAgain as ethernet_again
 use Rattle.ip_wire.proofs.Ipv4Again as ipv4_again
 use Rattle.fragmentation.specs.declared.key.FragKey.{FragKey}
@@ -76,6 +78,28 @@ same_packet medium.Ip hardware.Ip hardware.Ip (hardware.Ethernet mine) text pack
 same_packet medium.Ip hardware.Ip hardware.Ip hardware.Ip text packet s t u (OverEthernet a e w for type is) = absurd (no_address a (sym e))
 same_packet medium.Ip hardware.Ip hardware.Ip hardware.Ip text packet s t u (AsItStands e v is) = is
 
+-- and it takes none out of a frame of IPv6
+not_six : protocol.Ipv6 ≡ protocol.Ipv4 → ⊥
+not_six e = cc
+
+other_packet : (m : Medium) (own far mine : HardwareAddress) (text packet : List ℕ) → IsOf m own → IsOf m far → IsOf m mine → (version_in text ≡ 4 → ⊥) → Carries mine (link_header own far protocol.Ipv6 ++ text) packet → ⊥
+other_packet medium.Ethernet (hardware.Ethernet own) (hardware.Ethernet far) (hardware.Ethernet mine) text packet s t u other (OverEthernet a e w for type is) =
+    let again = ethernet_again.read_again (record { src_addr = own; dst_addr = far; ethertype = protocol.Ipv6 }) text (record { destination = t; source = s; number = omega arith; protocol = refl }) in
+    not_six (sym (ap (λ (x : EthernetRepr × List ℕ). x.0.ethertype) again) ∙ type)
+other_packet medium.Ethernet (hardware.Ethernet own) (hardware.Ethernet far) (hardware.Ethernet mine) text packet s t u other (AsItStands e v is) = absurd (no_address mine e)
+other_packet medium.Ethernet (hardware.Ethernet own) (hardware.Ethernet far) hardware.Ip text packet s t u other c = absurd u
+other_packet medium.Ethernet (hardware.Ethernet own) hardware.Ip mine text packet s t u other c = absurd t
+other_packet medium.Ethernet hardware.Ip far mine text packet s t u other c = absurd s
+other_packet medium.Ip (hardware.Ethernet own) far mine text packet s t u other c = absurd s
+other_packet medium.Ip hardware.Ip (hardware.Ethernet far) mine text packet s t u other c = absurd t
+other_packet medium.Ip hardware.Ip hardware.Ip (hardware.Ethernet mine) text packet s t u other c = absurd u
+other_packet medium.Ip hardware.Ip hardware.Ip hardware.Ip text packet s t u other (OverEthernet a e w for type is) = absurd (no_address a (sym e))
+other_packet medium.Ip hardware.Ip hardware.Ip hardware.Ip text packet s t u other (AsItStands e v is) = other v
+
+version_six : (r : Ipv6Repr) (rest : List ℕ) → version_in (ipv6.header_text r ++ rest) ≡ 4 → ⊥
+unfolding ipv6.header_text
+version_six r rest e = absurd (omega (arith, e))
+
 -- a whole packet is none
 whole_is : (summed : Bool) (r : Ipv4Repr) (rest : List ℕ) → is_fragment (ipv4.fragment_in (ipv4.header_text summed r whole ++ rest)) ≡ false
 unfolding front back header_with
@@ -85,7 +109,8 @@ pub whole_other : (m : Medium) (H : Host) (h : HardwareAddress) (p : Packet) →
 whole_other m H h (packet.Ipv4 p) own far K key f mine b =
     let e : b.packet ≡ packet_text H.capabilities (packet.Ipv4 p) = same_packet m H.hardware_addr h K.hardware_addr (packet_text H.capabilities (packet.Ipv4 p)) b.packet own far mine b.carried in
     let part = subst (λ octets. is_fragment (ipv4_in octets).1 ≡ true) e b.part in
-    two_ways _ part (whole_is (is_tx H.capabilities.checksum.ipv4) (packet.header_of p) _)
+    two_ways _ part (whole_is (is_tx H.capabilities.checksum.ipv4) (packet.header_v4 p) _)
+whole_other m H h (packet.Ipv6 p) own far K key f mine b = other_packet m H.hardware_addr h K.hardware_addr (packet_text H.capabilities (packet.Ipv6 p)) b.packet own far mine (version_six (packet.header_v6 p) _) b.carried
 
 -- a protocol is written by its number, and read as one with that number
 number_again : (n : ℕ) → number_of (protocol_of n) ≡ n

@@ -136,7 +136,8 @@ nothing_told t = record { rebuilt = tt; tracks = t }
 pub run_rebuilt : {first last : Host} {places : List Place} → Run first places last → AreRebuilt (began first) (slot_notes (notes_in places))
 run_rebuilt {first} r =
     (walk RebuiltOver keeps on
-    (λ H own source target hop mine unknown. λ h t. record { rebuilt = tt; tracks = t })
+    (λ H own source target mine. λ h t. record { rebuilt = tt; tracks = t })
+    (λ H hop unknown. λ h t. record { rebuilt = tt; tracks = t })
     (λ H. λ h t. record { rebuilt = tt; tracks = t })
     (λ H h p reached. λ h' t. record { rebuilt = tt; tracks = t })
     (λ H h id p first rest e form reached. λ h' t. record { rebuilt = tt; tracks = t })

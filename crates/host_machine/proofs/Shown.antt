@@ -19,6 +19,8 @@ use Rattle.ip_address.specs.declared.ip.IpAddress.TheVariants as ip
 use Rattle.ip_address.specs.declared.ipv4.Ipv4Address.{Ipv4Address}
 use Rattle.ip_wire.specs.declared.ipv4_packet.Ipv4Repr.{Ipv4Repr}
 use Rattle.ip_wire.specs.declared.ipv4_packet.Ipv4Fragment.{Ipv4Fragment}
+use Rattle.ip_wire.specs.declared.ip_packet.IpRepr.{IpRepr}
+use Rattle.ip_wire.specs.declared.ip_packet.IpRepr.TheVariants as repr
 use Rattle.ip_address.specs.declared.protocol.IpProtocol.{IpProtocol}
 use Rattle.ip_address.specs.declared.protocol.IpProtocol.TheVariants as ip_protocol
 use Rattle.ip_wire.specs.declared.tcp.TcpRepr.{TcpRepr}
@@ -47,8 +49,7 @@ use Rattle.host_machine.specs.Config.{same_medium, hardware_refusal_of}
 use Rattle.host_machine.specs.declared.results.HardwareError.TheVariants.{WrongMedium, NotUnicast}
 use Rattle.host_machine.specs.Host.{Host, swept, with_left, with_neighbors}
 use Rattle.host_machine.specs.Addresses.{is_broadcast_v4}
-use Rattle.host_machine.specs.Packet.{Packet}
-use Rattle.host_machine.specs.Packet as packet
+use Rattle.host_machine.specs.Packet.{Packet, PacketV4}
 use Rattle.host_machine.specs.Reply.{Reply, Arp, Ip, IsDropped}
 use Rattle.host_machine.specs.Frame.{arp_frame, ip_frame, piece_frame}
 use Rattle.host_machine.specs.Arp.{TakesArp, request_for, reply_to, answer_by}
@@ -59,6 +60,8 @@ use Rattle.host_machine.specs.Icmpv4.{TakesIcmpv4, message_back, reply_source, i
 use Rattle.host_machine.specs.Icmpv4 as icmpv4
 use Rattle.host_machine.specs.Tcp.{TakesTcp, segment_back}
 use Rattle.host_machine.specs.Tcp as tcp
+use Rattle.host_machine.specs.Unreachable.{port_unreachable}
+use Rattle.control_wire.specs.declared.icmpv4.Icmpv4DstUnreachable.TheVariants.{PortUnreachable}
 use Rattle.host_machine.specs.Reassembly.{TakesFragment}
 use Rattle.host_machine.specs.Ipv4.{TakesProtocol, TakesWhole, TakesPacket, TakesIpv4}
 use Rattle.host_machine.specs.Ipv4 as ipv4
@@ -119,9 +122,11 @@ of_all : (m : Medium) (own : EthernetAddress) → IsOf m (hardware.Ethernet own)
 of_all medium.Ethernet own of = refl
 of_all medium.Ip own of = of
 
-asks : (H : Host) (own : EthernetAddress) (source target : Ipv4Address) (hop : IpAddress) → H.hardware_addr ≡ hardware.Ethernet own → answer_of H.neighbors hop H.moment ≡ NotFound →
-    ShownOver H (arp_frame (request_for own source target) ∷ []) (OfDiscovery (Ask H.moment) ∷ []) (with_neighbors H (silenced H.neighbors H))
-asks H own source target hop mine unknown = λ r.
+asked : (H : Host) (hop : IpAddress) → answer_of H.neighbors hop H.moment ≡ NotFound → ShownOver H [] (OfDiscovery (Ask H.moment) ∷ []) (with_neighbors H (silenced H.neighbors H))
+asked H hop unknown = λ r. stays H _ _ _ Nothing refl refl refl r
+
+requests : (H : Host) (own : EthernetAddress) (source target : Ipv4Address) → H.hardware_addr ≡ hardware.Ethernet own → ShownOver H (arp_frame (request_for own source target) ∷ []) [] H
+requests H own source target mine = λ r.
     let of : IsOf H.capabilities.medium (hardware.Ethernet own) = rw mine at r.own in
     stays H _ _ _ (OtherFrame (arp_frame (request_for own source target)) (arp_other H.capabilities.medium (request_for own source target) of (of_all H.capabilities.medium own of)) Nothing) refl refl refl r
 
@@ -166,13 +171,10 @@ reached_of H h r (WithoutAddresses mine is) = rw is (rw mine at r.own)
 whole : (H : Host) (h : HardwareAddress) (p : Packet) → Reached H h → ShownOver H (ip_frame H h p ∷ []) [] H
 whole H h p reached = λ r. stays H _ _ _ (OtherFrame (ip_frame H h p) (whole_other H.capabilities.medium H h p r.own (reached_of H h r reached)) Nothing) refl refl refl r
 
-cut_of : (m : Medium) (H : Host) (h : HardwareAddress) (id : ℕ) (p : Packet) → IsOf m h → IsOf m (datagram_of H h id p).destination
-cut_of m H h id (packet.Ipv4 p) of = of
-
-cuts : (H : Host) (h : HardwareAddress) (id : ℕ) (p : Packet) (first : Piece) (rest : List Piece) → pieces_of (datagram_of H h id p) ≡ first ∷ rest → HasForm (datagram_of H h id p) → Reached H h →
+cuts : (H : Host) (h : HardwareAddress) (id : ℕ) (p : PacketV4) (first : Piece) (rest : List Piece) → pieces_of (datagram_of H h id p) ≡ first ∷ rest → HasForm (datagram_of H h id p) → Reached H h →
     ShownOver H (piece_frame H first ∷ []) (OfCuts (Cut (datagram_of H h id p)) ∷ OfCuts (PieceSent first) ∷ []) (with_left H rest)
 cuts H h id p first rest e form reached = λ r.
-    stays H _ _ _ (OneCut (datagram_of H h id p) (cut_of H.capabilities.medium H h id p (reached_of H h r reached)) (OnePiece H first r.own Nothing)) refl refl refl r
+    stays H _ _ _ (OneCut (datagram_of H h id p) (reached_of H h r reached) (OnePiece H first r.own Nothing)) refl refl refl r
 
 sweeps : (H : Host) (t : ℤ) → ShownOver H [] [] (swept H t)
 sweeps H t = λ r. stays H [] [] _ Nothing refl refl refl r
@@ -210,7 +212,11 @@ module _ (kind : Medium) where
   answer_good own r (DstUnreachable reason header) octets = tt
   answer_good own r (TimeExceeded code header) octets = tt
 
-  segment_good : (r : Ipv4Repr) (o : Option TcpRepr) → GoodReply kind (option_map (segment_back r) o)
+  port_good : (by_raw : Bool) (own : List IpCidr) (r : IpRepr) (payload : List ℕ) → GoodReply kind (port_unreachable by_raw own r payload)
+  port_good by_raw own (repr.Ipv4 r) payload = unreachable_good by_raw own PortUnreachable r payload
+  port_good by_raw own (repr.Ipv6 r) payload = tt
+
+  segment_good : (r : IpRepr) (o : Option TcpRepr) → GoodReply kind (option_map (segment_back r) o)
   segment_good r None = tt
   segment_good r (Some t) = tt
 
@@ -223,16 +229,16 @@ module _ (kind : Medium) where
   arp_good of (arp.NotForUs a l d) = drop_good d
   arp_good {own} {H} {new} {payload} of (arp.Learnt a l learns r n) = rw r (reply_good (arp_in payload).operation own (arp_in payload) of (arp_source_of kind own payload of a))
 
-  udp_good : {raw : Bool} {r : Ipv4Repr} {H new : Host} {octets : List ℕ} {reply : Option Reply} {notes : List Note} → TakesUdp raw r H octets reply notes new → GoodReply kind reply
+  udp_good : {raw : Bool} {r : IpRepr} {H new : Host} {octets : List ℕ} {reply : Option Reply} {notes : List Note} → TakesUdp raw r H octets reply notes new → GoodReply kind reply
   udp_good (udp.Malformed m d) = drop_good d
   udp_good (udp.Delivered sockets u f r n e) = no_reply r
-  udp_good {raw} {r} {H} {new} {octets} (udp.Unheard u none e n s) = rw e (unreachable_good raw H.ip_addrs _ r octets)
+  udp_good {raw} {r} {H} {new} {octets} (udp.Unheard u none e n s) = rw e (port_good raw H.ip_addrs r octets)
 
   icmpv4_good : {r : Ipv4Repr} {H new : Host} {octets : List ℕ} {reply : Option Reply} {notes : List Note} → TakesIcmpv4 r H octets reply notes new → GoodReply kind reply
   icmpv4_good (icmpv4.Malformed m d) = drop_good d
   icmpv4_good {r} {H} {new} {octets} (icmpv4.Taken i e n s) = rw e (answer_good H.ip_addrs r _ _)
 
-  tcp_good : {raw : Bool} {r : Ipv4Repr} {H new : Host} {octets : List ℕ} {reply : Option Reply} {notes : List Note} → TakesTcp raw r H octets reply notes new → GoodReply kind reply
+  tcp_good : {raw : Bool} {r : IpRepr} {H new : Host} {octets : List ℕ} {reply : Option Reply} {notes : List Note} → TakesTcp raw r H octets reply notes new → GoodReply kind reply
   tcp_good (tcp.BetweenNobody b d) = drop_good d
   tcp_good (tcp.Malformed b m d) = drop_good d
   tcp_good {raw} {r} (tcp.Delivered index place b t f e n s) = rw e (segment_good r _)
@@ -294,7 +300,7 @@ responds : (reply : Option Reply) (H : Host) (frames : List (List ℕ)) (notes :
 responds None H frames notes new good r = silent r.0 r.1 r.2
 responds (Some (Arp packet)) H frames notes new good r = λ real.
     rw (r.0, r.1, r.2) (stays H _ [] H (OtherFrame (arp_frame packet) (arp_other H.capabilities.medium packet good.0 good.1) Nothing) refl refl refl real)
-responds (Some (Ip packet)) H frames notes new good r = dispatched ShownOver keeps on asks identifies whole cuts r.1
+responds (Some (Ip packet)) H frames notes new good r = dispatched ShownOver keeps on requests asked identifies whole cuts r.1
 
 ingress : {t : ℤ} {answer : PollIngressSingleResult} {old new : Host} {told : List Event} {notes : List Note} → Ingress t answer old told notes new → ShownOver old (sent told) notes new
 ingress {t} {answer} {old} {new} {told} {notes} i = λ real.
@@ -340,14 +346,16 @@ follows a b c ts us xs ys one two = rw sent-append (on a b c (sent ts) (sent us)
 pub stepped : {command : Command} {answer : Answer} {old new : Host} {told : List Event} {acts : List Act} {notes : List Note} → Step command answer old told acts notes new → GivesSix command → IsReal old → Shown old (sent told) notes new
 stepped (step.UpdatedIpAddrs u) six real = updates u real
 stepped (step.PolledIngressSingle i) six real = ingress i real
-stepped (step.PolledEgress e) six real = egressed ShownOver keeps on asks identifies whole cuts pieces e real
-stepped (step.Polled {t} p) six real = polled Told begins follows t (λ H. sweeps H t) (λ answer old new told notes i. ingress i) (λ answer old new told notes e. egressed ShownOver keeps on asks identifies whole cuts pieces e) p real
+stepped (step.PolledEgress e) six real = egressed ShownOver keeps on requests asked identifies whole cuts pieces e real
+stepped (step.Polled {t} p) six real = polled Told begins follows t (λ H. sweeps H t) (λ answer old new told notes i. ingress i) (λ answer old new told notes e. egressed ShownOver keeps on requests asked identifies whole cuts pieces e) p real
 stepped (step.PolledMaintenance {t} {old}) six real = sweeps old t real
 stepped {old = old} (step.PolledAt least) six real = stays old [] [] _ Nothing refl refl refl real
 stepped {old = old} (step.PolledDelay end least rest) six real = stays old [] [] _ Nothing refl refl refl real
 stepped {old = old} step.UpdatedRoutes six real = stays old [] [] _ Nothing refl refl refl real
 stepped {old = old} step.AddedDefaultIpv4Route six real = stays old [] [] _ Nothing refl refl refl real
 stepped {old = old} step.RemovedDefaultIpv4Route six real = stays old [] [] _ Nothing refl refl refl real
+stepped {old = old} step.AddedDefaultIpv6Route six real = stays old [] [] _ Nothing refl refl refl real
+stepped {old = old} step.RemovedDefaultIpv6Route six real = stays old [] [] _ Nothing refl refl refl real
 stepped {old = old} step.TookAnyIp six real = stays old [] [] _ Nothing refl refl refl real
 stepped (step.TookHardwareAddr s) six real = sets six s real
 stepped (step.TookReassemblyTimeout s) six real = lasts s real

@@ -17,13 +17,13 @@ use Rattle.host_machine.proofs.Malformed.{handed-sends, sent-sends}
 
 emitted : {id : ℕ} {p : Packet} {h : HardwareAddress} {outcome : Outcome} {H new : Host} {frames : List (List ℕ)} {notes : List Note} → Emits id p h outcome H frames notes new → length frames ≤ 1
 emitted (dispatch.Whole fits o f n e) = rw f (lit≤ tt)
-emitted (dispatch.InPieces first rest long short pieces fits o f n e) = rw f (lit≤ tt)
+emitted (dispatch.InPieces q first rest is long short pieces fits o f n e) = rw f (lit≤ tt)
 emitted (dispatch.TooLong long longer o u) = rw u.silent (lit≤ tt)
 
 discovered : {hop : _} {own : _} {outcome : Outcome} {H new : Host} {frames : List (List ℕ)} {notes : List Note} → Discovers own hop outcome H frames notes new → length frames ≤ 1
 discovered (dispatch.Asked target source h s o f n e) = rw f (lit≤ tt)
 discovered (dispatch.NoSource target h s o u) = rw u.silent (lit≤ tt)
-discovered (dispatch.NotIpv4 target h o u) = rw u.silent (lit≤ tt)
+discovered (dispatch.Solicited target h o f n e) = rw f (lit≤ tt)
 
 by_hop : {id : ℕ} {own : _} {p : Packet} {hop : _} {outcome : Outcome} {H new : Host} {frames : List (List ℕ)} {notes : List Note} → SendsByHop id own p hop outcome H frames notes new → length frames ≤ 1
 by_hop (dispatch.Known h k e) = emitted e

@@ -66,9 +66,8 @@ silence_passed : (e : Option Neighbor) (silent t : ℤ) → answer_from e silent
 silence_passed None silent t unknown = missing_passed silent t unknown
 silence_passed (Some n) silent t unknown = found_or_passed (int_cmp t n.expires_at) n silent t unknown
 
-asked : (H : Host) (own : EthernetAddress) (source target : Ipv4Address) (hop : IpAddress) → H.hardware_addr ≡ hardware.Ethernet own → answer_of H.neighbors hop H.moment ≡ NotFound →
-    SpacedOver H (arp_frame (request_for own source target) ∷ []) (OfDiscovery (Ask H.moment) ∷ []) (with_neighbors H (silenced H.neighbors H))
-asked H own source target hop mine unknown = record { spaced = (silence_passed (map.get H.neighbors.known hop) H.neighbors.silent_until H.moment unknown, tt); is_after = refl }
+asked : (H : Host) (hop : IpAddress) → answer_of H.neighbors hop H.moment ≡ NotFound → SpacedOver H [] (OfDiscovery (Ask H.moment) ∷ []) (with_neighbors H (silenced H.neighbors H))
+asked H hop unknown = record { spaced = (silence_passed (map.get H.neighbors.known hop) H.neighbors.silent_until H.moment unknown, tt); is_after = refl }
 
 on : (a b c : Host) (fs gs : List (List ℕ)) (xs ys : List Note) → SpacedOver a fs xs b → SpacedOver b gs ys c → SpacedOver a (fs ++ gs) (xs ++ ys) c
 on a b c fs gs xs ys one two = rw asks-append (times_on a.neighbors.silent_until b.neighbors.silent_until c.neighbors.silent_until (asks xs) (asks ys) one two)
@@ -79,7 +78,9 @@ fragments H key f result notes new t = rw (t.noted, t.changed, asks-slots t.slot
 -- over a whole run
 pub run_spaced : {first last : Host} {places : List Place} → Run first places last → AreSpaced first.neighbors.silent_until (asks (notes_in places))
 run_spaced r =
-    (walk SpacedOver keeps on asked
+    (walk SpacedOver keeps on
+    (λ H own source target mine. record { spaced = tt; is_after = refl })
+    asked
     (λ H. record { spaced = tt; is_after = refl })
     (λ H h p reached. record { spaced = tt; is_after = refl })
     (λ H h id p first rest e form reached. record { spaced = tt; is_after = refl })

@@ -62,7 +62,8 @@ fragments H key f result notes new t = rw (t.noted, cut_notes-slots t.slot_notes
 run_forms : {first last : Host} {places : List Place} → Run first places last → AllByRecursion HasForm (cuts_in places)
 run_forms r =
     walk FormedOver (λ old new k. tt) (λ a b c fs gs xs ys one two. formed_on xs ys one two)
-    (λ H own source target hop mine unknown. tt)
+    (λ H own source target mine. tt)
+    (λ H hop unknown. tt)
     (λ H. tt)
     (λ H h p reached. tt)
     (λ H h id p first rest e form reached. (form, tt))

@@ -28,7 +28,7 @@ use Rattle.host_machine.specs.Reply.{Reply, Arp, Ip, IsDropped}
 use Rattle.host_machine.specs.Frame.{sends}
 use Rattle.host_machine.specs.Arp.{TakesArp}
 use Rattle.host_machine.specs.Reassembly.{TakesFragment}
-use Rattle.host_machine.specs.Ipv4.{IsRefused, TakesProtocol, TakesWhole, TakesPacket, TakesIpv4, heard_from, key_in, fragment_in}
+use Rattle.host_machine.specs.Ipv4.{IsRefused, TakesProtocol, TakesWhole, TakesPacket, TakesIpv4, key_in, fragment_in}
 use Rattle.host_machine.specs.Ipv4 as ipv4
 use Rattle.host_machine.specs.Addresses.{may_be_source}
 use Rattle.host_machine.specs.Ethernet.{TakesPayload, TakesEthernet, TakesFrame, is_for, version_in}
@@ -69,7 +69,8 @@ still_kept old new k = record { slots = ap (λ (K : Host). K.slots) k.same; sile
 sends_still : {p : Packet} {outcome : Outcome} {H new : Host} {frames : List (List ℕ)} {notes : List Note} → Dispatches p outcome H frames notes new → Still H notes new
 sends_still d =
     dispatched StillOver still_kept still_on
-    (λ H own source target hop mine unknown. record { slots = refl; silent = refl })
+    (λ H own source target mine. record { slots = refl; silent = refl })
+    (λ H hop unknown. record { slots = refl; silent = refl })
     (λ H. record { slots = refl; silent = refl })
     (λ H h p reached. record { slots = refl; silent = refl })
     (λ H h id p first rest e form reached. record { slots = refl; silent = refl })
@@ -81,7 +82,8 @@ same_still n e = record { slots = ap (λ (K : Host). K.slots) e; silent = ap slo
 pub egress_still : {t : ℤ} {answer : _} {old new : Host} {told : List Event} {notes : List Note} → Egress t answer old told notes new → Still old notes new
 egress_still e =
     egressed StillOver still_kept still_on
-    (λ H own source target hop mine unknown. record { slots = refl; silent = refl })
+    (λ H own source target mine. record { slots = refl; silent = refl })
+    (λ H hop unknown. record { slots = refl; silent = refl })
     (λ H. record { slots = refl; silent = refl })
     (λ H h p reached. record { slots = refl; silent = refl })
     (λ H h id p first rest e form reached. record { slots = refl; silent = refl })
@@ -353,6 +355,8 @@ step_view single (step.PolledDelay end least rest) = quiet_view refl refl refl
 step_view single step.UpdatedRoutes = quiet_view refl refl refl
 step_view single step.AddedDefaultIpv4Route = quiet_view refl refl refl
 step_view single step.RemovedDefaultIpv4Route = quiet_view refl refl refl
+step_view single step.AddedDefaultIpv6Route = quiet_view refl refl refl
+step_view single step.RemovedDefaultIpv6Route = quiet_view refl refl refl
 step_view single step.TookAnyIp = quiet_view refl refl refl
 step_view single (step.TookHardwareAddr s) = quiet_view refl refl (sets_slots s)
 step_view single (step.TookReassemblyTimeout s) = quiet_view refl refl (timeout_slots s)

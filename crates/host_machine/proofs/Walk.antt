@@ -1,5 +1,6 @@
 -- A law on what is noted, from the leaves of a step to whole runs.
-use Rattle.std.proofs.Common.{◌≡◌, ℕ, List, [], ◌∷◌, ◌++◌, refl, ◌∙◌, ap, subst, Option, Some, None}
+use Rattle.std.proofs.Common.{◌≡◌, ℕ, List, [], ◌∷◌, ◌++◌, refl, ◌∙◌, ap, subst, Option, Some, None, arith}
+use Rattle.std.proofs.lemmas.Bool.Decides.{nat_tests}
 use Rattle.std.proofs.lemmas.List.{append-nil}
 use Rattle.std.specs.Prelude.{ℤ, pos, Bool, true, false, if◌then◌else◌}
 use Rattle.std.specs.FinMap as map
@@ -13,12 +14,19 @@ use Rattle.ip_address.specs.declared.hardware.HardwareAddress.TheVariants as har
 use Rattle.host_machine.specs.declared.command.Command.{Command}
 use Rattle.host_machine.specs.declared.command.Answer.{Answer}
 use Rattle.ip_address.specs.declared.ip.IpAddress.{IpAddress}
+use Rattle.ip_wire.specs.declared.ip_packet.IpRepr.{IpRepr}
+use Rattle.ip_wire.specs.declared.ip_packet.IpRepr.TheVariants as repr
 use Rattle.ip_wire.specs.declared.ipv4_packet.Ipv4Repr.{Ipv4Repr}
 use Rattle.ip_wire.specs.declared.ipv4_packet.Ipv4Fragment.{Ipv4Fragment}
 use Rattle.ip_address.specs.declared.protocol.IpProtocol.{IpProtocol}
 use Rattle.ip_address.specs.declared.protocol.IpProtocol.TheVariants as ip_protocol
 use Rattle.iface_tables.specs.declared.neighbor.Answer.TheVariants.{Found, NotFound}
-use Rattle.ip_address.specs.declared.ip.IpAddress.TheVariants.{Ipv4}
+use Rattle.ip_address.specs.declared.ip.IpAddress.TheVariants.{Ipv4, Ipv6}
+use Rattle.ip_address.specs.declared.ipv6.Ipv6Address.{Ipv6Address}
+use Rattle.ip_address.specs.Ipv6 as ipv6
+use Rattle.ip_address.specs.Ipv6.{solicited_node}
+use Rattle.address_selection.specs.Ipv6.{source_v6}
+use Rattle.host_machine.specs.Ndisc.{solicitation_for}
 use Rattle.iface_tables.specs.Neighbor.{answer_of, renewed, expiry_from}
 use Rattle.host_machine.specs.declared.results.PollIngressSingleResult.{PollIngressSingleResult}
 use Rattle.host_machine.specs.declared.results.PollResult.{PollResult}
@@ -34,7 +42,7 @@ use Rattle.host_machine.specs.Real.{IsReal}
 use Rattle.host_machine.proofs.Six.{filled_of, renewed_of, arp_source_of}
 use Rattle.host_machine.specs.Note.{Note, OfDiscovery, OfIdentification, OfCuts, Ask, Identify, Cut, PieceSent}
 use Rattle.host_machine.specs.Host.{Host, Socket, Storage, no_sockets, swept, with_left, with_neighbors, with_places}
-use Rattle.host_machine.specs.Packet.{Packet}
+use Rattle.host_machine.specs.Packet.{Packet, PacketV4}
 use Rattle.host_machine.specs.Reply.{Reply, Arp, Ip, IsDropped}
 use Rattle.host_machine.specs.Frame.{arp_frame, ip_frame, piece_frame}
 use Rattle.host_machine.specs.Arp.{TakesArp, request_for}
@@ -46,12 +54,14 @@ use Rattle.host_machine.specs.Icmpv4 as icmpv4
 use Rattle.host_machine.specs.Raw as raw
 use Rattle.host_machine.specs.Tcp.{TakesTcp}
 use Rattle.host_machine.specs.Tcp as tcp
-use Rattle.host_machine.specs.Ipv4.{IsRefused, TakesProtocol, TakesWhole, TakesPacket, TakesIpv4, heard_from}
+use Rattle.host_machine.specs.Ipv4.{IsRefused, TakesProtocol, TakesWhole, TakesPacket, TakesIpv4}
 use Rattle.host_machine.specs.Ipv4 as ipv4
-use Rattle.host_machine.specs.Addresses.{is_unicast_v4}
+use Rattle.host_machine.specs.Addresses.{is_unicast}
+use Rattle.host_machine.specs.Renewal.{sender_renewed}
+use Rattle.ip_wire.specs.IpPacket.{src_addr, dst_addr}
 use Rattle.host_machine.specs.Ethernet.{TakesPayload, TakesEthernet, TakesFrame}
 use Rattle.host_machine.specs.Ethernet as ethernet
-use Rattle.host_machine.specs.Dispatch.{Outcome, IsUnsent, Emits, Discovers, SendsByHop, SendsEthernet, SendsOver, Dispatches, identified, silenced, destination_of, many_address, datagram_of}
+use Rattle.host_machine.specs.Dispatch.{Outcome, IsUnsent, Emits, Discovers, SendsByHop, SendsEthernet, SendsOver, Dispatches, identified, silenced, destination_of, group_address_v6, many_address, datagram_of}
 use Rattle.host_machine.specs.Dispatch as dispatch
 use Rattle.host_machine.specs.Response.{Responds}
 use Rattle.host_machine.specs.Ingress.{Takes, Ingress}
@@ -91,15 +101,21 @@ unread {old} {new} e n = record {
       record { own = rw (h, c) r.own; neighbors = rw (n, c) r.neighbors };
 }
 
-pub heard_kept : (r : Ipv4Repr) (payload : List ℕ) (H : Host) → Keeps H (raw.heard r payload H)
+pub heard_kept : (r : IpRepr) (payload : List ℕ) (H : Host) → Keeps H (raw.heard r payload H)
 heard_kept r payload H = unread refl refl
 
 -- a packet for the host alone may renew a neighbour, and no more
-pub heard : (source : HardwareAddress) (r : Ipv4Repr) (H : Host) → Keeps H (heard_from source r H)
-heard source r H = by (is_unicast_v4 H.ip_addrs r.dst_addr) where
-  by : (b : Bool) → Keeps H (if b then with_neighbors H (renewed H.neighbors (Ipv4 r.src_addr) source (expiry_from H.moment)) else H)
-  by true = record { same = refl; real = λ x. record { own = x.own; neighbors = renewed_of H.capabilities.medium H.neighbors (Ipv4 r.src_addr) source (expiry_from H.moment) x.neighbors } }
+pub sender_kept : (source : HardwareAddress) (r : IpRepr) (H : Host) → Keeps H (sender_renewed source r H)
+sender_kept source r H = by (is_unicast H.ip_addrs (dst_addr r)) where
+  by : (b : Bool) → Keeps H (if b then with_neighbors H (renewed H.neighbors (src_addr r) source (expiry_from H.moment)) else H)
+  by true = record { same = refl; real = λ x. record { own = x.own; neighbors = renewed_of H.capabilities.medium H.neighbors (src_addr r) source (expiry_from H.moment) x.neighbors } }
   by false = unread refl refl
+
+-- a solicited-node group is one of many
+pub solicited_many : (own : List IpCidr) (target : Ipv6Address) → many_address own (Ipv6 (solicited_node target)) ≡ Some (group_address_v6 (solicited_node target))
+solicited_many own target =
+    let group : ipv6.is_multicast (solicited_node target) ≡ true = grind (arith, nat_tests) in
+    rw group refl
 
 -- how the hardware address of a frame was found
 pub data Reached (H : Host) (h : HardwareAddress) : Type 0 where
@@ -155,7 +171,7 @@ module _ (Law : Host → List (List ℕ) → List Note → Host → Type 0)
   placed : {H new : Host} {places : List Storage} {notes : List Note} → notes ≡ [] → new ≡ with_places H places → Law H [] notes new
   placed n e = keeping refl n (kept_by e (unread refl refl))
 
-  udp_taken : {raw : Bool} {r : Ipv4Repr} {H new : Host} {octets : List ℕ} {reply : Option Reply} {notes : List Note} → TakesUdp raw r H octets reply notes new → Law H [] notes new
+  udp_taken : {raw : Bool} {r : IpRepr} {H new : Host} {octets : List ℕ} {reply : Option Reply} {notes : List Note} → TakesUdp raw r H octets reply notes new → Law H [] notes new
   udp_taken (udp.Malformed m d) = dropped d
   udp_taken (udp.Delivered sockets u f r n e) = placed n e
   udp_taken (udp.Unheard u none r n e) = keeping refl n (kept e)
@@ -164,7 +180,7 @@ module _ (Law : Host → List (List ℕ) → List Note → Host → Type 0)
   icmpv4_taken (icmpv4.Malformed m d) = dropped d
   icmpv4_taken (icmpv4.Taken i r n e) = placed n e
 
-  tcp_taken : {raw : Bool} {r : Ipv4Repr} {H new : Host} {octets : List ℕ} {reply : Option Reply} {notes : List Note} → TakesTcp raw r H octets reply notes new → Law H [] notes new
+  tcp_taken : {raw : Bool} {r : IpRepr} {H new : Host} {octets : List ℕ} {reply : Option Reply} {notes : List Note} → TakesTcp raw r H octets reply notes new → Law H [] notes new
   tcp_taken (tcp.BetweenNobody b d) = dropped d
   tcp_taken (tcp.Malformed b m d) = dropped d
   tcp_taken (tcp.Delivered index place b t f r n e) = placed n e
@@ -184,9 +200,9 @@ module _ (Law : Host → List (List ℕ) → List Note → Host → Type 0)
 
   pub whole_taken : {source : HardwareAddress} {r : Ipv4Repr} {H new : Host} {payload : List ℕ} {reply : Option Reply} {notes : List Note} →
       TakesWhole source r H payload reply notes new → Law H [] notes new
-  whole_taken {source} {r} {H} {new} {payload} (ipv4.NotForUs u d) = after (heard_kept r payload H) (dropped d)
+  whole_taken {source} {r} {H} {new} {payload} (ipv4.NotForUs u d) = after (heard_kept (repr.Ipv4 r) payload H) (dropped d)
   whole_taken {source} {r} {H} {new} {payload} {reply} {notes} (ipv4.Accepted u t) =
-      after (heard_kept r payload H) (after (heard source r (raw.heard r payload H)) (protocol_taken r.next_header (raw.is_taken r H) r (heard_from source r (raw.heard r payload H)) payload reply notes new t))
+      after (heard_kept (repr.Ipv4 r) payload H) (after (sender_kept source (repr.Ipv4 r) (raw.heard (repr.Ipv4 r) payload H)) (protocol_taken r.next_header (raw.is_taken (repr.Ipv4 r) H) r (sender_renewed source (repr.Ipv4 r) (raw.heard (repr.Ipv4 r) payload H)) payload reply notes new t))
 
   -- of receiving: where a fragment comes
   module _ (fragments : (H : Host) (key : FragKey) (f : Fragment) (result : Option (List ℕ)) (notes : List Note) (new : Host) → TakesFragment key f result H notes new → Law H [] notes new) where
@@ -226,25 +242,35 @@ module _ (Law : Host → List (List ℕ) → List Note → Host → Type 0)
     taken H (Frame (octet ∷ octets)) reply notes new t = frame_taken H.hardware_addr H (octet ∷ octets) reply notes new refl t
 
   -- of sending: where an unknown neighbour is asked for; where an identification is taken; where a packet goes whole; and where one is cut
-  module _ (asks : (H : Host) (own : EthernetAddress) (source target : Ipv4Address) (hop : IpAddress) → H.hardware_addr ≡ hardware.Ethernet own → answer_of H.neighbors hop H.moment ≡ NotFound →
-      Law H (arp_frame (request_for own source target) ∷ []) (OfDiscovery (Ask H.moment) ∷ []) (with_neighbors H (silenced H.neighbors H)))
+  module _ (requests : (H : Host) (own : EthernetAddress) (source target : Ipv4Address) → H.hardware_addr ≡ hardware.Ethernet own → Law H (arp_frame (request_for own source target) ∷ []) [] H)
+      (asked : (H : Host) (hop : IpAddress) → answer_of H.neighbors hop H.moment ≡ NotFound → Law H [] (OfDiscovery (Ask H.moment) ∷ []) (with_neighbors H (silenced H.neighbors H)))
       (identifies : (H : Host) → Law H [] (OfIdentification (Identify H.ipv4_id) ∷ []) (identified H))
       (whole : (H : Host) (h : HardwareAddress) (p : Packet) → Reached H h → Law H (ip_frame H h p ∷ []) [] H)
-      (cuts : (H : Host) (h : HardwareAddress) (id : ℕ) (p : Packet) (first : Piece) (rest : List Piece) → pieces_of (datagram_of H h id p) ≡ first ∷ rest → HasForm (datagram_of H h id p) → Reached H h →
+      (cuts : (H : Host) (h : HardwareAddress) (id : ℕ) (p : PacketV4) (first : Piece) (rest : List Piece) → pieces_of (datagram_of H h id p) ≡ first ∷ rest → HasForm (datagram_of H h id p) → Reached H h →
       Law H (piece_frame H first ∷ []) (OfCuts (Cut (datagram_of H h id p)) ∷ OfCuts (PieceSent first) ∷ []) (with_left H rest)) where
     unsent : {H new : Host} {frames : List (List ℕ)} {notes : List Note} → IsUnsent H frames notes new → Law H frames notes new
     unsent u = keeping u.silent u.unnoted (kept u.unchanged)
 
     emitted : {id : ℕ} {p : Packet} {h : HardwareAddress} {outcome : Outcome} {H new : Host} {frames : List (List ℕ)} {notes : List Note} → Reached H h → Emits id p h outcome H frames notes new → Law H frames notes new
     emitted {id} {p} {h} {outcome} {H} {new} {frames} {notes} r (dispatch.Whole fits o f n e) = rw (f, n, e) (whole H h p r)
-    emitted {id} {p} {h} {outcome} {H} {new} {frames} {notes} r (dispatch.InPieces first rest long fits pieces form o f n e) = rw (f, n, e) (cuts H h id p first rest pieces form r)
+    emitted {id} {p} {h} {outcome} {H} {new} {frames} {notes} r (dispatch.InPieces q first rest is long fits pieces form o f n e) = rw (f, n, e) (cuts H h id q first rest pieces form r)
     emitted r (dispatch.TooLong long longer o u) = unsent u
+
+    abbrev solicitation : Host → EthernetAddress → Ipv6Address → List ℕ
+    solicitation H own target = ip_frame H (hardware.Ethernet (group_address_v6 (solicited_node target))) (solicitation_for own (source_v6 H.ip_addrs target) target)
+
+    to_group : (H : Host) (own : EthernetAddress) (target : Ipv6Address) → H.hardware_addr ≡ hardware.Ethernet own → Reached (identified H) (hardware.Ethernet (group_address_v6 (solicited_node target)))
+    to_group H own target mine = ByGroup own (Ipv6 (solicited_node target)) (group_address_v6 (solicited_node target)) mine (solicited_many H.ip_addrs target) refl
 
     discovered : {own : EthernetAddress} {hop : IpAddress} {outcome : Outcome} {H new : Host} {frames : List (List ℕ)} {notes : List Note} →
         H.hardware_addr ≡ hardware.Ethernet own → answer_of H.neighbors hop H.moment ≡ NotFound → Discovers own hop outcome H frames notes new → Law H frames notes new
-    discovered {own} {hop} {outcome} {H} {new} {frames} {notes} mine unknown (dispatch.Asked target source h s o f n e) = rw (f, n, e) (asks H own source target hop mine unknown)
+    discovered {own} {hop} {outcome} {H} {new} {frames} {notes} mine unknown (dispatch.Asked target source h s o f n e) =
+        rw (f, n, e) (on H H (with_neighbors H (silenced H.neighbors H)) (arp_frame (request_for own source target) ∷ []) [] [] (OfDiscovery (Ask H.moment) ∷ []) (requests H own source target mine) (asked H hop unknown))
     discovered mine unknown (dispatch.NoSource target h s o u) = unsent u
-    discovered mine unknown (dispatch.NotIpv4 target h o u) = unsent u
+    discovered {own} {hop} {outcome} {H} {new} {frames} {notes} mine unknown (dispatch.Solicited target h o f n e) =
+        rw (f, n, e) (on H (identified H) (with_neighbors (identified H) (silenced H.neighbors H)) [] (solicitation H own target ∷ []) (OfIdentification (Identify H.ipv4_id) ∷ []) (OfDiscovery (Ask H.moment) ∷ []) (identifies H)
+        (on (identified H) (identified H) (with_neighbors (identified H) (silenced H.neighbors H)) (solicitation H own target ∷ []) [] [] (OfDiscovery (Ask H.moment) ∷ [])
+        (whole (identified H) (hardware.Ethernet (group_address_v6 (solicited_node target))) (solicitation_for own (source_v6 H.ip_addrs target) target) (to_group H own target mine)) (asked (identified H) hop unknown)))
 
     sent_by_hop : {id : ℕ} {own : EthernetAddress} {p : Packet} {hop : IpAddress} {outcome : Outcome} {H new : Host} {frames : List (List ℕ)} {notes : List Note} →
         H.hardware_addr ≡ hardware.Ethernet own → SendsByHop id own p hop outcome H frames notes new → Law H frames notes new
@@ -344,6 +370,8 @@ module _ (Law : Host → List (List ℕ) → List Note → Host → Type 0)
         stepped step.UpdatedRoutes = same refl refl
         stepped step.AddedDefaultIpv4Route = same refl refl
         stepped step.RemovedDefaultIpv4Route = same refl refl
+        stepped step.AddedDefaultIpv6Route = same refl refl
+        stepped step.RemovedDefaultIpv6Route = same refl refl
         stepped step.TookAnyIp = same refl refl
         stepped {old = old} (step.TookHardwareAddr {h = h} (Taken a r e)) = rw e (sets old h)
         stepped (step.TookHardwareAddr (NotTaken error a r e)) = keeping refl refl (kept e)

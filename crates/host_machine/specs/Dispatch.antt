@@ -1,5 +1,5 @@
 -- Sending one IP packet, with leave to send a frame (RFC 1122 3.3.1, RFC 826): the next hop, its hardware address, the frame.
-use Rattle.std.specs.Prelude.{◌≡◌, ℕ, ◌+◌, ◌-◌, ◌*◌, ◌/◌, ◌%◌, ◌^◌, ◌≤◌, ◌<◌, Bool, true, false, List, [], ◌∷◌, Option, Some, None, Result, Ok, Err, if◌then◌else◌}
+use Rattle.std.specs.Prelude.{◌≡◌, ℕ, ◌+◌, ◌-◌, ◌*◌, ◌/◌, ◌%◌, ◌^◌, ◌≤◌, ◌<◌, nat_le, Bool, true, false, List, [], ◌∷◌, Option, Some, None, Result, Ok, Err, if◌then◌else◌}
 use Rattle.std.specs.Option.{option_and_then}
 use Rattle.net_base.specs.Time.{silence_from}
 use Rattle.net_base.specs.declared.phy.DeviceCapabilities.{DeviceCapabilities}
@@ -16,6 +16,8 @@ use Rattle.ip_address.specs.EthernetAddress.{broadcast}
 use Rattle.ip_address.specs.Ip.{is_unicast, is_unspecified}
 use Rattle.ip_address.specs.Ipv4 as ipv4
 use Rattle.ip_address.specs.Ipv6 as ipv6
+use Rattle.ip_address.specs.Ipv6.{solicited_node}
+use Rattle.address_selection.specs.Ipv6.{source_v6}
 use Rattle.iface_tables.specs.declared.neighbor.Answer.TheVariants.{Found, NotFound, RateLimited}
 use Rattle.iface_tables.specs.Neighbor.{Neighbors, answer_of, is_found}
 use Rattle.iface_tables.specs.Route.{IsRouter}
@@ -25,9 +27,12 @@ use Rattle.fragmentation.specs.Cuts.{Datagram, Piece, pieces_of, HasForm}
 use Rattle.host_machine.specs.Note.{Note, OfDiscovery, OfIdentification, OfCuts, Ask, Identify, Cut, PieceSent}
 use Rattle.host_machine.specs.Host.{Host, in_same_network, with_neighbors, with_left}
 use Rattle.host_machine.specs.Addresses.{is_broadcast_v4, source_v4}
-use Rattle.host_machine.specs.Packet.{Packet, total_len, header_of}
+use Rattle.ip_wire.specs.declared.ip_packet.IpRepr.TheVariants as repr
+use Rattle.ip_wire.specs.IpPacket.{dst_addr}
+use Rattle.host_machine.specs.Packet.{Packet, PacketV4, total_len, header_of, header_v4}
 use Rattle.host_machine.specs.Packet as packet
 use Rattle.host_machine.specs.Arp.{request_for}
+use Rattle.host_machine.specs.Ndisc.{solicitation_for}
 use Rattle.host_machine.specs.Frame.{arp_frame, ip_frame, payload_text, piece_frame}
 
 -- a packet counts as gone, or why it isn't
@@ -35,7 +40,7 @@ abbrev pub Outcome : Type 0
 Outcome = Result (Unit {0}) DispatchError
 
 abbrev pub destination_of : Packet → IpAddress
-destination_of (packet.Ipv4 p) = Ipv4 p.dst_addr
+destination_of p = dst_addr (header_of p)
 
 -- the hardware address of a group: 01:00:5e, and the low 23 bits of the group (RFC 1112 6.4)
 abbrev pub group_address : Ipv4Address → EthernetAddress
@@ -81,40 +86,55 @@ abbrev pub piece_size : DeviceCapabilities → ℕ
 piece_size c = (ip_mtu_of c - 20) / 8 * 8
 
 -- a packet as it is cut: its payload is the text of the whole, checksum and all
-abbrev pub datagram_of : Host → HardwareAddress → ℕ → Packet → Datagram
-datagram_of H h id (packet.Ipv4 p) = record {
+abbrev pub datagram_of : Host → HardwareAddress → ℕ → PacketV4 → Datagram
+datagram_of H h id p = record {
   destination = h;
-  header = header_of p;
+  header = header_v4 p;
   identification = id;
-  payload = payload_text H.capabilities p p.payload;
+  payload = payload_text H.capabilities (repr.Ipv4 (header_v4 p)) p.payload;
   size = piece_size H.capabilities;
 }
 
--- the packet goes to a hardware address, and counts as gone: whole, if the device's packets may be so long; else, if it has at most 4096
--- octets, its first piece goes and the others are left, in place of what was left before; else it is dropped (RFC 791 3.2). The values of
--- a packet that is cut fit the fields of a header
+-- a packet may be cut: over IPv4, if it has at most 4096 octets; over IPv6 its sender isn't to cut it here (RFC 8200 5)
+abbrev pub may_be_cut : Packet → Bool
+may_be_cut (packet.Ipv4 p) = nat_le (total_len (packet.Ipv4 p)) 4096
+may_be_cut (packet.Ipv6 p) = false
+
+-- the packet goes to a hardware address, and counts as gone: whole, if the device's packets may be so long; else, if it may be cut, its
+-- first piece goes and the others are left, in place of what was left before; else it is dropped (RFC 791 3.2). The values of a packet
+-- that is cut fit the fields of a header
 pub data Emits (id : ℕ) (p : Packet) (h : HardwareAddress) (outcome : Outcome) (H : Host) (frames : List (List ℕ))
     (notes : List Note) (new : Host) : Type 0 where
   Whole : total_len p ≤ ip_mtu_of H.capabilities → outcome ≡ Ok tt → frames ≡ ip_frame H h p ∷ [] → notes ≡ [] → new ≡ H →
       Emits id p h outcome H frames notes new
-  InPieces : (first : Piece) (rest : List Piece) → ip_mtu_of H.capabilities < total_len p → total_len p ≤ 4096 →
-      pieces_of (datagram_of H h id p) ≡ first ∷ rest → (fits : HasForm (datagram_of H h id p)) → outcome ≡ Ok tt → frames ≡ piece_frame H first ∷ [] →
-      notes ≡ OfCuts (Cut (datagram_of H h id p)) ∷ OfCuts (PieceSent first) ∷ [] → new ≡ with_left H rest → Emits id p h outcome H frames notes new
-  TooLong : ip_mtu_of H.capabilities < total_len p → 4096 < total_len p → outcome ≡ Ok tt → IsUnsent H frames notes new →
+  InPieces : (q : PacketV4) (first : Piece) (rest : List Piece) → p ≡ packet.Ipv4 q → ip_mtu_of H.capabilities < total_len p →
+      may_be_cut p ≡ true → pieces_of (datagram_of H h id q) ≡ first ∷ rest → (fits : HasForm (datagram_of H h id q)) → outcome ≡ Ok tt →
+      frames ≡ piece_frame H first ∷ [] → notes ≡ OfCuts (Cut (datagram_of H h id q)) ∷ OfCuts (PieceSent first) ∷ [] →
+      new ≡ with_left H rest → Emits id p h outcome H frames notes new
+  TooLong : ip_mtu_of H.capabilities < total_len p → may_be_cut p ≡ false → outcome ≡ Ok tt → IsUnsent H frames notes new →
       Emits id p h outcome H frames notes new
 
 -- no discovery is sent for a second
 abbrev pub silenced : Neighbors → Host → Neighbors
 silenced n H = record n { silent_until = silence_from H.moment }
 
--- a neighbour is asked for by ARP, on behalf of the source for it (RFC 826, packet generation; RFC 1122 2.3.2.1); by IPv6 not yet
-pub data Discovers (own : EthernetAddress) (hop : IpAddress) (outcome : Outcome) (H : Host) (frames : List (List ℕ)) (notes : List Note) (new : Host) : Type 0 where
+-- a host after it took an identification (RFC 791 3.2)
+abbrev pub identified : Host → Host
+identified H = record H { ipv4_id = (H.ipv4_id + 1) % 2 ^ 16 }
+
+-- a neighbour is asked for on behalf of the source for it: over IPv4 by ARP (RFC 826, packet generation; RFC 1122 2.3.2.1), over IPv6 by a
+-- solicitation, which is a dispatch of its own to a group, and takes an identification (RFC 4861 7.2.2)
+pub data Discovers (own : EthernetAddress) (hop : IpAddress) (outcome : Outcome) (H : Host) (frames : List (List ℕ)) (notes : List Note)
+    (new : Host) : Type 0 where
   Asked : (target source : Ipv4Address) → hop ≡ Ipv4 target → source_v4 H.ip_addrs target ≡ Some source → outcome ≡ Err NeighborPending →
       frames ≡ arp_frame (request_for own source target) ∷ [] → notes ≡ OfDiscovery (Ask H.moment) ∷ [] → new ≡ with_neighbors H (silenced H.neighbors H) →
       Discovers own hop outcome H frames notes new
   NoSource : (target : Ipv4Address) → hop ≡ Ipv4 target → source_v4 H.ip_addrs target ≡ None → outcome ≡ Err NoRoute → IsUnsent H frames notes new →
       Discovers own hop outcome H frames notes new
-  NotIpv4 : (target : Ipv6Address) → hop ≡ Ipv6 target → outcome ≡ Err NoRoute → IsUnsent H frames notes new → Discovers own hop outcome H frames notes new
+  Solicited : (target : Ipv6Address) → hop ≡ Ipv6 target → outcome ≡ Err NeighborPending →
+      frames ≡ ip_frame H (hardware.Ethernet (group_address_v6 (solicited_node target))) (solicitation_for own (source_v6 H.ip_addrs target) target) ∷ [] →
+      notes ≡ OfIdentification (Identify H.ipv4_id) ∷ OfDiscovery (Ask H.moment) ∷ [] →
+      new ≡ with_neighbors (identified H) (silenced H.neighbors H) → Discovers own hop outcome H frames notes new
 
 -- by what is known of the hop: its address; nothing, during the silence; or nothing, and it is asked for
 pub data SendsByHop (id : ℕ) (own : EthernetAddress) (p : Packet) (hop : IpAddress) (outcome : Outcome) (H : Host)
@@ -141,11 +161,7 @@ abbrev pub SendsOver : ℕ → HardwareAddress → Packet → Outcome → Host �
 SendsOver id (hardware.Ethernet own) p outcome H frames notes new = SendsEthernet id own p outcome H frames notes new
 SendsOver id hardware.Ip p outcome H frames notes new = Emits id p hardware.Ip outcome H frames notes new
 
--- each dispatch takes an identification, whatever becomes of the packet (RFC 791 3.2)
-abbrev pub identified : Host → Host
-identified H = record H { ipv4_id = (H.ipv4_id + 1) % 2 ^ 16 }
-
--- a packet to nobody, 0.0.0.0, is dropped, and counts as gone
+-- each dispatch takes an identification, whatever becomes of the packet; one to nobody, 0.0.0.0 or ::, is dropped, and counts as gone
 pub data Dispatches (p : Packet) (outcome : Outcome) (H : Host) (frames : List (List ℕ)) (notes : List Note) (new : Host) : Type 0 where
   ToNobody : is_unspecified (destination_of p) ≡ true → outcome ≡ Ok tt → IsUnsent H frames notes new → Dispatches p outcome H frames notes new
   ToSomebody : (more : List Note) → is_unspecified (destination_of p) ≡ false → SendsOver H.ipv4_id H.hardware_addr p outcome (identified H) frames more new →

@@ -20,16 +20,18 @@ use Rattle.host_machine.specs.Note.{Note, OfCuts, PieceSent}
 use Rattle.host_machine.specs.Host.{Host, Socket, at, with_left}
 use Rattle.host_machine.specs.Parts.{Part, Both}
 use Rattle.host_machine.specs.Addresses.{source_for}
-use Rattle.host_machine.specs.Packet.{IpPayload, Icmpv4, Udp, Tcp, Raw, Packet, Ipv4}
+use Rattle.host_machine.specs.Packet.{IpPayload, Icmpv4, Udp, Tcp, Raw, Packet, Ipv4, Ipv6}
 use Rattle.host_machine.specs.Frame.{sends, piece_frame}
 use Rattle.host_machine.specs.Dispatch.{Outcome, Dispatches, KnowsNextHop, destination_of}
 
--- a packet from one IPv4 address to another; over IPv6 there is none yet
+-- a packet from one address to another of its family
 abbrev pub packet_between : IpAddress → IpAddress → ℕ → IpPayload → Option Packet
-packet_between (address.Ipv4 src) (address.Ipv4 dst) hop_limit payload = Some (Ipv4 (record { src_addr = src; dst_addr = dst; hop_limit = hop_limit; payload = payload }))
+packet_between (address.Ipv4 src) (address.Ipv4 dst) hop_limit payload =
+    Some (Ipv4 (record { src_addr = src; dst_addr = dst; hop_limit = hop_limit; payload = payload }))
 packet_between (address.Ipv4 src) (address.Ipv6 dst) hop_limit payload = None
 packet_between (address.Ipv6 src) (address.Ipv4 dst) hop_limit payload = None
-packet_between (address.Ipv6 src) (address.Ipv6 dst) hop_limit payload = None
+packet_between (address.Ipv6 src) (address.Ipv6 dst) hop_limit payload =
+    Some (Ipv6 (record { src_addr = src; dst_addr = dst; hop_limit = hop_limit; payload = payload }))
 
 -- an ICMP socket sends echo messages alone
 abbrev pub if_echo : Icmpv4Repr → List ℕ → Option IpPayload
@@ -40,7 +42,12 @@ if_echo (TimeExceeded code header) octets = None
 
 -- what a socket offers as a packet; a raw socket's header is written anew from its addresses, its protocol and its hop limit
 abbrev pub packet_of : Offered → Option Packet
-packet_of (RawOffer s) = Some (Ipv4 (record { src_addr = s.header.src_addr; dst_addr = s.header.dst_addr; hop_limit = s.header.hop_limit; payload = Raw s.header.next_header s.payload }))
+packet_of (RawOffer s) = Some (Ipv4 (record {
+  src_addr = s.header.src_addr;
+  dst_addr = s.header.dst_addr;
+  hop_limit = s.header.hop_limit;
+  payload = Raw s.header.next_header s.payload;
+}))
 packet_of (IcmpOffer m) = option_and_then (packet_between m.src_addr m.dst_addr m.hop_limit) (if_echo m.repr m.payload)
 packet_of (UdpOffer d) = packet_between d.src.addr d.dst.addr d.hop_limit (Udp (record { src_port = d.src.port; dst_port = d.dst.port }) d.payload)
 packet_of (TcpOffer s) = packet_between s.src_addr s.dst_addr s.hop_limit (Tcp s.repr s.payload)
@@ -103,10 +110,12 @@ is_exhausted (Unsent destination) = false
 -- the turns of the first n places in order, and whether leave was never refused: a refused leave ends them
 pub data Walks (old : Host) : (n : ℕ) → (going changed : Bool) → List Event → List Note → Host → Type 0 where
   Begins : Walks old 0 true false [] [] old
-  Goes : {n : ℕ} {changed : Bool} {told_so : List Event} {notes_so : List Note} {mid : Host} (turn : Turn) (told_it : List Event) (notes : List Note) (new : Host) →
+  Goes : {n : ℕ} {changed : Bool} {told_so : List Event} {notes_so : List Note} {mid : Host}
+      (turn : Turn) (told_it : List Event) (notes : List Note) (new : Host) →
       Walks old n true changed told_so notes_so mid → Serves n turn mid told_it notes new → is_exhausted turn ≡ false →
       Walks old (n + 1) true (changed || is_gone turn) (told_so ++ told_it) (notes_so ++ notes) new
-  Stops : {n : ℕ} {changed : Bool} {told_so : List Event} {notes_so : List Note} {mid : Host} (turn : Turn) (told_it : List Event) (notes : List Note) (new : Host) →
+  Stops : {n : ℕ} {changed : Bool} {told_so : List Event} {notes_so : List Note} {mid : Host}
+      (turn : Turn) (told_it : List Event) (notes : List Note) (new : Host) →
       Walks old n true changed told_so notes_so mid → Serves n turn mid told_it notes new → is_exhausted turn ≡ true →
       Walks old (n + 1) false changed (told_so ++ told_it) (notes_so ++ notes) new
 

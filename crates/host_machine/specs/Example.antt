@@ -123,7 +123,10 @@ SenderIsDiscovered =
 
 -- the same host on a medium without hardware addresses
 abbrev pub without_hardware : ℕ → Host
-without_hardware ipv4_id = record (host ipv4_id (nobody (pos 0))) { capabilities = record device { medium = medium.Ip; max_transmission_unit = 1500 }; hardware_addr = hardware.Ip }
+without_hardware ipv4_id = record (host ipv4_id (nobody (pos 0))) {
+  capabilities = record device { medium = medium.Ip; max_transmission_unit = 1500 };
+  hardware_addr = hardware.Ip;
+}
 
 -- there the packet of the request is answered by that of the reply, and nobody need be known
 abbrev pub PacketIsAnswered : Type 0

@@ -15,7 +15,7 @@ use Rattle.host_machine.specs.declared.results.TimeoutError.{TimeoutError}
 use Rattle.host_machine.specs.declared.results.TimeoutError.TheVariants.{TimeoutTooLong}
 use Rattle.host_machine.specs.Note.{OfIdentification, OfSlots, OfCuts, Identify, Cut, PieceSent}
 use Rattle.host_machine.specs.Host.{Host, with_left, with_slots}
-use Rattle.host_machine.specs.Packet.{Packet, Ipv4, Raw}
+use Rattle.host_machine.specs.Packet.{Packet, PacketV4, Ipv4, Raw}
 use Rattle.host_machine.specs.Dispatch.{Dispatches}
 use Rattle.host_machine.specs.Egress.{Egress}
 use Rattle.host_machine.specs.Step.{SetsReassemblyTimeout}
@@ -76,8 +76,16 @@ abbrev pub narrow : ℕ → Host
 narrow ipv4_id = record (example.host ipv4_id example.heard) { capabilities = record example.device { max_transmission_unit = 42 } }
 
 -- the ten octets, by protocol 2, from that host to 192.168.69.100
+abbrev pub ten_to_another : PacketV4
+ten_to_another = record {
+  src_addr = record { bits = 0xc0a84501 };
+  dst_addr = record { bits = 0xc0a84564 };
+  hop_limit = 64;
+  payload = Raw protocol.Igmp ten;
+}
+
 abbrev pub packet : Packet
-packet = Ipv4 (record { src_addr = record { bits = 0xc0a84501 }; dst_addr = record { bits = 0xc0a84564 }; hop_limit = 64; payload = Raw protocol.Igmp ten })
+packet = Ipv4 ten_to_another
 
 abbrev pub datagram : Datagram
 datagram = record {

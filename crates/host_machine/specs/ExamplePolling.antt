@@ -8,7 +8,8 @@ use Rattle.host_machine.specs.Due.{Due, IsLeast, IsRest}
 use Rattle.host_machine.specs.Example as example
 use Rattle.host_machine.specs.ExampleSockets.{with_sending}
 
--- an ARP request waits at the device: without a budget nothing is asked for, and the moment is that of the poll; with a budget of one call it is taken and answered; with
+-- an ARP request waits at the device: without a budget nothing is asked for, and the moment is that of the poll; with a budget of one call it
+-- is taken and answered; with
 -- more calls the device is asked once more, and has nothing
 pub record RequestIsPolled : Type 0 where
   pub not_asked_for : Polls (pos 5) 0 poll.None (example.host 0x1405 (example.nobody (pos 0))) [] [] (at (example.host 0x1405 (example.nobody (pos 0))) (pos 5))

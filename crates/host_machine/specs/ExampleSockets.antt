@@ -101,7 +101,12 @@ DatagramIsRefused =
 
 -- a raw socket for UDP over IPv4, without a packet and with the one of the datagram
 abbrev pub hearing : RawSocket
-hearing = record { version = version.Ipv4; protocol = protocol.Udp; rx = record { packets = []; most = 1; limit = 64 }; tx = record { packets = []; most = 1; limit = 64 } }
+hearing = record {
+  version = version.Ipv4;
+  protocol = protocol.Udp;
+  rx = record { packets = []; most = 1; limit = 64 };
+  tx = record { packets = []; most = 1; limit = 64 };
+}
 
 abbrev pub having_heard : RawSocket
 having_heard = record hearing { rx = record { packets = (tt, drop 14 datagram) ∷ []; most = 1; limit = 64 } }
@@ -151,7 +156,7 @@ pub record SocketWaits : Type 0 where
 
 -- a segment with the largest window goes with that of two segments of 1,474 octets, where the device takes bursts of two frames of 1,514
 abbrev pub WindowFitsBurst : Type 0
-WindowFitsBurst = (r : TcpRepr) → r.window_len ≡ 65535 → limited (record example.device { max_burst_size = Some 2 }) r ≡ record r { window_len = 2948 }
+WindowFitsBurst = (r : TcpRepr) → r.window_len ≡ 65535 → limited (record example.device { max_burst_size = Some 2 }) 20 r ≡ record r { window_len = 2948 }
 
 -- which configurations are refused, and why; the first identification from seed 0
 pub record ConfigurationsAreTested : Type 0 where

@@ -1,5 +1,5 @@
 -- The octets of the frames that a host sends.
-use Rattle.std.specs.Prelude.{ℕ, ◌-◌, ◌*◌, nat_le, List, [], ◌∷◌, ◌++◌, map, Option, Some, None, if◌then◌else◌}
+use Rattle.std.specs.Prelude.{ℕ, ◌+◌, ◌-◌, ◌*◌, nat_le, List, [], ◌∷◌, ◌++◌, map, Option, Some, None, if◌then◌else◌}
 use Rattle.net_base.specs.declared.phy.DeviceCapabilities.{DeviceCapabilities}
 use Rattle.net_base.specs.Checksum.{is_tx}
 use Rattle.net_base.specs.Device.{Event, Sent}
@@ -8,7 +8,6 @@ use Rattle.ip_wire.specs.declared.ethernet.EthernetProtocol.{EthernetProtocol}
 use Rattle.ip_wire.specs.declared.ethernet.EthernetProtocol.TheVariants as protocol
 use Rattle.ip_address.specs.declared.hardware.HardwareAddress.{HardwareAddress}
 use Rattle.ip_address.specs.declared.hardware.HardwareAddress.TheVariants as hardware
-use Rattle.ip_address.specs.declared.ip.IpAddress.TheVariants as address
 use Rattle.ip_wire.specs.Ethernet.{header_text}
 use Rattle.ip_wire.specs.Arp.{text}
 use Rattle.ip_wire.specs.Ipv4Packet as ipv4
@@ -16,9 +15,13 @@ use Rattle.ip_wire.specs.Tcp as tcp
 use Rattle.ip_wire.specs.Udp as udp
 use Rattle.ip_wire.specs.declared.tcp.TcpRepr.{TcpRepr}
 use Rattle.control_wire.specs.Icmpv4 as icmpv4
+use Rattle.icmpv6_wire.specs.Icmpv6 as icmpv6
 use Rattle.fragmentation.specs.Cuts.{Piece, piece_header, piece_fragment}
 use Rattle.host_machine.specs.Host.{Host}
-use Rattle.host_machine.specs.Packet.{IpPayload, Icmpv4, Udp, Tcp, Raw, PacketV4, Packet, Ipv4, header_of}
+use Rattle.ip_wire.specs.declared.ip_packet.IpRepr.{IpRepr}
+use Rattle.ip_wire.specs.IpPacket.{src_addr, dst_addr, header_len}
+use Rattle.ip_wire.specs.IpPacket as ip
+use Rattle.host_machine.specs.Packet.{IpPayload, Icmpv4, Icmpv6, Udp, Tcp, Raw, Packet, Ipv4, Ipv6, header_of, payload_of}
 
 -- an ARP packet goes from its sender's hardware address to its target's
 abbrev pub arp_frame : ArpRepr → List ℕ
@@ -26,31 +29,34 @@ arp_frame r = header_text (record { src_addr = r.source_hardware_addr; dst_addr 
 
 -- a window that a device with a limited burst can take: at most so many segments, each as long as its packets allow
 abbrev pub window_within : Option ℕ → ℕ → ℕ → ℕ
-window_within None mtu window = window
-window_within (Some burst) mtu window = if nat_le window (burst * (mtu - 40)) then window else burst * (mtu - 40)
+window_within None segment window = window
+window_within (Some burst) segment window = if nat_le window (burst * segment) then window else burst * segment
 
--- a segment's header as it goes: its window is within the device's
-abbrev pub limited : DeviceCapabilities → TcpRepr → TcpRepr
-limited c r = record r { window_len = window_within c.max_burst_size c.max_transmission_unit r.window_len }
+-- a segment's header as it goes behind a packet's header of so many octets: its window is within the device's
+abbrev pub limited : DeviceCapabilities → ℕ → TcpRepr → TcpRepr
+limited c ip_header_len r = record r { window_len = window_within c.max_burst_size (c.max_transmission_unit - (ip_header_len + 20)) r.window_len }
 
 -- a payload, each form with its checksum where the device leaves that to the stack. A checksum covers the pseudo-header, where it has
 -- one, and the payload, and no octet behind it
-abbrev pub payload_text : DeviceCapabilities → PacketV4 → IpPayload → List ℕ
-payload_text c p (Icmpv4 message octets) = icmpv4.text (is_tx c.checksum.icmpv4) (is_tx c.checksum.ipv4) message octets
-payload_text c p (Udp header octets) = udp.text (is_tx c.checksum.udp) (address.Ipv4 p.src_addr) (address.Ipv4 p.dst_addr) header octets
-payload_text c p (Tcp header octets) = tcp.text (is_tx c.checksum.tcp) (address.Ipv4 p.src_addr) (address.Ipv4 p.dst_addr) (limited c header) octets
-payload_text c p (Raw number octets) = octets
+abbrev pub payload_text : DeviceCapabilities → IpRepr → IpPayload → List ℕ
+payload_text c r (Icmpv4 message octets) = icmpv4.text (is_tx c.checksum.icmpv4) (is_tx c.checksum.ipv4) message octets
+payload_text c r (Icmpv6 message octets) = icmpv6.text (is_tx c.checksum.icmpv6) (src_addr r) (dst_addr r) message octets
+payload_text c r (Udp header octets) = udp.text (is_tx c.checksum.udp) (src_addr r) (dst_addr r) header octets
+payload_text c r (Tcp header octets) = tcp.text (is_tx c.checksum.tcp) (src_addr r) (dst_addr r) (limited c (header_len r) header) octets
+payload_text c r (Raw number octets) = octets
 
 -- a packet: its header, and its payload
 abbrev pub packet_text : DeviceCapabilities → Packet → List ℕ
-packet_text c (Ipv4 p) = ipv4.header_text (is_tx c.checksum.ipv4) (header_of p) ipv4.whole ++ payload_text c p p.payload
+packet_text c p = ip.header_text (is_tx c.checksum.ipv4) (header_of p) ++ payload_text c (header_of p) (payload_of p)
 
 abbrev pub ethertype_of : Packet → EthernetProtocol
 ethertype_of (Ipv4 p) = protocol.Ipv4
+ethertype_of (Ipv6 p) = protocol.Ipv6
 
 -- what stands before a packet on a link that has hardware addresses
 abbrev pub link_header : HardwareAddress → HardwareAddress → EthernetProtocol → List ℕ
-link_header (hardware.Ethernet source) (hardware.Ethernet destination) type = header_text (record { src_addr = source; dst_addr = destination; ethertype = type })
+link_header (hardware.Ethernet source) (hardware.Ethernet destination) type =
+    header_text (record { src_addr = source; dst_addr = destination; ethertype = type })
 link_header (hardware.Ethernet source) hardware.Ip type = []
 link_header hardware.Ip (hardware.Ethernet destination) type = []
 link_header hardware.Ip hardware.Ip type = []

@@ -5,51 +5,48 @@ use Rattle.ip_address.specs.declared.hardware.HardwareAddress.{HardwareAddress}
 use Rattle.ip_address.specs.declared.ip.IpAddress.TheVariants.{Ipv4}
 use Rattle.ip_wire.specs.declared.ipv4_packet.Ipv4Repr.{Ipv4Repr}
 use Rattle.ip_wire.specs.declared.ipv4_packet.Ipv4Fragment.{Ipv4Fragment}
+use Rattle.ip_wire.specs.declared.ip_packet.IpRepr.TheVariants as repr
 use Rattle.ip_address.specs.declared.protocol.IpProtocol.{IpProtocol}
 use Rattle.ip_address.specs.declared.protocol.IpProtocol.TheVariants as protocol
 use Rattle.ip_wire.specs.Ipv4Packet.{IsIpv4, ipv4_in, is_fragment}
-use Rattle.iface_tables.specs.Neighbor.{renewed, expiry_from}
 use Rattle.fragmentation.specs.declared.key.FragKey.{FragKey}
 use Rattle.fragmentation.specs.Keys.{key_of}
 use Rattle.fragmentation.specs.Fragments.{Fragment}
 use Rattle.host_machine.specs.Note.{Note}
 use Rattle.host_machine.specs.Reassembly.{TakesFragment}
-use Rattle.host_machine.specs.Host.{Host, with_neighbors}
-use Rattle.host_machine.specs.Addresses.{is_for_host, is_unicast_v4, may_be_source}
+use Rattle.host_machine.specs.Host.{Host}
+use Rattle.host_machine.specs.Addresses.{is_for_host, may_be_source}
 use Rattle.host_machine.specs.Reply.{Reply, IsDropped}
 use Rattle.control_wire.specs.declared.icmpv4.Icmpv4DstUnreachable.TheVariants.{ProtoUnreachable}
 use Rattle.host_machine.specs.Raw.{heard, is_taken}
+use Rattle.host_machine.specs.Renewal.{sender_renewed}
 use Rattle.host_machine.specs.Icmpv4.{TakesIcmpv4, unreachable}
 use Rattle.host_machine.specs.Udp.{TakesUdp}
 use Rattle.host_machine.specs.Tcp.{TakesTcp}
 
 -- a payload of a protocol that nobody here speaks
-pub record IsRefused (raw : Bool) (r : Ipv4Repr) (H : Host) (octets : List ℕ) (reply : Option Reply) (notes : List Note) (new : Host) : Type 0 where
-  pub replied : reply ≡ unreachable raw H.ip_addrs ProtoUnreachable r octets
+pub record IsRefused (by_raw : Bool) (r : Ipv4Repr) (H : Host) (octets : List ℕ) (reply : Option Reply) (notes : List Note) (new : Host) : Type 0 where
+  pub replied : reply ≡ unreachable by_raw H.ip_addrs ProtoUnreachable r octets
   pub unnoted : notes ≡ []
   pub unchanged : new ≡ H
-
--- who sends to the host alone, from the hardware address at which it is known, is known for another 60 seconds (RFC 1122 2.3.2.1)
-abbrev pub heard_from : HardwareAddress → Ipv4Repr → Host → Host
-heard_from source r H = if is_unicast_v4 H.ip_addrs r.dst_addr then with_neighbors H (renewed H.neighbors (Ipv4 r.src_addr) source (expiry_from H.moment)) else H
 
 -- by the protocol of the payload, and whether a raw socket took the packet. For a protocol that nobody here speaks an error is sent
 -- back; groups (IGMP) aren't there yet
 abbrev pub TakesProtocol : IpProtocol → Bool → Ipv4Repr → Host → List ℕ → Option Reply → List Note → Host → Type 0
-TakesProtocol protocol.Icmp raw r H octets reply notes new = TakesIcmpv4 r H octets reply notes new
-TakesProtocol protocol.Udp raw r H octets reply notes new = TakesUdp raw r H octets reply notes new
-TakesProtocol protocol.Tcp raw r H octets reply notes new = TakesTcp raw r H octets reply notes new
-TakesProtocol protocol.Igmp raw r H octets reply notes new = IsDropped H reply notes new
-TakesProtocol protocol.HopByHop raw r H octets reply notes new = IsRefused raw r H octets reply notes new
-TakesProtocol protocol.Icmpv6 raw r H octets reply notes new = IsRefused raw r H octets reply notes new
-TakesProtocol (protocol.Unknown number) raw r H octets reply notes new = IsRefused raw r H octets reply notes new
+TakesProtocol protocol.Icmp by_raw r H octets reply notes new = TakesIcmpv4 r H octets reply notes new
+TakesProtocol protocol.Udp by_raw r H octets reply notes new = TakesUdp by_raw (repr.Ipv4 r) H octets reply notes new
+TakesProtocol protocol.Tcp by_raw r H octets reply notes new = TakesTcp by_raw (repr.Ipv4 r) H octets reply notes new
+TakesProtocol protocol.Igmp by_raw r H octets reply notes new = IsDropped H reply notes new
+TakesProtocol protocol.HopByHop by_raw r H octets reply notes new = IsRefused by_raw r H octets reply notes new
+TakesProtocol protocol.Icmpv6 by_raw r H octets reply notes new = IsRefused by_raw r H octets reply notes new
+TakesProtocol (protocol.Unknown number) by_raw r H octets reply notes new = IsRefused by_raw r H octets reply notes new
 
 -- a packet that came whole or was put together, by its header and its payload; raw sockets hear it wherever it goes
 pub data TakesWhole (source : HardwareAddress) (r : Ipv4Repr) (H : Host) (payload : List ℕ) (reply : Option Reply)
     (notes : List Note) (new : Host) : Type 0 where
-  NotForUs : is_for_host H r.dst_addr ≡ false → IsDropped (heard r payload H) reply notes new → TakesWhole source r H payload reply notes new
-  Accepted : is_for_host H r.dst_addr ≡ true →
-      TakesProtocol r.next_header (is_taken r H) r (heard_from source r (heard r payload H)) payload reply notes new →
+  NotForUs : is_for_host H (Ipv4 r.dst_addr) ≡ false → IsDropped (heard (repr.Ipv4 r) payload H) reply notes new → TakesWhole source r H payload reply notes new
+  Accepted : is_for_host H (Ipv4 r.dst_addr) ≡ true →
+      TakesProtocol r.next_header (is_taken (repr.Ipv4 r) H) r (sender_renewed source (repr.Ipv4 r) (heard (repr.Ipv4 r) payload H)) payload reply notes new →
       TakesWhole source r H payload reply notes new
 
 -- what the fragments of a packet's datagram share, and the fragment that it is, which tells its place in units of eight octets (RFC 791 3.2)
@@ -65,7 +62,8 @@ rebuilt_header r octets = record r { payload_len = length octets }
 
 -- a packet, by its header, by which fragment it is, and by its payload: a fragment is put together with those that came before, and the
 -- datagram is taken once it is rebuilt
-pub data TakesPacket (source : HardwareAddress) (r : Ipv4Repr) (f : Ipv4Fragment) (H : Host) (payload : List ℕ) (reply : Option Reply) (notes : List Note) (new : Host) : Type 0 where
+pub data TakesPacket (source : HardwareAddress) (r : Ipv4Repr) (f : Ipv4Fragment) (H : Host) (payload : List ℕ) (reply : Option Reply)
+    (notes : List Note) (new : Host) : Type 0 where
   FromNoHost : may_be_source H.ip_addrs r.src_addr ≡ false → IsDropped H reply notes new → TakesPacket source r f H payload reply notes new
   Part : may_be_source H.ip_addrs r.src_addr ≡ true → is_fragment f ≡ true → TakesFragment (key_in r f) (fragment_in f payload) None H notes new →
       reply ≡ None → TakesPacket source r f H payload reply notes new

@@ -8,11 +8,14 @@ pub mod Arp
 pub mod Delivery
 pub mod Raw
 pub mod Icmpv4
+pub mod Unreachable
 pub mod Udp
 pub mod Tcp
 pub mod Reassembly
+pub mod Renewal
 pub mod Ipv4
 pub mod Ethernet
+pub mod Ndisc
 pub mod Dispatch
 pub mod Response
 pub mod Ingress
@@ -36,5 +39,6 @@ pub mod TwoHosts
 pub mod Laws
 pub mod Example
 pub mod ExampleSockets
+pub mod ExampleDiscovery
 pub mod ExamplePolling
 pub mod ExampleFragments

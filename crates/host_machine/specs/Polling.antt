@@ -13,14 +13,17 @@ use Rattle.host_machine.specs.Ingress.{Ingress}
 use Rattle.host_machine.specs.Egress.{Egress, answer_of}
 
 -- so many calls one after the other, each of which had something to do, and whether some socket may have changed
-pub data Repeats {A : Type 0} (call : A → Part) (nothing : A) (changes : A → Bool) (old : Host) : (n : ℕ) → List Event → List Note → Host → (changed : Bool) → Type 0 where
+pub data Repeats {A : Type 0} (call : A → Part) (nothing : A) (changes : A → Bool) (old : Host) :
+    (n : ℕ) → List Event → List Note → Host → (changed : Bool) → Type 0 where
   Begins : Repeats call nothing changes old 0 [] [] old false
-  Again : {n : ℕ} {told_so : List Event} {notes_so : List Note} {mid : Host} {changed : Bool} (answer : A) (told : List Event) (notes : List Note) (new : Host) →
+  Again : {n : ℕ} {told_so : List Event} {notes_so : List Note} {mid : Host} {changed : Bool}
+      (answer : A) (told : List Event) (notes : List Note) (new : Host) →
       Repeats call nothing changes old n told_so notes_so mid changed → call answer mid told notes new → answer ≢ nothing →
       Repeats call nothing changes old (n + 1) (told_so ++ told) (notes_so ++ notes) new (changed || changes answer)
 
 -- such calls until one has nothing to do, or the budget is spent
-pub data Until {A : Type 0} (call : A → Part) (nothing : A) (changes : A → Bool) (budget : ℕ) (changed : Bool) (old : Host) (told : List Event) (notes : List Note) (new : Host) : Type 0 where
+pub data Until {A : Type 0} (call : A → Part) (nothing : A) (changes : A → Bool) (budget : ℕ) (changed : Bool) (old : Host)
+    (told : List Event) (notes : List Note) (new : Host) : Type 0 where
   Spent : Repeats call nothing changes old budget told notes new changed → Until call nothing changes budget changed old told notes new
   Done : (n : ℕ) (told_so told_last : List Event) (notes_so notes_last : List Note) (mid : Host) → n < budget →
       Repeats call nothing changes old n told_so notes_so mid changed → call nothing mid told_last notes_last new →

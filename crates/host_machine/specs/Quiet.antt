@@ -6,7 +6,7 @@ use Rattle.iface_tables.specs.declared.route.Route.{Route}
 use Rattle.sockets.specs.Kinds.{offered, settled}
 use Rattle.sockets.specs.Kinds as socket
 use Rattle.host_machine.specs.declared.command.Command.{Command}
-use Rattle.host_machine.specs.declared.command.Command.TheVariants.{UpdateIpAddrs, PollIngressSingle, PollEgress, Poll, PollMaintenance, PollAt, PollDelay, UpdateRoutes, AddDefaultIpv4Route, RemoveDefaultIpv4Route, SetAnyIp, SetHardwareAddr, SetReassemblyTimeout, Owner}
+use Rattle.host_machine.specs.declared.command.Command.TheVariants.{UpdateIpAddrs, PollIngressSingle, PollEgress, Poll, PollMaintenance, PollAt, PollDelay, UpdateRoutes, AddDefaultIpv4Route, RemoveDefaultIpv4Route, AddDefaultIpv6Route, RemoveDefaultIpv6Route, SetAnyIp, SetHardwareAddr, SetReassemblyTimeout, Owner}
 use Rattle.host_machine.specs.declared.command.Answer.{Answer}
 use Rattle.host_machine.specs.declared.command.Answer.TheVariants as answer
 use Rattle.host_machine.specs.declared.results.PollIngressSingleResult.TheVariants as ingress
@@ -50,6 +50,8 @@ IsCalm t0 end (UpdateIpAddrs list) p = p.after ≡ p.before
 IsCalm t0 end (UpdateRoutes list) p = p.after ≡ p.before
 IsCalm t0 end (AddDefaultIpv4Route gateway) p = p.after ≡ p.before
 IsCalm t0 end RemoveDefaultIpv4Route p = p.after ≡ p.before
+IsCalm t0 end (AddDefaultIpv6Route gateway) p = p.after ≡ p.before
+IsCalm t0 end RemoveDefaultIpv6Route p = p.after ≡ p.before
 IsCalm t0 end (SetAnyIp any_ip) p = p.after ≡ p.before
 IsCalm t0 end (SetHardwareAddr h) p = p.after ≡ p.before
 IsCalm t0 end (SetReassemblyTimeout timeout) p = Unit {0}
@@ -72,6 +74,8 @@ AnswersNone (answer.UpdateIpAddrs r) = Unit {0}
 AnswersNone answer.UpdateRoutes = Unit {0}
 AnswersNone (answer.AddDefaultIpv4Route r) = Unit {0}
 AnswersNone (answer.RemoveDefaultIpv4Route r) = Unit {0}
+AnswersNone (answer.AddDefaultIpv6Route r) = Unit {0}
+AnswersNone (answer.RemoveDefaultIpv6Route r) = Unit {0}
 AnswersNone answer.SetAnyIp = Unit {0}
 AnswersNone (answer.SetHardwareAddr r) = Unit {0}
 AnswersNone (answer.SetReassemblyTimeout r) = Unit {0}

@@ -14,7 +14,8 @@ Responds (Some (Arp packet)) H frames notes new = (frames ≡ arp_frame packet �
 Responds (Some (Ip packet)) H frames notes new = (outcome : Outcome) × Dispatches packet outcome H frames notes new
 
 -- what is taken by a rule, and then responded to
-pub record Response (Takes : Host → Option Reply → List Note → Host → Type 0) (H : Host) (frames : List (List ℕ)) (notes : List Note) (new : Host) : Type 0 where
+pub record Response (Takes : Host → Option Reply → List Note → Host → Type 0) (H : Host) (frames : List (List ℕ)) (notes : List Note)
+    (new : Host) : Type 0 where
   pub reply : Option Reply
   pub taken : Host  -- after the rule, before the reply goes
   pub notes_taking : List Note

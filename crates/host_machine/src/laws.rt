@@ -1,6 +1,7 @@
 //! Laws that follow from the definitions alone, each as the contract of an empty function.
 ghost use Rattle.host_machine.specs.Example.{EchoIsAnswered, PacketIsAnswered, RequestIsAnswered, SenderIsDiscovered};
 ghost use Rattle.host_machine.specs.Arrivals.{FewAreKept, PiecesAreRebuilt, PiecesComeInTime};
+ghost use Rattle.host_machine.specs.ExampleDiscovery.{NeighborIsSolicited};
 ghost use Rattle.host_machine.specs.ExampleFragments.{DatagramIsRebuilt, FragmentWaits, PacketGoesInPieces, TenAreCut, TimeoutsAreTested};
 ghost use Rattle.host_machine.specs.ExamplePolling.{RequestIsPolled, WaitIsDue};
 ghost use Rattle.host_machine.specs.ExampleSockets.{ConfigurationsAreTested, ConnectionIsReset, DatagramIsDelivered, DatagramIsRefused, ProtocolIsRefused, RawSocketHears, SocketWaits, WindowFitsBurst};
@@ -115,6 +116,12 @@ pub fn packet_is_answered()
 /// address goes in place of the reply.
 pub fn sender_is_discovered()
     ensures { SenderIsDiscovered }
+{}
+
+/// A worked example: where the hardware address of an IPv6 neighbour isn't known, its solicitation goes in
+/// place of the packet.
+pub fn neighbor_is_solicited()
+    ensures { NeighborIsSolicited }
 {}
 
 /// A worked example: a datagram reaches the socket that listens at its port.

@@ -195,6 +195,8 @@ fn answer_text(answer: Answer) -> Text
         | Answer::UpdateRoutes
         | Answer::AddDefaultIpv4Route(Ok(_))
         | Answer::RemoveDefaultIpv4Route(_)
+        | Answer::AddDefaultIpv6Route(Ok(_))
+        | Answer::RemoveDefaultIpv6Route(_)
         | Answer::SetAnyIp
         | Answer::SetHardwareAddr(Ok(()))
         | Answer::SetReassemblyTimeout(Ok(()))
@@ -204,7 +206,8 @@ fn answer_text(answer: Answer) -> Text
         Answer::UpdateIpAddrs(Err(AddrError::NotUnicast))
         | Answer::SetHardwareAddr(Err(HardwareError::NotUnicast)) => text("NotUnicast"),
         Answer::SetHardwareAddr(Err(HardwareError::WrongMedium)) => text("WrongMedium"),
-        Answer::AddDefaultIpv4Route(Err(RouteTableFull)) => text("RouteTableFull"),
+        Answer::AddDefaultIpv4Route(Err(RouteTableFull))
+        | Answer::AddDefaultIpv6Route(Err(RouteTableFull)) => text("RouteTableFull"),
         Answer::SetReassemblyTimeout(Err(TimeoutError::TimeoutTooLong)) => text("TimeoutTooLong"),
         Answer::PollIngressSingle(result) => text(ingress_name(result)),
         Answer::PollEgress(result) | Answer::Poll(result) => text(poll_name(result)),

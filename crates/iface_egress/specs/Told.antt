@@ -4,7 +4,8 @@ use Rattle.net_base.specs.Device.{Event}
 use Rattle.host_machine.specs.Note.{Note}
 
 -- the device told something, which with some notes leads by the rule to what is then
-pub record Told {D State : Type 0} (tells : D → List Event → D → Type 0) (device device' : D) (Rule : List Event → List Note → State → Type 0) (new : State) : Type 0 where
+pub record Told {D State : Type 0} (tells : D → List Event → D → Type 0) (device device' : D)
+    (Rule : List Event → List Note → State → Type 0) (new : State) : Type 0 where
   pub told : List Event
   pub notes : List Note
   pub tells_it : tells device told device'

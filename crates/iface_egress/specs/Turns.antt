@@ -14,7 +14,8 @@ use Rattle.iface_send.specs.Stands.{host_in}
 
 -- a socket's turn, whatever the slots and the sockets beside it are
 abbrev pub HasTurn : Socket → Turn → Socket → Context → List Event → List Note → Context → Type 0
-HasTurn s turn s' old told notes new = (slots : Slots) (sockets : SocketSet) → SocketTurn s turn s' (host_in old slots sockets) told notes (host_in new slots sockets)
+HasTurn s turn s' old told notes new =
+    (slots : Slots) (sockets : SocketSet) → SocketTurn s turn s' (host_in old slots sockets) told notes (host_in new slots sockets)
 
 -- the turn of the pieces that are left, whatever the slots and the sockets are
 abbrev pub PieceHasTurn : Context → List Event → List Note → Context → Type 0
@@ -23,5 +24,7 @@ PieceHasTurn old told notes new = (slots : Slots) (sockets : SocketSet) → Send
 -- whether the socket of a place may be asked, and the sockets after it was decided: a known neighbour ends the wait. Slots don't matter
 pub data IsDecided (c : Context) (sockets : SocketSet) (i : ℕ) (permitted : Bool) (new : SocketSet) : Type 0 where
   NoSocket : socket_at sockets i ≡ None → permitted ≡ false → new ≡ sockets → IsDecided c sockets i permitted new
-  OfSocket : (s : Socket) (known : Bool) → socket_at sockets i ≡ Some s → ((slots : Slots) → IsTold (KnowsNextHop (host_in c slots sockets)) (wait_at sockets i) known) →
-      permitted ≡ is_permitted (wait_at sockets i) known c.moment → new ≡ with_wait sockets i (after_asking (wait_at sockets i) known) → IsDecided c sockets i permitted new
+  OfSocket : (s : Socket) (known : Bool) → socket_at sockets i ≡ Some s →
+      ((slots : Slots) → IsTold (KnowsNextHop (host_in c slots sockets)) (wait_at sockets i) known) →
+      permitted ≡ is_permitted (wait_at sockets i) known c.moment → new ≡ with_wait sockets i (after_asking (wait_at sockets i) known) →
+      IsDecided c sockets i permitted new

@@ -23,7 +23,7 @@ use control_wire::Icmpv4Repr;
 use host_machine::Turn;
 use iface_send::dispatch::{dispatch, has_neighbor};
 use iface_send::fragments::emit_next_piece;
-use iface_send::{Context, IpPayload, Packet, PacketV4};
+use iface_send::{Context, IpPayload, Packet, PacketV4, PacketV6};
 use ip_wire::emit::FrameBuffer;
 use ip_wire::{IpAddress, UdpRepr};
 use net_base::phy::Device;
@@ -149,7 +149,7 @@ fn give_turn<D: Device>(
     }
 }
 
-/// What a socket offers as a packet; over IPv6 none is sent yet.
+/// What a socket offers as a packet.
 fn packet_of<'p>(offer: &Offer<'p>) -> Option<Packet<'p>>
     ensures value { option_map shown.packet result ≡ spec.packet_of (kinds.shown offer.now) }
     ensures writable { IfSome result (λ p. IsWritable (shown.packet p)) }
@@ -220,7 +220,7 @@ fn udp_packet<'p>(datagram: &udp::Packet<'p>) -> Option<Packet<'p>>
     )
 }
 
-/// A packet from one IPv4 address to another.
+/// A packet from one address to another of its family.
 fn packet_between<'p>(
     src_addr: &IpAddress,
     dst_addr: &IpAddress,
@@ -231,16 +231,19 @@ fn packet_between<'p>(
     ensures value { option_map shown.packet result ≡ spec.packet_between src_addr.now dst_addr.now hop_limit (shown.payload payload.entry) }
     ensures writable { IfSome result (λ p. IsWritable (shown.packet p)) }
 {
-    let IpAddress::Ipv4(src_addr) = src_addr else {
-        return None;
-    };
-    let IpAddress::Ipv4(dst_addr) = dst_addr else {
-        return None;
-    };
-    Some(Packet::Ipv4(PacketV4 {
-        src_addr: *src_addr,
-        dst_addr: *dst_addr,
-        hop_limit,
-        payload,
-    }))
+    match (src_addr, dst_addr) {
+        (IpAddress::Ipv4(src_addr), IpAddress::Ipv4(dst_addr)) => Some(Packet::Ipv4(PacketV4 {
+            src_addr: *src_addr,
+            dst_addr: *dst_addr,
+            hop_limit,
+            payload,
+        })),
+        (IpAddress::Ipv6(src_addr), IpAddress::Ipv6(dst_addr)) => Some(Packet::Ipv6(PacketV6 {
+            src_addr: *src_addr,
+            dst_addr: *dst_addr,
+            hop_limit,
+            payload,
+        })),
+        _ => None,
+    }
 }

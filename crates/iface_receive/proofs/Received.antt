@@ -7,6 +7,9 @@ use Rattle.ip_address.specs.declared.ethernet_address.EthernetAddress.{EthernetA
 use Rattle.ip_address.specs.declared.hardware.HardwareAddress.TheVariants as hardware
 use Rattle.ip_address.specs.declared.ip.IpAddress.TheVariants.{Ipv4}
 use Rattle.ip_wire.specs.declared.ipv4_packet.Ipv4Repr.{Ipv4Repr}
+use Rattle.ip_wire.specs.declared.ip_packet.IpRepr.{IpRepr}
+use Rattle.ip_wire.specs.declared.ip_packet.IpRepr.TheVariants as repr
+use Rattle.ip_wire.specs.IpPacket.{src_addr, dst_addr}
 use Rattle.ip_address.specs.declared.protocol.IpProtocol.{IpProtocol}
 use Rattle.ip_address.specs.declared.protocol.IpProtocol.TheVariants as protocol
 use Rattle.ip_wire.specs.declared.ethernet.EthernetProtocol.{EthernetProtocol}
@@ -28,24 +31,25 @@ use Rattle.ip_wire.specs.declared.ipv4_packet.Ipv4Fragment.{Ipv4Fragment}
 use Rattle.ip_wire.specs.Ipv4Packet.{IsIpv4, ipv4_in}
 use Rattle.host_machine.specs.Addresses.{is_for_host}
 use Rattle.host_machine.specs.Raw.{heard, is_taken}
+use Rattle.host_machine.specs.Renewal.{sender_renewed}
 use Rattle.host_machine.specs.Note.{Note}
 use Rattle.host_machine.specs.Ethernet.{TakesFrame, TakesEthernet, TakesIp, TakesPayload, is_for}
 use Rattle.host_machine.specs.Ethernet as ethernet
 use Rattle.host_machine.specs.Ipv4 as ipv4
-use Rattle.host_machine.specs.Ipv4.{TakesProtocol, TakesPacket, TakesWhole, TakesIpv4, Read, heard_from}
+use Rattle.host_machine.specs.Ipv4.{TakesProtocol, TakesPacket, TakesWhole, TakesIpv4, Read}
 use Rattle.host_machine.specs.Delivery.{DeliversFirst, IsNobody}
 use Rattle.host_machine.specs.Delivery.{holds, to_each, to_this}
 use Rattle.host_machine.specs.Udp as udp
 use Rattle.host_machine.specs.Udp.{TakesUdp, Delivered, Unheard}
 use Rattle.host_machine.specs.Icmpv4.{unreachable}
+use Rattle.host_machine.specs.Unreachable.{port_unreachable}
 use Rattle.host_machine.specs.Icmpv4 as icmpv4
 use Rattle.host_machine.specs.Tcp as tcp
 use Rattle.control_wire.specs.Icmpv4.{IsIcmpv4, icmpv4_in}
 use Rattle.control_wire.specs.declared.icmpv4.Icmpv4Repr.{Icmpv4Repr}
-use Rattle.control_wire.specs.declared.icmpv4.Icmpv4DstUnreachable.TheVariants.{PortUnreachable, ProtoUnreachable}
+use Rattle.control_wire.specs.declared.icmpv4.Icmpv4DstUnreachable.TheVariants.{ProtoUnreachable}
 use Rattle.ip_wire.specs.Tcp.{IsTcp, tcp_in}
 use Rattle.ip_wire.specs.declared.tcp.TcpRepr.{TcpRepr}
-use Rattle.iface_receive.specs.Datagram.{is_taken_by, handed_to}
 use Rattle.iface_receive.specs.Segment.{IsTaken}
 use Rattle.iface_receive.proofs.Processing.{dropped}
 use Rattle.iface_receive.proofs.Each.{at_place, put_again}
@@ -68,15 +72,15 @@ ipv4_read source H K octets payload r f checked reply notes tests is takes =
     Read (rw tests at is.0) (rw (same_header, same_fragment, same_payload) at takes)
 
 -- a packet for another host is heard by raw sockets alone
-pub packet_for_others : (source : HardwareAddress) (H K : Host) (r : Ipv4Repr) (payload : List ℕ) → is_for_host H r.dst_addr ≡ false → K ≡ heard r payload H → TakesWhole source r H payload None [] K
-packet_for_others source H K r payload others hears = rw hears (ipv4.NotForUs others (dropped (heard r payload H)))
+pub packet_for_others : (source : HardwareAddress) (H K : Host) (r : Ipv4Repr) (payload : List ℕ) → is_for_host H (Ipv4 r.dst_addr) ≡ false → K ≡ heard (repr.Ipv4 r) payload H → TakesWhole source r H payload None [] K
+packet_for_others source H K r payload others hears = rw hears (ipv4.NotForUs others (dropped (heard (repr.Ipv4 r) payload H)))
 
 -- a packet for the host is taken by its protocol
 pub packet_accepted : (source : HardwareAddress) (H J K L : Host) (r : Ipv4Repr) (payload : List ℕ) (by_raw : Bool) (reply : Option Reply) (notes : List Note) →
-    is_for_host H r.dst_addr ≡ true → by_raw ≡ is_taken r H → J ≡ heard r payload H → K ≡ heard_from source r J →
+    is_for_host H (Ipv4 r.dst_addr) ≡ true → by_raw ≡ is_taken (repr.Ipv4 r) H → J ≡ heard (repr.Ipv4 r) payload H → K ≡ sender_renewed source (repr.Ipv4 r) J →
     TakesProtocol r.next_header by_raw r K payload reply notes L → TakesWhole source r H payload reply notes L
 packet_accepted source H J K L r payload by_raw reply notes ours taken hears renews takes =
-    let renewed : K ≡ heard_from source r (heard r payload H) = renews ∙ ap (heard_from source r) hears in
+    let renewed : K ≡ sender_renewed source (repr.Ipv4 r) (heard (repr.Ipv4 r) payload H) = renews ∙ ap (sender_renewed source (repr.Ipv4 r)) hears in
     ipv4.Accepted ours (rw (renewed, taken) at takes)
 
 -- a protocol that nobody here speaks
@@ -102,23 +106,23 @@ pub taken_by_protocol : (p q : IpProtocol) (raw : Bool) (r : Ipv4Repr) (H K : Ho
 taken_by_protocol p q raw r H K octets reply notes is takes = rw is takes
 
 -- a datagram is given to the first socket that accepts it
-pub udp_delivered : (raw : Bool) (H : Host) (r : Ipv4Repr) (octets payload : List ℕ) (ports : UdpRepr) (checked : Bool) (places : List Storage) →
-    checked ≡ is_rx H.capabilities.checksum.udp → IsUdp checked (Ipv4 r.src_addr) (Ipv4 r.dst_addr) octets × ((ports, payload) ≡ udp_in octets) →
-    DeliversFirst (is_taken_by H.ip_addrs r ports) (handed_to r ports payload) H.sockets.places places → TakesUdp raw r H octets None [] (with_places H places)
+pub udp_delivered : (raw : Bool) (H : Host) (r : IpRepr) (octets payload : List ℕ) (ports : UdpRepr) (checked : Bool) (places : List Storage) →
+    checked ≡ is_rx H.capabilities.checksum.udp → IsUdp checked (src_addr r) (dst_addr r) octets × ((ports, payload) ≡ udp_in octets) →
+    DeliversFirst (udp.accepts H.ip_addrs r ports) (udp.delivered r ports payload) H.sockets.places places → TakesUdp raw r H octets None [] (with_places H places)
 udp_delivered raw H r octets payload ports checked places tests is delivered =
     let same_ports : ports ≡ (udp_in octets).0 = ap (λ (p : UdpRepr × List ℕ). p.0) is.1 in
     let same_payload : payload ≡ (udp_in octets).1 = ap (λ (p : UdpRepr × List ℕ). p.1) is.1 in
     Delivered places (rw tests at is.0) (rw (same_ports, same_payload) at delivered) refl refl refl
 
 -- octets that are no datagram
-pub udp_malformed : (raw : Bool) (H : Host) (r : Ipv4Repr) (octets : List ℕ) (checked : Bool) → checked ≡ is_rx H.capabilities.checksum.udp →
-    (IsUdp checked (Ipv4 r.src_addr) (Ipv4 r.dst_addr) octets → ⊥) → TakesUdp raw r H octets None [] H
+pub udp_malformed : (raw : Bool) (H : Host) (r : IpRepr) (octets : List ℕ) (checked : Bool) → checked ≡ is_rx H.capabilities.checksum.udp →
+    (IsUdp checked (src_addr r) (dst_addr r) octets → ⊥) → TakesUdp raw r H octets None [] H
 udp_malformed raw H r octets checked tests none = udp.Malformed (rw tests at none) (dropped H)
 
 -- or nobody accepts it
-pub udp_unheard : (raw : Bool) (H : Host) (r : Ipv4Repr) (octets payload : List ℕ) (ports : UdpRepr) (checked : Bool) (places : List Storage) (reply : Option Reply) →
-    checked ≡ is_rx H.capabilities.checksum.udp → IsUdp checked (Ipv4 r.src_addr) (Ipv4 r.dst_addr) octets × ((ports, payload) ≡ udp_in octets) →
-    IsNobody (is_taken_by H.ip_addrs r ports) H.sockets.places → places ≡ H.sockets.places → reply ≡ unreachable raw H.ip_addrs PortUnreachable r octets →
+pub udp_unheard : (raw : Bool) (H : Host) (r : IpRepr) (octets payload : List ℕ) (ports : UdpRepr) (checked : Bool) (places : List Storage) (reply : Option Reply) →
+    checked ≡ is_rx H.capabilities.checksum.udp → IsUdp checked (src_addr r) (dst_addr r) octets × ((ports, payload) ≡ udp_in octets) →
+    IsNobody (udp.accepts H.ip_addrs r ports) H.sockets.places → places ≡ H.sockets.places → reply ≡ port_unreachable raw H.ip_addrs r octets →
     TakesUdp raw r H octets reply [] (with_places H places)
 udp_unheard raw H r octets payload ports checked places reply tests is nobody same replies =
     let same_ports : ports ≡ (udp_in octets).0 = ap (λ (p : UdpRepr × List ℕ). p.0) is.1 in
@@ -144,7 +148,7 @@ there (p ∷ ps) zero within = refl
 there (p ∷ ps) (suc i) within = there ps i (omega arith)
 
 -- the socket at an index is the first that accepts a segment
-pub segment_taken : (r : Ipv4Repr) (t : TcpRepr) (payload : List ℕ) (old now new : List Storage) (i : ℕ) (taken : Bool) (answer : Option TcpRepr) → now ≡ old → i < length old →
+pub segment_taken : (r : IpRepr) (t : TcpRepr) (payload : List ℕ) (old now new : List Storage) (i : ℕ) (taken : Bool) (answer : Option TcpRepr) → now ≡ old → i < length old →
     ((k : ℕ) (other : Storage) → k < i → slice_get old k ≡ Some other → tcp.accepts r t other ≡ false) → taken ≡ tcp.accepts r t (at_place now i) → taken ≡ true →
     new ≡ slice_set now i (tcp.delivered r t payload (at_place now i)) → answer ≡ tcp.replied t payload (at_place now i) → IsTaken r t payload old new answer
 segment_taken r t payload old now new i taken answer same within before accepts is delivered replied = record {
@@ -156,8 +160,8 @@ segment_taken r t payload old now new i taken answer same within before accepts 
 }
 
 -- a segment is given to the first socket that accepts it, and may be answered
-pub tcp_delivered : (raw : Bool) (H : Host) (r : Ipv4Repr) (octets payload : List ℕ) (t : TcpRepr) (checked : Bool) (places : List Storage) (answer : Option TcpRepr) (reply : Option Reply) →
-    tcp.is_between_nobody r ≡ false → checked ≡ is_rx H.capabilities.checksum.tcp → IsTcp checked (Ipv4 r.src_addr) (Ipv4 r.dst_addr) octets × ((t, payload) ≡ tcp_in octets) →
+pub tcp_delivered : (raw : Bool) (H : Host) (r : IpRepr) (octets payload : List ℕ) (t : TcpRepr) (checked : Bool) (places : List Storage) (answer : Option TcpRepr) (reply : Option Reply) →
+    tcp.is_between_nobody r ≡ false → checked ≡ is_rx H.capabilities.checksum.tcp → IsTcp checked (src_addr r) (dst_addr r) octets × ((t, payload) ≡ tcp_in octets) →
     IsTaken r t payload H.sockets.places places answer → reply ≡ option_map (tcp.segment_back r) answer → tcp.TakesTcp raw r H octets reply [] (with_places H places)
 tcp_delivered raw H r octets payload t checked places answer reply somebody tests is taken replies =
     let same_header : t ≡ (tcp_in octets).0 = ap (λ (p : TcpRepr × List ℕ). p.0) is.1 in
@@ -166,8 +170,8 @@ tcp_delivered raw H r octets payload t checked places answer reply somebody test
     tcp.Delivered whole.index whole.place somebody (rw tests at is.0) whole.first (replies ∙ ap (option_map (tcp.segment_back r)) whole.answers) refl (ap (with_places H) whole.changed)
 
 -- or nobody accepts it
-pub tcp_unheard : (raw : Bool) (H : Host) (r : Ipv4Repr) (octets payload : List ℕ) (t : TcpRepr) (checked : Bool) (places : List Storage) (answer : Option TcpRepr) (reply : Option Reply) →
-    tcp.is_between_nobody r ≡ false → checked ≡ is_rx H.capabilities.checksum.tcp → IsTcp checked (Ipv4 r.src_addr) (Ipv4 r.dst_addr) octets × ((t, payload) ≡ tcp_in octets) →
+pub tcp_unheard : (raw : Bool) (H : Host) (r : IpRepr) (octets payload : List ℕ) (t : TcpRepr) (checked : Bool) (places : List Storage) (answer : Option TcpRepr) (reply : Option Reply) →
+    tcp.is_between_nobody r ≡ false → checked ≡ is_rx H.capabilities.checksum.tcp → IsTcp checked (src_addr r) (dst_addr r) octets × ((t, payload) ≡ tcp_in octets) →
     IsNobody (tcp.accepts r t) H.sockets.places → places ≡ H.sockets.places → answer ≡ tcp.reset_for raw t payload → reply ≡ option_map (tcp.segment_back r) answer →
     tcp.TakesTcp raw r H octets reply [] (with_places H places)
 tcp_unheard raw H r octets payload t checked places answer reply somebody tests is nobody same answers replies =
@@ -176,8 +180,8 @@ tcp_unheard raw H r octets payload t checked places answer reply somebody tests 
     tcp.Unheard somebody (rw tests at is.0) (rw same_header at nobody) (rw (same_header, same_payload) at (replies ∙ ap (option_map (tcp.segment_back r)) answers)) refl (ap (with_places H) same)
 
 -- octets that are no segment
-pub tcp_malformed : (raw : Bool) (H : Host) (r : Ipv4Repr) (octets : List ℕ) (checked : Bool) → tcp.is_between_nobody r ≡ false → checked ≡ is_rx H.capabilities.checksum.tcp →
-    (IsTcp checked (Ipv4 r.src_addr) (Ipv4 r.dst_addr) octets → ⊥) → tcp.TakesTcp raw r H octets None [] H
+pub tcp_malformed : (raw : Bool) (H : Host) (r : IpRepr) (octets : List ℕ) (checked : Bool) → tcp.is_between_nobody r ≡ false → checked ≡ is_rx H.capabilities.checksum.tcp →
+    (IsTcp checked (src_addr r) (dst_addr r) octets → ⊥) → tcp.TakesTcp raw r H octets None [] H
 tcp_malformed raw H r octets checked somebody tests none = tcp.Malformed somebody (rw tests at none) (dropped H)
 
 -- a frame is taken by its medium

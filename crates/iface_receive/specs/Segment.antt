@@ -1,13 +1,13 @@
 -- A segment, and the socket that took it.
 use Rattle.std.specs.Prelude.{◌≡◌, ℕ, List, slice_set, Option}
-use Rattle.ip_wire.specs.declared.ipv4_packet.Ipv4Repr.{Ipv4Repr}
+use Rattle.ip_wire.specs.declared.ip_packet.IpRepr.{IpRepr}
 use Rattle.ip_wire.specs.declared.tcp.TcpRepr.{TcpRepr}
 use Rattle.host_machine.specs.Host.{Storage}
 use Rattle.host_machine.specs.Delivery.{IsFirst}
 use Rattle.host_machine.specs.Tcp.{accepts, delivered, replied}
 
 -- the first place that accepts took it, and answered so
-pub record IsTaken (r : Ipv4Repr) (t : TcpRepr) (payload : List ℕ) (old new : List Storage) (answer : Option TcpRepr) : Type 0 where
+pub record IsTaken (r : IpRepr) (t : TcpRepr) (payload : List ℕ) (old new : List Storage) (answer : Option TcpRepr) : Type 0 where
   pub index : ℕ
   pub place : Storage
   pub first : IsFirst (accepts r t) old index place

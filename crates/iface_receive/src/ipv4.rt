@@ -5,8 +5,9 @@ ghost use Rattle.fragmentation.specs.Slots.{Slots};
 ghost use Rattle.fragmentation.specs.Reassembled.{RestsReassembled};
 ghost use Rattle.host_machine.specs.Host.{SocketSet, no_sockets};
 ghost use Rattle.host_machine.specs.Addresses as addresses;
-ghost use Rattle.host_machine.specs.Ipv4.{TakesIpv4, TakesProtocol, TakesWhole, heard_from};
+ghost use Rattle.host_machine.specs.Ipv4.{TakesIpv4, TakesProtocol, TakesWhole};
 ghost use Rattle.host_machine.specs.Ipv4 as spec;
+ghost use Rattle.host_machine.specs.Renewal.{sender_renewed};
 ghost use Rattle.iface_send.specs.Stands.{host_in, host_of};
 ghost use Rattle.iface_receive.specs.Ipv4.{RestsDatagram, end_of_slots};
 ghost use Rattle.iface_receive.specs.Processed.{Answers, Processed, StandsFor};
@@ -20,7 +21,7 @@ use fragmentation::{FragKey, PacketAssemblerSet, reassemble};
 use iface_send::Context;
 use iface_send::neighbors::renew_neighbor;
 use ip_wire::emit::FrameBuffer;
-use ip_wire::{HardwareAddress, IpAddress, IpProtocol, Ipv4Address, Ipv4Fragment, Ipv4Repr};
+use ip_wire::{HardwareAddress, IpProtocol, IpRepr, Ipv4Address, Ipv4Fragment, Ipv4Repr};
 use socket_set::SocketSet;
 use sockets::SocketContext;
 
@@ -123,11 +124,12 @@ fn process_whole(
     requires quotable { 20 + header.now.payload_len < 2 ^ 16 }
     ensures { Processed out.new (λ H. TakesWhole source header.now H payload.now) (host_of context.old sockets.old) (host_of context.new sockets.new) }
 {
-    let by_raw = raw::deliver(context, sockets, header, payload);
-    if !is_for_host(context, &header.dst_addr) {
+    let packet = IpRepr::Ipv4(*header);
+    let by_raw = raw::deliver(context, sockets, &packet, payload);
+    if !context.is_for_host(&packet.dst_addr()) {
         return;
     }
-    heard_from(context, source, header);
+    renew_sender(context, source, &packet);
     process_protocol(context, sockets, header, payload, by_raw, out);
 }
 
@@ -138,21 +140,12 @@ fn may_be_source(context: &Context, address: &Ipv4Address) -> bool
     context.is_unicast_v4(address) || address.is_unspecified()
 }
 
-/// Whether a packet to this address is for the interface.
-fn is_for_host(context: &Context, address: &Ipv4Address) -> bool
-    ensures { result ≡ addresses.is_for_host (host_of context.now no_sockets) address.now }
-{
-    context.has_ip_addr(&IpAddress::Ipv4(*address))
-        || context.has_multicast_group(address)
-        || context.is_broadcast_v4(address)
-}
-
 /// Keeps the sender of a packet to the interface alone for another 60 s.
-fn heard_from(context: &mut Context, source: HardwareAddress, header: &Ipv4Repr)
-    ensures { (slots : Slots) (sockets : SocketSet) → host_in context.new slots sockets ≡ heard_from source header.now (host_in context.old slots sockets) }
+fn renew_sender(context: &mut Context, source: HardwareAddress, header: &IpRepr)
+    ensures { (slots : Slots) (sockets : SocketSet) → host_in context.new slots sockets ≡ sender_renewed source header.now (host_in context.old slots sockets) }
 {
-    if context.is_unicast_v4(&header.dst_addr) {
-        renew_neighbor(context, IpAddress::Ipv4(header.src_addr), source);
+    if context.is_unicast(&header.dst_addr()) {
+        renew_neighbor(context, header.src_addr(), source);
     }
 }
 
@@ -171,10 +164,11 @@ fn process_protocol(
     requires quotable { 20 + header.now.payload_len < 2 ^ 16 }
     ensures { Processed out.new (λ H. TakesProtocol header.now.next_header by_raw header.now H payload.now) (host_of context.old sockets.old) (host_of context.new sockets.new) }
 {
+    let packet = IpRepr::Ipv4(*header);
     match header.next_header {
         IpProtocol::Icmp => process_icmpv4(context, sockets, header, payload, out),
-        IpProtocol::Udp => process_udp(context, sockets, header, payload, by_raw, out),
-        IpProtocol::Tcp => process_tcp(context, sockets, header, payload, by_raw, out),
+        IpProtocol::Udp => process_udp(context, sockets, &packet, payload, by_raw, out),
+        IpProtocol::Tcp => process_tcp(context, sockets, &packet, payload, by_raw, out),
         IpProtocol::Igmp => {}
         IpProtocol::HopByHop | IpProtocol::Icmpv6 | IpProtocol::Unknown(_) => {
             let reason = Icmpv4DstUnreachable::ProtoUnreachable;

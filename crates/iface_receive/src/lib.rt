@@ -11,3 +11,4 @@ pub mod ipv4;
 pub mod raw;
 pub mod tcp;
 pub mod udp;
+mod unreachable;

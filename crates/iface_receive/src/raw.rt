@@ -1,12 +1,13 @@
 //! What raw sockets hear: every packet of their version and protocol.
-ghost use Rattle.std.specs.Prelude.{◌≡◌, ◌+◌, ◌<◌, ◌^◌, length};
+ghost use Rattle.std.specs.Prelude.{◌≡◌, length};
+ghost use Rattle.ip_wire.specs.IpPacket.{TellsLength};
 ghost use Rattle.socket_set.specs.SocketSet.{socket_at, with_place};
 ghost use Rattle.host_machine.specs.Delivery.{to_this};
-ghost use Rattle.host_machine.specs.Raw.{accepts, delivered, heard, is_taken};
+ghost use Rattle.host_machine.specs.Raw.{delivered, heard, is_taken, takes};
 ghost use Rattle.iface_send.specs.Stands.{host_of};
 
 use iface_send::Context;
-use ip_wire::{IpVersion, Ipv4Repr};
+use ip_wire::IpRepr;
 use socket_set::SocketSet;
 use sockets::raw;
 
@@ -15,10 +16,10 @@ use sockets::raw;
 pub fn deliver(
     context: &Context,
     sockets: &mut SocketSet<'_>,
-    header: &Ipv4Repr,
+    header: &IpRepr,
     payload: &[u8],
 ) -> bool
-    requires quotable { 20 + header.now.payload_len < 2 ^ 16 }
+    requires { TellsLength header.now }
     ensures taken { result ≡ is_taken header.now (host_of context.now sockets.old) }
     ensures heard { host_of context.now sockets.new ≡ heard header.now payload.now (host_of context.now sockets.old) }
 {
@@ -34,19 +35,19 @@ pub fn deliver(
 fn deliver_at(
     sockets: &mut SocketSet<'_>,
     index: usize,
-    header: &Ipv4Repr,
+    header: &IpRepr,
     payload: &[u8],
     summed: bool,
 ) -> bool
-    requires quotable { 20 + header.now.payload_len < 2 ^ 16 }
-    ensures taken { result ≡ accepts header.now.next_header (socket_at sockets.old index) }
-    ensures heard { sockets.new ≡ with_place sockets.old index (to_this (accepts header.now.next_header) (delivered summed header.now payload.now) (socket_at sockets.old index)) }
+    requires { TellsLength header.now }
+    ensures taken { result ≡ takes header.now (socket_at sockets.old index) }
+    ensures heard { sockets.new ≡ with_place sockets.old index (to_this (takes header.now) (delivered summed header.now payload.now) (socket_at sockets.old index)) }
     ensures len { length sockets.new.places ≡ length sockets.old.places }
 {
     let Some(socket) = sockets.kind_mut::<raw::Socket<'_>>(index) else {
         return false;
     };
-    if !socket.accepts(IpVersion::Ipv4, header.next_header) {
+    if !socket.accepts(header.version(), header.next_header()) {
         return false;
     }
     socket.process(header, payload, summed);

@@ -11,9 +11,9 @@ ghost use Rattle.iface_send.specs.Built.{Built};
 ghost use Rattle.iface_send.specs.Stands.{host_of};
 
 use iface_send::dispatch::dispatch;
-use iface_send::{Context, IpPayload, Packet, PacketV4};
+use iface_send::{Context, IpPayload, Packet};
 use ip_wire::emit::FrameBuffer;
-use ip_wire::{IpAddress, Ipv4Repr, TcpControl, TcpRepr};
+use ip_wire::{IpRepr, TcpControl, TcpRepr};
 use socket_set::SocketSet;
 use sockets::IpEndpoint;
 use sockets::tcp::{self, rst_reply};
@@ -26,7 +26,7 @@ use sockets::tcp::{self, rst_reply};
 pub fn process_tcp(
     context: &mut Context,
     sockets: &mut SocketSet<'_>,
-    header: &Ipv4Repr,
+    header: &IpRepr,
     octets: &[u8],
     by_raw: bool,
     out: &mut FrameBuffer,
@@ -39,8 +39,8 @@ pub fn process_tcp(
         return;
     }
     let checked = context.capabilities().checksum.tcp.rx();
-    let source = IpAddress::Ipv4(header.src_addr);
-    let destination = IpAddress::Ipv4(header.dst_addr);
+    let source = header.src_addr();
+    let destination = header.dst_addr();
     let Some((repr, payload)) = TcpRepr::parse(octets, &source, &destination, checked) else {
         return;
     };
@@ -54,10 +54,10 @@ pub fn process_tcp(
 }
 
 /// Whether nobody is meant, or nobody can be answered.
-fn is_between_nobody(header: &Ipv4Repr) -> bool
+fn is_between_nobody(header: &IpRepr) -> bool
     ensures { result ≡ spec.is_between_nobody header.now }
 {
-    header.src_addr.is_unspecified() || header.dst_addr.is_unspecified()
+    header.src_addr().is_unspecified() || header.dst_addr().is_unspecified()
 }
 
 /// The reset for a segment that nobody takes.
@@ -75,19 +75,14 @@ fn reset_for(repr: &TcpRepr, payload: &[u8], by_raw: bool) -> Option<TcpRepr>
 }
 
 /// Builds a segment without payload, if there is one, as a packet back to another's source.
-fn send_back(context: &mut Context, header: &Ipv4Repr, repr: Option<TcpRepr>, out: &mut FrameBuffer)
+fn send_back(context: &mut Context, header: &IpRepr, repr: Option<TcpRepr>, out: &mut FrameBuffer)
     requires { out.old ≡ [] }
     ensures { Built out.new (Responds (option_map (spec.segment_back header.now) repr)) context.old context.new }
 {
     let Some(repr) = repr else {
         return;
     };
-    let packet = Packet::Ipv4(PacketV4 {
-        src_addr: header.dst_addr,
-        dst_addr: header.src_addr,
-        hop_limit: 64,
-        payload: IpPayload::Tcp(repr, &[]),
-    });
+    let packet = Packet::back(header, IpPayload::Tcp(repr, &[]));
     let _ = dispatch(context, &packet, out);
 }
 
@@ -95,7 +90,7 @@ fn send_back(context: &mut Context, header: &Ipv4Repr, repr: Option<TcpRepr>, ou
 /// answers.
 fn deliver(
     sockets: &mut SocketSet<'_>,
-    header: &Ipv4Repr,
+    header: &IpRepr,
     repr: &TcpRepr,
     payload: &[u8],
 ) -> (bool, Option<TcpRepr>)
@@ -119,7 +114,7 @@ fn deliver(
 fn deliver_at(
     sockets: &mut SocketSet<'_>,
     index: usize,
-    header: &Ipv4Repr,
+    header: &IpRepr,
     repr: &TcpRepr,
     payload: &[u8],
 ) -> (bool, Option<TcpRepr>)
@@ -131,11 +126,11 @@ fn deliver_at(
     ensures waits { sockets.new ≡ with_places sockets.old sockets.new.places }
 {
     let source = IpEndpoint {
-        addr: IpAddress::Ipv4(header.src_addr),
+        addr: header.src_addr(),
         port: repr.src_port,
     };
     let destination = IpEndpoint {
-        addr: IpAddress::Ipv4(header.dst_addr),
+        addr: header.dst_addr(),
         port: repr.dst_port,
     };
     let Some(socket) = sockets.kind_mut::<tcp::Socket<'_>>(index) else {

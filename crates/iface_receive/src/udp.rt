@@ -1,18 +1,17 @@
 //! What an interface does with UDP datagrams (RFC 768, RFC 1122 4.1.3).
-ghost use Rattle.std.specs.Prelude.{◌≡◌, ◌+◌, ◌<◌, ◌^◌, [], Some, true, false, slice_set};
+ghost use Rattle.std.specs.Prelude.{◌≡◌, [], Some, true, false, slice_set};
+ghost use Rattle.ip_wire.specs.IpPacket.{TellsLength};
 ghost use Rattle.socket_set.specs.SocketSet.{socket_at, with_places};
 ghost use Rattle.host_machine.specs.Delivery.{DeliversFirst, IsNobody};
-ghost use Rattle.host_machine.specs.Udp.{TakesUdp};
+ghost use Rattle.host_machine.specs.Udp.{TakesUdp, accepts, delivered};
 ghost use Rattle.host_machine.specs.Host.{no_sockets};
 ghost use Rattle.iface_send.specs.Stands.{host_of};
 ghost use Rattle.iface_receive.specs.Processed.{Processed};
-ghost use Rattle.iface_receive.specs.Datagram.{is_taken_by, handed_to};
 
-use crate::icmpv4::refuse;
-use control_wire::icmpv4::Icmpv4DstUnreachable;
+use crate::unreachable::refuse_port;
 use iface_send::Context;
 use ip_wire::emit::FrameBuffer;
-use ip_wire::{IpAddress, Ipv4Repr, UdpRepr};
+use ip_wire::{IpRepr, UdpRepr};
 use socket_set::SocketSet;
 use sockets::{IpEndpoint, udp};
 
@@ -23,24 +22,23 @@ use sockets::{IpEndpoint, udp};
 pub fn process_udp(
     context: &mut Context,
     sockets: &mut SocketSet<'_>,
-    header: &Ipv4Repr,
+    header: &IpRepr,
     octets: &[u8],
     by_raw: bool,
     out: &mut FrameBuffer,
 )
     requires empty { out.old ≡ [] }
-    requires quotable { 20 + header.now.payload_len < 2 ^ 16 }
+    requires quotable { TellsLength header.now }
     ensures { Processed out.new (λ H. TakesUdp by_raw header.now H octets.now) (host_of context.old sockets.old) (host_of context.new sockets.new) }
 {
     let checked = context.capabilities().checksum.udp.rx();
-    let source = IpAddress::Ipv4(header.src_addr);
-    let destination = IpAddress::Ipv4(header.dst_addr);
+    let source = header.src_addr();
+    let destination = header.dst_addr();
     let Some((ports, payload)) = UdpRepr::parse(octets, &source, &destination, checked) else {
         return;
     };
     if !deliver(context, sockets, header, &ports, payload) {
-        let reason = Icmpv4DstUnreachable::PortUnreachable;
-        refuse(context, reason, header, octets, by_raw, out);
+        refuse_port(context, header, octets, by_raw, out);
     }
 }
 
@@ -48,12 +46,12 @@ pub fn process_udp(
 fn deliver(
     context: &Context,
     sockets: &mut SocketSet<'_>,
-    header: &Ipv4Repr,
+    header: &IpRepr,
     ports: &UdpRepr,
     payload: &[u8],
 ) -> bool
-    ensures delivered { result ≡ true → DeliversFirst (is_taken_by (host_of context.now no_sockets).ip_addrs header.now ports.now) (handed_to header.now ports.now payload.now) sockets.old.places sockets.new.places }
-    ensures nobody { result ≡ false → IsNobody (is_taken_by (host_of context.now no_sockets).ip_addrs header.now ports.now) sockets.old.places }
+    ensures delivered { result ≡ true → DeliversFirst (accepts (host_of context.now no_sockets).ip_addrs header.now ports.now) (delivered header.now ports.now payload.now) sockets.old.places sockets.new.places }
+    ensures nobody { result ≡ false → IsNobody (accepts (host_of context.now no_sockets).ip_addrs header.now ports.now) sockets.old.places }
     ensures kept { result ≡ false → sockets.new ≡ sockets.old }
     ensures waits { sockets.new ≡ with_places sockets.old sockets.new.places }
 {
@@ -70,23 +68,23 @@ fn deliver_at(
     context: &Context,
     sockets: &mut SocketSet<'_>,
     index: usize,
-    header: &Ipv4Repr,
+    header: &IpRepr,
     ports: &UdpRepr,
     payload: &[u8],
 ) -> bool
-    ensures accepted { result ≡ is_taken_by (host_of context.now no_sockets).ip_addrs header.now ports.now (socket_at sockets.old index) }
-    ensures delivered { result ≡ true → sockets.new.places ≡ slice_set sockets.old.places index (handed_to header.now ports.now payload.now (socket_at sockets.old index)) }
+    ensures accepted { result ≡ accepts (host_of context.now no_sockets).ip_addrs header.now ports.now (socket_at sockets.old index) }
+    ensures delivered { result ≡ true → sockets.new.places ≡ slice_set sockets.old.places index (delivered header.now ports.now payload.now (socket_at sockets.old index)) }
     ensures kept { result ≡ false → sockets.new ≡ sockets.old }
     ensures waits { sockets.new ≡ with_places sockets.old sockets.new.places }
 {
     let Some(socket) = sockets.kind_mut::<udp::Socket<'_>>(index) else {
         return false;
     };
-    if !socket.accepts(context, &IpAddress::Ipv4(header.dst_addr), ports.dst_port) {
+    if !socket.accepts(context, &header.dst_addr(), ports.dst_port) {
         return false;
     }
     let remote = IpEndpoint {
-        addr: IpAddress::Ipv4(header.src_addr),
+        addr: header.src_addr(),
         port: ports.src_port,
     };
     socket.process(remote, payload);

@@ -8,11 +8,12 @@ ghost use Rattle.iface_tables.specs.Neighbor.{AreOf, AreOf-prop};
 ghost use Rattle.host_machine.specs.Host.{is_assigned, no_sockets};
 ghost use Rattle.host_machine.specs.Addresses as addresses;
 
+use address_selection::{get_source_address_ipv6, ipv6_addr};
 use arrayvec::ArrayVec;
 use fragmentation::Fragmenter;
 use iface_tables::neighbor::Cache;
 use iface_tables::route::Routes;
-use ip_wire::{HardwareAddress, IpAddress, IpCidr, Ipv4Address};
+use ip_wire::{HardwareAddress, IpAddress, IpCidr, Ipv4Address, Ipv6Address};
 use net_base::phy::DeviceCapabilities;
 use net_base::time::{Duration, Instant};
 use sockets::SocketContext;
@@ -124,11 +125,37 @@ impl Context {
         self.ip_addrs.iter().any(|cidr| cidr.contains_addr(address))
     }
 
-    /// Whether the interface is a member of a group: that of all hosts, 224.0.0.1 (RFC 1112).
-    pub fn has_multicast_group(&self, address: &Ipv4Address) -> bool
-        ensures { result ≡ addresses.has_multicast_group address.now }
+    /// Whether the interface is a member of a group: of that of all hosts, 224.0.0.1 or ff02::1 (RFC
+    /// 1112, RFC 4291 2.8), or of the solicited-node group of an address of its own.
+    pub fn has_multicast_group(&self, address: &IpAddress) -> bool
+        ensures { result ≡ addresses.has_multicast_group (host_of self.now no_sockets) address.now }
     {
-        address.bits == 0xe000_0001
+        match address {
+            IpAddress::Ipv4(address) => address.bits == 0xe000_0001,
+            IpAddress::Ipv6(address) => {
+                address.bits == Ipv6Address::LINK_LOCAL_ALL_NODES.bits
+                    || self.has_solicited_node(address)
+            }
+        }
+    }
+
+    /// Whether an address is the solicited-node group of one of the interface's own, other than ::1
+    /// (RFC 4291 2.7.1).
+    pub fn has_solicited_node(&self, address: &Ipv6Address) -> bool
+        ensures { result ≡ addresses.has_solicited_node (host_of self.now no_sockets).ip_addrs address.now }
+    {
+        is_solicited(self.ip_addrs.as_slice(), address)
+    }
+
+    /// Whether a packet to this address is for the interface: to an own one, to a group of its own,
+    /// to a broadcast address, or to ::1.
+    pub fn is_for_host(&self, address: &IpAddress) -> bool
+        ensures { result ≡ addresses.is_for_host (host_of self.now no_sockets) address.now }
+    {
+        self.has_ip_addr(address)
+            || self.has_multicast_group(address)
+            || self.is_broadcast(address)
+            || is_loopback(address)
     }
 
     /// Whether it is the broadcast address of all networks, or of one of the interface's own (RFC
@@ -151,6 +178,16 @@ impl Context {
         address.is_unicast() && !self.is_broadcast_v4(address)
     }
 
+    /// The same of either family.
+    pub fn is_unicast(&self, address: &IpAddress) -> bool
+        ensures { result ≡ addresses.is_unicast (host_of self.now no_sockets).ip_addrs address.now }
+    {
+        match address {
+            IpAddress::Ipv4(address) => self.is_unicast_v4(address),
+            IpAddress::Ipv6(address) => address.is_unicast(),
+        }
+    }
+
     /// The first own IPv4 address.
     pub fn ipv4_addr(&self) -> Option<Ipv4Address>
         ensures { result ≡ addresses.ipv4_addr (host_of self.now no_sockets).ip_addrs }
@@ -167,6 +204,27 @@ impl Context {
             Some(near) => Some(near),
             None => self.ipv4_addr(),
         }
+    }
+}
+
+impl Context {
+    ghost use Rattle.std.specs.Prelude.{◌≡◌};
+    ghost use Rattle.address_selection.specs.Ipv6 as selection;
+    ghost use Rattle.iface_send.specs.Stands.{host_of};
+
+    /// The first own IPv6 address.
+    pub fn ipv6_addr(&self) -> Option<Ipv6Address>
+        ensures { result ≡ selection.ipv6_addr (host_of self.now no_sockets).ip_addrs }
+    {
+        ipv6_addr(self.ip_addrs.as_slice())
+    }
+
+    /// The source for an IPv6 destination (RFC 6724 5): as [`get_source_address_ipv6`] chooses it of
+    /// the own addresses.
+    pub fn get_source_address_ipv6(&self, dst_addr: &Ipv6Address) -> Ipv6Address
+        ensures { result ≡ selection.source_v6 (host_of self.now no_sockets).ip_addrs dst_addr.now }
+    {
+        get_source_address_ipv6(self.ip_addrs.as_slice(), dst_addr)
     }
 }
 
@@ -189,7 +247,9 @@ impl SocketContext for Context {
                 Some(source) => Some(IpAddress::Ipv4(source)),
                 None => None,
             },
-            IpAddress::Ipv6(_) => None,
+            IpAddress::Ipv6(dst_addr) => {
+                Some(IpAddress::Ipv6(self.get_source_address_ipv6(dst_addr)))
+            }
         }
     }
 
@@ -197,6 +257,36 @@ impl SocketContext for Context {
         match address {
             IpAddress::Ipv4(address) => self.is_broadcast_v4(address),
             IpAddress::Ipv6(_) => false,
+        }
+    }
+}
+
+/// Whether it is the host itself, ::1.
+fn is_loopback(address: &IpAddress) -> bool
+    ensures { result ≡ addresses.is_loopback address.now }
+{
+    match address {
+        IpAddress::Ipv4(_) => false,
+        IpAddress::Ipv6(address) => address.is_loopback(),
+    }
+}
+
+/// Whether an address is the solicited-node group of one of a list.
+fn is_solicited(own: &[IpCidr], address: &Ipv6Address) -> bool
+    ensures { result ≡ addresses.has_solicited_node own.now address.now }
+{
+    own.iter().any(|cidr| is_asked_by(cidr, address))
+}
+
+/// Whether an address is the solicited-node group of another, unless that is ::1.
+#[inline(always)]
+fn is_asked_by(cidr: &IpCidr, address: &Ipv6Address) -> bool
+    ensures { result ≡ addresses.is_asked_by address.now cidr.now }
+{
+    match cidr {
+        IpCidr::Ipv4(_) => false,
+        IpCidr::Ipv6(cidr) => {
+            !cidr.address.is_loopback() && cidr.address.solicited_node().bits == address.bits
         }
     }
 }

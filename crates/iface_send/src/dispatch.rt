@@ -5,7 +5,9 @@ ghost use Rattle.net_base.specs.Checksum.{ip_mtu_of};
 ghost use Rattle.ip_address.specs.Ip.{is_unicast, is_unspecified};
 ghost use Rattle.fragmentation.specs.Slots.{Slots};
 ghost use Rattle.host_machine.specs.Host.{SocketSet, no_sockets};
+ghost use Rattle.ip_address.specs.declared.ip.IpAddress.TheVariants.{Ipv4, Ipv6};
 ghost use Rattle.host_machine.specs.Arp.{request_for};
+ghost use Rattle.host_machine.specs.Ndisc.{solicitation_for};
 ghost use Rattle.host_machine.specs.Frame.{ip_frame};
 ghost use Rattle.host_machine.specs.Packet.{IsWritable};
 ghost use Rattle.host_machine.specs.Packet as value;
@@ -16,14 +18,14 @@ ghost use Rattle.iface_send.specs.Stands.{host_in, host_of};
 
 use crate::context::Context;
 use crate::fragments::emit_in_pieces;
-use crate::packet::{Packet, emit_arp, emit_link_header};
+use crate::packet::{IpPayload, Packet, PacketV6, emit_arp, emit_link_header};
 use fragmentation::fragmenter::FRAGMENTATION_BUFFER_SIZE;
 use host_machine::DispatchError;
+use icmpv6_wire::{Icmpv6Repr, NdiscRepr};
 use iface_tables::neighbor::Answer;
 use ip_wire::emit::FrameBuffer;
 use ip_wire::{
-    ArpOperation, ArpRepr, EthernetAddress, EthernetProtocol, HardwareAddress, IpAddress,
-    Ipv4Address, Ipv6Address,
+    ArpOperation, ArpRepr, EthernetAddress, HardwareAddress, IpAddress, Ipv4Address, Ipv6Address,
 };
 
 /// Builds the frame of an IP packet for the next hop towards its destination, in an empty buffer. `Ok`
@@ -117,15 +119,70 @@ fn discover(
     requires empty { out.old ≡ [] }
     ensures { Built out.new (spec.Discovers own hop.now (Err result)) context.old context.new }
 {
-    let IpAddress::Ipv4(target) = hop else {
-        return DispatchError::NoRoute;
-    };
+    match hop {
+        IpAddress::Ipv4(target) => request(context, own, target, out),
+        IpAddress::Ipv6(target) => solicit(context, own, target, out),
+    }
+}
+
+/// The same over IPv4, by an ARP request.
+#[inline(always)]
+fn request(
+    context: &mut Context,
+    own: EthernetAddress,
+    target: &Ipv4Address,
+    out: &mut FrameBuffer,
+) -> DispatchError
+    requires empty { out.old ≡ [] }
+    ensures { Built out.new (spec.Discovers own (Ipv4 target.now) (Err result)) context.old context.new }
+{
     let Some(source) = context.get_source_address_ipv4(target) else {
         return DispatchError::NoRoute;
     };
     emit_arp(&request_for(own, source, *target), out);
     context.neighbor_cache.limit_rate(context.moment);
     DispatchError::NeighborPending
+}
+
+/// The same over IPv6, by a neighbour solicitation, which takes an identification of its own.
+#[inline(never)]
+fn solicit(
+    context: &mut Context,
+    own: EthernetAddress,
+    target: &Ipv6Address,
+    out: &mut FrameBuffer,
+) -> DispatchError
+    requires empty { out.old ≡ [] }
+    ensures { Built out.new (spec.Discovers own (Ipv6 target.now) (Err result)) context.old context.new }
+{
+    let now = context.moment;
+    let source = context.get_source_address_ipv6(target);
+    let group = group_address_v6(&target.solicited_node());
+    let packet = solicitation_for(own, source, *target);
+    emit_frame(context, &HardwareAddress::Ethernet(group), &packet, out);
+    context.ipv4_id = context.ipv4_id.wrapping_add(1);
+    context.neighbor_cache.limit_rate(now);
+    DispatchError::NeighborPending
+}
+
+/// The solicitation for the hardware address of a target (RFC 4861 7.2.2).
+fn solicitation_for(
+    own: EthernetAddress,
+    source: Ipv6Address,
+    target: Ipv6Address,
+) -> Packet<'static>
+    ensures { shown.packet result ≡ solicitation_for own source target }
+{
+    let message = NdiscRepr::NeighborSolicit {
+        target_addr: target,
+        lladdr: Some(own),
+    };
+    Packet::Ipv6(PacketV6 {
+        src_addr: source,
+        dst_addr: target.solicited_node(),
+        hop_limit: 255,
+        payload: IpPayload::Icmpv6(Icmpv6Repr::Ndisc(message), &[]),
+    })
 }
 
 /// The request for the hardware address of a target.
@@ -142,7 +199,8 @@ fn request_for(own: EthernetAddress, source: Ipv4Address, target: Ipv4Address) -
 }
 
 /// Builds the frame of a packet for a hardware address: that of the whole packet, or of its first piece
-/// if it is longer than the device's packets. One of more than 4,096 octets is dropped then.
+/// if it is longer than the device's packets. One of more than 4,096 octets is dropped then, and so is
+/// one of IPv6 (RFC 8200 5).
 #[inline(always)]
 fn emit_to(
     context: &mut Context,
@@ -158,8 +216,12 @@ fn emit_to(
     let total_len = packet.total_len();
     if total_len <= context.capabilities.ip_mtu() {
         emit_frame(context, destination, packet, out);
-    } else if total_len <= FRAGMENTATION_BUFFER_SIZE {
-        emit_in_pieces(context, identification, destination, packet, out);
+        return;
+    }
+    if let Packet::Ipv4(packet) = packet {
+        if total_len <= FRAGMENTATION_BUFFER_SIZE {
+            emit_in_pieces(context, identification, destination, packet, out);
+        }
     }
 }
 
@@ -176,12 +238,7 @@ fn emit_frame(
     ensures items { out.new ≡ ip_frame (host_of context.now no_sockets) destination.now (shown.packet packet.now) }
     ensures some { 20 ≤ length out.new }
 {
-    emit_link_header(
-        &context.hardware_addr,
-        destination,
-        EthernetProtocol::Ipv4,
-        out,
-    );
+    emit_link_header(&context.hardware_addr, destination, packet.ethertype(), out);
     packet.emit(&context.capabilities, out);
 }
 

@@ -4,7 +4,7 @@ ghost use Rattle.net_base.specs.Checksum.{ip_mtu_of};
 ghost use Rattle.fragmentation.specs.Cuts.{HasForm, pieces_of};
 ghost use Rattle.fragmentation.specs.Pending.{is_nil};
 ghost use Rattle.host_machine.specs.Host.{SocketSet, no_sockets, with_left};
-ghost use Rattle.host_machine.specs.Packet.{IsWritable};
+ghost use Rattle.host_machine.specs.Packet.{IsWritablePayload};
 ghost use Rattle.host_machine.specs.Packet as value;
 ghost use Rattle.host_machine.specs.Dispatch as spec;
 ghost use Rattle.iface_send.specs.Shown as shown;
@@ -13,10 +13,10 @@ ghost use Rattle.iface_send.specs.Pieces.{NextPieceGoes};
 ghost use Rattle.iface_send.specs.Stands.{host_of};
 
 use crate::context::Context;
-use crate::packet::{Packet, emit_link_header, emit_payload_header};
+use crate::packet::{PacketV4, emit_link_header, emit_payload_header};
 use ip_wire::emit::FrameBuffer;
 use ip_wire::ipv4_packet::HEADER_LEN;
-use ip_wire::{EthernetProtocol, HardwareAddress};
+use ip_wire::{EthernetProtocol, HardwareAddress, IpRepr};
 
 /// Cuts a packet that is longer than the device's packets, and has at most 4,096 octets: builds the
 /// frame of its first piece, in an empty buffer, and leaves the others to be sent, in place of what was
@@ -26,14 +26,14 @@ pub(crate) fn emit_in_pieces(
     context: &mut Context,
     identification: u16,
     destination: &HardwareAddress,
-    packet: &Packet<'_>,
+    packet: &PacketV4<'_>,
     out: &mut FrameBuffer,
 )
     requires empty { out.old ≡ [] }
-    requires writable { IsWritable (shown.packet packet.now) }
-    requires long { ip_mtu_of context.old.capabilities < value.total_len (shown.packet packet.now) }
-    requires fits { value.total_len (shown.packet packet.now) ≤ 4096 }
-    ensures { Built out.new (spec.Emits identification (shown.packet packet.now) destination.now (Ok tt)) context.old context.new }
+    requires writable { IsWritablePayload (shown.payload packet.now.payload) }
+    requires long { ip_mtu_of context.old.capabilities < value.total_len (value.Ipv4 (shown.packet_v4 packet.now)) }
+    requires fits { value.total_len (value.Ipv4 (shown.packet_v4 packet.now)) ≤ 4096 }
+    ensures { Built out.new (spec.Emits identification (value.Ipv4 (shown.packet_v4 packet.now)) destination.now (Ok tt)) context.old context.new }
 {
     cut(context, identification, destination, packet, out);
     out.clear();
@@ -46,24 +46,29 @@ fn cut(
     context: &mut Context,
     identification: u16,
     destination: &HardwareAddress,
-    packet: &Packet<'_>,
+    packet: &PacketV4<'_>,
     scratch: &mut FrameBuffer,
 )
     requires empty { scratch.old ≡ [] }
-    requires writable { IsWritable (shown.packet packet.now) }
-    requires some { 20 < value.total_len (shown.packet packet.now) }
-    requires fits { value.total_len (shown.packet packet.now) ≤ 4096 }
+    requires writable { IsWritablePayload (shown.payload packet.now.payload) }
+    requires some { 20 < value.total_len (value.Ipv4 (shown.packet_v4 packet.now)) }
+    requires fits { value.total_len (value.Ipv4 (shown.packet_v4 packet.now)) ≤ 4096 }
     ensures left { (sockets : SocketSet) → host_of context.new sockets ≡ with_left (host_of context.old sockets)
-        (pieces_of (spec.datagram_of (host_of context.old sockets) destination.now identification (shown.packet packet.now))) }
+        (pieces_of (spec.datagram_of (host_of context.old sockets) destination.now identification (shown.packet_v4 packet.now))) }
     ensures some { is_nil (host_of context.new no_sockets).left ≡ false }
-    ensures fits { HasForm (spec.datagram_of (host_of context.old no_sockets) destination.now identification (shown.packet packet.now)) }
+    ensures fits { HasForm (spec.datagram_of (host_of context.old no_sockets) destination.now identification (shown.packet_v4 packet.now)) }
 {
-    let Packet::Ipv4(packet) = packet;
-    emit_payload_header(packet, &context.capabilities, scratch);
+    let header = packet.header();
+    emit_payload_header(
+        &IpRepr::Ipv4(header),
+        &packet.payload,
+        &context.capabilities,
+        scratch,
+    );
     let size = (context.capabilities.ip_mtu() - HEADER_LEN) / 8 * 8;
     context.fragmenter.fill(
         *destination,
-        packet.header(),
+        header,
         identification,
         size,
         scratch.as_slice(),

@@ -10,4 +10,4 @@ pub mod packet;
 pub mod settings;
 
 pub use context::Context;
-pub use packet::{IpPayload, Packet, PacketV4};
+pub use packet::{IpPayload, Packet, PacketV4, PacketV6};

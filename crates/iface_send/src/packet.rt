@@ -1,18 +1,19 @@
 //! Packets to be sent: their values, with their octets as a slice of where they came from; and their
 //! frames, which are appended to a buffer.
 ghost use Rattle.std.specs.Prelude.{◌≡◌, ◌+◌, ◌<◌, ◌≤◌, ◌^◌, ◌++◌, [], length};
-ghost use Rattle.host_machine.specs.Frame.{arp_frame, limited, link_header, packet_text, payload_text};
+ghost use Rattle.host_machine.specs.Frame.{arp_frame, ethertype_of, limited, link_header, packet_text, payload_text};
 ghost use Rattle.host_machine.specs.Packet.{IsWritable, IsWritablePayload};
 ghost use Rattle.host_machine.specs.Packet as value;
 ghost use Rattle.host_machine.specs.Dispatch.{destination_of};
 ghost use Rattle.iface_send.specs.Shown as shown;
 
 use control_wire::icmpv4::{EchoRequest, Icmpv4Repr};
+use icmpv6_wire::Icmpv6Repr;
 use ip_wire::emit::FrameBuffer;
 use ip_wire::ipv4_packet::{Ipv4Fragment, Ipv4Repr};
 use ip_wire::{
-    ArpRepr, EthernetProtocol, EthernetRepr, HardwareAddress, IpAddress, IpProtocol, Ipv4Address,
-    TcpRepr, UdpRepr,
+    ArpRepr, EthernetProtocol, EthernetRepr, HardwareAddress, IpAddress, IpProtocol, IpRepr,
+    Ipv4Address, Ipv6Address, Ipv6Repr, TcpRepr, UdpRepr,
 };
 use net_base::phy::DeviceCapabilities;
 
@@ -20,6 +21,7 @@ use net_base::phy::DeviceCapabilities;
 #[derive(Clone, Copy)]
 pub enum Packet<'p> {
     Ipv4(PacketV4<'p>),
+    Ipv6(PacketV6<'p>),
 }
 
 /// An IPv4 packet; its header's other values follow from these.
@@ -31,10 +33,20 @@ pub struct PacketV4<'p> {
     pub payload: IpPayload<'p>,
 }
 
+/// An IPv6 packet; its header's other values follow from these.
+#[derive(Clone, Copy)]
+pub struct PacketV6<'p> {
+    pub src_addr: Ipv6Address,
+    pub dst_addr: Ipv6Address,
+    pub hop_limit: u8,
+    pub payload: IpPayload<'p>,
+}
+
 /// What an IP packet carries: by protocol, with the octets behind that header; or as it stands.
 #[derive(Clone, Copy)]
 pub enum IpPayload<'p> {
     Icmpv4(Icmpv4Repr, &'p [u8]),
+    Icmpv6(Icmpv6Repr, &'p [u8]),
     /// The reply to an echo request.
     EchoReply(EchoRequest<'p>),
     Udp(UdpRepr, &'p [u8]),
@@ -49,6 +61,7 @@ impl IpPayload<'_> {
     {
         match self {
             IpPayload::Icmpv4(..) | IpPayload::EchoReply(_) => IpProtocol::Icmp,
+            IpPayload::Icmpv6(..) => IpProtocol::Icmpv6,
             IpPayload::Udp(..) => IpProtocol::Udp,
             IpPayload::Tcp(..) => IpProtocol::Tcp,
             IpPayload::Raw(protocol, _) => *protocol,
@@ -58,10 +71,11 @@ impl IpPayload<'_> {
     /// Its length with the protocol's header, in octets.
     pub fn len(&self) -> usize
         ensures value { result ≡ value.payload_len (shown.payload self.now) }
-        ensures short { result < 2 ^ 63 + 28 }
+        ensures short { result < 2 ^ 63 + 48 }
     {
         match self {
             IpPayload::Icmpv4(message, octets) => message.header_len() + octets.len(),
+            IpPayload::Icmpv6(message, octets) => message.header_len() + octets.len(),
             IpPayload::EchoReply(request) => request.octets.len(),
             IpPayload::Udp(_, octets) => 8 + octets.len(),
             IpPayload::Tcp(_, octets) => 20 + octets.len(),
@@ -76,6 +90,7 @@ impl IpPayload<'_> {
         match self {
             IpPayload::EchoReply(request) => request.payload(),
             IpPayload::Icmpv4(_, octets)
+            | IpPayload::Icmpv6(_, octets)
             | IpPayload::Udp(_, octets)
             | IpPayload::Tcp(_, octets)
             | IpPayload::Raw(_, octets) => octets,
@@ -87,7 +102,7 @@ impl PacketV4<'_> {
     /// The values of its header. It has to have at most 65,535 octets.
     pub fn header(&self) -> Ipv4Repr
         requires { 20 + value.payload_len (shown.payload self.now.payload) < 2 ^ 16 }
-        ensures { result ≡ value.header_of (shown.packet_v4 self.now) }
+        ensures { result ≡ value.header_v4 (shown.packet_v4 self.now) }
     {
         Ipv4Repr {
             src_addr: self.src_addr,
@@ -99,6 +114,46 @@ impl PacketV4<'_> {
     }
 }
 
+impl PacketV6<'_> {
+    /// The values of its header. Its payload has to have at most 65,535 octets.
+    pub fn header(&self) -> Ipv6Repr
+        requires { value.payload_len (shown.payload self.now.payload) < 2 ^ 16 }
+        ensures { result ≡ value.header_v6 (shown.packet_v6 self.now) }
+    {
+        Ipv6Repr {
+            src_addr: self.src_addr,
+            dst_addr: self.dst_addr,
+            next_header: self.payload.protocol(),
+            payload_len: self.payload.len() as u16,
+            hop_limit: self.hop_limit,
+        }
+    }
+}
+
+impl<'p> Packet<'p> {
+    /// A payload in reply to a packet with this header: it goes back to where that came from, from its
+    /// destination, with hop limit 64.
+    #[inline(always)]
+    pub fn back(header: &IpRepr, payload: IpPayload<'p>) -> Packet<'p>
+        ensures { shown.packet result ≡ value.sent_back header.now (shown.payload payload.entry) }
+    {
+        match header {
+            IpRepr::Ipv4(header) => Packet::Ipv4(PacketV4 {
+                src_addr: header.dst_addr,
+                dst_addr: header.src_addr,
+                hop_limit: 64,
+                payload,
+            }),
+            IpRepr::Ipv6(header) => Packet::Ipv6(PacketV6 {
+                src_addr: header.dst_addr,
+                dst_addr: header.src_addr,
+                hop_limit: 64,
+                payload,
+            }),
+        }
+    }
+}
+
 impl Packet<'_> {
     /// Where it goes to.
     pub fn dst_addr(&self) -> IpAddress
@@ -106,6 +161,17 @@ impl Packet<'_> {
     {
         match self {
             Packet::Ipv4(packet) => IpAddress::Ipv4(packet.dst_addr),
+            Packet::Ipv6(packet) => IpAddress::Ipv6(packet.dst_addr),
+        }
+    }
+
+    /// The type of the frame that carries it.
+    pub fn ethertype(&self) -> EthernetProtocol
+        ensures { result ≡ ethertype_of (shown.packet self.now) }
+    {
+        match self {
+            Packet::Ipv4(_) => EthernetProtocol::Ipv4,
+            Packet::Ipv6(_) => EthernetProtocol::Ipv6,
         }
     }
 
@@ -115,6 +181,7 @@ impl Packet<'_> {
     {
         match self {
             Packet::Ipv4(packet) => 20 + packet.payload.len(),
+            Packet::Ipv6(packet) => 40 + packet.payload.len(),
         }
     }
 
@@ -129,27 +196,34 @@ impl Packet<'_> {
             Packet::Ipv4(packet) => {
                 let header = packet.header();
                 header.emit(&Ipv4Fragment::WHOLE, capabilities.checksum.ipv4.tx(), out);
-                emit_payload_header(packet, capabilities, out);
+                emit_payload_header(&IpRepr::Ipv4(header), &packet.payload, capabilities, out);
+                out.append(packet.payload.octets());
+            }
+            Packet::Ipv6(packet) => {
+                let header = packet.header();
+                header.emit(out);
+                emit_payload_header(&IpRepr::Ipv6(header), &packet.payload, capabilities, out);
                 out.append(packet.payload.octets());
             }
         }
     }
 }
 
-/// Appends the payload of a packet up to the octets behind its protocol's header, with its checksum
-/// where that is on.
+/// Appends the payload of a packet with this header, up to the octets behind its protocol's header, with
+/// its checksum where that is on.
 pub fn emit_payload_header(
-    packet: &PacketV4<'_>,
+    header: &IpRepr,
+    payload: &IpPayload<'_>,
     capabilities: &DeviceCapabilities,
     out: &mut FrameBuffer,
 )
-    requires writable { IsWritablePayload (shown.payload packet.now.payload) }
-    requires short { value.payload_len (shown.payload packet.now.payload) < 2 ^ 16 }
-    requires room { length out.old + value.payload_len (shown.payload packet.now.payload) ≤ 1514 + length (shown.octets_behind packet.now.payload) }
-    ensures items { out.new ++ shown.octets_behind packet.now.payload ≡ out.old ++ payload_text capabilities.now (shown.packet_v4 packet.now) (shown.payload packet.now.payload) }
-    ensures len { length out.new + length (shown.octets_behind packet.now.payload) ≡ length out.old + value.payload_len (shown.payload packet.now.payload) }
+    requires writable { IsWritablePayload (shown.payload payload.now) }
+    requires short { value.payload_len (shown.payload payload.now) < 2 ^ 16 }
+    requires room { length out.old + value.payload_len (shown.payload payload.now) ≤ 1514 + length (shown.octets_behind payload.now) }
+    ensures items { out.new ++ shown.octets_behind payload.now ≡ out.old ++ payload_text capabilities.now header.now (shown.payload payload.now) }
+    ensures len { length out.new + length (shown.octets_behind payload.now) ≡ length out.old + value.payload_len (shown.payload payload.now) }
 {
-    match &packet.payload {
+    match payload {
         IpPayload::Icmpv4(message, octets) => message.emit_header(
             octets,
             capabilities.checksum.icmpv4.tx(),
@@ -159,30 +233,34 @@ pub fn emit_payload_header(
         IpPayload::EchoReply(request) => {
             request.emit_reply_header(capabilities.checksum.icmpv4.tx(), out);
         }
-        IpPayload::Udp(header, octets) => {
-            let src = IpAddress::Ipv4(packet.src_addr);
-            let dst = IpAddress::Ipv4(packet.dst_addr);
-            header.emit_header(&src, &dst, octets, capabilities.checksum.udp.tx(), out);
+        IpPayload::Icmpv6(message, octets) => {
+            let (src, dst) = (header.src_addr(), header.dst_addr());
+            message.emit_header(&src, &dst, octets, capabilities.checksum.icmpv6.tx(), out);
         }
-        IpPayload::Tcp(header, octets) => {
-            let src = IpAddress::Ipv4(packet.src_addr);
-            let dst = IpAddress::Ipv4(packet.dst_addr);
-            let header = limited(capabilities, header);
-            header.emit_header(&src, &dst, octets, capabilities.checksum.tcp.tx(), out);
+        IpPayload::Udp(ports, octets) => {
+            let (src, dst) = (header.src_addr(), header.dst_addr());
+            ports.emit_header(&src, &dst, octets, capabilities.checksum.udp.tx(), out);
+        }
+        IpPayload::Tcp(segment, octets) => {
+            let (src, dst) = (header.src_addr(), header.dst_addr());
+            let segment = limited(capabilities, header.header_len(), segment);
+            segment.emit_header(&src, &dst, octets, capabilities.checksum.tcp.tx(), out);
         }
         IpPayload::Raw(..) => {}
     }
 }
 
-/// A segment's header as it goes: its window is at most what a device with a limited burst can
-/// take, so many segments as long as its packets allow.
-fn limited(capabilities: &DeviceCapabilities, header: &TcpRepr) -> TcpRepr
-    ensures { result ≡ limited capabilities.now header.now }
+/// A segment's header as it goes behind a packet's header of so many octets: its window is at most
+/// what a device with a limited burst can take, so many segments as long as its packets allow.
+fn limited(capabilities: &DeviceCapabilities, ip_header_len: usize, header: &TcpRepr) -> TcpRepr
+    requires { ip_header_len ≤ 40 }
+    ensures { result ≡ limited capabilities.now ip_header_len header.now }
 {
     let Some(burst) = capabilities.max_burst_size else {
         return *header;
     };
-    let limit = burst.saturating_mul(capabilities.max_transmission_unit.saturating_sub(40));
+    let mtu = capabilities.max_transmission_unit;
+    let limit = burst.saturating_mul(mtu.saturating_sub(ip_header_len + 20));
     let window_len = if usize::from(header.window_len) <= limit {
         header.window_len
     } else {

@@ -5,7 +5,8 @@ use Rattle.host_machine.specs.Host.{Host}
 use Rattle.host_machine.specs.Note.{Note}
 
 -- what a call did: the device told this, these are its notes, and the host is this one after
-pub record Went {D : Type 0} (tells : D → List Event → D → Type 0) (device device' : D) (step : List Event → List Note → Host → Type 0) (after : Host → Type 0) : Type 0 where
+pub record Went {D : Type 0} (tells : D → List Event → D → Type 0) (device device' : D) (step : List Event → List Note → Host → Type 0)
+    (after : Host → Type 0) : Type 0 where
   pub told : List Event
   pub notes : List Note
   pub host : Host
@@ -14,5 +15,6 @@ pub record Went {D : Type 0} (tells : D → List Event → D → Type 0) (device
   pub stands : after host
 
 -- from each host that stood before, one step leads to a host that stands after
-abbrev pub Goes : {D : Type 0} → (D → List Event → D → Type 0) → D → D → (Host → List Event → List Note → Host → Type 0) → (Host → Type 0) → (Host → Type 0) → Type 0
+abbrev pub Goes : {D : Type 0} → (D → List Event → D → Type 0) → D → D → (Host → List Event → List Note → Host → Type 0) →
+    (Host → Type 0) → (Host → Type 0) → Type 0
 Goes tells device device' step before after = (H : Host) → before H → Went tells device device' (step H) after

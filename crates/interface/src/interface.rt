@@ -25,7 +25,7 @@ use iface_send::settings::{
 use iface_send::{Context, settings};
 use iface_tables::route::Routes;
 use ip_wire::emit::FrameBuffer;
-use ip_wire::{HardwareAddress, IpAddress, IpCidr, Ipv4Address};
+use ip_wire::{HardwareAddress, IpAddress, IpCidr, Ipv4Address, Ipv6Address};
 use net_base::phy::{Device, DeviceCapabilities, FRAME_BUFFER_SIZE, Medium};
 use net_base::rand::Rand;
 use net_base::time::{Duration, Instant};
@@ -75,6 +75,7 @@ impl Interface {
     ghost use Rattle.host_machine.specs.Host.{Storage};
     ghost use Rattle.host_machine.specs.Host as host;
     ghost use Rattle.host_machine.specs.Addresses as addresses;
+    ghost use Rattle.address_selection.specs.Ipv6 as selection;
     ghost use Rattle.host_machine.specs.Config.{refusal_of, first_host};
     ghost use Rattle.host_machine.specs.Ingress.{Ingress};
     ghost use Rattle.std.specs.Prelude.{ℤ};
@@ -192,6 +193,25 @@ impl Interface {
         self.context.get_source_address_ipv4(dst_addr)
     }
 
+    /// The first of its IPv6 addresses.
+    pub fn ipv6_addr(&self) -> Option<Ipv6Address>
+        ensures { (sockets : SocketSet) → result ≡ selection.ipv6_addr (host_with self.now sockets).ip_addrs }
+    {
+        self.context.ipv6_addr()
+    }
+
+    /// The source for an IPv6 destination: ::1 to the interface itself, else the first of the best own
+    /// addresses. Of two addresses that is better which is the destination, then that of the smallest
+    /// scope that reaches the destination's, then that which shares more leading bits with the
+    /// destination, at most as many as its prefix has (RFC 6724 5, rules 1, 2 and 8). For a
+    /// destination on the link alone only such addresses are candidates. Without a candidate it is
+    /// the first own IPv6 address, and ::1 without any.
+    pub fn get_source_address_ipv6(&self, dst_addr: &Ipv6Address) -> Ipv6Address
+        ensures { (sockets : SocketSet) → result ≡ selection.source_v6 (host_with self.now sockets).ip_addrs dst_addr.now }
+    {
+        self.context.get_source_address_ipv6(dst_addr)
+    }
+
     /// Whether an address is one of the interface's own: one that was given to it, or any with
     /// AnyIP.
     pub fn has_ip_addr(&self, address: IpAddress) -> bool
@@ -208,15 +228,12 @@ impl Interface {
         self.context.get_source_address(dst_addr)
     }
 
-    /// Whether the interface is a member of a group: of that of all hosts, 224.0.0.1, and no other
-    /// yet.
+    /// Whether the interface is a member of a group: of that of all hosts, 224.0.0.1 or ff02::1 (RFC
+    /// 1112, RFC 4291 2.8), or of the solicited-node group of an address of its own.
     pub fn has_multicast_group(&self, address: IpAddress) -> bool
-        ensures { result ≡ addresses.is_member address }
+        ensures { (sockets : SocketSet) → result ≡ addresses.has_multicast_group (host_with self.now sockets) address }
     {
-        match address {
-            IpAddress::Ipv4(address) => self.context.has_multicast_group(&address),
-            IpAddress::Ipv6(_) => false,
-        }
+        self.context.has_multicast_group(&address)
     }
 
     /// Whether the interface takes every address for an own one.

@@ -2,7 +2,7 @@
 //!
 //! A line is a call and, behind `=`, what comes of it: its answer, then `refused` if the device refused
 //! leave as it was told to, then `tx` and the frames that were sent in the call. Without `=` the answer is
-//! `ok`. What isn't said mustn't happen. Moments are in microseconds, addresses eight hex digits, frames
+//! `ok`. What isn't said mustn't happen. Moments are in microseconds, addresses eight or 32 hex digits, frames
 //! names or hex (`frames`).
 //!
 //! | Call | What is done |
@@ -11,13 +11,15 @@
 //! | `addr ADDR/LEN ..` | its addresses become these |
 //! | `addr?` `= ADDR/LEN ..` | they are these |
 //! | `own? ADDR` `= yes`, `no` | whether it takes this one for its own |
+//! | `member? ADDR` `= yes`, `no` | whether it is a member of this group |
+//! | `source? ADDR` `= ADDR` | from which address it sends to this IPv6 destination |
 //! | `anyip` | it takes every address for its own |
 //! | `hardware HARDWARE` | it gets this hardware address |
 //! | `hardware?` `= HARDWARE`, `none` | it has this one |
 //! | `routes ADDR/LEN>ROUTER[@EXPIRY] ..` | its routes become these |
 //! | `routes?` `= ADDR/LEN>ROUTER[@EXPIRY] ..` | they are these |
-//! | `gw ROUTER` `= ROUTER`, `none`, `RouteTableFull` | it gets a default route, in place of this one |
-//! | `ungw` `= ROUTER`, `none` | it loses its default route |
+//! | `gw ROUTER` `= ROUTER`, `none`, `RouteTableFull` | it gets a default route of the router's family, in place of this one |
+//! | `ungw`, `ungw6` `= ROUTER`, `none` | it loses its default route of IPv4, of IPv6 |
 //! | `timeout MICROS` `= ok`, `TimeoutTooLong` | slots for fragments stand for so long |
 //! | `timeout?` `= MICROS` | they stand for so long |
 //! | `rx FRAME ..` | a frame arrives: these, one behind the other |
@@ -34,7 +36,7 @@ ghost use Rattle.host_machine.specs.Step.{IsTimely};
 use crate::frames::{Octets, frame};
 use crate::test_host::{ETHERNET, Host, OWN};
 use crate::words::{
-    Words, address, count, hardware, medium, moment, networks, number, routes, wide,
+    Words, address_v6, any_address, count, hardware, medium, moment, networks, number, routes, wide,
 };
 use host_machine::TimeoutError;
 use iface_tables::route::{Route, RouteTableFull};
@@ -168,8 +170,18 @@ impl Host {
             "addr" => self.asks(Command::UpdateIpAddrs(networks(call)?), outcome),
             "addr?" => Some(self.interface.ip_addrs() == networks(outcome)?.as_slice()),
             "own?" => {
-                let addr = IpAddress::Ipv4(address(call.next()?)?);
+                let addr = any_address(call.next()?)?;
                 Some(is_told(self.interface.has_ip_addr(addr), outcome.next()?))
+            }
+            "member?" => {
+                let addr = any_address(call.next()?)?;
+                let is_member = self.interface.has_multicast_group(addr);
+                Some(is_told(is_member, outcome.next()?))
+            }
+            "source?" => {
+                let dst_addr = address_v6(call.next()?)?;
+                let source = self.interface.get_source_address_ipv6(&dst_addr);
+                Some(source == address_v6(outcome.next()?)?)
             }
             "anyip" => self.asks(Command::SetAnyIp(true), outcome),
             "hardware" => self.asks(Command::SetHardwareAddr(hardware(call.next()?)?), outcome),
@@ -178,6 +190,7 @@ impl Host {
             "routes?" => { Some(self.interface.routes().as_slice() == routes(outcome)?.as_slice()) }
             "gw" => self.adds_default(call.next()?, outcome.next()?),
             "ungw" => self.removes_default(outcome.next()?),
+            "ungw6" => self.removes_default_v6(outcome.next()?),
             "timeout" => {
                 let timeout = Duration::from_micros(wide(call.next()?)?);
                 self.asks(Command::SetReassemblyTimeout(timeout), outcome)
@@ -263,8 +276,16 @@ impl Host {
             "RouteTableFull" => Err(RouteTableFull),
             _ => Ok(default_by(word)?),
         };
-        let answer = self.run(Command::AddDefaultIpv4Route(address(router)?));
-        Some(answer == Answer::AddDefaultIpv4Route(old))
+        match any_address(router)? {
+            IpAddress::Ipv4(router) => {
+                let answer = self.run(Command::AddDefaultIpv4Route(router));
+                Some(answer == Answer::AddDefaultIpv4Route(old))
+            }
+            IpAddress::Ipv6(router) => {
+                let answer = self.run(Command::AddDefaultIpv6Route(router));
+                Some(answer == Answer::AddDefaultIpv6Route(old))
+            }
+        }
     }
 
     // It loses its default route, the one by the router that the word says.
@@ -272,6 +293,13 @@ impl Host {
         let old = default_by(word)?;
         let answer = self.run(Command::RemoveDefaultIpv4Route);
         Some(answer == Answer::RemoveDefaultIpv4Route(old))
+    }
+
+    // The same of IPv6.
+    fn removes_default_v6(&mut self, word: &str) -> Option<bool> {
+        let old = default_by(word)?;
+        let answer = self.run(Command::RemoveDefaultIpv6Route);
+        Some(answer == Answer::RemoveDefaultIpv6Route(old))
     }
 
     // Whether it has to be polled again at the instant that the word says.
@@ -329,9 +357,12 @@ fn frames(call: &mut Words<'_>) -> Option<Octets> {
 
 // The default route by a router, or `none`.
 fn default_by(word: &str) -> Option<Option<Route>> {
-    match word {
-        "none" => Some(None),
-        _ => Some(Some(Route::new_ipv4_gateway(address(word)?))),
+    if word == "none" {
+        return Some(None);
+    }
+    match any_address(word)? {
+        IpAddress::Ipv4(router) => Some(Some(Route::new_ipv4_gateway(router))),
+        IpAddress::Ipv6(router) => Some(Some(Route::new_ipv6_gateway(router))),
     }
 }
 

@@ -197,3 +197,66 @@ fn a_window_fits_the_burst(rt: HostRuntime) {
         egress 0 = SocketStateChanged tx SEGMENT_4096",
     );
 }
+
+// Over IPv6 a group is reached straight, and one host asked for by a solicitation. What doesn't fit a packet
+// of the device's is dropped, and gone.
+#[test]
+fn datagrams_go_over_ipv6(rt: HostRuntime) {
+    bare(
+        &rt,
+        "host 020000000001 ethernet 1514
+        addr fe800000000000000000000000000001/64
+        udp 6969
+        send 0 ff020000000000000000000000000002 5000 6869
+        egress 0 = SocketStateChanged tx HI_ROUTERS
+        due? 0 = Ingress
+        send 0 fe800000000000000000000000000002 5000 6869
+        egress 0 = None tx SOLICIT_2
+        egress 999_999 = None
+        egress 1_000_000 = None tx SOLICIT_2
+        due? 0 = Now",
+    );
+    bare(
+        &rt,
+        "host ip ip 576
+        addr c0a84501/24 20010db8000000000000000000000001/64
+        udp 6969
+        send 0 20010db8000000000000000000000009 5000 6869
+        egress 0 = SocketStateChanged tx HI_NEAR
+        send 0 20010db8000000000000000000000009 5000 EMPTY~0+529
+        egress 0 = SocketStateChanged
+        due? 0 = Ingress",
+    );
+}
+
+// One silence stands for both families.
+#[test]
+fn asks_for_one_neighbor_a_second_over_both(rt: HostRuntime) {
+    at_home(
+        &rt,
+        "addr c0a84501/24 fe800000000000000000000000000001/64
+        udp 6969
+        send 0 c0a84532 5000 6869
+        udp 6969
+        send 1 fe800000000000000000000000000050 5000 6869
+        egress 0 = None tx WHO_HAS_50
+        egress 1_000_000 = None tx WHO_HAS_50
+        rx REPLY_OF_50
+        ingress 1_500_000 = SocketStateChanged
+        egress 1_500_000 = SocketStateChanged tx HI_TO_50
+        egress 2_000_000 = None tx SOLICIT_50
+        due? 0 = Ingress
+        due? 1 = Now",
+    );
+}
+
+#[test]
+fn a_window_fits_the_burst_over_ipv6(rt: HostRuntime) {
+    bare(
+        &rt,
+        "host 020000000001 ethernet 1514 1
+        addr fe800000000000000000000000000001/64
+        segment 80 ff020000000000000000000000000002 5000 7 4096 6869
+        egress 0 = SocketStateChanged tx SEGMENT_1454",
+    );
+}

@@ -6,7 +6,10 @@ ghost use Rattle.net_base.specs.Time.{IsMoment};
 use crate::frames::octets;
 use arrayvec::ArrayVec;
 use iface_tables::route::Route;
-use ip_wire::{EthernetAddress, HardwareAddress, IpAddress, IpCidr, Ipv4Address, Ipv4Cidr};
+use ip_wire::{
+    EthernetAddress, HardwareAddress, IpAddress, IpCidr, Ipv4Address, Ipv4Cidr, Ipv6Address,
+    Ipv6Cidr,
+};
 use net_base::phy::Medium;
 use net_base::time::Instant;
 use sockets::IpEndpoint;
@@ -75,14 +78,40 @@ pub fn address(word: &str) -> Option<Ipv4Address> {
     }
 }
 
+/// An address of 32 hex digits.
+pub fn address_v6(word: &str) -> Option<Ipv6Address> {
+    let octets = octets(word)?;
+    if octets.len() != 16 {
+        return None;
+    }
+    let mut address = [0; 16];
+    address.copy_from_slice(octets.as_slice());
+    Some(Ipv6Address {
+        bits: u128::from_be_bytes(address),
+    })
+}
+
+/// An address of either family.
+pub fn any_address(word: &str) -> Option<IpAddress> {
+    match address(word) {
+        Some(address) => Some(IpAddress::Ipv4(address)),
+        None => Some(IpAddress::Ipv6(address_v6(word)?)),
+    }
+}
+
 /// An address and the length of its prefix: `c0a84501/24`.
 pub fn network(word: &str) -> Option<IpCidr> {
     let (addr, prefix_len) = word.split_once('/')?;
     let prefix_len = number(prefix_len)?;
-    if prefix_len > 32 {
-        return None;
+    match any_address(addr)? {
+        IpAddress::Ipv4(address) if prefix_len <= 32 => {
+            Some(IpCidr::Ipv4(Ipv4Cidr::new(address, prefix_len as u8)))
+        }
+        IpAddress::Ipv6(address) if prefix_len <= 128 => {
+            Some(IpCidr::Ipv6(Ipv6Cidr::new(address, prefix_len as u8)))
+        }
+        _ => None,
     }
-    Some(IpCidr::Ipv4(Ipv4Cidr::new(address(addr)?, prefix_len as u8)))
 }
 
 /// The networks that are left, at most four.
@@ -103,7 +132,7 @@ pub fn route(word: &str) -> Option<Route> {
     let (cidr, via_router) = word.split_once('>')?;
     Some(Route {
         cidr: network(cidr)?,
-        via_router: IpAddress::Ipv4(address(via_router)?),
+        via_router: any_address(via_router)?,
         preferred_until: None,
         expires_at,
     })
@@ -145,7 +174,7 @@ pub fn end(addr: &str, port: &str) -> Option<IpEndpoint>
     ensures addr { IfSome result (λ end. is_unspecified end.addr ≡ false) }
     ensures port { IfSome result (λ end. end.port ≢ 0) }
 {
-    let addr = IpAddress::Ipv4(address(addr)?);
+    let addr = any_address(addr)?;
     let port = short(port)?;
     if addr.is_unspecified() || port == 0 {
         return None;

@@ -1,5 +1,5 @@
 -- IPv6 addresses (RFC 4291), as the numbers of their octets.
-use Rattle.std.specs.Prelude.{ℕ, ◌/◌, ◌%◌, ◌^◌, ◌==◌, Bool, not, ◌||◌, if◌then◌else◌}
+use Rattle.std.specs.Prelude.{ℕ, ◌+◌, ◌/◌, ◌%◌, ◌^◌, ◌==◌, Bool, not, ◌||◌, if◌then◌else◌}
 use Rattle.ip_address.specs.declared.ipv6.Ipv6Address.{Ipv6Address}
 
 -- ::
@@ -25,3 +25,11 @@ is_unicast a = not (is_multicast a || is_unspecified a)
 -- of a group the low four bits of its second octet; 2 is the link, 14 the world (RFC 6724 3.1)
 abbrev pub scope_of : Ipv6Address → ℕ
 scope_of a = if is_multicast a then a.bits / 2 ^ 112 % 16 else if is_loopback a || is_link_local a then 2 else 14
+
+-- ff02::1
+abbrev pub all_nodes : Ipv6Address
+all_nodes = record { bits = 0xff02_0000_0000_0000_0000_0000_0000_0001 }
+
+-- of ff02::1:ff00:0/104 the group with the last 24 bits of an address (RFC 4291 2.7.1)
+abbrev pub solicited_node : Ipv6Address → Ipv6Address
+solicited_node a = record { bits = 0xff02_0000_0000_0000_0000_0001_ff00_0000 + a.bits % 2 ^ 24 }

@@ -17,6 +17,11 @@ impl Ipv6Address {
     /// The host itself, ::1.
     pub const LOCALHOST: Ipv6Address = Ipv6Address { bits: 1 };
 
+    /// The group of all hosts on a link, ff02::1.
+    pub const LINK_LOCAL_ALL_NODES: Ipv6Address = Ipv6Address {
+        bits: 0xff02_0000_0000_0000_0000_0000_0000_0001,
+    };
+
     /// Whether it is ::.
     pub const fn is_unspecified(&self) -> bool
         ensures { result ≡ spec.is_unspecified self.now }
@@ -50,6 +55,16 @@ impl Ipv6Address {
         ensures { result ≡ spec.is_unicast self.now }
     {
         !(self.is_multicast() || self.is_unspecified())
+    }
+
+    /// The group in which its host is asked for its hardware address: ff02::1:ff00:0 with the last
+    /// 24 bits of the address (RFC 4291 2.7.1).
+    pub fn solicited_node(&self) -> Ipv6Address
+        ensures { result ≡ spec.solicited_node self.now }
+    {
+        Ipv6Address {
+            bits: 0xff02_0000_0000_0000_0000_0001_ff00_0000 + self.bits % 0x100_0000,
+        }
     }
 
     /// How far it reaches: of a group the low four bits of its second octet, 2 for ::1 and for what

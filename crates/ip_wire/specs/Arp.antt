@@ -1,7 +1,7 @@
 -- ARP (RFC 826), for IPv4 over Ethernet.
 use Rattle.std.specs.Prelude.{◌≡◌, ℕ, ◌≤◌, ◌<◌, ◌^◌, ◌⊎◌, ◌==◌, List, [], ◌∷◌, ◌++◌, length, take, slice_index, if◌then◌else◌}
 use Rattle.std.specs.Int.{w16, w32, to_be_bytes}
-use Rattle.ip_wire.specs.Octets.{u16_at, u32_at, AreOctets}
+use Rattle.wire_base.specs.Octets.{u16_at, u32_at, AreOctets}
 use Rattle.ip_wire.specs.Ethernet.{address_at}
 use Rattle.ip_wire.specs.declared.arp.ArpOperation.{ArpOperation}
 use Rattle.ip_wire.specs.declared.arp.ArpOperation.TheVariants.{Request, Reply}

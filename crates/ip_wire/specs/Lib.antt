@@ -1,8 +1,6 @@
 pub mod Arp
-pub mod Checksum
 pub mod Ethernet
+pub mod IpPacket
 pub mod Ipv4Packet
-pub mod Octets
-pub mod Pseudo
 pub mod Tcp
 pub mod Udp

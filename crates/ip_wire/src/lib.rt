@@ -1,13 +1,10 @@
-//! The forms on the wire: Ethernet, ARP, IPv4, UDP and TCP, with the Internet checksum.
+//! The forms on the wire: Ethernet, ARP, IPv4, UDP and TCP.
 #![tactic(auto)]
 
 pub mod arp;
-pub mod checksum;
-pub mod emit;
 pub mod ethernet;
+pub mod ip_packet;
 pub mod ipv4_packet;
-pub mod octets;
-pub mod pseudo;
 pub mod tcp;
 pub mod udp;
 
@@ -17,6 +14,9 @@ pub use ip_address::{
     EthernetAddress, HardwareAddress, IpAddress, IpCidr, IpProtocol, IpVersion, Ipv4Address,
     Ipv4Cidr, Ipv6Address, Ipv6Cidr, cidr, hardware, ip, ipv4, ipv6, protocol,
 };
+pub use ip_packet::IpRepr;
 pub use ipv4_packet::{Ipv4Fragment, Ipv4Repr};
+pub use ipv6_wire::{Ipv6Repr, ipv6_packet};
 pub use tcp::{TcpControl, TcpRepr, TcpSeqNumber};
 pub use udp::UdpRepr;
+pub use wire_base::{checksum, emit, octets, pseudo};

@@ -1,15 +1,15 @@
 //! TCP segments (RFC 9293).
 ghost use Rattle.std.specs.Prelude.{◌≡◌, ◌==◌, ◌+◌, ◌<◌, ◌≤◌, ◌^◌, ◌++◌, length, slice_index, true};
 ghost use Rattle.std.specs.Option.{SomeIff, option_map};
-ghost use Rattle.ip_wire.specs.Checksum.{folded, word_sum};
-ghost use Rattle.ip_wire.specs.Pseudo.{pseudo};
+ghost use Rattle.wire_base.specs.Checksum.{folded, word_sum};
+ghost use Rattle.wire_base.specs.Pseudo.{pseudo};
 ghost use Rattle.ip_wire.specs.Tcp as spec;
 
-use crate::checksum::sum_with;
-use crate::emit::FrameBuffer;
-use crate::octets::{u16_at, u32_at};
-use crate::pseudo::pseudo_sum;
 use ip_address::IpAddress;
+use wire_base::checksum::sum_with;
+use wire_base::emit::FrameBuffer;
+use wire_base::octets::{u16_at, u32_at};
+use wire_base::pseudo::pseudo_sum;
 
 /// The length of a header without options, in octets.
 pub const HEADER_LEN: usize = 20;
@@ -190,7 +190,7 @@ fn ack_number_of(packet: &[u8]) -> Option<TcpSeqNumber>
 }
 
 /// Whether a segment and its pseudo-header sum up to all ones.
-#[tactic(auto, using(crate::proofs::Pseudos::before))]
+#[tactic(auto, using(crate::proofs::TransportSums::before))]
 fn sums_up(segment: &[u8], src: &IpAddress, dst: &IpAddress) -> bool
     requires { length segment.now < 2 ^ 16 }
     ensures { result ≡ (folded (word_sum (pseudo src.now dst.now 6 (length segment.now) ++ segment.now)) == 65535) }
@@ -232,7 +232,7 @@ fn header_with(sum: u16, repr: &TcpRepr) -> [u8; HEADER_LEN]
 }
 
 /// The checksum of a segment.
-#[tactic(auto, using(crate::proofs::Pseudos::segments))]
+#[tactic(auto, using(crate::proofs::TransportSums::segments))]
 fn sum_for(repr: &TcpRepr, src: &IpAddress, dst: &IpAddress, payload: &[u8]) -> u16
     requires { 20 + length payload.now < 2 ^ 16 }
     ensures { result ≡ spec.sum_of true src.now dst.now repr.now payload.now }

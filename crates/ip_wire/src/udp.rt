@@ -1,15 +1,15 @@
 //! UDP datagrams (RFC 768).
 ghost use Rattle.std.specs.Prelude.{◌≡◌, ◌==◌, ◌+◌, ◌<◌, ◌≤◌, ◌^◌, ◌++◌, length, true};
 ghost use Rattle.std.specs.Option.{SomeIff, option_map};
-ghost use Rattle.ip_wire.specs.Checksum.{folded, word_sum};
-ghost use Rattle.ip_wire.specs.Pseudo.{pseudo};
+ghost use Rattle.wire_base.specs.Checksum.{folded, word_sum};
+ghost use Rattle.wire_base.specs.Pseudo.{pseudo};
 ghost use Rattle.ip_wire.specs.Udp as spec;
 
-use crate::checksum::sum_with;
-use crate::emit::FrameBuffer;
-use crate::octets::u16_at;
-use crate::pseudo::pseudo_sum;
 use ip_address::IpAddress;
+use wire_base::checksum::sum_with;
+use wire_base::emit::FrameBuffer;
+use wire_base::octets::u16_at;
+use wire_base::pseudo::pseudo_sum;
 
 /// The length of a header, in octets.
 pub const HEADER_LEN: usize = 8;
@@ -112,7 +112,7 @@ fn is_unsummed(packet: &[u8], dst: &IpAddress) -> bool
 }
 
 /// Whether a datagram and its pseudo-header sum up to all ones.
-#[tactic(auto, using(crate::proofs::Pseudos::before))]
+#[tactic(auto, using(crate::proofs::TransportSums::before))]
 fn sums_up(datagram: &[u8], src: &IpAddress, dst: &IpAddress) -> bool
     requires { length datagram.now < 2 ^ 16 }
     ensures { result ≡ (folded (word_sum (pseudo src.now dst.now 17 (length datagram.now) ++ datagram.now)) == 65535) }
@@ -136,7 +136,7 @@ fn header_with(sum: u16, repr: &UdpRepr, payload_len: u16) -> [u8; HEADER_LEN]
 }
 
 /// The checksum of a datagram.
-#[tactic(auto, using(crate::proofs::Pseudos::datagrams))]
+#[tactic(auto, using(crate::proofs::TransportSums::datagrams))]
 fn sum_for(repr: &UdpRepr, src: &IpAddress, dst: &IpAddress, payload: &[u8]) -> u16
     requires { 8 + length payload.now < 2 ^ 16 }
     ensures { result ≡ spec.sum_of true src.now dst.now repr.now payload.now }

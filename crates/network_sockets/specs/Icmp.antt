@@ -6,8 +6,8 @@ use Rattle.control_wire.specs.declared.icmpv4.Icmpv4DstUnreachable.{Icmpv4DstUnr
 use Rattle.control_wire.specs.declared.icmpv4.Icmpv4DstUnreachable.TheVariants.{ProtoUnreachable, PortUnreachable, Unknown}
 use Rattle.control_wire.specs.declared.icmpv4.Icmpv4Repr.{Icmpv4Repr}
 use Rattle.control_wire.specs.declared.icmpv4.Icmpv4Repr.TheVariants.{EchoRequest, EchoReply, DstUnreachable, TimeExceeded}
-use Rattle.ip_wire.specs.Octets.{u16_at}
-use Rattle.ip_address.specs.Protocol.{number_of}
+use Rattle.wire_base.specs.Octets.{u16_at}
+use Rattle.ip_address.specs.Protocol.{is_ipv4, number_of}
 use Rattle.ip_address.specs.declared.ip.IpAddress.{IpAddress}
 use Rattle.ip_wire.specs.declared.ipv4_packet.Ipv4Repr.{Ipv4Repr}
 use Rattle.socket_base.specs.Queue.{Queued, first_of, put, popped}
@@ -98,9 +98,9 @@ is_echo octets = nat_le 8 (length octets) && nat_lt (length octets) 65536 && ((t
 abbrev pub sent : IcmpSocket → IpAddress × List ℕ → IpAddress → Sent
 sent s p src = record { src_addr = src; dst_addr = p.0; hop_limit = s.hop_limit; repr = (icmpv4_in p.1).0; payload = (icmpv4_in p.1).1 }
 
--- a message that waits to be sent, if it is an echo message and has a source
+-- a message that waits to be sent, if it is an echo message to an IPv4 address and has a source
 abbrev pub sent_if : (IpAddress → Option IpAddress) → IcmpSocket → IpAddress × List ℕ → Option Sent
-sent_if source s p = cond (is_echo p.1) (option_map (sent s p) (source_of source None p.0)) None
+sent_if source s p = cond (is_ipv4 p.0 && is_echo p.1) (option_map (sent s p) (source_of source None p.0)) None
 
 -- the first one to be sent, if it is an echo message and has a source
 abbrev pub offered : (IpAddress → Option IpAddress) → IcmpSocket → Option Sent

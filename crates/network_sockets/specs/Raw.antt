@@ -1,7 +1,9 @@
 -- Raw sockets, which send and receive whole packets of one protocol.
 use Rattle.std.specs.Prelude.{ℕ, ◌/◌, ◌==◌, ◌&&◌, nat_le, Bool, true, false, cond, is_none, List, ◌++◌, length, slice_index, slice_range, Option, Some, None}
 use Rattle.std.specs.Option.{option_and_then}
-use Rattle.ip_wire.specs.Ipv4Packet.{header_len, total_len, header_in, header_text, whole}
+use Rattle.ip_wire.specs.Ipv4Packet.{header_len, total_len, header_in}
+use Rattle.ip_wire.specs.IpPacket.{header_text}
+use Rattle.ip_wire.specs.declared.ip_packet.IpRepr.{IpRepr}
 use Rattle.ip_address.specs.Protocol.{number_of}
 use Rattle.ip_wire.specs.declared.ipv4_packet.Ipv4Repr.{Ipv4Repr}
 use Rattle.ip_address.specs.declared.protocol.IpProtocol.{IpProtocol}
@@ -39,12 +41,12 @@ is_same_version Ipv6 Ipv6 = true
 abbrev pub accepts : RawSocket → IpVersion → IpProtocol → Bool
 accepts s version protocol = is_same_version s.version version && (number_of s.protocol == number_of protocol)
 
--- a packet as it is kept: its header written anew, of twenty octets and for a whole packet, and its payload
-abbrev pub kept : Bool → Ipv4Repr → List ℕ → List ℕ
-kept summed header payload = header_text summed header whole ++ payload
+-- a packet as it is kept: its header written anew, without options and for a whole packet, and its payload
+abbrev pub kept : Bool → IpRepr → List ℕ → List ℕ
+kept summed header payload = header_text summed header ++ payload
 
 -- a packet has come
-abbrev pub delivered : Bool → Ipv4Repr → List ℕ → RawSocket → RawSocket
+abbrev pub delivered : Bool → IpRepr → List ℕ → RawSocket → RawSocket
 delivered summed header payload s = record s { rx = put s.rx tt (kept summed header payload) }
 
 -- the first one that came was read

@@ -8,7 +8,7 @@ ghost use Rattle.network_sockets.specs.Icmp as spec;
 
 use control_wire::icmpv4::{Icmpv4DstUnreachable, Icmpv4Repr};
 use ip_wire::octets::u16_at;
-use ip_wire::{IpAddress, IpProtocol, Ipv4Repr};
+use ip_wire::{IpAddress, IpProtocol, IpVersion, Ipv4Repr};
 use socket_base::buffers::Buffers;
 use socket_base::context::{SocketContext, source_address};
 use socket_base::poll_at::PollAt;
@@ -140,12 +140,15 @@ impl<L: Drop> SocketOf<L> {
         self.buffers.poll_at(PollAt::Now)
     }
 
-    /// The first message to be sent, if it is an echo message and has a source.
+    /// The first message to be sent, if it is an echo message to an IPv4 address and has a source.
     #[inline(always)]
     fn peek<C: SocketContext>(&self, context: &C) -> Option<Packet<'_>>
         ensures { option_map spec.shown result ≡ spec.offered (C.source_for context.now) self.now }
     {
         let (remote, message) = self.buffers.first()?;
+        if remote.version() == IpVersion::Ipv6 {
+            return None;
+        }
         let (repr, payload) = parse_echo(message)?;
         let src_addr = source_address(context, None, remote)?;
         Some(Packet {
@@ -171,7 +174,7 @@ impl<L: Drop> SocketOf<L> {
 
     /// The first message to be sent, if there is one. Its source is the address that the context
     /// chooses. Without a source of the peer's family the message is dropped, and none is offered;
-    /// so it is if it isn't an echo message. Its checksum isn't tested.
+    /// so it is if it isn't an echo message, or goes to an IPv6 address, which isn't served yet. Its checksum isn't tested.
     pub fn offer<C: SocketContext>(&mut self, context: &C) -> Option<Packet<'_>>
         ensures* settles { sem 𝓛 (Settles L.row self.entry (C.source_for context.now)) }
         ensures value { option_map spec.shown result ≡ spec.offered (C.source_for context.now) self.old }

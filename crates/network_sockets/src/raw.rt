@@ -1,10 +1,11 @@
 //! Raw sockets, which send and receive whole packets of one protocol, with their headers.
-ghost use Rattle.std.specs.Prelude.{◌≡◌, ◌+◌, ◌<◌, ◌≤◌, ◌^◌, length, is_ok};
+ghost use Rattle.std.specs.Prelude.{◌≡◌, length, is_ok};
 ghost use Rattle.std.specs.Option.{option_map};
+ghost use Rattle.ip_wire.specs.IpPacket.{TellsLength};
 ghost use Rattle.socket_base.specs.Queue.{is_room, first_of};
 ghost use Rattle.network_sockets.specs.Raw as spec;
 
-use ip_wire::{IpProtocol, IpVersion, Ipv4Fragment, Ipv4Repr};
+use ip_wire::{IpProtocol, IpRepr, IpVersion, Ipv4Fragment, Ipv4Repr};
 use socket_base::buffers::Buffers;
 use socket_base::poll_at::PollAt;
 use socket_base::queue::{Full, Queue};
@@ -65,15 +66,22 @@ impl<L: Drop> SocketOf<L> {
         self.version == version && self.protocol.number() == protocol.number()
     }
 
-    /// Takes a packet, of at most 65,535 octets with a header of 20. The header is written anew,
-    /// for a whole packet; its checksum is 0 where it isn't `summed`. Without room for the packet,
-    /// it is dropped.
-    pub fn process(&mut self, header: &Ipv4Repr, payload: &[u8], summed: bool)
-        requires { 20 + header.now.payload_len < 2 ^ 16 }
+    /// Takes a packet, of at most 65,535 octets: with a header of 20 octets over IPv4, behind its header
+    /// over IPv6. The header is written anew, for a whole packet; the checksum of IPv4's is 0 where it
+    /// isn't `summed`. Without room for the packet, it is dropped.
+    pub fn process(&mut self, header: &IpRepr, payload: &[u8], summed: bool)
+        requires { TellsLength header.now }
         ensures { self.new ≡ spec.delivered summed header.now payload.now self.old }
     {
-        let text = header.octets(&Ipv4Fragment::WHOLE, summed);
-        self.buffers.process_parts((), &text, payload);
+        match header {
+            IpRepr::Ipv4(header) => {
+                let text = header.octets(&Ipv4Fragment::WHOLE, summed);
+                self.buffers.process_parts((), &text, payload);
+            }
+            IpRepr::Ipv6(header) => {
+                self.buffers.process_parts((), &header.octets(), payload);
+            }
+        }
     }
 
     /// The first packet that came and wasn't read, if there is one.

@@ -1,8 +1,8 @@
 use Rattle.std.proofs.Common.{ap, sym, ◌∙◌}
 use Rattle.host_machine.specs.declared.command.Command.TheVariants as command
 use Rattle.host_machine.specs.declared.command.Answer.TheVariants as answer
-use Rattle.iface_tables.specs.Route.{first, ipv4_gateway, is_ipv4_gateway, old_or_full, with_default, without_first}
-use Rattle.host_machine.specs.Step.{UpdatedIpAddrs, TookHardwareAddr, TookReassemblyTimeout, TookAnyIp, UpdatedRoutes, AddedDefaultIpv4Route, RemovedDefaultIpv4Route, PolledMaintenance, PolledAt, PolledDelay}
+use Rattle.iface_tables.specs.Route.{first, ipv4_gateway, ipv6_gateway, is_ipv4_gateway, is_ipv6_gateway, old_or_full, with_default, without_first}
+use Rattle.host_machine.specs.Step.{UpdatedIpAddrs, TookHardwareAddr, TookReassemblyTimeout, TookAnyIp, UpdatedRoutes, AddedDefaultIpv4Route, RemovedDefaultIpv4Route, AddedDefaultIpv6Route, RemovedDefaultIpv6Route, PolledMaintenance, PolledAt, PolledDelay}
 use Rattle.host_machine.specs.Host.{Host, at}
 use Rattle.host_machine.specs.Polling.{maintained}
 use Rattle.interface.specs.Stands.{StandsFor}
@@ -56,6 +56,16 @@ pub returns-in-RemoveDefaultIpv4Route : goal.returns-in-RemoveDefaultIpv4Route
 returns-in-RemoveDefaultIpv4Route g c = λ H h.
     rw c.in-RemoveDefaultIpv4Route.is (untold g.D.Device.tells g.O.Owner.did c.args.device.now c.args.owner.now command.RemoveDefaultIpv4Route (answer.RemoveDefaultIpv4Route c.remove_default_ipv4_route.result) H (record H { routes = without_first is_ipv4_gateway H.routes })
     (StandsFor c.remove_default_ipv4_route.new.interface c.args.sockets.now) (g.met.D.Device.tells_nothing c.args.device.now) (rw (c.remove_default_ipv4_route.ensures.answer c.args.sockets.now ∙ ap (λ (K : Host). first is_ipv4_gateway K.routes) (sym h.same)) RemovedDefaultIpv4Route) (c.remove_default_ipv4_route.ensures.table c.args.sockets.now H h))
+
+pub returns-in-AddDefaultIpv6Route : goal.returns-in-AddDefaultIpv6Route
+returns-in-AddDefaultIpv6Route g c = λ H h.
+    rw c.in-AddDefaultIpv6Route.is (untold g.D.Device.tells g.O.Owner.did c.args.device.now c.args.owner.now (command.AddDefaultIpv6Route c.in-AddDefaultIpv6Route.gateway) (answer.AddDefaultIpv6Route c.add_default_ipv6_route.result) H (record H { routes = with_default is_ipv6_gateway H.routes (ipv6_gateway c.in-AddDefaultIpv6Route.gateway) })
+    (StandsFor c.add_default_ipv6_route.new.interface c.args.sockets.now) (g.met.D.Device.tells_nothing c.args.device.now) (rw (c.add_default_ipv6_route.ensures.answer c.args.sockets.now ∙ ap (λ (K : Host). old_or_full is_ipv6_gateway K.routes) (sym h.same)) AddedDefaultIpv6Route) (c.add_default_ipv6_route.ensures.table c.args.sockets.now H h))
+
+pub returns-in-RemoveDefaultIpv6Route : goal.returns-in-RemoveDefaultIpv6Route
+returns-in-RemoveDefaultIpv6Route g c = λ H h.
+    rw c.in-RemoveDefaultIpv6Route.is (untold g.D.Device.tells g.O.Owner.did c.args.device.now c.args.owner.now command.RemoveDefaultIpv6Route (answer.RemoveDefaultIpv6Route c.remove_default_ipv6_route.result) H (record H { routes = without_first is_ipv6_gateway H.routes })
+    (StandsFor c.remove_default_ipv6_route.new.interface c.args.sockets.now) (g.met.D.Device.tells_nothing c.args.device.now) (rw (c.remove_default_ipv6_route.ensures.answer c.args.sockets.now ∙ ap (λ (K : Host). first is_ipv6_gateway K.routes) (sym h.same)) RemovedDefaultIpv6Route) (c.remove_default_ipv6_route.ensures.table c.args.sockets.now H h))
 
 pub returns-in-SetAnyIp : goal.returns-in-SetAnyIp
 returns-in-SetAnyIp g c = λ H h.

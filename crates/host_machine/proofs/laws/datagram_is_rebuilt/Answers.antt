@@ -1,7 +1,7 @@
 use Rattle.std.proofs.Common.{[], ◌∷◌, refl, sym, ap, None, lit≤}
 use Rattle.std.specs.FinMap as map
 use Rattle.std.specs.Prelude.{pos}
-use Rattle.ip_wire.specs.Checksum.{word_sum}
+use Rattle.wire_base.specs.Checksum.{word_sum}
 use Rattle.net_base.specs.Device.{Frame}
 use Rattle.iface_tables.specs.Neighbor.{Neighbors}
 use Rattle.fragmentation.specs.Slots.{left_at}

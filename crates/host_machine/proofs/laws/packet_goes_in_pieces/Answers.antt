@@ -1,5 +1,5 @@
 use Rattle.std.proofs.Common.{[], ◌∷◌, false, refl, lit≤}
-use Rattle.ip_wire.specs.Checksum.{word_sum}
+use Rattle.wire_base.specs.Checksum.{word_sum}
 use Rattle.ip_wire.specs.Ipv4Packet.{header_with, front, back}
 use Rattle.fragmentation.specs.Cuts.{piece_of}
 use Rattle.host_machine.specs.Note.{OfCuts, Cut, PieceSent}
@@ -14,7 +14,7 @@ pub returns : goal.returns
 unfolding word_sum header_with front back
 returns c = record {
   first = ToSomebody (OfCuts (Cut example.datagram) ∷ OfCuts (PieceSent (piece_of example.datagram example.one)) ∷ []) refl (ByHop host.sender refl (OnLink refl refl)
-      (Known host.sender_hardware is_known (InPieces (piece_of example.datagram example.one) (piece_of example.datagram example.two ∷ []) (lit≤ tt) (lit≤ tt) refl
+      (Known host.sender_hardware is_known (InPieces example.ten_to_another (piece_of example.datagram example.one) (piece_of example.datagram example.two ∷ []) refl (lit≤ tt) refl refl
       (record { source_addr = lit≤ tt; destination_addr = lit≤ tt; identification = lit≤ tt; payload = lit≤ tt }) refl refl refl refl))) refl;
   waits = record {
     changed = false;

@@ -8,10 +8,10 @@ use Rattle.iface_receive.proofs.ipv4.process_whole.Goals as goal
 pub returns-then-not-is_for_host : goal.returns-then-not-is_for_host
 returns-then-not-is_for_host c =
     unanswered c.requires.empty (λ slots. packet_for_others c.args.source (host_in c.args.context.now slots c.args.sockets.now) (host_in c.args.context.now slots c.deliver-by_raw.new.sockets) c.args.header.now c.args.payload.now
-    (sym c.is_for_host.ensures ∙ c.if-not-is_for_host.true) (ap (λ H. with_slots H slots) c.deliver-by_raw.ensures.heard))
+    (rw c.dst_addr.ensures at (sym c.is_for_host.ensures ∙ c.if-not-is_for_host.true)) (ap (λ H. with_slots H slots) c.deliver-by_raw.ensures.heard))
 
 pub returns : goal.returns
 returns c = by_rule c.process_protocol.ensures (λ slots reply notes taken takes.
-    packet_accepted c.args.source (host_in c.args.context.now slots c.args.sockets.now) (host_in c.args.context.now slots c.deliver-by_raw.new.sockets) (host_in c.heard_from.new.context slots c.deliver-by_raw.new.sockets) taken
-    c.args.header.now c.args.payload.now c.deliver-by_raw.result reply notes (sym c.is_for_host.ensures ∙ c.if-not-is_for_host.false)
-    c.deliver-by_raw.ensures.taken (ap (λ H. with_slots H slots) c.deliver-by_raw.ensures.heard) (c.heard_from.ensures slots c.deliver-by_raw.new.sockets) takes)
+    packet_accepted c.args.source (host_in c.args.context.now slots c.args.sockets.now) (host_in c.args.context.now slots c.deliver-by_raw.new.sockets) (host_in c.renew_sender.new.context slots c.deliver-by_raw.new.sockets) taken
+    c.args.header.now c.args.payload.now c.deliver-by_raw.result reply notes (rw c.dst_addr.ensures at (sym c.is_for_host.ensures ∙ c.if-not-is_for_host.false))
+    c.deliver-by_raw.ensures.taken (ap (λ H. with_slots H slots) c.deliver-by_raw.ensures.heard) (c.renew_sender.ensures slots c.deliver-by_raw.new.sockets) takes)

@@ -2,7 +2,7 @@ use Rattle.std.proofs.Common.{Bool, map, ap, ◌∙◌}
 use Rattle.net_base.specs.Checksum.{is_tx}
 use Rattle.socket_set.specs.SocketSet.{with_places}
 use Rattle.host_machine.specs.Delivery.{to_this}
-use Rattle.host_machine.specs.Raw.{accepts, delivered}
+use Rattle.host_machine.specs.Raw.{delivered, takes}
 use Rattle.iface_send.specs.Stands.{host_of}
 use Rattle.iface_receive.proofs.Each.{one_heard, one_tested, all_mapped, all_tested}
 use Rattle.iface_receive.proofs.raw.deliver.Goals as goal
@@ -22,5 +22,5 @@ pub returns-clause-heard : goal.returns-clause-heard
 returns-clause-heard c =
     ap (host_of c.args.context.now) (c.loop-index.invariant.0 ∙ ap (with_places c.args.sockets.now)
     (all_mapped _ c.args.sockets.now.places c.loop-index.index c.places-index-end.result c.places-index-end.ensures c.loop-index.auto.index-end c.loop-index-test.false
-    ∙ ap (λ (summed : Bool). map (to_this (accepts c.args.header.now.next_header) (delivered summed c.args.header.now c.args.payload.now)) c.args.sockets.now.places)
+    ∙ ap (λ (summed : Bool). map (to_this (takes c.args.header.now) (delivered summed c.args.header.now c.args.payload.now)) c.args.sockets.now.places)
     (c.tx-summed.ensures ∙ ap (λ x. is_tx x.checksum.ipv4) c.capabilities.ensures)))

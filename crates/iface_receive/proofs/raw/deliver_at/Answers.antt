@@ -1,4 +1,4 @@
-use Rattle.ip_address.specs.declared.protocol.IpVersion.TheVariants.{Ipv4}
+use Rattle.ip_wire.specs.IpPacket.{next_header, version_of}
 use Rattle.sockets.specs.Kinds.{down_raw}
 use Rattle.network_sockets.specs.Raw as raw
 use Rattle.host_machine.specs.Raw.{delivered}
@@ -7,5 +7,5 @@ use Rattle.iface_receive.proofs.raw.deliver_at.Goals as goal
 
 pub returns-in_default-clause-heard : goal.returns-in_default-clause-heard
 returns-in_default-clause-heard c =
-    unheard down_raw (λ s. raw.accepts s Ipv4 c.args.header.now.next_header) (delivered c.args.summed c.args.header.now c.args.payload.now)
+    unheard down_raw (λ s. raw.accepts s (version_of c.args.header.now) (next_header c.args.header.now)) (delivered c.args.summed c.args.header.now c.args.payload.now)
     c.args.sockets.now c.args.index c.in_default.ensures.value

@@ -1,0 +1,6 @@
+//! Which of its own addresses a host sends from (RFC 6724).
+#![tactic(auto)]
+
+pub mod ipv6;
+
+pub use ipv6::{get_source_address_ipv6, ipv6_addr};

@@ -1,0 +1,3 @@
+pub mod Icmpv6
+pub mod Ndisc
+pub mod NdiscOption

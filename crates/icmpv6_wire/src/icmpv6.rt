@@ -1,0 +1,417 @@
+//! ICMP for IPv6 (RFC 4443): echo messages, errors with their quotations, and the neighbour messages.
+ghost use Rattle.std.specs.Prelude.{◌≡◌, ◌==◌, ◌+◌, ◌%◌, ◌<◌, ◌≤◌, ◌^◌, ◌++◌, length, true};
+ghost use Rattle.std.specs.Option.{SomeIff, option_map};
+ghost use Rattle.std.specs.Cmp.Rules.{comparing};
+ghost use Rattle.std.proofs.Common.{rules};
+ghost use Rattle.wire_base.specs.Checksum.{folded, word_sum};
+ghost use Rattle.icmpv6_wire.specs.Icmpv6 as spec;
+
+use crate::ndisc::NdiscRepr;
+use ip_address::IpAddress;
+use ipv6_wire::ipv6_packet::Ipv6Repr;
+use wire_base::checksum::sum_with;
+use wire_base::emit::FrameBuffer;
+use wire_base::octets::{u16_at, u32_at};
+use wire_base::pseudo::pseudo_sum;
+
+/// The length of a message's header, in octets.
+pub const HEADER_LEN: usize = 8;
+
+/// Why a destination is unreachable. Reasons are equal if their codes are, so that
+/// [`Icmpv6DstUnreachable::Unknown`] of 4 is [`Icmpv6DstUnreachable::PortUnreachable`].
+#[derive(Clone, Copy, Debug)]
+pub enum Icmpv6DstUnreachable {
+    /// Nobody there listens at this port.
+    PortUnreachable,
+    /// Another reason, by its code.
+    Unknown(u8),
+}
+
+impl Icmpv6DstUnreachable {
+    /// The reason of a code (RFC 4443 3.1).
+    pub const fn from_number(code: u8) -> Icmpv6DstUnreachable
+        ensures { result ≡ spec.unreachable_of code }
+    {
+        match code {
+            4 => Icmpv6DstUnreachable::PortUnreachable,
+            other => Icmpv6DstUnreachable::Unknown(other),
+        }
+    }
+
+    /// The code of a reason.
+    pub const fn number(self) -> u8
+        ensures { result ≡ spec.unreachable_code self }
+    {
+        match self {
+            Icmpv6DstUnreachable::PortUnreachable => 4,
+            Icmpv6DstUnreachable::Unknown(other) => other,
+        }
+    }
+}
+
+/// Equal exactly if the codes are.
+impl PartialEq for Icmpv6DstUnreachable {
+    ghost eq = { spec.is_same_unreachable };
+
+    ghost laws = { Prim.search (comparing, rules) };
+
+    fn eq(&self, other: &Icmpv6DstUnreachable) -> bool {
+        self.number() == other.number()
+    }
+}
+
+impl Eq for Icmpv6DstUnreachable {
+    ghost laws = { Prim.search (comparing, rules) };
+}
+
+/// What is wrong with a packet. Problems are equal if their codes are, so that
+/// [`Icmpv6ParamProblem::Unknown`] of 1 is [`Icmpv6ParamProblem::UnrecognizedNxtHdr`].
+#[derive(Clone, Copy, Debug)]
+pub enum Icmpv6ParamProblem {
+    /// Nobody there knows this next header.
+    UnrecognizedNxtHdr,
+    /// Nobody there knows this option.
+    UnrecognizedOption,
+    /// Another problem, by its code.
+    Unknown(u8),
+}
+
+impl Icmpv6ParamProblem {
+    /// The problem of a code (RFC 4443 3.4).
+    pub const fn from_number(code: u8) -> Icmpv6ParamProblem
+        ensures { result ≡ spec.problem_of code }
+    {
+        match code {
+            1 => Icmpv6ParamProblem::UnrecognizedNxtHdr,
+            2 => Icmpv6ParamProblem::UnrecognizedOption,
+            other => Icmpv6ParamProblem::Unknown(other),
+        }
+    }
+
+    /// The code of a problem.
+    pub const fn number(self) -> u8
+        ensures { result ≡ spec.problem_code self }
+    {
+        match self {
+            Icmpv6ParamProblem::UnrecognizedNxtHdr => 1,
+            Icmpv6ParamProblem::UnrecognizedOption => 2,
+            Icmpv6ParamProblem::Unknown(other) => other,
+        }
+    }
+}
+
+/// Equal exactly if the codes are.
+impl PartialEq for Icmpv6ParamProblem {
+    ghost eq = { spec.is_same_problem };
+
+    ghost laws = { Prim.search (comparing, rules) };
+
+    fn eq(&self, other: &Icmpv6ParamProblem) -> bool {
+        self.number() == other.number()
+    }
+}
+
+impl Eq for Icmpv6ParamProblem {
+    ghost laws = { Prim.search (comparing, rules) };
+}
+
+/// The values of a message, but its data: what an echo message carries, or what is quoted behind
+/// the header of the packet that brought an error. A neighbour message has none.
+#[derive(Clone, Copy, Debug, PartialEq, Eq)]
+pub enum Icmpv6Repr {
+    EchoRequest {
+        ident: u16,
+        seq_no: u16,
+    },
+    EchoReply {
+        ident: u16,
+        seq_no: u16,
+    },
+    DstUnreachable {
+        reason: Icmpv6DstUnreachable,
+        /// The header of the packet that didn't reach its destination.
+        header: Ipv6Repr,
+    },
+    PktTooBig {
+        /// How long a packet may be on the next link, in octets.
+        mtu: u32,
+        /// The header of the packet that was longer.
+        header: Ipv6Repr,
+    },
+    TimeExceeded {
+        /// 0 in transit, 1 in reassembly.
+        code: u8,
+        /// The header of the packet whose time was exceeded.
+        header: Ipv6Repr,
+    },
+    ParamProblem {
+        reason: Icmpv6ParamProblem,
+        /// Where in the packet the problem is, in octets.
+        pointer: u32,
+        /// The header of the packet that has it.
+        header: Ipv6Repr,
+    },
+    /// A solicitation or an advertisement of a neighbour (RFC 4861).
+    Ndisc(NdiscRepr),
+}
+
+impl Icmpv6Repr {
+    /// The message that the octets are, and its data as a part of them. The octets have to be
+    /// fewer than 65,536. `src` and `dst` are the packet's addresses.
+    ///
+    /// `None` exactly if they are fewer than 8, if they are an echo or neighbour message with a
+    /// code other than 0, an error that quotes no IPv6 header, a neighbour message without a
+    /// target or with wrong options (RFC 4861 7.1), or a message of another type, or if, where
+    /// `checked`, the checksum over the pseudo-header and all of them is wrong (RFC 4443 2.3).
+    #[inline(always)]
+    pub fn parse<'a>(
+        octets: &'a [u8],
+        src: &IpAddress,
+        dst: &IpAddress,
+        checked: bool,
+    ) -> Option<(Icmpv6Repr, &'a [u8])>
+        requires { length octets.now < 2 ^ 16 }
+        ensures { SomeIff (option_map spec.parts result) (spec.IsIcmpv6 checked src.now dst.now octets.now) (spec.icmpv6_in octets.now) }
+    {
+        if octets.len() < HEADER_LEN {
+            return None;
+        }
+        if checked && !sums_up(octets, src, dst) {
+            return None;
+        }
+        parse_body(octets)
+    }
+
+    /// Appends the message with its data; a neighbour message is to have none. The message has to
+    /// have at most 65,535 octets. `src` and `dst` are the packet's addresses. Its checksum is 0
+    /// where it isn't `summed`. A quoted header is emitted anew.
+    pub fn emit(
+        &self,
+        src: &IpAddress,
+        dst: &IpAddress,
+        payload: &[u8],
+        summed: bool,
+        out: &mut FrameBuffer,
+    )
+        requires fits { spec.header_len self.now + length payload.now < 2 ^ 16 }
+        requires room { length out.old + spec.header_len self.now + length payload.now ≤ 1514 }
+        ensures items { out.new ≡ out.old ++ spec.text summed src.now dst.now self.now payload.now }
+        ensures len { length out.new ≡ length out.old + spec.header_len self.now + length payload.now }
+    {
+        self.emit_header(src, dst, payload, summed, out);
+        out.append(payload);
+    }
+
+    /// Appends the message up to its data, as [`Icmpv6Repr::emit`] does, and not the data.
+    #[inline(always)]
+    pub fn emit_header(
+        &self,
+        src: &IpAddress,
+        dst: &IpAddress,
+        payload: &[u8],
+        summed: bool,
+        out: &mut FrameBuffer,
+    )
+        requires fits { spec.header_len self.now + length payload.now < 2 ^ 16 }
+        requires room { length out.old + spec.header_len self.now ≤ 1514 }
+        ensures items { out.new ++ payload.now ≡ out.old ++ spec.text summed src.now dst.now self.now payload.now }
+        ensures len { length out.new ≡ length out.old + spec.header_len self.now }
+    {
+        match self {
+            Icmpv6Repr::EchoRequest { .. } | Icmpv6Repr::EchoReply { .. } => {
+                emit_parts(self, &[], &[], payload, src, dst, summed, out);
+            }
+            Icmpv6Repr::DstUnreachable { header, .. }
+            | Icmpv6Repr::PktTooBig { header, .. }
+            | Icmpv6Repr::TimeExceeded { header, .. }
+            | Icmpv6Repr::ParamProblem { header, .. } => {
+                emit_parts(self, &header.octets(), &[], payload, src, dst, summed, out);
+            }
+            Icmpv6Repr::Ndisc(message) => {
+                let target = message.target_octets();
+                match message.option_octets() {
+                    Some(option) => {
+                        emit_parts(self, &target, &option, payload, src, dst, summed, out);
+                    }
+                    None => emit_parts(self, &target, &[], payload, src, dst, summed, out),
+                }
+            }
+        }
+    }
+
+    /// The length of the message without its data, in octets.
+    pub const fn header_len(&self) -> usize
+        ensures value { result ≡ spec.header_len self.now }
+        ensures small { result ≤ 48 }
+    {
+        match self {
+            Icmpv6Repr::EchoRequest { .. } | Icmpv6Repr::EchoReply { .. } => HEADER_LEN,
+            Icmpv6Repr::DstUnreachable { .. }
+            | Icmpv6Repr::PktTooBig { .. }
+            | Icmpv6Repr::TimeExceeded { .. }
+            | Icmpv6Repr::ParamProblem { .. } => 48,
+            Icmpv6Repr::Ndisc(message) => message.message_len(),
+        }
+    }
+}
+
+/// Whether a message and its pseudo-header sum up to all ones.
+#[tactic(auto, using(crate::proofs::Icmpv6Sums::before))]
+fn sums_up(octets: &[u8], src: &IpAddress, dst: &IpAddress) -> bool
+    requires { length octets.now < 2 ^ 16 }
+    ensures { result ≡ (folded (word_sum (spec.pseudo_header src.now dst.now (length octets.now) ++ octets.now)) == 65535) }
+{
+    let start = pseudo_header_sum(src, dst, octets.len() as u16);
+    sum_with(start, octets) == 0xffff
+}
+
+/// The folded sum of the pseudo-header of a message of this length, in octets.
+fn pseudo_header_sum(src: &IpAddress, dst: &IpAddress, len: u16) -> u16
+    ensures { result ≡ folded (word_sum (spec.pseudo_header src.now dst.now len)) }
+{
+    pseudo_sum(src, dst, 58, len)
+}
+
+/// The first eight octets of a message, with the given checksum.
+#[inline(always)]
+#[tactic(auto, unfolding(crate::specs::Icmpv6::head_with))]
+fn head_with(sum: u16, repr: &Icmpv6Repr) -> [u8; HEADER_LEN]
+    ensures { result ≡ spec.head_with sum repr.now }
+{
+    let [c0, c1] = sum.to_be_bytes();
+    match repr {
+        Icmpv6Repr::EchoRequest { ident, seq_no } => {
+            let [i0, i1] = ident.to_be_bytes();
+            let [s0, s1] = seq_no.to_be_bytes();
+            [128, 0, c0, c1, i0, i1, s0, s1]
+        }
+        Icmpv6Repr::EchoReply { ident, seq_no } => {
+            let [i0, i1] = ident.to_be_bytes();
+            let [s0, s1] = seq_no.to_be_bytes();
+            [129, 0, c0, c1, i0, i1, s0, s1]
+        }
+        Icmpv6Repr::DstUnreachable { reason, .. } => [1, reason.number(), c0, c1, 0, 0, 0, 0],
+        Icmpv6Repr::PktTooBig { mtu, .. } => {
+            let [m0, m1, m2, m3] = mtu.to_be_bytes();
+            [2, 0, c0, c1, m0, m1, m2, m3]
+        }
+        Icmpv6Repr::TimeExceeded { code, .. } => [3, *code, c0, c1, 0, 0, 0, 0],
+        Icmpv6Repr::ParamProblem {
+            reason,
+            pointer,
+            ..
+        } => {
+            let [p0, p1, p2, p3] = pointer.to_be_bytes();
+            [4, reason.number(), c0, c1, p0, p1, p2, p3]
+        }
+        Icmpv6Repr::Ndisc(message) => {
+            let flags = message.flag_octet();
+            [message.message_type(), 0, c0, c1, flags, 0, 0, 0]
+        }
+    }
+}
+
+/// Appends a message up to its data: its first eight octets, and its body in two parts.
+fn emit_parts(
+    message: &Icmpv6Repr,
+    first: &[u8],
+    second: &[u8],
+    payload: &[u8],
+    src: &IpAddress,
+    dst: &IpAddress,
+    summed: bool,
+    out: &mut FrameBuffer,
+)
+    requires body { first.now ++ second.now ≡ spec.body message.now }
+    requires body_len { 8 + length first.now + length second.now ≡ spec.header_len message.now }
+    requires first_even { length first.now % 2 ≡ 0 }
+    requires second_even { length second.now % 2 ≡ 0 }
+    requires fits { spec.header_len message.now + length payload.now < 2 ^ 16 }
+    requires room { length out.old + spec.header_len message.now ≤ 1514 }
+    ensures items { out.new ++ payload.now ≡ out.old ++ spec.text summed src.now dst.now message.now payload.now }
+    ensures len { length out.new ≡ length out.old + spec.header_len message.now }
+{
+    let sum = if summed {
+        sum_of(message, first, second, payload, src, dst)
+    } else {
+        0
+    };
+    out.append(&head_with(sum, message));
+    out.append(first);
+    out.append(second);
+}
+
+/// The checksum of a message whose body has these two parts.
+fn sum_of(
+    message: &Icmpv6Repr,
+    first: &[u8],
+    second: &[u8],
+    payload: &[u8],
+    src: &IpAddress,
+    dst: &IpAddress,
+) -> u16
+    requires body { first.now ++ second.now ≡ spec.body message.now }
+    requires body_len { 8 + length first.now + length second.now ≡ spec.header_len message.now }
+    requires first_even { length first.now % 2 ≡ 0 }
+    requires second_even { length second.now % 2 ≡ 0 }
+    requires fits { spec.header_len message.now + length payload.now < 2 ^ 16 }
+    ensures { result ≡ spec.sum_of true src.now dst.now message.now payload.now }
+{
+    let len = (message.header_len() + payload.len()) as u16;
+    let start = pseudo_header_sum(src, dst, len);
+    let head = sum_with(start, &head_with(0, message));
+    0xffff - sum_with(sum_with(sum_with(head, first), second), payload)
+}
+
+/// The message by its type, and its data.
+#[inline(always)]
+fn parse_body(octets: &[u8]) -> Option<(Icmpv6Repr, &[u8])>
+    requires { 8 ≤ length octets.now }
+    ensures { SomeIff (option_map spec.parts result) (spec.IsBody octets.now) (spec.icmpv6_in octets.now) }
+{
+    let ident = u16_at(octets, 4);
+    let seq_no = u16_at(octets, 6);
+    match (octets[0], octets[1]) {
+        (128, 0) => Some((Icmpv6Repr::EchoRequest { ident, seq_no }, &octets[8..])),
+        (129, 0) => Some((Icmpv6Repr::EchoReply { ident, seq_no }, &octets[8..])),
+        (1..=4, _) => parse_error(octets),
+        (135 | 136, _) => {
+            let message = NdiscRepr::parse(octets)?;
+            Some((Icmpv6Repr::Ndisc(message), &octets[octets.len()..]))
+        }
+        _ => None,
+    }
+}
+
+/// An error by its type, and its data.
+#[inline(always)]
+fn parse_error(octets: &[u8]) -> Option<(Icmpv6Repr, &[u8])>
+    requires long { 8 ≤ length octets.now }
+    ensures { SomeIff (option_map spec.parts result) (spec.IsError octets.now) (spec.error_in octets.now) }
+{
+    let (header, data) = Ipv6Repr::parse_quoted(&octets[8..])?;
+    let code = octets[1];
+    let repr = match octets[0] {
+        1 => Icmpv6Repr::DstUnreachable {
+            reason: Icmpv6DstUnreachable::from_number(code),
+            header,
+        },
+        2 => Icmpv6Repr::PktTooBig {
+            mtu: u32_at(octets, 4),
+            header,
+        },
+        3 => Icmpv6Repr::TimeExceeded { code, header },
+        4 => Icmpv6Repr::ParamProblem {
+            reason: Icmpv6ParamProblem::from_number(code),
+            pointer: u32_at(octets, 4),
+            header,
+        },
+        _ => return None,
+    };
+    Some((repr, data))
+}
+
+/// A message that is emitted is read again.
+pub fn read_again()
+    ensures { spec.ReadAgain }
+{}

@@ -1,0 +1,5 @@
+pub mod Failures
+pub mod HopByHopAgain
+pub mod Ipv6Again
+pub mod Options
+pub mod Written

@@ -1,0 +1,2 @@
+pub mod HopByHop
+pub mod Ipv6Packet

@@ -1,0 +1,224 @@
+//! The hop-by-hop options of IPv6 (RFC 8200 4.2, 4.3), and the router alert (RFC 2711).
+ghost use Rattle.std.specs.Prelude.{◌≡◌, ◌+◌, ◌%◌, ◌≤◌, ◌∷◌, ◌++◌, length, replicate};
+ghost use Rattle.std.specs.Option.{SomeIff, option_map};
+ghost use Rattle.ipv6_wire.specs.HopByHop as spec;
+
+use arrayvec::ArrayVec;
+use ip_address::IpProtocol;
+use wire_base::emit::FrameBuffer;
+use wire_base::octets::u16_at;
+
+/// How many options of a header are read. What stands behind them isn't.
+pub const MAX_OPTIONS: usize = 4;
+
+/// What becomes of a packet with an option that isn't known, by the two highest bits of its type
+/// (RFC 8200 4.2).
+#[derive(Clone, Copy, Debug, PartialEq, Eq)]
+pub enum Ipv6OptionFailureType {
+    /// The option is skipped: 00.
+    Skip,
+    /// The packet is discarded: 01.
+    Discard,
+    /// The packet is discarded, and its source is told: 10.
+    DiscardSendAll,
+    /// The packet is discarded, and its source is told unless it went to a group: 11.
+    DiscardSendUnicast,
+}
+
+/// The values of an option.
+#[derive(Clone, Copy, Debug, Default, PartialEq, Eq)]
+pub enum Ipv6OptionRepr {
+    /// A single octet of padding.
+    #[default]
+    Pad1,
+    /// Padding, with so many octets behind its length.
+    PadN(u8),
+    /// Routers on the way look at the packet; the value tells why (RFC 2711 2.1).
+    RouterAlert(u16),
+    /// Another option, whose data isn't kept.
+    Unknown {
+        option_type: u8,
+        /// Of its data, in octets.
+        length: u8,
+    },
+}
+
+impl Ipv6OptionRepr {
+    /// The option that the octets begin with, and what stands behind it. A router alert of a
+    /// length other than 2 is an unknown option.
+    ///
+    /// `None` exactly if it runs out: there is no octet, or its length or its data passes their
+    /// end.
+    fn parse(octets: &[u8]) -> Option<(Ipv6OptionRepr, &[u8])>
+        ensures { SomeIff (option_map spec.option_parts result) (spec.IsOption octets.now) (spec.first_option octets.now) }
+    {
+        let option_type = *octets.first()?;
+        if option_type == 0 {
+            return Some((Ipv6OptionRepr::Pad1, &octets[1..]));
+        }
+        let length = *octets.get(1)?;
+        let end = 2 + usize::from(length);
+        if octets.len() < end {
+            return None;
+        }
+        let option = match (option_type, length) {
+            (1, _) => Ipv6OptionRepr::PadN(length),
+            (5, 2) => Ipv6OptionRepr::RouterAlert(u16_at(octets, 2)),
+            _ => Ipv6OptionRepr::Unknown {
+                option_type,
+                length,
+            },
+        };
+        Some((option, &octets[end..]))
+    }
+
+    /// What becomes of a packet with this option: known ones are skipped.
+    pub const fn failure_type(&self) -> Ipv6OptionFailureType
+        ensures { result ≡ spec.failure_of self.now }
+    {
+        match self {
+            Ipv6OptionRepr::Unknown { option_type, .. } => match *option_type / 64 {
+                0 => Ipv6OptionFailureType::Skip,
+                1 => Ipv6OptionFailureType::Discard,
+                2 => Ipv6OptionFailureType::DiscardSendAll,
+                _ => Ipv6OptionFailureType::DiscardSendUnicast,
+            },
+            _ => Ipv6OptionFailureType::Skip,
+        }
+    }
+
+    /// How many octets it takes.
+    #[tactic(auto, unfolding(crate::specs::HopByHop::option_text))]
+    const fn len(&self) -> usize
+        ensures value { result ≡ length (spec.option_text self.now) }
+        ensures small { result ≤ 257 }
+    {
+        match self {
+            Ipv6OptionRepr::Pad1 => 1,
+            Ipv6OptionRepr::RouterAlert(_) => 4,
+            Ipv6OptionRepr::PadN(length) | Ipv6OptionRepr::Unknown { length, .. } => {
+                2 + *length as usize
+            }
+        }
+    }
+
+    /// Appends the option. Data that isn't kept is emitted as zeros.
+    #[tactic(auto, unfolding(crate::specs::HopByHop::option_text))]
+    fn emit(&self, out: &mut FrameBuffer)
+        requires { length out.old + length (spec.option_text self.now) ≤ 1514 }
+        ensures { out.new ≡ out.old ++ spec.option_text self.now }
+    {
+        match self {
+            Ipv6OptionRepr::Pad1 => out.append(&[0]),
+            Ipv6OptionRepr::PadN(length) => emit_zeros(1, *length, out),
+            Ipv6OptionRepr::RouterAlert(value) => {
+                let [v0, v1] = value.to_be_bytes();
+                out.append(&[5, 2, v0, v1]);
+            }
+            Ipv6OptionRepr::Unknown {
+                option_type,
+                length,
+            } => emit_zeros(*option_type, *length, out),
+        }
+    }
+}
+
+/// Appends an option whose data are zeros.
+fn emit_zeros(option_type: u8, len: u8, out: &mut FrameBuffer)
+    requires { length out.old + 2 + len ≤ 1514 }
+    ensures { out.new ≡ out.old ++ option_type ∷ len ∷ replicate len 0 }
+{
+    out.append(&[option_type, len]);
+    out.append(&[0; 255][..usize::from(len)]);
+}
+
+/// The values of a header.
+#[derive(Debug, Drop, PartialEq, Eq)]
+pub struct Ipv6HopByHopRepr {
+    /// What stands behind the header.
+    pub next_header: IpProtocol,
+    /// The first options, at most four.
+    pub options: ArrayVec<Ipv6OptionRepr, MAX_OPTIONS>,
+}
+
+impl Ipv6HopByHopRepr {
+    /// The header that the octets begin with, and what stands behind it. Of its options only the
+    /// first four are read: what stands behind them refuses nothing.
+    ///
+    /// `None` exactly if the octets are fewer than 8, the header passes their end, or one of its
+    /// first four options passes the header's.
+    pub fn parse(octets: &[u8]) -> Option<(Ipv6HopByHopRepr, &[u8])>
+        ensures { SomeIff (option_map spec.parts result) (spec.IsHopByHop octets.now) (spec.hop_by_hop_in octets.now) }
+    {
+        if octets.len() < 8 {
+            return None;
+        }
+        let header_len = 8 * usize::from(octets[1]) + 8;
+        if octets.len() < header_len {
+            return None;
+        }
+        let header = Ipv6HopByHopRepr {
+            next_header: IpProtocol::from_number(octets[0]),
+            options: options_of(&octets[2..header_len])?,
+        };
+        Some((header, &octets[header_len..]))
+    }
+
+    /// What becomes of the packet: what the first option asks for that isn't skipped.
+    pub fn failure_type(&self) -> Ipv6OptionFailureType
+        ensures { result ≡ spec.first_failure self.now.options.items }
+    {
+        for option in self.options.as_slice() {
+            match option.failure_type() {
+                Ipv6OptionFailureType::Skip => {}
+                failure_type => return failure_type,
+            }
+        }
+        Ipv6OptionFailureType::Skip
+    }
+
+    /// How many octets the header takes.
+    pub fn header_len(&self) -> usize
+        ensures { result ≡ spec.text_len self.now }
+    {
+        let mut len = 2;
+        for option in self.options.as_slice() {
+            len += option.len();
+        }
+        len
+    }
+
+    /// Appends the header. It has to take whole eights of octets: its options are padded by whoever
+    /// makes it. The data of an unknown option are emitted as zeros.
+    pub fn emit(&self, out: &mut FrameBuffer)
+        requires padded { spec.text_len self.now % 8 ≡ 0 }
+        requires room { length out.old + spec.text_len self.now ≤ 1514 }
+        ensures items { out.new ≡ out.old ++ spec.text self.now }
+        ensures len { length out.new ≡ length out.old + spec.text_len self.now }
+    {
+        let eights = self.header_len() / 8;
+        out.append(&[self.next_header.number(), (eights - 1) as u8]);
+        for option in self.options.as_slice() {
+            option.emit(out);
+        }
+    }
+}
+
+/// The first options of some octets, at most four. `None` exactly if one of them runs out.
+fn options_of(octets: &[u8]) -> Option<ArrayVec<Ipv6OptionRepr, MAX_OPTIONS>>
+    ensures { SomeIff result (spec.AreOptions 4 octets.now) (record { items = spec.options_in 4 octets.now }) }
+{
+    let mut options = ArrayVec::new();
+    let mut left = octets;
+    while !left.is_empty() && !options.is_full() {
+        let (option, behind) = Ipv6OptionRepr::parse(left)?;
+        options.push(option);
+        left = behind;
+    }
+    Some(options)
+}
+
+/// A header that is emitted is read again, whatever stands behind it.
+pub fn read_again()
+    ensures { spec.ReadAgain }
+{}

@@ -1,0 +1,3 @@
+pub mod OctetCells
+pub mod Pseudos
+pub mod Sums

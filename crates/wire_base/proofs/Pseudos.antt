@@ -1,0 +1,85 @@
+-- Sums over the pseudo-header.
+use Rattle.std.proofs.Common.{◌≡◌, ℕ, ◌+◌, ◌-◌, ◌*◌, ◌/◌, ◌%◌, ◌<◌, ◌^◌, List, ◌++◌, length, refl, sym, ap, ◌∙◌, append_assoc, zero-add, arith}
+use Rattle.wire_base.specs.Checksum.{folded, word_sum, checksum_of}
+use Rattle.wire_base.specs.Pseudo.{address_octets, ending, pseudo}
+use Rattle.ip_address.specs.declared.ipv4.Ipv4Address.{Ipv4Address}
+use Rattle.ip_address.specs.declared.ip.IpAddress.{IpAddress}
+use Rattle.ip_address.specs.declared.ip.IpAddress.TheVariants.{Ipv4, Ipv6}
+use Rattle.wire_base.proofs.Sums.{word_sum-append, folded_again, folded_shift}
+
+-- an address has whole words
+address_words : (a : IpAddress) (xs : List ℕ) → word_sum (address_octets a ++ xs) ≡ word_sum (address_octets a) + word_sum xs
+address_words (Ipv4 a) xs = word_sum-append (address_octets (Ipv4 a)) xs 2 refl
+address_words (Ipv6 a) xs = word_sum-append (address_octets (Ipv6 a)) xs 8 refl
+
+ending_words : (a : IpAddress) (protocol len : ℕ) (xs : List ℕ) → word_sum (ending a protocol len ++ xs) ≡ word_sum (ending a protocol len) + word_sum xs
+ending_words (Ipv4 a) protocol len xs = word_sum-append (ending (Ipv4 a) protocol len) xs 2 refl
+ending_words (Ipv6 a) protocol len xs = word_sum-append (ending (Ipv6 a) protocol len) xs 4 refl
+
+pseudo_words : (src dst : IpAddress) (protocol len : ℕ) → word_sum (pseudo src dst protocol len) ≡ word_sum (address_octets src) + word_sum (address_octets dst) + word_sum (ending dst protocol len)
+unfolding pseudo
+pseudo_words src dst protocol len =
+    let e = ending dst protocol len in
+    let d = address_octets dst in
+    let grouped : address_octets src ++ d ++ e ≡ address_octets src ++ (d ++ e) = append_assoc (address_octets src) d e in
+    ap word_sum grouped ∙ omega (arith, address_words src (d ++ e), address_words dst e)
+
+-- the pseudo-header has whole words
+words_behind : (src dst : IpAddress) (protocol len : ℕ) (xs : List ℕ) → word_sum (pseudo src dst protocol len ++ xs) ≡ word_sum (pseudo src dst protocol len) + word_sum xs
+unfolding pseudo
+words_behind src dst protocol len xs =
+    let e = ending dst protocol len in
+    let d = address_octets dst in
+    let s = address_octets src in
+    let grouped : (s ++ d ++ e) ++ xs ≡ s ++ (d ++ (e ++ xs)) = simp append_assoc in
+    let all : word_sum (s ++ d ++ e) ≡ word_sum s + word_sum d + word_sum e = pseudo_words src dst protocol len in
+    ap word_sum grouped ∙ omega (arith, all, address_words src (d ++ (e ++ xs)), address_words dst (e ++ xs), ending_words dst protocol len xs)
+
+-- part by part
+pub chained : (src dst : IpAddress) (protocol len : ℕ) → folded (word_sum (pseudo src dst protocol len)) ≡ folded (folded (folded (0 + word_sum (address_octets src)) + word_sum (address_octets dst)) + word_sum (ending dst protocol len))
+chained src dst protocol len =
+    let s = word_sum (address_octets src) in
+    let d = word_sum (address_octets dst) in
+    let e = word_sum (ending dst protocol len) in
+    let two : folded (folded (0 + s) + d) ≡ folded (s + d) = rw zero-add (folded_again s d) in
+    ap folded (pseudo_words src dst protocol len) ∙ sym (ap (λ (t : ℕ). folded (t + e)) two ∙ folded_again (s + d) e)
+
+-- an address of IPv4 has two words
+address_words4 : (n : ℕ) → n < 2 ^ 32 → n / 16777216 % 256 * 256 + n / 65536 % 256 + (n / 256 % 256 * 256 + n % 256) ≡ n / 65536 + n % 65536
+address_words4 n lt = omega arith
+
+-- over IPv4 the numbers fold alike
+pub numbers : (src dst : Ipv4Address) (protocol len : ℕ) → src.bits < 2 ^ 32 → dst.bits < 2 ^ 32 → len < 2 ^ 16
+    → folded (word_sum (pseudo (Ipv4 src) (Ipv4 dst) protocol len)) ≡ folded (src.bits + dst.bits + protocol + len)
+unfolding pseudo word_sum
+numbers src dst protocol len ls ld ll =
+    let k = src.bits / 65536 + dst.bits / 65536 in
+    let n = src.bits % 65536 + dst.bits % 65536 + protocol + len in
+    let s = address_words4 src.bits ls in
+    let d = address_words4 dst.bits ld in
+    let l : len / 256 % 256 * 256 + len % 256 ≡ len = omega arith in
+    let words : word_sum (pseudo (Ipv4 src) (Ipv4 dst) protocol len) ≡ n + k = omega (arith, s, d, l) in
+    ap folded words ∙ sym (folded_shift (src.bits + dst.bits + protocol + len) n k (omega arith))
+
+pub ruleset sums = (chained, numbers)
+
+-- what stands behind it
+pub behind : (src dst : IpAddress) (protocol len : ℕ) (xs : List ℕ) → folded (word_sum (pseudo src dst protocol len ++ xs)) ≡ folded (folded (word_sum (pseudo src dst protocol len)) + word_sum xs)
+behind src dst protocol len xs =
+    ap folded (words_behind src dst protocol len xs) ∙ sym (folded_again (word_sum (pseudo src dst protocol len)) (word_sum xs))
+
+-- behind it a header of whole words, and a payload
+pub header_words : (src dst : IpAddress) (protocol len k : ℕ) (header payload : List ℕ) → length header ≡ 2 * k
+    → word_sum (pseudo src dst protocol len ++ (header ++ payload)) ≡ word_sum (pseudo src dst protocol len) + word_sum header + word_sum payload
+header_words src dst protocol len k header payload even =
+    let one = words_behind src dst protocol len (header ++ payload) in
+    let two = word_sum-append header payload k even in
+    omega (arith, one, two)
+
+pub parts : (src dst : IpAddress) (protocol len k : ℕ) (header payload : List ℕ) → length header ≡ 2 * k
+    → checksum_of (pseudo src dst protocol len ++ (header ++ payload)) ≡ 65535 - folded (folded (folded (word_sum (pseudo src dst protocol len)) + word_sum header) + word_sum payload)
+parts src dst protocol len k header payload even =
+    let p = word_sum (pseudo src dst protocol len) in
+    ap (λ (t : ℕ). 65535 - t) (ap folded (header_words src dst protocol len k header payload even)
+    ∙ sym (folded_again (p + word_sum header) (word_sum payload))
+    ∙ ap (λ (t : ℕ). folded (t + word_sum payload)) (sym (folded_again p (word_sum header))))

@@ -1,0 +1,15 @@
+use Rattle.std.proofs.Common.{rules, arith, ap, ◌≡◌, ◌∙◌, ℕ, ◌+◌, ◌*◌, List, drop}
+use Rattle.wire_base.specs.Checksum.{folded, word_sum}
+use Rattle.wire_base.proofs.Sums.{block_folds, block_sum}
+use Rattle.wire_base.proofs.checksum.long_sum_with.Goals as goal
+
+pub loop-i-preserved : goal.loop-i-preserved
+loop-i-preserved c = record {
+  so_far =
+      let xs : List ℕ = c.args.octets.now in
+      let i : ℕ = c.loop-i.i in
+      let before : ℕ = c.args.start + 256 * c.loop-i.swapped in
+      let summed : c.args.start + 256 * (c.loop-i.swapped + block_sum xs (32 * i)) ≡ before + 256 * block_sum xs (32 * i) = omega arith in
+      rw c.block_sum-swapped.ensures.value (ap (λ (t : ℕ). folded (t + word_sum (drop (32 * (i + 1)) xs))) summed ∙ block_folds before xs (32 * i) (32 * (i + 1)) (omega arith) (omega arith) ∙ c.loop-i.invariant.so_far);
+  small = search rules;
+}

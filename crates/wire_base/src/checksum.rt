@@ -1,0 +1,117 @@
+//! The Internet checksum (RFC 1071).
+ghost use Rattle.std.specs.Prelude.{◌≡◌, ◌+◌, ◌<◌, ◌≤◌, ◌^◌, ◌/◌, ◌%◌, ℕ, length};
+ghost use Rattle.wire_base.specs.Checksum as spec;
+ghost use Rattle.wire_base.specs.Octets.{u64_le_at};
+
+use crate::octets::{u32_le_at, u64_le_at};
+
+/// A folded sum with the 16-bit words of some octets, of which there are fewer than 65,536, added
+/// to it, folded again. A last odd octet is the high half of a word, so parts are summed one after
+/// the other as long as all but the last are of even length.
+pub fn sum_with(start: u16, octets: &[u8]) -> u16
+    requires { length octets.now < 2 ^ 16 }
+    ensures { result ≡ spec.folded (start + spec.word_sum octets.now) }
+{
+    if octets.len() < 32 {
+        return fold(u64::from(start) + rest_sum(octets));
+    }
+    long_sum_with(start, octets)
+}
+
+/// The same, in blocks of 32 octets. Read little-endian, eight octets need no swap: times 256 they
+/// fold as their four words do (RFC 1071 2).
+#[inline(never)]
+fn long_sum_with(start: u16, octets: &[u8]) -> u16
+    requires { length octets.now < 2 ^ 16 }
+    ensures { result ≡ spec.folded (start + spec.word_sum octets.now) }
+{
+    let mut swapped = 0u128;
+    let count = octets.len() / 32;
+    for i in 0..count {
+        swapped += block_sum(octets, 32 * i);
+    }
+    let sum = u64::from(start) + 256 * parts_sum(swapped);
+    fold(sum + rest_sum(&octets[32 * count..]))
+}
+
+/// The sum of the four little-endian numbers in 32 octets.
+#[inline(always)]
+fn block_sum(octets: &[u8], at: usize) -> u128
+    requires { at + 32 ≤ length octets.now }
+    ensures value { result ≡ u64_le_at octets.now at + u64_le_at octets.now (at + 8) + u64_le_at octets.now (at + 16) + u64_le_at octets.now (at + 24) }
+    ensures small { result < 2 ^ 66 }
+{
+    u128::from(u64_le_at(octets, at))
+        + u128::from(u64_le_at(octets, at + 8))
+        + u128::from(u64_le_at(octets, at + 16))
+        + u128::from(u64_le_at(octets, at + 24))
+}
+
+/// What folds as the sum of the words of fewer than 32 octets, which are read four at a time.
+#[inline(always)]
+fn rest_sum(octets: &[u8]) -> u64
+    requires { length octets.now < 32 }
+    ensures folds { (sum : ℕ) → spec.folded (sum + result) ≡ spec.folded (sum + spec.word_sum octets.now) }
+    ensures small { result < 2 ^ 48 }
+{
+    let mut swapped = 0u64;
+    let count = octets.len() / 4;
+    for i in 0..count {
+        swapped += u64::from(u32_le_at(octets, 4 * i));
+    }
+    256 * swapped + tail_sum(&octets[4 * count..])
+}
+
+/// The sum of a number's parts of 32 bits. Times 256 it folds as the number does.
+#[inline(always)]
+fn parts_sum(number: u128) -> u64
+    requires { number < 2 ^ 96 }
+    ensures value { result ≡ number % 2 ^ 32 + number / 2 ^ 32 % 2 ^ 32 + number / 2 ^ 32 / 2 ^ 32 }
+    ensures small { result < 2 ^ 34 }
+{
+    let low = number % 0x1_0000_0000;
+    let rest = number / 0x1_0000_0000;
+    (low + rest % 0x1_0000_0000 + rest / 0x1_0000_0000) as u64
+}
+
+/// The sum of the words of the last octets.
+#[inline(always)]
+#[tactic(auto, using(crate::proofs::Sums::tails))]
+fn tail_sum(tail: &[u8]) -> u64
+    requires { length tail.now < 4 }
+    ensures value { result ≡ spec.word_sum tail.now }
+    ensures small { result < 2 ^ 17 }
+{
+    match tail {
+        [a, b, c] => u64::from(*a) * 0x100 + u64::from(*b) + u64::from(*c) * 0x100,
+        [a, b] => u64::from(*a) * 0x100 + u64::from(*b),
+        [a] => u64::from(*a) * 0x100,
+        _ => 0,
+    }
+}
+
+/// A sum with its carries folded in.
+#[inline(always)]
+pub fn fold(sum: u64) -> u16
+    ensures { result ≡ spec.folded sum }
+{
+    if sum == 0 {
+        0
+    } else {
+        ((sum - 1) % 0xffff + 1) as u16
+    }
+}
+
+/// The checksum of some octets, of which there are fewer than 65,536: the ones' complement of the
+/// folded sum of their words.
+pub fn checksum(octets: &[u8]) -> u16
+    requires { length octets.now < 2 ^ 16 }
+    ensures { result ≡ spec.checksum_of octets.now }
+{
+    0xffff - sum_with(0, octets)
+}
+
+/// To fold is to add the carries to the lower 16 bits, until there are none.
+pub fn folds_carries()
+    ensures { spec.FoldsCarries }
+{}

@@ -1,0 +1,49 @@
+//! The pseudo-header that the checksums of UDP and TCP cover (RFC 768, RFC 9293 3.1, RFC 8200 8.1).
+ghost use Rattle.std.specs.Prelude.{◌≡◌, ◌+◌};
+ghost use Rattle.wire_base.specs.Checksum.{folded, word_sum};
+ghost use Rattle.wire_base.specs.Pseudo as spec;
+
+use crate::checksum::{fold, sum_with};
+use ip_address::IpAddress;
+
+/// The folded sum of the words of a pseudo-header: source, destination, the protocol's number, and
+/// the length of what follows, in octets.
+#[inline(always)]
+#[tactic(auto, using(crate::proofs::Pseudos::sums))]
+pub fn pseudo_sum(src: &IpAddress, dst: &IpAddress, protocol: u8, len: u16) -> u16
+    ensures { result ≡ folded (word_sum (spec.pseudo src.now dst.now protocol len)) }
+{
+    if let (IpAddress::Ipv4(src), IpAddress::Ipv4(dst)) = (src, dst) {
+        return fold(
+            u64::from(src.bits) + u64::from(dst.bits) + u64::from(protocol) + u64::from(len),
+        );
+    }
+    let addresses = address_sum(address_sum(0, src), dst);
+    ending_sum(addresses, dst, protocol, len)
+}
+
+/// A sum with the words of an address added.
+fn address_sum(start: u16, address: &IpAddress) -> u16
+    ensures { result ≡ folded (start + word_sum (spec.address_octets address.now)) }
+{
+    match address {
+        IpAddress::Ipv4(address) => sum_with(start, &address.octets()),
+        IpAddress::Ipv6(address) => sum_with(start, &address.bits.to_be_bytes()),
+    }
+}
+
+/// A sum with the words of protocol and length added.
+fn ending_sum(start: u16, dst: &IpAddress, protocol: u8, len: u16) -> u16
+    ensures { result ≡ folded (start + word_sum (spec.ending dst.now protocol len)) }
+{
+    match dst {
+        IpAddress::Ipv4(_) => {
+            let [l0, l1] = len.to_be_bytes();
+            sum_with(start, &[0, protocol, l0, l1])
+        }
+        IpAddress::Ipv6(_) => {
+            let [l0, l1, l2, l3] = u32::from(len).to_be_bytes();
+            sum_with(start, &[l0, l1, l2, l3, 0, 0, 0, protocol])
+        }
+    }
+}
