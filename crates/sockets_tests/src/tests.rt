@@ -3,7 +3,8 @@ ghost use Rattle.std.specs.Prelude.{◌≡◌, ◌<◌, ◌^◌, length, IfOk};
 
 use control_wire::icmpv4::Icmpv4Repr;
 use ip_wire::{
-    IpAddress, IpProtocol, IpVersion, Ipv4Address, Ipv4Repr, TcpControl, TcpRepr, TcpSeqNumber,
+    IpAddress, IpProtocol, IpRepr, IpVersion, Ipv4Address, Ipv4Repr, TcpControl, TcpRepr,
+    TcpSeqNumber,
 };
 use net_base::time::Instant;
 use sockets::context::SocketContext;
@@ -326,7 +327,7 @@ fn packets_keep_their_headers(rt: HostRuntime) -> Result<(), Fail> {
         assert!(rt; false);
         return Ok(());
     };
-    socket.process(&header, payload, true);
+    socket.process(&IpRepr::Ipv4(header), payload, true);
     match socket.recv() {
         Some((_, octets)) => assert_eq!(rt; octets, PACKET),
         None => assert!(rt; false),
