@@ -104,12 +104,7 @@ const QUOTED: Ipv6Repr = Ipv6Repr {
 };
 
 /// The octets of a message.
-fn emitted(
-    message: &Icmpv6Repr,
-    src: &IpAddress,
-    dst: &IpAddress,
-    payload: &[u8],
-) -> FrameBuffer {
+fn emitted(message: &Icmpv6Repr, src: &IpAddress, dst: &IpAddress, payload: &[u8]) -> FrameBuffer {
     let mut out = FrameBuffer::new();
     if payload.len() <= 1514 && message.header_len() <= 1514 - payload.len() {
         message.emit(src, dst, payload, true, &mut out);
