@@ -1,1 +1,2 @@
+pub mod Icmp
 pub mod Icmpv4

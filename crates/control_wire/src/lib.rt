@@ -1,6 +1,8 @@
-//! The control messages on the wire: ICMP for IPv4.
+//! The control messages on the wire: ICMP of either family.
 #![tactic(auto)]
 
+pub mod icmp;
 pub mod icmpv4;
 
+pub use icmp::IcmpRepr;
 pub use icmpv4::{Icmpv4DstUnreachable, Icmpv4Repr};

@@ -37,7 +37,8 @@ use Rattle.host_machine.proofs.Views.{StepView, NoPart, APart, step_view, ingres
 use Rattle.host_machine.proofs.Notes.{slot_notes-append}
 use Rattle.host_machine.proofs.Malformed.{handed-sends, handed-received}
 use Rattle.host_machine.proofs.Repeated.{polled}
-use Rattle.host_machine.proofs.Walk.{rest_of, ingress, egressed}
+use Rattle.host_machine.proofs.Kept.{rest_of}
+use Rattle.host_machine.proofs.Walk.{ingress, egressed}
 
 pub came-append : (key : FragKey) (xs ys : List SlotNote) → came key (xs ++ ys) ≡ came key xs ++ came key ys
 came-append key [] ys = refl

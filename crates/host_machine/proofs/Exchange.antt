@@ -11,6 +11,7 @@ use Rattle.iface_tables.proofs.NeighborLemmas.{address_total}
 use Rattle.fragmentation.specs.Slots.{left_at}
 use Rattle.host_machine.proofs.Keys.{get-left_at, key_exact, key_total}
 use Rattle.host_machine.specs.Example.{sender, sender_hardware, learnt, heard, nobody}
+use Rattle.host_machine.specs.ExampleIpv6 as ipv6
 
 abbrev entry : Neighbor
 entry = record { hardware_addr = sender_hardware; expires_at = pos 60000000 }
@@ -20,6 +21,9 @@ is_learnt = get-insert address_total map.empty sender entry sender
 
 pub is_known : answer_of heard sender (pos 0) ≡ Found sender_hardware
 is_known = rw (is_learnt, get-insert address_total (map.insert map.empty sender entry) sender entry sender) refl
+
+pub is_learnt_v6 : answer_of ipv6.learnt ipv6.sender (pos 0) ≡ Found sender_hardware
+is_learnt_v6 = rw (get-insert address_total map.empty ipv6.sender entry ipv6.sender) refl
 
 pub is_unknown : answer_of (nobody (pos 0)) sender (pos 0) ≡ NotFound
 is_unknown = rw get-empty refl

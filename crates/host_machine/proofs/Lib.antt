@@ -2,6 +2,8 @@ pub mod Notes
 pub mod Keys
 pub mod Six
 pub mod Repeated
+pub mod Kept
+pub mod Plain
 pub mod Walk
 pub mod Spaced
 pub mod Rebuilt

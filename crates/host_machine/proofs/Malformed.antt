@@ -10,6 +10,7 @@ use Rattle.ip_address.specs.declared.hardware.HardwareAddress.TheVariants as har
 use Rattle.net_base.specs.Checksum.{is_rx}
 use Rattle.ip_wire.specs.Arp.{IsArp}
 use Rattle.ip_wire.specs.Ipv4Packet.{IsIpv4}
+use Rattle.ipv6_wire.specs.Ipv6Packet.{IsIpv6}
 use Rattle.host_machine.specs.declared.results.PollIngressSingleResult.{PollIngressSingleResult}
 use Rattle.host_machine.specs.Note.{Note}
 use Rattle.host_machine.specs.Host.{Host, swept}
@@ -21,6 +22,8 @@ use Rattle.host_machine.specs.Ethernet.{TakesPayload, TakesEthernet, TakesFrame}
 use Rattle.host_machine.specs.Ethernet as ethernet
 use Rattle.host_machine.specs.Ipv4.{TakesIpv4}
 use Rattle.host_machine.specs.Ipv4 as ipv4
+use Rattle.host_machine.specs.Ipv6.{TakesIpv6}
+use Rattle.host_machine.specs.Ipv6 as ipv6
 use Rattle.host_machine.specs.Response.{Responds}
 use Rattle.host_machine.specs.Ingress.{Takes, Ingress}
 use Rattle.host_machine.specs.Laws.{IsMalformed, IsMalformedFrame}
@@ -36,18 +39,23 @@ ipv4_dropped : {source : HardwareAddress} {H new : Host} {octets : List ℕ} {re
 ipv4_dropped (ipv4.Malformed m d) other = d
 ipv4_dropped (ipv4.Read i t) other = absurd (other i)
 
--- a payload of ARP or of IPv4 that is none
+ipv6_dropped : {source : HardwareAddress} {H new : Host} {octets : List ℕ} {reply : Option Reply} {notes : List Note} →
+    TakesIpv6 source H octets reply notes new → (IsIpv6 octets → ⊥) → IsDropped H reply notes new
+ipv6_dropped (ipv6.Malformed m d) other = d
+ipv6_dropped (ipv6.Read i t) other = absurd (other i)
+
+-- a payload of ARP, of IPv4 or of IPv6 that is none
 abbrev IsNone : Host → EthernetProtocol → List ℕ → Type 0
 IsNone H protocol.Arp payload = IsArp payload → ⊥
 IsNone H protocol.Ipv4 payload = IsIpv4 (is_rx H.capabilities.checksum.ipv4) payload → ⊥
-IsNone H protocol.Ipv6 payload = Unit {0}
+IsNone H protocol.Ipv6 payload = IsIpv6 payload → ⊥
 IsNone H (protocol.Unknown n) payload = Unit {0}
 
 payload_dropped : (own source : EthernetAddress) (H : Host) (p : EthernetProtocol) (payload : List ℕ) (reply : Option Reply) (notes : List Note) (new : Host) →
     TakesPayload own source H p payload reply notes new → IsNone H p payload → IsDropped H reply notes new
 payload_dropped own source H protocol.Arp payload reply notes new t other = arp_dropped t other
 payload_dropped own source H protocol.Ipv4 payload reply notes new t other = ipv4_dropped t other
-payload_dropped own source H protocol.Ipv6 payload reply notes new t other = t
+payload_dropped own source H protocol.Ipv6 payload reply notes new t other = ipv6_dropped t other
 payload_dropped own source H (protocol.Unknown n) payload reply notes new t other = t
 
 ethernet_dropped : {own : EthernetAddress} {H new : Host} {frame : List ℕ} {reply : Option Reply} {notes : List Note} →
@@ -59,12 +67,15 @@ ethernet_dropped {own} {H} {new} {frame} {reply} {notes} (ethernet.Accepted l f 
     payload_dropped own _ H _ _ reply notes new t (subst (λ p. IsNone H p (drop 14 frame)) (sym e) other)
 ethernet_dropped {own} {H} {new} {frame} {reply} {notes} (ethernet.Accepted l f t) (law.Ipv4 e other) =
     payload_dropped own _ H _ _ reply notes new t (subst (λ p. IsNone H p (drop 14 frame)) (sym e) other)
+ethernet_dropped {own} {H} {new} {frame} {reply} {notes} (ethernet.Accepted l f t) (law.Ipv6 e other) =
+    payload_dropped own _ H _ _ reply notes new t (subst (λ p. IsNone H p (drop 14 frame)) (sym e) other)
 
 frame_dropped : (h : HardwareAddress) (H : Host) (frame : List ℕ) (reply : Option Reply) (notes : List Note) (new : Host) →
     TakesFrame h H frame reply notes new → IsMalformed h H.capabilities.checksum frame → IsDropped H reply notes new
 frame_dropped (hardware.Ethernet own) H frame reply notes new t bad = ethernet_dropped t bad
-frame_dropped hardware.Ip H frame reply notes new (ethernet.Ipv4 v t) bad = ipv4_dropped t bad
-frame_dropped hardware.Ip H frame reply notes new (ethernet.OtherVersion v d) bad = d
+frame_dropped hardware.Ip H frame reply notes new (ethernet.Ipv4 v t) bad = ipv4_dropped t bad.0
+frame_dropped hardware.Ip H frame reply notes new (ethernet.Ipv6 v t) bad = ipv6_dropped t bad.1
+frame_dropped hardware.Ip H frame reply notes new (ethernet.OtherVersion v w d) bad = d
 
 handed_by : Reception → List (List ℕ)
 handed_by (Frame f) = f ∷ []

@@ -16,7 +16,8 @@ use Rattle.host_machine.specs.Rebuilding.{History, began, put, history, AreRebui
 use Rattle.host_machine.specs.Run.{Place, Run, notes_in}
 use Rattle.host_machine.proofs.Keys.{key_total, same_is, get-left_at}
 use Rattle.host_machine.proofs.Notes.{slot_notes-append, slot_notes-slots}
-use Rattle.host_machine.proofs.Walk.{Keeps, walk}
+use Rattle.host_machine.proofs.Kept.{Keeps}
+use Rattle.host_machine.proofs.Walk.{walk}
 
 -- each slot that is taken has what the history says
 abbrev Tracks : Slots → History → Type 0

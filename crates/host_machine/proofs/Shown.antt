@@ -2,7 +2,6 @@
 use Rattle.std.proofs.Common.{◌≡◌, ℕ, List, [], ◌∷◌, ◌++◌, length, refl, sym, ◌∙◌, ap, subst, Option, Some, None}
 use Rattle.std.specs.Prelude.{ℤ, Bool, true, false, not, ◌&&◌, ◌/◌, ◌%◌, ◌^◌, if◌then◌else◌}
 use Rattle.std.specs.List.{AllByRecursion}
-use Rattle.std.specs.Option.{option_map}
 use Rattle.std.specs.FinMap as map
 use Rattle.net_base.specs.Device.{Event, Reception, Frame, Nothing as NoFrame, Withheld, sent}
 use Rattle.ip_wire.specs.declared.arp.ArpRepr.{ArpRepr}
@@ -19,17 +18,9 @@ use Rattle.ip_address.specs.declared.ip.IpAddress.TheVariants as ip
 use Rattle.ip_address.specs.declared.ipv4.Ipv4Address.{Ipv4Address}
 use Rattle.ip_wire.specs.declared.ipv4_packet.Ipv4Repr.{Ipv4Repr}
 use Rattle.ip_wire.specs.declared.ipv4_packet.Ipv4Fragment.{Ipv4Fragment}
-use Rattle.ip_wire.specs.declared.ip_packet.IpRepr.{IpRepr}
-use Rattle.ip_wire.specs.declared.ip_packet.IpRepr.TheVariants as repr
-use Rattle.ip_address.specs.declared.protocol.IpProtocol.{IpProtocol}
-use Rattle.ip_address.specs.declared.protocol.IpProtocol.TheVariants as ip_protocol
-use Rattle.ip_wire.specs.declared.tcp.TcpRepr.{TcpRepr}
 use Rattle.ip_address.specs.Ipv4 as ipv4_address
 use Rattle.ip_address.specs.Ipv6 as ipv6_address
 use Rattle.ip_wire.specs.Arp.{arp_in}
-use Rattle.control_wire.specs.declared.icmpv4.Icmpv4Repr.{Icmpv4Repr}
-use Rattle.control_wire.specs.declared.icmpv4.Icmpv4Repr.TheVariants.{EchoRequest, EchoReply, DstUnreachable, TimeExceeded}
-use Rattle.control_wire.specs.declared.icmpv4.Icmpv4DstUnreachable.{Icmpv4DstUnreachable}
 use Rattle.iface_tables.specs.declared.neighbor.Neighbor.{Neighbor}
 use Rattle.iface_tables.specs.declared.neighbor.Answer.TheVariants.{Found, NotFound, RateLimited}
 use Rattle.iface_tables.specs.Neighbor.{answer_of, answer_from, missing, is_before}
@@ -52,18 +43,11 @@ use Rattle.host_machine.specs.Addresses.{is_broadcast_v4}
 use Rattle.host_machine.specs.Packet.{Packet, PacketV4}
 use Rattle.host_machine.specs.Reply.{Reply, Arp, Ip, IsDropped}
 use Rattle.host_machine.specs.Frame.{arp_frame, ip_frame, piece_frame}
-use Rattle.host_machine.specs.Arp.{TakesArp, request_for, reply_to, answer_by}
+use Rattle.host_machine.specs.Arp.{TakesArp, request_for, answer_by}
 use Rattle.host_machine.specs.Arp as arp
-use Rattle.host_machine.specs.Udp.{TakesUdp}
-use Rattle.host_machine.specs.Udp as udp
-use Rattle.host_machine.specs.Icmpv4.{TakesIcmpv4, message_back, reply_source, icmpv4_reply, answer_to, unreachable}
-use Rattle.host_machine.specs.Icmpv4 as icmpv4
-use Rattle.host_machine.specs.Tcp.{TakesTcp, segment_back}
-use Rattle.host_machine.specs.Tcp as tcp
-use Rattle.host_machine.specs.Unreachable.{port_unreachable}
-use Rattle.control_wire.specs.declared.icmpv4.Icmpv4DstUnreachable.TheVariants.{PortUnreachable}
 use Rattle.host_machine.specs.Reassembly.{TakesFragment}
-use Rattle.host_machine.specs.Ipv4.{TakesProtocol, TakesWhole, TakesPacket, TakesIpv4}
+use Rattle.host_machine.specs.Ipv4.{TakesWhole, TakesPacket, TakesIpv4}
+use Rattle.host_machine.specs.Ipv6.{TakesIpv6}
 use Rattle.host_machine.specs.Ipv4 as ipv4
 use Rattle.host_machine.specs.Ethernet.{TakesPayload, TakesEthernet, TakesFrame}
 use Rattle.host_machine.specs.Ethernet as ethernet
@@ -82,7 +66,9 @@ use Rattle.host_machine.proofs.Malformed.{sent-sends}
 use Rattle.host_machine.proofs.Repeated.{polled}
 use Rattle.host_machine.proofs.Six.{none_of, arp_source_of}
 use Rattle.host_machine.proofs.Readings.{arp_other, whole_other}
-use Rattle.host_machine.proofs.Walk.{Keeps, Reached, ByNeighbor, ByGroup, WithoutAddresses, sent-append, dispatched, taken, egressed}
+use Rattle.host_machine.proofs.Kept.{Keeps}
+use Rattle.host_machine.proofs.Plain.{IsByIp, whole_plain, ipv6_plain}
+use Rattle.host_machine.proofs.Walk.{Reached, ByNeighbor, ByGroup, WithoutAddresses, sent-append, dispatched, taken, egressed}
 
 shows_on : {m : Medium} {fs gs : List (List ℕ)} {xs ys : List CutNote} → Shows m fs xs → Shows m gs ys → Shows m (fs ++ gs) (xs ++ ys)
 shows_on Nothing more = more
@@ -198,27 +184,11 @@ module _ (kind : Medium) where
   drop_good : {H new : Host} {reply : Option Reply} {notes : List Note} → IsDropped H reply notes new → GoodReply kind reply
   drop_good d = no_reply d.silent
 
-  message_good : (r : Ipv4Repr) (m : Icmpv4Repr) (octets : List ℕ) (o : Option Ipv4Address) → GoodReply kind (option_map (message_back r m octets) o)
-  message_good r m octets None = tt
-  message_good r m octets (Some a) = tt
-
-  unreachable_good : (raw : Bool) (own : List IpCidr) (reason : Icmpv4DstUnreachable) (r : Ipv4Repr) (payload : List ℕ) → GoodReply kind (unreachable raw own reason r payload)
-  unreachable_good true own reason r payload = tt
-  unreachable_good false own reason r payload = message_good r (DstUnreachable reason r) (icmpv4.quoted payload) (reply_source own r (DstUnreachable reason r))
-
-  answer_good : (own : List IpCidr) (r : Ipv4Repr) (m : Icmpv4Repr) (octets : List ℕ) → GoodReply kind (answer_to own r m octets)
-  answer_good own r (EchoRequest ident seq_no) octets = message_good r (EchoReply ident seq_no) octets (reply_source own r (EchoReply ident seq_no))
-  answer_good own r (EchoReply ident seq_no) octets = tt
-  answer_good own r (DstUnreachable reason header) octets = tt
-  answer_good own r (TimeExceeded code header) octets = tt
-
-  port_good : (by_raw : Bool) (own : List IpCidr) (r : IpRepr) (payload : List ℕ) → GoodReply kind (port_unreachable by_raw own r payload)
-  port_good by_raw own (repr.Ipv4 r) payload = unreachable_good by_raw own PortUnreachable r payload
-  port_good by_raw own (repr.Ipv6 r) payload = tt
-
-  segment_good : (r : IpRepr) (o : Option TcpRepr) → GoodReply kind (option_map (segment_back r) o)
-  segment_good r None = tt
-  segment_good r (Some t) = tt
+  -- no reply of IP is one of ARP
+  ip_good : (reply : Option Reply) → IsByIp reply → GoodReply kind reply
+  ip_good None i = tt
+  ip_good (Some (Ip p)) i = tt
+  ip_good (Some (Arp r)) i = absurd i
 
   reply_good : (op : ArpOperation) (own : EthernetAddress) (r : ArpRepr) → IsOf kind (hardware.Ethernet own) → IsOf kind (hardware.Ethernet r.source_hardware_addr) → GoodReply kind (answer_by op own r)
   reply_good operation.Request own r s t = (s, t)
@@ -229,36 +199,11 @@ module _ (kind : Medium) where
   arp_good of (arp.NotForUs a l d) = drop_good d
   arp_good {own} {H} {new} {payload} of (arp.Learnt a l learns r n) = rw r (reply_good (arp_in payload).operation own (arp_in payload) of (arp_source_of kind own payload of a))
 
-  udp_good : {raw : Bool} {r : IpRepr} {H new : Host} {octets : List ℕ} {reply : Option Reply} {notes : List Note} → TakesUdp raw r H octets reply notes new → GoodReply kind reply
-  udp_good (udp.Malformed m d) = drop_good d
-  udp_good (udp.Delivered sockets u f r n e) = no_reply r
-  udp_good {raw} {r} {H} {new} {octets} (udp.Unheard u none e n s) = rw e (port_good raw H.ip_addrs r octets)
-
-  icmpv4_good : {r : Ipv4Repr} {H new : Host} {octets : List ℕ} {reply : Option Reply} {notes : List Note} → TakesIcmpv4 r H octets reply notes new → GoodReply kind reply
-  icmpv4_good (icmpv4.Malformed m d) = drop_good d
-  icmpv4_good {r} {H} {new} {octets} (icmpv4.Taken i e n s) = rw e (answer_good H.ip_addrs r _ _)
-
-  tcp_good : {raw : Bool} {r : IpRepr} {H new : Host} {octets : List ℕ} {reply : Option Reply} {notes : List Note} → TakesTcp raw r H octets reply notes new → GoodReply kind reply
-  tcp_good (tcp.BetweenNobody b d) = drop_good d
-  tcp_good (tcp.Malformed b m d) = drop_good d
-  tcp_good {raw} {r} (tcp.Delivered index place b t f e n s) = rw e (segment_good r _)
-  tcp_good {raw} {r} (tcp.Unheard b t none e n s) = rw e (segment_good r _)
-
-  refused_good : {raw : Bool} {r : Ipv4Repr} {H new : Host} {octets : List ℕ} {reply : Option Reply} {notes : List Note} → ipv4.IsRefused raw r H octets reply notes new → GoodReply kind reply
-  refused_good {raw} {r} {H} {new} {octets} i = rw i.replied (unreachable_good raw H.ip_addrs _ r octets)
-
-  protocol_good : (p : IpProtocol) (raw : Bool) (r : Ipv4Repr) (H : Host) (octets : List ℕ) (reply : Option Reply) (notes : List Note) (new : Host) → TakesProtocol p raw r H octets reply notes new → GoodReply kind reply
-  protocol_good ip_protocol.Icmp raw r H octets reply notes new t = icmpv4_good t
-  protocol_good ip_protocol.Udp raw r H octets reply notes new t = udp_good t
-  protocol_good ip_protocol.Tcp raw r H octets reply notes new t = tcp_good t
-  protocol_good ip_protocol.Igmp raw r H octets reply notes new t = drop_good t
-  protocol_good ip_protocol.HopByHop raw r H octets reply notes new t = refused_good t
-  protocol_good ip_protocol.Icmpv6 raw r H octets reply notes new t = refused_good t
-  protocol_good (ip_protocol.Unknown n) raw r H octets reply notes new t = refused_good t
-
   whole_good : {source : HardwareAddress} {r : Ipv4Repr} {H new : Host} {payload : List ℕ} {reply : Option Reply} {notes : List Note} → TakesWhole source r H payload reply notes new → GoodReply kind reply
-  whole_good (ipv4.NotForUs u d) = drop_good d
-  whole_good {source} {r} {H} {new} {payload} {reply} {notes} (ipv4.Accepted u t) = protocol_good r.next_header _ r _ payload reply notes new t
+  whole_good t = ip_good _ (whole_plain t).by_ip
+
+  ipv6_good : {source : HardwareAddress} {H new : Host} {octets : List ℕ} {reply : Option Reply} {notes : List Note} → TakesIpv6 source H octets reply notes new → GoodReply kind reply
+  ipv6_good t = ip_good _ (ipv6_plain t).by_ip
 
   packet_good : {source : HardwareAddress} {r : Ipv4Repr} {f : Ipv4Fragment} {H new : Host} {payload : List ℕ} {reply : Option Reply} {notes : List Note} → TakesPacket source r f H payload reply notes new → GoodReply kind reply
   packet_good (ipv4.FromNoHost s d) = drop_good d
@@ -274,7 +219,7 @@ module _ (kind : Medium) where
       TakesPayload own source H p payload reply notes new → GoodReply kind reply
   payload_good own source H protocol.Arp payload reply notes new of t = arp_good of t
   payload_good own source H protocol.Ipv4 payload reply notes new of t = ipv4_good t
-  payload_good own source H protocol.Ipv6 payload reply notes new of t = drop_good t
+  payload_good own source H protocol.Ipv6 payload reply notes new of t = ipv6_good t
   payload_good own source H (protocol.Unknown n) payload reply notes new of t = drop_good t
 
   ethernet_good : {own : EthernetAddress} {H new : Host} {frame : List ℕ} {reply : Option Reply} {notes : List Note} → IsOf kind (hardware.Ethernet own) → TakesEthernet own H frame reply notes new → GoodReply kind reply
@@ -285,7 +230,8 @@ module _ (kind : Medium) where
   frame_good : (h : HardwareAddress) (H : Host) (frame : List ℕ) (reply : Option Reply) (notes : List Note) (new : Host) → IsOf kind h → TakesFrame h H frame reply notes new → GoodReply kind reply
   frame_good (hardware.Ethernet own) H frame reply notes new of t = ethernet_good of t
   frame_good hardware.Ip H frame reply notes new of (ethernet.Ipv4 v t) = ipv4_good t
-  frame_good hardware.Ip H frame reply notes new of (ethernet.OtherVersion v d) = drop_good d
+  frame_good hardware.Ip H frame reply notes new of (ethernet.Ipv6 v t) = ipv6_good t
+  frame_good hardware.Ip H frame reply notes new of (ethernet.OtherVersion v w d) = drop_good d
 
 takes_good : (H : Host) (r : Reception) (reply : Option Reply) (notes : List Note) (new : Host) → IsReal H → Takes H r reply notes new → GoodReply H.capabilities.medium reply
 takes_good H NoFrame reply notes new real t = drop_good H.capabilities.medium t

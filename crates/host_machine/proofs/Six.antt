@@ -70,7 +70,11 @@ address_six octets at l = search (arith, length-take, length-drop)
 pub arp_source_six : (octets : List ℕ) → IsArp octets → length (arp_in octets).source_hardware_addr.0 ≡ 6
 arp_source_six octets a = address_six octets 8 (omega (arith, a.whole))
 
--- where the host's own address is one of Ethernet, the sender's is one of the same medium
+-- where the host's own address is one of Ethernet, another of six octets is one of the same medium
+pub of_six : (kind : Medium) (own h : EthernetAddress) → IsOf kind (hardware.Ethernet own) → length h.0 ≡ 6 → IsOf kind (hardware.Ethernet h)
+of_six medium.Ethernet own h six is = is
+of_six medium.Ip own h six is = absurd six
+
+-- so is the sender's of an ARP packet
 pub arp_source_of : (kind : Medium) (own : EthernetAddress) (octets : List ℕ) → IsOf kind (hardware.Ethernet own) → IsArp octets → IsOf kind (hardware.Ethernet (arp_in octets).source_hardware_addr)
-arp_source_of medium.Ethernet own octets six a = arp_source_six octets a
-arp_source_of medium.Ip own octets six a = absurd six
+arp_source_of kind own octets six a = of_six kind own (arp_in octets).source_hardware_addr six (arp_source_six octets a)

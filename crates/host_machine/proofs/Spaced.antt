@@ -24,7 +24,8 @@ use Rattle.host_machine.specs.Arp.{request_for}
 use Rattle.host_machine.specs.Note.{Note, OfDiscovery, Ask, asks}
 use Rattle.host_machine.specs.Run.{AreSpaced, Place, Run, notes_in}
 use Rattle.host_machine.proofs.Notes.{asks-append, asks-slots}
-use Rattle.host_machine.proofs.Walk.{Keeps, walk}
+use Rattle.host_machine.proofs.Kept.{Keeps}
+use Rattle.host_machine.proofs.Walk.{walk}
 
 -- the silence after requests at these moments
 abbrev silence_after : ℤ → List ℤ → ℤ

@@ -28,9 +28,10 @@ use Rattle.host_machine.specs.Reply.{Reply, Arp, Ip, IsDropped}
 use Rattle.host_machine.specs.Frame.{sends}
 use Rattle.host_machine.specs.Arp.{TakesArp}
 use Rattle.host_machine.specs.Reassembly.{TakesFragment}
-use Rattle.host_machine.specs.Ipv4.{IsRefused, TakesProtocol, TakesWhole, TakesPacket, TakesIpv4, key_in, fragment_in}
+use Rattle.host_machine.specs.Ipv4.{TakesWhole, TakesPacket, TakesIpv4, key_in, fragment_in}
 use Rattle.host_machine.specs.Ipv4 as ipv4
 use Rattle.host_machine.specs.Addresses.{may_be_source}
+use Rattle.host_machine.specs.Ipv6.{TakesIpv6}
 use Rattle.host_machine.specs.Ethernet.{TakesPayload, TakesEthernet, TakesFrame, is_for, version_in}
 use Rattle.host_machine.specs.Ethernet as ethernet
 use Rattle.host_machine.specs.Dispatch.{Outcome, Dispatches}
@@ -49,7 +50,8 @@ use Rattle.host_machine.proofs.Repeated.{both}
 use Rattle.host_machine.specs.Unfolded.{IsSingle}
 use Rattle.host_machine.proofs.Notes.{slot_notes-append, slot_notes-slots}
 use Rattle.host_machine.proofs.Malformed.{handed-sends, handed-received}
-use Rattle.host_machine.proofs.Walk.{Keeps, dropped, arp_taken, whole_taken, dispatched, egressed}
+use Rattle.host_machine.proofs.Kept.{Keeps}
+use Rattle.host_machine.proofs.Walk.{dropped, arp_taken, whole_taken, ipv6_taken, dispatched, egressed}
 
 -- the slots stay, and none of them is noted
 pub record Still (old : Host) (notes : List Note) (new : Host) : Type 0 where
@@ -104,6 +106,9 @@ arp_still mine t = arp_taken StillOver still_kept still_on mine t
 
 whole_still : {source : HardwareAddress} {r : Ipv4Repr} {H new : Host} {payload : List ℕ} {reply : Option Reply} {notes : List Note} → TakesWhole source r H payload reply notes new → Still H notes new
 whole_still t = whole_taken StillOver still_kept still_on t
+
+ipv6_still : {source : HardwareAddress} {H new : Host} {octets : List ℕ} {reply : Option Reply} {notes : List Note} → TakesIpv6 source H octets reply notes new → Still H notes new
+ipv6_still t = ipv6_taken StillOver still_kept still_on t
 
 -- what a fragment does to the slots of a host, now
 abbrev pub Changes : FragKey → Fragment → Option (List ℕ) → Host → List Note → Host → Type 0
@@ -163,7 +168,7 @@ payload_view own source H protocol.Arp payload reply notes new mine t = NoFragme
   other : protocol.Arp ≡ protocol.Ipv4 → ⊥
   other e = cc
 payload_view own source H protocol.Ipv4 payload reply notes new mine t = view_by (λ key g f. (refl, f)) (λ key g f. f.1) (ipv4_view t)
-payload_view own source H protocol.Ipv6 payload reply notes new mine t = NoFragment (λ key g i. absurd (other i.0)) (drop_still t) where
+payload_view own source H protocol.Ipv6 payload reply notes new mine t = NoFragment (λ key g i. absurd (other i.0)) (ipv6_still t) where
   other : protocol.Ipv6 ≡ protocol.Ipv4 → ⊥
   other e = cc
 payload_view own source H (protocol.Unknown n) payload reply notes new mine t = NoFragment (λ key g i. absurd (other i.0)) (drop_still t) where
@@ -227,7 +232,10 @@ frame_view : (h : HardwareAddress) (H : Host) (frame : List ℕ) (reply : Option
 frame_view (hardware.Ethernet own) H frame reply notes new mine t = ethernet_view mine t
 frame_view hardware.Ip H frame reply notes new mine (ethernet.Ipv4 v t) =
     view_by (λ key g i. brings (AsItStands mine v refl) i) (λ key g b. (as_it_stands mine b).1) (ipv4_view t)
-frame_view hardware.Ip H frame reply notes new mine (ethernet.OtherVersion v d) = NoFragment (λ key g b. v (as_it_stands mine b).0) (drop_still d)
+frame_view hardware.Ip H frame reply notes new mine (ethernet.Ipv6 v t) = NoFragment (λ key g b. absurd (not_both _ (as_it_stands mine b).0 v)) (ipv6_still t) where
+  not_both : (n : ℕ) → n ≡ 4 → n ≡ 6 → ⊥
+  not_both n four six = omega (arith, four, six)
+frame_view hardware.Ip H frame reply notes new mine (ethernet.OtherVersion v w d) = NoFragment (λ key g b. v (as_it_stands mine b).0) (drop_still d)
 
 -- an empty frame brings none
 none_in_empty : {H : Host} {key : FragKey} {g : Fragment} → Brings H [] key g → ⊥

@@ -2,7 +2,7 @@
 use Rattle.std.proofs.Common.{◌≡◌, ℕ, List, [], ◌∷◌, ◌++◌, refl, ◌∙◌, ap, subst, Option, Some, None, arith}
 use Rattle.std.proofs.lemmas.Bool.Decides.{nat_tests}
 use Rattle.std.proofs.lemmas.List.{append-nil}
-use Rattle.std.specs.Prelude.{ℤ, pos, Bool, true, false, if◌then◌else◌}
+use Rattle.std.specs.Prelude.{ℤ, Bool, true, if◌then◌else◌}
 use Rattle.std.specs.FinMap as map
 use Rattle.net_base.specs.Device.{Event, Reception, Frame, Nothing, Withheld, Received, Asked, Sent, sent}
 use Rattle.ip_address.specs.declared.cidr.IpCidr.{IpCidr}
@@ -14,20 +14,16 @@ use Rattle.ip_address.specs.declared.hardware.HardwareAddress.TheVariants as har
 use Rattle.host_machine.specs.declared.command.Command.{Command}
 use Rattle.host_machine.specs.declared.command.Answer.{Answer}
 use Rattle.ip_address.specs.declared.ip.IpAddress.{IpAddress}
-use Rattle.ip_wire.specs.declared.ip_packet.IpRepr.{IpRepr}
-use Rattle.ip_wire.specs.declared.ip_packet.IpRepr.TheVariants as repr
 use Rattle.ip_wire.specs.declared.ipv4_packet.Ipv4Repr.{Ipv4Repr}
 use Rattle.ip_wire.specs.declared.ipv4_packet.Ipv4Fragment.{Ipv4Fragment}
-use Rattle.ip_address.specs.declared.protocol.IpProtocol.{IpProtocol}
-use Rattle.ip_address.specs.declared.protocol.IpProtocol.TheVariants as ip_protocol
 use Rattle.iface_tables.specs.declared.neighbor.Answer.TheVariants.{Found, NotFound}
-use Rattle.ip_address.specs.declared.ip.IpAddress.TheVariants.{Ipv4, Ipv6}
+use Rattle.ip_address.specs.declared.ip.IpAddress.TheVariants.{Ipv6}
 use Rattle.ip_address.specs.declared.ipv6.Ipv6Address.{Ipv6Address}
 use Rattle.ip_address.specs.Ipv6 as ipv6
 use Rattle.ip_address.specs.Ipv6.{solicited_node}
 use Rattle.address_selection.specs.Ipv6.{source_v6}
 use Rattle.host_machine.specs.Ndisc.{solicitation_for}
-use Rattle.iface_tables.specs.Neighbor.{answer_of, renewed, expiry_from}
+use Rattle.iface_tables.specs.Neighbor.{answer_of}
 use Rattle.host_machine.specs.declared.results.PollIngressSingleResult.{PollIngressSingleResult}
 use Rattle.host_machine.specs.declared.results.PollResult.{PollResult}
 use Rattle.host_machine.specs.declared.results.Turn.{Turn}
@@ -38,27 +34,17 @@ use Rattle.fragmentation.specs.declared.key.FragKey.{FragKey}
 use Rattle.fragmentation.specs.Cuts.{Piece, pieces_of, HasForm}
 use Rattle.host_machine.specs.Reassembly.{TakesFragment}
 use Rattle.ip_address.specs.Hardware.{IsOf}
-use Rattle.host_machine.specs.Real.{IsReal}
-use Rattle.host_machine.proofs.Six.{filled_of, renewed_of, arp_source_of}
+use Rattle.host_machine.proofs.Six.{filled_of, arp_source_of}
 use Rattle.host_machine.specs.Note.{Note, OfDiscovery, OfIdentification, OfCuts, Ask, Identify, Cut, PieceSent}
-use Rattle.host_machine.specs.Host.{Host, Socket, Storage, no_sockets, swept, with_left, with_neighbors, with_places}
+use Rattle.host_machine.specs.Host.{Host, Socket, swept, with_left, with_neighbors}
 use Rattle.host_machine.specs.Packet.{Packet, PacketV4}
 use Rattle.host_machine.specs.Reply.{Reply, Arp, Ip, IsDropped}
 use Rattle.host_machine.specs.Frame.{arp_frame, ip_frame, piece_frame}
 use Rattle.host_machine.specs.Arp.{TakesArp, request_for}
 use Rattle.host_machine.specs.Arp as arp
-use Rattle.host_machine.specs.Udp.{TakesUdp}
-use Rattle.host_machine.specs.Udp as udp
-use Rattle.host_machine.specs.Icmpv4.{TakesIcmpv4}
-use Rattle.host_machine.specs.Icmpv4 as icmpv4
-use Rattle.host_machine.specs.Raw as raw
-use Rattle.host_machine.specs.Tcp.{TakesTcp}
-use Rattle.host_machine.specs.Tcp as tcp
-use Rattle.host_machine.specs.Ipv4.{IsRefused, TakesProtocol, TakesWhole, TakesPacket, TakesIpv4}
+use Rattle.host_machine.specs.Ipv4.{TakesWhole, TakesPacket, TakesIpv4}
+use Rattle.host_machine.specs.Ipv6.{TakesIpv6}
 use Rattle.host_machine.specs.Ipv4 as ipv4
-use Rattle.host_machine.specs.Addresses.{is_unicast}
-use Rattle.host_machine.specs.Renewal.{sender_renewed}
-use Rattle.ip_wire.specs.IpPacket.{src_addr, dst_addr}
 use Rattle.host_machine.specs.Ethernet.{TakesPayload, TakesEthernet, TakesFrame}
 use Rattle.host_machine.specs.Ethernet as ethernet
 use Rattle.host_machine.specs.Dispatch.{Outcome, IsUnsent, Emits, Discovers, SendsByHop, SendsEthernet, SendsOver, Dispatches, identified, silenced, destination_of, group_address_v6, many_address, datagram_of}
@@ -69,47 +55,13 @@ use Rattle.host_machine.specs.Egress.{SocketTurn, Serves, Walks, SocketsSend, Se
 use Rattle.host_machine.specs.Parts.{Part}
 use Rattle.host_machine.specs.Polling.{Polls}
 use Rattle.host_machine.proofs.Malformed.{sent-sends}
+use Rattle.host_machine.proofs.Kept.{Keeps, rest_of, kept, kept_by, unread}
+use Rattle.host_machine.proofs.Plain.{IsPlain, whole_plain, ipv6_plain}
 use Rattle.host_machine.proofs.Repeated.{both, polled}
 use Rattle.host_machine.specs.Egress as egress
 use Rattle.host_machine.specs.Step.{Act, Step, Accepted, Refused, Taken, NotTaken, WithinDay, OverDay, flushed}
 use Rattle.host_machine.specs.Step as step
 use Rattle.host_machine.specs.Run.{Place, Run, Ends, Then, notes_in, told_in}
-
--- what no such law reads, set to one value
-abbrev pub rest_of : Host → Host
-rest_of H = record H { moment = pos 0; any_ip = false; routes = []; neighbors = record { known = map.empty; silent_until = H.neighbors.silent_until }; sockets = no_sockets }
-
--- what such laws read of a host stays
-pub record Keeps (old new : Host) : Type 0 where
-  pub same : rest_of new ≡ rest_of old
-  pub real : IsReal old → IsReal new
-
-pub kept : {old new : Host} → new ≡ old → Keeps old new
-kept e = record { same = ap rest_of e; real = λ r. rw e r }
-
--- a host that is another one, which keeps that
-pub kept_by : {old mid new : Host} → new ≡ mid → Keeps old mid → Keeps old new
-kept_by e k = record { same = ap rest_of e ∙ k.same; real = λ r. rw e (k.real r) }
-
--- where the neighbours stay too
-abbrev pub unread : {old new : Host} → rest_of new ≡ rest_of old → new.neighbors ≡ old.neighbors → Keeps old new
-unread {old} {new} e n = record {
-  same = e;
-  real = λ r.
-      let h : new.hardware_addr ≡ old.hardware_addr = ap (λ (K : Host). K.hardware_addr) e in
-      let c : new.capabilities ≡ old.capabilities = ap (λ (K : Host). K.capabilities) e in
-      record { own = rw (h, c) r.own; neighbors = rw (n, c) r.neighbors };
-}
-
-pub heard_kept : (r : IpRepr) (payload : List ℕ) (H : Host) → Keeps H (raw.heard r payload H)
-heard_kept r payload H = unread refl refl
-
--- a packet for the host alone may renew a neighbour, and no more
-pub sender_kept : (source : HardwareAddress) (r : IpRepr) (H : Host) → Keeps H (sender_renewed source r H)
-sender_kept source r H = by (is_unicast H.ip_addrs (dst_addr r)) where
-  by : (b : Bool) → Keeps H (if b then with_neighbors H (renewed H.neighbors (src_addr r) source (expiry_from H.moment)) else H)
-  by true = record { same = refl; real = λ x. record { own = x.own; neighbors = renewed_of H.capabilities.medium H.neighbors (src_addr r) source (expiry_from H.moment) x.neighbors } }
-  by false = unread refl refl
 
 -- a solicited-node group is one of many
 pub solicited_many : (own : List IpCidr) (target : Ipv6Address) → many_address own (Ipv6 (solicited_node target)) ≡ Some (group_address_v6 (solicited_node target))
@@ -168,41 +120,17 @@ module _ (Law : Host → List (List ℕ) → List Note → Host → Type 0)
         record { own = r.own; neighbors = filled_of H.capabilities.medium _ _ _ _ (arp_source_of H.capabilities.medium own payload there a) learns.filled r.neighbors };
   }))
 
-  placed : {H new : Host} {places : List Storage} {notes : List Note} → notes ≡ [] → new ≡ with_places H places → Law H [] notes new
-  placed n e = keeping refl n (kept_by e (unread refl refl))
-
-  udp_taken : {raw : Bool} {r : IpRepr} {H new : Host} {octets : List ℕ} {reply : Option Reply} {notes : List Note} → TakesUdp raw r H octets reply notes new → Law H [] notes new
-  udp_taken (udp.Malformed m d) = dropped d
-  udp_taken (udp.Delivered sockets u f r n e) = placed n e
-  udp_taken (udp.Unheard u none r n e) = keeping refl n (kept e)
-
-  icmpv4_taken : {r : Ipv4Repr} {H new : Host} {octets : List ℕ} {reply : Option Reply} {notes : List Note} → TakesIcmpv4 r H octets reply notes new → Law H [] notes new
-  icmpv4_taken (icmpv4.Malformed m d) = dropped d
-  icmpv4_taken (icmpv4.Taken i r n e) = placed n e
-
-  tcp_taken : {raw : Bool} {r : IpRepr} {H new : Host} {octets : List ℕ} {reply : Option Reply} {notes : List Note} → TakesTcp raw r H octets reply notes new → Law H [] notes new
-  tcp_taken (tcp.BetweenNobody b d) = dropped d
-  tcp_taken (tcp.Malformed b m d) = dropped d
-  tcp_taken (tcp.Delivered index place b t f r n e) = placed n e
-  tcp_taken (tcp.Unheard b t none r n e) = keeping refl n (kept e)
-
-  refused : {raw : Bool} {r : Ipv4Repr} {H new : Host} {octets : List ℕ} {reply : Option Reply} {notes : List Note} → IsRefused raw r H octets reply notes new → Law H [] notes new
-  refused i = keeping refl i.unnoted (kept i.unchanged)
-
-  protocol_taken : (p : IpProtocol) (raw : Bool) (r : Ipv4Repr) (H : Host) (octets : List ℕ) (reply : Option Reply) (notes : List Note) (new : Host) → TakesProtocol p raw r H octets reply notes new → Law H [] notes new
-  protocol_taken ip_protocol.Icmp raw r H octets reply notes new t = icmpv4_taken t
-  protocol_taken ip_protocol.Udp raw r H octets reply notes new t = udp_taken t
-  protocol_taken ip_protocol.Tcp raw r H octets reply notes new t = tcp_taken t
-  protocol_taken ip_protocol.Igmp raw r H octets reply notes new t = dropped t
-  protocol_taken ip_protocol.HopByHop raw r H octets reply notes new t = refused t
-  protocol_taken ip_protocol.Icmpv6 raw r H octets reply notes new t = refused t
-  protocol_taken (ip_protocol.Unknown n) raw r H octets reply notes new t = refused t
+  -- what is plain
+  plain : {H new : Host} {reply : Option Reply} {notes : List Note} → IsPlain H reply notes new → Law H [] notes new
+  plain p = keeping refl p.unnoted p.keeps
 
   pub whole_taken : {source : HardwareAddress} {r : Ipv4Repr} {H new : Host} {payload : List ℕ} {reply : Option Reply} {notes : List Note} →
       TakesWhole source r H payload reply notes new → Law H [] notes new
-  whole_taken {source} {r} {H} {new} {payload} (ipv4.NotForUs u d) = after (heard_kept (repr.Ipv4 r) payload H) (dropped d)
-  whole_taken {source} {r} {H} {new} {payload} {reply} {notes} (ipv4.Accepted u t) =
-      after (heard_kept (repr.Ipv4 r) payload H) (after (sender_kept source (repr.Ipv4 r) (raw.heard (repr.Ipv4 r) payload H)) (protocol_taken r.next_header (raw.is_taken (repr.Ipv4 r) H) r (sender_renewed source (repr.Ipv4 r) (raw.heard (repr.Ipv4 r) payload H)) payload reply notes new t))
+  whole_taken t = plain (whole_plain t)
+
+  pub ipv6_taken : {source : HardwareAddress} {H new : Host} {octets : List ℕ} {reply : Option Reply} {notes : List Note} →
+      TakesIpv6 source H octets reply notes new → Law H [] notes new
+  ipv6_taken t = plain (ipv6_plain t)
 
   -- of receiving: where a fragment comes
   module _ (fragments : (H : Host) (key : FragKey) (f : Fragment) (result : Option (List ℕ)) (notes : List Note) (new : Host) → TakesFragment key f result H notes new → Law H [] notes new) where
@@ -222,7 +150,7 @@ module _ (Law : Host → List (List ℕ) → List Note → Host → Type 0)
         H.hardware_addr ≡ hardware.Ethernet own → TakesPayload own source H p payload reply notes new → Law H [] notes new
     payload_taken own source H protocol.Arp payload reply notes new mine t = arp_taken mine t
     payload_taken own source H protocol.Ipv4 payload reply notes new mine t = ipv4_taken t
-    payload_taken own source H protocol.Ipv6 payload reply notes new mine t = dropped t
+    payload_taken own source H protocol.Ipv6 payload reply notes new mine t = ipv6_taken t
     payload_taken own source H (protocol.Unknown n) payload reply notes new mine t = dropped t
 
     ethernet_taken : {own : EthernetAddress} {H new : Host} {frame : List ℕ} {reply : Option Reply} {notes : List Note} → H.hardware_addr ≡ hardware.Ethernet own → TakesEthernet own H frame reply notes new → Law H [] notes new
@@ -233,7 +161,8 @@ module _ (Law : Host → List (List ℕ) → List Note → Host → Type 0)
     frame_taken : (h : HardwareAddress) (H : Host) (frame : List ℕ) (reply : Option Reply) (notes : List Note) (new : Host) → H.hardware_addr ≡ h → TakesFrame h H frame reply notes new → Law H [] notes new
     frame_taken (hardware.Ethernet own) H frame reply notes new mine t = ethernet_taken mine t
     frame_taken hardware.Ip H frame reply notes new mine (ethernet.Ipv4 v t) = ipv4_taken t
-    frame_taken hardware.Ip H frame reply notes new mine (ethernet.OtherVersion v d) = dropped d
+    frame_taken hardware.Ip H frame reply notes new mine (ethernet.Ipv6 v t) = ipv6_taken t
+    frame_taken hardware.Ip H frame reply notes new mine (ethernet.OtherVersion v w d) = dropped d
 
     pub taken : (H : Host) (r : Reception) (reply : Option Reply) (notes : List Note) (new : Host) → Takes H r reply notes new → Law H [] notes new
     taken H Nothing reply notes new t = dropped t

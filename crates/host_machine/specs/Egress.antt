@@ -8,7 +8,11 @@ use Rattle.ip_address.specs.declared.ip.IpAddress.{IpAddress}
 use Rattle.ip_address.specs.declared.ip.IpAddress.TheVariants as address
 use Rattle.sockets.specs.Kinds.{Offered, RawOffer, IcmpOffer, UdpOffer, TcpOffer, offered, settled, told}
 use Rattle.control_wire.specs.declared.icmpv4.Icmpv4Repr.{Icmpv4Repr}
-use Rattle.control_wire.specs.declared.icmpv4.Icmpv4Repr.TheVariants.{EchoRequest, EchoReply, DstUnreachable, TimeExceeded}
+use Rattle.control_wire.specs.declared.icmpv4.Icmpv4Repr.TheVariants as v4
+use Rattle.icmpv6_wire.specs.declared.icmpv6.Icmpv6Repr.{Icmpv6Repr}
+use Rattle.icmpv6_wire.specs.declared.icmpv6.Icmpv6Repr.TheVariants as v6
+use Rattle.control_wire.specs.declared.icmp.IcmpRepr.{IcmpRepr}
+use Rattle.control_wire.specs.declared.icmp.IcmpRepr.TheVariants as icmp
 use Rattle.socket_set.specs.SocketMeta.{Wait, IsTold, is_permitted, after_asking}
 use Rattle.socket_set.specs.SocketSet.{wait_at, with_place, with_wait}
 use Rattle.host_machine.specs.declared.results.PollResult.{PollResult}
@@ -20,7 +24,7 @@ use Rattle.host_machine.specs.Note.{Note, OfCuts, PieceSent}
 use Rattle.host_machine.specs.Host.{Host, Socket, at, with_left}
 use Rattle.host_machine.specs.Parts.{Part, Both}
 use Rattle.host_machine.specs.Addresses.{source_for}
-use Rattle.host_machine.specs.Packet.{IpPayload, Icmpv4, Udp, Tcp, Raw, Packet, Ipv4, Ipv6}
+use Rattle.host_machine.specs.Packet.{IpPayload, Icmpv4, Icmpv6, Udp, Tcp, Raw, Packet, Ipv4, Ipv6}
 use Rattle.host_machine.specs.Frame.{sends, piece_frame}
 use Rattle.host_machine.specs.Dispatch.{Outcome, Dispatches, KnowsNextHop, destination_of}
 
@@ -34,11 +38,24 @@ packet_between (address.Ipv6 src) (address.Ipv6 dst) hop_limit payload =
     Some (Ipv6 (record { src_addr = src; dst_addr = dst; hop_limit = hop_limit; payload = payload }))
 
 -- an ICMP socket sends echo messages alone
-abbrev pub if_echo : Icmpv4Repr → List ℕ → Option IpPayload
-if_echo (EchoRequest ident seq_no) octets = Some (Icmpv4 (EchoRequest ident seq_no) octets)
-if_echo (EchoReply ident seq_no) octets = Some (Icmpv4 (EchoReply ident seq_no) octets)
-if_echo (DstUnreachable reason header) octets = None
-if_echo (TimeExceeded code header) octets = None
+abbrev pub if_echo_v4 : Icmpv4Repr → List ℕ → Option IpPayload
+if_echo_v4 (v4.EchoRequest ident seq_no) octets = Some (Icmpv4 (v4.EchoRequest ident seq_no) octets)
+if_echo_v4 (v4.EchoReply ident seq_no) octets = Some (Icmpv4 (v4.EchoReply ident seq_no) octets)
+if_echo_v4 (v4.DstUnreachable reason header) octets = None
+if_echo_v4 (v4.TimeExceeded code header) octets = None
+
+abbrev pub if_echo_v6 : Icmpv6Repr → List ℕ → Option IpPayload
+if_echo_v6 (v6.EchoRequest ident seq_no) octets = Some (Icmpv6 (v6.EchoRequest ident seq_no) octets)
+if_echo_v6 (v6.EchoReply ident seq_no) octets = Some (Icmpv6 (v6.EchoReply ident seq_no) octets)
+if_echo_v6 (v6.DstUnreachable reason header) octets = None
+if_echo_v6 (v6.PktTooBig mtu header) octets = None
+if_echo_v6 (v6.TimeExceeded code header) octets = None
+if_echo_v6 (v6.ParamProblem reason pointer header) octets = None
+if_echo_v6 (v6.Ndisc message) octets = None
+
+abbrev pub if_echo : IcmpRepr → List ℕ → Option IpPayload
+if_echo (icmp.Ipv4 message) octets = if_echo_v4 message octets
+if_echo (icmp.Ipv6 message) octets = if_echo_v6 message octets
 
 -- what a socket offers as a packet; a raw socket's header is written anew from its addresses, its protocol and its hop limit
 abbrev pub packet_of : Offered → Option Packet

@@ -12,6 +12,7 @@ use Rattle.ip_wire.specs.declared.ethernet.EthernetProtocol.TheVariants as proto
 use Rattle.ip_wire.specs.Ethernet.{header_in}
 use Rattle.ip_wire.specs.Arp.{IsArp}
 use Rattle.ip_wire.specs.Ipv4Packet.{IsIpv4}
+use Rattle.ipv6_wire.specs.Ipv6Packet.{IsIpv6}
 use Rattle.iface_tables.specs.Neighbor.{answer_of}
 use Rattle.iface_tables.specs.declared.neighbor.Answer.TheVariants.{Found}
 use Rattle.host_machine.specs.declared.results.PollIngressSingleResult.{PollIngressSingleResult}
@@ -27,16 +28,17 @@ use Rattle.host_machine.specs.Frames.{ComesInFrames}
 use Rattle.host_machine.specs.Run.{Place, Run}
 use Rattle.host_machine.specs.Ran.{Laws}
 
--- a frame whose Ethernet, ARP or IPv4 header is malformed
+-- a frame whose header of Ethernet, ARP, IPv4 or IPv6 is malformed
 pub data IsMalformedFrame (checksum : ChecksumCapabilities) (frame : List ℕ) : Type 0 where
   Ethernet : ¬ (14 ≤ length frame) → IsMalformedFrame checksum frame
   Arp : (header_in frame).ethertype ≡ protocol.Arp → ¬ IsArp (drop 14 frame) → IsMalformedFrame checksum frame
   Ipv4 : (header_in frame).ethertype ≡ protocol.Ipv4 → ¬ IsIpv4 (is_rx checksum.ipv4) (drop 14 frame) → IsMalformedFrame checksum frame
+  Ipv6 : (header_in frame).ethertype ≡ protocol.Ipv6 → ¬ IsIpv6 (drop 14 frame) → IsMalformedFrame checksum frame
 
--- by the medium: without hardware addresses a packet whose IPv4 header is malformed
+-- by the medium: without hardware addresses what begins with no packet of IPv4 and with none of IPv6
 abbrev pub IsMalformed : HardwareAddress → ChecksumCapabilities → List ℕ → Type 0
 IsMalformed (hardware.Ethernet own) checksum frame = IsMalformedFrame checksum frame
-IsMalformed hardware.Ip checksum frame = ¬ IsIpv4 (is_rx checksum.ipv4) frame
+IsMalformed hardware.Ip checksum frame = (¬ IsIpv4 (is_rx checksum.ipv4) frame) × (¬ IsIpv6 frame)
 
 -- where such a frame was handed over nothing is sent, and the host is as after the same call without a frame, which drops ended slots
 abbrev pub MalformedIsDropped : Type 0

@@ -7,15 +7,18 @@ pub mod Frame
 pub mod Arp
 pub mod Delivery
 pub mod Raw
+pub mod Icmp
 pub mod Icmpv4
+pub mod Ndisc
+pub mod Icmpv6
 pub mod Unreachable
 pub mod Udp
 pub mod Tcp
 pub mod Reassembly
 pub mod Renewal
 pub mod Ipv4
+pub mod Ipv6
 pub mod Ethernet
-pub mod Ndisc
 pub mod Dispatch
 pub mod Response
 pub mod Ingress
@@ -40,5 +43,6 @@ pub mod Laws
 pub mod Example
 pub mod ExampleSockets
 pub mod ExampleDiscovery
+pub mod ExampleIpv6
 pub mod ExamplePolling
 pub mod ExampleFragments

@@ -1,11 +1,25 @@
--- Neighbour discovery of IPv6: what a host sends to find a neighbour (RFC 4861 7.2.2).
-use Rattle.std.specs.Prelude.{[], Some}
+-- Neighbour discovery of IPv6 (RFC 4861 7.2): how a host finds a neighbour, is found, and learns from messages.
+use Rattle.std.specs.Prelude.{◌≡◌, ℕ, ◌==◌, ◌&&◌, ◌||◌, not, Bool, true, false, List, [], Option, Some, None, if◌then◌else◌}
+use Rattle.std.specs.Int.RustNames.{bit_and}
 use Rattle.ip_address.specs.declared.ethernet_address.EthernetAddress.{EthernetAddress}
+use Rattle.ip_address.specs.declared.hardware.HardwareAddress.{HardwareAddress}
+use Rattle.ip_address.specs.declared.hardware.HardwareAddress.TheVariants as hardware
 use Rattle.ip_address.specs.declared.ipv6.Ipv6Address.{Ipv6Address}
+use Rattle.ip_address.specs.declared.ip.IpAddress.TheVariants as address
+use Rattle.ip_address.specs.EthernetAddress as ethernet
+use Rattle.ip_address.specs.Ipv6 as ipv6
 use Rattle.ip_address.specs.Ipv6.{solicited_node}
+use Rattle.ipv6_wire.specs.declared.ipv6_packet.Ipv6Repr.{Ipv6Repr}
 use Rattle.icmpv6_wire.specs.declared.icmpv6.Icmpv6Repr.TheVariants.{Ndisc}
-use Rattle.icmpv6_wire.specs.declared.ndisc.NdiscRepr.TheVariants.{NeighborSolicit}
+use Rattle.icmpv6_wire.specs.declared.ndisc.NdiscNeighborFlags.{NdiscNeighborFlags}
+use Rattle.icmpv6_wire.specs.declared.ndisc.NdiscRepr.{NdiscRepr}
+use Rattle.icmpv6_wire.specs.declared.ndisc.NdiscRepr.TheVariants.{NeighborSolicit, NeighborAdvert}
+use Rattle.iface_tables.specs.Neighbor.{Neighbors, Fills, answer_of, expiry_from, is_found}
+use Rattle.host_machine.specs.Note.{Note}
+use Rattle.host_machine.specs.Host.{Host, has_ip_addr, is_assigned, with_neighbors}
+use Rattle.host_machine.specs.Addresses.{has_solicited_node}
 use Rattle.host_machine.specs.Packet.{Packet, Ipv6, Icmpv6}
+use Rattle.host_machine.specs.Reply.{Reply, Ip, IsDropped}
 
 -- the solicitation for the hardware address of a target: to its solicited-node group, with the host's own address, and with a hop limit
 -- that tells that no router passed it on
@@ -16,3 +30,75 @@ solicitation_for own source target = Ipv6 (record {
   hop_limit = 255;
   payload = Icmpv6 (Ndisc (NeighborSolicit target (Some own))) [];
 })
+
+-- it was asked for
+abbrev pub solicited : NdiscNeighborFlags
+solicited = record { 0 = 0x40 }
+
+-- it takes the place of what is known
+abbrev pub overrides : NdiscNeighborFlags → Bool
+overrides flags = bit_and flags.0 0x20 == 0x20
+
+-- the advertisement that answers a solicitation for a target
+abbrev pub advertisement_of : EthernetAddress → Ipv6Repr → Ipv6Address → Packet
+advertisement_of own r target = Ipv6 (record {
+  src_addr = target;
+  dst_addr = r.src_addr;
+  hop_limit = 255;
+  payload = Icmpv6 (Ndisc (NeighborAdvert solicited target (Some own))) [];
+})
+
+-- the hardware address that a message tells, if it is one host's and so is the target
+abbrev pub told_by : Option EthernetAddress → Ipv6Address → Option EthernetAddress
+told_by None target = None
+told_by (Some h) target = if ethernet.is_unicast h && ipv6.is_unicast target then Some h else None
+
+-- a message tells an address that isn't one host's, or for a target that isn't
+abbrev pub tells_of_nobody : Option EthernetAddress → Ipv6Address → Bool
+tells_of_nobody None target = false
+tells_of_nobody (Some h) target = not (ethernet.is_unicast h && ipv6.is_unicast target)
+
+-- a neighbour is known at a hardware address for 60 seconds, and nothing else changes
+pub record LearnsNeighbor (H : Host) (a : Ipv6Address) (h : EthernetAddress) (new : Host) : Type 0 where
+  pub neighbors : Neighbors
+  pub filled : Fills H.neighbors neighbors (address.Ipv6 a) (record { hardware_addr = hardware.Ethernet h; expires_at = expiry_from H.moment })
+  pub same : new ≡ with_neighbors H neighbors
+
+-- what there is to learn is learnt, and else nothing changes
+abbrev pub Learns : Option EthernetAddress → Ipv6Address → Host → Host → Type 0
+Learns None a H new = new ≡ H
+Learns (Some h) a H new = LearnsNeighbor H a h new
+
+-- what an advertisement teaches: its address, if it overrides, or where nobody is known (RFC 4861 7.2.5)
+abbrev pub advertised : Host → Ipv6Repr → NdiscNeighborFlags → Ipv6Address → Option EthernetAddress → Option EthernetAddress
+advertised H r flags target lladdr =
+    if overrides flags || not (is_found (answer_of H.neighbors (address.Ipv6 r.src_addr) H.moment)) then told_by lladdr target else None
+
+-- a solicitation asks for the host: it goes to a solicited-node group of its own, or to an address that was given to it, but ::1, and its
+-- target is an own address (RFC 4861 7.2.3)
+abbrev pub asks_for : Host → Ipv6Repr → Ipv6Address → Bool
+asks_for H r target =
+    (has_solicited_node H.ip_addrs r.dst_addr || (is_assigned H.ip_addrs (address.Ipv6 r.dst_addr) && not (ipv6.is_loopback r.dst_addr)))
+    && has_ip_addr H (address.Ipv6 target)
+
+-- a solicitation is answered by an advertisement, if it asks for the host (RFC 4861 7.2.4)
+abbrev pub answer_by : EthernetAddress → Host → Ipv6Repr → Ipv6Address → Option Reply
+answer_by own H r target = if asks_for H r target then Some (Ip (advertisement_of own r target)) else None
+
+-- what a message brings about that came on a link with hardware addresses, from a neighbour
+pub data HearsNeighbor (own : EthernetAddress) (r : Ipv6Repr) (H : Host) (reply : Option Reply) (notes : List Note) (new : Host) : NdiscRepr → Type 0 where
+  Advertised : (flags : NdiscNeighborFlags) (target : Ipv6Address) (lladdr : Option EthernetAddress) →
+      Learns (advertised H r flags target lladdr) r.src_addr H new → reply ≡ None → notes ≡ [] →
+      HearsNeighbor own r H reply notes new (NeighborAdvert flags target lladdr)
+  OfNobody : (target : Ipv6Address) (lladdr : Option EthernetAddress) → tells_of_nobody lladdr target ≡ true → IsDropped H reply notes new →
+      HearsNeighbor own r H reply notes new (NeighborSolicit target lladdr)
+  Solicited : (target : Ipv6Address) (lladdr : Option EthernetAddress) → tells_of_nobody lladdr target ≡ false →
+      Learns (told_by lladdr target) r.src_addr H new → reply ≡ answer_by own H r target → notes ≡ [] →
+      HearsNeighbor own r H reply notes new (NeighborSolicit target lladdr)
+
+-- messages count that no router passed on, and on a link with hardware addresses (RFC 4861 7.1)
+pub data TakesNdisc (r : Ipv6Repr) (message : NdiscRepr) (H : Host) (reply : Option Reply) (notes : List Note) (new : Host) : Type 0 where
+  FromAfar : (r.hop_limit == 255) ≡ false → IsDropped H reply notes new → TakesNdisc r message H reply notes new
+  WithoutAddresses : H.hardware_addr ≡ hardware.Ip → IsDropped H reply notes new → TakesNdisc r message H reply notes new
+  FromNeighbor : (own : EthernetAddress) → (r.hop_limit == 255) ≡ true → H.hardware_addr ≡ hardware.Ethernet own →
+      HearsNeighbor own r H reply notes new message → TakesNdisc r message H reply notes new

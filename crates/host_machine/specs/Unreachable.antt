@@ -1,13 +1,14 @@
--- Errors for what nobody takes, by the family of the packet (RFC 1122 3.2.2.1).
-use Rattle.std.specs.Prelude.{ℕ, Bool, List, Option, None}
+-- Errors for a port at which nobody listens, by the family of the packet (RFC 1122 3.2.2.1, RFC 4443 3.1), unless a raw socket took the
+-- packet.
+use Rattle.std.specs.Prelude.{ℕ, Bool, List, Option}
 use Rattle.ip_address.specs.declared.cidr.IpCidr.{IpCidr}
 use Rattle.ip_wire.specs.declared.ip_packet.IpRepr.{IpRepr}
 use Rattle.ip_wire.specs.declared.ip_packet.IpRepr.TheVariants.{Ipv4, Ipv6}
 use Rattle.control_wire.specs.declared.icmpv4.Icmpv4DstUnreachable.TheVariants.{PortUnreachable}
 use Rattle.host_machine.specs.Icmpv4.{unreachable}
+use Rattle.host_machine.specs.Icmpv6 as icmpv6
 use Rattle.host_machine.specs.Reply.{Reply}
 
--- the error for a datagram to a port at which nobody listens, unless a raw socket took the packet; over IPv6 there is none yet
 abbrev pub port_unreachable : Bool → List IpCidr → IpRepr → List ℕ → Option Reply
 port_unreachable by_raw own (Ipv4 r) payload = unreachable by_raw own PortUnreachable r payload
-port_unreachable by_raw own (Ipv6 r) payload = None
+port_unreachable by_raw own (Ipv6 r) payload = icmpv6.port_unreachable by_raw own r payload

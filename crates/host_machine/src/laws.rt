@@ -2,6 +2,7 @@
 ghost use Rattle.host_machine.specs.Example.{EchoIsAnswered, PacketIsAnswered, RequestIsAnswered, SenderIsDiscovered};
 ghost use Rattle.host_machine.specs.Arrivals.{FewAreKept, PiecesAreRebuilt, PiecesComeInTime};
 ghost use Rattle.host_machine.specs.ExampleDiscovery.{NeighborIsSolicited};
+ghost use Rattle.host_machine.specs.ExampleIpv6 as ipv6;
 ghost use Rattle.host_machine.specs.ExampleFragments.{DatagramIsRebuilt, FragmentWaits, PacketGoesInPieces, TenAreCut, TimeoutsAreTested};
 ghost use Rattle.host_machine.specs.ExamplePolling.{RequestIsPolled, WaitIsDue};
 ghost use Rattle.host_machine.specs.ExampleSockets.{ConfigurationsAreTested, ConnectionIsReset, DatagramIsDelivered, DatagramIsRefused, ProtocolIsRefused, RawSocketHears, SocketWaits, WindowFitsBurst};
@@ -11,8 +12,8 @@ ghost use Rattle.host_machine.specs.Unfolded.{RunsUnfold};
 ghost use Rattle.host_machine.specs.TwoHosts.{PiecesAreRead, RebuildsWhatWasCut};
 ghost use Rattle.host_machine.specs.Wire.{FragmentsArePieces, StaysReal};
 
-/// A frame whose Ethernet, ARP or IPv4 header is malformed sends nothing, and leaves the host as the same
-/// call without a frame does, which drops slots that have ended.
+/// A frame whose header of Ethernet, ARP, IPv4 or IPv6 is malformed sends nothing, and leaves the host as
+/// the same call without a frame does, which drops slots that have ended.
 pub fn malformed_is_dropped()
     ensures { MalformedIsDropped }
 {}
@@ -122,6 +123,21 @@ pub fn sender_is_discovered()
 /// place of the packet.
 pub fn neighbor_is_solicited()
     ensures { NeighborIsSolicited }
+{}
+
+/// A neighbour that asks for the host is answered by an advertisement, and known from then on.
+pub fn solicitation_is_answered()
+    ensures { ipv6.SolicitationIsAnswered }
+{}
+
+/// A datagram over IPv6 reaches the socket that listens at its port.
+pub fn ipv6_datagram_is_delivered()
+    ensures { ipv6.DatagramIsDelivered }
+{}
+
+/// A datagram over IPv6 goes to the neighbour that is known.
+pub fn ipv6_datagram_is_sent()
+    ensures { ipv6.DatagramIsSent }
 {}
 
 /// A worked example: a datagram reaches the socket that listens at its port.

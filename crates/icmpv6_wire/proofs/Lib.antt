@@ -2,3 +2,4 @@ pub mod Icmpv6Again
 pub mod Icmpv6Sums
 pub mod NdiscAgain
 pub mod NdiscOptions
+pub mod NdiscSix

@@ -74,3 +74,12 @@ IsLinkLayerAddr (Some address) = length address.0 ≡ 6
 abbrev pub IsNeighbor : NdiscRepr → Type 0
 IsNeighbor (NeighborSolicit target lladdr) = (target.bits < 2 ^ 128) × IsLinkLayerAddr lladdr
 IsNeighbor (NeighborAdvert flags target lladdr) = (flags_of flags.0 ≡ flags.0) × (target.bits < 2 ^ 128) × IsLinkLayerAddr lladdr
+
+-- the link-layer address that a message tells, if it tells one
+abbrev pub lladdr_of : NdiscRepr → Option EthernetAddress
+lladdr_of (NeighborSolicit target lladdr) = lladdr
+lladdr_of (NeighborAdvert flags target lladdr) = lladdr
+
+-- that of each message that is read has six octets
+abbrev pub LinkLayerAddrsAreSix : Type 0
+LinkLayerAddrsAreSix = (octets : List ℕ) → IsNdisc octets → IsLinkLayerAddr (lladdr_of (ndisc_in octets))

@@ -169,3 +169,8 @@ fn flags_of(octet: u8) -> NdiscNeighborFlags
 {
     NdiscNeighborFlags::from_bits_truncate(octet)
 }
+
+/// The link-layer address that a message tells, if it tells one, has six octets.
+pub fn link_layer_addrs_are_six()
+    ensures { spec.LinkLayerAddrsAreSix }
+{}

@@ -19,8 +19,9 @@ ghost use Rattle.iface_egress.specs.Told.{Told};
 ghost use Rattle.iface_egress.specs.Turns.{HasTurn, IsDecided, PieceHasTurn};
 
 use crate::transmit::send_frame;
-use control_wire::Icmpv4Repr;
+use control_wire::{IcmpRepr, Icmpv4Repr};
 use host_machine::Turn;
+use icmpv6_wire::Icmpv6Repr;
 use iface_send::dispatch::{dispatch, has_neighbor};
 use iface_send::fragments::emit_next_piece;
 use iface_send::{Context, IpPayload, Packet, PacketV4, PacketV6};
@@ -188,17 +189,26 @@ fn icmp_packet<'p>(packet: &icmp::Packet<'p>) -> Option<Packet<'p>>
     ensures value { option_map shown.packet result ≡ spec.packet_of (kinds.IcmpOffer (icmp.shown packet.now)) }
     ensures writable { IfSome result (λ p. IsWritable (shown.packet p)) }
 {
-    match packet.repr {
-        Icmpv4Repr::EchoRequest { .. } | Icmpv4Repr::EchoReply { .. } => {
-            let payload = IpPayload::Icmpv4(packet.repr, packet.payload);
-            packet_between(
-                &packet.src_addr,
-                &packet.dst_addr,
-                packet.hop_limit,
-                payload,
-            )
-        }
-        Icmpv4Repr::DstUnreachable { .. } | Icmpv4Repr::TimeExceeded { .. } => None,
+    let payload = echo_payload(&packet.repr, packet.payload)?;
+    packet_between(
+        &packet.src_addr,
+        &packet.dst_addr,
+        packet.hop_limit,
+        payload,
+    )
+}
+
+/// A message as a payload, if it is an echo message.
+fn echo_payload<'p>(repr: &IcmpRepr, octets: &'p [u8]) -> Option<IpPayload<'p>>
+    ensures value { option_map shown.payload result ≡ spec.if_echo repr.now octets.now }
+    ensures writable { IfSome result (λ p. IsWritablePayload (shown.payload p)) }
+{
+    match repr {
+        IcmpRepr::Ipv4(message @ (Icmpv4Repr::EchoRequest { .. } | Icmpv4Repr::EchoReply { .. })) =>
+            Some(IpPayload::Icmpv4(*message, octets)),
+        IcmpRepr::Ipv6(message @ (Icmpv6Repr::EchoRequest { .. } | Icmpv6Repr::EchoReply { .. })) =>
+            Some(IpPayload::Icmpv6(*message, octets)),
+        _ => None,
     }
 }
 

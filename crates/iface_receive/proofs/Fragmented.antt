@@ -22,8 +22,8 @@ use Rattle.host_machine.specs.Ipv4.{TakesPacket, TakesWhole, Part, Completed, Wh
 use Rattle.iface_send.specs.declared.context.Context.{Context}
 use Rattle.iface_send.specs.Stands.{host_in, host_of}
 use Rattle.iface_receive.specs.Ipv4.{Datagram, Own, Together, end_of_slots}
-use Rattle.iface_receive.specs.Processed.{Answers, Processed, StandsFor}
-use Rattle.iface_receive.proofs.Processing.{by_rule, in_place}
+use Rattle.iface_protocols.specs.Processed.{Answers, Processed, StandsFor}
+use Rattle.iface_protocols.proofs.Processing.{by_rule, in_place}
 
 abbrev in_some : Option (List ℕ) → List ℕ
 in_some (Some octets) = octets

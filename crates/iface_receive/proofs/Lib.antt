@@ -1,4 +1,3 @@
-mod Processing
 mod Fragmented
 mod Received
-mod Each
+mod ReceivedV6

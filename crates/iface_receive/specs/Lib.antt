@@ -1,3 +1,1 @@
-pub mod Processed
 pub mod Ipv4
-pub mod Segment

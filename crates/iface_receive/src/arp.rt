@@ -7,7 +7,7 @@ ghost use Rattle.host_machine.specs.Arp.{TakesArp, answer_by, listens, reply_to}
 ghost use Rattle.host_machine.specs.Response.{Responds};
 ghost use Rattle.iface_send.specs.Built.{Built};
 ghost use Rattle.iface_send.specs.Stands.{host_of};
-ghost use Rattle.iface_receive.specs.Processed.{Processed};
+ghost use Rattle.iface_protocols.specs.Processed.{Processed};
 
 use iface_send::Context;
 use iface_send::neighbors::fill_neighbor;

@@ -3,10 +3,11 @@ ghost use Rattle.std.specs.Prelude.{◌≡◌, ◌<◌, [], length};
 ghost use Rattle.host_machine.specs.Ethernet.{TakesFrame, TakesEthernet, TakesIp, TakesPayload, is_for};
 ghost use Rattle.host_machine.specs.Host.{no_sockets};
 ghost use Rattle.iface_send.specs.Stands.{host_of};
-ghost use Rattle.iface_receive.specs.Processed.{Answers, StandsFor};
+ghost use Rattle.iface_protocols.specs.Processed.{Answers, StandsFor};
 
 use crate::arp::process_arp;
 use crate::ipv4::process_ipv4;
+use crate::ipv6::process_ipv6;
 use fragmentation::{FragKey, PacketAssemblerSet};
 use iface_send::Context;
 use ip_wire::emit::FrameBuffer;
@@ -36,7 +37,7 @@ pub fn process_frame(
 }
 
 /// Takes a packet on a medium without hardware addresses, by its version, and builds the response, if
-/// there is one, in an empty buffer. It has to have an octet. IPv6 isn't there yet.
+/// there is one, in an empty buffer. It has to have an octet.
 #[inline(always)]
 pub fn process_ip(
     context: &mut Context,
@@ -49,15 +50,11 @@ pub fn process_ip(
     requires some { 0 < length packet.now }
     ensures { Answers out.new (λ H. TakesIp H packet.now) (StandsFor context.old fragments.old sockets.old) (StandsFor context.new fragments.new sockets.new) }
 {
-    if packet[0] / 16 == 4 {
-        process_ipv4(
-            context,
-            sockets,
-            fragments,
-            HardwareAddress::Ip,
-            packet,
-            out,
-        );
+    let source = HardwareAddress::Ip;
+    match packet[0] / 16 {
+        4 => process_ipv4(context, sockets, fragments, source, packet, out),
+        6 => process_ipv6(context, sockets, source, packet, out),
+        _ => {}
     }
 }
 
@@ -106,7 +103,11 @@ fn process_payload(
             let source = HardwareAddress::Ethernet(header.src_addr);
             process_ipv4(context, sockets, fragments, source, payload, out);
         }
-        EthernetProtocol::Ipv6 | EthernetProtocol::Unknown(_) => {}
+        EthernetProtocol::Ipv6 => {
+            let source = HardwareAddress::Ethernet(header.src_addr);
+            process_ipv6(context, sockets, source, payload, out);
+        }
+        EthernetProtocol::Unknown(_) => {}
     }
 }
 

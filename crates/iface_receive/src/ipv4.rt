@@ -1,25 +1,23 @@
 //! What an interface does with IPv4 packets (RFC 791, RFC 1122 3.2.1).
 ghost use Rattle.std.specs.Prelude.{◌≡◌, ◌+◌, ◌<◌, ◌≤◌, ◌^◌, [], length, IfSome};
 ghost use Rattle.std.specs.Borrow.{sem};
-ghost use Rattle.fragmentation.specs.Slots.{Slots};
 ghost use Rattle.fragmentation.specs.Reassembled.{RestsReassembled};
-ghost use Rattle.host_machine.specs.Host.{SocketSet, no_sockets};
+ghost use Rattle.host_machine.specs.Host.{no_sockets};
 ghost use Rattle.host_machine.specs.Addresses as addresses;
 ghost use Rattle.host_machine.specs.Ipv4.{TakesIpv4, TakesProtocol, TakesWhole};
 ghost use Rattle.host_machine.specs.Ipv4 as spec;
-ghost use Rattle.host_machine.specs.Renewal.{sender_renewed};
-ghost use Rattle.iface_send.specs.Stands.{host_in, host_of};
+ghost use Rattle.iface_send.specs.Stands.{host_of};
 ghost use Rattle.iface_receive.specs.Ipv4.{RestsDatagram, end_of_slots};
-ghost use Rattle.iface_receive.specs.Processed.{Answers, Processed, StandsFor};
+ghost use Rattle.iface_protocols.specs.Processed.{Answers, Processed, StandsFor};
 
-use crate::icmpv4::{process_icmpv4, refuse};
-use crate::raw;
-use crate::tcp::process_tcp;
-use crate::udp::process_udp;
+use crate::renewal::renew_sender;
 use control_wire::icmpv4::Icmpv4DstUnreachable;
 use fragmentation::{FragKey, PacketAssemblerSet, reassemble};
+use iface_protocols::icmpv4::{process_icmpv4, refuse};
+use iface_protocols::raw;
+use iface_protocols::tcp::process_tcp;
+use iface_protocols::udp::process_udp;
 use iface_send::Context;
-use iface_send::neighbors::renew_neighbor;
 use ip_wire::emit::FrameBuffer;
 use ip_wire::{HardwareAddress, IpProtocol, IpRepr, Ipv4Address, Ipv4Fragment, Ipv4Repr};
 use socket_set::SocketSet;
@@ -138,15 +136,6 @@ fn may_be_source(context: &Context, address: &Ipv4Address) -> bool
     ensures { result ≡ addresses.may_be_source (host_of context.now no_sockets).ip_addrs address.now }
 {
     context.is_unicast_v4(address) || address.is_unspecified()
-}
-
-/// Keeps the sender of a packet to the interface alone for another 60 s.
-fn renew_sender(context: &mut Context, source: HardwareAddress, header: &IpRepr)
-    ensures { (slots : Slots) (sockets : SocketSet) → host_in context.new slots sockets ≡ sender_renewed source header.now (host_in context.old slots sockets) }
-{
-    if context.is_unicast(&header.dst_addr()) {
-        renew_neighbor(context, header.src_addr(), source);
-    }
 }
 
 /// Takes a payload by its protocol, where `by_raw` tells whether a raw socket took the packet. For a

@@ -1,14 +1,12 @@
-//! What an interface takes: one frame in, by its link, its network and its transport, and at most one
-//! frame built in response.
+//! What an interface takes: one frame in, by its link and its network, and at most one frame built in
+//! response.
 //!
 //! Begin with [`ethernet::process_frame`].
 #![tactic(auto)]
 
 pub mod arp;
 pub mod ethernet;
-pub mod icmpv4;
+mod hop_by_hop;
 pub mod ipv4;
-pub mod raw;
-pub mod tcp;
-pub mod udp;
-mod unreachable;
+pub mod ipv6;
+mod renewal;

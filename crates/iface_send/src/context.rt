@@ -118,6 +118,13 @@ impl Context {
         self.any_ip || is_assigned(self.ip_addrs.as_slice(), address)
     }
 
+    /// Whether an address is one that was given to the interface.
+    pub fn is_assigned(&self, address: &IpAddress) -> bool
+        ensures { result ≡ host.is_assigned (host_of self.now no_sockets).ip_addrs address.now }
+    {
+        is_assigned(self.ip_addrs.as_slice(), address)
+    }
+
     /// Whether an address is in a network of the interface's own.
     pub fn in_same_network(&self, address: &IpAddress) -> bool
         ensures { result ≡ host.in_same_network (host_of self.now no_sockets).ip_addrs address.now }

@@ -2,12 +2,23 @@
 ghost use Rattle.std.specs.Prelude.{◌≡◌, List, [], true};
 ghost use Rattle.ip_address.specs.Hardware as hardware;
 ghost use Rattle.ip_address.specs.Ip.{is_unicast};
-ghost use Rattle.iface_tables.specs.Neighbor.{Fills, renewed, expiry_from};
+ghost use Rattle.iface_tables.specs.Neighbor.{Fills, answer_of, expiry_from, is_found, renewed};
 ghost use Rattle.host_machine.specs.Host.{SocketSet, with_neighbors, no_sockets};
 ghost use Rattle.iface_send.specs.Stands.{host_of};
 
 use crate::context::Context;
 use ip_wire::{HardwareAddress, IpAddress};
+
+/// Whether a neighbour is known now. Its address has to be unicast.
+pub fn is_known(context: &Context, protocol_addr: &IpAddress) -> bool
+    requires { is_unicast protocol_addr.now ≡ true }
+    ensures { result ≡ is_found (answer_of (host_of context.now no_sockets).neighbors protocol_addr.now (host_of context.now no_sockets).moment) }
+{
+    context
+        .neighbor_cache
+        .lookup(protocol_addr, context.moment)
+        .found()
+}
 
 /// Puts a neighbour at its address for 60 s from the moment on. Both addresses have to be unicast.
 pub fn fill_neighbor(

@@ -11,7 +11,7 @@ use Rattle.host_machine.specs.Host.{Host, SocketSet, at}
 use Rattle.host_machine.specs.Egress.{SocketsSend, Round, Egress, answer_of}
 use Rattle.iface_send.specs.declared.context.Context.{Context}
 use Rattle.iface_send.specs.Stands.{host_in}
-use Rattle.iface_receive.specs.Processed.{StandsFor}
+use Rattle.iface_protocols.specs.Processed.{StandsFor}
 use Rattle.iface_egress.specs.Told.{Told}
 use Rattle.iface_egress.specs.Turns.{PieceHasTurn}
 use Rattle.interface.specs.Goes.{Went}

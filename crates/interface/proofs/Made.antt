@@ -13,7 +13,7 @@ use Rattle.fragmentation.specs.Stands.{StandForSlots}
 use Rattle.host_machine.specs.Host.{SocketSet, with_slots}
 use Rattle.iface_send.specs.declared.context.Context.{Context}
 use Rattle.iface_send.specs.Stands.{host_of}
-use Rattle.iface_receive.specs.Processed.{StandsFor}
+use Rattle.iface_protocols.specs.Processed.{StandsFor}
 use Rattle.host_machine.specs.Config.{refusal_of, same_medium, first_host, first_id}
 
 -- no reason to refuse holds

@@ -11,7 +11,7 @@ use Rattle.host_machine.specs.Frame.{frames_in, sends}
 use Rattle.host_machine.specs.Ethernet.{TakesFrame}
 use Rattle.host_machine.specs.Response.{Response}
 use Rattle.host_machine.specs.Ingress.{Ingress, Takes, answer_to}
-use Rattle.iface_receive.specs.Processed.{Answers, Responded}
+use Rattle.iface_protocols.specs.Processed.{Answers, Responded}
 use Rattle.interface.specs.Goes.{Went}
 use Rattle.interface.specs.Receives.{FrameReceived, frames_shown}
 

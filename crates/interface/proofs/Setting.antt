@@ -6,7 +6,7 @@ use Rattle.fragmentation.specs.Slots.{Slots}
 use Rattle.host_machine.specs.Host.{Host, SocketSet, with_slots}
 use Rattle.iface_send.specs.declared.context.Context.{Context}
 use Rattle.iface_send.specs.Stands.{host_of}
-use Rattle.iface_receive.specs.Processed.{StandsFor}
+use Rattle.iface_protocols.specs.Processed.{StandsFor}
 use Rattle.interface.specs.Stands.{Led}
 
 module _ (c c' : Context) (places : List (Assembly FragKey)) (sockets : SocketSet) (H : Host) (h : StandsFor c places sockets H) where

@@ -7,7 +7,7 @@ use Rattle.iface_tables.specs.declared.route.Route.{Route}
 use Rattle.iface_send.specs.declared.context.Context.{Context}
 use Rattle.iface_send.specs.Stands.{host_of}
 use Rattle.iface_send.specs.Stands as context
-use Rattle.iface_receive.specs.Processed as processed
+use Rattle.iface_protocols.specs.Processed as processed
 use Rattle.interface.specs.declared.interface.Interface.{Interface}
 
 -- the host of what an interface knows, and of these sockets, without what its slots have: its buffers are no part of its meaning

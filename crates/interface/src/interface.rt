@@ -6,8 +6,8 @@ ghost use Rattle.host_machine.specs.Config.{same_medium, hardware_refusal_of};
 ghost use Rattle.host_machine.specs.Host.{SocketSet, are_assignable};
 ghost use Rattle.host_machine.specs.Ingress.{Takes};
 ghost use Rattle.net_base.specs.Device.{Frame};
-ghost use Rattle.iface_receive.specs.Processed.{Answers};
-ghost use Rattle.iface_receive.specs.Processed as processed;
+ghost use Rattle.iface_protocols.specs.Processed.{Answers};
+ghost use Rattle.iface_protocols.specs.Processed as processed;
 
 use crate::polling::{poll_at, poll_result};
 use arrayvec::ArrayVec;

@@ -4,7 +4,7 @@
 //! |---|---|
 //! | `udp PORT` | a UDP socket |
 //! | `icmp IDENT` | an ICMP socket for echo messages |
-//! | `raw PROTOCOL` | a raw socket |
+//! | `raw PROTOCOL`, `raw6 PROTOCOL` | a raw socket for IPv4, for IPv6 |
 //! | `tcp PORT` | a TCP socket |
 //! | `segment PORT ADDR PORT SEQ WINDOW OCTETS` | a TCP socket with a segment to send |
 //! | `send SOCKET ADDR PORT OCTETS`, `ADDR OCTETS`, `OCTETS` | a UDP, ICMP, raw socket gets this to send |
@@ -79,7 +79,8 @@ impl Host {
             "due?" => return self.is_due(call.next()?, outcome.next()?),
             "udp" => self.add_udp(short(call.next()?)?)?,
             "icmp" => self.add_icmp(short(call.next()?)?)?,
-            "raw" => self.add_raw(octet(call.next()?)?)?,
+            "raw" => self.add_raw(IpVersion::Ipv4, octet(call.next()?)?)?,
+            "raw6" => self.add_raw(IpVersion::Ipv6, octet(call.next()?)?)?,
             "tcp" => self.add_tcp(short(call.next()?)?)?,
             "segment" => self.add_segment(call)?,
             "send" => self.send(call)?,
@@ -101,10 +102,10 @@ impl Host {
         self.add(icmp::Socket::new(icmp::Endpoint::Ident(ident), rx, tx))
     }
 
-    fn add_raw(&mut self, protocol: u8) -> Option<()> {
+    fn add_raw(&mut self, version: IpVersion, protocol: u8) -> Option<()> {
         let (rx, tx) = queues(self.alloc)?;
         let protocol = IpProtocol::from_number(protocol);
-        self.add(raw::Socket::new(IpVersion::Ipv4, protocol, rx, tx))
+        self.add(raw::Socket::new(version, protocol, rx, tx))
     }
 
     fn add_tcp(&mut self, port: u16) -> Option<()> {

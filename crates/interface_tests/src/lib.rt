@@ -16,6 +16,8 @@ mod polling;
 #[cfg(test)]
 mod receiving;
 #[cfg(test)]
+mod receiving_v6;
+#[cfg(test)]
 mod script;
 #[cfg(test)]
 mod sending;

@@ -84,6 +84,29 @@ pub fn each_narrow(rt: &(impl Abort + AllocGlobal), scripts: &[&str]) {
     }
 }
 
+/// Runs a script on a host at fe80::1.
+pub fn at_home_v6(rt: &(impl Abort + AllocGlobal), script: &str) {
+    runs(rt, AT_HOME_V6, script);
+}
+
+/// Runs a script on a host at fe80::1 that knows its neighbour fe80::2.
+pub fn acquainted_v6(rt: &(impl Abort + AllocGlobal), script: &str) {
+    runs(rt, ACQUAINTED_V6, script);
+}
+
+/// The same for several scripts.
+pub fn each_acquainted_v6(rt: &(impl Abort + AllocGlobal), scripts: &[&str]) {
+    for script in scripts {
+        runs(rt, ACQUAINTED_V6, script);
+    }
+}
+
+const AT_HOME_V6: &str = "addr fe800000000000000000000000000001/64";
+
+const ACQUAINTED_V6: &str = "addr fe800000000000000000000000000001/64
+    rx SOLICIT_1
+    ingress 0 = SocketStateChanged tx ADVERT_1";
+
 const NARROW: &str = "host 020000000001 ethernet 590
     addr c0a84501/24
     rx REQUEST

@@ -1,15 +1,26 @@
--- ICMP sockets (RFC 792).
-use Rattle.std.specs.Prelude.{ℕ, ◌==◌, ◌&&◌, ◌||◌, nat_le, nat_lt, Bool, true, false, cond, is_none, List, length, Option, None}
+-- ICMP sockets (RFC 792, RFC 4443).
+use Rattle.std.specs.Prelude.{ℕ, ◌==◌, ◌&&◌, ◌||◌, nat_le, nat_lt, Bool, true, false, cond, is_none, List, length, Option, Some, None}
+use Rattle.std.specs.Borrow.{Bor}
 use Rattle.std.specs.Option.{option_and_then, option_map}
 use Rattle.control_wire.specs.Icmpv4.{type_in, code_in, icmpv4_in}
+use Rattle.control_wire.specs.declared.icmp.IcmpRepr.{IcmpRepr}
+use Rattle.control_wire.specs.declared.icmp.IcmpRepr.TheVariants as icmp
 use Rattle.control_wire.specs.declared.icmpv4.Icmpv4DstUnreachable.{Icmpv4DstUnreachable}
-use Rattle.control_wire.specs.declared.icmpv4.Icmpv4DstUnreachable.TheVariants.{ProtoUnreachable, PortUnreachable, Unknown}
+use Rattle.control_wire.specs.declared.icmpv4.Icmpv4DstUnreachable.TheVariants as v4_reason
 use Rattle.control_wire.specs.declared.icmpv4.Icmpv4Repr.{Icmpv4Repr}
-use Rattle.control_wire.specs.declared.icmpv4.Icmpv4Repr.TheVariants.{EchoRequest, EchoReply, DstUnreachable, TimeExceeded}
+use Rattle.control_wire.specs.declared.icmpv4.Icmpv4Repr.TheVariants as v4
+use Rattle.icmpv6_wire.specs.Icmpv6.{icmpv6_in}
+use Rattle.icmpv6_wire.specs.declared.icmpv6.Icmpv6DstUnreachable.{Icmpv6DstUnreachable}
+use Rattle.icmpv6_wire.specs.declared.icmpv6.Icmpv6DstUnreachable.TheVariants as v6_reason
+use Rattle.icmpv6_wire.specs.declared.icmpv6.Icmpv6Repr.{Icmpv6Repr}
+use Rattle.icmpv6_wire.specs.declared.icmpv6.Icmpv6Repr.TheVariants as v6
 use Rattle.wire_base.specs.Octets.{u16_at}
-use Rattle.ip_address.specs.Protocol.{is_ipv4, number_of}
+use Rattle.ip_address.specs.Protocol.{number_of}
 use Rattle.ip_address.specs.declared.ip.IpAddress.{IpAddress}
-use Rattle.ip_wire.specs.declared.ipv4_packet.Ipv4Repr.{Ipv4Repr}
+use Rattle.ip_address.specs.declared.ip.IpAddress.TheVariants as address
+use Rattle.ip_wire.specs.declared.ip_packet.IpRepr.{IpRepr}
+use Rattle.ip_wire.specs.declared.ip_packet.IpRepr.TheVariants as ip
+use Rattle.ip_wire.specs.IpPacket.{next_header}
 use Rattle.socket_base.specs.Queue.{Queued, first_of, put, popped}
 use Rattle.socket_base.specs.Source.{source_of}
 use Rattle.socket_base.specs.declared.poll_at.PollAt.{PollAt}
@@ -30,7 +41,7 @@ pub record Sent : Type 0 where
   pub src_addr : IpAddress
   pub dst_addr : IpAddress
   pub hop_limit : ℕ
-  pub repr : Icmpv4Repr
+  pub repr : IcmpRepr
   pub payload : List ℕ
 
 -- a packet, without where its payload lies
@@ -38,36 +49,66 @@ abbrev pub shown : Packet → Sent
 shown p = record { src_addr = p.src_addr; dst_addr = p.dst_addr; hop_limit = p.hop_limit; repr = p.repr; payload = p.payload.now }
 
 -- echo messages with the identifier
-abbrev pub is_echo_of : ℕ → Icmpv4Repr → Bool
-is_echo_of n (EchoRequest ident seq_no) = n == ident
-is_echo_of n (EchoReply ident seq_no) = n == ident
-is_echo_of n (DstUnreachable reason header) = false
-is_echo_of n (TimeExceeded code header) = false
+abbrev pub is_echo_of_v4 : ℕ → Icmpv4Repr → Bool
+is_echo_of_v4 n (v4.EchoRequest ident seq_no) = n == ident
+is_echo_of_v4 n (v4.EchoReply ident seq_no) = n == ident
+is_echo_of_v4 n (v4.DstUnreachable reason header) = false
+is_echo_of_v4 n (v4.TimeExceeded code header) = false
+
+abbrev pub is_echo_of_v6 : ℕ → Icmpv6Repr → Bool
+is_echo_of_v6 n (v6.EchoRequest ident seq_no) = n == ident
+is_echo_of_v6 n (v6.EchoReply ident seq_no) = n == ident
+is_echo_of_v6 n (v6.DstUnreachable reason header) = false
+is_echo_of_v6 n (v6.PktTooBig mtu header) = false
+is_echo_of_v6 n (v6.TimeExceeded code header) = false
+is_echo_of_v6 n (v6.ParamProblem reason pointer header) = false
+is_echo_of_v6 n (v6.Ndisc message) = false
+
+abbrev pub is_echo_of : ℕ → IcmpRepr → Bool
+is_echo_of n (icmp.Ipv4 r) = is_echo_of_v4 n r
+is_echo_of n (icmp.Ipv6 r) = is_echo_of_v6 n r
 
 -- a quoted datagram of UDP, of which eight octets are there, from the port
-abbrev pub is_datagram_from : ℕ → Ipv4Repr → List ℕ → Bool
-is_datagram_from port header quoted = (number_of header.next_header == 17) && nat_le 8 (length quoted) && (port == u16_at quoted 0)
+abbrev pub is_datagram_from : ℕ → IpRepr → List ℕ → Bool
+is_datagram_from port header quoted = (number_of (next_header header) == 17) && nat_le 8 (length quoted) && (port == u16_at quoted 0)
 
 -- nobody listens at the port
-abbrev pub is_port_unreachable : Icmpv4DstUnreachable → Bool
-is_port_unreachable PortUnreachable = true
-is_port_unreachable ProtoUnreachable = false
-is_port_unreachable (Unknown n) = false
+abbrev pub is_port_unreachable_v4 : Icmpv4DstUnreachable → Bool
+is_port_unreachable_v4 v4_reason.PortUnreachable = true
+is_port_unreachable_v4 v4_reason.ProtoUnreachable = false
+is_port_unreachable_v4 (v4_reason.Unknown n) = false
+
+abbrev pub is_port_unreachable_v6 : Icmpv6DstUnreachable → Bool
+is_port_unreachable_v6 v6_reason.PortUnreachable = true
+is_port_unreachable_v6 (v6_reason.Unknown n) = false
 
 -- port unreachables that quote UDP from the port
-abbrev pub is_unreachable_from : ℕ → Icmpv4Repr → List ℕ → Bool
-is_unreachable_from port (DstUnreachable reason header) quoted = is_port_unreachable reason && is_datagram_from port header quoted
-is_unreachable_from port (EchoRequest ident seq_no) quoted = false
-is_unreachable_from port (EchoReply ident seq_no) quoted = false
-is_unreachable_from port (TimeExceeded code header) quoted = false
+abbrev pub is_unreachable_from_v4 : ℕ → Icmpv4Repr → List ℕ → Bool
+is_unreachable_from_v4 port (v4.DstUnreachable reason header) quoted = is_port_unreachable_v4 reason && is_datagram_from port (ip.Ipv4 header) quoted
+is_unreachable_from_v4 port (v4.EchoRequest ident seq_no) quoted = false
+is_unreachable_from_v4 port (v4.EchoReply ident seq_no) quoted = false
+is_unreachable_from_v4 port (v4.TimeExceeded code header) quoted = false
+
+abbrev pub is_unreachable_from_v6 : ℕ → Icmpv6Repr → List ℕ → Bool
+is_unreachable_from_v6 port (v6.DstUnreachable reason header) quoted = is_port_unreachable_v6 reason && is_datagram_from port (ip.Ipv6 header) quoted
+is_unreachable_from_v6 port (v6.EchoRequest ident seq_no) quoted = false
+is_unreachable_from_v6 port (v6.EchoReply ident seq_no) quoted = false
+is_unreachable_from_v6 port (v6.PktTooBig mtu header) quoted = false
+is_unreachable_from_v6 port (v6.TimeExceeded code header) quoted = false
+is_unreachable_from_v6 port (v6.ParamProblem reason pointer header) quoted = false
+is_unreachable_from_v6 port (v6.Ndisc message) quoted = false
+
+abbrev pub is_unreachable_from : ℕ → IcmpRepr → List ℕ → Bool
+is_unreachable_from port (icmp.Ipv4 r) quoted = is_unreachable_from_v4 port r quoted
+is_unreachable_from port (icmp.Ipv6 r) quoted = is_unreachable_from_v6 port r quoted
 
 -- whether a message is for the endpoint
-abbrev pub is_for : Endpoint → Icmpv4Repr → List ℕ → Bool
+abbrev pub is_for : Endpoint → IcmpRepr → List ℕ → Bool
 is_for (endpoint.Ident n) repr payload = is_echo_of n repr
 is_for (endpoint.Udp port) repr payload = is_unreachable_from port repr payload
 
 -- whether a message, by its values and its data, is for the socket
-abbrev pub accepts : IcmpSocket → Icmpv4Repr → List ℕ → Bool
+abbrev pub accepts : IcmpSocket → IcmpRepr → List ℕ → Bool
 accepts s repr payload = is_for s.endpoint repr payload
 
 -- a message has come
@@ -90,17 +131,27 @@ gone s = record s { tx = popped s.tx }
 abbrev pub poll_at : IcmpSocket → PollAt
 poll_at s = cond (is_none (first_of s.tx.packets)) Ingress Now
 
--- some octets are an echo message, request or reply, whose checksum isn't tested
-abbrev pub is_echo : List ℕ → Bool
-is_echo octets = nat_le 8 (length octets) && nat_lt (length octets) 65536 && ((type_in octets == 8) || (type_in octets == 0)) && (code_in octets == 0)
+-- some octets are an echo message, request or reply, whose checksum isn't tested: by these types, with code 0
+abbrev pub is_echo : ℕ → ℕ → List ℕ → Bool
+is_echo request reply octets =
+    nat_le 8 (length octets) && nat_lt (length octets) 65536 && ((type_in octets == request) || (type_in octets == reply)) && (code_in octets == 0)
 
--- a message to be sent, from a source
-abbrev pub sent : IcmpSocket → IpAddress × List ℕ → IpAddress → Sent
-sent s p src = record { src_addr = src; dst_addr = p.0; hop_limit = s.hop_limit; repr = (icmpv4_in p.1).0; payload = (icmpv4_in p.1).1 }
+-- values and octets, without where those lie in memory
+abbrev pub parts : IcmpRepr × Bor (List ℕ) → IcmpRepr × List ℕ
+parts p = (p.0, p.1.now)
 
--- a message that waits to be sent, if it is an echo message to an IPv4 address and has a source
+-- the echo message to a peer that some octets are, and what it carries: ICMP by the peer's family
+abbrev pub echo_to : IpAddress → List ℕ → Option (IcmpRepr × List ℕ)
+echo_to (address.Ipv4 a) octets = cond (is_echo 8 0 octets) (Some (icmp.Ipv4 (icmpv4_in octets).0, (icmpv4_in octets).1)) None
+echo_to (address.Ipv6 a) octets = cond (is_echo 128 129 octets) (Some (icmp.Ipv6 (icmpv6_in octets).0, (icmpv6_in octets).1)) None
+
+-- a message to be sent to a peer, from a source
+abbrev pub sent : IcmpSocket → IpAddress → IcmpRepr × List ℕ → IpAddress → Sent
+sent s peer m src = record { src_addr = src; dst_addr = peer; hop_limit = s.hop_limit; repr = m.0; payload = m.1 }
+
+-- a message that waits to be sent, if it is an echo message and has a source
 abbrev pub sent_if : (IpAddress → Option IpAddress) → IcmpSocket → IpAddress × List ℕ → Option Sent
-sent_if source s p = cond (is_ipv4 p.0 && is_echo p.1) (option_map (sent s p) (source_of source None p.0)) None
+sent_if source s p = option_and_then (λ m. option_map (sent s p.0 m) (source_of source None p.0)) (echo_to p.0 p.1)
 
 -- the first one to be sent, if it is an echo message and has a source
 abbrev pub offered : (IpAddress → Option IpAddress) → IcmpSocket → Option Sent

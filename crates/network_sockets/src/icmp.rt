@@ -1,14 +1,14 @@
-//! ICMP sockets (RFC 792): echo messages, and what comes back for datagrams that found no port.
-ghost use Rattle.std.specs.Prelude.{◌≡◌, ◌≢◌, ◌≤◌, length, cond, is_ok, false, Some, None};
+//! ICMP sockets (RFC 792, RFC 4443): echo messages, and what comes back for datagrams that found no port.
+ghost use Rattle.std.specs.Prelude.{◌≡◌, ◌≢◌, ◌≤◌, length, is_ok, false};
 ghost use Rattle.std.specs.Option.{option_map};
-ghost use Rattle.control_wire.specs.Icmpv4.{icmpv4_in, parts};
 ghost use Rattle.ip_address.specs.Ip.{is_unspecified};
 ghost use Rattle.socket_base.specs.Queue.{is_room, first_of};
 ghost use Rattle.network_sockets.specs.Icmp as spec;
 
-use control_wire::icmpv4::{Icmpv4DstUnreachable, Icmpv4Repr};
+use control_wire::{IcmpRepr, Icmpv4DstUnreachable, Icmpv4Repr};
+use icmpv6_wire::{Icmpv6DstUnreachable, Icmpv6Repr};
 use ip_wire::octets::u16_at;
-use ip_wire::{IpAddress, IpProtocol, IpVersion, Ipv4Repr};
+use ip_wire::{IpAddress, IpProtocol, IpRepr};
 use socket_base::buffers::Buffers;
 use socket_base::context::{SocketContext, source_address};
 use socket_base::poll_at::PollAt;
@@ -30,7 +30,7 @@ pub struct Packet<'p> {
     pub src_addr: IpAddress,
     pub dst_addr: IpAddress,
     pub hop_limit: u8,
-    pub repr: Icmpv4Repr,
+    pub repr: IcmpRepr,
     pub payload: &'p [u8],
 }
 
@@ -81,22 +81,12 @@ impl<L: Drop> SocketOf<L> {
     /// Whether a message is for the socket, by its values and what stands behind its header: an
     /// echo message with the socket's identifier, or a port unreachable that quotes at least eight
     /// octets of a datagram of UDP from the socket's port.
-    pub fn accepts(&self, repr: &Icmpv4Repr, payload: &[u8]) -> bool
+    pub fn accepts(&self, repr: &IcmpRepr, payload: &[u8]) -> bool
         ensures { result ≡ spec.accepts self.now repr.now payload.now }
     {
-        match (self.endpoint, repr) {
-            (
-                Endpoint::Ident(own),
-                Icmpv4Repr::EchoRequest { ident, .. } | Icmpv4Repr::EchoReply { ident, .. },
-            ) => own == *ident,
-            (
-                Endpoint::Udp(port),
-                Icmpv4Repr::DstUnreachable {
-                    reason: Icmpv4DstUnreachable::PortUnreachable,
-                    header,
-                },
-            ) => is_datagram_from(port, header, payload),
-            _ => false,
+        match self.endpoint {
+            Endpoint::Ident(ident) => is_echo_of(ident, repr),
+            Endpoint::Udp(port) => is_unreachable_from(port, repr, payload),
         }
     }
 
@@ -140,16 +130,13 @@ impl<L: Drop> SocketOf<L> {
         self.buffers.poll_at(PollAt::Now)
     }
 
-    /// The first message to be sent, if it is an echo message to an IPv4 address and has a source.
+    /// The first message to be sent, if it is an echo message and has a source.
     #[inline(always)]
     fn peek<C: SocketContext>(&self, context: &C) -> Option<Packet<'_>>
         ensures { option_map spec.shown result ≡ spec.offered (C.source_for context.now) self.now }
     {
         let (remote, message) = self.buffers.first()?;
-        if remote.version() == IpVersion::Ipv6 {
-            return None;
-        }
-        let (repr, payload) = parse_echo(message)?;
+        let (repr, payload) = parse_echo(remote, message)?;
         let src_addr = source_address(context, None, remote)?;
         Some(Packet {
             src_addr,
@@ -174,7 +161,7 @@ impl<L: Drop> SocketOf<L> {
 
     /// The first message to be sent, if there is one. Its source is the address that the context
     /// chooses. Without a source of the peer's family the message is dropped, and none is offered;
-    /// so it is if it isn't an echo message, or goes to an IPv6 address, which isn't served yet. Its checksum isn't tested.
+    /// so it is if it isn't an echo message of the ICMP of that family. Its checksum isn't tested.
     pub fn offer<C: SocketContext>(&mut self, context: &C) -> Option<Packet<'_>>
         ensures* settles { sem 𝓛 (Settles L.row self.entry (C.source_for context.now)) }
         ensures value { option_map spec.shown result ≡ spec.offered (C.source_for context.now) self.old }
@@ -187,28 +174,73 @@ impl<L: Drop> SocketOf<L> {
     }
 }
 
+/// Whether it is an echo message with this identifier.
+fn is_echo_of(own: u16, repr: &IcmpRepr) -> bool
+    ensures { result ≡ spec.is_echo_of own repr.now }
+{
+    match repr {
+        IcmpRepr::Ipv4(Icmpv4Repr::EchoRequest { ident, .. } | Icmpv4Repr::EchoReply { ident, .. })
+        | IcmpRepr::Ipv6(
+            Icmpv6Repr::EchoRequest { ident, .. } | Icmpv6Repr::EchoReply { ident, .. },
+        ) => own == *ident,
+        _ => false,
+    }
+}
+
+/// Whether it is a port unreachable that quotes a datagram of UDP from a port.
+fn is_unreachable_from(port: u16, repr: &IcmpRepr, quoted: &[u8]) -> bool
+    ensures { result ≡ spec.is_unreachable_from port repr.now quoted.now }
+{
+    match repr {
+        IcmpRepr::Ipv4(
+            Icmpv4Repr::DstUnreachable {
+                reason: Icmpv4DstUnreachable::PortUnreachable,
+                header,
+            },
+        ) => is_datagram_from(port, &IpRepr::Ipv4(*header), quoted),
+        IcmpRepr::Ipv6(
+            Icmpv6Repr::DstUnreachable {
+                reason: Icmpv6DstUnreachable::PortUnreachable,
+                header,
+            },
+        ) => is_datagram_from(port, &IpRepr::Ipv6(*header), quoted),
+        _ => false,
+    }
+}
+
 /// Whether a quotation is that of a datagram of UDP from a port, of which eight octets are there.
-fn is_datagram_from(port: u16, header: &Ipv4Repr, quoted: &[u8]) -> bool
+fn is_datagram_from(port: u16, header: &IpRepr, quoted: &[u8]) -> bool
     ensures { result ≡ spec.is_datagram_from port header.now quoted.now }
 {
-    if header.next_header.number() != IpProtocol::Udp.number() || quoted.len() < 8 {
+    if header.next_header().number() != IpProtocol::Udp.number() || quoted.len() < 8 {
         return false;
     }
     port == u16_at(quoted, 0)
 }
 
-/// The echo message that some octets are, fewer than 65,536, and what it carries.
+/// The echo message to a peer that some octets are, fewer than 65,536, and what it carries: ICMP
+/// by the peer's family.
 #[inline(always)]
-#[tactic(auto, using(crate::proofs::IcmpLemmas::is_echo_reads))]
-fn parse_echo(message: &[u8]) -> Option<(Icmpv4Repr, &[u8])>
-    ensures { option_map parts result ≡ cond (spec.is_echo message.now) (Some (icmpv4_in message.now)) None }
+#[tactic(auto, using(crate::proofs::IcmpLemmas::is_echo_reads_v4, crate::proofs::IcmpLemmas::is_echo_reads_v6))]
+fn parse_echo<'m>(remote: &IpAddress, message: &'m [u8]) -> Option<(IcmpRepr, &'m [u8])>
+    ensures { option_map spec.parts result ≡ spec.echo_to remote.now message.now }
 {
     if message.len() >= 65536 {
         return None;
     }
-    let (repr, payload) = Icmpv4Repr::parse(message, false)?;
-    match repr {
-        Icmpv4Repr::EchoRequest { .. } | Icmpv4Repr::EchoReply { .. } => Some((repr, payload)),
-        _ => None,
+    match remote {
+        IpAddress::Ipv4(_) => match Icmpv4Repr::parse(message, false)? {
+            (repr @ (Icmpv4Repr::EchoRequest { .. } | Icmpv4Repr::EchoReply { .. }), payload) => {
+                Some((IcmpRepr::Ipv4(repr), payload))
+            }
+            _ => None,
+        },
+        // The addresses are for the checksum, which isn't tested.
+        IpAddress::Ipv6(_) => match Icmpv6Repr::parse(message, remote, remote, false)? {
+            (repr @ (Icmpv6Repr::EchoRequest { .. } | Icmpv6Repr::EchoReply { .. }), payload) => {
+                Some((IcmpRepr::Ipv6(repr), payload))
+            }
+            _ => None,
+        },
     }
 }

@@ -1,10 +1,11 @@
 // Each test also holds where any one request for memory is refused.
 ghost use Rattle.std.specs.Prelude.{◌≡◌, ◌<◌, ◌^◌, length, IfOk};
 
-use control_wire::icmpv4::Icmpv4Repr;
+use control_wire::{IcmpRepr, Icmpv4Repr};
+use icmpv6_wire::Icmpv6Repr;
 use ip_wire::{
-    IpAddress, IpProtocol, IpRepr, IpVersion, Ipv4Address, Ipv4Repr, TcpControl, TcpRepr,
-    TcpSeqNumber,
+    IpAddress, IpProtocol, IpRepr, IpVersion, Ipv4Address, Ipv4Repr, Ipv6Address, TcpControl,
+    TcpRepr, TcpSeqNumber,
 };
 use net_base::time::Instant;
 use sockets::context::SocketContext;
@@ -62,6 +63,20 @@ impl SocketContext for Host {
 const HOST: Host = Host {
     moment: Instant::ZERO,
     source: Some(OWN),
+};
+
+// 2001:db8::1 and 2001:db8::2.
+const OWN_V6: IpAddress = IpAddress::Ipv6(Ipv6Address {
+    bits: 0x2001_0db8_0000_0000_0000_0000_0000_0001,
+});
+
+const OTHER_V6: IpAddress = IpAddress::Ipv6(Ipv6Address {
+    bits: 0x2001_0db8_0000_0000_0000_0000_0000_0002,
+});
+
+const HOST_V6: Host = Host {
+    moment: Instant::ZERO,
+    source: Some(OWN_V6),
 };
 
 // An empty queue. If its room is refused, the next call gets it.
@@ -355,20 +370,38 @@ const ECHO: &[u8] = b"\x08\x00\x00\x00\x02\x2b\x00\x01hi";
 const UNREACHABLE: &[u8] =
     b"\x03\x03\x00\x00\x00\x00\x00\x00\x45\x00\x00\x1e\x00\x00\x40\x00\x40\x11\x2f\x19\xc0\xa8\x45\x64\xc0\xa8\x45\x01\x13\x88\x1b\x39\x00\x0a\x5c\xf9hi";
 
+// The same of ICMPv6 (RFC 4443).
+const ECHO_V6: &[u8] = b"\x80\x00\x00\x00\x02\x2b\x00\x01hi";
+
+const UNREACHABLE_V6: &[u8] =
+    b"\x01\x04\x00\x00\x00\x00\x00\x00\x60\x00\x00\x00\x00\x0a\x11\x40\x20\x01\x0d\xb8\x00\x00\x00\x00\x00\x00\x00\x00\x00\x00\x00\x01\x20\x01\x0d\xb8\x00\x00\x00\x00\x00\x00\x00\x00\x00\x00\x00\x02\x13\x88\x1b\x39\x00\x0a\x00\x00hi";
+
 fn icmp_for(alloc: Global, endpoint: icmp::Endpoint) -> Result<icmp::Socket<'static>, Fail> {
     Ok(icmp::Socket::new(endpoint, ample(alloc)?, ample(alloc)?))
+}
+
+fn icmpv4_in(octets: &[u8]) -> Option<(IcmpRepr, &[u8])>
+    requires { length octets.now < 2 ^ 16 }
+{
+    let (repr, payload) = Icmpv4Repr::parse(octets, false)?;
+    Some((IcmpRepr::Ipv4(repr), payload))
+}
+
+fn icmpv6_in(octets: &[u8]) -> Option<(IcmpRepr, &[u8])>
+    requires { length octets.now < 2 ^ 16 }
+{
+    let (repr, payload) = Icmpv6Repr::parse(octets, &OTHER_V6, &OWN_V6, false)?;
+    Some((IcmpRepr::Ipv6(repr), payload))
 }
 
 // Whether the sockets for two endpoints each take a message.
 fn heard(
     rt: &impl Abort,
-    octets: &[u8],
+    message: Option<(IcmpRepr, &[u8])>,
     first: &icmp::Socket<'static>,
     second: &icmp::Socket<'static>,
-) -> (bool, bool)
-    requires { length octets.now < 2 ^ 16 }
-{
-    match Icmpv4Repr::parse(octets, false) {
+) -> (bool, bool) {
+    match message {
         Some((repr, payload)) => (
             first.accepts(&repr, payload),
             second.accepts(&repr, payload),
@@ -384,15 +417,41 @@ fn heard(
 fn messages_are_heard_by_identifier_or_port(rt: HostRuntime) -> Result<(), Fail> {
     let ident = icmp_for(rt.alloc(), icmp::Endpoint::Ident(0x22b))?;
     let port = icmp_for(rt.alloc(), icmp::Endpoint::Udp(5000))?;
-    assert_eq!(rt; heard(&rt, ECHO, &ident, &port), (true, false));
-    assert_eq!(rt; heard(&rt, UNREACHABLE, &ident, &port), (false, true));
+    assert_eq!(rt; heard(&rt, icmpv4_in(ECHO), &ident, &port), (true, false));
+    assert_eq!(rt;
+        heard(&rt, icmpv4_in(UNREACHABLE), &ident, &port),
+        (false, true)
+    );
     // Seven octets of the quoted datagram aren't enough.
     assert_eq!(rt;
-        heard(&rt, &UNREACHABLE[..35], &ident, &port),
+        heard(&rt, icmpv4_in(&UNREACHABLE[..35]), &ident, &port),
         (false, false)
     );
     assert_eq!(rt;
-        heard(&rt, &UNREACHABLE[..36], &ident, &port),
+        heard(&rt, icmpv4_in(&UNREACHABLE[..36]), &ident, &port),
+        (false, true)
+    );
+    Ok(())
+}
+
+#[test]
+fn messages_over_ipv6_are_heard_by_identifier_or_port(rt: HostRuntime) -> Result<(), Fail> {
+    let ident = icmp_for(rt.alloc(), icmp::Endpoint::Ident(0x22b))?;
+    let port = icmp_for(rt.alloc(), icmp::Endpoint::Udp(5000))?;
+    assert_eq!(rt;
+        heard(&rt, icmpv6_in(ECHO_V6), &ident, &port),
+        (true, false)
+    );
+    assert_eq!(rt;
+        heard(&rt, icmpv6_in(UNREACHABLE_V6), &ident, &port),
+        (false, true)
+    );
+    assert_eq!(rt;
+        heard(&rt, icmpv6_in(&UNREACHABLE_V6[..55]), &ident, &port),
+        (false, false)
+    );
+    assert_eq!(rt;
+        heard(&rt, icmpv6_in(&UNREACHABLE_V6[..56]), &ident, &port),
         (false, true)
     );
     Ok(())
@@ -418,8 +477,32 @@ fn only_echo_messages_are_offered(rt: HostRuntime) -> Result<(), Fail> {
                 ident: 0x22b,
                 seq_no: 1,
             };
-            assert_eq!(rt; packet.repr, repr);
+            assert_eq!(rt; packet.repr, IcmpRepr::Ipv4(repr));
             assert_eq!(rt; packet.src_addr, OWN);
+            assert_eq!(rt; packet.payload, b"hi".as_slice());
+        }
+        None => assert!(rt; false),
+    }
+    Ok(())
+}
+
+#[test]
+fn echo_messages_go_by_the_peers_family(rt: HostRuntime) -> Result<(), Fail> {
+    let mut socket = icmp_for(rt.alloc(), icmp::Endpoint::Ident(0x22b))?;
+    assert_eq!(rt; socket.send(OTHER, ECHO_V6), Ok(()));
+    assert_eq!(rt; socket.send(OTHER_V6, ECHO), Ok(()));
+    assert_eq!(rt; socket.send(OTHER_V6, ECHO_V6), Ok(()));
+    assert!(rt; socket.offer(&HOST).is_none());
+    assert!(rt; socket.offer(&HOST_V6).is_none());
+    match socket.offer(&HOST_V6) {
+        Some(packet) => {
+            let repr = Icmpv6Repr::EchoRequest {
+                ident: 0x22b,
+                seq_no: 1,
+            };
+            assert_eq!(rt; packet.repr, IcmpRepr::Ipv6(repr));
+            assert_eq!(rt; packet.src_addr, OWN_V6);
+            assert_eq!(rt; packet.dst_addr, OTHER_V6);
             assert_eq!(rt; packet.payload, b"hi".as_slice());
         }
         None => assert!(rt; false),

@@ -2,7 +2,7 @@ use Rattle.std.proofs.Common.{refl, ap, sym, ◌∙◌}
 use Rattle.host_machine.specs.Host.{no_sockets, with_slots}
 use Rattle.host_machine.specs.Arp.{Malformed}
 use Rattle.iface_send.specs.Stands.{host_in, host_of}
-use Rattle.iface_receive.proofs.Processing.{answered, dropped, unanswered}
+use Rattle.iface_protocols.proofs.Processing.{answered, dropped, unanswered}
 use Rattle.iface_receive.proofs.Received.{arp_learnt, arp_unheard}
 use Rattle.iface_receive.proofs.arp.process_arp.Goals as goal
 

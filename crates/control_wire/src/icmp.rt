@@ -1,0 +1,26 @@
+//! ICMP messages of either family.
+ghost use Rattle.std.specs.Prelude.{◌≡◌};
+ghost use Rattle.control_wire.specs.Icmp as spec;
+
+use crate::icmpv4::Icmpv4Repr;
+use icmpv6_wire::Icmpv6Repr;
+use ip_address::IpVersion;
+
+/// The values of a message, of either family.
+#[derive(Clone, Copy, Debug, PartialEq, Eq)]
+pub enum IcmpRepr {
+    Ipv4(Icmpv4Repr),
+    Ipv6(Icmpv6Repr),
+}
+
+impl IcmpRepr {
+    /// The version of IP that carries it.
+    pub const fn version(&self) -> IpVersion
+        ensures { result ≡ spec.version_of self.now }
+    {
+        match self {
+            IcmpRepr::Ipv4(_) => IpVersion::Ipv4,
+            IcmpRepr::Ipv6(_) => IpVersion::Ipv6,
+        }
+    }
+}

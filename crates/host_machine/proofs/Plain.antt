@@ -1,0 +1,296 @@
+-- What receiving a whole packet does, over either family: what laws read of the host stays, nothing is noted, and the reply is no packet
+-- of ARP.
+use Rattle.std.proofs.Common.{◌≡◌, ℕ, ◌≤◌, Bool, true, false, List, [], refl, ap, Option, Some, None, arith}
+use Rattle.std.specs.Prelude.{◌==◌, ◌||◌, ◌&&◌, not, drop, if◌then◌else◌}
+use Rattle.std.specs.Option.{option_map}
+use Rattle.std.specs.FinMap as map
+use Rattle.std.proofs.lemmas.Bool.Decides.{nat_tests}
+use Rattle.wire_base.specs.Octets.{u16_at, u32_at}
+use Rattle.ip_address.specs.declared.cidr.IpCidr.{IpCidr}
+use Rattle.ip_address.specs.declared.ethernet_address.EthernetAddress.{EthernetAddress}
+use Rattle.ip_address.specs.declared.hardware.HardwareAddress.{HardwareAddress}
+use Rattle.ip_address.specs.declared.hardware.HardwareAddress.TheVariants as hardware
+use Rattle.ip_address.specs.declared.ip.IpAddress.{IpAddress}
+use Rattle.ip_address.specs.declared.ip.IpAddress.TheVariants as address
+use Rattle.ip_address.specs.declared.ipv4.Ipv4Address.{Ipv4Address}
+use Rattle.ip_address.specs.declared.ipv6.Ipv6Address.{Ipv6Address}
+use Rattle.ip_address.specs.declared.protocol.IpProtocol.{IpProtocol}
+use Rattle.ip_address.specs.declared.protocol.IpProtocol.TheVariants as protocol
+use Rattle.ip_address.specs.EthernetAddress as ethernet
+use Rattle.ip_address.specs.Hardware.{IsOf}
+use Rattle.ip_address.specs.Ipv6.{is_multicast, is_unicast}
+use Rattle.ip_wire.specs.declared.ip_packet.IpRepr.{IpRepr}
+use Rattle.ip_wire.specs.declared.ip_packet.IpRepr.TheVariants as repr
+use Rattle.ip_wire.specs.declared.ipv4_packet.Ipv4Repr.{Ipv4Repr}
+use Rattle.ip_wire.specs.declared.tcp.TcpRepr.{TcpRepr}
+use Rattle.ipv6_wire.specs.declared.ipv6_packet.Ipv6Repr.{Ipv6Repr}
+use Rattle.ipv6_wire.specs.Ipv6Packet.{quoted_in}
+use Rattle.ipv6_wire.specs.declared.hop_by_hop.Ipv6OptionFailureType.{Ipv6OptionFailureType}
+use Rattle.ipv6_wire.specs.declared.hop_by_hop.Ipv6OptionFailureType.TheVariants.{Skip, Discard, DiscardSendAll, DiscardSendUnicast}
+use Rattle.icmpv6_wire.specs.declared.icmpv6.Icmpv6ParamProblem.TheVariants.{UnrecognizedOption}
+use Rattle.icmpv6_wire.specs.declared.icmpv6.Icmpv6Repr.{Icmpv6Repr}
+use Rattle.icmpv6_wire.specs.declared.icmpv6.Icmpv6Repr.TheVariants as icmp
+use Rattle.icmpv6_wire.specs.declared.ndisc.NdiscRepr.{NdiscRepr}
+use Rattle.icmpv6_wire.specs.declared.ndisc.NdiscNeighborFlags.{NdiscNeighborFlags}
+use Rattle.icmpv6_wire.specs.Icmpv6.{IsIcmpv6, IsBody, Request, Reply as EchoReplied, Error, Neighbor, icmpv6_in, error_of, error_in, type_in, code_in, unreachable_of, problem_of}
+use Rattle.icmpv6_wire.specs.Ndisc.{IsNdisc, IsLinkLayerAddr, lladdr_of, ndisc_in}
+use Rattle.icmpv6_wire.proofs.NdiscSix.{are_six}
+use Rattle.control_wire.specs.declared.icmpv4.Icmpv4Repr.{Icmpv4Repr}
+use Rattle.control_wire.specs.declared.icmpv4.Icmpv4Repr.TheVariants.{EchoRequest, EchoReply, DstUnreachable, TimeExceeded}
+use Rattle.control_wire.specs.declared.icmpv4.Icmpv4DstUnreachable.{Icmpv4DstUnreachable}
+use Rattle.control_wire.specs.declared.icmpv4.Icmpv4DstUnreachable.TheVariants.{PortUnreachable}
+use Rattle.iface_tables.specs.Neighbor.{answer_of, is_found}
+use Rattle.host_machine.specs.Note.{Note}
+use Rattle.host_machine.specs.Host.{Host, Storage, with_places}
+use Rattle.host_machine.specs.Reply.{Reply, Arp, Ip, IsDropped}
+use Rattle.host_machine.specs.Icmpv4.{TakesIcmpv4, message_back, reply_source, answer_to, unreachable}
+use Rattle.host_machine.specs.Icmpv4 as icmpv4
+use Rattle.host_machine.specs.Icmpv6 as icmpv6
+use Rattle.host_machine.specs.Icmpv6.{TakesIcmpv6, TakesMessage}
+use Rattle.host_machine.specs.Ndisc as ndisc
+use Rattle.host_machine.specs.Ndisc.{TakesNdisc, HearsNeighbor, Learns, told_by, advertised, overrides, asks_for, answer_by, advertisement_of}
+use Rattle.host_machine.specs.Raw as raw
+use Rattle.host_machine.specs.Tcp.{TakesTcp, segment_back}
+use Rattle.host_machine.specs.Tcp as tcp
+use Rattle.host_machine.specs.Udp.{TakesUdp}
+use Rattle.host_machine.specs.Udp as udp
+use Rattle.host_machine.specs.Unreachable.{port_unreachable}
+use Rattle.host_machine.specs.Ipv4.{TakesWhole}
+use Rattle.host_machine.specs.Ipv4 as ipv4
+use Rattle.host_machine.specs.Ipv6.{TakesIpv6, TakesPacket, TakesOptions, TakesPayload, complaint, protocol_unknown}
+use Rattle.host_machine.specs.Ipv6 as ipv6
+use Rattle.host_machine.proofs.Kept.{Keeps, rest_of, kept, kept_by, kept_then, unread, heard_kept, sender_kept}
+use Rattle.host_machine.proofs.Six.{filled_of, of_six}
+
+-- no packet of ARP
+abbrev pub IsByIp : Option Reply → Type 0
+IsByIp None = Unit {0}
+IsByIp (Some (Ip p)) = Unit {0}
+IsByIp (Some (Arp r)) = ⊥
+
+pub record IsPlain (H : Host) (reply : Option Reply) (notes : List Note) (new : Host) : Type 0 where
+  pub by_ip : IsByIp reply
+  pub unnoted : notes ≡ []
+  pub keeps : Keeps H new
+
+-- behind what keeps the host
+after : {H mid new : Host} {reply : Option Reply} {notes : List Note} → Keeps H mid → IsPlain mid reply notes new → IsPlain H reply notes new
+after k p = record { by_ip = p.by_ip; unnoted = p.unnoted; keeps = kept_then k p.keeps }
+
+dropped : {H new : Host} {reply : Option Reply} {notes : List Note} → IsDropped H reply notes new → IsPlain H reply notes new
+dropped d = record { by_ip = rw d.silent tt; unnoted = d.unnoted; keeps = kept d.unchanged }
+
+-- a reply where the host stays
+replied : {H new : Host} {reply : Option Reply} {notes : List Note} (o : Option Reply) → IsByIp o → reply ≡ o → notes ≡ [] → new ≡ H → IsPlain H reply notes new
+replied o i r n e = record { by_ip = rw r i; unnoted = n; keeps = kept e }
+
+-- or where sockets got something
+placed : {H new : Host} {reply : Option Reply} {notes : List Note} {places : List Storage} (o : Option Reply) → IsByIp o → reply ≡ o → notes ≡ [] → new ≡ with_places H places →
+    IsPlain H reply notes new
+placed o i r n e = record { by_ip = rw r i; unnoted = n; keeps = kept_by e (unread refl refl) }
+
+-- unless a raw socket took the packet
+unless : (b : Bool) (p : Reply) → IsByIp (Some p) → IsByIp (if b then None else Some p)
+unless true p i = tt
+unless false p i = i
+
+icmpv4_back : (r : Ipv4Repr) (m : Icmpv4Repr) (octets : List ℕ) (o : Option Ipv4Address) → IsByIp (option_map (message_back r m octets) o)
+icmpv4_back r m octets None = tt
+icmpv4_back r m octets (Some a) = tt
+
+refusal : (by_raw : Bool) (own : List IpCidr) (reason : Icmpv4DstUnreachable) (r : Ipv4Repr) (payload : List ℕ) → IsByIp (unreachable by_raw own reason r payload)
+refusal true own reason r payload = tt
+refusal false own reason r payload = icmpv4_back r (DstUnreachable reason r) (icmpv4.quoted payload) (reply_source own r (DstUnreachable reason r))
+
+port_refusal : (by_raw : Bool) (own : List IpCidr) (r : IpRepr) (payload : List ℕ) → IsByIp (port_unreachable by_raw own r payload)
+port_refusal by_raw own (repr.Ipv4 r) payload = refusal by_raw own PortUnreachable r payload
+port_refusal true own (repr.Ipv6 r) payload = tt
+port_refusal false own (repr.Ipv6 r) payload = tt
+
+udp_plain : {by_raw : Bool} {r : IpRepr} {H new : Host} {octets : List ℕ} {reply : Option Reply} {notes : List Note} → TakesUdp by_raw r H octets reply notes new → IsPlain H reply notes new
+udp_plain (udp.Malformed m d) = dropped d
+udp_plain (udp.Delivered places u f r n e) = placed None tt r n e
+udp_plain {by_raw} {r} {H} {new} {octets} (udp.Unheard u none e n s) = replied _ (port_refusal by_raw H.ip_addrs r octets) e n s
+
+segment : (r : IpRepr) (o : Option TcpRepr) → IsByIp (option_map (segment_back r) o)
+segment r None = tt
+segment r (Some t) = tt
+
+tcp_plain : {by_raw : Bool} {r : IpRepr} {H new : Host} {octets : List ℕ} {reply : Option Reply} {notes : List Note} → TakesTcp by_raw r H octets reply notes new → IsPlain H reply notes new
+tcp_plain (tcp.BetweenNobody b d) = dropped d
+tcp_plain (tcp.Malformed b m d) = dropped d
+tcp_plain {by_raw} {r} (tcp.Delivered index place b t f e n s) = placed _ (segment r _) e n s
+tcp_plain {by_raw} {r} (tcp.Unheard b t none e n s) = replied _ (segment r _) e n s
+
+-- ICMP for IPv4
+answered : (own : List IpCidr) (r : Ipv4Repr) (m : Icmpv4Repr) (octets : List ℕ) → IsByIp (answer_to own r m octets)
+answered own r (EchoRequest ident seq_no) octets = icmpv4_back r (EchoReply ident seq_no) octets (reply_source own r (EchoReply ident seq_no))
+answered own r (EchoReply ident seq_no) octets = tt
+answered own r (DstUnreachable reason header) octets = tt
+answered own r (TimeExceeded code header) octets = tt
+
+icmpv4_plain : {r : Ipv4Repr} {H new : Host} {octets : List ℕ} {reply : Option Reply} {notes : List Note} → TakesIcmpv4 r H octets reply notes new → IsPlain H reply notes new
+icmpv4_plain (icmpv4.Malformed m d) = dropped d
+icmpv4_plain {r} {H} (icmpv4.Taken i e n s) = placed _ (answered H.ip_addrs r _ _) e n s
+
+refused_v4 : {by_raw : Bool} {r : Ipv4Repr} {H new : Host} {octets : List ℕ} {reply : Option Reply} {notes : List Note} → ipv4.IsRefused by_raw r H octets reply notes new → IsPlain H reply notes new
+refused_v4 {by_raw} {r} {H} {new} {octets} i = replied _ (refusal by_raw H.ip_addrs _ r octets) i.replied i.unnoted i.unchanged
+
+protocol_v4 : (p : IpProtocol) (by_raw : Bool) (r : Ipv4Repr) (H : Host) (octets : List ℕ) (reply : Option Reply) (notes : List Note) (new : Host) →
+    ipv4.TakesProtocol p by_raw r H octets reply notes new → IsPlain H reply notes new
+protocol_v4 protocol.Icmp by_raw r H octets reply notes new t = icmpv4_plain t
+protocol_v4 protocol.Udp by_raw r H octets reply notes new t = udp_plain t
+protocol_v4 protocol.Tcp by_raw r H octets reply notes new t = tcp_plain t
+protocol_v4 protocol.Igmp by_raw r H octets reply notes new t = dropped t
+protocol_v4 protocol.HopByHop by_raw r H octets reply notes new t = refused_v4 t
+protocol_v4 protocol.Icmpv6 by_raw r H octets reply notes new t = refused_v4 t
+protocol_v4 (protocol.Unknown n) by_raw r H octets reply notes new t = refused_v4 t
+
+pub whole_plain : {source : HardwareAddress} {r : Ipv4Repr} {H new : Host} {payload : List ℕ} {reply : Option Reply} {notes : List Note} →
+    TakesWhole source r H payload reply notes new → IsPlain H reply notes new
+whole_plain {source} {r} {H} {new} {payload} (ipv4.NotForUs u d) = after (heard_kept (repr.Ipv4 r) payload H) (dropped d)
+whole_plain {source} {r} {H} {new} {payload} {reply} {notes} (ipv4.Accepted u t) =
+    after (heard_kept (repr.Ipv4 r) payload H) (after (sender_kept source (repr.Ipv4 r) (raw.heard (repr.Ipv4 r) payload H)) (protocol_v4 r.next_header _ r _ payload reply notes new t))
+
+-- messages of neighbours: an address of six octets is learnt, if one is
+told_six : (o : Option EthernetAddress) (target : Ipv6Address) → IsLinkLayerAddr o → IsLinkLayerAddr (told_by o target)
+told_six None target six = tt
+told_six (Some h) target six = by (ethernet.is_unicast h && is_unicast target) where
+  by : (b : Bool) → IsLinkLayerAddr (if b then Some h else None)
+  by true = six
+  by false = tt
+
+advertised_six : (H : Host) (r : Ipv6Repr) (flags : NdiscNeighborFlags) (target : Ipv6Address) (o : Option EthernetAddress) → IsLinkLayerAddr o → IsLinkLayerAddr (advertised H r flags target o)
+advertised_six H r flags target o six = by (overrides flags || not (is_found (answer_of H.neighbors (address.Ipv6 r.src_addr) H.moment))) where
+  by : (b : Bool) → IsLinkLayerAddr (if b then told_by o target else None)
+  by true = told_six o target six
+  by false = tt
+
+learns_kept : (H new : Host) (own : EthernetAddress) (a : Ipv6Address) (o : Option EthernetAddress) → H.hardware_addr ≡ hardware.Ethernet own → IsLinkLayerAddr o → Learns o a H new → Keeps H new
+learns_kept H new own a None mine six e = kept e
+learns_kept H new own a (Some h) mine six learns = kept_by learns.same (record {
+  same = ap (λ s. rest_of (record H { neighbors = record { known = map.empty; silent_until = s } })) learns.filled.silence;
+  real = λ r.
+      let there : IsOf H.capabilities.medium (hardware.Ethernet own) = rw mine at r.own in
+      record { own = r.own; neighbors = filled_of H.capabilities.medium _ _ _ _ (of_six H.capabilities.medium own h there six) learns.filled r.neighbors };
+})
+
+solicited : (own : EthernetAddress) (H : Host) (r : Ipv6Repr) (target : Ipv6Address) → IsByIp (answer_by own H r target)
+solicited own H r target = by (asks_for H r target) where
+  by : (b : Bool) → IsByIp (if b then Some (Ip (advertisement_of own r target)) else None)
+  by true = tt
+  by false = tt
+
+heard_plain : {own : EthernetAddress} {r : Ipv6Repr} {message : NdiscRepr} {H new : Host} {reply : Option Reply} {notes : List Note} → IsLinkLayerAddr (lladdr_of message) →
+    H.hardware_addr ≡ hardware.Ethernet own → HearsNeighbor own r H reply notes new message → IsPlain H reply notes new
+heard_plain {own} {r} {message} {H} {new} six mine (ndisc.Advertised flags target lladdr learns e n) =
+    record { by_ip = rw e tt; unnoted = n; keeps = learns_kept H new own r.src_addr (advertised H r flags target lladdr) mine (advertised_six H r flags target lladdr six) learns }
+heard_plain six mine (ndisc.OfNobody target lladdr nobody d) = dropped d
+heard_plain {own} {r} {message} {H} {new} six mine (ndisc.Solicited target lladdr somebody learns e n) =
+    record { by_ip = rw e (solicited own H r target); unnoted = n; keeps = learns_kept H new own r.src_addr (told_by lladdr target) mine (told_six lladdr target six) learns }
+
+ndisc_plain : {r : Ipv6Repr} {message : NdiscRepr} {H new : Host} {reply : Option Reply} {notes : List Note} → IsLinkLayerAddr (lladdr_of message) →
+    TakesNdisc r message H reply notes new → IsPlain H reply notes new
+ndisc_plain six (ndisc.FromAfar far d) = dropped d
+ndisc_plain six (ndisc.WithoutAddresses without d) = dropped d
+ndisc_plain six (ndisc.FromNeighbor own near mine h) = heard_plain six mine h
+
+-- a message to a neighbour that is read tells an address of six octets
+abbrev Tells : Icmpv6Repr → Type 0
+Tells (icmp.Ndisc message) = IsLinkLayerAddr (lladdr_of message)
+Tells (icmp.EchoRequest ident seq_no) = Unit {0}
+Tells (icmp.EchoReply ident seq_no) = Unit {0}
+Tells (icmp.DstUnreachable reason header) = Unit {0}
+Tells (icmp.PktTooBig mtu header) = Unit {0}
+Tells (icmp.TimeExceeded code header) = Unit {0}
+Tells (icmp.ParamProblem reason pointer header) = Unit {0}
+
+tells_error : (octets : List ℕ) → Tells (error_of octets)
+tells_error octets = by (type_in octets == 1) (type_in octets == 2) (type_in octets == 3) where
+  by : (a b c : Bool) → Tells (
+      if a then icmp.DstUnreachable (unreachable_of (code_in octets)) (quoted_in (drop 8 octets)).0 else
+      if b then icmp.PktTooBig (u32_at octets 4) (quoted_in (drop 8 octets)).0 else
+      if c then icmp.TimeExceeded (code_in octets) (quoted_in (drop 8 octets)).0 else
+      icmp.ParamProblem (problem_of (code_in octets)) (u32_at octets 4) (quoted_in (drop 8 octets)).0)
+  by true b c = tt
+  by false true c = tt
+  by false false true = tt
+  by false false false = tt
+
+to_neighbor : (octets : List ℕ) → 135 ≤ type_in octets → IsBody octets → IsNdisc octets
+to_neighbor octets high (Request t c) = absurd (omega (arith, high, t))
+to_neighbor octets high (EchoReplied t c) = absurd (omega (arith, high, t))
+to_neighbor octets high (Error e) = let most = e.most in absurd (omega (arith, high, most))
+to_neighbor octets high (Neighbor n) = n
+
+tells : (checked : Bool) (src dst : IpAddress) (octets : List ℕ) → IsIcmpv6 checked src dst octets → Tells (icmpv6_in octets).0
+tells checked src dst octets i = by (type_in octets == 128) (type_in octets == 129) (type_in octets == 135) (type_in octets == 136) refl refl where
+  by : (a b c d : Bool) → (type_in octets == 135) ≡ c → (type_in octets == 136) ≡ d → Tells (
+      if a then (icmp.EchoRequest (u16_at octets 4) (u16_at octets 6), drop 8 octets) else
+      if b then (icmp.EchoReply (u16_at octets 4) (u16_at octets 6), drop 8 octets) else
+      if c then (icmp.Ndisc (ndisc_in octets), []) else
+      if d then (icmp.Ndisc (ndisc_in octets), []) else
+      error_in octets).0
+  by true b c d e f = tt
+  by false true c d e f = tt
+  by false false true d e f = are_six octets (to_neighbor octets (grind (arith, nat_tests)) i.body)
+  by false false false true e f = are_six octets (to_neighbor octets (grind (arith, nat_tests)) i.body)
+  by false false false false e f = tells_error octets
+
+-- ICMP for IPv6
+message_plain : (r : Ipv6Repr) (m : Icmpv6Repr) (octets : List ℕ) (H : Host) (reply : Option Reply) (notes : List Note) (new : Host) → Tells m →
+    TakesMessage r m octets H reply notes new → IsPlain H reply notes new
+message_plain r (icmp.EchoRequest ident seq_no) octets H reply notes new six t = replied (Some _) tt t.0 t.1 t.2
+message_plain r (icmp.Ndisc message) octets H reply notes new six t = ndisc_plain six t
+message_plain r (icmp.EchoReply ident seq_no) octets H reply notes new six t = dropped t
+message_plain r (icmp.DstUnreachable reason header) octets H reply notes new six t = dropped t
+message_plain r (icmp.PktTooBig mtu header) octets H reply notes new six t = dropped t
+message_plain r (icmp.TimeExceeded code header) octets H reply notes new six t = dropped t
+message_plain r (icmp.ParamProblem reason pointer header) octets H reply notes new six t = dropped t
+
+icmpv6_plain : {r : Ipv6Repr} {H new : Host} {octets : List ℕ} {reply : Option Reply} {notes : List Note} → TakesIcmpv6 r H octets reply notes new → IsPlain H reply notes new
+icmpv6_plain (icmpv6.Malformed m d) = dropped d
+icmpv6_plain {r} {H} {new} {octets} {reply} {notes} (icmpv6.Taken i t) =
+    after (unread refl refl) (message_plain r (icmpv6_in octets).0 (icmpv6_in octets).1 (icmpv6.heard r octets H) reply notes new (tells _ _ _ octets i) t)
+
+refused_v6 : {by_raw : Bool} {r : Ipv6Repr} {H new : Host} {octets : List ℕ} {reply : Option Reply} {notes : List Note} → ipv6.IsRefused by_raw r H octets reply notes new → IsPlain H reply notes new
+refused_v6 {by_raw} {r} {H} {new} {octets} i = replied (protocol_unknown by_raw H.ip_addrs r octets) (unless by_raw _ tt) i.replied i.unnoted i.unchanged
+
+protocol_v6 : (p : IpProtocol) (by_raw : Bool) (r : Ipv6Repr) (H : Host) (octets : List ℕ) (reply : Option Reply) (notes : List Note) (new : Host) →
+    ipv6.TakesProtocol p by_raw r H octets reply notes new → IsPlain H reply notes new
+protocol_v6 protocol.Icmpv6 by_raw r H octets reply notes new t = icmpv6_plain t
+protocol_v6 protocol.Udp by_raw r H octets reply notes new t = udp_plain t
+protocol_v6 protocol.Tcp by_raw r H octets reply notes new t = tcp_plain t
+protocol_v6 protocol.Icmp by_raw r H octets reply notes new t = refused_v6 t
+protocol_v6 protocol.Igmp by_raw r H octets reply notes new t = refused_v6 t
+protocol_v6 protocol.HopByHop by_raw r H octets reply notes new t = refused_v6 t
+protocol_v6 (protocol.Unknown n) by_raw r H octets reply notes new t = refused_v6 t
+
+payload_v6 : {source : HardwareAddress} {r : Ipv6Repr} {p : IpProtocol} {H new : Host} {payload : List ℕ} {reply : Option Reply} {notes : List Note} →
+    TakesPayload source r p H payload reply notes new → IsPlain H reply notes new
+payload_v6 (ipv6.NotForUs u d) = dropped d
+payload_v6 {source} {r} {p} {H} {new} {payload} {reply} {notes} (ipv6.Accepted u t) =
+    after (heard_kept (repr.Ipv6 r) payload H) (after (sender_kept source (repr.Ipv6 r) (raw.heard (repr.Ipv6 r) payload H)) (protocol_v6 p _ r _ payload reply notes new t))
+
+complaint_plain : (failure : Ipv6OptionFailureType) (own : List IpCidr) (r : Ipv6Repr) (payload : List ℕ) → IsByIp (complaint failure own r payload)
+complaint_plain Skip own r payload = tt
+complaint_plain Discard own r payload = tt
+complaint_plain DiscardSendAll own r payload = tt
+complaint_plain DiscardSendUnicast own r payload = unless (is_multicast r.dst_addr) (icmpv6.problem own UnrecognizedOption r payload) tt
+
+options_v6 : {source : HardwareAddress} {r : Ipv6Repr} {H new : Host} {payload : List ℕ} {reply : Option Reply} {notes : List Note} →
+    TakesOptions source r H payload reply notes new → IsPlain H reply notes new
+options_v6 (ipv6.MalformedOptions m d) = dropped d
+options_v6 (ipv6.Skipped o s t) = payload_v6 t
+options_v6 {source} {r} {H} {new} {payload} (ipv6.Discarded failure o f s e n same) = replied (complaint failure H.ip_addrs r payload) (complaint_plain failure H.ip_addrs r payload) e n same
+
+packet_v6 : {source : HardwareAddress} {r : Ipv6Repr} {H new : Host} {payload : List ℕ} {reply : Option Reply} {notes : List Note} →
+    TakesPacket source r H payload reply notes new → IsPlain H reply notes new
+packet_v6 (ipv6.FromNoHost s d) = dropped d
+packet_v6 (ipv6.WithOptions s z t) = options_v6 t
+packet_v6 (ipv6.Bare s z t) = payload_v6 t
+
+pub ipv6_plain : {source : HardwareAddress} {H new : Host} {octets : List ℕ} {reply : Option Reply} {notes : List Note} →
+    TakesIpv6 source H octets reply notes new → IsPlain H reply notes new
+ipv6_plain (ipv6.Malformed m d) = dropped d
+ipv6_plain (ipv6.Read i t) = packet_v6 t

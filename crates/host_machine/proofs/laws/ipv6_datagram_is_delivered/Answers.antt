@@ -1,0 +1,39 @@
+use Rattle.std.proofs.Common.{[], ◌∷◌, refl, Some, None, lit≤, arith}
+use Rattle.std.specs.Prelude.{pos}
+use Rattle.ip_address.specs.Prefixes.{bits}
+use Rattle.wire_base.specs.Checksum.{word_sum}
+use Rattle.wire_base.specs.Pseudo.{pseudo}
+use Rattle.ipv6_wire.specs.Ipv6Packet.{address_at}
+use Rattle.net_base.specs.Device.{Frame}
+use Rattle.sockets.specs.declared.socket.SocketOf.TheVariants as kind
+use Rattle.host_machine.specs.Udp as udp
+use Rattle.host_machine.specs.Ipv6 as ipv6
+use Rattle.host_machine.specs.Ethernet as ethernet
+use Rattle.host_machine.specs.ExampleDiscovery.{host}
+use Rattle.host_machine.specs.ExampleSockets.{listening, with_socket}
+use Rattle.host_machine.specs.ExampleIpv6.{datagram, heard, reached}
+use Rattle.host_machine.proofs.Listening.{first_is_free}
+use Rattle.host_machine.proofs.Exchange.{no_slots}
+use Rattle.host_machine.proofs.laws.ipv6_datagram_is_delivered.Goals as goal
+
+pub returns : goal.returns
+unfolding word_sum pseudo bits address_at
+returns c = record {
+  reception = Frame datagram;
+  frames = [];
+  response = record {
+    reply = None;
+    taken = with_socket reached (host 0x1405 heard);
+    notes_taking = [];
+    notes_responding = [];
+    takes = rw (no_slots (pos 0)) (ethernet.Accepted (lit≤ tt) refl (ipv6.Read (record { whole = lit≤ tt; version = refl; fits = lit≤ tt })
+        (ipv6.Bare refl (λ e. absurd cc) (ipv6.Accepted refl (udp.Delivered (None ∷ Some (kind.Udp reached) ∷ [])
+        (record { whole = lit≤ tt; header_fits = lit≤ tt; fits = lit≤ tt; port = λ e. absurd (omega (arith, e)); sum = λ on summed. refl })
+        (record { index = 1; place = Some (kind.Udp listening); first = record { is_there = refl; accepts = refl; none_before = first_is_free _ (Some (kind.Udp listening) ∷ []) refl }; changed = refl })
+        refl refl refl)))));
+    responds = (refl, refl, refl);
+    all_notes = refl;
+  };
+  events = refl;
+  answers = refl;
+}

@@ -1,0 +1,90 @@
+-- Worked exchanges of IPv6, computed from the definitions: a neighbour asks for the host of fe80::1/64 and is answered (RFC 4861 7.2.4),
+-- and a datagram goes each way.
+use Rattle.std.specs.Prelude.{ℕ, pos, List, [], ◌∷◌, Some, None, Ok}
+use Rattle.std.specs.FinMap as map
+use Rattle.net_base.specs.Device.{Received, Frame, Sent}
+use Rattle.ip_address.specs.declared.ip.IpAddress.{IpAddress}
+use Rattle.ip_address.specs.declared.ip.IpAddress.TheVariants as ip
+use Rattle.iface_tables.specs.Neighbor.{Neighbors, renewed}
+use Rattle.transport_sockets.specs.Udp.{UdpSocket}
+use Rattle.host_machine.specs.declared.results.PollIngressSingleResult.TheVariants as result
+use Rattle.host_machine.specs.Packet.{Packet, Ipv6, Udp}
+use Rattle.host_machine.specs.Dispatch.{Dispatches}
+use Rattle.host_machine.specs.Ingress.{Ingress}
+use Rattle.host_machine.specs.Example as example
+use Rattle.host_machine.specs.ExampleDiscovery.{host, own, neighbor}
+use Rattle.host_machine.specs.ExampleSockets.{empty, listening, with_socket}
+
+-- fe80::2 at 02:00:00:00:00:02 asks the solicited-node group of fe80::1 for its hardware address
+abbrev pub solicitation : List ℕ
+solicitation =
+    0x33 ∷ 0x33 ∷ 0xff ∷ 0 ∷ 0 ∷ 0x01 ∷ 0x02 ∷ 0 ∷ 0 ∷ 0 ∷ 0 ∷ 0x02 ∷ 0x86 ∷ 0xdd
+    ∷ 0x60 ∷ 0 ∷ 0 ∷ 0 ∷ 0 ∷ 0x20 ∷ 0x3a ∷ 0xff
+    ∷ 0xfe ∷ 0x80 ∷ 0 ∷ 0 ∷ 0 ∷ 0 ∷ 0 ∷ 0 ∷ 0 ∷ 0 ∷ 0 ∷ 0 ∷ 0 ∷ 0 ∷ 0 ∷ 0x02
+    ∷ 0xff ∷ 0x02 ∷ 0 ∷ 0 ∷ 0 ∷ 0 ∷ 0 ∷ 0 ∷ 0 ∷ 0 ∷ 0 ∷ 0x01 ∷ 0xff ∷ 0 ∷ 0 ∷ 0x01
+    ∷ 0x87 ∷ 0 ∷ 0x7a ∷ 0x97 ∷ 0 ∷ 0 ∷ 0 ∷ 0
+    ∷ 0xfe ∷ 0x80 ∷ 0 ∷ 0 ∷ 0 ∷ 0 ∷ 0 ∷ 0 ∷ 0 ∷ 0 ∷ 0 ∷ 0 ∷ 0 ∷ 0 ∷ 0 ∷ 0x01
+    ∷ 0x01 ∷ 0x01 ∷ 0x02 ∷ 0 ∷ 0 ∷ 0 ∷ 0 ∷ 0x02 ∷ []
+
+-- fe80::1 tells it
+abbrev pub advertisement : List ℕ
+advertisement =
+    0x02 ∷ 0 ∷ 0 ∷ 0 ∷ 0 ∷ 0x02 ∷ 0x02 ∷ 0 ∷ 0 ∷ 0 ∷ 0 ∷ 0x01 ∷ 0x86 ∷ 0xdd
+    ∷ 0x60 ∷ 0 ∷ 0 ∷ 0 ∷ 0 ∷ 0x20 ∷ 0x3a ∷ 0xff
+    ∷ 0xfe ∷ 0x80 ∷ 0 ∷ 0 ∷ 0 ∷ 0 ∷ 0 ∷ 0 ∷ 0 ∷ 0 ∷ 0 ∷ 0 ∷ 0 ∷ 0 ∷ 0 ∷ 0x01
+    ∷ 0xfe ∷ 0x80 ∷ 0 ∷ 0 ∷ 0 ∷ 0 ∷ 0 ∷ 0 ∷ 0 ∷ 0 ∷ 0 ∷ 0 ∷ 0 ∷ 0 ∷ 0 ∷ 0x02
+    ∷ 0x88 ∷ 0 ∷ 0x38 ∷ 0x1c ∷ 0x40 ∷ 0 ∷ 0 ∷ 0
+    ∷ 0xfe ∷ 0x80 ∷ 0 ∷ 0 ∷ 0 ∷ 0 ∷ 0 ∷ 0 ∷ 0 ∷ 0 ∷ 0 ∷ 0 ∷ 0 ∷ 0 ∷ 0 ∷ 0x01
+    ∷ 0x02 ∷ 0x01 ∷ 0x02 ∷ 0 ∷ 0 ∷ 0 ∷ 0 ∷ 0x01 ∷ []
+
+-- the neighbour that the solicitation tells of
+abbrev pub sender : IpAddress
+sender = ip.Ipv6 neighbor
+
+abbrev pub learnt : Neighbors
+learnt = record { known = map.insert map.empty sender (record { hardware_addr = example.sender_hardware; expires_at = pos 60000000 }); silent_until = pos 0 }
+
+-- the same neighbour, heard from again
+abbrev pub heard : Neighbors
+heard = renewed learnt sender example.sender_hardware (pos 60000000)
+
+-- the solicitation is answered, and its sender known from then on, so that the answer can go
+abbrev pub SolicitationIsAnswered : Type 0
+SolicitationIsAnswered =
+    Ingress (pos 0) result.SocketStateChanged (host 0x1405 (example.nobody (pos 0)))
+    (Received (pos 0) (Frame solicitation) ∷ Sent 0 advertisement ∷ []) (example.identify ∷ []) (host 0x1406 learnt)
+
+-- `hi` from fe80::2, port 5000, to port 6969 of fe80::1
+abbrev pub datagram : List ℕ
+datagram =
+    0x02 ∷ 0 ∷ 0 ∷ 0 ∷ 0 ∷ 0x01 ∷ 0x02 ∷ 0 ∷ 0 ∷ 0 ∷ 0 ∷ 0x02 ∷ 0x86 ∷ 0xdd
+    ∷ 0x60 ∷ 0 ∷ 0 ∷ 0 ∷ 0 ∷ 0x0a ∷ 0x11 ∷ 0x40
+    ∷ 0xfe ∷ 0x80 ∷ 0 ∷ 0 ∷ 0 ∷ 0 ∷ 0 ∷ 0 ∷ 0 ∷ 0 ∷ 0 ∷ 0 ∷ 0 ∷ 0 ∷ 0 ∷ 0x02
+    ∷ 0xfe ∷ 0x80 ∷ 0 ∷ 0 ∷ 0 ∷ 0 ∷ 0 ∷ 0 ∷ 0 ∷ 0 ∷ 0 ∷ 0 ∷ 0 ∷ 0 ∷ 0 ∷ 0x01
+    ∷ 0x13 ∷ 0x88 ∷ 0x1b ∷ 0x39 ∷ 0 ∷ 0x0a ∷ 0x6b ∷ 0xab ∷ 0x68 ∷ 0x69 ∷ []
+
+-- the socket that it reached
+abbrev pub reached : UdpSocket
+reached = record listening { rx = record empty { packets = (record { addr = sender; port = 5000 }, 0x68 ∷ 0x69 ∷ []) ∷ [] } }
+
+-- the datagram reaches the socket, and nothing is sent
+abbrev pub DatagramIsDelivered : Type 0
+DatagramIsDelivered =
+    Ingress (pos 0) result.SocketStateChanged (with_socket listening (host 0x1405 learnt))
+    (Received (pos 0) (Frame datagram) ∷ []) [] (with_socket reached (host 0x1405 heard))
+
+-- `hi` the other way, as a packet, and as its frame
+abbrev pub packet : Packet
+packet = Ipv6 (record { src_addr = own; dst_addr = neighbor; hop_limit = 64; payload = Udp (record { src_port = 6969; dst_port = 5000 }) (0x68 ∷ 0x69 ∷ []) })
+
+abbrev pub frame : List ℕ
+frame =
+    0x02 ∷ 0 ∷ 0 ∷ 0 ∷ 0 ∷ 0x02 ∷ 0x02 ∷ 0 ∷ 0 ∷ 0 ∷ 0 ∷ 0x01 ∷ 0x86 ∷ 0xdd
+    ∷ 0x60 ∷ 0 ∷ 0 ∷ 0 ∷ 0 ∷ 0x0a ∷ 0x11 ∷ 0x40
+    ∷ 0xfe ∷ 0x80 ∷ 0 ∷ 0 ∷ 0 ∷ 0 ∷ 0 ∷ 0 ∷ 0 ∷ 0 ∷ 0 ∷ 0 ∷ 0 ∷ 0 ∷ 0 ∷ 0x01
+    ∷ 0xfe ∷ 0x80 ∷ 0 ∷ 0 ∷ 0 ∷ 0 ∷ 0 ∷ 0 ∷ 0 ∷ 0 ∷ 0 ∷ 0 ∷ 0 ∷ 0 ∷ 0 ∷ 0x02
+    ∷ 0x1b ∷ 0x39 ∷ 0x13 ∷ 0x88 ∷ 0 ∷ 0x0a ∷ 0x6b ∷ 0xab ∷ 0x68 ∷ 0x69 ∷ []
+
+-- the packet goes to the neighbour that is known
+abbrev pub DatagramIsSent : Type 0
+DatagramIsSent = Dispatches packet (Ok tt) (host 0x1405 learnt) (frame ∷ []) (example.identify ∷ []) (host 0x1406 learnt)

@@ -1,0 +1,20 @@
+-- ICMP messages of either family, as sockets hear them (RFC 792, RFC 4443).
+use Rattle.std.specs.Prelude.{ℕ, Bool, List}
+use Rattle.ip_address.specs.declared.ip.IpAddress.{IpAddress}
+use Rattle.control_wire.specs.declared.icmp.IcmpRepr.{IcmpRepr}
+use Rattle.sockets.specs.Kinds.{down_icmp, up_icmp}
+use Rattle.network_sockets.specs.Icmp as socket
+use Rattle.host_machine.specs.Host.{Host, Storage, with_places}
+use Rattle.host_machine.specs.Delivery.{changed, holds, to_each}
+
+-- a place whose socket takes a message, by its values and its contents
+abbrev pub accepts : IcmpRepr → List ℕ → Storage → Bool
+accepts message contents place = holds down_icmp (λ s. socket.accepts s message contents) place
+
+-- the place whose socket was handed a message, whole, from an address
+abbrev pub delivered : IpAddress → List ℕ → Storage → Storage
+delivered remote octets place = changed down_icmp up_icmp (socket.delivered remote octets) place
+
+-- each ICMP socket that takes the message got it
+abbrev pub heard : IcmpRepr → List ℕ → IpAddress → List ℕ → Host → Host
+heard message contents remote octets H = with_places H (to_each (accepts message contents) (delivered remote octets) H.sockets.places)

@@ -1,0 +1,73 @@
+-- ICMP for IPv6, reception of messages, and the errors that a host sends (RFC 4443).
+use Rattle.std.specs.Prelude.{◌≡◌, ℕ, Bool, List, [], take, Option, Some, None, if◌then◌else◌}
+use Rattle.net_base.specs.Checksum.{is_rx}
+use Rattle.ip_address.specs.declared.ipv6.Ipv6Address.{Ipv6Address}
+use Rattle.ip_address.specs.declared.ip.IpAddress.TheVariants as address
+use Rattle.ip_address.specs.declared.cidr.IpCidr.{IpCidr}
+use Rattle.ip_address.specs.Ipv6.{is_unicast}
+use Rattle.address_selection.specs.Ipv6.{source_v6}
+use Rattle.ipv6_wire.specs.declared.ipv6_packet.Ipv6Repr.{Ipv6Repr}
+use Rattle.icmpv6_wire.specs.declared.icmpv6.Icmpv6Repr.{Icmpv6Repr}
+use Rattle.icmpv6_wire.specs.declared.icmpv6.Icmpv6Repr.TheVariants.{EchoRequest, EchoReply, DstUnreachable, PktTooBig, TimeExceeded, ParamProblem, Ndisc}
+use Rattle.icmpv6_wire.specs.declared.icmpv6.Icmpv6DstUnreachable.TheVariants.{PortUnreachable}
+use Rattle.icmpv6_wire.specs.declared.icmpv6.Icmpv6ParamProblem.{Icmpv6ParamProblem}
+use Rattle.icmpv6_wire.specs.Icmpv6.{IsIcmpv6, icmpv6_in}
+use Rattle.control_wire.specs.declared.icmp.IcmpRepr.TheVariants.{Ipv6 as Ipv6Message}
+use Rattle.host_machine.specs.Note.{Note}
+use Rattle.host_machine.specs.Host.{Host}
+use Rattle.host_machine.specs.Icmp as icmp
+use Rattle.host_machine.specs.Packet.{Ipv6, Icmpv6}
+use Rattle.host_machine.specs.Reply.{Reply, Ip, IsDropped}
+use Rattle.host_machine.specs.Ndisc.{TakesNdisc}
+
+-- the address from which a message goes in reply to a packet: the packet's destination, if that is one host's, else the source for its
+-- sender (RFC 4443 2.2)
+abbrev pub reply_source : List IpCidr → Ipv6Repr → Ipv6Address
+reply_source own r = if is_unicast r.dst_addr then r.dst_addr else source_v6 own r.src_addr
+
+-- a message goes back to a packet's source, with hop limit 64
+abbrev pub message_back : List IpCidr → Ipv6Repr → Icmpv6Repr → List ℕ → Reply
+message_back own r message octets = Ip (Ipv6 (record {
+  src_addr = reply_source own r;
+  dst_addr = r.src_addr;
+  hop_limit = 64;
+  payload = Icmpv6 message octets;
+}))
+
+-- how much of a packet's payload an error quotes: at most so much that the error has 1280 octets (RFC 4443 2.4)
+abbrev pub quoted : List ℕ → List ℕ
+quoted payload = take 1192 payload
+
+-- nobody listens at the port, unless a raw socket took the packet (RFC 4443 3.1)
+abbrev pub port_unreachable : Bool → List IpCidr → Ipv6Repr → List ℕ → Option Reply
+port_unreachable by_raw own r payload = if by_raw then None else Some (message_back own r (DstUnreachable PortUnreachable r) (quoted payload))
+
+-- something in the packet isn't known: behind its header, at octet 40 (RFC 4443 3.4)
+abbrev pub problem : List IpCidr → Icmpv6ParamProblem → Ipv6Repr → List ℕ → Reply
+problem own reason r payload = message_back own r (ParamProblem reason 40 r) (quoted payload)
+
+-- each ICMP socket that takes the message got it
+abbrev pub heard : Ipv6Repr → List ℕ → Host → Host
+heard r octets H = icmp.heard (Ipv6Message (icmpv6_in octets).0) (icmpv6_in octets).1 (address.Ipv6 r.src_addr) octets H
+
+-- what a message brings about: an echo request is answered with its identifier, its number and its data; one to a neighbour tells of a
+-- neighbour, or asks for the host; nothing else does anything
+abbrev pub TakesMessage : Ipv6Repr → Icmpv6Repr → List ℕ → Host → Option Reply → List Note → Host → Type 0
+TakesMessage r (EchoRequest ident seq_no) octets H reply notes new =
+    (reply ≡ Some (message_back H.ip_addrs r (EchoReply ident seq_no) octets)) × (notes ≡ []) × (new ≡ H)
+TakesMessage r (Ndisc message) octets H reply notes new = TakesNdisc r message H reply notes new
+TakesMessage r (EchoReply ident seq_no) octets H reply notes new = IsDropped H reply notes new
+TakesMessage r (DstUnreachable reason header) octets H reply notes new = IsDropped H reply notes new
+TakesMessage r (PktTooBig mtu header) octets H reply notes new = IsDropped H reply notes new
+TakesMessage r (TimeExceeded code header) octets H reply notes new = IsDropped H reply notes new
+TakesMessage r (ParamProblem reason pointer header) octets H reply notes new = IsDropped H reply notes new
+
+-- the payload of a packet with this header is a message
+abbrev pub IsMessage : Host → Ipv6Repr → List ℕ → Type 0
+IsMessage H r octets = IsIcmpv6 (is_rx H.capabilities.checksum.icmpv6) (address.Ipv6 r.src_addr) (address.Ipv6 r.dst_addr) octets
+
+-- what is done with the payload of an IPv6 packet with this header
+pub data TakesIcmpv6 (r : Ipv6Repr) (H : Host) (octets : List ℕ) (reply : Option Reply) (notes : List Note) (new : Host) : Type 0 where
+  Malformed : (IsMessage H r octets → ⊥) → IsDropped H reply notes new → TakesIcmpv6 r H octets reply notes new
+  Taken : IsMessage H r octets → TakesMessage r (icmpv6_in octets).0 (icmpv6_in octets).1 (heard r octets H) reply notes new →
+      TakesIcmpv6 r H octets reply notes new

@@ -1,0 +1,86 @@
+-- IPv6, reception of packets (RFC 8200 3, 4): whose packets are taken, what their options ask for, for whom they are, and by which
+-- protocol.
+use Rattle.std.specs.Prelude.{◌≡◌, ◌≢◌, ℕ, Bool, true, false, List, [], Option, Some, None, if◌then◌else◌}
+use Rattle.ip_address.specs.declared.hardware.HardwareAddress.{HardwareAddress}
+use Rattle.ip_address.specs.declared.ip.IpAddress.TheVariants as address
+use Rattle.ip_address.specs.declared.cidr.IpCidr.{IpCidr}
+use Rattle.ip_address.specs.declared.protocol.IpProtocol.{IpProtocol}
+use Rattle.ip_address.specs.declared.protocol.IpProtocol.TheVariants as protocol
+use Rattle.ip_address.specs.Protocol.{number_of}
+use Rattle.ip_address.specs.Ipv6.{is_multicast, is_unicast}
+use Rattle.ipv6_wire.specs.declared.ipv6_packet.Ipv6Repr.{Ipv6Repr}
+use Rattle.ipv6_wire.specs.Ipv6Packet.{IsIpv6, ipv6_in}
+use Rattle.ipv6_wire.specs.HopByHop.{IsHopByHop, hop_by_hop_in, first_failure}
+use Rattle.ipv6_wire.specs.declared.hop_by_hop.Ipv6OptionFailureType.{Ipv6OptionFailureType}
+use Rattle.ipv6_wire.specs.declared.hop_by_hop.Ipv6OptionFailureType.TheVariants.{Skip, Discard, DiscardSendAll, DiscardSendUnicast}
+use Rattle.icmpv6_wire.specs.declared.icmpv6.Icmpv6ParamProblem.TheVariants.{UnrecognizedNxtHdr, UnrecognizedOption}
+use Rattle.ip_wire.specs.declared.ip_packet.IpRepr.TheVariants as repr
+use Rattle.host_machine.specs.Note.{Note}
+use Rattle.host_machine.specs.Host.{Host}
+use Rattle.host_machine.specs.Addresses.{is_for_host}
+use Rattle.host_machine.specs.Reply.{Reply, IsDropped}
+use Rattle.host_machine.specs.Icmpv6.{TakesIcmpv6, problem}
+use Rattle.host_machine.specs.Udp.{TakesUdp}
+use Rattle.host_machine.specs.Tcp.{TakesTcp}
+use Rattle.host_machine.specs.Raw.{heard, is_taken}
+use Rattle.host_machine.specs.Renewal.{sender_renewed}
+
+-- what is answered to a packet of a protocol that nobody here speaks: a problem, unless a raw socket took the packet (RFC 4443 3.4)
+abbrev pub protocol_unknown : Bool → List IpCidr → Ipv6Repr → List ℕ → Option Reply
+protocol_unknown by_raw own r payload = if by_raw then None else Some (problem own UnrecognizedNxtHdr r payload)
+
+-- a payload of such a protocol
+pub record IsRefused (by_raw : Bool) (r : Ipv6Repr) (H : Host) (octets : List ℕ) (reply : Option Reply) (notes : List Note) (new : Host) : Type 0 where
+  pub replied : reply ≡ protocol_unknown by_raw H.ip_addrs r octets
+  pub unnoted : notes ≡ []
+  pub unchanged : new ≡ H
+
+-- by the protocol of the payload, which stands in the header or behind options, and whether a raw socket took the packet; options that
+-- don't stand first, and what belongs to IPv4 alone, are such a protocol
+abbrev pub TakesProtocol : IpProtocol → Bool → Ipv6Repr → Host → List ℕ → Option Reply → List Note → Host → Type 0
+TakesProtocol protocol.Icmpv6 by_raw r H octets reply notes new = TakesIcmpv6 r H octets reply notes new
+TakesProtocol protocol.Udp by_raw r H octets reply notes new = TakesUdp by_raw (repr.Ipv6 r) H octets reply notes new
+TakesProtocol protocol.Tcp by_raw r H octets reply notes new = TakesTcp by_raw (repr.Ipv6 r) H octets reply notes new
+TakesProtocol protocol.Icmp by_raw r H octets reply notes new = IsRefused by_raw r H octets reply notes new
+TakesProtocol protocol.Igmp by_raw r H octets reply notes new = IsRefused by_raw r H octets reply notes new
+TakesProtocol protocol.HopByHop by_raw r H octets reply notes new = IsRefused by_raw r H octets reply notes new
+TakesProtocol (protocol.Unknown number) by_raw r H octets reply notes new = IsRefused by_raw r H octets reply notes new
+
+-- a packet by its header, by the protocol of its payload, and by its payload: raw sockets hear those for the host
+pub data TakesPayload (source : HardwareAddress) (r : Ipv6Repr) (p : IpProtocol) (H : Host) (payload : List ℕ) (reply : Option Reply)
+    (notes : List Note) (new : Host) : Type 0 where
+  NotForUs : is_for_host H (address.Ipv6 r.dst_addr) ≡ false → IsDropped H reply notes new → TakesPayload source r p H payload reply notes new
+  Accepted : is_for_host H (address.Ipv6 r.dst_addr) ≡ true →
+      TakesProtocol p (is_taken (repr.Ipv6 r) H) r (sender_renewed source (repr.Ipv6 r) (heard (repr.Ipv6 r) payload H)) payload
+      reply notes new → TakesPayload source r p H payload reply notes new
+
+-- what is answered for an option that isn't known: a problem, quoting from the options on; by its class to a group, too, or not
+abbrev pub complaint : Ipv6OptionFailureType → List IpCidr → Ipv6Repr → List ℕ → Option Reply
+complaint Skip own r payload = None
+complaint Discard own r payload = None
+complaint DiscardSendAll own r payload = Some (problem own UnrecognizedOption r payload)
+complaint DiscardSendUnicast own r payload = if is_multicast r.dst_addr then None else Some (problem own UnrecognizedOption r payload)
+
+-- a payload behind hop-by-hop options: the first one that isn't known and isn't to be skipped ends it, before the destination is looked at
+pub data TakesOptions (source : HardwareAddress) (r : Ipv6Repr) (H : Host) (payload : List ℕ) (reply : Option Reply) (notes : List Note)
+    (new : Host) : Type 0 where
+  MalformedOptions : (IsHopByHop payload → ⊥) → IsDropped H reply notes new → TakesOptions source r H payload reply notes new
+  Skipped : IsHopByHop payload → first_failure (hop_by_hop_in payload).0.options.items ≡ Skip →
+      TakesPayload source r (hop_by_hop_in payload).0.next_header H (hop_by_hop_in payload).1 reply notes new →
+      TakesOptions source r H payload reply notes new
+  Discarded : (failure : Ipv6OptionFailureType) → IsHopByHop payload → first_failure (hop_by_hop_in payload).0.options.items ≡ failure →
+      failure ≢ Skip → reply ≡ complaint failure H.ip_addrs r payload → notes ≡ [] → new ≡ H → TakesOptions source r H payload reply notes new
+
+-- a packet by its header and its payload: it comes from one host
+pub data TakesPacket (source : HardwareAddress) (r : Ipv6Repr) (H : Host) (payload : List ℕ) (reply : Option Reply) (notes : List Note)
+    (new : Host) : Type 0 where
+  FromNoHost : is_unicast r.src_addr ≡ false → IsDropped H reply notes new → TakesPacket source r H payload reply notes new
+  WithOptions : is_unicast r.src_addr ≡ true → number_of r.next_header ≡ 0 → TakesOptions source r H payload reply notes new →
+      TakesPacket source r H payload reply notes new
+  Bare : is_unicast r.src_addr ≡ true → number_of r.next_header ≢ 0 → TakesPayload source r r.next_header H payload reply notes new →
+      TakesPacket source r H payload reply notes new
+
+-- what is done with the octets behind a frame's header, which came from this hardware address
+pub data TakesIpv6 (source : HardwareAddress) (H : Host) (octets : List ℕ) (reply : Option Reply) (notes : List Note) (new : Host) : Type 0 where
+  Malformed : (IsIpv6 octets → ⊥) → IsDropped H reply notes new → TakesIpv6 source H octets reply notes new
+  Read : IsIpv6 octets → TakesPacket source (ipv6_in octets).0 H (ipv6_in octets).1 reply notes new → TakesIpv6 source H octets reply notes new

@@ -1,0 +1,96 @@
+-- Going over all places, each once.
+use Rattle.std.proofs.Common.{◌≡◌, ℕ, zero, suc, ◌+◌, ◌<◌, ◌≤◌, Bool, true, false, List, [], ◌∷◌, length, map, take, slice_get, slice_set, Option, refl, ap, sym, ◌∙◌, arith}
+use Rattle.std.specs.Prelude.{◌||◌}
+use Rattle.std.specs.List.{list_any}
+use Rattle.std.specs.Option.{option_and_then}
+use Rattle.std.proofs.lemmas.List.{take_all, length-take-le}
+use Rattle.sockets.specs.declared.socket.SocketOf.{SocketOf}
+use Rattle.socket_set.specs.SocketSet.{Sockets, socket_at, with_place, with_places}
+
+-- a payload that isn't too long is quoted whole
+pub quoted_whole : (most : ℕ) (payload : List ℕ) → length payload ≤ most → take most payload ≡ payload
+quoted_whole most payload short = take_all most payload short
+
+pub quoted_len : (most : ℕ) (payload : List ℕ) → most < length payload → most ≡ length (take most payload)
+quoted_len most payload long = sym (length-take-le most payload (omega (arith, long)))
+
+module _ {S : Type 0} where
+  -- the list with the function applied to its first places
+  abbrev pub mapped : (Option S → Option S) → ℕ → List (Option S) → List (Option S)
+  mapped f zero ps = ps
+  mapped f (suc i) [] = []
+  mapped f (suc i) (p ∷ ps) = f p ∷ mapped f i ps
+
+  -- whether one of the first places meets the test
+  abbrev pub any_of : (Option S → Bool) → ℕ → List (Option S) → Bool
+  any_of test zero ps = false
+  any_of test (suc i) [] = false
+  any_of test (suc i) (p ∷ ps) = test p || any_of test i ps
+
+  -- what stands at a place
+  abbrev pub at_place : List (Option S) → ℕ → Option S
+  at_place ps i = option_and_then (λ p. p) (slice_get ps i)
+
+  pub at_mapped : (f : Option S → Option S) (ps : List (Option S)) (i : ℕ) → at_place (mapped f i ps) i ≡ at_place ps i
+  at_mapped f ps zero = refl
+  at_mapped f [] (suc i) = refl
+  at_mapped f (p ∷ ps) (suc i) = at_mapped f ps i
+
+  pub mapped_more : (f : Option S → Option S) (ps : List (Option S)) (i : ℕ) → i < length ps → slice_set (mapped f i ps) i (f (at_place ps i)) ≡ mapped f (suc i) ps
+  mapped_more f [] i within = absurd (omega arith)
+  mapped_more f (p ∷ ps) zero within = refl
+  mapped_more f (p ∷ ps) (suc i) within = ap (λ (rest : List (Option S)). f p ∷ rest) (mapped_more f ps i (omega arith))
+
+  pub mapped_all : (f : Option S → Option S) (ps : List (Option S)) → mapped f (length ps) ps ≡ map f ps
+  mapped_all f [] = refl
+  mapped_all f (p ∷ ps) = ap (λ (rest : List (Option S)). f p ∷ rest) (mapped_all f ps)
+
+  pub any_more : (test : Option S → Bool) (ps : List (Option S)) (i : ℕ) → i < length ps → any_of test i ps || test (at_place ps i) ≡ any_of test (suc i) ps
+  any_more test [] i within = absurd (omega arith)
+  any_more test (p ∷ ps) zero within = by (test p) where
+    by : (b : Bool) → false || b ≡ b || false
+    by true = refl
+    by false = refl
+  any_more test (p ∷ ps) (suc i) within = by (test p) (any_more test ps i (omega arith)) where
+    by : (b : Bool) → any_of test i ps || test (at_place ps i) ≡ any_of test (suc i) ps → (b || any_of test i ps) || test (at_place ps i) ≡ b || any_of test (suc i) ps
+    by true more = refl
+    by false more = more
+
+  pub any_all : (test : Option S → Bool) (ps : List (Option S)) → any_of test (length ps) ps ≡ list_any test ps
+  any_all test [] = refl
+  any_all test (p ∷ ps) = ap (λ b. test p || b) (any_all test ps)
+
+  -- what stands at a place, put there again
+  pub put_again : (ps : List (Option S)) (i : ℕ) → slice_set ps i (at_place ps i) ≡ ps
+  put_again [] i = refl
+  put_again (p ∷ ps) zero = refl
+  put_again (p ∷ ps) (suc i) = ap (λ (rest : List (Option S)). p ∷ rest) (put_again ps i)
+
+  -- one place more
+  pub one_mapped : (f : Option S → Option S) (ps now : List (Option S)) (i : ℕ) → i < length ps → now ≡ mapped f i ps → slice_set now i (f (at_place now i)) ≡ mapped f (i + 1) ps
+  one_mapped f ps now i within is =
+      let next : i + 1 ≡ suc i = omega arith in
+      rw (is, at_mapped f ps i, next) (mapped_more f ps i within)
+
+  pub one_tested : (f : Option S → Option S) (test : Option S → Bool) (ps now : List (Option S)) (i : ℕ) (so this : Bool) → i < length ps → now ≡ mapped f i ps → so ≡ any_of test i ps →
+      this ≡ test (at_place now i) → so || this ≡ any_of test (i + 1) ps
+  one_tested f test ps now i so this within is was tests =
+      let next : i + 1 ≡ suc i = omega arith in
+      rw (was, tests, is, at_mapped f ps i, next) (any_more test ps i within)
+
+  -- all places
+  pub all_mapped : (f : Option S → Option S) (ps : List (Option S)) (i n : ℕ) → n ≡ length ps → i ≤ n → n ≤ i → mapped f i ps ≡ map f ps
+  all_mapped f ps i n len low high =
+      let whole : i ≡ length ps = omega (arith, len, low, high) in
+      ap (λ k. mapped f k ps) whole ∙ mapped_all f ps
+
+  pub all_tested : (test : Option S → Bool) (ps : List (Option S)) (i n : ℕ) (so : Bool) → n ≡ length ps → i ≤ n → n ≤ i → so ≡ any_of test i ps → so ≡ list_any test ps
+  all_tested test ps i n so len low high is =
+      let whole : i ≡ length ps = omega (arith, len, low, high) in
+      is ∙ ap (λ k. any_of test k ps) whole ∙ any_all test ps
+
+-- one place more of a set
+pub one_heard : {L : Type 0} (f : Option (SocketOf L) → Option (SocketOf L)) (old now new : Sockets L) (i : ℕ) → i < length old.places → now ≡ with_places old (mapped f i old.places) →
+    new ≡ with_place now i (f (socket_at now i)) → new ≡ with_places old (mapped f (i + 1) old.places)
+one_heard f old now new i within is changed =
+    changed ∙ ap (λ s. with_place s i (f (socket_at s i))) is ∙ ap (with_places old) (one_mapped f old.places (mapped f i old.places) i within refl)

@@ -1,0 +1,4 @@
+pub mod Processing
+mod Received
+mod Each
+mod Messages

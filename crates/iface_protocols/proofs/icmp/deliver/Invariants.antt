@@ -1,0 +1,11 @@
+use Rattle.std.proofs.Common.{◌≡◌}
+use Rattle.socket_set.specs.SocketSet.{with_places}
+use Rattle.host_machine.specs.Delivery.{to_this}
+use Rattle.host_machine.specs.Icmp.{accepts, delivered}
+use Rattle.iface_protocols.proofs.Each.{mapped}
+use Rattle.iface_protocols.proofs.icmp.deliver.Given as goal
+
+-- the sockets below the index got the message, if they take it, and the others are as they were
+abbrev pub invariant-loop-index : goal.invariant-loop-index
+invariant-loop-index l =
+    l.sockets ≡ with_places l.fn.sockets (mapped (to_this (accepts l.message l.contents) (delivered l.remote l.octets)) l.index l.fn.sockets.places)

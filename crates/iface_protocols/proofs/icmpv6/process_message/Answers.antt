@@ -1,0 +1,18 @@
+use Rattle.std.proofs.Common.{refl}
+use Rattle.iface_send.specs.Stands.{host_in}
+use Rattle.iface_protocols.proofs.Processing.{answered, by_rule, unanswered}
+use Rattle.iface_protocols.proofs.Messages.{echoed, to_neighbor, unheeded}
+use Rattle.iface_protocols.proofs.icmpv6.process_message.Goals as goal
+
+pub returns-in-EchoRequest : goal.returns-in-EchoRequest
+returns-in-EchoRequest c = λ sockets.
+    answered sockets _ (λ slots. echoed c.args.header.now c.args.message.now c.args.contents.now _ _ (host_in c.args.context.now slots sockets) _ c.in-EchoRequest.is refl) c.send_back.ensures
+
+pub returns-in-Ndisc : goal.returns-in-Ndisc
+returns-in-Ndisc c = λ sockets.
+    by_rule (c.process_ndisc.ensures sockets) (λ slots reply notes taken takes. to_neighbor c.args.header.now c.args.message.now c.args.contents.now _ (host_in c.args.context.now slots sockets) taken reply notes
+    c.in-Ndisc.is takes)
+
+pub returns-in_default : goal.returns-in_default
+returns-in_default c = λ sockets.
+    unanswered c.requires.empty (λ slots. unheeded c.args.header.now c.args.message.now c.args.contents.now (host_in c.args.context.now slots sockets) c.in_default.not-EchoRequest c.in_default.not-Ndisc)

@@ -1,0 +1,12 @@
+use Rattle.std.proofs.Common.{◌≡◌}
+use Rattle.socket_set.specs.SocketSet.{with_places}
+use Rattle.host_machine.specs.Delivery.{to_this}
+use Rattle.host_machine.specs.Raw.{delivered, takes}
+use Rattle.iface_protocols.proofs.Each.{mapped, any_of}
+use Rattle.iface_protocols.proofs.raw.deliver.Given as goal
+
+-- the sockets below the index got the packet, if they take it, and the others are as they were
+abbrev pub invariant-loop-index : goal.invariant-loop-index
+invariant-loop-index l =
+    (l.sockets ≡ with_places l.fn.sockets (mapped (to_this (takes l.header) (delivered l.summed l.header l.payload)) l.index l.fn.sockets.places)) ×
+    (l.taken ≡ any_of (takes l.header) l.index l.fn.sockets.places)

@@ -1,0 +1,46 @@
+//! What ICMP sockets hear: the messages that are for them, of either family.
+ghost use Rattle.std.specs.Prelude.{◌≡◌, length};
+ghost use Rattle.socket_set.specs.SocketSet.{socket_at, with_place, with_places};
+ghost use Rattle.host_machine.specs.Delivery.{to_each, to_this};
+ghost use Rattle.host_machine.specs.Icmp.{accepts, delivered};
+
+use control_wire::IcmpRepr;
+use ip_wire::IpAddress;
+use socket_set::SocketSet;
+use sockets::icmp;
+
+/// Hands a message, whole, with its sender, to each ICMP socket that takes it. `contents` are the octets
+/// behind the message's values.
+pub(crate) fn deliver(
+    sockets: &mut SocketSet<'_>,
+    remote: IpAddress,
+    message: &IcmpRepr,
+    contents: &[u8],
+    octets: &[u8],
+)
+    ensures { sockets.new ≡ with_places sockets.old (to_each (accepts message.now contents.now) (delivered remote octets.now) sockets.old.places) }
+{
+    for index in 0..sockets.places() {
+        deliver_at(sockets, index, remote, message, contents, octets);
+    }
+}
+
+/// Hands a message to the socket at an index, if that takes it.
+fn deliver_at(
+    sockets: &mut SocketSet<'_>,
+    index: usize,
+    remote: IpAddress,
+    message: &IcmpRepr,
+    contents: &[u8],
+    octets: &[u8],
+)
+    ensures heard { sockets.new ≡ with_place sockets.old index (to_this (accepts message.now contents.now) (delivered remote octets.now) (socket_at sockets.old index)) }
+    ensures len { length sockets.new.places ≡ length sockets.old.places }
+{
+    let Some(socket) = sockets.kind_mut::<icmp::Socket<'_>>(index) else {
+        return;
+    };
+    if socket.accepts(message, contents) {
+        socket.process(remote, octets);
+    }
+}

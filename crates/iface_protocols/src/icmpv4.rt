@@ -1,0 +1,178 @@
+//! What an interface does with ICMP messages (RFC 792, RFC 1122 3.2.2), and which it sends in reply.
+ghost use Rattle.std.specs.Prelude.{◌≡◌, ◌+◌, ◌<◌, ◌^◌, [], IfSome, drop, length};
+ghost use Rattle.control_wire.specs.Icmpv4.{IsIcmpv4, QuotesPacket, echo_reply_to, icmpv4_in};
+ghost use Rattle.host_machine.specs.Host.{no_sockets};
+ghost use Rattle.host_machine.specs.Icmpv4 as spec;
+ghost use Rattle.host_machine.specs.Packet as value;
+ghost use Rattle.host_machine.specs.Response.{Responds};
+ghost use Rattle.iface_send.specs.Shown as shown;
+ghost use Rattle.iface_send.specs.Built.{Built};
+ghost use Rattle.iface_send.specs.Stands.{host_of};
+ghost use Rattle.iface_protocols.specs.Processed.{Processed};
+
+use crate::icmp::deliver;
+use control_wire::IcmpRepr;
+use control_wire::icmpv4::{EchoRequest, Icmpv4DstUnreachable, Icmpv4Repr};
+use iface_send::dispatch::dispatch;
+use iface_send::{Context, IpPayload, Packet, PacketV4};
+use ip_wire::emit::FrameBuffer;
+use ip_wire::{IpAddress, Ipv4Address, Ipv4Repr};
+use socket_set::SocketSet;
+
+/// Takes the payload of a packet with this header as an ICMP message, of fewer than 65,536 octets
+/// (RFC 792). Each ICMP socket that takes it gets it, whole. The reply to an echo request is built, in
+/// an empty buffer: its identifier, its number and its data. Nothing else is answered.
+pub fn process_icmpv4(
+    context: &mut Context,
+    sockets: &mut SocketSet<'_>,
+    header: &Ipv4Repr,
+    octets: &[u8],
+    out: &mut FrameBuffer,
+)
+    requires empty { out.old ≡ [] }
+    requires short { length octets.now < 2 ^ 16 }
+    ensures { Processed out.new (λ H. spec.TakesIcmpv4 header.now H octets.now) (host_of context.old sockets.old) (host_of context.new sockets.new) }
+{
+    let checked = context.capabilities().checksum.icmpv4.rx();
+    let Some((message, contents)) = Icmpv4Repr::parse(octets, checked) else {
+        return;
+    };
+    let remote = IpAddress::Ipv4(header.src_addr);
+    let heard = IcmpRepr::Ipv4(message);
+    deliver(sockets, remote, &heard, contents, octets);
+    answer(context, header, &message, contents, octets, checked, out);
+}
+
+/// Builds the reply to a message, of which these are all octets: to an echo request, and to nothing
+/// else. Where its checksum was tested, the reply's comes from it.
+fn answer(
+    context: &mut Context,
+    header: &Ipv4Repr,
+    message: &Icmpv4Repr,
+    contents: &[u8],
+    octets: &[u8],
+    checked: bool,
+    out: &mut FrameBuffer,
+)
+    requires empty { out.old ≡ [] }
+    requires short { length octets.now < 2 ^ 16 }
+    requires read { IsIcmpv4 checked octets.now × ((message.now, contents.now) ≡ icmpv4_in octets.now) }
+    ensures { Built out.new (Responds (spec.answer_to (host_of context.old no_sockets).ip_addrs header.now message.now contents.now)) context.old context.new }
+{
+    let Icmpv4Repr::EchoRequest { ident, seq_no } = message else {
+        return;
+    };
+    let reply = Icmpv4Repr::EchoReply {
+        ident: *ident,
+        seq_no: *seq_no,
+    };
+    let request = if checked {
+        Some(EchoRequest { octets })
+    } else {
+        None
+    };
+    send_back(context, header, reply, contents, request, out);
+}
+
+/// Builds an error in reply to a packet, in an empty buffer. It quotes the packet's header and at most
+/// 528 octets of its payload, so that it is at most 576 octets long (RFC 1122 3.2.2). None is built if
+/// a raw socket took the packet.
+pub fn refuse(
+    context: &mut Context,
+    reason: Icmpv4DstUnreachable,
+    header: &Ipv4Repr,
+    payload: &[u8],
+    by_raw: bool,
+    out: &mut FrameBuffer,
+)
+    requires empty { out.old ≡ [] }
+    requires quotable { 20 + header.now.payload_len < 2 ^ 16 }
+    ensures { Built out.new (Responds (spec.unreachable by_raw (host_of context.old no_sockets).ip_addrs reason header.now payload.now)) context.old context.new }
+{
+    if by_raw {
+        return;
+    }
+    let message = Icmpv4Repr::DstUnreachable {
+        reason,
+        header: *header,
+    };
+    send_back(context, header, message, quoted(payload), None, out);
+}
+
+/// As much of a payload as an error quotes.
+fn quoted(payload: &[u8]) -> &[u8]
+    ensures { result.now ≡ spec.quoted payload.now }
+{
+    if payload.len() <= 528 {
+        return payload;
+    }
+    &payload[..528]
+}
+
+/// Builds a message in reply to a packet, with hop limit 64, if it may go. The message may be the reply
+/// to a request whose checksum was tested.
+fn send_back(
+    context: &mut Context,
+    header: &Ipv4Repr,
+    message: Icmpv4Repr,
+    octets: &[u8],
+    request: Option<EchoRequest<'_>>,
+    out: &mut FrameBuffer,
+)
+    requires empty { out.old ≡ [] }
+    requires quoted { QuotesPacket message }
+    requires replies { IfSome request (λ r. (message ≡ echo_reply_to r.octets.now) × (octets.now ≡ drop 8 r.octets.now)) }
+    ensures { Built out.new (Responds (spec.icmpv4_reply (host_of context.old no_sockets).ip_addrs header.now message octets.now)) context.old context.new }
+{
+    let Some(src_addr) = reply_source(context, header, &message) else {
+        return;
+    };
+    let packet = Packet::Ipv4(PacketV4 {
+        src_addr,
+        dst_addr: header.src_addr,
+        hop_limit: 64,
+        payload: payload_of(message, octets, request),
+    });
+    let _ = dispatch(context, &packet, out);
+}
+
+/// A message as a payload.
+#[inline(always)]
+fn payload_of<'p>(
+    message: Icmpv4Repr,
+    octets: &'p [u8],
+    request: Option<EchoRequest<'p>>,
+) -> IpPayload<'p>
+    requires { IfSome request (λ r. (message ≡ echo_reply_to r.octets.now) × (octets.now ≡ drop 8 r.octets.now)) }
+    ensures { shown.payload result ≡ value.Icmpv4 message octets.now }
+{
+    match request {
+        Some(request) => IpPayload::EchoReply(request),
+        None => IpPayload::Icmpv4(message, octets),
+    }
+}
+
+/// The address from which a message goes in reply to a packet: the packet's destination, if that is
+/// one host, and for a broadcast the first own address, where the message may answer one (RFC 1122
+/// 3.2.2, 3.2.2.6). None goes to what isn't one host.
+fn reply_source(context: &Context, header: &Ipv4Repr, message: &Icmpv4Repr) -> Option<Ipv4Address>
+    ensures { result ≡ spec.reply_source (host_of context.now no_sockets).ip_addrs header.now message.now }
+{
+    if !context.is_unicast_v4(&header.src_addr) {
+        return None;
+    }
+    if context.is_unicast_v4(&header.dst_addr) {
+        return Some(header.dst_addr);
+    }
+    if context.is_broadcast_v4(&header.dst_addr) && may_answer_broadcast(message) {
+        return context.ipv4_addr();
+    }
+    None
+}
+
+/// Whether a message may answer a broadcast: an echo reply alone.
+fn may_answer_broadcast(message: &Icmpv4Repr) -> bool
+    ensures { result ≡ spec.may_answer_broadcast message.now }
+{
+    matches!(message, Icmpv4Repr::EchoReply { .. })
+}

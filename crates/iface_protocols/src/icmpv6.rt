@@ -1,0 +1,159 @@
+//! What an interface does with ICMP messages of IPv6 (RFC 4443), and which it sends in reply.
+ghost use Rattle.std.specs.Prelude.{◌≡◌, ◌<◌, ◌^◌, [], Some, true, length};
+ghost use Rattle.ip_address.specs.Ipv6.{is_unicast};
+ghost use Rattle.host_machine.specs.Host.{SocketSet, no_sockets};
+ghost use Rattle.host_machine.specs.Icmpv6 as spec;
+ghost use Rattle.host_machine.specs.Response.{Responds};
+ghost use Rattle.iface_send.specs.Built.{Built};
+ghost use Rattle.iface_send.specs.Stands.{host_of};
+ghost use Rattle.iface_protocols.specs.Processed.{Processed};
+
+use crate::icmp::deliver;
+use crate::ndisc::process_ndisc;
+use control_wire::IcmpRepr;
+use icmpv6_wire::{Icmpv6DstUnreachable, Icmpv6ParamProblem, Icmpv6Repr};
+use iface_send::dispatch::dispatch;
+use iface_send::{Context, IpPayload, Packet, PacketV6};
+use ip_wire::emit::FrameBuffer;
+use ip_wire::{IpAddress, Ipv6Address, Ipv6Repr};
+use socket_set::SocketSet;
+
+/// How many octets of a packet's payload an error quotes at most, so that it has at most 1,280 (RFC 4443
+/// 2.4).
+const QUOTED_LEN: usize = 1192;
+
+/// Takes the payload of a packet with this header, from one host, as an ICMP message (RFC 4443). Each ICMP
+/// socket that takes it gets it, whole. The reply to an echo request is built, in an empty buffer: its
+/// identifier, its number and its data. A message to a neighbour is taken as such (RFC 4861). Nothing else
+/// is answered.
+pub fn process_icmpv6(
+    context: &mut Context,
+    sockets: &mut SocketSet<'_>,
+    header: &Ipv6Repr,
+    octets: &[u8],
+    out: &mut FrameBuffer,
+)
+    requires empty { out.old ≡ [] }
+    requires short { length octets.now < 2 ^ 16 }
+    requires from_one { is_unicast header.now.src_addr ≡ true }
+    ensures { Processed out.new (λ H. spec.TakesIcmpv6 header.now H octets.now) (host_of context.old sockets.old) (host_of context.new sockets.new) }
+{
+    let src_addr = IpAddress::Ipv6(header.src_addr);
+    let dst_addr = IpAddress::Ipv6(header.dst_addr);
+    let checked = context.capabilities().checksum.icmpv6.rx();
+    let Some((message, contents)) = Icmpv6Repr::parse(octets, &src_addr, &dst_addr, checked) else {
+        return;
+    };
+    let heard = IcmpRepr::Ipv6(message);
+    deliver(sockets, src_addr, &heard, contents, octets);
+    process_message(context, header, &message, contents, out);
+}
+
+/// Takes a message by its values and its data.
+fn process_message(
+    context: &mut Context,
+    header: &Ipv6Repr,
+    message: &Icmpv6Repr,
+    contents: &[u8],
+    out: &mut FrameBuffer,
+)
+    requires empty { out.old ≡ [] }
+    requires from_one { is_unicast header.now.src_addr ≡ true }
+    ensures { (sockets : SocketSet) → Processed out.new (λ H. spec.TakesMessage header.now message.now contents.now H) (host_of context.old sockets) (host_of context.new sockets) }
+{
+    match message {
+        Icmpv6Repr::EchoRequest { ident, seq_no } => {
+            let reply = Icmpv6Repr::EchoReply {
+                ident: *ident,
+                seq_no: *seq_no,
+            };
+            send_back(context, header, reply, contents, out);
+        }
+        Icmpv6Repr::Ndisc(message) => process_ndisc(context, header, message, out),
+        _ => {}
+    }
+}
+
+/// Builds the error in reply to a datagram to a port at which nobody listens, in an empty buffer. None is
+/// built if a raw socket took the packet.
+pub(crate) fn refuse_port(
+    context: &mut Context,
+    header: &Ipv6Repr,
+    payload: &[u8],
+    by_raw: bool,
+    out: &mut FrameBuffer,
+)
+    requires { out.old ≡ [] }
+    ensures { Built out.new (Responds (spec.port_unreachable by_raw (host_of context.old no_sockets).ip_addrs header.now payload.now)) context.old context.new }
+{
+    if by_raw {
+        return;
+    }
+    let message = Icmpv6Repr::DstUnreachable {
+        reason: Icmpv6DstUnreachable::PortUnreachable,
+        header: *header,
+    };
+    send_back(context, header, message, quoted(payload), out);
+}
+
+/// Builds the error in reply to a packet in which something isn't known, in an empty buffer: behind its
+/// header, at octet 40 (RFC 4443 3.4). It quotes the packet's header and at most 1,192 octets of what is
+/// given of its payload.
+pub fn complain(
+    context: &mut Context,
+    reason: Icmpv6ParamProblem,
+    header: &Ipv6Repr,
+    payload: &[u8],
+    out: &mut FrameBuffer,
+)
+    requires { out.old ≡ [] }
+    ensures { Built out.new (Responds (Some (spec.problem (host_of context.old no_sockets).ip_addrs reason header.now payload.now))) context.old context.new }
+{
+    let message = Icmpv6Repr::ParamProblem {
+        reason,
+        pointer: 40,
+        header: *header,
+    };
+    send_back(context, header, message, quoted(payload), out);
+}
+
+/// As much of a payload as an error quotes.
+fn quoted(payload: &[u8]) -> &[u8]
+    ensures { result.now ≡ spec.quoted payload.now }
+{
+    if payload.len() <= QUOTED_LEN {
+        return payload;
+    }
+    &payload[..QUOTED_LEN]
+}
+
+/// Builds a message in reply to a packet, with hop limit 64.
+fn send_back(
+    context: &mut Context,
+    header: &Ipv6Repr,
+    message: Icmpv6Repr,
+    contents: &[u8],
+    out: &mut FrameBuffer,
+)
+    requires { out.old ≡ [] }
+    ensures { Built out.new (Responds (Some (spec.message_back (host_of context.old no_sockets).ip_addrs header.now message contents.now))) context.old context.new }
+{
+    let packet = Packet::Ipv6(PacketV6 {
+        src_addr: reply_source(context, header),
+        dst_addr: header.src_addr,
+        hop_limit: 64,
+        payload: IpPayload::Icmpv6(message, contents),
+    });
+    let _ = dispatch(context, &packet, out);
+}
+
+/// The address from which a message goes in reply to a packet: the packet's destination, if that is one
+/// host's, else the source for its sender (RFC 4443 2.2).
+fn reply_source(context: &Context, header: &Ipv6Repr) -> Ipv6Address
+    ensures { result ≡ spec.reply_source (host_of context.now no_sockets).ip_addrs header.now }
+{
+    if header.dst_addr.is_unicast() {
+        return header.dst_addr;
+    }
+    context.get_source_address_ipv6(&header.src_addr)
+}

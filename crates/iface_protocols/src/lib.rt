@@ -1,0 +1,12 @@
+//! What an interface does with what packets carry: the protocols over IP, and the errors that it sends for
+//! what nobody takes.
+#![tactic(auto)]
+
+mod icmp;
+pub mod icmpv4;
+pub mod icmpv6;
+pub mod ndisc;
+pub mod raw;
+pub mod tcp;
+pub mod udp;
+mod unreachable;

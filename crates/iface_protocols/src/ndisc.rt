@@ -1,0 +1,188 @@
+//! What an interface does with messages of neighbour discovery (RFC 4861 7.2).
+ghost use Rattle.std.specs.Prelude.{◌≡◌, [], IfSome, true};
+ghost use Rattle.net_base.specs.declared.phy.Medium.TheVariants as medium;
+ghost use Rattle.ip_address.specs.EthernetAddress as ethernet;
+ghost use Rattle.ip_address.specs.Hardware.{medium_of};
+ghost use Rattle.ip_address.specs.Ipv6 as ipv6;
+ghost use Rattle.icmpv6_wire.specs.declared.ndisc.NdiscRepr.TheVariants.{NeighborSolicit};
+ghost use Rattle.fragmentation.specs.Slots.{Slots};
+ghost use Rattle.host_machine.specs.Host.{SocketSet, no_sockets};
+ghost use Rattle.host_machine.specs.Ndisc as spec;
+ghost use Rattle.iface_send.specs.Shown as shown;
+ghost use Rattle.iface_send.specs.Stands.{host_in, host_of};
+ghost use Rattle.iface_protocols.specs.Processed.{Processed};
+
+use bitflags::Flags;
+use icmpv6_wire::{Icmpv6Repr, NdiscNeighborFlags, NdiscRepr};
+use iface_send::dispatch::dispatch;
+use iface_send::neighbors::{fill_neighbor, is_known};
+use iface_send::{Context, IpPayload, Packet, PacketV6};
+use ip_wire::emit::FrameBuffer;
+use ip_wire::{EthernetAddress, HardwareAddress, IpAddress, Ipv6Address, Ipv6Repr};
+
+/// Takes a message to a neighbour that came in a packet with this header, from one host, if no router passed
+/// it on and the medium has hardware addresses (RFC 4861 7.1). An advertisement tells where its sender is,
+/// who is then known for 60 s, if it overrides or nobody is known there. A solicitation tells the same, and
+/// is answered if it asks for the interface; the answer is built in an empty buffer.
+pub fn process_ndisc(
+    context: &mut Context,
+    header: &Ipv6Repr,
+    message: &NdiscRepr,
+    out: &mut FrameBuffer,
+)
+    requires empty { out.old ≡ [] }
+    requires from_one { ipv6.is_unicast header.now.src_addr ≡ true }
+    ensures { (sockets : SocketSet) → Processed out.new (λ H. spec.TakesNdisc header.now message.now H) (host_of context.old sockets) (host_of context.new sockets) }
+{
+    let HardwareAddress::Ethernet(own) = context.hardware_addr() else {
+        return;
+    };
+    if header.hop_limit != 255 {
+        return;
+    }
+    match message {
+        NdiscRepr::NeighborAdvert {
+            flags,
+            target_addr,
+            lladdr,
+        } => process_advertisement(context, header, flags, target_addr, lladdr),
+        NdiscRepr::NeighborSolicit {
+            target_addr,
+            lladdr,
+        } => process_solicitation(context, own, header, target_addr, lladdr, out),
+    }
+}
+
+/// Learns where the sender of an advertisement is, if it overrides what is known, or nobody is (RFC 4861
+/// 7.2.5).
+fn process_advertisement(
+    context: &mut Context,
+    header: &Ipv6Repr,
+    flags: &NdiscNeighborFlags,
+    target_addr: &Ipv6Address,
+    lladdr: &Option<EthernetAddress>,
+)
+    requires from_one { ipv6.is_unicast header.now.src_addr ≡ true }
+    requires on_ethernet { medium_of (host_of context.old no_sockets).hardware_addr ≡ medium.Ethernet }
+    ensures { (slots : Slots) (sockets : SocketSet) → spec.Learns (spec.advertised (host_in context.old slots sockets) header.now flags.now target_addr.now lladdr.now) header.now.src_addr (host_in context.old slots sockets) (host_in context.new slots sockets) }
+{
+    let address = advertised(context, header, flags, target_addr, lladdr);
+    learn(context, header.src_addr, address);
+}
+
+/// The hardware address that an advertisement tells, if it overrides what is known, or nobody is.
+fn advertised(
+    context: &Context,
+    header: &Ipv6Repr,
+    flags: &NdiscNeighborFlags,
+    target_addr: &Ipv6Address,
+    lladdr: &Option<EthernetAddress>,
+) -> Option<EthernetAddress>
+    requires from_one { ipv6.is_unicast header.now.src_addr ≡ true }
+    ensures told { result ≡ spec.advertised (host_of context.now no_sockets) header.now flags.now target_addr.now lladdr.now }
+    ensures unicast { IfSome result (λ a. ethernet.is_unicast a ≡ true) }
+{
+    let overrides = flags.contains(NdiscNeighborFlags::OVERRIDE);
+    if overrides || !is_known(context, &IpAddress::Ipv6(header.src_addr)) {
+        return told_by(lladdr, target_addr);
+    }
+    None
+}
+
+/// Learns where the sender of a solicitation is, and builds the advertisement that answers it, if it asks
+/// for the interface (RFC 4861 7.2.3, 7.2.4). One that tells an address of nobody is dropped.
+fn process_solicitation(
+    context: &mut Context,
+    own: EthernetAddress,
+    header: &Ipv6Repr,
+    target_addr: &Ipv6Address,
+    lladdr: &Option<EthernetAddress>,
+    out: &mut FrameBuffer,
+)
+    requires empty { out.old ≡ [] }
+    requires from_one { ipv6.is_unicast header.now.src_addr ≡ true }
+    requires on_ethernet { medium_of (host_of context.old no_sockets).hardware_addr ≡ medium.Ethernet }
+    ensures { (sockets : SocketSet) → Processed out.new (λ H reply notes new. spec.HearsNeighbor own header.now H reply notes new (NeighborSolicit target_addr.now lladdr.now)) (host_of context.old sockets) (host_of context.new sockets) }
+{
+    if tells_of_nobody(lladdr, target_addr) {
+        return;
+    }
+    let is_asked = asks_for(context, header, target_addr);
+    learn(context, header.src_addr, told_by(lladdr, target_addr));
+    if is_asked {
+        let packet = advertisement_of(own, header, target_addr);
+        let _ = dispatch(context, &packet, out);
+    }
+}
+
+/// Puts a neighbour at a hardware address for 60 s, if there is one.
+fn learn(context: &mut Context, neighbor: Ipv6Address, address: Option<EthernetAddress>)
+    requires one { ipv6.is_unicast neighbor ≡ true }
+    requires on_ethernet { medium_of (host_of context.old no_sockets).hardware_addr ≡ medium.Ethernet }
+    requires unicast { IfSome address (λ a. ethernet.is_unicast a ≡ true) }
+    ensures { (slots : Slots) (sockets : SocketSet) → spec.Learns address neighbor (host_in context.old slots sockets) (host_in context.new slots sockets) }
+{
+    let Some(address) = address else {
+        return;
+    };
+    fill_neighbor(
+        context,
+        IpAddress::Ipv6(neighbor),
+        HardwareAddress::Ethernet(address),
+    );
+}
+
+/// The hardware address that a message tells, if it is one host's and so is the target.
+fn told_by(lladdr: &Option<EthernetAddress>, target: &Ipv6Address) -> Option<EthernetAddress>
+    ensures told { result ≡ spec.told_by lladdr.now target.now }
+    ensures unicast { IfSome result (λ a. ethernet.is_unicast a ≡ true) }
+{
+    let address = (*lladdr)?;
+    if address.is_unicast() && target.is_unicast() {
+        Some(address)
+    } else {
+        None
+    }
+}
+
+/// Whether a message tells an address that isn't one host's, or for a target that isn't.
+fn tells_of_nobody(lladdr: &Option<EthernetAddress>, target: &Ipv6Address) -> bool
+    ensures { result ≡ spec.tells_of_nobody lladdr.now target.now }
+{
+    match lladdr {
+        Some(address) => !(address.is_unicast() && target.is_unicast()),
+        None => false,
+    }
+}
+
+/// Whether a solicitation asks for the interface: at a solicited-node group of its own, or at an address that
+/// was given to it, but ::1, for an own one.
+fn asks_for(context: &Context, header: &Ipv6Repr, target: &Ipv6Address) -> bool
+    ensures { result ≡ spec.asks_for (host_of context.now no_sockets) header.now target.now }
+{
+    let destination = header.dst_addr;
+    let is_asked = context.has_solicited_node(&destination)
+        || (context.is_assigned(&IpAddress::Ipv6(destination)) && !destination.is_loopback());
+    is_asked && context.has_ip_addr(&IpAddress::Ipv6(*target))
+}
+
+/// The advertisement that answers a solicitation for a target.
+fn advertisement_of(
+    own: EthernetAddress,
+    header: &Ipv6Repr,
+    target: &Ipv6Address,
+) -> Packet<'static>
+    ensures { shown.packet result ≡ spec.advertisement_of own header.now target.now }
+{
+    let message = NdiscRepr::NeighborAdvert {
+        flags: NdiscNeighborFlags::SOLICITED,
+        target_addr: *target,
+        lladdr: Some(own),
+    };
+    Packet::Ipv6(PacketV6 {
+        src_addr: *target,
+        dst_addr: header.src_addr,
+        hop_limit: 255,
+        payload: IpPayload::Icmpv6(Icmpv6Repr::Ndisc(message), &[]),
+    })
+}

@@ -1,0 +1,143 @@
+//! What an interface does with TCP segments (RFC 9293 3.10.7).
+ghost use Rattle.std.specs.Prelude.{◌≡◌, ◌<◌, ◌^◌, [], Some, true, false, length, slice_set};
+ghost use Rattle.std.specs.Option.{option_map};
+ghost use Rattle.socket_set.specs.SocketSet.{socket_at, with_places};
+ghost use Rattle.host_machine.specs.Delivery.{IsNobody};
+ghost use Rattle.host_machine.specs.Response.{Responds};
+ghost use Rattle.host_machine.specs.Tcp as spec;
+ghost use Rattle.iface_protocols.specs.Processed.{Processed};
+ghost use Rattle.iface_protocols.specs.Segment.{IsTaken};
+ghost use Rattle.iface_send.specs.Built.{Built};
+ghost use Rattle.iface_send.specs.Stands.{host_of};
+
+use iface_send::dispatch::dispatch;
+use iface_send::{Context, IpPayload, Packet};
+use ip_wire::emit::FrameBuffer;
+use ip_wire::{IpRepr, TcpControl, TcpRepr};
+use socket_set::SocketSet;
+use sockets::IpEndpoint;
+use sockets::tcp::{self, rst_reply};
+
+/// Takes the payload of a packet with this header as a TCP segment, of fewer than 65,536 octets: the
+/// first socket that accepts it gets it, or drops it for want of room, and may answer; no other
+/// socket changes. One that nobody accepts is answered by a reset, unless it is a reset itself or a
+/// raw socket took the packet. What is no segment, or between nobody, is dropped. The answer is built in
+/// an empty buffer.
+pub fn process_tcp(
+    context: &mut Context,
+    sockets: &mut SocketSet<'_>,
+    header: &IpRepr,
+    octets: &[u8],
+    by_raw: bool,
+    out: &mut FrameBuffer,
+)
+    requires empty { out.old ≡ [] }
+    requires short { length octets.now < 2 ^ 16 }
+    ensures { Processed out.new (λ H. spec.TakesTcp by_raw header.now H octets.now) (host_of context.old sockets.old) (host_of context.new sockets.new) }
+{
+    if is_between_nobody(header) {
+        return;
+    }
+    let checked = context.capabilities().checksum.tcp.rx();
+    let source = header.src_addr();
+    let destination = header.dst_addr();
+    let Some((repr, payload)) = TcpRepr::parse(octets, &source, &destination, checked) else {
+        return;
+    };
+    let (taken, answer) = deliver(sockets, header, &repr, payload);
+    if taken {
+        send_back(context, header, answer, out);
+        return;
+    }
+    let reset = reset_for(&repr, payload, by_raw);
+    send_back(context, header, reset, out);
+}
+
+/// Whether nobody is meant, or nobody can be answered.
+fn is_between_nobody(header: &IpRepr) -> bool
+    ensures { result ≡ spec.is_between_nobody header.now }
+{
+    header.src_addr().is_unspecified() || header.dst_addr().is_unspecified()
+}
+
+/// The reset for a segment that nobody takes.
+fn reset_for(repr: &TcpRepr, payload: &[u8], by_raw: bool) -> Option<TcpRepr>
+    requires { length payload.now < 2 ^ 16 }
+    ensures { result ≡ spec.reset_for by_raw repr.now payload.now }
+{
+    if by_raw {
+        return None;
+    }
+    match repr.control {
+        TcpControl::Rst => None,
+        _ => Some(rst_reply(repr, payload.len())),
+    }
+}
+
+/// Builds a segment without payload, if there is one, as a packet back to another's source.
+fn send_back(context: &mut Context, header: &IpRepr, repr: Option<TcpRepr>, out: &mut FrameBuffer)
+    requires { out.old ≡ [] }
+    ensures { Built out.new (Responds (option_map (spec.segment_back header.now) repr)) context.old context.new }
+{
+    let Some(repr) = repr else {
+        return;
+    };
+    let packet = Packet::back(header, IpPayload::Tcp(repr, &[]));
+    let _ = dispatch(context, &packet, out);
+}
+
+/// Gives a segment to the first socket that accepts it, and says whether there was one, and what it
+/// answers.
+fn deliver(
+    sockets: &mut SocketSet<'_>,
+    header: &IpRepr,
+    repr: &TcpRepr,
+    payload: &[u8],
+) -> (bool, Option<TcpRepr>)
+    requires { length payload.now < 2 ^ 16 }
+    ensures taken { result.0 ≡ true → IsTaken header.now repr.now payload.now sockets.old.places sockets.new.places result.1 }
+    ensures nobody { result.0 ≡ false → IsNobody (spec.accepts header.now repr.now) sockets.old.places }
+    ensures kept { result.0 ≡ false → sockets.new ≡ sockets.old }
+    ensures waits { sockets.new ≡ with_places sockets.old sockets.new.places }
+{
+    for index in 0..sockets.places() {
+        let (taken, answer) = deliver_at(sockets, index, header, repr, payload);
+        if taken {
+            return (true, answer);
+        }
+    }
+    (false, None)
+}
+
+/// Gives a segment to the socket at an index, if it accepts it, and says whether it did, and what it
+/// answers.
+fn deliver_at(
+    sockets: &mut SocketSet<'_>,
+    index: usize,
+    header: &IpRepr,
+    repr: &TcpRepr,
+    payload: &[u8],
+) -> (bool, Option<TcpRepr>)
+    requires { length payload.now < 2 ^ 16 }
+    ensures accepted { result.0 ≡ spec.accepts header.now repr.now (socket_at sockets.old index) }
+    ensures delivered { result.0 ≡ true → sockets.new.places ≡ slice_set sockets.old.places index (spec.delivered header.now repr.now payload.now (socket_at sockets.old index)) }
+    ensures replied { result.0 ≡ true → result.1 ≡ spec.replied repr.now payload.now (socket_at sockets.old index) }
+    ensures kept { result.0 ≡ false → sockets.new ≡ sockets.old }
+    ensures waits { sockets.new ≡ with_places sockets.old sockets.new.places }
+{
+    let source = IpEndpoint {
+        addr: header.src_addr(),
+        port: repr.src_port,
+    };
+    let destination = IpEndpoint {
+        addr: header.dst_addr(),
+        port: repr.dst_port,
+    };
+    let Some(socket) = sockets.kind_mut::<tcp::Socket<'_>>(index) else {
+        return (false, None);
+    };
+    if !socket.accepts(&source, &destination) {
+        return (false, None);
+    }
+    (true, socket.process(source.addr, repr, payload))
+}

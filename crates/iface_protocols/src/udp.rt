@@ -1,0 +1,92 @@
+//! What an interface does with UDP datagrams (RFC 768, RFC 1122 4.1.3).
+ghost use Rattle.std.specs.Prelude.{◌≡◌, [], Some, true, false, slice_set};
+ghost use Rattle.ip_wire.specs.IpPacket.{TellsLength};
+ghost use Rattle.socket_set.specs.SocketSet.{socket_at, with_places};
+ghost use Rattle.host_machine.specs.Delivery.{DeliversFirst, IsNobody};
+ghost use Rattle.host_machine.specs.Udp.{TakesUdp, accepts, delivered};
+ghost use Rattle.host_machine.specs.Host.{no_sockets};
+ghost use Rattle.iface_send.specs.Stands.{host_of};
+ghost use Rattle.iface_protocols.specs.Processed.{Processed};
+
+use crate::unreachable::refuse_port;
+use iface_send::Context;
+use ip_wire::emit::FrameBuffer;
+use ip_wire::{IpRepr, UdpRepr};
+use socket_set::SocketSet;
+use sockets::{IpEndpoint, udp};
+
+/// Takes the payload of a packet with this header as a UDP datagram (RFC 768): the first socket that
+/// accepts it gets its payload, with its sender, or drops it for want of room; no other socket
+/// changes. For one that nobody accepts an error is sent back, unless a raw socket took the packet.
+/// What is no datagram is dropped. The error is built in an empty buffer.
+pub fn process_udp(
+    context: &mut Context,
+    sockets: &mut SocketSet<'_>,
+    header: &IpRepr,
+    octets: &[u8],
+    by_raw: bool,
+    out: &mut FrameBuffer,
+)
+    requires empty { out.old ≡ [] }
+    requires quotable { TellsLength header.now }
+    ensures { Processed out.new (λ H. TakesUdp by_raw header.now H octets.now) (host_of context.old sockets.old) (host_of context.new sockets.new) }
+{
+    let checked = context.capabilities().checksum.udp.rx();
+    let source = header.src_addr();
+    let destination = header.dst_addr();
+    let Some((ports, payload)) = UdpRepr::parse(octets, &source, &destination, checked) else {
+        return;
+    };
+    if !deliver(context, sockets, header, &ports, payload) {
+        refuse_port(context, header, octets, by_raw, out);
+    }
+}
+
+/// Gives a datagram to the first socket that accepts it, and says whether there was one.
+fn deliver(
+    context: &Context,
+    sockets: &mut SocketSet<'_>,
+    header: &IpRepr,
+    ports: &UdpRepr,
+    payload: &[u8],
+) -> bool
+    ensures delivered { result ≡ true → DeliversFirst (accepts (host_of context.now no_sockets).ip_addrs header.now ports.now) (delivered header.now ports.now payload.now) sockets.old.places sockets.new.places }
+    ensures nobody { result ≡ false → IsNobody (accepts (host_of context.now no_sockets).ip_addrs header.now ports.now) sockets.old.places }
+    ensures kept { result ≡ false → sockets.new ≡ sockets.old }
+    ensures waits { sockets.new ≡ with_places sockets.old sockets.new.places }
+{
+    for index in 0..sockets.places() {
+        if deliver_at(context, sockets, index, header, ports, payload) {
+            return true;
+        }
+    }
+    false
+}
+
+/// Gives a datagram to the socket at an index, if it accepts it, and says whether it did.
+fn deliver_at(
+    context: &Context,
+    sockets: &mut SocketSet<'_>,
+    index: usize,
+    header: &IpRepr,
+    ports: &UdpRepr,
+    payload: &[u8],
+) -> bool
+    ensures accepted { result ≡ accepts (host_of context.now no_sockets).ip_addrs header.now ports.now (socket_at sockets.old index) }
+    ensures delivered { result ≡ true → sockets.new.places ≡ slice_set sockets.old.places index (delivered header.now ports.now payload.now (socket_at sockets.old index)) }
+    ensures kept { result ≡ false → sockets.new ≡ sockets.old }
+    ensures waits { sockets.new ≡ with_places sockets.old sockets.new.places }
+{
+    let Some(socket) = sockets.kind_mut::<udp::Socket<'_>>(index) else {
+        return false;
+    };
+    if !socket.accepts(context, &header.dst_addr(), ports.dst_port) {
+        return false;
+    }
+    let remote = IpEndpoint {
+        addr: header.src_addr(),
+        port: ports.src_port,
+    };
+    socket.process(remote, payload);
+    true
+}

@@ -1,0 +1,37 @@
+//! Errors that an interface sends for a port at which nobody listens, by the family of the packet (RFC 1122
+//! 3.2.2.1, RFC 4443 3.1).
+ghost use Rattle.std.specs.Prelude.{◌≡◌, []};
+ghost use Rattle.ip_wire.specs.IpPacket.{TellsLength};
+ghost use Rattle.host_machine.specs.Host.{no_sockets};
+ghost use Rattle.host_machine.specs.Response.{Responds};
+ghost use Rattle.host_machine.specs.Unreachable.{port_unreachable};
+ghost use Rattle.iface_send.specs.Built.{Built};
+ghost use Rattle.iface_send.specs.Stands.{host_of};
+
+use crate::{icmpv4, icmpv6};
+use control_wire::icmpv4::Icmpv4DstUnreachable;
+use iface_send::Context;
+use ip_wire::IpRepr;
+use ip_wire::emit::FrameBuffer;
+
+/// Builds the error in reply to a datagram to a port at which nobody listens, in an empty buffer. None is
+/// built if a raw socket took the packet.
+pub(crate) fn refuse_port(
+    context: &mut Context,
+    header: &IpRepr,
+    payload: &[u8],
+    by_raw: bool,
+    out: &mut FrameBuffer,
+)
+    requires empty { out.old ≡ [] }
+    requires quotable { TellsLength header.now }
+    ensures { Built out.new (Responds (port_unreachable by_raw (host_of context.old no_sockets).ip_addrs header.now payload.now)) context.old context.new }
+{
+    match header {
+        IpRepr::Ipv4(header) => {
+            let reason = Icmpv4DstUnreachable::PortUnreachable;
+            icmpv4::refuse(context, reason, header, payload, by_raw, out);
+        }
+        IpRepr::Ipv6(header) => icmpv6::refuse_port(context, header, payload, by_raw, out),
+    }
+}

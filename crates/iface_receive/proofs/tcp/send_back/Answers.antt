@@ -1,5 +1,0 @@
-use Rattle.iface_receive.proofs.Processing.{dispatched}
-use Rattle.iface_receive.proofs.tcp.send_back.Goals as goal
-
-pub returns : goal.returns
-returns c = rw (c.in-Some.is, ← c.back-packet.ensures) (dispatched _ c.dispatch.result c.dispatch.ensures)

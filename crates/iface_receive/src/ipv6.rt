@@ -1,0 +1,152 @@
+//! What an interface does with IPv6 packets (RFC 8200).
+ghost use Rattle.std.specs.Prelude.{◌≡◌, ◌<◌, ◌^◌, [], length, true};
+ghost use Rattle.ip_address.specs.Ipv6.{is_unicast};
+ghost use Rattle.host_machine.specs.Host.{no_sockets};
+ghost use Rattle.host_machine.specs.Ipv6 as spec;
+ghost use Rattle.host_machine.specs.Response.{Responds};
+ghost use Rattle.iface_send.specs.Built.{Built};
+ghost use Rattle.iface_send.specs.Stands.{host_of};
+ghost use Rattle.iface_protocols.specs.Processed.{Processed};
+
+use crate::hop_by_hop::answer_failure;
+use crate::renewal::renew_sender;
+use icmpv6_wire::Icmpv6ParamProblem;
+use iface_protocols::icmpv6::{complain, process_icmpv6};
+use iface_protocols::raw;
+use iface_protocols::tcp::process_tcp;
+use iface_protocols::udp::process_udp;
+use iface_send::Context;
+use ip_wire::emit::FrameBuffer;
+use ip_wire::{HardwareAddress, IpProtocol, IpRepr, Ipv6Repr};
+use ipv6_wire::{Ipv6HopByHopRepr, Ipv6OptionFailureType};
+use socket_set::SocketSet;
+use sockets::SocketContext;
+
+/// Takes an IPv6 packet that came from a hardware address, and builds the response, if there is one, in an
+/// empty buffer. A sender that is known at that address, and sends to the interface alone, is known for
+/// another 60 s.
+///
+/// Dropped are octets that begin with no packet, packets that come from no host, and packets for another
+/// one. Before that the hop-by-hop options are read, which may end it (RFC 8200 4.2).
+pub fn process_ipv6(
+    context: &mut Context,
+    sockets: &mut SocketSet<'_>,
+    source: HardwareAddress,
+    octets: &[u8],
+    out: &mut FrameBuffer,
+)
+    requires { out.old ≡ [] }
+    ensures { Processed out.new (λ H. spec.TakesIpv6 source H octets.now) (host_of context.old sockets.old) (host_of context.new sockets.new) }
+{
+    let Some((header, payload)) = Ipv6Repr::parse(octets) else {
+        return;
+    };
+    if !header.src_addr.is_unicast() {
+        return;
+    }
+    if header.next_header.number() == IpProtocol::HopByHop.number() {
+        process_hop_by_hop(context, sockets, source, &header, payload, out);
+        return;
+    }
+    let protocol = header.next_header;
+    process_payload(context, sockets, source, &header, protocol, payload, out);
+}
+
+/// Takes a payload that begins with hop-by-hop options: the first one that isn't known and isn't to be
+/// skipped ends it.
+fn process_hop_by_hop(
+    context: &mut Context,
+    sockets: &mut SocketSet<'_>,
+    source: HardwareAddress,
+    header: &Ipv6Repr,
+    payload: &[u8],
+    out: &mut FrameBuffer,
+)
+    requires empty { out.old ≡ [] }
+    requires short { length payload.now < 2 ^ 16 }
+    requires tells { header.now.payload_len < 2 ^ 16 }
+    requires from_one { is_unicast header.now.src_addr ≡ true }
+    ensures { Processed out.new (λ H. spec.TakesOptions source header.now H payload.now) (host_of context.old sockets.old) (host_of context.new sockets.new) }
+{
+    let Some((options, rest)) = Ipv6HopByHopRepr::parse(payload) else {
+        return;
+    };
+    match options.failure_type() {
+        Ipv6OptionFailureType::Skip => {
+            let protocol = options.next_header;
+            process_payload(context, sockets, source, header, protocol, rest, out);
+        }
+        failure => answer_failure(context, failure, header, payload, out),
+    }
+}
+
+/// Takes a packet by its header, by the protocol of its payload, and by its payload.
+fn process_payload(
+    context: &mut Context,
+    sockets: &mut SocketSet<'_>,
+    source: HardwareAddress,
+    header: &Ipv6Repr,
+    protocol: IpProtocol,
+    payload: &[u8],
+    out: &mut FrameBuffer,
+)
+    requires empty { out.old ≡ [] }
+    requires short { length payload.now < 2 ^ 16 }
+    requires tells { header.now.payload_len < 2 ^ 16 }
+    requires from_one { is_unicast header.now.src_addr ≡ true }
+    ensures { Processed out.new (λ H. spec.TakesPayload source header.now protocol H payload.now) (host_of context.old sockets.old) (host_of context.new sockets.new) }
+{
+    let packet = IpRepr::Ipv6(*header);
+    if !context.is_for_host(&packet.dst_addr()) {
+        return;
+    }
+    let by_raw = raw::deliver(context, sockets, &packet, payload);
+    renew_sender(context, source, &packet);
+    process_protocol(context, sockets, header, protocol, payload, by_raw, out);
+}
+
+/// Takes a payload by its protocol, where `by_raw` tells whether a raw socket took the packet. For a
+/// protocol that nobody here speaks a problem is sent back.
+fn process_protocol(
+    context: &mut Context,
+    sockets: &mut SocketSet<'_>,
+    header: &Ipv6Repr,
+    protocol: IpProtocol,
+    payload: &[u8],
+    by_raw: bool,
+    out: &mut FrameBuffer,
+)
+    requires empty { out.old ≡ [] }
+    requires short { length payload.now < 2 ^ 16 }
+    requires tells { header.now.payload_len < 2 ^ 16 }
+    requires from_one { is_unicast header.now.src_addr ≡ true }
+    ensures { Processed out.new (λ H. spec.TakesProtocol protocol by_raw header.now H payload.now) (host_of context.old sockets.old) (host_of context.new sockets.new) }
+{
+    let packet = IpRepr::Ipv6(*header);
+    match protocol {
+        IpProtocol::Icmpv6 => process_icmpv6(context, sockets, header, payload, out),
+        IpProtocol::Udp => process_udp(context, sockets, &packet, payload, by_raw, out),
+        IpProtocol::Tcp => process_tcp(context, sockets, &packet, payload, by_raw, out),
+        IpProtocol::Icmp | IpProtocol::Igmp | IpProtocol::HopByHop | IpProtocol::Unknown(_) => {
+            refuse_protocol(context, header, payload, by_raw, out);
+        }
+    }
+}
+
+/// Builds the error in reply to a packet of a protocol that nobody here speaks, in an empty buffer, unless a
+/// raw socket took the packet.
+fn refuse_protocol(
+    context: &mut Context,
+    header: &Ipv6Repr,
+    payload: &[u8],
+    by_raw: bool,
+    out: &mut FrameBuffer,
+)
+    requires { out.old ≡ [] }
+    ensures { Built out.new (Responds (spec.protocol_unknown by_raw (host_of context.old no_sockets).ip_addrs header.now payload.now)) context.old context.new }
+{
+    if !by_raw {
+        let reason = Icmpv6ParamProblem::UnrecognizedNxtHdr;
+        complain(context, reason, header, payload, out);
+    }
+}
