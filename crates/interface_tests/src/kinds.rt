@@ -18,8 +18,8 @@ ghost use Rattle.ip_address.specs.Ip.{is_unspecified};
 
 use crate::frames::frame;
 use crate::test_host::Host;
-use crate::words::{Words, address, count, end, moment, number, octet, short};
-use ip_wire::{IpAddress, IpProtocol, IpVersion, TcpControl, TcpSeqNumber};
+use crate::words::{Words, any_address, count, end, moment, number, octet, short};
+use ip_wire::{IpProtocol, IpVersion, TcpControl, TcpSeqNumber};
 use sockets::queue::{NoMemory, Queue};
 use sockets::tcp::Segment;
 use sockets::{IpListenEndpoint, PollAt, SocketOf, icmp, raw, tcp, udp};
@@ -205,7 +205,7 @@ fn send_udp(socket: &mut udp::Socket<'_>, call: &mut Words<'_>) -> Option<()> {
 }
 
 fn send_icmp(socket: &mut icmp::Socket<'_>, call: &mut Words<'_>) -> Option<()> {
-    let remote = IpAddress::Ipv4(address(call.next()?)?);
+    let remote = any_address(call.next()?)?;
     let message = frame(call.next()?)?;
     if remote.is_unspecified() {
         return None;
@@ -226,7 +226,7 @@ fn udp_hears(socket: &udp::Socket<'_>, outcome: &mut Words<'_>) -> Option<bool> 
 fn icmp_hears(socket: &icmp::Socket<'_>, outcome: &mut Words<'_>) -> Option<bool> {
     match socket.recv() {
         Some((remote, message)) => {
-            let told = IpAddress::Ipv4(address(outcome.next()?)?);
+            let told = any_address(outcome.next()?)?;
             Some(*remote == told && is_text(message, outcome))
         }
         None => is_nothing(outcome),
