@@ -6,6 +6,7 @@ use Rattle.net_base.specs.Device.{Event, Asked}
 use Rattle.net_base.specs.Time.{silence_from}
 use Rattle.ip_address.specs.declared.ip.IpAddress.{IpAddress}
 use Rattle.ip_address.specs.declared.ip.IpAddress.TheVariants as address
+use Rattle.ip_wire.specs.IpPacket.{next_header}
 use Rattle.sockets.specs.Kinds.{Offered, RawOffer, IcmpOffer, UdpOffer, TcpOffer, offered, settled, told}
 use Rattle.control_wire.specs.declared.icmpv4.Icmpv4Repr.{Icmpv4Repr}
 use Rattle.control_wire.specs.declared.icmpv4.Icmpv4Repr.TheVariants as v4
@@ -24,7 +25,7 @@ use Rattle.host_machine.specs.Note.{Note, OfCuts, PieceSent}
 use Rattle.host_machine.specs.Host.{Host, Socket, at, with_left}
 use Rattle.host_machine.specs.Parts.{Part, Both}
 use Rattle.host_machine.specs.Addresses.{source_for}
-use Rattle.host_machine.specs.Packet.{IpPayload, Icmpv4, Icmpv6, Udp, Tcp, Raw, Packet, Ipv4, Ipv6}
+use Rattle.host_machine.specs.Packet.{IpPayload, Icmpv4, Icmpv6, Udp, Tcp, Raw, Packet, Ipv4, Ipv6, packet_with}
 use Rattle.host_machine.specs.Frame.{sends, piece_frame}
 use Rattle.host_machine.specs.Dispatch.{Outcome, Dispatches, KnowsNextHop, destination_of}
 
@@ -59,12 +60,7 @@ if_echo (icmp.Ipv6 message) octets = if_echo_v6 message octets
 
 -- what a socket offers as a packet; a raw socket's header is written anew from its addresses, its protocol and its hop limit
 abbrev pub packet_of : Offered → Option Packet
-packet_of (RawOffer s) = Some (Ipv4 (record {
-  src_addr = s.header.src_addr;
-  dst_addr = s.header.dst_addr;
-  hop_limit = s.header.hop_limit;
-  payload = Raw s.header.next_header s.payload;
-}))
+packet_of (RawOffer s) = Some (packet_with s.header (Raw (next_header s.header) s.payload))
 packet_of (IcmpOffer m) = option_and_then (packet_between m.src_addr m.dst_addr m.hop_limit) (if_echo m.repr m.payload)
 packet_of (UdpOffer d) = packet_between d.src.addr d.dst.addr d.hop_limit (Udp (record { src_port = d.src.port; dst_port = d.dst.port }) d.payload)
 packet_of (TcpOffer s) = packet_between s.src_addr s.dst_addr s.hop_limit (Tcp s.repr s.payload)

@@ -1,5 +1,5 @@
 -- ICMP for IPv6, reception of messages, and the errors that a host sends (RFC 4443).
-use Rattle.std.specs.Prelude.{◌≡◌, ℕ, Bool, List, [], take, Option, Some, None, if◌then◌else◌}
+use Rattle.std.specs.Prelude.{◌≡◌, ℕ, Bool, List, [], take, Option, Some, None, if◌then◌else◌, ◌+◌, ◌-◌, ◌*◌}
 use Rattle.net_base.specs.Checksum.{is_rx}
 use Rattle.ip_address.specs.declared.ipv6.Ipv6Address.{Ipv6Address}
 use Rattle.ip_address.specs.declared.ip.IpAddress.TheVariants as address
@@ -34,9 +34,10 @@ message_back own r message octets = Ip (Ipv6 (record {
   payload = Icmpv6 message octets;
 }))
 
--- how much of a packet's payload an error quotes: at most so much that the error has 1280 octets (RFC 4443 2.4)
+-- how much of a packet's payload an error quotes: so much that with two headers and the message's 8 octets it has at most 1280 octets
+-- (RFC 4443 2.4)
 abbrev pub quoted : List ℕ → List ℕ
-quoted payload = take 1192 payload
+quoted payload = take (1280 - (40 * 2 + 8)) payload
 
 -- nobody listens at the port, unless a raw socket took the packet (RFC 4443 3.1)
 abbrev pub port_unreachable : Bool → List IpCidr → Ipv6Repr → List ℕ → Option Reply

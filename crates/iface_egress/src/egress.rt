@@ -176,12 +176,8 @@ fn raw_packet<'p>(packet: &raw::Packet<'p>) -> Packet<'p>
     ensures value { Some (shown.packet result) ≡ spec.packet_of (kinds.RawOffer (raw.shown packet.now)) }
     ensures writable { IsWritable (shown.packet result) }
 {
-    Packet::Ipv4(PacketV4 {
-        src_addr: packet.header.src_addr,
-        dst_addr: packet.header.dst_addr,
-        hop_limit: packet.header.hop_limit,
-        payload: IpPayload::Raw(packet.header.next_header, packet.payload),
-    })
+    let payload = IpPayload::Raw(packet.header.next_header(), packet.payload);
+    Packet::new(packet.header, payload)
 }
 
 /// A message of an ICMP socket, which sends echo messages alone.

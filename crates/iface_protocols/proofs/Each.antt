@@ -3,16 +3,8 @@ use Rattle.std.proofs.Common.{◌≡◌, ℕ, zero, suc, ◌+◌, ◌<◌, ◌�
 use Rattle.std.specs.Prelude.{◌||◌}
 use Rattle.std.specs.List.{list_any}
 use Rattle.std.specs.Option.{option_and_then}
-use Rattle.std.proofs.lemmas.List.{take_all, length-take-le}
 use Rattle.sockets.specs.declared.socket.SocketOf.{SocketOf}
 use Rattle.socket_set.specs.SocketSet.{Sockets, socket_at, with_place, with_places}
-
--- a payload that isn't too long is quoted whole
-pub quoted_whole : (most : ℕ) (payload : List ℕ) → length payload ≤ most → take most payload ≡ payload
-quoted_whole most payload short = take_all most payload short
-
-pub quoted_len : (most : ℕ) (payload : List ℕ) → most < length payload → most ≡ length (take most payload)
-quoted_len most payload long = sym (length-take-le most payload (omega (arith, long)))
 
 module _ {S : Type 0} where
   -- the list with the function applied to its first places

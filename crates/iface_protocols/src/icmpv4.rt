@@ -14,10 +14,15 @@ use crate::icmp::deliver;
 use control_wire::IcmpRepr;
 use control_wire::icmpv4::{EchoRequest, Icmpv4DstUnreachable, Icmpv4Repr};
 use iface_send::dispatch::dispatch;
+use iface_send::packet::icmp_reply_payload_len;
 use iface_send::{Context, IpPayload, Packet, PacketV4};
 use ip_wire::emit::FrameBuffer;
+use ip_wire::ipv4_packet::HEADER_LEN;
 use ip_wire::{IpAddress, Ipv4Address, Ipv4Repr};
 use socket_set::SocketSet;
+
+/// How long a packet is that each host takes, in octets (RFC 791 3.1).
+const IPV4_MIN_MTU: usize = 576;
 
 /// Takes the payload of a packet with this header as an ICMP message, of fewer than 65,536 octets
 /// (RFC 792). Each ICMP socket that takes it gets it, whole. The reply to an echo request is built, in
@@ -103,10 +108,7 @@ pub fn refuse(
 fn quoted(payload: &[u8]) -> &[u8]
     ensures { result.now ≡ spec.quoted payload.now }
 {
-    if payload.len() <= 528 {
-        return payload;
-    }
-    &payload[..528]
+    &payload[..icmp_reply_payload_len(payload.len(), IPV4_MIN_MTU, HEADER_LEN)]
 }
 
 /// Builds a message in reply to a packet, with hop limit 64, if it may go. The message may be the reply

@@ -13,14 +13,15 @@ use crate::ndisc::process_ndisc;
 use control_wire::IcmpRepr;
 use icmpv6_wire::{Icmpv6DstUnreachable, Icmpv6ParamProblem, Icmpv6Repr};
 use iface_send::dispatch::dispatch;
+use iface_send::packet::icmp_reply_payload_len;
 use iface_send::{Context, IpPayload, Packet, PacketV6};
 use ip_wire::emit::FrameBuffer;
+use ip_wire::ipv6_packet::HEADER_LEN;
 use ip_wire::{IpAddress, Ipv6Address, Ipv6Repr};
 use socket_set::SocketSet;
 
-/// How many octets of a packet's payload an error quotes at most, so that it has at most 1,280 (RFC 4443
-/// 2.4).
-const QUOTED_LEN: usize = 1192;
+/// How long a packet is that each link carries, in octets (RFC 8200 5).
+const IPV6_MIN_MTU: usize = 1280;
 
 /// Takes the payload of a packet with this header, from one host, as an ICMP message (RFC 4443). Each ICMP
 /// socket that takes it gets it, whole. The reply to an echo request is built, in an empty buffer: its
@@ -121,10 +122,7 @@ pub fn complain(
 fn quoted(payload: &[u8]) -> &[u8]
     ensures { result.now ≡ spec.quoted payload.now }
 {
-    if payload.len() <= QUOTED_LEN {
-        return payload;
-    }
-    &payload[..QUOTED_LEN]
+    &payload[..icmp_reply_payload_len(payload.len(), IPV6_MIN_MTU, HEADER_LEN)]
 }
 
 /// Builds a message in reply to a packet, with hop limit 64.

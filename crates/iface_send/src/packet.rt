@@ -1,10 +1,12 @@
 //! Packets to be sent: their values, with their octets as a slice of where they came from; and their
 //! frames, which are appended to a buffer.
-ghost use Rattle.std.specs.Prelude.{◌≡◌, ◌+◌, ◌<◌, ◌≤◌, ◌^◌, ◌++◌, [], length};
+ghost use Rattle.std.specs.Prelude.{◌≡◌, ◌+◌, ◌-◌, ◌*◌, ◌<◌, ◌≤◌, ◌^◌, ◌++◌, [], length, min};
 ghost use Rattle.host_machine.specs.Frame.{arp_frame, ethertype_of, limited, link_header, packet_text, payload_text};
 ghost use Rattle.host_machine.specs.Packet.{IsWritable, IsWritablePayload};
 ghost use Rattle.host_machine.specs.Packet as value;
 ghost use Rattle.host_machine.specs.Dispatch.{destination_of};
+ghost use Rattle.ip_wire.specs.IpPacket.{TellsLength};
+ghost use Rattle.ip_wire.specs.declared.ip_packet.IpRepr.TheVariants as repr;
 ghost use Rattle.iface_send.specs.Shown as shown;
 
 use control_wire::icmpv4::{EchoRequest, Icmpv4Repr};
@@ -131,6 +133,66 @@ impl PacketV6<'_> {
 }
 
 impl<'p> Packet<'p> {
+    /// A packet with the addresses and the hop limit of a header. Its protocol and its length are the
+    /// payload's, whatever the header says of them.
+    #[inline(always)]
+    pub fn new(ip_repr: IpRepr, payload: IpPayload<'p>) -> Packet<'p>
+        ensures { shown.packet result ≡ value.packet_with ip_repr (shown.payload payload.entry) }
+    {
+        match ip_repr {
+            IpRepr::Ipv4(header) => Packet::new_ipv4(header, payload),
+            IpRepr::Ipv6(header) => Packet::new_ipv6(header, payload),
+        }
+    }
+
+    /// A packet of IPv4, as [`Packet::new`] makes it.
+    #[inline(always)]
+    pub fn new_ipv4(header: Ipv4Repr, payload: IpPayload<'p>) -> Packet<'p>
+        ensures { shown.packet result ≡ value.packet_with (repr.Ipv4 header) (shown.payload payload.entry) }
+    {
+        Packet::Ipv4(PacketV4 {
+            src_addr: header.src_addr,
+            dst_addr: header.dst_addr,
+            hop_limit: header.hop_limit,
+            payload,
+        })
+    }
+
+    /// A packet of IPv6, as [`Packet::new`] makes it.
+    #[inline(always)]
+    pub fn new_ipv6(header: Ipv6Repr, payload: IpPayload<'p>) -> Packet<'p>
+        ensures { shown.packet result ≡ value.packet_with (repr.Ipv6 header) (shown.payload payload.entry) }
+    {
+        Packet::Ipv6(PacketV6 {
+            src_addr: header.src_addr,
+            dst_addr: header.dst_addr,
+            hop_limit: header.hop_limit,
+            payload,
+        })
+    }
+
+    /// The values of its header. Its payload has to fit: with IPv4's header it has at most 65,535 octets,
+    /// without IPv6's.
+    pub fn ip_repr(&self) -> IpRepr
+        requires { TellsLength (value.header_of (shown.packet self.now)) }
+        ensures { result ≡ value.header_of (shown.packet self.now) }
+    {
+        match self {
+            Packet::Ipv4(packet) => IpRepr::Ipv4(packet.header()),
+            Packet::Ipv6(packet) => IpRepr::Ipv6(packet.header()),
+        }
+    }
+
+    /// What it carries.
+    pub fn payload(&self) -> &IpPayload<'p>
+        ensures { shown.payload result.now ≡ value.payload_of (shown.packet self.now) }
+    {
+        match self {
+            Packet::Ipv4(packet) => &packet.payload,
+            Packet::Ipv6(packet) => &packet.payload,
+        }
+    }
+
     /// A payload in reply to a packet with this header: it goes back to where that came from, from its
     /// destination, with hop limit 64.
     #[inline(always)]
@@ -248,6 +310,17 @@ pub fn emit_payload_header(
         }
         IpPayload::Raw(..) => {}
     }
+}
+
+/// How many octets an ICMP error quotes of a payload of `len`: so many that the error is at most `mtu`
+/// octets long, with a header of `header_len`, the 8 octets of the message and the quoted header, which
+/// have to fit (RFC 1122 3.2.2, RFC 4443 2.4).
+pub fn icmp_reply_payload_len(len: usize, mtu: usize, header_len: usize) -> usize
+    requires { header_len * 2 + 8 ≤ mtu }
+    ensures { result ≡ min (mtu - (header_len * 2 + 8)) len }
+{
+    let most = mtu - (header_len * 2 + 8);
+    if len < most { len } else { most }
 }
 
 /// A segment's header as it goes behind a packet's header of so many octets: its window is at most

@@ -1,6 +1,6 @@
 // What sockets send, and when they wait.
 
-use crate::script::{acquainted, at_home, bare, each_acquainted};
+use crate::script::{acquainted, acquainted_v6, at_home, bare, each_acquainted};
 
 #[test]
 fn asks_for_one_neighbor_a_second(rt: HostRuntime) {
@@ -162,6 +162,20 @@ fn a_raw_socket_sends(rt: HostRuntime) {
         "raw 1
         send 0 45000020beef000040010000c0a84501c0a84564080021041234000161626364
         egress 0 = SocketStateChanged tx ECHO_OUT",
+    );
+}
+
+// Over IPv6 too, with class and flow label 0; a packet of another protocol is dropped.
+#[test]
+fn a_raw_socket_sends_over_ipv6(rt: HostRuntime) {
+    acquainted_v6(
+        &rt,
+        "raw6 17
+        send 0 6b012345000a1140fe800000000000000000000000000001fe8000000000000000000000000000021b391388000a6bab6869
+        egress 0 = SocketStateChanged tx HI_V6
+        send 0 60000000000a0640fe800000000000000000000000000001fe8000000000000000000000000000021b391388000a6bab6869
+        egress 0 = None
+        due? 0 = Ingress",
     );
 }
 

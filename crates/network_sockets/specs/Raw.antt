@@ -1,11 +1,13 @@
 -- Raw sockets, which send and receive whole packets of one protocol.
 use Rattle.std.specs.Prelude.{ℕ, ◌/◌, ◌==◌, ◌&&◌, nat_le, Bool, true, false, cond, is_none, List, ◌++◌, length, slice_index, slice_range, Option, Some, None}
 use Rattle.std.specs.Option.{option_and_then}
-use Rattle.ip_wire.specs.Ipv4Packet.{header_len, total_len, header_in}
-use Rattle.ip_wire.specs.IpPacket.{header_text}
+use Rattle.ip_wire.specs.Ipv4Packet.{header_len, total_len}
+use Rattle.ip_wire.specs.Ipv4Packet as ipv4
+use Rattle.ipv6_wire.specs.Ipv6Packet as ipv6
+use Rattle.ip_wire.specs.IpPacket.{header_text, next_header}
 use Rattle.ip_wire.specs.declared.ip_packet.IpRepr.{IpRepr}
+use Rattle.ip_wire.specs.declared.ip_packet.IpRepr.TheVariants as repr
 use Rattle.ip_address.specs.Protocol.{number_of}
-use Rattle.ip_wire.specs.declared.ipv4_packet.Ipv4Repr.{Ipv4Repr}
 use Rattle.ip_address.specs.declared.protocol.IpProtocol.{IpProtocol}
 use Rattle.ip_address.specs.declared.protocol.IpVersion.{IpVersion}
 use Rattle.ip_address.specs.declared.protocol.IpVersion.TheVariants.{Ipv4, Ipv6}
@@ -23,7 +25,7 @@ pub record RawSocket : Type 0 where
 
 -- a packet by its header
 pub record Sent : Type 0 where
-  pub header : Ipv4Repr
+  pub header : IpRepr
   pub payload : List ℕ
 
 -- a packet, without where its payload lies
@@ -71,13 +73,28 @@ is_ipv4 octets =
     nat_le 20 (length octets) && (slice_index octets 0 / 16 == 4) && nat_le 20 (header_len octets)
     && nat_le (header_len octets) (total_len octets) && nat_le (total_len octets) (length octets)
 
--- the packet that some octets begin with
-abbrev pub packet_in : List ℕ → Sent
-packet_in octets = record { header = header_in octets; payload = slice_range octets (header_len octets) (total_len octets) }
+-- or with one of IPv6 (RFC 8200 3)
+abbrev pub is_ipv6 : List ℕ → Bool
+is_ipv6 octets = nat_le 40 (length octets) && (slice_index octets 0 / 16 == 6) && nat_le (ipv6.end octets) (length octets)
 
--- the packet that some octets begin with, if it is for such a socket
+abbrev pub ipv4_in : List ℕ → Sent
+ipv4_in octets = record { header = repr.Ipv4 (ipv4.header_in octets); payload = slice_range octets (header_len octets) (total_len octets) }
+
+abbrev pub ipv6_in : List ℕ → Sent
+ipv6_in octets = record { header = repr.Ipv6 (ipv6.header_in octets); payload = slice_range octets 40 (ipv6.end octets) }
+
+-- the packet of a version that some octets begin with
+abbrev pub packet_in : IpVersion → List ℕ → Option Sent
+packet_in Ipv4 octets = cond (is_ipv4 octets) (Some (ipv4_in octets)) None
+packet_in Ipv6 octets = cond (is_ipv6 octets) (Some (ipv6_in octets)) None
+
+-- a packet, if it is of the socket's protocol
+abbrev pub if_spoken : RawSocket → Sent → Option Sent
+if_spoken s p = cond (number_of s.protocol == number_of (next_header p.header)) (Some p) None
+
+-- the packet that some octets begin with, if it is one of the socket's
 abbrev pub sent : RawSocket → List ℕ → Option Sent
-sent s octets = cond (is_ipv4 octets && accepts s Ipv4 (header_in octets).next_header) (Some (packet_in octets)) None
+sent s octets = option_and_then (if_spoken s) (packet_in s.version octets)
 
 -- the first one to be sent, if it is a packet of the socket's
 abbrev pub offered : RawSocket → Option Sent

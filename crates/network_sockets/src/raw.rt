@@ -5,16 +5,16 @@ ghost use Rattle.ip_wire.specs.IpPacket.{TellsLength};
 ghost use Rattle.socket_base.specs.Queue.{is_room, first_of};
 ghost use Rattle.network_sockets.specs.Raw as spec;
 
-use ip_wire::{IpProtocol, IpRepr, IpVersion, Ipv4Fragment, Ipv4Repr};
+use ip_wire::{IpProtocol, IpRepr, IpVersion, Ipv4Fragment, Ipv4Repr, Ipv6Repr};
 use socket_base::buffers::Buffers;
 use socket_base::poll_at::PollAt;
 use socket_base::queue::{Full, Queue};
 use std::marker::{Model, PhantomData};
 
-/// A packet to be sent; its payload stays in the socket.
+/// A packet to be sent, of either family; its payload stays in the socket.
 #[derive(Clone, Copy)]
 pub struct Packet<'p> {
-    pub header: Ipv4Repr,
+    pub header: IpRepr,
     pub payload: &'p [u8],
 }
 
@@ -116,13 +116,12 @@ impl<L: Drop> SocketOf<L> {
 
     /// The packet that some octets begin with, if it is one of the socket's.
     #[inline(always)]
-    #[tactic(auto, using(crate::proofs::RawLemmas::is_ipv4_reads, crate::proofs::RawLemmas::reads_is_ipv4))]
     fn parse<'p>(&self, octets: &'p [u8]) -> Option<Packet<'p>>
         ensures { option_map spec.shown result ≡ spec.sent self.now octets.now }
     {
-        let (header, _, payload) = Ipv4Repr::parse(octets, false)?;
-        if self.accepts(IpVersion::Ipv4, header.next_header) {
-            Some(Packet { header, payload })
+        let packet = packet_in(self.version, octets)?;
+        if self.protocol.number() == packet.header.next_header().number() {
+            Some(packet)
         } else {
             None
         }
@@ -160,5 +159,29 @@ impl<L: Drop> SocketOf<L> {
             return None;
         }
         self.peek()
+    }
+}
+
+/// The packet of a version that some octets begin with. The checksum of IPv4's header isn't tested.
+#[inline(always)]
+#[tactic(auto, using(crate::proofs::RawLemmas::is_ipv4_reads, crate::proofs::RawLemmas::reads_is_ipv4, crate::proofs::RawLemmas::is_ipv6_reads, crate::proofs::RawLemmas::reads_is_ipv6))]
+fn packet_in(version: IpVersion, octets: &[u8]) -> Option<Packet<'_>>
+    ensures { option_map spec.shown result ≡ spec.packet_in version octets.now }
+{
+    match version {
+        IpVersion::Ipv4 => {
+            let (header, _, payload) = Ipv4Repr::parse(octets, false)?;
+            Some(Packet {
+                header: IpRepr::Ipv4(header),
+                payload,
+            })
+        }
+        IpVersion::Ipv6 => {
+            let (header, payload) = Ipv6Repr::parse(octets)?;
+            Some(Packet {
+                header: IpRepr::Ipv6(header),
+                payload,
+            })
+        }
     }
 }

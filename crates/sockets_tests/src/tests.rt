@@ -350,7 +350,7 @@ fn packets_keep_their_headers(rt: HostRuntime) -> Result<(), Fail> {
     assert_eq!(rt; socket.send(PACKET), Ok(()));
     match socket.offer() {
         Some(packet) => {
-            assert_eq!(rt; packet.header, header);
+            assert_eq!(rt; packet.header, IpRepr::Ipv4(header));
             assert_eq!(rt; packet.payload, payload);
         }
         None => assert!(rt; false),
@@ -359,6 +359,39 @@ fn packets_keep_their_headers(rt: HostRuntime) -> Result<(), Fail> {
     assert_eq!(rt; socket.send(b"no packet"), Ok(()));
     assert!(rt; socket.offer().is_none());
     assert_eq!(rt; socket.poll_at(), PollAt::Ingress);
+    Ok(())
+}
+
+// A datagram of two octets over IPv6, with one octet behind it.
+const PACKET_V6: &[u8] =
+    b"\x60\x00\x00\x00\x00\x0a\x11\x40\x20\x01\x0d\xb8\x00\x00\x00\x00\x00\x00\x00\x00\x00\x00\x00\x01\x20\x01\x0d\xb8\x00\x00\x00\x00\x00\x00\x00\x00\x00\x00\x00\x02\x13\x88\x1b\x39\x00\x0a\x00\x00hi.";
+
+// A raw socket offers packets of its version and protocol, and drops others.
+#[test]
+fn packets_of_ipv6_are_offered(rt: HostRuntime) -> Result<(), Fail> {
+    let cases: [(IpVersion, IpProtocol, &[u8], Option<&[u8]>); 5] = [
+        (
+            IpVersion::Ipv6,
+            IpProtocol::Udp,
+            PACKET_V6,
+            Some(&PACKET_V6[40..50]),
+        ),
+        (IpVersion::Ipv6, IpProtocol::Tcp, PACKET_V6, None),
+        (IpVersion::Ipv4, IpProtocol::Udp, PACKET_V6, None),
+        (IpVersion::Ipv6, IpProtocol::Udp, PACKET, None),
+        (IpVersion::Ipv6, IpProtocol::Udp, &PACKET_V6[..49], None),
+    ];
+    for (version, protocol, octets, offered) in cases {
+        let mut socket = raw::Socket::new(
+            version,
+            protocol,
+            ample(rt.alloc())?,
+            ample(rt.alloc())?,
+        );
+        assert_eq!(rt; socket.send(octets), Ok(()));
+        let payload = socket.offer().map(|packet| packet.payload);
+        assert_eq!(rt; payload, offered);
+    }
     Ok(())
 }
 

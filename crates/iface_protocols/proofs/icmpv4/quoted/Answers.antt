@@ -1,9 +1,6 @@
-use Rattle.std.proofs.Common.{sym}
-use Rattle.iface_protocols.proofs.Each.{quoted_len, quoted_whole}
+use Rattle.std.proofs.Common.{take, ap, ◌∙◌}
+use Rattle.std.proofs.lemmas.List.{take_min}
 use Rattle.iface_protocols.proofs.icmpv4.quoted.Goals as goal
 
-pub returns-then-payload-le528 : goal.returns-then-payload-le528
-returns-then-payload-le528 c = sym (quoted_whole 528 c.args.payload.now c.if-payload-le528.true)
-
-pub slice_bounds-result-end : goal.slice_bounds-result-end
-slice_bounds-result-end c = quoted_len 528 c.args.payload.now c.if-payload-le528.false
+pub returns : goal.returns
+returns c = ap (λ n. take n c.args.payload.now) c.icmp_reply_payload_len.ensures ∙ take_min 528 c.args.payload.now
