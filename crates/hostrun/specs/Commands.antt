@@ -1,6 +1,8 @@
 -- The calls of a script as commands of the host machine.
 use Rattle.std.specs.Prelude.{ℤ}
 use Rattle.net_base.specs.Time.{IsMoment}
+use Rattle.ip_address.specs.declared.ip.IpAddress.{IpAddress}
+use Rattle.ip_address.specs.declared.ip.IpAddress.TheVariants as ip
 use Rattle.host_machine.specs.declared.command.Command.{Command}
 use Rattle.host_machine.specs.declared.command.Command.TheVariants as command
 use Rattle.hostrun.specs.declared.line.Line.{Line}
@@ -17,10 +19,15 @@ moment_after last Egress = last
 moment_after last (Poll t budget) = t
 moment_after last (At t) = t
 
+-- the router of the default route of its family
+abbrev pub default_route_by : IpAddress → Command
+default_route_by (ip.Ipv4 router) = command.AddDefaultIpv4Route router
+default_route_by (ip.Ipv6 router) = command.AddDefaultIpv6Route router
+
 -- the command of each call, where that moment was last given
 abbrev pub command_of : ℤ → Call → Command
 command_of last (Addr networks) = command.UpdateIpAddrs networks
-command_of last (Gw router) = command.AddDefaultIpv4Route router
+command_of last (Gw router) = default_route_by router
 command_of last Ingress = command.PollIngressSingle last
 command_of last Egress = command.PollEgress last
 command_of last (Poll t budget) = command.Poll t budget

@@ -1,6 +1,7 @@
 -- What the words of a line say.
 use Rattle.std.specs.Prelude.{◌≡◌, ℕ, ℤ, pos, ◌^◌, ◌==◌, ◌&&◌, nat_lt, nat_le, Bool, if◌then◌else◌, List, codes, length, map, take, slice_index, Option, Some, None, Result, Ok, Err}
 use Rattle.std.specs.List.{list_all, slice_split, before_first, after_first}
+use Rattle.std.specs.Option.{option_map, option_and_then}
 use Rattle.std.specs.Char.{is_ascii_digit}
 use Rattle.std.specs.Str.Parse.{digits_value}
 use Rattle.hex.specs.declared.error.FromHexError.{FromHexError}
@@ -8,8 +9,10 @@ use Rattle.hex.specs.Hex.{decode_of, decode_sized}
 use Rattle.ip_address.specs.declared.ip.IpAddress.{IpAddress}
 use Rattle.ip_address.specs.declared.ip.IpAddress.TheVariants as ip
 use Rattle.ip_address.specs.declared.ipv4.Ipv4Address.{Ipv4Address}
+use Rattle.ip_address.specs.declared.ipv6.Ipv6Address.{Ipv6Address}
 use Rattle.ip_address.specs.declared.cidr.IpCidr.{IpCidr}
 use Rattle.ip_address.specs.Ipv4.{address_of}
+use Rattle.ipv6_wire.specs.Ipv6Packet.{address_at}
 use Rattle.ip_address.specs.Cidr as cidr
 use Rattle.hostrun.specs.declared.line.Line.{Line}
 use Rattle.hostrun.specs.declared.line.Line.TheVariants.{Rx, Udp, Asks}
@@ -47,23 +50,39 @@ abbrev pub budget_in : List ℕ → Option ℕ
 budget_in digits = number_up_to 4294967295 digits
 
 -- the address of four octets
-abbrev pub of_octets : Result (List ℕ) FromHexError → Option Ipv4Address
-of_octets (Ok octets) = Some (address_of (slice_index octets 0) (slice_index octets 1) (slice_index octets 2) (slice_index octets 3))
-of_octets (Err e) = None
+abbrev pub of_four : Result (List ℕ) FromHexError → Option Ipv4Address
+of_four (Ok octets) = Some (address_of (slice_index octets 0) (slice_index octets 1) (slice_index octets 2) (slice_index octets 3))
+of_four (Err e) = None
+
+-- the address of sixteen octets
+abbrev pub of_sixteen : Result (List ℕ) FromHexError → Option Ipv6Address
+of_sixteen (Ok octets) = Some (address_at octets 0)
+of_sixteen (Err e) = None
 
 -- the address that eight hex digits spell
-abbrev pub address_in : List ℕ → Option Ipv4Address
-address_in digits = of_octets (decode_sized digits 4)
+abbrev pub ipv4_in : List ℕ → Option Ipv4Address
+ipv4_in digits = of_four (decode_sized digits 4)
 
--- an address with the length of its prefix
-abbrev pub with_len : Option Ipv4Address → Option ℕ → Option (IpAddress × ℕ)
-with_len (Some address) (Some len) = Some (ip.Ipv4 address, len)
-with_len (Some address) None = None
-with_len None len = None
+-- the address that thirty-two hex digits spell
+abbrev pub ipv6_in : List ℕ → Option Ipv6Address
+ipv6_in digits = of_sixteen (decode_sized digits 16)
 
--- the address and the prefix length, at most 32, that are parted by a slash
+-- the address that hex digits spell: eight of IPv4, or thirty-two of IPv6
+abbrev pub address_in : List ℕ → Option IpAddress
+address_in digits = if length digits == 8 then option_map ip.Ipv4 (ipv4_in digits) else option_map ip.Ipv6 (ipv6_in digits)
+
+-- how long a prefix of an address's family is at most
+abbrev pub address_len : IpAddress → ℕ
+address_len (ip.Ipv4 address) = 32
+address_len (ip.Ipv6 address) = 128
+
+-- an address with the length of its prefix, which these digits spell
+abbrev pub with_len : List ℕ → IpAddress → Option (IpAddress × ℕ)
+with_len digits address = option_map (λ len. (address, len)) (number_up_to (address_len address) digits)
+
+-- the address and the prefix length that are parted by a slash
 abbrev pub network_in : List ℕ → Option (IpAddress × ℕ)
-network_in word = with_len (address_in (before_first is_slash word)) (number_up_to 32 (after_first is_slash word))
+network_in word = option_and_then (with_len (after_first is_slash word)) (address_in (before_first is_slash word))
 
 -- the address and the prefix length of a network
 abbrev pub parts_of : IpCidr → Option (IpAddress × ℕ)

@@ -3,13 +3,16 @@ ghost use Rattle.std.specs.Prelude.{◌≡◌, ◌<◌, ◌≤◌, ◌*◌, ◌=
 ghost use Rattle.std.specs.List.{before_first, after_first, position_or_len};
 ghost use Rattle.hex.specs.Hex.{decode_of};
 ghost use Rattle.net_base.specs.Time.{IsMoment};
+ghost use Rattle.host_machine.specs.Step.{IsTimely};
 ghost use Rattle.hostrun.specs.Commands.{IsTimelyLine};
+ghost use Rattle.hostrun.specs.Commands as commands;
 ghost use Rattle.hostrun.specs.Hex.{IsHexUpTo};
-ghost use Rattle.hostrun.specs.Text.{Say, SpellNetworks, SpellPoll, address_in, budget_in, is_space, moment_in, network_in, number_up_to, parts_of, port_in};
+ghost use Rattle.hostrun.specs.Text.{Say, SpellNetworks, SpellPoll, address_in, budget_in, ipv4_in, ipv6_in, is_space, moment_in, network_in, number_up_to, parts_of, port_in};
 
 use arrayvec::ArrayVec;
 use interface::Command;
-use ip_wire::{IpCidr, Ipv4Address, Ipv4Cidr};
+use ip_wire::ipv6_packet::address_at;
+use ip_wire::{IpAddress, IpCidr, Ipv4Address, Ipv4Cidr, Ipv6Address, Ipv6Cidr};
 use net_base::time::Instant;
 
 /// Room for the longest frame that fits in a line.
@@ -31,8 +34,8 @@ pub enum Line {
 pub enum Call {
     /// The host's addresses.
     Addr(ArrayVec<IpCidr, 4>),
-    /// The router of the host's default route.
-    Gw(Ipv4Address),
+    /// The router of the host's default route of its family.
+    Gw(IpAddress),
     /// The host takes one frame, at the moment last given.
     Ingress,
     /// The host sends what its sockets have to send, at the moment last given.
@@ -71,12 +74,23 @@ impl Call {
     {
         match self {
             Call::Addr(networks) => Command::UpdateIpAddrs(networks),
-            Call::Gw(router) => Command::AddDefaultIpv4Route(router),
+            Call::Gw(router) => default_route_by(router),
             Call::Ingress => Command::PollIngressSingle(last),
             Call::Egress => Command::PollEgress(last),
             Call::Poll(moment, budget) => Command::Poll(moment, budget),
             Call::At(moment) => Command::PollAt(moment),
         }
+    }
+}
+
+/// The router becomes that of the default route of its family.
+fn default_route_by(router: IpAddress) -> Command
+    ensures command { result ≡ commands.default_route_by router }
+    ensures timely { IsTimely result }
+{
+    match router {
+        IpAddress::Ipv4(router) => Command::AddDefaultIpv4Route(router),
+        IpAddress::Ipv6(router) => Command::AddDefaultIpv6Route(router),
     }
 }
 
@@ -88,7 +102,7 @@ pub fn parse(text: &[u8], buffer: &mut [u8; FRAME_ROOM]) -> Option<Line>
     match split_at(text, b' ') {
         (b"rx", Some(digits)) => Some(Line::Rx(parse_hex(digits, buffer)?)),
         (b"addr", Some(words)) => Some(Line::Asks(Call::Addr(parse_addrs(words)?))),
-        (b"gw", Some(digits)) => Some(Line::Asks(Call::Gw(parse_ipv4(digits)?))),
+        (b"gw", Some(digits)) => Some(Line::Asks(Call::Gw(parse_address(digits)?))),
         (b"udp", Some(digits)) => Some(Line::Udp(parse_port(digits)?)),
         (b"ingress", None) => Some(Line::Asks(Call::Ingress)),
         (b"egress", None) => Some(Line::Asks(Call::Egress)),
@@ -145,9 +159,20 @@ fn parse_addrs(words: &[u8]) -> Option<ArrayVec<IpCidr, 4>>
     None
 }
 
+/// An address: of IPv4 by eight hex digits, or of IPv6 by thirty-two.
+fn parse_address(digits: &[u8]) -> Option<IpAddress>
+    ensures { result ≡ address_in digits.now }
+{
+    if digits.len() == 8 {
+        Some(IpAddress::Ipv4(parse_ipv4(digits)?))
+    } else {
+        Some(IpAddress::Ipv6(parse_ipv6(digits)?))
+    }
+}
+
 /// An address of eight hex digits.
 fn parse_ipv4(digits: &[u8]) -> Option<Ipv4Address>
-    ensures { result ≡ address_in digits.now }
+    ensures { result ≡ ipv4_in digits.now }
 {
     let mut octets = [0; 4];
     hex::decode_to_slice(digits, &mut octets).ok()?;
@@ -155,14 +180,30 @@ fn parse_ipv4(digits: &[u8]) -> Option<Ipv4Address>
     Some(Ipv4Address::new(a, b, c, d))
 }
 
-/// A network: an address of eight hex digits, `/` and the length of the prefix, at most 32.
+/// An address of thirty-two hex digits.
+fn parse_ipv6(digits: &[u8]) -> Option<Ipv6Address>
+    ensures { result ≡ ipv6_in digits.now }
+{
+    let mut octets = [0; 16];
+    hex::decode_to_slice(digits, &mut octets).ok()?;
+    Some(address_at(&octets, 0))
+}
+
+/// A network: an address, `/` and the length of the prefix, at most 32, or 128 for IPv6.
 fn parse_cidr(word: &[u8]) -> Option<IpCidr>
     ensures { IfSome result (λ network. network_in word.now ≡ parts_of network) }
 {
     let (digits, prefix_len) = split_at(word, b'/');
-    let address = parse_ipv4(digits)?;
-    let prefix_len = parse_number(prefix_len?, 32)?;
-    Some(IpCidr::Ipv4(Ipv4Cidr::new(address, prefix_len as u8)))
+    match parse_address(digits)? {
+        IpAddress::Ipv4(address) => {
+            let prefix_len = parse_number(prefix_len?, 32)?;
+            Some(IpCidr::Ipv4(Ipv4Cidr::new(address, prefix_len as u8)))
+        }
+        IpAddress::Ipv6(address) => {
+            let prefix_len = parse_number(prefix_len?, 128)?;
+            Some(IpCidr::Ipv6(Ipv6Cidr::new(address, prefix_len as u8)))
+        }
+    }
 }
 
 /// A moment and a budget, parted by one space.

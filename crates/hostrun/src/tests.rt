@@ -310,6 +310,41 @@ fn answers_echo_requests(rt: HostRuntime) {
     }
 }
 
+// Which hardware address has fe80::1? From fe80::2 at 02:00:00:00:00:02.
+const SOLICITATION: &[u8] = b"rx \
+    3333ff00000102000000000286dd\
+    6000000000203aff\
+    fe800000000000000000000000000002ff0200000000000000000001ff000001\
+    87007a9700000000fe8000000000000000000000000000010101020000000002\n";
+
+// The advertisement in reply.
+const ADVERTISED: &[u8] = b"ok
+ok
+tx \
+    02000000000202000000000186dd\
+    6000000000203aff\
+    fe800000000000000000000000000001fe800000000000000000000000000002\
+    8800381c40000000fe8000000000000000000000000000010201020000000001
+SocketStateChanged
+";
+
+// An address is of IPv6 by its thirty-two digits; a router of either family is taken.
+#[test]
+fn answers_a_solicitation(rt: HostRuntime) {
+    let addresses: [&[u8]; 3] = [
+        b"addr fe800000000000000000000000000001/64\n",
+        b"addr FE800000000000000000000000000001/10\n",
+        b"addr c0a84501/24 fe800000000000000000000000000001/64\n",
+    ];
+    for address in addresses {
+        let script = [address, SOLICITATION, b"ingress\n"];
+        check(&rt, rt.alloc(), &script, ends(ADVERTISED, b"", 0));
+    }
+    let routers =
+        b"gw fe800000000000000000000000000002\ngw c0a84564\ngw 20010DB8000000000000000000000001";
+    check(&rt, rt.alloc(), &[routers], ends(b"ok\nok\nok\n", b"", 0));
+}
+
 #[test]
 fn answers_what_nobody_takes(rt: HostRuntime) {
     let scripts: [(&[u8], &[u8]); 5] = [
@@ -622,7 +657,7 @@ SocketStateChanged
 
 #[test]
 fn ends_at_a_bad_line(rt: HostRuntime) {
-    let lines: [&[u8]; 94] = [
+    let lines: [&[u8]; 98] = [
         b"pol 0",
         b"poll",
         b"poll ",
@@ -689,7 +724,9 @@ fn ends_at_a_bad_line(rt: HostRuntime) {
         b"addr c0a845/24",
         b"addr c0a845010/24",
         b"addr c0a8450g/24",
-        b"addr 20010db8000000000000000000000001/32",
+        b"addr 20010db8000000000000000000000001/129",
+        b"addr 20010db800000000000000000000001/64",
+        b"addr 20010db8000000000000000000000001",
         b"addr  c0a84501/24",
         b"addr c0a84501/24 ",
         b"addr c0a84501/24  0a000001/8",
@@ -704,7 +741,9 @@ fn ends_at_a_bad_line(rt: HostRuntime) {
         b"gw c0a845fg",
         b"gw c0a845fe ",
         b"gw c0a845fe c0a845fe",
-        b"gw 20010db8000000000000000000000001",
+        b"gw 20010db800000000000000000000001",
+        b"gw 20010db80000000000000000000000001",
+        b"gw 20010db800000000000000000000000g",
         b"udp 0",
         b"udp 65536",
         b"udp",
