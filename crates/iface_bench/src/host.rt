@@ -7,7 +7,10 @@ use anyhow::{Context, Result};
 use arrayvec::ArrayVec;
 use iface_tables::route::Route;
 use interface::{Config, Interface};
-use ip_wire::{EthernetAddress, HardwareAddress, IpAddress, IpCidr, Ipv4Address, Ipv4Cidr};
+use ip_wire::{
+    EthernetAddress, HardwareAddress, IpAddress, IpCidr, IpVersion, Ipv4Address, Ipv4Cidr,
+    Ipv6Address, Ipv6Cidr,
+};
 use net_base::phy::Medium;
 use net_base::time::Instant;
 use socket_set::{SocketHandle, SocketSet};
@@ -21,6 +24,11 @@ const PORT: u16 = 4000;
 const REMOTE: IpEndpoint = IpEndpoint {
     addr: IpAddress::Ipv4(Ipv4Address { bits: 0xc0a8_4564 }),
     port: 5000,
+};
+
+/// Its address where it speaks IPv6: fe80::1.
+const LINK_LOCAL: Ipv6Address = Ipv6Address {
+    bits: 0xfe80_0000_0000_0000_0000_0000_0000_0001,
 };
 
 /// Where it sends to by a router: the same port of 10.1.2.3.
@@ -50,34 +58,34 @@ pub struct Host {
 }
 
 impl Host {
-    /// A host at 192.168.69.1/24 with so many sockets at least, of which the last is used: it has room
-    /// for four datagrams each way.
-    pub fn new(alloc: Global, count: u64, medium: Medium) -> Result<Host> {
+    /// A host at 192.168.69.1/24, or fe80::1/64 where it speaks IPv6, with so many sockets at least, of
+    /// which the last is used: it has room for four datagrams each way.
+    pub fn new(alloc: Global, count: u64, medium: Medium, version: IpVersion) -> Result<Host> {
         let hardware_addr = match medium {
             Medium::Ethernet => HardwareAddress::Ethernet(EthernetAddress([2, 0, 0, 0, 0, 1])),
             Medium::Ip => HardwareAddress::Ip,
         };
-        Host::at(alloc, count, medium, hardware_addr, 1, PORT)
+        Host::at(alloc, count, medium, hardware_addr, own(version), PORT)
     }
 
     /// The host at 192.168.69.100/24 to which it sends, with one socket.
     pub fn peer(alloc: Global) -> Result<Host> {
         let hardware_addr = HardwareAddress::Ethernet(EthernetAddress([2, 0, 0, 0, 0, 2]));
-        Host::at(alloc, 1, Medium::Ethernet, hardware_addr, 100, REMOTE.port)
+        let cidr = IpCidr::Ipv4(Ipv4Cidr::new(Ipv4Address::new(192, 168, 69, 100), 24));
+        Host::at(alloc, 1, Medium::Ethernet, hardware_addr, cidr, REMOTE.port)
     }
 
-    /// A host at 192.168.69.N/24, whose socket listens at a port.
+    /// A host with an address in its network, whose socket listens at a port.
     fn at(
         alloc: Global,
         count: u64,
         medium: Medium,
         hardware_addr: HardwareAddress,
-        n: u8,
+        cidr: IpCidr,
         port: u16,
     ) -> Result<Host> {
         let mut link = Link::new(alloc, medium);
         let mut interface = Interface::new(Config::new(hardware_addr), &mut link, Instant::ZERO)?;
-        let cidr = IpCidr::Ipv4(Ipv4Cidr::new(Ipv4Address::new(192, 168, 69, n), 24));
         interface.update_ip_addrs(move |_| {
             let mut list = ArrayVec::new();
             list.push(cidr);
@@ -216,6 +224,14 @@ impl Host {
         let _ = self
             .interface
             .poll_egress(Instant::ZERO, &mut self.link, &mut self.sockets);
+    }
+}
+
+/// The address of the host, in its network.
+fn own(version: IpVersion) -> IpCidr {
+    match version {
+        IpVersion::Ipv4 => IpCidr::Ipv4(Ipv4Cidr::new(Ipv4Address::new(192, 168, 69, 1), 24)),
+        IpVersion::Ipv6 => IpCidr::Ipv6(Ipv6Cidr::new(LINK_LOCAL, 64)),
     }
 }
 

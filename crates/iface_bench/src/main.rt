@@ -6,7 +6,7 @@
 //! one behind the other in one line are `fragments` that bring a datagram to the socket, or a request that is
 //! answered in three pieces (`pieces`); what is sent may be `cut` into three, and each of them taken by
 //! another host, whose socket gets the datagram (`link`). The second says how many times; a third, if there
-//! is one, how many sockets the host has. The first line of standard input is a frame in hex that is taken
+//! is one, how many sockets the host has, and with any fourth it speaks IPv6. The first line of standard input is a frame in hex that is taken
 //! once before, and the second the frame that is taken or the payload that is sent over and over.
 //! `docs/PERFORMANCE.md` says how to count instructions with it.
 #![tactic(auto)]
@@ -16,6 +16,7 @@ mod link;
 
 use crate::host::Host;
 use anyhow::{Context, Result, bail};
+use ip_wire::IpVersion;
 use net_base::phy::Medium;
 use std::alloc::Global;
 use std::env;
@@ -112,11 +113,15 @@ fn main(rt: HostRuntime) -> Result<()> {
         Some(count) => count.parse::<u64>()?,
         None => 1,
     };
+    let version = match args.next() {
+        Some(_) => IpVersion::Ipv6,
+        None => IpVersion::Ipv4,
+    };
     let medium = match work.as_str() {
         "packet" => Medium::Ip,
         _ => Medium::Ethernet,
     };
-    let mut host = Host::new(alloc, sockets, medium)?;
+    let mut host = Host::new(alloc, sockets, medium, version)?;
     let mut peer = Host::peer(alloc)?;
     let mut digits = String::new(alloc);
     rt.read_line(&mut digits)?;
