@@ -1,0 +1,2 @@
+pub mod GroupsLaws
+pub mod GroupsLemmas

@@ -1,0 +1,437 @@
+//! The multicast groups of an interface (RFC 1112 7.1, RFC 2236 6, RFC 3810 4.2): each with what is
+//! still to be reported of it, in the order in which they are walked.
+ghost use Rattle.std.specs.Prelude.{◌≡◌, ◌<◌, ◌≤◌, [], length, slice_get, option_map, Some, None, IsSome, OnErr};
+ghost use Rattle.ip_address.specs.Ip as ip;
+ghost use Rattle.group_table.specs.declared.groups.Group.{Group};
+ghost use Rattle.group_table.specs.Groups as spec;
+ghost use Rattle.group_table.specs.Groups.{AreDistinct, done_or_full, ipv4_groups, ipv6_groups, join_reported, joined, leave_reported, left};
+ghost use Rattle.group_table.specs.Groups.{new_group, place_of, state_of, taken_out, with_state};
+ghost use Rattle.group_table.specs.Groups.{JoinsMember, LastGoesAlone, LastMovesIntoGap, LeavesNoMember, OthersStay, StayDistinct};
+
+use arrayvec::ArrayVec;
+use ip_address::{IpAddress, Ipv4Address, Ipv6Address};
+use std::marker::Model;
+use thiserror::Error;
+
+/// How many groups a table holds.
+pub const IFACE_MAX_MULTICAST_GROUP_COUNT: usize = 8;
+
+/// The table is full, and the group isn't in it.
+#[derive(Clone, Copy, Debug, PartialEq, Eq, Error)]
+#[error("GroupTableFull")]
+pub struct GroupTableFull;
+
+/// What is still to be reported of a group.
+#[derive(Clone, Copy, Debug, PartialEq, Eq)]
+pub enum GroupState {
+    /// It was joined, and that isn't reported yet.
+    Joining,
+    /// It was joined, and that is reported.
+    Joined,
+    /// It was left, and that isn't reported yet.
+    Leaving,
+}
+
+/// A group: its address, and what is still to be reported of it.
+#[derive(Clone, Copy, Debug, PartialEq, Eq)]
+pub struct Group {
+    pub addr: IpAddress,
+    pub state: GroupState,
+}
+
+impl Group {
+    // A group that was joined just now.
+    fn new(addr: IpAddress) -> Group
+        ensures { result ≡ new_group addr }
+    {
+        Group {
+            addr,
+            state: GroupState::Joining,
+        }
+    }
+}
+
+impl Default for Group {
+    fn default() -> Group
+        ensures { result ≡ new_group ip.unspecified }
+    {
+        Group::new(IpAddress::default())
+    }
+}
+
+/// A table of at most eight groups, in which no address stands twice.
+///
+/// In contracts it is their list, in the order in which they are walked.
+#[derive(Drop)]
+pub struct Groups {
+    entries: ArrayVec<Group, IFACE_MAX_MULTICAST_GROUP_COUNT>,
+}
+
+impl Model for Groups {
+    ghost use Rattle.std.specs.Prelude.{List};
+    ghost use Rattle.group_table.specs.declared.groups.Group.{Group};
+    ghost use Rattle.group_table.specs.Groups.{AreDistinct};
+
+    ghost Value = { List Group };
+
+    ghost view = { λ g. g.entries.items };
+
+    ghost invariant = { λ g. AreDistinct g.entries.items };
+}
+
+impl Groups {
+    /// A table without a group.
+    pub fn new() -> Groups
+        ensures { result ≡ [] }
+    {
+        Groups {
+            entries: ArrayVec::new(),
+        }
+    }
+
+    /// How many groups there are, in whatever state.
+    pub fn len(&self) -> usize
+        ensures value { result ≡ length self.now }
+        ensures fits { result ≤ IFACE_MAX_MULTICAST_GROUP_COUNT }
+    {
+        self.entries.len()
+    }
+
+    /// Whether there is no group.
+    pub fn is_empty(&self) -> bool
+        ensures { result ≡ spec.is_empty self.now }
+    {
+        self.entries.is_empty()
+    }
+
+    /// Whether the interface is in a group: it is there, and isn't being left.
+    pub fn is_member(&self, group: &IpAddress) -> bool
+        ensures { result ≡ spec.is_member self.now group.now }
+    {
+        let (_, state) = find(self.entries.as_slice(), group);
+        match state {
+            Some(GroupState::Joining | GroupState::Joined) => true,
+            Some(GroupState::Leaving) | None => false,
+        }
+    }
+
+    /// No address stands twice.
+    pub fn are_distinct(&self)
+        ensures { AreDistinct self.now }
+    {
+        let _ = &self.entries;
+    }
+
+    /// Joins a group. A new one is put behind all others, and its join is to be reported; one that was
+    /// being left is joined again, and nothing is to be reported of it. `GroupTableFull` exactly if the
+    /// group isn't there and eight others are; then nothing changes.
+    pub fn join(&mut self, group: IpAddress) -> Result<(), GroupTableFull>
+        ensures answer { result ≡ done_or_full self.old group }
+        ensures groups { self.new ≡ joined self.old group }
+        ensures unchanged { OnErr result (self.new ≡ self.old) }
+    {
+        join_in(&mut self.entries, group)
+    }
+
+    /// Leaves a group. One whose join isn't reported yet is taken out, and the last group moves into
+    /// the gap; of one whose join is, the leave is to be reported. Else nothing changes.
+    pub fn leave(&mut self, group: &IpAddress)
+        ensures { self.new ≡ left self.old group.now }
+    {
+        leave_in(&mut self.entries, group);
+    }
+
+    /// The join of a group was reported. Nothing changes unless that was still to be done.
+    pub fn join_reported(&mut self, group: &IpAddress)
+        ensures { self.new ≡ join_reported self.old group.now }
+    {
+        join_reported_in(&mut self.entries, group);
+    }
+
+    /// The leave of a group was reported: it is taken out, and the last group moves into the gap.
+    /// Nothing changes unless that was still to be done.
+    pub fn leave_reported(&mut self, group: &IpAddress)
+        ensures { self.new ≡ leave_reported self.old group.now }
+    {
+        leave_reported_in(&mut self.entries, group);
+    }
+
+    /// The first group in a state, if there is one.
+    pub fn first_in(&self, state: GroupState) -> Option<IpAddress>
+        ensures { result ≡ spec.first_in state self.now }
+    {
+        first_in(self.entries.as_slice(), state)
+    }
+
+    /// How many IPv4 groups there are, in whatever state.
+    pub fn ipv4_count(&self) -> usize
+        ensures { result ≡ length (ipv4_groups self.now) }
+    {
+        ipv4_count(self.entries.as_slice())
+    }
+
+    /// The IPv4 group of a place among the IPv4 groups, in whatever state. The first place is 0.
+    pub fn nth_ipv4(&self, n: usize) -> Option<Ipv4Address>
+        ensures { result ≡ slice_get (ipv4_groups self.now) n }
+    {
+        nth_ipv4(self.entries.as_slice(), n)
+    }
+
+    /// How many IPv6 groups there are, in whatever state.
+    pub fn ipv6_count(&self) -> usize
+        ensures { result ≡ length (ipv6_groups self.now) }
+    {
+        ipv6_count(self.entries.as_slice())
+    }
+
+    /// The IPv6 group of a place among the IPv6 groups, in whatever state. The first place is 0.
+    pub fn nth_ipv6(&self, n: usize) -> Option<Ipv6Address>
+        ensures { result ≡ slice_get (ipv6_groups self.now) n }
+    {
+        nth_ipv6(self.entries.as_slice(), n)
+    }
+}
+
+// Where a group stands, or the length.
+fn place_of(groups: &[Group], group: &IpAddress) -> usize
+    ensures { result ≡ place_of groups.now group.now }
+{
+    for (i, g) in groups.iter().enumerate() {
+        if g.addr == *group {
+            return i;
+        }
+    }
+    groups.len()
+}
+
+// The state of the group at a place, if there is one.
+#[inline(always)]
+fn state_at(groups: &[Group], place: usize) -> Option<GroupState>
+    ensures { result ≡ option_map (λ (g : Group). g.state) (slice_get groups.now place) }
+{
+    Some(groups.get(place)?.state)
+}
+
+// Where a group stands, or the length, and its state, if it is there.
+#[tactic(auto, using(crate::proofs::GroupsLemmas::state_at_place, crate::proofs::GroupsLemmas::place_within))]
+fn find(groups: &[Group], group: &IpAddress) -> (usize, Option<GroupState>)
+    ensures place { result.0 ≡ place_of groups.now group.now }
+    ensures state { result.1 ≡ state_of groups.now group.now }
+    ensures within { IsSome result.1 → result.0 < length groups.now }
+{
+    let place = place_of(groups, group);
+    (place, state_at(groups, place))
+}
+
+// Gives the group at a place another state.
+fn set_state(
+    entries: &mut ArrayVec<Group, IFACE_MAX_MULTICAST_GROUP_COUNT>,
+    group: &IpAddress,
+    place: usize,
+    state: GroupState,
+)
+    requires place { place ≡ place_of entries.old.items group.now }
+    requires within { place < length entries.old.items }
+    requires distinct { AreDistinct entries.old.items }
+    ensures groups { entries.new.items ≡ with_state entries.old.items group.now state }
+    ensures distinct { AreDistinct entries.new.items }
+{
+    if let Some(entry) = entries.get_mut(place) {
+        *entry = Group {
+            addr: *group,
+            state,
+        };
+    }
+}
+
+// Takes out the group at a place. The last one moves into the gap.
+fn take_out(
+    entries: &mut ArrayVec<Group, IFACE_MAX_MULTICAST_GROUP_COUNT>,
+    group: &IpAddress,
+    place: usize,
+)
+    requires place { place ≡ place_of entries.old.items group.now }
+    requires within { place < length entries.old.items }
+    requires distinct { AreDistinct entries.old.items }
+    ensures groups { entries.new.items ≡ taken_out entries.old.items group.now }
+    ensures distinct { AreDistinct entries.new.items }
+{
+    entries.swap_remove(place);
+}
+
+// Puts a group that isn't there behind all others, if there is room.
+fn append(
+    entries: &mut ArrayVec<Group, IFACE_MAX_MULTICAST_GROUP_COUNT>,
+    group: IpAddress,
+) -> Result<(), GroupTableFull>
+    requires absent { state_of entries.old.items group ≡ None }
+    requires distinct { AreDistinct entries.old.items }
+    ensures answer { result ≡ done_or_full entries.old.items group }
+    ensures groups { entries.new.items ≡ joined entries.old.items group }
+    ensures distinct { AreDistinct entries.new.items }
+{
+    if entries.is_full() {
+        return Err(GroupTableFull);
+    }
+    entries.push(Group::new(group));
+    Ok(())
+}
+
+// Joins a group.
+fn join_in(
+    entries: &mut ArrayVec<Group, IFACE_MAX_MULTICAST_GROUP_COUNT>,
+    group: IpAddress,
+) -> Result<(), GroupTableFull>
+    requires { AreDistinct entries.old.items }
+    ensures answer { result ≡ done_or_full entries.old.items group }
+    ensures groups { entries.new.items ≡ joined entries.old.items group }
+    ensures distinct { AreDistinct entries.new.items }
+{
+    let (place, state) = find(entries.as_slice(), &group);
+    match state {
+        None => append(entries, group),
+        Some(GroupState::Joining | GroupState::Joined) => Ok(()),
+        Some(GroupState::Leaving) => {
+            set_state(entries, &group, place, GroupState::Joined);
+            Ok(())
+        }
+    }
+}
+
+// Leaves a group.
+fn leave_in(entries: &mut ArrayVec<Group, IFACE_MAX_MULTICAST_GROUP_COUNT>, group: &IpAddress)
+    requires { AreDistinct entries.old.items }
+    ensures groups { entries.new.items ≡ left entries.old.items group.now }
+    ensures distinct { AreDistinct entries.new.items }
+{
+    let (place, state) = find(entries.as_slice(), group);
+    match state {
+        Some(GroupState::Joining) => take_out(entries, group, place),
+        Some(GroupState::Joined) => set_state(entries, group, place, GroupState::Leaving),
+        Some(GroupState::Leaving) | None => {}
+    }
+}
+
+// The join of a group was reported.
+fn join_reported_in(
+    entries: &mut ArrayVec<Group, IFACE_MAX_MULTICAST_GROUP_COUNT>,
+    group: &IpAddress,
+)
+    requires { AreDistinct entries.old.items }
+    ensures groups { entries.new.items ≡ join_reported entries.old.items group.now }
+    ensures distinct { AreDistinct entries.new.items }
+{
+    let (place, state) = find(entries.as_slice(), group);
+    match state {
+        Some(GroupState::Joining) => set_state(entries, group, place, GroupState::Joined),
+        Some(GroupState::Joined | GroupState::Leaving) | None => {}
+    }
+}
+
+// The leave of a group was reported.
+fn leave_reported_in(
+    entries: &mut ArrayVec<Group, IFACE_MAX_MULTICAST_GROUP_COUNT>,
+    group: &IpAddress,
+)
+    requires { AreDistinct entries.old.items }
+    ensures groups { entries.new.items ≡ leave_reported entries.old.items group.now }
+    ensures distinct { AreDistinct entries.new.items }
+{
+    let (place, state) = find(entries.as_slice(), group);
+    match state {
+        Some(GroupState::Leaving) => take_out(entries, group, place),
+        Some(GroupState::Joining | GroupState::Joined) | None => {}
+    }
+}
+
+// The first group in a state, if there is one.
+fn first_in(groups: &[Group], state: GroupState) -> Option<IpAddress>
+    ensures { result ≡ spec.first_in state groups.now }
+{
+    for g in groups {
+        if g.state == state {
+            return Some(g.addr);
+        }
+    }
+    None
+}
+
+// How many IPv4 groups there are.
+fn ipv4_count(groups: &[Group]) -> usize
+    ensures { result ≡ length (ipv4_groups groups.now) }
+{
+    let mut count = 0;
+    for g in groups {
+        match g.addr {
+            IpAddress::Ipv4(_) => count += 1,
+            IpAddress::Ipv6(_) => {}
+        }
+    }
+    count
+}
+
+// The IPv4 group of a place among the IPv4 groups.
+fn nth_ipv4(groups: &[Group], n: usize) -> Option<Ipv4Address>
+    ensures { result ≡ slice_get (ipv4_groups groups.now) n }
+{
+    let mut ahead = n;
+    for g in groups {
+        match g.addr {
+            IpAddress::Ipv4(address) if ahead == 0 => return Some(address),
+            IpAddress::Ipv4(_) => ahead -= 1,
+            IpAddress::Ipv6(_) => {}
+        }
+    }
+    None
+}
+
+// How many IPv6 groups there are.
+fn ipv6_count(groups: &[Group]) -> usize
+    ensures { result ≡ length (ipv6_groups groups.now) }
+{
+    let mut count = 0;
+    for g in groups {
+        match g.addr {
+            IpAddress::Ipv4(_) => {}
+            IpAddress::Ipv6(_) => count += 1,
+        }
+    }
+    count
+}
+
+// The IPv6 group of a place among the IPv6 groups.
+fn nth_ipv6(groups: &[Group], n: usize) -> Option<Ipv6Address>
+    ensures { result ≡ slice_get (ipv6_groups groups.now) n }
+{
+    let mut ahead = n;
+    for g in groups {
+        match g.addr {
+            IpAddress::Ipv4(_) => {}
+            IpAddress::Ipv6(address) if ahead == 0 => return Some(address),
+            IpAddress::Ipv6(_) => ahead -= 1,
+        }
+    }
+    None
+}
+
+/// No call lets an address stand twice.
+pub fn groups_stay_distinct()
+    ensures { StayDistinct }
+{}
+
+/// Where a group is taken out, the last one moves into its place, and the others keep their order.
+pub fn last_moves_into_gap()
+    ensures moves { LastMovesIntoGap }
+    ensures alone { LastGoesAlone }
+{}
+
+/// Who joins is a member then, unless it was refused, and who leaves is none.
+pub fn membership_follows()
+    ensures join { JoinsMember }
+    ensures leave { LeavesNoMember }
+{}
+
+/// No call changes the state of another group.
+pub fn others_stay()
+    ensures { OthersStay }
+{}

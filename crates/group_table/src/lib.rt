@@ -1,0 +1,6 @@
+//! The multicast groups of an interface: which it is in, and what is still to be reported of each.
+#![tactic(auto)]
+
+pub mod groups;
+
+pub use groups::{Group, GroupState, GroupTableFull, Groups, IFACE_MAX_MULTICAST_GROUP_COUNT};

@@ -1,0 +1,5 @@
+//! The tests of `group_table`.
+#![tactic(auto)]
+
+#[cfg(test)]
+mod groups;

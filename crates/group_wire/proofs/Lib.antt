@@ -1,0 +1,3 @@
+pub mod IgmpAgain
+pub mod MldAgain
+pub mod Times

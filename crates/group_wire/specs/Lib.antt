@@ -1,0 +1,2 @@
+pub mod Igmp
+pub mod Mld
