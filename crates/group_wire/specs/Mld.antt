@@ -43,7 +43,7 @@ abbrev pub rest_of : MldRepr → List ℕ
 rest_of (Query code group) = to_be_bytes w16 code ++ 0 ∷ 0 ∷ []
 rest_of (Report count) = 0 ∷ 0 ∷ to_be_bytes w16 count
 
--- a query's group, and zeros for its flags, robustness, interval and number of sources (5.1.5 to 5.1.10)
+-- a query's group, and zeros for its flags, robustness, interval and number of sources (5.1.5 to 5.1.9)
 unfoldable pub query_body : Ipv6Address → List ℕ
 query_body group = address_text group ++ 0 ∷ 0 ∷ 0 ∷ 0 ∷ []
 
