@@ -62,7 +62,7 @@ stay_distinct gs a distinct = record {
 }
 
 -- a group stands where its address does
-stands_at : (gs : List Group) (a : IpAddress) (i : ℕ) (d : Group) → AreDistinct gs → i < length gs → (get_or gs i d).addr ≡ a → place_of gs a ≡ i
+pub stands_at : (gs : List Group) (a : IpAddress) (i : ℕ) (d : Group) → AreDistinct gs → i < length gs → (get_or gs i d).addr ≡ a → place_of gs a ≡ i
 stands_at gs a i d distinct h at = position_or_len_is (is_at a) gs i d (omega arith) before (λ _. rw at (same_itself a)) where
   before : (k : ℕ) → k < i → is_same (get_or gs k d).addr a ≡ false
   before k below = by (is_same (get_or gs k d).addr a) refl where
@@ -71,7 +71,7 @@ stands_at gs a i d distinct h at = position_or_len_is (is_at a) gs i d (omega ar
     by false t = refl
 
 -- and has the state that stands there
-state_at : (gs : List Group) (a : IpAddress) (i : ℕ) (d : Group) → AreDistinct gs → i < length gs → (get_or gs i d).addr ≡ a →
+pub state_at : (gs : List Group) (a : IpAddress) (i : ℕ) (d : Group) → AreDistinct gs → i < length gs → (get_or gs i d).addr ≡ a →
     state_of gs a ≡ Some (get_or gs i d).state
 state_at gs a i d distinct h at =
     sym (state_at_place gs a) ∙ ap (λ (k : ℕ). option_map (λ (g : Group). g.state) (slice_get gs k)) (stands_at gs a i d distinct h at)

@@ -1,2 +1,3 @@
+pub mod GroupsCounts
 pub mod GroupsLaws
 pub mod GroupsLemmas

@@ -1,6 +1,6 @@
 -- Multicast groups (RFC 1112 7.1, RFC 2236 6, RFC 3810 4.2): a list, in the order in which it is walked.
 use Rattle.std.specs.Prelude.{◌≡◌, ◌≢◌, ℕ, ◌<◌, ◌==◌, ◌&&◌, nat_le, Bool, true, false, if◌then◌else◌, List, [], ◌∷◌, ◌++◌, length, find}
-use Rattle.std.specs.Prelude.{filter_map, option_map, is_none, slice_index_or, slice_set, Option, Some, None, Result, Ok, Err}
+use Rattle.std.specs.Prelude.{◌+◌, count_by, filter_map, option_map, is_none, slice_index_or, slice_set, Option, Some, None, Result, Ok, Err}
 use Rattle.std.specs.List.{position_or_len, swap_remove}
 use Rattle.ip_address.specs.declared.ip.IpAddress.{IpAddress}
 use Rattle.ip_address.specs.declared.ip.IpAddress.TheVariants.{Ipv4, Ipv6}
@@ -133,6 +133,10 @@ leave_reported gs a = leave_reported_from (state_of gs a) gs a
 abbrev pub first_in : GroupState → List Group → Option IpAddress
 first_in s gs = option_map (λ (g : Group). g.addr) (find (λ (g : Group). is_same_state g.state s) gs)
 
+-- how many groups are in a state
+abbrev pub count_in : GroupState → List Group → ℕ
+count_in s gs = count_by (λ (g : Group). is_same_state g.state s) gs
+
 -- an address of IPv4
 abbrev pub of_ipv4 : IpAddress → Option Ipv4Address
 of_ipv4 (Ipv4 a) = Some a
@@ -188,3 +192,19 @@ pub record KeepsOthers (gs : List Group) (a b : IpAddress) : Type 0 where
 
 abbrev pub OthersStay : Type 0
 OthersStay = (gs : List Group) (a b : IpAddress) → AreDistinct gs → a ≢ b → KeepsOthers gs a b
+
+-- once the join of the first group whose join is to be reported is reported, one less is to be
+abbrev pub JoinReportsEnd : Type 0
+JoinReportsEnd =
+    (gs : List Group) (a : IpAddress) → AreDistinct gs → first_in Joining gs ≡ Some a →
+    count_in Joining gs ≡ count_in Joining (join_reported gs a) + 1
+
+-- once the leave of the first group whose leave is to be reported is reported, one less is to be
+abbrev pub LeaveReportsEnd : Type 0
+LeaveReportsEnd =
+    (gs : List Group) (a : IpAddress) → AreDistinct gs → first_in Leaving gs ≡ Some a →
+    count_in Leaving gs ≡ count_in Leaving (leave_reported gs a) + 1
+
+-- where no group is in a state, there is no first one
+abbrev pub NoneLeft : Type 0
+NoneLeft = (s : GroupState) (gs : List Group) → count_in s gs ≡ 0 → first_in s gs ≡ None

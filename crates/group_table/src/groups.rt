@@ -1,12 +1,14 @@
 //! The multicast groups of an interface (RFC 1112 7.1, RFC 2236 6, RFC 3810 4.2): each with what is
 //! still to be reported of it, in the order in which they are walked.
-ghost use Rattle.std.specs.Prelude.{◌≡◌, ◌<◌, ◌≤◌, [], length, slice_get, option_map, Some, None, IsSome, OnErr};
+ghost use Rattle.std.specs.Prelude.{◌≡◌, ◌+◌, ◌<◌, ◌≤◌, [], length, slice_get, option_map, Some, None, IsSome, OnErr};
 ghost use Rattle.ip_address.specs.Ip as ip;
 ghost use Rattle.group_table.specs.declared.groups.Group.{Group};
+ghost use Rattle.group_table.specs.declared.groups.GroupState.TheVariants.{Joining, Leaving};
 ghost use Rattle.group_table.specs.Groups as spec;
 ghost use Rattle.group_table.specs.Groups.{AreDistinct, done_or_full, ipv4_groups, ipv6_groups, join_reported, joined, leave_reported, left};
 ghost use Rattle.group_table.specs.Groups.{new_group, place_of, state_of, taken_out, with_state};
-ghost use Rattle.group_table.specs.Groups.{JoinsMember, LastGoesAlone, LastMovesIntoGap, LeavesNoMember, OthersStay, StayDistinct};
+ghost use Rattle.group_table.specs.Groups.{JoinReportsEnd, JoinsMember, LastGoesAlone, LastMovesIntoGap, LeaveReportsEnd, LeavesNoMember};
+ghost use Rattle.group_table.specs.Groups.{NoneLeft, OthersStay, StayDistinct};
 
 use arrayvec::ArrayVec;
 use ip_address::{IpAddress, Ipv4Address, Ipv6Address};
@@ -115,6 +117,14 @@ impl Groups {
         }
     }
 
+    /// All groups, in the order in which they are walked.
+    pub fn as_slice(&self) -> &[Group]
+        ensures value { result.now ≡ self.now }
+        ensures fits { length result.now ≤ IFACE_MAX_MULTICAST_GROUP_COUNT }
+    {
+        self.entries.as_slice()
+    }
+
     /// No address stands twice.
     pub fn are_distinct(&self)
         ensures { AreDistinct self.now }
@@ -141,38 +151,58 @@ impl Groups {
         leave_in(&mut self.entries, group);
     }
 
-    /// The join of a group was reported. Nothing changes unless that was still to be done.
+    /// The join of a group was reported. Nothing changes unless that was still to be done. If it is the
+    /// first group whose join is to be reported, then one less is to be afterwards.
+    #[tactic(auto, using(crate::proofs::GroupsCounts::join_reports_end))]
     pub fn join_reported(&mut self, group: &IpAddress)
-        ensures { self.new ≡ join_reported self.old group.now }
+        ensures groups { self.new ≡ join_reported self.old group.now }
+        ensures fewer { spec.first_in Joining self.old ≡ Some group.now → spec.count_in Joining self.old ≡ spec.count_in Joining self.new + 1 }
     {
         join_reported_in(&mut self.entries, group);
     }
 
     /// The leave of a group was reported: it is taken out, and the last group moves into the gap.
-    /// Nothing changes unless that was still to be done.
+    /// Nothing changes unless that was still to be done. If it is the first group whose leave is to be
+    /// reported, then one less is to be afterwards.
+    #[tactic(auto, using(crate::proofs::GroupsCounts::leave_reports_end))]
     pub fn leave_reported(&mut self, group: &IpAddress)
-        ensures { self.new ≡ leave_reported self.old group.now }
+        ensures groups { self.new ≡ leave_reported self.old group.now }
+        ensures fewer { spec.first_in Leaving self.old ≡ Some group.now → spec.count_in Leaving self.old ≡ spec.count_in Leaving self.new + 1 }
     {
         leave_reported_in(&mut self.entries, group);
     }
 
     /// The first group in a state, if there is one.
+    #[tactic(auto, using(crate::proofs::GroupsCounts::none_counted))]
     pub fn first_in(&self, state: GroupState) -> Option<IpAddress>
-        ensures { result ≡ spec.first_in state self.now }
+        ensures first { result ≡ spec.first_in state self.now }
+        ensures some { result ≡ None → spec.count_in state self.now ≡ 0 }
     {
         first_in(self.entries.as_slice(), state)
     }
 
+    /// How many groups are in a state. Where none is, there is no first one.
+    #[tactic(auto, using(crate::proofs::GroupsCounts::none_left))]
+    pub fn count_in(&self, state: GroupState) -> usize
+        ensures value { result ≡ spec.count_in state self.now }
+        ensures fits { result ≤ IFACE_MAX_MULTICAST_GROUP_COUNT }
+        ensures none { result ≡ 0 → spec.first_in state self.now ≡ None }
+    {
+        count_in(self.entries.as_slice(), state)
+    }
+
     /// How many IPv4 groups there are, in whatever state.
     pub fn ipv4_count(&self) -> usize
-        ensures { result ≡ length (ipv4_groups self.now) }
+        ensures value { result ≡ length (ipv4_groups self.now) }
+        ensures fits { result ≤ IFACE_MAX_MULTICAST_GROUP_COUNT }
     {
         ipv4_count(self.entries.as_slice())
     }
 
     /// The IPv4 group of a place among the IPv4 groups, in whatever state. The first place is 0.
     pub fn nth_ipv4(&self, n: usize) -> Option<Ipv4Address>
-        ensures { result ≡ slice_get (ipv4_groups self.now) n }
+        ensures value { result ≡ slice_get (ipv4_groups self.now) n }
+        ensures within { IsSome result → n < IFACE_MAX_MULTICAST_GROUP_COUNT }
     {
         nth_ipv4(self.entries.as_slice(), n)
     }
@@ -356,9 +386,24 @@ fn first_in(groups: &[Group], state: GroupState) -> Option<IpAddress>
     None
 }
 
+// How many groups are in a state.
+fn count_in(groups: &[Group], state: GroupState) -> usize
+    ensures value { result ≡ spec.count_in state groups.now }
+    ensures within { result ≤ length groups.now }
+{
+    let mut count = 0;
+    for group in groups {
+        if group.state == state {
+            count += 1;
+        }
+    }
+    count
+}
+
 // How many IPv4 groups there are.
 fn ipv4_count(groups: &[Group]) -> usize
-    ensures { result ≡ length (ipv4_groups groups.now) }
+    ensures value { result ≡ length (ipv4_groups groups.now) }
+    ensures within { result ≤ length groups.now }
 {
     let mut count = 0;
     for g in groups {
@@ -372,7 +417,8 @@ fn ipv4_count(groups: &[Group]) -> usize
 
 // The IPv4 group of a place among the IPv4 groups.
 fn nth_ipv4(groups: &[Group], n: usize) -> Option<Ipv4Address>
-    ensures { result ≡ slice_get (ipv4_groups groups.now) n }
+    ensures value { result ≡ slice_get (ipv4_groups groups.now) n }
+    ensures within { IsSome result → n < length groups.now }
 {
     let mut ahead = n;
     for g in groups {
@@ -434,4 +480,12 @@ pub fn membership_follows()
 /// No call changes the state of another group.
 pub fn others_stay()
     ensures { OthersStay }
+{}
+
+/// A loop that tells of the first group whose join or leave is to be reported, and then reports it,
+/// comes to an end: each time one less is to be reported, and where none is, there is no first one.
+pub fn reports_end()
+    ensures joins { JoinReportsEnd }
+    ensures leaves { LeaveReportsEnd }
+    ensures none { NoneLeft }
 {}

@@ -2,5 +2,7 @@
 #![tactic(auto)]
 
 pub mod groups;
+pub mod report;
 
 pub use groups::{Group, GroupState, GroupTableFull, Groups, IFACE_MAX_MULTICAST_GROUP_COUNT};
+pub use report::{IgmpReportState, MldReportState};

@@ -145,7 +145,8 @@ pub fn query_version(max_resp_code: u8) -> IgmpVersion
 /// second (RFC 2236 2.2), of another one those that its mantissa and its exponent tell (RFC 3376
 /// 4.1.1). Of code 0, which a query of version 1 has, it is no time.
 pub fn max_resp_time(max_resp_code: u8) -> Duration
-    ensures { result ≡ spec.tenths_of max_resp_code * 100000 }
+    ensures value { result ≡ spec.tenths_of max_resp_code * 100000 }
+    ensures within_an_hour { result < 3600000000 }
 {
     Duration::from_micros(tenths_of(max_resp_code) * 100_000)
 }

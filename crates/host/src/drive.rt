@@ -133,6 +133,12 @@ pub(crate) fn step<D: Device, O: Owner>(
         Command::RemoveDefaultIpv6Route => {
             Answer::RemoveDefaultIpv6Route(remove_default_ipv6_route(interface))
         }
+        Command::JoinMulticastGroup(group) => {
+            Answer::JoinMulticastGroup(interface.join_multicast_group(*group))
+        }
+        Command::LeaveMulticastGroup(group) => {
+            Answer::LeaveMulticastGroup(interface.leave_multicast_group(*group))
+        }
         Command::SetAnyIp(any_ip) => {
             interface.set_any_ip(*any_ip);
             Answer::SetAnyIp

@@ -1,20 +1,36 @@
 -- A round of a host that has no piece left.
-use Rattle.std.proofs.Common.{◌≡◌, List, [], refl}
-use Rattle.std.specs.Prelude.{Bool}
+use Rattle.std.proofs.Common.{◌≡◌, List, [], None, refl}
+use Rattle.std.specs.Prelude.{Bool, false}
 use Rattle.net_base.specs.Device.{Event}
 use Rattle.host_machine.specs.Note.{Note}
 use Rattle.host_machine.specs.Host.{Host}
+use Rattle.group_table.specs.declared.groups.GroupState.TheVariants.{Joining, Leaving}
+use Rattle.group_table.specs.Groups.{first_in}
+use Rattle.host_machine.specs.Parts.{Part, Both}
+use Rattle.host_machine.specs.Multicast.{All, Begins, TellsJoins, TellsLeaves}
+use Rattle.host_machine.specs.Reports.{SendsIgmpReport, SendsMldReport, NotDue, NotYet, has_come, timeout_of, mld_timeout_of}
 use Rattle.host_machine.specs.Egress.{NoPiece, SocketsSend, Round}
 
-pub no_piece : {changed : Bool} {old new : Host} {told : List Event} {notes : List Note} → old.left ≡ [] → SocketsSend old changed told notes new → Round changed old told notes new
-no_piece {changed} {old} {new} {told} {notes} e s = record {
+-- a part that has nothing to do, and then another
+idle : {one two : Part} {old new : Host} {told : List Event} {notes : List Note} → one old [] [] old → two old told notes new → Both one two old told notes new
+idle {old = old} {told = told} {notes = notes} first second = record {
   mid = old;
   told_one = [];
   told_two = told;
   notes_one = [];
   notes_two = notes;
-  begins = NoPiece e refl refl refl;
-  ends = s;
+  begins = first;
+  ends = second;
   events = refl;
   all_notes = refl;
 }
+
+-- a round behind the piece, of a host that has nothing to tell of groups
+pub no_groups : {changed : Bool} {old new : Host} {told : List Event} {notes : List Note} → first_in Joining old.groups ≡ None → first_in Leaving old.groups ≡ None →
+    has_come (timeout_of old.igmp_report) old.moment ≡ false → has_come (mld_timeout_of old.mld_report) old.moment ≡ false → SocketsSend old changed told notes new →
+    Both TellsJoins (Both TellsLeaves (Both SendsIgmpReport (Both SendsMldReport (λ old told_it notes new. SocketsSend old changed told_it notes new)))) old told notes new
+no_groups j v i m s = idle (All Begins j) (idle (All Begins v) (idle (NotDue i refl refl refl) (idle (NotYet m refl refl refl) s)))
+
+pub no_piece : {changed : Bool} {old new : Host} {told : List Event} {notes : List Note} → old.left ≡ [] → first_in Joining old.groups ≡ None → first_in Leaving old.groups ≡ None →
+    has_come (timeout_of old.igmp_report) old.moment ≡ false → has_come (mld_timeout_of old.mld_report) old.moment ≡ false → SocketsSend old changed told notes new → Round changed old told notes new
+no_piece l j v i m s = idle (NoPiece l refl refl refl) (no_groups j v i m s)

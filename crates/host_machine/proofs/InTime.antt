@@ -17,6 +17,7 @@ use Rattle.fragmentation.specs.Slots.{Slot, Slots, has_ended, left_at}
 use Rattle.fragmentation.specs.Reassembly.{SlotNote, Take, Came, Rebuild, Enters, Stood, Taken, Reassembles, NoSlot, Unfit, Waits, Rebuilt}
 use Rattle.fragmentation.specs.Cuts.{piece_at}
 use Rattle.host_machine.specs.Note.{Note, slot_notes}
+use Rattle.host_machine.proofs.Grouped.{join_groups, leave_groups}
 use Rattle.host_machine.specs.Host.{Host}
 use Rattle.host_machine.specs.Step.{Act, Step}
 use Rattle.host_machine.specs.Step as step
@@ -276,6 +277,8 @@ module _ (key other : FragKey) (t0 end : ℤ) where
   timeout_of single step.RemovedDefaultIpv4Route = inl refl
   timeout_of single step.AddedDefaultIpv6Route = inl refl
   timeout_of single step.RemovedDefaultIpv6Route = inl refl
+  timeout_of single (step.JoinedGroup j) = inl (ap (λ (K : Host). K.reassembly_timeout) (join_groups j).1)
+  timeout_of single (step.LeftGroup j) = inl (ap (λ (K : Host). K.reassembly_timeout) (leave_groups j).1)
   timeout_of single step.TookAnyIp = inl refl
   timeout_of single (step.TookHardwareAddr s) = inl (address_set s)
   timeout_of single (step.TookReassemblyTimeout {timeout = timeout} (step.WithinDay l r e)) = inr (timeout, refl, ap (λ (K : Host). K.reassembly_timeout) e)

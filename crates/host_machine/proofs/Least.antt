@@ -18,7 +18,9 @@ use Rattle.sockets.specs.Kinds as kinds
 use Rattle.host_machine.specs.Host.{Host, Storage}
 use Rattle.host_machine.specs.Dispatch.{IsNextHop, OnLink, ByRouter, is_known_hop, if_unicast, KnowsNextHop, OfNoHost, OfHost}
 use Rattle.host_machine.specs.Host.{Socket}
-use Rattle.host_machine.specs.Due.{Due, OfPiece, OfSocket, AtOnce, SocketDue, IsLeast, instant_of, at_once, sooner}
+use Rattle.host_machine.specs.Due.{Due, OfPiece, OfJoin, OfLeave, OfIgmpReport, OfMldReport, OfSocket, AtOnce, SocketDue, IsLeast, instant_of, at_once, of_groups, sooner, told_at}
+use Rattle.group_table.specs.declared.groups.GroupState.TheVariants.{Joining, Leaving}
+use Rattle.host_machine.specs.Reports.{igmp_instant, mld_timeout_of}
 
 -- what is known of a destination is one answer
 hop_is_one : {H : Host} {a : IpAddress} {x y : Option IpAddress} → IsNextHop H a x → IsNextHop H a y → x ≡ y
@@ -126,19 +128,38 @@ Or P Q x = P x ⊎ Q x
 or_least : (P Q : ℤ → Type 0) (a b : Option ℤ) → IsLeast P a → IsLeast Q b → IsLeast (Or P Q) (sooner a b)
 or_least P Q a b p q = least_or P Q (Or P Q) a b p q (λ x d. d) (λ x d. inl d) (λ x d. inr d)
 
+-- the instant of an option
+exact_least : (o : Option ℤ) → IsLeast (λ x. o ≡ Some x) o
+exact_least None = λ x e. absurd cc
+exact_least (Some a) = (refl, λ x e. let same : a ≡ x = cc in omega (arith, ints, same))
+
 -- all sources
 abbrev Sources : Host → ℤ → Type 0
-Sources H = Or (AtOnce H.left) (λ x. (i : ℕ) × SocketDue H i x)
+Sources H = Or (AtOnce H.left) (Or (λ x. told_at Joining H ≡ Some x) (Or (λ x. told_at Leaving H ≡ Some x) (Or (λ x. igmp_instant H ≡ Some x) (Or (λ x. mld_timeout_of H.mld_report ≡ Some x)
+    (λ x. (i : ℕ) × SocketDue H i x)))))
 
 is_due : (H : Host) (x : ℤ) → Sources H x → Due H x
 is_due H x (inl d) = OfPiece d
-is_due H x (inr d) = OfSocket d.0 d.1
+is_due H x (inr (inl d)) = OfJoin d
+is_due H x (inr (inr (inl d))) = OfLeave d
+is_due H x (inr (inr (inr (inl d)))) = OfIgmpReport d
+is_due H x (inr (inr (inr (inr (inl d))))) = OfMldReport d
+is_due H x (inr (inr (inr (inr (inr d))))) = OfSocket d.0 d.1
 
 is_source : (H : Host) (x : ℤ) → Due H x → Sources H x
 is_source H x (OfPiece d) = inl d
-is_source H x (OfSocket i d) = inr (i, d)
+is_source H x (OfJoin d) = inr (inl d)
+is_source H x (OfLeave d) = inr (inr (inl d))
+is_source H x (OfIgmpReport d) = inr (inr (inr (inl d)))
+is_source H x (OfMldReport d) = inr (inr (inr (inr (inl d))))
+is_source H x (OfSocket i d) = inr (inr (inr (inr (inr (i, d)))))
 
-pub due_least : (H : Host) (a : Option ℤ) → IsLeast (DueBelow H (length H.sockets.places)) a → IsLeast (Due H) (sooner (at_once H.left) a)
+-- the least of all, from that of the sockets
+abbrev pub soonest : Host → Option ℤ → Option ℤ
+soonest H a = sooner (at_once H.left) (of_groups H a)
+
+pub due_least : (H : Host) (a : Option ℤ) → IsLeast (DueBelow H (length H.sockets.places)) a → IsLeast (Due H) (soonest H a)
 due_least H a p =
-    least_same (Sources H) (Due H) (sooner (at_once H.left) a) (is_due H) (is_source H)
-    (or_least (AtOnce H.left) (λ x. (i : ℕ) × SocketDue H i x) (at_once H.left) a (once_least H.left) (sockets_least H a p))
+    least_same (Sources H) (Due H) (soonest H a) (is_due H) (is_source H)
+    (or_least _ _ _ _ (once_least H.left) (or_least _ _ _ _ (exact_least (told_at Joining H)) (or_least _ _ _ _ (exact_least (told_at Leaving H)) (or_least _ _ _ _ (exact_least (igmp_instant H))
+    (or_least _ _ _ _ (exact_least (mld_timeout_of H.mld_report)) (sockets_least H a p))))))

@@ -26,6 +26,7 @@ pub mod Readings
 pub mod Shown
 pub mod TwoHosts
 pub mod Few
+mod Grouped
 mod Exchange
 pub mod Begun
 mod Answered

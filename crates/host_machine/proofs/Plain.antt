@@ -1,7 +1,7 @@
 -- What receiving a whole packet does, over either family: what laws read of the host stays, nothing is noted, and the reply is no packet
 -- of ARP.
 use Rattle.std.proofs.Common.{◌≡◌, ℕ, ◌≤◌, Bool, true, false, List, [], refl, ap, Option, Some, None, arith}
-use Rattle.std.specs.Prelude.{◌==◌, ◌||◌, ◌&&◌, not, drop, if◌then◌else◌}
+use Rattle.std.specs.Prelude.{pos, ◌+ℤ◌, ◌==◌, ◌||◌, ◌&&◌, not, drop, if◌then◌else◌}
 use Rattle.std.specs.Option.{option_map}
 use Rattle.std.specs.FinMap as map
 use Rattle.std.proofs.lemmas.Bool.Decides.{nat_tests}
@@ -32,7 +32,14 @@ use Rattle.icmpv6_wire.specs.declared.icmpv6.Icmpv6Repr.{Icmpv6Repr}
 use Rattle.icmpv6_wire.specs.declared.icmpv6.Icmpv6Repr.TheVariants as icmp
 use Rattle.icmpv6_wire.specs.declared.ndisc.NdiscRepr.{NdiscRepr}
 use Rattle.icmpv6_wire.specs.declared.ndisc.NdiscNeighborFlags.{NdiscNeighborFlags}
-use Rattle.icmpv6_wire.specs.Icmpv6.{IsIcmpv6, IsBody, Request, Reply as EchoReplied, Error, Neighbor, icmpv6_in, error_of, error_in, type_in, code_in, unreachable_of, problem_of}
+use Rattle.icmpv6_wire.specs.Icmpv6.{IsIcmpv6, IsBody, Request, Reply as EchoReplied, Error, Neighbor, Listener, icmpv6_in, error_of, error_in, type_in, code_in, unreachable_of, problem_of}
+use Rattle.group_wire.specs.Mld.{IsQuery, IsReport, mld_in}
+use Rattle.group_wire.specs.Igmp.{igmp_in}
+use Rattle.group_wire.specs.declared.igmp.IgmpRepr.{IgmpRepr}
+use Rattle.group_wire.specs.declared.igmp.IgmpRepr.TheVariants.{MembershipQuery, MembershipReport, LeaveGroup}
+use Rattle.group_wire.specs.declared.mld.MldRepr.{MldRepr}
+use Rattle.group_wire.specs.declared.mld.MldRepr.TheVariants.{Query, Report}
+use Rattle.host_machine.specs.Reports as reports
 use Rattle.icmpv6_wire.specs.Ndisc.{IsNdisc, IsLinkLayerAddr, lladdr_of, ndisc_in}
 use Rattle.icmpv6_wire.proofs.NdiscSix.{are_six}
 use Rattle.control_wire.specs.declared.icmpv4.Icmpv4Repr.{Icmpv4Repr}
@@ -136,12 +143,31 @@ icmpv4_plain {r} {H} (icmpv4.Taken i e n s) = placed _ (answered H.ip_addrs r _ 
 refused_v4 : {by_raw : Bool} {r : Ipv4Repr} {H new : Host} {octets : List ℕ} {reply : Option Reply} {notes : List Note} → ipv4.IsRefused by_raw r H octets reply notes new → IsPlain H reply notes new
 refused_v4 {by_raw} {r} {H} {new} {octets} i = replied _ (refusal by_raw H.ip_addrs _ r octets) i.replied i.unnoted i.unchanged
 
+asked_kept : (H : Host) (dst : Ipv4Address) (m : IgmpRepr) → Keeps H (reports.asked_by H dst m)
+asked_kept H dst (MembershipQuery code group) = unread refl refl
+asked_kept H dst (MembershipReport group version) = unread refl refl
+asked_kept H dst (LeaveGroup group) = unread refl refl
+
+igmp_plain : {r : Ipv4Repr} {H new : Host} {octets : List ℕ} {reply : Option Reply} {notes : List Note} → reports.TakesIgmp r H octets reply notes new → IsPlain H reply notes new
+igmp_plain (reports.Malformed m d) = dropped d
+igmp_plain {r} {H} {new} {octets} (reports.Taken i e n same) = record { by_ip = rw e tt; unnoted = n; keeps = kept_by same (asked_kept H r.dst_addr (igmp_in octets)) }
+
+mld_kept : (H : Host) (r : Ipv6Repr) (code : ℕ) (group : Ipv6Address) → Keeps H (reports.mld_asked H r code group)
+mld_kept H r code group = by (reports.is_near r) where
+  by : (b : Bool) → Keeps H (if b then record H { mld_report = reports.mld_report_for H r.dst_addr (H.moment +ℤ pos (reports.delay code H.random)) group; random = reports.drawn code H.random } else H)
+  by true = unread refl refl
+  by false = unread refl refl
+
+mld_plain : (r : Ipv6Repr) (m : MldRepr) (H : Host) (reply : Option Reply) (notes : List Note) (new : Host) → reports.TakesMld r m H reply notes new → IsPlain H reply notes new
+mld_plain r (Query code group) H reply notes new t = record { by_ip = rw t.0 tt; unnoted = t.1; keeps = kept_by t.2 (mld_kept H r code group) }
+mld_plain r (Report count) H reply notes new t = dropped t
+
 protocol_v4 : (p : IpProtocol) (by_raw : Bool) (r : Ipv4Repr) (H : Host) (octets : List ℕ) (reply : Option Reply) (notes : List Note) (new : Host) →
     ipv4.TakesProtocol p by_raw r H octets reply notes new → IsPlain H reply notes new
 protocol_v4 protocol.Icmp by_raw r H octets reply notes new t = icmpv4_plain t
 protocol_v4 protocol.Udp by_raw r H octets reply notes new t = udp_plain t
 protocol_v4 protocol.Tcp by_raw r H octets reply notes new t = tcp_plain t
-protocol_v4 protocol.Igmp by_raw r H octets reply notes new t = dropped t
+protocol_v4 protocol.Igmp by_raw r H octets reply notes new t = igmp_plain t
 protocol_v4 protocol.HopByHop by_raw r H octets reply notes new t = refused_v4 t
 protocol_v4 protocol.Icmpv6 by_raw r H octets reply notes new t = refused_v4 t
 protocol_v4 (protocol.Unknown n) by_raw r H octets reply notes new t = refused_v4 t
@@ -198,6 +224,7 @@ ndisc_plain six (ndisc.FromNeighbor own near mine h) = heard_plain six mine h
 -- a message to a neighbour that is read tells an address of six octets
 abbrev Tells : Icmpv6Repr → Type 0
 Tells (icmp.Ndisc message) = IsLinkLayerAddr (lladdr_of message)
+Tells (icmp.Mld message) = Unit {0}
 Tells (icmp.EchoRequest ident seq_no) = Unit {0}
 Tells (icmp.EchoReply ident seq_no) = Unit {0}
 Tells (icmp.DstUnreachable reason header) = Unit {0}
@@ -217,31 +244,39 @@ tells_error octets = by (type_in octets == 1) (type_in octets == 2) (type_in oct
   by false false true = tt
   by false false false = tt
 
-to_neighbor : (octets : List ℕ) → 135 ≤ type_in octets → IsBody octets → IsNdisc octets
-to_neighbor octets high (Request t c) = absurd (omega (arith, high, t))
-to_neighbor octets high (EchoReplied t c) = absurd (omega (arith, high, t))
-to_neighbor octets high (Error e) = let most = e.most in absurd (omega (arith, high, most))
-to_neighbor octets high (Neighbor n) = n
+to_neighbor : (octets : List ℕ) → 135 ≤ type_in octets → type_in octets ≤ 136 → IsBody octets → IsNdisc octets
+to_neighbor octets high low (Request t c) = absurd (omega (arith, high, t))
+to_neighbor octets high low (EchoReplied t c) = absurd (omega (arith, high, t))
+to_neighbor octets high low (Error e) = let most = e.most in absurd (omega (arith, high, most))
+to_neighbor octets high low (Neighbor n) = n
+to_neighbor octets high low (Listener (IsQuery t c l)) = absurd (omega (arith, high, t))
+to_neighbor octets high low (Listener (IsReport t c l)) = absurd (omega (arith, low, t))
 
 tells : (checked : Bool) (src dst : IpAddress) (octets : List ℕ) → IsIcmpv6 checked src dst octets → Tells (icmpv6_in octets).0
-tells checked src dst octets i = by (type_in octets == 128) (type_in octets == 129) (type_in octets == 135) (type_in octets == 136) refl refl where
-  by : (a b c d : Bool) → (type_in octets == 135) ≡ c → (type_in octets == 136) ≡ d → Tells (
-      if a then (icmp.EchoRequest (u16_at octets 4) (u16_at octets 6), drop 8 octets) else
-      if b then (icmp.EchoReply (u16_at octets 4) (u16_at octets 6), drop 8 octets) else
-      if c then (icmp.Ndisc (ndisc_in octets), []) else
-      if d then (icmp.Ndisc (ndisc_in octets), []) else
-      error_in octets).0
-  by true b c d e f = tt
-  by false true c d e f = tt
-  by false false true d e f = are_six octets (to_neighbor octets (grind (arith, nat_tests)) i.body)
-  by false false false true e f = are_six octets (to_neighbor octets (grind (arith, nat_tests)) i.body)
-  by false false false false e f = tells_error octets
+tells checked src dst octets i =
+    by (type_in octets == 128) (type_in octets == 129) (type_in octets == 135) (type_in octets == 136) (type_in octets == 130) (type_in octets == 143) refl refl where
+      by : (a b c d q r : Bool) → (type_in octets == 135) ≡ c → (type_in octets == 136) ≡ d → Tells (
+          if a then (icmp.EchoRequest (u16_at octets 4) (u16_at octets 6), drop 8 octets) else
+          if b then (icmp.EchoReply (u16_at octets 4) (u16_at octets 6), drop 8 octets) else
+          if c then (icmp.Ndisc (ndisc_in octets), []) else
+          if d then (icmp.Ndisc (ndisc_in octets), []) else
+          if q then (icmp.Mld (mld_in octets).0, (mld_in octets).1) else
+          if r then (icmp.Mld (mld_in octets).0, (mld_in octets).1) else
+          error_in octets).0
+      by true b c d q r e f = tt
+      by false true c d q r e f = tt
+      by false false true d q r e f = are_six octets (to_neighbor octets (grind (arith, nat_tests)) (grind (arith, nat_tests)) i.body)
+      by false false false true q r e f = are_six octets (to_neighbor octets (grind (arith, nat_tests)) (grind (arith, nat_tests)) i.body)
+      by false false false false true r e f = tt
+      by false false false false false true e f = tt
+      by false false false false false false e f = tells_error octets
 
 -- ICMP for IPv6
 message_plain : (r : Ipv6Repr) (m : Icmpv6Repr) (octets : List ℕ) (H : Host) (reply : Option Reply) (notes : List Note) (new : Host) → Tells m →
     TakesMessage r m octets H reply notes new → IsPlain H reply notes new
 message_plain r (icmp.EchoRequest ident seq_no) octets H reply notes new six t = replied (Some _) tt t.0 t.1 t.2
 message_plain r (icmp.Ndisc message) octets H reply notes new six t = ndisc_plain six t
+message_plain r (icmp.Mld message) octets H reply notes new six t = mld_plain r message H reply notes new t
 message_plain r (icmp.EchoReply ident seq_no) octets H reply notes new six t = dropped t
 message_plain r (icmp.DstUnreachable reason header) octets H reply notes new six t = dropped t
 message_plain r (icmp.PktTooBig mtu header) octets H reply notes new six t = dropped t

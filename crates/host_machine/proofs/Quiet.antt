@@ -36,7 +36,17 @@ use Rattle.host_machine.specs.Egress.{Round, SendsPiece, packet_of, packet_from,
 use Rattle.host_machine.specs.Egress as egress
 use Rattle.host_machine.specs.Polling.{maintained, Repeats, Until, Spent, Done, Polls}
 use Rattle.host_machine.specs.Polling as polling
-use Rattle.host_machine.specs.Due.{Due, OfPiece, OfSocket, AtOnce, SocketDue, IsLeast, instant_of}
+use Rattle.host_machine.specs.Due.{Due, OfPiece, OfJoin, OfLeave, OfIgmpReport, OfMldReport, OfSocket, AtOnce, SocketDue, IsLeast, instant_of, told_at}
+use Rattle.std.specs.Ordering.{int_cmp, is_lt}
+use Rattle.ip_address.specs.declared.cidr.IpCidr.{IpCidr}
+use Rattle.group_table.specs.declared.groups.Group.{Group}
+use Rattle.group_table.specs.declared.groups.GroupState.{GroupState}
+use Rattle.group_table.specs.declared.report.IgmpReportState.TheVariants as igmp
+use Rattle.group_table.specs.Groups.{first_in}
+use Rattle.host_machine.specs.Packet.{Packet}
+use Rattle.host_machine.specs.Multicast as multicast
+use Rattle.host_machine.specs.Reports as reports
+use Rattle.host_machine.specs.Reports.{SendsIgmpReport, SendsMldReport, igmp_instant, mld_timeout_of, timeout_of, has_come, with_igmp_report}
 use Rattle.host_machine.specs.Step.{Act, Step}
 use Rattle.host_machine.specs.Step as step
 use Rattle.host_machine.specs.Run.{Place, Run, Ends, Then}
@@ -51,7 +61,7 @@ with_waits H waits = record H { sockets = record H.sockets { waits = waits } }
 
 -- with what may change while nothing is disturbed, as another host has it
 abbrev altered : Host → Host → Host
-altered H K = record H { slots = K.slots; reassembly_timeout = K.reassembly_timeout; sockets = record H.sockets { waits = K.sockets.waits } }
+altered H K = record H { slots = K.slots; reassembly_timeout = K.reassembly_timeout; igmp_report = K.igmp_report; sockets = record H.sockets { waits = K.sockets.waits } }
 
 -- what is due, as seen at t0, is due after s
 abbrev NoneDue : Host → ℤ → ℤ → Type 0
@@ -195,13 +205,18 @@ due_by H t0 i was is told x j d (inr other) =
 -- what is due where slots and waits are others: by cases, of which only the last reads those
 due_altered : (H : Host) (t0 x : ℤ) (K : Host) →
     ((j : ℕ) → SocketDue (at (altered H K) t0) j x → SocketDue (at H t0) j x) →
+    (igmp_instant (at (altered H K) t0) ≡ Some x → igmp_instant (at H t0) ≡ Some x) →
     Due (at (altered H K) t0) x → Due (at H t0) x
-due_altered H t0 x K of_socket (OfPiece d) = OfPiece d
-due_altered H t0 x K of_socket (OfSocket j d) = OfSocket j (of_socket j d)
+due_altered H t0 x K of_socket of_report (OfPiece d) = OfPiece d
+due_altered H t0 x K of_socket of_report (OfJoin d) = OfJoin d
+due_altered H t0 x K of_socket of_report (OfLeave d) = OfLeave d
+due_altered H t0 x K of_socket of_report (OfIgmpReport d) = OfIgmpReport (of_report d)
+due_altered H t0 x K of_socket of_report (OfMldReport d) = OfMldReport d
+due_altered H t0 x K of_socket of_report (OfSocket j d) = OfSocket j (of_socket j d)
 
 due_cleared : (H : Host) (t0 : ℤ) (i : ℕ) (was : Bool) → was ≡ true → IsTold (KnowsNextHop (at H t0)) (wait_at H.sockets i) was →
     (x : ℤ) → Due (at (with_waits H (slice_set H.sockets.waits i None)) t0) x → Due (at H t0) x
-due_cleared H t0 i was is told x d = due_altered H t0 x (with_waits H (slice_set H.sockets.waits i None)) (λ j d. due_by H t0 i was is told x j d (cases_eq j i)) d
+due_cleared H t0 i was is told x d = due_altered H t0 x (with_waits H (slice_set H.sockets.waits i None)) (λ j d. due_by H t0 i was is told x j d (cases_eq j i)) (λ e. e) d
 
 -- where slots expire, or another timeout is set
 abbrev timed : Host → Slots → ℕ → Host
@@ -217,7 +232,17 @@ socket_still H t0 slots timeout x j d = record {
 }
 
 due_timed : (H : Host) (t0 x : ℤ) (slots : Slots) (timeout : ℕ) → Due (at (timed H slots timeout) t0) x → Due (at H t0) x
-due_timed H t0 x slots timeout d = due_altered H t0 x (timed H slots timeout) (socket_still H t0 slots timeout x) d
+due_timed H t0 x slots timeout d = due_altered H t0 x (timed H slots timeout) (socket_still H t0 slots timeout x) (λ e. e) d
+
+-- where another report of IGMP is to go
+reported_still : (H : Host) (t0 x : ℤ) (j : ℕ) → SocketDue (at (with_igmp_report H igmp.Inactive) t0) j x → SocketDue (at H t0) j x
+reported_still H t0 x j d = record {
+  socket = d.socket;
+  known = d.known;
+  here = d.here;
+  told = told_on H (with_igmp_report H igmp.Inactive) t0 (get_or H.sockets.waits j None) d.known d.told;
+  instant = d.instant;
+}
 
 unended : (w : Wait) → after_asking w false ≡ w
 unended None = refl
@@ -313,6 +338,61 @@ piece_still t0 old new told notes r (egress.NoPiece l t n e) = stays t0 e (ap se
 piece_still t0 old new told notes r (egress.NoLeave piece rest l t n e) = absurd (at_once r (OfPiece (waits l)))
 piece_still t0 old new told notes r (egress.PieceGoes piece rest l t n e) = absurd (at_once r (OfPiece (waits l)))
 
+-- nobody is told of a group where none is in that state
+untold : {state : GroupState} {packet_for : List IpCidr → IpAddress → Option Packet} {told_of : List Group → IpAddress → List Group} {old new : Host} {going : Bool} {told : List Event} {notes : List Note} →
+    first_in state old.groups ≡ None → multicast.Tells state packet_for told_of old going told notes new → (new ≡ old) × (told ≡ [])
+untold none multicast.Begins = (refl, refl)
+untold {state} none (multicast.Silently {mid = mid} a w f p) = let before = untold none w in absurd (let same : first_in state mid.groups ≡ None = rw before.0 none in cc)
+untold {state} none (multicast.Refused {mid = mid} a p w f q) = let before = untold none w in absurd (let same : first_in state mid.groups ≡ None = rw before.0 none in cc)
+untold {state} none (multicast.Told {mid = mid} a p outcome frames more new w f q d) = let before = untold none w in absurd (let same : first_in state mid.groups ≡ None = rw before.0 none in cc)
+
+all_still : {state : GroupState} {packet_for : List IpCidr → IpAddress → Option Packet} {told_of : List Group → IpAddress → List Group} (t0 : ℤ) →
+    ((H : Host) → told_at state H ≡ Some (pos 0) → Due H (pos 0)) → IsStill t0 (multicast.TellsAll state packet_for told_of)
+all_still {state} {packet_for} {told_of} t0 is_due old new told notes r p = by (first_in state old.groups) refl where
+  of : (going : Bool) → multicast.Tells state packet_for told_of old going told notes new → first_in state old.groups ≡ None → Stays t0 old new told
+  of going w none = let u = untold none w in stays t0 u.0 (ap sent u.1)
+
+  walk : multicast.TellsAll state packet_for told_of old told notes new → first_in state old.groups ≡ None → Stays t0 old new told
+  walk (multicast.All w n) none = of true w none
+  walk (multicast.UpToRefusal w) none = of false w none
+
+  by : (o : Option IpAddress) → first_in state old.groups ≡ o → Stays t0 old new told
+  by None e = walk p e
+  by (Some a) e = absurd (at_once r (is_due (at old t0) (rw e refl)))
+
+-- a moment that has come isn't before the instant
+come : (t now : ℤ) → has_come (Some t) now ≡ true → now <ℤ t → ⊥
+come t now h before = absurd (let e : is_lt (int_cmp now t) ≡ true = rw (← int_cmp_is now t Less before) refl in let g : has_come (Some t) now ≡ false = rw e refl in cc)
+
+-- nothing is due whose moment has come
+not_come : {t0 : ℤ} {H : Host} (o : Option ℤ) → Rests t0 H → ((x : ℤ) → o ≡ Some x → Due (at H t0) x) → has_come o H.moment ≡ true → ⊥
+not_come None r due h = absurd cc
+not_come {t0} {H} (Some t) r due h = come t H.moment h (r.none t (due t refl))
+
+igmp_still : (t0 : ℤ) → IsStill t0 SendsIgmpReport
+igmp_still t0 old new told notes r (reports.NotDue h t n e) = stays t0 e (ap sent t)
+igmp_still t0 old new told notes r (reports.NoFurtherGroup h g t n e) = rw (e, t) (record {
+  moment = refl;
+  routes = refl;
+  places = refl;
+  due = λ x d. due_altered old t0 x (with_igmp_report old igmp.Inactive) (λ j s. reported_still old t0 x j s) (λ i. absurd cc) d;
+  silent = refl;
+})
+igmp_still t0 old new told notes r (reports.NoAddress next h g a t n e) = stays t0 e (ap sent t)
+igmp_still t0 old new told notes r (reports.NoLeave p h q t n e) = absurd (not_come (timeout_of old.igmp_report) r (λ x i. OfIgmpReport (rw q i)) h)
+igmp_still t0 old new told notes r (reports.Sent p outcome frames mid h q d t e) = absurd (not_come (timeout_of old.igmp_report) r (λ x i. OfIgmpReport (rw q i)) h)
+
+mld_still : (t0 : ℤ) → IsStill t0 SendsMldReport
+mld_still t0 old new told notes r (reports.NotYet h t n e) = stays t0 e (ap sent t)
+mld_still t0 old new told notes r (reports.GivenUp h t n e) = absurd (not_come (mld_timeout_of old.mld_report) r (λ x i. OfMldReport i) h)
+mld_still t0 old new told notes r (reports.ReportGoes outcome frames mid h d t e) = absurd (not_come (mld_timeout_of old.mld_report) r (λ x i. OfMldReport i) h)
+
+both_still : {t0 : ℤ} {one two : Part} → IsStill t0 one → IsStill t0 two → IsStill t0 (Both one two)
+both_still {t0} first second old new told notes r b =
+    let one = first old b.mid b.told_one b.notes_one r b.begins in
+    let two = second b.mid new b.told_two b.notes_two (rests_on one r) b.ends in
+    subst (λ (es : List Event). Stays t0 old new es) (sym b.events) (stays_on one two)
+
 -- the same of what ends with the sockets
 abbrev IsWalked : ℤ → Bool → Part → Type 0
 IsWalked t0 changed part = (old new : Host) (told : List Event) (notes : List Note) → Rests t0 old → part old told notes new → Walked t0 changed old new told
@@ -324,7 +404,9 @@ both_walked {t0} {changed} still walked old new told notes r b =
     record { unchanged = rest.unchanged; stays = subst (λ (es : List Event). Stays t0 old new es) (sym b.events) (stays_on first rest.stays) }
 
 round_quiet : (t0 : ℤ) (changed : Bool) → IsWalked t0 changed (Round changed)
-round_quiet t0 changed = both_walked (piece_still t0) (λ old new told notes r w. sockets_quiet r w)
+round_quiet t0 changed =
+    both_walked (piece_still t0) (both_walked (all_still t0 (λ H e. OfJoin e)) (both_walked (all_still t0 (λ H e. OfLeave e)) (both_walked (igmp_still t0) (both_walked (mld_still t0)
+    (λ old new told notes r w. sockets_quiet r w)))))
 
 -- slots that have ended are dropped
 swept_still : (t0 : ℤ) (H : Host) → Stays t0 H (swept H H.moment) []
@@ -463,6 +545,8 @@ step_quiet {answer = given} t0 end low due calm none step.AddedDefaultIpv4Route 
 step_quiet {answer = given} t0 end low due calm none step.RemovedDefaultIpv4Route = unchanged given tt calm
 step_quiet {answer = given} t0 end low due calm none step.AddedDefaultIpv6Route = unchanged given tt calm
 step_quiet {answer = given} t0 end low due calm none step.RemovedDefaultIpv6Route = unchanged given tt calm
+step_quiet t0 end low due calm none (step.JoinedGroup {result = result} j) = unchanged (answer.JoinMulticastGroup result) tt calm
+step_quiet t0 end low due calm none (step.LeftGroup {result = result} j) = unchanged (answer.LeaveMulticastGroup result) tt calm
 step_quiet t0 end low due calm none step.TookAnyIp = unchanged answer.SetAnyIp tt calm
 step_quiet t0 end low due calm none (step.TookHardwareAddr {result = result} s) = unchanged (answer.SetHardwareAddr result) tt calm
 step_quiet t0 end low due calm none (step.TookReassemblyTimeout {result = result} s) = timeout_still (answer.SetReassemblyTimeout result) tt s
@@ -491,6 +575,8 @@ quiet_after step.AddedDefaultIpv4Route r = tt
 quiet_after step.RemovedDefaultIpv4Route r = tt
 quiet_after step.AddedDefaultIpv6Route r = tt
 quiet_after step.RemovedDefaultIpv6Route r = tt
+quiet_after (step.JoinedGroup j) r = tt
+quiet_after (step.LeftGroup j) r = tt
 quiet_after step.TookAnyIp r = tt
 quiet_after (step.TookHardwareAddr s) r = tt
 quiet_after (step.TookReassemblyTimeout s) r = tt

@@ -38,6 +38,7 @@ use Rattle.ip_address.specs.EthernetAddress.{broadcast}
 use Rattle.ip_address.specs.Hardware.{is_unicast}
 use Rattle.host_machine.specs.Config.{same_medium, hardware_refusal_of}
 use Rattle.host_machine.specs.declared.results.HardwareError.TheVariants.{WrongMedium, NotUnicast}
+use Rattle.host_machine.proofs.Grouped.{join_groups, leave_groups}
 use Rattle.host_machine.specs.Host.{Host, swept, with_left, with_neighbors}
 use Rattle.host_machine.specs.Addresses.{is_broadcast_v4}
 use Rattle.host_machine.specs.Packet.{Packet, PacketV4}
@@ -302,6 +303,8 @@ stepped {old = old} step.AddedDefaultIpv4Route six real = stays old [] [] _ Noth
 stepped {old = old} step.RemovedDefaultIpv4Route six real = stays old [] [] _ Nothing refl refl refl real
 stepped {old = old} step.AddedDefaultIpv6Route six real = stays old [] [] _ Nothing refl refl refl real
 stepped {old = old} step.RemovedDefaultIpv6Route six real = stays old [] [] _ Nothing refl refl refl real
+stepped {old = old} (step.JoinedGroup j) six real = let g = join_groups j in rw g.1 (stays old [] [] _ Nothing refl refl refl real)
+stepped {old = old} (step.LeftGroup j) six real = let g = leave_groups j in rw g.1 (stays old [] [] _ Nothing refl refl refl real)
 stepped {old = old} step.TookAnyIp six real = stays old [] [] _ Nothing refl refl refl real
 stepped (step.TookHardwareAddr s) six real = sets six s real
 stepped (step.TookReassemblyTimeout s) six real = lasts s real

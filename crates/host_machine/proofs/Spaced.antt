@@ -13,14 +13,9 @@ use Rattle.iface_tables.specs.declared.neighbor.Answer.TheVariants.{Found, NotFo
 use Rattle.iface_tables.specs.Neighbor.{answer_of, answer_from, missing}
 use Rattle.host_machine.specs.Dispatch.{silenced}
 use Rattle.host_machine.specs.Host.{Host, with_neighbors}
-use Rattle.ip_address.specs.declared.ethernet_address.EthernetAddress.{EthernetAddress}
-use Rattle.ip_address.specs.declared.hardware.HardwareAddress.TheVariants as hardware
-use Rattle.ip_address.specs.declared.ipv4.Ipv4Address.{Ipv4Address}
 use Rattle.fragmentation.specs.Fragments.{Fragment}
 use Rattle.fragmentation.specs.declared.key.FragKey.{FragKey}
 use Rattle.host_machine.specs.Reassembly.{TakesFragment}
-use Rattle.host_machine.specs.Frame.{arp_frame}
-use Rattle.host_machine.specs.Arp.{request_for}
 use Rattle.host_machine.specs.Note.{Note, OfDiscovery, Ask, asks}
 use Rattle.host_machine.specs.Run.{AreSpaced, Place, Run, notes_in}
 use Rattle.host_machine.proofs.Notes.{asks-append, asks-slots}

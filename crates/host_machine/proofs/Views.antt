@@ -22,6 +22,7 @@ use Rattle.fragmentation.specs.declared.key.FragKey.{FragKey}
 use Rattle.fragmentation.specs.Slots.{left_at}
 use Rattle.fragmentation.specs.Reassembly.{Reassembles}
 use Rattle.host_machine.specs.Note.{Note, slot_notes}
+use Rattle.host_machine.proofs.Grouped.{join_groups, leave_groups}
 use Rattle.host_machine.specs.Host.{Host, Socket, at, swept}
 use Rattle.host_machine.specs.Packet.{Packet}
 use Rattle.host_machine.specs.Reply.{Reply, Arp, Ip, IsDropped}
@@ -45,7 +46,15 @@ use Rattle.host_machine.specs.Arrivals.{slots_then}
 use Rattle.net_base.specs.declared.phy.Medium.TheVariants as medium
 use Rattle.ip_address.specs.Hardware.{IsOf}
 use Rattle.host_machine.specs.Frames.{Carries, OverEthernet, AsItStands, Brings}
-use Rattle.host_machine.specs.Parts.{Part}
+use Rattle.host_machine.specs.Parts.{Part, Both}
+use Rattle.ip_address.specs.declared.cidr.IpCidr.{IpCidr}
+use Rattle.ip_address.specs.declared.ip.IpAddress.{IpAddress}
+use Rattle.host_machine.specs.Packet.{Packet}
+use Rattle.group_table.specs.declared.groups.Group.{Group}
+use Rattle.group_table.specs.declared.groups.GroupState.{GroupState}
+use Rattle.host_machine.specs.Multicast as multicast
+use Rattle.host_machine.specs.Reports as reports
+use Rattle.host_machine.specs.Reports.{SendsIgmpReport, SendsMldReport}
 use Rattle.host_machine.proofs.Repeated.{both}
 use Rattle.host_machine.specs.Unfolded.{IsSingle}
 use Rattle.host_machine.proofs.Notes.{slot_notes-append, slot_notes-slots}
@@ -297,13 +306,43 @@ piece_hands_none (egress.NoPiece l t n e) = ap handed t
 piece_hands_none (egress.NoLeave piece rest l t n e) = ap handed t
 piece_hands_none (egress.PieceGoes piece rest l t n e) = ap handed t
 
+groups_hand_none : {state : GroupState} {packet_for : List IpCidr → IpAddress → Option Packet} {told_of : List Group → IpAddress → List Group} {old new : Host} {going : Bool} {told : List Event} {notes : List Note} →
+    multicast.Tells state packet_for told_of old going told notes new → handed told ≡ []
+groups_hand_none multicast.Begins = refl
+groups_hand_none (multicast.Silently a w f p) = groups_hand_none w
+groups_hand_none (multicast.Refused {told = told} {mid = mid} a p w f q) = handed-append told (Asked mid.moment false ∷ []) ∙ rw (groups_hand_none w) refl
+groups_hand_none (multicast.Told {told = told} {mid = mid} a p outcome frames more new w f q d) = handed-append told (Asked mid.moment true ∷ sends frames) ∙ rw (groups_hand_none w) (handed-sends frames)
+
+all_hand_none : {state : GroupState} {packet_for : List IpCidr → IpAddress → Option Packet} {told_of : List Group → IpAddress → List Group} {old new : Host} {told : List Event} {notes : List Note} →
+    multicast.TellsAll state packet_for told_of old told notes new → handed told ≡ []
+all_hand_none (multicast.All w n) = groups_hand_none w
+all_hand_none (multicast.UpToRefusal w) = groups_hand_none w
+
+igmp_hands_none : {H new : Host} {told : List Event} {notes : List Note} → SendsIgmpReport H told notes new → handed told ≡ []
+igmp_hands_none (reports.NotDue h t n e) = ap handed t
+igmp_hands_none (reports.NoFurtherGroup h g t n e) = ap handed t
+igmp_hands_none (reports.NoAddress next h g a t n e) = ap handed t
+igmp_hands_none (reports.NoLeave p h r t n e) = ap handed t
+igmp_hands_none (reports.Sent p outcome frames mid h r d t e) = ap handed t ∙ handed-sends frames
+
+mld_hands_none : {H new : Host} {told : List Event} {notes : List Note} → SendsMldReport H told notes new → handed told ≡ []
+mld_hands_none (reports.NotYet h t n e) = ap handed t
+mld_hands_none (reports.GivenUp h t n e) = ap handed t
+mld_hands_none (reports.ReportGoes outcome frames mid h d t e) = ap handed t ∙ handed-sends frames
+
 -- each part of a round, in order
 abbrev HandsNone : Part
 HandsNone old told notes new = handed told ≡ []
 
+hand_on : {one two : Part} → ((old new : Host) (told : List Event) (notes : List Note) → one old told notes new → HandsNone old told notes new) →
+    ((old new : Host) (told : List Event) (notes : List Note) → two old told notes new → HandsNone old told notes new) →
+    (old new : Host) (told : List Event) (notes : List Note) → Both one two old told notes new → HandsNone old told notes new
+hand_on = both HandsNone (λ H. refl) (λ a b c ts us xs ys one two. handed-append ts us ∙ rw (one, two) refl)
+
 pub egress_hands_none : {t : ℤ} {answer : _} {old new : Host} {told : List Event} {notes : List Note} → Egress t answer old told notes new → handed told ≡ []
 egress_hands_none {t} {answer} {old} {new} {told} {notes} e =
-    both HandsNone (λ H. refl) (λ a b c ts us xs ys one two. handed-append ts us ∙ rw (one, two) refl) (λ o n ts xs p. piece_hands_none p) (λ o n ts xs p. sockets_hand_none p)
+    hand_on (λ o n ts xs p. piece_hands_none p) (hand_on (λ o n ts xs p. all_hand_none p) (hand_on (λ o n ts xs p. all_hand_none p)
+    (hand_on (λ o n ts xs p. igmp_hands_none p) (hand_on (λ o n ts xs p. mld_hands_none p) (λ o n ts xs p. sockets_hand_none p)))))
     (at old t) new told notes e.round
 
 -- what one step does to the slots
@@ -365,6 +404,8 @@ step_view single step.AddedDefaultIpv4Route = quiet_view refl refl refl
 step_view single step.RemovedDefaultIpv4Route = quiet_view refl refl refl
 step_view single step.AddedDefaultIpv6Route = quiet_view refl refl refl
 step_view single step.RemovedDefaultIpv6Route = quiet_view refl refl refl
+step_view single (step.JoinedGroup j) = quiet_view refl refl (ap (λ (K : Host). K.slots) (join_groups j).1)
+step_view single (step.LeftGroup j) = quiet_view refl refl (ap (λ (K : Host). K.slots) (leave_groups j).1)
 step_view single step.TookAnyIp = quiet_view refl refl refl
 step_view single (step.TookHardwareAddr s) = quiet_view refl refl (sets_slots s)
 step_view single (step.TookReassemblyTimeout s) = quiet_view refl refl (timeout_slots s)

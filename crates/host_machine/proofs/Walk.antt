@@ -1,8 +1,8 @@
 -- A law on what is noted, from the leaves of a step to whole runs.
-use Rattle.std.proofs.Common.{◌≡◌, ℕ, List, [], ◌∷◌, ◌++◌, refl, ◌∙◌, ap, subst, Option, Some, None, arith}
+use Rattle.std.proofs.Common.{◌≡◌, ℕ, List, [], ◌∷◌, ◌++◌, refl, ap, subst, Option, Some, None, arith}
 use Rattle.std.proofs.lemmas.Bool.Decides.{nat_tests}
 use Rattle.std.proofs.lemmas.List.{append-nil}
-use Rattle.std.specs.Prelude.{ℤ, Bool, true, if◌then◌else◌}
+use Rattle.std.specs.Prelude.{ℤ, Bool, true}
 use Rattle.std.specs.FinMap as map
 use Rattle.net_base.specs.Device.{Event, Reception, Frame, Nothing, Withheld, Received, Asked, Sent, sent}
 use Rattle.ip_address.specs.declared.cidr.IpCidr.{IpCidr}
@@ -36,7 +36,13 @@ use Rattle.host_machine.specs.Reassembly.{TakesFragment}
 use Rattle.ip_address.specs.Hardware.{IsOf}
 use Rattle.host_machine.proofs.Six.{filled_of, arp_source_of}
 use Rattle.host_machine.specs.Note.{Note, OfDiscovery, OfIdentification, OfCuts, Ask, Identify, Cut, PieceSent}
-use Rattle.host_machine.specs.Host.{Host, Socket, swept, with_left, with_neighbors}
+use Rattle.group_table.specs.declared.groups.Group.{Group}
+use Rattle.group_table.specs.declared.groups.GroupState.{GroupState}
+use Rattle.host_machine.specs.Multicast as multicast
+use Rattle.host_machine.specs.Reports as reports
+use Rattle.host_machine.specs.Reports.{SendsIgmpReport, SendsMldReport}
+use Rattle.host_machine.proofs.Grouped.{join_groups, leave_groups}
+use Rattle.host_machine.specs.Host.{Host, Socket, swept, with_groups, with_left, with_neighbors}
 use Rattle.host_machine.specs.Packet.{Packet, PacketV4}
 use Rattle.host_machine.specs.Reply.{Reply, Arp, Ip, IsDropped}
 use Rattle.host_machine.specs.Frame.{arp_frame, ip_frame, piece_frame}
@@ -252,9 +258,39 @@ module _ (Law : Host → List (List ℕ) → List Note → Host → Type 0)
       piece_sent (egress.NoLeave piece rest l t n e) = keeping (ap sent t) n (kept e)
       piece_sent {H} {new} {told} {notes} (egress.PieceGoes piece rest l t n e) = rw (t, n, e) (pieces H piece rest l)
 
+      -- groups that are told of
+      groups_told : {state : GroupState} {packet_for : List IpCidr → IpAddress → Option Packet} {told_of : List Group → IpAddress → List Group} {old new : Host} {going : Bool} {told : List Event} {notes : List Note} →
+          multicast.Tells state packet_for told_of old going told notes new → Law old (sent told) notes new
+      groups_told multicast.Begins = keeping refl refl (kept refl)
+      groups_told (multicast.Silently a w f p) = before (groups_told w) (unread refl refl)
+      groups_told (multicast.Refused {told = told} a p w f q) = rw (sent-append, append-nil) (groups_told w)
+      groups_told {told_of = told_of} {old = old} (multicast.Told {told = told} {notes = notes} {mid = mid} a p outcome frames more new w f q d) =
+          rw (sent-append, sent-sends frames) (on old mid (with_groups new (told_of new.groups a)) (sent told) frames notes more (groups_told w) (before (dispatched d) (unread refl refl)))
+
+      all_told : {state : GroupState} {packet_for : List IpCidr → IpAddress → Option Packet} {told_of : List Group → IpAddress → List Group} {old new : Host} {told : List Event} {notes : List Note} →
+          multicast.TellsAll state packet_for told_of old told notes new → Law old (sent told) notes new
+      all_told (multicast.All w n) = groups_told w
+      all_told (multicast.UpToRefusal w) = groups_told w
+
+      igmp_sent : {H new : Host} {told : List Event} {notes : List Note} → SendsIgmpReport H told notes new → Law H (sent told) notes new
+      igmp_sent (reports.NotDue h t n e) = keeping (ap sent t) n (kept e)
+      igmp_sent (reports.NoFurtherGroup h g t n e) = keeping (ap sent t) n (kept_by e (unread refl refl))
+      igmp_sent (reports.NoAddress next h g a t n e) = keeping (ap sent t) n (kept e)
+      igmp_sent (reports.NoLeave p h r t n e) = keeping (ap sent t) n (kept e)
+      igmp_sent (reports.Sent p outcome frames mid h r d t e) = rw (t, sent-sends frames) (before (dispatched d) (kept_by e (unread refl refl)))
+
+      mld_sent : {H new : Host} {told : List Event} {notes : List Note} → SendsMldReport H told notes new → Law H (sent told) notes new
+      mld_sent (reports.NotYet h t n e) = keeping (ap sent t) n (kept e)
+      mld_sent (reports.GivenUp h t n e) = keeping (ap sent t) n (kept_by e (unread refl refl))
+      mld_sent (reports.ReportGoes outcome frames mid h d t e) = rw (t, sent-sends frames) (before (dispatched d) (kept_by e (unread refl refl)))
+
       -- each part of a round, in order
       round : {changed : Bool} {old new : Host} {told : List Event} {notes : List Note} → Round changed old told notes new → Law old (sent told) notes new
-      round {changed} {old} {new} {told} {notes} r = both EventLaw begins follows (λ o n t ns p. piece_sent p) (λ o n t ns p. sockets_sent p) old new told notes r
+      round {changed} {old} {new} {told} {notes} r = both EventLaw begins follows (λ o n t ns p. piece_sent p)
+          (both EventLaw begins follows (λ o n t ns p. all_told p)
+          (both EventLaw begins follows (λ o n t ns p. all_told p)
+          (both EventLaw begins follows (λ o n t ns p. igmp_sent p)
+          (both EventLaw begins follows (λ o n t ns p. mld_sent p) (λ o n t ns p. sockets_sent p))))) old new told notes r
 
       pub egressed : {t : ℤ} {answer : PollResult} {old new : Host} {told : List Event} {notes : List Note} → Egress t answer old told notes new → Law old (sent told) notes new
       egressed e = after (unread refl refl) (round e.round)
@@ -288,7 +324,7 @@ module _ (Law : Host → List (List ℕ) → List Note → Host → Type 0)
         same e n = keeping refl refl (unread e n)
 
         pub stepped : {command : Command} {answer : Answer} {old new : Host} {told : List Event} {acts : List Act} {notes : List Note} → Step command answer old told acts notes new → Law old (sent told) notes new
-        stepped {old = old} (step.UpdatedIpAddrs {list = list} (Accepted a r e)) = rw e (moves old list.items)
+        stepped {old = old} (step.UpdatedIpAddrs {list = list} (Accepted a r e)) = rw e (before (moves old list.items) (unread refl refl))
         stepped (step.UpdatedIpAddrs (Refused a r e)) = keeping refl refl (kept e)
         stepped (step.PolledIngressSingle i) = ingress i
         stepped (step.PolledEgress e) = egressed pieces e
@@ -301,6 +337,8 @@ module _ (Law : Host → List (List ℕ) → List Note → Host → Type 0)
         stepped step.RemovedDefaultIpv4Route = same refl refl
         stepped step.AddedDefaultIpv6Route = same refl refl
         stepped step.RemovedDefaultIpv6Route = same refl refl
+        stepped (step.JoinedGroup j) = let g = join_groups j in rw g.1 (same refl refl)
+        stepped (step.LeftGroup j) = let g = leave_groups j in rw g.1 (same refl refl)
         stepped step.TookAnyIp = same refl refl
         stepped {old = old} (step.TookHardwareAddr {h = h} (Taken a r e)) = rw e (sets old h)
         stepped (step.TookHardwareAddr (NotTaken error a r e)) = keeping refl refl (kept e)

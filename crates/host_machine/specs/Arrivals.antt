@@ -9,7 +9,7 @@ use Rattle.fragmentation.specs.Slots.{Slot, Slots, left_at}
 use Rattle.fragmentation.specs.Reassembly.{SlotNote, Take, Came, Rebuild}
 use Rattle.fragmentation.specs.Cuts.{cut}
 use Rattle.host_machine.specs.declared.command.Command.{Command}
-use Rattle.host_machine.specs.declared.command.Command.TheVariants.{UpdateIpAddrs, PollIngressSingle, PollEgress, Poll, PollMaintenance, PollAt, PollDelay, UpdateRoutes, AddDefaultIpv4Route, RemoveDefaultIpv4Route, AddDefaultIpv6Route, RemoveDefaultIpv6Route, SetAnyIp, SetHardwareAddr, SetReassemblyTimeout, Owner}
+use Rattle.host_machine.specs.declared.command.Command.TheVariants.{UpdateIpAddrs, PollIngressSingle, PollEgress, Poll, PollMaintenance, PollAt, PollDelay, UpdateRoutes, AddDefaultIpv4Route, RemoveDefaultIpv4Route, AddDefaultIpv6Route, RemoveDefaultIpv6Route, JoinMulticastGroup, LeaveMulticastGroup, SetAnyIp, SetHardwareAddr, SetReassemblyTimeout, Owner}
 use Rattle.host_machine.specs.Note.{slot_notes}
 use Rattle.host_machine.specs.Host.{Host}
 use Rattle.host_machine.specs.Run.{Place, Run, notes_in}
@@ -48,6 +48,8 @@ sweeps_at (AddDefaultIpv4Route gateway) = None
 sweeps_at RemoveDefaultIpv4Route = None
 sweeps_at (AddDefaultIpv6Route gateway) = None
 sweeps_at RemoveDefaultIpv6Route = None
+sweeps_at (JoinMulticastGroup group) = None
+sweeps_at (LeaveMulticastGroup group) = None
 sweeps_at (SetAnyIp any_ip) = None
 sweeps_at (SetHardwareAddr h) = None
 sweeps_at (SetReassemblyTimeout timeout) = None

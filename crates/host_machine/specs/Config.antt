@@ -14,6 +14,8 @@ use Rattle.host_machine.specs.declared.results.HardwareError.TheVariants.{WrongM
 use Rattle.host_machine.specs.declared.results.HardwareError.TheVariants as hardware_error
 use Rattle.host_machine.specs.declared.results.NewError.{NewError}
 use Rattle.host_machine.specs.declared.results.NewError.TheVariants.{MediumMismatch, NotUnicast, MtuTooSmall, MtuTooLarge}
+use Rattle.group_table.specs.declared.report.IgmpReportState.TheVariants as igmp
+use Rattle.group_table.specs.declared.report.MldReportState.TheVariants as mld
 use Rattle.host_machine.specs.Host.{Host, SocketSet}
 
 abbrev pub same_medium : Medium → Medium → Bool
@@ -35,7 +37,8 @@ refusal_of c h =
 abbrev pub first_id : ℕ → ℕ
 first_id seed = if next seed / 2 ^ 48 == 0 then 1 else next seed / 2 ^ 48
 
--- a host at first: no address, no route, no neighbour, no silence, no fragment, nothing left to send; slots stand for 60 s (RFC 1122 3.3.2)
+-- a host at first: no address, no route, no neighbour, no silence, no fragment, nothing left to send, no group; slots stand for 60 s (RFC
+-- 1122 3.3.2), and one word was drawn from its source of random words
 abbrev pub first_host : DeviceCapabilities → HardwareAddress → ℕ → ℤ → SocketSet → Host
 first_host c h seed t sockets = record {
   capabilities = c;
@@ -49,6 +52,10 @@ first_host c h seed t sockets = record {
   reassembly_timeout = 60000000;
   slots = map.empty;
   left = [];
+  groups = [];
+  igmp_report = igmp.Inactive;
+  mld_report = mld.Inactive;
+  random = next seed;
   sockets = sockets;
 }
 

@@ -9,6 +9,11 @@ use Rattle.socket_set.specs.SocketSet.{wait_at}
 use Rattle.host_machine.specs.Host.{Host}
 use Rattle.host_machine.specs.Dispatch.{KnowsNextHop}
 use Rattle.host_machine.specs.Host.{Socket}
+use Rattle.std.specs.Option.{option_map}
+use Rattle.group_table.specs.declared.groups.GroupState.{GroupState}
+use Rattle.group_table.specs.declared.groups.GroupState.TheVariants.{Joining, Leaving}
+use Rattle.group_table.specs.Groups.{first_in}
+use Rattle.host_machine.specs.Reports.{igmp_instant, mld_timeout_of}
 
 -- the instant that an answer names: that of what is due at once has passed at each moment, and what waits for a frame has none
 abbrev pub instant_of : PollAt → Option ℤ
@@ -31,9 +36,17 @@ pub record AtOnce {A : Type 0} (xs : List A) (x : ℤ) : Type 0 where
   pub are : xs ≡ first ∷ others
   pub instant : x ≡ pos 0
 
+-- while a group is in a state of which routers are to be told, that is due at once
+abbrev pub told_at : GroupState → Host → Option ℤ
+told_at state H = option_map (λ a. pos 0) (first_in state H.groups)
+
 -- an instant at which something is due, as the host sees it at its moment: each thing that a poll may do by itself has its case here
 pub data Due (H : Host) (x : ℤ) : Type 0 where
   OfPiece : AtOnce H.left x → Due H x
+  OfJoin : told_at Joining H ≡ Some x → Due H x
+  OfLeave : told_at Leaving H ≡ Some x → Due H x
+  OfIgmpReport : igmp_instant H ≡ Some x → Due H x
+  OfMldReport : mld_timeout_of H.mld_report ≡ Some x → Due H x
   OfSocket : (i : ℕ) → SocketDue H i x → Due H x
 
 -- the least of a set of instants, or none if it is empty
@@ -57,3 +70,7 @@ abbrev pub sooner : Option ℤ → Option ℤ → Option ℤ
 sooner None b = b
 sooner (Some a) None = Some a
 sooner (Some a) (Some b) = if is_lt (int_cmp b a) then Some b else Some a
+
+-- the sooner of an instant and of those at which something is to be told of groups
+abbrev pub of_groups : Host → Option ℤ → Option ℤ
+of_groups H other = sooner (told_at Joining H) (sooner (told_at Leaving H) (sooner (igmp_instant H) (sooner (mld_timeout_of H.mld_report) other)))

@@ -24,6 +24,8 @@ use Rattle.fragmentation.specs.Cuts.{Piece}
 use Rattle.host_machine.specs.Note.{Note, OfCuts, PieceSent}
 use Rattle.host_machine.specs.Host.{Host, Socket, at, with_left}
 use Rattle.host_machine.specs.Parts.{Part, Both}
+use Rattle.host_machine.specs.Multicast.{TellsJoins, TellsLeaves}
+use Rattle.host_machine.specs.Reports.{SendsIgmpReport, SendsMldReport}
 use Rattle.host_machine.specs.Addresses.{source_for}
 use Rattle.host_machine.specs.Packet.{IpPayload, Icmpv4, Icmpv6, Udp, Tcp, Raw, Packet, Ipv4, Ipv6, packet_with}
 use Rattle.host_machine.specs.Frame.{sends, piece_frame}
@@ -53,6 +55,7 @@ if_echo_v6 (v6.PktTooBig mtu header) octets = None
 if_echo_v6 (v6.TimeExceeded code header) octets = None
 if_echo_v6 (v6.ParamProblem reason pointer header) octets = None
 if_echo_v6 (v6.Ndisc message) octets = None
+if_echo_v6 (v6.Mld message) octets = None
 
 abbrev pub if_echo : IcmpRepr → List ℕ → Option IpPayload
 if_echo (icmp.Ipv4 message) octets = if_echo_v4 message octets
@@ -151,7 +154,9 @@ pub data SendsPiece (H : Host) (told_it : List Event) (notes : List Note) (new :
 
 -- the parts of a round, in order; whether a socket's packet counts as gone
 abbrev pub Round : Bool → Part
-Round changed = Both SendsPiece (λ old told_it notes new. SocketsSend old changed told_it notes new)
+Round changed =
+    Both SendsPiece (Both TellsJoins (Both TellsLeaves (Both SendsIgmpReport (Both SendsMldReport
+    (λ old told_it notes new. SocketsSend old changed told_it notes new)))))
 
 pub record Egress (t : ℤ) (answer : PollResult) (old : Host) (told_it : List Event) (notes : List Note) (new : Host) : Type 0 where
   pub changed : Bool

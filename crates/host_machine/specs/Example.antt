@@ -15,6 +15,8 @@ use Rattle.ip_address.specs.declared.ip.IpAddress.{IpAddress}
 use Rattle.iface_tables.specs.Neighbor.{Neighbors, renewed}
 use Rattle.host_machine.specs.declared.results.PollIngressSingleResult.TheVariants as result
 use Rattle.host_machine.specs.Note.{Note, OfDiscovery, OfIdentification, Ask, Identify}
+use Rattle.group_table.specs.declared.report.IgmpReportState.TheVariants as igmp
+use Rattle.group_table.specs.declared.report.MldReportState.TheVariants as mld
 use Rattle.host_machine.specs.Host.{Host, no_sockets}
 use Rattle.host_machine.specs.Ingress.{Ingress}
 
@@ -74,6 +76,10 @@ host ipv4_id neighbors = record {
   reassembly_timeout = 60000000;
   slots = map.empty;
   left = [];
+  groups = [];
+  igmp_report = igmp.Inactive;
+  mld_report = mld.Inactive;
+  random = 0;
   sockets = no_sockets;
 }
 

@@ -1,6 +1,6 @@
 -- Worked exchanges of IPv6, computed from the definitions: a neighbour asks for the host of fe80::1/64 and is answered (RFC 4861 7.2.4),
 -- and a datagram goes each way.
-use Rattle.std.specs.Prelude.{ℕ, pos, List, [], ◌∷◌, Some, None, Ok}
+use Rattle.std.specs.Prelude.{ℕ, pos, List, [], ◌∷◌, Ok}
 use Rattle.std.specs.FinMap as map
 use Rattle.net_base.specs.Device.{Received, Frame, Sent}
 use Rattle.ip_address.specs.declared.ip.IpAddress.{IpAddress}

@@ -16,12 +16,19 @@ use Rattle.ip_wire.specs.Udp as udp
 use Rattle.ip_wire.specs.declared.tcp.TcpRepr.{TcpRepr}
 use Rattle.control_wire.specs.Icmpv4 as icmpv4
 use Rattle.icmpv6_wire.specs.Icmpv6 as icmpv6
+use Rattle.icmpv6_wire.specs.declared.icmpv6.Icmpv6Repr.TheVariants.{Mld as MldMessage}
+use Rattle.group_wire.specs.Igmp as igmp
+use Rattle.group_wire.specs.declared.mld.MldRepr.TheVariants.{Report}
+use Rattle.ipv6_wire.specs.HopByHop as hop_by_hop
+use Rattle.ipv6_wire.specs.declared.hop_by_hop.Ipv6HopByHopRepr.{Ipv6HopByHopRepr}
+use Rattle.ipv6_wire.specs.declared.hop_by_hop.Ipv6OptionRepr.TheVariants.{RouterAlert, PadN}
+use Rattle.ip_address.specs.declared.protocol.IpProtocol.TheVariants as ip_protocol
 use Rattle.fragmentation.specs.Cuts.{Piece, piece_header, piece_fragment}
 use Rattle.host_machine.specs.Host.{Host}
 use Rattle.ip_wire.specs.declared.ip_packet.IpRepr.{IpRepr}
 use Rattle.ip_wire.specs.IpPacket.{src_addr, dst_addr, header_len}
 use Rattle.ip_wire.specs.IpPacket as ip
-use Rattle.host_machine.specs.Packet.{IpPayload, Icmpv4, Icmpv6, Udp, Tcp, Raw, Packet, Ipv4, Ipv6, header_of, payload_of}
+use Rattle.host_machine.specs.Packet.{IpPayload, Icmpv4, Icmpv6, Udp, Tcp, Raw, Igmp, Mld, Packet, Ipv4, Ipv6, header_of, payload_of}
 
 -- an ARP packet goes from its sender's hardware address to its target's
 abbrev pub arp_frame : ArpRepr → List ℕ
@@ -36,6 +43,10 @@ window_within (Some burst) segment window = if nat_le window (burst * segment) t
 abbrev pub limited : DeviceCapabilities → ℕ → TcpRepr → TcpRepr
 limited c ip_header_len r = record r { window_len = window_within c.max_burst_size (c.max_transmission_unit - (ip_header_len + 20)) r.window_len }
 
+-- options that tell routers to look at a packet (RFC 2711), padded to eight octets
+abbrev pub mld_options : Ipv6HopByHopRepr
+mld_options = record { next_header = ip_protocol.Icmpv6; options = record { items = RouterAlert 0 ∷ PadN 0 ∷ [] } }
+
 -- a payload, each form with its checksum where the device leaves that to the stack. A checksum covers the pseudo-header, where it has
 -- one, and the payload, and no octet behind it
 abbrev pub payload_text : DeviceCapabilities → IpRepr → IpPayload → List ℕ
@@ -44,6 +55,9 @@ payload_text c r (Icmpv6 message octets) = icmpv6.text (is_tx c.checksum.icmpv6)
 payload_text c r (Udp header octets) = udp.text (is_tx c.checksum.udp) (src_addr r) (dst_addr r) header octets
 payload_text c r (Tcp header octets) = tcp.text (is_tx c.checksum.tcp) (src_addr r) (dst_addr r) (limited c (header_len r) header) octets
 payload_text c r (Raw number octets) = octets
+payload_text c r (Igmp message) = igmp.text message
+payload_text c r (Mld count records) =
+    hop_by_hop.text mld_options ++ icmpv6.text (is_tx c.checksum.icmpv6) (src_addr r) (dst_addr r) (MldMessage (Report count)) records
 
 -- a packet: its header, and its payload
 abbrev pub packet_text : DeviceCapabilities → Packet → List ℕ

@@ -12,6 +12,9 @@ use Rattle.iface_tables.specs.Neighbor.{Neighbors}
 use Rattle.fragmentation.specs.Slots.{Slots, left_at}
 use Rattle.fragmentation.specs.Cuts.{Piece}
 use Rattle.iface_tables.specs.declared.route.Route.{Route}
+use Rattle.group_table.specs.declared.groups.Group.{Group}
+use Rattle.group_table.specs.declared.report.IgmpReportState.{IgmpReportState}
+use Rattle.group_table.specs.declared.report.MldReportState.{MldReportState}
 use Rattle.socket_set.specs.SocketSet.{Sockets}
 use Rattle.socket_set.specs.SocketSet as table
 use Rattle.socket_base.specs.Source.{is_same}
@@ -44,6 +47,10 @@ pub record Host : Type 0 where
   pub reassembly_timeout : ℕ  -- for how many microseconds a slot stands that is taken from now on
   pub slots : Slots  -- the datagrams of which fragments have come and others are missing
   pub left : List Piece  -- the pieces that are left to send of the packet that was cut last, in order
+  pub groups : List Group  -- the multicast groups that it is in, is to be in or leaves, in the order in which they are walked
+  pub igmp_report : IgmpReportState  -- what is to be reported of its IPv4 groups, and when
+  pub mld_report : MldReportState  -- the same of its IPv6 groups
+  pub random : ℕ  -- the state of its source of random words
   pub sockets : SocketSet
 
 -- the host at another moment
@@ -65,6 +72,10 @@ with_left H left = record H { left = left }
 -- the host with other neighbours
 abbrev pub with_neighbors : Host → Neighbors → Host
 with_neighbors H n = record H { neighbors = n }
+
+-- the host with other groups
+abbrev pub with_groups : Host → List Group → Host
+with_groups H groups = record H { groups = groups }
 
 -- the host with other sockets at its places; their waits stay
 abbrev pub with_places : Host → List Storage → Host

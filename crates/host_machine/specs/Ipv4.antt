@@ -1,5 +1,5 @@
 -- IPv4, reception of packets (RFC 791 3.2, RFC 1122 3.2.1): whose packets are taken, for whom, and by which protocol.
-use Rattle.std.specs.Prelude.{◌≡◌, ℕ, ◌*◌, Bool, true, false, not, List, [], ◌++◌, length, Option, Some, None, if◌then◌else◌}
+use Rattle.std.specs.Prelude.{◌≡◌, ℕ, ◌*◌, Bool, true, false, not, List, [], ◌++◌, length, Option, Some, None}
 use Rattle.net_base.specs.Checksum.{is_rx}
 use Rattle.ip_address.specs.declared.hardware.HardwareAddress.{HardwareAddress}
 use Rattle.ip_address.specs.declared.ip.IpAddress.TheVariants.{Ipv4}
@@ -21,6 +21,7 @@ use Rattle.control_wire.specs.declared.icmpv4.Icmpv4DstUnreachable.TheVariants.{
 use Rattle.host_machine.specs.Raw.{heard, is_taken}
 use Rattle.host_machine.specs.Renewal.{sender_renewed}
 use Rattle.host_machine.specs.Icmpv4.{TakesIcmpv4, unreachable}
+use Rattle.host_machine.specs.Reports.{TakesIgmp}
 use Rattle.host_machine.specs.Udp.{TakesUdp}
 use Rattle.host_machine.specs.Tcp.{TakesTcp}
 
@@ -31,12 +32,12 @@ pub record IsRefused (by_raw : Bool) (r : Ipv4Repr) (H : Host) (octets : List �
   pub unchanged : new ≡ H
 
 -- by the protocol of the payload, and whether a raw socket took the packet. For a protocol that nobody here speaks an error is sent
--- back; groups (IGMP) aren't there yet
+-- back
 abbrev pub TakesProtocol : IpProtocol → Bool → Ipv4Repr → Host → List ℕ → Option Reply → List Note → Host → Type 0
 TakesProtocol protocol.Icmp by_raw r H octets reply notes new = TakesIcmpv4 r H octets reply notes new
 TakesProtocol protocol.Udp by_raw r H octets reply notes new = TakesUdp by_raw (repr.Ipv4 r) H octets reply notes new
 TakesProtocol protocol.Tcp by_raw r H octets reply notes new = TakesTcp by_raw (repr.Ipv4 r) H octets reply notes new
-TakesProtocol protocol.Igmp by_raw r H octets reply notes new = IsDropped H reply notes new
+TakesProtocol protocol.Igmp by_raw r H octets reply notes new = TakesIgmp r H octets reply notes new
 TakesProtocol protocol.HopByHop by_raw r H octets reply notes new = IsRefused by_raw r H octets reply notes new
 TakesProtocol protocol.Icmpv6 by_raw r H octets reply notes new = IsRefused by_raw r H octets reply notes new
 TakesProtocol (protocol.Unknown number) by_raw r H octets reply notes new = IsRefused by_raw r H octets reply notes new

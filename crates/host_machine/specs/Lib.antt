@@ -9,6 +9,7 @@ pub mod Delivery
 pub mod Raw
 pub mod Icmp
 pub mod Icmpv4
+pub mod Multicast
 pub mod Ndisc
 pub mod Icmpv6
 pub mod Unreachable
@@ -20,6 +21,7 @@ pub mod Ipv4
 pub mod Ipv6
 pub mod Ethernet
 pub mod Dispatch
+pub mod Reports
 pub mod Response
 pub mod Ingress
 pub mod Parts
@@ -43,6 +45,7 @@ pub mod Laws
 pub mod Example
 pub mod ExampleSockets
 pub mod ExampleDiscovery
+pub mod ExampleGroups
 pub mod ExampleIpv6
 pub mod ExamplePolling
 pub mod ExampleFragments

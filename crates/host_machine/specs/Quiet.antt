@@ -6,7 +6,7 @@ use Rattle.iface_tables.specs.declared.route.Route.{Route}
 use Rattle.sockets.specs.Kinds.{offered, settled}
 use Rattle.sockets.specs.Kinds as socket
 use Rattle.host_machine.specs.declared.command.Command.{Command}
-use Rattle.host_machine.specs.declared.command.Command.TheVariants.{UpdateIpAddrs, PollIngressSingle, PollEgress, Poll, PollMaintenance, PollAt, PollDelay, UpdateRoutes, AddDefaultIpv4Route, RemoveDefaultIpv4Route, AddDefaultIpv6Route, RemoveDefaultIpv6Route, SetAnyIp, SetHardwareAddr, SetReassemblyTimeout, Owner}
+use Rattle.host_machine.specs.declared.command.Command.TheVariants.{UpdateIpAddrs, PollIngressSingle, PollEgress, Poll, PollMaintenance, PollAt, PollDelay, UpdateRoutes, AddDefaultIpv4Route, RemoveDefaultIpv4Route, AddDefaultIpv6Route, RemoveDefaultIpv6Route, JoinMulticastGroup, LeaveMulticastGroup, SetAnyIp, SetHardwareAddr, SetReassemblyTimeout, Owner}
 use Rattle.host_machine.specs.declared.command.Answer.{Answer}
 use Rattle.host_machine.specs.declared.command.Answer.TheVariants as answer
 use Rattle.host_machine.specs.declared.results.PollIngressSingleResult.TheVariants as ingress
@@ -52,6 +52,8 @@ IsCalm t0 end (AddDefaultIpv4Route gateway) p = p.after ≡ p.before
 IsCalm t0 end RemoveDefaultIpv4Route p = p.after ≡ p.before
 IsCalm t0 end (AddDefaultIpv6Route gateway) p = p.after ≡ p.before
 IsCalm t0 end RemoveDefaultIpv6Route p = p.after ≡ p.before
+IsCalm t0 end (JoinMulticastGroup group) p = p.after ≡ p.before
+IsCalm t0 end (LeaveMulticastGroup group) p = p.after ≡ p.before
 IsCalm t0 end (SetAnyIp any_ip) p = p.after ≡ p.before
 IsCalm t0 end (SetHardwareAddr h) p = p.after ≡ p.before
 IsCalm t0 end (SetReassemblyTimeout timeout) p = Unit {0}
@@ -76,6 +78,8 @@ AnswersNone (answer.AddDefaultIpv4Route r) = Unit {0}
 AnswersNone (answer.RemoveDefaultIpv4Route r) = Unit {0}
 AnswersNone (answer.AddDefaultIpv6Route r) = Unit {0}
 AnswersNone (answer.RemoveDefaultIpv6Route r) = Unit {0}
+AnswersNone (answer.JoinMulticastGroup r) = Unit {0}
+AnswersNone (answer.LeaveMulticastGroup r) = Unit {0}
 AnswersNone answer.SetAnyIp = Unit {0}
 AnswersNone (answer.SetHardwareAddr r) = Unit {0}
 AnswersNone (answer.SetReassemblyTimeout r) = Unit {0}

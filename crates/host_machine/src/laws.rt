@@ -3,6 +3,7 @@ ghost use Rattle.host_machine.specs.Example.{EchoIsAnswered, PacketIsAnswered, R
 ghost use Rattle.host_machine.specs.Arrivals.{FewAreKept, PiecesAreRebuilt, PiecesComeInTime};
 ghost use Rattle.host_machine.specs.ExampleDiscovery.{NeighborIsSolicited};
 ghost use Rattle.host_machine.specs.ExampleIpv6 as ipv6;
+ghost use Rattle.host_machine.specs.ExampleGroups.{GroupsFollowAddresses, JoinsAreTold, LeaveIsTold, QueriesAreHeard, RefusalsAreApart};
 ghost use Rattle.host_machine.specs.ExampleFragments.{DatagramIsRebuilt, FragmentWaits, PacketGoesInPieces, TenAreCut, TimeoutsAreTested};
 ghost use Rattle.host_machine.specs.ExamplePolling.{RequestIsPolled, WaitIsDue};
 ghost use Rattle.host_machine.specs.ExampleSockets.{ConfigurationsAreTested, ConnectionIsReset, DatagramIsDelivered, DatagramIsRefused, ProtocolIsRefused, RawSocketHears, SocketWaits, WindowFitsBurst};
@@ -215,4 +216,31 @@ pub fn packet_goes_in_pieces()
 /// A worked example: a reassembly timeout of a day is taken, and a longer one refused.
 pub fn timeouts_are_tested()
     ensures { TimeoutsAreTested }
+{}
+
+/// A worked example: a join is told by a report, octet by octet, of IGMP over IPv4 and of MLD over IPv6.
+pub fn joins_are_told()
+    ensures { JoinsAreTold }
+{}
+
+/// A worked example: a leave is told by a message of IGMP, octet by octet, and the group is taken out.
+pub fn leave_is_told()
+    ensures { LeaveIsTold }
+{}
+
+/// A worked example: when three groups are reported in answer to a query for all of them, and one in answer
+/// to a query for it; a query for a group that is left, or for all where there is none, changes nothing.
+pub fn queries_are_heard()
+    ensures { QueriesAreHeard }
+{}
+
+/// A worked example: where leave to send is refused, joins, leaves and reports ask for it each by itself; a
+/// report of IGMP stays due, and one of MLD is given up.
+pub fn refusals_are_apart()
+    ensures { RefusalsAreApart }
+{}
+
+/// A worked example: the solicited-node groups of a host follow its addresses.
+pub fn groups_follow_addresses()
+    ensures { GroupsFollowAddresses }
 {}

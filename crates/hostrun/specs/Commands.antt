@@ -8,12 +8,14 @@ use Rattle.host_machine.specs.declared.command.Command.TheVariants as command
 use Rattle.hostrun.specs.declared.line.Line.{Line}
 use Rattle.hostrun.specs.declared.line.Line.TheVariants.{Rx, Udp, Asks}
 use Rattle.hostrun.specs.declared.line.Call.{Call}
-use Rattle.hostrun.specs.declared.line.Call.TheVariants.{Addr, Gw, Ingress, Egress, Poll, At}
+use Rattle.hostrun.specs.declared.line.Call.TheVariants.{Addr, Gw, Join, Leave, Ingress, Egress, Poll, At}
 
 -- the moment last given, once a call is made
 abbrev pub moment_after : ℤ → Call → ℤ
 moment_after last (Addr networks) = last
 moment_after last (Gw router) = last
+moment_after last (Join group) = last
+moment_after last (Leave group) = last
 moment_after last Ingress = last
 moment_after last Egress = last
 moment_after last (Poll t budget) = t
@@ -28,6 +30,8 @@ default_route_by (ip.Ipv6 router) = command.AddDefaultIpv6Route router
 abbrev pub command_of : ℤ → Call → Command
 command_of last (Addr networks) = command.UpdateIpAddrs networks
 command_of last (Gw router) = default_route_by router
+command_of last (Join group) = command.JoinMulticastGroup group
+command_of last (Leave group) = command.LeaveMulticastGroup group
 command_of last Ingress = command.PollIngressSingle last
 command_of last Egress = command.PollEgress last
 command_of last (Poll t budget) = command.Poll t budget
@@ -37,6 +41,8 @@ command_of last (At t) = command.PollAt t
 abbrev pub IsTimelyCall : Call → Type 0
 IsTimelyCall (Addr networks) = Unit {0}
 IsTimelyCall (Gw router) = Unit {0}
+IsTimelyCall (Join group) = Unit {0}
+IsTimelyCall (Leave group) = Unit {0}
 IsTimelyCall Ingress = Unit {0}
 IsTimelyCall Egress = Unit {0}
 IsTimelyCall (Poll t budget) = IsMoment t

@@ -6,6 +6,8 @@ use Rattle.net_base.specs.declared.memory_device.PushError.{PushError}
 use Rattle.net_base.specs.declared.memory_device.PushError.TheVariants.{TooLong, NoMemory}
 use Rattle.host_machine.specs.declared.results.HardwareError.{HardwareError}
 use Rattle.host_machine.specs.declared.results.HardwareError.TheVariants.{WrongMedium, NotUnicast}
+use Rattle.host_machine.specs.declared.results.MulticastError.{MulticastError}
+use Rattle.host_machine.specs.declared.results.MulticastError.TheVariants.{GroupTableFull, Unaddressable}
 use Rattle.host_machine.specs.declared.results.PollResult.{PollResult}
 use Rattle.host_machine.specs.declared.results.PollResult.TheVariants as poll
 use Rattle.host_machine.specs.declared.results.PollIngressSingleResult.{PollIngressSingleResult}
@@ -25,6 +27,10 @@ poll_text poll.SocketStateChanged = codes "SocketStateChanged"
 abbrev pub hardware_text : HardwareError → List ℕ
 hardware_text WrongMedium = codes "WrongMedium"
 hardware_text NotUnicast = codes "NotUnicast"
+
+abbrev pub multicast_text : MulticastError → List ℕ
+multicast_text GroupTableFull = codes "GroupTableFull"
+multicast_text Unaddressable = codes "Unaddressable"
 
 -- the instant of the next poll, in microseconds
 abbrev pub next_text : Option ℤ → List ℕ
@@ -48,6 +54,10 @@ text_of (answer.RemoveDefaultIpv4Route old) = codes "ok"
 text_of (answer.AddDefaultIpv6Route (Ok old)) = codes "ok"
 text_of (answer.AddDefaultIpv6Route (Err e)) = codes "RouteTableFull"
 text_of (answer.RemoveDefaultIpv6Route old) = codes "ok"
+text_of (answer.JoinMulticastGroup (Ok done)) = codes "ok"
+text_of (answer.JoinMulticastGroup (Err e)) = multicast_text e
+text_of (answer.LeaveMulticastGroup (Ok done)) = codes "ok"
+text_of (answer.LeaveMulticastGroup (Err e)) = multicast_text e
 text_of answer.SetAnyIp = codes "ok"
 text_of (answer.SetHardwareAddr (Ok done)) = codes "ok"
 text_of (answer.SetHardwareAddr (Err e)) = hardware_text e

@@ -17,7 +17,7 @@ use Rattle.ip_address.specs.Cidr as cidr
 use Rattle.hostrun.specs.declared.line.Line.{Line}
 use Rattle.hostrun.specs.declared.line.Line.TheVariants.{Rx, Udp, Asks}
 use Rattle.hostrun.specs.declared.line.Call.{Call}
-use Rattle.hostrun.specs.declared.line.Call.TheVariants.{Addr, Gw, Ingress, Egress, Poll, At}
+use Rattle.hostrun.specs.declared.line.Call.TheVariants.{Addr, Gw, Join, Leave, Ingress, Egress, Poll, At}
 
 abbrev pub is_space : ℕ → Bool
 is_space octet = octet == 32
@@ -100,6 +100,8 @@ SpellPoll words t budget = (moment_in (before_first is_space words) ≡ Some t) 
 abbrev pub SayCall : List ℕ → List ℕ → Call → Type 0
 SayCall word values (Addr networks) = (word ≡ codes "addr") × SpellNetworks values networks.items
 SayCall word values (Gw router) = (word ≡ codes "gw") × (address_in values ≡ Some router)
+SayCall word values (Join group) = (word ≡ codes "join") × (address_in values ≡ Some group)
+SayCall word values (Leave group) = (word ≡ codes "leave") × (address_in values ≡ Some group)
 SayCall word values Ingress = word ≡ codes "ingress"
 SayCall word values Egress = word ≡ codes "egress"
 SayCall word values (Poll t budget) = (word ≡ codes "poll") × SpellPoll values t budget

@@ -36,6 +36,10 @@ pub enum Call {
     Addr(ArrayVec<IpCidr, 4>),
     /// The router of the host's default route of its family.
     Gw(IpAddress),
+    /// The host joins this group.
+    Join(IpAddress),
+    /// The host leaves this group.
+    Leave(IpAddress),
     /// The host takes one frame, at the moment last given.
     Ingress,
     /// The host sends what its sockets have to send, at the moment last given.
@@ -61,7 +65,12 @@ impl Call {
     {
         match self {
             Call::Poll(moment, _) | Call::At(moment) => *moment,
-            Call::Addr(_) | Call::Gw(_) | Call::Ingress | Call::Egress => last,
+            Call::Addr(_)
+            | Call::Gw(_)
+            | Call::Join(_)
+            | Call::Leave(_)
+            | Call::Ingress
+            | Call::Egress => last,
         }
     }
 
@@ -75,6 +84,8 @@ impl Call {
         match self {
             Call::Addr(networks) => Command::UpdateIpAddrs(networks),
             Call::Gw(router) => default_route_by(router),
+            Call::Join(group) => Command::JoinMulticastGroup(group),
+            Call::Leave(group) => Command::LeaveMulticastGroup(group),
             Call::Ingress => Command::PollIngressSingle(last),
             Call::Egress => Command::PollEgress(last),
             Call::Poll(moment, budget) => Command::Poll(moment, budget),
@@ -103,6 +114,8 @@ pub fn parse(text: &[u8], buffer: &mut [u8; FRAME_ROOM]) -> Option<Line>
         (b"rx", Some(digits)) => Some(Line::Rx(parse_hex(digits, buffer)?)),
         (b"addr", Some(words)) => Some(Line::Asks(Call::Addr(parse_addrs(words)?))),
         (b"gw", Some(digits)) => Some(Line::Asks(Call::Gw(parse_address(digits)?))),
+        (b"join", Some(digits)) => Some(Line::Asks(Call::Join(parse_address(digits)?))),
+        (b"leave", Some(digits)) => Some(Line::Asks(Call::Leave(parse_address(digits)?))),
         (b"udp", Some(digits)) => Some(Line::Udp(parse_port(digits)?)),
         (b"ingress", None) => Some(Line::Asks(Call::Ingress)),
         (b"egress", None) => Some(Line::Asks(Call::Egress)),

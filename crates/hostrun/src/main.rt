@@ -2,8 +2,9 @@
 //! prints the frames that the host sends and what each command answers.
 //!
 //! The words are `rx HEX` (a frame arrives), `addr HEX/LEN ..` (the host's addresses, one to four),
-//! `gw HEX` (the router of its default route), `udp PORT` (a UDP socket), `ingress` (the host takes
-//! one frame) and `egress` (it sends what its sockets have to send). `docs/HOSTRUN.md` has the rest.
+//! `gw HEX` (the router of its default route), `join HEX` and `leave HEX` (a multicast group that it
+//! joins or leaves), `udp PORT` (a UDP socket), `ingress` (the host takes one frame) and `egress` (it
+//! sends what it and its sockets have to send). `docs/HOSTRUN.md` has the rest.
 #![tactic(auto)]
 
 mod input;

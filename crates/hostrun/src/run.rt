@@ -2,7 +2,7 @@
 ghost use Rattle.std.specs.Prelude.{◌≡◌, ◌≤◌, length, Some, None, OnOk, MatchResult};
 ghost use Rattle.std.specs.Io.KnownBytes.{Appends};
 ghost use Rattle.hostrun.specs.Commands.{IsTimelyLine};
-ghost use Rattle.hostrun.specs.Printed.{frame_line, ingress_text, next_text, poll_text, push_text, text_line, text_of};
+ghost use Rattle.hostrun.specs.Printed.{frame_line, ingress_text, multicast_text, next_text, poll_text, push_text, text_line, text_of};
 ghost use Rattle.hostrun.specs.declared.run.Stop.TheVariants as why;
 ghost use Rattle.hostrun.specs.Status as spec;
 
@@ -12,7 +12,8 @@ use crate::script_host::Host;
 use arrayvec::ArrayVec;
 use iface_tables::route::RouteTableFull;
 use interface::{
-    AddrError, Answer, HardwareError, NewError, PollIngressSingleResult, PollResult, TimeoutError,
+    AddrError, Answer, HardwareError, MulticastError, NewError, PollIngressSingleResult,
+    PollResult, TimeoutError,
 };
 use net_base::PushError;
 use net_base::phy::{Device, FRAME_BUFFER_SIZE};
@@ -197,6 +198,8 @@ fn answer_text(answer: Answer) -> Text
         | Answer::RemoveDefaultIpv4Route(_)
         | Answer::AddDefaultIpv6Route(Ok(_))
         | Answer::RemoveDefaultIpv6Route(_)
+        | Answer::JoinMulticastGroup(Ok(()))
+        | Answer::LeaveMulticastGroup(Ok(()))
         | Answer::SetAnyIp
         | Answer::SetHardwareAddr(Ok(()))
         | Answer::SetReassemblyTimeout(Ok(()))
@@ -208,9 +211,22 @@ fn answer_text(answer: Answer) -> Text
         Answer::SetHardwareAddr(Err(HardwareError::WrongMedium)) => text("WrongMedium"),
         Answer::AddDefaultIpv4Route(Err(RouteTableFull))
         | Answer::AddDefaultIpv6Route(Err(RouteTableFull)) => text("RouteTableFull"),
+        Answer::JoinMulticastGroup(Err(error)) | Answer::LeaveMulticastGroup(Err(error)) => {
+            text(multicast_name(error))
+        }
         Answer::SetReassemblyTimeout(Err(TimeoutError::TimeoutTooLong)) => text("TimeoutTooLong"),
         Answer::PollIngressSingle(result) => text(ingress_name(result)),
         Answer::PollEgress(result) | Answer::Poll(result) => text(poll_name(result)),
+    }
+}
+
+/// The name of why a group isn't joined or left.
+fn multicast_name(error: MulticastError) -> &'static str
+    ensures { result.now ≡ multicast_text error }
+{
+    match error {
+        MulticastError::GroupTableFull => "GroupTableFull",
+        MulticastError::Unaddressable => "Unaddressable",
     }
 }
 

@@ -603,6 +603,127 @@ fn polls(rt: HostRuntime) {
     );
 }
 
+// fe80::1 joins ff02::1:ff00:1.
+const JOIN_NODE: &[u8] = b"tx \
+    33330000001602000000000186dd\
+    6000000000240001\
+    fe800000000000000000000000000001ff020000000000000000000000000016\
+    3a000502000001008f0072070000000103000000ff0200000000000000000001ff000001
+";
+
+// 192.168.69.1 joins 239.1.2.3.
+const JOIN_GROUP: &[u8] = b"tx \
+    01005e0102030200000000010800\
+    4500001c0000400001028332c0a84501ef010203\
+    1600f8faef010203
+";
+
+// It leaves that group.
+const LEAVE_GROUP: &[u8] = b"tx \
+    01005e0000020200000000010800\
+    4500001c0000400001029434c0a84501e0000002\
+    1700f7faef010203
+";
+
+#[test]
+fn tells_routers_of_its_groups(rt: HostRuntime) {
+    // What is printed before the frame, and behind it.
+    let scripts: [(&[u8], &[u8], &[u8], &[u8]); 6] = [
+        (
+            b"addr fe800000000000000000000000000001/64\negress\n",
+            b"ok\n",
+            JOIN_NODE,
+            b"None\n",
+        ),
+        (
+            b"addr fe800000000000000000000000000001/64\nat 3\npoll 3 1\nat 3\negress\n",
+            b"ok\nat 0\n",
+            JOIN_NODE,
+            b"None\nat none\nNone\n",
+        ),
+        (
+            b"join FF0200000000000000000001FF000001\naddr fe800000000000000000000000000001/64\negress\n",
+            b"ok\nok\n",
+            JOIN_NODE,
+            b"None\n",
+        ),
+        (
+            b"addr c0a84501/24\njoin ef010203\njoin EF010203\negress\negress\n",
+            b"ok\nok\nok\n",
+            JOIN_GROUP,
+            b"None\nNone\n",
+        ),
+        (
+            b"join ef010203\negress\naddr c0a84501/24\nleave ef010203\negress\nleave ef010203\negress\n",
+            b"ok\nNone\nok\nok\n",
+            LEAVE_GROUP,
+            b"None\nok\nNone\n",
+        ),
+        (
+            b"addr c0a84501/24\njoin ef010203\nleave ef010203\njoin ef010203\negress\n",
+            b"ok\nok\nok\nok\n",
+            JOIN_GROUP,
+            b"None\n",
+        ),
+    ];
+    for (script, before, sent, after) in scripts {
+        let mut output: ArrayVec<u8, 512> = ArrayVec::new();
+        for part in [before, sent, after] {
+            let _ = output.try_extend_from_slice(part);
+        }
+        check(&rt, rt.alloc(), &[script], ends(output.as_slice(), b"", 0));
+    }
+}
+
+#[test]
+fn tells_why_a_group_is_not_joined(rt: HostRuntime) {
+    let scripts: [(&[u8], &[u8]); 3] = [
+        (
+            b"join c0a84501\nleave c0a84501\njoin 00000000\n",
+            b"Unaddressable\nUnaddressable\nUnaddressable\n",
+        ),
+        (
+            b"join fe800000000000000000000000000001\nleave 00000000000000000000000000000000\n",
+            b"Unaddressable\nUnaddressable\n",
+        ),
+        (
+            b"join ef000001
+join ef000002
+join ef000003
+join ef000004
+join ef000005
+join ef000006
+join ef000007
+join ef000008
+join ef000009
+join ff020000000000000000000000000005
+join ef000001
+leave ef000009
+leave ef000001
+join ef000009
+",
+            b"ok
+ok
+ok
+ok
+ok
+ok
+ok
+ok
+GroupTableFull
+GroupTableFull
+ok
+ok
+ok
+ok
+",
+        ),
+    ];
+    for (script, output) in scripts {
+        check(&rt, rt.alloc(), &[script], ends(output, b"", 0));
+    }
+}
+
 #[test]
 fn takes_datagrams_for_its_sockets(rt: HostRuntime) {
     let output = b"ok
@@ -657,7 +778,7 @@ SocketStateChanged
 
 #[test]
 fn ends_at_a_bad_line(rt: HostRuntime) {
-    let lines: [&[u8]; 98] = [
+    let lines: [&[u8]; 121] = [
         b"pol 0",
         b"poll",
         b"poll ",
@@ -756,6 +877,29 @@ fn ends_at_a_bad_line(rt: HostRuntime) {
         b"egress 0",
         b"egres",
         b"GW c0a845fe",
+        b"join",
+        b"join ",
+        b"join ef01020",
+        b"join ef0102030",
+        b"join ef01020g",
+        b"join ef010203 ",
+        b"join  ef010203",
+        b"join ef010203 ef010204",
+        b"join ef010203/8",
+        b"join ff0200000000000000000000000005",
+        b"join ff02000000000000000000000000000",
+        b"join ff0200000000000000000000000000005",
+        b"join ff02000000000000000000000000000g",
+        b"joinef010203",
+        b"Join ef010203",
+        b"leave",
+        b"leave ",
+        b"leave ef01020",
+        b"leave ef01020g",
+        b"leave ef010203 ",
+        b"leave ef010203 0",
+        b"leave ff02000000000000000000000000000",
+        b"LEAVE ef010203",
     ];
     for line in lines {
         for rest in [b"".as_slice(), b"\ningress\n"] {

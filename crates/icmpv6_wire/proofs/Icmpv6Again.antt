@@ -12,13 +12,17 @@ use Rattle.ipv6_wire.proofs.Ipv6Again.{quoted_again, total}
 use Rattle.icmpv6_wire.specs.declared.icmpv6.Icmpv6DstUnreachable.{Icmpv6DstUnreachable}
 use Rattle.icmpv6_wire.specs.declared.icmpv6.Icmpv6ParamProblem.{Icmpv6ParamProblem}
 use Rattle.icmpv6_wire.specs.declared.icmpv6.Icmpv6Repr.{Icmpv6Repr}
-use Rattle.icmpv6_wire.specs.declared.icmpv6.Icmpv6Repr.TheVariants.{EchoRequest, EchoReply, DstUnreachable, PktTooBig, TimeExceeded, ParamProblem, Ndisc}
+use Rattle.icmpv6_wire.specs.declared.icmpv6.Icmpv6Repr.TheVariants.{EchoRequest, EchoReply, DstUnreachable, PktTooBig, TimeExceeded, ParamProblem, Ndisc, Mld}
 use Rattle.icmpv6_wire.specs.declared.ndisc.NdiscRepr.{NdiscRepr}
 use Rattle.icmpv6_wire.specs.declared.ndisc.NdiscRepr.TheVariants.{NeighborSolicit, NeighborAdvert}
 use Rattle.icmpv6_wire.specs.NdiscOption.{lladdr_text}
 use Rattle.icmpv6_wire.specs.Ndisc.{lladdr_option, lladdr_len, target_of, option_text, IsLinkLayerAddr, IsNeighbor}
-use Rattle.icmpv6_wire.specs.Icmpv6.{head_with, body, header_len, pseudo_header, sum_of, text, IsBody, IsMessage, Request, Reply, Error, Neighbor, unreachable_of, unreachable_code, problem_of, problem_code, icmpv6_in, ReadAgain}
+use Rattle.icmpv6_wire.specs.Icmpv6.{head_with, body, header_len, pseudo_header, sum_of, text, IsBody, IsMessage, Request, Reply, Error, Neighbor, Listener, unreachable_of, unreachable_code, problem_of, problem_code, icmpv6_in, ReadAgain}
 use Rattle.icmpv6_wire.proofs.NdiscAgain.{neighbor_again, neighbor_text}
+use Rattle.group_wire.specs.declared.mld.MldRepr.{MldRepr}
+use Rattle.group_wire.specs.declared.mld.MldRepr.TheVariants.{Query, Report}
+use Rattle.group_wire.specs.Mld as mld
+use Rattle.group_wire.proofs.MldAgain as mld_again
 
 number : (n : ℕ) → n < 2 ^ 32 → n / 16777216 % 256 * 16777216 + n / 65536 % 256 * 65536 + n / 256 % 256 * 256 + n % 256 ≡ n
 number n lt = omega arith
@@ -33,6 +37,8 @@ head_words c (PktTooBig mtu header) lt = omega (arith, total c lt)
 head_words c (TimeExceeded code header) lt = omega (arith, total c lt)
 head_words c (ParamProblem reason pointer header) lt = omega (arith, total c lt)
 head_words c (Ndisc message) lt = omega (arith, total c lt)
+head_words c (Mld (Query code group)) lt = omega (arith, total c lt)
+head_words c (Mld (Report count)) lt = omega (arith, total c lt)
 
 head_length : (c : ℕ) (r : Icmpv6Repr) → length (head_with c r) ≡ 8
 unfolding head_with
@@ -43,6 +49,8 @@ head_length c (PktTooBig mtu header) = refl
 head_length c (TimeExceeded code header) = refl
 head_length c (ParamProblem reason pointer header) = refl
 head_length c (Ndisc message) = refl
+head_length c (Mld (Query code group)) = refl
+head_length c (Mld (Report count)) = refl
 
 -- a body of so many octets, an even number
 pub record Body (r : Icmpv6Repr) : Type 0 where
@@ -59,6 +67,10 @@ unfolding address_text lladdr_text
 option_body type target None h = (refl, refl)
 option_body type target (Some address) h = (omega (arith, h), omega (arith, h))
 
+query_body : (group : Ipv6Address) → length (mld.query_body group) ≡ 20
+unfolding address_text mld.query_body
+query_body group = refl
+
 body_of : (r : Icmpv6Repr) (octets : List ℕ) → IsMessage r octets → Body r
 body_of (EchoRequest ident seq_no) octets m = record { len = refl; even = refl }
 body_of (EchoReply ident seq_no) octets m = record { len = refl; even = refl }
@@ -68,6 +80,8 @@ body_of (TimeExceeded code header) octets m = record { len = omega (arith, quoti
 body_of (ParamProblem reason pointer header) octets m = record { len = omega (arith, quoting header); even = omega (arith, quoting header) }
 body_of (Ndisc (NeighborSolicit target lladdr)) octets m = let o = option_body 1 target lladdr m.0.1 in record { len = o.0; even = o.1 }
 body_of (Ndisc (NeighborAdvert flags target lladdr)) octets m = let o = option_body 2 target lladdr m.0.2 in record { len = o.0; even = o.1 }
+body_of (Mld (Query code group)) octets m = record { len = omega (arith, query_body group); even = omega (arith, query_body group) }
+body_of (Mld (Report count)) octets m = record { len = refl; even = refl }
 
 text_length : (c : ℕ) (r : Icmpv6Repr) (octets : List ℕ) → Body r → length (head_with c r ++ body r ++ octets) ≡ header_len r + length octets
 text_length c r octets b =
@@ -133,6 +147,9 @@ neighbor_message c m octets h e =
     append-nil (head_with c (Ndisc m) ++ body (Ndisc m)) ∙ sym (append_assoc (head_with c (Ndisc m)) (address_text (target_of m)) (option_text m)) in
     rw (e, none) (neighbor_body c m h)
 
+listener_made : (p : MldRepr × List ℕ) (m : MldRepr) (xs : List ℕ) → p ≡ (m, xs) → ◌≡◌ {A = Icmpv6Repr × List ℕ} (Mld p.0, p.1) (Mld m, xs)
+listener_made p m xs e = rw e refl
+
 -- a message's body is there, and its values are those that were written
 message_again : (c : ℕ) (r : Icmpv6Repr) (octets : List ℕ) → IsMessage r octets → IsBody (head_with c r ++ body r ++ octets) × (icmpv6_in (head_with c r ++ body r ++ octets) ≡ (r, octets))
 unfolding head_with
@@ -159,6 +176,12 @@ message_again c (ParamProblem reason pointer header) octets m =
       problem_made (problem_of (problem_code reason)) reason _ pointer (quoted_in (header_text header ++ octets)) header octets m.0 (number pointer m.1) q.1,
     )
 message_again c (Ndisc message) octets m = neighbor_message c message octets m.0 m.1
+message_again c (Mld (Query code group)) octets m =
+    let l = mld_again.read_again (c / 256 % 256) (c % 256) (Query code group) octets m in
+    (Listener l.0, listener_made _ _ _ l.1)
+message_again c (Mld (Report count)) octets m =
+    let l = mld_again.read_again (c / 256 % 256) (c % 256) (Report count) octets m in
+    (Listener l.0, listener_made _ _ _ l.1)
 
 pub read_again : ReadAgain
 read_again checked summed src dst r octets m both =

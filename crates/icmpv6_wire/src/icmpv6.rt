@@ -7,6 +7,7 @@ ghost use Rattle.wire_base.specs.Checksum.{folded, word_sum};
 ghost use Rattle.icmpv6_wire.specs.Icmpv6 as spec;
 
 use crate::ndisc::NdiscRepr;
+use group_wire::mld::MldRepr;
 use ip_address::IpAddress;
 use ipv6_wire::ipv6_packet::Ipv6Repr;
 use wire_base::checksum::sum_with;
@@ -153,6 +154,8 @@ pub enum Icmpv6Repr {
     },
     /// A solicitation or an advertisement of a neighbour (RFC 4861).
     Ndisc(NdiscRepr),
+    /// A query or a report of groups (RFC 3810).
+    Mld(MldRepr),
 }
 
 impl Icmpv6Repr {
@@ -236,6 +239,10 @@ impl Icmpv6Repr {
                     None => emit_parts(self, &target, &[], payload, src, dst, summed, out),
                 }
             }
+            Icmpv6Repr::Mld(message) => match message.body_octets() {
+                Some(body) => emit_parts(self, &body, &[], payload, src, dst, summed, out),
+                None => emit_parts(self, &[], &[], payload, src, dst, summed, out),
+            },
         }
     }
 
@@ -251,6 +258,7 @@ impl Icmpv6Repr {
             | Icmpv6Repr::TimeExceeded { .. }
             | Icmpv6Repr::ParamProblem { .. } => 48,
             Icmpv6Repr::Ndisc(message) => message.message_len(),
+            Icmpv6Repr::Mld(message) => message.message_len(),
         }
     }
 }
@@ -307,6 +315,10 @@ fn head_with(sum: u16, repr: &Icmpv6Repr) -> [u8; HEADER_LEN]
         Icmpv6Repr::Ndisc(message) => {
             let flags = message.flag_octet();
             [message.message_type(), 0, c0, c1, flags, 0, 0, 0]
+        }
+        Icmpv6Repr::Mld(message) => {
+            let [r0, r1, r2, r3] = message.rest_of();
+            [message.message_type(), 0, c0, c1, r0, r1, r2, r3]
         }
     }
 }
@@ -378,6 +390,10 @@ fn parse_body(octets: &[u8]) -> Option<(Icmpv6Repr, &[u8])>
         (135 | 136, _) => {
             let message = NdiscRepr::parse(octets)?;
             Some((Icmpv6Repr::Ndisc(message), &octets[octets.len()..]))
+        }
+        (130 | 143, _) => {
+            let (message, data) = MldRepr::parse(octets)?;
+            Some((Icmpv6Repr::Mld(message), data))
         }
         _ => None,
     }

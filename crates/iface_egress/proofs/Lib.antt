@@ -1,1 +1,5 @@
+mod Dispatched
+mod Groups
+mod Records
+mod Reporting
 mod Turned

@@ -1,2 +1,3 @@
+pub mod Multicast
 pub mod Told
 pub mod Turns

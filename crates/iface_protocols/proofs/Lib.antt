@@ -1,4 +1,5 @@
 pub mod Processing
 mod Received
 mod Each
+mod Grouping
 mod Messages

@@ -9,6 +9,7 @@ ghost use Rattle.iface_send.specs.Stands.{host_of};
 ghost use Rattle.iface_protocols.specs.Processed.{Processed};
 
 use crate::icmp::deliver;
+use crate::mld::process_mld;
 use crate::ndisc::process_ndisc;
 use control_wire::IcmpRepr;
 use icmpv6_wire::{Icmpv6DstUnreachable, Icmpv6ParamProblem, Icmpv6Repr};
@@ -25,8 +26,8 @@ const IPV6_MIN_MTU: usize = 1280;
 
 /// Takes the payload of a packet with this header, from one host, as an ICMP message (RFC 4443). Each ICMP
 /// socket that takes it gets it, whole. The reply to an echo request is built, in an empty buffer: its
-/// identifier, its number and its data. A message to a neighbour is taken as such (RFC 4861). Nothing else
-/// is answered.
+/// identifier, its number and its data. A message to a neighbour is taken as such (RFC 4861), and a query for
+/// groups (RFC 3810). Nothing else is answered.
 pub fn process_icmpv6(
     context: &mut Context,
     sockets: &mut SocketSet<'_>,
@@ -71,6 +72,7 @@ fn process_message(
             send_back(context, header, reply, contents, out);
         }
         Icmpv6Repr::Ndisc(message) => process_ndisc(context, header, message, out),
+        Icmpv6Repr::Mld(message) => process_mld(context, header, message),
         _ => {}
     }
 }

@@ -5,6 +5,8 @@
 mod icmp;
 pub mod icmpv4;
 pub mod icmpv6;
+pub mod igmp;
+pub mod mld;
 pub mod ndisc;
 pub mod raw;
 pub mod tcp;

@@ -14,6 +14,7 @@ use crate::renewal::renew_sender;
 use control_wire::icmpv4::Icmpv4DstUnreachable;
 use fragmentation::{FragKey, PacketAssemblerSet, reassemble};
 use iface_protocols::icmpv4::{process_icmpv4, refuse};
+use iface_protocols::igmp::process_igmp;
 use iface_protocols::raw;
 use iface_protocols::tcp::process_tcp;
 use iface_protocols::udp::process_udp;
@@ -139,7 +140,7 @@ fn may_be_source(context: &Context, address: &Ipv4Address) -> bool
 }
 
 /// Takes a payload by its protocol, where `by_raw` tells whether a raw socket took the packet. For a
-/// protocol that nobody here speaks an error is sent back; groups (IGMP) aren't there yet.
+/// protocol that nobody here speaks an error is sent back.
 fn process_protocol(
     context: &mut Context,
     sockets: &mut SocketSet<'_>,
@@ -158,7 +159,7 @@ fn process_protocol(
         IpProtocol::Icmp => process_icmpv4(context, sockets, header, payload, out),
         IpProtocol::Udp => process_udp(context, sockets, &packet, payload, by_raw, out),
         IpProtocol::Tcp => process_tcp(context, sockets, &packet, payload, by_raw, out),
-        IpProtocol::Igmp => {}
+        IpProtocol::Igmp => process_igmp(context, header, payload),
         IpProtocol::HopByHop | IpProtocol::Icmpv6 | IpProtocol::Unknown(_) => {
             let reason = Icmpv4DstUnreachable::ProtoUnreachable;
             refuse(context, reason, header, payload, by_raw, out);

@@ -1,3 +1,4 @@
+pub mod Multicast
 pub mod Stands
 pub mod Shown
 pub mod Built

@@ -1,9 +1,9 @@
 -- Packets as values, without where their octets lie in memory.
-use Rattle.std.specs.Prelude.{ℕ, List, drop}
+use Rattle.std.specs.Prelude.{ℕ, List, [], drop}
 use Rattle.control_wire.specs.Icmpv4.{echo_reply_to}
 use Rattle.host_machine.specs.Packet as value
 use Rattle.iface_send.specs.declared.packet.IpPayload.{IpPayload}
-use Rattle.iface_send.specs.declared.packet.IpPayload.TheVariants.{Icmpv4, Icmpv6, EchoReply, Udp, Tcp, Raw}
+use Rattle.iface_send.specs.declared.packet.IpPayload.TheVariants.{Icmpv4, Icmpv6, EchoReply, Udp, Tcp, Raw, Igmp, Mld}
 use Rattle.iface_send.specs.declared.packet.PacketV4.{PacketV4}
 use Rattle.iface_send.specs.declared.packet.PacketV6.{PacketV6}
 use Rattle.iface_send.specs.declared.packet.Packet.{Packet}
@@ -16,6 +16,8 @@ payload (EchoReply request) = value.Icmpv4 (echo_reply_to request.octets.now) (d
 payload (Udp header octets) = value.Udp header octets.now
 payload (Tcp header octets) = value.Tcp header octets.now
 payload (Raw number octets) = value.Raw number octets.now
+payload (Igmp message) = value.Igmp message
+payload (Mld count records) = value.Mld count records.now
 
 -- the octets behind its protocol's header
 abbrev pub octets_behind : IpPayload → List ℕ
@@ -25,6 +27,8 @@ octets_behind (EchoReply request) = drop 8 request.octets.now
 octets_behind (Udp header octets) = octets.now
 octets_behind (Tcp header octets) = octets.now
 octets_behind (Raw number octets) = octets.now
+octets_behind (Igmp message) = []
+octets_behind (Mld count records) = records.now
 
 abbrev pub packet_v4 : PacketV4 → value.PacketV4
 packet_v4 p = record { src_addr = p.src_addr; dst_addr = p.dst_addr; hop_limit = p.hop_limit; payload = payload p.payload }

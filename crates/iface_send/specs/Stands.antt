@@ -30,6 +30,10 @@ host_of c sockets = record {
   reassembly_timeout = c.reassembly_timeout;
   slots = map.empty;
   left = c.fragmenter.pieces;
+  groups = c.multicast.groups;
+  igmp_report = c.multicast.igmp_report;
+  mld_report = c.multicast.mld_report;
+  random = c.rand;
   sockets = sockets;
 }
 

@@ -8,13 +8,15 @@ ghost use Rattle.iface_tables.specs.Neighbor.{AreOf, AreOf-prop};
 ghost use Rattle.host_machine.specs.Host.{is_assigned, no_sockets};
 ghost use Rattle.host_machine.specs.Addresses as addresses;
 
+use crate::membership::Membership;
 use address_selection::{get_source_address_ipv6, ipv6_addr};
 use arrayvec::ArrayVec;
 use fragmentation::Fragmenter;
 use iface_tables::neighbor::Cache;
 use iface_tables::route::Routes;
 use ip_wire::{HardwareAddress, IpAddress, IpCidr, Ipv4Address, Ipv6Address};
-use net_base::phy::DeviceCapabilities;
+use net_base::phy::{ChecksumCapabilities, DeviceCapabilities};
+use net_base::rand::Rand;
 use net_base::time::{Duration, Instant};
 use sockets::SocketContext;
 use sockets::endpoint::is_same_addr;
@@ -22,8 +24,8 @@ use sockets::endpoint::is_same_addr;
 /// How many addresses an interface has at most.
 pub const IFACE_MAX_ADDR_COUNT: usize = 4;
 
-/// What an interface knows: its device, its addresses, its routes, its neighbours, the moment, and what
-/// waits to be sent of a packet that was cut.
+/// What an interface knows: its device, its addresses, its routes, its neighbours, its groups, the moment,
+/// and what waits to be sent of a packet that was cut.
 #[derive(Drop)]
 pub struct Context {
     pub(crate) capabilities: DeviceCapabilities,
@@ -36,6 +38,8 @@ pub struct Context {
     pub(crate) ipv4_id: u16,
     pub(crate) reassembly_timeout: Duration,
     pub(crate) fragmenter: Fragmenter,
+    pub(crate) multicast: Membership,
+    pub(crate) rand: Rand,
     pub ghost timely: { IsMoment moment },
     pub ghost short: { capabilities.max_transmission_unit ≤ 1514 },
     pub ghost long: { 576 ≤ ip_mtu_of capabilities },
@@ -94,6 +98,22 @@ impl Context {
         self.reassembly_timeout
     }
 
+    /// Which checksums the device leaves to the stack.
+    #[inline(always)]
+    pub fn checksum_caps(&self) -> ChecksumCapabilities
+        ensures { result ≡ (host_of self.now no_sockets).capabilities.checksum }
+    {
+        self.capabilities.checksum
+    }
+
+    /// How long the IP packets are that the device takes, in octets.
+    #[inline(always)]
+    pub fn ip_mtu(&self) -> usize
+        ensures { result ≡ ip_mtu_of (host_of self.now no_sockets).capabilities }
+    {
+        self.capabilities.ip_mtu()
+    }
+
     /// Whether pieces of a packet that was cut wait to be sent.
     #[inline(always)]
     pub fn has_waiting_piece(&self) -> bool
@@ -133,17 +153,19 @@ impl Context {
     }
 
     /// Whether the interface is a member of a group: of that of all hosts, 224.0.0.1 or ff02::1 (RFC
-    /// 1112, RFC 4291 2.8), or of the solicited-node group of an address of its own.
+    /// 1112, RFC 4291 2.8), of the solicited-node group of an address of its own, or of one that it
+    /// joined and hasn't left since.
     pub fn has_multicast_group(&self, address: &IpAddress) -> bool
         ensures { result ≡ addresses.has_multicast_group (host_of self.now no_sockets) address.now }
     {
-        match address {
+        let is_member_always = match address {
             IpAddress::Ipv4(address) => address.bits == 0xe000_0001,
             IpAddress::Ipv6(address) => {
                 address.bits == Ipv6Address::LINK_LOCAL_ALL_NODES.bits
                     || self.has_solicited_node(address)
             }
-        }
+        };
+        is_member_always || self.multicast.groups.is_member(address)
     }
 
     /// Whether an address is the solicited-node group of one of the interface's own, other than ::1
@@ -235,6 +257,29 @@ impl Context {
     }
 }
 
+impl Context {
+    ghost use Rattle.std.specs.Prelude.{◌≡◌, ◌/◌, ◌^◌};
+    ghost use Rattle.net_base.specs.Rand.{next};
+    ghost use Rattle.host_machine.specs.Host.{SocketSet};
+    ghost use Rattle.iface_send.specs.Stands.{host_of};
+
+    /// The next random word of 16 bits, for what need not be secret.
+    pub fn rand_u16(&mut self) -> u16
+        ensures word { result ≡ next (host_of self.old no_sockets).random / 2 ^ 48 }
+        ensures drawn { (sockets : SocketSet) → host_of self.new sockets ≡ record (host_of self.old sockets) { random = next (host_of self.old no_sockets).random } }
+    {
+        self.rand.rand_u16()
+    }
+
+    /// The next random word of 32 bits, for what need not be secret.
+    pub fn rand_u32(&mut self) -> u32
+        ensures word { result ≡ next (host_of self.old no_sockets).random / 2 ^ 32 }
+        ensures drawn { (sockets : SocketSet) → host_of self.new sockets ≡ record (host_of self.old sockets) { random = next (host_of self.old no_sockets).random } }
+    {
+        self.rand.rand_u32()
+    }
+}
+
 impl SocketContext for Context {
     ghost use Rattle.host_machine.specs.Addresses as addresses;
 
@@ -279,7 +324,7 @@ fn is_loopback(address: &IpAddress) -> bool
 }
 
 /// Whether an address is the solicited-node group of one of a list.
-fn is_solicited(own: &[IpCidr], address: &Ipv6Address) -> bool
+pub(crate) fn is_solicited(own: &[IpCidr], address: &Ipv6Address) -> bool
     ensures { result ≡ addresses.has_solicited_node own.now address.now }
 {
     own.iter().any(|cidr| is_asked_by(cidr, address))

@@ -5,6 +5,8 @@
 pub mod context;
 pub mod dispatch;
 pub mod fragments;
+mod membership;
+pub mod multicast;
 pub mod neighbors;
 pub mod packet;
 pub mod settings;

@@ -1,15 +1,18 @@
 //! Packets to be sent: their values, with their octets as a slice of where they came from; and their
 //! frames, which are appended to a buffer.
 ghost use Rattle.std.specs.Prelude.{◌≡◌, ◌+◌, ◌-◌, ◌*◌, ◌<◌, ◌≤◌, ◌^◌, ◌++◌, [], length, min};
-ghost use Rattle.host_machine.specs.Frame.{arp_frame, ethertype_of, limited, link_header, packet_text, payload_text};
+ghost use Rattle.host_machine.specs.Frame.{arp_frame, ethertype_of, limited, link_header, mld_options, packet_text, payload_text};
 ghost use Rattle.host_machine.specs.Packet.{IsWritable, IsWritablePayload};
 ghost use Rattle.host_machine.specs.Packet as value;
 ghost use Rattle.host_machine.specs.Dispatch.{destination_of};
 ghost use Rattle.ip_wire.specs.IpPacket.{TellsLength};
+ghost use Rattle.ipv6_wire.specs.HopByHop.{text_len};
 ghost use Rattle.ip_wire.specs.declared.ip_packet.IpRepr.TheVariants as repr;
 ghost use Rattle.iface_send.specs.Shown as shown;
 
+use arrayvec::ArrayVec;
 use control_wire::icmpv4::{EchoRequest, Icmpv4Repr};
+use group_wire::{IgmpRepr, MldRepr};
 use icmpv6_wire::Icmpv6Repr;
 use ip_wire::emit::FrameBuffer;
 use ip_wire::ipv4_packet::{Ipv4Fragment, Ipv4Repr};
@@ -17,6 +20,7 @@ use ip_wire::{
     ArpRepr, EthernetProtocol, EthernetRepr, HardwareAddress, IpAddress, IpProtocol, IpRepr,
     Ipv4Address, Ipv6Address, Ipv6Repr, TcpRepr, UdpRepr,
 };
+use ipv6_wire::{Ipv6HopByHopRepr, Ipv6OptionRepr};
 use net_base::phy::DeviceCapabilities;
 
 /// An IP packet.
@@ -54,6 +58,9 @@ pub enum IpPayload<'p> {
     Udp(UdpRepr, &'p [u8]),
     Tcp(TcpRepr, &'p [u8]),
     Raw(IpProtocol, &'p [u8]),
+    Igmp(IgmpRepr),
+    /// A report of MLD: how many records it has, and their octets.
+    Mld(u16, &'p [u8]),
 }
 
 impl IpPayload<'_> {
@@ -67,6 +74,8 @@ impl IpPayload<'_> {
             IpPayload::Udp(..) => IpProtocol::Udp,
             IpPayload::Tcp(..) => IpProtocol::Tcp,
             IpPayload::Raw(protocol, _) => *protocol,
+            IpPayload::Igmp(_) => IpProtocol::Igmp,
+            IpPayload::Mld(..) => IpProtocol::HopByHop,
         }
     }
 
@@ -82,6 +91,8 @@ impl IpPayload<'_> {
             IpPayload::Udp(_, octets) => 8 + octets.len(),
             IpPayload::Tcp(_, octets) => 20 + octets.len(),
             IpPayload::Raw(_, octets) => octets.len(),
+            IpPayload::Igmp(_) => group_wire::igmp::HEADER_LEN,
+            IpPayload::Mld(_, records) => 16 + records.len(),
         }
     }
 
@@ -95,7 +106,9 @@ impl IpPayload<'_> {
             | IpPayload::Icmpv6(_, octets)
             | IpPayload::Udp(_, octets)
             | IpPayload::Tcp(_, octets)
-            | IpPayload::Raw(_, octets) => octets,
+            | IpPayload::Raw(_, octets)
+            | IpPayload::Mld(_, octets) => octets,
+            IpPayload::Igmp(_) => &[],
         }
     }
 }
@@ -309,6 +322,47 @@ pub fn emit_payload_header(
             segment.emit_header(&src, &dst, octets, capabilities.checksum.tcp.tx(), out);
         }
         IpPayload::Raw(..) => {}
+        IpPayload::Igmp(message) => out.append(&message.octets()),
+        IpPayload::Mld(count, records) => {
+            emit_mld_header(header, *count, records, capabilities, out);
+        }
+    }
+}
+
+/// Appends a report of MLD up to its records: the options by which routers look at it, and its header
+/// with its checksum where that is on (RFC 3810 5.2).
+#[inline(never)]
+fn emit_mld_header(
+    header: &IpRepr,
+    count: u16,
+    records: &[u8],
+    capabilities: &DeviceCapabilities,
+    out: &mut FrameBuffer,
+)
+    requires short { 16 + length records.now < 2 ^ 16 }
+    requires room { length out.old + 16 ≤ 1514 }
+    ensures items { out.new ++ records.now ≡ out.old ++ payload_text capabilities.now header.now (value.Mld count records.now) }
+    ensures len { length out.new ≡ length out.old + 16 }
+{
+    router_alert().emit(out);
+    let (src, dst) = (header.src_addr(), header.dst_addr());
+    let report = Icmpv6Repr::Mld(MldRepr::Report {
+        nr_mcast_addr_rcrds: count,
+    });
+    report.emit_header(&src, &dst, records, capabilities.checksum.icmpv6.tx(), out);
+}
+
+/// The options of a report of MLD: routers look at it (RFC 2711), and they are padded to eight octets.
+fn router_alert() -> Ipv6HopByHopRepr
+    ensures value { result ≡ mld_options }
+    ensures len { text_len result ≡ 8 }
+{
+    let mut options = ArrayVec::new();
+    options.push(Ipv6OptionRepr::RouterAlert(0));
+    options.push(Ipv6OptionRepr::PadN(0));
+    Ipv6HopByHopRepr {
+        next_header: IpProtocol::Icmpv6,
+        options,
     }
 }
 

@@ -5,27 +5,32 @@ ghost use Rattle.net_base.specs.Time.{IsMoment};
 ghost use Rattle.net_base.specs.Checksum.{ip_mtu_of};
 ghost use Rattle.ip_address.specs.Hardware.{IsOf, medium_of};
 ghost use Rattle.host_machine.specs.Host.{SocketSet, at, no_sockets};
-ghost use Rattle.host_machine.specs.Step.{flushed};
+ghost use Rattle.host_machine.specs.Step.{moved};
+ghost use Rattle.group_table.specs.declared.report.IgmpReportState.TheVariants as igmp;
+ghost use Rattle.group_table.specs.declared.report.MldReportState.TheVariants as mld;
 ghost use Rattle.iface_send.specs.Stands.{host_of, with_routes};
 ghost use Rattle.std.specs.Borrow.{sem, Lends};
 ghost use Rattle.iface_tables.specs.contracts.route.Routes.{the_row as routes_row};
 ghost use Rattle.iface_send.specs.contracts.context.Context.{the_row as context_row};
 
 use crate::context::{Context, IFACE_MAX_ADDR_COUNT};
+use crate::membership::{Membership, update_solicited_node_groups};
 use arrayvec::ArrayVec;
 use fragmentation::Fragmenter;
 use iface_tables::neighbor::Cache;
 use iface_tables::route::Routes;
 use ip_wire::{HardwareAddress, IpCidr};
 use net_base::phy::DeviceCapabilities;
+use net_base::rand::Rand;
 use net_base::time::{Duration, Instant};
 
 /// The context of an interface over a device with these capabilities: no address, no route, no
-/// neighbour.
+/// neighbour, no group.
 pub fn new(
     capabilities: DeviceCapabilities,
     hardware_addr: HardwareAddress,
     ipv4_id: u16,
+    rand: Rand,
     now: Instant,
 ) -> Context
     requires timely { IsMoment now }
@@ -45,6 +50,10 @@ pub fn new(
       reassembly_timeout = 60000000;
       slots = map.empty;
       left = [];
+      groups = [];
+      igmp_report = igmp.Inactive;
+      mld_report = mld.Inactive;
+      random = rand;
       sockets = sockets;
     } }
 {
@@ -59,6 +68,8 @@ pub fn new(
         ipv4_id,
         reassembly_timeout: Duration::from_secs(60),
         fragmenter: Fragmenter::new(),
+        multicast: Membership::new(),
+        rand,
     }
 }
 
@@ -70,12 +81,18 @@ pub fn set_moment(context: &mut Context, now: Instant)
     context.moment = now;
 }
 
-/// Replaces the addresses, and forgets all neighbours.
+/// Replaces the addresses, forgets all neighbours, and leaves and joins solicited-node groups so that
+/// they are those of the addresses.
 pub fn set_ip_addrs(context: &mut Context, list: ArrayVec<IpCidr, IFACE_MAX_ADDR_COUNT>)
-    ensures { (sockets : SocketSet) → host_of context.new sockets ≡ record (host_of context.old sockets) { ip_addrs = list.items; neighbors = flushed (host_of context.old sockets).neighbors } }
+    ensures { (sockets : SocketSet) → host_of context.new sockets ≡ moved (host_of context.old sockets) list.items }
 {
     context.ip_addrs = list;
     context.neighbor_cache.flush();
+    update_solicited_node_groups(
+        &context.hardware_addr,
+        context.ip_addrs.as_slice(),
+        &mut context.multicast.groups,
+    );
 }
 
 /// Takes every address for an own one, or no longer.

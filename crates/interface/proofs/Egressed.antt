@@ -8,38 +8,63 @@ use Rattle.fragmentation.specs.Slots.{Slots}
 use Rattle.fragmentation.specs.Stands.{StandForSlots}
 use Rattle.host_machine.specs.declared.results.PollResult.{PollResult}
 use Rattle.host_machine.specs.Host.{Host, SocketSet, at}
-use Rattle.host_machine.specs.Egress.{SocketsSend, Round, Egress, answer_of}
+use Rattle.host_machine.specs.Parts.{Part, Both}
+use Rattle.host_machine.specs.Multicast.{TellsJoins, TellsLeaves}
+use Rattle.host_machine.specs.Reports.{SendsIgmpReport, SendsMldReport}
+use Rattle.host_machine.specs.Egress.{SendsPiece, SocketsSend, Round, Egress, answer_of}
 use Rattle.iface_send.specs.declared.context.Context.{Context}
 use Rattle.iface_send.specs.Stands.{host_in}
 use Rattle.iface_protocols.specs.Processed.{StandsFor}
 use Rattle.iface_egress.specs.Told.{Told}
-use Rattle.iface_egress.specs.Turns.{PieceHasTurn}
+use Rattle.iface_egress.specs.Multicast.{HasPart}
 use Rattle.interface.specs.Goes.{Went}
 
-module _ {D : Type 0} {tells : D → List Event → D → Type 0} where
-  -- one call that sends at its moment: the turn of the pieces, and then those of the sockets
-  pub egressed : {d m e : D} (c c' c'' : Context) (places : List (Assembly FragKey)) (s s' : SocketSet) (t : ℤ) (H : Host) (slots : Slots) (changed : Bool) (answer : PollResult) →
-      ((a b c : D) (xs ys : List Event) → tells a xs b → tells b ys c → tells a (xs ++ ys) c) → StandForSlots places slots → at H t ≡ host_in c slots s →
-      Told tells d m (PieceHasTurn c) c' → Told tells m e (SocketsSend (host_in c' slots s) changed) (host_in c'' slots s') → answer ≡ answer_of changed → Went tells d e (Egress t answer H) (StandsFor c'' places s')
-  egressed {d} {m} {e} c c' c'' places s s' t H slots changed answer tells_on stand same piece served answers = record {
-    told = piece.told ++ served.told;
-    notes = piece.notes ++ served.notes;
-    host = host_in c'' slots s';
-    tells_it = tells_on d m e piece.told served.told piece.tells_it served.tells_it;
-    steps = record {
-      changed = changed;
-      round = subst (λ M. Round changed M (piece.told ++ served.told) (piece.notes ++ served.notes) (host_in c'' slots s')) (sym same) (record {
-        mid = host_in c' slots s;
-        told_one = piece.told;
-        told_two = served.told;
-        notes_one = piece.notes;
-        notes_two = served.notes;
-        begins = piece.follows slots s;
-        ends = served.follows;
-        events = refl;
-        all_notes = refl;
-      });
-      answers = answers;
+module _ {D : Type 0} {tells : D → List Event → D → Type 0} (tells_on : (a b c : D) (xs ys : List Event) → tells a xs b → tells b ys c → tells a (xs ++ ys) c) where
+  -- one part, and then the others
+  both : {d m e : D} (first others : Part) (H mid new : Host) → Told tells d m (first H) mid → Told tells m e (others mid) new → Told tells d e (Both first others H) new
+  both {d} {m} {e} first others H mid new one two = record {
+    told = one.told ++ two.told;
+    notes = one.notes ++ two.notes;
+    tells_it = tells_on d m e one.told two.told one.tells_it two.tells_it;
+    follows = record {
+      mid = mid;
+      told_one = one.told;
+      told_two = two.told;
+      notes_one = one.notes;
+      notes_two = two.notes;
+      begins = one.follows;
+      ends = two.follows;
+      events = refl;
+      all_notes = refl;
     };
-    stands = record { slots = slots; stand = stand; same = refl };
   }
+
+  -- a part over what an interface keeps, with these slots and sockets
+  over : {d e : D} (part : Part) (c c' : Context) (slots : Slots) (s : SocketSet) → Told tells d e (HasPart part c) c' → Told tells d e (part (host_in c slots s)) (host_in c' slots s)
+  over part c c' slots s one = record { told = one.told; notes = one.notes; tells_it = one.tells_it; follows = one.follows slots s }
+
+  -- one call that sends at its moment: the pieces, the groups, the reports, and then the sockets
+  pub egressed : {d d1 d2 d3 d4 d5 e : D} (c c1 c2 c3 c4 c5 c6 : Context) (places : List (Assembly FragKey)) (s s' : SocketSet) (t : ℤ) (H : Host) (slots : Slots) (changed : Bool) (answer : PollResult) →
+      StandForSlots places slots → at H t ≡ host_in c slots s → Told tells d d1 (HasPart SendsPiece c) c1 → Told tells d1 d2 (HasPart TellsJoins c1) c2 → Told tells d2 d3 (HasPart TellsLeaves c2) c3 →
+      Told tells d3 d4 (HasPart SendsIgmpReport c3) c4 → Told tells d4 d5 (HasPart SendsMldReport c4) c5 → Told tells d5 e (SocketsSend (host_in c5 slots s) changed) (host_in c6 slots s') → answer ≡ answer_of changed →
+      Went tells d e (Egress t answer H) (StandsFor c6 places s')
+  egressed c c1 c2 c3 c4 c5 c6 places s s' t H slots changed answer stand same piece joins leaves igmp mld served answers =
+      let whole : Context → Host = λ c. host_in c slots s in
+      let last : Part = λ old told notes new. SocketsSend old changed told notes new in
+      let end : Host = host_in c6 slots s' in
+      let reports = both SendsMldReport last (whole c4) (whole c5) end (over SendsMldReport c4 c5 slots s mld) served in
+      let both_reports = both SendsIgmpReport (Both SendsMldReport last) (whole c3) (whole c4) end (over SendsIgmpReport c3 c4 slots s igmp) reports in
+      let leaving = both TellsLeaves (Both SendsIgmpReport (Both SendsMldReport last)) (whole c2) (whole c3) end (over TellsLeaves c2 c3 slots s leaves) both_reports in
+      let joining = both TellsJoins (Both TellsLeaves (Both SendsIgmpReport (Both SendsMldReport last))) (whole c1) (whole c2) end (over TellsJoins c1 c2 slots s joins) leaving in
+      let round = both SendsPiece (Both TellsJoins (Both TellsLeaves (Both SendsIgmpReport (Both SendsMldReport last)))) (whole c) (whole c1) end (over SendsPiece c c1 slots s piece) joining in record {
+        told = round.told;
+        notes = round.notes;
+        host = host_in c6 slots s';
+        tells_it = round.tells_it;
+        steps = record {
+          changed = changed;
+          round = subst (λ M. Round changed M round.told round.notes (host_in c6 slots s')) (sym same) round.follows;
+          answers = answers;
+        };
+        stands = record { slots = slots; stand = stand; same = refl };
+      }

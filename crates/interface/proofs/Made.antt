@@ -5,6 +5,9 @@ use Rattle.std.specs.FinMap as map
 use Rattle.std.proofs.lemmas.Bool.Decides.{nat_tests}
 use Rattle.net_base.specs.declared.phy.DeviceCapabilities.{DeviceCapabilities}
 use Rattle.net_base.specs.Checksum.{ip_mtu_of}
+use Rattle.net_base.specs.Rand.{next}
+use Rattle.group_table.specs.declared.report.IgmpReportState.TheVariants as igmp
+use Rattle.group_table.specs.declared.report.MldReportState.TheVariants as mld
 use Rattle.ip_address.specs.declared.hardware.HardwareAddress.{HardwareAddress}
 use Rattle.ip_address.specs.Hardware.{medium_of, is_unicast}
 use Rattle.fragmentation.specs.declared.key.FragKey.{FragKey}
@@ -21,7 +24,7 @@ pub not_refused : (c : DeviceCapabilities) (h : HardwareAddress) → same_medium
 not_refused c h same unicast low high = rw (same, unicast) (grind (arith, nat_tests))
 
 -- the interface is made
-pub made : (c d : DeviceCapabilities) (h : HardwareAddress) (seed id : ℕ) (t : ℤ) (context : Context) (places : List (Assembly FragKey)) → c ≡ d → id ≡ first_id seed → refusal_of c h ≡ None →
+pub made : (c d : DeviceCapabilities) (h : HardwareAddress) (seed id random : ℕ) (t : ℤ) (context : Context) (places : List (Assembly FragKey)) → c ≡ d → id ≡ first_id seed → random ≡ next seed → refusal_of c h ≡ None →
     StandForSlots places map.empty → ((sockets : SocketSet) → host_of context sockets ≡ record {
       capabilities = c;
       hardware_addr = h;
@@ -34,12 +37,16 @@ pub made : (c d : DeviceCapabilities) (h : HardwareAddress) (seed id : ℕ) (t :
       reassembly_timeout = 60000000;
       slots = map.empty;
       left = [];
+      groups = [];
+      igmp_report = igmp.Inactive;
+      mld_report = mld.Inactive;
+      random = random;
       sockets = sockets;
     }) →
     (refusal_of d h ≡ None) × ((sockets : SocketSet) → StandsFor context places sockets (first_host d h seed t sockets))
-made c d h seed id t context places same is allowed stand makes = (
+made c d h seed id random t context places same is drawn allowed stand makes = (
   rw (← same) allowed,
   λ sockets.
-      let begins : host_of context sockets ≡ first_host d h seed t sockets = rw (← same, ← is) (makes sockets) in
+      let begins : host_of context sockets ≡ first_host d h seed t sockets = rw (← same, ← is, ← drawn) (makes sockets) in
       record { slots = map.empty; stand = stand; same = sym (ap (λ H. with_slots H map.empty) begins) },
 )

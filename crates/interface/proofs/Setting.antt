@@ -1,5 +1,10 @@
 -- Calls that set something, over plain variables.
-use Rattle.std.proofs.Common.{◌≡◌, List, ap, sym, ◌∙◌}
+use Rattle.std.proofs.Common.{◌≡◌, Bool, true, false, List, Ok, Err, refl, ap, sym, ◌∙◌}
+use Rattle.std.specs.Prelude.{Result}
+use Rattle.ip_address.specs.declared.ip.IpAddress.{IpAddress}
+use Rattle.group_table.specs.declared.groups.Group.{Group}
+use Rattle.group_table.specs.declared.groups.GroupTableFull.{GroupTableFull}
+use Rattle.group_table.specs.Groups.{done_or_full, is_refused}
 use Rattle.fragmentation.specs.declared.key.FragKey.{FragKey}
 use Rattle.fragmentation.specs.Assembly.{Assembly}
 use Rattle.fragmentation.specs.Slots.{Slots}
@@ -26,3 +31,16 @@ module _ (c c' : Context) (places : List (Assembly FragKey)) (sockets : SocketSe
 -- nothing changes, by a rule that allows it
 pub kept : {Rule : Host → Host → Type 0} {after : Host → Type 0} (H : Host) → after H → Rule H H → Led Rule H after
 kept H stands follows = record { host = H; follows = follows; stands = stands }
+
+-- a join that is answered so is taken, or finds no place
+pub has_place : (groups : List Group) (a : IpAddress) (r : Result (Unit {0}) GroupTableFull) → r ≡ done_or_full groups a → r ≡ Ok tt → is_refused groups a ≡ false
+has_place groups a r answers ok = by (is_refused groups a) refl where
+  by : (b : Bool) → is_refused groups a ≡ b → is_refused groups a ≡ false
+  by true is = absurd (let e = rw is at (sym answers ∙ ok) in cc)
+  by false is = is
+
+pub has_none : (groups : List Group) (a : IpAddress) (r : Result (Unit {0}) GroupTableFull) (error : GroupTableFull) → r ≡ done_or_full groups a → r ≡ Err error → is_refused groups a ≡ true
+has_none groups a r error answers err = by (is_refused groups a) refl where
+  by : (b : Bool) → is_refused groups a ≡ b → is_refused groups a ≡ true
+  by true is = is
+  by false is = absurd (let e = rw is at (sym answers ∙ err) in cc)

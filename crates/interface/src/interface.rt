@@ -6,6 +6,7 @@ ghost use Rattle.host_machine.specs.Config.{same_medium, hardware_refusal_of};
 ghost use Rattle.host_machine.specs.Host.{SocketSet, are_assignable};
 ghost use Rattle.host_machine.specs.Ingress.{Takes};
 ghost use Rattle.net_base.specs.Device.{Frame};
+ghost use Rattle.net_base.specs.Rand.{next};
 ghost use Rattle.iface_protocols.specs.Processed.{Answers};
 ghost use Rattle.iface_protocols.specs.Processed as processed;
 
@@ -13,12 +14,15 @@ use crate::polling::{poll_at, poll_result};
 use arrayvec::ArrayVec;
 use fragmentation::{FragKey, PacketAssemblerSet};
 use host_machine::{
-    AddrError, HardwareError, NewError, PollIngressSingleResult, PollResult, TimeoutError,
+    AddrError, HardwareError, MulticastError, NewError, PollIngressSingleResult, PollResult,
+    TimeoutError,
 };
 use iface_egress::egress::{ipv4_egress, socket_egress};
+use iface_egress::multicast::{igmp_egress, joins_egress, leaves_egress, mld_egress};
 use iface_egress::transmit::send_frame;
 use iface_receive::ethernet::process_frame;
 use iface_send::context::IFACE_MAX_ADDR_COUNT;
+use iface_send::multicast::{join_group, leave_group};
 use iface_send::settings::{
     routes_mut, set_any_ip, set_hardware_addr, set_ip_addrs, set_moment, set_reassembly_timeout,
 };
@@ -85,6 +89,7 @@ impl Interface {
     ghost use Rattle.host_machine.specs.Real.{IsReal};
     ghost use Rattle.host_machine.specs.Host.{Host, at, swept};
     ghost use Rattle.host_machine.specs.Egress.{Egress};
+    ghost use Rattle.host_machine.specs.Multicast.{JoinsGroup, LeavesGroup};
     ghost use Rattle.host_machine.specs.Polling.{Polls, Receives, Sends, maintained};
     ghost use Rattle.host_machine.specs.Due.{Due, IsLeast, IsRest};
     ghost use Rattle.host_machine.specs.Step.{UpdatesIpAddrs, SetsHardwareAddr, SetsReassemblyTimeout};
@@ -124,9 +129,10 @@ impl Interface {
         if capabilities.max_transmission_unit > FRAME_BUFFER_SIZE {
             return Err(NewError::MtuTooLarge);
         }
-        let ipv4_id = first_id(config.random_seed);
+        let mut rand = Rand::new(config.random_seed);
+        let ipv4_id = first_id(&mut rand);
         Ok(Interface {
-            context: settings::new(capabilities, config.hardware_addr, ipv4_id, now),
+            context: settings::new(capabilities, config.hardware_addr, ipv4_id, rand, now),
             fragments: PacketAssemblerSet::new(),
             receive_buffer: [0; FRAME_BUFFER_SIZE],
             transmit_buffer: FrameBuffer::new(),
@@ -220,8 +226,8 @@ impl Interface {
         self.context.has_ip_addr(&address)
     }
 
-    /// The source for a destination: for IPv4 as [`Interface::get_source_address_ipv4`] says, for IPv6
-    /// none yet.
+    /// The source for a destination, by its family: as [`Interface::get_source_address_ipv4`] or
+    /// [`Interface::get_source_address_ipv6`] says.
     pub fn get_source_address(&self, dst_addr: &IpAddress) -> Option<IpAddress>
         ensures { (sockets : SocketSet) → result ≡ addresses.source_for (host_with self.now sockets).ip_addrs dst_addr.now }
     {
@@ -229,11 +235,42 @@ impl Interface {
     }
 
     /// Whether the interface is a member of a group: of that of all hosts, 224.0.0.1 or ff02::1 (RFC
-    /// 1112, RFC 4291 2.8), or of the solicited-node group of an address of its own.
+    /// 1112, RFC 4291 2.8), of the solicited-node group of an address of its own, or of one that it
+    /// joined and hasn't left since.
     pub fn has_multicast_group(&self, address: IpAddress) -> bool
         ensures { (sockets : SocketSet) → result ≡ addresses.has_multicast_group (host_with self.now sockets) address }
     {
         self.context.has_multicast_group(&address)
+    }
+
+    /// Joins a group: from now on packets to it are taken, and the next call that sends tells routers of it
+    /// (RFC 2236 3, RFC 3810 6.1), unless they count the interface as a member already. `Unaddressable`
+    /// exactly if it is no group's address, and else `GroupTableFull` exactly if the interface isn't in
+    /// the group and eight other groups are there, those counted whose leave isn't told yet; then
+    /// nothing changes.
+    pub fn join_multicast_group(&mut self, group: IpAddress) -> Result<(), MulticastError>
+        ensures { Follows self.old self.new (JoinsGroup group result) }
+    {
+        if !group.is_multicast() {
+            return Err(MulticastError::Unaddressable);
+        }
+        match join_group(&mut self.context, group) {
+            Ok(()) => Ok(()),
+            Err(_) => Err(MulticastError::GroupTableFull),
+        }
+    }
+
+    /// Leaves a group: from now on packets to it aren't taken, and the next call that sends tells routers of
+    /// it, if they were told of the join. Nothing changes if the interface isn't in the group.
+    /// `Unaddressable` exactly if it is no group's address; then nothing changes.
+    pub fn leave_multicast_group(&mut self, group: IpAddress) -> Result<(), MulticastError>
+        ensures { Follows self.old self.new (LeavesGroup group result) }
+    {
+        if !group.is_multicast() {
+            return Err(MulticastError::Unaddressable);
+        }
+        leave_group(&mut self.context, &group);
+        Ok(())
     }
 
     /// Whether the interface takes every address for an own one.
@@ -284,9 +321,10 @@ impl Interface {
         routes_mut(&mut self.context)
     }
 
-    /// Replaces the addresses by what a function makes of them, and forgets all neighbours.
-    /// `NotUnicast` exactly if some address of the new list is neither unicast nor unspecified; then
-    /// nothing changes, and no neighbour is forgotten.
+    /// Replaces the addresses by what a function makes of them, and forgets all neighbours. On Ethernet it
+    /// leaves the solicited-node groups of no own address, and joins those of the new addresses as far as
+    /// there is room (RFC 4861 7.2.1). `NotUnicast` exactly if some address of the new list is neither unicast
+    /// nor unspecified; then nothing changes, and no neighbour is forgotten.
     pub fn update_ip_addrs<F>(&mut self, f: F) -> Result<(), AddrError>
     where
         F: FnOnce(ArrayVec<IpCidr, IFACE_MAX_ADDR_COUNT>) -> ArrayVec<IpCidr, IFACE_MAX_ADDR_COUNT>,
@@ -363,9 +401,12 @@ impl Interface {
         }
     }
 
-    /// Sets the moment, and sends the next piece of a packet that was cut, if one waits; and then what the
-    /// sockets have to send: one packet of each in order, until the device refuses leave. Answers whether a
-    /// packet of a socket counts as gone.
+    /// Sets the moment, and sends in this order: the next piece of a packet that was cut, if one waits; what
+    /// tells routers of groups that were joined, and of those that are left; the next report that answers a
+    /// query of IGMP, and that which answers one of MLD, if they are due; and then what the sockets have to
+    /// send, one packet of each in order. A refused leave to send ends the joins, the leaves or the sockets,
+    /// each by itself; it keeps a report of IGMP, and gives up one of MLD. Answers whether a packet of a
+    /// socket counts as gone.
     pub fn poll_egress<D: Device>(
         &mut self,
         timestamp: Instant,
@@ -378,6 +419,10 @@ impl Interface {
         set_moment(&mut self.context, timestamp);
         let buffer = &mut self.transmit_buffer;
         ipv4_egress(&mut self.context, device, buffer);
+        joins_egress(&mut self.context, device, buffer);
+        leaves_egress(&mut self.context, device, buffer);
+        igmp_egress(&mut self.context, device, buffer);
+        mld_egress(&mut self.context, device, buffer);
         poll_result(socket_egress(&mut self.context, device, buffer, sockets))
     }
 
@@ -527,11 +572,12 @@ fn are_assignable(list: &[IpCidr]) -> bool
     })
 }
 
-/// The first identification: a word from the seed, and 1 in place of 0.
-fn first_id(seed: u64) -> u16
-    ensures { result ≡ config.first_id seed }
+/// The first identification: a random word, and 1 in place of 0.
+fn first_id(rand: &mut Rand) -> u16
+    ensures value { result ≡ config.first_id rand.old }
+    ensures drawn { rand.new ≡ next rand.old }
 {
-    let word = Rand::new(seed).rand_u16();
+    let word = rand.rand_u16();
     if word == 0 { 1 } else { word }
 }
 

@@ -11,8 +11,8 @@ pub mod interface;
 mod polling;
 
 pub use host_machine::{
-    AddrError, Answer, Command, HardwareError, NewError, PollIngressSingleResult, PollResult,
-    TimeoutError,
+    AddrError, Answer, Command, HardwareError, MulticastError, NewError, PollIngressSingleResult,
+    PollResult, TimeoutError,
 };
 pub use iface_send::{Context, IpPayload, Packet, PacketV4};
 pub use interface::{Config, Interface};

@@ -4,11 +4,13 @@ ghost use Rattle.fragmentation.specs.Slots.{Slots};
 ghost use Rattle.host_machine.specs.Host.{SocketSet, no_sockets};
 ghost use Rattle.host_machine.specs.Dispatch.{KnowsNextHop};
 ghost use Rattle.host_machine.specs.Due as spec;
-ghost use Rattle.host_machine.specs.Due.{Due, IsLeast};
+ghost use Rattle.host_machine.specs.Due.{Due, IsLeast, of_groups};
 ghost use Rattle.host_machine.specs.Egress.{answer_of};
 ghost use Rattle.iface_send.specs.Stands.{host_in, host_of};
 
+use group_table::GroupState;
 use host_machine::PollResult;
+use iface_egress::multicast::{group_poll_at, igmp_poll_at, mld_poll_at};
 use iface_send::Context;
 use iface_send::dispatch::has_neighbor;
 use ip_wire::IpAddress;
@@ -16,8 +18,8 @@ use net_base::time::Instant;
 use socket_set::SocketSet;
 use sockets::{PollAt, SocketContext};
 
-/// The least instant at which something is due, if anything is: a piece that waits at once, and a socket
-/// at its own instant or at the end of its wait.
+/// The least instant at which something is due, if anything is: at once a piece that waits and a group of
+/// which it is to be told, a report at its time, and a socket at its own instant or at the end of its wait.
 pub fn poll_at(context: &Context, sockets: &SocketSet<'_>) -> Option<Instant>
     ensures { (slots : Slots) → IsLeast (Due (host_in context.now slots sockets.now)) result }
 {
@@ -33,7 +35,16 @@ pub fn poll_at(context: &Context, sockets: &SocketSet<'_>) -> Option<Instant>
         );
         least = sooner(least, instant_of(own));
     }
-    sooner(piece_poll_at(context), least)
+    sooner(piece_poll_at(context), groups_poll_at(context, least))
+}
+
+/// The sooner of an instant and of those at which something is to be told of groups.
+fn groups_poll_at(context: &Context, other: Option<Instant>) -> Option<Instant>
+    ensures { result ≡ of_groups (host_of context.now no_sockets) other }
+{
+    let reports = sooner(igmp_poll_at(context), sooner(mld_poll_at(context), other));
+    let leaves = sooner(group_poll_at(context, GroupState::Leaving), reports);
+    sooner(group_poll_at(context, GroupState::Joining), leaves)
 }
 
 /// The instant at which a piece that waits is due, if one waits: at once.

@@ -8,11 +8,17 @@ mod fragments;
 #[cfg(test)]
 mod frames;
 #[cfg(test)]
+mod groups;
+#[cfg(test)]
 mod kinds;
 #[cfg(test)]
 mod packets;
 #[cfg(test)]
 mod polling;
+#[cfg(test)]
+mod queries;
+#[cfg(test)]
+mod queries_v6;
 #[cfg(test)]
 mod receiving;
 #[cfg(test)]

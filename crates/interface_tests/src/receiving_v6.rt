@@ -1,6 +1,6 @@
 // Frames of IPv6 that a host takes from its device, and what it sends and delivers then.
 
-use crate::script::{acquainted_v6, at_home_v6, each_acquainted_v6};
+use crate::script::{acquainted_v6, at_home_v6, bare, each_acquainted_v6};
 
 // A solicitation is answered, and its sender known; from behind a router it isn't, nor for an address of
 // another, nor to the group of another.
@@ -202,7 +202,7 @@ fn a_segment_for_nobody_is_reset(rt: HostRuntime) {
 // A packet is read as IPv6 on a medium without hardware addresses, too.
 #[test]
 fn packets_need_no_neighbors(rt: HostRuntime) {
-    at_home_v6(
+    bare(
         &rt,
         "host ip ip 1500
         addr fe800000000000000000000000000001/64

@@ -13,6 +13,8 @@
 //! | `own? ADDR` `= yes`, `no` | whether it takes this one for its own |
 //! | `member? ADDR` `= yes`, `no` | whether it is a member of this group |
 //! | `source? ADDR` `= ADDR` | from which address it sends to this IPv6 destination |
+//! | `join GROUP` `= ok`, `GroupTableFull`, `Unaddressable` | it joins this group |
+//! | `leave GROUP` `= ok`, `Unaddressable` | it leaves this group |
 //! | `anyip` | it takes every address for its own |
 //! | `hardware HARDWARE` | it gets this hardware address |
 //! | `hardware?` `= HARDWARE`, `none` | it has this one |
@@ -24,7 +26,7 @@
 //! | `timeout?` `= MICROS` | they stand for so long |
 //! | `rx FRAME ..` | a frame arrives: these, one behind the other |
 //! | `rx?` `= COUNT` | so many frames wait |
-//! | `refuse` | the device will refuse the next question for leave |
+//! | `refuse [COUNT]` | the device will refuse the next question for leave, or the one behind so many |
 //! | `ingress T`, `egress T`, `poll T BUDGET`, `maintain T` | the host is polled |
 //! | `at T` `= T`, `none` | when it has to be polled again |
 //! | `delay T` `= SPAN`, `none` | how long it is until then |
@@ -41,11 +43,13 @@ use crate::words::{
 use host_machine::TimeoutError;
 use iface_tables::route::{Route, RouteTableFull};
 use interface::{
-    AddrError, Answer, Command, HardwareError, NewError, PollIngressSingleResult, PollResult,
+    AddrError, Answer, Command, HardwareError, MulticastError, NewError, PollIngressSingleResult,
+    PollResult,
 };
 use ip_wire::IpAddress;
 use net_base::phy::{ChecksumCapabilities, Device, DeviceCapabilities};
 use net_base::time::Duration;
+use std::alloc::Global;
 use std::process::Abort;
 
 /// Runs a script on a host without addresses.
@@ -101,9 +105,21 @@ pub fn each_acquainted_v6(rt: &(impl Abort + AllocGlobal), scripts: &[&str]) {
     }
 }
 
-const AT_HOME_V6: &str = "addr fe800000000000000000000000000001/64";
+/// Runs scripts that begin alike, each on a host without addresses. One that comes otherwise runs again: where
+/// there is no memory for a report, it is given up, or goes behind what has to come later.
+pub fn each_reporting(rt: &(impl Abort + AllocGlobal), first: &str, scripts: &[&str]) {
+    for script in scripts {
+        if !comes(rt.alloc(), first, script) {
+            runs(rt, first, script);
+        }
+    }
+}
+
+const AT_HOME_V6: &str = "addr fe800000000000000000000000000001/64
+    egress 0 = None tx JOIN_1";
 
 const ACQUAINTED_V6: &str = "addr fe800000000000000000000000000001/64
+    egress 0 = None tx JOIN_1
     rx SOLICIT_1
     ingress 0 = SocketStateChanged tx ADVERT_1";
 
@@ -117,6 +133,21 @@ const AT_HOME: &str = "addr c0a84501/24";
 const ACQUAINTED: &str = "addr c0a84501/24
     rx REQUEST
     ingress 0 = SocketStateChanged tx REPLY";
+
+// Whether two parts of a script come as they say, on a new host.
+fn comes(alloc: Global, first: &str, second: &str) -> bool {
+    let Ok(mut host) = Host::new(alloc, OWN, ETHERNET) else {
+        return false;
+    };
+    for part in [first, second] {
+        for line in part.lines() {
+            if host.follow(line) != Some(true) {
+                return false;
+            }
+        }
+    }
+    host.kept && host.device.queued() == 0
+}
 
 // Runs two parts of a script on a new host, at which no frame may wait in the end.
 fn runs(rt: &(impl Abort + AllocGlobal), first: &str, second: &str) {
@@ -206,6 +237,14 @@ impl Host {
                 let source = self.interface.get_source_address_ipv6(&dst_addr);
                 Some(source == address_v6(outcome.next()?)?)
             }
+            "join" => self.asks(
+                Command::JoinMulticastGroup(any_address(call.next()?)?),
+                outcome,
+            ),
+            "leave" => self.asks(
+                Command::LeaveMulticastGroup(any_address(call.next()?)?),
+                outcome,
+            ),
             "anyip" => self.asks(Command::SetAnyIp(true), outcome),
             "hardware" => self.asks(Command::SetHardwareAddr(hardware(call.next()?)?), outcome),
             "hardware?" => self.is_at(outcome.next()?),
@@ -235,7 +274,11 @@ impl Host {
             }
             "rx?" => Some(self.device.queued() == count(outcome.next()?)?),
             "refuse" => {
-                self.refuse_once()?;
+                let given = match call.next() {
+                    Some(word) => count(word)?,
+                    None => 0,
+                };
+                self.refuse_behind(given)?;
                 is_ok(outcome)
             }
             "ingress" => self.asks(Command::PollIngressSingle(moment(call.next()?)?), outcome),
@@ -405,6 +448,10 @@ fn text_of(answer: Answer) -> &'static str {
         Answer::UpdateIpAddrs(Err(AddrError::NotUnicast))
         | Answer::SetHardwareAddr(Err(HardwareError::NotUnicast)) => "NotUnicast",
         Answer::SetHardwareAddr(Err(HardwareError::WrongMedium)) => "WrongMedium",
+        Answer::JoinMulticastGroup(Err(MulticastError::GroupTableFull))
+        | Answer::LeaveMulticastGroup(Err(MulticastError::GroupTableFull)) => "GroupTableFull",
+        Answer::JoinMulticastGroup(Err(MulticastError::Unaddressable))
+        | Answer::LeaveMulticastGroup(Err(MulticastError::Unaddressable)) => "Unaddressable",
         Answer::SetReassemblyTimeout(Err(TimeoutError::TimeoutTooLong)) => "TimeoutTooLong",
         Answer::PollIngressSingle(PollIngressSingleResult::None)
         | Answer::PollEgress(PollResult::None)

@@ -1,6 +1,6 @@
 // What sockets send, and when they wait.
 
-use crate::script::{acquainted, acquainted_v6, at_home, bare, each_acquainted};
+use crate::script::{acquainted, acquainted_v6, at_home, bare, each_acquainted, each_reporting};
 
 #[test]
 fn asks_for_one_neighbor_a_second(rt: HostRuntime) {
@@ -220,6 +220,7 @@ fn datagrams_go_over_ipv6(rt: HostRuntime) {
         &rt,
         "host 020000000001 ethernet 1514
         addr fe800000000000000000000000000001/64
+        egress 0 = None tx JOIN_1
         udp 6969
         send 0 ff020000000000000000000000000002 5000 6869
         egress 0 = SocketStateChanged tx HI_ROUTERS
@@ -246,14 +247,15 @@ fn datagrams_go_over_ipv6(rt: HostRuntime) {
 // One silence stands for both families.
 #[test]
 fn asks_for_one_neighbor_a_second_over_both(rt: HostRuntime) {
-    at_home(
+    each_reporting(
         &rt,
-        "addr c0a84501/24 fe800000000000000000000000000001/64
-        udp 6969
+        "addr c0a84501/24 fe800000000000000000000000000001/64",
+        &[
+            "udp 6969
         send 0 c0a84532 5000 6869
         udp 6969
         send 1 fe800000000000000000000000000050 5000 6869
-        egress 0 = None tx WHO_HAS_50
+        egress 0 = None tx JOIN_1 WHO_HAS_50
         egress 1_000_000 = None tx WHO_HAS_50
         rx REPLY_OF_50
         ingress 1_500_000 = SocketStateChanged
@@ -261,6 +263,7 @@ fn asks_for_one_neighbor_a_second_over_both(rt: HostRuntime) {
         egress 2_000_000 = None tx SOLICIT_50
         due? 0 = Ingress
         due? 1 = Now",
+        ],
     );
 }
 
@@ -270,6 +273,7 @@ fn a_window_fits_the_burst_over_ipv6(rt: HostRuntime) {
         &rt,
         "host 020000000001 ethernet 1514 1
         addr fe800000000000000000000000000001/64
+        egress 0 = None tx JOIN_1
         segment 80 ff020000000000000000000000000002 5000 7 4096 6869
         egress 0 = SocketStateChanged tx SEGMENT_1454",
     );

@@ -1,7 +1,7 @@
 // What a host may be, and what it is told to be.
 
 use crate::script::{acquainted, at_home, bare};
-use interface::{AddrError, HardwareError, NewError};
+use interface::{AddrError, HardwareError, MulticastError, NewError};
 use std::alloc::Global;
 use std::fmt::Display;
 
@@ -49,7 +49,11 @@ fn groups_of_its_own(rt: HostRuntime) {
         addr fe800000000000000000000011223344/64 00000000000000000000000000000001/128
         member? ff0200000000000000000001ff223344 = yes
         member? ff0200000000000000000001ff993344 = no
+        member? ff0200000000000000000001ff000001 = yes
+        leave ff0200000000000000000001ff000001
         member? ff0200000000000000000001ff000001 = no
+        leave ff0200000000000000000001ff223344
+        member? ff0200000000000000000001ff223344 = yes
         member? ff020000000000000000000000000001 = yes
         member? ff020000000000000000000000000002 = no
         member? fe800000000000000000000011223344 = no",
@@ -160,6 +164,8 @@ fn errors_print_their_names(rt: HostRuntime) {
         && prints(alloc, &NewError::MtuTooLarge, "MtuTooLarge")
         && prints(alloc, &HardwareError::WrongMedium, "WrongMedium")
         && prints(alloc, &HardwareError::NotUnicast, "NotUnicast")
-        && prints(alloc, &AddrError::NotUnicast, "NotUnicast");
+        && prints(alloc, &AddrError::NotUnicast, "NotUnicast")
+        && prints(alloc, &MulticastError::GroupTableFull, "GroupTableFull")
+        && prints(alloc, &MulticastError::Unaddressable, "Unaddressable");
     assert!(rt; right);
 }

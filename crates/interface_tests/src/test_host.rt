@@ -47,6 +47,16 @@ impl Owner for Idle {
     }
 }
 
+// The answers to questions for leave of which the last is refused, behind so many for which it is given.
+fn refusal_behind(alloc: Global, given: usize) -> Option<Vec<bool>> {
+    let mut answers = Vec::new(alloc);
+    for _ in 0..given {
+        answers.push(false).ok()?;
+    }
+    answers.push(true).ok()?;
+    Some(answers)
+}
+
 /// A host with its device and its sockets.
 #[derive(Drop)]
 pub struct Host {
@@ -148,12 +158,12 @@ impl Host {
         }
     }
 
-    /// Lets the device refuse the next question for leave.
-    pub fn refuse_once(&mut self) -> Option<()> {
-        let mut answers = Vec::new(self.alloc);
-        if answers.push(true).is_err() {
-            answers.push(true).ok()?;
-        }
+    /// Lets the device refuse one question for leave, behind so many for which it is given.
+    pub fn refuse_behind(&mut self, given: usize) -> Option<()> {
+        let answers = match refusal_behind(self.alloc, given) {
+            Some(answers) => answers,
+            None => refusal_behind(self.alloc, given)?,
+        };
         self.device.refuse(answers);
         self.refusing = true;
         Some(())

@@ -1,7 +1,9 @@
 -- Sums over the pseudo-header.
 use Rattle.std.proofs.Common.{◌≡◌, ℕ, ◌+◌, ◌-◌, ◌*◌, ◌/◌, ◌%◌, ◌<◌, ◌^◌, List, ◌++◌, length, refl, sym, ap, ◌∙◌, append_assoc, zero-add, arith}
 use Rattle.wire_base.specs.Checksum.{folded, word_sum, checksum_of}
-use Rattle.wire_base.specs.Pseudo.{address_octets, ending, pseudo}
+use Rattle.std.specs.Int.{w128, to_be_bytes}
+use Rattle.wire_base.specs.Pseudo.{address_octets, ending, pseudo, quarters}
+use Rattle.ip_address.specs.declared.ipv6.Ipv6Address.{Ipv6Address}
 use Rattle.ip_address.specs.declared.ipv4.Ipv4Address.{Ipv4Address}
 use Rattle.ip_address.specs.declared.ip.IpAddress.{IpAddress}
 use Rattle.ip_address.specs.declared.ip.IpAddress.TheVariants.{Ipv4, Ipv6}
@@ -61,7 +63,37 @@ numbers src dst protocol len ls ld ll =
     let words : word_sum (pseudo (Ipv4 src) (Ipv4 dst) protocol len) ≡ n + k = omega (arith, s, d, l) in
     ap folded words ∙ sym (folded_shift (src.bits + dst.bits + protocol + len) n k (omega arith))
 
-pub ruleset sums = (chained, numbers)
+-- the words of a number of 128 bits: each second one, from the last and from the one before it
+abbrev lower_words : ℕ → ℕ
+lower_words n = n % 65536 + n / 2 ^ 32 % 65536 + n / 2 ^ 64 % 65536 + n / 2 ^ 96 % 65536
+
+abbrev upper_words : ℕ → ℕ
+upper_words n = n / 65536 % 65536 + n / 2 ^ 48 % 65536 + n / 2 ^ 80 % 65536 + n / 2 ^ 112
+
+-- an address of IPv6 has eight
+address_words6 : (n : ℕ) → n < 2 ^ 128 → word_sum (to_be_bytes w128 n) ≡ lower_words n + upper_words n
+unfolding word_sum
+address_words6 n lt = omega arith
+
+quarters_words : (n : ℕ) → n < 2 ^ 128 → quarters n ≡ lower_words n + upper_words n + 65535 * upper_words n
+quarters_words n lt = omega arith
+
+-- and over IPv6
+pub numbers6 : (src dst : Ipv6Address) (protocol len : ℕ) → src.bits < 2 ^ 128 → dst.bits < 2 ^ 128 → len < 2 ^ 16
+    → folded (word_sum (pseudo (Ipv6 src) (Ipv6 dst) protocol len)) ≡ folded (quarters src.bits + quarters dst.bits + protocol + len)
+unfolding word_sum
+numbers6 src dst protocol len ls ld ll =
+    let k = upper_words src.bits + upper_words dst.bits in
+    let n = lower_words src.bits + lower_words dst.bits + protocol + len in
+    let s = address_words6 src.bits ls in
+    let d = address_words6 dst.bits ld in
+    let l : word_sum (ending (Ipv6 dst) protocol len) ≡ protocol + len = omega arith in
+    let words : word_sum (pseudo (Ipv6 src) (Ipv6 dst) protocol len) ≡ n + k = omega (arith, pseudo_words (Ipv6 src) (Ipv6 dst) protocol len, s, d, l) in
+    let qs = quarters_words src.bits ls in
+    let qd = quarters_words dst.bits ld in
+    ap folded words ∙ sym (folded_shift (quarters src.bits + quarters dst.bits + protocol + len) n k (omega (arith, qs, qd)))
+
+pub ruleset sums = (chained, numbers, numbers6)
 
 -- what stands behind it
 pub behind : (src dst : IpAddress) (protocol len : ℕ) (xs : List ℕ) → folded (word_sum (pseudo src dst protocol len ++ xs)) ≡ folded (folded (word_sum (pseudo src dst protocol len)) + word_sum xs)

@@ -1,5 +1,5 @@
 //! The pseudo-header that the checksums of UDP and TCP cover (RFC 768, RFC 9293 3.1, RFC 8200 8.1).
-ghost use Rattle.std.specs.Prelude.{◌≡◌, ◌+◌};
+ghost use Rattle.std.specs.Prelude.{◌≡◌, ◌+◌, ◌<◌, ◌^◌};
 ghost use Rattle.wire_base.specs.Checksum.{folded, word_sum};
 ghost use Rattle.wire_base.specs.Pseudo as spec;
 
@@ -18,8 +18,24 @@ pub fn pseudo_sum(src: &IpAddress, dst: &IpAddress, protocol: u8, len: u16) -> u
             u64::from(src.bits) + u64::from(dst.bits) + u64::from(protocol) + u64::from(len),
         );
     }
+    if let (IpAddress::Ipv6(src), IpAddress::Ipv6(dst)) = (src, dst) {
+        return fold(quarters(src.bits) + quarters(dst.bits) + u64::from(protocol) + u64::from(len));
+    }
     let addresses = address_sum(address_sum(0, src), dst);
     ending_sum(addresses, dst, protocol, len)
+}
+
+/// The sum of the four quarters of an IPv6 address, of 32 bits each. It folds as the sum of its words.
+#[inline(always)]
+fn quarters(bits: u128) -> u64
+    ensures value { result ≡ spec.quarters bits }
+    ensures small { result < 2 ^ 34 }
+{
+    let first = (bits / (1 << 96)) as u64;
+    let second = (bits / (1 << 64) % (1 << 32)) as u64;
+    let third = (bits / (1 << 32) % (1 << 32)) as u64;
+    let fourth = (bits % (1 << 32)) as u64;
+    first + second + third + fourth
 }
 
 /// A sum with the words of an address added.

@@ -2,7 +2,7 @@ use Rattle.std.proofs.Common.{ap, sym, ◌∙◌}
 use Rattle.host_machine.specs.declared.command.Command.TheVariants as command
 use Rattle.host_machine.specs.declared.command.Answer.TheVariants as answer
 use Rattle.iface_tables.specs.Route.{first, ipv4_gateway, ipv6_gateway, is_ipv4_gateway, is_ipv6_gateway, old_or_full, with_default, without_first}
-use Rattle.host_machine.specs.Step.{UpdatedIpAddrs, TookHardwareAddr, TookReassemblyTimeout, TookAnyIp, UpdatedRoutes, AddedDefaultIpv4Route, RemovedDefaultIpv4Route, AddedDefaultIpv6Route, RemovedDefaultIpv6Route, PolledMaintenance, PolledAt, PolledDelay}
+use Rattle.host_machine.specs.Step.{UpdatedIpAddrs, JoinedGroup, LeftGroup, TookHardwareAddr, TookReassemblyTimeout, TookAnyIp, UpdatedRoutes, AddedDefaultIpv4Route, RemovedDefaultIpv4Route, AddedDefaultIpv6Route, RemovedDefaultIpv6Route, PolledMaintenance, PolledAt, PolledDelay}
 use Rattle.host_machine.specs.Host.{Host, at}
 use Rattle.host_machine.specs.Polling.{maintained}
 use Rattle.interface.specs.Stands.{StandsFor}
@@ -66,6 +66,16 @@ pub returns-in-RemoveDefaultIpv6Route : goal.returns-in-RemoveDefaultIpv6Route
 returns-in-RemoveDefaultIpv6Route g c = λ H h.
     rw c.in-RemoveDefaultIpv6Route.is (untold g.D.Device.tells g.O.Owner.did c.args.device.now c.args.owner.now command.RemoveDefaultIpv6Route (answer.RemoveDefaultIpv6Route c.remove_default_ipv6_route.result) H (record H { routes = without_first is_ipv6_gateway H.routes })
     (StandsFor c.remove_default_ipv6_route.new.interface c.args.sockets.now) (g.met.D.Device.tells_nothing c.args.device.now) (rw (c.remove_default_ipv6_route.ensures.answer c.args.sockets.now ∙ ap (λ (K : Host). first is_ipv6_gateway K.routes) (sym h.same)) RemovedDefaultIpv6Route) (c.remove_default_ipv6_route.ensures.table c.args.sockets.now H h))
+
+pub returns-in-JoinMulticastGroup : goal.returns-in-JoinMulticastGroup
+returns-in-JoinMulticastGroup g c = λ H h.
+    rw c.in-JoinMulticastGroup.is (was_led g.D.Device.tells g.O.Owner.did c.args.device.now c.args.owner.now (command.JoinMulticastGroup c.in-JoinMulticastGroup.group) (answer.JoinMulticastGroup c.join_multicast_group.result) H
+    (StandsFor c.join_multicast_group.new.self c.args.sockets.now) (g.met.D.Device.tells_nothing c.args.device.now) (c.join_multicast_group.ensures c.args.sockets.now H h) (λ K follows. JoinedGroup follows))
+
+pub returns-in-LeaveMulticastGroup : goal.returns-in-LeaveMulticastGroup
+returns-in-LeaveMulticastGroup g c = λ H h.
+    rw c.in-LeaveMulticastGroup.is (was_led g.D.Device.tells g.O.Owner.did c.args.device.now c.args.owner.now (command.LeaveMulticastGroup c.in-LeaveMulticastGroup.group) (answer.LeaveMulticastGroup c.leave_multicast_group.result) H
+    (StandsFor c.leave_multicast_group.new.self c.args.sockets.now) (g.met.D.Device.tells_nothing c.args.device.now) (c.leave_multicast_group.ensures c.args.sockets.now H h) (λ K follows. LeftGroup follows))
 
 pub returns-in-SetAnyIp : goal.returns-in-SetAnyIp
 returns-in-SetAnyIp g c = λ H h.

@@ -1,4 +1,4 @@
-use Rattle.std.proofs.Common.{[], ◌∷◌, refl, sym, ap, None, lit≤}
+use Rattle.std.proofs.Common.{[], ◌∷◌, refl, sym, ap, None, lit≤, inl, inr}
 use Rattle.std.specs.FinMap as map
 use Rattle.std.specs.Prelude.{pos}
 use Rattle.wire_base.specs.Checksum.{word_sum}
@@ -10,10 +10,19 @@ use Rattle.host_machine.specs.Note.{OfSlots}
 use Rattle.host_machine.specs.Host.{with_neighbors, with_slots}
 use Rattle.host_machine.specs.Ipv4 as ipv4
 use Rattle.host_machine.specs.Ethernet as ethernet
+use Rattle.host_machine.specs.Reports as reports
+use Rattle.group_wire.specs.Igmp.{IsType}
 use Rattle.host_machine.specs.ExampleFragments as example
 use Rattle.host_machine.proofs.Exchange.{none_renewed}
 use Rattle.host_machine.proofs.Fragmented.{still_there, ten_rebuilt}
 use Rattle.host_machine.proofs.laws.datagram_is_rebuilt.Goals as goal
+
+-- the type of the message is none of IGMP's
+none_of : IsType 1 → ⊥
+none_of (inl e) = absurd cc
+none_of (inr (inl e)) = absurd cc
+none_of (inr (inr (inl e))) = absurd cc
+none_of (inr (inr (inr e))) = absurd cc
 
 pub returns : goal.returns
 unfolding word_sum
@@ -37,7 +46,8 @@ returns c =
               reassembles = Rebuilt example.waiting_slot [] example.ten (Stood still_there refl) refl ten_rebuilt refl refl refl;
               noted = refl;
               changed = refl;
-            }) (ipv4.Accepted refl (record { silent = refl; unnoted = refl; unchanged = ap (λ (n : Neighbors). with_neighbors without n) (sym none_renewed) })) refl));
+            }) (ipv4.Accepted refl (reports.Malformed (λ i. none_of i.type)
+            (record { silent = refl; unnoted = refl; unchanged = ap (λ (n : Neighbors). with_neighbors without n) (sym none_renewed) }))) refl));
         responds = (refl, refl, refl);
         all_notes = refl;
       };

@@ -7,6 +7,7 @@ use Rattle.host_machine.specs.Dispatch.{ToSomebody, ByHop, OnLink, Known, InPiec
 use Rattle.host_machine.specs.Egress.{NoLeave, PieceGoes, Begins, Whole}
 use Rattle.host_machine.specs.Example as host
 use Rattle.host_machine.specs.ExampleFragments as example
+use Rattle.host_machine.proofs.Begun.{no_groups}
 use Rattle.host_machine.proofs.Exchange.{is_known}
 use Rattle.host_machine.proofs.laws.packet_goes_in_pieces.Goals as goal
 
@@ -25,7 +26,7 @@ returns c = record {
       notes_one = [];
       notes_two = [];
       begins = NoLeave (piece_of example.datagram example.two) [] refl refl refl refl;
-      ends = Whole Begins;
+      ends = no_groups refl refl refl refl (Whole Begins);
       events = refl;
       all_notes = refl;
     };
@@ -40,7 +41,7 @@ returns c = record {
       notes_one = OfCuts (PieceSent (piece_of example.datagram example.two)) ∷ [];
       notes_two = [];
       begins = PieceGoes (piece_of example.datagram example.two) [] refl refl refl refl;
-      ends = Whole Begins;
+      ends = no_groups refl refl refl refl (Whole Begins);
       events = refl;
       all_notes = refl;
     };

@@ -1,5 +1,5 @@
 use Rattle.iface_send.specs.Stands.{host_in}
-use Rattle.iface_protocols.proofs.Processing.{answered, by_rule, dropped, unanswered}
+use Rattle.iface_protocols.proofs.Processing.{answered, by_rule, unanswered}
 use Rattle.iface_receive.proofs.Received.{protocol_refused, taken_by_protocol}
 use Rattle.iface_receive.proofs.ipv4.process_protocol.Goals as goal
 
@@ -13,7 +13,7 @@ pub returns-in-Tcp : goal.returns-in-Tcp
 returns-in-Tcp c = by_rule c.process_tcp.ensures (λ slots reply notes taken takes. taken_by_protocol _ _ c.args.by_raw c.args.header.now (host_in c.args.context.now slots c.args.sockets.now) taken c.args.payload.now reply notes c.in-Tcp.is takes)
 
 pub returns-in-Igmp : goal.returns-in-Igmp
-returns-in-Igmp c = unanswered c.requires.empty (λ slots. rw c.in-Igmp.is (dropped (host_in c.args.context.now slots c.args.sockets.now)))
+returns-in-Igmp c = unanswered c.requires.empty (λ slots. taken_by_protocol _ _ c.args.by_raw c.args.header.now (host_in c.args.context.now slots c.args.sockets.now) (host_in c.process_igmp.new.context slots c.args.sockets.now) c.args.payload.now _ _ c.in-Igmp.is (c.process_igmp.ensures slots c.args.sockets.now))
 
 pub returns-in-HopByHop : goal.returns-in-HopByHop
 returns-in-HopByHop c =

@@ -1,7 +1,10 @@
 use Rattle.iface_send.proofs.settings.set_ip_addrs.Goals as goal
 
 pub invariant_of-context : goal.invariant_of-context
-invariant_of-context c =
+invariant_of-context c = (c.args.context.now.multicast.paced, tt)
+
+pub invariant_of-context-2 : goal.invariant_of-context-2
+invariant_of-context-2 c =
     let k = c.args.context.now in
     record {
       timely = k.timely;

@@ -1,5 +1,5 @@
 use Rattle.std.proofs.Common.{refl, sym, ◌∙◌}
-use Rattle.host_machine.specs.Step.{Accepted, Refused, flushed}
+use Rattle.host_machine.specs.Step.{Accepted, Refused, moved}
 use Rattle.interface.proofs.Setting.{kept, led}
 use Rattle.interface.proofs.interface.Interface.update_ip_addrs.Goals as goal
 
@@ -18,6 +18,6 @@ returns g c = (
   c.f-list.result,
   c.f-list.ensures,
   λ sockets. c.copied.ensures ∙ c.ip_addrs.ensures.value,
-  λ sockets H h. led c.args.self.now.context c.set_ip_addrs.new.context c.args.self.now.fragments sockets H h (λ K. record K { ip_addrs = c.f-list.result.items; neighbors = flushed K.neighbors }) (c.set_ip_addrs.ensures sockets) (λ K slots. refl)
+  λ sockets H h. led c.args.self.now.context c.set_ip_addrs.new.context c.args.self.now.fragments sockets H h (λ K. moved K c.f-list.result.items) (c.set_ip_addrs.ensures sockets) (λ K slots. refl)
       (Accepted (rw (← c.as_slice.ensures.value) (sym c.are_assignable.ensures ∙ c.if-not-are_assignable.false)) refl refl),
 )

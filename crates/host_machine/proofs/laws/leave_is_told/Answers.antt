@@ -1,0 +1,13 @@
+use Rattle.std.proofs.Common.{[], ◌∷◌, refl, Ok, lit≤}
+use Rattle.wire_base.specs.Checksum.{word_sum}
+use Rattle.ip_wire.specs.Ipv4Packet.{front, back, header_with}
+use Rattle.group_wire.specs.Igmp.{text_with}
+use Rattle.host_machine.specs.Dispatch.{ToSomebody, ToMany, Whole}
+use Rattle.host_machine.specs.Multicast.{All, Begins, Told}
+use Rattle.host_machine.specs.Example.{identify}
+use Rattle.host_machine.specs.ExampleGroups as example
+use Rattle.host_machine.proofs.laws.leave_is_told.Goals as goal
+
+pub returns : goal.returns
+unfolding word_sum front back header_with text_with
+returns c = All (Told example.group _ (Ok tt) (example.leave ∷ []) (identify ∷ []) _ Begins refl refl (ToSomebody [] refl (ToMany _ refl (Whole (lit≤ tt) refl refl refl refl)) refl)) refl

@@ -1,0 +1,154 @@
+-- The multicast groups of a host (RFC 1112 7.1, RFC 2236 3, RFC 3810 6): which it is in, and what it reports of them to routers.
+use Rattle.std.specs.Prelude.{◌≡◌, ℕ, ◌/◌, ◌^◌, ◌==◌, ◌&&◌, not, Bool, true, false, List, [], ◌∷◌, ◌++◌, map, filter, length, Option, Some, None, Result, Ok, Err, if◌then◌else◌}
+use Rattle.std.specs.Option.{option_map}
+use Rattle.net_base.specs.Device.{Event, Asked}
+use Rattle.ip_address.specs.declared.cidr.IpCidr.{IpCidr}
+use Rattle.ip_address.specs.declared.cidr.IpCidr.TheVariants as cidr
+use Rattle.ip_address.specs.declared.hardware.HardwareAddress.{HardwareAddress}
+use Rattle.ip_address.specs.declared.hardware.HardwareAddress.TheVariants as hardware
+use Rattle.ip_address.specs.declared.ip.IpAddress.{IpAddress}
+use Rattle.ip_address.specs.declared.ip.IpAddress.TheVariants.{Ipv4, Ipv6}
+use Rattle.ip_address.specs.declared.ipv4.Ipv4Address.{Ipv4Address}
+use Rattle.ip_address.specs.declared.ipv6.Ipv6Address.{Ipv6Address}
+use Rattle.ip_address.specs.Ip.{is_multicast}
+use Rattle.ip_address.specs.Ipv6.{is_link_local, solicited_node}
+use Rattle.group_wire.specs.declared.igmp.IgmpRepr.{IgmpRepr}
+use Rattle.group_wire.specs.declared.igmp.IgmpRepr.TheVariants.{MembershipReport, LeaveGroup}
+use Rattle.group_wire.specs.declared.igmp.IgmpVersion.{IgmpVersion}
+use Rattle.group_wire.specs.declared.igmp.IgmpVersion.TheVariants.{Version2}
+use Rattle.group_wire.specs.declared.mld.MldRecordType.{MldRecordType}
+use Rattle.group_wire.specs.declared.mld.MldRecordType.TheVariants.{ChangeToInclude, ChangeToExclude}
+use Rattle.group_wire.specs.Mld.{record_text}
+use Rattle.group_table.specs.declared.groups.Group.{Group}
+use Rattle.group_table.specs.declared.groups.GroupState.{GroupState}
+use Rattle.group_table.specs.declared.groups.GroupState.TheVariants.{Joining, Leaving}
+use Rattle.group_table.specs.Groups.{first_in, is_refused, join_reported, joined, leave_reported, left}
+use Rattle.host_machine.specs.declared.results.MulticastError.{MulticastError}
+use Rattle.host_machine.specs.declared.results.MulticastError.TheVariants.{GroupTableFull, Unaddressable}
+use Rattle.host_machine.specs.Note.{Note}
+use Rattle.host_machine.specs.Host.{Host, with_groups}
+use Rattle.host_machine.specs.Addresses.{has_solicited_node, ipv4_addr}
+use Rattle.host_machine.specs.Packet.{Packet, Igmp, Mld}
+use Rattle.host_machine.specs.Packet as packet
+use Rattle.host_machine.specs.Frame.{sends}
+use Rattle.host_machine.specs.Dispatch.{Outcome, Dispatches}
+use Rattle.host_machine.specs.Parts.{Part}
+
+-- a group is joined, unless there is no place for it, or the address isn't a group's
+pub data JoinsGroup (a : IpAddress) (answer : Result (Unit {0}) MulticastError) (old new : Host) : Type 0 where
+  NoGroup : is_multicast a ≡ false → answer ≡ Err Unaddressable → new ≡ old → JoinsGroup a answer old new
+  NoPlace : is_multicast a ≡ true → is_refused old.groups a ≡ true → answer ≡ Err GroupTableFull → new ≡ old → JoinsGroup a answer old new
+  JoinTaken : is_multicast a ≡ true → is_refused old.groups a ≡ false → answer ≡ Ok tt → new ≡ with_groups old (joined old.groups a) →
+      JoinsGroup a answer old new
+
+-- a group is left, if the host is in it, unless the address isn't a group's
+pub data LeavesGroup (a : IpAddress) (answer : Result (Unit {0}) MulticastError) (old new : Host) : Type 0 where
+  NoGroupEither : is_multicast a ≡ false → answer ≡ Err Unaddressable → new ≡ old → LeavesGroup a answer old new
+  LeaveTaken : is_multicast a ≡ true → answer ≡ Ok tt → new ≡ with_groups old (left old.groups a) → LeavesGroup a answer old new
+
+-- a solicited-node group, of whatever address (RFC 4291 2.7.1): one of ff02::1:ff00:0/104
+abbrev pub is_solicited_node_v6 : Ipv6Address → Bool
+is_solicited_node_v6 a = a.bits / 2 ^ 24 == 0xff02_0000_0000_0000_0000_0001_ff
+
+-- a solicited-node group of no own address
+abbrev pub is_idle : List IpCidr → IpAddress → Bool
+is_idle own (Ipv4 a) = false
+is_idle own (Ipv6 a) = is_solicited_node_v6 a && not (has_solicited_node own a)
+
+-- several groups are left, one after the other
+abbrev pub all_left : List Group → List IpAddress → List Group
+all_left groups [] = groups
+all_left groups (a ∷ addresses) = all_left (left groups a) addresses
+
+-- the solicited-node group of each IPv6 address is joined, in their order; one for which there is no place isn't
+abbrev pub all_joined : List Group → List IpCidr → List Group
+all_joined groups [] = groups
+all_joined groups (cidr.Ipv4 n ∷ own) = all_joined groups own
+all_joined groups (cidr.Ipv6 n ∷ own) = all_joined (joined groups (Ipv6 (solicited_node n.address))) own
+
+-- the groups of a host that gets these addresses: on a link with hardware addresses the solicited-node groups that are idle then are left,
+-- in the order in which the groups stood, and then those of the addresses joined (RFC 4861 7.2.1)
+abbrev pub groups_for : HardwareAddress → List IpCidr → List Group → List Group
+groups_for (hardware.Ethernet e) own groups =
+    all_joined (all_left groups (filter (is_idle own) (map (λ (g : Group). g.addr) groups))) own
+groups_for hardware.Ip own groups = groups
+
+-- a message of IGMP goes from the first own IPv4 address, if there is one, and no router passes it on (RFC 2236 2)
+abbrev pub igmp_packet : List IpCidr → Ipv4Address → IgmpRepr → Option Packet
+igmp_packet own dst message =
+    option_map (λ src. packet.Ipv4 (record { src_addr = src; dst_addr = dst; hop_limit = 1; payload = Igmp message })) (ipv4_addr own)
+
+-- all routers on the link, 224.0.0.2
+abbrev pub all_routers : Ipv4Address
+all_routers = record { bits = 0xe0000002 }
+
+-- a report goes to the group that it names, a leave to all routers (RFC 2236 9)
+abbrev pub igmp_report : List IpCidr → IgmpVersion → Ipv4Address → Option Packet
+igmp_report own version group = igmp_packet own group (MembershipReport group version)
+
+abbrev pub igmp_leave : List IpCidr → Ipv4Address → Option Packet
+igmp_leave own group = igmp_packet own all_routers (LeaveGroup group)
+
+-- all routers that speak version 2 of MLD, ff02::16 (RFC 3810 5.2.14)
+abbrev pub mld_routers : Ipv6Address
+mld_routers = record { bits = 0xff02_0000_0000_0000_0000_0000_0000_0016 }
+
+-- the first own link-local address, else the unspecified one (RFC 3810 5.2.13)
+abbrev pub mld_source : List IpCidr → Ipv6Address
+mld_source [] = record { bits = 0 }
+mld_source (cidr.Ipv4 n ∷ own) = mld_source own
+mld_source (cidr.Ipv6 n ∷ own) = if is_link_local n.address then n.address else mld_source own
+
+-- address records of a type, one for each group
+abbrev pub records_of : MldRecordType → List Ipv6Address → List ℕ
+records_of type [] = []
+records_of type (g ∷ groups) = record_text (record { record_type = type; mcast_addr = g }) ++ records_of type groups
+
+-- a report of MLD with such records (RFC 3810 5.2)
+abbrev pub mld_report : List IpCidr → MldRecordType → List Ipv6Address → Packet
+mld_report own type groups = packet.Ipv6 (record {
+  src_addr = mld_source own;
+  dst_addr = mld_routers;
+  hop_limit = 1;
+  payload = Mld (length groups) (records_of type groups);
+})
+
+-- what tells that a group is joined: over IPv4, where the host has an address, a report (RFC 2236 3); over IPv6 a record that the list of
+-- sources is empty (type 3, as smoltcp has it; RFC 3810 6.1 has type 4)
+abbrev pub join_packet : List IpCidr → IpAddress → Option Packet
+join_packet own (Ipv4 a) = igmp_report own Version2 a
+join_packet own (Ipv6 a) = Some (mld_report own ChangeToInclude (a ∷ []))
+
+-- what tells that it is left
+abbrev pub leave_packet : List IpCidr → IpAddress → Option Packet
+leave_packet own (Ipv4 a) = igmp_leave own a
+leave_packet own (Ipv6 a) = Some (mld_report own ChangeToExclude (a ∷ []))
+
+-- the groups in a state are told of one after the other, the first that stands in it each time, each with leave, until leave is refused;
+-- one of which nothing can be told, for want of an address, counts as told of
+pub data Tells (state : GroupState) (packet_for : List IpCidr → IpAddress → Option Packet) (told_of : List Group → IpAddress → List Group)
+    (old : Host) : (going : Bool) → List Event → List Note → Host → Type 0 where
+  Begins : Tells state packet_for told_of old true [] [] old
+  Silently : {told : List Event} {notes : List Note} {mid : Host} (a : IpAddress) → Tells state packet_for told_of old true told notes mid →
+      first_in state mid.groups ≡ Some a → packet_for mid.ip_addrs a ≡ None →
+      Tells state packet_for told_of old true told notes (with_groups mid (told_of mid.groups a))
+  Refused : {told : List Event} {notes : List Note} {mid : Host} (a : IpAddress) (p : Packet) → Tells state packet_for told_of old true told notes mid →
+      first_in state mid.groups ≡ Some a → packet_for mid.ip_addrs a ≡ Some p →
+      Tells state packet_for told_of old false (told ++ Asked mid.moment false ∷ []) notes mid
+  Told : {told : List Event} {notes : List Note} {mid : Host} (a : IpAddress) (p : Packet) (outcome : Outcome) (frames : List (List ℕ))
+      (more : List Note) (new : Host) → Tells state packet_for told_of old true told notes mid →
+      first_in state mid.groups ≡ Some a → packet_for mid.ip_addrs a ≡ Some p → Dispatches p outcome mid frames more new →
+      Tells state packet_for told_of old true (told ++ Asked mid.moment true ∷ sends frames) (notes ++ more) (with_groups new (told_of new.groups a))
+
+-- all of them, or those up to a refused leave
+pub data TellsAll (state : GroupState) (packet_for : List IpCidr → IpAddress → Option Packet) (told_of : List Group → IpAddress → List Group)
+    (old : Host) (told : List Event) (notes : List Note) (new : Host) : Type 0 where
+  All : Tells state packet_for told_of old true told notes new → first_in state new.groups ≡ None → TellsAll state packet_for told_of old told notes new
+  UpToRefusal : Tells state packet_for told_of old false told notes new → TellsAll state packet_for told_of old told notes new
+
+-- two parts of a round
+abbrev pub TellsJoins : Part
+TellsJoins = TellsAll Joining join_packet join_reported
+
+abbrev pub TellsLeaves : Part
+TellsLeaves = TellsAll Leaving leave_packet leave_reported

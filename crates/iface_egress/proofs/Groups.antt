@@ -1,0 +1,96 @@
+-- What is told of groups, from its parts.
+use Rattle.std.proofs.Common.{◌≡◌, ℕ, Bool, true, false, List, [], ◌∷◌, ◌++◌, refl, ap, ◌∙◌, Option, Some, None}
+use Rattle.std.specs.Prelude.{if◌then◌else◌}
+use Rattle.std.proofs.lemmas.List.{append-nil}
+use Rattle.net_base.specs.Device.{Event, Asked}
+use Rattle.ip_address.specs.declared.cidr.IpCidr.{IpCidr}
+use Rattle.ip_address.specs.declared.ip.IpAddress.{IpAddress}
+use Rattle.fragmentation.specs.Slots.{Slots}
+use Rattle.group_table.specs.declared.groups.Group.{Group}
+use Rattle.group_table.specs.declared.groups.GroupState.{GroupState}
+use Rattle.group_table.specs.Groups.{first_in}
+use Rattle.host_machine.specs.Note.{Note}
+use Rattle.host_machine.specs.Host.{Host, SocketSet, with_groups, no_sockets}
+use Rattle.host_machine.specs.Packet.{Packet}
+use Rattle.host_machine.specs.Frame.{frames_in, sends}
+use Rattle.host_machine.specs.Dispatch.{Outcome, Dispatches}
+use Rattle.host_machine.specs.Multicast.{Tells, TellsAll, Begins, Silently, Refused, Told as ToldGroup, All, UpToRefusal}
+use Rattle.host_machine.specs.Parts.{Part}
+use Rattle.iface_send.specs.declared.context.Context.{Context}
+use Rattle.iface_send.specs.Built.{Built}
+use Rattle.iface_send.specs.Stands.{host_in, host_of}
+use Rattle.iface_egress.specs.Multicast.{HasPart, IsOffered, NoPacket, NoLeave, Goes, IsToldOf}
+use Rattle.iface_egress.specs.Told.{Told}
+
+-- the groups in a state, as far as they were told of
+abbrev pub TellsSo : GroupState → (List IpCidr → IpAddress → Option Packet) → (List Group → IpAddress → List Group) → Bool → Part
+TellsSo state packet_for told_of going old told notes new = Tells state packet_for told_of old going told notes new
+
+module _ (state : GroupState) (packet_for : List IpCidr → IpAddress → Option Packet) (told_of : List Group → IpAddress → List Group) where
+  -- one group more
+  one_more : (old mid new : Host) (a : IpAddress) (going : Bool) (told more : List Event) (notes others : List Note) → Tells state packet_for told_of old true told notes mid →
+      first_in state mid.groups ≡ Some a → IsToldOf packet_for told_of a going mid more others new → Tells state packet_for told_of old going (told ++ more) (notes ++ others) new
+  one_more old mid new a going told more notes others so first one = by one.offered where
+    by : IsOffered (packet_for mid.ip_addrs a) going mid more others one.mid → Tells state packet_for told_of old going (told ++ more) (notes ++ others) new
+    by (NoPacket none is silent unnoted same) =
+        let end : new ≡ with_groups mid (told_of mid.groups a) = one.counts ∙ ap (λ b. if b then with_groups one.mid (told_of one.mid.groups a) else one.mid) is ∙ ap (λ (H : Host). with_groups H (told_of H.groups a)) same in
+        rw (end, is, silent, unnoted, append-nil told, append-nil notes) (Silently a so first none)
+    by (NoLeave p some is refused unnoted same) =
+        let end : new ≡ mid = one.counts ∙ ap (λ b. if b then with_groups one.mid (told_of one.mid.groups a) else one.mid) is ∙ same in
+        rw (end, is, refused, unnoted, append-nil notes) (Refused a p so first some)
+    by (Goes p outcome frames some is sends_it told_so) =
+        let end : new ≡ with_groups one.mid (told_of one.mid.groups a) = one.counts ∙ ap (λ b. if b then with_groups one.mid (told_of one.mid.groups a) else one.mid) is in
+        rw (end, is, told_so) (ToldGroup a p outcome frames others one.mid so first some sends_it)
+
+  module _ {D : Type 0} {tells : D → List Event → D → Type 0} where
+    pub none_told : {d : D} (c : Context) → tells d [] d → Told tells d d (HasPart (TellsSo state packet_for told_of true) c) c
+    none_told c quiet = record { told = []; notes = []; tells_it = quiet; follows = λ slots sockets. Begins }
+
+    pub one_told : {d m e : D} (c c' c'' : Context) (going : Bool) (a : IpAddress) → ((a b c : D) (xs ys : List Event) → tells a xs b → tells b ys c → tells a (xs ++ ys) c) →
+        Told tells d m (HasPart (TellsSo state packet_for told_of true) c) c' → (first_in state (host_of c' no_sockets).groups ≡ Some a) →
+        Told tells m e (HasPart (IsToldOf packet_for told_of a going) c') c'' → Told tells d e (HasPart (TellsSo state packet_for told_of going) c) c''
+    one_told {d} {m} {e} c c' c'' going a tells_on so first one = record {
+      told = so.told ++ one.told;
+      notes = so.notes ++ one.notes;
+      tells_it = tells_on d m e so.told one.told so.tells_it one.tells_it;
+      follows = λ slots sockets. one_more (host_in c slots sockets) (host_in c' slots sockets) (host_in c'' slots sockets) a going so.told one.told so.notes one.notes (so.follows slots sockets) first (one.follows slots sockets);
+    }
+
+    pub all_told : {d e : D} (c c' : Context) → Told tells d e (HasPart (TellsSo state packet_for told_of true) c) c' → first_in state (host_of c' no_sockets).groups ≡ None →
+        Told tells d e (HasPart (TellsAll state packet_for told_of) c) c'
+    all_told c c' so none = record { told = so.told; notes = so.notes; tells_it = so.tells_it; follows = λ slots sockets. All (so.follows slots sockets) none }
+
+    pub told_until : {d e : D} (c c' : Context) (going : Bool) → going ≡ false → Told tells d e (HasPart (TellsSo state packet_for told_of going) c) c' →
+        Told tells d e (HasPart (TellsAll state packet_for told_of) c) c'
+    told_until c c' going refused so = record { told = so.told; notes = so.notes; tells_it = so.tells_it; follows = λ slots sockets. UpToRefusal (rw refused at (so.follows slots sockets)) }
+
+module _ {D : Type 0} {tells : D → List Event → D → Type 0} where
+  -- a packet that is offered
+  pub no_packet : {d : D} {packet : Option Packet} {going : Bool} (c : Context) → tells d [] d → packet ≡ None → going ≡ true → Told tells d d (HasPart (IsOffered packet going) c) c
+  no_packet c quiet none is = record { told = []; notes = []; tells_it = quiet; follows = λ slots sockets. NoPacket none is refl refl refl }
+
+  pub no_leave : {d e : D} {packet : Option Packet} {going : Bool} (c : Context) (p : Packet) → tells d (Asked c.moment false ∷ []) e → packet ≡ Some p → going ≡ false →
+      Told tells d e (HasPart (IsOffered packet going) c) c
+  no_leave c p asks some is = record { told = Asked c.moment false ∷ []; notes = []; tells_it = asks; follows = λ slots sockets. NoLeave p some is refl refl refl }
+
+  pub goes : {d m e : D} {buffer : List ℕ} {packet : Option Packet} {going : Bool} (c c' : Context) → ((a b c : D) (xs ys : List Event) → tells a xs b → tells b ys c → tells a (xs ++ ys) c) →
+      (p : Packet) (o : Outcome) → tells d (Asked c.moment true ∷ []) m → Built buffer (Dispatches p o) c c' → tells m (sends (frames_in buffer)) e → packet ≡ Some p → going ≡ true →
+      Told tells d e (HasPart (IsOffered packet going) c) c'
+  goes {d} {m} {e} {buffer} c c' tells_on p o asks built sends_it some is = record {
+    told = Asked c.moment true ∷ sends (frames_in buffer);
+    notes = built.notes;
+    tells_it = tells_on d m e (Asked c.moment true ∷ []) (sends (frames_in buffer)) asks sends_it;
+    follows = λ slots sockets. Goes p o (frames_in buffer) some is (built.follows slots sockets) refl;
+  }
+
+  -- what was told of a group counts
+  pub told_of_it : {d e : D} (packet_for : List IpCidr → IpAddress → Option Packet) (told_of : List Group → IpAddress → List Group) (a : IpAddress) (going : Bool) (c c' c'' : Context) →
+      Told tells d e (HasPart (IsOffered (packet_for (host_of c no_sockets).ip_addrs a) going) c) c' →
+      ((slots : Slots) (sockets : SocketSet) → host_in c'' slots sockets ≡ (if going then with_groups (host_in c' slots sockets) (told_of (host_in c' slots sockets).groups a) else host_in c' slots sockets)) →
+      Told tells d e (HasPart (IsToldOf packet_for told_of a going) c) c''
+  told_of_it packet_for told_of a going c c' c'' offered counts = record {
+    told = offered.told;
+    notes = offered.notes;
+    tells_it = offered.tells_it;
+    follows = λ slots sockets. record { mid = host_in c' slots sockets; offered = offered.follows slots sockets; counts = counts slots sockets };
+  }

@@ -1,0 +1,109 @@
+//! What an interface does with messages of IGMP (RFC 2236 3, RFC 1112 appendix I): routers ask for groups, and
+//! are answered after a while.
+ghost use Rattle.std.specs.Prelude.{◌≡◌, ◌*◌, ◌<◌, ◌≤◌, [], None};
+ghost use Rattle.fragmentation.specs.Slots.{Slots};
+ghost use Rattle.group_wire.specs.Igmp.{query_version};
+ghost use Rattle.host_machine.specs.Host.{SocketSet, no_sockets};
+ghost use Rattle.host_machine.specs.Reports as spec;
+ghost use Rattle.iface_send.specs.Multicast.{interval_of};
+ghost use Rattle.iface_send.specs.Stands.{host_in, host_of};
+
+use group_table::IgmpReportState;
+use group_wire::igmp::{max_resp_time, query_version};
+use group_wire::{IgmpRepr, IgmpVersion};
+use iface_send::Context;
+use iface_send::multicast::set_igmp_report;
+use ip_wire::{IpAddress, Ipv4Address, Ipv4Repr};
+use net_base::time::Duration;
+use sockets::SocketContext;
+
+/// The address of all hosts, 224.0.0.1 (RFC 1112 4).
+const ALL_SYSTEMS: Ipv4Address = Ipv4Address { bits: 0xe000_0001 };
+
+/// Takes the payload of a packet with this header as a message of IGMP. A query for all groups of the
+/// interface, or for one, is answered by reports that are due after a while, in place of those that were due
+/// before. Nothing else changes anything, and nothing is sent at once.
+pub fn process_igmp(context: &mut Context, header: &Ipv4Repr, octets: &[u8])
+    ensures { (slots : Slots) (sockets : SocketSet) → spec.TakesIgmp header.now (host_in context.old slots sockets) octets.now None [] (host_in context.new slots sockets) }
+{
+    let Some(message) = IgmpRepr::parse(octets) else {
+        return;
+    };
+    take_message(context, &header.dst_addr, &message);
+}
+
+/// Takes a message by its values: only a query does anything.
+fn take_message(context: &mut Context, dst_addr: &Ipv4Address, message: &IgmpRepr)
+    ensures { (slots : Slots) (sockets : SocketSet) → host_in context.new slots sockets ≡ spec.asked_by (host_in context.old slots sockets) dst_addr.now message.now }
+{
+    match message {
+        IgmpRepr::MembershipQuery {
+            max_resp_code,
+            group_addr,
+        } => {
+            let report = report_for(context, dst_addr, *max_resp_code, group_addr);
+            set_igmp_report(context, report);
+        }
+        IgmpRepr::MembershipReport { .. } | IgmpRepr::LeaveGroup { .. } => {}
+    }
+}
+
+/// What is to be reported behind a query. It takes the place of what was to be reported before.
+fn report_for(
+    context: &Context,
+    dst_addr: &Ipv4Address,
+    max_resp_code: u8,
+    group: &Ipv4Address,
+) -> IgmpReportState
+    ensures value { result ≡ spec.report_for (host_of context.now no_sockets) dst_addr.now max_resp_code group.now }
+    ensures paced { interval_of result < 3600000000 }
+{
+    let version = query_version(max_resp_code);
+    let time = max_resp_time(max_resp_code);
+    if is_general(context, dst_addr, group) {
+        let interval = interval_for(version, time, context.groups().ipv4_count());
+        return IgmpReportState::ToGeneralQuery {
+            version,
+            timeout: context.now() + interval,
+            interval,
+            next_index: 0,
+        };
+    }
+    if is_specific(context, dst_addr, group) {
+        let quarter = Duration::from_micros(time.total_micros() / 4);
+        return IgmpReportState::ToSpecificQuery {
+            version,
+            timeout: context.now() + quarter,
+            group: *group,
+        };
+    }
+    context.igmp_report()
+}
+
+/// How long it is from one group's report to the next, where so many groups are to be reported.
+fn interval_for(version: IgmpVersion, time: Duration, count: usize) -> Duration
+    requires within_an_hour { time < 3600000000 }
+    requires few { count ≤ 8 }
+    ensures value { result ≡ spec.interval_for version time count }
+    ensures within_an_hour { result < 3600000000 }
+{
+    match version {
+        IgmpVersion::Version1 => Duration::from_micros(100_000),
+        IgmpVersion::Version2 => Duration::from_micros(time.total_micros() / (count as u64 + 1)),
+    }
+}
+
+/// Whether a query asks for all groups of the interface: it names none and goes to all hosts, and there is
+/// a group to report.
+fn is_general(context: &Context, dst_addr: &Ipv4Address, group: &Ipv4Address) -> bool
+    ensures { result ≡ spec.is_general (host_of context.now no_sockets) dst_addr.now group.now }
+{
+    group.is_unspecified() && dst_addr.bits == ALL_SYSTEMS.bits && context.groups().ipv4_count() > 0
+}
+
+/// Whether a query asks for one group of the interface: it names it, and goes to it.
+fn is_specific(context: &Context, dst_addr: &Ipv4Address, group: &Ipv4Address) -> bool
+    ensures { result ≡ spec.is_specific (host_of context.now no_sockets) dst_addr.now group.now }
+{
+    context.has_multicast_group(&IpAddress::Ipv4(*group)) && dst_addr.bits == group.bits
+}

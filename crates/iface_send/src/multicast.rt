@@ -1,0 +1,91 @@
+//! What the calls of an interface set in its groups, and in what is to be reported of them.
+ghost use Rattle.std.specs.Prelude.{◌≡◌, ◌+◌, ◌<◌, Some, OnErr};
+ghost use Rattle.group_table.specs.declared.groups.GroupState.TheVariants.{Joining, Leaving};
+ghost use Rattle.group_table.specs.Groups.{count_in, done_or_full, first_in, join_reported, joined, leave_reported, left};
+ghost use Rattle.host_machine.specs.Host.{SocketSet, no_sockets, with_groups};
+ghost use Rattle.host_machine.specs.Reports.{with_igmp_report, with_mld_report};
+ghost use Rattle.iface_send.specs.Multicast.{interval_of};
+ghost use Rattle.iface_send.specs.Stands.{host_of};
+
+use crate::context::Context;
+use group_table::{GroupTableFull, Groups, IgmpReportState, MldReportState};
+use ip_wire::IpAddress;
+
+impl Context {
+    ghost use Rattle.std.specs.Prelude.{◌≡◌, ◌<◌};
+    ghost use Rattle.host_machine.specs.Host.{no_sockets};
+    ghost use Rattle.iface_send.specs.Multicast.{interval_of};
+    ghost use Rattle.iface_send.specs.Stands.{host_of};
+
+    /// The groups, each with what is still to be told of it, in the order in which they are walked.
+    pub fn groups(&self) -> &Groups
+        ensures { result.now ≡ (host_of self.now no_sockets).groups }
+    {
+        &self.multicast.groups
+    }
+
+    /// What is to be reported of the IPv4 groups, and when.
+    pub fn igmp_report(&self) -> IgmpReportState
+        ensures value { result ≡ (host_of self.now no_sockets).igmp_report }
+        ensures paced { interval_of result < 3600000000 }
+    {
+        self.multicast.igmp_report
+    }
+
+    /// What is to be reported of the IPv6 groups, and when.
+    pub fn mld_report(&self) -> MldReportState
+        ensures { result ≡ (host_of self.now no_sockets).mld_report }
+    {
+        self.multicast.mld_report
+    }
+}
+
+/// Joins a group, as [`Groups::join`] does. `GroupTableFull` exactly if the group isn't there and eight
+/// others are; then nothing changes.
+pub fn join_group(context: &mut Context, group: IpAddress) -> Result<(), GroupTableFull>
+    ensures answer { result ≡ done_or_full (host_of context.old no_sockets).groups group }
+    ensures groups { (sockets : SocketSet) → host_of context.new sockets ≡ with_groups (host_of context.old sockets) (joined (host_of context.old no_sockets).groups group) }
+    ensures unchanged { OnErr result ((sockets : SocketSet) → host_of context.new sockets ≡ host_of context.old sockets) }
+{
+    context.multicast.groups.join(group)
+}
+
+/// Leaves a group, as [`Groups::leave`] does.
+pub fn leave_group(context: &mut Context, group: &IpAddress)
+    ensures { (sockets : SocketSet) → host_of context.new sockets ≡ with_groups (host_of context.old sockets) (left (host_of context.old no_sockets).groups group.now) }
+{
+    context.multicast.groups.leave(group);
+}
+
+/// It was told that a group is joined.
+pub fn join_reported(context: &mut Context, group: &IpAddress)
+    ensures groups { (sockets : SocketSet) → host_of context.new sockets ≡ with_groups (host_of context.old sockets) (join_reported (host_of context.old no_sockets).groups group.now) }
+    ensures fewer { first_in Joining (host_of context.old no_sockets).groups ≡ Some group.now →
+        count_in Joining (host_of context.old no_sockets).groups ≡ count_in Joining (host_of context.new no_sockets).groups + 1 }
+{
+    context.multicast.groups.join_reported(group);
+}
+
+/// It was told that a group is left, which is taken out.
+pub fn leave_reported(context: &mut Context, group: &IpAddress)
+    ensures groups { (sockets : SocketSet) → host_of context.new sockets ≡ with_groups (host_of context.old sockets) (leave_reported (host_of context.old no_sockets).groups group.now) }
+    ensures fewer { first_in Leaving (host_of context.old no_sockets).groups ≡ Some group.now →
+        count_in Leaving (host_of context.old no_sockets).groups ≡ count_in Leaving (host_of context.new no_sockets).groups + 1 }
+{
+    context.multicast.groups.leave_reported(group);
+}
+
+/// Sets what is to be reported of the IPv4 groups. Reports go less than an hour apart.
+pub fn set_igmp_report(context: &mut Context, report: IgmpReportState)
+    requires { interval_of report < 3600000000 }
+    ensures { (sockets : SocketSet) → host_of context.new sockets ≡ with_igmp_report (host_of context.old sockets) report }
+{
+    context.multicast.igmp_report = report;
+}
+
+/// Sets what is to be reported of the IPv6 groups.
+pub fn set_mld_report(context: &mut Context, report: MldReportState)
+    ensures { (sockets : SocketSet) → host_of context.new sockets ≡ with_mld_report (host_of context.old sockets) report }
+{
+    context.multicast.mld_report = report;
+}
