@@ -10,6 +10,7 @@ ghost use Rattle.iface_tables.specs.Route.{IsBest, IsRouter, Replaces, RouterIsO
 use arrayvec::ArrayVec;
 use ip_wire::{IpAddress, IpCidr, Ipv4Address, Ipv4Cidr, Ipv6Address, Ipv6Cidr};
 use net_base::time::Instant;
+use std::fmt;
 use std::marker::Model;
 use thiserror::Error;
 
@@ -94,6 +95,13 @@ impl Route {
             }
         }
         self.cidr.contains_addr(address)
+    }
+}
+
+impl fmt::Display for Route {
+    /// As its network and its router: 0.0.0.0/0 via 192.168.69.100.
+    fn fmt<W: fmt::Write>(&self, f: &mut fmt::Formatter<W>) -> fmt::Result {
+        write!(f, "{} via {}", self.cidr, self.via_router)
     }
 }
 

@@ -205,3 +205,18 @@ fn a_full_table_says_so(rt: HostRuntime) -> Result<(), Fail> {
     assert_eq!(rt; text.as_str(), "Route table full");
     Ok(())
 }
+
+#[test]
+fn printed_routes(rt: HostRuntime) -> Result<(), Fail> {
+    let route = Route::new_ipv4_gateway(router(100));
+    assert_eq!(rt;
+        format!(in rt.alloc(); "{route}")?.as_str(),
+        "0.0.0.0/0 via 192.168.69.100"
+    );
+    let route = Route::new_ipv6_gateway(address6(0, 1));
+    assert_eq!(rt;
+        format!(in rt.alloc(); "{route}")?.as_str(),
+        "::/0 via fe80::1"
+    );
+    Ok(())
+}

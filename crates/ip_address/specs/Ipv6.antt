@@ -1,6 +1,12 @@
 -- IPv6 addresses (RFC 4291), as the numbers of their octets.
-use Rattle.std.specs.Prelude.{ℕ, ◌+◌, ◌/◌, ◌%◌, ◌^◌, ◌==◌, Bool, not, ◌||◌, if◌then◌else◌}
+use Rattle.std.specs.Prelude.{ℕ, ◌+◌, ◌*◌, ◌/◌, ◌%◌, ◌^◌, ◌==◌, Bool, not, ◌||◌, if◌then◌else◌}
 use Rattle.ip_address.specs.declared.ipv6.Ipv6Address.{Ipv6Address}
+
+-- eight groups of 16 bits, the first one highest (RFC 4291 2.2)
+abbrev pub address_of : ℕ → ℕ → ℕ → ℕ → ℕ → ℕ → ℕ → ℕ → Ipv6Address
+address_of a b c d e f g h = record {
+  bits = a * 2 ^ 112 + b * 2 ^ 96 + c * 2 ^ 80 + d * 2 ^ 64 + e * 2 ^ 48 + f * 2 ^ 32 + g * 2 ^ 16 + h;
+}
 
 -- ::
 abbrev pub is_unspecified : Ipv6Address → Bool

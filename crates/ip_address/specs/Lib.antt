@@ -4,5 +4,6 @@ pub mod Hardware
 pub mod Ip
 pub mod Ipv4
 pub mod Ipv6
+pub mod LinkPrefix
 pub mod Prefixes
 pub mod Protocol

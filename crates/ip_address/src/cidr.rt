@@ -5,6 +5,7 @@ ghost use Rattle.ip_address.specs.Prefixes.{agrees, AgreesByBits};
 use crate::ip::IpAddress;
 use crate::ipv4::Ipv4Address;
 use crate::ipv6::Ipv6Address;
+use std::fmt;
 
 /// An IPv4 network, by an address of it and the length of the prefix that all its addresses share.
 #[derive(Clone, Copy, Debug, PartialEq, Eq)]
@@ -152,7 +153,53 @@ impl Default for IpCidr {
     }
 }
 
-/// Whether the first bits of two numbers of 32 bits agree.
+impl From<Ipv4Cidr> for IpCidr {
+    ghost use Rattle.std.specs.Prelude.{◌≡◌};
+    ghost use Rattle.ip_address.specs.declared.cidr.IpCidr.TheVariants.{Ipv4};
+
+    ghost from_gives = { λ cidr r. r ≡ Ipv4 cidr };
+
+    fn from(cidr: Ipv4Cidr) -> IpCidr {
+        IpCidr::Ipv4(cidr)
+    }
+}
+
+impl From<Ipv6Cidr> for IpCidr {
+    ghost use Rattle.std.specs.Prelude.{◌≡◌};
+    ghost use Rattle.ip_address.specs.declared.cidr.IpCidr.TheVariants.{Ipv6};
+
+    ghost from_gives = { λ cidr r. r ≡ Ipv6 cidr };
+
+    fn from(cidr: Ipv6Cidr) -> IpCidr {
+        IpCidr::Ipv6(cidr)
+    }
+}
+
+impl fmt::Display for Ipv4Cidr {
+    /// As its address, and behind a slash the length of its prefix: 192.168.69.1/24.
+    fn fmt<W: fmt::Write>(&self, f: &mut fmt::Formatter<W>) -> fmt::Result {
+        write!(f, "{}/{}", self.address, self.prefix_len)
+    }
+}
+
+impl fmt::Display for Ipv6Cidr {
+    /// As its address, and behind a slash the length of its prefix: fe80::1/64.
+    fn fmt<W: fmt::Write>(&self, f: &mut fmt::Formatter<W>) -> fmt::Result {
+        write!(f, "{}/{}", self.address, self.prefix_len)
+    }
+}
+
+impl fmt::Display for IpCidr {
+    /// As the network of its family.
+    fn fmt<W: fmt::Write>(&self, f: &mut fmt::Formatter<W>) -> fmt::Result {
+        match self {
+            IpCidr::Ipv4(cidr) => write!(f, "{cidr}"),
+            IpCidr::Ipv6(cidr) => write!(f, "{cidr}"),
+        }
+    }
+}
+
+// Whether the first bits of two numbers of 32 bits agree.
 fn agrees32(a: u32, b: u32, prefix_len: u8) -> bool
     requires { prefix_len ≤ 32 }
     ensures { result ≡ agrees 32 prefix_len a b }
@@ -160,7 +207,7 @@ fn agrees32(a: u32, b: u32, prefix_len: u8) -> bool
     prefix_len == 0 || a >> (32 - prefix_len) == b >> (32 - prefix_len)
 }
 
-/// Whether the first bits of two numbers of 128 bits agree.
+// Whether the first bits of two numbers of 128 bits agree.
 fn agrees128(a: u128, b: u128, prefix_len: u8) -> bool
     requires { prefix_len ≤ 128 }
     ensures { result ≡ agrees 128 prefix_len a b }

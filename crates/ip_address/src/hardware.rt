@@ -55,6 +55,17 @@ impl Default for HardwareAddress {
     }
 }
 
+impl From<EthernetAddress> for HardwareAddress {
+    ghost use Rattle.std.specs.Prelude.{◌≡◌};
+    ghost use Rattle.ip_address.specs.declared.hardware.HardwareAddress.TheVariants.{Ethernet};
+
+    ghost from_gives = { λ address r. r ≡ Ethernet address };
+
+    fn from(address: EthernetAddress) -> HardwareAddress {
+        HardwareAddress::Ethernet(address)
+    }
+}
+
 impl fmt::Display for HardwareAddress {
     /// As the Ethernet address, if it has one.
     fn fmt<W: fmt::Write>(&self, f: &mut fmt::Formatter<W>) -> fmt::Result {

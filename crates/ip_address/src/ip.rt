@@ -4,6 +4,7 @@ ghost use Rattle.ip_address.specs.Ip as spec;
 
 use crate::ipv4::Ipv4Address;
 use crate::ipv6::Ipv6Address;
+use std::fmt;
 
 /// An IP address.
 #[derive(Clone, Copy, Debug, PartialEq, Eq, PartialOrd, Ord, Hash)]
@@ -59,5 +60,37 @@ impl Default for IpAddress {
         ensures { result ≡ spec.unspecified }
     {
         IpAddress::Ipv4(Ipv4Address::UNSPECIFIED)
+    }
+}
+
+impl From<Ipv4Address> for IpAddress {
+    ghost use Rattle.std.specs.Prelude.{◌≡◌};
+    ghost use Rattle.ip_address.specs.declared.ip.IpAddress.TheVariants.{Ipv4};
+
+    ghost from_gives = { λ address r. r ≡ Ipv4 address };
+
+    fn from(address: Ipv4Address) -> IpAddress {
+        IpAddress::Ipv4(address)
+    }
+}
+
+impl From<Ipv6Address> for IpAddress {
+    ghost use Rattle.std.specs.Prelude.{◌≡◌};
+    ghost use Rattle.ip_address.specs.declared.ip.IpAddress.TheVariants.{Ipv6};
+
+    ghost from_gives = { λ address r. r ≡ Ipv6 address };
+
+    fn from(address: Ipv6Address) -> IpAddress {
+        IpAddress::Ipv6(address)
+    }
+}
+
+impl fmt::Display for IpAddress {
+    /// As the address of its family.
+    fn fmt<W: fmt::Write>(&self, f: &mut fmt::Formatter<W>) -> fmt::Result {
+        match self {
+            IpAddress::Ipv4(address) => write!(f, "{address}"),
+            IpAddress::Ipv6(address) => write!(f, "{address}"),
+        }
     }
 }

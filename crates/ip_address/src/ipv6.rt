@@ -1,7 +1,11 @@
 //! IPv6 addresses (RFC 4291).
-ghost use Rattle.std.specs.Prelude.{◌≡◌, ◌≤◌};
+ghost use Rattle.std.specs.Prelude.{◌≡◌, ◌+◌, ◌*◌, ◌^◌, ◌≤◌};
+ghost use Rattle.std.specs.Int.{w128, to_be_bytes};
 ghost use Rattle.ip_address.specs.Ipv6 as spec;
 ghost use Rattle.ip_address.specs.Prefixes.{common_bits};
+
+use crate::ipv4::Ipv4Address;
+use std::fmt;
 
 /// An IPv6 address, as the number of its sixteen octets, the first one highest.
 #[derive(Clone, Copy, Debug, PartialEq, Eq, PartialOrd, Ord, Hash)]
@@ -21,6 +25,24 @@ impl Ipv6Address {
     pub const LINK_LOCAL_ALL_NODES: Ipv6Address = Ipv6Address {
         bits: 0xff02_0000_0000_0000_0000_0000_0000_0001,
     };
+
+    /// The address of eight groups of 16 bits, as it is written: `Ipv6Address::new(0xfe80, 0, 0, 0, 0, 0, 0, 1)`
+    /// is fe80::1.
+    #[allow(clippy::too_many_arguments)]
+    pub const fn new(a: u16, b: u16, c: u16, d: u16, e: u16, f: u16, g: u16, h: u16) -> Ipv6Address
+        ensures { result ≡ spec.address_of a b c d e f g h }
+    {
+        Ipv6Address {
+            bits: (four_groups(a, b, c, d) as u128) * (1 << 64) + four_groups(e, f, g, h) as u128,
+        }
+    }
+
+    /// Its sixteen octets, the first one first.
+    pub const fn octets(self) -> [u8; 16]
+        ensures { result ≡ to_be_bytes w128 self.bits }
+    {
+        self.bits.to_be_bytes()
+    }
 
     /// Whether it is ::.
     pub const fn is_unspecified(&self) -> bool
@@ -96,5 +118,90 @@ impl Default for Ipv6Address {
         ensures { result ≡ record { bits = 0 } }
     {
         Ipv6Address::UNSPECIFIED
+    }
+}
+
+// The number of four groups of 16 bits, the first one highest.
+const fn four_groups(a: u16, b: u16, c: u16, d: u16) -> u64
+    ensures { result ≡ a * 2 ^ 48 + b * 2 ^ 32 + c * 2 ^ 16 + d }
+{
+    (a as u64) * (1 << 48) + (b as u64) * (1 << 32) + (c as u64) * (1 << 16) + d as u64
+}
+
+// The eight groups of 16 bits, the first one first.
+fn groups_of(address: &Ipv6Address) -> [u16; 8] {
+    let [
+        a0,
+        a1,
+        b0,
+        b1,
+        c0,
+        c1,
+        d0,
+        d1,
+        e0,
+        e1,
+        f0,
+        f1,
+        g0,
+        g1,
+        h0,
+        h1,
+    ] = address.octets();
+    [
+        u16::from_be_bytes([a0, a1]),
+        u16::from_be_bytes([b0, b1]),
+        u16::from_be_bytes([c0, c1]),
+        u16::from_be_bytes([d0, d1]),
+        u16::from_be_bytes([e0, e1]),
+        u16::from_be_bytes([f0, f1]),
+        u16::from_be_bytes([g0, g1]),
+        u16::from_be_bytes([h0, h1]),
+    ]
+}
+
+// Where the longest run of groups that are 0 begins, the first one of several, and how many groups it has.
+fn longest_run(groups: &[u16; 8]) -> (usize, usize)
+    ensures { result.0 + result.1 ≤ 8 }
+{
+    let (mut start, mut len) = (0, 0);
+    let mut from = 0;
+    for i in 0..8 {
+        if groups[i] != 0 {
+            from = i + 1;
+        } else if len + from <= i {
+            (start, len) = (from, i + 1 - from);
+        }
+    }
+    (start, len)
+}
+
+// Writes groups in hexadecimal, with colons between them.
+fn write_groups<W: fmt::Write>(f: &mut fmt::Formatter<W>, groups: &[u16]) -> fmt::Result {
+    for (i, group) in groups.iter().enumerate() {
+        if i > 0 {
+            f.write_str(":")?;
+        }
+        write!(f, "{group:x}")?;
+    }
+    Ok(())
+}
+
+impl fmt::Display for Ipv6Address {
+    /// As RFC 5952 asks for: groups in lower case without leading zeros, the longest run of at least two
+    /// groups that are 0 as two colons, and the last 32 bits of ::ffff:0:0/96 as an IPv4 address.
+    fn fmt<W: fmt::Write>(&self, f: &mut fmt::Formatter<W>) -> fmt::Result {
+        if self.bits >> 32 == 0xffff {
+            let bits = (self.bits & 0xffff_ffff) as u32;
+            return write!(f, "::ffff:{}", Ipv4Address { bits });
+        }
+        let groups = groups_of(self);
+        let (start, len) = longest_run(&groups);
+        if len < 2 {
+            return write_groups(f, &groups);
+        }
+        write_groups(f, &groups[..start])?;
+        f.write_str("::")?;
+        write_groups(f, &groups[start + len..])
     }
 }

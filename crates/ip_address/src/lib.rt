@@ -8,6 +8,7 @@ pub mod hardware;
 pub mod ip;
 pub mod ipv4;
 pub mod ipv6;
+pub mod link_prefix;
 pub mod protocol;
 
 pub use cidr::{IpCidr, Ipv4Cidr, Ipv6Cidr};

@@ -5,6 +5,7 @@ ghost use Rattle.std.proofs.Common.{rules};
 ghost use Rattle.ip_address.specs.Protocol as spec;
 
 use crate::ip::IpAddress;
+use std::fmt;
 
 /// What a packet's payload is. Protocols are equal if their numbers are, so that
 /// [`IpProtocol::Unknown`] of 17 is [`IpProtocol::Udp`].
@@ -69,11 +70,36 @@ impl Eq for IpProtocol {
     ghost laws = { Prim.search (comparing, rules) };
 }
 
+impl fmt::Display for IpProtocol {
+    /// As its name, or where it has none here its number in hexadecimal: UDP, 0x2e.
+    fn fmt<W: fmt::Write>(&self, f: &mut fmt::Formatter<W>) -> fmt::Result {
+        match self {
+            IpProtocol::HopByHop => f.write_str("Hop-by-Hop"),
+            IpProtocol::Icmp => f.write_str("ICMP"),
+            IpProtocol::Igmp => f.write_str("IGMP"),
+            IpProtocol::Tcp => f.write_str("TCP"),
+            IpProtocol::Udp => f.write_str("UDP"),
+            IpProtocol::Icmpv6 => f.write_str("ICMPv6"),
+            IpProtocol::Unknown(number) => write!(f, "0x{number:02x}"),
+        }
+    }
+}
+
 /// A version of IP.
 #[derive(Clone, Copy, Debug, PartialEq, Eq)]
 pub enum IpVersion {
     Ipv4,
     Ipv6,
+}
+
+impl fmt::Display for IpVersion {
+    /// As its name: IPv4, IPv6.
+    fn fmt<W: fmt::Write>(&self, f: &mut fmt::Formatter<W>) -> fmt::Result {
+        match self {
+            IpVersion::Ipv4 => f.write_str("IPv4"),
+            IpVersion::Ipv6 => f.write_str("IPv6"),
+        }
+    }
 }
 
 impl IpAddress {

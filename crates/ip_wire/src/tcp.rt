@@ -6,6 +6,7 @@ ghost use Rattle.wire_base.specs.Pseudo.{pseudo};
 ghost use Rattle.ip_wire.specs.Tcp as spec;
 
 use ip_address::IpAddress;
+use std::fmt;
 use wire_base::checksum::sum_with;
 use wire_base::emit::FrameBuffer;
 use wire_base::octets::{u16_at, u32_at};
@@ -61,6 +62,23 @@ impl TcpControl {
 #[derive(Clone, Copy, Debug, PartialEq, Eq)]
 pub struct TcpSeqNumber {
     pub bits: u32,
+}
+
+impl From<u32> for TcpSeqNumber {
+    ghost use Rattle.std.specs.Prelude.{◌≡◌};
+
+    ghost from_gives = { λ bits r. r ≡ record { bits = bits } };
+
+    fn from(bits: u32) -> TcpSeqNumber {
+        TcpSeqNumber { bits }
+    }
+}
+
+impl fmt::Display for TcpSeqNumber {
+    /// As its number.
+    fn fmt<W: fmt::Write>(&self, f: &mut fmt::Formatter<W>) -> fmt::Result {
+        write!(f, "{}", self.bits)
+    }
 }
 
 /// The values of a segment's header.

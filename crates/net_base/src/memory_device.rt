@@ -8,6 +8,7 @@ use crate::time::Instant;
 use std::alloc::Global;
 use std::collections::VecDeque;
 use std::marker::Model;
+use std::mem;
 use thiserror::Error;
 
 /// Why a frame was not queued. It prints as its name.
@@ -101,6 +102,18 @@ impl MemoryDevice {
         ensures short { All (λ v. vec_len v ≤ 1514) result.now }
     {
         &self.sent
+    }
+
+    /// Hands over the frames that were sent, in order, and keeps none of them, so that a long run
+    /// needn't hold all. Each has at most 1514 octets. A leave that was given and not used has to be
+    /// asked for again. It takes no memory.
+    pub fn take_sent(&mut self) -> Vec<Vec<u8>>
+        ensures value { map (λ v. v.items) result.items ≡ self.old.sent }
+        ensures short { All (λ v. vec_len v ≤ 1514) result.items }
+        ensures after { self.new ≡ record self.old { sent = []; has_room = false } }
+    {
+        self.room = None;
+        mem::replace(&mut self.sent, Vec::new(self.alloc))
     }
 
     // Reserves room for a frame to be sent, and says whether it is there.

@@ -4,6 +4,7 @@
 //! [`Duration`] an unsigned one. In contracts both are their numbers.
 ghost use Rattle.std.specs.Prelude.{◌≡◌, ◌*◌, ◌<◌, ◌^◌, ℤ, pos, neg_ℤ, ◌*ℤ◌, ◌<ℤ◌, ◌≤ℤ◌};
 
+use std::fmt;
 use std::marker::Model;
 use std::ops::{Add, Sub};
 
@@ -98,6 +99,14 @@ impl Sub<Duration> for Duration {
         Duration {
             micros: self.micros - by.micros,
         }
+    }
+}
+
+impl fmt::Display for Duration {
+    /// As its seconds with three decimals, what is behind them cut off: 1.500s.
+    fn fmt<W: fmt::Write>(&self, f: &mut fmt::Formatter<W>) -> fmt::Result {
+        let (secs, millis) = (self.micros / 1_000_000, self.micros / 1000 % 1000);
+        write!(f, "{secs}.{millis:03}s")
     }
 }
 
@@ -196,5 +205,15 @@ impl Sub<Instant> for Instant {
         Duration {
             micros: self.micros.abs_diff(since.micros),
         }
+    }
+}
+
+impl fmt::Display for Instant {
+    /// As the seconds since the origin with three decimals, what is behind them cut off: 1.500s. A
+    /// moment before the origin has a sign: -0.250s.
+    fn fmt<W: fmt::Write>(&self, f: &mut fmt::Formatter<W>) -> fmt::Result {
+        let sign = if self.micros < 0 { "-" } else { "" };
+        let distance = Duration::from_micros(self.micros.unsigned_abs());
+        write!(f, "{sign}{distance}")
     }
 }

@@ -176,3 +176,42 @@ fn moments_before_the_origin(rt: HostRuntime) {
         Duration::from_secs(1)
     );
 }
+
+#[test]
+fn printed_times(rt: HostRuntime) -> Result<(), Fail> {
+    for (micros, text) in [
+        (0, "0.000s"),
+        (999, "0.000s"),
+        (1_500_000, "1.500s"),
+        (61_000_001, "61.000s"),
+    ] {
+        let span = Duration::from_micros(micros);
+        assert_eq!(rt; format!(in rt.alloc(); "{span}")?.as_str(), text);
+    }
+    for (micros, text) in [
+        (1_500_000, "1.500s"),
+        (-250_000, "-0.250s"),
+        (i64::MIN, "-9223372036854.775s"),
+    ] {
+        let moment = Instant::from_micros(micros);
+        assert_eq!(rt; format!(in rt.alloc(); "{moment}")?.as_str(), text);
+    }
+    Ok(())
+}
+
+#[test]
+fn frames_sent_are_handed_over_once(rt: HostRuntime) {
+    let mut device = empty(rt.alloc());
+    for frame in [&b"first"[..], &b"second"[..]] {
+        if !device.transmit(NOW) {
+            assert!(rt; device.transmit(NOW));
+        }
+        device.send(PacketMeta::EMPTY, frame);
+    }
+    let sent = device.take_sent();
+    assert_eq!(rt; sent.len(), 2);
+    assert_eq!(rt; sent[0].as_slice(), b"first".as_slice());
+    assert_eq!(rt; sent[1].as_slice(), b"second".as_slice());
+    assert_eq!(rt; device.sent().len(), 0);
+    assert_eq!(rt; device.take_sent().len(), 0);
+}

@@ -63,6 +63,7 @@ is_echo_of_v6 n (v6.PktTooBig mtu header) = false
 is_echo_of_v6 n (v6.TimeExceeded code header) = false
 is_echo_of_v6 n (v6.ParamProblem reason pointer header) = false
 is_echo_of_v6 n (v6.Ndisc message) = false
+is_echo_of_v6 n (v6.Router message) = false
 is_echo_of_v6 n (v6.Mld message) = false
 
 abbrev pub is_echo_of : ℕ → IcmpRepr → Bool
@@ -98,6 +99,7 @@ is_unreachable_from_v6 port (v6.PktTooBig mtu header) quoted = false
 is_unreachable_from_v6 port (v6.TimeExceeded code header) quoted = false
 is_unreachable_from_v6 port (v6.ParamProblem reason pointer header) quoted = false
 is_unreachable_from_v6 port (v6.Ndisc message) quoted = false
+is_unreachable_from_v6 port (v6.Router message) quoted = false
 is_unreachable_from_v6 port (v6.Mld message) quoted = false
 
 abbrev pub is_unreachable_from : ℕ → IcmpRepr → List ℕ → Bool

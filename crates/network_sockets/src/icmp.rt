@@ -70,12 +70,40 @@ impl<L: Drop> SocketOf<L> {
         }
     }
 
+    /// Whose messages it takes.
+    pub fn endpoint(&self) -> Endpoint
+        ensures { result ≡ self.now.endpoint }
+    {
+        self.endpoint
+    }
+
+    /// The hop limit of what is sent.
+    pub fn hop_limit(&self) -> u8
+        ensures { result ≡ self.now.hop_limit }
+    {
+        self.hop_limit
+    }
+
     /// Sets the hop limit of what is sent, which isn't 0.
     pub fn set_hop_limit(&mut self, hop_limit: u8)
         requires { hop_limit ≢ 0 }
         ensures { self.new ≡ record self.old { hop_limit = hop_limit } }
     {
         self.hop_limit = hop_limit;
+    }
+
+    /// The messages that came and weren't read.
+    pub fn rx(&self) -> &Queue<IpAddress>
+        ensures { result.now ≡ self.now.rx }
+    {
+        self.buffers.rx()
+    }
+
+    /// The messages that are to be sent.
+    pub fn tx(&self) -> &Queue<IpAddress>
+        ensures { result.now ≡ self.now.tx }
+    {
+        self.buffers.tx()
     }
 
     /// Whether a message is for the socket, by its values and what stands behind its header: an

@@ -59,6 +59,34 @@ impl<L: Drop> SocketOf<L> {
         }
     }
 
+    /// The version of IP of its packets.
+    pub fn version(&self) -> IpVersion
+        ensures { result ≡ self.now.version }
+    {
+        self.version
+    }
+
+    /// The protocol of its packets.
+    pub fn protocol(&self) -> IpProtocol
+        ensures { result ≡ self.now.protocol }
+    {
+        self.protocol
+    }
+
+    /// The packets that came and weren't read.
+    pub fn rx(&self) -> &Queue<()>
+        ensures { result.now ≡ self.now.rx }
+    {
+        self.buffers.rx()
+    }
+
+    /// The packets that are to be sent.
+    pub fn tx(&self) -> &Queue<()>
+        ensures { result.now ≡ self.now.tx }
+    {
+        self.buffers.tx()
+    }
+
     /// Whether packets of a version and a protocol are for the socket: both are its own.
     pub fn accepts(&self, version: IpVersion, protocol: IpProtocol) -> bool
         ensures { result ≡ spec.accepts self.now version protocol }
@@ -98,13 +126,13 @@ impl<L: Drop> SocketOf<L> {
         self.buffers.done();
     }
 
-    /// Queues a packet, header and payload. `Full` exactly if it doesn't fit; then the socket stays
+    /// Queues a packet, header and payload, of which nothing else is told. `Full` exactly if it doesn't fit; then the socket stays
     /// as it was.
-    pub fn send(&mut self, packet: &[u8]) -> Result<(), Full>
+    pub fn send(&mut self, meta: (), packet: &[u8]) -> Result<(), Full>
         ensures fits { is_ok result ≡ is_room self.old.tx (length packet.now) }
         ensures socket { self.new ≡ spec.queued packet.now self.old }
     {
-        self.buffers.send((), packet)
+        self.buffers.send(meta, packet)
     }
 
     /// When it has to be polled again: at once, if something is to be sent.

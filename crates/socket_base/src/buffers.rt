@@ -33,6 +33,20 @@ impl<M: Drop> Buffers<M> {
         Buffers { rx, tx }
     }
 
+    /// The packets that came and weren't read.
+    pub fn rx(&self) -> &Queue<M>
+        ensures { result.now ≡ self.now.rx }
+    {
+        &self.rx
+    }
+
+    /// The packets that are to be sent.
+    pub fn tx(&self) -> &Queue<M>
+        ensures { result.now ≡ self.now.tx }
+    {
+        &self.tx
+    }
+
     /// Takes a packet that came. Without room for it, it is dropped.
     #[inline(always)]
     pub fn process(&mut self, meta: M, octets: &[u8])

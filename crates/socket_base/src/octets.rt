@@ -47,6 +47,13 @@ impl Octets {
         })
     }
 
+    /// How many octets fit, those that are there counted in.
+    pub fn limit(&self) -> usize
+        ensures { result ≡ self.now.limit }
+    {
+        self.limit
+    }
+
     /// How many more octets fit.
     pub fn room(&self) -> usize
         ensures { result + length self.now.octets ≡ self.now.limit }

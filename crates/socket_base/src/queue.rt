@@ -1,7 +1,7 @@
 //! Packets that wait in order.
-ghost use Rattle.std.specs.Prelude.{◌≡◌, ◌+◌, ◌≤◌, ◌<◌, ◌↔◌, [], ◌∷◌, ◌++◌, length, drop, IfOk, IsOk, OnOk, OnErr};
+ghost use Rattle.std.specs.Prelude.{◌≡◌, ◌==◌, ◌+◌, ◌≤◌, ◌<◌, ◌↔◌, [], ◌∷◌, ◌++◌, length, drop, IfOk, IsOk, OnOk, OnErr};
 ghost use Rattle.std.specs.VecDeque.{deque_len, deque_capacity};
-ghost use Rattle.socket_base.specs.Queue.{octets_in, first_of};
+ghost use Rattle.socket_base.specs.Queue.{octets_in, first_of, is_room};
 
 use crate::octets::Octets;
 use std::alloc::{AllocError, Global};
@@ -99,6 +99,43 @@ impl<M: Drop> Queue<M> {
         self.entries.push_back_reserved(Entry { meta, len });
         self.octets.append_parts(front, back);
         Ok(())
+    }
+
+    /// How many packets wait.
+    #[tactic(auto, using(crate::proofs::QueueLemmas::length_cut))]
+    pub fn len(&self) -> usize
+        ensures { result ≡ length self.now.packets }
+    {
+        self.entries.len()
+    }
+
+    /// Whether no packet waits.
+    pub fn is_empty(&self) -> bool
+        ensures { result ≡ (length self.now.packets == 0) }
+    {
+        self.len() == 0
+    }
+
+    /// Whether a packet of so many octets fits now.
+    #[tactic(auto, using(crate::proofs::QueueLemmas::octets_in_cut))]
+    pub fn has_room(&self, len: usize) -> bool
+        ensures { result ≡ is_room self.now len }
+    {
+        self.len() < self.most && len <= self.octets.room()
+    }
+
+    /// How many packets fit, those that wait counted in.
+    pub fn packet_capacity(&self) -> usize
+        ensures { result ≡ self.now.most }
+    {
+        self.most
+    }
+
+    /// How many octets fit, those of the packets that wait counted in.
+    pub fn payload_capacity(&self) -> usize
+        ensures { result ≡ self.now.limit }
+    {
+        self.octets.limit()
     }
 
     /// The first packet, if there is one: what is told of it, and its octets.

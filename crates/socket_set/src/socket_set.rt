@@ -13,8 +13,8 @@ use ip_wire::IpAddress;
 use net_base::time::Instant;
 use sockets::PollAt;
 use sockets::socket::{AnySocketOf, SocketOf};
-use std::fmt;
 use std::marker::Model;
+use std::{error, fmt};
 
 /// A place for one socket, with its lifetime as a type parameter.
 ///
@@ -195,6 +195,15 @@ impl<T> fmt::Display for AddError<T> {
     }
 }
 
+impl<T> fmt::Debug for AddError<T> {
+    /// As its name, without the socket.
+    fn fmt<W: fmt::Write>(&self, f: &mut fmt::Formatter<W>) -> fmt::Result {
+        write!(f, "{self}")
+    }
+}
+
+impl<T: Drop> error::Error for AddError<T> {}
+
 impl<L> SocketSetOf<L> {
     /// A set over these places, which makes more of them where none is free.
     pub fn new(sockets: Vec<SocketStorageOf<L>>) -> SocketSetOf<L>
@@ -270,7 +279,7 @@ impl<L: Drop> SocketSetOf<L> {
 
     /// The socket at an index, if it is of a kind. `None` exactly for a free place, a socket of another
     /// kind, or an index out of range; then the set stays as it was.
-    pub fn kind_mut<T: AnySocketOf<L>>(&mut self, index: usize) -> Option<&mut T>
+    pub(crate) fn kind_mut<T: AnySocketOf<L>>(&mut self, index: usize) -> Option<&mut T>
         ensures* lends { sem 𝓛 (LendsIf (set_row L.row) T.row self.entry result (λ w. with_place self.old index (Some (T.up w))) self.old) }
         ensures value { option_copied_mut result ≡ option_and_then T.down (socket_at self.old index) }
         ensures whole { IfSome (option_copied_mut result) (λ s. socket_at self.old index ≡ Some (T.up s)) }
@@ -281,7 +290,7 @@ impl<L: Drop> SocketSetOf<L> {
 
     /// The socket at an index, of whatever kind. `None` exactly for a free place or an index out of
     /// range; then the set stays as it was.
-    pub fn socket_mut(&mut self, index: usize) -> Option<&mut SocketOf<L>>
+    pub(crate) fn socket_mut(&mut self, index: usize) -> Option<&mut SocketOf<L>>
         ensures* lends { sem 𝓛 (LendsIf (set_row L.row) (socket_row L.row) self.entry result (λ w. with_place self.old index (Some w)) self.old) }
         ensures value { option_copied_mut result ≡ socket_at self.old index }
     {
@@ -290,7 +299,7 @@ impl<L: Drop> SocketSetOf<L> {
     }
 
     /// How many places there are, free or not.
-    pub fn places(&self) -> usize
+    pub(crate) fn places(&self) -> usize
         ensures { result ≡ length self.now.places }
     {
         self.sockets.len()
@@ -316,7 +325,7 @@ impl<L: Drop> SocketSetOf<L> {
     /// Whether the socket at an index may be asked for packets at a moment: it doesn't wait, or the
     /// neighbour that it waits for is known, which ends the wait, or the wait has passed. A free place,
     /// and an index out of range, has no socket that may.
-    pub fn egress_permitted<F: Fn(IpAddress) -> bool>(
+    pub(crate) fn egress_permitted<F: Fn(IpAddress) -> bool>(
         &mut self,
         index: usize,
         timestamp: Instant,
@@ -339,7 +348,7 @@ impl<L: Drop> SocketSetOf<L> {
     /// When the socket at an index wants to be asked for a packet: by its own answer, or at the end of
     /// its wait where it has to wait. `has_neighbor` tells whether a neighbour is known. A free place,
     /// and an index out of range, has no socket that does.
-    pub fn poll_at<F: Fn(IpAddress) -> bool>(
+    pub(crate) fn poll_at<F: Fn(IpAddress) -> bool>(
         &self,
         index: usize,
         timestamp: Instant,
@@ -357,7 +366,7 @@ impl<L: Drop> SocketSetOf<L> {
     }
 
     /// Lets the socket at an index wait for a neighbour, until 1 s after the moment.
-    pub fn neighbor_missing(&mut self, index: usize, timestamp: Instant, neighbor: IpAddress)
+    pub(crate) fn neighbor_missing(&mut self, index: usize, timestamp: Instant, neighbor: IpAddress)
         requires { IsMoment timestamp }
         ensures { self.new ≡ with_wait self.old index (Some (neighbor, silence_from timestamp)) }
     {

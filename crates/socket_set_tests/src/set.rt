@@ -1,7 +1,7 @@
 // Each test also holds where any one request for memory is refused.
 use ip_wire::{IpAddress, Ipv4Address};
 use net_base::time::Instant;
-use socket_set::{AddError, SocketHandle, SocketSet, SocketStorage};
+use socket_set::{AddError, SocketHandle, SocketSet, SocketStorage, by_index};
 use sockets::queue::{NoMemory, Queue};
 use sockets::socket::{AnySocket, SocketOf};
 use sockets::{IpEndpoint, IpListenEndpoint, tcp, udp};
@@ -74,9 +74,9 @@ fn handles_rise(rt: HostRuntime) -> Result<(), Fail> {
     let first = add(&mut set, udp_socket(rt.alloc(), 1)?)?;
     let second = add(&mut set, udp_socket(rt.alloc(), 2)?)?;
     assert!(rt; set.get_mut::<udp::Socket<'_>>(second).is_some());
-    assert!(rt; set.socket_mut(1).is_some());
-    assert!(rt; set.socket_mut(2).is_none());
-    assert_eq!(rt; set.places(), 2);
+    assert!(rt; by_index::socket_mut(&mut set, 1).is_some());
+    assert!(rt; by_index::socket_mut(&mut set, 2).is_none());
+    assert_eq!(rt; by_index::places(&set), 2);
     assert!(rt; set.iter().next().is_some());
     let mut handles = set.handles();
     assert_eq!(rt; handles.next(), Some(first));
@@ -90,8 +90,8 @@ fn a_socket_waits_at_its_place(rt: HostRuntime) -> Result<(), Fail> {
     let mut set: SocketSet<'_> = SocketSet::new(Vec::new(rt.alloc()));
     let first = add(&mut set, udp_socket(rt.alloc(), 1)?)?;
     add(&mut set, udp_socket(rt.alloc(), 2)?)?;
-    set.neighbor_missing(0, Instant::from_secs(1), FIRST);
-    set.neighbor_missing(2, Instant::from_secs(1), FIRST);
+    by_index::neighbor_missing(&mut set, 0, Instant::from_secs(1), FIRST);
+    by_index::neighbor_missing(&mut set, 2, Instant::from_secs(1), FIRST);
     for (index, micros, permitted) in [
         (0, 1_000_000, false),
         (0, 1_999_999, false),
@@ -102,17 +102,17 @@ fn a_socket_waits_at_its_place(rt: HostRuntime) -> Result<(), Fail> {
     ] {
         let timestamp = Instant::from_micros(micros);
         assert_eq!(rt;
-            set.egress_permitted(index, timestamp, |a| a == SECOND),
+            by_index::egress_permitted(&mut set, index, timestamp, |a| a == SECOND),
             permitted
         );
     }
     assert!(rt; is_removed(&mut set, first));
-    assert!(rt; !set.egress_permitted(0, Instant::from_secs(3), |_| true));
+    assert!(rt; !by_index::egress_permitted(&mut set, 0, Instant::from_secs(3), |_| true));
     assert_eq!(rt; add(&mut set, udp_socket(rt.alloc(), 3)?)?, first);
-    assert!(rt; set.egress_permitted(0, Instant::ZERO, |_| false));
-    set.neighbor_missing(0, Instant::from_secs(1), FIRST);
-    assert!(rt; set.egress_permitted(0, Instant::ZERO, |a| a == FIRST));
-    assert!(rt; set.egress_permitted(0, Instant::ZERO, |_| false));
+    assert!(rt; by_index::egress_permitted(&mut set, 0, Instant::ZERO, |_| false));
+    by_index::neighbor_missing(&mut set, 0, Instant::from_secs(1), FIRST);
+    assert!(rt; by_index::egress_permitted(&mut set, 0, Instant::ZERO, |a| a == FIRST));
+    assert!(rt; by_index::egress_permitted(&mut set, 0, Instant::ZERO, |_| false));
     Ok(())
 }
 
@@ -131,7 +131,7 @@ fn a_fixed_set_gives_the_socket_back(rt: HostRuntime) -> Result<(), Fail> {
         Err(AddError::NoMemory(_socket)) => false,
     };
     assert!(rt; refused);
-    assert_eq!(rt; set.places(), 1);
+    assert_eq!(rt; by_index::places(&set), 1);
     Ok(())
 }
 
@@ -174,14 +174,14 @@ fn grow<'a>(
     ports: &[u16],
     port: u16,
 ) -> Result<SocketHandle, NoMemory> {
-    let places = set.places();
+    let places = by_index::places(&set);
     assert!(rt; are_at(set, ports));
     match set.add(tcp_socket(alloc, port)?) {
         Ok(handle) => Ok(handle),
         Err(AddError::Full(_socket)) => Err(NoMemory),
         Err(AddError::NoMemory(socket)) => {
             assert!(rt; is_at(&socket, port));
-            assert_eq!(rt; set.places(), places);
+            assert_eq!(rt; by_index::places(&set), places);
             assert!(rt; are_at(set, ports));
             add(set, socket)
         }
@@ -194,7 +194,7 @@ fn a_refused_place_leaves_the_set_as_it_was(rt: HostRuntime) -> Result<(), Fail>
     let mut set: SocketSet<'_> = SocketSet::new(Vec::new(rt.alloc()));
     for i in 0..5 {
         grow(&rt, rt.alloc(), &mut set, &ports[..i], ports[i])?;
-        assert_eq!(rt; set.places(), i + 1);
+        assert_eq!(rt; by_index::places(&set), i + 1);
     }
     assert!(rt; are_at(&set, &ports));
     Ok(())

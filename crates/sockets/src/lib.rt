@@ -10,4 +10,4 @@ pub use socket_base::endpoint::{IpEndpoint, IpListenEndpoint};
 pub use socket_base::poll_at::PollAt;
 pub use socket_base::queue::{Full, NoMemory, Queue};
 pub use socket_base::{context, endpoint, octets, poll_at, queue};
-pub use transport_sockets::{tcp, udp};
+pub use transport_sockets::{SendError, tcp, udp};

@@ -12,7 +12,7 @@ use sockets::context::SocketContext;
 use sockets::endpoint::{IpEndpoint, IpListenEndpoint};
 use sockets::poll_at::PollAt;
 use sockets::queue::{Full, NoMemory, Queue};
-use sockets::{icmp, raw, tcp, udp};
+use sockets::{SendError, icmp, raw, tcp, udp};
 use std::alloc::Global;
 use std::process::Abort;
 use std::test::Fail;
@@ -347,7 +347,7 @@ fn packets_keep_their_headers(rt: HostRuntime) -> Result<(), Fail> {
         Some((_, octets)) => assert_eq!(rt; octets, PACKET),
         None => assert!(rt; false),
     }
-    assert_eq!(rt; socket.send(PACKET), Ok(()));
+    assert_eq!(rt; socket.send((), PACKET), Ok(()));
     match socket.offer() {
         Some(packet) => {
             assert_eq!(rt; packet.header, IpRepr::Ipv4(header));
@@ -356,7 +356,7 @@ fn packets_keep_their_headers(rt: HostRuntime) -> Result<(), Fail> {
         None => assert!(rt; false),
     }
     socket.told(true);
-    assert_eq!(rt; socket.send(b"no packet"), Ok(()));
+    assert_eq!(rt; socket.send((), b"no packet"), Ok(()));
     assert!(rt; socket.offer().is_none());
     assert_eq!(rt; socket.poll_at(), PollAt::Ingress);
     Ok(())
@@ -388,7 +388,7 @@ fn packets_of_ipv6_are_offered(rt: HostRuntime) -> Result<(), Fail> {
             ample(rt.alloc())?,
             ample(rt.alloc())?,
         );
-        assert_eq!(rt; socket.send(octets), Ok(()));
+        assert_eq!(rt; socket.send((), octets), Ok(()));
         let payload = socket.offer().map(|packet| packet.payload);
         assert_eq!(rt; payload, offered);
     }
@@ -540,5 +540,83 @@ fn echo_messages_go_by_the_peers_family(rt: HostRuntime) -> Result<(), Fail> {
         }
         None => assert!(rt; false),
     }
+    Ok(())
+}
+
+#[test]
+fn what_a_client_may_not_send(rt: HostRuntime) -> Result<(), Fail> {
+    let mut socket: udp::Socket<'_> = udp::SocketOf::new(
+        IpListenEndpoint::from(7),
+        ample(rt.alloc())?,
+        ample(rt.alloc())?,
+    );
+    let long = [0; 65496];
+    for (remote, payload, error) in [
+        (
+            IpEndpoint::from((IpAddress::default(), 5000)),
+            &b"abc"[..],
+            SendError::UnspecifiedAddress,
+        ),
+        (
+            IpEndpoint::from((OTHER, 0)),
+            &b"abc"[..],
+            SendError::UnspecifiedPort,
+        ),
+        (REMOTE, &long[..], SendError::TooLong),
+        (REMOTE, &long[..65495], SendError::Full),
+    ] {
+        assert_eq!(rt; socket.try_send(remote, payload), Err(error));
+        assert!(rt; socket.tx().is_empty());
+    }
+    assert_eq!(rt; socket.try_send(REMOTE, b"abc"), Ok(()));
+    assert_eq!(rt; socket.tx().len(), 1);
+    assert!(rt; socket.rx().is_empty());
+    let mut unbound: udp::Socket<'_> = udp::SocketOf::new(
+        IpListenEndpoint::from(0),
+        ample(rt.alloc())?,
+        ample(rt.alloc())?,
+    );
+    assert_eq!(rt; unbound.try_send(REMOTE, b"abc"), Err(SendError::Unbound));
+    Ok(())
+}
+
+#[test]
+fn what_a_socket_tells_of_itself(rt: HostRuntime) -> Result<(), Fail> {
+    let own = IpListenEndpoint::from(IpEndpoint::from((OWN, 80)));
+    let mut socket: tcp::Socket<'_> = tcp::SocketOf::new(
+        own,
+        Some(REMOTE),
+        ample(rt.alloc())?,
+        ample(rt.alloc())?,
+    );
+    assert_eq!(rt; socket.local(), own);
+    assert_eq!(rt; socket.remote(), Some(REMOTE));
+    assert_eq!(rt; socket.hop_limit(), 64);
+    assert_eq!(rt; socket.hold(), Instant::ZERO);
+    assert!(rt; !socket.is_aborted());
+    socket.set_hop_limit(1);
+    socket.hold_until(Instant::from_secs(1));
+    socket.abort();
+    assert_eq!(rt; socket.hop_limit(), 1);
+    assert_eq!(rt; socket.hold(), Instant::from_secs(1));
+    assert!(rt; socket.is_aborted());
+    let queue = socket.tx();
+    assert!(rt; queue.has_room(64));
+    assert!(rt; !queue.has_room(65));
+    assert_eq!(rt; queue.packet_capacity(), 4);
+    assert_eq!(rt; queue.payload_capacity(), 64);
+    Ok(())
+}
+
+#[test]
+fn printed_ends(rt: HostRuntime) -> Result<(), Fail> {
+    let listening = IpListenEndpoint::from(7);
+    assert_eq!(rt;
+        format!(in rt.alloc(); "{REMOTE}")?.as_str(),
+        "192.168.69.100:5000"
+    );
+    assert_eq!(rt; format!(in rt.alloc(); "{listening}")?.as_str(), "*:7");
+    let number = TcpSeqNumber::from(4_294_967_295);
+    assert_eq!(rt; format!(in rt.alloc(); "{number}")?.as_str(), "4294967295");
     Ok(())
 }

@@ -1,3 +1,4 @@
+pub mod SendError
 pub mod Tcp
 pub mod TcpLending
 pub mod Udp

@@ -1,11 +1,14 @@
 //! TCP sockets (RFC 9293), which hand segments in and out: what the segments mean is up to the
 //! caller.
-ghost use Rattle.std.specs.Prelude.{◌≡◌, ◌≢◌, ◌<◌, ◌≤◌, ◌^◌, pos, length, is_ok, true, false};
+ghost use Rattle.std.specs.Prelude.{◌≡◌, ◌≢◌, ◌<◌, ◌≤◌, ◌^◌, pos, length, is_ok, OnOk, OnErr, true, false};
 ghost use Rattle.std.specs.Option.{option_map};
+ghost use Rattle.std.specs.Result.{result_err};
 ghost use Rattle.ip_address.specs.Ip.{is_unspecified};
 ghost use Rattle.socket_base.specs.Queue.{is_room, first_of};
+ghost use Rattle.transport_sockets.specs.SendError.{refusal};
 ghost use Rattle.transport_sockets.specs.Tcp as spec;
 
+use crate::send_error::{SendError, refusal};
 use ip_wire::{IpAddress, TcpControl, TcpRepr, TcpSeqNumber};
 use net_base::time::Instant;
 use socket_base::buffers::Buffers;
@@ -85,12 +88,40 @@ impl<L: Drop> SocketOf<L> {
         }
     }
 
+    /// Its own end.
+    pub fn local(&self) -> IpListenEndpoint
+        ensures { result ≡ self.now.local }
+    {
+        self.local
+    }
+
+    /// The other end, if it is only one.
+    pub fn remote(&self) -> Option<IpEndpoint>
+        ensures { result ≡ self.now.remote }
+    {
+        self.remote
+    }
+
+    /// The hop limit of what is sent.
+    pub fn hop_limit(&self) -> u8
+        ensures { result ≡ self.now.hop_limit }
+    {
+        self.hop_limit
+    }
+
     /// Sets the hop limit of what is sent, which isn't 0.
     pub fn set_hop_limit(&mut self, hop_limit: u8)
         requires { hop_limit ≢ 0 }
         ensures { self.new ≡ record self.old { hop_limit = hop_limit } }
     {
         self.hop_limit = hop_limit;
+    }
+
+    /// The moment before which it sends nothing.
+    pub fn hold(&self) -> Instant
+        ensures { result ≡ self.now.hold }
+    {
+        self.hold
     }
 
     /// Sends nothing before a moment.
@@ -100,11 +131,32 @@ impl<L: Drop> SocketOf<L> {
         self.hold = moment;
     }
 
+    /// Whether the connection was given up.
+    pub fn is_aborted(&self) -> bool
+        ensures { result ≡ self.now.is_aborted }
+    {
+        self.is_aborted
+    }
+
     /// Gives the connection up: from now on what comes is answered by a reset.
     pub fn abort(&mut self)
         ensures { self.new ≡ record self.old { is_aborted = true } }
     {
         self.is_aborted = true;
+    }
+
+    /// The segments that came and weren't read.
+    pub fn rx(&self) -> &Queue<Segment>
+        ensures { result.now ≡ self.now.rx }
+    {
+        self.buffers.rx()
+    }
+
+    /// The segments that are to be sent.
+    pub fn tx(&self) -> &Queue<Segment>
+        ensures { result.now ≡ self.now.tx }
+    {
+        self.buffers.tx()
     }
 
     /// Whether a segment from one end to another is for the socket: its own port is the
@@ -177,6 +229,22 @@ impl<L: Drop> SocketOf<L> {
         ensures socket { self.new ≡ spec.queued segment payload.now self.old }
     {
         self.buffers.send(segment, payload)
+    }
+
+    /// Queues a segment as [`send`](SocketOf::send) does, for ends and payloads of any kind: an error
+    /// comes exactly where the end's address is unspecified, its port or the socket's own is 0, the
+    /// payload has more than 65,495 octets, or it doesn't fit, the first of these that holds; then
+    /// the socket stays as it was.
+    pub fn try_send(&mut self, segment: Segment, payload: &[u8]) -> Result<(), SendError>
+        ensures refused { result_err result ≡ refusal segment.remote self.old.local.port (length payload.now) (is_room self.old.tx (length payload.now)) }
+        ensures ok { OnOk result (self.new ≡ spec.queued segment payload.now self.old) }
+        ensures err { OnErr result (self.new ≡ self.old) }
+    {
+        let (len, own_port) = (payload.len(), self.local.port);
+        if let Some(error) = refusal(&segment.remote, own_port, len, self.tx().has_room(len)) {
+            return Err(error);
+        }
+        self.send(segment, payload).map_err(|_| SendError::Full)
     }
 
     /// When it has to be polled again: at the moment until which it holds back, if something is to

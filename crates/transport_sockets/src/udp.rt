@@ -1,10 +1,13 @@
 //! UDP sockets (RFC 768).
-ghost use Rattle.std.specs.Prelude.{◌≡◌, ◌≢◌, ◌≤◌, length, is_ok, false};
+ghost use Rattle.std.specs.Prelude.{◌≡◌, ◌≢◌, ◌≤◌, length, is_ok, OnOk, OnErr, false};
 ghost use Rattle.std.specs.Option.{option_map};
+ghost use Rattle.std.specs.Result.{result_err};
 ghost use Rattle.ip_address.specs.Ip.{is_unspecified};
 ghost use Rattle.socket_base.specs.Queue.{is_room, first_of};
+ghost use Rattle.transport_sockets.specs.SendError.{refusal};
 ghost use Rattle.transport_sockets.specs.Udp as spec;
 
+use crate::send_error::{SendError, refusal};
 use ip_wire::IpAddress;
 use socket_base::buffers::Buffers;
 use socket_base::context::{SocketContext, source_address};
@@ -69,12 +72,33 @@ impl<L: Drop> SocketOf<L> {
         self.endpoint
     }
 
+    /// The hop limit of what is sent.
+    pub fn hop_limit(&self) -> u8
+        ensures { result ≡ self.now.hop_limit }
+    {
+        self.hop_limit
+    }
+
     /// Sets the hop limit of what is sent, which isn't 0.
     pub fn set_hop_limit(&mut self, hop_limit: u8)
         requires { hop_limit ≢ 0 }
         ensures { self.new ≡ record self.old { hop_limit = hop_limit } }
     {
         self.hop_limit = hop_limit;
+    }
+
+    /// The datagrams that came and weren't read.
+    pub fn rx(&self) -> &Queue<IpEndpoint>
+        ensures { result.now ≡ self.now.rx }
+    {
+        self.buffers.rx()
+    }
+
+    /// The datagrams that are to be sent.
+    pub fn tx(&self) -> &Queue<IpEndpoint>
+        ensures { result.now ≡ self.now.tx }
+    {
+        self.buffers.tx()
     }
 
     /// Whether a datagram to an address and a port is for the socket: the port is its own, and it
@@ -134,6 +158,22 @@ impl<L: Drop> SocketOf<L> {
         ensures socket { self.new ≡ spec.queued remote payload.now self.old }
     {
         self.buffers.send(remote, payload)
+    }
+
+    /// Queues a datagram to an end as [`send`](SocketOf::send) does, for ends and payloads of any
+    /// kind: an error comes exactly where the end's address is unspecified, its port or the socket's
+    /// own is 0, the payload has more than 65,495 octets, or it doesn't fit, the first of these that
+    /// holds; then the socket stays as it was.
+    pub fn try_send(&mut self, remote: IpEndpoint, payload: &[u8]) -> Result<(), SendError>
+        ensures refused { result_err result ≡ refusal remote self.old.endpoint.port (length payload.now) (is_room self.old.tx (length payload.now)) }
+        ensures ok { OnOk result (self.new ≡ spec.queued remote payload.now self.old) }
+        ensures err { OnErr result (self.new ≡ self.old) }
+    {
+        let (len, own_port) = (payload.len(), self.endpoint.port);
+        if let Some(error) = refusal(&remote, own_port, len, self.tx().has_room(len)) {
+            return Err(error);
+        }
+        self.send(remote, payload).map_err(|_| SendError::Full)
     }
 
     /// When it has to be polled again: at once, if something is to be sent.

@@ -1,5 +1,5 @@
 -- Sums of words, and folding.
-use Rattle.std.proofs.Common.{◌≡◌, ℕ, zero, suc, ◌+◌, ◌-◌, ◌*◌, ◌/◌, ◌%◌, ◌<◌, ◌≤◌, ◌^◌, List, [], ◌∷◌, ◌++◌, length, get_or, drop, refl, sym, ap, ◌∙◌, add-one, drop-cons, append_assoc, Bool, true, false, cond, eqb, arith}
+use Rattle.std.proofs.Common.{◌≡◌, ℕ, zero, suc, ◌+◌, ◌-◌, ◌*◌, ◌/◌, ◌%◌, ◌<◌, ◌≤◌, ◌^◌, List, [], ◌∷◌, ◌++◌, length, get_or, drop, refl, sym, ap, ◌∙◌, add-one, drop-cons, append_assoc, arith}
 use Rattle.wire_base.specs.Checksum.{folded, word_sum, checksum_of, FoldsCarries}
 use Rattle.std.specs.Int.{w16, to_be_bytes}
 use Rattle.wire_base.specs.Octets.{u32_le_at, u64_le_at}

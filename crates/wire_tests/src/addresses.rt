@@ -1,6 +1,6 @@
 use ip_address::{
-    EthernetAddress, HardwareAddress, IpAddress, IpCidr, Ipv4Address, Ipv4Cidr, Ipv6Address,
-    Ipv6Cidr,
+    EthernetAddress, HardwareAddress, IpAddress, IpCidr, IpProtocol, IpVersion, Ipv4Address,
+    Ipv4Cidr, Ipv6Address, Ipv6Cidr,
 };
 use net_base::phy::Medium;
 use std::test::Fail;
@@ -167,5 +167,73 @@ fn printed_addresses(rt: HostRuntime) -> Result<(), Fail> {
         format!(in rt.alloc(); "{ip}")?.as_str(),
         "no hardware addr"
     );
+    Ok(())
+}
+
+// The examples of RFC 4291 2.2 and RFC 5952 4 and 5.
+#[test]
+fn printed_ipv6_addresses(rt: HostRuntime) -> Result<(), Fail> {
+    for (bits, text) in [
+        (0, "::"),
+        (1, "::1"),
+        (
+            0x2001_0db8_0000_0000_0008_0800_200c_417a,
+            "2001:db8::8:800:200c:417a",
+        ),
+        (0xff01_0000_0000_0000_0000_0000_0000_0101, "ff01::101"),
+        (
+            0x2001_0db8_aaaa_bbbb_cccc_dddd_eeee_0001,
+            "2001:db8:aaaa:bbbb:cccc:dddd:eeee:1",
+        ),
+        (0x2001_0db8_0000_0000_0000_0000_0002_0001, "2001:db8::2:1"),
+        (
+            0x2001_0db8_0000_0001_0001_0001_0001_0001,
+            "2001:db8:0:1:1:1:1:1",
+        ),
+        (0x2001_0000_0000_0001_0000_0000_0000_0001, "2001:0:0:1::1"),
+        (
+            0x2001_0db8_0000_0000_0001_0000_0000_0001,
+            "2001:db8::1:0:0:1",
+        ),
+        (0x2001_0db8_0001_0000_0000_0000_0000_0000, "2001:db8:1::"),
+        (0xffff_c000_0201, "::ffff:192.0.2.1"),
+    ] {
+        let address = Ipv6Address { bits };
+        assert_eq!(rt; format!(in rt.alloc(); "{address}")?.as_str(), text);
+    }
+    let address = Ipv6Address::new(0x2001, 0xdb8, 1, 2, 3, 4, 5, 6);
+    assert_eq!(rt; address.bits, 0x2001_0db8_0001_0002_0003_0004_0005_0006);
+    assert_eq!(rt;
+        address.octets(),
+        [0x20, 0x01, 0x0d, 0xb8, 0, 1, 0, 2, 0, 3, 0, 4, 0, 5, 0, 6]
+    );
+    Ok(())
+}
+
+#[test]
+fn printed_networks_and_protocols(rt: HostRuntime) -> Result<(), Fail> {
+    let own = Ipv4Address::new(192, 168, 69, 1);
+    let cidr = IpCidr::from(Ipv4Cidr::new(own, 24));
+    assert_eq!(rt;
+        format!(in rt.alloc(); "{cidr}")?.as_str(),
+        "192.168.69.1/24"
+    );
+    let router = Ipv6Address::new(0xfe80, 0, 0, 0, 0, 0, 0, 1);
+    let cidr = IpCidr::from(Ipv6Cidr::new(router, 64));
+    assert_eq!(rt; format!(in rt.alloc(); "{cidr}")?.as_str(), "fe80::1/64");
+    let address = IpAddress::from(own);
+    assert_eq!(rt;
+        format!(in rt.alloc(); "{address}")?.as_str(),
+        "192.168.69.1"
+    );
+    let address = IpAddress::from(router);
+    assert_eq!(rt; format!(in rt.alloc(); "{address}")?.as_str(), "fe80::1");
+    assert_eq!(rt; HardwareAddress::from(OWN), HardwareAddress::Ethernet(OWN));
+    for (number, text) in [(0, "Hop-by-Hop"), (17, "UDP"), (58, "ICMPv6"), (9, "0x09")] {
+        let protocol = IpProtocol::from_number(number);
+        assert_eq!(rt; format!(in rt.alloc(); "{protocol}")?.as_str(), text);
+    }
+    let version = IpVersion::Ipv6;
+    assert_eq!(rt; format!(in rt.alloc(); "{version}")?.as_str(), "IPv6");
     Ok(())
 }

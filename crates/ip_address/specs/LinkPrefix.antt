@@ -1,0 +1,27 @@
+-- The address that a host makes of a prefix of its link (RFC 4862 5.5.3): the prefix, and an identifier of its interface (RFC 4291 2.5.1).
+use Rattle.std.specs.Prelude.{ℕ, ◌+◌, ◌*◌, ◌/◌, ◌^◌, ◌==◌, List, [], ◌∷◌, slice_index, Option, Some, None, if◌then◌else◌}
+use Rattle.std.specs.Int.{w64, from_be_bytes}
+use Rattle.std.specs.Int.RustNames.{bit_xor}
+use Rattle.std.proofs.Common.{lit≤}
+use Rattle.ip_address.specs.declared.cidr.Ipv6Cidr.{Ipv6Cidr}
+use Rattle.ip_address.specs.declared.ethernet_address.EthernetAddress.{EthernetAddress}
+use Rattle.ip_address.specs.declared.hardware.HardwareAddress.{HardwareAddress}
+use Rattle.ip_address.specs.declared.hardware.HardwareAddress.TheVariants.{Ethernet, Ip}
+
+-- the identifier by an Ethernet address (RFC 2464 4): ff:fe in its middle, and the bit of its first octet turned that tells who gave it
+unfoldable pub identifier : EthernetAddress → List ℕ
+identifier e =
+    bit_xor (slice_index e.0 0) 2 ∷ slice_index e.0 1 ∷ slice_index e.0 2 ∷ 0xff ∷ 0xfe ∷ slice_index e.0 3 ∷ slice_index e.0 4 ∷ slice_index e.0 5 ∷ []
+
+-- the first 64 bits of the prefix, and then the identifier
+abbrev pub joined : Ipv6Cidr → EthernetAddress → Ipv6Cidr
+joined c e = record {
+  address = record { bits = c.address.bits / 2 ^ 64 * 2 ^ 64 + from_be_bytes w64 (identifier e) };
+  prefix_len = 64;
+  in_range = lit≤ tt;
+}
+
+-- an address is made of a prefix of 64 bits, on a medium that has hardware addresses
+abbrev pub from_link_prefix : Ipv6Cidr → HardwareAddress → Option Ipv6Cidr
+from_link_prefix c (Ethernet e) = if c.prefix_len == 64 then Some (joined c e) else None
+from_link_prefix c Ip = None

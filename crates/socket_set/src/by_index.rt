@@ -1,0 +1,93 @@
+//! The sockets of a set by the indices of their places, for the layers that serve all of them in turn.
+ghost use Rattle.std.specs.Borrow.{sem, LendsIf};
+ghost use Rattle.std.specs.Prelude.{◌≡◌, Bool, false, Some, IsSome, IsNone, IfSome, length};
+ghost use Rattle.std.specs.Option.{option_copied_mut, option_and_then};
+ghost use Rattle.net_base.specs.Time.{IsMoment, silence_from};
+ghost use Rattle.sockets.specs.Kinds.{poll_at as own_poll_at};
+ghost use Rattle.sockets.specs.contracts.socket.SocketOf.{the_row as socket_row};
+ghost use Rattle.socket_base.specs.declared.poll_at.PollAt.TheVariants.{Ingress};
+ghost use Rattle.socket_set.specs.SocketMeta.{poll_at as poll_at_of, IsTold, after_asking, is_permitted};
+ghost use Rattle.socket_set.specs.SocketSet.{socket_at, wait_at, with_place, with_wait};
+ghost use Rattle.socket_set.specs.contracts.socket_set.SocketSetOf.{the_row as set_row};
+
+use crate::socket_set::SocketSetOf;
+use ip_wire::IpAddress;
+use net_base::time::Instant;
+use sockets::PollAt;
+use sockets::socket::{AnySocketOf, SocketOf};
+
+/// How many places there are, free or not.
+pub fn places<L: Drop>(sockets: &SocketSetOf<L>) -> usize
+    ensures { result ≡ length sockets.now.places }
+{
+    sockets.places()
+}
+
+/// The socket at an index, if it is of a kind. `None` exactly for a free place, a socket of another
+/// kind, or an index out of range; then the set stays as it was.
+pub fn kind_mut<T: AnySocketOf<L>, L: Drop>(
+    sockets: &mut SocketSetOf<L>,
+    index: usize,
+) -> Option<&mut T>
+    ensures* lends { sem 𝓛 (LendsIf (set_row L.row) T.row sockets.entry result (λ w. with_place sockets.old index (Some (T.up w))) sockets.old) }
+    ensures value { option_copied_mut result ≡ option_and_then T.down (socket_at sockets.old index) }
+    ensures whole { IfSome (option_copied_mut result) (λ s. socket_at sockets.old index ≡ Some (T.up s)) }
+{
+    sockets.kind_mut(index)
+}
+
+/// The socket at an index, of whatever kind. `None` exactly for a free place or an index out of
+/// range; then the set stays as it was.
+pub fn socket_mut<L: Drop>(sockets: &mut SocketSetOf<L>, index: usize) -> Option<&mut SocketOf<L>>
+    ensures* lends { sem 𝓛 (LendsIf (set_row L.row) (socket_row L.row) sockets.entry result (λ w. with_place sockets.old index (Some w)) sockets.old) }
+    ensures value { option_copied_mut result ≡ socket_at sockets.old index }
+{
+    sockets.socket_mut(index)
+}
+
+/// Whether the socket at an index may be asked for packets at a moment: it doesn't wait, or the
+/// neighbour that it waits for is known, which ends the wait, or the wait has passed. A free place,
+/// and an index out of range, has no socket that may.
+pub fn egress_permitted<L: Drop, F: Fn(IpAddress) -> bool>(
+    sockets: &mut SocketSetOf<L>,
+    index: usize,
+    timestamp: Instant,
+    has_neighbor: F,
+) -> bool
+    requires { F.IsAlwaysCallable has_neighbor }
+    ensures socket { IsSome (socket_at sockets.old index) → (known : Bool) × IsTold (F.post has_neighbor) (wait_at sockets.old index) known
+        × (result ≡ is_permitted (wait_at sockets.old index) known timestamp) × (sockets.new ≡ with_wait sockets.old index (after_asking (wait_at sockets.old index) known)) }
+    ensures nobody { IsNone (socket_at sockets.old index) → (result ≡ false) × (sockets.new ≡ sockets.old) }
+{
+    sockets.egress_permitted(index, timestamp, has_neighbor)
+}
+
+/// When the socket at an index wants to be asked for a packet: by its own answer, or at the end of
+/// its wait where it has to wait. `has_neighbor` tells whether a neighbour is known. A free place,
+/// and an index out of range, has no socket that does.
+pub fn poll_at<L: Drop, F: Fn(IpAddress) -> bool>(
+    sockets: &SocketSetOf<L>,
+    index: usize,
+    timestamp: Instant,
+    has_neighbor: F,
+) -> PollAt
+    requires { F.IsAlwaysCallable has_neighbor }
+    ensures socket { IfSome (socket_at sockets.now index) (λ s. (known : Bool) × IsTold (F.post has_neighbor) (wait_at sockets.now index) known
+        × (result ≡ poll_at_of (wait_at sockets.now index) known timestamp (own_poll_at s))) }
+    ensures nobody { IsNone (socket_at sockets.now index) → result ≡ Ingress }
+{
+    sockets.poll_at(index, timestamp, has_neighbor)
+}
+
+/// Lets the socket at an index wait for a neighbour, until 1 s after the moment.
+pub fn neighbor_missing<L: Drop>(
+    sockets: &mut SocketSetOf<L>,
+    index: usize,
+    timestamp: Instant,
+    neighbor: IpAddress,
+)
+    requires { IsMoment timestamp }
+    ensures { sockets.new ≡ with_wait sockets.old index (Some (neighbor, silence_from timestamp)) }
+{
+    sockets.neighbor_missing(index, timestamp, neighbor);
+}

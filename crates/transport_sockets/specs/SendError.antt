@@ -1,0 +1,13 @@
+-- Why a socket takes no datagram or segment from its client.
+use Rattle.std.specs.Prelude.{ℕ, ◌==◌, nat_lt, Bool, if◌then◌else◌, Option, Some, None}
+use Rattle.ip_address.specs.Ip.{is_unspecified}
+use Rattle.socket_base.specs.declared.endpoint.IpEndpoint.{IpEndpoint}
+use Rattle.transport_sockets.specs.declared.send_error.SendError.{SendError}
+use Rattle.transport_sockets.specs.declared.send_error.SendError.TheVariants.{UnspecifiedAddress, UnspecifiedPort, Unbound, TooLong, Full}
+
+-- the first reason, if there is one: nothing goes to an unspecified address, to port 0 or from it, nor what is longer than a packet of IPv4
+-- with a header of TCP carries, nor what doesn't fit
+abbrev pub refusal : IpEndpoint → ℕ → ℕ → Bool → Option SendError
+refusal remote own_port len fits =
+    if is_unspecified remote.addr then Some UnspecifiedAddress else if remote.port == 0 then Some UnspecifiedPort
+    else if own_port == 0 then Some Unbound else if nat_lt 65495 len then Some TooLong else if fits then None else Some Full
