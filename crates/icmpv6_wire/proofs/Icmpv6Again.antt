@@ -1,5 +1,5 @@
 -- A message is read as it was written.
-use Rattle.std.proofs.Common.{◌≡◌, ℕ, ◌+◌, ◌-◌, ◌*◌, ◌/◌, ◌%◌, ◌<◌, ◌^◌, Bool, true, false, IsTrue, List, [], ◌++◌, length, refl, sym, ap, ◌∙◌, append-nil, append_assoc, length-append, Option, Some, None, arith}
+use Rattle.std.proofs.Common.{◌≡◌, ℕ, ◌+◌, ◌-◌, ◌/◌, ◌%◌, ◌<◌, ◌^◌, Bool, true, false, IsTrue, List, [], ◌++◌, length, refl, sym, ap, ◌∙◌, append-nil, append_assoc, length-append, Option, Some, None, arith}
 use Rattle.wire_base.specs.Checksum.{folded, word_sum}
 use Rattle.wire_base.proofs.Pseudos.{header_words}
 use Rattle.wire_base.proofs.Sums.{summed_up, word_sum-append}
@@ -12,20 +12,21 @@ use Rattle.ipv6_wire.proofs.Ipv6Again.{quoted_again, total}
 use Rattle.icmpv6_wire.specs.declared.icmpv6.Icmpv6DstUnreachable.{Icmpv6DstUnreachable}
 use Rattle.icmpv6_wire.specs.declared.icmpv6.Icmpv6ParamProblem.{Icmpv6ParamProblem}
 use Rattle.icmpv6_wire.specs.declared.icmpv6.Icmpv6Repr.{Icmpv6Repr}
-use Rattle.icmpv6_wire.specs.declared.icmpv6.Icmpv6Repr.TheVariants.{EchoRequest, EchoReply, DstUnreachable, PktTooBig, TimeExceeded, ParamProblem, Ndisc, Mld}
+use Rattle.icmpv6_wire.specs.declared.icmpv6.Icmpv6Repr.TheVariants.{EchoRequest, EchoReply, DstUnreachable, PktTooBig, TimeExceeded, ParamProblem, Ndisc, Router, Mld}
+use Rattle.icmpv6_wire.specs.declared.router.RouterRepr.{RouterRepr}
+use Rattle.icmpv6_wire.specs.declared.router.RouterRepr.TheVariants.{RouterSolicit, RouterAdvert}
+use Rattle.icmpv6_wire.specs.Router as router
 use Rattle.icmpv6_wire.specs.declared.ndisc.NdiscRepr.{NdiscRepr}
 use Rattle.icmpv6_wire.specs.declared.ndisc.NdiscRepr.TheVariants.{NeighborSolicit, NeighborAdvert}
 use Rattle.icmpv6_wire.specs.NdiscOption.{lladdr_text}
 use Rattle.icmpv6_wire.specs.Ndisc.{lladdr_option, lladdr_len, target_of, option_text, IsLinkLayerAddr, IsNeighbor}
-use Rattle.icmpv6_wire.specs.Icmpv6.{head_with, body, header_len, pseudo_header, sum_of, text, IsBody, IsMessage, Request, Reply, Error, Neighbor, Listener, unreachable_of, unreachable_code, problem_of, problem_code, icmpv6_in, ReadAgain}
+use Rattle.icmpv6_wire.specs.Icmpv6.{head_with, body, header_len, pseudo_header, sum_of, text, IsBody, IsMessage, Request, Reply, Error, Neighbor, OfRouters, Listener, unreachable_of, unreachable_code, problem_of, problem_code, icmpv6_in, ReadAgain}
 use Rattle.icmpv6_wire.proofs.NdiscAgain.{neighbor_again, neighbor_text}
+use Rattle.icmpv6_wire.proofs.RouterAgain.{number, router_again, router_text, body_size}
 use Rattle.group_wire.specs.declared.mld.MldRepr.{MldRepr}
 use Rattle.group_wire.specs.declared.mld.MldRepr.TheVariants.{Query, Report}
 use Rattle.group_wire.specs.Mld as mld
 use Rattle.group_wire.proofs.MldAgain as mld_again
-
-number : (n : ℕ) → n < 2 ^ 32 → n / 16777216 % 256 * 16777216 + n / 65536 % 256 * 65536 + n / 256 % 256 * 256 + n % 256 ≡ n
-number n lt = omega arith
 
 -- the checksum is one of the first words
 head_words : (c : ℕ) (r : Icmpv6Repr) → c < 2 ^ 16 → word_sum (head_with c r) ≡ word_sum (head_with 0 r) + c
@@ -37,6 +38,8 @@ head_words c (PktTooBig mtu header) lt = omega (arith, total c lt)
 head_words c (TimeExceeded code header) lt = omega (arith, total c lt)
 head_words c (ParamProblem reason pointer header) lt = omega (arith, total c lt)
 head_words c (Ndisc message) lt = omega (arith, total c lt)
+head_words c (Router (RouterSolicit lladdr)) lt = omega (arith, total c lt)
+head_words c (Router (RouterAdvert hop_limit flags lifetime lladdr prefix)) lt = omega (arith, total c lt)
 head_words c (Mld (Query code group)) lt = omega (arith, total c lt)
 head_words c (Mld (Report count)) lt = omega (arith, total c lt)
 
@@ -49,6 +52,8 @@ head_length c (PktTooBig mtu header) = refl
 head_length c (TimeExceeded code header) = refl
 head_length c (ParamProblem reason pointer header) = refl
 head_length c (Ndisc message) = refl
+head_length c (Router (RouterSolicit lladdr)) = refl
+head_length c (Router (RouterAdvert hop_limit flags lifetime lladdr prefix)) = refl
 head_length c (Mld (Query code group)) = refl
 head_length c (Mld (Report count)) = refl
 
@@ -80,6 +85,7 @@ body_of (TimeExceeded code header) octets m = record { len = omega (arith, quoti
 body_of (ParamProblem reason pointer header) octets m = record { len = omega (arith, quoting header); even = omega (arith, quoting header) }
 body_of (Ndisc (NeighborSolicit target lladdr)) octets m = let o = option_body 1 target lladdr m.0.1 in record { len = o.0; even = o.1 }
 body_of (Ndisc (NeighborAdvert flags target lladdr)) octets m = let o = option_body 2 target lladdr m.0.2 in record { len = o.0; even = o.1 }
+body_of (Router message) octets m = let b = body_size message m.0 in record { len = b.0; even = b.1 }
 body_of (Mld (Query code group)) octets m = record { len = omega (arith, query_body group); even = omega (arith, query_body group) }
 body_of (Mld (Report count)) octets m = record { len = refl; even = refl }
 
@@ -147,6 +153,19 @@ neighbor_message c m octets h e =
     append-nil (head_with c (Ndisc m) ++ body (Ndisc m)) ∙ sym (append_assoc (head_with c (Ndisc m)) (address_text (target_of m)) (option_text m)) in
     rw (e, none) (neighbor_body c m h)
 
+router_made : (n m : RouterRepr) (xs : List ℕ) → n ≡ m → xs ≡ [] → ◌≡◌ {A = Icmpv6Repr × List ℕ} (Router n, []) (Router m, xs)
+router_made n m xs en e = rw (en, e) refl
+
+router_body : (c : ℕ) (m : RouterRepr) → router.IsMessage m → IsBody (router_text c m) × (icmpv6_in (router_text c m) ≡ (Router m, []))
+unfolding head_with
+router_body c (RouterSolicit lladdr) h = let n = router_again c (RouterSolicit lladdr) h in (OfRouters n.0, router_made _ _ [] n.1 refl)
+router_body c (RouterAdvert hop_limit flags lifetime lladdr prefix) h =
+    let n = router_again c (RouterAdvert hop_limit flags lifetime lladdr prefix) h in (OfRouters n.0, router_made _ _ [] n.1 refl)
+
+router_message : (c : ℕ) (m : RouterRepr) (octets : List ℕ) → router.IsMessage m → octets ≡ [] →
+    IsBody (head_with c (Router m) ++ body (Router m) ++ octets) × (icmpv6_in (head_with c (Router m) ++ body (Router m) ++ octets) ≡ (Router m, octets))
+router_message c m octets h e = rw (e, append-nil (head_with c (Router m) ++ body (Router m))) (router_body c m h)
+
 listener_made : (p : MldRepr × List ℕ) (m : MldRepr) (xs : List ℕ) → p ≡ (m, xs) → ◌≡◌ {A = Icmpv6Repr × List ℕ} (Mld p.0, p.1) (Mld m, xs)
 listener_made p m xs e = rw e refl
 
@@ -176,6 +195,7 @@ message_again c (ParamProblem reason pointer header) octets m =
       problem_made (problem_of (problem_code reason)) reason _ pointer (quoted_in (header_text header ++ octets)) header octets m.0 (number pointer m.1) q.1,
     )
 message_again c (Ndisc message) octets m = neighbor_message c message octets m.0 m.1
+message_again c (Router message) octets m = router_message c message octets m.0 m.1
 message_again c (Mld (Query code group)) octets m =
     let l = mld_again.read_again (c / 256 % 256) (c % 256) (Query code group) octets m in
     (Listener l.0, listener_made _ _ _ l.1)

@@ -3,3 +3,5 @@ pub mod Icmpv6Sums
 pub mod NdiscAgain
 pub mod NdiscOptions
 pub mod NdiscSix
+pub mod RouterAgain
+pub mod RouterRead

@@ -6,7 +6,7 @@ use Rattle.ip_address.specs.declared.ipv6.Ipv6Address.{Ipv6Address}
 use Rattle.ip_address.proofs.SixOctets.{Six, six}
 use Rattle.ipv6_wire.specs.Ipv6Packet.{address_text}
 use Rattle.ipv6_wire.proofs.Ipv6Again.{address_again}
-use Rattle.icmpv6_wire.specs.NdiscOption.{IsOption, AreOptions, options_from, last_lladdr, lladdr_in, lladdr_text}
+use Rattle.icmpv6_wire.specs.NdiscOption.{IsOption, AreOptions, options_from, last_of, lladdr_in, lladdr_text}
 use Rattle.icmpv6_wire.specs.Ndisc.{flags_of, IsNdisc, ndisc_in, lladdr_option, target_of, option_text, IsLinkLayerAddr, IsNeighbor}
 use Rattle.icmpv6_wire.specs.Icmpv6.{head_with}
 use Rattle.icmpv6_wire.specs.declared.icmpv6.Icmpv6Repr.TheVariants.{Ndisc}
@@ -16,18 +16,18 @@ use Rattle.icmpv6_wire.specs.declared.ndisc.NdiscRepr.TheVariants.{NeighborSolic
 
 -- the options of a message that has at most one
 none_again : (type : ℕ) → AreOptions [] × (lladdr_in type [] ≡ None)
-unfolding options_from last_lladdr
+unfolding options_from last_of
 none_again type = (All-nil IsOption, refl)
 
 source_six : (a b c d e f : ℕ) → let octets = a ∷ b ∷ c ∷ d ∷ e ∷ f ∷ [] in AreOptions (1 ∷ 1 ∷ octets) × (lladdr_in 1 (1 ∷ 1 ∷ octets) ≡ Some (record { 0 = octets }))
-unfolding options_from last_lladdr
+unfolding options_from last_of
 source_six a b c d e f = (All-cons IsOption (1 ∷ 1 ∷ a ∷ b ∷ c ∷ d ∷ e ∷ f ∷ []) [] (record { header = omega arith; some = omega arith; fits = omega arith; allowed = refl }) (All-nil IsOption), refl)
 
 source_again : (octets : List ℕ) → Six octets → AreOptions (1 ∷ 1 ∷ octets) × (lladdr_in 1 (1 ∷ 1 ∷ octets) ≡ Some (record { 0 = octets }))
 source_again octets s = rw s.is (source_six s.a s.b s.c s.d s.e s.f)
 
 target_six : (a b c d e f : ℕ) → let octets = a ∷ b ∷ c ∷ d ∷ e ∷ f ∷ [] in AreOptions (2 ∷ 1 ∷ octets) × (lladdr_in 2 (2 ∷ 1 ∷ octets) ≡ Some (record { 0 = octets }))
-unfolding options_from last_lladdr
+unfolding options_from last_of
 target_six a b c d e f = (All-cons IsOption (2 ∷ 1 ∷ a ∷ b ∷ c ∷ d ∷ e ∷ f ∷ []) [] (record { header = omega arith; some = omega arith; fits = omega arith; allowed = refl }) (All-nil IsOption), refl)
 
 target_again : (octets : List ℕ) → Six octets → AreOptions (2 ∷ 1 ∷ octets) × (lladdr_in 2 (2 ∷ 1 ∷ octets) ≡ Some (record { 0 = octets }))

@@ -1,15 +1,15 @@
 -- The link-layer address that a message tells has six octets.
-use Rattle.std.proofs.Common.{◌≡◌, ℕ, ◌≤◌, Bool, true, false, List, [], ◌∷◌, length, drop, slice_index, refl, sym, ◌∙◌, ap, subst, Option, Some, None, length-drop, length-take, arith}
+use Rattle.std.proofs.Common.{◌≡◌, ℕ, ◌≤◌, Bool, true, false, List, [], ◌∷◌, length, drop, slice_index, refl, Option, Some, None, length-drop, length-take, arith}
 use Rattle.std.specs.Prelude.{◌==◌, IsTrue, if◌then◌else◌}
 use Rattle.std.specs.Option.{option_or}
 use Rattle.std.specs.List.{All}
 use Rattle.std.proofs.lemmas.List.Elements.{All-head, All-tail}
 use Rattle.std.proofs.lemmas.Bool.Decides.{nat_tests}
 use Rattle.ip_address.specs.declared.ethernet_address.EthernetAddress.{EthernetAddress}
-use Rattle.icmpv6_wire.specs.NdiscOption.{IsOption, option_len, options_in, address_in, last_lladdr, has_length, lladdr_in}
+use Rattle.icmpv6_wire.specs.NdiscOption.{IsOption, options_in, address_in, last_of, has_length, lladdr_in}
 use Rattle.ipv6_wire.specs.Ipv6Packet.{address_at}
 use Rattle.icmpv6_wire.specs.declared.ndisc.NdiscRepr.TheVariants.{NeighborSolicit, NeighborAdvert}
-use Rattle.icmpv6_wire.specs.Ndisc.{IsNdisc, IsLinkLayerAddr, LinkLayerAddrsAreSix, lladdr_of, flags_in}
+use Rattle.icmpv6_wire.specs.Ndisc.{IsLinkLayerAddr, LinkLayerAddrsAreSix, lladdr_of, flags_in}
 
 first_or : (p q : Option EthernetAddress) → IsLinkLayerAddr p → IsLinkLayerAddr q → IsLinkLayerAddr (option_or p q)
 first_or None q a b = b
@@ -28,11 +28,11 @@ module _ (type : ℕ) (one : (n : ℕ) → has_length type n ≡ (n == 1)) where
         search (arith, length-take, length-drop)
     by false e = tt
 
-  pub last_six : (os : List (List ℕ)) → All IsOption os → IsLinkLayerAddr (last_lladdr type os)
-  unfolding last_lladdr
+  pub last_six : (os : List (List ℕ)) → All IsOption os → IsLinkLayerAddr (last_of address_in type os)
+  unfolding last_of
   last_six [] all = tt
   last_six (o ∷ os) all =
-      first_or (last_lladdr type os) (if slice_index o 0 == type then Some (address_in o) else None) (last_six os (All-tail IsOption o os all)) (in_option o (All-head IsOption o os all))
+      first_or (last_of address_in type os) (if slice_index o 0 == type then Some (address_in o) else None) (last_six os (All-tail IsOption o os all)) (in_option o (All-head IsOption o os all))
 
 pub are_six : LinkLayerAddrsAreSix
 are_six octets is = by (slice_index octets 0 == 135) where

@@ -1,4 +1,4 @@
--- ICMP for IPv6 (RFC 4443): echo messages, errors with their quotations, and the neighbour messages.
+-- ICMP for IPv6 (RFC 4443): echo messages, errors with their quotations, and the messages of neighbours, routers and listeners.
 use Rattle.std.specs.Prelude.{◌≡◌, ℕ, ◌+◌, ◌<◌, ◌≤◌, ◌^◌, ◌==◌, Bool, IsTrue, List, [], ◌∷◌, ◌++◌, length, drop, slice_index, if◌then◌else◌}
 use Rattle.std.specs.Borrow.{Bor}
 use Rattle.std.specs.Int.{w16, w32, to_be_bytes}
@@ -9,6 +9,8 @@ use Rattle.ip_address.specs.declared.ip.IpAddress.{IpAddress}
 use Rattle.ipv6_wire.specs.Ipv6Packet.{IsQuoted, quoted_in, header_text, address_text, IsHeader}
 use Rattle.icmpv6_wire.specs.Ndisc.{IsNdisc, IsNeighbor, ndisc_in, flag_octet, target_of, option_text, message_len}
 use Rattle.icmpv6_wire.specs.Ndisc as ndisc
+use Rattle.icmpv6_wire.specs.Router.{IsRouter, router_in}
+use Rattle.icmpv6_wire.specs.Router as router
 use Rattle.group_wire.specs.Mld.{IsMld, mld_in}
 use Rattle.group_wire.specs.Mld as mld
 use Rattle.icmpv6_wire.specs.declared.icmpv6.Icmpv6DstUnreachable.{Icmpv6DstUnreachable}
@@ -16,7 +18,7 @@ use Rattle.icmpv6_wire.specs.declared.icmpv6.Icmpv6DstUnreachable.TheVariants.{P
 use Rattle.icmpv6_wire.specs.declared.icmpv6.Icmpv6ParamProblem.{Icmpv6ParamProblem}
 use Rattle.icmpv6_wire.specs.declared.icmpv6.Icmpv6ParamProblem.TheVariants.{UnrecognizedNxtHdr, UnrecognizedOption, Unknown as OtherProblem}
 use Rattle.icmpv6_wire.specs.declared.icmpv6.Icmpv6Repr.{Icmpv6Repr}
-use Rattle.icmpv6_wire.specs.declared.icmpv6.Icmpv6Repr.TheVariants.{EchoRequest, EchoReply, DstUnreachable, PktTooBig, TimeExceeded, ParamProblem, Ndisc, Mld}
+use Rattle.icmpv6_wire.specs.declared.icmpv6.Icmpv6Repr.TheVariants.{EchoRequest, EchoReply, DstUnreachable, PktTooBig, TimeExceeded, ParamProblem, Ndisc, Router, Mld}
 
 -- the reasons by their codes (RFC 4443 3.1)
 abbrev pub unreachable_code : Icmpv6DstUnreachable → ℕ
@@ -61,6 +63,7 @@ pub data IsBody (octets : List ℕ) : Type 0 where
   Reply : type_in octets ≡ 129 → code_in octets ≡ 0 → IsBody octets
   Error : IsError octets → IsBody octets
   Neighbor : IsNdisc octets → IsBody octets
+  OfRouters : IsRouter octets → IsBody octets
   Listener : IsMld octets → IsBody octets
 
 -- what the checksum covers before the message (RFC 4443 2.3, RFC 8200 8.1): addresses, the message's length, the protocol
@@ -84,13 +87,15 @@ error_of octets =
 abbrev pub error_in : List ℕ → Icmpv6Repr × List ℕ
 error_in octets = (error_of octets, (quoted_in (drop 8 octets)).1)
 
--- a message's values and its data; a neighbour message has none
+-- a message's values and its data; a message of neighbours or routers has none
 abbrev pub icmpv6_in : List ℕ → Icmpv6Repr × List ℕ
 icmpv6_in octets =
     if type_in octets == 128 then (EchoRequest (u16_at octets 4) (u16_at octets 6), drop 8 octets) else
     if type_in octets == 129 then (EchoReply (u16_at octets 4) (u16_at octets 6), drop 8 octets) else
     if type_in octets == 135 then (Ndisc (ndisc_in octets), []) else
     if type_in octets == 136 then (Ndisc (ndisc_in octets), []) else
+    if type_in octets == 133 then (Router (router_in octets), []) else
+    if type_in octets == 134 then (Router (router_in octets), []) else
     if type_in octets == 130 then (Mld (mld_in octets).0, (mld_in octets).1) else
     if type_in octets == 143 then (Mld (mld_in octets).0, (mld_in octets).1) else
     error_in octets
@@ -108,6 +113,7 @@ header_len (PktTooBig mtu header) = 48
 header_len (TimeExceeded code header) = 48
 header_len (ParamProblem reason pointer header) = 48
 header_len (Ndisc message) = message_len message
+header_len (Router message) = router.message_len message
 header_len (Mld message) = mld.message_len message
 
 -- the type and the code of a message
@@ -119,6 +125,7 @@ type_of (PktTooBig mtu header) = 2
 type_of (TimeExceeded code header) = 3
 type_of (ParamProblem reason pointer header) = 4
 type_of (Ndisc message) = ndisc.type_of message
+type_of (Router message) = router.type_of message
 type_of (Mld message) = mld.type_of message
 
 abbrev pub message_code : Icmpv6Repr → ℕ
@@ -129,6 +136,7 @@ message_code (PktTooBig mtu header) = 0
 message_code (TimeExceeded code header) = code
 message_code (ParamProblem reason pointer header) = problem_code reason
 message_code (Ndisc message) = 0
+message_code (Router message) = 0
 message_code (Mld message) = 0
 
 -- the four octets behind the checksum
@@ -140,13 +148,14 @@ rest_of (PktTooBig mtu header) = to_be_bytes w32 mtu
 rest_of (TimeExceeded code header) = 0 ∷ 0 ∷ 0 ∷ 0 ∷ []
 rest_of (ParamProblem reason pointer header) = to_be_bytes w32 pointer
 rest_of (Ndisc message) = flag_octet message ∷ 0 ∷ 0 ∷ 0 ∷ []
+rest_of (Router message) = router.rest_of message
 rest_of (Mld message) = mld.rest_of message
 
 -- the first eight octets, with a checksum
 unfoldable pub head_with : ℕ → Icmpv6Repr → List ℕ
 head_with sum r = type_of r ∷ message_code r ∷ (to_be_bytes w16 sum ++ rest_of r)
 
--- what stands between them and the data: a quoted header, emitted anew from its values, or a target and its option
+-- what stands between them and the data: a quoted header, emitted anew from its values, or what the message has of addresses and options
 abbrev pub body : Icmpv6Repr → List ℕ
 body (EchoRequest ident seq_no) = []
 body (EchoReply ident seq_no) = []
@@ -155,6 +164,7 @@ body (PktTooBig mtu header) = header_text header
 body (TimeExceeded code header) = header_text header
 body (ParamProblem reason pointer header) = header_text header
 body (Ndisc message) = address_text (target_of message) ++ option_text message
+body (Router message) = router.body message
 body (Mld message) = mld.body message
 
 -- its checksum, or 0 where that is off: that of pseudo-header and message, with 0 in its place
@@ -175,6 +185,7 @@ IsMessage (PktTooBig mtu header) octets = (mtu < 2 ^ 32) × IsHeader header
 IsMessage (TimeExceeded code header) octets = IsHeader header
 IsMessage (ParamProblem reason pointer header) octets = (problem_of (problem_code reason) ≡ reason) × (pointer < 2 ^ 32) × IsHeader header
 IsMessage (Ndisc message) octets = IsNeighbor message × (octets ≡ [])
+IsMessage (Router message) octets = router.IsMessage message × (octets ≡ [])
 IsMessage (Mld message) octets = mld.IsMessage message
 
 -- a text is read as its values and its data, if its checksum is there or isn't asked for

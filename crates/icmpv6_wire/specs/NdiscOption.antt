@@ -52,13 +52,14 @@ octets_of p = p.now
 abbrev pub address_in : List ℕ → EthernetAddress
 address_in octets = record { 0 = slice_range octets 2 8 }
 
--- that in the last option of a type
-unfoldable pub last_lladdr : ℕ → List (List ℕ) → Option EthernetAddress
-last_lladdr type [] = None
-last_lladdr type (o ∷ os) = option_or (last_lladdr type os) (if slice_index o 0 == type then Some (address_in o) else None)
+-- what is read in the last option of a type
+unfoldable pub last_of : {A : Type 0} → (List ℕ → A) → ℕ → List (List ℕ) → Option A
+last_of read type [] = None
+last_of read type (o ∷ os) = option_or (last_of read type os) (if slice_index o 0 == type then Some (read o) else None)
 
+-- the link-layer address in the last option of a type
 abbrev pub lladdr_in : ℕ → List ℕ → Option EthernetAddress
-lladdr_in type octets = last_lladdr type (options_in octets)
+lladdr_in type octets = last_of address_in type (options_in octets)
 
 -- the text of an option with a link-layer address
 unfoldable pub lladdr_text : ℕ → EthernetAddress → List ℕ

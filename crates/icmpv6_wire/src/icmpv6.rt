@@ -1,4 +1,5 @@
-//! ICMP for IPv6 (RFC 4443): echo messages, errors with their quotations, and the neighbour messages.
+//! ICMP for IPv6 (RFC 4443): echo messages, errors with their quotations, and the messages of neighbours,
+//! routers and listeners.
 ghost use Rattle.std.specs.Prelude.{◌≡◌, ◌==◌, ◌+◌, ◌%◌, ◌<◌, ◌≤◌, ◌^◌, ◌++◌, length, true};
 ghost use Rattle.std.specs.Option.{SomeIff, option_map};
 ghost use Rattle.std.specs.Cmp.Rules.{comparing};
@@ -7,6 +8,7 @@ ghost use Rattle.wire_base.specs.Checksum.{folded, word_sum};
 ghost use Rattle.icmpv6_wire.specs.Icmpv6 as spec;
 
 use crate::ndisc::NdiscRepr;
+use crate::router::RouterRepr;
 use group_wire::mld::MldRepr;
 use ip_address::IpAddress;
 use ipv6_wire::ipv6_packet::Ipv6Repr;
@@ -117,7 +119,7 @@ impl Eq for Icmpv6ParamProblem {
 }
 
 /// The values of a message, but its data: what an echo message carries, or what is quoted behind
-/// the header of the packet that brought an error. A neighbour message has none.
+/// the header of the packet that brought an error. A message of neighbours or routers has none.
 #[derive(Clone, Copy, Debug, PartialEq, Eq)]
 pub enum Icmpv6Repr {
     EchoRequest {
@@ -154,6 +156,8 @@ pub enum Icmpv6Repr {
     },
     /// A solicitation or an advertisement of a neighbour (RFC 4861).
     Ndisc(NdiscRepr),
+    /// A solicitation of routers, or a router's advertisement (RFC 4861).
+    Router(RouterRepr),
     /// A query or a report of groups (RFC 3810).
     Mld(MldRepr),
 }
@@ -162,10 +166,11 @@ impl Icmpv6Repr {
     /// The message that the octets are, and its data as a part of them. The octets have to be
     /// fewer than 65,536. `src` and `dst` are the packet's addresses.
     ///
-    /// `None` exactly if they are fewer than 8, if they are an echo or neighbour message with a
-    /// code other than 0, an error that quotes no IPv6 header, a neighbour message without a
-    /// target or with wrong options (RFC 4861 7.1), or a message of another type, or if, where
-    /// `checked`, the checksum over the pseudo-header and all of them is wrong (RFC 4443 2.3).
+    /// `None` exactly if they are fewer than 8, if they are a message other than an error with a
+    /// code other than 0, an error that quotes no IPv6 header, a message of neighbours or routers
+    /// that is cut off or has wrong options (RFC 4861 6.1, 7.1), or a message of another type, or
+    /// if, where `checked`, the checksum over the pseudo-header and all of them is wrong (RFC 4443
+    /// 2.3).
     #[inline(always)]
     pub fn parse<'a>(
         octets: &'a [u8],
@@ -185,7 +190,7 @@ impl Icmpv6Repr {
         parse_body(octets)
     }
 
-    /// Appends the message with its data; a neighbour message is to have none. The message has to
+    /// Appends the message with its data; one of neighbours or routers is to have none. The message has to
     /// have at most 65,535 octets. `src` and `dst` are the packet's addresses. Its checksum is 0
     /// where it isn't `summed`. A quoted header is emitted anew.
     pub fn emit(
@@ -239,6 +244,10 @@ impl Icmpv6Repr {
                     None => emit_parts(self, &target, &[], payload, src, dst, summed, out),
                 }
             }
+            Icmpv6Repr::Router(message) => {
+                let body = message.body_octets();
+                emit_parts(self, body.as_slice(), &[], payload, src, dst, summed, out);
+            }
             Icmpv6Repr::Mld(message) => match message.body_octets() {
                 Some(body) => emit_parts(self, &body, &[], payload, src, dst, summed, out),
                 None => emit_parts(self, &[], &[], payload, src, dst, summed, out),
@@ -249,7 +258,7 @@ impl Icmpv6Repr {
     /// The length of the message without its data, in octets.
     pub const fn header_len(&self) -> usize
         ensures value { result ≡ spec.header_len self.now }
-        ensures small { result ≤ 48 }
+        ensures small { result ≤ 56 }
     {
         match self {
             Icmpv6Repr::EchoRequest { .. } | Icmpv6Repr::EchoReply { .. } => HEADER_LEN,
@@ -258,6 +267,7 @@ impl Icmpv6Repr {
             | Icmpv6Repr::TimeExceeded { .. }
             | Icmpv6Repr::ParamProblem { .. } => 48,
             Icmpv6Repr::Ndisc(message) => message.message_len(),
+            Icmpv6Repr::Router(message) => message.message_len(),
             Icmpv6Repr::Mld(message) => message.message_len(),
         }
     }
@@ -315,6 +325,10 @@ fn head_with(sum: u16, repr: &Icmpv6Repr) -> [u8; HEADER_LEN]
         Icmpv6Repr::Ndisc(message) => {
             let flags = message.flag_octet();
             [message.message_type(), 0, c0, c1, flags, 0, 0, 0]
+        }
+        Icmpv6Repr::Router(message) => {
+            let [r0, r1, r2, r3] = message.rest_of();
+            [message.message_type(), 0, c0, c1, r0, r1, r2, r3]
         }
         Icmpv6Repr::Mld(message) => {
             let [r0, r1, r2, r3] = message.rest_of();
@@ -390,6 +404,10 @@ fn parse_body(octets: &[u8]) -> Option<(Icmpv6Repr, &[u8])>
         (135 | 136, _) => {
             let message = NdiscRepr::parse(octets)?;
             Some((Icmpv6Repr::Ndisc(message), &octets[octets.len()..]))
+        }
+        (133 | 134, _) => {
+            let message = RouterRepr::parse(octets)?;
+            Some((Icmpv6Repr::Router(message), &octets[octets.len()..]))
         }
         (130 | 143, _) => {
             let (message, data) = MldRepr::parse(octets)?;

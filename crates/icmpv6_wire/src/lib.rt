@@ -1,9 +1,13 @@
-//! The control messages of IPv6 on the wire: ICMPv6, with the neighbour messages.
+//! The control messages of IPv6 on the wire: ICMPv6, with the messages of neighbours and routers.
 #![tactic(auto)]
 
 pub mod icmpv6;
 pub mod ndisc;
 pub mod ndisc_option;
+pub mod prefix_information;
+pub mod router;
 
 pub use icmpv6::{Icmpv6DstUnreachable, Icmpv6ParamProblem, Icmpv6Repr};
 pub use ndisc::{NdiscNeighborFlags, NdiscRepr};
+pub use prefix_information::{NdiscPrefixInfoFlags, NdiscPrefixInformation};
+pub use router::{NdiscRouterFlags, RouterRepr};

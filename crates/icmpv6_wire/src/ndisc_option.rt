@@ -1,4 +1,4 @@
-//! The options of the neighbour messages (RFC 4861 4.6).
+//! The options of the messages of neighbours and routers (RFC 4861 4.6).
 ghost use Rattle.std.specs.Prelude.{◌≡◌, ◌≤◌, length};
 ghost use Rattle.std.specs.Option.{SomeIff, option_map};
 ghost use Rattle.icmpv6_wire.specs.NdiscOption as spec;
@@ -49,7 +49,7 @@ pub fn parse_lladdr(octets: &[u8], option_type: NdiscOptionType) -> Option<Optio
 /// What stands behind the option that the octets begin with.
 #[inline(always)]
 #[tactic(auto, using(std::proofs::lemmas::List::take_rest))]
-fn behind_option(octets: &[u8]) -> Option<&[u8]>
+pub(crate) fn behind_option(octets: &[u8]) -> Option<&[u8]>
     ensures { SomeIff (option_map spec.octets_of result) (spec.IsOption octets.now) (spec.behind_option octets.now) }
 {
     if octets.len() < 2 {

@@ -1,0 +1,127 @@
+//! What a router advertises of a prefix (RFC 4861 4.6.2).
+ghost use Rattle.std.specs.Prelude.{⊤, ◌≡◌, ◌≤◌, [], ◌∷◌, length, codes};
+ghost use Rattle.std.specs.Option.{SomeIff};
+ghost use Rattle.icmpv6_wire.specs.NdiscOption.{AreOptions};
+ghost use Rattle.icmpv6_wire.specs.PrefixInformation as spec;
+
+use crate::ndisc_option::behind_option;
+use bitflags::{Flag, Flags, bitflag_items};
+use ip_address::Ipv6Address;
+use ipv6_wire::ipv6_packet::address_at;
+use wire_base::octets::u32_at;
+
+/// What a prefix is good for.
+#[derive(Clone, Copy, Debug, PartialEq, Eq)]
+pub struct NdiscPrefixInfoFlags(u8);
+
+bitflag_items! {
+    impl NdiscPrefixInfoFlags: u8 {
+        /// Its addresses are on the link.
+        const ON_LINK = 0x80;
+        /// Hosts may make addresses of it.
+        const ADDRCONF = 0x40;
+    }
+}
+
+impl Flags for NdiscPrefixInfoFlags {
+    type Bits = u8;
+
+    ghost exact = { ⊤ };
+
+    ghost table = { (codes "ON_LINK", 0x80) ∷ (codes "ADDRCONF", 0x40) ∷ [] };
+
+    ghost set_of = { λ flags. flags.0 };
+
+    fn flags<'a>() -> &'a [Flag<NdiscPrefixInfoFlags>] {
+        NdiscPrefixInfoFlags::FLAGS
+    }
+
+    fn bits(&self) -> u8 {
+        self.0
+    }
+
+    fn from_bits_retain(bits: u8) -> NdiscPrefixInfoFlags {
+        NdiscPrefixInfoFlags(bits)
+    }
+}
+
+/// A prefix, what it is good for, and how long it holds.
+#[derive(Clone, Copy, Debug, PartialEq, Eq)]
+pub struct NdiscPrefixInformation {
+    /// In bits, as received: it may be above 128.
+    pub prefix_len: u8,
+    pub flags: NdiscPrefixInfoFlags,
+    /// For how many seconds addresses of the prefix are valid. Zero withdraws it.
+    pub valid_lifetime: u32,
+    /// For how many seconds they are preferred.
+    pub preferred_lifetime: u32,
+    pub prefix: Ipv6Address,
+}
+
+impl NdiscPrefixInformation {
+    /// Whether it isn't preferred for longer than it is valid (RFC 4862 5.5.3).
+    pub fn is_valid_prefix_info(&self) -> bool
+        ensures { result ≡ spec.is_valid_prefix_info self.now }
+    {
+        self.preferred_lifetime <= self.valid_lifetime
+    }
+}
+
+/// The prefix in the last option that has one, if there is such an option. The octets are all options of a
+/// message.
+///
+/// `None` exactly where [`parse_lladdr`](crate::ndisc_option::parse_lladdr) refuses them.
+pub fn parse_prefix(octets: &[u8]) -> Option<Option<NdiscPrefixInformation>>
+    ensures { SomeIff result (AreOptions octets.now) (spec.prefix_in octets.now) }
+{
+    let mut rest = octets;
+    let mut found = None;
+    while !rest.is_empty() {
+        let behind = behind_option(rest)?;
+        if rest[0] == 3 {
+            found = Some(prefix_at(rest));
+        }
+        rest = behind;
+    }
+    Some(found)
+}
+
+/// The prefix in the option that the octets begin with.
+#[inline(always)]
+fn prefix_at(octets: &[u8]) -> NdiscPrefixInformation
+    requires { 32 ≤ length octets.now }
+    ensures { result ≡ spec.prefix_at octets.now }
+{
+    NdiscPrefixInformation {
+        prefix_len: octets[2],
+        flags: flags_of(octets[3]),
+        valid_lifetime: u32_at(octets, 4),
+        preferred_lifetime: u32_at(octets, 8),
+        prefix: address_at(octets, 16),
+    }
+}
+
+/// The option of a prefix: its 32 octets.
+#[tactic(auto, unfolding(crate::specs::PrefixInformation::prefix_text, ipv6_wire::specs::Ipv6Packet::address_text))]
+pub fn prefix_option(prefix: &NdiscPrefixInformation) -> [u8; 32]
+    ensures { result ≡ spec.prefix_text prefix.now }
+{
+    let mut octets = [0; 32];
+    octets[0] = 3;
+    octets[1] = 4;
+    octets[2] = prefix.prefix_len;
+    octets[3] = prefix.flags.bits() & 0xc0;
+    octets[4..8].copy_from_slice(&prefix.valid_lifetime.to_be_bytes());
+    octets[8..12].copy_from_slice(&prefix.preferred_lifetime.to_be_bytes());
+    octets[16..].copy_from_slice(&prefix.prefix.bits.to_be_bytes());
+    octets
+}
+
+/// The flags in an octet, without the bits that are none.
+#[inline(always)]
+#[tactic(auto, unfolding(bitflags::specs::Sets::known_from))]
+fn flags_of(octet: u8) -> NdiscPrefixInfoFlags
+    ensures { result.0 ≡ spec.flags_of octet }
+{
+    NdiscPrefixInfoFlags::from_bits_truncate(octet)
+}
