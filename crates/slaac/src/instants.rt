@@ -1,0 +1,22 @@
+//! The sooner of instants.
+ghost use Rattle.std.specs.Prelude.{◌≡◌};
+ghost use Rattle.slaac.specs.Instants as spec;
+
+use net_base::time::Instant;
+
+/// The sooner of two instants, where none is later than each.
+pub fn sooner(a: Option<Instant>, b: Option<Instant>) -> Option<Instant>
+    ensures { result ≡ spec.sooner a b }
+{
+    let Some(first) = a else {
+        return b;
+    };
+    let Some(second) = b else {
+        return a;
+    };
+    if second < first {
+        Some(second)
+    } else {
+        Some(first)
+    }
+}

@@ -1,0 +1,10 @@
+//! What a host learnt from router advertisements (RFC 4861 6.3, RFC 4862 5.5), when it asks routers for
+//! one, and how its addresses and routes follow what it learnt.
+#![tactic(auto)]
+
+pub mod instants;
+pub mod slaac;
+pub mod sync;
+
+pub use instants::sooner;
+pub use slaac::{Phase, Slaac};

@@ -1,0 +1,604 @@
+//! What a host learnt from router advertisements (RFC 4861 6.3.4, RFC 4862 5.5.3), until when it
+//! holds, and when the host asks routers for an advertisement (RFC 4861 6.3.7).
+ghost use Rattle.std.specs.Prelude.{◌≡◌, ◌+◌, ◌<◌, ◌≤◌, ◌||◌, Bool, pos, true, false, not, length};
+ghost use Rattle.std.specs.List.{list_any, filter};
+ghost use Rattle.net_base.specs.Time.{IsMoment};
+ghost use Rattle.slaac.specs.Slaac as spec;
+ghost use Rattle.slaac.specs.Slaac.{is_before, is_same, is_prefix_valid, is_route_valid, knows_prefix, knows_router, prefix_learnt};
+ghost use Rattle.slaac.specs.Instants.{least};
+ghost use Rattle.slaac.specs.Slaac.{prefix_ends, route_ends, IsLifetime, default_route, whole, with_prefix, withdrawn};
+ghost use Rattle.slaac.specs.Slaac.{prefixes_after, is_prefix_news, routers_after, is_router_news, with_router, with_end};
+ghost use Rattle.slaac.specs.Slaac.{prefix_place, router_place, advertised, updated, nothing, info_from, info_withdrawn};
+
+use crate::instants::sooner;
+use arrayvec::ArrayVec;
+use bitflags::Flags;
+use icmpv6_wire::{NdiscPrefixInfoFlags, NdiscPrefixInformation};
+use ip_address::{Ipv6Address, Ipv6Cidr};
+use net_base::time::{Duration, Instant};
+use std::marker::Model;
+
+/// How many prefixes are kept.
+pub const IFACE_MAX_PREFIX_COUNT: usize = 2;
+
+/// How many routers are kept.
+pub const IFACE_MAX_ROUTE_COUNT: usize = 4;
+
+/// How many solicitations are sent (RFC 4861 10).
+pub const MAX_RTR_SOLICITATIONS: u8 = 3;
+
+/// How long after one solicitation the next may go: 4 s (RFC 4861 10).
+pub const RTR_SOLICITATION_INTERVAL: Duration = Duration { micros: 4_000_000 };
+
+/// How far the search for routers is.
+#[derive(Clone, Copy, Debug, PartialEq, Eq)]
+pub enum Phase {
+    /// No solicitation was sent yet.
+    Start,
+    /// One was sent, and no advertisement came since.
+    Discovering,
+    /// An advertisement came after one.
+    Maintaining,
+    /// All were sent, and none was answered.
+    None,
+}
+
+/// Until when a prefix may be used.
+#[derive(Clone, Copy, Debug, PartialEq, Eq)]
+pub struct PrefixInfo {
+    /// From then on its addresses aren't used for what is new.
+    pub preferred_until: Instant,
+    /// From then on its addresses aren't used.
+    pub valid_until: Instant,
+}
+
+impl PrefixInfo {
+    /// The ends of a prefix that is advertised now.
+    pub fn from_prefix(prefix: &NdiscPrefixInformation, now: Instant) -> PrefixInfo
+        requires moment { IsMoment now }
+        ensures { result ≡ info_from prefix.now now }
+    {
+        PrefixInfo {
+            preferred_until: now + Duration::from_secs(u64::from(prefix.preferred_lifetime)),
+            valid_until: now + Duration::from_secs(u64::from(prefix.valid_lifetime)),
+        }
+    }
+
+    // The ends of a prefix that is withdrawn.
+    fn withdrawn() -> PrefixInfo
+        ensures { result ≡ info_withdrawn }
+    {
+        PrefixInfo {
+            preferred_until: Instant::ZERO,
+            valid_until: Instant::ZERO,
+        }
+    }
+
+    /// Whether the prefix is valid: its end is still to come.
+    pub fn is_valid(&self, now: Instant) -> bool
+        ensures { result ≡ is_before now self.now.valid_until }
+    {
+        now < self.valid_until
+    }
+}
+
+/// A prefix of which the host makes addresses, and until when.
+#[derive(Clone, Copy, Debug, PartialEq, Eq)]
+pub struct Prefix {
+    /// The prefix as it was received, with its length.
+    pub cidr: Ipv6Cidr,
+    pub info: PrefixInfo,
+}
+
+impl Default for Prefix {
+    fn default() -> Prefix
+        ensures { result ≡ record { cidr = whole; info = info_withdrawn } }
+    {
+        Prefix {
+            cidr: whole(),
+            info: PrefixInfo::withdrawn(),
+        }
+    }
+}
+
+/// A route by a router that advertised itself.
+#[derive(Clone, Copy, Debug, PartialEq, Eq)]
+pub struct Route {
+    /// The network that it leads to: ::/0.
+    pub cidr: Ipv6Cidr,
+    /// The router, by the source of its advertisement.
+    pub via_router: Ipv6Address,
+    /// From then on it isn't taken.
+    pub valid_until: Instant,
+}
+
+impl Route {
+    // The default route by a router, until an end.
+    fn by_default(via_router: Ipv6Address, valid_until: Instant) -> Route
+        ensures { result ≡ default_route via_router valid_until }
+    {
+        Route {
+            cidr: whole(),
+            via_router,
+            valid_until,
+        }
+    }
+
+    /// Whether it is the route to a network by a router.
+    pub fn same_route(&self, cidr: &Ipv6Cidr, via_router: &Ipv6Address) -> bool
+        ensures { result ≡ spec.is_same_route cidr.now via_router.now self.now }
+    {
+        is_same(&self.cidr, cidr) && self.via_router.bits == via_router.bits
+    }
+
+    // Whether it is the default route by a router.
+    fn is_by(&self, via_router: &Ipv6Address) -> bool
+        ensures { result ≡ spec.is_same_route whole via_router.now self.now }
+    {
+        self.same_route(&whole(), via_router)
+    }
+
+    /// Whether the route is valid: its end is still to come.
+    pub fn is_valid(&self, now: Instant) -> bool
+        ensures { result ≡ is_route_valid now self.now }
+    {
+        now < self.valid_until
+    }
+}
+
+impl Default for Route {
+    fn default() -> Route
+        ensures { result ≡ default_route (record { bits = 0 }) (pos 0) }
+    {
+        Route::by_default(Ipv6Address::UNSPECIFIED, Instant::ZERO)
+    }
+}
+
+/// What was learnt from router advertisements: at most two prefixes and four routers, each until its
+/// end, and how far the search for routers is.
+///
+/// In contracts it is the record of these.
+#[derive(Drop)]
+pub struct Slaac {
+    prefix: ArrayVec<Prefix, IFACE_MAX_PREFIX_COUNT>,
+    routes: ArrayVec<Route, IFACE_MAX_ROUTE_COUNT>,
+    phase: Phase,
+    sync_required: bool,
+    retry_rs_at: Instant,
+    num_solicitations: u8,
+}
+
+impl Model for Slaac {
+    ghost use Rattle.slaac.specs.Slaac.{Learnt};
+
+    ghost Value = { Learnt };
+
+    ghost view = { λ s. record { prefixes = s.prefix.items; routers = s.routes.items; phase = s.phase; retry_at = s.retry_rs_at; left = s.num_solicitations; changed = s.sync_required } };
+}
+
+impl Slaac {
+    /// Nothing is known, and three solicitations may be sent, the first one from moment 0 on.
+    pub fn new() -> Slaac
+        ensures { result ≡ nothing }
+    {
+        Slaac {
+            prefix: ArrayVec::new(),
+            routes: ArrayVec::new(),
+            phase: Phase::Start,
+            sync_required: false,
+            retry_rs_at: Instant::ZERO,
+            num_solicitations: MAX_RTR_SOLICITATIONS,
+        }
+    }
+
+    /// Whether what is known changed since the last [`Slaac::update_slaac_state`]: a prefix or router
+    /// came or was withdrawn. A renewal is no change, and neither is an end that came.
+    pub fn has_ra_update(&self) -> bool
+        ensures { result ≡ self.now.changed }
+    {
+        self.sync_required
+    }
+
+    /// The prefixes that are known, the ended ones among them.
+    pub fn prefix(&self) -> &[Prefix]
+        ensures value { result.now ≡ self.now.prefixes }
+        ensures fits { length result.now ≤ IFACE_MAX_PREFIX_COUNT }
+    {
+        self.prefix.as_slice()
+    }
+
+    /// The routes that are known, the ended ones among them, in the order in which they came.
+    pub fn routes(&self) -> &[Route]
+        ensures value { result.now ≡ self.now.routers }
+        ensures fits { length result.now ≤ IFACE_MAX_ROUTE_COUNT }
+    {
+        self.routes.as_slice()
+    }
+
+    /// How far the search for routers is.
+    pub fn phase(&self) -> Phase
+        ensures { result ≡ self.now.phase }
+    {
+        self.phase
+    }
+
+    /// How many solicitations may still be sent.
+    pub fn num_solicitations(&self) -> u8
+        ensures { result ≡ self.now.left }
+    {
+        self.num_solicitations
+    }
+
+    /// Takes in an advertisement: the router that sent it, for how long that may be taken as default
+    /// router, and a prefix, if it names one. The lifetime has to be below 2^32 s.
+    pub fn process_advertisement(
+        &mut self,
+        source: &Ipv6Address,
+        router_lifetime: Duration,
+        prefix: Option<NdiscPrefixInformation>,
+        now: Instant,
+    )
+        requires router { IsLifetime router_lifetime }
+        requires moment { IsMoment now }
+        ensures { self.new ≡ advertised self.old source.now router_lifetime prefix now }
+    {
+        let is_prefix_news = process_prefix(&mut self.prefix, prefix, now);
+        let is_router_news = process_router(&mut self.routes, source, router_lifetime, now);
+        self.sync_required = self.sync_required || is_prefix_news || is_router_news;
+        self.phase = answered(self.phase);
+    }
+
+    /// Whether addresses and routes have to be brought into line with what is known: that changed, or
+    /// some of it has ended.
+    pub fn sync_required(&self, now: Instant) -> bool
+        ensures { result ≡ spec.sync_required self.now now }
+    {
+        self.sync_required
+            || has_ended_prefix(self.prefix.as_slice(), now)
+            || has_ended_route(self.routes.as_slice(), now)
+    }
+
+    /// Addresses and routes are in line: forgets what has ended.
+    pub fn update_slaac_state(&mut self, now: Instant)
+        ensures { self.new ≡ updated self.old now }
+    {
+        self.prefix = valid_prefixes(self.prefix.as_slice(), now);
+        self.routes = valid_routes(self.routes.as_slice(), now);
+        self.sync_required = false;
+    }
+
+    // Whether routers are searched for, and the time of the next solicitation has come.
+    fn is_its_time(&self, now: Instant) -> bool
+        ensures { result ≡ spec.is_its_time self.now now }
+    {
+        is_searching(self.phase) && self.retry_rs_at <= now
+    }
+
+    /// Whether a solicitation is to be sent.
+    pub fn rs_required(&self, now: Instant) -> bool
+        ensures { result ≡ spec.rs_required self.now now }
+    {
+        self.is_its_time(now) && self.num_solicitations > 0
+    }
+
+    /// A solicitation was sent: one less is left, and the next may go 4 s later. Where its time hadn't
+    /// come nothing changes, and where none was left the search ends.
+    pub fn rs_sent(&mut self, now: Instant)
+        requires moment { IsMoment now }
+        ensures { self.new ≡ spec.rs_sent self.old now }
+    {
+        if !self.is_its_time(now) {
+            return;
+        }
+        if self.num_solicitations == 0 {
+            self.phase = Phase::None;
+            return;
+        }
+        self.num_solicitations -= 1;
+        self.phase = Phase::Discovering;
+        self.retry_rs_at = now + RTR_SOLICITATION_INTERVAL;
+    }
+
+    /// When something is to be done next: the least of the time of the next solicitation, where one
+    /// may be sent, and of the ends behind now. `None` exactly if there is none of these.
+    pub fn poll_at(&self, now: Instant) -> Option<Instant>
+        ensures { result ≡ spec.poll_at self.now now }
+    {
+        sooner(self.retry_at(), self.end_at(now))
+    }
+
+    /// The least end behind now of what is known, if there is one.
+    pub fn end_at(&self, now: Instant) -> Option<Instant>
+        ensures { result ≡ spec.end_at self.now now }
+    {
+        let prefix_end = least_prefix_end(self.prefix.as_slice(), now);
+        let route_end = least_route_end(self.routes.as_slice(), now);
+        sooner(prefix_end, route_end)
+    }
+
+    /// When the next solicitation may be sent, if one may. The moment may have passed.
+    pub fn retry_at(&self) -> Option<Instant>
+        ensures { result ≡ spec.retry_at self.now }
+    {
+        if is_searching(self.phase) && self.num_solicitations > 0 {
+            return Some(self.retry_rs_at);
+        }
+        None
+    }
+}
+
+// ::/0.
+fn whole() -> Ipv6Cidr
+    ensures { result ≡ whole }
+{
+    Ipv6Cidr {
+        address: Ipv6Address::UNSPECIFIED,
+        prefix_len: 0,
+    }
+}
+
+// Whether two networks are one, by address and length.
+pub(crate) fn is_same(a: &Ipv6Cidr, b: &Ipv6Cidr) -> bool
+    ensures { result ≡ is_same a.now b.now }
+{
+    a.address.bits == b.address.bits && a.prefix_len == b.prefix_len
+}
+
+// Whether routers are searched for.
+fn is_searching(phase: Phase) -> bool
+    ensures { result ≡ spec.is_searching phase }
+{
+    match phase {
+        Phase::Start | Phase::Discovering => true,
+        Phase::Maintaining | Phase::None => false,
+    }
+}
+
+// Where the search is after an advertisement.
+fn answered(phase: Phase) -> Phase
+    ensures { result ≡ spec.answered phase }
+{
+    match phase {
+        Phase::Start => Phase::Start,
+        Phase::Discovering | Phase::Maintaining => Phase::Maintaining,
+        Phase::None => Phase::None,
+    }
+}
+
+// The network of an address and a length, where the length is at most 128.
+fn cidr_from(address: Ipv6Address, prefix_len: u8) -> Option<Ipv6Cidr>
+    ensures { result ≡ spec.cidr_from address prefix_len }
+{
+    if prefix_len > 128 {
+        return None;
+    }
+    Some(Ipv6Cidr {
+        address,
+        prefix_len,
+    })
+}
+
+// The prefix of which something is learnt, if any.
+fn prefix_learnt(prefix: &NdiscPrefixInformation) -> Option<Ipv6Cidr>
+    ensures { result ≡ prefix_learnt prefix.now }
+{
+    if !prefix.is_valid_prefix_info() || !prefix.flags.contains(NdiscPrefixInfoFlags::ADDRCONF) {
+        return None;
+    }
+    if prefix.valid_lifetime > 0 && prefix.prefix.is_link_local() {
+        return None;
+    }
+    cidr_from(prefix.prefix, prefix.prefix_len)
+}
+
+// Where a prefix stands, or the length.
+fn prefix_place(prefixes: &[Prefix], cidr: &Ipv6Cidr) -> usize
+    ensures { result ≡ prefix_place prefixes.now cidr.now }
+{
+    for (i, prefix) in prefixes.iter().enumerate() {
+        if is_same(&prefix.cidr, cidr) {
+            return i;
+        }
+    }
+    prefixes.len()
+}
+
+// Where the default route by a router stands, or the length.
+fn router_place(routes: &[Route], router: &Ipv6Address) -> usize
+    ensures { result ≡ router_place routes.now router.now }
+{
+    for (i, route) in routes.iter().enumerate() {
+        if route.is_by(router) {
+            return i;
+        }
+    }
+    routes.len()
+}
+
+// A prefix that holds: sets its ends. Gives whether it is new and found room.
+fn add_prefix(
+    prefixes: &mut ArrayVec<Prefix, IFACE_MAX_PREFIX_COUNT>,
+    cidr: Ipv6Cidr,
+    info: PrefixInfo,
+) -> bool
+    ensures prefixes { prefixes.new.items ≡ with_prefix prefixes.old.items cidr info }
+    ensures news { result ≡ not (knows_prefix prefixes.old.items cidr || spec.is_prefix_full prefixes.old.items) }
+{
+    let place = prefix_place(prefixes.as_slice(), &cidr);
+    if let Some(known) = prefixes.get_mut(place) {
+        *known = Prefix { cidr, info };
+        return false;
+    }
+    if prefixes.is_full() {
+        return false;
+    }
+    prefixes.push(Prefix { cidr, info });
+    true
+}
+
+// A prefix that is withdrawn. Gives whether it was known.
+fn expire_prefix(prefixes: &mut ArrayVec<Prefix, IFACE_MAX_PREFIX_COUNT>, cidr: Ipv6Cidr) -> bool
+    ensures prefixes { prefixes.new.items ≡ withdrawn prefixes.old.items cidr }
+    ensures news { result ≡ knows_prefix prefixes.old.items cidr }
+{
+    let place = prefix_place(prefixes.as_slice(), &cidr);
+    if let Some(known) = prefixes.get_mut(place) {
+        *known = Prefix {
+            cidr,
+            info: PrefixInfo::withdrawn(),
+        };
+        return true;
+    }
+    false
+}
+
+// What an advertisement says of a prefix, if it does. Gives whether that is news.
+fn process_prefix(
+    prefixes: &mut ArrayVec<Prefix, IFACE_MAX_PREFIX_COUNT>,
+    prefix: Option<NdiscPrefixInformation>,
+    now: Instant,
+) -> bool
+    requires moment { IsMoment now }
+    ensures prefixes { prefixes.new.items ≡ prefixes_after prefix prefixes.old.items now }
+    ensures news { result ≡ is_prefix_news prefix prefixes.old.items }
+{
+    let Some(prefix) = prefix else {
+        return false;
+    };
+    let Some(cidr) = prefix_learnt(&prefix) else {
+        return false;
+    };
+    if prefix.valid_lifetime > 0 {
+        return add_prefix(prefixes, cidr, PrefixInfo::from_prefix(&prefix, now));
+    }
+    expire_prefix(prefixes, cidr)
+}
+
+// A router that may be taken: sets its end. Gives whether it is new, be there room or not.
+fn add_route(
+    routes: &mut ArrayVec<Route, IFACE_MAX_ROUTE_COUNT>,
+    router: &Ipv6Address,
+    valid_until: Instant,
+) -> bool
+    ensures routes { routes.new.items ≡ with_router routes.old.items router.now valid_until }
+    ensures news { result ≡ not (knows_router routes.old.items router.now) }
+{
+    let place = router_place(routes.as_slice(), router);
+    if let Some(known) = routes.get_mut(place) {
+        *known = Route::by_default(*router, valid_until);
+        return false;
+    }
+    if !routes.is_full() {
+        routes.push(Route::by_default(*router, valid_until));
+    }
+    true
+}
+
+// A router that isn't to be taken any longer. Gives whether it was known.
+fn expire_route(routes: &mut ArrayVec<Route, IFACE_MAX_ROUTE_COUNT>, router: &Ipv6Address) -> bool
+    ensures routes { routes.new.items ≡ spec.without_router routes.old.items router.now }
+    ensures news { result ≡ knows_router routes.old.items router.now }
+{
+    let place = router_place(routes.as_slice(), router);
+    if let Some(known) = routes.get_mut(place) {
+        *known = Route::by_default(*router, Instant::ZERO);
+        return true;
+    }
+    false
+}
+
+// What an advertisement says of its router. Gives whether that is news.
+fn process_router(
+    routes: &mut ArrayVec<Route, IFACE_MAX_ROUTE_COUNT>,
+    router: &Ipv6Address,
+    lifetime: Duration,
+    now: Instant,
+) -> bool
+    requires lifetime { IsLifetime lifetime }
+    requires moment { IsMoment now }
+    ensures routes { routes.new.items ≡ routers_after routes.old.items router.now lifetime now }
+    ensures news { result ≡ is_router_news routes.old.items router.now lifetime }
+{
+    if lifetime > Duration::ZERO {
+        return add_route(routes, router, now + lifetime);
+    }
+    expire_route(routes, router)
+}
+
+// Whether a prefix has ended.
+fn has_ended_prefix(prefixes: &[Prefix], now: Instant) -> bool
+    ensures { result ≡ list_any (λ p. not (is_prefix_valid now p)) prefixes.now }
+{
+    for prefix in prefixes {
+        if !prefix.info.is_valid(now) {
+            return true;
+        }
+    }
+    false
+}
+
+// Whether a route has ended.
+fn has_ended_route(routes: &[Route], now: Instant) -> bool
+    ensures { result ≡ list_any (λ r. not (is_route_valid now r)) routes.now }
+{
+    for route in routes {
+        if !route.is_valid(now) {
+            return true;
+        }
+    }
+    false
+}
+
+// The prefixes that are valid. Of two the one behind the other moves up.
+fn valid_prefixes(prefixes: &[Prefix], now: Instant) -> ArrayVec<Prefix, IFACE_MAX_PREFIX_COUNT>
+    requires { length prefixes.now ≤ IFACE_MAX_PREFIX_COUNT }
+    ensures { result.items ≡ filter (is_prefix_valid now) prefixes.now }
+{
+    let mut valid = ArrayVec::new();
+    for prefix in prefixes {
+        if prefix.info.is_valid(now) {
+            valid.push(*prefix);
+        }
+    }
+    valid
+}
+
+// The routes that are valid, in their order.
+fn valid_routes(routes: &[Route], now: Instant) -> ArrayVec<Route, IFACE_MAX_ROUTE_COUNT>
+    requires { length routes.now ≤ IFACE_MAX_ROUTE_COUNT }
+    ensures { result.items ≡ filter (is_route_valid now) routes.now }
+{
+    let mut valid = ArrayVec::new();
+    for route in routes {
+        if route.is_valid(now) {
+            valid.push(*route);
+        }
+    }
+    valid
+}
+
+// The least end behind now of a prefix, if there is one.
+fn least_prefix_end(prefixes: &[Prefix], now: Instant) -> Option<Instant>
+    ensures { result ≡ least (prefix_ends prefixes.now now) }
+{
+    let mut least = None;
+    for prefix in prefixes {
+        if prefix.info.is_valid(now) {
+            least = sooner(least, Some(prefix.info.valid_until));
+        }
+    }
+    least
+}
+
+// The least end behind now of a route, if there is one.
+fn least_route_end(routes: &[Route], now: Instant) -> Option<Instant>
+    ensures { result ≡ least (route_ends routes.now now) }
+{
+    let mut least = None;
+    for route in routes {
+        if route.is_valid(now) {
+            least = sooner(least, Some(route.valid_until));
+        }
+    }
+    least
+}

@@ -1,0 +1,251 @@
+//! How the addresses and the routes of an interface follow what was learnt of prefixes and routers (RFC
+//! 4862 5.5.3, RFC 4861 6.3.4).
+ghost use Rattle.std.specs.Prelude.{◌≡◌, ◌≤◌, ◌&&◌, length, not, filter};
+ghost use Rattle.std.specs.List.{list_any};
+ghost use Rattle.iface_tables.specs.declared.route.Route.{Route as StoredRoute};
+ghost use Rattle.ip_address.specs.LinkPrefix as made;
+ghost use Rattle.slaac.specs.Slaac.{is_prefix_valid, is_route_valid};
+ghost use Rattle.slaac.specs.Sync as spec;
+
+use crate::slaac::{Prefix, Route, is_same};
+use arrayvec::ArrayVec;
+use iface_tables::route as table;
+use ip_address::{HardwareAddress, IpAddress, IpCidr, Ipv6Cidr};
+use net_base::time::Instant;
+
+/// How many addresses an interface has at most.
+const IFACE_MAX_ADDR_COUNT: usize = 4;
+
+/// The addresses of an interface in line with the prefixes that are known: behind the others, in order,
+/// that of each prefix that is valid, where it is one host's, isn't there and there is room; and without
+/// those of the prefixes that have ended. Addresses are told apart by their lengths too.
+pub fn synced_addrs(
+    own: &[IpCidr],
+    hardware_addr: &HardwareAddress,
+    prefixes: &[Prefix],
+    now: Instant,
+) -> ArrayVec<IpCidr, IFACE_MAX_ADDR_COUNT>
+    requires { length own.now ≤ 4 }
+    ensures { result.items ≡ spec.synced_addrs hardware_addr.now now prefixes.now own.now }
+{
+    let all = with_addrs(own, hardware_addr, prefixes, now);
+    without_ended(all.as_slice(), hardware_addr, prefixes, now)
+}
+
+/// The routes of an interface in line with the routers that are known: without those of routers that have
+/// ended; and behind the others, in order, that by each router that may be taken, where it isn't there and
+/// there is room. Such a route has no end of its own.
+pub fn synced_routes(
+    stored: &[table::Route],
+    routes: &[Route],
+    now: Instant,
+) -> ArrayVec<table::Route, 4>
+    requires { length stored.now ≤ 4 }
+    ensures { result.items ≡ spec.synced_routes now routes.now stored.now }
+{
+    let mut all = unended_routes(stored, routes, now);
+    add_routes(&mut all, routes, now);
+    all
+}
+
+// The addresses, and that of each valid prefix.
+fn with_addrs(
+    own: &[IpCidr],
+    hardware_addr: &HardwareAddress,
+    prefixes: &[Prefix],
+    now: Instant,
+) -> ArrayVec<IpCidr, IFACE_MAX_ADDR_COUNT>
+    requires { length own.now ≤ 4 }
+    ensures { result.items ≡ spec.with_addrs hardware_addr.now now prefixes.now own.now }
+{
+    let mut all = ArrayVec::new();
+    let _ = all.try_extend_from_slice(own);
+    add_addrs(&mut all, hardware_addr, prefixes, now);
+    all
+}
+
+// Adds the address of each valid prefix.
+fn add_addrs(
+    own: &mut ArrayVec<IpCidr, IFACE_MAX_ADDR_COUNT>,
+    hardware_addr: &HardwareAddress,
+    prefixes: &[Prefix],
+    now: Instant,
+)
+    ensures { own.new.items ≡ spec.with_addrs hardware_addr.now now prefixes.now own.old.items }
+{
+    for prefix in prefixes {
+        if prefix.info.is_valid(now) {
+            add_addr(
+                own,
+                Ipv6Cidr::from_link_prefix(&prefix.cidr, *hardware_addr),
+            );
+        }
+    }
+}
+
+// Adds an address, if it is one host's, isn't there and there is room.
+fn add_addr(own: &mut ArrayVec<IpCidr, IFACE_MAX_ADDR_COUNT>, address: Option<Ipv6Cidr>)
+    ensures { own.new.items ≡ spec.with_addr address own.old.items }
+{
+    if let Some(cidr) = address {
+        if cidr.address.is_unicast() && !has_cidr(own.as_slice(), &cidr) && !own.is_full() {
+            own.push(IpCidr::Ipv6(cidr));
+        }
+    }
+}
+
+// Whether a network is in a list, by address and length.
+fn has_cidr(own: &[IpCidr], cidr: &Ipv6Cidr) -> bool
+    ensures { result ≡ list_any (spec.is_cidr cidr.now) own.now }
+{
+    own.iter().any(|other| is_cidr(other, cidr))
+}
+
+// Whether it is this network of IPv6, by address and length.
+fn is_cidr(other: &IpCidr, cidr: &Ipv6Cidr) -> bool
+    ensures { result ≡ spec.is_cidr cidr.now other.now }
+{
+    match other {
+        IpCidr::Ipv4(_) => false,
+        IpCidr::Ipv6(other) => is_same(other, cidr),
+    }
+}
+
+// The addresses that aren't those of prefixes that have ended.
+fn without_ended(
+    own: &[IpCidr],
+    hardware_addr: &HardwareAddress,
+    prefixes: &[Prefix],
+    now: Instant,
+) -> ArrayVec<IpCidr, IFACE_MAX_ADDR_COUNT>
+    requires { length own.now ≤ 4 }
+    ensures { result.items ≡ filter (λ c. not (spec.has_ended hardware_addr.now now prefixes.now c)) own.now }
+{
+    let mut left = ArrayVec::new();
+    for cidr in own {
+        if !has_ended(cidr, hardware_addr, prefixes, now) {
+            left.push(*cidr);
+        }
+    }
+    left
+}
+
+// Whether an address is that of a prefix that has ended.
+fn has_ended(
+    cidr: &IpCidr,
+    hardware_addr: &HardwareAddress,
+    prefixes: &[Prefix],
+    now: Instant,
+) -> bool
+    ensures { result ≡ spec.has_ended hardware_addr.now now prefixes.now cidr.now }
+{
+    match cidr {
+        IpCidr::Ipv4(_) => false,
+        IpCidr::Ipv6(cidr) => is_of_ended(cidr, hardware_addr, prefixes, now),
+    }
+}
+
+// The same of an address of IPv6.
+fn is_of_ended(
+    cidr: &Ipv6Cidr,
+    hardware_addr: &HardwareAddress,
+    prefixes: &[Prefix],
+    now: Instant,
+) -> bool
+    ensures { result ≡ list_any (λ p. not (is_prefix_valid now p) && spec.is_made (made.from_link_prefix p.cidr hardware_addr.now) cidr.now) prefixes.now }
+{
+    for prefix in prefixes {
+        if !prefix.info.is_valid(now)
+            && is_made(
+                Ipv6Cidr::from_link_prefix(&prefix.cidr, *hardware_addr),
+                cidr,
+            )
+        {
+            return true;
+        }
+    }
+    false
+}
+
+// Whether an address is the one that was made.
+fn is_made(made: Option<Ipv6Cidr>, cidr: &Ipv6Cidr) -> bool
+    ensures { result ≡ spec.is_made made cidr.now }
+{
+    match made {
+        Some(made) => is_same(&made, cidr),
+        None => false,
+    }
+}
+
+// The stored routes that haven't ended.
+fn unended_routes(
+    stored: &[table::Route],
+    routes: &[Route],
+    now: Instant,
+) -> ArrayVec<table::Route, 4>
+    requires { length stored.now ≤ 4 }
+    ensures { result.items ≡ filter (λ (s : StoredRoute). not (spec.is_ended_route now routes.now s)) stored.now }
+{
+    let mut left = ArrayVec::new();
+    for route in stored {
+        if !is_ended_route(route, routes, now) {
+            left.push(*route);
+        }
+    }
+    left
+}
+
+// Whether a stored route is one that has ended.
+fn is_ended_route(stored: &table::Route, routes: &[Route], now: Instant) -> bool
+    ensures { result ≡ spec.is_ended_route now routes.now stored.now }
+{
+    for route in routes {
+        if !route.is_valid(now) && is_route(route, stored) {
+            return true;
+        }
+    }
+    false
+}
+
+// Whether a stored route goes to the same network by the same router.
+fn is_route(route: &Route, stored: &table::Route) -> bool
+    ensures { result ≡ spec.is_route route.now stored.now }
+{
+    match (&stored.cidr, &stored.via_router) {
+        (IpCidr::Ipv6(cidr), IpAddress::Ipv6(router)) => route.same_route(cidr, router),
+        _ => false,
+    }
+}
+
+// Adds the route by each router that may be taken.
+fn add_routes(stored: &mut ArrayVec<table::Route, 4>, routes: &[Route], now: Instant)
+    ensures { stored.new.items ≡ spec.with_routes now routes.now stored.old.items }
+{
+    for route in routes {
+        if route.is_valid(now) {
+            add_route(stored, route);
+        }
+    }
+}
+
+// Adds a route, if it isn't there and there is room.
+fn add_route(stored: &mut ArrayVec<table::Route, 4>, route: &Route)
+    ensures { stored.new.items ≡ spec.with_route route.now stored.old.items }
+{
+    if has_route(stored.as_slice(), route) || stored.is_full() {
+        return;
+    }
+    stored.push(table::Route {
+        cidr: IpCidr::Ipv6(route.cidr),
+        via_router: IpAddress::Ipv6(route.via_router),
+        preferred_until: None,
+        expires_at: None,
+    });
+}
+
+// Whether a route to the same network by the same router is stored.
+fn has_route(stored: &[table::Route], route: &Route) -> bool
+    ensures { result ≡ list_any (spec.is_route route.now) stored.now }
+{
+    stored.iter().any(|other| is_route(route, other))
+}

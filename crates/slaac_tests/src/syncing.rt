@@ -1,0 +1,140 @@
+use arrayvec::ArrayVec;
+use icmpv6_wire::{NdiscPrefixInfoFlags, NdiscPrefixInformation};
+use iface_tables::route::Route as Stored;
+use ip_address::{
+    EthernetAddress, HardwareAddress, IpCidr, Ipv4Address, Ipv4Cidr, Ipv6Address, Ipv6Cidr,
+};
+use net_base::time::{Duration, Instant};
+use slaac::Slaac;
+use slaac::sync::{synced_addrs, synced_routes};
+use std::test::Fail;
+
+const HARDWARE: HardwareAddress = HardwareAddress::Ethernet(EthernetAddress([2, 0, 0, 0, 0, 1]));
+
+// fe80::2.
+const ROUTER: Ipv6Address = Ipv6Address {
+    bits: 0xfe80_0000_0000_0000_0000_0000_0000_0002,
+};
+
+const END: Instant = Instant {
+    micros: 600_000_000,
+};
+
+fn v6(bits: u128, prefix_len: u8) -> Ipv6Cidr {
+    Ipv6Cidr {
+        address: Ipv6Address { bits },
+        prefix_len: if prefix_len > 128 { 128 } else { prefix_len },
+    }
+}
+
+// 2001:db8::/64, and the address that is made of it.
+fn network() -> Ipv6Cidr {
+    v6(0x2001_0db8_0000_0000_0000_0000_0000_0000, 64)
+}
+
+fn made() -> Ipv6Cidr {
+    v6(0x2001_0db8_0000_0000_0000_00ff_fe00_0001, 64)
+}
+
+// 192.168.69.N/24.
+fn v4(n: u8) -> IpCidr {
+    IpCidr::Ipv4(Ipv4Cidr {
+        address: Ipv4Address::new(192, 168, 69, n),
+        prefix_len: 24,
+    })
+}
+
+// The default route of IPv4 by 192.168.69.2.
+fn gateway() -> Stored {
+    Stored::new_ipv4_gateway(Ipv4Address::new(192, 168, 69, 2))
+}
+
+// A router and 2001:db8::/64 for 600 s.
+fn advised() -> Slaac {
+    let mut slaac = Slaac::new();
+    let prefix = NdiscPrefixInformation {
+        prefix_len: 64,
+        flags: NdiscPrefixInfoFlags::ADDRCONF,
+        valid_lifetime: 600,
+        preferred_lifetime: 600,
+        prefix: network().address,
+    };
+    let lifetime = Duration::from_secs(600);
+    slaac.process_advertisement(&ROUTER, lifetime, Some(prefix), Instant::ZERO);
+    slaac
+}
+
+#[test]
+fn an_address_is_made_of_64_bits(rt: HostRuntime) {
+    assert_eq!(rt;
+        Ipv6Cidr::from_link_prefix(&network(), HARDWARE),
+        Some(made())
+    );
+    assert_eq!(rt;
+        Ipv6Cidr::from_link_prefix(&v6(0x2001_0db8_0000_0000_0000_0000_0000_0009, 64), HARDWARE),
+        Some(made())
+    );
+    assert_eq!(rt;
+        Ipv6Cidr::from_link_prefix(&v6(network().address.bits, 63), HARDWARE),
+        None
+    );
+    assert_eq!(rt;
+        Ipv6Cidr::from_link_prefix(&v6(network().address.bits, 65), HARDWARE),
+        None
+    );
+    assert_eq!(rt;
+        Ipv6Cidr::from_link_prefix(&network(), HardwareAddress::Ip),
+        None
+    );
+    let other = HardwareAddress::Ethernet(EthernetAddress([0x34, 0x56, 0x78, 0x9a, 0xbc, 0xde]));
+    assert_eq!(rt;
+        Ipv6Cidr::from_link_prefix(&network(), other),
+        Some(v6(0x2001_0db8_0000_0000_3656_78ff_fe9a_bcde, 64))
+    );
+}
+
+#[test]
+fn an_address_is_added_once(rt: HostRuntime) {
+    let slaac = advised();
+    let one = synced_addrs(&[v4(1)], &HARDWARE, slaac.prefix(), Instant::ZERO);
+    assert!(rt; one.as_slice() == [v4(1), IpCidr::Ipv6(made())].as_slice());
+    let again = synced_addrs(one.as_slice(), &HARDWARE, slaac.prefix(), Instant::ZERO);
+    assert!(rt; again.as_slice() == one.as_slice());
+    // Another length is another address.
+    let own = [IpCidr::Ipv6(v6(made().address.bits, 128))];
+    let both = synced_addrs(&own, &HARDWARE, slaac.prefix(), Instant::ZERO);
+    assert!(rt; both.as_slice() == [own[0], IpCidr::Ipv6(made())].as_slice());
+    // When it ends the one with its length goes.
+    let left = synced_addrs(both.as_slice(), &HARDWARE, slaac.prefix(), END);
+    assert!(rt; left.as_slice() == own.as_slice());
+}
+
+#[test]
+fn a_full_list_keeps_it_out(rt: HostRuntime) {
+    let slaac = advised();
+    let own = [v4(1), v4(2), v4(3), v4(4)];
+    let list = synced_addrs(&own, &HARDWARE, slaac.prefix(), Instant::ZERO);
+    assert!(rt; list.as_slice() == own.as_slice());
+}
+
+#[test]
+fn routes_have_no_end_of_their_own(rt: HostRuntime) {
+    let slaac = advised();
+    let routes = synced_routes(&[gateway()], slaac.routes(), Instant::ZERO);
+    assert!(rt; routes.as_slice() == [gateway(), Stored::new_ipv6_gateway(ROUTER)].as_slice());
+    let again = synced_routes(routes.as_slice(), slaac.routes(), Instant::ZERO);
+    assert!(rt; again.as_slice() == routes.as_slice());
+    let left = synced_routes(routes.as_slice(), slaac.routes(), END);
+    assert!(rt; left.as_slice() == [gateway()].as_slice());
+}
+
+#[test]
+fn a_full_table_keeps_a_route_out(rt: HostRuntime) {
+    let slaac = advised();
+    let mut stored = ArrayVec::<Stored, 4>::new();
+    for n in 1..5 {
+        let _ = stored.try_push(Stored::new_ipv4_gateway(Ipv4Address::new(10, 0, 0, n)));
+    }
+    let routes = synced_routes(stored.as_slice(), slaac.routes(), Instant::ZERO);
+    assert!(rt; routes.as_slice() == stored.as_slice());
+}
