@@ -59,4 +59,4 @@ nothing_taken = record {
 }
 
 pub nothing_sent : Egress (pos 0) poll.None (example.host 0x1405 example.learnt) [] [] (example.host 0x1405 example.learnt)
-nothing_sent = record { changed = false; round = no_piece refl refl refl refl refl (Whole Begins); answers = refl }
+nothing_sent = record { changed = false; round = no_piece refl refl refl refl refl refl (Whole Begins); answers = refl }

@@ -20,7 +20,9 @@ use Rattle.fragmentation.specs.Slots.{Slot, Slots, left_at}
 use Rattle.fragmentation.specs.Reassembly.{SlotNote, Take, Came, Rebuild, Enters, Stood, Taken, Reassembles, NoSlot, Unfit, Waits, Rebuilt}
 use Rattle.fragmentation.specs.Cuts.{piece_at, count, cut}
 use Rattle.host_machine.specs.Note.{Note, slot_notes}
-use Rattle.host_machine.specs.Host.{Host}
+use Rattle.host_machine.specs.Host.{Host, swept}
+use Rattle.slaac.specs.Slaac.{sync_required}
+use Rattle.host_machine.specs.Slaac.{in_line}
 use Rattle.host_machine.specs.Frame.{sends}
 use Rattle.host_machine.specs.Ingress.{Ingress}
 use Rattle.host_machine.specs.Egress.{Egress}
@@ -29,14 +31,14 @@ use Rattle.host_machine.specs.Step.{Act, Step}
 use Rattle.host_machine.specs.Step as step
 use Rattle.host_machine.specs.Run.{Place, Run, Ends, Then, notes_in}
 use Rattle.host_machine.specs.Arrivals.{came, rebuilt, slot_notes_in, slots_then, IsServed, KeepFew, PiecesAreRebuilt}
-use Rattle.host_machine.specs.Frames.{Brings, Bring, NoFrame, OneBrings, NoneBrings, all_came, ComesInFrames}
+use Rattle.host_machine.specs.Frames.{Brings, Bring, NoFrame, OneBrings, NoneBrings, all_came, receiving, ComesInFrames}
 use Rattle.host_machine.proofs.Keys.{key_total, same_is}
 use Rattle.host_machine.proofs.Rebuilt.{test_same}
 use Rattle.host_machine.proofs.Pieces.{IsIn, is_in, contains_in, in_left, IsPiece, piece_in, in_cut, count_below, IsPartOf, part_of, AreParts, parts_of, IsTotal, total_is, total_from, total_from-append, all_got, rebuilds_payload, complete, incomplete}
 use Rattle.host_machine.proofs.Views.{StepView, NoPart, APart, step_view, ingress_view, egress_still, egress_hands_none, handed-append}
 use Rattle.host_machine.proofs.Notes.{slot_notes-append}
 use Rattle.host_machine.proofs.Malformed.{handed-sends, handed-received}
-use Rattle.host_machine.proofs.Repeated.{polled}
+use Rattle.host_machine.proofs.Repeated.{worked}
 use Rattle.host_machine.proofs.Kept.{rest_of}
 use Rattle.host_machine.proofs.Walk.{ingress, egressed}
 
@@ -448,9 +450,9 @@ ingress_bring {t} {answer} {old} {new} {told} {notes} i = by (ingress_view i) wh
 silent_bring : (H : Host) (told : List Event) (notes : List Note) → handed told ≡ [] → slot_notes notes ≡ [] → Bring H (handed told) (all_came (slot_notes notes))
 silent_bring H told notes h n = rw (h, n) NoFrame
 
-comes : {c : Command} {a : Answer} {old new : Host} {told : List Event} {acts : List Act} {notes : List Note} → Step c a old told acts notes new → Bring old (handed told) (all_came (slot_notes notes))
+comes : {c : Command} {a : Answer} {old new : Host} {told : List Event} {acts : List Act} {notes : List Note} → Step c a old told acts notes new → Bring (receiving c old) (handed told) (all_came (slot_notes notes))
 comes (step.Polled {t} p) =
-    (polled Comes (λ H. record { bring = NoFrame; alike = itself H }) comes_on t (λ H. record { bring = NoFrame; alike = record { hardware = refl; capabilities = refl; addresses = refl; timeout = refl } })
+    (worked Comes (λ H. record { bring = NoFrame; alike = itself H }) comes_on t
     (λ answer old new told notes i. record { bring = ingress_bring i; alike = ingress_alike i })
     (λ answer old new told notes e. record { bring = silent_bring old told notes (egress_hands_none e) (egress_still e).silent; alike = egress_alike e })
     p).bring
@@ -471,6 +473,31 @@ comes step.TookAnyIp = NoFrame
 comes (step.TookHardwareAddr s) = NoFrame
 comes (step.TookReassemblyTimeout s) = NoFrame
 comes (step.OwnerActed sockets) = NoFrame
+
+-- a host keeps its hardware address while it is maintained
+maintained_hardware : (H : Host) (b : Bool) → (if b then in_line H else H).hardware_addr ≡ H.hardware_addr
+maintained_hardware H true = refl
+maintained_hardware H false = refl
+
+pub receiving_hardware : (c : Command) (H : Host) → (receiving c H).hardware_addr ≡ H.hardware_addr
+receiving_hardware (command.Poll t budget) H = maintained_hardware (swept H t) (sync_required H.slaac t)
+receiving_hardware (command.UpdateIpAddrs list) H = refl
+receiving_hardware (command.PollIngressSingle t) H = refl
+receiving_hardware (command.PollEgress t) H = refl
+receiving_hardware (command.PollMaintenance t) H = refl
+receiving_hardware (command.PollAt t) H = refl
+receiving_hardware (command.PollDelay t) H = refl
+receiving_hardware (command.UpdateRoutes list) H = refl
+receiving_hardware (command.AddDefaultIpv4Route gateway) H = refl
+receiving_hardware command.RemoveDefaultIpv4Route H = refl
+receiving_hardware (command.AddDefaultIpv6Route gateway) H = refl
+receiving_hardware command.RemoveDefaultIpv6Route H = refl
+receiving_hardware (command.JoinMulticastGroup group) H = refl
+receiving_hardware (command.LeaveMulticastGroup group) H = refl
+receiving_hardware (command.SetAnyIp any_ip) H = refl
+receiving_hardware (command.SetHardwareAddr h) H = refl
+receiving_hardware (command.SetReassemblyTimeout timeout) H = refl
+receiving_hardware (command.Owner number) H = refl
 
 pub run_comes : {first last : Host} {places : List Place} → Run first places last → AllByRecursion ComesInFrames places
 run_comes Ends = tt

@@ -9,6 +9,7 @@ use Rattle.group_table.specs.Groups.{first_in}
 use Rattle.host_machine.specs.Parts.{Part, Both}
 use Rattle.host_machine.specs.Multicast.{All, Begins, TellsJoins, TellsLeaves}
 use Rattle.host_machine.specs.Reports.{SendsIgmpReport, SendsMldReport, NotDue, NotYet, has_come, timeout_of, mld_timeout_of}
+use Rattle.host_machine.specs.Slaac.{SolicitsRouters, NotDue as NotAsked, due_solicitation}
 use Rattle.host_machine.specs.Egress.{NoPiece, SocketsSend, Round}
 
 -- a part that has nothing to do, and then another
@@ -25,12 +26,12 @@ idle {old = old} {told = told} {notes = notes} first second = record {
   all_notes = refl;
 }
 
--- a round behind the piece, of a host that has nothing to tell of groups
-pub no_groups : {changed : Bool} {old new : Host} {told : List Event} {notes : List Note} → first_in Joining old.groups ≡ None → first_in Leaving old.groups ≡ None →
+-- a round behind the piece, of a host that asks no routers and has nothing to tell them of groups
+pub no_groups : {changed : Bool} {old new : Host} {told : List Event} {notes : List Note} → due_solicitation old ≡ None → first_in Joining old.groups ≡ None → first_in Leaving old.groups ≡ None →
     has_come (timeout_of old.igmp_report) old.moment ≡ false → has_come (mld_timeout_of old.mld_report) old.moment ≡ false → SocketsSend old changed told notes new →
-    Both TellsJoins (Both TellsLeaves (Both SendsIgmpReport (Both SendsMldReport (λ old told_it notes new. SocketsSend old changed told_it notes new)))) old told notes new
-no_groups j v i m s = idle (All Begins j) (idle (All Begins v) (idle (NotDue i refl refl refl) (idle (NotYet m refl refl refl) s)))
+    Both SolicitsRouters (Both TellsJoins (Both TellsLeaves (Both SendsIgmpReport (Both SendsMldReport (λ old told_it notes new. SocketsSend old changed told_it notes new))))) old told notes new
+no_groups r j v i m s = idle (NotAsked r refl refl refl) (idle (All Begins j) (idle (All Begins v) (idle (NotDue i refl refl refl) (idle (NotYet m refl refl refl) s))))
 
-pub no_piece : {changed : Bool} {old new : Host} {told : List Event} {notes : List Note} → old.left ≡ [] → first_in Joining old.groups ≡ None → first_in Leaving old.groups ≡ None →
+pub no_piece : {changed : Bool} {old new : Host} {told : List Event} {notes : List Note} → old.left ≡ [] → due_solicitation old ≡ None → first_in Joining old.groups ≡ None → first_in Leaving old.groups ≡ None →
     has_come (timeout_of old.igmp_report) old.moment ≡ false → has_come (mld_timeout_of old.mld_report) old.moment ≡ false → SocketsSend old changed told notes new → Round changed old told notes new
-no_piece l j v i m s = idle (NoPiece l refl refl refl) (no_groups j v i m s)
+no_piece l r j v i m s = idle (NoPiece l refl refl refl) (no_groups r j v i m s)

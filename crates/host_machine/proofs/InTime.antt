@@ -18,7 +18,9 @@ use Rattle.fragmentation.specs.Reassembly.{SlotNote, Take, Came, Rebuild, Enters
 use Rattle.fragmentation.specs.Cuts.{piece_at}
 use Rattle.host_machine.specs.Note.{Note, slot_notes}
 use Rattle.host_machine.proofs.Grouped.{join_groups, leave_groups}
-use Rattle.host_machine.specs.Host.{Host}
+use Rattle.host_machine.specs.Host.{Host, swept}
+use Rattle.slaac.specs.Slaac.{sync_required}
+use Rattle.host_machine.specs.Slaac.{in_line}
 use Rattle.host_machine.specs.Step.{Act, Step}
 use Rattle.host_machine.specs.Step as step
 use Rattle.host_machine.specs.Run.{Place, Run, notes_in}
@@ -264,12 +266,16 @@ module _ (key other : FragKey) (t0 end : ℤ) where
   address_set (step.Taken a r e) = ap (λ (K : Host). K.reassembly_timeout) e
   address_set (step.NotTaken error a r e) = ap (λ (K : Host). K.reassembly_timeout) e
 
+  kept : (H : Host) (b : Bool) → (if b then in_line H else H).reassembly_timeout ≡ H.reassembly_timeout
+  kept H true = refl
+  kept H false = refl
+
   timeout_of : {c : Command} {a : Answer} {old new : Host} {told : List Event} {acts : List Act} {notes : List Note} → IsSingle c → Step c a old told acts notes new → Timeout c old new
   timeout_of single (step.UpdatedIpAddrs u) = inl (updated u)
   timeout_of single (step.PolledIngressSingle i) = inl (ingress_alike i).timeout
   timeout_of single (step.PolledEgress e) = inl (egress_alike e).timeout
   timeout_of single (step.Polled p) = absurd single
-  timeout_of single step.PolledMaintenance = inl refl
+  timeout_of single (step.PolledMaintenance {t} {old}) = inl (kept (swept old t) (sync_required old.slaac t))
   timeout_of single (step.PolledAt least) = inl refl
   timeout_of single (step.PolledDelay given least rest) = inl refl
   timeout_of single step.UpdatedRoutes = inl refl

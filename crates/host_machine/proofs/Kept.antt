@@ -8,6 +8,7 @@ use Rattle.ip_wire.specs.IpPacket.{src_addr, dst_addr}
 use Rattle.iface_tables.specs.Neighbor.{renewed, expiry_from}
 use Rattle.group_table.specs.declared.report.IgmpReportState.TheVariants as igmp
 use Rattle.group_table.specs.declared.report.MldReportState.TheVariants as mld
+use Rattle.slaac.specs.Slaac.{nothing}
 use Rattle.host_machine.specs.Host.{Host, no_sockets, with_neighbors}
 use Rattle.host_machine.specs.Addresses.{is_unicast}
 use Rattle.host_machine.specs.Raw as raw
@@ -17,7 +18,7 @@ use Rattle.host_machine.proofs.Six.{renewed_of}
 
 -- what no such law reads, set to one value
 abbrev pub rest_of : Host → Host
-rest_of H = record H { moment = pos 0; any_ip = false; routes = []; neighbors = record { known = map.empty; silent_until = H.neighbors.silent_until }; groups = []; igmp_report = igmp.Inactive; mld_report = mld.Inactive; random = 0; sockets = no_sockets }
+rest_of H = record H { moment = pos 0; any_ip = false; routes = []; neighbors = record { known = map.empty; silent_until = H.neighbors.silent_until }; groups = []; igmp_report = igmp.Inactive; mld_report = mld.Inactive; slaac = nothing; slaac_updated_at = pos 0; random = 0; sockets = no_sockets }
 
 -- what such laws read of a host stays
 pub record Keeps (old new : Host) : Type 0 where

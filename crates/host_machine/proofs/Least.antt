@@ -18,8 +18,11 @@ use Rattle.sockets.specs.Kinds as kinds
 use Rattle.host_machine.specs.Host.{Host, Storage}
 use Rattle.host_machine.specs.Dispatch.{IsNextHop, OnLink, ByRouter, is_known_hop, if_unicast, KnowsNextHop, OfNoHost, OfHost}
 use Rattle.host_machine.specs.Host.{Socket}
-use Rattle.host_machine.specs.Due.{Due, OfPiece, OfJoin, OfLeave, OfIgmpReport, OfMldReport, OfSocket, AtOnce, SocketDue, IsLeast, instant_of, at_once, of_groups, sooner, told_at}
+use Rattle.host_machine.specs.Due.{Due, OfPiece, OfSync, OfSolicitation, OfPrefix, OfRouter, OfJoin, OfLeave, OfIgmpReport, OfMldReport, OfSocket, AtOnce, SocketDue, IsLeast, instant_of, at_once, of_groups, of_routers, sync_instant, told_at}
 use Rattle.group_table.specs.declared.groups.GroupState.TheVariants.{Joining, Leaving}
+use Rattle.slaac.specs.Instants.{least, sooner}
+use Rattle.slaac.specs.Slaac.{prefix_ends, route_ends}
+use Rattle.host_machine.specs.Slaac.{solicitation_instant}
 use Rattle.host_machine.specs.Reports.{igmp_instant, mld_timeout_of}
 
 -- what is known of a destination is one answer
@@ -133,33 +136,55 @@ exact_least : (o : Option ℤ) → IsLeast (λ x. o ≡ Some x) o
 exact_least None = λ x e. absurd cc
 exact_least (Some a) = (refl, λ x e. let same : a ≡ x = cc in omega (arith, ints, same))
 
+-- the instants of a list
+abbrev IsThere : List ℤ → ℤ → Type 0
+IsThere xs x = (i : ℕ) × (slice_get xs i ≡ Some x)
+
+there_least : (xs : List ℤ) → IsLeast (IsThere xs) (least xs)
+there_least [] = λ x d. absurd (let e = d.1 in cc)
+there_least (y ∷ ys) =
+    least_or (λ x. Some y ≡ Some x) (IsThere ys) (IsThere (y ∷ ys)) (Some y) (least ys) (exact_least (Some y)) (there_least ys) (λ x d. parts x d.0 d.1) (λ x e. (0, e)) (λ x d. (suc d.0, d.1)) where
+      parts : (x : ℤ) (i : ℕ) → slice_get (y ∷ ys) i ≡ Some x → (Some y ≡ Some x) ⊎ IsThere ys x
+      parts x zero e = inl e
+      parts x (suc i) e = inr (i, e)
+
 -- all sources
 abbrev Sources : Host → ℤ → Type 0
-Sources H = Or (AtOnce H.left) (Or (λ x. told_at Joining H ≡ Some x) (Or (λ x. told_at Leaving H ≡ Some x) (Or (λ x. igmp_instant H ≡ Some x) (Or (λ x. mld_timeout_of H.mld_report ≡ Some x)
-    (λ x. (i : ℕ) × SocketDue H i x)))))
+Sources H = Or (AtOnce H.left) (Or (λ x. sync_instant H ≡ Some x) (Or (λ x. solicitation_instant H ≡ Some x)
+    (Or (Or (IsThere (prefix_ends H.slaac.prefixes H.moment)) (IsThere (route_ends H.slaac.routers H.moment))) (Or (λ x. told_at Joining H ≡ Some x) (Or (λ x. told_at Leaving H ≡ Some x) (Or (λ x. igmp_instant H ≡ Some x) (Or (λ x. mld_timeout_of H.mld_report ≡ Some x)
+    (λ x. (i : ℕ) × SocketDue H i x))))))))
 
 is_due : (H : Host) (x : ℤ) → Sources H x → Due H x
 is_due H x (inl d) = OfPiece d
-is_due H x (inr (inl d)) = OfJoin d
-is_due H x (inr (inr (inl d))) = OfLeave d
-is_due H x (inr (inr (inr (inl d)))) = OfIgmpReport d
-is_due H x (inr (inr (inr (inr (inl d))))) = OfMldReport d
-is_due H x (inr (inr (inr (inr (inr d))))) = OfSocket d.0 d.1
+is_due H x (inr (inl d)) = OfSync d
+is_due H x (inr (inr (inl d))) = OfSolicitation d
+is_due H x (inr (inr (inr (inl (inl d))))) = OfPrefix d.0 d.1
+is_due H x (inr (inr (inr (inl (inr d))))) = OfRouter d.0 d.1
+is_due H x (inr (inr (inr (inr (inl d))))) = OfJoin d
+is_due H x (inr (inr (inr (inr (inr (inl d)))))) = OfLeave d
+is_due H x (inr (inr (inr (inr (inr (inr (inl d))))))) = OfIgmpReport d
+is_due H x (inr (inr (inr (inr (inr (inr (inr (inl d)))))))) = OfMldReport d
+is_due H x (inr (inr (inr (inr (inr (inr (inr (inr d)))))))) = OfSocket d.0 d.1
 
 is_source : (H : Host) (x : ℤ) → Due H x → Sources H x
 is_source H x (OfPiece d) = inl d
-is_source H x (OfJoin d) = inr (inl d)
-is_source H x (OfLeave d) = inr (inr (inl d))
-is_source H x (OfIgmpReport d) = inr (inr (inr (inl d)))
-is_source H x (OfMldReport d) = inr (inr (inr (inr (inl d))))
-is_source H x (OfSocket i d) = inr (inr (inr (inr (inr (i, d)))))
+is_source H x (OfSync d) = inr (inl d)
+is_source H x (OfSolicitation d) = inr (inr (inl d))
+is_source H x (OfPrefix i d) = inr (inr (inr (inl (inl (i, d)))))
+is_source H x (OfRouter i d) = inr (inr (inr (inl (inr (i, d)))))
+is_source H x (OfJoin d) = inr (inr (inr (inr (inl d))))
+is_source H x (OfLeave d) = inr (inr (inr (inr (inr (inl d)))))
+is_source H x (OfIgmpReport d) = inr (inr (inr (inr (inr (inr (inl d))))))
+is_source H x (OfMldReport d) = inr (inr (inr (inr (inr (inr (inr (inl d)))))))
+is_source H x (OfSocket i d) = inr (inr (inr (inr (inr (inr (inr (inr (i, d))))))))
 
 -- the least of all, from that of the sockets
 abbrev pub soonest : Host → Option ℤ → Option ℤ
-soonest H a = sooner (at_once H.left) (of_groups H a)
+soonest H a = sooner (at_once H.left) (of_routers H (of_groups H a))
 
 pub due_least : (H : Host) (a : Option ℤ) → IsLeast (DueBelow H (length H.sockets.places)) a → IsLeast (Due H) (soonest H a)
 due_least H a p =
     least_same (Sources H) (Due H) (soonest H a) (is_due H) (is_source H)
-    (or_least _ _ _ _ (once_least H.left) (or_least _ _ _ _ (exact_least (told_at Joining H)) (or_least _ _ _ _ (exact_least (told_at Leaving H)) (or_least _ _ _ _ (exact_least (igmp_instant H))
-    (or_least _ _ _ _ (exact_least (mld_timeout_of H.mld_report)) (sockets_least H a p))))))
+    (or_least _ _ _ _ (once_least H.left) (or_least _ _ _ _ (exact_least (sync_instant H)) (or_least _ _ _ _ (exact_least (solicitation_instant H))
+    (or_least _ _ _ _ (or_least _ _ _ _ (there_least (prefix_ends H.slaac.prefixes H.moment)) (there_least (route_ends H.slaac.routers H.moment))) (or_least _ _ _ _ (exact_least (told_at Joining H)) (or_least _ _ _ _ (exact_least (told_at Leaving H)) (or_least _ _ _ _ (exact_least (igmp_instant H))
+    (or_least _ _ _ _ (exact_least (mld_timeout_of H.mld_report)) (sockets_least H a p)))))))))

@@ -32,7 +32,8 @@ use Rattle.icmpv6_wire.specs.declared.icmpv6.Icmpv6Repr.{Icmpv6Repr}
 use Rattle.icmpv6_wire.specs.declared.icmpv6.Icmpv6Repr.TheVariants as icmp
 use Rattle.icmpv6_wire.specs.declared.ndisc.NdiscRepr.{NdiscRepr}
 use Rattle.icmpv6_wire.specs.declared.ndisc.NdiscNeighborFlags.{NdiscNeighborFlags}
-use Rattle.icmpv6_wire.specs.Icmpv6.{IsIcmpv6, IsBody, Request, Reply as EchoReplied, Error, Neighbor, Listener, icmpv6_in, error_of, error_in, type_in, code_in, unreachable_of, problem_of}
+use Rattle.icmpv6_wire.specs.Icmpv6.{IsIcmpv6, IsBody, Request, Reply as EchoReplied, Error, Neighbor, OfRouters, Listener, icmpv6_in, error_of, error_in, type_in, code_in, unreachable_of, problem_of}
+use Rattle.icmpv6_wire.specs.Router.{Solicitation, Advertisement, router_in}
 use Rattle.group_wire.specs.Mld.{IsQuery, IsReport, mld_in}
 use Rattle.group_wire.specs.Igmp.{igmp_in}
 use Rattle.group_wire.specs.declared.igmp.IgmpRepr.{IgmpRepr}
@@ -224,6 +225,7 @@ ndisc_plain six (ndisc.FromNeighbor own near mine h) = heard_plain six mine h
 -- a message to a neighbour that is read tells an address of six octets
 abbrev Tells : Icmpv6Repr → Type 0
 Tells (icmp.Ndisc message) = IsLinkLayerAddr (lladdr_of message)
+Tells (icmp.Router message) = Unit {0}
 Tells (icmp.Mld message) = Unit {0}
 Tells (icmp.EchoRequest ident seq_no) = Unit {0}
 Tells (icmp.EchoReply ident seq_no) = Unit {0}
@@ -249,33 +251,40 @@ to_neighbor octets high low (Request t c) = absurd (omega (arith, high, t))
 to_neighbor octets high low (EchoReplied t c) = absurd (omega (arith, high, t))
 to_neighbor octets high low (Error e) = let most = e.most in absurd (omega (arith, high, most))
 to_neighbor octets high low (Neighbor n) = n
+to_neighbor octets high low (OfRouters (Solicitation s)) = let t = s.type in absurd (omega (arith, high, t))
+to_neighbor octets high low (OfRouters (Advertisement a)) = let t = a.type in absurd (omega (arith, high, t))
 to_neighbor octets high low (Listener (IsQuery t c l)) = absurd (omega (arith, high, t))
 to_neighbor octets high low (Listener (IsReport t c l)) = absurd (omega (arith, low, t))
 
 tells : (checked : Bool) (src dst : IpAddress) (octets : List ℕ) → IsIcmpv6 checked src dst octets → Tells (icmpv6_in octets).0
 tells checked src dst octets i =
-    by (type_in octets == 128) (type_in octets == 129) (type_in octets == 135) (type_in octets == 136) (type_in octets == 130) (type_in octets == 143) refl refl where
-      by : (a b c d q r : Bool) → (type_in octets == 135) ≡ c → (type_in octets == 136) ≡ d → Tells (
+    by (type_in octets == 128) (type_in octets == 129) (type_in octets == 135) (type_in octets == 136) (type_in octets == 133) (type_in octets == 134) (type_in octets == 130) (type_in octets == 143) refl refl where
+      by : (a b c d v w q r : Bool) → (type_in octets == 135) ≡ c → (type_in octets == 136) ≡ d → Tells (
           if a then (icmp.EchoRequest (u16_at octets 4) (u16_at octets 6), drop 8 octets) else
           if b then (icmp.EchoReply (u16_at octets 4) (u16_at octets 6), drop 8 octets) else
           if c then (icmp.Ndisc (ndisc_in octets), []) else
           if d then (icmp.Ndisc (ndisc_in octets), []) else
+          if v then (icmp.Router (router_in octets), []) else
+          if w then (icmp.Router (router_in octets), []) else
           if q then (icmp.Mld (mld_in octets).0, (mld_in octets).1) else
           if r then (icmp.Mld (mld_in octets).0, (mld_in octets).1) else
           error_in octets).0
-      by true b c d q r e f = tt
-      by false true c d q r e f = tt
-      by false false true d q r e f = are_six octets (to_neighbor octets (grind (arith, nat_tests)) (grind (arith, nat_tests)) i.body)
-      by false false false true q r e f = are_six octets (to_neighbor octets (grind (arith, nat_tests)) (grind (arith, nat_tests)) i.body)
-      by false false false false true r e f = tt
-      by false false false false false true e f = tt
-      by false false false false false false e f = tells_error octets
+      by true b c d v w q r e f = tt
+      by false true c d v w q r e f = tt
+      by false false true d v w q r e f = are_six octets (to_neighbor octets (grind (arith, nat_tests)) (grind (arith, nat_tests)) i.body)
+      by false false false true v w q r e f = are_six octets (to_neighbor octets (grind (arith, nat_tests)) (grind (arith, nat_tests)) i.body)
+      by false false false false true w q r e f = tt
+      by false false false false false true q r e f = tt
+      by false false false false false false true r e f = tt
+      by false false false false false false false true e f = tt
+      by false false false false false false false false e f = tells_error octets
 
 -- ICMP for IPv6
 message_plain : (r : Ipv6Repr) (m : Icmpv6Repr) (octets : List ℕ) (H : Host) (reply : Option Reply) (notes : List Note) (new : Host) → Tells m →
     TakesMessage r m octets H reply notes new → IsPlain H reply notes new
 message_plain r (icmp.EchoRequest ident seq_no) octets H reply notes new six t = replied (Some _) tt t.0 t.1 t.2
 message_plain r (icmp.Ndisc message) octets H reply notes new six t = ndisc_plain six t
+message_plain r (icmp.Router message) octets H reply notes new six t = record { by_ip = rw t.0 tt; unnoted = t.1; keeps = kept_by t.2 (unread refl refl) }
 message_plain r (icmp.Mld message) octets H reply notes new six t = mld_plain r message H reply notes new t
 message_plain r (icmp.EchoReply ident seq_no) octets H reply notes new six t = dropped t
 message_plain r (icmp.DstUnreachable reason header) octets H reply notes new six t = dropped t

@@ -5,8 +5,8 @@ use Rattle.std.proofs.lemmas.Bool.{cases_eq}
 use Rattle.std.proofs.lemmas.Int.{ints}
 use Rattle.std.proofs.lemmas.List.{get_or-set_other, set-get_or}
 use Rattle.std.specs.Cmp.{int_cmp_is}
-use Rattle.std.specs.declared.cmp.Ordering.TheVariants.{Less}
-use Rattle.std.specs.Prelude.{ℤ, pos, ◌≤ℤ◌, ◌<ℤ◌, Bool, true, false, get_or, slice_get, slice_set}
+use Rattle.std.specs.declared.cmp.Ordering.TheVariants.{Less, Greater}
+use Rattle.std.specs.Prelude.{ℤ, pos, ◌≤ℤ◌, ◌<ℤ◌, Bool, true, false, not, ◌||◌, nat_lt, map, filter, get_or, slice_get, slice_set}
 use Rattle.std.specs.Option.{option_and_then}
 use Rattle.net_base.specs.Device.{Event, Received, Asked, Sent, Reception, Frame, Nothing, Withheld, handed, sent}
 use Rattle.ip_address.specs.declared.ip.IpAddress.{IpAddress}
@@ -36,8 +36,8 @@ use Rattle.host_machine.specs.Egress.{Round, SendsPiece, packet_of, packet_from,
 use Rattle.host_machine.specs.Egress as egress
 use Rattle.host_machine.specs.Polling.{maintained, Repeats, Until, Spent, Done, Polls}
 use Rattle.host_machine.specs.Polling as polling
-use Rattle.host_machine.specs.Due.{Due, OfPiece, OfJoin, OfLeave, OfIgmpReport, OfMldReport, OfSocket, AtOnce, SocketDue, IsLeast, instant_of, told_at}
-use Rattle.std.specs.Ordering.{int_cmp, is_lt}
+use Rattle.host_machine.specs.Due.{Due, OfPiece, OfSync, OfSolicitation, OfPrefix, OfRouter, OfJoin, OfLeave, OfIgmpReport, OfMldReport, OfSocket, AtOnce, SocketDue, IsLeast, instant_of, told_at}
+use Rattle.std.specs.Ordering.{int_cmp, is_le, is_lt}
 use Rattle.ip_address.specs.declared.cidr.IpCidr.{IpCidr}
 use Rattle.group_table.specs.declared.groups.Group.{Group}
 use Rattle.group_table.specs.declared.groups.GroupState.{GroupState}
@@ -47,6 +47,12 @@ use Rattle.host_machine.specs.Packet.{Packet}
 use Rattle.host_machine.specs.Multicast as multicast
 use Rattle.host_machine.specs.Reports as reports
 use Rattle.host_machine.specs.Reports.{SendsIgmpReport, SendsMldReport, igmp_instant, mld_timeout_of, timeout_of, has_come, with_igmp_report}
+use Rattle.std.specs.List.{list_any}
+use Rattle.slaac.specs.declared.slaac.Prefix.{Prefix}
+use Rattle.slaac.specs.declared.slaac.Route.{Route as Router}
+use Rattle.slaac.specs.Slaac.{has_ended, is_before, is_prefix_valid, is_route_valid, is_searching, retry_at, sync_required}
+use Rattle.host_machine.specs.Slaac as slaac
+use Rattle.host_machine.specs.Slaac.{SolicitsRouters, due_solicitation, router_solicitation}
 use Rattle.host_machine.specs.Step.{Act, Step}
 use Rattle.host_machine.specs.Step as step
 use Rattle.host_machine.specs.Run.{Place, Run, Ends, Then}
@@ -208,6 +214,10 @@ due_altered : (H : Host) (t0 x : ℤ) (K : Host) →
     (igmp_instant (at (altered H K) t0) ≡ Some x → igmp_instant (at H t0) ≡ Some x) →
     Due (at (altered H K) t0) x → Due (at H t0) x
 due_altered H t0 x K of_socket of_report (OfPiece d) = OfPiece d
+due_altered H t0 x K of_socket of_report (OfSync d) = OfSync d
+due_altered H t0 x K of_socket of_report (OfSolicitation d) = OfSolicitation d
+due_altered H t0 x K of_socket of_report (OfPrefix i d) = OfPrefix i d
+due_altered H t0 x K of_socket of_report (OfRouter i d) = OfRouter i d
 due_altered H t0 x K of_socket of_report (OfJoin d) = OfJoin d
 due_altered H t0 x K of_socket of_report (OfLeave d) = OfLeave d
 due_altered H t0 x K of_socket of_report (OfIgmpReport d) = OfIgmpReport (of_report d)
@@ -387,6 +397,32 @@ mld_still t0 old new told notes r (reports.NotYet h t n e) = stays t0 e (ap sent
 mld_still t0 old new told notes r (reports.GivenUp h t n e) = absurd (not_come (mld_timeout_of old.mld_report) r (λ x i. OfMldReport i) h)
 mld_still t0 old new told notes r (reports.ReportGoes outcome frames mid h d t e) = absurd (not_come (mld_timeout_of old.mld_report) r (λ x i. OfMldReport i) h)
 
+-- a solicitation that is due, whose moment has come
+record Soliciting (H : Host) : Type 0 where
+  packet : Packet
+  asks : router_solicitation H ≡ Some packet
+  instant : retry_at H.slaac ≡ Some H.slaac.retry_at
+  comes : is_le (int_cmp H.slaac.retry_at H.moment) ≡ true
+
+soliciting : (H : Host) (p : Packet) → due_solicitation H ≡ Some p → Soliciting H
+soliciting H p e = by (is_searching H.slaac.phase) (is_le (int_cmp H.slaac.retry_at H.moment)) (nat_lt 0 H.slaac.left) refl refl refl where
+  by : (a b c : Bool) → is_searching H.slaac.phase ≡ a → is_le (int_cmp H.slaac.retry_at H.moment) ≡ b → nat_lt 0 H.slaac.left ≡ c → Soliciting H
+  by true true true x y z = record { packet = p; asks = rw (x, y, z) at e; instant = rw (x, z) refl; comes = y }
+  by true true false x y z = absurd (let bad = rw (x, y, z) at e in cc)
+  by true false c x y z = absurd (let bad = rw (x, y) at e in cc)
+  by false b c x y z = absurd (let bad = rw x at e in cc)
+
+has_come_by : (t now : ℤ) → is_le (int_cmp t now) ≡ true → now <ℤ t → ⊥
+has_come_by t now h before = absurd (let e : is_le (int_cmp t now) ≡ false = rw (← int_cmp_is t now Greater before) refl in cc)
+
+none_asked : {t0 : ℤ} {H : Host} → Rests t0 H → Soliciting H → ⊥
+none_asked {t0} {H} r s = has_come_by H.slaac.retry_at H.moment s.comes (r.none H.slaac.retry_at (OfSolicitation (rw s.asks s.instant)))
+
+solicitation_still : (t0 : ℤ) → IsStill t0 SolicitsRouters
+solicitation_still t0 old new told notes r (slaac.NotDue d t n e) = stays t0 e (ap sent t)
+solicitation_still t0 old new told notes r (slaac.NoLeave p d t n e) = absurd (none_asked r (soliciting old p d))
+solicitation_still t0 old new told notes r (slaac.Goes p outcome frames mid d s t e) = absurd (none_asked r (soliciting old p d))
+
 both_still : {t0 : ℤ} {one two : Part} → IsStill t0 one → IsStill t0 two → IsStill t0 (Both one two)
 both_still {t0} first second old new told notes r b =
     let one = first old b.mid b.told_one b.notes_one r b.begins in
@@ -405,15 +441,44 @@ both_walked {t0} {changed} still walked old new told notes r b =
 
 round_quiet : (t0 : ℤ) (changed : Bool) → IsWalked t0 changed (Round changed)
 round_quiet t0 changed =
-    both_walked (piece_still t0) (both_walked (all_still t0 (λ H e. OfJoin e)) (both_walked (all_still t0 (λ H e. OfLeave e)) (both_walked (igmp_still t0) (both_walked (mld_still t0)
-    (λ old new told notes r w. sockets_quiet r w)))))
+    both_walked (piece_still t0) (both_walked (solicitation_still t0) (both_walked (all_still t0 (λ H e. OfJoin e)) (both_walked (all_still t0 (λ H e. OfLeave e)) (both_walked (igmp_still t0) (both_walked (mld_still t0)
+    (λ old new told notes r w. sockets_quiet r w))))))
 
 -- slots that have ended are dropped
 swept_still : (t0 : ℤ) (H : Host) → Stays t0 H (swept H H.moment) []
 swept_still t0 H = record { moment = refl; routes = refl; places = refl; due = λ x d. due_timed H t0 x (left_at H.moment H.slots) H.reassembly_timeout d; silent = refl }
 
+-- what had not ended at t0 has not ended before its end
+holds_on : {A : Type 0} (end : A → ℤ) (xs : List A) (t0 t : ℤ) → list_any (λ x. not (is_before t0 (end x))) xs ≡ false →
+    ((i : ℕ) (y : ℤ) → slice_get (filter (is_before t0) (map end xs)) i ≡ Some y → t <ℤ y) → list_any (λ x. not (is_before t (end x))) xs ≡ false
+holds_on end [] t0 t none later = refl
+holds_on {A} end (x ∷ xs) t0 t none later = by (is_before t0 (end x)) refl (holds_on end xs t0 t) where
+  by : (b : Bool) → is_before t0 (end x) ≡ b →
+      (list_any (λ (z : A). not (is_before t0 (end z))) xs ≡ false → ((i : ℕ) (y : ℤ) → slice_get (filter (is_before t0) (map end xs)) i ≡ Some y → t <ℤ y) → list_any (λ (z : A). not (is_before t (end z))) xs ≡ false) →
+      list_any (λ (z : A). not (is_before t (end z))) (x ∷ xs) ≡ false
+  by true e rest =
+      let here : is_before t (end x) ≡ true = rw (← int_cmp_is t (end x) Less (later 0 (end x) (rw e refl))) refl in
+      rw here (rest (rw e at none) (λ i y is. later (suc i) y (rw e is)))
+  by false e rest = absurd (let bad = rw e at none in cc)
+
+neither : (a b : Bool) → (a || b) ≡ false → (a ≡ false) × (b ≡ false)
+neither true b e = absurd cc
+neither false b e = (refl, e)
+
+-- nothing has to be brought into line of what is known
+no_sync : {t0 : ℤ} (H : Host) → Rests t0 H → sync_required H.slaac H.moment ≡ false
+no_sync {t0} H r = by (sync_required H.slaac t0) refl where
+  by : (b : Bool) → sync_required H.slaac t0 ≡ b → sync_required H.slaac H.moment ≡ false
+  by true e = absurd (at_once r (OfSync (rw e refl)))
+  by false e =
+      let first = neither H.slaac.changed (has_ended H.slaac t0) e in
+      let rest = neither (list_any (λ p. not (is_prefix_valid t0 p)) H.slaac.prefixes) (list_any (λ r. not (is_route_valid t0 r)) H.slaac.routers) first.1 in
+      let prefixes = holds_on (λ (p : Prefix). p.info.valid_until) H.slaac.prefixes t0 H.moment rest.0 (λ i x is. r.none x (OfPrefix i is)) in
+      let routers = holds_on (λ (q : Router). q.valid_until) H.slaac.routers t0 H.moment rest.1 (λ i x is. r.none x (OfRouter i is)) in
+      rw (first.0, prefixes, routers) refl
+
 maintained_quiet : {t0 : ℤ} (H : Host) → Rests t0 H → Stays t0 H (maintained H) []
-maintained_quiet {t0} H r = swept_still t0 H
+maintained_quiet {t0} H r = rw (no_sync H r) (swept_still t0 H)
 
 egress_quiet : {t t0 : ℤ} {answer : PollResult} {old new : Host} {told : List Event} {notes : List Note} → Rests t0 (at old t) → Egress t answer old told notes new → Calls t0 result.None answer (at old t) new told
 egress_quiet {t} {t0} {answer} {old} {new} {told} {notes} r e =

@@ -39,7 +39,10 @@ use Rattle.ip_address.specs.Hardware.{is_unicast}
 use Rattle.host_machine.specs.Config.{same_medium, hardware_refusal_of}
 use Rattle.host_machine.specs.declared.results.HardwareError.TheVariants.{WrongMedium, NotUnicast}
 use Rattle.host_machine.proofs.Grouped.{join_groups, leave_groups}
-use Rattle.host_machine.specs.Host.{Host, swept, with_left, with_neighbors}
+use Rattle.slaac.specs.Slaac.{sync_required}
+use Rattle.host_machine.specs.Slaac.{in_line}
+use Rattle.host_machine.specs.Polling.{maintained}
+use Rattle.host_machine.specs.Host.{Host, at, swept, with_left, with_neighbors}
 use Rattle.host_machine.specs.Addresses.{is_broadcast_v4}
 use Rattle.host_machine.specs.Packet.{Packet, PacketV4}
 use Rattle.host_machine.specs.Reply.{Reply, Arp, Ip, IsDropped}
@@ -280,6 +283,14 @@ lasts : {timeout : ℕ} {answer : _} {old new : Host} → step.SetsReassemblyTim
 lasts {old = old} (step.WithinDay l r e) = λ real. rw e (stays old [] [] _ Nothing refl refl refl real)
 lasts (step.OverDay l r e) = silent refl refl e
 
+-- addresses and routes in line with what was learnt
+syncs : (H : Host) (b : Bool) → ShownOver H [] [] (if b then in_line H else H)
+syncs H true = λ real. record { shows = Nothing; same = refl; real = record { own = real.own; neighbors = none_of H.capabilities.medium H.neighbors } }
+syncs H false = silent refl refl refl
+
+maintains : (H : Host) (t : ℤ) → ShownOver H [] [] (maintained (at H t))
+maintains H t = on H (swept H t) (maintained (at H t)) [] [] [] [] (sweeps H t) (syncs (swept H t) (sync_required H.slaac t))
+
 -- over the calls of a poll
 abbrev Told : Part
 Told old told notes new = ShownOver old (sent told) notes new
@@ -294,8 +305,8 @@ pub stepped : {command : Command} {answer : Answer} {old new : Host} {told : Lis
 stepped (step.UpdatedIpAddrs u) six real = updates u real
 stepped (step.PolledIngressSingle i) six real = ingress i real
 stepped (step.PolledEgress e) six real = egressed ShownOver keeps on requests asked identifies whole cuts pieces e real
-stepped (step.Polled {t} p) six real = polled Told begins follows t (λ H. sweeps H t) (λ answer old new told notes i. ingress i) (λ answer old new told notes e. egressed ShownOver keeps on requests asked identifies whole cuts pieces e) p real
-stepped (step.PolledMaintenance {t} {old}) six real = sweeps old t real
+stepped (step.Polled {t} p) six real = polled Told begins follows t (λ H. maintains H t) (λ answer old new told notes i. ingress i) (λ answer old new told notes e. egressed ShownOver keeps on requests asked identifies whole cuts pieces e) p real
+stepped (step.PolledMaintenance {t} {old}) six real = maintains old t real
 stepped {old = old} (step.PolledAt least) six real = stays old [] [] _ Nothing refl refl refl real
 stepped {old = old} (step.PolledDelay end least rest) six real = stays old [] [] _ Nothing refl refl refl real
 stepped {old = old} step.UpdatedRoutes six real = stays old [] [] _ Nothing refl refl refl real

@@ -25,7 +25,7 @@ use Rattle.host_machine.specs.Rebuilding.{History, began, put, AreRebuilt}
 use Rattle.host_machine.specs.Order.{IsBeginning, sent_of_this, AreBeginnings}
 use Rattle.host_machine.specs.Run.{Place, Run, Ends, Then, told_in, notes_in}
 use Rattle.host_machine.specs.Arrivals.{came, rebuilt, slot_notes_in}
-use Rattle.host_machine.specs.Frames.{Brings, Bring, NoFrame, OneBrings, NoneBrings, all_came, ComesInFrames}
+use Rattle.host_machine.specs.Frames.{Brings, Bring, NoFrame, OneBrings, NoneBrings, all_came, receiving, ComesInFrames}
 use Rattle.host_machine.specs.Wire.{Shows, Nothing, OnePiece, OneCut, OtherFrame}
 use Rattle.ip_address.specs.Hardware.{IsOf}
 use Rattle.host_machine.specs.Real.{IsReal, GivesSix}
@@ -37,7 +37,7 @@ use Rattle.host_machine.proofs.Rebuilt.{run_rebuilt, test_same}
 use Rattle.host_machine.proofs.Ordered.{run_ordered, run_first}
 use Rattle.host_machine.proofs.Pieces.{IsIn, is_in, contains_in, IsPiece, piece_in, IsPartOf, part_of, AreParts, IsTotal, total_stays, rebuilds_payload}
 use Rattle.host_machine.proofs.Views.{handed-append}
-use Rattle.host_machine.proofs.Arrived.{run_comes, all_came-append, all_push}
+use Rattle.host_machine.proofs.Arrived.{run_comes, receiving_hardware, all_came-append, all_push}
 use Rattle.host_machine.proofs.Readings.{IsWritten, protocol_again, piece_reads, piece_brings}
 use Rattle.host_machine.proofs.Shown.{run_shows, stepped}
 
@@ -215,9 +215,9 @@ module _ (m : Medium) (size y : ℕ) (is : size ≡ y * 8) (pos : 0 < size) (ds 
     each_came : {H last : Host} {qs : List Place} → Run H qs last → H.capabilities.medium ≡ m → IsReal H → AllByRecursion (λ q. GivesSix q.command) qs →
         AllByRecursion ComesInFrames qs → AllByRecursion (Contains all) (handed (told_in qs)) → AreCutBy ds (all_came (slot_notes_in qs))
     each_came Ends medium_is real six comes was = tt
-    each_came {H} (Then {told = told} {notes = noted} {places = qs} s r) medium_is real six comes was =
+    each_came {H} (Then {command = command} {told = told} {notes = noted} {places = qs} s r) medium_is real six comes was =
         let one = stepped s six.0 real in
-        let mine : IsOf m H.hardware_addr = rw medium_is at real.own in
+        let mine : IsOf m (receiving command H).hardware_addr = rw receiving_hardware (rw medium_is at real.own) in
         let parted : AllByRecursion (Contains all) (handed told ++ handed (told_in qs)) = subst (AllByRecursion (Contains all)) (handed-append told (told_in qs)) was in
         let halves = all_parted (Contains all) (handed told) (handed (told_in qs)) parted in
         let later = each_came r (ap (λ (c : DeviceCapabilities). c.medium) one.same ∙ medium_is) one.real six.1 comes.1 halves.1 in

@@ -1,7 +1,7 @@
 -- What one step does to the slots, and from which frame.
 use Rattle.std.proofs.Common.{◌≡◌, ℕ, List, [], ◌∷◌, ◌++◌, length, drop, refl, sym, ◌∙◌, ap, subst, arith, Option, Some, None}
 use Rattle.std.proofs.lemmas.List.{append-nil}
-use Rattle.std.specs.Prelude.{ℤ, pos, ◌+ℤ◌, ◌≤◌, Bool, true, false}
+use Rattle.std.specs.Prelude.{ℤ, pos, ◌+ℤ◌, ◌≤◌, Bool, true, false, if◌then◌else◌}
 use Rattle.net_base.specs.Device.{Event, Reception, Frame, Nothing, Withheld, Received, Asked, Sent, handed}
 use Rattle.net_base.specs.Checksum.{is_rx}
 use Rattle.ip_address.specs.declared.ethernet_address.EthernetAddress.{EthernetAddress}
@@ -55,6 +55,9 @@ use Rattle.group_table.specs.declared.groups.GroupState.{GroupState}
 use Rattle.host_machine.specs.Multicast as multicast
 use Rattle.host_machine.specs.Reports as reports
 use Rattle.host_machine.specs.Reports.{SendsIgmpReport, SendsMldReport}
+use Rattle.host_machine.specs.Slaac as slaac
+use Rattle.host_machine.specs.Slaac.{SolicitsRouters, in_line}
+use Rattle.slaac.specs.Slaac.{sync_required}
 use Rattle.host_machine.proofs.Repeated.{both}
 use Rattle.host_machine.specs.Unfolded.{IsSingle}
 use Rattle.host_machine.proofs.Notes.{slot_notes-append, slot_notes-slots}
@@ -330,6 +333,11 @@ mld_hands_none (reports.NotYet h t n e) = ap handed t
 mld_hands_none (reports.GivenUp h t n e) = ap handed t
 mld_hands_none (reports.ReportGoes outcome frames mid h d t e) = ap handed t ∙ handed-sends frames
 
+solicit_hands_none : {old new : Host} {told : List Event} {notes : List Note} → SolicitsRouters old told notes new → handed told ≡ []
+solicit_hands_none (slaac.NotDue d t n e) = ap handed t
+solicit_hands_none (slaac.NoLeave p d t n e) = ap handed t
+solicit_hands_none (slaac.Goes p outcome frames mid h d t e) = ap handed t ∙ handed-sends frames
+
 -- each part of a round, in order
 abbrev HandsNone : Part
 HandsNone old told notes new = handed told ≡ []
@@ -341,8 +349,8 @@ hand_on = both HandsNone (λ H. refl) (λ a b c ts us xs ys one two. handed-appe
 
 pub egress_hands_none : {t : ℤ} {answer : _} {old new : Host} {told : List Event} {notes : List Note} → Egress t answer old told notes new → handed told ≡ []
 egress_hands_none {t} {answer} {old} {new} {told} {notes} e =
-    hand_on (λ o n ts xs p. piece_hands_none p) (hand_on (λ o n ts xs p. all_hand_none p) (hand_on (λ o n ts xs p. all_hand_none p)
-    (hand_on (λ o n ts xs p. igmp_hands_none p) (hand_on (λ o n ts xs p. mld_hands_none p) (λ o n ts xs p. sockets_hand_none p)))))
+    hand_on (λ o n ts xs p. piece_hands_none p) (hand_on (λ o n ts xs p. solicit_hands_none p) (hand_on (λ o n ts xs p. all_hand_none p) (hand_on (λ o n ts xs p. all_hand_none p)
+    (hand_on (λ o n ts xs p. igmp_hands_none p) (hand_on (λ o n ts xs p. mld_hands_none p) (λ o n ts xs p. sockets_hand_none p))))))
     (at old t) new told notes e.round
 
 -- what one step does to the slots
@@ -391,12 +399,17 @@ timeout_slots : {timeout : ℕ} {answer : _} {old new : Host} → step.SetsReass
 timeout_slots (step.WithinDay l r e) = ap (λ (K : Host). K.slots) e
 timeout_slots (step.OverDay l r e) = ap (λ (K : Host). K.slots) e
 
+-- addresses and routes in line leave the slots
+maintained_slots : (H : Host) (t : ℤ) (b : Bool) → (if b then in_line (swept H t) else swept H t).slots ≡ left_at t H.slots
+maintained_slots H t true = refl
+maintained_slots H t false = refl
+
 pub step_view : {c : Command} {answer : Answer} {old new : Host} {told : List Event} {acts : List Act} {notes : List Note} → IsSingle c → Step c answer old told acts notes new → StepView c old told notes new
 step_view single (step.UpdatedIpAddrs u) = quiet_view refl refl (updates_slots u)
 step_view single (step.PolledIngressSingle i) = ingress_view i
 step_view single (step.PolledEgress e) = quiet_view (egress_hands_none e) (egress_still e).silent (egress_still e).slots
 step_view single (step.Polled p) = absurd single
-step_view single step.PolledMaintenance = quiet_view refl refl refl
+step_view single (step.PolledMaintenance {t} {old}) = quiet_view refl refl (maintained_slots old t (sync_required old.slaac t))
 step_view single (step.PolledAt least) = quiet_view refl refl refl
 step_view single (step.PolledDelay end least rest) = quiet_view refl refl refl
 step_view single step.UpdatedRoutes = quiet_view refl refl refl

@@ -2,7 +2,7 @@
 use Rattle.std.proofs.Common.{◌≡◌, ℕ, List, [], ◌∷◌, ◌++◌, refl, ap, subst, Option, Some, None, arith}
 use Rattle.std.proofs.lemmas.Bool.Decides.{nat_tests}
 use Rattle.std.proofs.lemmas.List.{append-nil}
-use Rattle.std.specs.Prelude.{ℤ, Bool, true}
+use Rattle.std.specs.Prelude.{ℤ, Bool, true, false, if◌then◌else◌}
 use Rattle.std.specs.FinMap as map
 use Rattle.net_base.specs.Device.{Event, Reception, Frame, Nothing, Withheld, Received, Asked, Sent, sent}
 use Rattle.ip_address.specs.declared.cidr.IpCidr.{IpCidr}
@@ -39,10 +39,14 @@ use Rattle.host_machine.specs.Note.{Note, OfDiscovery, OfIdentification, OfCuts,
 use Rattle.group_table.specs.declared.groups.Group.{Group}
 use Rattle.group_table.specs.declared.groups.GroupState.{GroupState}
 use Rattle.host_machine.specs.Multicast as multicast
+use Rattle.host_machine.specs.Multicast.{flushed}
 use Rattle.host_machine.specs.Reports as reports
 use Rattle.host_machine.specs.Reports.{SendsIgmpReport, SendsMldReport}
+use Rattle.host_machine.specs.Slaac as slaac
+use Rattle.host_machine.specs.Slaac.{SolicitsRouters, in_line}
+use Rattle.slaac.specs.Slaac.{sync_required}
 use Rattle.host_machine.proofs.Grouped.{join_groups, leave_groups}
-use Rattle.host_machine.specs.Host.{Host, Socket, swept, with_groups, with_left, with_neighbors}
+use Rattle.host_machine.specs.Host.{Host, Socket, at, swept, with_groups, with_left, with_neighbors}
 use Rattle.host_machine.specs.Packet.{Packet, PacketV4}
 use Rattle.host_machine.specs.Reply.{Reply, Arp, Ip, IsDropped}
 use Rattle.host_machine.specs.Frame.{arp_frame, ip_frame, piece_frame}
@@ -59,13 +63,13 @@ use Rattle.host_machine.specs.Response.{Responds}
 use Rattle.host_machine.specs.Ingress.{Takes, Ingress}
 use Rattle.host_machine.specs.Egress.{SocketTurn, Serves, Walks, SocketsSend, SendsPiece, Round, Egress}
 use Rattle.host_machine.specs.Parts.{Part}
-use Rattle.host_machine.specs.Polling.{Polls}
+use Rattle.host_machine.specs.Polling.{Polls, maintained}
 use Rattle.host_machine.proofs.Malformed.{sent-sends}
 use Rattle.host_machine.proofs.Kept.{Keeps, rest_of, kept, kept_by, unread}
 use Rattle.host_machine.proofs.Plain.{IsPlain, whole_plain, ipv6_plain}
 use Rattle.host_machine.proofs.Repeated.{both, polled}
 use Rattle.host_machine.specs.Egress as egress
-use Rattle.host_machine.specs.Step.{Act, Step, Accepted, Refused, Taken, NotTaken, WithinDay, OverDay, flushed}
+use Rattle.host_machine.specs.Step.{Act, Step, Accepted, Refused, Taken, NotTaken, WithinDay, OverDay}
 use Rattle.host_machine.specs.Step as step
 use Rattle.host_machine.specs.Run.{Place, Run, Ends, Then, notes_in, told_in}
 
@@ -279,6 +283,11 @@ module _ (Law : Host → List (List ℕ) → List Note → Host → Type 0)
       igmp_sent (reports.NoLeave p h r t n e) = keeping (ap sent t) n (kept e)
       igmp_sent (reports.Sent p outcome frames mid h r d t e) = rw (t, sent-sends frames) (before (dispatched d) (kept_by e (unread refl refl)))
 
+      routers_solicited : {H new : Host} {told : List Event} {notes : List Note} → SolicitsRouters H told notes new → Law H (sent told) notes new
+      routers_solicited (slaac.NotDue d t n e) = keeping (ap sent t) n (kept e)
+      routers_solicited (slaac.NoLeave p d t n e) = keeping (ap sent t) n (kept e)
+      routers_solicited (slaac.Goes p outcome frames mid h d t e) = rw (t, sent-sends frames) (before (dispatched d) (kept_by e (unread refl refl)))
+
       mld_sent : {H new : Host} {told : List Event} {notes : List Note} → SendsMldReport H told notes new → Law H (sent told) notes new
       mld_sent (reports.NotYet h t n e) = keeping (ap sent t) n (kept e)
       mld_sent (reports.GivenUp h t n e) = keeping (ap sent t) n (kept_by e (unread refl refl))
@@ -287,10 +296,11 @@ module _ (Law : Host → List (List ℕ) → List Note → Host → Type 0)
       -- each part of a round, in order
       round : {changed : Bool} {old new : Host} {told : List Event} {notes : List Note} → Round changed old told notes new → Law old (sent told) notes new
       round {changed} {old} {new} {told} {notes} r = both EventLaw begins follows (λ o n t ns p. piece_sent p)
+          (both EventLaw begins follows (λ o n t ns p. routers_solicited p)
           (both EventLaw begins follows (λ o n t ns p. all_told p)
           (both EventLaw begins follows (λ o n t ns p. all_told p)
           (both EventLaw begins follows (λ o n t ns p. igmp_sent p)
-          (both EventLaw begins follows (λ o n t ns p. mld_sent p) (λ o n t ns p. sockets_sent p))))) old new told notes r
+          (both EventLaw begins follows (λ o n t ns p. mld_sent p) (λ o n t ns p. sockets_sent p)))))) old new told notes r
 
       pub egressed : {t : ℤ} {answer : PollResult} {old new : Host} {told : List Event} {notes : List Note} → Egress t answer old told notes new → Law old (sent told) notes new
       egressed e = after (unread refl refl) (round e.round)
@@ -312,9 +322,6 @@ module _ (Law : Host → List (List ℕ) → List Note → Host → Type 0)
           (on (swept old t) r.taken new [] i.frames r.notes_taking r.notes_responding (taken fragments (swept old t) i.reception r.reply r.notes_taking r.taken r.takes)
           (responded r.reply r.taken i.frames r.notes_responding new r.responds)))
 
-      polls : {t : ℤ} {budget : ℕ} {answer : PollResult} {old new : Host} {told : List Event} {notes : List Note} → Polls t budget answer old told notes new → Law old (sent told) notes new
-      polls {t} p = polled EventLaw begins follows t (λ H. sweeps H t) (λ answer old new told notes i. ingress i) (λ answer old new told notes e. egressed pieces e) p
-
       -- of whole runs: where the host gets another hardware address; where it gets other addresses, and forgets its neighbours; and where
       -- it gets another timeout
       module _ (sets : (H : Host) (h : HardwareAddress) → Law H [] [] (record H { hardware_addr = h }))
@@ -323,13 +330,23 @@ module _ (Law : Host → List (List ℕ) → List Note → Host → Type 0)
         same : {old new : Host} → rest_of new ≡ rest_of old → new.neighbors ≡ old.neighbors → Law old [] [] new
         same e n = keeping refl refl (unread e n)
 
+        syncs : (H : Host) (b : Bool) → Law H [] [] (if b then in_line H else H)
+        syncs H true = before (moves H _) (unread refl refl)
+        syncs H false = begins H
+
+        maintains : (H : Host) (t : ℤ) → Law H [] [] (maintained (at H t))
+        maintains H t = on H (swept H t) (maintained (at H t)) [] [] [] [] (sweeps H t) (syncs (swept H t) (sync_required H.slaac t))
+
+        polls : {t : ℤ} {budget : ℕ} {answer : PollResult} {old new : Host} {told : List Event} {notes : List Note} → Polls t budget answer old told notes new → Law old (sent told) notes new
+        polls {t} p = polled EventLaw begins follows t (λ H. maintains H t) (λ answer old new told notes i. ingress i) (λ answer old new told notes e. egressed pieces e) p
+
         pub stepped : {command : Command} {answer : Answer} {old new : Host} {told : List Event} {acts : List Act} {notes : List Note} → Step command answer old told acts notes new → Law old (sent told) notes new
         stepped {old = old} (step.UpdatedIpAddrs {list = list} (Accepted a r e)) = rw e (before (moves old list.items) (unread refl refl))
         stepped (step.UpdatedIpAddrs (Refused a r e)) = keeping refl refl (kept e)
         stepped (step.PolledIngressSingle i) = ingress i
         stepped (step.PolledEgress e) = egressed pieces e
         stepped (step.Polled p) = polls p
-        stepped (step.PolledMaintenance {t} {old}) = sweeps old t
+        stepped (step.PolledMaintenance {t} {old}) = maintains old t
         stepped (step.PolledAt least) = same refl refl
         stepped (step.PolledDelay end least rest) = same refl refl
         stepped step.UpdatedRoutes = same refl refl

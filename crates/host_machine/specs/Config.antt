@@ -16,6 +16,7 @@ use Rattle.host_machine.specs.declared.results.NewError.{NewError}
 use Rattle.host_machine.specs.declared.results.NewError.TheVariants.{MediumMismatch, NotUnicast, MtuTooSmall, MtuTooLarge}
 use Rattle.group_table.specs.declared.report.IgmpReportState.TheVariants as igmp
 use Rattle.group_table.specs.declared.report.MldReportState.TheVariants as mld
+use Rattle.slaac.specs.Slaac.{nothing}
 use Rattle.host_machine.specs.Host.{Host, SocketSet}
 
 abbrev pub same_medium : Medium → Medium → Bool
@@ -37,10 +38,10 @@ refusal_of c h =
 abbrev pub first_id : ℕ → ℕ
 first_id seed = if next seed / 2 ^ 48 == 0 then 1 else next seed / 2 ^ 48
 
--- a host at first: no address, no route, no neighbour, no silence, no fragment, nothing left to send, no group; slots stand for 60 s (RFC
--- 1122 3.3.2), and one word was drawn from its source of random words
-abbrev pub first_host : DeviceCapabilities → HardwareAddress → ℕ → ℤ → SocketSet → Host
-first_host c h seed t sockets = record {
+-- a host at first, that is to take addresses from routers or isn't: no address, no route, no neighbour, no silence, no fragment, nothing left to
+-- send, no group, nothing learnt of routers; slots stand for 60 s (RFC 1122 3.3.2), and one word was drawn from its source of random words
+abbrev pub first_host : DeviceCapabilities → HardwareAddress → ℕ → Bool → ℤ → SocketSet → Host
+first_host c h seed slaac t sockets = record {
   capabilities = c;
   hardware_addr = h;
   moment = t;
@@ -55,6 +56,9 @@ first_host c h seed t sockets = record {
   groups = [];
   igmp_report = igmp.Inactive;
   mld_report = mld.Inactive;
+  slaac_enabled = slaac;
+  slaac = nothing;
+  slaac_updated_at = pos 0;
   random = next seed;
   sockets = sockets;
 }

@@ -1,6 +1,5 @@
 -- When a host has to be polled again: the instants at which something of it is due.
 use Rattle.std.specs.Prelude.{◌≡◌, ℕ, ℤ, pos, ◌+ℤ◌, ◌≤ℤ◌, Bool, List, [], ◌∷◌, slice_get, Option, Some, None, if◌then◌else◌}
-use Rattle.std.specs.Ordering.{int_cmp, is_lt}
 use Rattle.socket_base.specs.declared.poll_at.PollAt.{PollAt}
 use Rattle.socket_base.specs.declared.poll_at.PollAt.TheVariants.{Now, Time, Ingress}
 use Rattle.sockets.specs.Kinds as kinds
@@ -13,7 +12,10 @@ use Rattle.std.specs.Option.{option_map}
 use Rattle.group_table.specs.declared.groups.GroupState.{GroupState}
 use Rattle.group_table.specs.declared.groups.GroupState.TheVariants.{Joining, Leaving}
 use Rattle.group_table.specs.Groups.{first_in}
+use Rattle.slaac.specs.Slaac.{end_at, prefix_ends, route_ends, sync_required}
+pub use Rattle.slaac.specs.Instants.{sooner}
 use Rattle.host_machine.specs.Reports.{igmp_instant, mld_timeout_of}
+use Rattle.host_machine.specs.Slaac.{solicitation_instant}
 
 -- the instant that an answer names: that of what is due at once has passed at each moment, and what waits for a frame has none
 abbrev pub instant_of : PollAt → Option ℤ
@@ -40,9 +42,17 @@ pub record AtOnce {A : Type 0} (xs : List A) (x : ℤ) : Type 0 where
 abbrev pub told_at : GroupState → Host → Option ℤ
 told_at state H = option_map (λ a. pos 0) (first_in state H.groups)
 
+-- addresses and routes that have to be brought into line are due at once
+abbrev pub sync_instant : Host → Option ℤ
+sync_instant H = if sync_required H.slaac H.moment then Some (pos 0) else None
+
 -- an instant at which something is due, as the host sees it at its moment: each thing that a poll may do by itself has its case here
 pub data Due (H : Host) (x : ℤ) : Type 0 where
   OfPiece : AtOnce H.left x → Due H x
+  OfSync : sync_instant H ≡ Some x → Due H x
+  OfSolicitation : solicitation_instant H ≡ Some x → Due H x
+  OfPrefix : (i : ℕ) → slice_get (prefix_ends H.slaac.prefixes H.moment) i ≡ Some x → Due H x
+  OfRouter : (i : ℕ) → slice_get (route_ends H.slaac.routers H.moment) i ≡ Some x → Due H x
   OfJoin : told_at Joining H ≡ Some x → Due H x
   OfLeave : told_at Leaving H ≡ Some x → Due H x
   OfIgmpReport : igmp_instant H ≡ Some x → Due H x
@@ -65,12 +75,10 @@ pub data IsRest (t : ℤ) : (end : Option ℤ) → (rest : Option ℕ) → Type 
   Passed : {x : ℤ} → x ≤ℤ t → IsRest t (Some x) (Some 0)
   Left : {x : ℤ} {rest : ℕ} → t +ℤ pos rest ≡ x → IsRest t (Some x) (Some rest)
 
--- the sooner of two instants, where none is later than each
-abbrev pub sooner : Option ℤ → Option ℤ → Option ℤ
-sooner None b = b
-sooner (Some a) None = Some a
-sooner (Some a) (Some b) = if is_lt (int_cmp b a) then Some b else Some a
-
 -- the sooner of an instant and of those at which something is to be told of groups
 abbrev pub of_groups : Host → Option ℤ → Option ℤ
 of_groups H other = sooner (told_at Joining H) (sooner (told_at Leaving H) (sooner (igmp_instant H) (sooner (mld_timeout_of H.mld_report) other)))
+
+-- and of those at which something is due of what is learnt of routers
+abbrev pub of_routers : Host → Option ℤ → Option ℤ
+of_routers H other = sooner (sync_instant H) (sooner (solicitation_instant H) (sooner (end_at H.slaac H.moment) other))

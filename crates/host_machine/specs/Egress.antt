@@ -1,5 +1,5 @@
--- One call that sends: the next piece that is left goes, and then each socket that needn't wait is asked in order, and what it has goes,
--- each if the device gives leave.
+-- One call that sends: the next piece that is left goes, then what is due to routers, and then each socket that needn't wait is asked in order, and
+-- what it has goes, each if the device gives leave.
 use Rattle.std.specs.Prelude.{◌≡◌, ℕ, ◌+◌, ℤ, Bool, true, false, ◌||◌, is_ok, List, [], ◌∷◌, ◌++◌, length, slice_get, Option, Some, None, Ok, Err, if◌then◌else◌}
 use Rattle.std.specs.Option.{option_and_then}
 use Rattle.net_base.specs.Device.{Event, Asked}
@@ -26,6 +26,7 @@ use Rattle.host_machine.specs.Host.{Host, Socket, at, with_left}
 use Rattle.host_machine.specs.Parts.{Part, Both}
 use Rattle.host_machine.specs.Multicast.{TellsJoins, TellsLeaves}
 use Rattle.host_machine.specs.Reports.{SendsIgmpReport, SendsMldReport}
+use Rattle.host_machine.specs.Slaac.{SolicitsRouters}
 use Rattle.host_machine.specs.Addresses.{source_for}
 use Rattle.host_machine.specs.Packet.{IpPayload, Icmpv4, Icmpv6, Udp, Tcp, Raw, Packet, Ipv4, Ipv6, packet_with}
 use Rattle.host_machine.specs.Frame.{sends, piece_frame}
@@ -55,6 +56,7 @@ if_echo_v6 (v6.PktTooBig mtu header) octets = None
 if_echo_v6 (v6.TimeExceeded code header) octets = None
 if_echo_v6 (v6.ParamProblem reason pointer header) octets = None
 if_echo_v6 (v6.Ndisc message) octets = None
+if_echo_v6 (v6.Router message) octets = None
 if_echo_v6 (v6.Mld message) octets = None
 
 abbrev pub if_echo : IcmpRepr → List ℕ → Option IpPayload
@@ -155,8 +157,8 @@ pub data SendsPiece (H : Host) (told_it : List Event) (notes : List Note) (new :
 -- the parts of a round, in order; whether a socket's packet counts as gone
 abbrev pub Round : Bool → Part
 Round changed =
-    Both SendsPiece (Both TellsJoins (Both TellsLeaves (Both SendsIgmpReport (Both SendsMldReport
-    (λ old told_it notes new. SocketsSend old changed told_it notes new)))))
+    Both SendsPiece (Both SolicitsRouters (Both TellsJoins (Both TellsLeaves (Both SendsIgmpReport (Both SendsMldReport
+    (λ old told_it notes new. SocketsSend old changed told_it notes new))))))
 
 pub record Egress (t : ℤ) (answer : PollResult) (old : Host) (told_it : List Event) (notes : List Note) (new : Host) : Type 0 where
   pub changed : Bool

@@ -17,6 +17,7 @@ use Rattle.host_machine.specs.declared.results.PollIngressSingleResult.TheVarian
 use Rattle.host_machine.specs.Note.{Note, OfDiscovery, OfIdentification, Ask, Identify}
 use Rattle.group_table.specs.declared.report.IgmpReportState.TheVariants as igmp
 use Rattle.group_table.specs.declared.report.MldReportState.TheVariants as mld
+use Rattle.slaac.specs.Slaac.{nothing}
 use Rattle.host_machine.specs.Host.{Host, no_sockets}
 use Rattle.host_machine.specs.Ingress.{Ingress}
 
@@ -79,6 +80,9 @@ host ipv4_id neighbors = record {
   groups = [];
   igmp_report = igmp.Inactive;
   mld_report = mld.Inactive;
+  slaac_enabled = false;
+  slaac = nothing;
+  slaac_updated_at = pos 0;
   random = 0;
   sockets = no_sockets;
 }

@@ -1,6 +1,6 @@
 -- Worked examples of groups, computed from the definitions: what tells routers of a join and of a leave, octet by octet; when groups are
 -- reported in answer to a query; and what a refused leave to send does.
-use Rattle.std.specs.Prelude.{◌≡◌, ℕ, pos, true, false, List, [], ◌∷◌}
+use Rattle.std.specs.Prelude.{◌≡◌, ℕ, pos, true, false, List, [], ◌∷◌, ◌++◌}
 use Rattle.std.proofs.Common.{lit≤}
 use Rattle.net_base.specs.Device.{Asked, Sent}
 use Rattle.ip_address.specs.declared.cidr.IpCidr.{IpCidr}
@@ -100,12 +100,16 @@ pub record GroupsFollowAddresses : Type 0 where
   pub loopback : groups_for (host 0x1405 []).hardware_addr (network 1 ∷ []) (in_state group_v6 Joined) ≡ in_state group_v6 Joined
   pub without_hardware : groups_for hardware.Ip (network 0xfe80_0000_0000_0000_0000_0000_0000_0002 ∷ []) [] ≡ []
 
--- a host that has to tell of a join and of a leave, and has reports of both families due
+-- a host that is to ask routers, has to tell of a join and of a leave, and has reports of both families due
 abbrev pub busy : Host
-busy = with_mld_report (with_igmp_report (host 0x1405 (record { addr = Ipv4 (record { bits = 0xef010204 }); state = Joining } ∷ in_state group Leaving))
-    (igmp.ToSpecificQuery Version2 (pos 0) (record { bits = 0xef010204 }))) (mld.ToGeneralQuery (pos 0))
+busy = record (with_mld_report (with_igmp_report (host 0x1405 (record { addr = Ipv4 (record { bits = 0xef010204 }); state = Joining } ∷ in_state group Leaving))
+    (igmp.ToSpecificQuery Version2 (pos 0) (record { bits = 0xef010204 }))) (mld.ToGeneralQuery (pos 0))) {
+      ip_addrs = (host 0x1405 []).ip_addrs ++ (host_v6 0x1405 []).ip_addrs;
+      slaac_enabled = true;
+    }
 
--- where leave to send is refused, each part asks for itself: the join, the leave and the report of IGMP stay, and that of MLD is given up
+-- where leave to send is refused, each part asks for itself: the solicitation, the join, the leave and the report of IGMP stay, and that of
+-- MLD is given up
 abbrev pub RefusalsAreApart : Type 0
 RefusalsAreApart =
-    Round false busy (Asked (pos 0) false ∷ Asked (pos 0) false ∷ Asked (pos 0) false ∷ Asked (pos 0) false ∷ []) [] (with_mld_report busy mld.Inactive)
+    Round false busy (Asked (pos 0) false ∷ Asked (pos 0) false ∷ Asked (pos 0) false ∷ Asked (pos 0) false ∷ Asked (pos 0) false ∷ []) [] (with_mld_report busy mld.Inactive)

@@ -12,7 +12,10 @@ use Rattle.fragmentation.specs.declared.key.FragKey.{FragKey}
 use Rattle.fragmentation.specs.Fragments.{Fragment}
 use Rattle.fragmentation.specs.Reassembly.{SlotNote, Take, Came, Rebuild}
 use Rattle.host_machine.specs.Note.{slot_notes}
-use Rattle.host_machine.specs.Host.{Host}
+use Rattle.host_machine.specs.declared.command.Command.{Command}
+use Rattle.host_machine.specs.declared.command.Command.TheVariants.{UpdateIpAddrs, PollIngressSingle, PollEgress, Poll, PollMaintenance, PollAt, PollDelay, UpdateRoutes, AddDefaultIpv4Route, RemoveDefaultIpv4Route, AddDefaultIpv6Route, RemoveDefaultIpv6Route, JoinMulticastGroup, LeaveMulticastGroup, SetAnyIp, SetHardwareAddr, SetReassemblyTimeout, Owner}
+use Rattle.host_machine.specs.Host.{Host, at}
+use Rattle.host_machine.specs.Polling.{maintained}
 use Rattle.host_machine.specs.Addresses.{may_be_source}
 use Rattle.host_machine.specs.Ethernet.{is_for, version_in}
 use Rattle.host_machine.specs.Ipv4.{key_in, fragment_in}
@@ -50,6 +53,27 @@ pub data Bring (H : Host) : List (List ℕ) → List (FragKey × Fragment) → T
   NoneBrings : {frames : List (List ℕ)} {came : List (FragKey × Fragment)} (frame : List ℕ) →
       ((key : FragKey) (f : Fragment) → Brings H frame key f → ⊥) → Bring H frames came → Bring H (frame ∷ frames) came
 
+-- the host to which a command hands frames over: a poll maintains it first
+abbrev pub receiving : Command → Host → Host
+receiving (Poll t budget) H = maintained (at H t)
+receiving (UpdateIpAddrs list) H = H
+receiving (PollIngressSingle t) H = H
+receiving (PollEgress t) H = H
+receiving (PollMaintenance t) H = H
+receiving (PollAt t) H = H
+receiving (PollDelay t) H = H
+receiving (UpdateRoutes list) H = H
+receiving (AddDefaultIpv4Route gateway) H = H
+receiving RemoveDefaultIpv4Route H = H
+receiving (AddDefaultIpv6Route gateway) H = H
+receiving RemoveDefaultIpv6Route H = H
+receiving (JoinMulticastGroup group) H = H
+receiving (LeaveMulticastGroup group) H = H
+receiving (SetAnyIp any_ip) H = H
+receiving (SetHardwareAddr h) H = H
+receiving (SetReassemblyTimeout timeout) H = H
+receiving (Owner number) H = H
+
 -- at one place: what the frames bring that were handed over comes, in order, and nothing else
 abbrev pub ComesInFrames : Place → Type 0
-ComesInFrames p = Bring p.before (handed p.told) (all_came (slot_notes p.notes))
+ComesInFrames p = Bring (receiving p.command p.before) (handed p.told) (all_came (slot_notes p.notes))

@@ -10,6 +10,7 @@ use Rattle.ip_address.specs.Ip.{is_unicast, is_unspecified}
 use Rattle.ip_address.specs.Cidr.{address_of, contains}
 use Rattle.iface_tables.specs.Neighbor.{Neighbors}
 use Rattle.fragmentation.specs.Slots.{Slots, left_at}
+use Rattle.slaac.specs.Slaac.{Learnt}
 use Rattle.fragmentation.specs.Cuts.{Piece}
 use Rattle.iface_tables.specs.declared.route.Route.{Route}
 use Rattle.group_table.specs.declared.groups.Group.{Group}
@@ -50,6 +51,9 @@ pub record Host : Type 0 where
   pub groups : List Group  -- the multicast groups that it is in, is to be in or leaves, in the order in which they are walked
   pub igmp_report : IgmpReportState  -- what is to be reported of its IPv4 groups, and when
   pub mld_report : MldReportState  -- the same of its IPv6 groups
+  pub slaac_enabled : Bool  -- whether it takes IPv6 addresses from routers that advertise their prefixes
+  pub slaac : Learnt  -- the prefixes and routers that it learnt of, and how far its search for routers is
+  pub slaac_updated_at : ℤ  -- when its addresses and routes were last brought into line with those
   pub random : ℕ  -- the state of its source of random words
   pub sockets : SocketSet
 

@@ -8,7 +8,7 @@ use Rattle.ip_address.specs.Ipv6.{is_unicast}
 use Rattle.address_selection.specs.Ipv6.{source_v6}
 use Rattle.ipv6_wire.specs.declared.ipv6_packet.Ipv6Repr.{Ipv6Repr}
 use Rattle.icmpv6_wire.specs.declared.icmpv6.Icmpv6Repr.{Icmpv6Repr}
-use Rattle.icmpv6_wire.specs.declared.icmpv6.Icmpv6Repr.TheVariants.{EchoRequest, EchoReply, DstUnreachable, PktTooBig, TimeExceeded, ParamProblem, Ndisc, Mld}
+use Rattle.icmpv6_wire.specs.declared.icmpv6.Icmpv6Repr.TheVariants.{EchoRequest, EchoReply, DstUnreachable, PktTooBig, TimeExceeded, ParamProblem, Ndisc, Router, Mld}
 use Rattle.icmpv6_wire.specs.declared.icmpv6.Icmpv6DstUnreachable.TheVariants.{PortUnreachable}
 use Rattle.icmpv6_wire.specs.declared.icmpv6.Icmpv6ParamProblem.{Icmpv6ParamProblem}
 use Rattle.icmpv6_wire.specs.Icmpv6.{IsIcmpv6, icmpv6_in}
@@ -20,6 +20,7 @@ use Rattle.host_machine.specs.Packet.{Ipv6, Icmpv6}
 use Rattle.host_machine.specs.Reply.{Reply, Ip, IsDropped}
 use Rattle.host_machine.specs.Ndisc.{TakesNdisc}
 use Rattle.host_machine.specs.Reports.{TakesMld}
+use Rattle.host_machine.specs.Slaac.{taught, with_slaac}
 
 -- the address from which a message goes in reply to a packet: the packet's destination, if that is one host's, else the source for its
 -- sender (RFC 4443 2.2)
@@ -53,11 +54,12 @@ abbrev pub heard : Ipv6Repr → List ℕ → Host → Host
 heard r octets H = icmp.heard (Ipv6Message (icmpv6_in octets).0) (icmpv6_in octets).1 (address.Ipv6 r.src_addr) octets H
 
 -- what a message brings about: an echo request is answered with its identifier, its number and its data; one to a neighbour tells of a
--- neighbour, or asks for the host; a query asks for groups; nothing else does anything
+-- neighbour, or asks for the host; one of routers may teach prefixes and routers; a query asks for groups; nothing else does anything
 abbrev pub TakesMessage : Ipv6Repr → Icmpv6Repr → List ℕ → Host → Option Reply → List Note → Host → Type 0
 TakesMessage r (EchoRequest ident seq_no) octets H reply notes new =
     (reply ≡ Some (message_back H.ip_addrs r (EchoReply ident seq_no) octets)) × (notes ≡ []) × (new ≡ H)
 TakesMessage r (Ndisc message) octets H reply notes new = TakesNdisc r message H reply notes new
+TakesMessage r (Router message) octets H reply notes new = (reply ≡ None) × (notes ≡ []) × (new ≡ with_slaac H (taught message H r))
 TakesMessage r (Mld message) octets H reply notes new = TakesMld r message H reply notes new
 TakesMessage r (EchoReply ident seq_no) octets H reply notes new = IsDropped H reply notes new
 TakesMessage r (DstUnreachable reason header) octets H reply notes new = IsDropped H reply notes new

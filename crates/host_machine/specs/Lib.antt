@@ -22,6 +22,7 @@ pub mod Ipv6
 pub mod Ethernet
 pub mod Dispatch
 pub mod Reports
+pub mod Slaac
 pub mod Response
 pub mod Ingress
 pub mod Parts
@@ -47,5 +48,6 @@ pub mod ExampleSockets
 pub mod ExampleDiscovery
 pub mod ExampleGroups
 pub mod ExampleIpv6
+pub mod ExampleSlaac
 pub mod ExamplePolling
 pub mod ExampleFragments

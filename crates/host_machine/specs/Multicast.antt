@@ -1,6 +1,7 @@
 -- The multicast groups of a host (RFC 1112 7.1, RFC 2236 3, RFC 3810 6): which it is in, and what it reports of them to routers.
-use Rattle.std.specs.Prelude.{◌≡◌, ℕ, ◌/◌, ◌^◌, ◌==◌, ◌&&◌, not, Bool, true, false, List, [], ◌∷◌, ◌++◌, map, filter, length, Option, Some, None, Result, Ok, Err, if◌then◌else◌}
+use Rattle.std.specs.Prelude.{◌≡◌, ℕ, ◌/◌, ◌^◌, ◌==◌, ◌&&◌, not, Bool, true, false, List, [], ◌∷◌, ◌++◌, map, filter, length, Option, Some, None, Result, Ok, Err}
 use Rattle.std.specs.Option.{option_map}
+use Rattle.std.specs.FinMap as map
 use Rattle.net_base.specs.Device.{Event, Asked}
 use Rattle.ip_address.specs.declared.cidr.IpCidr.{IpCidr}
 use Rattle.ip_address.specs.declared.cidr.IpCidr.TheVariants as cidr
@@ -11,7 +12,7 @@ use Rattle.ip_address.specs.declared.ip.IpAddress.TheVariants.{Ipv4, Ipv6}
 use Rattle.ip_address.specs.declared.ipv4.Ipv4Address.{Ipv4Address}
 use Rattle.ip_address.specs.declared.ipv6.Ipv6Address.{Ipv6Address}
 use Rattle.ip_address.specs.Ip.{is_multicast}
-use Rattle.ip_address.specs.Ipv6.{is_link_local, solicited_node}
+use Rattle.ip_address.specs.Ipv6.{solicited_node}
 use Rattle.group_wire.specs.declared.igmp.IgmpRepr.{IgmpRepr}
 use Rattle.group_wire.specs.declared.igmp.IgmpRepr.TheVariants.{MembershipReport, LeaveGroup}
 use Rattle.group_wire.specs.declared.igmp.IgmpVersion.{IgmpVersion}
@@ -25,9 +26,10 @@ use Rattle.group_table.specs.declared.groups.GroupState.TheVariants.{Joining, Le
 use Rattle.group_table.specs.Groups.{first_in, is_refused, join_reported, joined, leave_reported, left}
 use Rattle.host_machine.specs.declared.results.MulticastError.{MulticastError}
 use Rattle.host_machine.specs.declared.results.MulticastError.TheVariants.{GroupTableFull, Unaddressable}
+use Rattle.iface_tables.specs.Neighbor.{Neighbors}
 use Rattle.host_machine.specs.Note.{Note}
 use Rattle.host_machine.specs.Host.{Host, with_groups}
-use Rattle.host_machine.specs.Addresses.{has_solicited_node, ipv4_addr}
+use Rattle.host_machine.specs.Addresses.{has_solicited_node, ipv4_addr, link_local_addr}
 use Rattle.host_machine.specs.Packet.{Packet, Igmp, Mld}
 use Rattle.host_machine.specs.Packet as packet
 use Rattle.host_machine.specs.Frame.{sends}
@@ -73,6 +75,14 @@ groups_for (hardware.Ethernet e) own groups =
     all_joined (all_left groups (filter (is_idle own) (map (λ (g : Group). g.addr) groups))) own
 groups_for hardware.Ip own groups = groups
 
+-- no neighbour is known; the silence stays
+abbrev pub flushed : Neighbors → Neighbors
+flushed n = record n { known = map.empty }
+
+-- the host at other addresses: no neighbour is known, and its solicited-node groups are those of the addresses
+abbrev pub moved : Host → List IpCidr → Host
+moved H list = record H { ip_addrs = list; neighbors = flushed H.neighbors; groups = groups_for H.hardware_addr list H.groups }
+
 -- a message of IGMP goes from the first own IPv4 address, if there is one, and no router passes it on (RFC 2236 2)
 abbrev pub igmp_packet : List IpCidr → Ipv4Address → IgmpRepr → Option Packet
 igmp_packet own dst message =
@@ -93,11 +103,14 @@ igmp_leave own group = igmp_packet own all_routers (LeaveGroup group)
 abbrev pub mld_routers : Ipv6Address
 mld_routers = record { bits = 0xff02_0000_0000_0000_0000_0000_0000_0016 }
 
+-- an address, or else ::
+abbrev pub or_unspecified : Option Ipv6Address → Ipv6Address
+or_unspecified (Some a) = a
+or_unspecified None = record { bits = 0 }
+
 -- the first own link-local address, else the unspecified one (RFC 3810 5.2.13)
 abbrev pub mld_source : List IpCidr → Ipv6Address
-mld_source [] = record { bits = 0 }
-mld_source (cidr.Ipv4 n ∷ own) = mld_source own
-mld_source (cidr.Ipv6 n ∷ own) = if is_link_local n.address then n.address else mld_source own
+mld_source own = or_unspecified (link_local_addr own)
 
 -- address records of a type, one for each group
 abbrev pub records_of : MldRecordType → List Ipv6Address → List ℕ

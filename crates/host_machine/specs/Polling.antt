@@ -8,6 +8,7 @@ use Rattle.host_machine.specs.declared.results.PollResult.{PollResult}
 use Rattle.host_machine.specs.declared.results.PollResult.TheVariants as result
 use Rattle.host_machine.specs.Note.{Note}
 use Rattle.host_machine.specs.Host.{Host, at, swept}
+use Rattle.host_machine.specs.Slaac.{synced}
 use Rattle.host_machine.specs.Parts.{Part}
 use Rattle.host_machine.specs.Ingress.{Ingress}
 use Rattle.host_machine.specs.Egress.{Egress, answer_of}
@@ -38,9 +39,9 @@ abbrev pub is_changed : PollResult → Bool
 is_changed result.None = false
 is_changed result.SocketStateChanged = true
 
--- the host after maintenance: slots that have ended are dropped
+-- the host after maintenance: slots that have ended are dropped, and addresses and routes are in line with what was learnt of routers
 abbrev pub maintained : Host → Host
-maintained H = swept H H.moment
+maintained H = synced (swept H H.moment)
 
 -- the calls that receive
 abbrev pub Receives : ℤ → ℕ → Bool → Part

@@ -4,6 +4,7 @@ ghost use Rattle.host_machine.specs.Arrivals.{FewAreKept, PiecesAreRebuilt, Piec
 ghost use Rattle.host_machine.specs.ExampleDiscovery.{NeighborIsSolicited};
 ghost use Rattle.host_machine.specs.ExampleIpv6 as ipv6;
 ghost use Rattle.host_machine.specs.ExampleGroups.{GroupsFollowAddresses, JoinsAreTold, LeaveIsTold, QueriesAreHeard, RefusalsAreApart};
+ghost use Rattle.host_machine.specs.ExampleSlaac.{AddressesFollowPrefixes, AdvertisementsAreLearnt, RoutersAreAsked};
 ghost use Rattle.host_machine.specs.ExampleFragments.{DatagramIsRebuilt, FragmentWaits, PacketGoesInPieces, TenAreCut, TimeoutsAreTested};
 ghost use Rattle.host_machine.specs.ExamplePolling.{RequestIsPolled, WaitIsDue};
 ghost use Rattle.host_machine.specs.ExampleSockets.{ConfigurationsAreTested, ConnectionIsReset, DatagramIsDelivered, DatagramIsRefused, ProtocolIsRefused, RawSocketHears, SocketWaits, WindowFitsBurst};
@@ -24,8 +25,9 @@ pub fn ingress_is_single()
     ensures { IngressIsSingle }
 {}
 
-/// Over Ethernet the ARP requests among the frames of a packet that is sent are exactly the discovery
-/// requests that are noted, on which the law of their distance rests.
+/// Over Ethernet the ARP requests and neighbour solicitations among the frames of a packet that is sent
+/// are as many as the discovery requests that are noted, on which the law of their distance rests. A
+/// packet that is itself one of ICMPv6 is left out.
 pub fn discoveries_are_noted()
     ensures { DiscoveriesAreNoted }
 {}
@@ -238,6 +240,22 @@ pub fn queries_are_heard()
 /// report of IGMP stays due, and one of MLD is given up.
 pub fn refusals_are_apart()
     ensures { RefusalsAreApart }
+{}
+
+/// A worked example: who takes addresses from routers asks them.
+pub fn routers_are_asked()
+    ensures { RoutersAreAsked }
+{}
+
+/// A worked example: what an advertisement teaches, and that one from behind a router, from elsewhere, or to
+/// a host that takes no addresses from routers teaches nothing.
+pub fn advertisements_are_learnt()
+    ensures { AdvertisementsAreLearnt }
+{}
+
+/// A worked example: addresses and routes follow what was learnt until its end.
+pub fn addresses_follow_prefixes()
+    ensures { AddressesFollowPrefixes }
 {}
 
 /// A worked example: the solicited-node groups of a host follow its addresses.

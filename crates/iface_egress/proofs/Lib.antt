@@ -3,3 +3,4 @@ mod Groups
 mod Records
 mod Reporting
 mod Turned
+mod Soliciting

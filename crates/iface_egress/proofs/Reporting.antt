@@ -34,10 +34,10 @@ none_mapped f (Some a) e = absurd cc
 pub without_address : (H : Host) (version : IgmpVersion) (group : Ipv4Address) (r : Option Packet) → option_map shown.packet r ≡ igmp_report H.ip_addrs version group → r ≡ None → ipv4_addr H.ip_addrs ≡ None
 without_address H version group r shows none = none_mapped _ (ipv4_addr H.ip_addrs) (ap (option_map shown.packet) (sym none) ∙ shows)
 
-none_is_some : {A B : Type 0} {x : A} → Some x ≡ None → B
+pub none_is_some : {A B : Type 0} {x : A} → Some x ≡ None → B
 none_is_some e = absurd cc
 
-true_is_false : {A : Type 0} {b : Bool} → b ≡ true → b ≡ false → A
+pub true_is_false : {A : Type 0} {b : Bool} → b ≡ true → b ≡ false → A
 true_is_false e f = absurd (let g = sym e ∙ f in cc)
 
 module _ {D : Type 0} {tells : D → List Event → D → Type 0} where

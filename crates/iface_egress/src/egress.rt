@@ -29,7 +29,7 @@ use ip_wire::emit::FrameBuffer;
 use ip_wire::{IpAddress, UdpRepr};
 use net_base::phy::Device;
 use net_base::time::Instant;
-use socket_set::SocketSet;
+use socket_set::{SocketSet, by_index};
 use sockets::{Offer, Socket, SocketContext, icmp, raw, udp};
 
 /// Sends the next of the pieces that are left of a packet that was cut, if one is left and the device
@@ -59,7 +59,7 @@ pub fn socket_egress<D: Device>(
     ensures { (slots : Slots) → Told D.tells device.old device.new (spec.SocketsSend (host_in context.old slots sockets.old) result) (host_in context.new slots sockets.new) }
 {
     let mut changed = false;
-    for index in 0..sockets.places() {
+    for index in 0..by_index::places(sockets) {
         let turn = serve(context, device, out, sockets, index);
         if turn.is_exhausted() {
             return changed;
@@ -86,7 +86,7 @@ fn serve<D: Device>(
     if !is_permitted(context, sockets, index) {
         return Turn::Idle;
     }
-    let Some(socket) = sockets.socket_mut(index) else {
+    let Some(socket) = by_index::socket_mut(sockets, index) else {
         return Turn::Idle;
     };
     let turn = give_turn(socket, context, device, out);
@@ -99,7 +99,8 @@ fn serve<D: Device>(
 fn is_permitted(context: &Context, sockets: &mut SocketSet<'_>, index: usize) -> bool
     ensures { IsDecided context.now sockets.old index result sockets.new }
 {
-    sockets.egress_permitted(
+    by_index::egress_permitted(
+        sockets,
         index,
         context.now(),
         |address: IpAddress| -> bool
@@ -114,7 +115,7 @@ fn keep_wait(sockets: &mut SocketSet<'_>, index: usize, now: Instant, turn: Turn
     ensures { sockets.new ≡ with_wait sockets.old index (spec.wait_after turn now (wait_at sockets.old index)) }
 {
     match turn {
-        Turn::Unsent(destination) => sockets.neighbor_missing(index, now, destination),
+        Turn::Unsent(destination) => by_index::neighbor_missing(sockets, index, now, destination),
         Turn::Idle | Turn::Gone | Turn::Exhausted => {}
     }
 }

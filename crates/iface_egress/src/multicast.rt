@@ -19,15 +19,14 @@ ghost use Rattle.iface_send.specs.Stands.{host_of};
 ghost use Rattle.iface_egress.specs.Multicast.{HasPart, IsOffered, IsToldOf};
 ghost use Rattle.iface_egress.specs.Told.{Told};
 
-use crate::transmit::send_frame;
+use crate::transmit::send_packet;
 use arrayvec::ArrayVec;
 use group_table::{Group, GroupState, IgmpReportState, MldReportState};
 use group_wire::{IgmpRepr, IgmpVersion, MldAddressRecordRepr, MldRecordType};
-use iface_send::dispatch::dispatch;
 use iface_send::multicast::{join_reported, leave_reported, set_igmp_report, set_mld_report};
 use iface_send::{Context, IpPayload, Packet, PacketV4, PacketV6};
 use ip_wire::emit::FrameBuffer;
-use ip_wire::{IpAddress, IpCidr, Ipv4Address, Ipv6Address};
+use ip_wire::{IpAddress, Ipv4Address, Ipv6Address};
 use net_base::phy::Device;
 use net_base::time::Instant;
 use sockets::SocketContext;
@@ -249,26 +248,6 @@ fn send_if_some<D: Device>(
     }
 }
 
-/// Sends a packet, if the device gives leave. Answers whether it did.
-fn send_packet<D: Device>(
-    context: &mut Context,
-    device: &mut D,
-    out: &mut FrameBuffer,
-    packet: &Packet<'_>,
-) -> bool
-    requires { IsWritable (shown.packet packet.now) }
-    ensures told { Told D.tells device.old device.new (HasPart (IsOffered (Some (shown.packet packet.now)) result) context.old) context.new }
-    ensures groups { (host_of context.new no_sockets).groups ≡ (host_of context.old no_sockets).groups }
-{
-    if !device.transmit(context.now()) {
-        return false;
-    }
-    out.clear();
-    let _ = dispatch(context, packet, out);
-    send_frame(device, out);
-    true
-}
-
 /// A message of IGMP from the first own IPv4 address, if there is one. No router passes it on (RFC 2236 2).
 fn igmp_packet(
     context: &Context,
@@ -309,7 +288,7 @@ fn mld_packet<'p>(context: &Context, count: u16, records: &'p [u8]) -> Packet<'p
     ensures writable { IsWritable (shown.packet result) }
 {
     Packet::Ipv6(PacketV6 {
-        src_addr: mld_source(context.ip_addrs()),
+        src_addr: mld_source(context),
         dst_addr: MLD_ROUTERS,
         hop_limit: 1,
         payload: IpPayload::Mld(count, records),
@@ -317,17 +296,13 @@ fn mld_packet<'p>(context: &Context, count: u16, records: &'p [u8]) -> Packet<'p
 }
 
 /// The first link-local address, else the unspecified one (RFC 3810 5.2.13).
-fn mld_source(own: &[IpCidr]) -> Ipv6Address
-    ensures { result ≡ spec.mld_source own.now }
+fn mld_source(context: &Context) -> Ipv6Address
+    ensures { result ≡ spec.mld_source (host_of context.now no_sockets).ip_addrs }
 {
-    for cidr in own {
-        if let IpCidr::Ipv6(cidr) = cidr {
-            if cidr.address.is_link_local() {
-                return cidr.address;
-            }
-        }
+    match context.link_local_addr() {
+        Some(address) => address,
+        None => Ipv6Address::UNSPECIFIED,
     }
-    Ipv6Address::UNSPECIFIED
 }
 
 /// Pushes the records of a report in answer to a query: of all IPv6 groups, or of the one that was asked

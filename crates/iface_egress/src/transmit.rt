@@ -1,9 +1,18 @@
-//! Handing frames to a device.
-ghost use Rattle.std.specs.Prelude.{◌≡◌, true};
+//! Handing frames to a device, and packets where it gives leave.
+ghost use Rattle.std.specs.Prelude.{◌≡◌, Some, true};
 ghost use Rattle.host_machine.specs.Frame.{frames_in, sends};
+ghost use Rattle.host_machine.specs.Host.{no_sockets};
+ghost use Rattle.host_machine.specs.Packet.{IsWritable};
+ghost use Rattle.iface_send.specs.Shown as shown;
+ghost use Rattle.iface_send.specs.Stands.{host_of};
+ghost use Rattle.iface_egress.specs.Multicast.{HasPart, IsOffered};
+ghost use Rattle.iface_egress.specs.Told.{Told};
 
+use iface_send::dispatch::dispatch;
+use iface_send::{Context, Packet};
 use ip_wire::emit::FrameBuffer;
 use net_base::phy::{Device, PacketMeta};
+use sockets::SocketContext;
 
 /// Sends the frame that a buffer holds, if it isn't empty. Leave to send a frame has to stand.
 #[inline(always)]
@@ -14,4 +23,24 @@ pub fn send_frame<D: Device>(device: &mut D, frame: &FrameBuffer)
     if !frame.is_empty() {
         device.send(PacketMeta::EMPTY, frame.as_slice());
     }
+}
+
+/// Sends a packet, if the device gives leave. Answers whether it did.
+pub(crate) fn send_packet<D: Device>(
+    context: &mut Context,
+    device: &mut D,
+    out: &mut FrameBuffer,
+    packet: &Packet<'_>,
+) -> bool
+    requires { IsWritable (shown.packet packet.now) }
+    ensures told { Told D.tells device.old device.new (HasPart (IsOffered (Some (shown.packet packet.now)) result) context.old) context.new }
+    ensures groups { (host_of context.new no_sockets).groups ≡ (host_of context.old no_sockets).groups }
+{
+    if !device.transmit(context.now()) {
+        return false;
+    }
+    out.clear();
+    let _ = dispatch(context, packet, out);
+    send_frame(device, out);
+    true
 }

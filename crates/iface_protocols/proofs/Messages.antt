@@ -6,15 +6,17 @@ use Rattle.ip_address.specs.declared.hardware.HardwareAddress.TheVariants as har
 use Rattle.ip_address.specs.declared.ipv6.Ipv6Address.{Ipv6Address}
 use Rattle.ipv6_wire.specs.declared.ipv6_packet.Ipv6Repr.{Ipv6Repr}
 use Rattle.icmpv6_wire.specs.declared.icmpv6.Icmpv6Repr.{Icmpv6Repr}
-use Rattle.icmpv6_wire.specs.declared.icmpv6.Icmpv6Repr.TheVariants.{EchoRequest, EchoReply, DstUnreachable, PktTooBig, TimeExceeded, ParamProblem, Ndisc, Mld}
+use Rattle.icmpv6_wire.specs.declared.icmpv6.Icmpv6Repr.TheVariants.{EchoRequest, EchoReply, DstUnreachable, PktTooBig, TimeExceeded, ParamProblem, Ndisc, Router, Mld}
 use Rattle.icmpv6_wire.specs.declared.ndisc.NdiscRepr.{NdiscRepr}
 use Rattle.icmpv6_wire.specs.declared.ndisc.NdiscRepr.TheVariants.{NeighborSolicit}
+use Rattle.icmpv6_wire.specs.declared.router.RouterRepr.{RouterRepr}
 use Rattle.group_wire.specs.declared.mld.MldRepr.{MldRepr}
 use Rattle.host_machine.specs.Note.{Note}
 use Rattle.host_machine.specs.Host.{Host}
 use Rattle.host_machine.specs.Reply.{Reply, Ip}
 use Rattle.host_machine.specs.Icmpv6.{TakesMessage, message_back}
 use Rattle.host_machine.specs.Reports.{TakesMld}
+use Rattle.host_machine.specs.Slaac.{taught, with_slaac}
 use Rattle.host_machine.specs.Ndisc.{TakesNdisc, HearsNeighbor, FromNeighbor, Learns, Solicited, advertisement_of, asks_for, tells_of_nobody, told_by}
 use Rattle.iface_protocols.proofs.Processing.{dropped}
 
@@ -28,6 +30,11 @@ pub to_neighbor : (r : Ipv6Repr) (message : Icmpv6Repr) (contents : List ℕ) (m
     TakesNdisc r m H reply notes K → TakesMessage r message contents H reply notes K
 to_neighbor r message contents m H K reply notes is takes = rw is takes
 
+-- one of routers may teach
+pub of_routers : (r : Ipv6Repr) (message : Icmpv6Repr) (contents : List ℕ) (m : RouterRepr) (H K : Host) → message ≡ Router m → K ≡ with_slaac H (taught m H r) →
+    TakesMessage r message contents H None [] K
+of_routers r message contents m H K is teaches = rw is (refl, refl, teaches)
+
 -- and one of groups
 pub of_groups : (r : Ipv6Repr) (message : Icmpv6Repr) (contents : List ℕ) (m : MldRepr) (H K : Host) (reply : Option Reply) (notes : List Note) → message ≡ Mld m →
     TakesMld r m H reply notes K → TakesMessage r message contents H reply notes K
@@ -35,15 +42,16 @@ of_groups r message contents m H K reply notes is takes = rw is takes
 
 -- nothing else does anything
 pub unheeded : (r : Ipv6Repr) (message : Icmpv6Repr) (contents : List ℕ) (H : Host) → ((ident seq_no : ℕ) → message ≡ EchoRequest ident seq_no → ⊥) →
-    ((m : NdiscRepr) → message ≡ Ndisc m → ⊥) → ((m : MldRepr) → message ≡ Mld m → ⊥) → TakesMessage r message contents H None [] H
-unheeded r (EchoRequest ident seq_no) contents H no_request no_neighbor no_groups = absurd (no_request ident seq_no refl)
-unheeded r (Ndisc m) contents H no_request no_neighbor no_groups = absurd (no_neighbor m refl)
-unheeded r (Mld m) contents H no_request no_neighbor no_groups = absurd (no_groups m refl)
-unheeded r (EchoReply ident seq_no) contents H no_request no_neighbor no_groups = dropped H
-unheeded r (DstUnreachable reason header) contents H no_request no_neighbor no_groups = dropped H
-unheeded r (PktTooBig mtu header) contents H no_request no_neighbor no_groups = dropped H
-unheeded r (TimeExceeded code header) contents H no_request no_neighbor no_groups = dropped H
-unheeded r (ParamProblem reason pointer header) contents H no_request no_neighbor no_groups = dropped H
+    ((m : NdiscRepr) → message ≡ Ndisc m → ⊥) → ((m : RouterRepr) → message ≡ Router m → ⊥) → ((m : MldRepr) → message ≡ Mld m → ⊥) → TakesMessage r message contents H None [] H
+unheeded r (EchoRequest ident seq_no) contents H no_request no_neighbor no_routers no_groups = absurd (no_request ident seq_no refl)
+unheeded r (Ndisc m) contents H no_request no_neighbor no_routers no_groups = absurd (no_neighbor m refl)
+unheeded r (Router m) contents H no_request no_neighbor no_routers no_groups = absurd (no_routers m refl)
+unheeded r (Mld m) contents H no_request no_neighbor no_routers no_groups = absurd (no_groups m refl)
+unheeded r (EchoReply ident seq_no) contents H no_request no_neighbor no_routers no_groups = dropped H
+unheeded r (DstUnreachable reason header) contents H no_request no_neighbor no_routers no_groups = dropped H
+unheeded r (PktTooBig mtu header) contents H no_request no_neighbor no_routers no_groups = dropped H
+unheeded r (TimeExceeded code header) contents H no_request no_neighbor no_routers no_groups = dropped H
+unheeded r (ParamProblem reason pointer header) contents H no_request no_neighbor no_routers no_groups = dropped H
 
 -- it counts on a link with hardware addresses, if no router passed it on
 pub from_neighbor : (own : EthernetAddress) (r : Ipv6Repr) (message m : NdiscRepr) (H K : Host) (reply : Option Reply) (notes : List Note) →

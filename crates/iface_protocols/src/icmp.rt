@@ -6,7 +6,7 @@ ghost use Rattle.host_machine.specs.Icmp.{accepts, delivered};
 
 use control_wire::IcmpRepr;
 use ip_wire::IpAddress;
-use socket_set::SocketSet;
+use socket_set::{SocketSet, by_index};
 use sockets::icmp;
 
 /// Hands a message, whole, with its sender, to each ICMP socket that takes it. `contents` are the octets
@@ -20,7 +20,7 @@ pub(crate) fn deliver(
 )
     ensures { sockets.new ≡ with_places sockets.old (to_each (accepts message.now contents.now) (delivered remote octets.now) sockets.old.places) }
 {
-    for index in 0..sockets.places() {
+    for index in 0..by_index::places(sockets) {
         deliver_at(sockets, index, remote, message, contents, octets);
     }
 }
@@ -37,7 +37,7 @@ fn deliver_at(
     ensures heard { sockets.new ≡ with_place sockets.old index (to_this (accepts message.now contents.now) (delivered remote octets.now) (socket_at sockets.old index)) }
     ensures len { length sockets.new.places ≡ length sockets.old.places }
 {
-    let Some(socket) = sockets.kind_mut::<icmp::Socket<'_>>(index) else {
+    let Some(socket) = by_index::kind_mut::<icmp::Socket<'_>, _>(sockets, index) else {
         return;
     };
     if socket.accepts(message, contents) {

@@ -11,6 +11,7 @@ ghost use Rattle.iface_protocols.specs.Processed.{Processed};
 use crate::icmp::deliver;
 use crate::mld::process_mld;
 use crate::ndisc::process_ndisc;
+use crate::router::process_router;
 use control_wire::IcmpRepr;
 use icmpv6_wire::{Icmpv6DstUnreachable, Icmpv6ParamProblem, Icmpv6Repr};
 use iface_send::dispatch::dispatch;
@@ -72,6 +73,7 @@ fn process_message(
             send_back(context, header, reply, contents, out);
         }
         Icmpv6Repr::Ndisc(message) => process_ndisc(context, header, message, out),
+        Icmpv6Repr::Router(message) => process_router(context, header, message),
         Icmpv6Repr::Mld(message) => process_mld(context, header, message),
         _ => {}
     }

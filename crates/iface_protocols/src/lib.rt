@@ -9,6 +9,7 @@ pub mod igmp;
 pub mod mld;
 pub mod ndisc;
 pub mod raw;
+pub mod router;
 pub mod tcp;
 pub mod udp;
 mod unreachable;

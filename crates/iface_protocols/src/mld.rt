@@ -34,13 +34,20 @@ pub fn process_mld(context: &mut Context, header: &Ipv6Repr, message: &MldRepr)
 fn process_query(context: &mut Context, header: &Ipv6Repr, max_resp_code: u16, group: &Ipv6Address)
     ensures { (slots : Slots) (sockets : SocketSet) → host_in context.new slots sockets ≡ spec.mld_asked (host_in context.old slots sockets) header.now max_resp_code group.now }
 {
-    if header.hop_limit != 1 || !header.src_addr.is_link_local() {
+    if !is_near(header) {
         return;
     }
     let delay = delay(context, max_resp_code);
     let timeout = context.now() + delay;
     let report = report_for(context, &header.dst_addr, timeout, group);
     set_mld_report(context, report);
+}
+
+/// Whether no router passed a packet on, and it comes from a link-local source (RFC 3810 5.1.14).
+fn is_near(header: &Ipv6Repr) -> bool
+    ensures { result ≡ spec.is_near header.now }
+{
+    header.hop_limit == 1 && header.src_addr.is_link_local()
 }
 
 /// For how long an answer is delayed: a random number of milliseconds below the code. The source of random

@@ -8,7 +8,7 @@ ghost use Rattle.iface_send.specs.Stands.{host_of};
 
 use iface_send::Context;
 use ip_wire::IpRepr;
-use socket_set::SocketSet;
+use socket_set::{SocketSet, by_index};
 use sockets::raw;
 
 /// Hands a packet, with its header as it is emitted, to each raw socket that takes it, and says
@@ -25,7 +25,7 @@ pub fn deliver(
 {
     let summed = context.capabilities().checksum.ipv4.tx();
     let mut taken = false;
-    for index in 0..sockets.places() {
+    for index in 0..by_index::places(sockets) {
         taken |= deliver_at(sockets, index, header, payload, summed);
     }
     taken
@@ -44,7 +44,7 @@ fn deliver_at(
     ensures heard { sockets.new ≡ with_place sockets.old index (to_this (takes header.now) (delivered summed header.now payload.now) (socket_at sockets.old index)) }
     ensures len { length sockets.new.places ≡ length sockets.old.places }
 {
-    let Some(socket) = sockets.kind_mut::<raw::Socket<'_>>(index) else {
+    let Some(socket) = by_index::kind_mut::<raw::Socket<'_>, _>(sockets, index) else {
         return false;
     };
     if !socket.accepts(header.version(), header.next_header()) {

@@ -14,7 +14,7 @@ use iface_send::dispatch::dispatch;
 use iface_send::{Context, IpPayload, Packet};
 use ip_wire::emit::FrameBuffer;
 use ip_wire::{IpRepr, TcpControl, TcpRepr};
-use socket_set::SocketSet;
+use socket_set::{SocketSet, by_index};
 use sockets::IpEndpoint;
 use sockets::tcp::{self, rst_reply};
 
@@ -100,7 +100,7 @@ fn deliver(
     ensures kept { result.0 ≡ false → sockets.new ≡ sockets.old }
     ensures waits { sockets.new ≡ with_places sockets.old sockets.new.places }
 {
-    for index in 0..sockets.places() {
+    for index in 0..by_index::places(sockets) {
         let (taken, answer) = deliver_at(sockets, index, header, repr, payload);
         if taken {
             return (true, answer);
@@ -133,7 +133,7 @@ fn deliver_at(
         addr: header.dst_addr(),
         port: repr.dst_port,
     };
-    let Some(socket) = sockets.kind_mut::<tcp::Socket<'_>>(index) else {
+    let Some(socket) = by_index::kind_mut::<tcp::Socket<'_>, _>(sockets, index) else {
         return (false, None);
     };
     if !socket.accepts(&source, &destination) {

@@ -12,7 +12,7 @@ use crate::unreachable::refuse_port;
 use iface_send::Context;
 use ip_wire::emit::FrameBuffer;
 use ip_wire::{IpRepr, UdpRepr};
-use socket_set::SocketSet;
+use socket_set::{SocketSet, by_index};
 use sockets::{IpEndpoint, udp};
 
 /// Takes the payload of a packet with this header as a UDP datagram (RFC 768): the first socket that
@@ -55,7 +55,7 @@ fn deliver(
     ensures kept { result ≡ false → sockets.new ≡ sockets.old }
     ensures waits { sockets.new ≡ with_places sockets.old sockets.new.places }
 {
-    for index in 0..sockets.places() {
+    for index in 0..by_index::places(sockets) {
         if deliver_at(context, sockets, index, header, ports, payload) {
             return true;
         }
@@ -77,7 +77,7 @@ fn deliver_at(
     ensures kept { result ≡ false → sockets.new ≡ sockets.old }
     ensures waits { sockets.new ≡ with_places sockets.old sockets.new.places }
 {
-    let Some(socket) = sockets.kind_mut::<udp::Socket<'_>>(index) else {
+    let Some(socket) = by_index::kind_mut::<udp::Socket<'_>, _>(sockets, index) else {
         return false;
     };
     if !socket.accepts(context, &header.dst_addr(), ports.dst_port) {

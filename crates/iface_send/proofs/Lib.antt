@@ -1,3 +1,4 @@
 mod Building
 mod Cutting
 mod Broadcasts
+mod Syncing

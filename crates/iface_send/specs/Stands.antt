@@ -33,6 +33,9 @@ host_of c sockets = record {
   groups = c.multicast.groups;
   igmp_report = c.multicast.igmp_report;
   mld_report = c.multicast.mld_report;
+  slaac_enabled = c.slaac_enabled;
+  slaac = c.slaac;
+  slaac_updated_at = c.slaac_updated_at;
   random = c.rand;
   sockets = sockets;
 }

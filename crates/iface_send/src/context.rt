@@ -18,14 +18,15 @@ use ip_wire::{HardwareAddress, IpAddress, IpCidr, Ipv4Address, Ipv6Address};
 use net_base::phy::{ChecksumCapabilities, DeviceCapabilities};
 use net_base::rand::Rand;
 use net_base::time::{Duration, Instant};
+use slaac::Slaac;
 use sockets::SocketContext;
 use sockets::endpoint::is_same_addr;
 
 /// How many addresses an interface has at most.
 pub const IFACE_MAX_ADDR_COUNT: usize = 4;
 
-/// What an interface knows: its device, its addresses, its routes, its neighbours, its groups, the moment,
-/// and what waits to be sent of a packet that was cut.
+/// What an interface knows: its device, its addresses, its routes, its neighbours, its groups, what routers
+/// advertised, the moment, and what waits to be sent of a packet that was cut.
 #[derive(Drop)]
 pub struct Context {
     pub(crate) capabilities: DeviceCapabilities,
@@ -39,6 +40,9 @@ pub struct Context {
     pub(crate) reassembly_timeout: Duration,
     pub(crate) fragmenter: Fragmenter,
     pub(crate) multicast: Membership,
+    pub(crate) slaac_enabled: bool,
+    pub(crate) slaac: Slaac,
+    pub(crate) slaac_updated_at: Instant,
     pub(crate) rand: Rand,
     pub ghost timely: { IsMoment moment },
     pub ghost short: { capabilities.max_transmission_unit ≤ 1514 },
@@ -224,6 +228,13 @@ impl Context {
         first_ipv4(self.ip_addrs.as_slice())
     }
 
+    /// The first own link-local address (RFC 4291 2.5.6).
+    pub fn link_local_addr(&self) -> Option<Ipv6Address>
+        ensures { result ≡ addresses.link_local_addr (host_of self.now no_sockets).ip_addrs }
+    {
+        first_link_local(self.ip_addrs.as_slice())
+    }
+
     /// The source for an IPv4 destination: the first own address whose network contains it, else
     /// the first own IPv4 address.
     pub fn get_source_address_ipv4(&self, dst_addr: &Ipv4Address) -> Option<Ipv4Address>
@@ -379,6 +390,20 @@ fn first_ipv4(own: &[IpCidr]) -> Option<Ipv4Address>
     for cidr in own {
         if let IpCidr::Ipv4(cidr) = cidr {
             return Some(cidr.address);
+        }
+    }
+    None
+}
+
+/// The first link-local address of a list.
+fn first_link_local(own: &[IpCidr]) -> Option<Ipv6Address>
+    ensures { result ≡ addresses.link_local_addr own.now }
+{
+    for cidr in own {
+        if let IpCidr::Ipv6(cidr) = cidr {
+            if cidr.address.is_link_local() {
+                return Some(cidr.address);
+            }
         }
     }
     None

@@ -2,6 +2,7 @@
 //! of sources, packets as values, and their dispatch to the next hop.
 #![tactic(auto)]
 
+pub mod autoconfiguration;
 pub mod context;
 pub mod dispatch;
 pub mod fragments;

@@ -82,7 +82,7 @@ impl IpPayload<'_> {
     /// Its length with the protocol's header, in octets.
     pub fn len(&self) -> usize
         ensures value { result ≡ value.payload_len (shown.payload self.now) }
-        ensures short { result < 2 ^ 63 + 48 }
+        ensures short { result < 2 ^ 63 + 56 }
     {
         match self {
             IpPayload::Icmpv4(message, octets) => message.header_len() + octets.len(),
@@ -286,6 +286,7 @@ impl Packet<'_> {
 
 /// Appends the payload of a packet with this header, up to the octets behind its protocol's header, with
 /// its checksum where that is on.
+#[inline(always)]
 pub fn emit_payload_header(
     header: &IpRepr,
     payload: &IpPayload<'_>,

@@ -5,9 +5,10 @@ ghost use Rattle.net_base.specs.Time.{IsMoment};
 ghost use Rattle.net_base.specs.Checksum.{ip_mtu_of};
 ghost use Rattle.ip_address.specs.Hardware.{IsOf, medium_of};
 ghost use Rattle.host_machine.specs.Host.{SocketSet, at, no_sockets};
-ghost use Rattle.host_machine.specs.Step.{moved};
+ghost use Rattle.host_machine.specs.Multicast.{moved};
 ghost use Rattle.group_table.specs.declared.report.IgmpReportState.TheVariants as igmp;
 ghost use Rattle.group_table.specs.declared.report.MldReportState.TheVariants as mld;
+ghost use Rattle.slaac.specs.Slaac.{nothing};
 ghost use Rattle.iface_send.specs.Stands.{host_of, with_routes};
 ghost use Rattle.std.specs.Borrow.{sem, Lends};
 ghost use Rattle.iface_tables.specs.contracts.route.Routes.{the_row as routes_row};
@@ -23,14 +24,16 @@ use ip_wire::{HardwareAddress, IpCidr};
 use net_base::phy::DeviceCapabilities;
 use net_base::rand::Rand;
 use net_base::time::{Duration, Instant};
+use slaac::Slaac;
 
 /// The context of an interface over a device with these capabilities: no address, no route, no
-/// neighbour, no group.
+/// neighbour, no group, and nothing learnt of routers, from which it takes addresses or doesn't.
 pub fn new(
     capabilities: DeviceCapabilities,
     hardware_addr: HardwareAddress,
     ipv4_id: u16,
     rand: Rand,
+    slaac: bool,
     now: Instant,
 ) -> Context
     requires timely { IsMoment now }
@@ -53,6 +56,9 @@ pub fn new(
       groups = [];
       igmp_report = igmp.Inactive;
       mld_report = mld.Inactive;
+      slaac_enabled = slaac;
+      slaac = nothing;
+      slaac_updated_at = pos 0;
       random = rand;
       sockets = sockets;
     } }
@@ -69,6 +75,9 @@ pub fn new(
         reassembly_timeout: Duration::from_secs(60),
         fragmenter: Fragmenter::new(),
         multicast: Membership::new(),
+        slaac_enabled: slaac,
+        slaac: Slaac::new(),
+        slaac_updated_at: Instant::ZERO,
         rand,
     }
 }

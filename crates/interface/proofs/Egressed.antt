@@ -11,6 +11,7 @@ use Rattle.host_machine.specs.Host.{Host, SocketSet, at}
 use Rattle.host_machine.specs.Parts.{Part, Both}
 use Rattle.host_machine.specs.Multicast.{TellsJoins, TellsLeaves}
 use Rattle.host_machine.specs.Reports.{SendsIgmpReport, SendsMldReport}
+use Rattle.host_machine.specs.Slaac.{SolicitsRouters}
 use Rattle.host_machine.specs.Egress.{SendsPiece, SocketsSend, Round, Egress, answer_of}
 use Rattle.iface_send.specs.declared.context.Context.{Context}
 use Rattle.iface_send.specs.Stands.{host_in}
@@ -43,12 +44,12 @@ module _ {D : Type 0} {tells : D → List Event → D → Type 0} (tells_on : (a
   over : {d e : D} (part : Part) (c c' : Context) (slots : Slots) (s : SocketSet) → Told tells d e (HasPart part c) c' → Told tells d e (part (host_in c slots s)) (host_in c' slots s)
   over part c c' slots s one = record { told = one.told; notes = one.notes; tells_it = one.tells_it; follows = one.follows slots s }
 
-  -- one call that sends at its moment: the pieces, the groups, the reports, and then the sockets
-  pub egressed : {d d1 d2 d3 d4 d5 e : D} (c c1 c2 c3 c4 c5 c6 : Context) (places : List (Assembly FragKey)) (s s' : SocketSet) (t : ℤ) (H : Host) (slots : Slots) (changed : Bool) (answer : PollResult) →
-      StandForSlots places slots → at H t ≡ host_in c slots s → Told tells d d1 (HasPart SendsPiece c) c1 → Told tells d1 d2 (HasPart TellsJoins c1) c2 → Told tells d2 d3 (HasPart TellsLeaves c2) c3 →
-      Told tells d3 d4 (HasPart SendsIgmpReport c3) c4 → Told tells d4 d5 (HasPart SendsMldReport c4) c5 → Told tells d5 e (SocketsSend (host_in c5 slots s) changed) (host_in c6 slots s') → answer ≡ answer_of changed →
-      Went tells d e (Egress t answer H) (StandsFor c6 places s')
-  egressed c c1 c2 c3 c4 c5 c6 places s s' t H slots changed answer stand same piece joins leaves igmp mld served answers =
+  -- one call that sends at its moment: the pieces, what is asked of routers, the groups, the reports, and then the sockets
+  pub egressed : {d d0 d1 d2 d3 d4 d5 e : D} (c c0 c1 c2 c3 c4 c5 c6 : Context) (places : List (Assembly FragKey)) (s s' : SocketSet) (t : ℤ) (H : Host) (slots : Slots) (changed : Bool) (answer : PollResult) →
+      StandForSlots places slots → at H t ≡ host_in c slots s → Told tells d d0 (HasPart SendsPiece c) c0 → Told tells d0 d1 (HasPart SolicitsRouters c0) c1 → Told tells d1 d2 (HasPart TellsJoins c1) c2 →
+      Told tells d2 d3 (HasPart TellsLeaves c2) c3 → Told tells d3 d4 (HasPart SendsIgmpReport c3) c4 → Told tells d4 d5 (HasPart SendsMldReport c4) c5 →
+      Told tells d5 e (SocketsSend (host_in c5 slots s) changed) (host_in c6 slots s') → answer ≡ answer_of changed → Went tells d e (Egress t answer H) (StandsFor c6 places s')
+  egressed c c0 c1 c2 c3 c4 c5 c6 places s s' t H slots changed answer stand same piece solicits joins leaves igmp mld served answers =
       let whole : Context → Host = λ c. host_in c slots s in
       let last : Part = λ old told notes new. SocketsSend old changed told notes new in
       let end : Host = host_in c6 slots s' in
@@ -56,7 +57,8 @@ module _ {D : Type 0} {tells : D → List Event → D → Type 0} (tells_on : (a
       let both_reports = both SendsIgmpReport (Both SendsMldReport last) (whole c3) (whole c4) end (over SendsIgmpReport c3 c4 slots s igmp) reports in
       let leaving = both TellsLeaves (Both SendsIgmpReport (Both SendsMldReport last)) (whole c2) (whole c3) end (over TellsLeaves c2 c3 slots s leaves) both_reports in
       let joining = both TellsJoins (Both TellsLeaves (Both SendsIgmpReport (Both SendsMldReport last))) (whole c1) (whole c2) end (over TellsJoins c1 c2 slots s joins) leaving in
-      let round = both SendsPiece (Both TellsJoins (Both TellsLeaves (Both SendsIgmpReport (Both SendsMldReport last)))) (whole c) (whole c1) end (over SendsPiece c c1 slots s piece) joining in record {
+      let soliciting = both SolicitsRouters (Both TellsJoins (Both TellsLeaves (Both SendsIgmpReport (Both SendsMldReport last)))) (whole c0) (whole c1) end (over SolicitsRouters c0 c1 slots s solicits) joining in
+      let round = both SendsPiece (Both SolicitsRouters (Both TellsJoins (Both TellsLeaves (Both SendsIgmpReport (Both SendsMldReport last))))) (whole c) (whole c0) end (over SendsPiece c c0 slots s piece) soliciting in record {
         told = round.told;
         notes = round.notes;
         host = host_in c6 slots s';

@@ -1,6 +1,6 @@
 -- How an interface begins, over plain variables.
 use Rattle.std.proofs.Common.{◌≡◌, ℕ, ◌≤◌, true, List, [], arith, None, ap, sym}
-use Rattle.std.specs.Prelude.{ℤ, false, pos}
+use Rattle.std.specs.Prelude.{ℤ, Bool, false, pos}
 use Rattle.std.specs.FinMap as map
 use Rattle.std.proofs.lemmas.Bool.Decides.{nat_tests}
 use Rattle.net_base.specs.declared.phy.DeviceCapabilities.{DeviceCapabilities}
@@ -17,6 +17,7 @@ use Rattle.host_machine.specs.Host.{SocketSet, with_slots}
 use Rattle.iface_send.specs.declared.context.Context.{Context}
 use Rattle.iface_send.specs.Stands.{host_of}
 use Rattle.iface_protocols.specs.Processed.{StandsFor}
+use Rattle.slaac.specs.Slaac.{nothing}
 use Rattle.host_machine.specs.Config.{refusal_of, same_medium, first_host, first_id}
 
 -- no reason to refuse holds
@@ -24,7 +25,7 @@ pub not_refused : (c : DeviceCapabilities) (h : HardwareAddress) → same_medium
 not_refused c h same unicast low high = rw (same, unicast) (grind (arith, nat_tests))
 
 -- the interface is made
-pub made : (c d : DeviceCapabilities) (h : HardwareAddress) (seed id random : ℕ) (t : ℤ) (context : Context) (places : List (Assembly FragKey)) → c ≡ d → id ≡ first_id seed → random ≡ next seed → refusal_of c h ≡ None →
+pub made : (c d : DeviceCapabilities) (h : HardwareAddress) (seed id random : ℕ) (slaac : Bool) (t : ℤ) (context : Context) (places : List (Assembly FragKey)) → c ≡ d → id ≡ first_id seed → random ≡ next seed → refusal_of c h ≡ None →
     StandForSlots places map.empty → ((sockets : SocketSet) → host_of context sockets ≡ record {
       capabilities = c;
       hardware_addr = h;
@@ -40,13 +41,16 @@ pub made : (c d : DeviceCapabilities) (h : HardwareAddress) (seed id random : �
       groups = [];
       igmp_report = igmp.Inactive;
       mld_report = mld.Inactive;
+      slaac_enabled = slaac;
+      slaac = nothing;
+      slaac_updated_at = pos 0;
       random = random;
       sockets = sockets;
     }) →
-    (refusal_of d h ≡ None) × ((sockets : SocketSet) → StandsFor context places sockets (first_host d h seed t sockets))
-made c d h seed id random t context places same is drawn allowed stand makes = (
+    (refusal_of d h ≡ None) × ((sockets : SocketSet) → StandsFor context places sockets (first_host d h seed slaac t sockets))
+made c d h seed id random slaac t context places same is drawn allowed stand makes = (
   rw (← same) allowed,
   λ sockets.
-      let begins : host_of context sockets ≡ first_host d h seed t sockets = rw (← same, ← is, ← drawn) (makes sockets) in
+      let begins : host_of context sockets ≡ first_host d h seed slaac t sockets = rw (← same, ← is, ← drawn) (makes sockets) in
       record { slots = map.empty; stand = stand; same = sym (ap (λ H. with_slots H map.empty) begins) },
 )

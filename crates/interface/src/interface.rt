@@ -17,10 +17,12 @@ use host_machine::{
     AddrError, HardwareError, MulticastError, NewError, PollIngressSingleResult, PollResult,
     TimeoutError,
 };
+use iface_egress::autoconfiguration::rs_egress;
 use iface_egress::egress::{ipv4_egress, socket_egress};
 use iface_egress::multicast::{igmp_egress, joins_egress, leaves_egress, mld_egress};
 use iface_egress::transmit::send_frame;
 use iface_receive::ethernet::process_frame;
+use iface_send::autoconfiguration::sync_slaac;
 use iface_send::context::IFACE_MAX_ADDR_COUNT;
 use iface_send::multicast::{join_group, leave_group};
 use iface_send::settings::{
@@ -112,7 +114,7 @@ impl Interface {
         requires { IsMoment now }
         ensures made { MatchResult result
             (λ interface. (refusal_of (D.capable device.old) config.hardware_addr ≡ None)
-            × ((sockets : SocketSet) → StandsFor interface sockets (first_host (D.capable device.old) config.hardware_addr config.random_seed now sockets)))
+            × ((sockets : SocketSet) → StandsFor interface sockets (first_host (D.capable device.old) config.hardware_addr config.random_seed config.slaac now sockets)))
             (λ error. refusal_of (D.capable device.old) config.hardware_addr ≡ Some error) }
         ensures device { device.new ≡ device.old }
     {
@@ -132,7 +134,14 @@ impl Interface {
         let mut rand = Rand::new(config.random_seed);
         let ipv4_id = first_id(&mut rand);
         Ok(Interface {
-            context: settings::new(capabilities, config.hardware_addr, ipv4_id, rand, now),
+            context: settings::new(
+                capabilities,
+                config.hardware_addr,
+                ipv4_id,
+                rand,
+                config.slaac,
+                now,
+            ),
             fragments: PacketAssemblerSet::new(),
             receive_buffer: [0; FRAME_BUFFER_SIZE],
             transmit_buffer: FrameBuffer::new(),
@@ -220,10 +229,10 @@ impl Interface {
 
     /// Whether an address is one of the interface's own: one that was given to it, or any with
     /// AnyIP.
-    pub fn has_ip_addr(&self, address: IpAddress) -> bool
-        ensures { (sockets : SocketSet) → result ≡ host.has_ip_addr (host_with self.now sockets) address }
+    pub fn has_ip_addr(&self, address: &IpAddress) -> bool
+        ensures { (sockets : SocketSet) → result ≡ host.has_ip_addr (host_with self.now sockets) address.now }
     {
-        self.context.has_ip_addr(&address)
+        self.context.has_ip_addr(address)
     }
 
     /// The source for a destination, by its family: as [`Interface::get_source_address_ipv4`] or
@@ -237,10 +246,10 @@ impl Interface {
     /// Whether the interface is a member of a group: of that of all hosts, 224.0.0.1 or ff02::1 (RFC
     /// 1112, RFC 4291 2.8), of the solicited-node group of an address of its own, or of one that it
     /// joined and hasn't left since.
-    pub fn has_multicast_group(&self, address: IpAddress) -> bool
-        ensures { (sockets : SocketSet) → result ≡ addresses.has_multicast_group (host_with self.now sockets) address }
+    pub fn has_multicast_group(&self, address: &IpAddress) -> bool
+        ensures { (sockets : SocketSet) → result ≡ addresses.has_multicast_group (host_with self.now sockets) address.now }
     {
-        self.context.has_multicast_group(&address)
+        self.context.has_multicast_group(address)
     }
 
     /// Joins a group: from now on packets to it are taken, and the next call that sends tells routers of it
@@ -285,6 +294,14 @@ impl Interface {
         ensures { Becomes self.old self.new (λ H. record H { any_ip = any_ip }) }
     {
         set_any_ip(&mut self.context, any_ip);
+    }
+
+    /// When the addresses and the routes were last brought into line with what routers advertised: at first
+    /// the origin.
+    pub fn slaac_updated_at(&self) -> Instant
+        ensures { (sockets : SocketSet) → result ≡ (host_with self.now sockets).slaac_updated_at }
+    {
+        self.context.slaac_updated_at()
     }
 
     /// For how long a slot for fragments stands that is taken from now on: at first 60 s (RFC 1122 3.3.2).
@@ -401,8 +418,8 @@ impl Interface {
         }
     }
 
-    /// Sets the moment, and sends in this order: the next piece of a packet that was cut, if one waits; what
-    /// tells routers of groups that were joined, and of those that are left; the next report that answers a
+    /// Sets the moment, and sends in this order: the next piece of a packet that was cut, if one waits; the
+    /// router solicitation that is due, if one is; what tells routers of groups that were joined, and of those that are left; the next report that answers a
     /// query of IGMP, and that which answers one of MLD, if they are due; and then what the sockets have to
     /// send, one packet of each in order. A refused leave to send ends the joins, the leaves or the sockets,
     /// each by itself; it keeps a report of IGMP, and gives up one of MLD. Answers whether a packet of a
@@ -419,6 +436,7 @@ impl Interface {
         set_moment(&mut self.context, timestamp);
         let buffer = &mut self.transmit_buffer;
         ipv4_egress(&mut self.context, device, buffer);
+        rs_egress(&mut self.context, device, buffer);
         joins_egress(&mut self.context, device, buffer);
         leaves_egress(&mut self.context, device, buffer);
         igmp_egress(&mut self.context, device, buffer);
@@ -446,12 +464,16 @@ impl Interface {
         poll_result(received | went)
     }
 
-    /// Sets the moment, and drops the fragments whose reassembly timeout has passed.
+    /// Sets the moment, drops the fragments whose reassembly timeout has passed, and brings the addresses and
+    /// the routes into line with what routers advertised, if something of that is new, was withdrawn or has
+    /// ended. That is a change of addresses: all neighbours are forgotten, and solicited-node groups left and
+    /// joined (RFC 4862 5.5.3, 5.5.4, RFC 4861 6.3.4).
     pub fn poll_maintenance(&mut self, timestamp: Instant)
         requires { IsMoment timestamp }
         ensures { Becomes self.old self.new (λ H. maintained (at H timestamp)) }
     {
         self.sweep(timestamp);
+        sync_slaac(&mut self.context);
     }
 
     // Sets the moment, and drops the slots that have ended.

@@ -14,5 +14,8 @@ pub use host_machine::{
     AddrError, Answer, Command, HardwareError, MulticastError, NewError, PollIngressSingleResult,
     PollResult, TimeoutError,
 };
-pub use iface_send::{Context, IpPayload, Packet, PacketV4};
+pub use iface_send::{Context, IpPayload, Packet, PacketV4, PacketV6};
+pub use iface_tables::neighbor::{Answer as NeighborAnswer, Cache as NeighborCache, Neighbor};
+pub use iface_tables::route::{Route, RouteTableFull, Routes};
 pub use interface::{Config, Interface};
+pub use socket_set::{AddError, Handles, Iter, Meta, SocketHandle, SocketSet, SocketStorage};

@@ -4,29 +4,33 @@ ghost use Rattle.fragmentation.specs.Slots.{Slots};
 ghost use Rattle.host_machine.specs.Host.{SocketSet, no_sockets};
 ghost use Rattle.host_machine.specs.Dispatch.{KnowsNextHop};
 ghost use Rattle.host_machine.specs.Due as spec;
-ghost use Rattle.host_machine.specs.Due.{Due, IsLeast, of_groups};
+ghost use Rattle.host_machine.specs.Due.{Due, IsLeast, of_groups, of_routers};
 ghost use Rattle.host_machine.specs.Egress.{answer_of};
 ghost use Rattle.iface_send.specs.Stands.{host_in, host_of};
 
 use group_table::GroupState;
 use host_machine::PollResult;
+use iface_egress::autoconfiguration::rs_poll_at;
 use iface_egress::multicast::{group_poll_at, igmp_poll_at, mld_poll_at};
 use iface_send::Context;
 use iface_send::dispatch::has_neighbor;
 use ip_wire::IpAddress;
 use net_base::time::Instant;
-use socket_set::SocketSet;
+use slaac::sooner;
+use socket_set::{SocketSet, by_index};
 use sockets::{PollAt, SocketContext};
 
-/// The least instant at which something is due, if anything is: at once a piece that waits and a group of
-/// which it is to be told, a report at its time, and a socket at its own instant or at the end of its wait.
+/// The least instant at which something is due, if anything is: at once a piece that waits, a group of which
+/// it is to be told, and addresses and routes that are to be brought into line; a router solicitation and a
+/// report at its time, and the end of what routers advertised; and a socket at its own instant or at the end of its wait.
 pub fn poll_at(context: &Context, sockets: &SocketSet<'_>) -> Option<Instant>
     ensures { (slots : Slots) → IsLeast (Due (host_in context.now slots sockets.now)) result }
 {
     let now = context.now();
     let mut least = None;
-    for index in 0..sockets.places() {
-        let own = sockets.poll_at(
+    for index in 0..by_index::places(sockets) {
+        let own = by_index::poll_at(
+            sockets,
             index,
             now,
             |address: IpAddress| -> bool
@@ -35,7 +39,8 @@ pub fn poll_at(context: &Context, sockets: &SocketSet<'_>) -> Option<Instant>
         );
         least = sooner(least, instant_of(own));
     }
-    sooner(piece_poll_at(context), groups_poll_at(context, least))
+    let of_routers = routers_poll_at(context, groups_poll_at(context, least));
+    sooner(piece_poll_at(context), of_routers)
 }
 
 /// The sooner of an instant and of those at which something is to be told of groups.
@@ -45,6 +50,28 @@ fn groups_poll_at(context: &Context, other: Option<Instant>) -> Option<Instant>
     let reports = sooner(igmp_poll_at(context), sooner(mld_poll_at(context), other));
     let leaves = sooner(group_poll_at(context, GroupState::Leaving), reports);
     sooner(group_poll_at(context, GroupState::Joining), leaves)
+}
+
+/// The sooner of an instant and of those at which something is due of routers: at once where addresses and
+/// routes aren't in line with what they advertised; the next solicitation; and the ends of what they
+/// advertised.
+fn routers_poll_at(context: &Context, other: Option<Instant>) -> Option<Instant>
+    ensures { result ≡ of_routers (host_of context.now no_sockets) other }
+{
+    let ends = sooner(context.slaac().end_at(context.now()), other);
+    sooner(sync_poll_at(context), sooner(rs_poll_at(context), ends))
+}
+
+/// The instant at which addresses and routes are to be brought into line with what routers advertised: at
+/// once, where they aren't.
+fn sync_poll_at(context: &Context) -> Option<Instant>
+    ensures { result ≡ spec.sync_instant (host_of context.now no_sockets) }
+{
+    if context.slaac().sync_required(context.now()) {
+        Some(Instant::ZERO)
+    } else {
+        None
+    }
 }
 
 /// The instant at which a piece that waits is due, if one waits: at once.
@@ -66,23 +93,6 @@ const fn instant_of(own: PollAt) -> Option<Instant>
         PollAt::Now => Some(Instant::ZERO),
         PollAt::Time(instant) => Some(instant),
         PollAt::Ingress => None,
-    }
-}
-
-/// The sooner of two instants.
-fn sooner(a: Option<Instant>, b: Option<Instant>) -> Option<Instant>
-    ensures { result ≡ spec.sooner a b }
-{
-    let Some(first) = a else {
-        return b;
-    };
-    let Some(second) = b else {
-        return a;
-    };
-    if second < first {
-        Some(second)
-    } else {
-        Some(first)
     }
 }
 

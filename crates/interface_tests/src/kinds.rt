@@ -20,6 +20,7 @@ use crate::frames::frame;
 use crate::test_host::Host;
 use crate::words::{Words, any_address, count, end, moment, number, octet, short};
 use ip_wire::{IpProtocol, IpVersion, TcpControl, TcpSeqNumber};
+use socket_set::by_index;
 use sockets::queue::{NoMemory, Queue};
 use sockets::tcp::Segment;
 use sockets::{IpListenEndpoint, PollAt, SocketOf, icmp, raw, tcp, udp};
@@ -131,10 +132,10 @@ impl Host {
     // A socket gets something to send.
     fn send(&mut self, call: &mut Words<'_>) -> Option<()> {
         let index = count(call.next()?)?;
-        match self.sockets.socket_mut(index)? {
+        match by_index::socket_mut(&mut self.sockets, index)? {
             SocketOf::Udp(socket) => send_udp(socket, call),
             SocketOf::Icmp(socket) => send_icmp(socket, call),
-            SocketOf::Raw(socket) => socket.send(frame(call.next()?)?.as_slice()).ok(),
+            SocketOf::Raw(socket) => socket.send((), frame(call.next()?)?.as_slice()).ok(),
             SocketOf::Tcp(_) => None,
         }
     }
@@ -142,7 +143,7 @@ impl Host {
     // A TCP socket sends nothing before a moment.
     fn hold(&mut self, index: &str, timestamp: &str) -> Option<()> {
         let timestamp = moment(timestamp)?;
-        match self.sockets.socket_mut(count(index)?)? {
+        match by_index::socket_mut(&mut self.sockets, count(index)?)? {
             SocketOf::Tcp(socket) => {
                 socket.hold_until(timestamp);
                 Some(())
@@ -153,7 +154,7 @@ impl Host {
 
     // A TCP socket gives up.
     fn abort(&mut self, index: &str) -> Option<()> {
-        match self.sockets.socket_mut(count(index)?)? {
+        match by_index::socket_mut(&mut self.sockets, count(index)?)? {
             SocketOf::Tcp(socket) => {
                 socket.abort();
                 Some(())
@@ -164,7 +165,7 @@ impl Host {
 
     // A UDP socket drops what came to it first.
     fn drop_first(&mut self, index: &str) -> Option<()> {
-        match self.sockets.socket_mut(count(index)?)? {
+        match by_index::socket_mut(&mut self.sockets, count(index)?)? {
             SocketOf::Udp(socket) => {
                 socket.done();
                 Some(())
@@ -180,13 +181,13 @@ impl Host {
             "Ingress" => PollAt::Ingress,
             _ => PollAt::Time(moment(word)?),
         };
-        let socket = self.sockets.socket_mut(count(index)?)?;
+        let socket = by_index::socket_mut(&mut self.sockets, count(index)?)?;
         Some(socket.poll_at() == poll_at)
     }
 
     // Whether that came to a socket first which the outcome tells.
     fn hears(&mut self, index: &str, outcome: &mut Words<'_>) -> Option<bool> {
-        match self.sockets.socket_mut(count(index)?)? {
+        match by_index::socket_mut(&mut self.sockets, count(index)?)? {
             SocketOf::Udp(socket) => udp_hears(socket, outcome),
             SocketOf::Icmp(socket) => icmp_hears(socket, outcome),
             SocketOf::Raw(socket) => raw_hears(socket, outcome),

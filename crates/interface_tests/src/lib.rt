@@ -2,6 +2,8 @@
 #![tactic(auto)]
 
 #[cfg(test)]
+mod autoconfiguration;
+#[cfg(test)]
 mod commands;
 #[cfg(test)]
 mod fragments;

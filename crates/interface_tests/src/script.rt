@@ -15,6 +15,10 @@
 //! | `source? ADDR` `= ADDR` | from which address it sends to this IPv6 destination |
 //! | `join GROUP` `= ok`, `GroupTableFull`, `Unaddressable` | it joins this group |
 //! | `leave GROUP` `= ok`, `Unaddressable` | it leaves this group |
+//! | `slaac [ip]` | the host is made anew, to take addresses from routers, on Ethernet or without hardware addresses |
+//! | `phase?` `= PHASE COUNT` | how far its search for routers is, and how many solicitations may still go |
+//! | `slaac_at T` `= T`, `none` | when something is to be done of what it learnt from routers |
+//! | `synced?` `= T` | when its addresses and routes were last brought into line with that |
 //! | `anyip` | it takes every address for its own |
 //! | `hardware HARDWARE` | it gets this hardware address |
 //! | `hardware?` `= HARDWARE`, `none` | it has this one |
@@ -36,9 +40,10 @@
 ghost use Rattle.host_machine.specs.Step.{IsTimely};
 
 use crate::frames::{Octets, frame};
-use crate::test_host::{ETHERNET, Host, OWN};
+use crate::test_host::{ETHERNET, Host, IP, OWN};
 use crate::words::{
-    Words, address_v6, any_address, count, hardware, medium, moment, networks, number, routes, wide,
+    Words, address_v6, any_address, count, hardware, medium, moment, networks, number, octet,
+    routes, wide,
 };
 use host_machine::TimeoutError;
 use iface_tables::route::{Route, RouteTableFull};
@@ -46,9 +51,10 @@ use interface::{
     AddrError, Answer, Command, HardwareError, MulticastError, NewError, PollIngressSingleResult,
     PollResult,
 };
-use ip_wire::IpAddress;
+use ip_wire::{HardwareAddress, IpAddress};
 use net_base::phy::{ChecksumCapabilities, Device, DeviceCapabilities};
-use net_base::time::Duration;
+use net_base::time::{Duration, Instant};
+use slaac::Phase;
 use std::alloc::Global;
 use std::process::Abort;
 
@@ -225,11 +231,11 @@ impl Host {
             "addr?" => Some(self.interface.ip_addrs() == networks(outcome)?.as_slice()),
             "own?" => {
                 let addr = any_address(call.next()?)?;
-                Some(is_told(self.interface.has_ip_addr(addr), outcome.next()?))
+                Some(is_told(self.interface.has_ip_addr(&addr), outcome.next()?))
             }
             "member?" => {
                 let addr = any_address(call.next()?)?;
-                let is_member = self.interface.has_multicast_group(addr);
+                let is_member = self.interface.has_multicast_group(&addr);
                 Some(is_told(is_member, outcome.next()?))
             }
             "source?" => {
@@ -261,6 +267,38 @@ impl Host {
                 let timeout = Duration::from_micros(wide(outcome.next()?)?);
                 Some(self.interface.reassembly_timeout() == timeout)
             }
+            _ => self.learns(word, call, outcome),
+        }
+    }
+
+    // The same for what is learnt from routers.
+    fn learns(
+        &mut self,
+        word: &str,
+        call: &mut Words<'_>,
+        outcome: &mut Words<'_>,
+    ) -> Option<bool> {
+        match word {
+            "slaac" => {
+                let made = match call.next() {
+                    Some("ip") => Host::with_slaac(self.alloc, HardwareAddress::Ip, IP),
+                    Some(_) => return None,
+                    None => Host::with_slaac(self.alloc, OWN, ETHERNET),
+                };
+                *self = made.ok()?;
+                is_ok(outcome)
+            }
+            "phase?" => {
+                let slaac = self.interface.context().slaac();
+                let is_so = phase_text(slaac.phase()) == outcome.next()?;
+                Some(is_so && slaac.num_solicitations() == octet(outcome.next()?)?)
+            }
+            "slaac_at" => {
+                let timestamp = moment(call.next()?)?;
+                let instant = instant(outcome.next()?)?;
+                Some(self.interface.context().slaac().poll_at(timestamp) == instant)
+            }
+            "synced?" => Some(self.interface.slaac_updated_at() == moment(outcome.next()?)?),
             _ => self.polls(word, call, outcome),
         }
     }
@@ -370,10 +408,7 @@ impl Host {
 
     // Whether it has to be polled again at the instant that the word says.
     fn is_due_at(&mut self, timestamp: &str, word: &str) -> Option<bool> {
-        let instant = match word {
-            "none" => None,
-            _ => Some(moment(word)?),
-        };
+        let instant = instant(word)?;
         let answer = self.run(Command::PollAt(moment(timestamp)?));
         Some(answer == Answer::PollAt(instant))
     }
@@ -399,6 +434,24 @@ impl Host {
             None => Some(word == "none"),
             Some(octets) => Some(word != "none" && octets == frame(word)?.as_slice()),
         }
+    }
+}
+
+// An instant, or `none`.
+fn instant(word: &str) -> Option<Option<Instant>> {
+    match word {
+        "none" => Some(None),
+        _ => Some(Some(moment(word)?)),
+    }
+}
+
+// How far a search for routers is.
+fn phase_text(phase: Phase) -> &'static str {
+    match phase {
+        Phase::Start => "start",
+        Phase::Discovering => "discovering",
+        Phase::Maintaining => "maintaining",
+        Phase::None => "none",
     }
 }
 

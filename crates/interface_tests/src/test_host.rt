@@ -29,6 +29,14 @@ pub const ETHERNET: DeviceCapabilities = DeviceCapabilities {
     checksum: ChecksumCapabilities::ALL,
 };
 
+/// A device without hardware addresses, for packets of up to 1500 octets.
+pub const IP: DeviceCapabilities = DeviceCapabilities {
+    medium: Medium::Ip,
+    max_transmission_unit: 1500,
+    max_burst_size: None,
+    checksum: ChecksumCapabilities::ALL,
+};
+
 /// An owner that leaves the sockets alone, and keeps the number of its last turn.
 #[derive(Drop)]
 pub struct Idle {
@@ -81,10 +89,31 @@ impl Host {
         hardware_addr: HardwareAddress,
         capabilities: DeviceCapabilities,
     ) -> Result<Host, NewError> {
+        Host::with_config(alloc, Config::new(hardware_addr), capabilities)
+    }
+
+    /// A host that takes addresses from routers.
+    pub fn with_slaac(
+        alloc: Global,
+        hardware_addr: HardwareAddress,
+        capabilities: DeviceCapabilities,
+    ) -> Result<Host, NewError> {
+        let config = Config {
+            slaac: true,
+            ..Config::new(hardware_addr)
+        };
+        Host::with_config(alloc, config, capabilities)
+    }
+
+    fn with_config(
+        alloc: Global,
+        config: Config,
+        capabilities: DeviceCapabilities,
+    ) -> Result<Host, NewError> {
         let mut device = MemoryDevice::new(alloc, capabilities);
         let config = Config {
             random_seed: SEED,
-            ..Config::new(hardware_addr)
+            ..config
         };
         let interface = Interface::new(config, &mut device, Instant::ZERO)?;
         Ok(Host {

@@ -26,7 +26,7 @@ returns c = record {
       notes_one = [];
       notes_two = [];
       begins = NoLeave (piece_of example.datagram example.two) [] refl refl refl refl;
-      ends = no_groups refl refl refl refl (Whole Begins);
+      ends = no_groups refl refl refl refl refl (Whole Begins);
       events = refl;
       all_notes = refl;
     };
@@ -41,7 +41,7 @@ returns c = record {
       notes_one = OfCuts (PieceSent (piece_of example.datagram example.two)) ∷ [];
       notes_two = [];
       begins = PieceGoes (piece_of example.datagram example.two) [] refl refl refl refl;
-      ends = no_groups refl refl refl refl (Whole Begins);
+      ends = no_groups refl refl refl refl refl (Whole Begins);
       events = refl;
       all_notes = refl;
     };

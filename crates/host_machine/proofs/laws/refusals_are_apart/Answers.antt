@@ -2,6 +2,7 @@ use Rattle.std.proofs.Common.{refl}
 use Rattle.host_machine.specs.Egress.{NoPiece, Begins, Whole}
 use Rattle.host_machine.specs.Multicast as groups
 use Rattle.host_machine.specs.Reports as reports
+use Rattle.host_machine.specs.Slaac as slaac
 use Rattle.host_machine.specs.ExampleGroups.{busy}
 use Rattle.host_machine.proofs.laws.refusals_are_apart.Goals as goal
 
@@ -19,7 +20,7 @@ returns c = record {
     told_two = _;
     notes_one = _;
     notes_two = _;
-    begins = groups.UpToRefusal (groups.Refused _ _ groups.Begins refl refl);
+    begins = slaac.NoLeave _ refl refl refl refl;
     ends = record {
       mid = busy;
       told_one = _;
@@ -33,15 +34,25 @@ returns c = record {
         told_two = _;
         notes_one = _;
         notes_two = _;
-        begins = reports.NoLeave _ refl refl refl refl refl;
+        begins = groups.UpToRefusal (groups.Refused _ _ groups.Begins refl refl);
         ends = record {
-          mid = _;
+          mid = busy;
           told_one = _;
           told_two = _;
           notes_one = _;
           notes_two = _;
-          begins = reports.GivenUp refl refl refl refl;
-          ends = Whole Begins;
+          begins = reports.NoLeave _ refl refl refl refl refl;
+          ends = record {
+            mid = _;
+            told_one = _;
+            told_two = _;
+            notes_one = _;
+            notes_two = _;
+            begins = reports.GivenUp refl refl refl refl;
+            ends = Whole Begins;
+            events = refl;
+            all_notes = refl;
+          };
           events = refl;
           all_notes = refl;
         };

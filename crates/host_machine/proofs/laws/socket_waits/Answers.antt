@@ -19,7 +19,7 @@ unfolding ipv4_over_ethernet
 returns c = record {
   asked = record {
     changed = false;
-    round = no_piece refl refl refl refl refl (Whole (Goes (Unsent example.sender) _ _ _ Begins
+    round = no_piece refl refl refl refl refl refl (Whole (Goes (Unsent example.sender) _ _ _ Begins
         (Served (kind.Udp sending) (kind.Udp sending) false (with_sending None (pos 0) 0x1406 (pos 1000000)) refl tt refl
         (Sent (Ipv4 (record { src_addr = record { bits = 0xc0a84501 }; dst_addr = record { bits = 0xc0a84564 }; hop_limit = 64; payload = Udp (record { src_port = 6969; dst_port = 5000 }) (0x68 ∷ 0x69 ∷ []) }))
         (Err NeighborPending) (example.discovery ∷ []) refl
@@ -32,14 +32,14 @@ returns c = record {
   };
   waits = record {
     changed = false;
-    round = no_piece refl refl refl refl refl (Whole (Goes Idle _ _ _ Begins
+    round = no_piece refl refl refl refl refl refl (Whole (Goes Idle _ _ _ Begins
         (Waits (kind.Udp sending) false refl (OfHost (Some example.sender) refl (OnLink refl refl) (rw is_silent refl)) refl refl refl refl refl)
         refl));
     answers = refl;
   };
   asked_again = record {
     changed = false;
-    round = no_piece refl refl refl refl refl (Whole (Goes (Unsent example.sender) _ _ _ Begins
+    round = no_piece refl refl refl refl refl refl (Whole (Goes (Unsent example.sender) _ _ _ Begins
         (Served (kind.Udp sending) (kind.Udp sending) false (with_sending (Some (example.sender, pos 1000000)) (pos 1000000) 0x1407 (pos 2000000)) refl
         (OfHost (Some example.sender) refl (OnLink refl refl) (rw is_unknown_later refl)) refl
         (Sent (Ipv4 (record { src_addr = record { bits = 0xc0a84501 }; dst_addr = record { bits = 0xc0a84564 }; hop_limit = 64; payload = Udp (record { src_port = 6969; dst_port = 5000 }) (0x68 ∷ 0x69 ∷ []) }))

@@ -9,7 +9,7 @@ use Rattle.wire_base.specs.Checksum.{word_sum}
 use Rattle.wire_base.specs.Pseudo.{pseudo}
 use Rattle.ipv6_wire.specs.Ipv6Packet.{header_text, address_at, address_text}
 use Rattle.icmpv6_wire.specs.Icmpv6.{Neighbor as Message, head_with}
-use Rattle.icmpv6_wire.specs.NdiscOption.{IsOption, lladdr_text, last_lladdr, options_from}
+use Rattle.icmpv6_wire.specs.NdiscOption.{IsOption, lladdr_text, last_of, options_from}
 use Rattle.iface_tables.specs.declared.neighbor.Neighbor.{Neighbor}
 use Rattle.ip_address.specs.declared.protocol.IpProtocol.TheVariants as protocol
 use Rattle.host_machine.specs.Reply.{Ip}
@@ -25,7 +25,7 @@ use Rattle.host_machine.proofs.Exchange.{is_learnt_v6, no_slots}
 use Rattle.host_machine.proofs.laws.solicitation_is_answered.Goals as goal
 
 pub returns : goal.returns
-unfolding word_sum pseudo header_text address_text address_at head_with lladdr_text last_lladdr options_from bits
+unfolding word_sum pseudo header_text address_text address_at head_with lladdr_text last_of options_from bits
 returns c = record {
   reception = Frame solicitation;
   frames = advertisement ∷ [];

@@ -1,7 +1,7 @@
 use Rattle.std.proofs.Common.{refl}
 use Rattle.iface_send.specs.Stands.{host_in}
 use Rattle.iface_protocols.proofs.Processing.{answered, by_rule, unanswered}
-use Rattle.iface_protocols.proofs.Messages.{echoed, of_groups, to_neighbor, unheeded}
+use Rattle.iface_protocols.proofs.Messages.{echoed, of_groups, of_routers, to_neighbor, unheeded}
 use Rattle.iface_protocols.proofs.icmpv6.process_message.Goals as goal
 
 pub returns-in-EchoRequest : goal.returns-in-EchoRequest
@@ -13,6 +13,11 @@ returns-in-Ndisc c = λ sockets.
     by_rule (c.process_ndisc.ensures sockets) (λ slots reply notes taken takes. to_neighbor c.args.header.now c.args.message.now c.args.contents.now _ (host_in c.args.context.now slots sockets) taken reply notes
     c.in-Ndisc.is takes)
 
+pub returns-in-Router : goal.returns-in-Router
+returns-in-Router c = λ sockets.
+    unanswered c.requires.empty (λ slots. of_routers c.args.header.now c.args.message.now c.args.contents.now _ (host_in c.args.context.now slots sockets) (host_in c.process_router.new.context slots sockets)
+    c.in-Router.is (c.process_router.ensures slots sockets))
+
 pub returns-in-Mld : goal.returns-in-Mld
 returns-in-Mld c = λ sockets.
     unanswered c.requires.empty (λ slots. of_groups c.args.header.now c.args.message.now c.args.contents.now _ (host_in c.args.context.now slots sockets) (host_in c.process_mld.new.context slots sockets) _ _
@@ -20,4 +25,4 @@ returns-in-Mld c = λ sockets.
 
 pub returns-in_default : goal.returns-in_default
 returns-in_default c = λ sockets.
-    unanswered c.requires.empty (λ slots. unheeded c.args.header.now c.args.message.now c.args.contents.now (host_in c.args.context.now slots sockets) c.in_default.not-EchoRequest c.in_default.not-Ndisc c.in_default.not-Mld)
+    unanswered c.requires.empty (λ slots. unheeded c.args.header.now c.args.message.now c.args.contents.now (host_in c.args.context.now slots sockets) c.in_default.not-EchoRequest c.in_default.not-Ndisc c.in_default.not-Router c.in_default.not-Mld)

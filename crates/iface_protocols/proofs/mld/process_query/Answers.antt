@@ -1,6 +1,5 @@
 use Rattle.std.proofs.Common.{◌≡◌, ap, sym, ◌∙◌}
 use Rattle.std.specs.Prelude.{ℤ, pos, ◌+ℤ◌}
-use Rattle.std.proofs.lemmas.Bool.{eq-eqb}
 use Rattle.group_table.specs.declared.report.MldReportState.{MldReportState}
 use Rattle.host_machine.specs.Host.{Host, no_sockets, with_slots}
 use Rattle.host_machine.specs.Reports.{delay, drawn, mld_report_for, with_mld_report}
@@ -19,7 +18,7 @@ returns c = λ slots sockets.
     let report : c.report_for-report.result ≡ mld_report_for (host_in old slots sockets) dst (old.moment +ℤ pos (delay code old.rand)) group =
     c.report_for-report.ensures ∙ ap (λ (H : Host). mld_report_for H dst c.add-timeout.result group) (c.delay-delay.ensures.drawn no_sockets)
     ∙ ap (λ (t : ℤ). mld_report_for (host_in old slots sockets) dst t group) timeout in
-    from_near c.args.header.now code group (host_in old slots sockets) (host_in c.set_mld_report.new.context slots sockets) (eq-eqb c.args.header.now.hop_limit 1 c.if-header-ne1.false)
-    (sym c.is_link_local.ensures ∙ c.if-not-is_link_local.false)
+    from_near c.args.header.now code group (host_in old slots sockets) (host_in c.set_mld_report.new.context slots sockets)
+    (sym c.is_near.ensures ∙ c.if-not-is_near.false)
     (ap (λ H. with_slots H slots) (c.set_mld_report.ensures sockets) ∙ ap (λ (H : Host). with_slots (with_mld_report H c.report_for-report.result) slots) (c.delay-delay.ensures.drawn sockets)
     ∙ ap (λ (r : MldReportState). with_slots (with_mld_report (record (host_of old sockets) { random = drawn code old.rand }) r) slots) report)

@@ -17,4 +17,4 @@ loop-index-preserved c = λ slots.
 pub returns : goal.returns
 returns c = λ slots.
     let all : c.loop-index.index ≡ length c.args.sockets.now.places = omega arith in
-    rw (c.sooner.ensures, c.piece_poll_at.ensures, c.groups_poll_at.ensures) (due_least (host_in c.args.context.now slots c.args.sockets.now) c.loop-index.least (rw all at (c.loop-index.invariant slots)))
+    rw (c.sooner.ensures, c.piece_poll_at.ensures, c.routers_poll_at-of_routers.ensures, c.groups_poll_at.ensures) (due_least (host_in c.args.context.now slots c.args.sockets.now) c.loop-index.least (rw all at (c.loop-index.invariant slots)))

@@ -1,5 +1,6 @@
 use Rattle.std.proofs.Common.{refl, sym, ◌∙◌}
-use Rattle.host_machine.specs.Step.{Accepted, Refused, moved}
+use Rattle.host_machine.specs.Multicast.{moved}
+use Rattle.host_machine.specs.Step.{Accepted, Refused}
 use Rattle.interface.proofs.Setting.{kept, led}
 use Rattle.interface.proofs.interface.Interface.update_ip_addrs.Goals as goal
 

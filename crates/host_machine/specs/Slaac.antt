@@ -1,0 +1,91 @@
+-- Stateless address autoconfiguration (RFC 4862 5.5, RFC 4861 6.3): which advertisements a host learns from, how it asks for them, and how its
+-- addresses and routes follow what it learnt.
+use Rattle.std.specs.Prelude.{◌≡◌, ℕ, ℤ, ◌==◌, ◌&&◌, ◌||◌, Bool, true, false, List, [], ◌∷◌, Option, Some, None, if◌then◌else◌}
+use Rattle.std.specs.Option.{option_and_then}
+use Rattle.net_base.specs.Device.{Event, Asked}
+use Rattle.ip_address.specs.declared.cidr.IpCidr.{IpCidr}
+use Rattle.ip_address.specs.declared.ethernet_address.EthernetAddress.{EthernetAddress}
+use Rattle.ip_address.specs.declared.hardware.HardwareAddress.{HardwareAddress}
+use Rattle.ip_address.specs.declared.hardware.HardwareAddress.TheVariants as hardware
+use Rattle.ip_address.specs.declared.ipv6.Ipv6Address.{Ipv6Address}
+use Rattle.ip_address.specs.Ipv6.{all_nodes, is_link_local}
+use Rattle.ipv6_wire.specs.declared.ipv6_packet.Ipv6Repr.{Ipv6Repr}
+use Rattle.icmpv6_wire.specs.declared.icmpv6.Icmpv6Repr.TheVariants.{Router}
+use Rattle.icmpv6_wire.specs.declared.router.RouterRepr.{RouterRepr}
+use Rattle.icmpv6_wire.specs.declared.router.RouterRepr.TheVariants.{RouterSolicit, RouterAdvert}
+use Rattle.slaac.specs.Slaac.{Learnt, advertised, retry_at, rs_required, rs_sent, seconds, sync_required, updated}
+use Rattle.slaac.specs.Sync.{synced_addrs, synced_routes}
+use Rattle.host_machine.specs.Note.{Note}
+use Rattle.host_machine.specs.Host.{Host}
+use Rattle.host_machine.specs.Addresses.{link_local_addr}
+use Rattle.host_machine.specs.Config.{is_ethernet}
+use Rattle.host_machine.specs.Multicast.{moved}
+use Rattle.host_machine.specs.Packet.{Packet, Ipv6, Icmpv6}
+use Rattle.host_machine.specs.Frame.{sends}
+use Rattle.host_machine.specs.Dispatch.{Outcome, Dispatches}
+
+-- the host with something else learnt
+abbrev pub with_slaac : Host → Learnt → Host
+with_slaac H learnt = record H { slaac = learnt }
+
+-- an advertisement counts where the host is to take addresses from routers, on a link with hardware addresses, if no router passed it on and it comes
+-- from a router on the link, to all nodes or to an address of the link (RFC 4861 6.1.2, 4.2)
+abbrev pub counts : Host → Ipv6Repr → Bool
+counts H r =
+    H.slaac_enabled && is_ethernet H.hardware_addr && (r.hop_limit == 255) && is_link_local r.src_addr
+    && ((r.dst_addr.bits == all_nodes.bits) || is_link_local r.dst_addr)
+
+-- what is learnt from a message: of an advertisement that counts the router, by its source, and a prefix; a solicitation is for routers (RFC 4861 6.2.6)
+abbrev pub taught : RouterRepr → Host → Ipv6Repr → Learnt
+taught (RouterSolicit lladdr) H r = H.slaac
+taught (RouterAdvert hop_limit flags lifetime lladdr prefix) H r =
+    if counts H r then advertised H.slaac r.src_addr (seconds lifetime) prefix H.moment else H.slaac
+
+-- all routers on the link, ff02::2
+abbrev pub all_routers : Ipv6Address
+all_routers = record { bits = 0xff02_0000_0000_0000_0000_0000_0000_0002 }
+
+-- a solicitation of routers, with the host's own hardware address, and with a hop limit that tells that no router passed it on (RFC 4861 4.1)
+abbrev pub solicitation_from : EthernetAddress → Ipv6Address → Packet
+solicitation_from own source = Ipv6 (record {
+  src_addr = source;
+  dst_addr = all_routers;
+  hop_limit = 255;
+  payload = Icmpv6 (Router (RouterSolicit (Some own))) [];
+})
+
+-- from the first own link-local address, if there is one
+abbrev pub solicitation_by : HardwareAddress → List IpCidr → Option Packet
+solicitation_by (hardware.Ethernet own) addresses = option_and_then (λ source. Some (solicitation_from own source)) (link_local_addr addresses)
+solicitation_by hardware.Ip addresses = None
+
+-- the solicitation with which the host asks routers, if it is to take addresses from them and has an address to ask from
+abbrev pub router_solicitation : Host → Option Packet
+router_solicitation H = if H.slaac_enabled then solicitation_by H.hardware_addr H.ip_addrs else None
+
+-- the solicitation that is due at the host's moment (RFC 4861 6.3.7)
+abbrev pub due_solicitation : Host → Option Packet
+due_solicitation H = if rs_required H.slaac H.moment then router_solicitation H else None
+
+-- when the next one is due, if one may go
+abbrev pub solicitation_instant : Host → Option ℤ
+solicitation_instant H = option_and_then (λ p. retry_at H.slaac) (router_solicitation H)
+
+-- the solicitation that is due goes, if the device gives leave, and counts as sent, whatever came of it
+pub data SolicitsRouters (H : Host) (told : List Event) (notes : List Note) (new : Host) : Type 0 where
+  NotDue : due_solicitation H ≡ None → told ≡ [] → notes ≡ [] → new ≡ H → SolicitsRouters H told notes new
+  NoLeave : (p : Packet) → due_solicitation H ≡ Some p → told ≡ Asked H.moment false ∷ [] → notes ≡ [] → new ≡ H → SolicitsRouters H told notes new
+  Goes : (p : Packet) (outcome : Outcome) (frames : List (List ℕ)) (mid : Host) → due_solicitation H ≡ Some p → Dispatches p outcome H frames notes mid →
+      told ≡ Asked H.moment true ∷ sends frames → new ≡ with_slaac mid (rs_sent mid.slaac mid.moment) → SolicitsRouters H told notes new
+
+-- the host with its addresses and its routes in line with what it learnt, as by a change of addresses; what has ended is forgotten
+abbrev pub in_line : Host → Host
+in_line H = record (moved H (synced_addrs H.hardware_addr H.moment H.slaac.prefixes H.ip_addrs)) {
+  routes = synced_routes H.moment H.slaac.routers H.routes;
+  slaac = updated H.slaac H.moment;
+  slaac_updated_at = H.moment;
+}
+
+-- that, where it is required: something learnt is new or withdrawn, or has ended
+abbrev pub synced : Host → Host
+synced H = if sync_required H.slaac H.moment then in_line H else H

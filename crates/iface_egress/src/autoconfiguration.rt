@@ -1,0 +1,90 @@
+//! What an interface asks of routers: an advertisement of their prefixes (RFC 4861 6.3.7).
+ghost use Rattle.std.specs.Prelude.{◌≡◌, IfSome};
+ghost use Rattle.std.specs.Option.{option_map};
+ghost use Rattle.host_machine.specs.Host.{no_sockets};
+ghost use Rattle.host_machine.specs.Packet.{IsWritable};
+ghost use Rattle.host_machine.specs.Slaac as spec;
+ghost use Rattle.iface_send.specs.Shown as shown;
+ghost use Rattle.iface_send.specs.Stands.{host_of};
+ghost use Rattle.iface_egress.specs.Multicast.{HasPart};
+ghost use Rattle.iface_egress.specs.Told.{Told};
+
+use crate::transmit::send_packet;
+use icmpv6_wire::{Icmpv6Repr, RouterRepr};
+use iface_send::autoconfiguration::rs_sent;
+use iface_send::{Context, IpPayload, Packet, PacketV6};
+use ip_wire::emit::FrameBuffer;
+use ip_wire::{EthernetAddress, HardwareAddress, Ipv6Address};
+use net_base::phy::Device;
+use net_base::time::Instant;
+use sockets::SocketContext;
+
+/// All routers on the link, ff02::2 (RFC 4291 2.7.1).
+const ALL_ROUTERS: Ipv6Address = Ipv6Address {
+    bits: 0xff02_0000_0000_0000_0000_0000_0000_0002,
+};
+
+/// Sends the router solicitation that is due, if one is and the device gives leave. It counts as sent,
+/// whatever came of it. Without leave it stays due.
+pub fn rs_egress<D: Device>(context: &mut Context, device: &mut D, out: &mut FrameBuffer)
+    ensures { Told D.tells device.old device.new (HasPart spec.SolicitsRouters context.old) context.new }
+{
+    let Some(packet) = due_solicitation(context) else {
+        return;
+    };
+    if send_packet(context, device, out, &packet) {
+        rs_sent(context);
+    }
+}
+
+/// The instant at which the next router solicitation is due, if one may be sent and there is an address to
+/// send it from. It may have passed.
+pub fn rs_poll_at(context: &Context) -> Option<Instant>
+    ensures { result ≡ spec.solicitation_instant (host_of context.now no_sockets) }
+{
+    let _packet = router_solicitation(context)?;
+    context.slaac().retry_at()
+}
+
+/// The router solicitation that is due at the interface's moment, if one is.
+fn due_solicitation(context: &Context) -> Option<Packet<'static>>
+    ensures value { option_map shown.packet result ≡ spec.due_solicitation (host_of context.now no_sockets) }
+    ensures writable { IfSome result (λ p. IsWritable (shown.packet p)) }
+{
+    if !context.slaac().rs_required(context.now()) {
+        return None;
+    }
+    router_solicitation(context)
+}
+
+/// The solicitation with which the interface asks routers, if it is to take addresses from them, its medium
+/// has hardware addresses, and it has a link-local address to send it from.
+fn router_solicitation(context: &Context) -> Option<Packet<'static>>
+    ensures value { option_map shown.packet result ≡ spec.router_solicitation (host_of context.now no_sockets) }
+    ensures writable { IfSome result (λ p. IsWritable (shown.packet p)) }
+{
+    if !context.is_slaac_enabled() {
+        return None;
+    }
+    match context.hardware_addr() {
+        HardwareAddress::Ethernet(own) => {
+            let source = context.link_local_addr()?;
+            Some(solicitation_from(own, source))
+        }
+        HardwareAddress::Ip => None,
+    }
+}
+
+/// A solicitation of routers, with the interface's own hardware address (RFC 4861 4.1).
+fn solicitation_from(own: EthernetAddress, source: Ipv6Address) -> Packet<'static>
+    ensures value { shown.packet result ≡ spec.solicitation_from own source }
+    ensures writable { IsWritable (shown.packet result) }
+{
+    let message = RouterRepr::RouterSolicit { lladdr: Some(own) };
+    Packet::Ipv6(PacketV6 {
+        src_addr: source,
+        dst_addr: ALL_ROUTERS,
+        hop_limit: 255,
+        payload: IpPayload::Icmpv6(Icmpv6Repr::Router(message), &[]),
+    })
+}

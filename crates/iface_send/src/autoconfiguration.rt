@@ -1,0 +1,121 @@
+//! Stateless address autoconfiguration over what an interface keeps (RFC 4862 5.5, RFC 4861 6.3).
+ghost use Rattle.std.specs.Prelude.{◌≡◌, ◌≤◌, length};
+ghost use Rattle.host_machine.specs.Host.{SocketSet, no_sockets};
+ghost use Rattle.host_machine.specs.Multicast.{moved};
+ghost use Rattle.host_machine.specs.Slaac.{in_line, synced, with_slaac};
+ghost use Rattle.fragmentation.specs.Slots.{Slots};
+ghost use Rattle.iface_send.specs.Stands.{host_in, host_of};
+ghost use Rattle.slaac.specs.Slaac as learnt;
+ghost use Rattle.slaac.specs.Slaac.{IsLifetime, advertised, updated};
+ghost use Rattle.slaac.specs.Sync.{synced_addrs, synced_routes};
+
+use crate::context::Context;
+use crate::settings::set_ip_addrs;
+use arrayvec::ArrayVec;
+use icmpv6_wire::NdiscPrefixInformation;
+use iface_tables::route::{IFACE_MAX_ROUTE_COUNT, Route};
+use ip_wire::Ipv6Address;
+use net_base::time::{Duration, Instant};
+use slaac::Slaac;
+use slaac::sync::{synced_addrs, synced_routes};
+
+impl Context {
+    ghost use Rattle.std.specs.Prelude.{◌≡◌};
+    ghost use Rattle.host_machine.specs.Host.{no_sockets};
+    ghost use Rattle.iface_send.specs.Stands.{host_of};
+
+    /// Whether the interface takes IPv6 addresses from routers that advertise their prefixes.
+    pub fn is_slaac_enabled(&self) -> bool
+        ensures { result ≡ (host_of self.now no_sockets).slaac_enabled }
+    {
+        self.slaac_enabled
+    }
+
+    /// The prefixes and the routers that it learnt of, and how far its search for routers is.
+    pub fn slaac(&self) -> &Slaac
+        ensures { result.now ≡ (host_of self.now no_sockets).slaac }
+    {
+        &self.slaac
+    }
+
+    /// When its addresses and routes were last brought into line with those: at first the origin.
+    pub fn slaac_updated_at(&self) -> Instant
+        ensures { result ≡ (host_of self.now no_sockets).slaac_updated_at }
+    {
+        self.slaac_updated_at
+    }
+}
+
+/// Takes in an advertisement: the router that sent it, for how long that may be taken as default router,
+/// and a prefix, if it names one. The lifetime has to be below 2^32 s.
+pub fn process_advertisement(
+    context: &mut Context,
+    router: &Ipv6Address,
+    router_lifetime: Duration,
+    prefix: Option<NdiscPrefixInformation>,
+)
+    requires { IsLifetime router_lifetime }
+    ensures { (sockets : SocketSet) → host_of context.new sockets ≡ with_slaac (host_of context.old sockets)
+        (advertised (host_of context.old no_sockets).slaac router.now router_lifetime prefix (host_of context.old no_sockets).moment) }
+{
+    let now = context.moment;
+    context
+        .slaac
+        .process_advertisement(router, router_lifetime, prefix, now);
+}
+
+/// A router solicitation was sent at the interface's moment.
+pub fn rs_sent(context: &mut Context)
+    ensures { (sockets : SocketSet) → host_of context.new sockets ≡ with_slaac (host_of context.old sockets)
+        (learnt.rs_sent (host_of context.old no_sockets).slaac (host_of context.old no_sockets).moment) }
+{
+    let now = context.moment;
+    context.slaac.rs_sent(now);
+}
+
+/// Brings the addresses and the routes into line with what was learnt of prefixes and routers, if something
+/// of it is new, was withdrawn or has ended: as by a change of addresses all neighbours are forgotten then,
+/// and solicited-node groups are left and joined. What has ended is forgotten.
+pub fn sync_slaac(context: &mut Context)
+    ensures { (slots : Slots) (sockets : SocketSet) → host_in context.new slots sockets ≡ synced (host_in context.old slots sockets) }
+{
+    if context.slaac.sync_required(context.moment) {
+        bring_in_line(context);
+    }
+}
+
+/// Brings the addresses and the routes into line with what was learnt.
+fn bring_in_line(context: &mut Context)
+    ensures { (sockets : SocketSet) → host_of context.new sockets ≡ in_line (host_of context.old sockets) }
+{
+    let now = context.moment;
+    let list = synced_addrs(
+        context.ip_addrs.as_slice(),
+        &context.hardware_addr,
+        context.slaac.prefix(),
+        now,
+    );
+    let routes = synced_routes(context.routes.as_slice(), context.slaac.routes(), now);
+    set_ip_addrs(context, list);
+    set_routes(context, routes);
+    settle(context);
+}
+
+/// Forgets what has ended: addresses and routes are in line.
+fn settle(context: &mut Context)
+    ensures { (sockets : SocketSet) → host_of context.new sockets ≡ record (host_of context.old sockets) {
+      slaac = updated (host_of context.old no_sockets).slaac (host_of context.old no_sockets).moment;
+      slaac_updated_at = (host_of context.old no_sockets).moment;
+    } }
+{
+    let now = context.moment;
+    context.slaac.update_slaac_state(now);
+    context.slaac_updated_at = now;
+}
+
+/// Replaces the routes.
+fn set_routes(context: &mut Context, routes: ArrayVec<Route, IFACE_MAX_ROUTE_COUNT>)
+    ensures { (sockets : SocketSet) → host_of context.new sockets ≡ record (host_of context.old sockets) { routes = routes.items } }
+{
+    context.routes.update(move |_| routes);
+}
