@@ -5,9 +5,9 @@ use Rattle.std.proofs.lemmas.Bool.{and_right, lt-leb, cond-false}
 use Rattle.std.proofs.lemmas.Bool.Decides.{nat_tests}
 use Rattle.std.proofs.lemmas.Int.Digits.{digits_value_more}
 use Rattle.std.proofs.lemmas.Str.Parse.{digits_value-take-le}
-use Rattle.hostrun.specs.Text.{is_number_up_to, number_up_to}
-use Rattle.hostrun.proofs.Digits.{list_all_more}
-use Rattle.hostrun.proofs.line.parse_number.Goals as goal
+use Rattle.script.specs.Text.{is_number_up_to, number_up_to}
+use Rattle.script.proofs.Digits.{list_all_more}
+use Rattle.script.proofs.line.parse_number.Goals as goal
 
 no_number : (most : ℕ) (ds : List ℕ) → is_number_up_to most ds ≡ false → None ≡ number_up_to most ds
 no_number most ds e = sym (cond-false _ _ _ e)

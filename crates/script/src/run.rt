@@ -1,10 +1,10 @@
 //! A script, line by line.
 ghost use Rattle.std.specs.Prelude.{◌≡◌, ◌≤◌, length, Some, None, OnOk, MatchResult};
 ghost use Rattle.std.specs.Io.KnownBytes.{Appends};
-ghost use Rattle.hostrun.specs.Commands.{IsTimelyLine};
-ghost use Rattle.hostrun.specs.Printed.{frame_line, ingress_text, multicast_text, next_text, poll_text, push_text, text_line, text_of};
-ghost use Rattle.hostrun.specs.declared.run.Stop.TheVariants as why;
-ghost use Rattle.hostrun.specs.Status as spec;
+ghost use Rattle.script.specs.Commands.{IsTimelyLine};
+ghost use Rattle.script.specs.Printed.{frame_line, ingress_text, multicast_text, next_text, poll_text, push_text, text_line, text_of};
+ghost use Rattle.script.specs.declared.run.Stop.TheVariants as why;
+ghost use Rattle.script.specs.Status as spec;
 
 use crate::input::{Input, LineBuffer, LineRead};
 use crate::line::{FRAME_ROOM, Line, parse};
@@ -36,7 +36,7 @@ pub enum Stop {
 }
 
 impl From<NoMemory> for Stop {
-    ghost use Rattle.hostrun.specs.declared.run.Stop.TheVariants.{NoMemory};
+    ghost use Rattle.script.specs.declared.run.Stop.TheVariants.{NoMemory};
 
     ghost from_gives = { λ _ stop. stop ≡ NoMemory };
 
@@ -46,7 +46,7 @@ impl From<NoMemory> for Stop {
 }
 
 impl From<NewError> for Stop {
-    ghost use Rattle.hostrun.specs.declared.run.Stop.TheVariants.{NoHost};
+    ghost use Rattle.script.specs.declared.run.Stop.TheVariants.{NoHost};
 
     ghost from_gives = { λ error stop. stop ≡ NoHost error };
 
@@ -56,7 +56,7 @@ impl From<NewError> for Stop {
 }
 
 impl From<io::Error> for Stop {
-    ghost use Rattle.hostrun.specs.declared.run.Stop.TheVariants.{Failed};
+    ghost use Rattle.script.specs.declared.run.Stop.TheVariants.{Failed};
 
     ghost from_gives = { λ _ stop. stop ≡ Failed };
 

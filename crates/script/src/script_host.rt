@@ -4,7 +4,7 @@ ghost use Rattle.host_machine.specs.Config.{refusal_of};
 ghost use Rattle.net_base.specs.Time.{IsMoment};
 ghost use Rattle.socket_set.specs.SocketSet.{added};
 ghost use Rattle.sockets.specs.declared.socket.SocketOf.TheVariants.{Udp};
-ghost use Rattle.hostrun.specs.Sockets.{listening};
+ghost use Rattle.script.specs.Sockets.{listening};
 
 use crate::line::Call;
 use host::drive::{Owner, drive};
@@ -79,7 +79,7 @@ pub struct Host<'a> {
 
 impl<'a> Host<'a> {
     ghost use Rattle.std.specs.Prelude.{◌≡◌};
-    ghost use Rattle.hostrun.specs.Commands.{IsTimelyCall, moment_after};
+    ghost use Rattle.script.specs.Commands.{IsTimelyCall, moment_after};
 
     /// A host without addresses and sockets, unless its device and its address don't go together.
     pub fn new(alloc: Global) -> Result<Host<'a>, NewError>

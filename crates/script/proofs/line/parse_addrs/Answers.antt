@@ -1,8 +1,8 @@
 use Rattle.std.proofs.Common.{◌≡◌, ◌<◌, [], ◌∷◌, ◌++◌, length, rules, sym, ap, ◌∙◌}
 use Rattle.std.specs.List.{before_first, after_first, position_or_len}
-use Rattle.hostrun.specs.Text.{is_space, network_in, parts_of}
-use Rattle.hostrun.proofs.Networks.{spell_last, spell_more}
-use Rattle.hostrun.proofs.line.parse_addrs.Goals as goal
+use Rattle.script.specs.Text.{is_space, network_in, parts_of}
+use Rattle.script.proofs.Networks.{spell_last, spell_more}
+use Rattle.script.proofs.line.parse_addrs.Goals as goal
 
 pub returns-in-None : goal.returns-in-None
 returns-in-None c =

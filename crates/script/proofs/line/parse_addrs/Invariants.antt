@@ -1,7 +1,7 @@
 use Rattle.std.proofs.Common.{◌≡◌, ◌++◌, map}
 use Rattle.std.specs.List.{slice_split}
-use Rattle.hostrun.specs.Text.{is_space, network_in, parts_of}
-use Rattle.hostrun.proofs.line.parse_addrs.Given as goal
+use Rattle.script.specs.Text.{is_space, network_in, parts_of}
+use Rattle.script.proofs.line.parse_addrs.Given as goal
 
 abbrev pub invariant-loop : goal.invariant-loop
 invariant-loop l =

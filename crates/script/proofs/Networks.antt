@@ -6,7 +6,7 @@ use Rattle.std.proofs.lemmas.List.Splits.{slice_split_first, slice_split_none}
 use Rattle.std.proofs.lemmas.List.Sums.{fails_before_first}
 use Rattle.std.proofs.lemmas.List.Elements.{All-from_get_or}
 use Rattle.ip_address.specs.declared.cidr.IpCidr.{IpCidr}
-use Rattle.hostrun.specs.Text.{SpellNetworks, is_space, network_in, parts_of}
+use Rattle.script.specs.Text.{SpellNetworks, is_space, network_in, parts_of}
 
 -- one more word spells one more network
 more : (all words : List (List ℕ)) (list : List IpCidr) (word : List ℕ) (network : IpCidr) → map network_in all ≡ map parts_of list ++ map network_in (word ∷ words) → network_in word ≡ parts_of network

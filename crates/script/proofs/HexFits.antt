@@ -4,7 +4,7 @@ use Rattle.std.specs.Prelude.{IsOk, ◌↔◌}
 use Rattle.std.proofs.lemmas.List.{length-take-le}
 use Rattle.hex.specs.Hex.{decode_sized}
 use Rattle.hex.proofs.HexLemmas.{IsOk-decode_sized}
-use Rattle.hostrun.specs.Hex.{IsHexUpTo}
+use Rattle.script.specs.Hex.{IsHexUpTo}
 
 pub decode_sized-fits : (digits octets : List ℕ) → 0 < length digits / 2 → length digits / 2 ≤ length octets
     → IsOk (decode_sized digits (length (take (length digits / 2) octets))) ↔ IsHexUpTo (length octets) digits

@@ -1,7 +1,7 @@
 use Rattle.std.proofs.Common.{length, take, rules, sym, ap, ◌∙◌, arith}
 use Rattle.std.proofs.lemmas.List.{take_all, take_rest}
-use Rattle.hostrun.proofs.Separators.{first_at, none_at}
-use Rattle.hostrun.proofs.line.split_at.Goals as goal
+use Rattle.script.proofs.Separators.{first_at, none_at}
+use Rattle.script.proofs.line.split_at.Goals as goal
 
 pub returns-in-Some-clause-before : goal.returns-in-Some-clause-before
 returns-in-Some-clause-before c =

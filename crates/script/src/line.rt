@@ -4,10 +4,10 @@ ghost use Rattle.std.specs.List.{before_first, after_first, position_or_len};
 ghost use Rattle.hex.specs.Hex.{decode_of};
 ghost use Rattle.net_base.specs.Time.{IsMoment};
 ghost use Rattle.host_machine.specs.Step.{IsTimely};
-ghost use Rattle.hostrun.specs.Commands.{IsTimelyLine};
-ghost use Rattle.hostrun.specs.Commands as commands;
-ghost use Rattle.hostrun.specs.Hex.{IsHexUpTo};
-ghost use Rattle.hostrun.specs.Text.{Say, SpellNetworks, SpellPoll, address_in, budget_in, ipv4_in, ipv6_in, is_space, moment_in, network_in, number_up_to, parts_of, port_in};
+ghost use Rattle.script.specs.Commands.{IsTimelyLine};
+ghost use Rattle.script.specs.Commands as commands;
+ghost use Rattle.script.specs.Hex.{IsHexUpTo};
+ghost use Rattle.script.specs.Text.{Say, SpellNetworks, SpellPoll, address_in, budget_in, ipv4_in, ipv6_in, is_space, moment_in, network_in, number_up_to, parts_of, port_in};
 
 use arrayvec::ArrayVec;
 use interface::Command;
@@ -54,7 +54,7 @@ impl Call {
     ghost use Rattle.std.specs.Prelude.{◌≡◌};
     ghost use Rattle.net_base.specs.Time.{IsMoment};
     ghost use Rattle.host_machine.specs.Step.{IsTimely};
-    ghost use Rattle.hostrun.specs.Commands.{IsTimelyCall, command_of, moment_after};
+    ghost use Rattle.script.specs.Commands.{IsTimelyCall, command_of, moment_after};
 
     /// The moment last given once the call is made: its own, if it gives one, or the one before.
     pub fn moment(&self, last: Instant) -> Instant

@@ -14,10 +14,10 @@ use Rattle.ip_address.specs.declared.cidr.IpCidr.{IpCidr}
 use Rattle.ip_address.specs.Ipv4.{address_of}
 use Rattle.ipv6_wire.specs.Ipv6Packet.{address_at}
 use Rattle.ip_address.specs.Cidr as cidr
-use Rattle.hostrun.specs.declared.line.Line.{Line}
-use Rattle.hostrun.specs.declared.line.Line.TheVariants.{Rx, Udp, Asks}
-use Rattle.hostrun.specs.declared.line.Call.{Call}
-use Rattle.hostrun.specs.declared.line.Call.TheVariants.{Addr, Gw, Join, Leave, Ingress, Egress, Poll, At}
+use Rattle.script.specs.declared.line.Line.{Line}
+use Rattle.script.specs.declared.line.Line.TheVariants.{Rx, Udp, Asks}
+use Rattle.script.specs.declared.line.Call.{Call}
+use Rattle.script.specs.declared.line.Call.TheVariants.{Addr, Gw, Join, Leave, Ingress, Egress, Poll, At}
 
 abbrev pub is_space : ℕ → Bool
 is_space octet = octet == 32

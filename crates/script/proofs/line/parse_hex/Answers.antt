@@ -1,7 +1,7 @@
 use Rattle.std.proofs.Common.{sym, ◌∙◌, ◌≡◌, refl, true, false, is_some, arith}
 use Rattle.hex.proofs.HexLemmas.{IsOk-written}
-use Rattle.hostrun.proofs.HexFits.{decode_sized-fits}
-use Rattle.hostrun.proofs.line.parse_hex.Goals as goal
+use Rattle.script.proofs.HexFits.{decode_sized-fits}
+use Rattle.script.proofs.line.parse_hex.Goals as goal
 
 pub returns-in_err-ok-clause-found : goal.returns-in_err-ok-clause-found
 returns-in_err-ok-clause-found c =

@@ -1,7 +1,7 @@
 -- The exit status of a script.
 use Rattle.std.specs.Prelude.{ℕ, if◌then◌else◌, ◌&&◌, Result, Ok, Err, is_ok}
-use Rattle.hostrun.specs.declared.run.Stop.{Stop}
-use Rattle.hostrun.specs.declared.run.Stop.TheVariants.{BadLine, NoMemory, NoHost, Failed}
+use Rattle.script.specs.declared.run.Stop.{Stop}
+use Rattle.script.specs.declared.run.Stop.TheVariants.{BadLine, NoMemory, NoHost, Failed}
 
 -- by how the lines ended
 abbrev pub status_of : Result (Unit {0}) Stop → ℕ

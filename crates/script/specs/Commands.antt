@@ -5,10 +5,10 @@ use Rattle.ip_address.specs.declared.ip.IpAddress.{IpAddress}
 use Rattle.ip_address.specs.declared.ip.IpAddress.TheVariants as ip
 use Rattle.host_machine.specs.declared.command.Command.{Command}
 use Rattle.host_machine.specs.declared.command.Command.TheVariants as command
-use Rattle.hostrun.specs.declared.line.Line.{Line}
-use Rattle.hostrun.specs.declared.line.Line.TheVariants.{Rx, Udp, Asks}
-use Rattle.hostrun.specs.declared.line.Call.{Call}
-use Rattle.hostrun.specs.declared.line.Call.TheVariants.{Addr, Gw, Join, Leave, Ingress, Egress, Poll, At}
+use Rattle.script.specs.declared.line.Line.{Line}
+use Rattle.script.specs.declared.line.Line.TheVariants.{Rx, Udp, Asks}
+use Rattle.script.specs.declared.line.Call.{Call}
+use Rattle.script.specs.declared.line.Call.TheVariants.{Addr, Gw, Join, Leave, Ingress, Egress, Poll, At}
 
 -- the moment last given, once a call is made
 abbrev pub moment_after : ℤ → Call → ℤ

@@ -1,9 +1,9 @@
 // The tests also hold where any one request for memory is refused.
 ghost use Rattle.std.specs.Prelude.{◌≡◌};
 
-use crate::run::{Stop, run, tell};
 use arrayvec::ArrayVec;
 use interface::NewError;
+use script::run::{Stop, run, tell};
 use std::alloc::Global;
 use std::io::{self, Read, Write};
 use std::process::Abort;

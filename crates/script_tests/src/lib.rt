@@ -1,0 +1,5 @@
+//! The tests of `script`.
+#![tactic(auto)]
+
+#[cfg(test)]
+mod running;

@@ -1,0 +1,84 @@
+//! `udp_echo` is a host at 192.168.69.1 that sends back each datagram that comes to its port 7 (RFC 862).
+//! It reads frames in hexadecimal from standard input, one a line, and prints those that it sends.
+#![tactic(auto)]
+
+use anyhow::Result;
+use arrayvec::ArrayVec;
+use interface::{Config, Interface, SocketHandle, SocketSet};
+use ip_wire::{EthernetAddress, IpCidr, Ipv4Address, Ipv4Cidr};
+use net_base::MemoryDevice;
+use net_base::phy::{ChecksumCapabilities, DeviceCapabilities, Medium};
+use net_base::time::Instant;
+use sockets::{Queue, udp};
+use std::alloc::Global;
+use std::io::Eprint;
+
+/// Its link: Ethernet, with frames of at most 1514 octets.
+const CAPABILITIES: DeviceCapabilities = DeviceCapabilities {
+    medium: Medium::Ethernet,
+    max_transmission_unit: 1514,
+    max_burst_size: None,
+    checksum: ChecksumCapabilities::ALL,
+};
+
+/// How many frames a poll takes and how many rounds of sending it makes at most.
+const BUDGET: usize = 16;
+
+fn main(rt: HostRuntime) -> Result<()> {
+    let alloc = rt.alloc();
+    let mut device = MemoryDevice::new(alloc, CAPABILITIES);
+    let mut interface = interface_over(&mut device)?;
+    let mut sockets = SocketSet::new(Vec::new(alloc));
+    let rx = Queue::new(alloc, 4, 4096)?;
+    let tx = Queue::new(alloc, 4, 4096)?;
+    let handle = sockets.add(udp::Socket::new(7.into(), rx, tx))?;
+    // A program with a clock would ask it here.
+    let now = Instant::ZERO;
+    for line in rt.lines(alloc) {
+        device.push(&hex::decode(alloc, line?.as_str())?)?;
+        interface.poll(now, &mut device, &mut sockets, BUDGET);
+        echo(&rt, alloc, &mut sockets, handle)?;
+        interface.poll(now, &mut device, &mut sockets, BUDGET);
+        for frame in device.take_sent() {
+            println!(rt; "{}", hex::encode(alloc, &frame)?)?;
+        }
+    }
+    Ok(())
+}
+
+/// An interface over a device, at 192.168.69.1/24.
+fn interface_over(device: &mut MemoryDevice) -> Result<Interface> {
+    let hardware_addr = EthernetAddress([2, 0, 0, 0, 0, 1]);
+    let mut interface = Interface::new(Config::new(hardware_addr.into()), device, Instant::ZERO)?;
+    let own = Ipv4Cidr::new(Ipv4Address::new(192, 168, 69, 1), 24);
+    interface.update_ip_addrs(move |_| {
+        let mut addrs = ArrayVec::new();
+        addrs.push(IpCidr::from(own));
+        addrs
+    })?;
+    Ok(interface)
+}
+
+/// Queues each datagram that came to a socket for where it came from. Tells of those that can't go back:
+/// there is no room, or they came from port 0.
+fn echo(
+    rt: &impl Eprint,
+    alloc: Global,
+    sockets: &mut SocketSet<'_>,
+    handle: SocketHandle,
+) -> Result<()> {
+    let Some(socket) = sockets.get_mut::<udp::Socket<'_>>(handle) else {
+        return Ok(());
+    };
+    for _ in 0..socket.rx().len() {
+        let Some((remote, payload)) = socket.recv() else {
+            break;
+        };
+        let (remote, payload) = (*remote, Vec::from_slice(alloc, payload)?);
+        socket.done();
+        if let Err(error) = socket.try_send(remote, &payload) {
+            eprintln!(rt; "{remote}: {error}")?;
+        }
+    }
+    Ok(())
+}
