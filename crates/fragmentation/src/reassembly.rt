@@ -86,8 +86,13 @@ impl<K> PacketAssembler<K> {
 }
 
 impl<K> Default for PacketAssembler<K> {
-    fn default() -> PacketAssembler<K> {
-        PacketAssembler::new()
+    ghost use Rattle.fragmentation.specs.Assembly.{IsFree};
+
+    /// A free place.
+    fn default() -> PacketAssembler<K>
+        ensures { IsFree result }
+    {
+        Self::new()
     }
 }
 

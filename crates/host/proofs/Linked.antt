@@ -29,7 +29,7 @@ use Rattle.host.specs.declared.link.LinkError.{LinkError}
 use Rattle.host.specs.Commands.{CommandGoes}
 use Rattle.host_machine.specs.Real.{GivesSix, IsReal}
 use Rattle.host_machine.specs.TwoHosts.{WereSent}
-use Rattle.host.specs.Link.{End, Owns, Acts, sent_since, Links, Stops, OnA, OnB, ToA, ToB, NoneToA, NoneToB, IsDone, end_of, HandsOver, NoFrame, OneFrame, RebuildsCuts, Went, Goes, LinkGoes}
+use Rattle.host.specs.Link.{End, Owns, Acts, sent_since, Links, Stops, OnA, OnB, ToA, ToB, NoneToA, NoneToB, IsDone, end_of, HandsOver, NoFrame, OneFrame, RebuildsCuts, RebuildsFew, Went, Goes, LinkGoes}
 
 -- the ends named the other way round
 abbrev turn : List LinkStep → List LinkStep
@@ -275,13 +275,19 @@ rebuilds H last_a K last_b ps qs fit_a fit_b h k ra rb six_ps six_qs were = λ m
     run_rebuilds H last_a K last_b ps qs ra rb
     (record { one_medium = medium; a_real = fit_a.real H h; b_real = fit_b.real K k; mtu = fit_a.mtu H h; left = left }) six_ps six_qs were own free
 
+-- and without the premise on keys, where the other dispatched few packets
+rebuilds_few : {H last_a K : Host} {ps qs : List Place} → Run H ps last_a → RebuildsCuts H K ps qs → RebuildsFew H K ps qs
+rebuilds_few ra cuts = λ medium left few free. cuts medium left ((run_laws ra).own_keys few) free
+
 pub link_went : {O P : Type 0} (did_a : Owns O) (did_b : Owns P) (m n : ℕ) (steps done : List LinkStep) (answer : Result (Unit {0}) LinkError) (a a' : Linked O) (b b' : Linked P) →
     m ≡ length a.device.sent → n ≡ length b.device.sent → a.device.queued ≡ [] → b.device.queued ≡ [] → IsFit a → IsFit b →
     IsDone steps m n a'.device b'.device answer done → Goes did_a did_b m n done a a' b b' → LinkGoes did_a did_b steps answer a a' b b'
 link_went did_a did_b m n steps done answer a a' b b' is_m is_n none_a none_b fit_a fit_b is_done goes = λ H K h k.
     let is_done' : IsDone steps (length a.device.sent) (length b.device.sent) a'.device b'.device answer done = rw (is_m, is_n) at is_done in
     let went : Went did_a did_b (length a.device.sent) (length b.device.sent) done a a' b b' H K = rw (is_m, is_n) at (goes H K h k) in
-    let over : Links did_b did_a (length b.device.sent) (length a.device.sent) (turn done) (end_of b K) (end_of a H) went.qs went.ps (end_of b' went.last_b) (end_of a' went.last_a) = turned went.links in record {
+    let over : Links did_b did_a (length b.device.sent) (length a.device.sent) (turn done) (end_of b K) (end_of a H) went.qs went.ps (end_of b' went.last_b) (end_of a' went.last_a) = turned went.links in
+    let cuts_b = rebuilds {a = a} {b = b} H went.last_a K went.last_b went.ps went.qs fit_a fit_b h k (run_a went.links) (run_a over) (six_a went.links) (six_a over) (were_sent went.links refl none_b) in
+    let cuts_a = rebuilds {a = b} {b = a} K went.last_b H went.last_a went.qs went.ps fit_b fit_a k h (run_a over) (run_a went.links) (six_a over) (six_a went.links) (were_sent over refl none_a) in record {
       done = done;
       is_done = is_done';
       went = went;
@@ -291,6 +297,8 @@ link_went did_a did_b m n steps done answer a a' b b' is_m is_n none_a none_b fi
       laws_b = run_laws (run_a over);
       to_b = were_sent went.links refl none_b;
       to_a = were_sent over refl none_a;
-      rebuilds_b = rebuilds {a = a} {b = b} H went.last_a K went.last_b went.ps went.qs fit_a fit_b h k (run_a went.links) (run_a over) (six_a went.links) (six_a over) (were_sent went.links refl none_b);
-      rebuilds_a = rebuilds {a = b} {b = a} K went.last_b H went.last_a went.qs went.ps fit_b fit_a k h (run_a over) (run_a went.links) (six_a over) (six_a went.links) (were_sent over refl none_a);
+      rebuilds_b = cuts_b;
+      rebuilds_a = cuts_a;
+      few_b = rebuilds_few (run_a went.links) cuts_b;
+      few_a = rebuilds_few (run_a over) cuts_a;
     }

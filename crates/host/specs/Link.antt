@@ -1,5 +1,5 @@
 -- Two hosts on a link that loses, repeats and reorders frames, and changes none.
-use Rattle.std.specs.Prelude.{◌≡◌, ℕ, ℤ, List, [], ◌∷◌, ◌++◌, length, take, drop, slice_get, Option, Some, None, Result, Ok, Err}
+use Rattle.std.specs.Prelude.{◌≡◌, ℕ, ◌<◌, ◌^◌, ℤ, List, [], ◌∷◌, ◌++◌, length, take, drop, slice_get, Option, Some, None, Result, Ok, Err}
 use Rattle.std.specs.List.{AllByRecursion}
 use Rattle.std.specs.FinMap as map
 use Rattle.net_base.specs.Time.{IsMoment}
@@ -7,7 +7,8 @@ use Rattle.net_base.specs.MemoryDevice.{Memory, Tells}
 use Rattle.host_machine.specs.declared.command.Command.TheVariants.{PollIngressSingle}
 use Rattle.host_machine.specs.Host.{Host, SocketSet}
 use Rattle.host_machine.specs.Step.{Step, IsTimely}
-use Rattle.host_machine.specs.Run.{Place, Run, Did}
+use Rattle.host_machine.specs.Note.{identifications}
+use Rattle.host_machine.specs.Run.{Place, Run, Did, notes_in}
 use Rattle.host_machine.specs.Real.{GivesSix}
 use Rattle.host_machine.specs.TwoHosts.{HaveOwnKeys, RebuildsThese, WereSent, cuts_in, key_of_cut}
 use Rattle.host_machine.specs.Ran.{Laws}
@@ -131,6 +132,12 @@ RebuildsCuts H K ps qs =
     K.capabilities.medium ≡ H.capabilities.medium → H.left ≡ [] → HaveOwnKeys (cuts_in ps) →
     AllByRecursion (λ d. map.get K.slots (key_of_cut d) ≡ None) (cuts_in ps) → RebuildsThese (cuts_in ps) qs
 
+-- Where the other makes fewer than 65,536 dispatches, it cuts no two packets under one key, and the same holds without that premise.
+abbrev pub RebuildsFew : Host → Host → List Place → List Place → Type 0
+RebuildsFew H K ps qs =
+    K.capabilities.medium ≡ H.capabilities.medium → H.left ≡ [] → length (identifications (notes_in ps)) < 2 ^ 16 →
+    AllByRecursion (λ d. map.get K.slots (key_of_cut d) ≡ None) (cuts_in ps) → RebuildsThese (cuts_in ps) qs
+
 -- what `link` did: some of its steps, which ones by its answer; so the ends went along runs, of which the laws hold, what was handed
 -- over in each was sent in the other, and what one end rebuilds is what the other cut
 pub record LinkWent {O P : Type 0} (did_a : Owns O) (did_b : Owns P) (steps : List LinkStep) (answer : Result (Unit {0}) LinkError)
@@ -146,6 +153,8 @@ pub record LinkWent {O P : Type 0} (did_a : Owns O) (did_b : Owns P) (steps : Li
   pub to_a : WereSent went.qs went.ps
   pub rebuilds_b : RebuildsCuts H K went.ps went.qs
   pub rebuilds_a : RebuildsCuts K H went.qs went.ps
+  pub few_b : RebuildsFew H K went.ps went.qs
+  pub few_a : RebuildsFew K H went.qs went.ps
 
 -- so it goes from all hosts that both stood for
 abbrev pub LinkGoes : {O P : Type 0} → Owns O → Owns P → List LinkStep → Result (Unit {0}) LinkError → Linked O → Linked O → Linked P → Linked P → Type 0

@@ -26,7 +26,7 @@ use Rattle.host_machine.specs.Slaac.{solicitation_instant}
 use Rattle.host_machine.specs.Reports.{igmp_instant, mld_timeout_of}
 
 -- what is known of a destination is one answer
-hop_is_one : {H : Host} {a : IpAddress} {x y : Option IpAddress} → IsNextHop H a x → IsNextHop H a y → x ≡ y
+pub hop_is_one : {H : Host} {a : IpAddress} {x y : Option IpAddress} → IsNextHop H a x → IsNextHop H a y → x ≡ y
 hop_is_one (OnLink i e) (OnLink j f) = e ∙ sym f
 hop_is_one (OnLink i e) (ByRouter router j r f) = absurd cc
 hop_is_one (ByRouter router i r e) (OnLink j f) = absurd cc

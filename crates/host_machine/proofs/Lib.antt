@@ -3,6 +3,7 @@ pub mod Keys
 pub mod Six
 pub mod Repeated
 pub mod Kept
+pub mod Speakers
 pub mod Plain
 pub mod Walk
 pub mod Spaced
@@ -12,7 +13,12 @@ pub mod Ordered
 pub mod Unfolded
 pub mod Malformed
 mod Single
+pub mod Turns
 mod Noted
+mod Requested
+mod Determined
+mod Received
+pub mod Identified
 pub mod QuietSockets
 pub mod Earlier
 pub mod Quiet

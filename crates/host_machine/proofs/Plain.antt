@@ -23,6 +23,8 @@ use Rattle.ip_wire.specs.declared.ip_packet.IpRepr.{IpRepr}
 use Rattle.ip_wire.specs.declared.ip_packet.IpRepr.TheVariants as repr
 use Rattle.ip_wire.specs.declared.ipv4_packet.Ipv4Repr.{Ipv4Repr}
 use Rattle.ip_wire.specs.declared.tcp.TcpRepr.{TcpRepr}
+use Rattle.ip_wire.specs.Tcp.{tcp_in}
+use Rattle.ip_wire.specs.Udp.{udp_in}
 use Rattle.ipv6_wire.specs.declared.ipv6_packet.Ipv6Repr.{Ipv6Repr}
 use Rattle.ipv6_wire.specs.Ipv6Packet.{quoted_in}
 use Rattle.ipv6_wire.specs.declared.hop_by_hop.Ipv6OptionFailureType.{Ipv6OptionFailureType}
@@ -69,33 +71,37 @@ use Rattle.host_machine.specs.Ipv6.{TakesIpv6, TakesPacket, TakesOptions, TakesP
 use Rattle.host_machine.specs.Ipv6 as ipv6
 use Rattle.host_machine.proofs.Kept.{Keeps, rest_of, kept, kept_by, kept_then, unread, heard_kept, sender_kept}
 use Rattle.host_machine.proofs.Six.{filled_of, of_six}
+use Rattle.host_machine.specs.Requests.{may_ask}
+use Rattle.host_machine.specs.Packet.{payload_of}
+use Rattle.host_machine.proofs.Speakers.{Nobody, Attends, attends, attends_by, attends_then, raw_attends, icmp_attends, icmp_heard, udp_delivered, tcp_delivered, sender_attends}
 
--- no packet of ARP
+-- no packet of ARP, and none that may ask for a neighbour
 abbrev pub IsByIp : Option Reply → Type 0
 IsByIp None = Unit {0}
-IsByIp (Some (Ip p)) = Unit {0}
+IsByIp (Some (Ip p)) = may_ask (payload_of p) ≡ false
 IsByIp (Some (Arp r)) = ⊥
 
 pub record IsPlain (H : Host) (reply : Option Reply) (notes : List Note) (new : Host) : Type 0 where
   pub by_ip : IsByIp reply
   pub unnoted : notes ≡ []
   pub keeps : Keeps H new
+  pub attends : Attends H new
 
 -- behind what keeps the host
-after : {H mid new : Host} {reply : Option Reply} {notes : List Note} → Keeps H mid → IsPlain mid reply notes new → IsPlain H reply notes new
-after k p = record { by_ip = p.by_ip; unnoted = p.unnoted; keeps = kept_then k p.keeps }
+after : {H mid new : Host} {reply : Option Reply} {notes : List Note} → Keeps H mid → Attends H mid → IsPlain mid reply notes new → IsPlain H reply notes new
+after k a p = record { by_ip = p.by_ip; unnoted = p.unnoted; keeps = kept_then k p.keeps; attends = attends_then a p.attends }
 
 dropped : {H new : Host} {reply : Option Reply} {notes : List Note} → IsDropped H reply notes new → IsPlain H reply notes new
-dropped d = record { by_ip = rw d.silent tt; unnoted = d.unnoted; keeps = kept d.unchanged }
+dropped d = record { by_ip = rw d.silent tt; unnoted = d.unnoted; keeps = kept d.unchanged; attends = attends d.unchanged }
 
 -- a reply where the host stays
 replied : {H new : Host} {reply : Option Reply} {notes : List Note} (o : Option Reply) → IsByIp o → reply ≡ o → notes ≡ [] → new ≡ H → IsPlain H reply notes new
-replied o i r n e = record { by_ip = rw r i; unnoted = n; keeps = kept e }
+replied o i r n e = record { by_ip = rw r i; unnoted = n; keeps = kept e; attends = attends e }
 
 -- or where sockets got something
-placed : {H new : Host} {reply : Option Reply} {notes : List Note} {places : List Storage} (o : Option Reply) → IsByIp o → reply ≡ o → notes ≡ [] → new ≡ with_places H places →
-    IsPlain H reply notes new
-placed o i r n e = record { by_ip = rw r i; unnoted = n; keeps = kept_by e (unread refl refl) }
+placed : {H new : Host} {reply : Option Reply} {notes : List Note} {places : List Storage} (o : Option Reply) → IsByIp o → (Nobody H.sockets.places → Nobody places) → reply ≡ o → notes ≡ [] →
+    new ≡ with_places H places → IsPlain H reply notes new
+placed o i s r n e = record { by_ip = rw r i; unnoted = n; keeps = kept_by e (unread refl refl); attends = attends_by e (record { nobody = s; moment = refl }) }
 
 -- unless a raw socket took the packet
 unless : (b : Bool) (p : Reply) → IsByIp (Some p) → IsByIp (if b then None else Some p)
@@ -104,7 +110,7 @@ unless false p i = i
 
 icmpv4_back : (r : Ipv4Repr) (m : Icmpv4Repr) (octets : List ℕ) (o : Option Ipv4Address) → IsByIp (option_map (message_back r m octets) o)
 icmpv4_back r m octets None = tt
-icmpv4_back r m octets (Some a) = tt
+icmpv4_back r m octets (Some a) = refl
 
 refusal : (by_raw : Bool) (own : List IpCidr) (reason : Icmpv4DstUnreachable) (r : Ipv4Repr) (payload : List ℕ) → IsByIp (unreachable by_raw own reason r payload)
 refusal true own reason r payload = tt
@@ -113,21 +119,24 @@ refusal false own reason r payload = icmpv4_back r (DstUnreachable reason r) (ic
 port_refusal : (by_raw : Bool) (own : List IpCidr) (r : IpRepr) (payload : List ℕ) → IsByIp (port_unreachable by_raw own r payload)
 port_refusal by_raw own (repr.Ipv4 r) payload = refusal by_raw own PortUnreachable r payload
 port_refusal true own (repr.Ipv6 r) payload = tt
-port_refusal false own (repr.Ipv6 r) payload = tt
+port_refusal false own (repr.Ipv6 r) payload = refl
 
 udp_plain : {by_raw : Bool} {r : IpRepr} {H new : Host} {octets : List ℕ} {reply : Option Reply} {notes : List Note} → TakesUdp by_raw r H octets reply notes new → IsPlain H reply notes new
 udp_plain (udp.Malformed m d) = dropped d
-udp_plain (udp.Delivered places u f r n e) = placed None tt r n e
+udp_plain {by_raw} {r} {H} {new} {octets} (udp.Delivered places u f e n s) =
+    placed None tt (λ none. udp_delivered (udp.accepts H.ip_addrs r (udp_in octets).0) r (udp_in octets).0 (udp_in octets).1 H.sockets.places places f none) e n s
 udp_plain {by_raw} {r} {H} {new} {octets} (udp.Unheard u none e n s) = replied _ (port_refusal by_raw H.ip_addrs r octets) e n s
 
 segment : (r : IpRepr) (o : Option TcpRepr) → IsByIp (option_map (segment_back r) o)
 segment r None = tt
-segment r (Some t) = tt
+segment (repr.Ipv4 r) (Some t) = refl
+segment (repr.Ipv6 r) (Some t) = refl
 
 tcp_plain : {by_raw : Bool} {r : IpRepr} {H new : Host} {octets : List ℕ} {reply : Option Reply} {notes : List Note} → TakesTcp by_raw r H octets reply notes new → IsPlain H reply notes new
 tcp_plain (tcp.BetweenNobody b d) = dropped d
 tcp_plain (tcp.Malformed b m d) = dropped d
-tcp_plain {by_raw} {r} (tcp.Delivered index place b t f e n s) = placed _ (segment r _) e n s
+tcp_plain {by_raw} {r} {H} {new} {octets} (tcp.Delivered index place b t f e n s) =
+    placed _ (segment r _) (λ none. tcp_delivered r (tcp_in octets).0 (tcp_in octets).1 H.sockets.places index place f.is_there none) e n s
 tcp_plain {by_raw} {r} (tcp.Unheard b t none e n s) = replied _ (segment r _) e n s
 
 -- ICMP for IPv4
@@ -139,7 +148,7 @@ answered own r (TimeExceeded code header) octets = tt
 
 icmpv4_plain : {r : Ipv4Repr} {H new : Host} {octets : List ℕ} {reply : Option Reply} {notes : List Note} → TakesIcmpv4 r H octets reply notes new → IsPlain H reply notes new
 icmpv4_plain (icmpv4.Malformed m d) = dropped d
-icmpv4_plain {r} {H} (icmpv4.Taken i e n s) = placed _ (answered H.ip_addrs r _ _) e n s
+icmpv4_plain {r} {H} {new} {octets} (icmpv4.Taken i e n s) = placed _ (answered H.ip_addrs r _ _) (λ none. icmp_heard _ _ _ octets H none) e n s
 
 refused_v4 : {by_raw : Bool} {r : Ipv4Repr} {H new : Host} {octets : List ℕ} {reply : Option Reply} {notes : List Note} → ipv4.IsRefused by_raw r H octets reply notes new → IsPlain H reply notes new
 refused_v4 {by_raw} {r} {H} {new} {octets} i = replied _ (refusal by_raw H.ip_addrs _ r octets) i.replied i.unnoted i.unchanged
@@ -149,9 +158,19 @@ asked_kept H dst (MembershipQuery code group) = unread refl refl
 asked_kept H dst (MembershipReport group version) = unread refl refl
 asked_kept H dst (LeaveGroup group) = unread refl refl
 
+asked_attends : (H : Host) (dst : Ipv4Address) (m : IgmpRepr) → Attends H (reports.asked_by H dst m)
+asked_attends H dst (MembershipQuery code group) = record { nobody = λ none. none; moment = refl }
+asked_attends H dst (MembershipReport group version) = record { nobody = λ none. none; moment = refl }
+asked_attends H dst (LeaveGroup group) = record { nobody = λ none. none; moment = refl }
+
 igmp_plain : {r : Ipv4Repr} {H new : Host} {octets : List ℕ} {reply : Option Reply} {notes : List Note} → reports.TakesIgmp r H octets reply notes new → IsPlain H reply notes new
 igmp_plain (reports.Malformed m d) = dropped d
-igmp_plain {r} {H} {new} {octets} (reports.Taken i e n same) = record { by_ip = rw e tt; unnoted = n; keeps = kept_by same (asked_kept H r.dst_addr (igmp_in octets)) }
+igmp_plain {r} {H} {new} {octets} (reports.Taken i e n same) = record {
+  by_ip = rw e tt;
+  unnoted = n;
+  keeps = kept_by same (asked_kept H r.dst_addr (igmp_in octets));
+  attends = attends_by same (asked_attends H r.dst_addr (igmp_in octets));
+}
 
 mld_kept : (H : Host) (r : Ipv6Repr) (code : ℕ) (group : Ipv6Address) → Keeps H (reports.mld_asked H r code group)
 mld_kept H r code group = by (reports.is_near r) where
@@ -159,8 +178,19 @@ mld_kept H r code group = by (reports.is_near r) where
   by true = unread refl refl
   by false = unread refl refl
 
+mld_attends : (H : Host) (r : Ipv6Repr) (code : ℕ) (group : Ipv6Address) → Attends H (reports.mld_asked H r code group)
+mld_attends H r code group = by (reports.is_near r) where
+  by : (b : Bool) → Attends H (if b then record H { mld_report = reports.mld_report_for H r.dst_addr (H.moment +ℤ pos (reports.delay code H.random)) group; random = reports.drawn code H.random } else H)
+  by true = record { nobody = λ none. none; moment = refl }
+  by false = attends refl
+
 mld_plain : (r : Ipv6Repr) (m : MldRepr) (H : Host) (reply : Option Reply) (notes : List Note) (new : Host) → reports.TakesMld r m H reply notes new → IsPlain H reply notes new
-mld_plain r (Query code group) H reply notes new t = record { by_ip = rw t.0 tt; unnoted = t.1; keeps = kept_by t.2 (mld_kept H r code group) }
+mld_plain r (Query code group) H reply notes new t = record {
+  by_ip = rw t.0 tt;
+  unnoted = t.1;
+  keeps = kept_by t.2 (mld_kept H r code group);
+  attends = attends_by t.2 (mld_attends H r code group);
+}
 mld_plain r (Report count) H reply notes new t = dropped t
 
 protocol_v4 : (p : IpProtocol) (by_raw : Bool) (r : Ipv4Repr) (H : Host) (octets : List ℕ) (reply : Option Reply) (notes : List Note) (new : Host) →
@@ -175,9 +205,10 @@ protocol_v4 (protocol.Unknown n) by_raw r H octets reply notes new t = refused_v
 
 pub whole_plain : {source : HardwareAddress} {r : Ipv4Repr} {H new : Host} {payload : List ℕ} {reply : Option Reply} {notes : List Note} →
     TakesWhole source r H payload reply notes new → IsPlain H reply notes new
-whole_plain {source} {r} {H} {new} {payload} (ipv4.NotForUs u d) = after (heard_kept (repr.Ipv4 r) payload H) (dropped d)
+whole_plain {source} {r} {H} {new} {payload} (ipv4.NotForUs u d) = after (heard_kept (repr.Ipv4 r) payload H) (raw_attends (repr.Ipv4 r) payload H) (dropped d)
 whole_plain {source} {r} {H} {new} {payload} {reply} {notes} (ipv4.Accepted u t) =
-    after (heard_kept (repr.Ipv4 r) payload H) (after (sender_kept source (repr.Ipv4 r) (raw.heard (repr.Ipv4 r) payload H)) (protocol_v4 r.next_header _ r _ payload reply notes new t))
+    after (heard_kept (repr.Ipv4 r) payload H) (raw_attends (repr.Ipv4 r) payload H)
+    (after (sender_kept source (repr.Ipv4 r) (raw.heard (repr.Ipv4 r) payload H)) (sender_attends source (repr.Ipv4 r) (raw.heard (repr.Ipv4 r) payload H)) (protocol_v4 r.next_header _ r _ payload reply notes new t))
 
 -- messages of neighbours: an address of six octets is learnt, if one is
 told_six : (o : Option EthernetAddress) (target : Ipv6Address) → IsLinkLayerAddr o → IsLinkLayerAddr (told_by o target)
@@ -205,16 +236,30 @@ learns_kept H new own a (Some h) mine six learns = kept_by learns.same (record {
 solicited : (own : EthernetAddress) (H : Host) (r : Ipv6Repr) (target : Ipv6Address) → IsByIp (answer_by own H r target)
 solicited own H r target = by (asks_for H r target) where
   by : (b : Bool) → IsByIp (if b then Some (Ip (advertisement_of own r target)) else None)
-  by true = tt
+  by true = refl
   by false = tt
+
+learns_attends : (H new : Host) (a : Ipv6Address) (o : Option EthernetAddress) → Learns o a H new → Attends H new
+learns_attends H new a None e = attends e
+learns_attends H new a (Some h) learns = attends_by learns.same (record { nobody = λ none. none; moment = refl })
 
 heard_plain : {own : EthernetAddress} {r : Ipv6Repr} {message : NdiscRepr} {H new : Host} {reply : Option Reply} {notes : List Note} → IsLinkLayerAddr (lladdr_of message) →
     H.hardware_addr ≡ hardware.Ethernet own → HearsNeighbor own r H reply notes new message → IsPlain H reply notes new
 heard_plain {own} {r} {message} {H} {new} six mine (ndisc.Advertised flags target lladdr learns e n) =
-    record { by_ip = rw e tt; unnoted = n; keeps = learns_kept H new own r.src_addr (advertised H r flags target lladdr) mine (advertised_six H r flags target lladdr six) learns }
+    record {
+      by_ip = rw e tt;
+      unnoted = n;
+      keeps = learns_kept H new own r.src_addr (advertised H r flags target lladdr) mine (advertised_six H r flags target lladdr six) learns;
+      attends = learns_attends H new r.src_addr (advertised H r flags target lladdr) learns;
+    }
 heard_plain six mine (ndisc.OfNobody target lladdr nobody d) = dropped d
 heard_plain {own} {r} {message} {H} {new} six mine (ndisc.Solicited target lladdr somebody learns e n) =
-    record { by_ip = rw e (solicited own H r target); unnoted = n; keeps = learns_kept H new own r.src_addr (told_by lladdr target) mine (told_six lladdr target six) learns }
+    record {
+      by_ip = rw e (solicited own H r target);
+      unnoted = n;
+      keeps = learns_kept H new own r.src_addr (told_by lladdr target) mine (told_six lladdr target six) learns;
+      attends = learns_attends H new r.src_addr (told_by lladdr target) learns;
+    }
 
 ndisc_plain : {r : Ipv6Repr} {message : NdiscRepr} {H new : Host} {reply : Option Reply} {notes : List Note} → IsLinkLayerAddr (lladdr_of message) →
     TakesNdisc r message H reply notes new → IsPlain H reply notes new
@@ -282,9 +327,9 @@ tells checked src dst octets i =
 -- ICMP for IPv6
 message_plain : (r : Ipv6Repr) (m : Icmpv6Repr) (octets : List ℕ) (H : Host) (reply : Option Reply) (notes : List Note) (new : Host) → Tells m →
     TakesMessage r m octets H reply notes new → IsPlain H reply notes new
-message_plain r (icmp.EchoRequest ident seq_no) octets H reply notes new six t = replied (Some _) tt t.0 t.1 t.2
+message_plain r (icmp.EchoRequest ident seq_no) octets H reply notes new six t = replied (Some _) refl t.0 t.1 t.2
 message_plain r (icmp.Ndisc message) octets H reply notes new six t = ndisc_plain six t
-message_plain r (icmp.Router message) octets H reply notes new six t = record { by_ip = rw t.0 tt; unnoted = t.1; keeps = kept_by t.2 (unread refl refl) }
+message_plain r (icmp.Router message) octets H reply notes new six t = record { by_ip = rw t.0 tt; unnoted = t.1; keeps = kept_by t.2 (unread refl refl); attends = attends_by t.2 (record { nobody = λ none. none; moment = refl }) }
 message_plain r (icmp.Mld message) octets H reply notes new six t = mld_plain r message H reply notes new t
 message_plain r (icmp.EchoReply ident seq_no) octets H reply notes new six t = dropped t
 message_plain r (icmp.DstUnreachable reason header) octets H reply notes new six t = dropped t
@@ -295,10 +340,10 @@ message_plain r (icmp.ParamProblem reason pointer header) octets H reply notes n
 icmpv6_plain : {r : Ipv6Repr} {H new : Host} {octets : List ℕ} {reply : Option Reply} {notes : List Note} → TakesIcmpv6 r H octets reply notes new → IsPlain H reply notes new
 icmpv6_plain (icmpv6.Malformed m d) = dropped d
 icmpv6_plain {r} {H} {new} {octets} {reply} {notes} (icmpv6.Taken i t) =
-    after (unread refl refl) (message_plain r (icmpv6_in octets).0 (icmpv6_in octets).1 (icmpv6.heard r octets H) reply notes new (tells _ _ _ octets i) t)
+    after (unread refl refl) (icmp_attends _ _ _ octets H) (message_plain r (icmpv6_in octets).0 (icmpv6_in octets).1 (icmpv6.heard r octets H) reply notes new (tells _ _ _ octets i) t)
 
 refused_v6 : {by_raw : Bool} {r : Ipv6Repr} {H new : Host} {octets : List ℕ} {reply : Option Reply} {notes : List Note} → ipv6.IsRefused by_raw r H octets reply notes new → IsPlain H reply notes new
-refused_v6 {by_raw} {r} {H} {new} {octets} i = replied (protocol_unknown by_raw H.ip_addrs r octets) (unless by_raw _ tt) i.replied i.unnoted i.unchanged
+refused_v6 {by_raw} {r} {H} {new} {octets} i = replied (protocol_unknown by_raw H.ip_addrs r octets) (unless by_raw _ refl) i.replied i.unnoted i.unchanged
 
 protocol_v6 : (p : IpProtocol) (by_raw : Bool) (r : Ipv6Repr) (H : Host) (octets : List ℕ) (reply : Option Reply) (notes : List Note) (new : Host) →
     ipv6.TakesProtocol p by_raw r H octets reply notes new → IsPlain H reply notes new
@@ -314,13 +359,14 @@ payload_v6 : {source : HardwareAddress} {r : Ipv6Repr} {p : IpProtocol} {H new :
     TakesPayload source r p H payload reply notes new → IsPlain H reply notes new
 payload_v6 (ipv6.NotForUs u d) = dropped d
 payload_v6 {source} {r} {p} {H} {new} {payload} {reply} {notes} (ipv6.Accepted u t) =
-    after (heard_kept (repr.Ipv6 r) payload H) (after (sender_kept source (repr.Ipv6 r) (raw.heard (repr.Ipv6 r) payload H)) (protocol_v6 p _ r _ payload reply notes new t))
+    after (heard_kept (repr.Ipv6 r) payload H) (raw_attends (repr.Ipv6 r) payload H)
+    (after (sender_kept source (repr.Ipv6 r) (raw.heard (repr.Ipv6 r) payload H)) (sender_attends source (repr.Ipv6 r) (raw.heard (repr.Ipv6 r) payload H)) (protocol_v6 p _ r _ payload reply notes new t))
 
 complaint_plain : (failure : Ipv6OptionFailureType) (own : List IpCidr) (r : Ipv6Repr) (payload : List ℕ) → IsByIp (complaint failure own r payload)
 complaint_plain Skip own r payload = tt
 complaint_plain Discard own r payload = tt
-complaint_plain DiscardSendAll own r payload = tt
-complaint_plain DiscardSendUnicast own r payload = unless (is_multicast r.dst_addr) (icmpv6.problem own UnrecognizedOption r payload) tt
+complaint_plain DiscardSendAll own r payload = refl
+complaint_plain DiscardSendUnicast own r payload = unless (is_multicast r.dst_addr) (icmpv6.problem own UnrecognizedOption r payload) refl
 
 options_v6 : {source : HardwareAddress} {r : Ipv6Repr} {H new : Host} {payload : List ℕ} {reply : Option Reply} {notes : List Note} →
     TakesOptions source r H payload reply notes new → IsPlain H reply notes new

@@ -44,7 +44,8 @@ use Rattle.host_machine.specs.Slaac.{in_line}
 use Rattle.host_machine.specs.Polling.{maintained}
 use Rattle.host_machine.specs.Host.{Host, at, swept, with_left, with_neighbors}
 use Rattle.host_machine.specs.Addresses.{is_broadcast_v4}
-use Rattle.host_machine.specs.Packet.{Packet, PacketV4}
+use Rattle.host_machine.specs.Packet.{Packet, PacketV4, payload_of}
+use Rattle.host_machine.specs.Requests.{may_ask}
 use Rattle.host_machine.specs.Reply.{Reply, Arp, Ip, IsDropped}
 use Rattle.host_machine.specs.Frame.{arp_frame, ip_frame, piece_frame}
 use Rattle.host_machine.specs.Arp.{TakesArp, request_for, answer_by}
@@ -55,7 +56,7 @@ use Rattle.host_machine.specs.Ipv6.{TakesIpv6}
 use Rattle.host_machine.specs.Ipv4 as ipv4
 use Rattle.host_machine.specs.Ethernet.{TakesPayload, TakesEthernet, TakesFrame}
 use Rattle.host_machine.specs.Ethernet as ethernet
-use Rattle.host_machine.specs.Dispatch.{many_address, group_address, datagram_of, identified, silenced}
+use Rattle.host_machine.specs.Dispatch.{Outcome, Dispatches, many_address, group_address, datagram_of, identified, silenced}
 use Rattle.host_machine.specs.Response.{Responds}
 use Rattle.host_machine.specs.Ingress.{Takes, Ingress}
 use Rattle.host_machine.specs.Step.{Act, Step, UpdatesIpAddrs}
@@ -153,7 +154,7 @@ group_of : (m : Medium) (own : EthernetAddress) (list : List IpCidr) (a : IpAddr
 group_of medium.Ethernet own list a e of is = group_six list a e is
 group_of medium.Ip own list a e of is = absurd of
 
-reached_of : (H : Host) (h : HardwareAddress) → IsReal H → Reached H h → IsOf H.capabilities.medium h
+pub reached_of : (H : Host) (h : HardwareAddress) → IsReal H → Reached H h → IsOf H.capabilities.medium h
 reached_of H h r (ByNeighbor hop k) = found_of H.capabilities.medium (map.get H.neighbors.known hop) H.neighbors.silent_until H.moment h (λ e is. r.neighbors hop e is) k
 reached_of H h r (ByGroup own a e mine many is) = rw is (group_of H.capabilities.medium own H.ip_addrs a e (rw mine at r.own) many)
 reached_of H h r (WithoutAddresses mine is) = rw is (rw mine at r.own)
@@ -175,11 +176,11 @@ fragments H key f result notes new t = λ r. rw (t.noted, t.changed) (stays H []
 pieces : (H : Host) (p : Piece) (rest : List Piece) → H.left ≡ p ∷ rest → ShownOver H (piece_frame H p ∷ []) (OfCuts (PieceSent p) ∷ []) (with_left H rest)
 pieces H p rest e = λ r. stays H _ _ _ (OnePiece H p r.own Nothing) refl refl refl r
 
--- an ARP reply goes between addresses of the medium
-abbrev GoodReply : Medium → Option Reply → Type 0
+-- an ARP reply goes between addresses of the medium, and a packet asks for no neighbour
+abbrev pub GoodReply : Medium → Option Reply → Type 0
 GoodReply m None = Unit {0}
-GoodReply m (Some (Ip p)) = Unit {0}
-GoodReply m (Some (Arp r)) = IsOf m (hardware.Ethernet r.source_hardware_addr) × IsOf m (hardware.Ethernet r.target_hardware_addr)
+GoodReply m (Some (Ip p)) = may_ask (payload_of p) ≡ false
+GoodReply m (Some (Arp r)) = IsOf m (hardware.Ethernet r.source_hardware_addr) × IsOf m (hardware.Ethernet r.target_hardware_addr) × (r.operation ≡ operation.Reply)
 
 module _ (kind : Medium) where
   no_reply : {reply : Option Reply} → reply ≡ None → GoodReply kind reply
@@ -191,11 +192,11 @@ module _ (kind : Medium) where
   -- no reply of IP is one of ARP
   ip_good : (reply : Option Reply) → IsByIp reply → GoodReply kind reply
   ip_good None i = tt
-  ip_good (Some (Ip p)) i = tt
+  ip_good (Some (Ip p)) i = i
   ip_good (Some (Arp r)) i = absurd i
 
   reply_good : (op : ArpOperation) (own : EthernetAddress) (r : ArpRepr) → IsOf kind (hardware.Ethernet own) → IsOf kind (hardware.Ethernet r.source_hardware_addr) → GoodReply kind (answer_by op own r)
-  reply_good operation.Request own r s t = (s, t)
+  reply_good operation.Request own r s t = (s, t, refl)
   reply_good operation.Reply own r s t = tt
 
   arp_good : {own : EthernetAddress} {H new : Host} {payload : List ℕ} {reply : Option Reply} {notes : List Note} → IsOf kind (hardware.Ethernet own) → TakesArp own H payload reply notes new → GoodReply kind reply
@@ -237,11 +238,14 @@ module _ (kind : Medium) where
   frame_good hardware.Ip H frame reply notes new of (ethernet.Ipv6 v t) = ipv6_good t
   frame_good hardware.Ip H frame reply notes new of (ethernet.OtherVersion v w d) = drop_good d
 
-takes_good : (H : Host) (r : Reception) (reply : Option Reply) (notes : List Note) (new : Host) → IsReal H → Takes H r reply notes new → GoodReply H.capabilities.medium reply
+pub takes_good : (H : Host) (r : Reception) (reply : Option Reply) (notes : List Note) (new : Host) → IsReal H → Takes H r reply notes new → GoodReply H.capabilities.medium reply
 takes_good H NoFrame reply notes new real t = drop_good H.capabilities.medium t
 takes_good H Withheld reply notes new real t = drop_good H.capabilities.medium t
 takes_good H (Frame []) reply notes new real t = drop_good H.capabilities.medium t
 takes_good H (Frame (octet ∷ octets)) reply notes new real t = frame_good H.capabilities.medium H.hardware_addr H (octet ∷ octets) reply notes new real.own t
+
+pub dispatch_real : {p : Packet} {outcome : Outcome} {H new : Host} {frames : List (List ℕ)} {notes : List Note} → Dispatches p outcome H frames notes new → ShownOver H frames notes new
+dispatch_real d = dispatched ShownOver keeps on requests asked identifies whole cuts d
 
 silent : {old new : Host} {frames : List (List ℕ)} {notes : List Note} → frames ≡ [] → notes ≡ [] → new ≡ old → ShownOver old frames notes new
 silent {old} f n e = λ real. rw (f, n, e) (stays old [] [] old Nothing refl refl refl real)
@@ -250,13 +254,17 @@ responds : (reply : Option Reply) (H : Host) (frames : List (List ℕ)) (notes :
 responds None H frames notes new good r = silent r.0 r.1 r.2
 responds (Some (Arp packet)) H frames notes new good r = λ real.
     rw (r.0, r.1, r.2) (stays H _ [] H (OtherFrame (arp_frame packet) (arp_other H.capabilities.medium packet good.0 good.1) Nothing) refl refl refl real)
-responds (Some (Ip packet)) H frames notes new good r = dispatched ShownOver keeps on requests asked identifies whole cuts r.1
+responds (Some (Ip packet)) H frames notes new good r = dispatch_real r.1
+
+-- what is taken leaves hardware addresses of the medium
+pub takes_real : (H : Host) (r : Reception) (reply : Option Reply) (notes : List Note) (new : Host) → Takes H r reply notes new → ShownOver H [] notes new
+takes_real H r reply notes new t = taken ShownOver keeps on fragments H r reply notes new t
 
 ingress : {t : ℤ} {answer : PollIngressSingleResult} {old new : Host} {told : List Event} {notes : List Note} → Ingress t answer old told notes new → ShownOver old (sent told) notes new
 ingress {t} {answer} {old} {new} {told} {notes} i = λ real.
     let began = (sweeps old t real).real in
     let r = i.response in
-    let first = taken ShownOver keeps on fragments (swept old t) i.reception r.reply r.notes_taking r.taken r.takes in
+    let first = takes_real (swept old t) i.reception r.reply r.notes_taking r.taken r.takes in
     let good = takes_good (swept old t) i.reception r.reply r.notes_taking r.taken began r.takes in
     let same = (first began).same in
     let second = responds r.reply r.taken i.frames r.notes_responding new (subst (λ (d : DeviceCapabilities). GoodReply d.medium r.reply) (sym same) good) r.responds in
@@ -264,7 +272,7 @@ ingress {t} {answer} {old} {new} {told} {notes} i = λ real.
     (on (swept old t) r.taken new [] i.frames r.notes_taking r.notes_responding first second) real)
 
 -- a hardware address that is taken is one of the medium
-given : (c : DeviceCapabilities) (h : HardwareAddress) → hardware_refusal_of c h ≡ None → IsSix h → IsOf c.medium h
+pub given : (c : DeviceCapabilities) (h : HardwareAddress) → hardware_refusal_of c h ≡ None → IsSix h → IsOf c.medium h
 given c (hardware.Ethernet a) none six = by c.medium none where
   by : (m : Medium) → (if not (true && same_medium medium.Ethernet m) then Some WrongMedium else if not (is_unicast (hardware.Ethernet a)) then Some NotUnicast else None) ≡ None → IsOf m (hardware.Ethernet a)
   by medium.Ethernet e = six

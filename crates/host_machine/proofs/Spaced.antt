@@ -58,7 +58,7 @@ found_or_passed Less n silent t unknown = absurd cc
 found_or_passed Equal n silent t unknown = missing_passed silent t unknown
 found_or_passed Greater n silent t unknown = missing_passed silent t unknown
 
-silence_passed : (e : Option Neighbor) (silent t : ℤ) → answer_from e silent t ≡ NotFound → silent ≤ℤ t
+pub silence_passed : (e : Option Neighbor) (silent t : ℤ) → answer_from e silent t ≡ NotFound → silent ≤ℤ t
 silence_passed None silent t unknown = missing_passed silent t unknown
 silence_passed (Some n) silent t unknown = found_or_passed (int_cmp t n.expires_at) n silent t unknown
 

@@ -1,31 +1,34 @@
 -- Laws that follow from the definitions.
-use Rattle.std.specs.Prelude.{◌≡◌, ℕ, ℤ, ◌+◌, ◌≤◌, ◌==◌, ◌&&◌, ◌||◌, Bool, false, List, [], ◌∷◌, ◌++◌, length, drop, slice_index, if◌then◌else◌}
+use Rattle.std.specs.Prelude.{◌≡◌, ℕ, ℤ, ◌≤◌, ◌≤ℤ◌, true, List, [], ◌∷◌, ◌++◌, length, drop, Option}
 use Rattle.std.specs.List.{AllByRecursion}
 use Rattle.net_base.specs.declared.phy.ChecksumCapabilities.{ChecksumCapabilities}
 use Rattle.net_base.specs.Checksum.{is_rx}
-use Rattle.net_base.specs.Device.{Event, handed, sent}
+use Rattle.net_base.specs.Device.{Event, Reception, handed, sent}
 use Rattle.ip_address.specs.declared.hardware.HardwareAddress.{HardwareAddress}
 use Rattle.ip_address.specs.declared.hardware.HardwareAddress.TheVariants as hardware
 use Rattle.ip_address.specs.declared.ip.IpAddress.{IpAddress}
-use Rattle.wire_base.specs.Octets.{u16_at}
+use Rattle.iface_tables.specs.declared.neighbor.Neighbor.{Neighbor}
+use Rattle.iface_tables.specs.Neighbor.{Neighbors, Fills}
 use Rattle.ip_wire.specs.declared.ethernet.EthernetProtocol.TheVariants as protocol
 use Rattle.ip_wire.specs.Ethernet.{header_in}
 use Rattle.ip_wire.specs.Arp.{IsArp}
 use Rattle.ip_wire.specs.Ipv4Packet.{IsIpv4}
 use Rattle.ipv6_wire.specs.Ipv6Packet.{IsIpv6}
-use Rattle.iface_tables.specs.Neighbor.{answer_of}
-use Rattle.iface_tables.specs.declared.neighbor.Answer.TheVariants.{Found}
 use Rattle.host_machine.specs.declared.results.PollIngressSingleResult.{PollIngressSingleResult}
-use Rattle.host_machine.specs.Note.{Note, asks}
-use Rattle.host_machine.specs.Host.{Host, swept}
-use Rattle.net_base.specs.declared.phy.Medium.TheVariants as medium
+use Rattle.fragmentation.specs.Cuts.{Piece, pieces_of}
+use Rattle.host_machine.specs.Note.{Note, Cut, PieceSent, asks, cut_notes}
+use Rattle.host_machine.specs.Host.{Host, swept, with_neighbors}
 use Rattle.ip_address.specs.Hardware.{IsOf}
-use Rattle.ip_address.specs.Protocol.{number_of}
-use Rattle.host_machine.specs.Packet.{Packet, payload_of, protocol_of}
-use Rattle.host_machine.specs.Dispatch.{Outcome, Dispatches}
-use Rattle.host_machine.specs.Ingress.{Ingress}
+use Rattle.host_machine.specs.Packet.{Packet, PacketV4}
+use Rattle.host_machine.specs.Packet as packet
+use Rattle.host_machine.specs.Frame.{ip_frame, piece_frame}
+use Rattle.host_machine.specs.Dispatch.{Outcome, Dispatches, datagram_of}
+use Rattle.host_machine.specs.Reply.{Reply}
+use Rattle.host_machine.specs.Ingress.{Takes, Ingress}
 use Rattle.host_machine.specs.Frames.{ComesInFrames}
-use Rattle.host_machine.specs.Run.{Place, Run}
+use Rattle.host_machine.specs.Real.{IsReal}
+use Rattle.host_machine.specs.Requests.{IsSound, IsOrdinary, is_request, requests_in}
+use Rattle.host_machine.specs.Run.{Place, Run, notes_in}
 use Rattle.host_machine.specs.Ran.{Laws}
 
 -- a frame whose header of Ethernet, ARP, IPv4 or IPv6 is malformed
@@ -53,36 +56,61 @@ IngressIsSingle =
     (t : ℤ) (answer : PollIngressSingleResult) (old new : Host) (told : List Event) (notes : List Note) →
     Ingress t answer old told notes new → (length (handed told) ≤ 1) × (length (sent told) ≤ 1)
 
--- a frame of Ethernet that asks for a hardware address: its type is that of ARP, the operation behind it a request (RFC 826)
-abbrev pub is_arp_request : List ℕ → Bool
-is_arp_request frame = u16_at frame 12 == 0x0806 && u16_at frame 20 == 1
+-- what a dispatch sends: nothing; the packet, or the first of its pieces; or, while no silence stands, one request for the hardware address of its
+-- next hop, which is noted
+pub data SendsOneThing (p : Packet) (H : Host) (frames : List (List ℕ)) (notes : List Note) : Type 0 where
+  Nothing : frames ≡ [] → asks notes ≡ [] → cut_notes notes ≡ [] → SendsOneThing p H frames notes
+  ThePacket : (h : HardwareAddress) → IsOf H.capabilities.medium h → frames ≡ ip_frame H h p ∷ [] → asks notes ≡ [] → cut_notes notes ≡ [] →
+      SendsOneThing p H frames notes
+  ItsFirstPiece : (h : HardwareAddress) (q : PacketV4) (first : Piece) (rest : List Piece) → IsOf H.capabilities.medium h → p ≡ packet.Ipv4 q →
+      pieces_of (datagram_of H h H.ipv4_id q) ≡ first ∷ rest → frames ≡ piece_frame H first ∷ [] → asks notes ≡ [] →
+      cut_notes notes ≡ Cut (datagram_of H h H.ipv4_id q) ∷ PieceSent first ∷ [] → SendsOneThing p H frames notes
+  ARequest : (frame : List ℕ) → is_request H.capabilities.medium frame ≡ true → H.neighbors.silent_until ≤ℤ H.moment → frames ≡ frame ∷ [] →
+      asks notes ≡ H.moment ∷ [] → cut_notes notes ≡ [] → SendsOneThing p H frames notes
 
--- or by IPv6: its next header is ICMPv6, and the message a neighbour solicitation (RFC 4861 4.3)
-abbrev pub is_solicitation : List ℕ → Bool
-is_solicitation frame = u16_at frame 12 == 0x86dd && slice_index frame 20 == 58 && slice_index frame 54 == 135
+-- and so each dispatch does, of whatever packet
+abbrev pub DispatchesSendOneThing : Type 0
+DispatchesSendOneThing =
+    (p : Packet) (outcome : Outcome) (H new : Host) (frames : List (List ℕ)) (notes : List Note) →
+    IsReal H → Dispatches p outcome H frames notes new → SendsOneThing p H frames notes
 
-abbrev pub is_request : List ℕ → Bool
-is_request frame = is_arp_request frame || is_solicitation frame
+-- two dispatches that do the same: what becomes of the packet, what is sent and noted, and the host after it
+pub record IsOneDispatch (one two : Outcome) (frames frames' : List (List ℕ)) (notes notes' : List Note) (new new' : Host) : Type 0 where
+  pub outcome_is : one ≡ two
+  pub frames_are : frames ≡ frames'
+  pub notes_are : notes ≡ notes'
+  pub host_is : new ≡ new'
 
--- how many of the frames do
-abbrev pub requests_in : List (List ℕ) → ℕ
-requests_in [] = 0
-requests_in (frame ∷ frames) = (if is_request frame then 1 else 0) + requests_in frames
+-- what a dispatch does is determined by its packet and the host: the rules say what may be, and nothing else may
+abbrev pub DispatchIsDetermined : Type 0
+DispatchIsDetermined =
+    (p : Packet) (one two : Outcome) (H new new' : Host) (frames frames' : List (List ℕ)) (notes notes' : List Note) →
+    Dispatches p one H frames notes new → Dispatches p two H frames' notes' new' → IsOneDispatch one two frames frames' notes notes' new new'
 
--- a packet of ICMPv6, which may be a solicitation itself
-abbrev pub is_icmpv6 : Packet → Bool
-is_icmpv6 p = number_of (protocol_of (payload_of p)) == 58
+-- two hosts after one and the same: they are one, or each learnt this neighbour of one host, and another may have made room for it in each
+pub data IsOneHost (new new' : Host) : Type 0 where
+  OneHost : new ≡ new' → IsOneHost new new'
+  RoomMade : (H : Host) (a : IpAddress) (n : Neighbor) (one two : Neighbors) → Fills H.neighbors one a n → Fills H.neighbors two a n →
+      new ≡ with_neighbors H one → new' ≡ with_neighbors H two → IsOneHost new new'
 
--- a host on Ethernet: its own address and those of its neighbours have six octets
-pub record OnEthernet (H : Host) : Type 0 where
-  pub own : IsOf medium.Ethernet H.hardware_addr
-  pub neighbors : (a : IpAddress) (h : HardwareAddress) → answer_of H.neighbors a H.moment ≡ Found h → IsOf medium.Ethernet h
+-- two receptions that do the same: what is answered and noted, and the host after it
+pub record IsOneReception (reply reply' : Option Reply) (notes notes' : List Note) (new new' : Host) : Type 0 where
+  pub reply_is : reply ≡ reply'
+  pub noted_is : notes ≡ notes'
+  pub taken_is : IsOneHost new new'
 
--- the ARP requests and solicitations among the frames that a dispatch sends are the discovery requests that it notes: none goes unnoted
+-- what is done with what the device gave is determined by it and by the host, but for which of several neighbours of least end makes room
+abbrev pub ReceptionIsDetermined : Type 0
+ReceptionIsDetermined =
+    (r : Reception) (H new new' : Host) (reply reply' : Option Reply) (notes notes' : List Note) →
+    Takes H r reply notes new → Takes H r reply' notes' new' → IsOneReception reply reply' notes notes' new new'
+
+-- the ARP requests and neighbour solicitations among the frames that a run sends are the discovery requests that it notes: none goes unnoted,
+-- and each that is noted goes, at its moment
 abbrev pub DiscoveriesAreNoted : Type 0
 DiscoveriesAreNoted =
-    (p : Packet) (outcome : Outcome) (H new : Host) (frames : List (List ℕ)) (notes : List Note) →
-    OnEthernet H → is_icmpv6 p ≡ false → Dispatches p outcome H frames notes new → requests_in frames ≡ length (asks notes)
+    (first last : Host) (places : List Place) → Run first places last → IsSound first → AllByRecursion IsOrdinary places →
+    requests_in first.capabilities.medium places ≡ asks (notes_in places)
 
 -- the places of one run after those of another are one run
 abbrev pub RunsJoin : Type 0

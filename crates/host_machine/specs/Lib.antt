@@ -35,11 +35,12 @@ pub mod Rebuilding
 pub mod Order
 pub mod Run
 pub mod Quiet
+pub mod Real
+pub mod Requests
 pub mod Ran
 pub mod Unfolded
 pub mod Frames
 pub mod Arrivals
-pub mod Real
 pub mod Wire
 pub mod TwoHosts
 pub mod Laws

@@ -35,3 +35,15 @@ AreDistinct (x ∷ xs) = HasNone x xs × AreDistinct xs
 -- fewer than 65,536 dispatches take distinct identifications
 abbrev pub AreDistinctIfFew : List ℕ → Type 0
 AreDistinctIfFew ids = length ids < 2 ^ 16 → AreDistinct ids
+
+-- the identifications of the packets that are cut, in order
+abbrev pub cut_identifications : List CutNote → List ℕ
+cut_identifications [] = []
+cut_identifications (Cut d ∷ notes) = d.identification ∷ cut_identifications notes
+cut_identifications (PieceSent p ∷ notes) = cut_identifications notes
+
+-- some of a list, in its order
+pub data IsAmong {X : Type 0} : List X → List X → Type 0 where
+  NoneOfNone : IsAmong [] []
+  OneOf : {xs ys : List X} (x : X) → IsAmong xs ys → IsAmong (x ∷ xs) (x ∷ ys)
+  NotThis : {xs ys : List X} (y : X) → IsAmong xs ys → IsAmong xs (y ∷ ys)

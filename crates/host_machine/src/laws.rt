@@ -9,7 +9,7 @@ ghost use Rattle.host_machine.specs.ExampleFragments.{DatagramIsRebuilt, Fragmen
 ghost use Rattle.host_machine.specs.ExamplePolling.{RequestIsPolled, WaitIsDue};
 ghost use Rattle.host_machine.specs.ExampleSockets.{ConfigurationsAreTested, ConnectionIsReset, DatagramIsDelivered, DatagramIsRefused, ProtocolIsRefused, RawSocketHears, SocketWaits, WindowFitsBurst};
 ghost use Rattle.host_machine.specs.Quiet.{SocketsAreQuiet};
-ghost use Rattle.host_machine.specs.Laws.{DiscoveriesAreNoted, FragmentsComeInFrames, IngressIsSingle, MalformedIsDropped, RunsJoin, RunsKeepLaws};
+ghost use Rattle.host_machine.specs.Laws.{DiscoveriesAreNoted, DispatchIsDetermined, DispatchesSendOneThing, FragmentsComeInFrames, IngressIsSingle, MalformedIsDropped, ReceptionIsDetermined, RunsJoin, RunsKeepLaws};
 ghost use Rattle.host_machine.specs.Unfolded.{RunsUnfold};
 ghost use Rattle.host_machine.specs.TwoHosts.{PiecesAreRead, RebuildsWhatWasCut};
 ghost use Rattle.host_machine.specs.Wire.{FragmentsArePieces, StaysReal};
@@ -25,9 +25,26 @@ pub fn ingress_is_single()
     ensures { IngressIsSingle }
 {}
 
-/// Over Ethernet the ARP requests and neighbour solicitations among the frames of a packet that is sent
-/// are as many as the discovery requests that are noted, on which the law of their distance rests. A
-/// packet that is itself one of ICMPv6 is left out.
+/// A dispatch sends nothing, or the packet's own frame, or the first of its pieces, or exactly one discovery
+/// request, which is noted and goes while no silence stands.
+pub fn dispatches_send_one_thing()
+    ensures { DispatchesSendOneThing }
+{}
+
+/// What a dispatch does is determined by its packet and the host: what becomes of the packet, which frames
+/// go, what is noted, and the host after it.
+pub fn dispatch_is_determined()
+    ensures { DispatchIsDetermined }
+{}
+
+/// What is done with what the device gave is determined by it and by the host, but for which of several
+/// neighbours of least end makes room for a new one.
+pub fn reception_is_determined()
+    ensures { ReceptionIsDetermined }
+{}
+
+/// The ARP requests and neighbour solicitations among all frames that a run sends are, in order and with
+/// their moments, the discovery requests that it notes, unless a raw socket speaks ICMPv6.
 pub fn discoveries_are_noted()
     ensures { DiscoveriesAreNoted }
 {}

@@ -1,0 +1,94 @@
+-- Which of the frames that a run sends ask for hardware addresses, and when they go.
+use Rattle.std.specs.Prelude.{◌≡◌, ℕ, ℤ, pos, ◌==◌, ◌&&◌, ◌||◌, Bool, true, false, List, [], ◌∷◌, slice_index, if◌then◌else◌}
+use Rattle.std.specs.List.{AllByRecursion}
+use Rattle.net_base.specs.declared.phy.Medium.{Medium}
+use Rattle.net_base.specs.declared.phy.Medium.TheVariants as medium
+use Rattle.net_base.specs.Device.{Event, Received, Asked, Sent}
+use Rattle.wire_base.specs.Octets.{u16_at}
+use Rattle.ip_address.specs.Hardware.{IsOf}
+use Rattle.ip_address.specs.Protocol.{number_of}
+use Rattle.icmpv6_wire.specs.declared.icmpv6.Icmpv6Repr.{Icmpv6Repr}
+use Rattle.icmpv6_wire.specs.declared.icmpv6.Icmpv6Repr.TheVariants as v6
+use Rattle.icmpv6_wire.specs.declared.ndisc.NdiscRepr.{NdiscRepr}
+use Rattle.icmpv6_wire.specs.declared.ndisc.NdiscRepr.TheVariants.{NeighborSolicit, NeighborAdvert}
+use Rattle.sockets.specs.Kinds.{down_raw}
+use Rattle.host_machine.specs.Host.{Host, Storage}
+use Rattle.host_machine.specs.Delivery.{holds}
+use Rattle.host_machine.specs.Packet.{IpPayload, Icmpv4, Icmpv6, Udp, Tcp, Raw, Igmp, Mld}
+use Rattle.host_machine.specs.Real.{IsReal, GivesSix}
+use Rattle.host_machine.specs.Run.{Place, told_in}
+
+-- a frame of Ethernet that asks for a hardware address: its type is that of ARP, the operation behind it a request (RFC 826)
+abbrev pub is_arp_request : List ℕ → Bool
+is_arp_request frame = u16_at frame 12 == 0x0806 && u16_at frame 20 == 1
+
+-- or by IPv6: its next header is ICMPv6, and the message a neighbour solicitation (RFC 4861 4.3)
+abbrev pub is_solicitation : List ℕ → Bool
+is_solicitation frame = u16_at frame 12 == 0x86dd && slice_index frame 20 == 58 && slice_index frame 54 == 135
+
+-- by the medium: where there are no hardware addresses nobody asks for one
+abbrev pub is_request : Medium → List ℕ → Bool
+is_request medium.Ethernet frame = is_arp_request frame || is_solicitation frame
+is_request medium.Ip frame = false
+
+-- the frames that were sent, each with the moment at which the device was asked last, for a frame or for leave to send
+abbrev pub sent_at : ℤ → List Event → List (ℤ × List ℕ)
+sent_at t [] = []
+sent_at t (Received now reception ∷ es) = sent_at now es
+sent_at t (Asked now given ∷ es) = sent_at now es
+sent_at t (Sent id frame ∷ es) = (t, frame) ∷ sent_at t es
+
+-- the moments of those that ask, in order
+abbrev pub requests_at : Medium → List (ℤ × List ℕ) → List ℤ
+requests_at m [] = []
+requests_at m (f ∷ fs) = if is_request m f.1 then f.0 ∷ requests_at m fs else requests_at m fs
+
+-- of a whole run
+abbrev pub requests_in : Medium → List Place → List ℤ
+requests_in m places = requests_at m (sent_at (pos 0) (told_in places))
+
+-- a payload that may be a solicitation: one by its values, and what a raw socket for ICMPv6 sends
+abbrev pub may_ask_neighbor : NdiscRepr → Bool
+may_ask_neighbor (NeighborSolicit target lladdr) = true
+may_ask_neighbor (NeighborAdvert flags target lladdr) = false
+
+abbrev pub may_ask_v6 : Icmpv6Repr → Bool
+may_ask_v6 (v6.Ndisc message) = may_ask_neighbor message
+may_ask_v6 (v6.Router message) = false
+may_ask_v6 (v6.Mld message) = false
+may_ask_v6 (v6.EchoRequest ident seq_no) = false
+may_ask_v6 (v6.EchoReply ident seq_no) = false
+may_ask_v6 (v6.DstUnreachable reason header) = false
+may_ask_v6 (v6.PktTooBig mtu header) = false
+may_ask_v6 (v6.TimeExceeded code header) = false
+may_ask_v6 (v6.ParamProblem reason pointer header) = false
+
+abbrev pub may_ask : IpPayload → Bool
+may_ask (Icmpv4 message octets) = false
+may_ask (Icmpv6 message octets) = may_ask_v6 message
+may_ask (Udp header octets) = false
+may_ask (Tcp header octets) = false
+may_ask (Raw protocol octets) = number_of protocol == 58
+may_ask (Igmp message) = false
+may_ask (Mld count records) = false
+
+-- a raw socket for ICMPv6, whose owner may write solicitations of his own
+abbrev pub speaks_icmpv6 : Storage → Bool
+speaks_icmpv6 place = holds down_raw (λ s. number_of s.protocol == 58) place
+
+-- a host has none
+abbrev pub NobodySpeaks : Host → Type 0
+NobodySpeaks H = AllByRecursion (λ place. speaks_icmpv6 place ≡ false) H.sockets.places
+
+-- at a place of a run there is none, and a hardware address that is given has six octets
+abbrev pub IsOrdinary : Place → Type 0
+IsOrdinary p = GivesSix p.command × NobodySpeaks p.before
+
+-- what is left to send of a packet that was cut goes to an address of the medium, as it does where nothing is left
+abbrev pub IsLeftWell : Host → Type 0
+IsLeftWell H = AllByRecursion (λ p. IsOf H.capabilities.medium p.destination) H.left
+
+-- a host from which a run begins that reads as its medium has it
+pub record IsSound (H : Host) : Type 0 where
+  pub real : IsReal H
+  pub left : IsLeftWell H
