@@ -276,8 +276,8 @@ rebuilds H last_a K last_b ps qs fit_a fit_b h k ra rb six_ps six_qs were = λ m
     (record { one_medium = medium; a_real = fit_a.real H h; b_real = fit_b.real K k; mtu = fit_a.mtu H h; left = left }) six_ps six_qs were own free
 
 -- and without the premise on keys, where the other dispatched few packets
-rebuilds_few : {H last_a K : Host} {ps qs : List Place} → Run H ps last_a → RebuildsCuts H K ps qs → RebuildsFew H K ps qs
-rebuilds_few ra cuts = λ medium left few free. cuts medium left ((run_laws ra).own_keys few) free
+rebuilds_few : {last_a : Host} (H K : Host) (ps qs : List Place) → Run H ps last_a → RebuildsCuts H K ps qs → RebuildsFew H K ps qs
+rebuilds_few H K ps qs ra cuts = λ medium left few free. cuts medium left ((run_laws ra).own_keys few) free
 
 pub link_went : {O P : Type 0} (did_a : Owns O) (did_b : Owns P) (m n : ℕ) (steps done : List LinkStep) (answer : Result (Unit {0}) LinkError) (a a' : Linked O) (b b' : Linked P) →
     m ≡ length a.device.sent → n ≡ length b.device.sent → a.device.queued ≡ [] → b.device.queued ≡ [] → IsFit a → IsFit b →
@@ -299,6 +299,6 @@ link_went did_a did_b m n steps done answer a a' b b' is_m is_n none_a none_b fi
       to_a = were_sent over refl none_a;
       rebuilds_b = cuts_b;
       rebuilds_a = cuts_a;
-      few_b = rebuilds_few (run_a went.links) cuts_b;
-      few_a = rebuilds_few (run_a over) cuts_a;
+      few_b = rebuilds_few H K went.ps went.qs (run_a went.links) cuts_b;
+      few_a = rebuilds_few K H went.qs went.ps (run_a over) cuts_a;
     }
