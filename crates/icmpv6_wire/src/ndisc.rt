@@ -7,7 +7,7 @@ ghost use Rattle.icmpv6_wire.specs.Ndisc as spec;
 use crate::ndisc_option::{NdiscOptionType, lladdr_option, parse_lladdr};
 use bitflags::{Flag, Flags, bitflag_items};
 use ip_address::{EthernetAddress, Ipv6Address};
-use ipv6_wire::ipv6_packet::address_at;
+use ipv6_wire::ipv6_packet::{address_at, address_octets};
 
 /// What an advertisement says of its sender.
 #[derive(Clone, Copy, Debug, PartialEq, Eq)]
@@ -131,13 +131,12 @@ impl NdiscRepr {
     }
 
     /// The sixteen octets of the target's address.
-    #[tactic(auto, unfolding(ipv6_wire::specs::Ipv6Packet::address_text))]
     pub(crate) fn target_octets(&self) -> [u8; 16]
         ensures { result ≡ address_text (spec.target_of self.now) }
     {
         match self {
             NdiscRepr::NeighborSolicit { target_addr, .. }
-            | NdiscRepr::NeighborAdvert { target_addr, .. } => target_addr.bits.to_be_bytes(),
+            | NdiscRepr::NeighborAdvert { target_addr, .. } => address_octets(target_addr),
         }
     }
 

@@ -1,4 +1,5 @@
 pub mod Failures
+pub mod Halves
 pub mod HopByHopAgain
 pub mod Ipv6Again
 pub mod Options

@@ -24,6 +24,21 @@ pub fn address_at(octets: &[u8], at: usize) -> Ipv6Address
     }
 }
 
+/// The sixteen octets of an address, by its halves: each of them is swapped at once.
+#[inline(always)]
+#[tactic(auto, using(crate::proofs::Halves::halves), unfolding(crate::specs::Ipv6Packet::address_text))]
+pub fn address_octets(address: &Ipv6Address) -> [u8; 16]
+    ensures { result ≡ spec.address_text address.now }
+{
+    let high = (address.bits / (1 << 64)) as u64;
+    let low = (address.bits % (1 << 64)) as u64;
+    let [h0, h1, h2, h3, h4, h5, h6, h7] = high.to_be_bytes();
+    let [l0, l1, l2, l3, l4, l5, l6, l7] = low.to_be_bytes();
+    [
+        h0, h1, h2, h3, h4, h5, h6, h7, l0, l1, l2, l3, l4, l5, l6, l7,
+    ]
+}
+
 /// The values of a packet's header, but its traffic class and its flow label.
 #[derive(Clone, Copy, Debug, PartialEq, Eq)]
 pub struct Ipv6Repr {
@@ -81,8 +96,8 @@ impl Ipv6Repr {
         octets[4..6].copy_from_slice(&self.payload_len.to_be_bytes());
         octets[6] = self.next_header.number();
         octets[7] = self.hop_limit;
-        octets[8..24].copy_from_slice(&self.src_addr.bits.to_be_bytes());
-        octets[24..].copy_from_slice(&self.dst_addr.bits.to_be_bytes());
+        octets[8..24].copy_from_slice(&address_octets(&self.src_addr));
+        octets[24..].copy_from_slice(&address_octets(&self.dst_addr));
         octets
     }
 
