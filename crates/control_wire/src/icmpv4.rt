@@ -41,6 +41,7 @@ impl Icmpv4DstUnreachable {
     }
 
     /// The code of a reason.
+    #[inline(always)]
     pub const fn number(self) -> u8
         ensures { result ≡ spec.code_of self }
     {
@@ -155,6 +156,7 @@ impl Icmpv4Repr {
     }
 
     /// The length of the message without its data, in octets.
+    #[inline(always)]
     pub const fn header_len(&self) -> usize
         ensures { result ≡ spec.header_len self.now }
     {

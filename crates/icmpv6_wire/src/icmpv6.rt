@@ -42,6 +42,7 @@ impl Icmpv6DstUnreachable {
     }
 
     /// The code of a reason.
+    #[inline(always)]
     pub const fn number(self) -> u8
         ensures { result ≡ spec.unreachable_code self }
     {
@@ -92,6 +93,7 @@ impl Icmpv6ParamProblem {
     }
 
     /// The code of a problem.
+    #[inline(always)]
     pub const fn number(self) -> u8
         ensures { result ≡ spec.problem_code self }
     {
@@ -256,6 +258,7 @@ impl Icmpv6Repr {
     }
 
     /// The length of the message without its data, in octets.
+    #[inline(always)]
     pub const fn header_len(&self) -> usize
         ensures value { result ≡ spec.header_len self.now }
         ensures small { result ≤ 56 }
@@ -284,6 +287,7 @@ fn sums_up(octets: &[u8], src: &IpAddress, dst: &IpAddress) -> bool
 }
 
 /// The folded sum of the pseudo-header of a message of this length, in octets.
+#[inline(always)]
 fn pseudo_header_sum(src: &IpAddress, dst: &IpAddress, len: u16) -> u16
     ensures { result ≡ folded (word_sum (spec.pseudo_header src.now dst.now len)) }
 {
@@ -338,6 +342,7 @@ fn head_with(sum: u16, repr: &Icmpv6Repr) -> [u8; HEADER_LEN]
 }
 
 /// Appends a message up to its data: its first eight octets, and its body in two parts.
+#[inline(always)]
 fn emit_parts(
     message: &Icmpv6Repr,
     first: &[u8],
@@ -368,6 +373,7 @@ fn emit_parts(
 }
 
 /// The checksum of a message whose body has these two parts.
+#[inline(always)]
 fn sum_of(
     message: &Icmpv6Repr,
     first: &[u8],

@@ -99,6 +99,7 @@ impl NdiscRepr {
     }
 
     /// The type of the message.
+    #[inline(always)]
     pub(crate) const fn message_type(&self) -> u8
         ensures { result ≡ spec.type_of self.now }
     {
@@ -109,6 +110,7 @@ impl NdiscRepr {
     }
 
     /// The length of the message, in octets.
+    #[inline(always)]
     pub(crate) const fn message_len(&self) -> usize
         ensures value { result ≡ spec.message_len self.now }
         ensures small { result ≤ 32 }
@@ -121,6 +123,7 @@ impl NdiscRepr {
     }
 
     /// The octet behind the checksum: the flags of an advertisement, and else 0.
+    #[inline(always)]
     pub(crate) fn flag_octet(&self) -> u8
         ensures { result ≡ spec.flag_octet self.now }
     {
@@ -131,6 +134,7 @@ impl NdiscRepr {
     }
 
     /// The sixteen octets of the target's address.
+    #[inline(always)]
     pub(crate) fn target_octets(&self) -> [u8; 16]
         ensures { result ≡ address_text (spec.target_of self.now) }
     {
@@ -141,6 +145,7 @@ impl NdiscRepr {
     }
 
     /// The eight octets of the option with the link-layer address, if there is one.
+    #[inline(always)]
     pub(crate) fn option_octets(&self) -> Option<[u8; 8]>
         ensures value { spec.option_octets result ≡ spec.option_text self.now }
         ensures len { 24 + length (spec.option_octets result) ≡ spec.message_len self.now }

@@ -50,6 +50,7 @@ pub fn process_icmpv4(
 
 /// Builds the reply to a message, of which these are all octets: to an echo request, and to nothing
 /// else. Where its checksum was tested, the reply's comes from it.
+#[inline(always)]
 fn answer(
     context: &mut Context,
     header: &Ipv4Repr,
@@ -82,6 +83,7 @@ fn answer(
 /// Builds an error in reply to a packet, in an empty buffer. It quotes the packet's header and at most
 /// 528 octets of its payload, so that it is at most 576 octets long (RFC 1122 3.2.2). None is built if
 /// a raw socket took the packet.
+#[inline(never)]
 pub fn refuse(
     context: &mut Context,
     reason: Icmpv4DstUnreachable,
@@ -113,6 +115,7 @@ fn quoted(payload: &[u8]) -> &[u8]
 
 /// Builds a message in reply to a packet, with hop limit 64, if it may go. The message may be the reply
 /// to a request whose checksum was tested.
+#[inline(always)]
 fn send_back(
     context: &mut Context,
     header: &Ipv4Repr,
@@ -157,6 +160,7 @@ fn payload_of<'p>(
 /// The address from which a message goes in reply to a packet: the packet's destination, if that is
 /// one host, and for a broadcast the first own address, where the message may answer one (RFC 1122
 /// 3.2.2, 3.2.2.6). None goes to what isn't one host.
+#[inline(always)]
 fn reply_source(context: &Context, header: &Ipv4Repr, message: &Icmpv4Repr) -> Option<Ipv4Address>
     ensures { result ≡ spec.reply_source (host_of context.now no_sockets).ip_addrs header.now message.now }
 {

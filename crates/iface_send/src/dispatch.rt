@@ -60,6 +60,7 @@ pub fn dispatch(
 }
 
 /// Builds a packet's frame over Ethernet: to many hosts straight, else by the next hop.
+#[inline(always)]
 fn dispatch_ethernet(
     context: &mut Context,
     identification: u16,
@@ -85,6 +86,7 @@ fn dispatch_ethernet(
 }
 
 /// Builds a packet's frame for a next hop, or the request for that one's hardware address.
+#[inline(always)]
 fn dispatch_by_hop(
     context: &mut Context,
     identification: u16,
@@ -226,6 +228,7 @@ fn emit_to(
 }
 
 /// Builds the frame of a packet that fits.
+#[inline(always)]
 fn emit_frame(
     context: &Context,
     destination: &HardwareAddress,
@@ -244,6 +247,7 @@ fn emit_frame(
 
 /// The hardware address for a destination of many hosts: that of all for a broadcast, that of the
 /// group for a group.
+#[inline(always)]
 fn many_address(context: &Context, dst_addr: &IpAddress) -> Option<EthernetAddress>
     ensures value { result ≡ spec.many_address (host_of context.now no_sockets).ip_addrs dst_addr.now }
     ensures else_one { result ≡ None → is_unspecified dst_addr.now ≡ false → is_unicast dst_addr.now ≡ true }

@@ -65,6 +65,7 @@ pub enum IpPayload<'p> {
 
 impl IpPayload<'_> {
     /// Its protocol.
+    #[inline(always)]
     pub fn protocol(&self) -> IpProtocol
         ensures { result ≡ value.protocol_of (shown.payload self.now) }
     {
@@ -80,6 +81,7 @@ impl IpPayload<'_> {
     }
 
     /// Its length with the protocol's header, in octets.
+    #[inline(always)]
     pub fn len(&self) -> usize
         ensures value { result ≡ value.payload_len (shown.payload self.now) }
         ensures short { result < 2 ^ 63 + 56 }
@@ -97,6 +99,7 @@ impl IpPayload<'_> {
     }
 
     /// The octets behind its protocol's header.
+    #[inline(always)]
     pub fn octets(&self) -> &[u8]
         ensures { result.now ≡ shown.octets_behind self.now }
     {
@@ -115,6 +118,7 @@ impl IpPayload<'_> {
 
 impl PacketV4<'_> {
     /// The values of its header. It has to have at most 65,535 octets.
+    #[inline(always)]
     pub fn header(&self) -> Ipv4Repr
         requires { 20 + value.payload_len (shown.payload self.now.payload) < 2 ^ 16 }
         ensures { result ≡ value.header_v4 (shown.packet_v4 self.now) }
@@ -131,6 +135,7 @@ impl PacketV4<'_> {
 
 impl PacketV6<'_> {
     /// The values of its header. Its payload has to have at most 65,535 octets.
+    #[inline(always)]
     pub fn header(&self) -> Ipv6Repr
         requires { value.payload_len (shown.payload self.now.payload) < 2 ^ 16 }
         ensures { result ≡ value.header_v6 (shown.packet_v6 self.now) }
@@ -197,6 +202,7 @@ impl<'p> Packet<'p> {
     }
 
     /// What it carries.
+    #[inline(always)]
     pub fn payload(&self) -> &IpPayload<'p>
         ensures { shown.payload result.now ≡ value.payload_of (shown.packet self.now) }
     {
@@ -231,6 +237,7 @@ impl<'p> Packet<'p> {
 
 impl Packet<'_> {
     /// Where it goes to.
+    #[inline(always)]
     pub fn dst_addr(&self) -> IpAddress
         ensures { result ≡ destination_of (shown.packet self.now) }
     {
@@ -241,6 +248,7 @@ impl Packet<'_> {
     }
 
     /// The type of the frame that carries it.
+    #[inline(always)]
     pub fn ethertype(&self) -> EthernetProtocol
         ensures { result ≡ ethertype_of (shown.packet self.now) }
     {
@@ -251,6 +259,7 @@ impl Packet<'_> {
     }
 
     /// Its length with its header, in octets.
+    #[inline(always)]
     pub fn total_len(&self) -> usize
         ensures { result ≡ value.total_len (shown.packet self.now) }
     {
@@ -261,6 +270,7 @@ impl Packet<'_> {
     }
 
     /// Appends the packet, each of its forms with its checksum where that is on.
+    #[inline(always)]
     pub fn emit(&self, capabilities: &DeviceCapabilities, out: &mut FrameBuffer)
         requires writable { IsWritable (shown.packet self.now) }
         requires room { length out.old + value.total_len (shown.packet self.now) ≤ 1514 }
@@ -380,6 +390,7 @@ pub fn icmp_reply_payload_len(len: usize, mtu: usize, header_len: usize) -> usiz
 
 /// A segment's header as it goes behind a packet's header of so many octets: its window is at most
 /// what a device with a limited burst can take, so many segments as long as its packets allow.
+#[inline(always)]
 fn limited(capabilities: &DeviceCapabilities, ip_header_len: usize, header: &TcpRepr) -> TcpRepr
     requires { ip_header_len ≤ 40 }
     ensures { result ≡ limited capabilities.now ip_header_len header.now }
@@ -402,6 +413,7 @@ fn limited(capabilities: &DeviceCapabilities, ip_header_len: usize, header: &Tcp
 
 /// Appends what stands before a packet on the link from one hardware address to another: an
 /// Ethernet header, or nothing on a medium without hardware addresses.
+#[inline(always)]
 pub fn emit_link_header(
     source: &HardwareAddress,
     destination: &HardwareAddress,

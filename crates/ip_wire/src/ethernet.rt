@@ -36,6 +36,7 @@ pub enum EthernetProtocol {
 
 impl EthernetProtocol {
     /// The protocol of a type number.
+    #[inline(always)]
     pub const fn from_number(number: u16) -> EthernetProtocol
         ensures { result ≡ spec.protocol_of number }
     {
@@ -48,6 +49,7 @@ impl EthernetProtocol {
     }
 
     /// The type number of a protocol.
+    #[inline(always)]
     pub const fn number(self) -> u16
         ensures { result ≡ spec.number_of self }
     {
@@ -101,6 +103,7 @@ impl EthernetRepr {
     }
 
     /// Appends the header, of 14 octets.
+    #[inline(always)]
     pub fn emit(&self, out: &mut FrameBuffer)
         requires { length out.old + 14 ≤ 1514 }
         ensures items { out.new ≡ out.old ++ spec.header_text self.now }

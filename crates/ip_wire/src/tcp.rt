@@ -250,6 +250,7 @@ fn header_with(sum: u16, repr: &TcpRepr) -> [u8; HEADER_LEN]
 }
 
 /// The checksum of a segment.
+#[inline(always)]
 #[tactic(auto, using(crate::proofs::TransportSums::segments))]
 fn sum_for(repr: &TcpRepr, src: &IpAddress, dst: &IpAddress, payload: &[u8]) -> u16
     requires { 20 + length payload.now < 2 ^ 16 }

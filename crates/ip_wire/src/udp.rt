@@ -136,6 +136,7 @@ fn header_with(sum: u16, repr: &UdpRepr, payload_len: u16) -> [u8; HEADER_LEN]
 }
 
 /// The checksum of a datagram.
+#[inline(always)]
 #[tactic(auto, using(crate::proofs::TransportSums::datagrams))]
 fn sum_for(repr: &UdpRepr, src: &IpAddress, dst: &IpAddress, payload: &[u8]) -> u16
     requires { 8 + length payload.now < 2 ^ 16 }

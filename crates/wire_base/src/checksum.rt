@@ -8,6 +8,7 @@ use crate::octets::{u32_le_at, u64_le_at};
 /// A folded sum with the 16-bit words of some octets, of which there are fewer than 65,536, added
 /// to it, folded again. A last odd octet is the high half of a word, so parts are summed one after
 /// the other as long as all but the last are of even length.
+#[inline(always)]
 pub fn sum_with(start: u16, octets: &[u8]) -> u16
     requires { length octets.now < 2 ^ 16 }
     ensures { result ≡ spec.folded (start + spec.word_sum octets.now) }
