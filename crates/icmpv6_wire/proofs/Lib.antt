@@ -1,3 +1,4 @@
+pub mod EchoSums
 pub mod Icmpv6Again
 pub mod Icmpv6Sums
 pub mod NdiscAgain

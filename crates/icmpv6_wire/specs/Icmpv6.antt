@@ -76,6 +76,20 @@ pub record IsIcmpv6 (checked : Bool) (src dst : IpAddress) (octets : List ℕ) :
   pub sum : IsTrue checked → folded (word_sum (pseudo_header src dst (length octets) ++ octets)) ≡ 65535
   pub body : IsBody octets
 
+-- an echo request between two addresses, whose checksum is right
+pub record IsEchoRequest (src dst : IpAddress) (octets : List ℕ) : Type 0 where
+  pub whole_header : 8 ≤ length octets
+  pub type : type_in octets ≡ 128
+  pub code : code_in octets ≡ 0
+  pub sum : folded (word_sum (pseudo_header src dst (length octets) ++ octets)) ≡ 65535
+
+-- its values, and the reply to it, which gives its identifier and its number back, and its data
+abbrev pub echo_request_in : List ℕ → Icmpv6Repr
+echo_request_in octets = EchoRequest (u16_at octets 4) (u16_at octets 6)
+
+abbrev pub echo_reply_to : List ℕ → Icmpv6Repr
+echo_reply_to octets = EchoReply (u16_at octets 4) (u16_at octets 6)
+
 -- an error's values, and what is quoted behind the quoted header
 abbrev pub error_of : List ℕ → Icmpv6Repr
 error_of octets =

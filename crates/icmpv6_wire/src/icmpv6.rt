@@ -288,7 +288,7 @@ fn sums_up(octets: &[u8], src: &IpAddress, dst: &IpAddress) -> bool
 
 /// The folded sum of the pseudo-header of a message of this length, in octets.
 #[inline(always)]
-fn pseudo_header_sum(src: &IpAddress, dst: &IpAddress, len: u16) -> u16
+pub(crate) fn pseudo_header_sum(src: &IpAddress, dst: &IpAddress, len: u16) -> u16
     ensures { result ≡ folded (word_sum (spec.pseudo_header src.now dst.now len)) }
 {
     pseudo_sum(src, dst, 58, len)
@@ -297,7 +297,7 @@ fn pseudo_header_sum(src: &IpAddress, dst: &IpAddress, len: u16) -> u16
 /// The first eight octets of a message, with the given checksum.
 #[inline(always)]
 #[tactic(auto, unfolding(crate::specs::Icmpv6::head_with))]
-fn head_with(sum: u16, repr: &Icmpv6Repr) -> [u8; HEADER_LEN]
+pub(crate) fn head_with(sum: u16, repr: &Icmpv6Repr) -> [u8; HEADER_LEN]
     ensures { result ≡ spec.head_with sum repr.now }
 {
     let [c0, c1] = sum.to_be_bytes();

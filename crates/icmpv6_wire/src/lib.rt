@@ -1,6 +1,7 @@
 //! The control messages of IPv6 on the wire: ICMPv6, with the messages of neighbours and routers.
 #![tactic(auto)]
 
+pub mod echo;
 pub mod icmpv6;
 pub mod ndisc;
 pub mod ndisc_option;

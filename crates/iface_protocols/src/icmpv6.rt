@@ -1,5 +1,9 @@
 //! What an interface does with ICMP messages of IPv6 (RFC 4443), and which it sends in reply.
-ghost use Rattle.std.specs.Prelude.{◌≡◌, ◌<◌, ◌^◌, [], Some, true, length};
+ghost use Rattle.std.specs.Prelude.{◌≡◌, ◌<◌, ◌^◌, [], Some, IfSome, true, drop, length};
+ghost use Rattle.ip_address.specs.declared.ip.IpAddress.TheVariants as ip;
+ghost use Rattle.icmpv6_wire.specs.Icmpv6.{IsIcmpv6, echo_reply_to, echo_request_in, icmpv6_in};
+ghost use Rattle.host_machine.specs.Packet as value;
+ghost use Rattle.iface_send.specs.Shown as shown;
 ghost use Rattle.ip_address.specs.Ipv6.{is_unicast};
 ghost use Rattle.host_machine.specs.Host.{SocketSet, no_sockets};
 ghost use Rattle.host_machine.specs.Icmpv6 as spec;
@@ -13,6 +17,7 @@ use crate::mld::process_mld;
 use crate::ndisc::process_ndisc;
 use crate::router::process_router;
 use control_wire::IcmpRepr;
+use icmpv6_wire::echo::EchoRequest;
 use icmpv6_wire::{Icmpv6DstUnreachable, Icmpv6ParamProblem, Icmpv6Repr};
 use iface_send::dispatch::dispatch;
 use iface_send::packet::icmp_reply_payload_len;
@@ -49,18 +54,23 @@ pub fn process_icmpv6(
     };
     let heard = IcmpRepr::Ipv6(message);
     deliver(sockets, src_addr, &heard, contents, octets);
-    process_message(context, header, &message, contents, out);
+    process_message(context, header, &message, contents, octets, checked, out);
 }
 
-/// Takes a message by its values and its data.
+/// Takes a message, of which these are all octets, by its values and its data. Where its checksum was
+/// tested, that of an echo reply comes from it.
 fn process_message(
     context: &mut Context,
     header: &Ipv6Repr,
     message: &Icmpv6Repr,
     contents: &[u8],
+    octets: &[u8],
+    checked: bool,
     out: &mut FrameBuffer,
 )
     requires empty { out.old ≡ [] }
+    requires short { length octets.now < 2 ^ 16 }
+    requires read { IsIcmpv6 checked (ip.Ipv6 header.now.src_addr) (ip.Ipv6 header.now.dst_addr) octets.now × ((message.now, contents.now) ≡ icmpv6_in octets.now) }
     requires from_one { is_unicast header.now.src_addr ≡ true }
     ensures { (sockets : SocketSet) → Processed out.new (λ H. spec.TakesMessage header.now message.now contents.now H) (host_of context.old sockets) (host_of context.new sockets) }
 {
@@ -70,13 +80,35 @@ fn process_message(
                 ident: *ident,
                 seq_no: *seq_no,
             };
-            send_back(context, header, reply, contents, out);
+            let request = tested(header, message, contents, octets, checked);
+            send_back(context, header, reply, contents, request, out);
         }
         Icmpv6Repr::Ndisc(message) => process_ndisc(context, header, message, out),
         Icmpv6Repr::Router(message) => process_router(context, header, message),
         Icmpv6Repr::Mld(message) => process_mld(context, header, message),
         _ => {}
     }
+}
+
+/// An echo request by its octets, if its checksum was tested.
+#[inline(always)]
+fn tested<'p>(
+    header: &Ipv6Repr,
+    message: &Icmpv6Repr,
+    contents: &[u8],
+    octets: &'p [u8],
+    checked: bool,
+) -> Option<EchoRequest<'p>>
+    requires short { length octets.now < 2 ^ 16 }
+    requires read { IsIcmpv6 checked (ip.Ipv6 header.now.src_addr) (ip.Ipv6 header.now.dst_addr) octets.now × ((message.now, contents.now) ≡ icmpv6_in octets.now) }
+    ensures { IfSome result (λ r. (message.now ≡ echo_request_in r.octets.now) × (contents.now ≡ drop 8 r.octets.now)) }
+{
+    if !checked || octets[0] != 128 || octets[1] != 0 {
+        return None;
+    }
+    let src_addr = IpAddress::Ipv6(header.src_addr);
+    let dst_addr = IpAddress::Ipv6(header.dst_addr);
+    Some(EchoRequest::new(octets, &src_addr, &dst_addr))
 }
 
 /// Builds the error in reply to a datagram to a port at which nobody listens, in an empty buffer. None is
@@ -98,7 +130,7 @@ pub(crate) fn refuse_port(
         reason: Icmpv6DstUnreachable::PortUnreachable,
         header: *header,
     };
-    send_back(context, header, message, quoted(payload), out);
+    send_back(context, header, message, quoted(payload), None, out);
 }
 
 /// Builds the error in reply to a packet in which something isn't known, in an empty buffer: behind its
@@ -119,7 +151,7 @@ pub fn complain(
         pointer: 40,
         header: *header,
     };
-    send_back(context, header, message, quoted(payload), out);
+    send_back(context, header, message, quoted(payload), None, out);
 }
 
 /// As much of a payload as an error quotes.
@@ -129,24 +161,43 @@ fn quoted(payload: &[u8]) -> &[u8]
     &payload[..icmp_reply_payload_len(payload.len(), IPV6_MIN_MTU, HEADER_LEN)]
 }
 
-/// Builds a message in reply to a packet, with hop limit 64.
+/// Builds a message in reply to a packet, with hop limit 64. The message may be the reply to a request
+/// whose checksum was tested.
 fn send_back(
     context: &mut Context,
     header: &Ipv6Repr,
     message: Icmpv6Repr,
     contents: &[u8],
+    request: Option<EchoRequest<'_>>,
     out: &mut FrameBuffer,
 )
-    requires { out.old ≡ [] }
+    requires empty { out.old ≡ [] }
+    requires replies { IfSome request (λ r. (message ≡ echo_reply_to r.octets.now) × (contents.now ≡ drop 8 r.octets.now)) }
     ensures { Built out.new (Responds (Some (spec.message_back (host_of context.old no_sockets).ip_addrs header.now message contents.now))) context.old context.new }
 {
     let packet = Packet::Ipv6(PacketV6 {
         src_addr: reply_source(context, header),
         dst_addr: header.src_addr,
         hop_limit: 64,
-        payload: IpPayload::Icmpv6(message, contents),
+        payload: payload_of(message, contents, request),
     });
     let _ = dispatch(context, &packet, out);
+}
+
+/// A message as a payload.
+#[inline(always)]
+fn payload_of<'p>(
+    message: Icmpv6Repr,
+    contents: &'p [u8],
+    request: Option<EchoRequest<'p>>,
+) -> IpPayload<'p>
+    requires { IfSome request (λ r. (message ≡ echo_reply_to r.octets.now) × (contents.now ≡ drop 8 r.octets.now)) }
+    ensures { shown.payload result ≡ value.Icmpv6 message contents.now }
+{
+    match request {
+        Some(request) => IpPayload::EchoReplyV6(request),
+        None => IpPayload::Icmpv6(message, contents),
+    }
 }
 
 /// The address from which a message goes in reply to a packet: the packet's destination, if that is one

@@ -1,9 +1,10 @@
 -- Packets as values, without where their octets lie in memory.
 use Rattle.std.specs.Prelude.{ℕ, List, [], drop}
 use Rattle.control_wire.specs.Icmpv4.{echo_reply_to}
+use Rattle.icmpv6_wire.specs.Icmpv6 as v6
 use Rattle.host_machine.specs.Packet as value
 use Rattle.iface_send.specs.declared.packet.IpPayload.{IpPayload}
-use Rattle.iface_send.specs.declared.packet.IpPayload.TheVariants.{Icmpv4, Icmpv6, EchoReply, Udp, Tcp, Raw, Igmp, Mld}
+use Rattle.iface_send.specs.declared.packet.IpPayload.TheVariants.{Icmpv4, Icmpv6, EchoReply, EchoReplyV6, Udp, Tcp, Raw, Igmp, Mld}
 use Rattle.iface_send.specs.declared.packet.PacketV4.{PacketV4}
 use Rattle.iface_send.specs.declared.packet.PacketV6.{PacketV6}
 use Rattle.iface_send.specs.declared.packet.Packet.{Packet}
@@ -13,6 +14,7 @@ abbrev pub payload : IpPayload → value.IpPayload
 payload (Icmpv4 message octets) = value.Icmpv4 message octets.now
 payload (Icmpv6 message octets) = value.Icmpv6 message octets.now
 payload (EchoReply request) = value.Icmpv4 (echo_reply_to request.octets.now) (drop 8 request.octets.now)
+payload (EchoReplyV6 request) = value.Icmpv6 (v6.echo_reply_to request.octets.now) (drop 8 request.octets.now)
 payload (Udp header octets) = value.Udp header octets.now
 payload (Tcp header octets) = value.Tcp header octets.now
 payload (Raw number octets) = value.Raw number octets.now
@@ -24,6 +26,7 @@ abbrev pub octets_behind : IpPayload → List ℕ
 octets_behind (Icmpv4 message octets) = octets.now
 octets_behind (Icmpv6 message octets) = octets.now
 octets_behind (EchoReply request) = drop 8 request.octets.now
+octets_behind (EchoReplyV6 request) = drop 8 request.octets.now
 octets_behind (Udp header octets) = octets.now
 octets_behind (Tcp header octets) = octets.now
 octets_behind (Raw number octets) = octets.now

@@ -13,7 +13,7 @@ ghost use Rattle.iface_send.specs.Shown as shown;
 use arrayvec::ArrayVec;
 use control_wire::icmpv4::{EchoRequest, Icmpv4Repr};
 use group_wire::{IgmpRepr, MldRepr};
-use icmpv6_wire::Icmpv6Repr;
+use icmpv6_wire::{Icmpv6Repr, echo};
 use ip_wire::emit::FrameBuffer;
 use ip_wire::ipv4_packet::{Ipv4Fragment, Ipv4Repr};
 use ip_wire::{
@@ -55,6 +55,8 @@ pub enum IpPayload<'p> {
     Icmpv6(Icmpv6Repr, &'p [u8]),
     /// The reply to an echo request.
     EchoReply(EchoRequest<'p>),
+    /// The same over IPv6.
+    EchoReplyV6(echo::EchoRequest<'p>),
     Udp(UdpRepr, &'p [u8]),
     Tcp(TcpRepr, &'p [u8]),
     Raw(IpProtocol, &'p [u8]),
@@ -71,7 +73,7 @@ impl IpPayload<'_> {
     {
         match self {
             IpPayload::Icmpv4(..) | IpPayload::EchoReply(_) => IpProtocol::Icmp,
-            IpPayload::Icmpv6(..) => IpProtocol::Icmpv6,
+            IpPayload::Icmpv6(..) | IpPayload::EchoReplyV6(_) => IpProtocol::Icmpv6,
             IpPayload::Udp(..) => IpProtocol::Udp,
             IpPayload::Tcp(..) => IpProtocol::Tcp,
             IpPayload::Raw(protocol, _) => *protocol,
@@ -90,6 +92,7 @@ impl IpPayload<'_> {
             IpPayload::Icmpv4(message, octets) => message.header_len() + octets.len(),
             IpPayload::Icmpv6(message, octets) => message.header_len() + octets.len(),
             IpPayload::EchoReply(request) => request.octets.len(),
+            IpPayload::EchoReplyV6(request) => request.octets.len(),
             IpPayload::Udp(_, octets) => 8 + octets.len(),
             IpPayload::Tcp(_, octets) => 20 + octets.len(),
             IpPayload::Raw(_, octets) => octets.len(),
@@ -105,6 +108,7 @@ impl IpPayload<'_> {
     {
         match self {
             IpPayload::EchoReply(request) => request.payload(),
+            IpPayload::EchoReplyV6(request) => request.payload(),
             IpPayload::Icmpv4(_, octets)
             | IpPayload::Icmpv6(_, octets)
             | IpPayload::Udp(_, octets)
@@ -318,6 +322,10 @@ pub fn emit_payload_header(
         ),
         IpPayload::EchoReply(request) => {
             request.emit_reply_header(capabilities.checksum.icmpv4.tx(), out);
+        }
+        IpPayload::EchoReplyV6(request) => {
+            let (src, dst) = (header.src_addr(), header.dst_addr());
+            request.emit_reply_header(&src, &dst, capabilities.checksum.icmpv6.tx(), out);
         }
         IpPayload::Icmpv6(message, octets) => {
             let (src, dst) = (header.src_addr(), header.dst_addr());
