@@ -75,6 +75,7 @@ fn reset_for(repr: &TcpRepr, payload: &[u8], by_raw: bool) -> Option<TcpRepr>
 }
 
 /// Builds a segment without payload, if there is one, as a packet back to another's source.
+#[inline(never)]
 fn send_back(context: &mut Context, header: &IpRepr, repr: Option<TcpRepr>, out: &mut FrameBuffer)
     requires { out.old ≡ [] }
     ensures { Built out.new (Responds (option_map (spec.segment_back header.now) repr)) context.old context.new }
@@ -82,8 +83,16 @@ fn send_back(context: &mut Context, header: &IpRepr, repr: Option<TcpRepr>, out:
     let Some(repr) = repr else {
         return;
     };
-    let packet = Packet::back(header, IpPayload::Tcp(repr, &[]));
-    let _ = dispatch(context, &packet, out);
+    match header {
+        IpRepr::Ipv4(_) => {
+            let packet = Packet::back(header, IpPayload::Tcp(repr, &[]));
+            let _ = dispatch(context, &packet, out);
+        }
+        IpRepr::Ipv6(_) => {
+            let packet = Packet::back(header, IpPayload::Tcp(repr, &[]));
+            let _ = dispatch(context, &packet, out);
+        }
+    }
 }
 
 /// Gives a segment to the first socket that accepts it, and says whether there was one, and what it
