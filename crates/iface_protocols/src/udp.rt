@@ -19,6 +19,7 @@ use sockets::{IpEndpoint, udp};
 /// accepts it gets its payload, with its sender, or drops it for want of room; no other socket
 /// changes. For one that nobody accepts an error is sent back, unless a raw socket took the packet.
 /// What is no datagram is dropped. The error is built in an empty buffer.
+#[inline(always)]
 pub fn process_udp(
     context: &mut Context,
     sockets: &mut SocketSet<'_>,
@@ -38,11 +39,13 @@ pub fn process_udp(
         return;
     };
     if !deliver(context, sockets, header, &ports, payload) {
-        refuse_port(context, header, octets, by_raw, out);
+        let refused = *header;
+        refuse_port(context, &refused, octets, by_raw, out);
     }
 }
 
 /// Gives a datagram to the first socket that accepts it, and says whether there was one.
+#[inline(always)]
 fn deliver(
     context: &Context,
     sockets: &mut SocketSet<'_>,
@@ -64,6 +67,7 @@ fn deliver(
 }
 
 /// Gives a datagram to the socket at an index, if it accepts it, and says whether it did.
+#[inline(always)]
 fn deliver_at(
     context: &Context,
     sockets: &mut SocketSet<'_>,

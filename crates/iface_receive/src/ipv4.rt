@@ -110,6 +110,7 @@ fn header_of_datagram(header: &Ipv4Repr, octets: &[u8]) -> Ipv4Repr
 }
 
 /// Takes a packet that came whole or was put together, by its header and its payload.
+#[inline(always)]
 fn process_whole(
     context: &mut Context,
     sockets: &mut SocketSet<'_>,
@@ -154,11 +155,16 @@ fn process_protocol(
     requires quotable { 20 + header.now.payload_len < 2 ^ 16 }
     ensures { Processed out.new (λ H. TakesProtocol header.now.next_header by_raw header.now H payload.now) (host_of context.old sockets.old) (host_of context.new sockets.new) }
 {
-    let packet = IpRepr::Ipv4(*header);
     match header.next_header {
         IpProtocol::Icmp => process_icmpv4(context, sockets, header, payload, out),
-        IpProtocol::Udp => process_udp(context, sockets, &packet, payload, by_raw, out),
-        IpProtocol::Tcp => process_tcp(context, sockets, &packet, payload, by_raw, out),
+        IpProtocol::Udp => {
+            let packet = IpRepr::Ipv4(*header);
+            process_udp(context, sockets, &packet, payload, by_raw, out);
+        }
+        IpProtocol::Tcp => {
+            let packet = IpRepr::Ipv4(*header);
+            process_tcp(context, sockets, &packet, payload, by_raw, out);
+        }
         IpProtocol::Igmp => process_igmp(context, header, payload),
         IpProtocol::HopByHop | IpProtocol::Icmpv6 | IpProtocol::Unknown(_) => {
             let reason = Icmpv4DstUnreachable::ProtoUnreachable;

@@ -122,11 +122,16 @@ fn process_protocol(
     requires from_one { is_unicast header.now.src_addr ≡ true }
     ensures { Processed out.new (λ H. spec.TakesProtocol protocol by_raw header.now H payload.now) (host_of context.old sockets.old) (host_of context.new sockets.new) }
 {
-    let packet = IpRepr::Ipv6(*header);
     match protocol {
         IpProtocol::Icmpv6 => process_icmpv6(context, sockets, header, payload, out),
-        IpProtocol::Udp => process_udp(context, sockets, &packet, payload, by_raw, out),
-        IpProtocol::Tcp => process_tcp(context, sockets, &packet, payload, by_raw, out),
+        IpProtocol::Udp => {
+            let packet = IpRepr::Ipv6(*header);
+            process_udp(context, sockets, &packet, payload, by_raw, out);
+        }
+        IpProtocol::Tcp => {
+            let packet = IpRepr::Ipv6(*header);
+            process_tcp(context, sockets, &packet, payload, by_raw, out);
+        }
         IpProtocol::Icmp | IpProtocol::Igmp | IpProtocol::HopByHop | IpProtocol::Unknown(_) => {
             refuse_protocol(context, header, payload, by_raw, out);
         }

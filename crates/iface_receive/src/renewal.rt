@@ -10,6 +10,7 @@ use iface_send::neighbors::renew_neighbor;
 use ip_wire::{HardwareAddress, IpRepr};
 
 /// Keeps the sender of a packet to the interface alone for another 60 s.
+#[inline(always)]
 pub(crate) fn renew_sender(context: &mut Context, source: HardwareAddress, header: &IpRepr)
     ensures { (slots : Slots) (sockets : SocketSet) → host_in context.new slots sockets ≡ sender_renewed source header.now (host_in context.old slots sockets) }
 {

@@ -55,7 +55,7 @@ pub struct Context {
 }
 
 impl Context {
-    ghost use Rattle.std.specs.Prelude.{◌≡◌, ◌≤◌, [], not, length};
+    ghost use Rattle.std.specs.Prelude.{◌≡◌, ◌≤◌, ◌||◌, [], not, length};
     ghost use Rattle.fragmentation.specs.Pending.{is_nil};
     ghost use Rattle.host_machine.specs.Host as host;
     ghost use Rattle.iface_send.specs.Stands.{host_of};
@@ -136,6 +136,7 @@ impl Context {
 
     /// Whether an address is one of the interface's own: one that was given to it, or any with
     /// AnyIP.
+    #[inline(always)]
     pub fn has_ip_addr(&self, address: &IpAddress) -> bool
         ensures { result ≡ host.has_ip_addr (host_of self.now no_sockets) address.now }
     {
@@ -182,13 +183,19 @@ impl Context {
 
     /// Whether a packet to this address is for the interface: to an own one, to a group of its own,
     /// to a broadcast address, or to ::1.
+    #[inline(always)]
     pub fn is_for_host(&self, address: &IpAddress) -> bool
         ensures { result ≡ addresses.is_for_host (host_of self.now no_sockets) address.now }
     {
-        self.has_ip_addr(address)
-            || self.has_multicast_group(address)
-            || self.is_broadcast(address)
-            || is_loopback(address)
+        self.has_ip_addr(address) || self.is_for_many_or_itself(*address)
+    }
+
+    /// Whether an address is one of a group of its own, a broadcast address, or ::1.
+    #[inline(never)]
+    fn is_for_many_or_itself(&self, address: IpAddress) -> bool
+        ensures { result ≡ (addresses.has_multicast_group (host_of self.now no_sockets) address || addresses.is_broadcast (host_of self.now no_sockets).ip_addrs address || addresses.is_loopback address) }
+    {
+        self.has_multicast_group(&address) || self.is_broadcast(&address) || is_loopback(&address)
     }
 
     /// Whether it is the broadcast address of all networks, or of one of the interface's own (RFC
@@ -205,6 +212,7 @@ impl Context {
     }
 
     /// Whether it is the address of one host, as far as the interface can know.
+    #[inline(always)]
     pub fn is_unicast_v4(&self, address: &Ipv4Address) -> bool
         ensures { result ≡ addresses.is_unicast_v4 (host_of self.now no_sockets).ip_addrs address.now }
     {
@@ -212,6 +220,7 @@ impl Context {
     }
 
     /// The same of either family.
+    #[inline(always)]
     pub fn is_unicast(&self, address: &IpAddress) -> bool
         ensures { result ≡ addresses.is_unicast (host_of self.now no_sockets).ip_addrs address.now }
     {
@@ -355,6 +364,7 @@ fn is_asked_by(cidr: &IpCidr, address: &Ipv6Address) -> bool
 }
 
 /// Whether an address is one of a list.
+#[inline(always)]
 fn is_assigned(own: &[IpCidr], address: &IpAddress) -> bool
     ensures { result ≡ is_assigned own.now address.now }
 {

@@ -39,6 +39,7 @@ pub fn fill_neighbor(
 
 /// Keeps a neighbour for another 60 s, if the one at this address has this hardware address. Else
 /// nothing changes.
+#[inline(always)]
 pub fn renew_neighbor(
     context: &mut Context,
     protocol_addr: IpAddress,

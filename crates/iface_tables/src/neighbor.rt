@@ -149,6 +149,7 @@ impl Cache {
 
     /// Keeps a neighbour for another 60 s, if the one at this address has this hardware address.
     /// Else nothing changes.
+    #[inline(always)]
     #[tactic(auto, using(crate::proofs::NeighborLemmas::known_at))]
     pub fn reset_expiry_if_existing(
         &mut self,
@@ -239,6 +240,7 @@ fn find_in(entries: &[(IpAddress, Neighbor)], address: &IpAddress) -> Option<Nei
 }
 
 // Where an address stands, or the length.
+#[inline(always)]
 fn place_of(entries: &[(IpAddress, Neighbor)], address: &IpAddress) -> usize
     ensures { result ≡ entry.place_of address_cmp address.now entries.now }
 {
@@ -289,6 +291,7 @@ fn put_in(
 }
 
 // Moves the end of the entry at an address, if it has this hardware address.
+#[inline(always)]
 fn renew_in(
     entries: &mut ArrayVec<(IpAddress, Neighbor), IFACE_NEIGHBOR_CACHE_COUNT>,
     address: &IpAddress,

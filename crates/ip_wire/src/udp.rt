@@ -28,6 +28,7 @@ impl UdpRepr {
     /// `None` exactly if the octets are fewer than 8, the datagram's length is below 8 or longer
     /// than the octets are, the destination port is 0, or, where `checked`, its checksum is wrong.
     /// A checksum of 0 over IPv4 isn't tested.
+    #[inline(always)]
     pub fn parse<'a>(
         packet: &'a [u8],
         src: &IpAddress,
@@ -112,6 +113,7 @@ fn is_unsummed(packet: &[u8], dst: &IpAddress) -> bool
 }
 
 /// Whether a datagram and its pseudo-header sum up to all ones.
+#[inline(always)]
 #[tactic(auto, using(crate::proofs::TransportSums::before))]
 fn sums_up(datagram: &[u8], src: &IpAddress, dst: &IpAddress) -> bool
     requires { length datagram.now < 2 ^ 16 }

@@ -103,6 +103,7 @@ impl<L: Drop> SocketOf<L> {
 
     /// Whether a datagram to an address and a port is for the socket: the port is its own, and it
     /// listens at any address or at that one, or the address is a broadcast or a multicast one.
+    #[inline(always)]
     pub fn accepts<C: SocketContext>(
         &self,
         context: &C,
@@ -125,6 +126,7 @@ impl<L: Drop> SocketOf<L> {
     }
 
     /// Takes a datagram that came from an end. Without room for it, it is dropped.
+    #[inline(always)]
     pub fn process(&mut self, remote: IpEndpoint, payload: &[u8])
         ensures { self.new ≡ spec.delivered remote payload.now self.old }
     {
