@@ -1,10 +1,16 @@
 -- Going over all places, each once.
-use Rattle.std.proofs.Common.{◌≡◌, ℕ, zero, suc, ◌+◌, ◌<◌, ◌≤◌, Bool, true, false, List, [], ◌∷◌, length, map, slice_get, slice_set, Option, refl, ap, ◌∙◌, arith}
+use Rattle.std.proofs.Common.{◌≡◌, ℕ, zero, suc, ◌+◌, ◌<◌, ◌≤◌, Bool, true, false, List, [], ◌∷◌, length, map, slice_get, slice_set, Option, refl, sym, ap, ◌∙◌, arith}
 use Rattle.std.specs.Prelude.{◌||◌}
 use Rattle.std.specs.List.{list_any}
 use Rattle.std.specs.Option.{option_and_then}
 use Rattle.sockets.specs.declared.socket.SocketOf.{SocketOf}
 use Rattle.socket_set.specs.SocketSet.{Sockets, socket_at, with_place, with_places}
+use Rattle.net_base.specs.Checksum.{is_tx}
+use Rattle.ip_wire.specs.declared.ip_packet.IpRepr.{IpRepr}
+use Rattle.host_machine.specs.Host.{Host, SocketSet, Storage}
+use Rattle.host_machine.specs.Host as host
+use Rattle.host_machine.specs.Delivery.{to_each, to_this}
+use Rattle.host_machine.specs.Raw.{delivered, heard, takes}
 
 module _ {S : Type 0} where
   -- the list with the function applied to its first places
@@ -81,8 +87,43 @@ module _ {S : Type 0} where
       let whole : i ≡ length ps = omega (arith, len, low, high) in
       is ∙ ap (λ k. any_of test k ps) whole ∙ any_all test ps
 
+  -- the first places of which none meets the test, and one more
+  pub none_more : (test : Option S → Bool) (ps : List (Option S)) (i : ℕ) → i < length ps → any_of test i ps ≡ false → test (at_place ps i) ≡ false → any_of test (i + 1) ps ≡ false
+  none_more test ps i within none not_this =
+      let next : i + 1 ≡ suc i = omega arith in
+      rw (next, ← any_more test ps i within, none, not_this) refl
+
+  -- one that meets the test
+  pub one_meets : (test : Option S → Bool) (ps : List (Option S)) (i : ℕ) → i < length ps → test (at_place ps i) ≡ true → list_any test ps ≡ true
+  one_meets test [] i within is = absurd (omega arith)
+  one_meets test (p ∷ ps) zero within is = rw (is) refl
+  one_meets test (p ∷ ps) (suc i) within is = by (test p) (one_meets test ps i (omega arith) is) where
+    by : (b : Bool) → list_any test ps ≡ true → b || list_any test ps ≡ true
+    by true rest = refl
+    by false rest = rest
+
+  -- none of them meets the test
+  pub none_meets : (test : Option S → Bool) (ps : List (Option S)) (i n : ℕ) → n ≡ length ps → i ≤ n → n ≤ i → any_of test i ps ≡ false → list_any test ps ≡ false
+  none_meets test ps i n len low high none = sym (all_tested test ps i n false len low high (sym none))
+
 -- one place more of a set
 pub one_heard : {L : Type 0} (f : Option (SocketOf L) → Option (SocketOf L)) (old now new : Sockets L) (i : ℕ) → i < length old.places → now ≡ with_places old (mapped f i old.places) →
     new ≡ with_place now i (f (socket_at now i)) → new ≡ with_places old (mapped f (i + 1) old.places)
 one_heard f old now new i within is changed =
     changed ∙ ap (λ s. with_place s i (f (socket_at s i))) is ∙ ap (with_places old) (one_mapped f old.places (mapped f i old.places) i within refl)
+
+-- where no place meets the test, each one that does is none
+pub nobody_changed : (test : Storage → Bool) (deliver : Storage → Storage) (ps : List Storage) → list_any test ps ≡ false → to_each test deliver ps ≡ ps
+nobody_changed test deliver [] none = refl
+nobody_changed test deliver (p ∷ ps) none = by (test p) refl none (nobody_changed test deliver ps) where
+  by : (b : Bool) → test p ≡ b → b || list_any test ps ≡ false → (list_any test ps ≡ false → to_each test deliver ps ≡ ps) → to_this test deliver p ∷ to_each test deliver ps ≡ p ∷ ps
+  by true is none rest = absurd cc
+  by false is none rest = rw (is) (ap (λ (others : List Storage). p ∷ others) (rest none))
+
+-- so a host keeps its sockets
+pub nobody_heard : (r : IpRepr) (payload : List ℕ) (H : Host) → list_any (takes r) H.sockets.places ≡ false → H ≡ heard r payload H
+nobody_heard r payload H none = ap (host.with_places H) (sym (nobody_changed (takes r) (delivered (is_tx H.capabilities.checksum.ipv4) r payload) H.sockets.places none))
+
+-- so a set stays as it was
+pub set_kept : (test : Storage → Bool) (deliver : Storage → Storage) (set : SocketSet) → list_any test set.places ≡ false → set ≡ with_places set (to_each test deliver set.places)
+set_kept test deliver set none = ap (with_places set) (sym (nobody_changed test deliver set.places none))

@@ -1,7 +1,7 @@
 //! What ICMP sockets hear: the messages that are for them, of either family.
 ghost use Rattle.std.specs.Prelude.{◌≡◌, length};
 ghost use Rattle.socket_set.specs.SocketSet.{socket_at, with_place, with_places};
-ghost use Rattle.host_machine.specs.Delivery.{to_each, to_this};
+ghost use Rattle.host_machine.specs.Delivery.{is_somebody, to_each, to_this};
 ghost use Rattle.host_machine.specs.Icmp.{accepts, delivered};
 
 use control_wire::IcmpRepr;
@@ -20,8 +20,35 @@ pub(crate) fn deliver(
 )
     ensures { sockets.new ≡ with_places sockets.old (to_each (accepts message.now contents.now) (delivered remote octets.now) sockets.old.places) }
 {
+    if !has_taker(sockets, message, contents) {
+        return;
+    }
     for index in 0..by_index::places(sockets) {
         deliver_at(sockets, index, remote, message, contents, octets);
+    }
+}
+
+/// Whether some ICMP socket takes a message.
+#[inline(always)]
+fn has_taker(sockets: &SocketSet<'_>, message: &IcmpRepr, contents: &[u8]) -> bool
+    ensures { result ≡ is_somebody (accepts message.now contents.now) sockets.now.places }
+{
+    for index in 0..by_index::places(sockets) {
+        if takes_at(sockets, index, message, contents) {
+            return true;
+        }
+    }
+    false
+}
+
+/// Whether the socket at an index is one for ICMP that takes a message.
+#[inline(always)]
+fn takes_at(sockets: &SocketSet<'_>, index: usize, message: &IcmpRepr, contents: &[u8]) -> bool
+    ensures { result ≡ accepts message.now contents.now (socket_at sockets.now index) }
+{
+    match by_index::kind::<icmp::Socket<'_>, _>(sockets, index) {
+        Some(socket) => socket.accepts(message, contents),
+        None => false,
     }
 }
 

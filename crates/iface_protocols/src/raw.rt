@@ -2,7 +2,7 @@
 ghost use Rattle.std.specs.Prelude.{◌≡◌, length};
 ghost use Rattle.ip_wire.specs.IpPacket.{TellsLength};
 ghost use Rattle.socket_set.specs.SocketSet.{socket_at, with_place};
-ghost use Rattle.host_machine.specs.Delivery.{to_this};
+ghost use Rattle.host_machine.specs.Delivery.{is_somebody, to_this};
 ghost use Rattle.host_machine.specs.Raw.{delivered, heard, is_taken, takes};
 ghost use Rattle.iface_send.specs.Stands.{host_of};
 
@@ -13,7 +13,51 @@ use sockets::raw;
 
 /// Hands a packet, with its header as it is emitted, to each raw socket that takes it, and says
 /// whether there was one.
+#[inline(always)]
 pub fn deliver(
+    context: &Context,
+    sockets: &mut SocketSet<'_>,
+    header: &IpRepr,
+    payload: &[u8],
+) -> bool
+    requires { TellsLength header.now }
+    ensures taken { result ≡ is_taken header.now (host_of context.now sockets.old) }
+    ensures heard { host_of context.now sockets.new ≡ heard header.now payload.now (host_of context.now sockets.old) }
+{
+    if !has_taker(sockets, header) {
+        return false;
+    }
+    let taken = *header;
+    deliver_to_each(context, sockets, &taken, payload)
+}
+
+/// Whether some raw socket takes a packet with this header.
+#[inline(always)]
+fn has_taker(sockets: &SocketSet<'_>, header: &IpRepr) -> bool
+    ensures { result ≡ is_somebody (takes header.now) sockets.now.places }
+{
+    for index in 0..by_index::places(sockets) {
+        if takes_at(sockets, index, header) {
+            return true;
+        }
+    }
+    false
+}
+
+/// Whether the socket at an index is a raw one that takes a packet with this header.
+#[inline(always)]
+fn takes_at(sockets: &SocketSet<'_>, index: usize, header: &IpRepr) -> bool
+    ensures { result ≡ takes header.now (socket_at sockets.now index) }
+{
+    match by_index::kind::<raw::Socket<'_>, _>(sockets, index) {
+        Some(socket) => socket.accepts(header.version(), header.next_header()),
+        None => false,
+    }
+}
+
+/// The same as [`deliver`], where some socket may take it.
+#[inline(never)]
+fn deliver_to_each(
     context: &Context,
     sockets: &mut SocketSet<'_>,
     header: &IpRepr,

@@ -1,10 +1,10 @@
 //! What an interface does with UDP datagrams (RFC 768, RFC 1122 4.1.3).
-ghost use Rattle.std.specs.Prelude.{◌≡◌, [], Some, true, false, slice_set};
+ghost use Rattle.std.specs.Prelude.{◌≡◌, ◌<◌, ◌≤◌, ℕ, [], Some, true, false, length, slice_get, slice_set};
 ghost use Rattle.ip_wire.specs.IpPacket.{TellsLength};
 ghost use Rattle.socket_set.specs.SocketSet.{socket_at, with_places};
 ghost use Rattle.host_machine.specs.Delivery.{DeliversFirst, IsNobody};
 ghost use Rattle.host_machine.specs.Udp.{TakesUdp, accepts, delivered};
-ghost use Rattle.host_machine.specs.Host.{no_sockets};
+ghost use Rattle.host_machine.specs.Host.{Storage, no_sockets};
 ghost use Rattle.iface_send.specs.Stands.{host_of};
 ghost use Rattle.iface_protocols.specs.Processed.{Processed};
 
@@ -58,12 +58,45 @@ fn deliver(
     ensures kept { result ≡ false → sockets.new ≡ sockets.old }
     ensures waits { sockets.new ≡ with_places sockets.old sockets.new.places }
 {
+    let index = first_taker(context, sockets, header, ports);
+    deliver_at(context, sockets, index, header, ports, payload)
+}
+
+/// The index of the first socket that accepts a datagram, or the number of places.
+#[inline(always)]
+fn first_taker(
+    context: &Context,
+    sockets: &SocketSet<'_>,
+    header: &IpRepr,
+    ports: &UdpRepr,
+) -> usize
+    ensures none_before { (k : ℕ) (other : Storage) → k < result → slice_get sockets.now.places k ≡ Some other → accepts (host_of context.now no_sockets).ip_addrs header.now ports.now other ≡ false }
+    ensures found { result < length sockets.now.places → accepts (host_of context.now no_sockets).ip_addrs header.now ports.now (socket_at sockets.now result) ≡ true }
+    ensures within { result ≤ length sockets.now.places }
+{
     for index in 0..by_index::places(sockets) {
-        if deliver_at(context, sockets, index, header, ports, payload) {
-            return true;
+        if takes_at(context, sockets, index, header, ports) {
+            return index;
         }
     }
-    false
+    by_index::places(sockets)
+}
+
+/// Whether the socket at an index accepts a datagram.
+#[inline(always)]
+fn takes_at(
+    context: &Context,
+    sockets: &SocketSet<'_>,
+    index: usize,
+    header: &IpRepr,
+    ports: &UdpRepr,
+) -> bool
+    ensures { result ≡ accepts (host_of context.now no_sockets).ip_addrs header.now ports.now (socket_at sockets.now index) }
+{
+    match by_index::kind::<udp::Socket<'_>, _>(sockets, index) {
+        Some(socket) => socket.accepts(context, &header.dst_addr(), ports.dst_port),
+        None => false,
+    }
 }
 
 /// Gives a datagram to the socket at an index, if it accepts it, and says whether it did.

@@ -1,7 +1,7 @@
 //! The sockets of a set by the indices of their places, for the layers that serve all of them in turn.
 ghost use Rattle.std.specs.Borrow.{sem, LendsIf};
 ghost use Rattle.std.specs.Prelude.{◌≡◌, Bool, false, Some, IsSome, IsNone, IfSome, length};
-ghost use Rattle.std.specs.Option.{option_copied_mut, option_and_then};
+ghost use Rattle.std.specs.Option.{option_copied, option_copied_mut, option_and_then};
 ghost use Rattle.net_base.specs.Time.{IsMoment, silence_from};
 ghost use Rattle.sockets.specs.Kinds.{poll_at as own_poll_at};
 ghost use Rattle.sockets.specs.contracts.socket.SocketOf.{the_row as socket_row};
@@ -24,7 +24,15 @@ pub fn places<L: Drop>(sockets: &SocketSetOf<L>) -> usize
 }
 
 /// The socket at an index, if it is of a kind. `None` exactly for a free place, a socket of another
-/// kind, or an index out of range; then the set stays as it was.
+/// kind, or an index out of range.
+#[inline(always)]
+pub fn kind<T: AnySocketOf<L>, L: Drop>(sockets: &SocketSetOf<L>, index: usize) -> Option<&T>
+    ensures { option_copied result ≡ option_and_then T.down (socket_at sockets.now index) }
+{
+    sockets.kind(index)
+}
+
+/// The same, for writing. At `None` the set stays as it was.
 pub fn kind_mut<T: AnySocketOf<L>, L: Drop>(
     sockets: &mut SocketSetOf<L>,
     index: usize,

@@ -278,7 +278,16 @@ impl<L: Drop> SocketSetOf<L> {
     }
 
     /// The socket at an index, if it is of a kind. `None` exactly for a free place, a socket of another
-    /// kind, or an index out of range; then the set stays as it was.
+    /// kind, or an index out of range.
+    #[inline(always)]
+    pub(crate) fn kind<T: AnySocketOf<L>>(&self, index: usize) -> Option<&T>
+        ensures { option_copied result ≡ option_and_then T.down (socket_at self.now index) }
+    {
+        let socket = self.sockets.get(index)?.socket()?;
+        T::downcast(socket)
+    }
+
+    /// The same, for writing. At `None` the set stays as it was.
     pub(crate) fn kind_mut<T: AnySocketOf<L>>(&mut self, index: usize) -> Option<&mut T>
         ensures* lends { sem 𝓛 (LendsIf (set_row L.row) T.row self.entry result (λ w. with_place self.old index (Some (T.up w))) self.old) }
         ensures value { option_copied_mut result ≡ option_and_then T.down (socket_at self.old index) }
