@@ -1,6 +1,6 @@
 -- The turns of sockets, from their parts.
 use Rattle.std.proofs.Common.{◌≡◌, ℕ, ◌+◌, ◌<◌, Bool, true, false, List, [], ◌∷◌, ◌++◌, length, ◌≤◌, refl, sym, ap, ◌∙◌, subst, zero, suc, ◌⊎◌, inl, inr, get_or, arith, Option, Some, None, Ok, Err}
-use Rattle.std.specs.Prelude.{not, IsSome, IsNone, ℤ, ◌||◌, is_ok, slice_get, slice_set}
+use Rattle.std.specs.Prelude.{not, IfSome, IsSome, IsNone, ℤ, ◌||◌, is_ok, slice_get, slice_set}
 use Rattle.std.specs.Option.{option_map, option_and_then}
 use Rattle.std.proofs.lemmas.List.{set-get_or, set-set}
 use Rattle.std.proofs.lemmas.Option.{slice_get_cases}
@@ -10,6 +10,8 @@ use Rattle.fragmentation.specs.Cuts.{Piece}
 use Rattle.fragmentation.specs.Pending.{is_nil}
 use Rattle.sockets.specs.Kinds.{offered, told}
 use Rattle.sockets.specs.Kinds as kinds
+use Rattle.socket_base.specs.declared.poll_at.PollAt.TheVariants.{Ingress}
+use Rattle.host_machine.proofs.QuietSockets.{socket_quiet}
 use Rattle.sockets.specs.declared.socket.Offer.{Offer}
 use Rattle.ip_address.specs.declared.ip.IpAddress.{IpAddress}
 use Rattle.socket_set.specs.SocketMeta.{Wait, IsTold, is_permitted, after_asking}
@@ -125,6 +127,17 @@ decided_wait [] i known = refl
 decided_wait (w ∷ ws) zero known = refl
 decided_wait (w ∷ ws) (suc i) known = decided_wait ws i known
 
+-- what stands at a place, put there again
+places_back : (ps : List Storage) (i : ℕ) (s : Socket) → option_and_then (λ place. place) (slice_get ps i) ≡ Some s → slice_set ps i (Some s) ≡ ps
+places_back [] i s is = refl
+places_back (p ∷ ps) zero s is = ap (λ (q : Storage). q ∷ ps) (sym is)
+places_back (p ∷ ps) (suc i) s is = ap (λ (rest : List Storage). p ∷ rest) (places_back ps i s is)
+
+waits_back : (ws : List Wait) (i : ℕ) → get_or ws i None ≡ None → slice_set ws i None ≡ ws
+waits_back [] i is = refl
+waits_back (w ∷ ws) zero is = ap (λ (v : Wait). v ∷ ws) (sym is)
+waits_back (w ∷ ws) (suc i) is = ap (λ (rest : List Wait). w ∷ rest) (waits_back ws i is)
+
 module _ {D : Type 0} {tells : D → List Event → D → Type 0} where
   -- a place that isn't asked has its turn for nothing
   pub not_asked : {d : D} (c : Context) (slots : Slots) (sockets new : SocketSet) (i : ℕ) (permitted : Bool) → tells d [] d → i < length sockets.places → permitted ≡ false →
@@ -135,6 +148,26 @@ module _ {D : Type 0} {tells : D → List Event → D → Type 0} where
       let not_permitted : is_permitted (wait_at sockets i) known c.moment ≡ false = sym is ∙ refused in
       let unchanged : new ≡ sockets = same ∙ ap (with_wait sockets i) (waits_on (wait_at sockets i) known c.moment not_permitted) ∙ ap (λ (ws : List Wait). record sockets { waits = ws }) (set-get_or sockets.waits i None) in
       rw unchanged (record { told = []; notes = []; tells_it = quiet; follows = Waits s known (taken_place (slice_get sockets.places i) s some) (knows slots) not_permitted refl refl refl refl })
+
+  -- a place whose socket doesn't wait and has nothing to send has its turn for nothing
+  pub idle_served : {d : D} (c : Context) (slots : Slots) (sockets : SocketSet) (i : ℕ) (busy : Bool) → tells d [] d → i < length sockets.places → busy ≡ false →
+      IfSome (socket_at sockets i) (λ s. busy ≡ false → (kinds.poll_at s ≡ Ingress) × (wait_at sockets i ≡ None)) → Told tells d d (Serves i Idle (host_in c slots sockets)) (host_in c slots sockets)
+  idle_served {d} c slots sockets i busy quiet within idle rests = by (socket_at sockets i) refl rests where
+    by : (o : Option Socket) → socket_at sockets i ≡ o → IfSome o (λ s. busy ≡ false → (kinds.poll_at s ≡ Ingress) × (wait_at sockets i ≡ None)) → Told tells d d (Serves i Idle (host_in c slots sockets)) (host_in c slots sockets)
+    by None none rests = record { told = []; notes = []; tells_it = quiet; follows = Free (free_place (slice_get sockets.places i) none (inside sockets.places i within)) refl refl refl refl }
+    by (Some s) some rests =
+        let no_wait = (rests idle).1 in
+        let q = socket_quiet (source_for c.ip_addrs.items) s c.moment c.timely.low (rw (rests idle).0 tt) in
+        let back : with_wait (with_place sockets i (Some s)) i None ≡ sockets =
+        ap (λ (ps : List Storage). with_wait (record sockets { places = ps }) i None) (places_back sockets.places i s some)
+        ∙ ap (λ (ws : List Wait). record sockets { waits = ws }) (waits_back sockets.waits i no_wait) in
+        record {
+          told = [];
+          notes = [];
+          tells_it = quiet;
+          follows = Served s s true (host_in c slots sockets) (taken_place (slice_get sockets.places i) s some) (rw no_wait tt) (rw no_wait refl)
+              (Silent (ap (option_and_then packet_of) q.0) refl refl refl refl (sym q.1)) (rw no_wait (ap (host_in c slots) (sym back)));
+        }
 
   -- the socket of a place had its turn, and waits or not from then on
   pub was_asked : {d e : D} (c c' : Context) (s s' : Socket) (t : Turn) (slots : Slots) (sockets mid new : SocketSet) (i : ℕ) (permitted : Bool) → permitted ≡ true →

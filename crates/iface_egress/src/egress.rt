@@ -82,6 +82,9 @@ fn serve<D: Device>(
     ensures told { (slots : Slots) → Told D.tells device.old device.new (spec.Serves index result (host_in context.old slots sockets.old)) (host_in context.new slots sockets.new) }
     ensures places { length sockets.new.places ≡ length sockets.old.places }
 {
+    if !by_index::is_busy(sockets, index) {
+        return Turn::Idle;
+    }
     let now = context.now();
     if !is_permitted(context, sockets, index) {
         return Turn::Idle;

@@ -136,6 +136,7 @@ impl<L: Drop> SocketOf<L> {
     }
 
     /// When it has to be polled again: at once, if something is to be sent.
+    #[inline(always)]
     pub fn poll_at(&self) -> PollAt
         ensures { result ≡ spec.poll_at self.now }
     {

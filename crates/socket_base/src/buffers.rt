@@ -105,6 +105,7 @@ impl<M: Drop> Buffers<M> {
     }
 
     /// When the socket has to be polled again, if what is to be sent may go at `due`.
+    #[inline(always)]
     pub fn poll_at(&self, due: PollAt) -> PollAt
         ensures { result ≡ spec.poll_at due self.now }
     {

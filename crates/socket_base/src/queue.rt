@@ -139,6 +139,7 @@ impl<M: Drop> Queue<M> {
     }
 
     /// The first packet, if there is one: what is told of it, and its octets.
+    #[inline(always)]
     #[tactic(auto, using(crate::proofs::QueueLemmas::first_cut))]
     pub fn front(&self) -> Option<(&M, &[u8])>
         ensures { option_map (λ p. (p.0.now, p.1.now)) result ≡ first_of self.now.packets }

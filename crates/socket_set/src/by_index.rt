@@ -70,6 +70,16 @@ pub fn egress_permitted<L: Drop, F: Fn(IpAddress) -> bool>(
     sockets.egress_permitted(index, timestamp, has_neighbor)
 }
 
+/// Whether the socket at an index may have something to send, now or later, or waits: of one of which
+/// that isn't so nothing is due, and nothing comes when it is asked. A free place, and an index out
+/// of range, has no such socket.
+#[inline(always)]
+pub fn is_busy<L: Drop>(sockets: &SocketSetOf<L>, index: usize) -> bool
+    ensures { IfSome (socket_at sockets.now index) (λ s. result ≡ false → (own_poll_at s ≡ Ingress) × (wait_at sockets.now index ≡ None)) }
+{
+    sockets.is_busy(index)
+}
+
 /// When the socket at an index wants to be asked for a packet: by its own answer, or at the end of
 /// its wait where it has to wait. `has_neighbor` tells whether a neighbour is known. A free place,
 /// and an index out of range, has no socket that does.

@@ -1,6 +1,6 @@
 //! What an interface keeps for each socket: whether it waits for a neighbour that a packet of it
 //! needs.
-ghost use Rattle.std.specs.Prelude.{◌≡◌, Bool, Some, None};
+ghost use Rattle.std.specs.Prelude.{◌≡◌, Bool, Some, None, is_some};
 ghost use Rattle.net_base.specs.Time.{IsMoment, silence_from};
 ghost use Rattle.socket_set.specs.SocketMeta as spec;
 ghost use Rattle.socket_set.specs.SocketMeta.{IsTold, after_asking, is_permitted};
@@ -59,6 +59,17 @@ impl Meta {
 
     /// How long a socket waits before another discovery is sent for it.
     pub const DISCOVERY_SILENT_TIME: Duration = Duration { micros: 1_000_000 };
+
+    // Whether it waits.
+    #[inline(always)]
+    pub(crate) fn is_waiting(&self) -> bool
+        ensures { result ≡ is_some self.now }
+    {
+        match self.neighbor_state {
+            NeighborState::Active => false,
+            NeighborState::Waiting { .. } => true,
+        }
+    }
 
     /// When the socket wants to be asked for a packet, where `socket_poll_at` is its own answer: that,
     /// unless it has to wait, and then the end of the wait. `has_neighbor` tells whether a neighbour

@@ -77,6 +77,17 @@ impl<L> SocketStorageOf<L> {
 }
 
 impl<L: Drop> SocketStorageOf<L> {
+    // Whether it has a socket that waits or has something to send.
+    #[inline(always)]
+    fn is_busy(&self) -> bool
+        ensures { IfSome self.now.socket (λ s. result ≡ false → (own_poll_at s ≡ Ingress) × (self.now.wait ≡ None)) }
+    {
+        match self.socket() {
+            None => false,
+            Some(socket) => self.meta.is_waiting() || is_due(socket.poll_at()),
+        }
+    }
+
     // When its socket wants to be asked for a packet.
     fn poll_at<F: Fn(IpAddress) -> bool>(&self, timestamp: Instant, has_neighbor: F) -> PollAt
         requires { F.IsAlwaysCallable has_neighbor }
@@ -354,6 +365,19 @@ impl<L: Drop> SocketSetOf<L> {
         storage.meta.egress_permitted(timestamp, has_neighbor)
     }
 
+    /// Whether the socket at an index may have something to send, now or later, or waits: of one of which
+    /// that isn't so nothing is due, and nothing comes when it is asked. A free place, and an index out
+    /// of range, has no such socket.
+    #[inline(always)]
+    pub(crate) fn is_busy(&self, index: usize) -> bool
+        ensures { IfSome (socket_at self.now index) (λ s. result ≡ false → (own_poll_at s ≡ Ingress) × (wait_at self.now index ≡ None)) }
+    {
+        let Some(storage) = self.sockets.get(index) else {
+            return false;
+        };
+        storage.is_busy()
+    }
+
     /// When the socket at an index wants to be asked for a packet: by its own answer, or at the end of
     /// its wait where it has to wait. `has_neighbor` tells whether a neighbour is known. A free place,
     /// and an index out of range, has no socket that does.
@@ -407,4 +431,15 @@ fn first_free<L>(places: &[SocketStorageOf<L>]) -> usize
         }
     }
     places.len()
+}
+
+// Whether something is due at once or at a moment.
+#[inline(always)]
+fn is_due(at: PollAt) -> bool
+    ensures { result ≡ false → at ≡ Ingress }
+{
+    match at {
+        PollAt::Now | PollAt::Time(_) => true,
+        PollAt::Ingress => false,
+    }
 }

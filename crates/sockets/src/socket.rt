@@ -35,6 +35,7 @@ impl<L: Drop> SocketOf<L> {
     ghost use Rattle.sockets.specs.KindsLending.{Settles};
 
     /// When the socket has to be polled again.
+    #[inline(always)]
     pub fn poll_at(&self) -> PollAt
         ensures { result ≡ spec.poll_at self.now }
     {
