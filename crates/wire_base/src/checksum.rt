@@ -1,5 +1,5 @@
 //! The Internet checksum (RFC 1071).
-ghost use Rattle.std.specs.Prelude.{◌≡◌, ◌+◌, ◌<◌, ◌≤◌, ◌^◌, ◌/◌, ◌%◌, ℕ, length};
+ghost use Rattle.std.specs.Prelude.{◌≡◌, ◌+◌, ◌*◌, ◌<◌, ◌≤◌, ◌^◌, ◌/◌, ◌%◌, ℕ, drop, length};
 ghost use Rattle.wire_base.specs.Checksum as spec;
 ghost use Rattle.wire_base.specs.Octets.{u64_le_at};
 
@@ -19,7 +19,7 @@ pub fn sum_with(start: u16, octets: &[u8]) -> u16
     long_sum_with(start, octets)
 }
 
-/// The same, in blocks of 32 octets. Read little-endian, eight octets need no swap: times 256 they
+/// The same, in blocks of 64 octets, and one of 32 where that is left. Read little-endian, eight octets need no swap: times 256 they
 /// fold as their four words do (RFC 1071 2).
 #[inline(never)]
 fn long_sum_with(start: u16, octets: &[u8]) -> u16
@@ -28,11 +28,38 @@ fn long_sum_with(start: u16, octets: &[u8]) -> u16
 {
     let mut swapped = 0u128;
     let count = octets.len() / 32;
-    for i in 0..count {
-        swapped += block_sum(octets, 32 * i);
+    for i in 0..count / 2 {
+        swapped += blocks_sum(octets, 64 * i);
     }
-    let sum = u64::from(start) + 256 * parts_sum(swapped);
+    let whole = with_odd_block(swapped, octets, count);
+    let sum = u64::from(start) + 256 * parts_sum(whole);
     fold(sum + rest_sum(&octets[32 * count..]))
+}
+
+/// A sum of the little-endian numbers in the pairs of so many blocks of 32 octets, with those of the last
+/// block, if that is in no pair.
+#[inline(always)]
+fn with_odd_block(swapped: u128, octets: &[u8], count: usize) -> u128
+    requires within { 32 * count ≤ length octets.now }
+    requires small { swapped < 2 ^ 95 }
+    ensures folds { (sum : ℕ) → spec.folded (sum + 256 * result + spec.word_sum (drop (32 * count) octets.now)) ≡ spec.folded (sum + 256 * swapped + spec.word_sum (drop (64 * (count / 2)) octets.now)) }
+    ensures small { result < 2 ^ 96 }
+{
+    if count % 2 == 0 {
+        return swapped;
+    }
+    swapped + block_sum(octets, 32 * (count - 1))
+}
+
+/// The sum of the eight little-endian numbers in 64 octets.
+#[inline(always)]
+fn blocks_sum(octets: &[u8], at: usize) -> u128
+    requires { at + 64 ≤ length octets.now }
+    ensures value { result ≡ u64_le_at octets.now at + u64_le_at octets.now (at + 8) + u64_le_at octets.now (at + 16) + u64_le_at octets.now (at + 24)
+        + (u64_le_at octets.now (at + 32) + u64_le_at octets.now (at + 32 + 8) + u64_le_at octets.now (at + 32 + 16) + u64_le_at octets.now (at + 32 + 24)) }
+    ensures small { result < 2 ^ 67 }
+{
+    block_sum(octets, at) + block_sum(octets, at + 32)
 }
 
 /// The sum of the four little-endian numbers in 32 octets.

@@ -4,6 +4,6 @@ use Rattle.wire_base.proofs.checksum.long_sum_with.Given as goal
 
 abbrev pub invariant-loop-i : goal.invariant-loop-i
 invariant-loop-i l = record {
-  so_far : folded (l.start + 256 * l.swapped + word_sum (drop (32 * l.i) l.octets)) ≡ folded (l.start + word_sum l.octets);
-  small : l.swapped ≤ 73786976294838206463 * l.i;
+  so_far : folded (l.start + 256 * l.swapped + word_sum (drop (64 * l.i) l.octets)) ≡ folded (l.start + word_sum l.octets);
+  small : l.swapped ≤ 147573952589676412927 * l.i;
 }
