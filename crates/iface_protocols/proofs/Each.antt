@@ -1,5 +1,5 @@
 -- Going over all places, each once.
-use Rattle.std.proofs.Common.{◌≡◌, ℕ, zero, suc, ◌+◌, ◌<◌, ◌≤◌, Bool, true, false, List, [], ◌∷◌, length, map, slice_get, slice_set, Option, refl, sym, ap, ◌∙◌, arith}
+use Rattle.std.proofs.Common.{◌≡◌, ℕ, zero, suc, ◌+◌, ◌<◌, ◌≤◌, Bool, true, false, List, [], ◌∷◌, length, map, slice_get, slice_set, Option, None, refl, sym, ap, ◌∙◌, arith}
 use Rattle.std.specs.Prelude.{◌||◌}
 use Rattle.std.specs.List.{list_any}
 use Rattle.std.specs.Option.{option_and_then}
@@ -105,6 +105,12 @@ module _ {S : Type 0} where
   -- none of them meets the test
   pub none_meets : (test : Option S → Bool) (ps : List (Option S)) (i n : ℕ) → n ≡ length ps → i ≤ n → n ≤ i → any_of test i ps ≡ false → list_any test ps ≡ false
   none_meets test ps i n len low high none = sym (all_tested test ps i n false len low high (sym none))
+
+  -- a place that meets a test which a free one doesn't meet is one of them
+  pub met_within : (test : Option S → Bool) (ps : List (Option S)) (i : ℕ) → test None ≡ false → test (at_place ps i) ≡ true → i < length ps
+  met_within test [] i free is = absurd cc
+  met_within test (p ∷ ps) zero free is = omega arith
+  met_within test (p ∷ ps) (suc i) free is = omega (arith, met_within test ps i free is)
 
 -- one place more of a set
 pub one_heard : {L : Type 0} (f : Option (SocketOf L) → Option (SocketOf L)) (old now new : Sockets L) (i : ℕ) → i < length old.places → now ≡ with_places old (mapped f i old.places) →

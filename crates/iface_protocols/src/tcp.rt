@@ -1,8 +1,9 @@
 //! What an interface does with TCP segments (RFC 9293 3.10.7).
-ghost use Rattle.std.specs.Prelude.{◌≡◌, ◌<◌, ◌^◌, [], Some, true, false, length, slice_set};
+ghost use Rattle.std.specs.Prelude.{◌≡◌, ◌<◌, ◌≤◌, ◌^◌, ℕ, [], Some, true, false, length, slice_get, slice_set};
 ghost use Rattle.std.specs.Option.{option_map};
 ghost use Rattle.socket_set.specs.SocketSet.{socket_at, with_places};
 ghost use Rattle.host_machine.specs.Delivery.{IsNobody};
+ghost use Rattle.host_machine.specs.Host.{Storage};
 ghost use Rattle.host_machine.specs.Response.{Responds};
 ghost use Rattle.host_machine.specs.Tcp as spec;
 ghost use Rattle.iface_protocols.specs.Processed.{Processed};
@@ -109,13 +110,42 @@ fn deliver(
     ensures kept { result.0 ≡ false → sockets.new ≡ sockets.old }
     ensures waits { sockets.new ≡ with_places sockets.old sockets.new.places }
 {
+    let index = first_taker(sockets, header, repr);
+    deliver_at(sockets, index, header, repr, payload)
+}
+
+/// The index of the first socket that accepts a segment, or the number of places.
+#[inline(always)]
+fn first_taker(sockets: &SocketSet<'_>, header: &IpRepr, repr: &TcpRepr) -> usize
+    ensures none_before { (k : ℕ) (other : Storage) → k < result → slice_get sockets.now.places k ≡ Some other → spec.accepts header.now repr.now other ≡ false }
+    ensures found { result < length sockets.now.places → spec.accepts header.now repr.now (socket_at sockets.now result) ≡ true }
+    ensures within { result ≤ length sockets.now.places }
+{
     for index in 0..by_index::places(sockets) {
-        let (taken, answer) = deliver_at(sockets, index, header, repr, payload);
-        if taken {
-            return (true, answer);
+        if takes_at(sockets, index, header, repr) {
+            return index;
         }
     }
-    (false, None)
+    by_index::places(sockets)
+}
+
+/// Whether the socket at an index accepts a segment.
+#[inline(always)]
+fn takes_at(sockets: &SocketSet<'_>, index: usize, header: &IpRepr, repr: &TcpRepr) -> bool
+    ensures { result ≡ spec.accepts header.now repr.now (socket_at sockets.now index) }
+{
+    let Some(socket) = by_index::kind::<tcp::Socket<'_>, _>(sockets, index) else {
+        return false;
+    };
+    let source = IpEndpoint {
+        addr: header.src_addr(),
+        port: repr.src_port,
+    };
+    let destination = IpEndpoint {
+        addr: header.dst_addr(),
+        port: repr.dst_port,
+    };
+    socket.accepts(&source, &destination)
 }
 
 /// Gives a segment to the socket at an index, if it accepts it, and says whether it did, and what it

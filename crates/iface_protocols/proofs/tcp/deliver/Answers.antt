@@ -1,10 +1,11 @@
-use Rattle.std.proofs.Common.{ap}
-use Rattle.socket_set.specs.SocketSet.{Sockets}
+use Rattle.std.proofs.Common.{refl, sym, ◌∙◌}
+use Rattle.host_machine.specs.Tcp.{accepts}
+use Rattle.iface_protocols.proofs.Each.{met_within}
 use Rattle.iface_protocols.proofs.Received.{segment_taken}
 use Rattle.iface_protocols.proofs.tcp.deliver.Goals as goal
 
-pub returns-then-taken-clause-taken : goal.returns-then-taken-clause-taken
-returns-then-taken-clause-taken c = λ e.
-    segment_taken c.args.header.now c.args.repr.now c.args.payload.now c.args.sockets.now.places c.loop-index.sockets.places c.deliver_at-taken.new.sockets.places c.loop-index.index
-    c.deliver_at-taken.result.0 c.deliver_at-taken.result.1 (ap (λ (s : Sockets _). s.places) c.loop-index.invariant.0) (rw c.places-index-end.ensures at c.loop-index-test.true) c.loop-index.invariant.1
-    c.deliver_at-taken.ensures.accepted c.if-taken.true (c.deliver_at-taken.ensures.delivered c.if-taken.true) (c.deliver_at-taken.ensures.replied c.if-taken.true)
+pub returns-clause-taken : goal.returns-clause-taken
+returns-clause-taken c = λ e.
+    segment_taken c.args.header.now c.args.repr.now c.args.payload.now c.args.sockets.now.places c.args.sockets.now.places c.deliver_at.new.sockets.places c.first_taker-index.result
+    c.deliver_at.result.0 c.deliver_at.result.1 refl (met_within (accepts c.args.header.now c.args.repr.now) c.args.sockets.now.places c.first_taker-index.result refl (sym c.deliver_at.ensures.accepted ∙ e))
+    c.first_taker-index.ensures.none_before c.deliver_at.ensures.accepted e (c.deliver_at.ensures.delivered e) (c.deliver_at.ensures.replied e)
