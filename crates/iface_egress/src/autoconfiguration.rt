@@ -1,5 +1,5 @@
 //! What an interface asks of routers: an advertisement of their prefixes (RFC 4861 6.3.7).
-ghost use Rattle.std.specs.Prelude.{◌≡◌, IfSome};
+ghost use Rattle.std.specs.Prelude.{◌≡◌, None, IfSome, false};
 ghost use Rattle.std.specs.Option.{option_map};
 ghost use Rattle.host_machine.specs.Host.{no_sockets};
 ghost use Rattle.host_machine.specs.Packet.{IsWritable};
@@ -27,6 +27,26 @@ const ALL_ROUTERS: Ipv6Address = Ipv6Address {
 /// Sends the router solicitation that is due, if one is and the device gives leave. It counts as sent,
 /// whatever came of it. Without leave it stays due.
 pub fn rs_egress<D: Device>(context: &mut Context, device: &mut D, out: &mut FrameBuffer)
+    ensures { Told D.tells device.old device.new (HasPart spec.SolicitsRouters context.old) context.new }
+{
+    if !may_solicit(context) {
+        return;
+    }
+    solicit(context, device, out);
+}
+
+/// Whether a router solicitation may be due, which it mostly isn't: the interface is to take addresses from
+/// routers, and it is time for one.
+#[inline(always)]
+fn may_solicit(context: &Context) -> bool
+    ensures { result ≡ false → spec.due_solicitation (host_of context.now no_sockets) ≡ None }
+{
+    context.is_slaac_enabled() && context.slaac().rs_required(context.now())
+}
+
+/// The same as [`rs_egress`], where one may be due.
+#[inline(never)]
+fn solicit<D: Device>(context: &mut Context, device: &mut D, out: &mut FrameBuffer)
     ensures { Told D.tells device.old device.new (HasPart spec.SolicitsRouters context.old) context.new }
 {
     let Some(packet) = due_solicitation(context) else {
