@@ -11,6 +11,7 @@ use sockets::icmp;
 
 /// Hands a message, whole, with its sender, to each ICMP socket that takes it. `contents` are the octets
 /// behind the message's values.
+#[inline(always)]
 pub(crate) fn deliver(
     sockets: &mut SocketSet<'_>,
     remote: IpAddress,
@@ -23,9 +24,8 @@ pub(crate) fn deliver(
     if !has_taker(sockets, message, contents) {
         return;
     }
-    for index in 0..by_index::places(sockets) {
-        deliver_at(sockets, index, remote, message, contents, octets);
-    }
+    let heard = *message;
+    deliver_to_each(sockets, remote, &heard, contents, octets);
 }
 
 /// Whether some ICMP socket takes a message.
@@ -49,6 +49,22 @@ fn takes_at(sockets: &SocketSet<'_>, index: usize, message: &IcmpRepr, contents:
     match by_index::kind::<icmp::Socket<'_>, _>(sockets, index) {
         Some(socket) => socket.accepts(message, contents),
         None => false,
+    }
+}
+
+/// The same as [`deliver`], where some socket may take it.
+#[inline(never)]
+fn deliver_to_each(
+    sockets: &mut SocketSet<'_>,
+    remote: IpAddress,
+    message: &IcmpRepr,
+    contents: &[u8],
+    octets: &[u8],
+)
+    ensures { sockets.new ≡ with_places sockets.old (to_each (accepts message.now contents.now) (delivered remote octets.now) sockets.old.places) }
+{
+    for index in 0..by_index::places(sockets) {
+        deliver_at(sockets, index, remote, message, contents, octets);
     }
 }
 

@@ -1,16 +1,6 @@
-use Rattle.std.proofs.Common.{ap, sym, ◌∙◌}
-use Rattle.socket_set.specs.SocketSet.{with_places}
-use Rattle.iface_protocols.proofs.Each.{one_heard, all_mapped, set_kept}
+use Rattle.std.proofs.Common.{sym, ◌∙◌}
+use Rattle.iface_protocols.proofs.Each.{set_kept}
 use Rattle.iface_protocols.proofs.icmp.deliver.Goals as goal
-
-pub loop-index-preserved : goal.loop-index-preserved
-loop-index-preserved c = one_heard _ c.args.sockets.now c.loop-index.sockets c.deliver_at.new.sockets c.loop-index.index
-    (rw c.places-index-end.ensures at c.loop-index-test.true) c.loop-index.invariant c.deliver_at.ensures.heard
-
-pub returns : goal.returns
-returns c =
-    c.loop-index.invariant ∙ ap (with_places c.args.sockets.now)
-    (all_mapped _ c.args.sockets.now.places c.loop-index.index c.places-index-end.result c.places-index-end.ensures c.loop-index.auto.index-end c.loop-index-test.false)
 
 pub returns-then-not-has_taker : goal.returns-then-not-has_taker
 returns-then-not-has_taker c = set_kept _ _ c.args.sockets.now (sym c.has_taker.ensures ∙ c.if-not-has_taker.true)

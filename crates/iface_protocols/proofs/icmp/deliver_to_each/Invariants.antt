@@ -3,7 +3,7 @@ use Rattle.socket_set.specs.SocketSet.{with_places}
 use Rattle.host_machine.specs.Delivery.{to_this}
 use Rattle.host_machine.specs.Icmp.{accepts, delivered}
 use Rattle.iface_protocols.proofs.Each.{mapped}
-use Rattle.iface_protocols.proofs.icmp.deliver.Given as goal
+use Rattle.iface_protocols.proofs.icmp.deliver_to_each.Given as goal
 
 -- the sockets below the index got the message, if they take it, and the others are as they were
 abbrev pub invariant-loop-index : goal.invariant-loop-index
