@@ -98,7 +98,11 @@ fn process_payload(
     ensures { Answers out.new (λ H. TakesPayload own header.now.src_addr H header.now.ethertype payload.now) (StandsFor context.old fragments.old sockets.old) (StandsFor context.new fragments.new sockets.new) }
 {
     match header.ethertype {
-        EthernetProtocol::Arp => process_arp(context, own, payload, out),
+        EthernetProtocol::Arp => {
+            // A copy, so that other frames don't store the address for this call.
+            let own = own;
+            process_arp(context, own, payload, out);
+        }
         EthernetProtocol::Ipv4 => {
             let source = HardwareAddress::Ethernet(header.src_addr);
             process_ipv4(context, sockets, fragments, source, payload, out);
