@@ -1,24 +1,19 @@
 -- Lists of entries with keys that differ, as the finite maps that they make.
-use Rattle.std.proofs.Common.{◌≡◌, ℕ, zero, suc, ◌+◌, ◌<◌, List, [], ◌∷◌, ◌++◌, length, get_or, refl, sym, ap, ◌∙◌, arith, add-one}
-use Rattle.std.specs.Prelude.{Bool, true, false, cond, Some, None, Option, slice_set, remove}
+use Rattle.std.proofs.Common.{◌≡◌, ℕ, zero, suc, ◌+◌, ◌<◌, List, [], ◌∷◌, length, get_or, refl, sym, ap, ◌∙◌, arith, add-one}
+use Rattle.std.specs.Prelude.{Bool, true, false, cond, Some, None, Option, remove}
+use Rattle.std.specs.List.{insert as put}
 use Rattle.std.specs.Ordering.{eq_by_cmp, is_eq}
 use Rattle.std.specs.declared.cmp.Ordering.{Ordering}
 use Rattle.std.specs.declared.cmp.Ordering.TheVariants.{Less, Equal, Greater}
 use Rattle.std.specs.Cmp.{IsTotalOrder, eq_by_cmp_equiv}
 use Rattle.std.specs.FinMap as map
 use Rattle.std.specs.FinMap.{IsAntisymmetric, find, from_entries, insert, same_map, get-insert, get-remove, get-from_entries, len-insert, len-empty}
-use Rattle.std.specs.FinMap.Entries.{find-append}
 use Rattle.iface_tables.specs.Entries.{place_of, AreKeysDistinct}
 
 is_eq-Equal : (o : Ordering) → is_eq o ≡ true → o ≡ Equal
 is_eq-Equal Less h = cc
 is_eq-Equal Equal h = refl
 is_eq-Equal Greater h = cc
-
--- a test that is repeated
-shadowed : {A : Type 0} (b : Bool) (x y z : A) → cond b x z ≡ cond b x (cond b y z)
-shadowed true x y z = refl
-shadowed false x y z = refl
 
 -- two tests that do not both hold
 swapped : {A : Type 0} (a b : Bool) (x y z : A) → (a ≡ true → b ≡ true → ⊥) → cond a x (cond b y z) ≡ cond b y (cond a x z)
@@ -71,16 +66,6 @@ module _ {K : Type 0} {R : K → K → Ordering} (o : IsTotalOrder R) (same : Is
   other x y h = (eq_by_cmp_equiv o).symm y x ∙ h
 
 module _ {K X : Type 0} {R : K → K → Ordering} (o : IsTotalOrder R) (same : IsAntisymmetric R) where
-  -- writing the entry of a key that is there
-  pub find-set : (k : K) (v : X) (q : K) (es : List (K × X)) → place_of R k es < length es → find R q (slice_set es (place_of R k es) (k, v)) ≡ cond (eq_by_cmp R q k) (Some v) (find R q es)
-  find-set k v q [] h = absurd (omega arith)
-  find-set k v q (e ∷ es) h =
-      elim (eq_by_cmp R k e.0) as (λ b. eq_by_cmp R k e.0 ≡ b → cond b 0 (place_of R k es + 1) < suc (length es) → find R q (slice_set (e ∷ es) (cond b 0 (place_of R k es + 1)) (k, v)) ≡ cond (eq_by_cmp R q k) (Some v) (cond (eq_by_cmp R q e.0) (Some e.1) (find R q es))) [
-        | true ↦ λ t h. rw (← tied o same k e.0 t) (shadowed (eq_by_cmp R q k) (Some v) (Some e.1) (find R q es))
-        | false ↦ λ t h. rw add-one (ap (cond (eq_by_cmp R q e.0) (Some e.1)) (find-set k v q es (omega arith))
-            ∙ swapped (eq_by_cmp R q e.0) (eq_by_cmp R q k) (Some e.1) (Some v) (find R q es) (λ a b. not_true _ t (rw (← tied o same q k b, ← tied o same q e.0 a) (tied_itself o same q))))
-      ] refl h
-
   -- the entry at the place of a key that is there has this key
   pub key-there : (k : K) (es : List (K × X)) (d : K × X) → place_of R k es < length es → (get_or es (place_of R k es) d).0 ≡ k
   key-there k [] d h = absurd (omega arith)
@@ -88,18 +73,6 @@ module _ {K X : Type 0} {R : K → K → Ordering} (o : IsTotalOrder R) (same : 
       elim (eq_by_cmp R k e.0) as (λ b. eq_by_cmp R k e.0 ≡ b → cond b 0 (place_of R k es + 1) < suc (length es) → (get_or (e ∷ es) (cond b 0 (place_of R k es + 1)) d).0 ≡ k) [
         | true ↦ λ t h. sym (tied o same k e.0 t)
         | false ↦ λ t h. rw add-one (key-there k es d (omega arith))
-      ] refl h
-
-  pub from_entries-set : (k : K) (v : X) (es : List (K × X)) → place_of R k es < length es → from_entries {R = R} (slice_set es (place_of R k es) (k, v)) ≡ insert (from_entries es) k v
-  from_entries-set k v es h = same_map o same _ _ (λ q.
-      get-from_entries o _ q ∙ find-set k v q es h ∙ sym (get-insert o (from_entries es) k v q ∙ ap (cond (eq_by_cmp R q k) (Some v)) (get-from_entries o es q)))
-
-  pub distinct_after-set : (k : K) (v : X) (es : List (K × X)) → place_of R k es < length es → AreKeysDistinct R es → AreKeysDistinct R (slice_set es (place_of R k es) (k, v))
-  distinct_after-set k v [] h d = absurd (omega arith)
-  distinct_after-set k v (e ∷ es) h d =
-      elim (eq_by_cmp R k e.0) as (λ b. eq_by_cmp R k e.0 ≡ b → cond b 0 (place_of R k es + 1) < suc (length es) → AreKeysDistinct R (slice_set (e ∷ es) (cond b 0 (place_of R k es + 1)) (k, v))) [
-        | true ↦ λ t h. rw (tied o same k e.0 t) d
-        | false ↦ λ t h. rw add-one (find-set k v e.0 es (omega arith) ∙ ap (λ b. cond b (Some v) (find R e.0 es)) (other o same k e.0 t) ∙ d.0, distinct_after-set k v es (omega arith) d.1)
       ] refl h
 
   -- a key that is not there is not at a place
@@ -134,14 +107,6 @@ module _ {K X : Type 0} {R : K → K → Ordering} (o : IsTotalOrder R) (same : 
   distinct_after-remove (e ∷ es) zero h d = d.1
   distinct_after-remove (e ∷ es) (suc i) h d = (find-remove e.0 es i e (omega arith) d.1 ∙ either_none _ _ d.0, distinct_after-remove es i (omega arith) d.1)
 
-  pub distinct_after-push : (k : K) (v : X) (es : List (K × X)) → find R k es ≡ None → AreKeysDistinct R es → AreKeysDistinct R (es ++ (k, v) ∷ [])
-  distinct_after-push k v [] none d = (refl, tt)
-  distinct_after-push k v (e ∷ es) none d =
-      elim (eq_by_cmp R k e.0) as (λ b. eq_by_cmp R k e.0 ≡ b → cond b (Some e.1) (find R k es) ≡ None → AreKeysDistinct R ((e ∷ es) ++ (k, v) ∷ [])) [
-        | true ↦ λ t n. cc
-        | false ↦ λ t n. (find-append R o es k v e.0 n ∙ ap (λ b. cond b (Some v) (find R e.0 es)) (other o same k e.0 t) ∙ d.0, distinct_after-push k v es n d.1)
-      ] refl none
-
   -- the map has as many keys as there are entries
   pub len-from_entries : (es : List (K × X)) → AreKeysDistinct R es → map.len (from_entries {R = R} es) ≡ length es
   len-from_entries [] d = len-empty R X
@@ -158,3 +123,38 @@ module _ {K X : Type 0} {R : K → K → Ordering} (o : IsTotalOrder R) (same : 
 
   pub absent_after-remove : (q : K) (es : List (K × X)) (i : ℕ) (d : K × X) → i < length es → AreKeysDistinct R es → find R q es ≡ None → find R q (remove es i) ≡ None
   absent_after-remove q es i d h distinct none = find-remove q es i d h distinct ∙ either_none _ _ none
+
+  -- a key that is not there does not tie with the first one, and is not behind it
+  absent_first : (k : K) (e : K × X) (es : List (K × X)) → find R k (e ∷ es) ≡ None → (eq_by_cmp R k e.0 ≡ false) × (find R k es ≡ None)
+  absent_first k e es none =
+      elim (eq_by_cmp R k e.0) as (λ b. cond b (Some e.1) (find R k es) ≡ None → (b ≡ false) × (find R k es ≡ None)) [ true ↦ λ n. cc | false ↦ λ n. (refl, n) ] none
+
+  -- putting an entry of another key among those that are there
+  pub find-put : (q k : K) (v : X) (es : List (K × X)) (p : ℕ) → find R k es ≡ None → find R q (put es p (k, v)) ≡ cond (eq_by_cmp R q k) (Some v) (find R q es)
+  find-put q k v es zero none = refl
+  find-put q k v [] (suc p) none = refl
+  find-put q k v (e ∷ es) (suc p) none =
+      let first = absent_first k e es none in
+      ap (cond (eq_by_cmp R q e.0) (Some e.1)) (find-put q k v es p first.1)
+      ∙ swapped (eq_by_cmp R q e.0) (eq_by_cmp R q k) (Some e.1) (Some v) (find R q es)
+      (λ a b. not_true _ first.0 (rw (← tied o same q k b, ← tied o same q e.0 a) (tied_itself o same q)))
+
+  pub from_entries-put : (k : K) (v : X) (es : List (K × X)) (p : ℕ) → find R k es ≡ None → from_entries {R = R} (put es p (k, v)) ≡ insert (from_entries es) k v
+  from_entries-put k v es p none = same_map o same _ _ (λ q.
+      get-from_entries o _ q ∙ find-put q k v es p none ∙ sym (get-insert o (from_entries es) k v q ∙ ap (cond (eq_by_cmp R q k) (Some v)) (get-from_entries o es q)))
+
+  pub distinct_after-put : (k : K) (v : X) (es : List (K × X)) (p : ℕ) → find R k es ≡ None → AreKeysDistinct R es → AreKeysDistinct R (put es p (k, v))
+  distinct_after-put k v es zero none d = (none, d)
+  distinct_after-put k v [] (suc p) none d = (refl, tt)
+  distinct_after-put k v (e ∷ es) (suc p) none d =
+      let first = absent_first k e es none in
+      (find-put e.0 k v es p first.1 ∙ ap (λ b. cond b (Some v) (find R e.0 es)) (other o same k e.0 first.0) ∙ d.0, distinct_after-put k v es p first.1 d.1)
+
+  -- an entry of a key that was taken out is one that is written over
+  pub put_over : (m : map.FinMap R X) (k : K) (v : X) → insert (map.remove m k) k v ≡ insert m k v
+  put_over m k v = same_map o same _ _ (λ q.
+      get-insert o (map.remove m k) k v q ∙ twice q (eq_by_cmp R q k) refl ∙ sym (get-insert o m k v q))
+    where
+      twice : (q : K) (b : Bool) → eq_by_cmp R q k ≡ b → cond b (Some v) (map.get (map.remove m k) q) ≡ cond b (Some v) (map.get m q)
+      twice q true e = refl
+      twice q false e = get-remove o m k q ∙ ap (λ b. cond b None (map.get m q)) e

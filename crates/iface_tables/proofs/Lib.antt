@@ -1,3 +1,4 @@
 pub mod EntriesLemmas
 pub mod NeighborLemmas
 pub mod RouteLemmas
+pub mod SettleLemmas

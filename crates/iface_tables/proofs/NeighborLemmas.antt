@@ -2,22 +2,24 @@
 use Rattle.std.proofs.Common.{◌≡◌, ◌≢◌, ℕ, ◌<◌, ◌≤◌, List, [], ◌∷◌, ◌++◌, length, get_or, refl, sym, ap, subst, ◌∙◌, arith, suc}
 use Rattle.std.proofs.lemmas.Bool.Decides.{nat_tests}
 use Rattle.ip_address.specs.Hardware.{IsOf}
-use Rattle.std.specs.Prelude.{Option, is_some, nat_lt, IsTrue, if◌then◌else◌, Bool, ◌==◌, ℤ, pos, ◌≤ℤ◌, true, false, cond, Some, None, slice_set, remove}
+use Rattle.std.specs.Prelude.{Option, is_some, nat_lt, IsTrue, if◌then◌else◌, Bool, ◌==◌, ℤ, pos, ◌≤ℤ◌, true, false, cond, Some, None}
+use Rattle.std.specs.List.{remove}
 use Rattle.std.specs.Ordering.{nat_cmp, eq_by_cmp}
 use Rattle.std.specs.Cmp.{IsTotalOrder, nat_cmp_total}
 use Rattle.std.specs.FinMap as map
-use Rattle.std.specs.FinMap.{FinMap, get-insert, get-remove, get-empty, IsAntisymmetric, find, from_entries, get-from_entries, from_entries_push}
+use Rattle.std.specs.FinMap.{FinMap, get-insert, get-remove, get-empty, IsAntisymmetric, find, from_entries, get-from_entries}
 use Rattle.std.proofs.lemmas.Cmp.{on_total, then_total}
 use Rattle.std.proofs.lemmas.Map.Lookups.{exact_pairs, exact_unsigned}
-use Rattle.std.proofs.lemmas.List.{get_or_default, set-get_or}
+use Rattle.std.proofs.lemmas.List.{get_or_default, length_push}
 use Rattle.ip_address.specs.Ip.{address_cmp, address_key, address_of_key, address_of_key-address_key}
-use Rattle.iface_tables.specs.Entries.{place_of, AreKeysDistinct}
-use Rattle.iface_tables.specs.Neighbor.{AreOf, Neighbors, Puts, IsLeastEnd, IsLeastPlace, is_same, renewed, renewed_from}
+use Rattle.iface_tables.specs.Entries.{place_of}
+use Rattle.iface_tables.specs.Neighbor.{AreOf, HasPlace, Neighbors, Puts, IsKept, IsLeastEnd, IsSettled, is_same, renewed, renewed_from}
 use Rattle.net_base.specs.declared.phy.Medium.{Medium}
 use Rattle.ip_address.specs.declared.ip.IpAddress.{IpAddress}
 use Rattle.ip_address.specs.declared.hardware.HardwareAddress.{HardwareAddress}
 use Rattle.iface_tables.specs.declared.neighbor.Neighbor.{Neighbor}
-use Rattle.iface_tables.proofs.EntriesLemmas.{place_of-le, find-absent, distinct_after-set, distinct_after-push, from_entries-set, find-there, key-there, from_entries-remove, len-from_entries, distinct_after-remove, find-at, absent_after-remove}
+use Rattle.iface_tables.proofs.EntriesLemmas.{place_of-le, find-absent, find-there, key-there, from_entries-remove, from_entries-put, len-from_entries, distinct_after-remove, distinct_after-put, find-at, absent_after-remove, put_over, tied_itself}
+use Rattle.iface_tables.proofs.SettleLemmas.{taken, remove_last}
 
 pub address_total : IsTotalOrder address_cmp
 address_total = then_total (on_total (λ a. (address_key a).0) nat_cmp_total) (on_total (λ a. (address_key a).1) nat_cmp_total)
@@ -30,26 +32,16 @@ address_same a b h =
 pub known_at : (es : List (IpAddress × Neighbor)) (a : IpAddress) → map.get (from_entries {R = address_cmp} es) a ≡ find address_cmp a es
 known_at es a = get-from_entries address_total es a
 
+-- what putting an entry leaves
+pub record PutsIn (es fs : List (IpAddress × Neighbor)) (a : IpAddress) (n : Neighbor) : Type 0 where
+  pub kept : IsKept fs
+  pub puts : Puts (from_entries es) (from_entries fs) a n
+
 not_none : (n : Neighbor) → Some n ≢ None
 not_none n h = cc
 
--- a write at the address's place
-pub puts_there : (es : List (IpAddress × Neighbor)) (a : IpAddress) (n : Neighbor) → place_of address_cmp a es < length es → Puts (from_entries es) (from_entries (slice_set es (place_of address_cmp a es) (a, n))) a n
-puts_there es a n h =
-    let e = from_entries-set address_total address_same a n es h in
-    let is : find address_cmp a es ≡ Some (get_or es (place_of address_cmp a es) (a, n)).1 = find-there address_cmp a es (a, n) h in
-    record {
-      there = λ _. e;
-      room = λ _. e;
-      full = λ none _. absurd (not_none _ (sym is ∙ sym (known_at es a) ∙ none));
-    }
-
--- a push where there is room
-pub puts_room : (es : List (IpAddress × Neighbor)) (a : IpAddress) (n : Neighbor) → find address_cmp a es ≡ None → length es < 4 → AreKeysDistinct address_cmp es → Puts (from_entries es) (from_entries (es ++ (a, n) ∷ [])) a n
-puts_room es a n none h d =
-    let e = from_entries_push address_total address_same es a n none in
-    let len = len-from_entries address_total address_same es d in
-    record { there = λ _. e; room = λ _. e; full = λ _ four. absurd (omega (arith, len)) }
+none_found : (es : List (IpAddress × Neighbor)) (a : IpAddress) (i : ℕ) → i ≡ place_of address_cmp a es → length es ≤ i → find address_cmp a es ≡ None
+none_found es a i e past = let le = place_of-le address_cmp a es in find-absent address_cmp a es (omega arith)
 
 -- what holds of each entry holds of one that is found
 found_has : (P : Neighbor → Type 0) (es : List (IpAddress × Neighbor)) (b : IpAddress) (n : Neighbor) → ((k : ℕ) (d : IpAddress × Neighbor) → k < length es → P (get_or es k d).1) → find address_cmp b es ≡ Some n → P n
@@ -60,80 +52,100 @@ found_has P (e ∷ es) b n each is =
       | false ↦ λ is. found_has P es b n (λ k d h. each (suc k) d (omega arith)) is
     ] is
 
--- the entry at the least place is one of least end
-pub least_there : (es : List (IpAddress × Neighbor)) (i : ℕ) (d : IpAddress × Neighbor) → IsLeastPlace es (length es) i → AreKeysDistinct address_cmp es → IsLeastEnd (from_entries es) (get_or es i d).0
-least_there es i d h distinct = record {
-  entry = (get_or es i d).1;
-  is_there = known_at es _ ∙ find-at address_total address_same es i d h.within distinct;
-  least = λ b n is. found_has (λ m. (get_or es i d).1.expires_at ≤ℤ m.expires_at) es b n (λ k e k_in. rw (get_or_default es i d e h.within) (h.least k e k_in)) (sym (known_at es b) ∙ is);
+-- the entry at the front is one of least end
+least_first : (es : List (IpAddress × Neighbor)) (d : IpAddress × Neighbor) → 0 < length es → IsKept es → IsLeastEnd (from_entries es) (get_or es 0 d).0
+least_first es d some kept = record {
+  entry = (get_or es 0 d).1;
+  is_there = known_at es _ ∙ find-at address_total address_same es 0 d some kept.distinct;
+  least = λ b n is. found_has (λ m. (get_or es 0 d).1.expires_at ≤ℤ m.expires_at) es b n (λ k e k_in. rw (get_or_default es 0 d e some) (kept.by_end 0 k e (omega arith) k_in)) (sym (known_at es b) ∙ is);
 }
 
--- a push after an entry of least end was taken out
-pub puts_full : (es : List (IpAddress × Neighbor)) (a : IpAddress) (n : Neighbor) (i : ℕ) (d : IpAddress × Neighbor) → find address_cmp a es ≡ None → length es ≡ 4 → IsLeastPlace es (length es) i → AreKeysDistinct address_cmp es → Puts (from_entries es) (from_entries (remove es i ++ (a, n) ∷ [])) a n
-puts_full es a n i d none four least distinct =
-    let len = len-from_entries address_total address_same es distinct in
-    let gone = absent_after-remove address_total address_same a es i d least.within distinct none in
+-- the other entries, where one is taken out
+others_kept : (es : List (IpAddress × Neighbor)) (i : ℕ) → i < length es → IsKept es → IsKept (remove es i)
+others_kept es i within kept = record { distinct = distinct_after-remove address_total address_same es i within kept.distinct; by_end = taken es i kept.by_end within }
+
+-- a neighbour at an address that is there goes to its place
+pub place_there : (es : List (IpAddress × Neighbor)) (a : IpAddress) (d : IpAddress × Neighbor) (i : ℕ) → IsKept es → i ≡ place_of address_cmp a es → i < length es → HasPlace es es a i
+place_there es a d i kept at within =
+    let here : place_of address_cmp a es < length es = rw at at within in
+    let key : (get_or es i d).0 ≡ a = rw at (key-there address_total address_same a es d here) in
+    let is : find address_cmp a es ≡ Some (get_or es (place_of address_cmp a es) d).1 = find-there address_cmp a es d here in
+    let rest : from_entries (remove es i) ≡ map.remove (from_entries es) a = from_entries-remove address_total address_same es i d within kept.distinct ∙ ap (map.remove (from_entries es)) key in
+    let over : (n : Neighbor) → map.insert (from_entries (remove es i)) a n ≡ map.insert (from_entries es) a n = λ n. ap (λ m. map.insert m a n) rest ∙ put_over address_total address_same (from_entries es) a n in
     record {
-      there = λ t. let u = rw (known_at es a, none) at t in cc;
-      room = λ h. absurd (omega (arith, len));
-      full = λ _ _. ((get_or es i d).0, least_there es i d least distinct, from_entries_push address_total address_same (remove es i) a n gone ∙ ap (λ m. map.insert m a n) (from_entries-remove address_total address_same es i d least.within distinct));
+      within = within;
+      kept = others_kept es i within kept;
+      absent = ap (λ m. map.get m a) rest ∙ get-remove address_total (from_entries es) a a ∙ ap (λ b. cond b None (map.get {R = address_cmp} (from_entries es) a)) (tied_itself address_total address_same a);
+      puts = λ n. record {
+        there = λ _. over n;
+        room = λ _. over n;
+        full = λ none _. absurd (not_none _ (sym is ∙ sym (known_at es a) ∙ none));
+      };
     }
 
--- no place below the length is the address's
-absent : (es : List (IpAddress × Neighbor)) (a : IpAddress) (i : ℕ) → i ≡ place_of address_cmp a es → (i < length es → ⊥) → place_of address_cmp a es ≡ length es
-absent es a i e h = let le = place_of-le address_cmp a es in omega arith
-
--- what putting an entry leaves
-pub record PutsIn (es fs : List (IpAddress × Neighbor)) (a : IpAddress) (n : Neighbor) : Type 0 where
-  pub distinct : AreKeysDistinct address_cmp fs
-  pub puts : Puts (from_entries es) (from_entries fs) a n
-
-pub put_there : (es : List (IpAddress × Neighbor)) (a : IpAddress) (n : Neighbor) (i : ℕ) → AreKeysDistinct address_cmp es → i ≡ place_of address_cmp a es → i < length es → PutsIn es (slice_set es i (a, n)) a n
-put_there es a n i d e h = rw e (record {
-  distinct = distinct_after-set address_total address_same a n es (rw e at h) d;
-  puts = puts_there es a n (rw e at h);
-})
-
-pub put_room : (es : List (IpAddress × Neighbor)) (a : IpAddress) (n : Neighbor) (i : ℕ) → AreKeysDistinct address_cmp es → i ≡ place_of address_cmp a es → (i < length es → ⊥) → length es < 4 → PutsIn es (es ++ (a, n) ∷ []) a n
-put_room es a n i d e h room =
-    let none = find-absent address_cmp a es (absent es a i e h) in
-    record { distinct = distinct_after-push address_total address_same a n es none d; puts = puts_room es a n none room d }
-
-pub put_full : (es : List (IpAddress × Neighbor)) (a : IpAddress) (n : Neighbor) (i v : ℕ) → AreKeysDistinct address_cmp es → i ≡ place_of address_cmp a es → (i < length es → ⊥) → length es ≡ 4 → IsLeastPlace es (length es) v → PutsIn es (remove es v ++ (a, n) ∷ []) a n
-put_full es a n i v d e h four least =
-    let none = find-absent address_cmp a es (absent es a i e h) in
+-- one at a new address goes to the front of a full table
+pub place_front : (es : List (IpAddress × Neighbor)) (a : IpAddress) (d : IpAddress × Neighbor) (i : ℕ) → IsKept es → i ≡ place_of address_cmp a es → length es ≤ i → length es ≡ 4 → HasPlace es es a 0
+place_front es a d i kept at past four =
+    let none = none_found es a i at past in
+    let some : 0 < length es = omega arith in
+    let len = len-from_entries address_total address_same es kept.distinct in
     record {
-      distinct = distinct_after-push address_total address_same a n (remove es v) (absent_after-remove address_total address_same a es v (a, n) least.within d none) (distinct_after-remove address_total address_same es v least.within d);
-      puts = puts_full es a n v (a, n) none four least d;
+      within = some;
+      kept = others_kept es 0 some kept;
+      absent = known_at (remove es 0) a ∙ absent_after-remove address_total address_same a es 0 d some kept.distinct none;
+      puts = λ n. record {
+        there = λ t. let u = rw (known_at es a, none) at t in cc;
+        room = λ h. absurd (omega (arith, len));
+        full = λ _ _. ((get_or es 0 d).0, least_first es d some kept, ap (λ m. map.insert m a n) (from_entries-remove address_total address_same es 0 d some kept.distinct));
+      };
     }
 
--- what renewing in a list of entries leaves
+-- or behind all others, where there is room
+pub place_behind : (es : List (IpAddress × Neighbor)) (a : IpAddress) (e : IpAddress × Neighbor) (i : ℕ) → IsKept es → i ≡ place_of address_cmp a es → length es ≤ i → length es < 4 → HasPlace es (es ++ e ∷ []) a i
+place_behind es a e i kept at past room =
+    let none = none_found es a i at past in
+    let le = place_of-le address_cmp a es in
+    let end : i ≡ length es = omega arith in
+    let rest : remove (es ++ e ∷ []) i ≡ es = ap (remove (es ++ e ∷ [])) end ∙ remove_last es e in
+    let len = len-from_entries address_total address_same es kept.distinct in
+    record {
+      within = omega (arith, length_push es e);
+      kept = rw rest kept;
+      absent = rw rest (known_at es a ∙ none);
+      puts = λ n. rw rest (record { there = λ _. refl; room = λ _. refl; full = λ _ four. absurd (omega (arith, len)) });
+    }
+
+-- a neighbour that has settled at its place was put
+pub put_settled : (old mid new : List (IpAddress × Neighbor)) (a : IpAddress) (n : Neighbor) (i : ℕ) → HasPlace old mid a i → IsSettled (remove mid i) (a, n) new → PutsIn old new a n
+put_settled old mid new a n i h s =
+    let none : find address_cmp a (remove mid i) ≡ None = sym (known_at (remove mid i) a) ∙ h.absent in
+    record {
+      kept = record { distinct = rw s.is (distinct_after-put address_total address_same a n (remove mid i) s.place none h.kept.distinct); by_end = s.by_end };
+      puts = rw (s.is, from_entries-put address_total address_same a n (remove mid i) s.place none) (h.puts n);
+    }
+
+-- what renewing leaves in a list of entries
 pub record RenewsIn (es fs : List (IpAddress × Neighbor)) (a : IpAddress) (h : HardwareAddress) (end : ℤ) : Type 0 where
-  pub distinct : AreKeysDistinct address_cmp fs
+  pub kept : IsKept fs
   pub renews : from_entries fs ≡ renewed_from (find address_cmp a es) (from_entries es) a h end
 
 -- the entry at an address's place is the one that is found
 found_is : (es : List (IpAddress × Neighbor)) (a : IpAddress) (e : IpAddress × Neighbor) (i : ℕ) → i ≡ place_of address_cmp a es → i < length es → e ≡ get_or es i e → find address_cmp a es ≡ Some e.1
 found_is es a e i at within is = find-there address_cmp a es e (rw at at within) ∙ ap (λ (d : IpAddress × Neighbor). Some d.1) (sym (rw at at is))
 
-pub renewed_there : (es : List (IpAddress × Neighbor)) (a : IpAddress) (h : HardwareAddress) (end : ℤ) (e : IpAddress × Neighbor) (i : ℕ) → AreKeysDistinct address_cmp es → i ≡ place_of address_cmp a es → i < length es → e ≡ get_or es i e → is_same e.1.hardware_addr h ≡ true → RenewsIn es (slice_set es i (e.0, record e.1 { expires_at = end })) a h end
-renewed_there es a h end e i d at within is same =
+pub renewed_there : (es fs : List (IpAddress × Neighbor)) (a : IpAddress) (h : HardwareAddress) (end : ℤ) (e : IpAddress × Neighbor) (i : ℕ) → IsKept es → i ≡ place_of address_cmp a es → i < length es → e ≡ get_or es i e → is_same e.1.hardware_addr h ≡ true → IsSettled (remove es i) (a, record e.1 { expires_at = end }) fs → RenewsIn es fs a h end
+renewed_there es fs a h end e i kept at within is same settled =
     let n : Neighbor = record e.1 { expires_at = end } in
     let f = found_is es a e i at within is in
-    let key : e.0 ≡ a = ap (λ (x : IpAddress × Neighbor). x.0) (rw at at is) ∙ key-there address_total address_same a es e (rw at at within) in
-    record {
-      distinct = rw (key, at) (distinct_after-set address_total address_same a n es (rw at at within) d);
-      renews = rw (key, f, same, at) (from_entries-set address_total address_same a n es (rw at at within));
-    }
+    let put = put_settled es es fs a n i (place_there es a e i kept at within) settled in
+    let there : IsTrue (map.contains_key (from_entries {R = address_cmp} es) a) = rw (known_at es a, f) refl in
+    record { kept = put.kept; renews = rw (f, same) (put.puts.there there) }
 
-pub renewed_other : (es : List (IpAddress × Neighbor)) (a : IpAddress) (h : HardwareAddress) (end : ℤ) (e : IpAddress × Neighbor) (i : ℕ) → AreKeysDistinct address_cmp es → i ≡ place_of address_cmp a es → i < length es → e ≡ get_or es i e → is_same e.1.hardware_addr h ≡ false → RenewsIn es (slice_set es i e) a h end
-renewed_other es a h end e i d at within is other =
-    let f = found_is es a e i at within is in
-    let kept : slice_set es i e ≡ es = ap (slice_set es i) is ∙ set-get_or es i e in
-    rw kept (record { distinct = d; renews = rw (f, other) refl })
+pub renewed_other : (es : List (IpAddress × Neighbor)) (a : IpAddress) (h : HardwareAddress) (end : ℤ) (e : IpAddress × Neighbor) (i : ℕ) → i ≡ place_of address_cmp a es → i < length es → e ≡ get_or es i e → is_same e.1.hardware_addr h ≡ false → from_entries es ≡ renewed_from (find address_cmp a es) (from_entries es) a h end
+renewed_other es a h end e i at within is other = rw (found_is es a e i at within is, other) refl
 
-pub renewed_none : (es : List (IpAddress × Neighbor)) (a : IpAddress) (h : HardwareAddress) (end : ℤ) (i : ℕ) → i ≡ place_of address_cmp a es → (i < length es → ⊥) → from_entries es ≡ renewed_from (find address_cmp a es) (from_entries es) a h end
-renewed_none es a h end i at none = rw (find-absent address_cmp a es (absent es a i at none)) refl
+pub renewed_none : (es : List (IpAddress × Neighbor)) (a : IpAddress) (h : HardwareAddress) (end : ℤ) (i : ℕ) → i ≡ place_of address_cmp a es → length es ≤ i → from_entries es ≡ renewed_from (find address_cmp a es) (from_entries es) a h end
+renewed_none es a h end i at past = rw (none_found es a i at past) refl
 
 -- what a test for a full table says
 pub four_of_full : (b : Bool) (n : ℕ) → b ≡ (n == 4) → b ≡ true → n ≡ 4

@@ -1,5 +1,6 @@
 -- Neighbours (RFC 826, RFC 4861): a finite map from their addresses, and one silence.
 use Rattle.std.specs.Prelude.{◌≡◌, ℕ, ◌<◌, ◌≤◌, ℤ, pos, ◌+ℤ◌, ◌≤ℤ◌, Bool, true, false, IsTrue, List, length, slice_index_or, Option, Some, None, if◌then◌else◌, refl}
+use Rattle.std.specs.List.{insert, remove}
 use Rattle.std.specs.Ordering.{int_cmp, is_lt}
 use Rattle.std.specs.FinMap as map
 use Rattle.std.specs.FinMap.{FinMap}
@@ -11,6 +12,7 @@ use Rattle.std.specs.Str.{bytes_eq}
 use Rattle.ip_address.specs.declared.ip.IpAddress.{IpAddress}
 use Rattle.ip_address.specs.declared.hardware.HardwareAddress.{HardwareAddress}
 use Rattle.ip_address.specs.declared.hardware.HardwareAddress.TheVariants.{Ip, Ethernet}
+use Rattle.iface_tables.specs.Entries.{AreKeysDistinct}
 use Rattle.iface_tables.specs.declared.neighbor.Neighbor.{Neighbor}
 use Rattle.iface_tables.specs.declared.neighbor.Answer.{Answer}
 use Rattle.iface_tables.specs.declared.neighbor.Answer.TheVariants.{Found, NotFound, RateLimited}
@@ -87,10 +89,28 @@ renewed_from (Some n) m a h end = if is_same n.hardware_addr h then map.insert m
 abbrev pub renewed : Neighbors → IpAddress → HardwareAddress → ℤ → Neighbors
 renewed c a h end = record c { known = renewed_from (map.get c.known a) c.known a h end }
 
--- of the first i entries, none ends before that at place v
-pub record IsLeastPlace (es : List (IpAddress × Neighbor)) (i v : ℕ) : Type 0 where
-  pub within : v < length es
-  pub least : (k : ℕ) (d : IpAddress × Neighbor) → k < i → (slice_index_or es v d).1.expires_at ≤ℤ (slice_index_or es k d).1.expires_at
+-- by rising end: none ends after one behind it
+abbrev pub IsByEnd : List (IpAddress × Neighbor) → Type 0
+IsByEnd es = (i j : ℕ) (d : IpAddress × Neighbor) → i ≤ j → j < length es → (slice_index_or es i d).1.expires_at ≤ℤ (slice_index_or es j d).1.expires_at
+
+-- as entries are kept: no address twice, and by rising end
+pub record IsKept (es : List (IpAddress × Neighbor)) : Type 0 where
+  pub distinct : AreKeysDistinct address_cmp es
+  pub by_end : IsByEnd es
+
+-- an entry was put among others, and all are by rising end
+pub record IsSettled (others : List (IpAddress × Neighbor)) (entry : IpAddress × Neighbor) (new : List (IpAddress × Neighbor)) : Type 0 where
+  pub place : ℕ
+  pub within : place ≤ length others
+  pub is : new ≡ insert others place entry
+  pub by_end : IsByEnd new
+
+-- the entry at a place of new may be written over by a neighbour at a: the others are those of old without a, or without one of least end
+pub record HasPlace (old new : List (IpAddress × Neighbor)) (a : IpAddress) (place : ℕ) : Type 0 where
+  pub within : place < length new
+  pub kept : IsKept (remove new place)
+  pub absent : map.get (map.from_entries {R = address_cmp} (remove new place)) a ≡ None
+  pub puts : (n : Neighbor) → Puts (map.from_entries old) (map.insert (map.from_entries (remove new place)) a n) a n
 
 -- a neighbour by its parts
 abbrev pub neighbor_code : Coded Neighbor

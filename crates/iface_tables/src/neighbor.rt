@@ -1,6 +1,7 @@
 //! The neighbour cache (RFC 826, RFC 4861): which hardware address an IP address has, and until when
 //! no discovery is sent.
 ghost use Rattle.std.specs.Prelude.{◌≡◌, ◌<◌, true, pos, length};
+ghost use Rattle.std.specs.List.{remove};
 ghost use Rattle.std.specs.FinMap as map;
 ghost use Rattle.std.specs.FinMap.{find};
 ghost use Rattle.std.specs.Ordering.{eq_by_cmp};
@@ -13,7 +14,7 @@ ghost use Rattle.ip_address.specs.Hardware.{medium_of};
 ghost use Rattle.iface_tables.specs.Entries as entry;
 ghost use Rattle.iface_tables.specs.Entries.{AreKeysDistinct};
 ghost use Rattle.iface_tables.specs.Neighbor as spec;
-ghost use Rattle.iface_tables.specs.Neighbor.{AreOf, Puts, Fills, IsLeastPlace, renewed, renewed_from, answer_of, expiry_from};
+ghost use Rattle.iface_tables.specs.Neighbor.{AreOf, Puts, Fills, HasPlace, IsByEnd, IsKept, IsSettled, renewed, renewed_from, answer_of, expiry_from};
 
 use arrayvec::ArrayVec;
 use ip_wire::{HardwareAddress, IpAddress};
@@ -28,6 +29,15 @@ pub const IFACE_NEIGHBOR_CACHE_COUNT: usize = 4;
 pub struct Neighbor {
     pub hardware_addr: HardwareAddress,
     pub expires_at: Instant,
+}
+
+impl Neighbor {
+    /// The moment from which its hardware address is no longer known.
+    pub const fn expires_at(&self) -> Instant
+        ensures { result ≡ self.now.expires_at }
+    {
+        self.expires_at
+    }
 }
 
 impl Default for Neighbor {
@@ -70,15 +80,14 @@ impl Answer {
 /// discovery is sent.
 #[derive(Drop)]
 pub struct Cache {
+    // By rising end.
     entries: ArrayVec<(IpAddress, Neighbor), IFACE_NEIGHBOR_CACHE_COUNT>,
     silent_until: Instant,
 }
 
 impl Model for Cache {
     ghost use Rattle.std.specs.FinMap as map;
-    ghost use Rattle.ip_address.specs.Ip.{address_cmp};
-    ghost use Rattle.iface_tables.specs.Entries.{AreKeysDistinct};
-    ghost use Rattle.iface_tables.specs.Neighbor.{Neighbors, neighbors_code};
+    ghost use Rattle.iface_tables.specs.Neighbor.{IsKept, Neighbors, neighbors_code};
 
     ghost Value = { Neighbors };
 
@@ -86,7 +95,7 @@ impl Model for Cache {
 
     ghost view = { λ c. record { known = map.from_entries c.entries.items; silent_until = c.silent_until } };
 
-    ghost invariant = { λ c. AreKeysDistinct address_cmp c.entries.items };
+    ghost invariant = { λ c. IsKept c.entries.items };
 }
 
 impl Cache {
@@ -177,13 +186,23 @@ impl Cache {
         requires { ip.is_unicast protocol_addr.now ≡ true }
         ensures { result ≡ answer_of self.now protocol_addr.now timestamp }
     {
-        match find_in(self.entries.as_slice(), protocol_addr) {
+        match find_in(&self.entries, protocol_addr) {
             Some(neighbor) if timestamp < neighbor.expires_at => {
                 Answer::Found(neighbor.hardware_addr)
             }
             _ if timestamp < self.silent_until => Answer::RateLimited,
             _ => Answer::NotFound,
         }
+    }
+
+    /// All neighbours that are kept, each once, those too whose end has passed, by rising end. Those
+    /// of equal end stand in any order.
+    pub fn by_expiry(&self) -> &[(IpAddress, Neighbor)]
+        ensures pairs { map.from_entries result.now ≡ self.now.known }
+        ensures once { AreKeysDistinct address_cmp result.now }
+        ensures order { IsByEnd result.now }
+    {
+        self.entries.as_slice()
     }
 
     /// Begins a silence of 1 s, in which lookups of all unknown neighbours answer `RateLimited`.
@@ -252,18 +271,48 @@ fn place_of(entries: &[(IpAddress, Neighbor)], address: &IpAddress) -> usize
     entries.len()
 }
 
-// The place of an entry of least end.
-fn least_end(entries: &[(IpAddress, Neighbor)]) -> usize
-    requires { 0 < length entries.now }
-    ensures { IsLeastPlace entries.now (length entries.now) result }
+// Puts an entry in place of the one at a place, and moves it to where it stands by its end.
+fn settle(
+    entries: &mut [(IpAddress, Neighbor)],
+    place: usize,
+    address: IpAddress,
+    neighbor: Neighbor,
+)
+    requires within { place < length entries.old }
+    requires rest { IsByEnd (remove entries.old place) }
+    ensures { IsSettled (remove entries.old place) (address, neighbor) entries.new }
 {
-    let mut least = 0;
-    for i in 1..entries.len() {
-        if entries[i].1.expires_at < entries[least].1.expires_at {
-            least = i;
-        }
+    let mut hole = place;
+    while hole + 1 < entries.len() && entries[hole + 1].1.expires_at < neighbor.expires_at {
+        entries[hole] = entries[hole + 1];
+        hole += 1;
     }
-    least
+    while hole > 0 && neighbor.expires_at < entries[hole - 1].1.expires_at {
+        entries[hole] = entries[hole - 1];
+        hole -= 1;
+    }
+    entries[hole] = (address, neighbor);
+}
+
+// Where a neighbour goes: the place of its address, or one behind all, or in a full table the front,
+// so that the entry of least end makes room.
+fn place_for(
+    entries: &mut ArrayVec<(IpAddress, Neighbor), IFACE_NEIGHBOR_CACHE_COUNT>,
+    address: &IpAddress,
+    neighbor: &Neighbor,
+) -> usize
+    requires { IsKept entries.old.items }
+    ensures { HasPlace entries.old.items entries.new.items address.now result }
+{
+    let place = place_of(entries.as_slice(), address);
+    if place < entries.len() {
+        return place;
+    }
+    if entries.is_full() {
+        return 0;
+    }
+    entries.push((*address, *neighbor));
+    place
 }
 
 // Puts a neighbour at its address. In a full table an entry of least end makes room.
@@ -272,22 +321,12 @@ fn put_in(
     address: IpAddress,
     neighbor: Neighbor,
 )
-    requires { AreKeysDistinct address_cmp entries.old.items }
-    ensures distinct { AreKeysDistinct address_cmp entries.new.items }
+    requires { IsKept entries.old.items }
+    ensures kept { IsKept entries.new.items }
     ensures puts { Puts (map.from_entries entries.old.items) (map.from_entries entries.new.items) address neighbor }
 {
-    let place = place_of(entries.as_slice(), &address);
-    if let Some(entry) = entries.get_mut(place) {
-        *entry = (address, neighbor);
-        return;
-    }
-    if !entries.is_full() {
-        entries.push((address, neighbor));
-        return;
-    }
-    let victim = least_end(entries.as_slice());
-    entries.remove(victim);
-    entries.push((address, neighbor));
+    let place = place_for(entries, &address, &neighbor);
+    settle(entries.as_mut_slice(), place, address, neighbor);
 }
 
 // Moves the end of the entry at an address, if it has this hardware address.
@@ -298,14 +337,21 @@ fn renew_in(
     hardware_addr: &HardwareAddress,
     expires_at: Instant,
 )
-    requires { AreKeysDistinct address_cmp entries.old.items }
-    ensures distinct { AreKeysDistinct address_cmp entries.new.items }
+    requires { IsKept entries.old.items }
+    ensures kept { IsKept entries.new.items }
     ensures renews { map.from_entries entries.new.items ≡ renewed_from (find address_cmp address.now entries.old.items) (map.from_entries entries.old.items) address.now hardware_addr.now expires_at }
 {
     let place = place_of(entries.as_slice(), address);
-    if let Some(entry) = entries.get_mut(place) {
-        if is_same(&entry.1.hardware_addr, hardware_addr) {
-            entry.1.expires_at = expires_at;
-        }
+    if place >= entries.len() {
+        return;
     }
+    let entry = entries.as_slice()[place];
+    if !is_same(&entry.1.hardware_addr, hardware_addr) {
+        return;
+    }
+    let neighbor = Neighbor {
+        hardware_addr: entry.1.hardware_addr,
+        expires_at,
+    };
+    settle(entries.as_mut_slice(), place, *address, neighbor);
 }

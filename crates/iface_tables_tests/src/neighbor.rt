@@ -105,3 +105,55 @@ fn a_silence_is_for_all_and_outlasts_a_flush(rt: HostRuntime) {
     );
     assert!(rt; !cache.lookup(&FIRST, Instant::from_millis(2000)).found());
 }
+
+// What a cache lends, in order: each address, and when it ends.
+fn lends(cache: &Cache, wanted: &[(IpAddress, Instant)]) -> bool {
+    let all = cache.by_expiry();
+    if all.len() != wanted.len() {
+        return false;
+    }
+    for (stored, wanted) in all.iter().zip(wanted) {
+        if stored.0 != wanted.0 || stored.1.expires_at() != wanted.1 {
+            return false;
+        }
+    }
+    true
+}
+
+#[test]
+fn neighbors_stand_by_their_ends(rt: HostRuntime) {
+    let second = Instant::from_secs(1);
+    let mut cache = Cache::new();
+    cache.fill(FIRST, LINK_A, Instant::from_millis(100));
+    cache.fill(SECOND, LINK_A, Instant::from_millis(50));
+    cache.fill(THIRD, LINK_A, Instant::from_millis(200));
+    cache.fill(FOURTH, LINK_A, Instant::from_millis(250));
+    cache.reset_expiry_if_existing(SECOND, LINK_A, Instant::from_millis(300));
+    cache.fill(FIFTH, LINK_B, Instant::from_millis(400));
+    assert_eq!(rt; cache.lookup(&FIRST, second), Answer::NotFound);
+    for known in [SECOND, THIRD, FOURTH] {
+        assert_eq!(rt; cache.lookup(&known, second), Answer::Found(LINK_A));
+    }
+    assert_eq!(rt; cache.lookup(&FIFTH, second), Answer::Found(LINK_B));
+    let wanted = [
+        (THIRD, Instant::from_millis(60_200)),
+        (FOURTH, Instant::from_millis(60_250)),
+        (SECOND, Instant::from_millis(60_300)),
+        (FIFTH, Instant::from_millis(60_400)),
+    ];
+    assert!(rt; lends(&cache, &wanted));
+    cache.fill(FIRST, LINK_B, Instant::from_millis(10));
+    assert_eq!(rt; cache.lookup(&THIRD, second), Answer::NotFound);
+    assert_eq!(rt; cache.lookup(&FIRST, second), Answer::Found(LINK_B));
+    assert_eq!(rt;
+        cache.lookup(&FIRST, Instant::from_millis(60_010)),
+        Answer::NotFound
+    );
+    let wanted = [
+        (FIRST, Instant::from_millis(60_010)),
+        (FOURTH, Instant::from_millis(60_250)),
+        (SECOND, Instant::from_millis(60_300)),
+        (FIFTH, Instant::from_millis(60_400)),
+    ];
+    assert!(rt; lends(&cache, &wanted));
+}

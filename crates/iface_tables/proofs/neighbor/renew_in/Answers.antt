@@ -1,22 +1,35 @@
-use Rattle.std.proofs.Common.{ap, refl, sym, ◌∙◌}
+use Rattle.std.proofs.Common.{length, sym, ap, ◌∙◌, arith}
+use Rattle.std.specs.List.{refill}
 use Rattle.ip_address.specs.Ip.{address_cmp}
 use Rattle.iface_tables.specs.Entries.{place_of}
-use Rattle.iface_tables.proofs.NeighborLemmas.{renewed_there, renewed_other, renewed_none}
+use Rattle.iface_tables.proofs.NeighborLemmas.{RenewsIn, renewed_there, renewed_other, renewed_none}
+use Rattle.iface_tables.proofs.SettleLemmas.{refilled, taken}
 use Rattle.iface_tables.proofs.neighbor.renew_in.Goals as goal
 
-pub returns-then-is_same : goal.returns-then-is_same
-returns-then-is_same c =
-    let at = c.place_of-place.ensures ∙ ap (place_of address_cmp c.args.address.now) c.as_slice.ensures.value in
-    let left = renewed_there c.args.entries.now.items c.args.address.now c.args.hardware_addr.now c.args.expires_at c.in-Some.entry.now c.place_of-place.result c.requires at (c.in-Some.ensures.variant.0 refl) c.in-Some.ensures.value (sym c.is_same.ensures ∙ c.if-is_same.true) in
-    record { distinct = left.distinct; renews = left.renews }
+pub returns-then-place-len-clause-renews : goal.returns-then-place-len-clause-renews
+returns-then-place-len-clause-renews c =
+    renewed_none c.args.entries.now.items c.args.address.now c.args.hardware_addr.now c.args.expires_at c.place_of-place.result
+    (c.place_of-place.ensures ∙ ap (place_of address_cmp c.args.address.now) c.as_slice.ensures.value) (omega (arith, c.len.ensures.value))
 
-pub returns-else-is_same : goal.returns-else-is_same
-returns-else-is_same c =
-    let at = c.place_of-place.ensures ∙ ap (place_of address_cmp c.args.address.now) c.as_slice.ensures.value in
-    let left = renewed_other c.args.entries.now.items c.args.address.now c.args.hardware_addr.now c.args.expires_at c.in-Some.entry.now c.place_of-place.result c.requires at (c.in-Some.ensures.variant.0 refl) c.in-Some.ensures.value (sym c.is_same.ensures ∙ c.if-is_same.false) in
-    record { distinct = left.distinct; renews = left.renews }
+pub returns-then-not-is_same-clause-renews : goal.returns-then-not-is_same-clause-renews
+returns-then-not-is_same-clause-renews c =
+    renewed_other c.args.entries.now.items c.args.address.now c.args.hardware_addr.now c.args.expires_at c.index-as_slice-place.result c.place_of-place.result
+    (c.place_of-place.ensures ∙ ap (place_of address_cmp c.args.address.now) c.as_slice.ensures.value) (omega (arith, c.len.ensures.value))
+    (rw c.as_slice-2.ensures.value at c.index-as_slice-place.is) (sym c.is_same.ensures ∙ c.if-not-is_same.true)
 
-pub returns-in_default-clause-renews : goal.returns-in_default-clause-renews
-returns-in_default-clause-renews c =
-    let at = c.place_of-place.ensures ∙ ap (place_of address_cmp c.args.address.now) c.as_slice.ensures.value in
-    renewed_none c.args.entries.now.items c.args.address.now c.args.hardware_addr.now c.args.expires_at c.place_of-place.result at (λ h. (let t = c.in_default.ensures.variant.1 h in cc))
+pub settle-requires-clause-rest : goal.settle-requires-clause-rest
+settle-requires-clause-rest c =
+    rw c.as_mut_slice.ensures.value (taken c.args.entries.now.items c.place_of-place.result c.requires.by_end (omega (arith, c.len.ensures.value)))
+
+renewed : (c : goal.After-entries-1) → RenewsIn c.args.entries.now.items (refill (length c.args.entries.now.items) c.args.entries.now.items c.settle.new.entries) c.args.address.now c.args.hardware_addr.now c.args.expires_at
+renewed c =
+    rw (refilled c.args.entries.now.items c.settle.new.entries (c.settle.auto.entries ∙ ap length c.as_mut_slice.ensures.value))
+    (renewed_there c.args.entries.now.items c.settle.new.entries c.args.address.now c.args.hardware_addr.now c.args.expires_at c.index-as_slice-place.result c.place_of-place.result c.requires
+    (c.place_of-place.ensures ∙ ap (place_of address_cmp c.args.address.now) c.as_slice.ensures.value) (omega (arith, c.len.ensures.value))
+    (rw c.as_slice-2.ensures.value at c.index-as_slice-place.is) (sym c.is_same.ensures ∙ c.if-not-is_same.false) (rw c.as_mut_slice.ensures.value at c.settle.ensures))
+
+pub returns-clause-kept : goal.returns-clause-kept
+returns-clause-kept c = (renewed c).kept
+
+pub returns-clause-renews : goal.returns-clause-renews
+returns-clause-renews c = (renewed c).renews
