@@ -134,6 +134,14 @@ impl Context {
         &self.routes
     }
 
+    /// The neighbours.
+    #[inline(always)]
+    pub fn neighbors(&self) -> &Cache
+        ensures { result.now ≡ (host_of self.now no_sockets).neighbors }
+    {
+        &self.neighbor_cache
+    }
+
     /// Whether an address is one of the interface's own: one that was given to it, or any with
     /// AnyIP.
     #[inline(always)]
