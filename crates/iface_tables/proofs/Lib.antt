@@ -1,4 +1,6 @@
 pub mod EntriesLemmas
 pub mod NeighborLemmas
 pub mod RouteLemmas
+pub mod RouteTrieLemmas
+pub mod RouteWalkLemmas
 pub mod SettleLemmas

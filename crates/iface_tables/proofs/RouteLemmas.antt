@@ -1,6 +1,6 @@
 -- The best route: how it moves with one more route behind, and that it is the only one.
-use Rattle.std.proofs.Common.{◌≡◌, ◌<◌, ◌≤◌, ◌⊎◌, inl, inr, ℕ, zero, suc, ◌+◌, Bool, true, false, cond, List, [], ◌∷◌, ◌++◌, length, take, get_or, refl, sym, ap, ◌∙◌, arith}
-use Rattle.std.specs.Prelude.{ℤ, nat_le, ◌&&◌, Option, Some, None, Ok, Err, slice_get}
+use Rattle.std.proofs.Common.{◌≡◌, ◌<◌, ◌≤◌, inl, inr, ℕ, zero, suc, ◌+◌, Bool, true, false, List, [], ◌∷◌, ◌++◌, length, get_or, refl, sym, ap, ◌∙◌, arith, get_or-set_same, get_or-set_other}
+use Rattle.std.specs.Prelude.{ℤ, nat_le, Option, Some, None, Ok, Err, slice_get, slice_set}
 use Rattle.std.proofs.Common.{lit≤}
 use Rattle.std.specs.List.{position_or_len, remove}
 use Rattle.std.proofs.Math.Bridge.{le_prop}
@@ -9,88 +9,66 @@ use Rattle.ip_address.specs.declared.ip.IpAddress.TheVariants.{Ipv4, Ipv6}
 use Rattle.ip_address.specs.declared.ipv4.Ipv4Address.{Ipv4Address}
 use Rattle.ip_address.specs.declared.ipv6.Ipv6Address.{Ipv6Address}
 use Rattle.ip_address.specs.declared.cidr.IpCidr.TheVariants as cidr
-use Rattle.std.proofs.Math.Seq.{take-suc}
-use Rattle.std.proofs.lemmas.Bool.{cases_order}
+use Rattle.ip_address.specs.Cidr.{contains, prefix_len_of}
+use Rattle.ip_address.specs.declared.cidr.IpCidr.{IpCidr}
+use Rattle.std.proofs.lemmas.Bool.{cases_eq, cases_order}
 use Rattle.std.proofs.lemmas.Bool.Decides.{nat_tests}
-use Rattle.std.proofs.lemmas.Option.{slice_get_cases, slice_get_within}
+use Rattle.std.proofs.lemmas.Option.{slice_get_cases, slice_get_read}
 use Rattle.ip_address.specs.declared.ip.IpAddress.{IpAddress}
 use Rattle.iface_tables.specs.declared.route.Route.{Route}
-use Rattle.iface_tables.specs.Route.{matches, prefix_len, IsBest, RouterIsOne, router_of, better, first, ipv4_gateway, ipv6_gateway, Replaces}
+use Rattle.iface_tables.specs.Route.{AreLive, IsBest, IsBestAt, Replaces, RouterIsOne, cidrs, first, ipv4_gateway, ipv6_gateway, is_live, matches, prefix_len, route_at, router_of}
+use Rattle.iface_tables.specs.RouteTrie.{IsBestPlace, IsCandidate}
+use Rattle.iface_tables.proofs.RouteTrieLemmas.{both}
 
 some_is : (x y : Route) → Some x ≡ Some y → x ≡ y
 some_is x y e = cc
 
--- what stands at a place, where one route was put behind: what stood there, or that one
-behind : (rs : List Route) (x : Route) (k : ℕ) (r : Route) → slice_get (rs ++ x ∷ []) k ≡ Some r → (slice_get rs k ≡ Some r) ⊎ ((k ≡ length rs) × (r ≡ x))
-behind [] x zero r e = inr (refl, sym (some_is x r e))
-behind [] x (suc k) r e = absurd (let t : None ≡ Some r = e in cc)
-behind (y ∷ rs) x zero r e = inl e
-behind (y ∷ rs) x (suc k) r e = elim (behind rs x k r e) [ inl h ↦ inl h | inr h ↦ inr (omega (arith, h.0), h.1) ]
+-- a place of the prefixes is one of the routes
+route_there : (rs : List Route) (k : ℕ) (c : IpCidr) → slice_get (cidrs rs) k ≡ Some c → (r : Route) × (slice_get rs k ≡ Some r) × (r.cidr ≡ c)
+route_there [] k c h = absurd (let t : None ≡ Some c = h in cc)
+route_there (r ∷ rs) zero c h = (r, refl, (let t : Some r.cidr ≡ Some c = h in cc))
+route_there (r ∷ rs) (suc k) c h = route_there rs k c h
 
--- what stood at a place still does
-stays : (rs : List Route) (x : Route) (k : ℕ) (r : Route) → slice_get rs k ≡ Some r → slice_get (rs ++ x ∷ []) k ≡ Some r
-stays [] x k r e = absurd (let t : None ≡ Some r = e in cc)
-stays (y ∷ rs) x zero r e = e
-stays (y ∷ rs) x (suc k) r e = stays rs x k r e
+prefix_there : (rs : List Route) (k : ℕ) (r : Route) → slice_get rs k ≡ Some r → slice_get (cidrs rs) k ≡ Some r.cidr
+prefix_there [] k r h = absurd (let t : None ≡ Some r = h in cc)
+prefix_there (x ∷ rs) zero r h = ap (λ (y : Route). Some y.cidr) (some_is x r h)
+prefix_there (x ∷ rs) (suc k) r h = prefix_there rs k r h
 
-at_end : (rs : List Route) (x : Route) → slice_get (rs ++ x ∷ []) (length rs) ≡ Some x
-at_end [] x = refl
-at_end (y ∷ rs) x =
-    let e : length (y ∷ rs) ≡ suc (length rs) = omega arith in
-    ap (slice_get ((y ∷ rs) ++ x ∷ [])) e ∙ at_end rs x
+-- a route that matches is one to be chosen from
+chosen_from : (rs : List Route) (a : IpAddress) (t : ℤ) (live : List Bool) (k : ℕ) (r : Route) → AreLive rs t live → slice_get rs k ≡ Some r → matches r a t ≡ true → IsCandidate (cidrs rs) a live k (prefix_len r)
+chosen_from rs a t live k r alive there match =
+    let m = both (contains r.cidr a) (is_live r t) match in
+    record { prefix = r.cidr; is_there = prefix_there rs k r there; is_match = m.0; is_live = alive k r there ∙ m.1; len = refl }
 
--- a matching route behind all is the best one where none before it is more specific
-takes : (rs : List Route) (a : IpAddress) (t : ℤ) (x : Route) → matches x a t ≡ true → ((k : ℕ) (other : Route) → slice_get rs k ≡ Some other → matches other a t ≡ true → prefix_len other ≤ prefix_len x) → IsBest (rs ++ x ∷ []) a t (Some x)
-takes rs a t x m bound = (
-  length rs,
-  record {
-    is_there = at_end rs x;
-    is_match = m;
-    longest = λ k other e om. elim (behind rs x k other e) [ inl h ↦ bound k other h om | inr h ↦ rw h.1 (omega arith) ];
-    last = λ k other after e om. elim (behind rs x k other e) [ inl h ↦ absurd (omega (arith, slice_get_within rs k other h)) | inr h ↦ absurd (omega (arith, h.0)) ];
-  },
-)
-
--- the best one stays so where the route behind does not match, or is less specific
-keeps : (rs : List Route) (a : IpAddress) (t : ℤ) (r x : Route) → IsBest rs a t (Some r) → (matches x a t ≡ true → prefix_len x < prefix_len r) → IsBest (rs ++ x ∷ []) a t (Some r)
-keeps rs a t r x b less = (
-  b.0,
-  record {
-    is_there = stays rs x b.0 r b.1.is_there;
-    is_match = b.1.is_match;
-    longest = λ k other e om. elim (behind rs x k other e) [ inl h ↦ b.1.longest k other h om | inr h ↦ rw h.1 (let l = less (rw h.1 at om) in omega (arith, l)) ];
-    last = λ k other after e om. elim (behind rs x k other e) [ inl h ↦ b.1.last k other after h om | inr h ↦ rw h.1 (less (rw h.1 at om)) ];
-  },
-)
-
--- the better one of the best route and one behind it is the best one
-pub better_is_best : (rs : List Route) (a : IpAddress) (t : ℤ) (best : Option Route) (x : Route) → IsBest rs a t best → IsBest (rs ++ x ∷ []) a t (better a t best x)
-better_is_best rs a t None x none =
-    elim (matches x a t) as (λ m. matches x a t ≡ m → IsBest (rs ++ x ∷ []) a t (cond m (Some x) None)) [
-      | true ↦ λ m. takes rs a t x m (λ k other e om. absurd (let f = none k other e in cc))
-      | false ↦ λ m. λ k other e. elim (behind rs x k other e) [ inl h ↦ none k other h | inr h ↦ rw h.1 m ]
+-- the best place is that of the best route
+pub best_at : (rs : List Route) (a : IpAddress) (t : ℤ) (live : List Bool) (best : Option ℕ) → AreLive rs t live → IsBestPlace (cidrs rs) a live best → IsBest rs a t (route_at rs best)
+best_at rs a t live None alive best = λ k other there.
+    elim (matches other a t) as (λ m. matches other a t ≡ m → m ≡ false) [
+      | true ↦ λ m. absurd (best k (prefix_len other) (chosen_from rs a t live k other alive there m))
+      | false ↦ λ m. refl
     ] refl
-better_is_best rs a t (Some r) x b =
-    elim (matches x a t) as (λ m. matches x a t ≡ m → IsBest (rs ++ x ∷ []) a t (cond (m && nat_le (prefix_len r) (prefix_len x)) (Some x) (Some r))) [
-      | true ↦ λ m. elim (nat_le (prefix_len r) (prefix_len x)) as (λ l. nat_le (prefix_len r) (prefix_len x) ≡ l → IsBest (rs ++ x ∷ []) a t (cond l (Some x) (Some r))) [
-        | true ↦ λ l. takes rs a t x m (λ k other e om. (let h = b.1.longest k other e om in let le = le_of_test (prefix_len r) (prefix_len x) l in omega (arith, h, le)))
-        | false ↦ λ l. keeps rs a t r x b (λ _. lt_of_test (prefix_len r) (prefix_len x) l)
-      ] refl
-      | false ↦ λ m. keeps rs a t r x b (λ n. absurd (let f = m in cc))
-    ] refl
-  where
-    le_of_test : (p q : ℕ) → nat_le p q ≡ true → p ≤ q
-    le_of_test p q h = grind (arith, nat_tests)
+best_at rs a t live (Some place) alive best =
+    let at = route_there rs place best.1.prefix best.1.is_there in
+    let match : matches at.0 a t ≡ true = rw (at.2, best.1.is_match, sym (alive place at.0 at.1) ∙ best.1.is_live) refl in
+    let len : prefix_len at.0 ≡ best.0 = ap prefix_len_of at.2 ∙ best.1.len in
+    let is : IsBestAt rs a t place at.0 = record {
+      is_there = at.1;
+      is_match = match;
+      longest = λ k other there m. (let h = best.2 k (prefix_len other) (chosen_from rs a t live k other alive there m) in omega (arith, h.0, len));
+      last = λ k other after there m. (let h = best.2 k (prefix_len other) (chosen_from rs a t live k other alive there m) in omega (arith, h.1 after, len));
+    } in
+    rw at.1 (place, is)
 
-    lt_of_test : (p q : ℕ) → nat_le p q ≡ false → q < p
-    lt_of_test p q h = grind (arith, nat_tests)
-
--- the same, along the turns of a loop
-pub best_up_to : (rs : List Route) (i : ℕ) (a : IpAddress) (t : ℤ) (best : Option Route) (x : Route) → i < length rs → x ≡ get_or rs i x → IsBest (take i rs) a t best → IsBest (take (i + 1) rs) a t (better a t best x)
-best_up_to rs i a t best x within is b =
-    let n : i + 1 ≡ suc i = omega arith in
-    let e : take (i + 1) rs ≡ take i rs ++ x ∷ [] = ap (λ k. take k rs) n ∙ take-suc rs i x within ∙ ap (λ r. take i rs ++ r ∷ []) (sym is) in
-    rw e (better_is_best (take i rs) a t best x b)
+-- one place more is looked at
+pub live_more : (rs : List Route) (t : ℤ) (live : List Bool) (i : ℕ) (x : Route) (alive : Bool) → i < length live → i < length rs → x ≡ get_or rs i x → alive ≡ is_live x t
+    → ((k : ℕ) (r : Route) → k < i → slice_get rs k ≡ Some r → get_or live k false ≡ is_live r t) → (k : ℕ) (r : Route) → k < i + 1 → slice_get rs k ≡ Some r → get_or (slice_set live i alive) k false ≡ is_live r t
+live_more rs t live i x alive long within is tested done k r lt there =
+    elim (cases_eq k i) [
+      | inl at ↦
+          let same : x ≡ r = some_is x r (sym (slice_get_read rs (length rs) i x refl within is) ∙ ap (slice_get rs) (sym at) ∙ there) in
+          rw (at, get_or-set_same live i alive false long) (tested ∙ ap (λ (y : Route). is_live y t) same)
+      | inr other ↦ get_or-set_other live i k alive false other ∙ done k r (omega arith) there
+    ]
 
 -- two best routes stand at one place
 best_is_one : (rs : List Route) (a : IpAddress) (t : ℤ) (x y : Option Route) → IsBest rs a t x → IsBest rs a t y → x ≡ y

@@ -1,3 +1,4 @@
 pub mod Entries
 pub mod Neighbor
 pub mod Route
+pub mod RouteTrie

@@ -1,5 +1,5 @@
 -- Routes (RFC 1122 3.3.1, RFC 4632 5.1): of those that match an address, the one of longest prefix is taken.
-use Rattle.std.specs.Prelude.{◌≡◌, ℕ, ◌<◌, ◌≤◌, ◌==◌, ◌&&◌, nat_le, ℤ, Bool, true, false, is_none, if◌then◌else◌, List, [], ◌∷◌, ◌++◌, length, slice_get, Option, Some, None, Result, Ok, Err}
+use Rattle.std.specs.Prelude.{◌≡◌, ℕ, ◌<◌, ◌≤◌, ◌==◌, ◌&&◌, nat_le, ℤ, Bool, true, false, is_none, if◌then◌else◌, List, [], ◌∷◌, ◌++◌, length, map, slice_get, slice_index_or, Option, Some, None, Result, Ok, Err}
 use Rattle.std.specs.List.{find, position_or_len, remove}
 use Rattle.std.specs.Ordering.{int_cmp, is_le}
 use Rattle.std.proofs.Common.{lit≤}
@@ -61,10 +61,18 @@ IsRouter rs a t router = (best : Option Route) × IsBest rs a t best × (router 
 abbrev pub RouterIsOne : Type 0
 RouterIsOne = (rs : List Route) (a : IpAddress) (t : ℤ) (x y : Option IpAddress) → IsRouter rs a t x → IsRouter rs a t y → x ≡ y
 
--- of the best route so far and one behind it, the better one
-abbrev pub better : IpAddress → ℤ → Option Route → Route → Option Route
-better a t None r = if matches r a t then Some r else None
-better a t (Some best) r = if matches r a t && nat_le (prefix_len best) (prefix_len r) then Some r else Some best
+-- their prefixes, in the same order
+abbrev pub cidrs : List Route → List IpCidr
+cidrs rs = map (λ r. r.cidr) rs
+
+-- which of them have not expired at t, by place
+abbrev pub AreLive : List Route → ℤ → List Bool → Type 0
+AreLive rs t live = (k : ℕ) (r : Route) → slice_get rs k ≡ Some r → slice_index_or live k false ≡ is_live r t
+
+-- the route at a place, if one is meant
+abbrev pub route_at : List Route → Option ℕ → Option Route
+route_at rs None = None
+route_at rs (Some place) = slice_get rs place
 
 -- 0.0.0.0/0 and ::/0, the networks of all addresses
 abbrev pub whole_ipv4 : IpCidr

@@ -3,3 +3,4 @@
 
 pub mod neighbor;
 pub mod route;
+pub mod route_trie;

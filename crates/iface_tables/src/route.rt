@@ -1,12 +1,13 @@
 //! Routes: by which router a packet leaves its network (RFC 1122 3.3.1, RFC 4632 5.1).
-ghost use Rattle.std.specs.Option.{option_copied};
-ghost use Rattle.std.specs.Prelude.{◌≡◌, ◌≤◌, ◌<◌, Bool, true, [], length, slice_get, OnSome};
+ghost use Rattle.std.specs.Prelude.{◌≡◌, ℕ, ◌+◌, ◌≤◌, ◌<◌, Bool, true, [], length, slice_get, OnSome};
 ghost use Rattle.std.specs.List.{position_or_len, remove};
 ghost use Rattle.ip_address.specs.Ip as ip;
 ghost use Rattle.iface_tables.specs.declared.route.Route.{Route};
 ghost use Rattle.iface_tables.specs.Route as spec;
-ghost use Rattle.iface_tables.specs.Route.{IsBest, IsRouter, Replaces, RouterIsOne, Storage, better, first, matches, old_or_full, with_default, without_first};
+ghost use Rattle.iface_tables.specs.Route.{AreLive, IsRouter, Replaces, RouterIsOne, Storage, cidrs, first, is_live, old_or_full, route_at, router_of, with_default, without_first};
+ghost use Rattle.iface_tables.specs.RouteTrie.{IsLongest, IsTrieOf};
 
+use crate::route_trie::{RouteTrie, Steps};
 use arrayvec::ArrayVec;
 use ip_wire::{IpAddress, IpCidr, Ipv4Address, Ipv4Cidr, Ipv6Address, Ipv6Cidr};
 use net_base::time::Instant;
@@ -84,17 +85,17 @@ impl Route {
         }
     }
 
-    // Whether it may be taken to an address at a moment.
+    // Whether it has not expired at a moment.
     #[inline(always)]
-    fn matches(&self, address: &IpAddress, timestamp: Instant) -> bool
-        ensures { result ≡ matches self.now address.now timestamp }
+    fn is_live(&self, timestamp: Instant) -> bool
+        ensures { result ≡ is_live self.now timestamp }
     {
         if let Some(end) = self.expires_at {
             if timestamp > end {
                 return false;
             }
         }
-        self.cidr.contains_addr(address)
+        true
     }
 }
 
@@ -119,6 +120,8 @@ impl Default for Route {
 #[derive(Drop)]
 pub struct Routes {
     storage: ArrayVec<Route, IFACE_MAX_ROUTE_COUNT>,
+    // That of their prefixes, in the same order.
+    trie: RouteTrie,
 }
 
 impl Model for Routes {
@@ -128,6 +131,11 @@ impl Model for Routes {
     ghost Value = { List Route };
 
     ghost view = { λ r. r.storage.items };
+
+    ghost use Rattle.iface_tables.specs.Route.{cidrs};
+    ghost use Rattle.iface_tables.specs.RouteTrie.{IsTrieOf};
+
+    ghost invariant = { λ r. IsTrieOf r.trie.nodes (cidrs r.storage.items) };
 }
 
 impl Routes {
@@ -137,6 +145,7 @@ impl Routes {
     {
         Routes {
             storage: ArrayVec::new(),
+            trie: RouteTrie::new(),
         }
     }
 
@@ -157,6 +166,7 @@ impl Routes {
     {
         let old = self.storage.take();
         self.storage = f(old);
+        rebuild(&mut self.trie, self.storage.as_slice());
     }
 
     /// Puts a default route of IPv4 behind all others, and gives the first one that was there, which
@@ -170,7 +180,9 @@ impl Routes {
         ensures table { self.new ≡ with_default spec.is_ipv4_gateway self.old (spec.ipv4_gateway gateway) }
     {
         let place = ipv4_place(self.storage.as_slice());
-        replace(&mut self.storage, place, Route::new_ipv4_gateway(gateway))
+        let answer = replace(&mut self.storage, place, Route::new_ipv4_gateway(gateway));
+        rebuild(&mut self.trie, self.storage.as_slice());
+        answer
     }
 
     /// The same for IPv6.
@@ -182,7 +194,9 @@ impl Routes {
         ensures table { self.new ≡ with_default spec.is_ipv6_gateway self.old (spec.ipv6_gateway gateway) }
     {
         let place = ipv6_place(self.storage.as_slice());
-        replace(&mut self.storage, place, Route::new_ipv6_gateway(gateway))
+        let answer = replace(&mut self.storage, place, Route::new_ipv6_gateway(gateway));
+        rebuild(&mut self.trie, self.storage.as_slice());
+        answer
     }
 
     /// The first default route of IPv4, if there is one.
@@ -211,7 +225,9 @@ impl Routes {
         ensures table { self.new ≡ without_first spec.is_ipv4_gateway self.old }
     {
         let place = ipv4_place(self.storage.as_slice());
-        take_out(&mut self.storage, place)
+        let answer = take_out(&mut self.storage, place);
+        rebuild(&mut self.trie, self.storage.as_slice());
+        answer
     }
 
     /// The same for IPv6.
@@ -221,7 +237,9 @@ impl Routes {
         ensures table { self.new ≡ without_first spec.is_ipv6_gateway self.old }
     {
         let place = ipv6_place(self.storage.as_slice());
-        take_out(&mut self.storage, place)
+        let answer = take_out(&mut self.storage, place);
+        rebuild(&mut self.trie, self.storage.as_slice());
+        answer
     }
 
     /// The router by which a packet goes to an address at a moment: that of the route of longest
@@ -231,7 +249,59 @@ impl Routes {
         requires { ip.is_unicast address.now ≡ true }
         ensures { IsRouter self.now address.now timestamp result }
     {
-        best_route(self.storage.as_slice(), address, timestamp).map(|route| route.via_router)
+        self.lookup_steps(address, timestamp).0
+    }
+
+    /// What [`Routes::lookup`] gives, and how many nodes of the trie were read for it: 1, and one for
+    /// each leading bit that the address has in common with a route of its family, up to that route's
+    /// length, for the route with which it has most. So at most 33 for IPv4, and 129 for IPv6. The
+    /// address has to be unicast.
+    pub fn lookup_steps(
+        &self,
+        address: &IpAddress,
+        timestamp: Instant,
+    ) -> (Option<IpAddress>, Steps)
+        requires { ip.is_unicast address.now ≡ true }
+        ensures router { IsRouter self.now address.now timestamp result.0 }
+        ensures count { (n : ℕ) × IsLongest (cidrs self.now) address.now n × (result.1 ≡ 1 + n) }
+    {
+        let live = live_places(self.storage.as_slice(), timestamp);
+        let (place, steps) = self.trie.walk(address, &live);
+        (router_at(self.storage.as_slice(), place), steps)
+    }
+}
+
+// The trie becomes that of these routes.
+fn rebuild(trie: &mut RouteTrie, routes: &[Route])
+    requires { length routes.now ≤ IFACE_MAX_ROUTE_COUNT }
+    ensures { IsTrieOf trie.new.nodes (cidrs routes.now) }
+{
+    let mut prefixes: ArrayVec<IpCidr, IFACE_MAX_ROUTE_COUNT> = ArrayVec::new();
+    for route in routes {
+        prefixes.push(route.cidr);
+    }
+    trie.build(prefixes.as_slice());
+}
+
+// Which routes have not expired at a moment, by place.
+fn live_places(routes: &[Route], timestamp: Instant) -> [bool; IFACE_MAX_ROUTE_COUNT]
+    requires { length routes.now ≤ IFACE_MAX_ROUTE_COUNT }
+    ensures { AreLive routes.now timestamp result }
+{
+    let mut live = [false; IFACE_MAX_ROUTE_COUNT];
+    for (place, route) in routes.iter().enumerate() {
+        live[place] = route.is_live(timestamp);
+    }
+    live
+}
+
+// The router of the route at a place, if there is one.
+fn router_at(routes: &[Route], place: Option<usize>) -> Option<IpAddress>
+    ensures { result ≡ router_of (route_at routes.now place) }
+{
+    match place {
+        Some(place) => route_at(routes, place).map(|route| route.via_router),
+        None => None,
     }
 }
 
@@ -296,36 +366,6 @@ fn replace(
     }
     routes.push(route);
     Ok(None)
-}
-
-// The best route to an address at a moment, if any matches.
-fn best_route<'r>(routes: &'r [Route], address: &IpAddress, timestamp: Instant) -> Option<&'r Route>
-    ensures { IsBest routes.now address.now timestamp (option_copied result) }
-{
-    let mut best = None;
-    for route in routes {
-        best = better(best, route, address, timestamp);
-    }
-    best
-}
-
-// Of the best route so far and one behind it, the better one.
-#[inline(always)]
-fn better<'r>(
-    best: Option<&'r Route>,
-    route: &'r Route,
-    address: &IpAddress,
-    timestamp: Instant,
-) -> Option<&'r Route>
-    ensures { option_copied result ≡ better address.now timestamp (option_copied best.entry) route.now }
-{
-    if !route.matches(address, timestamp) {
-        return best;
-    }
-    match best {
-        Some(b) if route.cidr.prefix_len() < b.cidr.prefix_len() => Some(b),
-        _ => Some(route),
-    }
 }
 
 /// Two best routes are one: what [`Routes::lookup`] gives is the only router that a packet may take.

@@ -1,4 +1,5 @@
-ghost use Rattle.std.specs.Prelude.{◌≤◌};
+ghost use Rattle.std.specs.Prelude.{◌≡◌, ◌≤◌, true};
+ghost use Rattle.ip_address.specs.Ip.{is_unicast};
 
 use arrayvec::ArrayVec;
 use iface_tables::route::{Route, RouteTableFull, Routes};
@@ -95,6 +96,91 @@ fn the_longest_live_prefix_is_taken(rt: HostRuntime) {
     assert_eq!(rt; at(9_000_000), Some(IpAddress::Ipv4(router(4))));
     assert_eq!(rt; at(10_000_000), Some(IpAddress::Ipv4(router(3))));
     assert_eq!(rt; at(10_000_001), Some(IpAddress::Ipv4(router(2))));
+}
+
+// Whether a lookup finds this router, and reads so many nodes.
+fn finds(
+    routes: &Routes,
+    address: &IpAddress,
+    timestamp: Instant,
+    router: Option<IpAddress>,
+    nodes: usize,
+) -> bool
+    requires { is_unicast address.now ≡ true }
+{
+    let (found, steps) = routes.lookup_steps(address, timestamp);
+    found == router && steps.get() == nodes
+}
+
+#[test]
+fn a_lookup_reads_a_node_for_each_bit_in_common(rt: HostRuntime) {
+    let mut routes = Routes::new();
+    append(&mut routes, route(NETWORK, 8, router(2), None));
+    append(
+        &mut routes,
+        route(PART, 16, router(3), Some(Instant::from_secs(10))),
+    );
+    append(
+        &mut routes,
+        route(PART, 16, router(4), Some(Instant::from_secs(9))),
+    );
+    let at = |micros, host| {
+        let via = Some(IpAddress::Ipv4(router(host)));
+        finds(&routes, &DISTANT, Instant::from_micros(micros), via, 17)
+    };
+    assert!(rt; at(9_000_000, 4));
+    assert!(rt; at(10_000_000, 3));
+    assert!(rt; at(10_000_001, 2));
+    // 11.0.0.1, and fe80::1.
+    let beside = IpAddress::Ipv4(Ipv4Address { bits: 0x0b00_0001 });
+    assert!(rt; finds(&routes, &beside, Instant::ZERO, None, 8));
+    let other = IpAddress::Ipv6(Ipv6Address {
+        bits: 0xfe80_0000_0000_0000_0000_0000_0000_0001,
+    });
+    assert!(rt; finds(&routes, &other, Instant::ZERO, None, 1));
+}
+
+// 2001::1, 4001::1, 8001::1 and c001::1, which differ in their first two bits.
+const HOST_A: Ipv6Address = Ipv6Address {
+    bits: 0x2001_0000_0000_0000_0000_0000_0000_0001,
+};
+
+const HOST_B: Ipv6Address = Ipv6Address {
+    bits: 0x4001_0000_0000_0000_0000_0000_0000_0001,
+};
+
+const HOST_C: Ipv6Address = Ipv6Address {
+    bits: 0x8001_0000_0000_0000_0000_0000_0000_0001,
+};
+
+const HOST_D: Ipv6Address = Ipv6Address {
+    bits: 0xc001_0000_0000_0000_0000_0000_0000_0001,
+};
+
+// The route to a host of its own.
+fn host_route(address: Ipv6Address, via: Ipv6Address) -> Route {
+    Route {
+        cidr: IpCidr::Ipv6(Ipv6Cidr::new(address, 128)),
+        via_router: IpAddress::Ipv6(via),
+        preferred_until: None,
+        expires_at: None,
+    }
+}
+
+#[test]
+fn four_hosts_have_place(rt: HostRuntime) {
+    let mut routes = Routes::new();
+    append(&mut routes, host_route(HOST_A, address6(0, 1)));
+    append(&mut routes, host_route(HOST_B, address6(0, 2)));
+    append(&mut routes, host_route(HOST_C, address6(0, 3)));
+    append(&mut routes, host_route(HOST_D, address6(0, 4)));
+    assert_eq!(rt; routes.as_slice().len(), 4);
+    let via = |host| Some(IpAddress::Ipv6(address6(0, host)));
+    let now = Instant::ZERO;
+    assert!(rt; finds(&routes, &IpAddress::Ipv6(HOST_A), now, via(1), 129));
+    assert!(rt; finds(&routes, &IpAddress::Ipv6(HOST_B), now, via(2), 129));
+    assert!(rt; finds(&routes, &IpAddress::Ipv6(HOST_C), now, via(3), 129));
+    assert!(rt; finds(&routes, &IpAddress::Ipv6(HOST_D), now, via(4), 129));
 }
 
 #[test]

@@ -1,0 +1,102 @@
+-- A binary trie of prefixes (RFC 4632 5.1): a node for each beginning of a stored prefix, which leads to the two that are longer by a bit.
+use Rattle.std.specs.Prelude.{◌≡◌, ℕ, ◌+◌, ◌-◌, ◌*◌, ◌/◌, ◌^◌, ◌<◌, ◌≤◌, ◌==◌, ◌&&◌, nat_le, nat_lt, Bool, true, false, if◌then◌else◌, List, length, slice_get, slice_index_or, Option, Some, None}
+use Rattle.std.specs.List.{position_or_len}
+use Rattle.ip_address.specs.Cidr.{contains, prefix_len_of}
+use Rattle.ip_address.specs.declared.ip.IpAddress.{IpAddress}
+use Rattle.ip_address.specs.declared.ip.IpAddress.TheVariants.{Ipv4, Ipv6}
+use Rattle.ip_address.specs.declared.cidr.IpCidr.{IpCidr}
+use Rattle.ip_address.specs.declared.cidr.IpCidr.TheVariants as cidr
+use Rattle.iface_tables.specs.declared.route_trie.Beginning.{Beginning}
+use Rattle.iface_tables.specs.declared.route_trie.Network.{Network}
+use Rattle.iface_tables.specs.declared.route_trie.Node.{Node}
+
+-- a prefix by its numbers: how wide an address of its family is, the address, and how many bits of it count
+abbrev pub network_of : IpCidr → Network
+network_of (cidr.Ipv4 n) = record { width = 32; bits = n.address.bits; len = n.prefix_len }
+network_of (cidr.Ipv6 n) = record { width = 128; bits = n.address.bits; len = n.prefix_len }
+
+-- the whole of an address
+abbrev pub host_of : IpAddress → Network
+host_of (Ipv4 a) = record { width = 32; bits = a.bits; len = 32 }
+host_of (Ipv6 a) = record { width = 128; bits = a.bits; len = 128 }
+
+-- the first n bits, as a number
+abbrev pub start_of : Network → ℕ → Beginning
+start_of p n = record { width = p.width; len = n; leading = p.bits / 2 ^ (p.width - n) }
+
+-- no bit yet
+abbrev pub root_of : ℕ → Beginning
+root_of width = record { width = width; len = 0; leading = 0 }
+
+-- one bit more
+abbrev pub longer : Beginning → ℕ → Beginning
+longer b bit = record { width = b.width; len = b.len + 1; leading = 2 * b.leading + bit }
+
+-- whether a prefix begins so
+abbrev pub begins : Beginning → Network → Bool
+begins b p = (p.width == b.width) && (nat_le b.len p.len && (p.bits / 2 ^ (p.width - b.len) == b.leading))
+
+-- whether it is that, and no longer
+abbrev pub is_whole : Beginning → Network → Bool
+is_whole b p = (p.len == b.len) && begins b p
+
+abbrev pub is_marked : Beginning → Option IpCidr → Bool
+is_marked b None = false
+is_marked b (Some c) = is_whole b (network_of c)
+
+-- the first place of a prefix that begins so, or the length
+abbrev pub place_of : List IpCidr → Beginning → ℕ
+place_of cidrs b = position_or_len (λ c. begins b (network_of c)) cidrs
+
+-- the number of the node of a beginning of so many bits, by the first prefix that begins so: there are 128 for each prefix, behind two roots
+abbrev pub number_at : ℕ → ℕ → ℕ → ℕ
+number_at count place len = if nat_lt place count then 1 + 128 * place + len else 0
+
+-- or 0 where no prefix begins so
+abbrev pub number : List IpCidr → Beginning → ℕ
+number cidrs b = number_at (length cidrs) (place_of cidrs b) b.len
+
+-- the node of a beginning leads to those that are longer by a bit, and marks the places of the prefixes that it is
+pub record IsNodeOf (cidrs : List IpCidr) (b : Beginning) (node : Node) : Type 0 where
+  pub zero : node.zero ≡ number cidrs (longer b 0)
+  pub one : node.one ≡ number cidrs (longer b 1)
+  pub marks : (k : ℕ) → slice_index_or node.places k false ≡ is_marked b (slice_get cidrs k)
+
+-- the trie of these prefixes: its roots, and a node for each beginning of one
+pub record IsTrieOf (nodes : List Node) (cidrs : List IpCidr) : Type 0 where
+  pub few : length cidrs ≤ 4
+  pub ipv4 : (d : Node) → IsNodeOf cidrs (root_of 32) (slice_index_or nodes 0 d)
+  pub ipv6 : (d : Node) → IsNodeOf cidrs (root_of 128) (slice_index_or nodes 1 d)
+  pub others : (b : Beginning) (d : Node) → 0 < b.len → 0 < number cidrs b → IsNodeOf cidrs b (slice_index_or nodes (number cidrs b) d)
+
+-- the nodes of the prefix at a place are those of its beginnings
+abbrev pub HasNodes : List Node → List IpCidr → ℕ → Type 0
+HasNodes nodes cidrs place = (c : IpCidr) (m : ℕ) (d : Node) → slice_get cidrs place ≡ Some c → m < (network_of c).len → IsNodeOf cidrs (start_of (network_of c) (m + 1)) (slice_index_or nodes (2 + 128 * place + m) d)
+
+-- the prefix at a place is live, has n bits, and the address begins with them
+pub record IsCandidate (cidrs : List IpCidr) (a : IpAddress) (live : List Bool) (place n : ℕ) : Type 0 where
+  pub prefix : IpCidr
+  pub is_there : slice_get cidrs place ≡ Some prefix
+  pub is_match : contains prefix a ≡ true
+  pub is_live : slice_index_or live place false ≡ true
+  pub len : prefix_len_of prefix ≡ n
+
+-- of the live prefixes of an address the longest, of equals the last
+abbrev pub IsBestPlace : List IpCidr → IpAddress → List Bool → Option ℕ → Type 0
+IsBestPlace cidrs a live None = (k n : ℕ) → IsCandidate cidrs a live k n → ⊥
+IsBestPlace cidrs a live (Some place) = (n : ℕ) × IsCandidate cidrs a live place n × ((k m : ℕ) → IsCandidate cidrs a live k m → (m ≤ n) × (place < k → m < n))
+
+-- the first n bits of an address are those of a prefix of its family, which has as many
+abbrev pub shares : IpCidr → IpAddress → ℕ → Bool
+shares c a n = begins (start_of (host_of a) n) (network_of c)
+
+-- so many leading bits, and no more, has an address in common with one of the prefixes, or none
+pub record IsLongest (cidrs : List IpCidr) (a : IpAddress) (n : ℕ) : Type 0 where
+  pub shared : 0 < n → (k : ℕ) × (c : IpCidr) × (slice_get cidrs k ≡ Some c) × (shares c a n ≡ true)
+  pub most : (k m : ℕ) (c : IpCidr) → slice_get cidrs k ≡ Some c → shares c a m ≡ true → m ≤ n
+
+-- the last place that is marked and live
+abbrev pub IsLastOf : List Bool → List Bool → Option ℕ → Type 0
+IsLastOf marks live None = (k : ℕ) → slice_index_or marks k false ≡ true → slice_index_or live k false ≡ true → ⊥
+IsLastOf marks live (Some place) = (slice_index_or marks place false ≡ true) × (slice_index_or live place false ≡ true)
+    × ((k : ℕ) → slice_index_or marks k false ≡ true → slice_index_or live k false ≡ true → k ≤ place)

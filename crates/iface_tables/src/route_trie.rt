@@ -1,0 +1,347 @@
+//! A binary trie of prefixes (RFC 4632 5.1): which of them an address has is found bit by bit, the
+//! longest last.
+//!
+//! It has a root for each family and, for each stored prefix, a node for each of its beginnings that
+//! no earlier one has. A node names those of the two beginnings that are longer by a bit, and has the
+//! places of the prefixes that it is itself.
+ghost use Rattle.std.specs.Prelude.{◌≡◌, ℕ, ◌+◌, ◌-◌, ◌*◌, ◌/◌, ◌%◌, ◌^◌, ◌<◌, ◌≤◌, ◌==◌, cond, List, [], true, false, length, slice_get, slice_index_or};
+ghost use Rattle.ip_address.specs.declared.cidr.IpCidr.{IpCidr};
+ghost use Rattle.iface_tables.specs.declared.route_trie.Node.{Node};
+ghost use Rattle.iface_tables.specs.RouteTrie as spec;
+ghost use Rattle.iface_tables.specs.RouteTrie.{HasNodes, IsBestPlace, IsLastOf, IsLongest, IsNodeOf, IsTrieOf, begins, is_marked, is_whole, longer, number, place_of, root_of, start_of};
+
+use ip_wire::{IpAddress, IpCidr};
+use std::marker::Model;
+
+/// How many prefixes a trie has at most.
+pub const ROUTE_TRIE_PLACE_COUNT: usize = 4;
+
+/// How many nodes there are: two roots, and one for each bit of each prefix.
+pub const ROUTE_TRIE_NODE_COUNT: usize = 514;
+
+/// How many nodes a walk has read.
+#[derive(Clone, Copy, Debug, PartialEq, Eq)]
+pub struct Steps {
+    count: usize,
+}
+
+impl Model for Steps {
+    ghost use Rattle.std.specs.Prelude.{ℕ};
+
+    ghost Value = { ℕ };
+
+    ghost view = { λ s. s.count };
+
+    ghost inverse = { λ n. record { count = n } };
+}
+
+impl Steps {
+    /// The number.
+    pub const fn get(&self) -> usize
+        ensures { result ≡ self.now }
+    {
+        self.count
+    }
+}
+
+// A node: those that are longer by a bit, by number, where 0 is none, and which prefixes it is.
+#[derive(Clone, Copy)]
+struct Node {
+    zero: u16,
+    one: u16,
+    places: [bool; ROUTE_TRIE_PLACE_COUNT],
+}
+
+// The leading bits of an address of so many bits, as a number.
+#[derive(Clone, Copy)]
+struct Beginning {
+    width: u8,
+    len: u8,
+    leading: u128,
+}
+
+// A network by its numbers.
+#[derive(Clone, Copy)]
+struct Network {
+    width: u8,
+    bits: u128,
+    len: u8,
+}
+
+/// A trie of at most four prefixes.
+#[derive(Drop)]
+pub struct RouteTrie {
+    nodes: [Node; ROUTE_TRIE_NODE_COUNT],
+}
+
+impl RouteTrie {
+    /// A trie without a prefix.
+    pub fn new() -> RouteTrie
+        ensures { IsTrieOf result.nodes [] }
+    {
+        RouteTrie {
+            nodes: [Node {
+                zero: 0,
+                one: 0,
+                places: [false; ROUTE_TRIE_PLACE_COUNT],
+            }; ROUTE_TRIE_NODE_COUNT],
+        }
+    }
+
+    /// Becomes the trie of these prefixes, of which there are at most four.
+    pub fn build(&mut self, cidrs: &[IpCidr])
+        requires { length cidrs.now ≤ ROUTE_TRIE_PLACE_COUNT }
+        ensures { IsTrieOf self.new.nodes cidrs.now }
+    {
+        self.nodes[0] = node_of(cidrs, &root_of(32));
+        self.nodes[1] = node_of(cidrs, &root_of(128));
+        for place in 0..cidrs.len() {
+            fill(&mut self.nodes, cidrs, place);
+        }
+    }
+
+    /// The best place for an address, and how many nodes were read: of the prefixes that the address
+    /// has and that are live, the longest, of equals the last. It reads the root, and a node for each
+    /// further bit that a prefix shares with the address.
+    pub fn walk(
+        &self,
+        address: &IpAddress,
+        live: &[bool; ROUTE_TRIE_PLACE_COUNT],
+    ) -> (Option<usize>, Steps)
+        requires { (cidrs : List IpCidr) × IsTrieOf self.now.nodes cidrs }
+        ensures best { (cidrs : List IpCidr) → IsTrieOf self.now.nodes cidrs → IsBestPlace cidrs address.now live.now result.0 }
+        ensures count { (cidrs : List IpCidr) → IsTrieOf self.now.nodes cidrs → (n : ℕ) × IsLongest cidrs address.now n × (result.1 ≡ 1 + n) }
+    {
+        let host = host_of(address);
+        let mut steps = Steps { count: 0 };
+        let mut node = self.visit(root_number(&host), &mut steps);
+        let mut best = last_of(&node.places, live);
+        for i in 0..host.width {
+            let child = child_of(&node, &host, i);
+            if child == 0 {
+                return (best, steps);
+            }
+            node = self.visit(child, &mut steps);
+            best = last_of(&node.places, live).or(best);
+        }
+        (best, steps)
+    }
+
+    // Reads a node, and counts that.
+    #[inline(always)]
+    fn visit(&self, number: u16, steps: &mut Steps) -> Node
+        requires within { number < ROUTE_TRIE_NODE_COUNT }
+        requires few { steps.old < ROUTE_TRIE_NODE_COUNT }
+        ensures node { result ≡ slice_index_or self.now.nodes number result }
+        ensures counted { steps.new ≡ steps.old + 1 }
+    {
+        steps.count += 1;
+        self.nodes[usize::from(number)]
+    }
+}
+
+// An address by its numbers.
+#[inline(always)]
+fn host_of(address: &IpAddress) -> Network
+    ensures value { result ≡ spec.host_of address.now }
+    ensures fits { result.bits < 2 ^ result.width }
+{
+    match address {
+        IpAddress::Ipv4(address) => Network {
+            width: 32,
+            bits: u128::from(address.bits),
+            len: 32,
+        },
+        IpAddress::Ipv6(address) => wide_network(address.bits, 128),
+    }
+}
+
+// The number of the root of an address's family.
+#[inline(always)]
+fn root_number(host: &Network) -> u16
+    ensures { result ≡ cond (host.now.width == 32) 0 1 }
+{
+    if host.width == 32 { 0 } else { 1 }
+}
+
+// The number of the node behind this one on the way to an address, or 0.
+#[inline(always)]
+fn child_of(node: &Node, host: &Network, i: u8) -> u16
+    requires within { i < host.now.width }
+    requires wide { host.now.width ≤ 128 }
+    ensures { result ≡ cond (host.now.bits / 2 ^ (host.now.width - 1 - i) % 2 == 0) node.now.zero node.now.one }
+{
+    if (host.bits >> (host.width - 1 - i)) % 2 == 0 {
+        node.zero
+    } else {
+        node.one
+    }
+}
+
+// The beginning of no bit.
+fn root_of(width: u8) -> Beginning
+    ensures { result ≡ root_of width }
+{
+    Beginning {
+        width,
+        len: 0,
+        leading: 0,
+    }
+}
+
+// A network by its numbers.
+fn network_of(cidr: &IpCidr) -> Network
+    ensures value { result ≡ spec.network_of cidr.now }
+    ensures wide { result.width ≤ 128 }
+    ensures within { result.len ≤ result.width }
+    ensures fits { result.bits < 2 ^ result.width }
+{
+    match cidr {
+        IpCidr::Ipv4(cidr) => Network {
+            width: 32,
+            bits: u128::from(cidr.address.bits),
+            len: cidr.prefix_len,
+        },
+        IpCidr::Ipv6(cidr) => wide_network(cidr.address.bits, cidr.prefix_len),
+    }
+}
+
+// One of IPv6.
+#[inline(always)]
+fn wide_network(bits: u128, len: u8) -> Network
+    ensures value { result ≡ record { width = 128; bits = bits; len = len } }
+    ensures fits { bits < 2 ^ 128 }
+{
+    Network {
+        width: 128,
+        bits,
+        len,
+    }
+}
+
+// The first bits of a network's prefix.
+fn start_of(network: &Network, len: u8) -> Beginning
+    requires some { 0 < len }
+    requires within { len ≤ network.now.width }
+    requires wide { network.now.width ≤ 128 }
+    ensures { result ≡ start_of network.now len }
+{
+    Beginning {
+        width: network.width,
+        len,
+        leading: network.bits >> (network.width - len),
+    }
+}
+
+// Whether a network's prefix begins so, and goes on by a bit.
+fn goes_on(network: &Network, beginning: &Beginning, bit: u128) -> bool
+    requires wide { network.now.width ≤ 128 }
+    requires within { network.now.len ≤ network.now.width }
+    requires bit { bit < 2 }
+    ensures { result ≡ begins (longer beginning.now bit) network.now }
+{
+    if network.width != beginning.width || network.len <= beginning.len {
+        return false;
+    }
+    let next = network.bits >> (network.width - 1 - beginning.len);
+    next / 2 == beginning.leading && next % 2 == bit
+}
+
+// Whether a network's prefix is this, and no longer.
+fn is_whole(network: &Network, beginning: &Beginning) -> bool
+    requires wide { network.now.width ≤ 128 }
+    requires within { network.now.len ≤ network.now.width }
+    requires fits { network.now.bits < 2 ^ network.now.width }
+    requires root { beginning.now.len ≡ 0 → beginning.now.leading ≡ 0 }
+    ensures { result ≡ is_whole beginning.now network.now }
+{
+    if network.width != beginning.width || network.len != beginning.len {
+        return false;
+    }
+    network.len == 0 || network.bits >> (network.width - network.len) == beginning.leading
+}
+
+// The first place of a prefix that begins so and goes on by a bit, or the length.
+fn place_of(cidrs: &[IpCidr], beginning: &Beginning, bit: u128) -> usize
+    requires { bit < 2 }
+    ensures { result ≡ place_of cidrs.now (longer beginning.now bit) }
+{
+    for (place, cidr) in cidrs.iter().enumerate() {
+        if goes_on(&network_of(cidr), beginning, bit) {
+            return place;
+        }
+    }
+    cidrs.len()
+}
+
+// The number of the node that is longer by a bit, or 0 where there is none.
+fn number_of(cidrs: &[IpCidr], beginning: &Beginning, bit: u128) -> u16
+    requires few { length cidrs.now ≤ ROUTE_TRIE_PLACE_COUNT }
+    requires short { beginning.now.len ≤ 128 }
+    requires bit { bit < 2 }
+    ensures { result ≡ number cidrs.now (longer beginning.now bit) }
+{
+    let place = place_of(cidrs, beginning, bit);
+    if place >= cidrs.len() {
+        return 0;
+    }
+    2 + 128 * (place as u16) + u16::from(beginning.len)
+}
+
+// Which prefixes are this one.
+fn marks_of(cidrs: &[IpCidr], beginning: &Beginning) -> [bool; ROUTE_TRIE_PLACE_COUNT]
+    requires few { length cidrs.now ≤ ROUTE_TRIE_PLACE_COUNT }
+    requires root { beginning.now.len ≡ 0 → beginning.now.leading ≡ 0 }
+    ensures { (k : ℕ) → slice_index_or result k false ≡ is_marked beginning.now (slice_get cidrs.now k) }
+{
+    let mut places = [false; ROUTE_TRIE_PLACE_COUNT];
+    for (place, cidr) in cidrs.iter().enumerate() {
+        places[place] = is_whole(&network_of(cidr), beginning);
+    }
+    places
+}
+
+// The node of a beginning.
+fn node_of(cidrs: &[IpCidr], beginning: &Beginning) -> Node
+    requires few { length cidrs.now ≤ ROUTE_TRIE_PLACE_COUNT }
+    requires short { beginning.now.len ≤ 128 }
+    requires root { beginning.now.len ≡ 0 → beginning.now.leading ≡ 0 }
+    ensures { IsNodeOf cidrs.now beginning.now result }
+{
+    Node {
+        zero: number_of(cidrs, beginning, 0),
+        one: number_of(cidrs, beginning, 1),
+        places: marks_of(cidrs, beginning),
+    }
+}
+
+// Writes the nodes of a prefix: one for each of its beginnings.
+fn fill(nodes: &mut [Node; ROUTE_TRIE_NODE_COUNT], cidrs: &[IpCidr], place: usize)
+    requires few { length cidrs.now ≤ ROUTE_TRIE_PLACE_COUNT }
+    requires within { place < length cidrs.now }
+    ensures filled { HasNodes nodes.new cidrs.now place }
+    ensures kept { (k : ℕ) (d : Node) → k ≤ 1 + 128 * place → slice_index_or nodes.new k d ≡ slice_index_or nodes.old k d }
+{
+    let network = network_of(&cidrs[place]);
+    for i in 0..network.len {
+        let beginning = start_of(&network, i + 1);
+        nodes[2 + 128 * place + usize::from(i)] = node_of(cidrs, &beginning);
+    }
+}
+
+// The last place that a node has and that is live.
+#[inline(always)]
+fn last_of(
+    places: &[bool; ROUTE_TRIE_PLACE_COUNT],
+    live: &[bool; ROUTE_TRIE_PLACE_COUNT],
+) -> Option<usize>
+    ensures { IsLastOf places.now live.now result }
+{
+    let mut last = None;
+    for place in 0..ROUTE_TRIE_PLACE_COUNT {
+        if places[place] && live[place] {
+            last = Some(place);
+        }
+    }
+    last
+}
