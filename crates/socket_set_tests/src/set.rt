@@ -174,14 +174,14 @@ fn grow<'a>(
     ports: &[u16],
     port: u16,
 ) -> Result<SocketHandle, NoMemory> {
-    let places = by_index::places(&set);
+    let places = by_index::places(set);
     assert!(rt; are_at(set, ports));
     match set.add(tcp_socket(alloc, port)?) {
         Ok(handle) => Ok(handle),
         Err(AddError::Full(_socket)) => Err(NoMemory),
         Err(AddError::NoMemory(socket)) => {
             assert!(rt; is_at(&socket, port));
-            assert_eq!(rt; by_index::places(&set), places);
+            assert_eq!(rt; by_index::places(set), places);
             assert!(rt; are_at(set, ports));
             add(set, socket)
         }
