@@ -1,5 +1,6 @@
 pub mod EntriesLemmas
 pub mod NeighborLemmas
+pub mod RouteBestLemmas
 pub mod RouteLemmas
 pub mod RouteTrieLemmas
 pub mod RouteWalkLemmas

@@ -20,7 +20,7 @@ use Rattle.iface_tables.specs.Route.{AreLive, IsBest, IsBestAt, Replaces, Router
 use Rattle.iface_tables.specs.RouteTrie.{IsBestPlace, IsCandidate}
 use Rattle.iface_tables.proofs.RouteTrieLemmas.{both}
 
-some_is : (x y : Route) → Some x ≡ Some y → x ≡ y
+pub some_is : (x y : Route) → Some x ≡ Some y → x ≡ y
 some_is x y e = cc
 
 -- a place of the prefixes is one of the routes

@@ -1,8 +1,8 @@
 -- An entry that moves to where it stands by its end: lists without one element and with one more, and their order.
-use Rattle.std.proofs.Common.{◌≡◌, ℕ, zero, suc, ◌+◌, ◌-◌, ◌<◌, ◌≤◌, inl, inr, List, [], ◌∷◌, ◌++◌, length, get_or, drop, refl, sym, ap, ◌∙◌, arith, add-one}
+use Rattle.std.proofs.Common.{◌≡◌, ℕ, zero, suc, ◌+◌, ◌-◌, ◌<◌, ◌≤◌, inl, inr, List, [], ◌∷◌, ◌++◌, length, get_or, drop, refl, sym, ap, ◌∙◌, subst, arith, add-one}
 use Rattle.std.specs.Prelude.{true, false, ℤ, ◌≤ℤ◌, slice_set}
 use Rattle.std.specs.List.{insert, refill, remove}
-use Rattle.std.specs.Ordering.{int_cmp, is_lt}
+use Rattle.std.specs.Ordering.{int_cmp, is_le, is_lt}
 use Rattle.std.specs.declared.cmp.Ordering.{Ordering}
 use Rattle.std.specs.declared.cmp.Ordering.TheVariants.{Less, Equal, Greater}
 use Rattle.std.proofs.lemmas.Bool.{cases_lt, cases_order}
@@ -59,6 +59,11 @@ pub not_before : (a b : ℤ) (o : Ordering) → o ≡ int_cmp a b → is_lt o �
 not_before a b Less e h = cc
 not_before a b Equal e h = omega (arith, ints, int_ranked a b Equal e)
 not_before a b Greater e h = omega (arith, ints, int_ranked a b Greater e)
+
+pub no_later : (a b : ℤ) (o : Ordering) → o ≡ int_cmp a b → is_le o ≡ true → a ≤ℤ b
+no_later a b Less e h = omega (arith, ints, int_ranked a b Less e)
+no_later a b Equal e h = omega (arith, ints, int_ranked a b Equal e)
+no_later a b Greater e h = cc
 
 -- when the entry at a place ends
 abbrev end_at : List (IpAddress × Neighbor) → ℕ → (IpAddress × Neighbor) → ℤ
@@ -168,3 +173,15 @@ module _ {X : Type 0} where
   -- a slice that was written over whole
   pub refilled : (xs ws : List X) → length ws ≡ length xs → refill (length xs) xs ws ≡ ws
   refilled xs ws n = rw (← n) (take-append-le (length ws) ws (drop (length ws) xs) (omega arith) ∙ take-length ws)
+
+-- the last entry stays where it is, if it ends no sooner than it did
+pub stays_last : (es : List (IpAddress × Neighbor)) (p : ℕ) (e x : IpAddress × Neighbor) → IsByEnd es → p + 1 ≡ length es → end_at es p x ≤ℤ e.1.expires_at → IsSettled (remove es p) e (slice_set es p e)
+stays_last es p e x by last later =
+    let within : p < length es = omega (arith, last) in
+    settled es (remove es p) p e within refl (taken es p by within) (earlier within) (after_end es (remove es p) p e.1.expires_at refl within (omega (arith, last))) where
+      earlier : p < length es → AreBefore (remove es p) p e.1.expires_at
+      earlier within k d below =
+          let a : end_at es k d ≤ℤ end_at es p d = by k p d (omega (arith, below)) within in
+          let b : end_at es p d ≤ℤ e.1.expires_at = rw (get_or_default es p d x within, end_at) later in
+          let same : get_or (remove es p) k d ≡ get_or es k d = get_or-remove_below es p d k below within in
+          subst (λ (y : IpAddress × Neighbor). y.1.expires_at ≤ℤ e.1.expires_at) (sym same) (omega (arith, ints, a, b))

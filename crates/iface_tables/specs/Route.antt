@@ -48,6 +48,16 @@ abbrev pub IsBest : List Route → IpAddress → ℤ → Option Route → Type 0
 IsBest rs a t (Some r) = (place : ℕ) × IsBestAt rs a t place r
 IsBest rs a t None = (k : ℕ) (other : Route) → slice_get rs k ≡ Some other → matches other a t ≡ false
 
+-- of a route and the best of those behind it the more specific one, of equals the one behind
+abbrev pub more_specific : Route → Option Route → Route
+more_specific r None = r
+more_specific r (Some behind) = if nat_le (prefix_len r) (prefix_len behind) then behind else r
+
+-- the same, found from the list's end on
+abbrev pub best : List Route → IpAddress → ℤ → Option Route
+best [] a t = None
+best (r ∷ rs) a t = if matches r a t then Some (more_specific r (best rs a t)) else best rs a t
+
 -- the router of a route, if there is one
 abbrev pub router_of : Option Route → Option IpAddress
 router_of (Some r) = Some r.via_router
@@ -56,6 +66,10 @@ router_of None = None
 -- what goes to an address at t goes to this router, or nowhere
 abbrev pub IsRouter : List Route → IpAddress → ℤ → Option IpAddress → Type 0
 IsRouter rs a t router = (best : Option Route) × IsBest rs a t best × (router ≡ router_of best)
+
+-- the best route is the one that is found so
+abbrev pub BestIsFound : Type 0
+BestIsFound = (rs : List Route) (a : IpAddress) (t : ℤ) → IsBest rs a t (best rs a t)
 
 -- two best routes are one, and so are their routers
 abbrev pub RouterIsOne : Type 0

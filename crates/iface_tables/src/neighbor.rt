@@ -294,6 +294,25 @@ fn settle(
     entries[hole] = (address, neighbor);
 }
 
+// The same of an entry that most often stands last already, and ends no sooner than it did.
+#[inline(always)]
+fn settle_renewed(
+    entries: &mut [(IpAddress, Neighbor)],
+    place: usize,
+    address: IpAddress,
+    neighbor: Neighbor,
+)
+    requires within { place < length entries.old }
+    requires order { IsByEnd entries.old }
+    ensures { IsSettled (remove entries.old place) (address, neighbor) entries.new }
+{
+    if place + 1 == entries.len() && entries[place].1.expires_at <= neighbor.expires_at {
+        entries[place] = (address, neighbor);
+        return;
+    }
+    settle(entries, place, address, neighbor);
+}
+
 // Where a neighbour goes: the place of its address, or one behind all, or in a full table the front,
 // so that the entry of least end makes room.
 fn place_for(
@@ -353,5 +372,5 @@ fn renew_in(
         hardware_addr: entry.1.hardware_addr,
         expires_at,
     };
-    settle(entries.as_mut_slice(), place, *address, neighbor);
+    settle_renewed(entries.as_mut_slice(), place, *address, neighbor);
 }

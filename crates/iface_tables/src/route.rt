@@ -4,7 +4,7 @@ ghost use Rattle.std.specs.List.{position_or_len, remove};
 ghost use Rattle.ip_address.specs.Ip as ip;
 ghost use Rattle.iface_tables.specs.declared.route.Route.{Route};
 ghost use Rattle.iface_tables.specs.Route as spec;
-ghost use Rattle.iface_tables.specs.Route.{AreLive, IsRouter, Replaces, RouterIsOne, Storage, cidrs, first, is_live, old_or_full, route_at, router_of, with_default, without_first};
+ghost use Rattle.iface_tables.specs.Route.{AreLive, BestIsFound, IsRouter, Replaces, RouterIsOne, Storage, cidrs, first, is_live, old_or_full, route_at, router_of, with_default, without_first};
 ghost use Rattle.iface_tables.specs.RouteTrie.{IsLongest, IsTrieOf};
 
 use crate::route_trie::{RouteTrie, Steps};
@@ -371,4 +371,10 @@ fn replace(
 /// Two best routes are one: what [`Routes::lookup`] gives is the only router that a packet may take.
 pub fn router_is_one()
     ensures { RouterIsOne }
+{}
+
+/// The best route is found from the list's end on: of a route that matches and the best of those behind it
+/// the more specific one, of equals the one behind.
+pub fn best_is_found()
+    ensures { BestIsFound }
 {}

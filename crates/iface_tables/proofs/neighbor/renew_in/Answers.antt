@@ -3,7 +3,7 @@ use Rattle.std.specs.List.{refill}
 use Rattle.ip_address.specs.Ip.{address_cmp}
 use Rattle.iface_tables.specs.Entries.{place_of}
 use Rattle.iface_tables.proofs.NeighborLemmas.{RenewsIn, renewed_there, renewed_other, renewed_none}
-use Rattle.iface_tables.proofs.SettleLemmas.{refilled, taken}
+use Rattle.iface_tables.proofs.SettleLemmas.{refilled}
 use Rattle.iface_tables.proofs.neighbor.renew_in.Goals as goal
 
 pub returns-then-place-len-clause-renews : goal.returns-then-place-len-clause-renews
@@ -17,16 +17,15 @@ returns-then-not-is_same-clause-renews c =
     (c.place_of-place.ensures ∙ ap (place_of address_cmp c.args.address.now) c.as_slice.ensures.value) (omega (arith, c.len.ensures.value))
     (rw c.as_slice-2.ensures.value at c.index-as_slice-place.is) (sym c.is_same.ensures ∙ c.if-not-is_same.true)
 
-pub settle-requires-clause-rest : goal.settle-requires-clause-rest
-settle-requires-clause-rest c =
-    rw c.as_mut_slice.ensures.value (taken c.args.entries.now.items c.place_of-place.result c.requires.by_end (omega (arith, c.len.ensures.value)))
+pub settle_renewed-requires-clause-order : goal.settle_renewed-requires-clause-order
+settle_renewed-requires-clause-order c = rw c.as_mut_slice.ensures.value c.requires.by_end
 
-renewed : (c : goal.After-entries-1) → RenewsIn c.args.entries.now.items (refill (length c.args.entries.now.items) c.args.entries.now.items c.settle.new.entries) c.args.address.now c.args.hardware_addr.now c.args.expires_at
+renewed : (c : goal.After-entries-1) → RenewsIn c.args.entries.now.items (refill (length c.args.entries.now.items) c.args.entries.now.items c.settle_renewed.new.entries) c.args.address.now c.args.hardware_addr.now c.args.expires_at
 renewed c =
-    rw (refilled c.args.entries.now.items c.settle.new.entries (c.settle.auto.entries ∙ ap length c.as_mut_slice.ensures.value))
-    (renewed_there c.args.entries.now.items c.settle.new.entries c.args.address.now c.args.hardware_addr.now c.args.expires_at c.index-as_slice-place.result c.place_of-place.result c.requires
+    rw (refilled c.args.entries.now.items c.settle_renewed.new.entries (c.settle_renewed.auto.entries ∙ ap length c.as_mut_slice.ensures.value))
+    (renewed_there c.args.entries.now.items c.settle_renewed.new.entries c.args.address.now c.args.hardware_addr.now c.args.expires_at c.index-as_slice-place.result c.place_of-place.result c.requires
     (c.place_of-place.ensures ∙ ap (place_of address_cmp c.args.address.now) c.as_slice.ensures.value) (omega (arith, c.len.ensures.value))
-    (rw c.as_slice-2.ensures.value at c.index-as_slice-place.is) (sym c.is_same.ensures ∙ c.if-not-is_same.false) (rw c.as_mut_slice.ensures.value at c.settle.ensures))
+    (rw c.as_slice-2.ensures.value at c.index-as_slice-place.is) (sym c.is_same.ensures ∙ c.if-not-is_same.false) (rw c.as_mut_slice.ensures.value at c.settle_renewed.ensures))
 
 pub returns-clause-kept : goal.returns-clause-kept
 returns-clause-kept c = (renewed c).kept
