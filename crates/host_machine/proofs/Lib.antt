@@ -13,6 +13,7 @@ pub mod Ordered
 pub mod Unfolded
 pub mod Malformed
 mod Single
+mod Refused
 pub mod Turns
 mod Noted
 mod Requested

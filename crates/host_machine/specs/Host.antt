@@ -1,5 +1,5 @@
 -- The state of a host (RFC 1122): what its interface and its sockets stand for.
-use Rattle.std.specs.Prelude.{ℕ, ℤ, Bool, false, ◌||◌, List, [], Option}
+use Rattle.std.specs.Prelude.{ℕ, ℤ, Bool, false, ◌&&◌, ◌||◌, List, [], Option, Some, None}
 use Rattle.std.specs.Borrow.{Bor}
 use Rattle.std.specs.List.{list_any, list_all}
 use Rattle.net_base.specs.declared.phy.DeviceCapabilities.{DeviceCapabilities}
@@ -13,6 +13,7 @@ use Rattle.fragmentation.specs.Slots.{Slots, left_at}
 use Rattle.slaac.specs.Slaac.{Learnt}
 use Rattle.fragmentation.specs.Cuts.{Piece}
 use Rattle.iface_tables.specs.declared.route.Route.{Route}
+use Rattle.iface_tables.specs.Route.{best, router_of}
 use Rattle.group_table.specs.declared.groups.Group.{Group}
 use Rattle.group_table.specs.declared.report.IgmpReportState.{IgmpReportState}
 use Rattle.group_table.specs.declared.report.MldReportState.{MldReportState}
@@ -41,7 +42,7 @@ pub record Host : Type 0 where
   pub hardware_addr : HardwareAddress
   pub moment : ℤ  -- of the last call that gave one
   pub ip_addrs : List IpCidr  -- its addresses with their networks, in the order given
-  pub any_ip : Bool  -- whether it takes every address for its own
+  pub any_ip : Bool  -- whether it takes addresses for its own that are routed to it
   pub routes : List Route  -- its routes, in the order in which they are stored
   pub neighbors : Neighbors  -- which neighbours it knows, and until when it sends no discovery
   pub ipv4_id : ℕ  -- the next identification of a packet, of 16 bits
@@ -89,9 +90,18 @@ with_places H places = record H { sockets = table.with_places H.sockets places }
 abbrev pub is_assigned : List IpCidr → IpAddress → Bool
 is_assigned own a = list_any (λ c. is_same (address_of c) a) own
 
--- an address of its own: one that was given to it, or any
+-- whether this was given to it, if there is one
+abbrev pub is_one_assigned : List IpCidr → Option IpAddress → Bool
+is_one_assigned own None = false
+is_one_assigned own (Some a) = is_assigned own a
+
+-- an address that is reached by the host itself: one host's, and the router of its best route is an address that was given to the host
+abbrev pub is_routed_here : Host → IpAddress → Bool
+is_routed_here H a = is_unicast a && is_one_assigned H.ip_addrs (router_of (best H.routes a H.moment))
+
+-- an address of its own: one that was given to it, or with AnyIP one that is reached by the host itself
 abbrev pub has_ip_addr : Host → IpAddress → Bool
-has_ip_addr H a = H.any_ip || is_assigned H.ip_addrs a
+has_ip_addr H a = is_assigned H.ip_addrs a || H.any_ip && is_routed_here H a
 
 -- an address in a network of its own
 abbrev pub in_same_network : List IpCidr → IpAddress → Bool

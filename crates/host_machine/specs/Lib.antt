@@ -27,6 +27,7 @@ pub mod Response
 pub mod Ingress
 pub mod Parts
 pub mod Egress
+pub mod Refusals
 pub mod Polling
 pub mod Due
 pub mod Config
@@ -45,6 +46,7 @@ pub mod Wire
 pub mod TwoHosts
 pub mod Laws
 pub mod Example
+pub mod ExampleAnyIp
 pub mod ExampleSockets
 pub mod ExampleDiscovery
 pub mod ExampleGroups

@@ -126,16 +126,16 @@ mld_report own type groups = packet.Ipv6 (record {
   payload = Mld (length groups) (records_of type groups);
 })
 
--- what tells that a group is joined: over IPv4, where the host has an address, a report (RFC 2236 3); over IPv6 a record that the list of
--- sources is empty (type 3, as smoltcp has it; RFC 3810 6.1 has type 4)
+-- what tells that a group is joined: over IPv4, where the host has an address, a report (RFC 2236 3); over IPv6 a record that no source is
+-- excluded any more (RFC 3810 6.1, 5.2.12)
 abbrev pub join_packet : List IpCidr → IpAddress → Option Packet
 join_packet own (Ipv4 a) = igmp_report own Version2 a
-join_packet own (Ipv6 a) = Some (mld_report own ChangeToInclude (a ∷ []))
+join_packet own (Ipv6 a) = Some (mld_report own ChangeToExclude (a ∷ []))
 
--- what tells that it is left
+-- what tells that it is left: over IPv6 a record that no source is included any more
 abbrev pub leave_packet : List IpCidr → IpAddress → Option Packet
 leave_packet own (Ipv4 a) = igmp_leave own a
-leave_packet own (Ipv6 a) = Some (mld_report own ChangeToExclude (a ∷ []))
+leave_packet own (Ipv6 a) = Some (mld_report own ChangeToInclude (a ∷ []))
 
 -- the groups in a state are told of one after the other, the first that stands in it each time, each with leave, until leave is refused;
 -- one of which nothing can be told, for want of an address, counts as told of

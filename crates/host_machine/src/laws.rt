@@ -1,5 +1,6 @@
 //! Laws that follow from the definitions alone, each as the contract of an empty function.
 ghost use Rattle.host_machine.specs.Example.{EchoIsAnswered, PacketIsAnswered, RequestIsAnswered, SenderIsDiscovered};
+ghost use Rattle.host_machine.specs.ExampleAnyIp.{AddressesAreRoutedHere};
 ghost use Rattle.host_machine.specs.Arrivals.{FewAreKept, PiecesAreRebuilt, PiecesComeInTime};
 ghost use Rattle.host_machine.specs.ExampleDiscovery.{NeighborIsSolicited};
 ghost use Rattle.host_machine.specs.ExampleIpv6 as ipv6;
@@ -9,6 +10,7 @@ ghost use Rattle.host_machine.specs.ExampleFragments.{DatagramIsRebuilt, Fragmen
 ghost use Rattle.host_machine.specs.ExamplePolling.{RequestIsPolled, WaitIsDue};
 ghost use Rattle.host_machine.specs.ExampleSockets.{ConfigurationsAreTested, ConnectionIsReset, DatagramIsDelivered, DatagramIsRefused, ProtocolIsRefused, RawSocketHears, SocketWaits, WindowFitsBurst};
 ghost use Rattle.host_machine.specs.Quiet.{SocketsAreQuiet};
+ghost use Rattle.host_machine.specs.Refusals.{RefusalsLoseNothing};
 ghost use Rattle.host_machine.specs.Laws.{DiscoveriesAreNoted, DispatchIsDetermined, DispatchesSendOneThing, FragmentsComeInFrames, IngressIsSingle, MalformedIsDropped, ReceptionIsDetermined, RunsJoin, RunsKeepLaws};
 ghost use Rattle.host_machine.specs.Unfolded.{RunsUnfold};
 ghost use Rattle.host_machine.specs.TwoHosts.{PiecesAreRead, RebuildsWhatWasCut};
@@ -41,6 +43,13 @@ pub fn dispatch_is_determined()
 /// neighbours of least end makes room for a new one.
 pub fn reception_is_determined()
     ensures { ReceptionIsDetermined }
+{}
+
+/// A call that sends, where the device gives no leave, sends nothing, notes nothing and loses nothing that waits
+/// but a report of MLD that is due: pieces, router solicitations, joins and leaves, reports of IGMP and the packets
+/// of sockets still wait, and what is known of neighbours and routers stays.
+pub fn refusals_lose_nothing()
+    ensures { RefusalsLoseNothing }
 {}
 
 /// The ARP requests and neighbour solicitations among all frames that a run sends are, in order and with
@@ -278,4 +287,9 @@ pub fn addresses_follow_prefixes()
 /// A worked example: the solicited-node groups of a host follow its addresses.
 pub fn groups_follow_addresses()
     ensures { GroupsFollowAddresses }
+{}
+
+/// A worked example: which addresses are the host's own with AnyIP, until when, and which are not.
+pub fn addresses_are_routed_here()
+    ensures { AddressesAreRoutedHere }
 {}

@@ -184,7 +184,7 @@ fn offer_join<D: Device>(
             send_if_some(context, device, out, &packet)
         }
         IpAddress::Ipv6(group) => {
-            send_record(context, device, out, MldRecordType::ChangeToInclude, group)
+            send_record(context, device, out, MldRecordType::ChangeToExclude, group)
         }
     }
 }
@@ -206,7 +206,7 @@ fn offer_leave<D: Device>(
             send_if_some(context, device, out, &packet)
         }
         IpAddress::Ipv6(group) => {
-            send_record(context, device, out, MldRecordType::ChangeToExclude, group)
+            send_record(context, device, out, MldRecordType::ChangeToInclude, group)
         }
     }
 }

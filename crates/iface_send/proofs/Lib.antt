@@ -1,4 +1,5 @@
 mod Building
 mod Cutting
 mod Broadcasts
+mod Routing
 mod Syncing

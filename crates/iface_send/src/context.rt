@@ -85,7 +85,7 @@ impl Context {
         self.ip_addrs.as_slice()
     }
 
-    /// Whether every address is taken for an own one.
+    /// Whether addresses that are routed to the interface are taken for own ones.
     #[inline(always)]
     pub fn any_ip(&self) -> bool
         ensures { result ≡ (host_of self.now no_sockets).any_ip }
@@ -142,13 +142,29 @@ impl Context {
         &self.neighbor_cache
     }
 
-    /// Whether an address is one of the interface's own: one that was given to it, or any with
-    /// AnyIP.
+    /// Whether an address is one of the interface's own: one that was given to it, or with AnyIP one
+    /// host's whose best route has such an address as router.
     #[inline(always)]
     pub fn has_ip_addr(&self, address: &IpAddress) -> bool
         ensures { result ≡ host.has_ip_addr (host_of self.now no_sockets) address.now }
     {
-        self.any_ip || is_assigned(self.ip_addrs.as_slice(), address)
+        is_assigned(self.ip_addrs.as_slice(), address)
+            || self.any_ip && self.is_routed_here(*address)
+    }
+
+    /// Whether an address is one host's, and its best route has an address as router that was given to
+    /// the interface.
+    #[inline(never)]
+    fn is_routed_here(&self, address: IpAddress) -> bool
+        ensures { result ≡ host.is_routed_here (host_of self.now no_sockets) address }
+    {
+        if !address.is_unicast() {
+            return false;
+        }
+        match self.routes.lookup(&address, self.moment) {
+            Some(router) => is_assigned(self.ip_addrs.as_slice(), &router),
+            None => false,
+        }
     }
 
     /// Whether an address is one that was given to the interface.

@@ -104,7 +104,7 @@ pub fn set_ip_addrs(context: &mut Context, list: ArrayVec<IpCidr, IFACE_MAX_ADDR
     );
 }
 
-/// Takes every address for an own one, or no longer.
+/// Takes addresses that are routed to the interface for own ones, or no longer.
 pub fn set_any_ip(context: &mut Context, any_ip: bool)
     ensures { (sockets : SocketSet) → host_of context.new sockets ≡ record (host_of context.old sockets) { any_ip = any_ip } }
 {

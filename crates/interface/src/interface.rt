@@ -227,8 +227,8 @@ impl Interface {
         self.context.get_source_address_ipv6(dst_addr)
     }
 
-    /// Whether an address is one of the interface's own: one that was given to it, or any with
-    /// AnyIP.
+    /// Whether an address is one of the interface's own: one that was given to it, or with AnyIP
+    /// ([`Interface::set_any_ip`]) one that is routed to it.
     pub fn has_ip_addr(&self, address: &IpAddress) -> bool
         ensures { (sockets : SocketSet) → result ≡ host.has_ip_addr (host_with self.now sockets) address.now }
     {
@@ -282,14 +282,17 @@ impl Interface {
         Ok(())
     }
 
-    /// Whether the interface takes every address for an own one.
+    /// Whether the interface takes addresses for own ones that are routed to it.
     pub fn any_ip(&self) -> bool
         ensures { (sockets : SocketSet) → result ≡ (host_with self.now sockets).any_ip }
     {
         self.context.any_ip()
     }
 
-    /// Takes every address for an own one from now on, or no longer.
+    /// Takes from now on, or no longer, an address for an own one, beside those that were given to the
+    /// interface, if it is one host's and the best route to it (longest prefix, not expired) has an address
+    /// as router that was given to the interface (AnyIP). So a service may stand at all addresses of a
+    /// network: add a route for the network by an own address.
     pub fn set_any_ip(&mut self, any_ip: bool)
         ensures { Becomes self.old self.new (λ H. record H { any_ip = any_ip }) }
     {

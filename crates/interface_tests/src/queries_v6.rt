@@ -125,17 +125,18 @@ fn a_general_query_without_groups_changes_nothing(rt: HostRuntime) {
     );
 }
 
-// A query for all groups counts at each address of its own, and with AnyIP that is any.
+// A query for all groups counts at each address of its own, with AnyIP also at one that is routed to it.
 #[test]
 fn a_general_query_may_go_to_the_host_alone(rt: HostRuntime) {
     each_reporting(
         &rt,
         AT_HOME,
         &[
-            "rx ASK_V6_BY_9
+            "anyip
+            rx ASK_V6_BY_9
             ingress 0 = SocketStateChanged
             at 0 = none
-            anyip
+            routes fe800000000000000000000000000009/128>fe800000000000000000000000000001
             rx ASK_V6_BY_9
             ingress 0 = SocketStateChanged
             at 0 = 282_000

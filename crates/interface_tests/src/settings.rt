@@ -1,6 +1,6 @@
 // What a host may be, and what it is told to be.
 
-use crate::script::{acquainted, at_home, bare};
+use crate::script::{acquainted, at_home, at_home_v6, bare, each_acquainted, each_at_home};
 use interface::{AddrError, HardwareError, MulticastError, NewError};
 use std::alloc::Global;
 use std::fmt::Display;
@@ -110,24 +110,107 @@ fn there_is_one_default_route_of_each_family(rt: HostRuntime) {
 
 #[test]
 fn a_full_table_takes_no_default_route(rt: HostRuntime) {
-    at_home(
+    each_at_home(
         &rt,
-        "routes 0a000000/8>c0a84502 0a000000/8>c0a84503 0a000000/8>c0a84504 0a000000/8>c0a84505
-        gw c0a84506 = RouteTableFull
-        ungw = none
-        routes? = 0a000000/8>c0a84502 0a000000/8>c0a84503 0a000000/8>c0a84504 0a000000/8>c0a84505",
+        &[
+            "routes 0a000000/8>c0a84502 0a000000/8>c0a84503 0a000000/8>c0a84504 0a000000/8>c0a84505
+            gw c0a84506 = RouteTableFull
+            ungw = none
+            routes? = 0a000000/8>c0a84502 0a000000/8>c0a84503 0a000000/8>c0a84504 0a000000/8>c0a84505",
+            // Where the other tables are full, too.
+            "addr c0a84501/24 c0a84507/24 0a000001/8 ac100001/12
+            join ef010203
+            join ef010204
+            join ef010205
+            join ef010206
+            join ef010207
+            join ef010208
+            join ef010209
+            join ef01020a
+            receive 0 REQUEST = REPLY
+            receive 0 REQUEST_OF_2 = REPLY_TO_2
+            receive 0 REPLY_OF_50 = none
+            receive 0 OTHER_REPLY = none
+            receive 0 HI_START = none
+            receive 0 HI_START_8 = none
+            routes 0a000000/8>c0a84502 0a000000/8>c0a84503 0a000000/8>c0a84504 00000000/0>c0a84505
+            gw c0a84506 = c0a84505
+            gw fe800000000000000000000000000002 = RouteTableFull
+            routes? = 0a000000/8>c0a84502 0a000000/8>c0a84503 0a000000/8>c0a84504 00000000/0>c0a84506",
+        ],
+    );
+}
+
+// An address is the host's own where its best route has an own address as router, up to the route's end.
+#[test]
+fn takes_addresses_that_are_routed_to_it(rt: HostRuntime) {
+    acquainted(
+        &rt,
+        "routes 0a050000/16>c0a84501@10_000_000
+        own? 0a050101 = no
+        anyip
+        own? 0a050101 = yes
+        rx ECHO_TO_ROUTED
+        ingress 10_000_000 = SocketStateChanged tx REPLY_OF_ROUTED
+        rx ECHO_TO_UNROUTED
+        ingress 10_000_000 = SocketStateChanged
+        rx ECHO_TO_ROUTED
+        ingress 10_000_001 = SocketStateChanged
+        own? 0a050101 = no",
     );
 }
 
 #[test]
-fn any_address_is_its_own(rt: HostRuntime) {
-    acquainted(
+fn the_best_route_decides_what_is_its_own(rt: HostRuntime) {
+    each_acquainted(
         &rt,
-        "rx ECHO_TO_77
+        &[
+            "anyip
+            routes 0a050000/16>c0a84501 0a050200/24>c0a84509
+            rx ECHO_TO_LONGER
+            ingress 0 = SocketStateChanged
+            rx ECHO_TO_ROUTED
+            ingress 0 = SocketStateChanged tx REPLY_OF_ROUTED",
+            // Of equals the last one, and none that has expired.
+            "anyip
+            routes 0a050000/16>c0a84501 0a050000/16>c0a84509@5_000_000
+            rx ECHO_TO_ROUTED
+            ingress 5_000_000 = SocketStateChanged
+            rx ECHO_TO_ROUTED
+            ingress 5_000_001 = SocketStateChanged tx REPLY_OF_ROUTED",
+        ],
+    );
+}
+
+#[test]
+fn says_where_an_address_is_that_is_routed_to_it(rt: HostRuntime) {
+    at_home(
+        &rt,
+        "anyip
+        rx WHO_IS_ROUTED
         ingress 0 = SocketStateChanged
+        routes 0a050000/16>c0a84501
+        rx WHO_IS_ROUTED
+        ingress 0 = SocketStateChanged tx ROUTED_IS_HERE",
+    );
+}
+
+// No group, no address of all and no unspecified one, whatever the routes are; of IPv6 likewise.
+#[test]
+fn only_what_is_one_hosts_is_routed_to_it(rt: HostRuntime) {
+    at_home_v6(
+        &rt,
+        "addr c0a84501/24 fe800000000000000000000000000001/64
         anyip
-        rx ECHO_TO_77
-        ingress 0 = SocketStateChanged tx REPLY_OF_77",
+        routes 00000000/0>c0a84501 20010db8000500000000000000000000/48>fe800000000000000000000000000001
+        own? 08080808 = yes
+        own? e0000005 = no
+        own? ffffffff = no
+        own? 00000000 = no
+        own? 20010db8000500000000000000000001 = yes
+        own? 20010db8000600000000000000000001 = no
+        own? ff020000000000000000000000000005 = no
+        own? 00000000000000000000000000000000 = no",
     );
 }
 
