@@ -235,6 +235,35 @@ fn a_full_list_takes_no_address(rt: HostRuntime) {
 }
 
 #[test]
+fn where_all_tables_are_full_nothing_is_added(rt: HostRuntime) {
+    each_reporting(
+        &rt,
+        "slaac
+        addr fe800000000000000000000000000001/64 c0a84501/24 c0a84502/24 c0a84503/24
+        routes 0a000000/8>c0a84502 0a000000/8>c0a84503 0a000000/8>c0a84504 00000000/0>c0a84505
+        egress 0 = None tx ASK_ROUTERS JOIN_1
+        join ef010203
+        join ef010204
+        join ef010205
+        join ef010206
+        join ef010207
+        join ef010208
+        join ef010209
+        join ef01020a = GroupTableFull
+        receive 0 HI_START = none
+        receive 0 HI_START_8 = none",
+        &[
+            "rx ADVERTISED
+            ingress 1_000_000 = SocketStateChanged
+            maintain 1_000_000
+            addr? = fe800000000000000000000000000001/64 c0a84501/24 c0a84502/24 c0a84503/24
+            routes? = 0a000000/8>c0a84502 0a000000/8>c0a84503 0a000000/8>c0a84504 00000000/0>c0a84505
+            synced? = 1_000_000",
+        ],
+    );
+}
+
+#[test]
 fn routes_of_routers_stand_beside_others(rt: HostRuntime) {
     each_reporting(
         &rt,

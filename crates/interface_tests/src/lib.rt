@@ -12,6 +12,8 @@ mod frames;
 #[cfg(test)]
 mod groups;
 #[cfg(test)]
+mod hostile;
+#[cfg(test)]
 mod kinds;
 #[cfg(test)]
 mod packets;
@@ -25,6 +27,8 @@ mod queries_v6;
 mod receiving;
 #[cfg(test)]
 mod receiving_v6;
+#[cfg(test)]
+mod refusals;
 #[cfg(test)]
 mod script;
 #[cfg(test)]

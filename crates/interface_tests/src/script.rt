@@ -15,11 +15,11 @@
 //! | `source? ADDR` `= ADDR` | from which address it sends to this IPv6 destination |
 //! | `join GROUP` `= ok`, `GroupTableFull`, `Unaddressable` | it joins this group |
 //! | `leave GROUP` `= ok`, `Unaddressable` | it leaves this group |
-//! | `slaac [ip]` | the host is made anew, to take addresses from routers, on Ethernet or without hardware addresses |
+//! | `slaac [ip\|MTU]` | the host is made anew, to take addresses from routers, on Ethernet or without hardware addresses |
 //! | `phase?` `= PHASE COUNT` | how far its search for routers is, and how many solicitations may still go |
 //! | `slaac_at T` `= T`, `none` | when something is to be done of what it learnt from routers |
 //! | `synced?` `= T` | when its addresses and routes were last brought into line with that |
-//! | `anyip` | it takes every address for its own |
+//! | `anyip` | it takes addresses for its own that are routed to it |
 //! | `hardware HARDWARE` | it gets this hardware address |
 //! | `hardware?` `= HARDWARE`, `none` | it has this one |
 //! | `routes ADDR/LEN>ROUTER[@EXPIRY] ..` | its routes become these |
@@ -30,6 +30,7 @@
 //! | `timeout?` `= MICROS` | they stand for so long |
 //! | `rx FRAME ..` | a frame arrives: these, one behind the other |
 //! | `rx?` `= COUNT` | so many frames wait |
+//! | `begins FRAME` | each of its proper beginnings arrives by itself and is taken, at the origin |
 //! | `refuse [COUNT]` | the device will refuse the next question for leave, or the one behind so many |
 //! | `ingress T`, `egress T`, `poll T BUDGET`, `maintain T` | the host is polled |
 //! | `at T` `= T`, `none` | when it has to be polled again |
@@ -45,6 +46,7 @@ use crate::words::{
     Words, address_v6, any_address, count, hardware, medium, moment, networks, number, octet,
     routes, wide,
 };
+use arrayvec::ArrayVec;
 use host_machine::TimeoutError;
 use iface_tables::route::{Route, RouteTableFull};
 use interface::{
@@ -121,6 +123,39 @@ pub fn each_reporting(rt: &(impl Abort + AllocGlobal), first: &str, scripts: &[&
     }
 }
 
+/// Runs a script on a host for each bit of a frame: when the host has come as far as the first script, the frame
+/// arrives with this bit changed, and is taken.
+pub fn each_spoilt(rt: &(impl Abort + AllocGlobal), first: &str, word: &str, second: &str) {
+    let good = frame(word).expect(rt, "a frame");
+    for place in 0..good.len() {
+        for mask in [1u8, 2, 4, 8, 16, 32, 64, 128] {
+            let bad = changed(&good, place, mask);
+            assert!(rt;
+                outlives(rt.alloc(), first, bad.as_slice(), second),
+                "octet {place} changed by {mask}"
+            );
+        }
+    }
+}
+
+// A frame of which one octet is changed.
+fn changed(frame: &Octets, place: usize, mask: u8) -> Octets {
+    let mut bad = ArrayVec::new();
+    for (at, octet) in frame.as_slice().iter().enumerate() {
+        let octet = if at == place { *octet ^ mask } else { *octet };
+        let _ = bad.try_push(octet);
+    }
+    bad
+}
+
+// Whether a script comes as it says on a host that took a frame behind another script.
+fn outlives(alloc: Global, first: &str, bad: &[u8], second: &str) -> bool {
+    let Ok(mut host) = Host::new(alloc, OWN, ETHERNET) else {
+        return false;
+    };
+    host.follows(first) && host.takes(bad).is_some() && host.follows(second)
+}
+
 const AT_HOME_V6: &str = "addr fe800000000000000000000000000001/64
     egress 0 = None tx JOIN_1";
 
@@ -145,14 +180,7 @@ fn comes(alloc: Global, first: &str, second: &str) -> bool {
     let Ok(mut host) = Host::new(alloc, OWN, ETHERNET) else {
         return false;
     };
-    for part in [first, second] {
-        for line in part.lines() {
-            if host.follow(line) != Some(true) {
-                return false;
-            }
-        }
-    }
-    host.kept && host.device.queued() == 0
+    host.follows(first) && host.follows(second) && host.kept && host.device.queued() == 0
 }
 
 // Runs two parts of a script on a new host, at which no frame may wait in the end.
@@ -175,6 +203,16 @@ fn runs(rt: &(impl Abort + AllocGlobal), first: &str, second: &str) {
 }
 
 impl Host {
+    /// Follows a script, and says whether it comes as it says.
+    pub fn follows(&mut self, script: &str) -> bool {
+        for line in script.lines() {
+            if self.follow(line) != Some(true) {
+                return false;
+            }
+        }
+        true
+    }
+
     // Follows a line, and says whether that came of it which had to. `None` if it isn't one.
     fn follow(&mut self, line: &str) -> Option<bool> {
         if line.trim().is_empty() {
@@ -282,7 +320,14 @@ impl Host {
             "slaac" => {
                 let made = match call.next() {
                     Some("ip") => Host::with_slaac(self.alloc, HardwareAddress::Ip, IP),
-                    Some(_) => return None,
+                    Some(word) => Host::with_slaac(
+                        self.alloc,
+                        OWN,
+                        DeviceCapabilities {
+                            max_transmission_unit: count(word)?,
+                            ..ETHERNET
+                        },
+                    ),
                     None => Host::with_slaac(self.alloc, OWN, ETHERNET),
                 };
                 *self = made.ok()?;
@@ -311,6 +356,10 @@ impl Host {
                 is_ok(outcome)
             }
             "rx?" => Some(self.device.queued() == count(outcome.next()?)?),
+            "begins" => {
+                self.takes_beginnings(frame(call.next()?)?.as_slice())?;
+                is_ok(outcome)
+            }
             "refuse" => {
                 let given = match call.next() {
                     Some(word) => count(word)?,
@@ -331,6 +380,23 @@ impl Host {
             "delay" => self.is_due_in(call.next()?, outcome.next()?),
             "receive" => self.shows(call, outcome.next()?),
             _ => self.at_sockets(word, call, outcome),
+        }
+    }
+
+    // Each proper beginning of a frame arrives and is taken. `None` if one isn't.
+    fn takes_beginnings(&mut self, octets: &[u8]) -> Option<()> {
+        for len in 1..octets.len() {
+            self.takes(octets.get(..len)?)?;
+        }
+        Some(())
+    }
+
+    /// A frame arrives and is taken, at the origin. `None` if it isn't.
+    pub fn takes(&mut self, octets: &[u8]) -> Option<()> {
+        self.queue(octets)?;
+        match self.run(Command::PollIngressSingle(Instant::ZERO)) {
+            Answer::PollIngressSingle(PollIngressSingleResult::SocketStateChanged) => Some(()),
+            _ => None,
         }
     }
 
