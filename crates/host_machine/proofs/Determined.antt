@@ -16,7 +16,7 @@ use Rattle.host_machine.specs.Frame.{piece_frame}
 use Rattle.host_machine.specs.Dispatch.{Outcome, IsNextHop, IsUnsent, Emits, Discovers, SendsByHop, SendsEthernet, SendsOver, Dispatches, datagram_of, identified, if_unicast, many_address, destination_of}
 use Rattle.host_machine.specs.Dispatch as dispatch
 use Rattle.host_machine.proofs.Least.{hop_is_one}
-use Rattle.host_machine.specs.Laws.{IsOneDispatch, DispatchIsDetermined}
+use Rattle.host_machine.specs.Determined.{IsOneDispatch, DispatchIsDetermined}
 
 -- two that do the same as a third
 agree : {o o' c : Outcome} {f f' fs : List (List ℕ)} {n n' ns : List Note} {x x' K : Host} → o ≡ c → f ≡ fs → n ≡ ns → x ≡ K → o' ≡ c → f' ≡ fs → n' ≡ ns → x' ≡ K → IsOneDispatch o o' f f' n n' x x'

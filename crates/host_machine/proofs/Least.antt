@@ -32,7 +32,7 @@ hop_is_one (OnLink i e) (ByRouter router j r f) = absurd cc
 hop_is_one (ByRouter router i r e) (OnLink j f) = absurd cc
 hop_is_one {H} {a} (ByRouter r i is e) (ByRouter s j it f) = e ∙ ap (option_and_then if_unicast) (routers_are_one H.routes a H.moment r s is it) ∙ sym f
 
-known_is_one : {H : Host} {a : IpAddress} {x y : Bool} → KnowsNextHop H a x → KnowsNextHop H a y → x ≡ y
+pub known_is_one : {H : Host} {a : IpAddress} {x y : Bool} → KnowsNextHop H a x → KnowsNextHop H a y → x ≡ y
 known_is_one (OfNoHost n e) (OfNoHost m f) = e ∙ sym f
 known_is_one (OfNoHost n e) (OfHost hop m i f) = absurd cc
 known_is_one (OfHost hop n i e) (OfNoHost m f) = absurd cc

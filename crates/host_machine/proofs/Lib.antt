@@ -18,7 +18,13 @@ pub mod Turns
 mod Noted
 mod Requested
 mod Determined
+mod RoomMade
 mod Received
+mod OnePart
+mod OneUntil
+mod OneRound
+mod OneCall
+mod OneStep
 pub mod Identified
 pub mod QuietSockets
 pub mod Earlier

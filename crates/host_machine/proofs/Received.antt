@@ -1,5 +1,5 @@
 -- What is done with a frame is determined by it and by the host, but for which neighbour makes room for a new one.
-use Rattle.std.proofs.Common.{◌≡◌, ℕ, ◌≤◌, Bool, true, false, List, [], ◌∷◌, refl, sym, ◌∙◌, ap, Option, Some, None, arith}
+use Rattle.std.proofs.Common.{◌≡◌, ◌⊎◌, ℕ, ◌≤◌, Bool, true, false, List, [], ◌∷◌, refl, sym, ◌∙◌, ap, inl, Option, Some, None, arith}
 use Rattle.std.proofs.lemmas.Bool.Decides.{nat_tests}
 use Rattle.std.specs.Prelude.{ℤ, map, nat_lt}
 use Rattle.std.specs.FinMap as finite
@@ -7,7 +7,6 @@ use Rattle.net_base.specs.Device.{Frame, Nothing, Withheld}
 use Rattle.ip_address.specs.declared.ethernet_address.EthernetAddress.{EthernetAddress}
 use Rattle.ip_address.specs.declared.hardware.HardwareAddress.{HardwareAddress}
 use Rattle.ip_address.specs.declared.hardware.HardwareAddress.TheVariants as hardware
-use Rattle.ip_address.specs.declared.ip.IpAddress.TheVariants as address
 use Rattle.ip_address.specs.declared.ipv6.Ipv6Address.{Ipv6Address}
 use Rattle.ip_address.specs.declared.protocol.IpProtocol.{IpProtocol}
 use Rattle.ip_address.specs.declared.protocol.IpProtocol.TheVariants as protocol
@@ -50,11 +49,12 @@ use Rattle.host_machine.specs.Ipv4 as ipv4
 use Rattle.host_machine.specs.Ipv6 as ipv6
 use Rattle.host_machine.specs.Ethernet.{TakesPayload, TakesEthernet, TakesFrame}
 use Rattle.host_machine.specs.Ethernet as ethernet
-use Rattle.host_machine.specs.Laws.{IsOneHost, OneHost, RoomMade, IsOneReception, ReceptionIsDetermined}
+use Rattle.host_machine.specs.Determined.{OtherMadeRoom, IsOneReception, ReceptionIsDetermined}
+use Rattle.host_machine.proofs.RoomMade.{filled_once}
 
 -- two that do the same as a third
 agree : {r r' o : Option Reply} {n n' ns : List Note} {x x' K : Host} → r ≡ o → n ≡ ns → x ≡ K → r' ≡ o → n' ≡ ns → x' ≡ K → IsOneReception r r' n n' x x'
-agree r n x r' n' x' = record { reply_is = r ∙ sym r'; noted_is = n ∙ sym n'; taken_is = OneHost (x ∙ sym x') }
+agree r n x r' n' x' = record { reply_is = r ∙ sym r'; noted_is = n ∙ sym n'; taken_is = inl (x ∙ sym x') }
 
 dropped : {r r' : Option Reply} {n n' : List Note} {H x x' : Host} → IsDropped H r n x → IsDropped H r' n' x' → IsOneReception r r' n n' x x'
 dropped d e = agree d.silent d.unnoted d.unchanged e.silent e.unnoted e.unchanged
@@ -208,7 +208,7 @@ packet_once (ipv4.FromNoHost s d) (ipv4.Part s' g t o) = absurd cc
 packet_once (ipv4.FromNoHost s d) (ipv4.Completed octets mid first rest s' g t w n) = absurd cc
 packet_once (ipv4.FromNoHost s d) (ipv4.Whole s' g t) = absurd cc
 packet_once (ipv4.Part s g t o) (ipv4.FromNoHost s' d) = absurd cc
-packet_once (ipv4.Part s g t o) (ipv4.Part s' g' t' o') = let one = fragment_once t t' in record { reply_is = o ∙ sym o'; noted_is = one.notes_are; taken_is = OneHost one.host_is }
+packet_once (ipv4.Part s g t o) (ipv4.Part s' g' t' o') = let one = fragment_once t t' in record { reply_is = o ∙ sym o'; noted_is = one.notes_are; taken_is = inl one.host_is }
 packet_once (ipv4.Part s g t o) (ipv4.Completed octets mid first rest s' g' t' w n) = let one : None ≡ Some octets = (fragment_once t t').result_is in absurd cc
 packet_once (ipv4.Part s g t o) (ipv4.Whole s' g' t') = absurd cc
 packet_once (ipv4.Completed octets mid first rest s g t w n) (ipv4.FromNoHost s' d) = absurd cc
@@ -232,9 +232,9 @@ ipv4_once (ipv4.Read i t) (ipv4.Malformed m d) = absurd (m i)
 ipv4_once (ipv4.Read i t) (ipv4.Read i' t') = packet_once t t'
 
 -- neighbours that are learnt
-learnt_once : (o : Option EthernetAddress) (a : Ipv6Address) (H : Host) {x x' : Host} → Learns o a H x → Learns o a H x' → IsOneHost x x'
-learnt_once None a H e e' = OneHost (e ∙ sym e')
-learnt_once (Some h) a H l m = RoomMade H (address.Ipv6 a) _ l.neighbors m.neighbors l.filled m.filled l.same m.same
+learnt_once : (o : Option EthernetAddress) (a : Ipv6Address) (H : Host) {x x' : Host} → Learns o a H x → Learns o a H x' → (x ≡ x') ⊎ OtherMadeRoom x x'
+learnt_once None a H e e' = inl (e ∙ sym e')
+learnt_once (Some h) a H l m = filled_once H l.filled m.filled l.same m.same
 
 heard_once : {own : EthernetAddress} {r : Ipv6Repr} {message : NdiscRepr} {H x x' : Host} {o o' : Option Reply} {n n' : List Note} →
     HearsNeighbor own r H o n x message → HearsNeighbor own r H o' n' x' message → IsOneReception o o' n n' x x'
@@ -343,7 +343,7 @@ arp_once (arp.NotForUs i l d) (arp.Learnt i' l' s o n) = absurd cc
 arp_once (arp.Learnt i l s o n) (arp.Malformed m d) = absurd (m i)
 arp_once (arp.Learnt i l s o n) (arp.NotForUs i' l' d) = absurd cc
 arp_once {H = H} (arp.Learnt i l s o n) (arp.Learnt i' l' s' o' n') =
-    record { reply_is = o ∙ sym o'; noted_is = n ∙ sym n'; taken_is = RoomMade H _ _ s.neighbors s'.neighbors s.filled s'.filled s.same s'.same }
+    record { reply_is = o ∙ sym o'; noted_is = n ∙ sym n'; taken_is = filled_once H s.filled s'.filled s.same s'.same }
 
 payload_once : (own source : EthernetAddress) (H : Host) (p : EthernetProtocol) (payload : List ℕ) {o o' : Option Reply} {n n' : List Note} {x x' : Host} → TakesPayload own source H p payload o n x →
     TakesPayload own source H p payload o' n' x' → IsOneReception o o' n n' x x'

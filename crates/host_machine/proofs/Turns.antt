@@ -231,7 +231,7 @@ dispatched_sockets (dispatch.ToNobody n o u) = unsent_sockets u
 dispatched_sockets {p} {outcome} {H} {new} {frames} {notes} (dispatch.ToSomebody more s d n) = over_sockets H.ipv4_id H.hardware_addr p outcome (identified H) frames more new d
 
 -- and a turn leaves what its socket speaks
-turn_sockets : {s s' : Socket} {turn : Turn} {H new : Host} {told_it : List Event} {notes : List Note} → SocketTurn s turn s' H told_it notes new → new.sockets ≡ H.sockets
+pub turn_sockets : {s s' : Socket} {turn : Turn} {H new : Host} {told_it : List Event} {notes : List Note} → SocketTurn s turn s' H told_it notes new → new.sockets ≡ H.sockets
 turn_sockets (egress.Silent p t o n e r) = ap (λ (K : Host). K.sockets) e
 turn_sockets (egress.Refused p q t o n e r) = ap (λ (K : Host). K.sockets) e
 turn_sockets (egress.Sent p outcome frames q d t o r) = dispatched_sockets d

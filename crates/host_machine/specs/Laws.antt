@@ -1,14 +1,11 @@
 -- Laws that follow from the definitions.
-use Rattle.std.specs.Prelude.{◌≡◌, ℕ, ℤ, ◌≤◌, ◌≤ℤ◌, true, List, [], ◌∷◌, ◌++◌, length, drop, Option}
+use Rattle.std.specs.Prelude.{◌≡◌, ℕ, ℤ, ◌≤◌, ◌≤ℤ◌, true, List, [], ◌∷◌, ◌++◌, length, drop}
 use Rattle.std.specs.List.{AllByRecursion}
 use Rattle.net_base.specs.declared.phy.ChecksumCapabilities.{ChecksumCapabilities}
 use Rattle.net_base.specs.Checksum.{is_rx}
-use Rattle.net_base.specs.Device.{Event, Reception, handed, sent}
+use Rattle.net_base.specs.Device.{Event, handed, sent}
 use Rattle.ip_address.specs.declared.hardware.HardwareAddress.{HardwareAddress}
 use Rattle.ip_address.specs.declared.hardware.HardwareAddress.TheVariants as hardware
-use Rattle.ip_address.specs.declared.ip.IpAddress.{IpAddress}
-use Rattle.iface_tables.specs.declared.neighbor.Neighbor.{Neighbor}
-use Rattle.iface_tables.specs.Neighbor.{Neighbors, Fills}
 use Rattle.ip_wire.specs.declared.ethernet.EthernetProtocol.TheVariants as protocol
 use Rattle.ip_wire.specs.Ethernet.{header_in}
 use Rattle.ip_wire.specs.Arp.{IsArp}
@@ -17,14 +14,13 @@ use Rattle.ipv6_wire.specs.Ipv6Packet.{IsIpv6}
 use Rattle.host_machine.specs.declared.results.PollIngressSingleResult.{PollIngressSingleResult}
 use Rattle.fragmentation.specs.Cuts.{Piece, pieces_of}
 use Rattle.host_machine.specs.Note.{Note, Cut, PieceSent, asks, cut_notes}
-use Rattle.host_machine.specs.Host.{Host, swept, with_neighbors}
+use Rattle.host_machine.specs.Host.{Host, swept}
 use Rattle.ip_address.specs.Hardware.{IsOf}
 use Rattle.host_machine.specs.Packet.{Packet, PacketV4}
 use Rattle.host_machine.specs.Packet as packet
 use Rattle.host_machine.specs.Frame.{ip_frame, piece_frame}
 use Rattle.host_machine.specs.Dispatch.{Outcome, Dispatches, datagram_of}
-use Rattle.host_machine.specs.Reply.{Reply}
-use Rattle.host_machine.specs.Ingress.{Takes, Ingress}
+use Rattle.host_machine.specs.Ingress.{Ingress}
 use Rattle.host_machine.specs.Frames.{ComesInFrames}
 use Rattle.host_machine.specs.Real.{IsReal}
 use Rattle.host_machine.specs.Requests.{IsSound, IsOrdinary, is_request, requests_in}
@@ -73,37 +69,6 @@ abbrev pub DispatchesSendOneThing : Type 0
 DispatchesSendOneThing =
     (p : Packet) (outcome : Outcome) (H new : Host) (frames : List (List ℕ)) (notes : List Note) →
     IsReal H → Dispatches p outcome H frames notes new → SendsOneThing p H frames notes
-
--- two dispatches that do the same: what becomes of the packet, what is sent and noted, and the host after it
-pub record IsOneDispatch (one two : Outcome) (frames frames' : List (List ℕ)) (notes notes' : List Note) (new new' : Host) : Type 0 where
-  pub outcome_is : one ≡ two
-  pub frames_are : frames ≡ frames'
-  pub notes_are : notes ≡ notes'
-  pub host_is : new ≡ new'
-
--- what a dispatch does is determined by its packet and the host: the rules say what may be, and nothing else may
-abbrev pub DispatchIsDetermined : Type 0
-DispatchIsDetermined =
-    (p : Packet) (one two : Outcome) (H new new' : Host) (frames frames' : List (List ℕ)) (notes notes' : List Note) →
-    Dispatches p one H frames notes new → Dispatches p two H frames' notes' new' → IsOneDispatch one two frames frames' notes notes' new new'
-
--- two hosts after one and the same: they are one, or each learnt this neighbour of one host, and another may have made room for it in each
-pub data IsOneHost (new new' : Host) : Type 0 where
-  OneHost : new ≡ new' → IsOneHost new new'
-  RoomMade : (H : Host) (a : IpAddress) (n : Neighbor) (one two : Neighbors) → Fills H.neighbors one a n → Fills H.neighbors two a n →
-      new ≡ with_neighbors H one → new' ≡ with_neighbors H two → IsOneHost new new'
-
--- two receptions that do the same: what is answered and noted, and the host after it
-pub record IsOneReception (reply reply' : Option Reply) (notes notes' : List Note) (new new' : Host) : Type 0 where
-  pub reply_is : reply ≡ reply'
-  pub noted_is : notes ≡ notes'
-  pub taken_is : IsOneHost new new'
-
--- what is done with what the device gave is determined by it and by the host, but for which of several neighbours of least end makes room
-abbrev pub ReceptionIsDetermined : Type 0
-ReceptionIsDetermined =
-    (r : Reception) (H new new' : Host) (reply reply' : Option Reply) (notes notes' : List Note) →
-    Takes H r reply notes new → Takes H r reply' notes' new' → IsOneReception reply reply' notes notes' new new'
 
 -- the ARP requests and neighbour solicitations among the frames that a run sends are the discovery requests that it notes: none goes unnoted,
 -- and each that is noted goes, at its moment

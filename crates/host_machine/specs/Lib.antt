@@ -45,6 +45,7 @@ pub mod Arrivals
 pub mod Wire
 pub mod TwoHosts
 pub mod Laws
+pub mod Determined
 pub mod Example
 pub mod ExampleAnyIp
 pub mod ExampleSockets

@@ -11,7 +11,8 @@ ghost use Rattle.host_machine.specs.ExamplePolling.{RequestIsPolled, WaitIsDue};
 ghost use Rattle.host_machine.specs.ExampleSockets.{ConfigurationsAreTested, ConnectionIsReset, DatagramIsDelivered, DatagramIsRefused, ProtocolIsRefused, RawSocketHears, SocketWaits, WindowFitsBurst};
 ghost use Rattle.host_machine.specs.Quiet.{SocketsAreQuiet};
 ghost use Rattle.host_machine.specs.Refusals.{RefusalsLoseNothing};
-ghost use Rattle.host_machine.specs.Laws.{DiscoveriesAreNoted, DispatchIsDetermined, DispatchesSendOneThing, FragmentsComeInFrames, IngressIsSingle, MalformedIsDropped, ReceptionIsDetermined, RunsJoin, RunsKeepLaws};
+ghost use Rattle.host_machine.specs.Determined.{DispatchIsDetermined, EgressIsDetermined, IngressIsDetermined, PollIsDetermined, ReceptionIsDetermined, StepIsDetermined};
+ghost use Rattle.host_machine.specs.Laws.{DiscoveriesAreNoted, DispatchesSendOneThing, FragmentsComeInFrames, IngressIsSingle, MalformedIsDropped, RunsJoin, RunsKeepLaws};
 ghost use Rattle.host_machine.specs.Unfolded.{RunsUnfold};
 ghost use Rattle.host_machine.specs.TwoHosts.{PiecesAreRead, RebuildsWhatWasCut};
 ghost use Rattle.host_machine.specs.Wire.{FragmentsArePieces, StaysReal};
@@ -43,6 +44,29 @@ pub fn dispatch_is_determined()
 /// neighbours of least end makes room for a new one.
 pub fn reception_is_determined()
     ensures { ReceptionIsDetermined }
+{}
+
+/// What a call that sends does, each part of its round, is determined by the host and by the leaves that
+/// the device gives.
+pub fn egress_is_determined()
+    ensures { EgressIsDetermined }
+{}
+
+/// What a call that takes a frame does is determined by the host and by what the device gives, unless both
+/// learn a neighbour for which there is no room, and of several that end first another one makes it in each.
+pub fn ingress_is_determined()
+    ensures { IngressIsDetermined }
+{}
+
+/// What a poll does is determined by the host and by what the device answers, up to such a call.
+pub fn poll_is_determined()
+    ensures { PollIsDetermined }
+{}
+
+/// What a step does is determined by the host, the command, what the device answers and what the owner of
+/// the sockets does, up to such a call: what is sent, answered and noted, and the host after it.
+pub fn step_is_determined()
+    ensures { StepIsDetermined }
 {}
 
 /// A call that sends, where the device gives no leave, sends nothing, notes nothing and loses nothing that waits

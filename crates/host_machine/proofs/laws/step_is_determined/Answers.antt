@@ -1,0 +1,5 @@
+use Rattle.host_machine.proofs.OneStep.{step_once}
+use Rattle.host_machine.proofs.laws.step_is_determined.Goals as goal
+
+pub returns : goal.returns
+returns c = step_once

@@ -1,0 +1,158 @@
+-- Laws that the rules say what is done, and leave one thing open: of several neighbours of least end, which makes room for a new one.
+use Rattle.std.specs.Prelude.{◌≡◌, ◌≢◌, ◌⊎◌, ℕ, ◌≤◌, ℤ, Bool, List, [], ◌∷◌, ◌++◌, Option, None}
+use Rattle.std.specs.FinMap as map
+use Rattle.net_base.specs.Device.{Event, Received, Asked, Sent, Reception, leaves}
+use Rattle.ip_address.specs.declared.ip.IpAddress.{IpAddress}
+use Rattle.iface_tables.specs.declared.neighbor.Neighbor.{Neighbor}
+use Rattle.iface_tables.specs.Neighbor.{IsLeastEnd}
+use Rattle.host_machine.specs.declared.results.PollIngressSingleResult.{PollIngressSingleResult}
+use Rattle.host_machine.specs.declared.results.PollIngressSingleResult.TheVariants as ingress
+use Rattle.host_machine.specs.declared.results.PollResult.{PollResult}
+use Rattle.host_machine.specs.declared.command.Command.{Command}
+use Rattle.host_machine.specs.declared.command.Command.TheVariants.{PollIngressSingle, Poll}
+use Rattle.host_machine.specs.declared.command.Answer.{Answer}
+use Rattle.host_machine.specs.Note.{Note}
+use Rattle.host_machine.specs.Host.{Host, at, with_neighbors}
+use Rattle.host_machine.specs.Packet.{Packet}
+use Rattle.host_machine.specs.Reply.{Reply}
+use Rattle.host_machine.specs.Dispatch.{Outcome, Dispatches}
+use Rattle.host_machine.specs.Ingress.{Takes, Ingress}
+use Rattle.host_machine.specs.Egress.{Egress}
+use Rattle.host_machine.specs.Polling.{Repeats, Polls, may_change, maintained}
+use Rattle.host_machine.specs.Step.{Act, Step}
+
+-- A dispatch
+
+-- two dispatches that do the same: what becomes of the packet, what is sent and noted, and the host after it
+pub record IsOneDispatch (one two : Outcome) (frames frames' : List (List ℕ)) (notes notes' : List Note) (new new' : Host) : Type 0 where
+  pub outcome_is : one ≡ two
+  pub frames_are : frames ≡ frames'
+  pub notes_are : notes ≡ notes'
+  pub host_is : new ≡ new'
+
+-- what a dispatch does is determined by its packet and the host: the rules say what may be, and nothing else may
+abbrev pub DispatchIsDetermined : Type 0
+DispatchIsDetermined =
+    (p : Packet) (one two : Outcome) (H new new' : Host) (frames frames' : List (List ℕ)) (notes notes' : List Note) →
+    Dispatches p one H frames notes new → Dispatches p two H frames' notes' new' → IsOneDispatch one two frames frames' notes notes' new new'
+
+-- A reception
+
+-- the host with a neighbour at an address, in the place of another
+abbrev pub in_place_of : IpAddress → IpAddress → Neighbor → Host → Host
+in_place_of other a n H = with_neighbors H (record H.neighbors { known = map.insert (map.remove H.neighbors.known other) a n })
+
+-- two hosts that learnt a neighbour for which there was no room: of two others that ended first, one made room in the one host, and the other in
+-- the other
+pub record OtherMadeRoom (new new' : Host) : Type 0 where
+  pub before : Host
+  pub address : IpAddress
+  pub neighbor : Neighbor
+  pub unknown : map.get before.neighbors.known address ≡ None
+  pub full : 4 ≤ map.len before.neighbors.known
+  pub one : IpAddress
+  pub other : IpAddress
+  pub one_ends_first : IsLeastEnd before.neighbors.known one
+  pub other_ends_first : IsLeastEnd before.neighbors.known other
+  pub apart : one ≢ other
+  pub by_one : new ≡ in_place_of one address neighbor before
+  pub by_other : new' ≡ in_place_of other address neighbor before
+
+-- two receptions that do the same: what is answered and noted, and the host after it, unless another neighbour made room
+pub record IsOneReception (reply reply' : Option Reply) (notes notes' : List Note) (new new' : Host) : Type 0 where
+  pub reply_is : reply ≡ reply'
+  pub noted_is : notes ≡ notes'
+  pub taken_is : (new ≡ new') ⊎ OtherMadeRoom new new'
+
+-- what is done with what the device gave is determined by it and by the host, but for which of several neighbours of least end makes room
+abbrev pub ReceptionIsDetermined : Type 0
+ReceptionIsDetermined =
+    (r : Reception) (H new new' : Host) (reply reply' : Option Reply) (notes notes' : List Note) →
+    Takes H r reply notes new → Takes H r reply' notes' new' → IsOneReception reply reply' notes notes' new new'
+
+-- A call
+
+-- two calls that do the same: what is answered, what the device tells, what is noted, and the host after it
+pub record IsOneCall {A : Type 0} (answer answer' : A) (told told' : List Event) (notes notes' : List Note) (new new' : Host) : Type 0 where
+  pub answer_is : answer ≡ answer'
+  pub told_is : told ≡ told'
+  pub notes_are : notes ≡ notes'
+  pub host_is : new ≡ new'
+
+-- what a call that sends does is determined by the host and by the leaves that the device gives
+abbrev pub EgressIsDetermined : Type 0
+EgressIsDetermined =
+    (t : ℤ) (answer answer' : PollResult) (old new new' : Host) (told told' : List Event) (notes notes' : List Note) →
+    Egress t answer old told notes new → Egress t answer' old told' notes' new' → leaves told ≡ leaves told' →
+    IsOneCall answer answer' told told' notes notes' new new'
+
+-- A call that takes a frame
+
+-- what a device gave when it was asked for frames, in order
+abbrev pub receptions : List Event → List Reception
+receptions [] = []
+receptions (Received t r ∷ es) = r ∷ receptions es
+receptions (Asked t b ∷ es) = receptions es
+receptions (Sent id f ∷ es) = receptions es
+
+-- two calls that took the same and learnt one neighbour, for which another made room in each; the same is noted until then, and the same reply
+-- goes, from the neighbours that each has then
+pub record IngressDiffers (t : ℤ) (old : Host) (told told' : List Event) (notes notes' : List Note) (new new' : Host) : Type 0 where
+  pub answer : PollIngressSingleResult
+  pub one : Ingress t answer old told notes new
+  pub other : Ingress t answer old told' notes' new'
+  pub same_reception : one.reception ≡ other.reception
+  pub same_reply : one.response.reply ≡ other.response.reply
+  pub same_notes : one.response.notes_taking ≡ other.response.notes_taking
+  pub room : OtherMadeRoom one.response.taken other.response.taken
+
+-- what a call that takes a frame does is determined by the host and by what the device gives, but for that
+abbrev pub IngressIsDetermined : Type 0
+IngressIsDetermined =
+    (t : ℤ) (answer answer' : PollIngressSingleResult) (old new new' : Host) (told told' : List Event) (notes notes' : List Note) →
+    Ingress t answer old told notes new → Ingress t answer' old told' notes' new' → receptions told ≡ receptions told' →
+    IsOneCall answer answer' told told' notes notes' new new' ⊎ IngressDiffers t old told told' notes notes' new new'
+
+-- A poll
+
+-- two polls that came to one host by the same calls, and whose next calls differ
+pub record PollsDiffer (t : ℤ) (old : Host) (told told' : List Event) : Type 0 where
+  pub calls : ℕ
+  pub changed : Bool
+  pub told_so : List Event
+  pub notes_so : List Note
+  pub mid : Host  -- to which both came
+  pub so_far : Repeats (Ingress t) ingress.None may_change (maintained (at old t)) calls told_so notes_so mid changed
+  pub next : List Event
+  pub next' : List Event
+  pub notes_next : List Note
+  pub notes_next' : List Note
+  pub new : Host
+  pub new' : Host
+  pub differ : IngressDiffers t mid next next' notes_next notes_next' new new'
+  pub more : List Event
+  pub more' : List Event
+  pub told_is : told ≡ told_so ++ (next ++ more)
+  pub told_is' : told' ≡ told_so ++ (next' ++ more')
+
+-- what a poll does is determined by the host and by what the device gives and which leaves, but for that
+abbrev pub PollIsDetermined : Type 0
+PollIsDetermined =
+    (t : ℤ) (budget : ℕ) (answer answer' : PollResult) (old new new' : Host) (told told' : List Event) (notes notes' : List Note) →
+    Polls t budget answer old told notes new → Polls t budget answer' old told' notes' new' → receptions told ≡ receptions told' → leaves told ≡ leaves told' →
+    IsOneCall answer answer' told told' notes notes' new new' ⊎ PollsDiffer t old told told'
+
+-- A step
+
+-- two steps of a command that differ in that
+pub data StepsDiffer (old new new' : Host) (told told' : List Event) (notes notes' : List Note) : Command → Type 0 where
+  InIngress : {t : ℤ} → IngressDiffers t old told told' notes notes' new new' → StepsDiffer old new new' told told' notes notes' (PollIngressSingle t)
+  InPoll : {t : ℤ} {budget : ℕ} → PollsDiffer t old told told' → StepsDiffer old new new' told told' notes notes' (Poll t budget)
+
+-- what a step does is determined by the host, the command, what the device gives and which leaves, and what the owner of the sockets does, but for that
+abbrev pub StepIsDetermined : Type 0
+StepIsDetermined =
+    (command : Command) (answer answer' : Answer) (old new new' : Host) (told told' : List Event) (acts acts' : List Act) (notes notes' : List Note) →
+    Step command answer old told acts notes new → Step command answer' old told' acts' notes' new' →
+    receptions told ≡ receptions told' → leaves told ≡ leaves told' → acts ≡ acts' →
+    IsOneCall answer answer' told told' notes notes' new new' ⊎ StepsDiffer old new new' told told' notes notes' command
