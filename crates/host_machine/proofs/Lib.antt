@@ -25,6 +25,7 @@ mod OneUntil
 mod OneRound
 mod OneCall
 mod OneStep
+mod OneRun
 pub mod Identified
 pub mod QuietSockets
 pub mod Earlier

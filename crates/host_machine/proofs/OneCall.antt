@@ -13,7 +13,7 @@ use Rattle.host_machine.specs.Frame.{sends}
 use Rattle.host_machine.specs.Response.{Responds}
 use Rattle.host_machine.specs.Ingress.{Ingress, answer_to}
 use Rattle.host_machine.specs.Egress.{Egress, answer_of}
-use Rattle.host_machine.specs.Polling.{may_change, is_changed, maintained}
+use Rattle.host_machine.specs.Polling.{Polls, may_change, is_changed, maintained}
 use Rattle.host_machine.specs.Determined.{OtherMadeRoom, IsOneReception, IsOneCall, IngressDiffers, IngressIsDetermined, PollsDiffer, PollIsDetermined, receptions}
 use Rattle.host_machine.proofs.Determined.{dispatches_once}
 use Rattle.host_machine.proofs.Received.{received_once}
@@ -21,7 +21,7 @@ use Rattle.host_machine.proofs.OnePart.{Splits, split, before, behind, joined}
 use Rattle.host_machine.proofs.OneRound.{leaves-append, egress_on}
 use Rattle.host_machine.proofs.OneUntil.{Parted, parted_on, until_once}
 
-receptions-append : (xs ys : List Event) → receptions (xs ++ ys) ≡ receptions xs ++ receptions ys
+pub receptions-append : (xs ys : List Event) → receptions (xs ++ ys) ≡ receptions xs ++ receptions ys
 receptions-append [] ys = refl
 receptions-append (Received t r ∷ xs) ys = ap (λ rs. r ∷ rs) (receptions-append xs ys)
 receptions-append (Asked t b ∷ xs) ys = receptions-append xs ys
@@ -40,7 +40,7 @@ responds_once (Some (Ip packet)) H {x} {x'} {f} {f'} {n} {n'} r s =
     let one = dispatches_once packet r.0 s.0 H x x' f f' n n' r.1 s.1 in
     record { frames_are = one.frames_are; notes_are = one.notes_are; host_is = one.host_is }
 
-ingress_on : (t : ℤ) (answer answer' : PollIngressSingleResult) (old : Host) (told told' : List Event) (notes notes' : List Note) (new new' : Host) (rest rest' : List Reception) →
+pub ingress_on : (t : ℤ) (answer answer' : PollIngressSingleResult) (old : Host) (told told' : List Event) (notes notes' : List Note) (new new' : Host) (rest rest' : List Reception) →
     Ingress t answer old told notes new → Ingress t answer' old told' notes' new' → receptions told ++ rest ≡ receptions told' ++ rest' →
     IsOneCall answer answer' told told' notes notes' new new' ⊎ IngressDiffers t old told told' notes notes' new new'
 ingress_on t answer answer' old told told' notes notes' new new' rest rest' p q same =
@@ -130,10 +130,12 @@ round_on : (t : ℤ) (answer answer' : PollResult) (old : Host) (told told' : Li
     IsOneCall answer answer' told told' notes notes' new new' ⊎ ⊥
 round_on t answer answer' old told told' notes notes' new new' rest rest' p q same = inl (egress_on t answer answer' old told told' notes notes' new new' rest rest' p q same)
 
-pub poll_once : PollIsDetermined
-poll_once t budget answer answer' old new new' told told' notes notes' p q same_given same_leaves =
-    elim (until_once receptions receptions-append (Ingress t) ingress.None may_change (CallsDiffer t) (calls_flip t) (call_on t) (receptions p.told_sending ++ []) (receptions q.told_sending ++ []) p.receives q.receives
-    (before receptions receptions-append [] [] one other (ap (λ z. z ++ []) same_given))) [
+pub poll_on : (t : ℤ) (budget : ℕ) (answer answer' : PollResult) (old new new' : Host) (told told' : List Event) (notes notes' : List Note) (rest rest' : List Reception) (more more' : List Bool) →
+    Polls t budget answer old told notes new → Polls t budget answer' old told' notes' new' → receptions told ++ rest ≡ receptions told' ++ rest' → leaves told ++ more ≡ leaves told' ++ more' →
+    IsOneCall answer answer' told told' notes notes' new new' ⊎ PollsDiffer t old told told'
+poll_on t budget answer answer' old new new' told told' notes notes' rest rest' more more' p q same_given same_leaves =
+    elim (until_once receptions receptions-append (Ingress t) ingress.None may_change (CallsDiffer t) (calls_flip t) (call_on t) (receptions p.told_sending ++ rest) (receptions q.told_sending ++ rest') p.receives q.receives
+    (before receptions receptions-append rest rest' one other same_given)) [
       | inl so_far ↦ inl (sent so_far)
       | inr parted ↦ inr (differs (parted_on receptions receptions-append (Ingress t) ingress.None may_change (CallsDiffer t) (calls_flip t) (call_on t) one other parted))
     ] where
@@ -145,8 +147,8 @@ poll_once t budget answer answer' old new new' told told' notes notes' p q same_
 
       sent : IsOneCall p.received q.received p.told_receiving q.told_receiving p.notes_receiving q.notes_receiving p.mid q.mid → IsOneCall answer answer' told told' notes notes' new new'
       sent so_far =
-          elim (until_once leaves leaves-append (Egress t) result.None is_changed Never (λ H a b never. never) (round_on t) [] [] p.sends (rw so_far.host_is q.sends)
-          (behind leaves leaves-append [] [] one other so_far.told_is (ap (λ z. z ++ []) same_leaves))) [
+          elim (until_once leaves leaves-append (Egress t) result.None is_changed Never (λ H a b never. never) (round_on t) more more' p.sends (rw so_far.host_is q.sends)
+          (behind leaves leaves-append more more' one other so_far.told_is same_leaves)) [
             | inl gone ↦ record {
               answer_is = p.answers ∙ ap (λ z. answer_of (z || p.went)) so_far.answer_is ∙ ap (λ z. answer_of (q.received || z)) gone.answer_is ∙ sym q.answers;
               told_is = joined one other so_far.told_is gone.told_is;
@@ -176,3 +178,7 @@ poll_once t budget answer answer' old new new' told told' notes notes' p q same_
         told_is = d.told_is;
         told_is' = d.told_is';
       }
+
+pub poll_once : PollIsDetermined
+poll_once t budget answer answer' old new new' told told' notes notes' p q given leave =
+    poll_on t budget answer answer' old new new' told told' notes notes' [] [] [] [] p q (ap (λ z. z ++ []) given) (ap (λ z. z ++ []) leave)

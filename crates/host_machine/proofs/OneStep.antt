@@ -1,8 +1,8 @@
 -- What a step does is determined by the host, the command, what the device answers and what the owner does, but for which neighbour makes room.
-use Rattle.std.proofs.Common.{◌≡◌, ℕ, List, [], ◌∷◌, refl, sym, ◌∙◌, ap, inl, inr, arith, Option, Some, None}
+use Rattle.std.proofs.Common.{◌≡◌, ◌⊎◌, ℕ, List, [], ◌∷◌, ◌++◌, refl, sym, ◌∙◌, ap, inl, inr, arith, Option, Some, None}
 use Rattle.std.proofs.lemmas.Int.{ints}
-use Rattle.std.specs.Prelude.{ℤ, Result}
-use Rattle.net_base.specs.Device.{Event}
+use Rattle.std.specs.Prelude.{ℤ, Bool, Result}
+use Rattle.net_base.specs.Device.{Event, Reception, leaves}
 use Rattle.ip_address.specs.declared.cidr.IpCidr.{IpCidr}
 use Rattle.ip_address.specs.declared.hardware.HardwareAddress.{HardwareAddress}
 use Rattle.ip_address.specs.declared.ip.IpAddress.{IpAddress}
@@ -10,6 +10,8 @@ use Rattle.host_machine.specs.declared.results.AddrError.{AddrError}
 use Rattle.host_machine.specs.declared.results.HardwareError.{HardwareError}
 use Rattle.host_machine.specs.declared.results.MulticastError.{MulticastError}
 use Rattle.host_machine.specs.declared.results.TimeoutError.{TimeoutError}
+use Rattle.host_machine.specs.declared.command.Command.{Command}
+use Rattle.host_machine.specs.declared.command.Answer.{Answer}
 use Rattle.host_machine.specs.declared.command.Answer.TheVariants as answer
 use Rattle.host_machine.specs.Note.{Note}
 use Rattle.host_machine.specs.Host.{Host, SocketSet, at}
@@ -18,9 +20,9 @@ use Rattle.host_machine.specs.Multicast.{JoinsGroup, LeavesGroup}
 use Rattle.host_machine.specs.Due.{Due, IsLeast, IsRest, Never, Passed, Left}
 use Rattle.host_machine.specs.Step.{Act, Step, UpdatesIpAddrs, SetsHardwareAddr, SetsReassemblyTimeout}
 use Rattle.host_machine.specs.Step as step
-use Rattle.host_machine.specs.Determined.{IsOneCall, InIngress, InPoll, StepIsDetermined}
-use Rattle.host_machine.proofs.OneRound.{egress_once}
-use Rattle.host_machine.proofs.OneCall.{ingress_once, poll_once}
+use Rattle.host_machine.specs.Determined.{IsOneCall, StepsDiffer, InIngress, InPoll, StepIsDetermined, receptions}
+use Rattle.host_machine.proofs.OneRound.{egress_on}
+use Rattle.host_machine.proofs.OneCall.{ingress_on, poll_on}
 
 -- the least of a set of instants is one
 least_once : (P : ℤ → Type 0) (a b : Option ℤ) → IsLeast P a → IsLeast P b → a ≡ b
@@ -97,33 +99,57 @@ abbrev left_by : SocketSet → List Act → SocketSet
 left_by sockets [] = sockets
 left_by sockets (act ∷ acts) = act.after
 
-pub step_once : StepIsDetermined
-step_once c a a' old x x' t t' d d' n n' (step.UpdatedIpAddrs u) (step.UpdatedIpAddrs v) given leave act = inl (quiet answer.UpdateIpAddrs (updates_once u v))
-step_once c a a' old x x' t t' d d' n n' (step.PolledIngressSingle {t = m} {result = r} i) (step.PolledIngressSingle {result = r'} j) given leave act =
-    elim (ingress_once m r r' old x x' t t' n n' i j given) [
-      | inl one ↦ inl (named answer.PollIngressSingle one)
+-- two steps that do the same, in which the owner does the same
+pub record IsOneStep (a b : Answer) (t t' : List Event) (d d' : List Act) (n n' : List Note) (x y : Host) : Type 0 where
+  pub call_is : IsOneCall a b t t' n n' x y
+  pub acts_are : d ≡ d'
+
+idle : {a b : Answer} {t t' : List Event} {n n' : List Note} {x y : Host} → IsOneCall a b t t' n n' x y → IsOneStep a b t t' [] [] n n' x y
+idle one = record { call_is = one; acts_are = refl }
+
+-- with what is given, which leaves and what is done behind them
+pub step_on : (command : Command) (answer answer' : Answer) (old new new' : Host) (told told' : List Event) (acts acts' : List Act) (notes notes' : List Note)
+    (rest rest' : List Reception) (more more' : List Bool) (others others' : List Act) → Step command answer old told acts notes new → Step command answer' old told' acts' notes' new' →
+    receptions told ++ rest ≡ receptions told' ++ rest' → leaves told ++ more ≡ leaves told' ++ more' → acts ++ others ≡ acts' ++ others' →
+    IsOneStep answer answer' told told' acts acts' notes notes' new new' ⊎ StepsDiffer old new new' told told' notes notes' command
+step_on c a a' old x x' t t' d d' n n' r r' m m' o o' (step.UpdatedIpAddrs u) (step.UpdatedIpAddrs v) given leave act = inl (idle (quiet answer.UpdateIpAddrs (updates_once u v)))
+step_on c a a' old x x' t t' d d' n n' r r' m m' o o' (step.PolledIngressSingle {t = k} {result = e} i) (step.PolledIngressSingle {result = f} j) given leave act =
+    elim (ingress_on k e f old t t' n n' x x' r r' i j given) [
+      | inl one ↦ inl (idle (named answer.PollIngressSingle one))
       | inr differ ↦ inr (InIngress differ)
     ]
-step_once c a a' old x x' t t' d d' n n' (step.PolledEgress {t = m} {result = r} i) (step.PolledEgress {result = r'} j) given leave act = inl (named answer.PollEgress (egress_once m r r' old x x' t t' n n' i j leave))
-step_once c a a' old x x' t t' d d' n n' (step.Polled {t = m} {budget = b} {result = r} i) (step.Polled {result = r'} j) given leave act =
-    elim (poll_once m b r r' old x x' t t' n n' i j given leave) [
-      | inl one ↦ inl (named answer.Poll one)
+step_on c a a' old x x' t t' d d' n n' r r' m m' o o' (step.PolledEgress {t = k} {result = e} i) (step.PolledEgress {result = f} j) given leave act =
+    inl (idle (named answer.PollEgress (egress_on k e f old t t' n n' x x' m m' i j leave)))
+step_on c a a' old x x' t t' d d' n n' r r' m m' o o' (step.Polled {t = k} {budget = b} {result = e} i) (step.Polled {result = f} j) given leave act =
+    elim (poll_on k b e f old x x' t t' n n' r r' m m' i j given leave) [
+      | inl one ↦ inl (idle (named answer.Poll one))
       | inr differ ↦ inr (InPoll differ)
     ]
-step_once c a a' old x x' t t' d d' n n' step.PolledMaintenance step.PolledMaintenance given leave act = inl same
-step_once c a a' old x x' t t' d d' n n' (step.PolledAt {t = k} {end = e} l) (step.PolledAt {end = f} m) given leave act = inl (quiet answer.PollAt (record { answer_is = least_once (Due (at old k)) e f l m; host_is = refl }))
-step_once c a a' old x x' t t' d d' n n' (step.PolledDelay {t = m} {rest = r} e l s) (step.PolledDelay {rest = r'} f l' s') given leave act =
-    let end : e ≡ f = least_once (Due (at old m)) e f l l' in
-    inl (quiet answer.PollDelay (record { answer_is = rest_once s (rw end s'); host_is = refl }))
-step_once c a a' old x x' t t' d d' n n' step.UpdatedRoutes step.UpdatedRoutes given leave act = inl same
-step_once c a a' old x x' t t' d d' n n' step.AddedDefaultIpv4Route step.AddedDefaultIpv4Route given leave act = inl same
-step_once c a a' old x x' t t' d d' n n' step.RemovedDefaultIpv4Route step.RemovedDefaultIpv4Route given leave act = inl same
-step_once c a a' old x x' t t' d d' n n' step.AddedDefaultIpv6Route step.AddedDefaultIpv6Route given leave act = inl same
-step_once c a a' old x x' t t' d d' n n' step.RemovedDefaultIpv6Route step.RemovedDefaultIpv6Route given leave act = inl same
-step_once c a a' old x x' t t' d d' n n' (step.JoinedGroup j) (step.JoinedGroup k) given leave act = inl (quiet answer.JoinMulticastGroup (joins_once j k))
-step_once c a a' old x x' t t' d d' n n' (step.LeftGroup j) (step.LeftGroup k) given leave act = inl (quiet answer.LeaveMulticastGroup (leaves_once j k))
-step_once c a a' old x x' t t' d d' n n' step.TookAnyIp step.TookAnyIp given leave act = inl same
-step_once c a a' old x x' t t' d d' n n' (step.TookHardwareAddr s) (step.TookHardwareAddr u) given leave act = inl (quiet answer.SetHardwareAddr (hardware_once s u))
-step_once c a a' old x x' t t' d d' n n' (step.TookReassemblyTimeout s) (step.TookReassemblyTimeout u) given leave act = inl (quiet answer.SetReassemblyTimeout (timeout_once s u))
-step_once c a a' old x x' t t' d d' n n' (step.OwnerActed sockets) (step.OwnerActed others) given leave act =
-    inl (record { answer_is = refl; told_is = refl; notes_are = refl; host_is = ap (λ s. record old { sockets = s }) (ap (left_by sockets) act) })
+step_on c a a' old x x' t t' d d' n n' r r' m m' o o' step.PolledMaintenance step.PolledMaintenance given leave act = inl (idle same)
+step_on c a a' old x x' t t' d d' n n' r r' m m' o o' (step.PolledAt {t = k} {end = e} l) (step.PolledAt {end = f} l') given leave act = inl (idle (quiet answer.PollAt (record { answer_is = least_once (Due (at old k)) e f l l'; host_is = refl })))
+step_on c a a' old x x' t t' d d' n n' r r' m m' o o' (step.PolledDelay {t = k} e l s) (step.PolledDelay f l' s') given leave act =
+    let end : e ≡ f = least_once (Due (at old k)) e f l l' in
+    inl (idle (quiet answer.PollDelay (record { answer_is = rest_once s (rw end s'); host_is = refl })))
+step_on c a a' old x x' t t' d d' n n' r r' m m' o o' step.UpdatedRoutes step.UpdatedRoutes given leave act = inl (idle same)
+step_on c a a' old x x' t t' d d' n n' r r' m m' o o' step.AddedDefaultIpv4Route step.AddedDefaultIpv4Route given leave act = inl (idle same)
+step_on c a a' old x x' t t' d d' n n' r r' m m' o o' step.RemovedDefaultIpv4Route step.RemovedDefaultIpv4Route given leave act = inl (idle same)
+step_on c a a' old x x' t t' d d' n n' r r' m m' o o' step.AddedDefaultIpv6Route step.AddedDefaultIpv6Route given leave act = inl (idle same)
+step_on c a a' old x x' t t' d d' n n' r r' m m' o o' step.RemovedDefaultIpv6Route step.RemovedDefaultIpv6Route given leave act = inl (idle same)
+step_on c a a' old x x' t t' d d' n n' r r' m m' o o' (step.JoinedGroup j) (step.JoinedGroup k) given leave act = inl (idle (quiet answer.JoinMulticastGroup (joins_once j k)))
+step_on c a a' old x x' t t' d d' n n' r r' m m' o o' (step.LeftGroup j) (step.LeftGroup k) given leave act = inl (idle (quiet answer.LeaveMulticastGroup (leaves_once j k)))
+step_on c a a' old x x' t t' d d' n n' r r' m m' o o' step.TookAnyIp step.TookAnyIp given leave act = inl (idle same)
+step_on c a a' old x x' t t' d d' n n' r r' m m' o o' (step.TookHardwareAddr s) (step.TookHardwareAddr u) given leave act = inl (idle (quiet answer.SetHardwareAddr (hardware_once s u)))
+step_on c a a' old x x' t t' d d' n n' r r' m m' o o' (step.TookReassemblyTimeout s) (step.TookReassemblyTimeout u) given leave act = inl (idle (quiet answer.SetReassemblyTimeout (timeout_once s u)))
+step_on c a a' old x x' t t' d d' n n' r r' m m' o o' (step.OwnerActed {number = number} sockets) (step.OwnerActed others) given leave act =
+    let sockets_are : sockets ≡ others = ap (left_by sockets) act in
+    inl (record {
+      call_is = record { answer_is = refl; told_is = refl; notes_are = refl; host_is = ap (λ s. record old { sockets = s }) sockets_are };
+      acts_are = ap (λ s. record { number = number; before = old.sockets; after = s } ∷ []) sockets_are;
+    })
+
+pub step_once : StepIsDetermined
+step_once c a a' old x x' t t' d d' n n' p q given leave act =
+    elim (step_on c a a' old x x' t t' d d' n n' [] [] [] [] [] [] p q (ap (λ z. z ++ []) given) (ap (λ z. z ++ []) leave) (ap (λ z. z ++ []) act)) [
+      | inl one ↦ inl one.call_is
+      | inr differ ↦ inr differ
+    ]

@@ -1,6 +1,6 @@
 -- Laws that the rules say what is done, and leave one thing open: of several neighbours of least end, which makes room for a new one.
-use Rattle.std.specs.Prelude.{◌≡◌, ◌≢◌, ◌⊎◌, ℕ, ◌≤◌, ℤ, Bool, List, [], ◌∷◌, ◌++◌, Option, None}
-use Rattle.std.specs.FinMap as map
+use Rattle.std.specs.Prelude.{◌≡◌, ◌≢◌, ◌⊎◌, ℕ, ◌≤◌, ℤ, Bool, List, [], ◌∷◌, ◌++◌, map, Option, None}
+use Rattle.std.specs.FinMap as finite
 use Rattle.net_base.specs.Device.{Event, Received, Asked, Sent, Reception, leaves}
 use Rattle.ip_address.specs.declared.ip.IpAddress.{IpAddress}
 use Rattle.iface_tables.specs.declared.neighbor.Neighbor.{Neighbor}
@@ -20,6 +20,7 @@ use Rattle.host_machine.specs.Ingress.{Takes, Ingress}
 use Rattle.host_machine.specs.Egress.{Egress}
 use Rattle.host_machine.specs.Polling.{Repeats, Polls, may_change, maintained}
 use Rattle.host_machine.specs.Step.{Act, Step}
+use Rattle.host_machine.specs.Run.{Place, Run, told_in, acts_in}
 
 -- A dispatch
 
@@ -40,7 +41,7 @@ DispatchIsDetermined =
 
 -- the host with a neighbour at an address, in the place of another
 abbrev pub in_place_of : IpAddress → IpAddress → Neighbor → Host → Host
-in_place_of other a n H = with_neighbors H (record H.neighbors { known = map.insert (map.remove H.neighbors.known other) a n })
+in_place_of other a n H = with_neighbors H (record H.neighbors { known = finite.insert (finite.remove H.neighbors.known other) a n })
 
 -- two hosts that learnt a neighbour for which there was no room: of two others that ended first, one made room in the one host, and the other in
 -- the other
@@ -48,8 +49,8 @@ pub record OtherMadeRoom (new new' : Host) : Type 0 where
   pub before : Host
   pub address : IpAddress
   pub neighbor : Neighbor
-  pub unknown : map.get before.neighbors.known address ≡ None
-  pub full : 4 ≤ map.len before.neighbors.known
+  pub unknown : finite.get before.neighbors.known address ≡ None
+  pub full : 4 ≤ finite.len before.neighbors.known
   pub one : IpAddress
   pub other : IpAddress
   pub one_ends_first : IsLeastEnd before.neighbors.known one
@@ -156,3 +157,19 @@ StepIsDetermined =
     Step command answer old told acts notes new → Step command answer' old told' acts' notes' new' →
     receptions told ≡ receptions told' → leaves told ≡ leaves told' → acts ≡ acts' →
     IsOneCall answer answer' told told' notes notes' new new' ⊎ StepsDiffer old new new' told told' notes notes' command
+
+-- A run
+
+-- places of two runs that are one up to some, at which the steps differ
+pub data PlacesDiffer : List Place → List Place → Type 0 where
+  Here : {p q : Place} {ps qs : List Place} → p.command ≡ q.command → p.before ≡ q.before →
+      StepsDiffer p.before p.after q.after p.told q.told p.notes q.notes p.command → PlacesDiffer (p ∷ ps) (q ∷ qs)
+  Behind : {p q : Place} {ps qs : List Place} → p ≡ q → PlacesDiffer ps qs → PlacesDiffer (p ∷ ps) (q ∷ qs)
+
+-- what a run does is determined by the host, the commands, all that the device gives and all its leaves, and all that the owner does, but for that
+abbrev pub RunIsDetermined : Type 0
+RunIsDetermined =
+    (first last last' : Host) (places places' : List Place) → Run first places last → Run first places' last' →
+    map (λ p. p.command) places ≡ map (λ p. p.command) places' → receptions (told_in places) ≡ receptions (told_in places') →
+    leaves (told_in places) ≡ leaves (told_in places') → acts_in places ≡ acts_in places' →
+    ((places ≡ places') × (last ≡ last')) ⊎ PlacesDiffer places places'

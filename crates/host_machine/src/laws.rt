@@ -11,7 +11,7 @@ ghost use Rattle.host_machine.specs.ExamplePolling.{RequestIsPolled, WaitIsDue};
 ghost use Rattle.host_machine.specs.ExampleSockets.{ConfigurationsAreTested, ConnectionIsReset, DatagramIsDelivered, DatagramIsRefused, ProtocolIsRefused, RawSocketHears, SocketWaits, WindowFitsBurst};
 ghost use Rattle.host_machine.specs.Quiet.{SocketsAreQuiet};
 ghost use Rattle.host_machine.specs.Refusals.{RefusalsLoseNothing};
-ghost use Rattle.host_machine.specs.Determined.{DispatchIsDetermined, EgressIsDetermined, IngressIsDetermined, PollIsDetermined, ReceptionIsDetermined, StepIsDetermined};
+ghost use Rattle.host_machine.specs.Determined.{DispatchIsDetermined, EgressIsDetermined, IngressIsDetermined, PollIsDetermined, ReceptionIsDetermined, RunIsDetermined, StepIsDetermined};
 ghost use Rattle.host_machine.specs.Laws.{DiscoveriesAreNoted, DispatchesSendOneThing, FragmentsComeInFrames, IngressIsSingle, MalformedIsDropped, RunsJoin, RunsKeepLaws};
 ghost use Rattle.host_machine.specs.Unfolded.{RunsUnfold};
 ghost use Rattle.host_machine.specs.TwoHosts.{PiecesAreRead, RebuildsWhatWasCut};
@@ -67,6 +67,12 @@ pub fn poll_is_determined()
 /// the sockets does, up to such a call: what is sent, answered and noted, and the host after it.
 pub fn step_is_determined()
     ensures { StepIsDetermined }
+{}
+
+/// And so what a run does is determined by the host, its commands, all that the device answers and all
+/// that the owner does, up to such a call.
+pub fn run_is_determined()
+    ensures { RunIsDetermined }
 {}
 
 /// A call that sends, where the device gives no leave, sends nothing, notes nothing and loses nothing that waits

@@ -1,0 +1,5 @@
+use Rattle.host_machine.proofs.OneRun.{run_once}
+use Rattle.host_machine.proofs.laws.run_is_determined.Goals as goal
+
+pub returns : goal.returns
+returns c = run_once
