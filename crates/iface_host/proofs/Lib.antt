@@ -1,0 +1,3 @@
+mod Handled
+pub mod Places
+mod Ruled

@@ -1,0 +1,62 @@
+-- What the calls of a host do to the machine's host: addresses, groups and routes.
+use Rattle.std.specs.Prelude.{◌≡◌, ◌==◌, ◌&&◌, Bool, false, List, [], ◌∷◌, ◌++◌, Ok, None}
+use Rattle.std.specs.List.{position_or_len, remove}
+use Rattle.ip_address.specs.declared.cidr.IpCidr.{IpCidr}
+use Rattle.ip_address.specs.declared.cidr.IpCidr.TheVariants as cidr
+use Rattle.ip_address.specs.declared.ip.IpAddress.{IpAddress}
+use Rattle.ip_address.specs.declared.ip.IpAddress.TheVariants as address
+use Rattle.iface_tables.specs.declared.route.Route.{Route}
+use Rattle.iface_tables.specs.Route.{ipv4_gateway, ipv6_gateway, is_ipv4_gateway, is_ipv6_gateway, with_default}
+use Rattle.host_machine.specs.Host.{Host as Machine, no_sockets}
+use Rattle.host_machine.specs.Multicast as machine
+use Rattle.host_machine.specs.Step.{UpdatesIpAddrs}
+use Rattle.interface.specs.Stands.{host_with}
+use Rattle.iface_host.specs.declared.host.Host.{Host}
+
+-- one network: the same address, and a prefix of the same length
+abbrev pub is_same : IpCidr → IpCidr → Bool
+is_same (cidr.Ipv4 a) (cidr.Ipv4 b) = (a.address.bits == b.address.bits) && (a.prefix_len == b.prefix_len)
+is_same (cidr.Ipv4 a) (cidr.Ipv6 b) = false
+is_same (cidr.Ipv6 a) (cidr.Ipv4 b) = false
+is_same (cidr.Ipv6 a) (cidr.Ipv6 b) = (a.address.bits == b.address.bits) && (a.prefix_len == b.prefix_len)
+
+-- its own addresses, with their networks
+abbrev pub addresses_of : Host → List IpCidr
+addresses_of host = (host_with host.interface no_sockets).ip_addrs
+
+-- an address comes behind the others
+abbrev pub AddsAddress : IpCidr → Machine → Machine → Type 0
+AddsAddress added H = UpdatesIpAddrs (H.ip_addrs ++ added ∷ []) (Ok tt) H
+
+-- the first address with a network is gone
+abbrev pub RemovesAddress : IpCidr → Machine → Machine → Type 0
+RemovesAddress gone H = UpdatesIpAddrs (remove H.ip_addrs (position_or_len (is_same gone) H.ip_addrs)) (Ok tt) H
+
+abbrev pub JoinsGroup : IpAddress → Machine → Machine → Type 0
+JoinsGroup group = machine.JoinsGroup group (Ok tt)
+
+abbrev pub LeavesGroup : IpAddress → Machine → Machine → Type 0
+LeavesGroup group = machine.LeavesGroup group (Ok tt)
+
+-- the routes with a default route by a gateway
+abbrev pub defaulted : IpAddress → List Route → List Route
+defaulted (address.Ipv4 gateway) routes = with_default is_ipv4_gateway routes (ipv4_gateway gateway)
+defaulted (address.Ipv6 gateway) routes = with_default is_ipv6_gateway routes (ipv6_gateway gateway)
+
+abbrev pub SetsDefault : IpAddress → Machine → Machine → Type 0
+SetsDefault gateway H H' = H' ≡ record H { routes = defaulted gateway H.routes }
+
+-- a route to a network, for good
+abbrev pub route_to : IpCidr → IpAddress → Route
+route_to network router = record { cidr = network; via_router = router; preferred_until = None; expires_at = None }
+
+-- a route comes behind the others
+abbrev pub AddsRoute : IpCidr → IpAddress → Machine → Machine → Type 0
+AddsRoute network router H H' = H' ≡ record H { routes = H.routes ++ route_to network router ∷ [] }
+
+-- the first route to a network is gone
+abbrev pub is_to : IpCidr → Route → Bool
+is_to network route = is_same network route.cidr
+
+abbrev pub RemovesRoute : IpCidr → Machine → Machine → Type 0
+RemovesRoute network H H' = H' ≡ record H { routes = remove H.routes (position_or_len (is_to network) H.routes) }

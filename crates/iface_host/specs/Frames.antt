@@ -1,0 +1,42 @@
+-- Frames that are taken and handed over, and the instant of the next poll.
+use Rattle.std.specs.Prelude.{ℕ, ℤ, ◌≡◌, ◌≢◌, pos, true, List, [], length, take, drop, Option, Some, None}
+use Rattle.host_machine.specs.declared.results.PollResult.{PollResult}
+use Rattle.host_machine.specs.Due.{Due, IsLeast}
+use Rattle.host_machine.specs.Host.{Host as Machine, at}
+use Rattle.host_machine.specs.Polling.{Polls}
+use Rattle.interface.specs.Goes.{Goes}
+use Rattle.interface.specs.Receives.{ReceivesFrame}
+use Rattle.iface_host.specs.Outbox.{HandsFirst, Tells, with_room}
+use Rattle.iface_host.specs.Stands.{StandsFor}
+use Rattle.iface_host.specs.declared.host.Host.{Host}
+
+-- a frame, if there is one, of so many octets was written to the front of a buffer
+abbrev pub IsWritten : Option (List ℕ) → ℕ → List ℕ → List ℕ → Type 0
+IsWritten None n before after = (n ≡ 0) × (after ≡ before)
+IsWritten (Some frame) n before after = (n ≡ length frame) × (take n after ≡ frame) × (drop n after ≡ drop n before)
+
+-- the machine takes a frame, and the frame that it sends, if there is one, is written
+pub record Receives (t : ℤ) (frame : List ℕ) (n : ℕ) (before after : List ℕ) (old new : Host) : Type 0 where
+  pub shown : Option (List ℕ)
+  pub written : IsWritten shown n before after
+  pub received : ReceivesFrame t frame shown (StandsFor old) (StandsFor new)
+  pub rest : new ≡ record old { interface = new.interface; sockets = new.sockets }
+
+-- the machine polls, by one call of each kind, with room for one frame reserved: what it sends waits behind what waited
+pub record Round (t : ℤ) (old new : Host) : Type 0 where
+  pub answer : PollResult
+  pub went : Goes Tells (with_room true old.outbox) new.outbox (Polls t 1 answer) (StandsFor old) (StandsFor new)
+  pub rest : new ≡ record old { interface = new.interface; sockets = new.sockets; outbox = new.outbox }
+
+-- the first frame that waits is handed over; where none waits, a round is made before
+pub data NextIs (t : ℤ) (n : ℕ) (before after : List ℕ) (old new : Host) : Type 0 where
+  Waited : old.outbox.frames ≢ [] → HandsFirst old.outbox n before after new.outbox → new ≡ record old { outbox = new.outbox } → NextIs t n before after old new
+  Made : (mid : Host) → old.outbox.frames ≡ [] → Round t old mid → HandsFirst mid.outbox n before after new.outbox → new ≡ record mid { outbox = new.outbox } →
+      NextIs t n before after old new
+
+-- the least instant at which something of the machine is due, at the moment that is set; 0 where a frame waits
+pub record IsDue (t : ℤ) (due : Option ℤ) (old new : Host) : Type 0 where
+  pub led : (H : Machine) → StandsFor old H → StandsFor new (at H t)
+  pub least : old.outbox.frames ≡ [] → (H : Machine) → StandsFor old H → IsLeast (Due (at H t)) due
+  pub at_once : old.outbox.frames ≢ [] → due ≡ Some (pos 0)
+  pub rest : new ≡ record old { interface = new.interface }

@@ -1,0 +1,33 @@
+-- The frames that were sent and wait to be handed over.
+use Rattle.std.specs.Prelude.{ℕ, ◌≡◌, Bool, List, [], ◌∷◌, ◌++◌, length, take, drop}
+use Rattle.net_base.specs.declared.phy.DeviceCapabilities.{DeviceCapabilities}
+use Rattle.net_base.specs.Device.{Event, raised, refusals_after, sent}
+
+-- what the device can do, the frames that wait, how often leave was refused, and whether room for one more frame is reserved
+pub record Waiting : Type 0 where
+  pub capabilities : DeviceCapabilities
+  pub frames : List (List ℕ)
+  pub refusals : ℕ
+  pub has_room : Bool
+
+abbrev pub with_room : Bool → Waiting → Waiting
+with_room room o = record o { has_room = room }
+
+abbrev pub counted : Waiting → Waiting
+counted o = record o { refusals = raised o.refusals }
+
+-- the frames sent come behind those that wait, and refused leaves are counted
+pub record Tells (old : Waiting) (events : List Event) (new : Waiting) : Type 0 where
+  pub capabilities : new.capabilities ≡ old.capabilities
+  pub frames : new.frames ≡ old.frames ++ sent events
+  pub refusals : new.refusals ≡ refusals_after old.refusals events
+
+-- the first of some frames, of so many octets, was written to the front of a buffer, and the others are left; where there is none, nothing
+abbrev pub IsFirst : List (List ℕ) → ℕ → List ℕ → List ℕ → List (List ℕ) → Type 0
+IsFirst [] n before after rest = (n ≡ 0) × (after ≡ before) × (rest ≡ [])
+IsFirst (frame ∷ frames) n before after rest = (n ≡ length frame) × (take n after ≡ frame) × (drop n after ≡ drop n before) × (rest ≡ frames)
+
+-- the first frame that waits was handed over
+pub record HandsFirst (old : Waiting) (n : ℕ) (before after : List ℕ) (new : Waiting) : Type 0 where
+  pub first : IsFirst old.frames n before after new.frames
+  pub rest : new ≡ record old { frames = new.frames }

@@ -1,0 +1,76 @@
+-- Why calls on sockets are refused: the first of the reasons that holds, in their order.
+use Rattle.std.specs.Prelude.{ℕ, ◌≡◌, ◌+◌, ◌==◌, ◌&&◌, nat_le, nat_lt, max, Bool, is_some, List, length, Option, Some, None, if◌then◌else◌}
+use Rattle.std.specs.Option.{option_and_then}
+use Rattle.ip_address.specs.Ip.{is_unspecified}
+use Rattle.ip_address.specs.Protocol.{version_of}
+use Rattle.ip_address.specs.declared.ip.IpAddress.{IpAddress}
+use Rattle.ip_address.specs.declared.protocol.IpVersion.{IpVersion}
+use Rattle.ip_address.specs.declared.protocol.IpVersion.TheVariants.{Ipv4, Ipv6}
+use Rattle.network_sockets.specs.Icmp.{IcmpSocket}
+use Rattle.network_sockets.specs.Raw.{RawSocket}
+use Rattle.socket_base.specs.declared.endpoint.IpEndpoint.{IpEndpoint}
+use Rattle.socket_base.specs.Queue.{first_of, is_room}
+use Rattle.sockets.specs.Kinds.{down_icmp, down_raw, down_udp}
+use Rattle.socket_set.specs.SocketSet.{socket_at}
+use Rattle.transport_sockets.specs.Udp.{UdpSocket}
+use Rattle.iface_host.specs.Names.{named}
+use Rattle.iface_host.specs.Sockets.{Socket}
+use Rattle.iface_host.specs.declared.host.Host.{Host}
+use Rattle.iface_host.specs.declared.refusal.Refusal.{Refusal}
+use Rattle.iface_host.specs.declared.refusal.Refusal.TheVariants.{BadAddress, BadPort, Empty, NoMemory, NoRoom, NoSocket, QueueFull, TableFull, TooLong}
+
+-- the socket of a kind that a number names, if it names one
+abbrev pub kind_at : {S : Type 0} → (Socket → Option S) → Host → ℕ → Option S
+kind_at down host n = option_and_then down (option_and_then (socket_at host.sockets) (named host.names n))
+
+-- without a socket the number is refused
+abbrev pub of_socket : {S : Type 0} → (S → Option Refusal) → Option S → Option Refusal
+of_socket why None = Some NoSocket
+of_socket why (Some s) = why s
+
+-- no packet came, or the room is too short for the first one
+abbrev pub of_packet : {M : Type 0} → ℕ → Option (M × List ℕ) → Option Refusal
+of_packet room None = Some Empty
+of_packet room (Some p) = if nat_lt room (length p.1) then Some NoRoom else None
+
+abbrev pub udp_unreceived : Host → ℕ → ℕ → Option Refusal
+udp_unreceived host n room = of_socket (λ (s : UdpSocket). of_packet room (first_of s.rx.packets)) (kind_at down_udp host n)
+
+abbrev pub icmp_unreceived : Host → ℕ → ℕ → Option Refusal
+icmp_unreceived host n room = of_socket (λ (s : IcmpSocket). of_packet room (first_of s.rx.packets)) (kind_at down_icmp host n)
+
+abbrev pub raw_unreceived : Host → ℕ → ℕ → Option Refusal
+raw_unreceived host n room = of_socket (λ (s : RawSocket). of_packet room (first_of s.rx.packets)) (kind_at down_raw host n)
+
+-- a payload of so many octets behind a header of so many isn't too long to be sent in a packet of a version: over IPv4 it may go in pieces
+abbrev pub may_send : ℕ → IpVersion → ℕ → ℕ → Bool
+may_send mtu Ipv4 header len = nat_le len 65495 && nat_le (len + header + 20) (max mtu 4096)
+may_send mtu Ipv6 header len = nat_le len 65495 && nat_le (len + header + 40) mtu
+
+abbrev pub if_full : Bool → Option Refusal
+if_full is_room = if is_room then None else Some QueueFull
+
+abbrev pub raw_unsent : Host → ℕ → ℕ → Option Refusal
+raw_unsent host n len = of_socket (λ (s : RawSocket). if_full (is_room s.tx len)) (kind_at down_raw host n)
+
+abbrev pub icmp_unsent : Host → ℕ → IpAddress → ℕ → Option Refusal
+icmp_unsent host n remote len =
+    if is_unspecified remote then Some BadAddress
+    else (if may_send host.ip_mtu (version_of remote) 0 len then of_socket (λ (s : IcmpSocket). if_full (is_room s.tx len)) (kind_at down_icmp host n) else Some TooLong)
+
+abbrev pub udp_unsent : Host → ℕ → IpEndpoint → ℕ → Option Refusal
+udp_unsent host n remote len =
+    if remote.port == 0 then Some BadPort
+    else (if is_unspecified remote.addr then Some BadAddress
+    else (if may_send host.ip_mtu (version_of remote.addr) 8 len
+    then of_socket (λ (s : UdpSocket). if s.endpoint.port == 0 then Some BadPort else if_full (is_room s.tx len)) (kind_at down_udp host n)
+    else Some TooLong))
+
+-- no socket, of whatever kind, is named
+abbrev pub unclosed : Host → ℕ → Option Refusal
+unclosed host n = if is_some (option_and_then (socket_at host.sockets) (named host.names n)) then None else Some NoSocket
+
+-- a socket found no memory for its queues, or no number
+pub data IsForRoom (refusal : Refusal) : Type 0 where
+  ForMemory : refusal ≡ NoMemory → IsForRoom refusal
+  ForNumbers : refusal ≡ TableFull → IsForRoom refusal

@@ -1,0 +1,102 @@
+-- Sockets by their numbers: how they are opened and closed, and what they send and receive.
+use Rattle.std.specs.Prelude.{ℕ, ◌≡◌, true, List, [], length, take, slice_set, Option, Some, None, IsSome}
+use Rattle.std.specs.Borrow.{Bor}
+use Rattle.ip_address.specs.declared.ip.IpAddress.{IpAddress}
+use Rattle.ip_address.specs.declared.protocol.IpProtocol.{IpProtocol}
+use Rattle.ip_address.specs.declared.protocol.IpVersion.{IpVersion}
+use Rattle.socket_base.specs.declared.endpoint.IpEndpoint.{IpEndpoint}
+use Rattle.socket_base.specs.declared.endpoint.IpListenEndpoint.{IpListenEndpoint}
+use Rattle.socket_base.specs.Queue.{Queued, first_of, is_room}
+use Rattle.network_sockets.specs.declared.icmp.Endpoint.{Endpoint}
+use Rattle.network_sockets.specs.Icmp as icmps
+use Rattle.network_sockets.specs.Raw as raws
+use Rattle.transport_sockets.specs.Udp as udps
+use Rattle.sockets.specs.declared.socket.SocketOf.{SocketOf}
+use Rattle.sockets.specs.declared.socket.SocketOf.TheVariants.{Raw, Icmp, Udp}
+use Rattle.socket_set.specs.SocketSet.{added, first_free, socket_at, with_place}
+use Rattle.iface_host.specs.Names.{first_unused, named}
+use Rattle.iface_host.specs.declared.host.Host.{Host}
+use Rattle.iface_host.specs.declared.opening.Room.{Room}
+
+-- a socket of a host
+abbrev pub Socket : Type 0
+Socket = SocketOf (Bor (Unit {0}))
+
+-- an empty queue that holds so much
+abbrev pub queue_of : {M : Type 0} → Room → Queued M
+queue_of room = record { packets = []; most = room.packets; limit = room.octets }
+
+-- sockets that were just made
+abbrev pub udp : IpListenEndpoint → Room → Socket
+udp local room = Udp (record { endpoint = local; hop_limit = 64; rx = queue_of room; tx = queue_of room })
+
+abbrev pub raw : IpVersion → IpProtocol → Room → Socket
+raw version protocol room = Raw (record { version = version; protocol = protocol; rx = queue_of room; tx = queue_of room })
+
+abbrev pub icmp : Endpoint → Room → Socket
+icmp endpoint room = Icmp (record { endpoint = endpoint; hop_limit = 64; rx = queue_of room; tx = queue_of room })
+
+-- a socket is added, and the least number that named none names it
+pub record Opens (socket : Socket) (n : ℕ) (old new : Host) : Type 0 where
+  pub unused : first_unused old.names ≡ Some n
+  pub after : new ≡ record old { sockets = added old.sockets socket; names = slice_set old.names n (Some (first_free old.sockets.places)) }
+
+-- the host with this at a place of its sockets
+abbrev pub with_socket : Host → ℕ → Option Socket → Host
+with_socket host handle socket = record host { sockets = with_place host.sockets handle socket }
+
+-- a number names this socket
+pub record Names (n : ℕ) (host : Host) (handle : ℕ) (socket : Socket) : Type 0 where
+  pub is_named : named host.names n ≡ Some handle
+  pub is_there : socket_at host.sockets handle ≡ Some socket
+
+-- the socket of a number is dropped, and the number names none
+pub record Closes (n : ℕ) (old new : Host) : Type 0 where
+  pub handle : ℕ
+  pub is_named : named old.names n ≡ Some handle
+  pub is_there : IsSome (socket_at old.sockets handle)
+  pub after : new ≡ record (with_socket old handle None) { names = slice_set old.names n None }
+
+-- a packet is queued, for which there is room
+pub record SendsUdp (n : ℕ) (remote : IpEndpoint) (payload : List ℕ) (old new : Host) : Type 0 where
+  pub handle : ℕ
+  pub socket : udps.UdpSocket
+  pub names : Names n old handle (Udp socket)
+  pub room : is_room socket.tx (length payload) ≡ true
+  pub after : new ≡ with_socket old handle (Some (Udp (udps.queued remote payload socket)))
+
+pub record SendsIcmp (n : ℕ) (remote : IpAddress) (message : List ℕ) (old new : Host) : Type 0 where
+  pub handle : ℕ
+  pub socket : icmps.IcmpSocket
+  pub names : Names n old handle (Icmp socket)
+  pub room : is_room socket.tx (length message) ≡ true
+  pub after : new ≡ with_socket old handle (Some (Icmp (icmps.queued remote message socket)))
+
+pub record SendsRaw (n : ℕ) (packet : List ℕ) (old new : Host) : Type 0 where
+  pub handle : ℕ
+  pub socket : raws.RawSocket
+  pub names : Names n old handle (Raw socket)
+  pub room : is_room socket.tx (length packet) ≡ true
+  pub after : new ≡ with_socket old handle (Some (Raw (raws.queued packet socket)))
+
+-- the first packet that came is read: it stands in the front of a buffer
+pub record ReceivesUdp (n : ℕ) (remote : IpEndpoint) (len : ℕ) (out : List ℕ) (old new : Host) : Type 0 where
+  pub handle : ℕ
+  pub socket : udps.UdpSocket
+  pub names : Names n old handle (Udp socket)
+  pub first : first_of socket.rx.packets ≡ Some (remote, take len out)
+  pub after : new ≡ with_socket old handle (Some (Udp (udps.read socket)))
+
+pub record ReceivesIcmp (n : ℕ) (remote : IpAddress) (len : ℕ) (out : List ℕ) (old new : Host) : Type 0 where
+  pub handle : ℕ
+  pub socket : icmps.IcmpSocket
+  pub names : Names n old handle (Icmp socket)
+  pub first : first_of socket.rx.packets ≡ Some (remote, take len out)
+  pub after : new ≡ with_socket old handle (Some (Icmp (icmps.read socket)))
+
+pub record ReceivesRaw (n : ℕ) (len : ℕ) (out : List ℕ) (old new : Host) : Type 0 where
+  pub handle : ℕ
+  pub socket : raws.RawSocket
+  pub names : Names n old handle (Raw socket)
+  pub first : first_of socket.rx.packets ≡ Some (tt, take len out)
+  pub after : new ≡ with_socket old handle (Some (Raw (raws.read socket)))

@@ -1,0 +1,38 @@
+-- Which host of the machine a host stands for.
+use Rattle.std.specs.Prelude.{◌≡◌, [], None, pos}
+use Rattle.host_machine.specs.Config.{first_host}
+use Rattle.host_machine.specs.Host.{Host as Machine}
+use Rattle.ip_address.specs.Hardware.{medium_of}
+use Rattle.net_base.specs.declared.phy.Checksum.TheVariants.{Both}
+use Rattle.net_base.specs.declared.phy.DeviceCapabilities.{DeviceCapabilities}
+use Rattle.interface.specs.Stands as interface
+use Rattle.interface.specs.Stands.{Led}
+use Rattle.iface_host.specs.declared.host.Host.{Host}
+use Rattle.iface_host.specs.declared.host.Settings.{Settings}
+
+-- its interface with its sockets stands for it
+abbrev pub StandsFor : Host → Machine → Type 0
+StandsFor host H = interface.StandsFor host.interface host.sockets H
+
+-- what its link can do: all checksums are computed here
+abbrev pub capabilities_of : Settings → DeviceCapabilities
+capabilities_of s = record {
+  medium = medium_of s.hardware_addr;
+  max_transmission_unit = s.frame_len;
+  max_burst_size = None;
+  checksum = record { ipv4 = Both; udp = Both; tcp = Both; icmpv4 = Both; icmpv6 = Both };
+}
+
+-- it was just made: no frame waits, and it stands for the machine's first host at moment 0, with its sockets
+pub record IsFirst (s : Settings) (host : Host) : Type 0 where
+  pub stands : StandsFor host (first_host (capabilities_of s) s.hardware_addr s.random_seed s.slaac (pos 0) host.sockets)
+  pub frames : host.outbox.frames ≡ []
+
+-- nothing but the interface changed, and by a rule: from each host that it stood for, the rule leads to one that it stands for
+pub record Follows (Rule : Machine → Machine → Type 0) (old new : Host) : Type 0 where
+  pub led : (H : Machine) → StandsFor old H → Led Rule H (StandsFor new)
+  pub rest : new ≡ record old { interface = new.interface }
+
+-- nothing changed
+abbrev pub Stays : Host → Host → Type 0
+Stays = Follows (λ H H'. H' ≡ H)

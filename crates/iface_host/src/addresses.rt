@@ -1,0 +1,136 @@
+//! The addresses of a host, and the groups that it joins.
+ghost use Rattle.std.specs.Prelude.{◌≡◌, IfSome, OnOk, OnErr, slice_get};
+ghost use Rattle.host_machine.specs.Step.{UpdatesIpAddrs};
+ghost use Rattle.interface.specs.Stands as stands;
+ghost use Rattle.std.specs.List.{position_or_len};
+ghost use Rattle.iface_host.specs.Calls.{is_same, AddsAddress, JoinsGroup, LeavesGroup, RemovesAddress, addresses_of};
+ghost use Rattle.iface_host.specs.Stands.{Follows, Stays};
+
+use crate::host::Host;
+use crate::refusal::Refusal;
+use arrayvec::ArrayVec;
+use host_machine::{AddrError, MulticastError};
+use interface::Interface;
+use ip_wire::{IpAddress, IpCidr};
+
+impl Host {
+    /// Adds an own address with its network, behind the others, and forgets all neighbours. `TableFull` if
+    /// four are there, else `NotUnicast` if it is neither unicast nor unspecified.
+    pub fn add_address(&mut self, cidr: IpCidr) -> Result<(), Refusal>
+        ensures added { OnOk result (Follows (AddsAddress cidr) self.old self.new) }
+        ensures refused { OnErr result (Stays self.old self.new) }
+    {
+        let Some(mut list) = copied(self.interface.ip_addrs()) else {
+            return Err(Refusal::TableFull);
+        };
+        if list.try_push(cidr).is_err() {
+            return Err(Refusal::TableFull);
+        }
+        match put_addresses(&mut self.interface, list) {
+            Ok(()) => Ok(()),
+            Err(_) => Err(Refusal::NotUnicast),
+        }
+    }
+
+    /// Takes out the first own address with this network, and forgets all neighbours. `NotThere` if there is
+    /// none.
+    pub fn remove_address(&mut self, cidr: IpCidr) -> Result<(), Refusal>
+        ensures removed { OnOk result (Follows (RemovesAddress cidr) self.old self.new) }
+        ensures refused { OnErr result (Stays self.old self.new) }
+    {
+        let Some(mut list) = copied(self.interface.ip_addrs()) else {
+            return Err(Refusal::NotThere);
+        };
+        let place = place_of(list.as_slice(), &cidr);
+        if place >= list.len() {
+            return Err(Refusal::NotThere);
+        }
+        let _ = list.remove(place);
+        match put_addresses(&mut self.interface, list) {
+            Ok(()) => Ok(()),
+            Err(_) => Err(Refusal::NotUnicast),
+        }
+    }
+
+    /// The own address at a place of their list, if there is one: at most four stand there, those that came from
+    /// routers too.
+    pub fn address_at(&self, place: usize) -> Option<IpCidr>
+        ensures { result ≡ slice_get (addresses_of self.now) place }
+    {
+        cidr_at(self.interface.ip_addrs(), place)
+    }
+
+    /// Joins a group. `BadAddress` if it is no group's address, else `TableFull` if the host isn't in
+    /// it and eight other groups are there.
+    pub fn join_group(&mut self, group: IpAddress) -> Result<(), Refusal>
+        ensures joined { OnOk result (Follows (JoinsGroup group) self.old self.new) }
+        ensures refused { OnErr result (Stays self.old self.new) }
+    {
+        match self.interface.join_multicast_group(group) {
+            Ok(()) => Ok(()),
+            Err(MulticastError::Unaddressable) => Err(Refusal::BadAddress),
+            Err(MulticastError::GroupTableFull) => Err(Refusal::TableFull),
+        }
+    }
+
+    /// Leaves a group, if the host is in it. `BadAddress` if it is no group's address.
+    pub fn leave_group(&mut self, group: IpAddress) -> Result<(), Refusal>
+        ensures left { OnOk result (Follows (LeavesGroup group) self.old self.new) }
+        ensures refused { OnErr result (Stays self.old self.new) }
+    {
+        match self.interface.leave_multicast_group(group) {
+            Ok(()) => Ok(()),
+            Err(_) => Err(Refusal::BadAddress),
+        }
+    }
+}
+
+/// Whether two networks are one: the same address, and a prefix of the same length.
+pub(crate) fn is_same_cidr(a: &IpCidr, b: &IpCidr) -> bool
+    ensures { result ≡ is_same a.now b.now }
+{
+    match (a, b) {
+        (IpCidr::Ipv4(a), IpCidr::Ipv4(b)) => a.address.bits == b.address.bits
+            && a.prefix_len == b.prefix_len,
+        (IpCidr::Ipv6(a), IpCidr::Ipv6(b)) => a.address.bits == b.address.bits
+            && a.prefix_len == b.prefix_len,
+        _ => false,
+    }
+}
+
+/// The address at a place, if there is one.
+fn cidr_at(list: &[IpCidr], place: usize) -> Option<IpCidr>
+    ensures { result ≡ slice_get list.now place }
+{
+    list.get(place).copied()
+}
+
+/// Where the first address with this network stands, or the length.
+fn place_of(list: &[IpCidr], cidr: &IpCidr) -> usize
+    ensures { result ≡ position_or_len (is_same cidr.now) list.now }
+{
+    for (i, other) in list.iter().enumerate() {
+        if is_same_cidr(cidr, other) {
+            return i;
+        }
+    }
+    list.len()
+}
+
+/// The same list, if it has at most four.
+fn copied(list: &[IpCidr]) -> Option<ArrayVec<IpCidr, 4>>
+    ensures { IfSome result (λ copy. copy.items ≡ list.now) }
+{
+    let mut copy = ArrayVec::new();
+    if copy.try_extend_from_slice(list).is_err() {
+        return None;
+    }
+    Some(copy)
+}
+
+/// Replaces the addresses of an interface by a list.
+fn put_addresses(interface: &mut Interface, list: ArrayVec<IpCidr, 4>) -> Result<(), AddrError>
+    ensures { stands.Follows interface.old interface.new (UpdatesIpAddrs list.items result) }
+{
+    interface.update_ip_addrs(move |_| list)
+}

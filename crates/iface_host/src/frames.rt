@@ -1,0 +1,93 @@
+//! Frames in, frames out, and when to come back.
+ghost use Rattle.std.specs.Prelude.{◌≡◌, ◌≤◌, IfOk, OnOk, OnErr, IfSome, length};
+ghost use Rattle.net_base.specs.Time.{IsMoment};
+ghost use Rattle.iface_host.specs.Frames.{IsDue, NextIs, Receives, Round};
+
+use crate::host::{FRAME_LEN, Host};
+use crate::outbox::write_front;
+use crate::refusal::Refusal;
+use net_base::time::Instant;
+
+/// The last moment that a caller may give, in microseconds.
+const LAST_MOMENT: i64 = 1 << 62;
+
+impl Host {
+    /// Takes a frame at a moment, and writes the frame that is to be sent in response, if there is one, to the front of
+    /// a buffer. Answers how many octets that has, 0 where there is none. `BadMoment` if the moment is out of range,
+    /// `NoRoom` if the buffer has less than 1,514 octets.
+    pub fn receive(&mut self, now: i64, frame: &[u8], out: &mut [u8]) -> Result<usize, Refusal>
+        ensures received { IfOk result (λ n. Receives now frame.now n out.old out.new self.old self.new) }
+        ensures refused { OnErr result (self.new ≡ self.old) }
+        ensures out { OnErr result (out.new ≡ out.old) }
+    {
+        let now = moment(now)?;
+        if out.len() < FRAME_LEN {
+            return Err(Refusal::NoRoom);
+        }
+        match self.interface.receive_frame(now, frame, &mut self.sockets) {
+            Some(reply) => Ok(write_front(out, reply)),
+            None => Ok(0),
+        }
+    }
+
+    /// Writes the next frame that is to be sent to the front of a buffer, and answers how many octets it has. If no
+    /// frame waits, a round is made at the moment before: what has ended is dropped, and each socket that has
+    /// something to send gets its turn once, behind what is due to routers; 0 says that the round sent nothing.
+    /// `BadMoment` if the moment is out of range, `NoRoom` if the buffer has less than 1,514 octets, `NoMemory` if
+    /// memory for a frame is refused before the round.
+    pub fn next(&mut self, now: i64, out: &mut [u8]) -> Result<usize, Refusal>
+        ensures next { IfOk result (λ n. NextIs now n out.old out.new self.old self.new) }
+        ensures refused { OnErr result (self.new ≡ self.old) }
+        ensures out { OnErr result (out.new ≡ out.old) }
+    {
+        let now = moment(now)?;
+        if out.len() < FRAME_LEN {
+            return Err(Refusal::NoRoom);
+        }
+        if self.outbox.len() > 0 {
+            return Ok(self.outbox.hand_over(out));
+        }
+        self.round(now)?;
+        Ok(self.outbox.hand_over(out))
+    }
+
+    /// The least instant at which something is due, if anything is: 0 if a frame waits.
+    pub fn poll_at(&mut self, now: i64) -> Result<Option<Instant>, Refusal>
+        ensures due { IfOk result (λ at. IsDue now at self.old self.new) }
+        ensures refused { OnErr result (self.new ≡ self.old) }
+    {
+        let now = moment(now)?;
+        let due = self.interface.poll_at(now, &self.sockets);
+        if self.outbox.len() == 0 {
+            Ok(due)
+        } else {
+            Ok(Some(Instant::ZERO))
+        }
+    }
+
+    /// Makes a round at a moment, where no frame waits.
+    fn round(&mut self, now: Instant) -> Result<(), Refusal>
+        requires { IsMoment now }
+        ensures went { OnOk result (Round now self.old self.new) }
+        ensures refused { OnErr result (self.new ≡ self.old) }
+    {
+        if self.outbox.reserve().is_err() {
+            return Err(Refusal::NoMemory);
+        }
+        let _ = self
+            .interface
+            .poll(now, &mut self.outbox, &mut self.sockets, 1);
+        Ok(())
+    }
+}
+
+/// The moment of so many microseconds, if it is one that a caller may give.
+fn moment(micros: i64) -> Result<Instant, Refusal>
+    ensures { IfOk result (λ t. (t ≡ micros) × IsMoment t) }
+{
+    if 0 <= micros && micros <= LAST_MOMENT {
+        Ok(Instant::from_micros(micros))
+    } else {
+        Err(Refusal::BadMoment)
+    }
+}

@@ -1,0 +1,103 @@
+//! The host, and how it is made.
+ghost use Rattle.std.specs.Prelude.{◌≡◌, IfOk};
+ghost use Rattle.iface_host.specs.Stands.{IsFirst, capabilities_of};
+
+use crate::names::Names;
+use crate::outbox::Outbox;
+use crate::refusal::Refusal;
+use interface::{Config, Interface, NewError};
+use ip_wire::HardwareAddress;
+use net_base::phy::{ChecksumCapabilities, DeviceCapabilities, Medium};
+use net_base::time::Instant;
+use socket_set::{SocketSet, SocketStorage, SocketStorageOf};
+use std::alloc::{AllocError, Global};
+
+/// The longest frame, in octets.
+pub const FRAME_LEN: usize = 1514;
+
+/// How a host is to be made.
+#[derive(Clone, Copy, Debug, PartialEq, Eq)]
+pub struct Settings {
+    /// The seed of its random words, which need not be secret.
+    pub random_seed: u64,
+    /// Its address on its link, whose frames have a header of Ethernet exactly if it is one of Ethernet.
+    pub hardware_addr: HardwareAddress,
+    /// The longest frame of the link in octets, the link's header included: at least 590 over Ethernet and 576
+    /// without hardware addresses, at most 1,514.
+    pub frame_len: usize,
+    /// Whether it takes IPv6 addresses from routers that advertise their prefixes.
+    pub slaac: bool,
+    /// How many sockets may be open at once.
+    pub sockets: usize,
+}
+
+/// A host: an interface, its sockets, the numbers that name these, and the frames that wait to be handed over.
+#[derive(Drop)]
+pub struct Host {
+    pub(crate) alloc: Global,
+    pub(crate) ip_mtu: usize,
+    pub(crate) interface: Interface,
+    pub(crate) sockets: SocketSet<'static>,
+    pub(crate) names: Names,
+    pub(crate) outbox: Outbox,
+}
+
+impl Host {
+    /// A host with no address, no route and no socket, at moment 0. `NotUnicast` and `BadMtu` come as
+    /// [`NewError`] says, `NoMemory` if the memory for the places of its sockets is refused.
+    pub fn new(alloc: Global, settings: &Settings) -> Result<Host, Refusal>
+        ensures { IfOk result (λ host. IsFirst settings.now host) }
+    {
+        let capabilities = capabilities(settings);
+        let mut outbox = Outbox::new(alloc, capabilities);
+        let config = Config {
+            random_seed: settings.random_seed,
+            hardware_addr: settings.hardware_addr,
+            slaac: settings.slaac,
+        };
+        let interface = match Interface::new(config, &mut outbox, Instant::ZERO) {
+            Ok(interface) => interface,
+            Err(NewError::NotUnicast) => return Err(Refusal::NotUnicast),
+            Err(_) => return Err(Refusal::BadMtu),
+        };
+        let Ok(places) = free_places(alloc, settings.sockets) else {
+            return Err(Refusal::NoMemory);
+        };
+        let Ok(names) = Names::new(alloc, settings.sockets) else {
+            return Err(Refusal::NoMemory);
+        };
+        Ok(Host {
+            alloc,
+            ip_mtu: capabilities.ip_mtu(),
+            interface,
+            sockets: SocketSet::fixed(places),
+            names,
+            outbox,
+        })
+    }
+}
+
+/// What the link of a host can do.
+fn capabilities(settings: &Settings) -> DeviceCapabilities
+    ensures { result ≡ capabilities_of settings.now }
+{
+    let medium = match settings.hardware_addr {
+        HardwareAddress::Ethernet(_) => Medium::Ethernet,
+        HardwareAddress::Ip => Medium::Ip,
+    };
+    DeviceCapabilities {
+        medium,
+        max_transmission_unit: settings.frame_len,
+        max_burst_size: None,
+        checksum: ChecksumCapabilities::ALL,
+    }
+}
+
+/// So many free places.
+fn free_places(alloc: Global, count: usize) -> Result<Vec<SocketStorage<'static>>, AllocError> {
+    let mut places = Vec::with_capacity(alloc, count)?;
+    for _ in 0..count {
+        places.push(SocketStorageOf::default())?;
+    }
+    Ok(places)
+}

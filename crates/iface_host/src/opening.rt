@@ -1,0 +1,117 @@
+//! Sockets: how they are opened and closed.
+ghost use Rattle.std.specs.Prelude.{◌≡◌, ◌≢◌, IfOk, IfErr, OnOk, OnErr};
+ghost use Rattle.std.specs.Result.{IsErrOf, result_err};
+ghost use Rattle.iface_host.specs.Refusals.{IsForRoom, unclosed};
+ghost use Rattle.iface_host.specs.Sockets.{Closes, Opens, icmp, queue_of, raw, udp};
+
+use crate::host::Host;
+use crate::refusal::Refusal;
+use ip_wire::{IpProtocol, IpVersion};
+use sockets::{AnySocketOf, IpListenEndpoint, Queue, icmp, raw, udp};
+use std::alloc::Global;
+
+/// How much each of the two queues of a socket holds.
+#[derive(Clone, Copy, Debug, PartialEq, Eq)]
+pub struct Room {
+    /// How many packets.
+    pub packets: usize,
+    /// How many octets of them, together.
+    pub octets: usize,
+}
+
+impl Host {
+    /// Opens a UDP socket that listens at an end, and names it. `BadPort` if its port is 0, else `TableFull`
+    /// or `NoMemory`, if all numbers are taken or memory for its queues is refused.
+    pub fn open_udp(&mut self, local: IpListenEndpoint, room: Room) -> Result<u32, Refusal>
+        ensures opened { IfOk result (λ n. Opens (udp local room) n self.old self.new) }
+        ensures port { local.port ≡ 0 → IsErrOf result Refusal.BadPort }
+        ensures others { local.port ≢ 0 → IfErr result IsForRoom }
+        ensures refused { OnErr result (self.new ≡ self.old) }
+    {
+        if local.port == 0 {
+            return Err(Refusal::BadPort);
+        }
+        let rx = queue(self.alloc, room)?;
+        let tx = queue(self.alloc, room)?;
+        let socket: udp::Socket<'static> = udp::SocketOf::new(local, rx, tx);
+        self.add(socket)
+    }
+
+    /// Opens a raw socket for the packets of a version of IP and a protocol, and names it. It fails as
+    /// [`Host::open_udp`] for room.
+    pub fn open_raw(
+        &mut self,
+        version: IpVersion,
+        protocol: IpProtocol,
+        room: Room,
+    ) -> Result<u32, Refusal>
+        ensures opened { IfOk result (λ n. Opens (raw version protocol room) n self.old self.new) }
+        ensures why { IfErr result IsForRoom }
+        ensures refused { OnErr result (self.new ≡ self.old) }
+    {
+        let rx = queue(self.alloc, room)?;
+        let tx = queue(self.alloc, room)?;
+        let socket: raw::Socket<'static> = raw::SocketOf::new(version, protocol, rx, tx);
+        self.add(socket)
+    }
+
+    /// Opens an ICMP socket for an endpoint, and names it. It fails as [`Host::open_udp`] for room.
+    pub fn open_icmp(&mut self, endpoint: icmp::Endpoint, room: Room) -> Result<u32, Refusal>
+        ensures opened { IfOk result (λ n. Opens (icmp endpoint room) n self.old self.new) }
+        ensures why { IfErr result IsForRoom }
+        ensures refused { OnErr result (self.new ≡ self.old) }
+    {
+        let rx = queue(self.alloc, room)?;
+        let tx = queue(self.alloc, room)?;
+        let socket: icmp::Socket<'static> = icmp::SocketOf::new(endpoint, rx, tx);
+        self.add(socket)
+    }
+
+    /// Closes a socket, of whatever kind: what it holds is dropped, and its number names none from then on.
+    /// `NoSocket` if the number names none.
+    #[tactic(auto, using(crate::proofs::Places::there_below))]
+    pub fn close(&mut self, number: u32) -> Result<(), Refusal>
+        ensures closed { OnOk result (Closes number self.old self.new) }
+        ensures why { result_err result ≡ unclosed self.old number }
+        ensures refused { OnErr result (self.new ≡ self.old) }
+    {
+        let Some(handle) = self.names.get(number) else {
+            return Err(Refusal::NoSocket);
+        };
+        let Some(socket) = self.sockets.remove(handle) else {
+            return Err(Refusal::NoSocket);
+        };
+        drop(socket);
+        self.names.set(number as usize, None);
+        Ok(())
+    }
+
+    /// Adds a socket, named by the least number that names none.
+    fn add<T: AnySocketOf<&'static ()>>(&mut self, socket: T) -> Result<u32, Refusal>
+        ensures opened { IfOk result (λ n. Opens (T.up socket) n self.old self.new) }
+        ensures full { IfErr result (λ e. e ≡ Refusal.TableFull) }
+        ensures refused { OnErr result (self.new ≡ self.old) }
+    {
+        let Some(number) = self.names.unused() else {
+            return Err(Refusal::TableFull);
+        };
+        if number > u32::MAX as usize {
+            return Err(Refusal::TableFull);
+        }
+        match self.sockets.add(socket) {
+            Ok(handle) => {
+                self.names.set(number, Some(handle));
+                Ok(number as u32)
+            }
+            Err(_) => Err(Refusal::TableFull),
+        }
+    }
+}
+
+/// An empty queue.
+fn queue<M: Drop>(alloc: Global, room: Room) -> Result<Queue<M>, Refusal>
+    ensures made { IfOk result (λ q. q ≡ queue_of room) }
+    ensures memory { IfErr result (λ e. e ≡ Refusal.NoMemory) }
+{
+    Queue::new(alloc, room.packets, room.octets).map_err(|_| Refusal::NoMemory)
+}

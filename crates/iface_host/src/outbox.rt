@@ -1,0 +1,162 @@
+//! The frames that were sent and wait to be handed over.
+ghost use Rattle.std.specs.Prelude.{◌≡◌, ◌≤◌, [], ◌∷◌, ◌++◌, true, length, take, drop, MatchOption, OnOk, OnErr, Some};
+ghost use Rattle.iface_host.specs.Outbox.{counted, with_room, HandsFirst};
+
+use net_base::phy::{Device, DeviceCapabilities, FRAME_BUFFER_SIZE, PacketMeta};
+use net_base::time::Instant;
+use std::alloc::{AllocError, Global};
+use std::collections::VecDeque;
+use std::marker::Model;
+
+/// The device of a host: it keeps the frames that are sent, in order, until they are handed over, and has none to
+/// be received. It gives leave to send one more if memory for it is there.
+///
+/// In contracts it is what it can do, the frames that wait, the count of refusals, and whether room for one more
+/// is reserved.
+#[derive(Drop)]
+pub struct Outbox {
+    alloc: Global,
+    capabilities: DeviceCapabilities,
+    frames: VecDeque<Vec<u8>>,
+    room: Option<Vec<u8>>,
+    refusals: u64,
+}
+
+impl Model for Outbox {
+    ghost use Rattle.std.specs.Prelude.{◌≡◌, ◌≤◌, ◌<◌, [], map, All, is_some, vec_len, vec_capacity};
+    ghost use Rattle.std.specs.VecDeque.{deque_len, deque_capacity};
+    ghost use Rattle.std.specs.Option.{ForSome};
+    ghost use Rattle.iface_host.specs.Outbox.{Waiting};
+
+    ghost Value = { Waiting };
+
+    ghost view = { λ o. record { capabilities = o.capabilities; frames = map (λ v. v.items) o.frames.items; refusals = o.refusals; has_room = is_some o.room } };
+
+    ghost invariant = { λ o. All (λ v. vec_len v ≤ 1514) o.frames.items × ForSome o.room (λ v. (v.items ≡ []) × (1514 ≤ vec_capacity v) × (deque_len o.frames < deque_capacity o.frames)) };
+}
+
+impl Outbox {
+    ghost use Rattle.std.specs.Prelude.{false};
+
+    /// An outbox in which no frame waits. It takes no memory.
+    pub fn new(alloc: Global, capabilities: DeviceCapabilities) -> Outbox
+        ensures { result ≡ record { capabilities = capabilities; frames = []; refusals = 0; has_room = false } }
+    {
+        Outbox {
+            alloc,
+            capabilities,
+            frames: VecDeque::new(alloc),
+            room: None,
+            refusals: 0,
+        }
+    }
+
+    /// How many frames wait.
+    pub fn len(&self) -> usize
+        ensures { result ≡ length self.now.frames }
+    {
+        self.frames.len()
+    }
+
+    /// Reserves room for one more frame, if it isn't reserved. It fails if memory for that is refused; then
+    /// nothing changes.
+    pub fn reserve(&mut self) -> Result<(), AllocError>
+        ensures reserved { OnOk result (self.new ≡ with_room true self.old) }
+        ensures refused { OnErr result (self.new ≡ self.old) }
+    {
+        if self.room.is_some() {
+            return Ok(());
+        }
+        let room = Vec::with_capacity(self.alloc, FRAME_BUFFER_SIZE)?;
+        self.frames.reserve(1)?;
+        self.room = Some(room);
+        Ok(())
+    }
+
+    /// Writes the first frame that waits to the front of a buffer, and hands it over: it waits no more. Answers how
+    /// many octets it has, and 0 where none waits.
+    pub fn hand_over(&mut self, out: &mut [u8]) -> usize
+        requires { 1514 ≤ length out.old }
+        ensures { HandsFirst self.old result out.old out.new self.new }
+    {
+        match self.frames.pop_front() {
+            Some(frame) => write_front(out, &frame),
+            None => 0,
+        }
+    }
+
+    // Keeps a frame that is sent, in the room for it.
+    fn keep(&mut self, frame: &[u8])
+        requires room { self.old.has_room ≡ true }
+        requires short { length frame.now ≤ 1514 }
+        ensures { self.new ≡ record self.old { frames = self.old.frames ++ frame.now ∷ []; has_room = false } }
+    {
+        if let Some(mut room) = self.room.take() {
+            // It has the capacity for any frame, so this can't fail.
+            let _ = room.extend_from_slice(frame);
+            self.frames.push_back_reserved(room);
+        }
+    }
+
+    // Counts a refused leave.
+    fn count_refusal(&mut self)
+        ensures { self.new ≡ counted self.old }
+    {
+        self.refusals = self.refusals.saturating_add(1);
+    }
+}
+
+// Writes a frame into the front of a buffer, and returns its length.
+pub(crate) fn write_front(buffer: &mut [u8], frame: &[u8]) -> usize
+    requires { length frame.now ≤ length buffer.old }
+    ensures front { take result buffer.new ≡ frame.now }
+    ensures rest { drop result buffer.new ≡ drop result buffer.old }
+    ensures len { result ≡ length frame.now }
+{
+    let len = frame.len();
+    buffer[..len].copy_from_slice(frame);
+    len
+}
+
+impl Device for Outbox {
+    ghost use Rattle.iface_host.specs.Outbox.{Tells};
+    ghost use Rattle.iface_host.specs.OutboxLaws.{told_nothing, told_on};
+
+    ghost tells = { Tells };
+
+    ghost has_leave = { λ o. o.has_room };
+
+    ghost capable = { λ o. o.capabilities };
+
+    ghost refused = { λ o. o.refusals };
+
+    fn capabilities(&self) -> DeviceCapabilities {
+        self.capabilities
+    }
+
+    fn receive(&mut self, _now: Instant, _buffer: &mut [u8]) -> Option<(usize, PacketMeta)> {
+        None
+    }
+
+    fn transmit(&mut self, _now: Instant) -> bool {
+        if self.reserve().is_err() {
+            self.count_refusal();
+            return false;
+        }
+        true
+    }
+
+    fn send(&mut self, _meta: PacketMeta, frame: &[u8]) {
+        self.keep(frame);
+    }
+
+    fn refusals(&self) -> u64 {
+        self.refusals
+    }
+
+    ghost tells_nothing = { λ o. told_nothing o };
+
+    ghost tells_on = { λ a b c xs ys first second. told_on xs ys first second };
+
+    ghost tells_refusals = { λ a b xs told. told.refusals };
+}

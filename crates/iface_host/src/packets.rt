@@ -1,0 +1,207 @@
+//! What sockets send and receive.
+ghost use Rattle.std.specs.Prelude.{◌≡◌, ◌≤◌, true, IfOk, OnOk, OnErr, length};
+ghost use Rattle.std.specs.Result.{result_err};
+ghost use Rattle.iface_host.specs.Refusals as refusals;
+ghost use Rattle.iface_host.specs.Sockets.{ReceivesIcmp, ReceivesRaw, ReceivesUdp, SendsIcmp, SendsRaw, SendsUdp};
+
+use crate::host::Host;
+use crate::outbox::write_front;
+use crate::refusal::Refusal;
+use ip_wire::{IpAddress, IpVersion};
+use sockets::{IpEndpoint, icmp, raw, udp};
+
+/// The longest packet of IPv4 that is sent: it goes in pieces, where the link's packets are shorter.
+const MAX_CUT: usize = 4096;
+
+/// The longest payload that a UDP or an ICMP socket takes.
+const MAX_PAYLOAD: usize = 65_495;
+
+impl Host {
+    /// Queues a datagram to an end. `BadPort` if its port is 0, `BadAddress` if its address is unspecified, `TooLong`
+    /// if the packet would be longer than is sent, `NoSocket` if no UDP socket has this number, and else `QueueFull`.
+    #[tactic(auto, using(crate::proofs::Places::udp_full, crate::proofs::Places::host_same))]
+    pub fn send_udp(
+        &mut self,
+        number: u32,
+        remote: IpEndpoint,
+        payload: &[u8],
+    ) -> Result<(), Refusal>
+        ensures sent { OnOk result (SendsUdp number remote payload.now self.old self.new) }
+        ensures why { result_err result ≡ refusals.udp_unsent self.old number remote (length payload.now) }
+        ensures refused { OnErr result (self.new ≡ self.old) }
+    {
+        if remote.port == 0 {
+            return Err(Refusal::BadPort);
+        }
+        if remote.addr.is_unspecified() {
+            return Err(Refusal::BadAddress);
+        }
+        if !self.may_send(remote.addr.version(), 8, payload) {
+            return Err(Refusal::TooLong);
+        }
+        let Some(handle) = self.names.get(number) else {
+            return Err(Refusal::NoSocket);
+        };
+        let Some(socket) = self.sockets.get_mut::<udp::Socket<'static>>(handle) else {
+            return Err(Refusal::NoSocket);
+        };
+        if socket.endpoint().port == 0 {
+            return Err(Refusal::BadPort);
+        }
+        match socket.send(remote, payload) {
+            Ok(()) => Ok(()),
+            Err(_) => Err(Refusal::QueueFull),
+        }
+    }
+
+    /// Queues a message of ICMP to an address. It fails as [`Host::send_udp`], where it has no port.
+    #[tactic(auto, using(crate::proofs::Places::icmp_full))]
+    pub fn send_icmp(
+        &mut self,
+        number: u32,
+        remote: IpAddress,
+        message: &[u8],
+    ) -> Result<(), Refusal>
+        ensures sent { OnOk result (SendsIcmp number remote message.now self.old self.new) }
+        ensures why { result_err result ≡ refusals.icmp_unsent self.old number remote (length message.now) }
+        ensures refused { OnErr result (self.new ≡ self.old) }
+    {
+        if remote.is_unspecified() {
+            return Err(Refusal::BadAddress);
+        }
+        if !self.may_send(remote.version(), 0, message) {
+            return Err(Refusal::TooLong);
+        }
+        let Some(handle) = self.names.get(number) else {
+            return Err(Refusal::NoSocket);
+        };
+        let Some(socket) = self.sockets.get_mut::<icmp::Socket<'static>>(handle) else {
+            return Err(Refusal::NoSocket);
+        };
+        match socket.send(remote, message) {
+            Ok(()) => Ok(()),
+            Err(_) => Err(Refusal::QueueFull),
+        }
+    }
+
+    /// Queues a packet with its header. `NoSocket` if no raw socket has this number, else `QueueFull`.
+    #[tactic(auto, using(crate::proofs::Places::raw_full))]
+    pub fn send_raw(&mut self, number: u32, packet: &[u8]) -> Result<(), Refusal>
+        ensures sent { OnOk result (SendsRaw number packet.now self.old self.new) }
+        ensures why { result_err result ≡ refusals.raw_unsent self.old number (length packet.now) }
+        ensures refused { OnErr result (self.new ≡ self.old) }
+    {
+        let Some(handle) = self.names.get(number) else {
+            return Err(Refusal::NoSocket);
+        };
+        let Some(socket) = self.sockets.get_mut::<raw::Socket<'static>>(handle) else {
+            return Err(Refusal::NoSocket);
+        };
+        match socket.send((), packet) {
+            Ok(()) => Ok(()),
+            Err(_) => Err(Refusal::QueueFull),
+        }
+    }
+
+    /// Takes the first datagram that came: writes its payload to the front of a buffer, and tells where it came from
+    /// and how long it is. `NoSocket` if no UDP socket has this number, `Empty` if none came, `NoRoom` if it is
+    /// longer than the buffer; then it stays.
+    #[tactic(auto, using(crate::proofs::Places::host_same))]
+    pub fn receive_udp(
+        &mut self,
+        number: u32,
+        out: &mut [u8],
+    ) -> Result<(IpEndpoint, usize), Refusal>
+        ensures received { IfOk result (λ r. ReceivesUdp number r.0 r.1 out.new self.old self.new) }
+        ensures why { result_err result ≡ refusals.udp_unreceived self.old number (length out.old) }
+        ensures refused { OnErr result (self.new ≡ self.old) }
+        ensures out { OnErr result (out.new ≡ out.old) }
+    {
+        let Some(handle) = self.names.get(number) else {
+            return Err(Refusal::NoSocket);
+        };
+        let Some(socket) = self.sockets.get_mut::<udp::Socket<'static>>(handle) else {
+            return Err(Refusal::NoSocket);
+        };
+        let Some((remote, payload)) = socket.recv() else {
+            return Err(Refusal::Empty);
+        };
+        if payload.len() > out.len() {
+            return Err(Refusal::NoRoom);
+        }
+        let remote = *remote;
+        let len = write_front(out, payload);
+        socket.done();
+        Ok((remote, len))
+    }
+
+    /// The same of an ICMP socket: a message, and the address that it came from.
+    #[tactic(auto, using(crate::proofs::Places::host_same))]
+    pub fn receive_icmp(
+        &mut self,
+        number: u32,
+        out: &mut [u8],
+    ) -> Result<(IpAddress, usize), Refusal>
+        ensures received { IfOk result (λ r. ReceivesIcmp number r.0 r.1 out.new self.old self.new) }
+        ensures why { result_err result ≡ refusals.icmp_unreceived self.old number (length out.old) }
+        ensures refused { OnErr result (self.new ≡ self.old) }
+        ensures out { OnErr result (out.new ≡ out.old) }
+    {
+        let Some(handle) = self.names.get(number) else {
+            return Err(Refusal::NoSocket);
+        };
+        let Some(socket) = self.sockets.get_mut::<icmp::Socket<'static>>(handle) else {
+            return Err(Refusal::NoSocket);
+        };
+        let Some((remote, message)) = socket.recv() else {
+            return Err(Refusal::Empty);
+        };
+        if message.len() > out.len() {
+            return Err(Refusal::NoRoom);
+        }
+        let remote = *remote;
+        let len = write_front(out, message);
+        socket.done();
+        Ok((remote, len))
+    }
+
+    /// The same of a raw socket: a packet with its header.
+    #[tactic(auto, using(crate::proofs::Places::host_same))]
+    pub fn receive_raw(&mut self, number: u32, out: &mut [u8]) -> Result<usize, Refusal>
+        ensures received { IfOk result (λ n. ReceivesRaw number n out.new self.old self.new) }
+        ensures why { result_err result ≡ refusals.raw_unreceived self.old number (length out.old) }
+        ensures refused { OnErr result (self.new ≡ self.old) }
+        ensures out { OnErr result (out.new ≡ out.old) }
+    {
+        let Some(handle) = self.names.get(number) else {
+            return Err(Refusal::NoSocket);
+        };
+        let Some(socket) = self.sockets.get_mut::<raw::Socket<'static>>(handle) else {
+            return Err(Refusal::NoSocket);
+        };
+        let Some((_, packet)) = socket.recv() else {
+            return Err(Refusal::Empty);
+        };
+        if packet.len() > out.len() {
+            return Err(Refusal::NoRoom);
+        }
+        let len = write_front(out, packet);
+        socket.done();
+        Ok(len)
+    }
+
+    /// Whether a payload behind a header of so many octets, in a packet of this version, isn't too long to be sent.
+    fn may_send(&self, version: IpVersion, header: usize, payload: &[u8]) -> bool
+        requires { header ≤ 8 }
+        ensures value { result ≡ refusals.may_send self.now.ip_mtu version header (length payload.now) }
+        ensures short { result ≡ true → length payload.now ≤ 65495 }
+    {
+        if payload.len() > MAX_PAYLOAD {
+            return false;
+        }
+        match version {
+            IpVersion::Ipv4 => payload.len() + header + 20 <= self.ip_mtu.max(MAX_CUT),
+            IpVersion::Ipv6 => payload.len() + header + 40 <= self.ip_mtu,
+        }
+    }
+}

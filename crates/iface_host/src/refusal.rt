@@ -1,0 +1,32 @@
+//! Why a call is refused.
+
+/// Why a call is refused. A refused call changes nothing.
+#[derive(Clone, Copy, Debug, PartialEq, Eq)]
+pub enum Refusal {
+    /// Memory was refused.
+    NoMemory,
+    /// The longest packet is shorter than 576 octets, or longer than fits into a frame of 1,514 octets.
+    BadMtu,
+    /// An own address is neither unicast nor unspecified, or the hardware address isn't unicast.
+    NotUnicast,
+    /// The moment is below 0 or above 2^62 microseconds.
+    BadMoment,
+    /// The destination is unspecified, or the group isn't one.
+    BadAddress,
+    /// There is no such address or route.
+    NotThere,
+    /// The table of addresses, routes, groups or sockets is full.
+    TableFull,
+    /// No socket of this kind is open by this number.
+    NoSocket,
+    /// The port is 0.
+    BadPort,
+    /// The frame is longer than the link carries, or the packet longer than is sent.
+    TooLong,
+    /// The queue has no room for the packet.
+    QueueFull,
+    /// No packet came.
+    Empty,
+    /// The caller's room is too short.
+    NoRoom,
+}

@@ -1,0 +1,121 @@
+//! The routes of a host.
+ghost use Rattle.std.specs.Prelude.{◌≡◌, ◌≤◌, OnOk, OnErr, length};
+ghost use Rattle.host_machine.specs.Host.{SocketSet};
+ghost use Rattle.iface_tables.specs.Route.{ipv4_gateway, ipv6_gateway, is_ipv4_gateway, is_ipv6_gateway, old_or_full, with_default};
+ghost use Rattle.interface.specs.Stands.{Becomes, host_with};
+ghost use Rattle.std.specs.List.{position_or_len};
+ghost use Rattle.iface_host.specs.Calls.{is_to, AddsRoute, RemovesRoute, SetsDefault};
+ghost use Rattle.iface_host.specs.Stands.{Follows, Stays};
+
+use crate::addresses::is_same_cidr;
+use crate::host::Host;
+use crate::refusal::Refusal;
+use arrayvec::ArrayVec;
+use iface_tables::route::{Route, RouteTableFull};
+use interface::Interface;
+use ip_wire::{IpAddress, IpCidr, Ipv4Address, Ipv6Address};
+
+impl Host {
+    /// Puts a default route by a gateway behind all other routes, in place of the first of the gateway's family.
+    /// `TableFull` if four routes are there and none is such.
+    pub fn set_default_route(&mut self, gateway: IpAddress) -> Result<(), Refusal>
+        ensures set { OnOk result (Follows (SetsDefault gateway) self.old self.new) }
+        ensures refused { OnErr result (Stays self.old self.new) }
+    {
+        match gateway {
+            IpAddress::Ipv4(gateway) => match add_default_ipv4_route(&mut self.interface, gateway) {
+                Ok(_) => Ok(()),
+                Err(_) => Err(Refusal::TableFull),
+            },
+            IpAddress::Ipv6(gateway) => match add_default_ipv6_route(&mut self.interface, gateway) {
+                Ok(_) => Ok(()),
+                Err(_) => Err(Refusal::TableFull),
+            },
+        }
+    }
+
+    /// Puts a route to a network by a router behind all others, for good. `TableFull` if four are there.
+    pub fn add_route(&mut self, cidr: IpCidr, via_router: IpAddress) -> Result<(), Refusal>
+        ensures added { OnOk result (Follows (AddsRoute cidr via_router) self.old self.new) }
+        ensures refused { OnErr result (Stays self.old self.new) }
+    {
+        let mut list = copied(self.interface.routes().as_slice());
+        let route = Route {
+            cidr,
+            via_router,
+            preferred_until: None,
+            expires_at: None,
+        };
+        if list.try_push(route).is_err() {
+            return Err(Refusal::TableFull);
+        }
+        put_routes(&mut self.interface, list);
+        Ok(())
+    }
+
+    /// Takes out the first route to a network. `NotThere` if there is none.
+    pub fn remove_route(&mut self, cidr: IpCidr) -> Result<(), Refusal>
+        ensures removed { OnOk result (Follows (RemovesRoute cidr) self.old self.new) }
+        ensures refused { OnErr result (Stays self.old self.new) }
+    {
+        let mut list = copied(self.interface.routes().as_slice());
+        let place = place_of(list.as_slice(), &cidr);
+        if place >= list.len() {
+            return Err(Refusal::NotThere);
+        }
+        let _ = list.remove(place);
+        put_routes(&mut self.interface, list);
+        Ok(())
+    }
+}
+
+/// Where the first route to a network stands, or the length.
+fn place_of(list: &[Route], cidr: &IpCidr) -> usize
+    ensures { result ≡ position_or_len (is_to cidr.now) list.now }
+{
+    for (i, route) in list.iter().enumerate() {
+        if is_same_cidr(cidr, &route.cidr) {
+            return i;
+        }
+    }
+    list.len()
+}
+
+/// The same list.
+fn copied(list: &[Route]) -> ArrayVec<Route, 4>
+    requires { length list.now ≤ 4 }
+    ensures { result.items ≡ list.now }
+{
+    let mut copy = ArrayVec::new();
+    let _ = copy.try_extend_from_slice(list);
+    copy
+}
+
+/// Replaces the routes of an interface by a list.
+fn put_routes(interface: &mut Interface, list: ArrayVec<Route, 4>)
+    ensures { Becomes interface.old interface.new (λ H. record H { routes = list.items }) }
+{
+    interface.routes_mut().update(move |_| list);
+}
+
+/// Puts a default route of IPv4 behind all others, in place of the first one.
+fn add_default_ipv4_route(
+    interface: &mut Interface,
+    gateway: Ipv4Address,
+) -> Result<Option<Route>, RouteTableFull>
+    ensures answer { (sockets : SocketSet) → result ≡ old_or_full is_ipv4_gateway (host_with interface.old sockets).routes }
+    ensures table { Becomes interface.old interface.new (λ H. record H { routes = with_default is_ipv4_gateway H.routes (ipv4_gateway gateway) }) }
+{
+    interface.routes_mut().add_default_ipv4_route(gateway)
+}
+
+/// The same for IPv6.
+fn add_default_ipv6_route(
+    interface: &mut Interface,
+    gateway: Ipv6Address,
+) -> Result<Option<Route>, RouteTableFull>
+    ensures answer { (sockets : SocketSet) → result ≡ old_or_full is_ipv6_gateway (host_with interface.old sockets).routes }
+    ensures table { Becomes interface.old interface.new (λ H. record H { routes = with_default is_ipv6_gateway H.routes (ipv6_gateway gateway) }) }
+{
+    interface.routes_mut().add_default_ipv6_route(gateway)
+}
