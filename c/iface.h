@@ -1,0 +1,220 @@
+/* A host on a network, for C: the interface layer with UDP, ICMP and raw sockets, over IPv4 and IPv6, on Ethernet
+ * or without a header of the link. Frames are handed over by the program and asked for by it; the library opens no
+ * device, starts no thread and reads no clock.
+ *
+ * Each call answers by a code: IFACE_OK, or why it was refused. A refused call changes nothing, of the host and of
+ * what the pointers point to.
+ *
+ * What the library does is proved: for a caller that keeps what follows there is no undefined behaviour, and each
+ * call ends. What the caller promises, and nothing checks:
+ *
+ *  - A handle (struct iface) is set to IFACE_NONE before its first call, is only written by the calls below, and is
+ *    not copied. It is in one call at a time; each call may be in another thread. Two handles share nothing.
+ *  - No pointer is null, not even one to no octets. What a pointer points to is as long as is said, and nothing of it
+ *    overlaps what another pointer of the same call points to, the handle included.
+ *  - malloc, realloc and free are of one allocator, whose blocks are aligned as the C standard says, and no call is
+ *    made where these may not be called, as in a signal handler or in the forked child of a process with threads.
+ */
+#ifndef IFACE_H
+#define IFACE_H
+
+#include <stddef.h>
+#include <stdint.h>
+
+#ifdef __cplusplus
+extern "C" {
+#endif
+
+/* What calls answer. */
+enum iface_code {
+    IFACE_OK = 0,            /* the call is done */
+    IFACE_NO_HOST = 1,       /* the handle owns no host */
+    IFACE_HAS_HOST = 2,      /* iface_new: the handle owns a host already */
+    IFACE_BAD_ARGUMENT = 3,  /* a version of IP that is neither 4 nor 6, a prefix longer than the address, a medium */
+    IFACE_NO_MEMORY = 4,     /* malloc or realloc refused */
+    IFACE_BAD_MTU = 5,       /* frame_len: not 590 to 1514 on Ethernet, 576 to 1514 without hardware addresses */
+    IFACE_NOT_UNICAST = 6,   /* a hardware address or an own address that can't be one */
+    IFACE_BAD_MOMENT = 7,    /* a moment below 0 or above 2^62 */
+    IFACE_BAD_ADDRESS = 8,   /* a destination that is unspecified, a group that is none */
+    IFACE_NOT_THERE = 9,     /* no such address or route */
+    IFACE_TABLE_FULL = 10,   /* four addresses, four routes or eight groups are there, or all sockets are open */
+    IFACE_NO_SOCKET = 11,    /* no socket of this kind is open by this number */
+    IFACE_BAD_PORT = 12,     /* a port that is 0 */
+    IFACE_TOO_LONG = 13,     /* a packet longer than is ever sent */
+    IFACE_QUEUE_FULL = 14,   /* the socket's queue has no room for the packet: iface_next makes some */
+    IFACE_EMPTY = 15,        /* no packet came */
+    IFACE_NO_ROOM = 16       /* the room for a frame is shorter than IFACE_FRAME_ROOM, that for a packet than the packet */
+};
+
+/* The room that iface_receive and iface_next need for a frame, in octets. */
+#define IFACE_FRAME_ROOM 1514
+
+/* The last moment, in microseconds, and the instant that stands for none. */
+#define IFACE_LAST_MOMENT ((int64_t)1 << 62)
+#define IFACE_NEVER INT64_MAX
+
+/* A handle, which owns a host or none. Its fields are the library's. */
+typedef struct iface {
+    uint64_t tag;
+    void *at;
+} iface;
+
+/* A handle that owns none: iface host = IFACE_NONE; */
+#define IFACE_NONE {0, NULL}
+
+/* An address. */
+struct iface_address {
+    uint8_t version;    /* 4 or 6 */
+    uint8_t octets[16]; /* in the order of the network: the first 4, or all 16 */
+};
+
+/* One end of a datagram. */
+struct iface_endpoint {
+    struct iface_address address;
+    uint16_t port; /* in the order of the machine */
+};
+
+/* How a host is to be made. */
+struct iface_config {
+    uint64_t seed;               /* of its random words, which need not be secret: another for each host and each start */
+    uint32_t frame_len;          /* the longest frame of the link in octets, with a header of Ethernet and without its
+                                    checksum: 1514 on usual Ethernet */
+    uint32_t sockets;            /* how many may be open at once; memory for their places is taken at once */
+    uint8_t hardware_address[6]; /* on Ethernet; else it isn't read */
+    uint8_t medium;              /* IFACE_ETHERNET or IFACE_IP */
+    uint8_t slaac;               /* not 0: it takes IPv6 addresses and routes from routers (RFC 4862) */
+};
+
+enum iface_medium { IFACE_ETHERNET = 0, IFACE_IP = 1 };
+
+/* ---- hosts ---- */
+
+/* Makes a host, which the handle owns from then on.
+ * HAS_HOST, BAD_ARGUMENT (the medium), NOT_UNICAST (the hardware address), BAD_MTU, NO_MEMORY. */
+uint32_t iface_new(iface *host, const struct iface_config *config);
+
+/* Frees a host, with its sockets and the frames that wait. The handle owns none from then on. NO_HOST. */
+uint32_t iface_free(iface *host);
+
+/* All calls below answer NO_HOST if the handle owns none. */
+
+/* ---- addresses and groups ---- */
+
+/* Adds an own address with its network, as 192.168.69.1 with 24, behind the others, and forgets all neighbours: at
+ * most four. On Ethernet the host joins the solicited-node group of an IPv6 address (RFC 4291, 2.7.1).
+ * BAD_ARGUMENT, TABLE_FULL, NOT_UNICAST (neither unicast nor unspecified). */
+uint32_t iface_add_address(iface *host, const struct iface_address *address, uint8_t prefix_len);
+
+/* Takes out the first own address that is this one with this prefix, and forgets all neighbours.
+ * BAD_ARGUMENT, NOT_THERE. */
+uint32_t iface_remove_address(iface *host, const struct iface_address *address, uint8_t prefix_len);
+
+/* Writes the own address at a place of their list, from 0 on: those that came from routers stand there too. NOT_THERE. */
+uint32_t iface_address_at(iface *host, uint32_t place, struct iface_address *address, uint8_t *prefix_len);
+
+/* Joins a group, of at most eight: from now on packets to it are taken, and iface_next tells routers of it (RFC 2236,
+ * RFC 3810). BAD_ARGUMENT, BAD_ADDRESS (no group's), TABLE_FULL. */
+uint32_t iface_join_group(iface *host, const struct iface_address *group);
+
+/* Leaves a group, if the host is in it. BAD_ARGUMENT, BAD_ADDRESS. */
+uint32_t iface_leave_group(iface *host, const struct iface_address *group);
+
+/* ---- routes ---- */
+
+/* Sets the default route of the gateway's family, in place of the first one that is there: at most four routes.
+ * BAD_ARGUMENT, TABLE_FULL. */
+uint32_t iface_set_default_route(iface *host, const struct iface_address *gateway);
+
+/* Adds a route to a network by a router. The longest prefix wins, of equal ones the last. BAD_ARGUMENT, TABLE_FULL. */
+uint32_t iface_add_route(iface *host, const struct iface_address *network, uint8_t prefix_len,
+                         const struct iface_address *router);
+
+/* Takes out the first route to a network. BAD_ARGUMENT, NOT_THERE. */
+uint32_t iface_remove_route(iface *host, const struct iface_address *network, uint8_t prefix_len);
+
+/* ---- sockets ---- */
+
+/* Each of these opens a socket with a queue for what comes and one for what goes, each of which holds so many packets,
+ * with so many octets together (it takes room for twice as many), and writes the number that names it: the least that
+ * names none. What comes to a full queue is dropped. BAD_ARGUMENT (a version), TABLE_FULL, NO_MEMORY. */
+
+/* UDP (RFC 768) at a port of one address, or of any if the version of `local` is 0. BAD_PORT. */
+uint32_t iface_udp_open(iface *host, const struct iface_endpoint *local, uint32_t packets, uint32_t octets,
+                        uint32_t *socket);
+
+/* Whole packets of a version of IP and a protocol. */
+uint32_t iface_raw_open(iface *host, uint8_t version, uint8_t protocol, uint32_t packets, uint32_t octets,
+                        uint32_t *socket);
+
+/* Echo messages of either ICMP with an identifier (RFC 792, RFC 4443). */
+uint32_t iface_icmp_open_ident(iface *host, uint16_t ident, uint32_t packets, uint32_t octets, uint32_t *socket);
+
+/* Port unreachables of either ICMP for datagrams of UDP from this port of the host. */
+uint32_t iface_icmp_open_port(iface *host, uint16_t port, uint32_t packets, uint32_t octets, uint32_t *socket);
+
+/* Closes a socket of whatever kind: what waits in it is dropped. NO_SOCKET. */
+uint32_t iface_close(iface *host, uint32_t socket);
+
+/* Each of these queues a packet, which iface_next sends. NO_SOCKET, QUEUE_FULL. */
+
+/* A datagram with this payload: over IPv4 of at most 4096 octets with its headers (28), in pieces if the link's
+ * packets are shorter, over IPv6 of at most one packet of the link with its headers (48).
+ * BAD_ARGUMENT, BAD_PORT, BAD_ADDRESS (unspecified), TOO_LONG. */
+uint32_t iface_udp_send(iface *host, uint32_t socket, const struct iface_endpoint *remote, const uint8_t *payload,
+                        size_t payload_len);
+
+/* A message of ICMP: one that isn't an echo message of the address's family is dropped later.
+ * BAD_ARGUMENT, BAD_ADDRESS, TOO_LONG. */
+uint32_t iface_icmp_send(iface *host, uint32_t socket, const struct iface_address *remote, const uint8_t *message,
+                         size_t message_len);
+
+/* A packet with its header: one that isn't of the socket's version and protocol, or is too long to be sent, is dropped
+ * later. */
+uint32_t iface_raw_send(iface *host, uint32_t socket, const uint8_t *packet, size_t packet_len);
+
+/* Each of these takes the first packet that came, and writes it, how long it is and where it came from.
+ * NO_SOCKET, EMPTY, NO_ROOM: then it stays. Room for the octets that the socket's queue holds is always enough. */
+
+uint32_t iface_udp_receive(iface *host, uint32_t socket, struct iface_endpoint *remote, uint8_t *out, size_t room,
+                           size_t *length);
+
+/* A message of ICMP, from its type on. */
+uint32_t iface_icmp_receive(iface *host, uint32_t socket, struct iface_address *remote, uint8_t *out, size_t room,
+                            size_t *length);
+
+/* A packet with its header. */
+uint32_t iface_raw_receive(iface *host, uint32_t socket, uint8_t *out, size_t room, size_t *length);
+
+/* ---- frames ----
+ *
+ * `now` is a moment in microseconds since an origin of the caller's choice, from 0 to IFACE_LAST_MOMENT. It may go
+ * back. BAD_MOMENT. `room` is at least IFACE_FRAME_ROOM. NO_ROOM. */
+
+/* Takes a frame of any octets, and writes the frame that is to be sent in response, of *length octets; none if that
+ * is 0. */
+uint32_t iface_receive(iface *host, int64_t now, const uint8_t *frame, size_t frame_len, uint8_t *out, size_t room,
+                       size_t *length);
+
+/* Writes the next frame that is to be sent, of *length octets; 0 says that the round sent nothing.
+ *
+ * Frames are sent in rounds: in a round what has ended is dropped, routers are told of groups, and each socket that has
+ * something to send sends one packet, in the order of their numbers. The frames of a round wait in the library until
+ * they are asked for, one a call; a call that finds none makes the next round. So no socket is passed over, however
+ * seldom frames are asked for. Call it until *length is 0, and then ask iface_poll_at.
+ * NO_MEMORY (before a round, if memory for a frame is refused). */
+uint32_t iface_next(iface *host, int64_t now, uint8_t *out, size_t room, size_t *length);
+
+/* Writes the instant at which iface_next is to be called again, if no frame comes before and no call changes the host:
+ * one that has passed, if something is due at once, and IFACE_NEVER, if nothing is due. */
+uint32_t iface_poll_at(iface *host, int64_t now, int64_t *at);
+
+#ifdef __cplusplus
+}
+#endif
+
+#if defined(__STDC_VERSION__) && __STDC_VERSION__ >= 201112L
+_Static_assert(sizeof(struct iface_address) == 17 && sizeof(struct iface_endpoint) == 20, "as the library lays them out");
+_Static_assert(sizeof(struct iface_config) == 24 && sizeof(iface) == 16, "as the library lays them out");
+#endif
+
+#endif

@@ -1,0 +1,228 @@
+/* Wrong use, as far as C can ask it: each call must refuse by its code, change nothing, and leave the host usable. */
+#include "iface.h"
+
+#include <stdio.h>
+#include <string.h>
+
+static int failures, checks;
+
+static void wants(const char *what, uint64_t got, uint64_t want) {
+    checks++;
+    if (got == want) return;
+    failures++;
+    printf("WRONG: %s: %llu, not %llu\n", what, (unsigned long long)got, (unsigned long long)want);
+}
+
+static struct iface_address v4(uint8_t a, uint8_t b, uint8_t c, uint8_t d) {
+    return (struct iface_address){4, {a, b, c, d}};
+}
+
+/* fe80::x, or another address with this first octet pair. */
+static struct iface_address v6(uint8_t first, uint8_t second, uint8_t last) {
+    return (struct iface_address){6, {[0] = first, [1] = second, [15] = last}};
+}
+
+static uint64_t word(uint64_t *state) { /* xorshift */
+    *state ^= *state << 13;
+    *state ^= *state >> 7;
+    *state ^= *state << 17;
+    return *state;
+}
+
+static uint8_t big[70000], out[IFACE_FRAME_ROOM];
+
+static const struct iface_config good = {.seed = 1, .frame_len = 1514, .sockets = 8, .hardware_address = {2, 0, 0, 0, 0, 1}};
+
+static void refuses_configurations(void) {
+    iface host = IFACE_NONE;
+    struct iface_config c = good;
+    c.frame_len = 589, wants("frames of 589", iface_new(&host, &c), IFACE_BAD_MTU);
+    c.frame_len = 1515, wants("frames of 1515", iface_new(&host, &c), IFACE_BAD_MTU);
+    c.frame_len = 0xffffffff, wants("frames of 2^32-1", iface_new(&host, &c), IFACE_BAD_MTU);
+    c = good, c.medium = 2, wants("medium 2", iface_new(&host, &c), IFACE_BAD_ARGUMENT);
+    c = good, c.hardware_address[0] = 1, wants("hardware address of a group", iface_new(&host, &c), IFACE_NOT_UNICAST);
+    wants("handle", host.tag, 0);
+    wants("free of none", iface_free(&host), IFACE_NO_HOST);
+    c = good, c.medium = IFACE_IP, c.frame_len = 576, wants("packets of 576", iface_new(&host, &c), IFACE_OK);
+    iface copy = host;
+    wants("new over a host", iface_new(&host, &good), IFACE_HAS_HOST);
+    wants("handle kept", memcmp(&copy, &host, sizeof host), 0);
+    wants("free", iface_free(&host), IFACE_OK);
+    wants("free again", iface_free(&host), IFACE_NO_HOST);
+}
+
+static void refuses_without_host(void) {
+    iface host = IFACE_NONE;
+    struct iface_address a = v4(10, 0, 0, 1);
+    struct iface_endpoint e = {a, 9};
+    uint32_t socket = 77;
+    uint8_t prefix;
+    size_t n = 77;
+    int64_t at = 77;
+    wants("address", iface_add_address(&host, &a, 8), IFACE_NO_HOST);
+    wants("address at", iface_address_at(&host, 0, &a, &prefix), IFACE_NO_HOST);
+    wants("route", iface_set_default_route(&host, &a), IFACE_NO_HOST);
+    wants("udp", iface_udp_open(&host, &e, 1, 1, &socket), IFACE_NO_HOST);
+    wants("send", iface_udp_send(&host, 0, &e, big, 1), IFACE_NO_HOST);
+    wants("receive", iface_udp_receive(&host, 0, &e, big, 1, &n), IFACE_NO_HOST);
+    wants("frame", iface_receive(&host, 0, big, 60, out, sizeof out, &n), IFACE_NO_HOST);
+    wants("next", iface_next(&host, 0, out, sizeof out, &n), IFACE_NO_HOST);
+    wants("poll_at", iface_poll_at(&host, 0, &at), IFACE_NO_HOST);
+    wants("what was not written", socket == 77 && n == 77 && at == 77, 1);
+}
+
+static void refuses_addresses(iface *host) {
+    struct iface_address a = v4(192, 168, 69, 1), read;
+    uint8_t prefix = 99;
+    wants("prefix of 33", iface_add_address(host, &a, 33), IFACE_BAD_ARGUMENT);
+    a.version = 5, wants("version 5", iface_add_address(host, &a, 24), IFACE_BAD_ARGUMENT);
+    a = v6(0xfe, 0x80, 1), wants("prefix of 129", iface_add_address(host, &a, 129), IFACE_BAD_ARGUMENT);
+    a = v4(255, 255, 255, 255), wants("broadcast as own", iface_add_address(host, &a, 24), IFACE_NOT_UNICAST);
+    a = v4(224, 0, 0, 1), wants("group as own", iface_add_address(host, &a, 24), IFACE_NOT_UNICAST);
+    a = v6(0xff, 2, 1), wants("group of IPv6 as own", iface_add_address(host, &a, 64), IFACE_NOT_UNICAST);
+    wants("no address", iface_address_at(host, 0, &read, &prefix), IFACE_NOT_THERE);
+    wants("nothing written", prefix, 99);
+    a = v4(192, 168, 69, 1), wants("address", iface_add_address(host, &a, 24), IFACE_OK);
+    a = v6(0xfe, 0x80, 1), wants("address of IPv6", iface_add_address(host, &a, 64), IFACE_OK);
+    for (uint8_t i = 2; i < 4; i++) a = v4(10, 0, i, 1), wants("address", iface_add_address(host, &a, 24), IFACE_OK);
+    a = v4(10, 0, 9, 1), wants("fifth address", iface_add_address(host, &a, 24), IFACE_TABLE_FULL);
+    wants("address 1", iface_address_at(host, 1, &read, &prefix), IFACE_OK);
+    a = v6(0xfe, 0x80, 1), wants("its octets", memcmp(&read, &a, sizeof a), 0);
+    wants("its prefix", prefix, 64);
+    wants("address 4", iface_address_at(host, 4, &read, &prefix), IFACE_NOT_THERE);
+    wants("another prefix", iface_remove_address(host, &a, 65), IFACE_NOT_THERE);
+    a = v4(10, 0, 3, 1), wants("remove", iface_remove_address(host, &a, 24), IFACE_OK);
+    wants("remove again", iface_remove_address(host, &a, 24), IFACE_NOT_THERE);
+    wants("address 3", iface_address_at(host, 3, &read, &prefix), IFACE_NOT_THERE);
+}
+
+static void refuses_routes_and_groups(iface *host) {
+    struct iface_address a = v4(192, 168, 69, 100), network = v4(172, 16, 0, 0);
+    wants("default", iface_set_default_route(host, &a), IFACE_OK);
+    wants("default again", iface_set_default_route(host, &a), IFACE_OK);
+    for (uint8_t i = 0; i < 3; i++) network.octets[1] = i, wants("route", iface_add_route(host, &network, 16, &a), IFACE_OK);
+    wants("fifth route", iface_add_route(host, &network, 16, &a), IFACE_TABLE_FULL);
+    struct iface_address b = v6(0xfe, 0x80, 9);
+    wants("default of the other family", iface_set_default_route(host, &b), IFACE_TABLE_FULL);
+    wants("route of another prefix", iface_remove_route(host, &network, 17), IFACE_NOT_THERE);
+    wants("remove", iface_remove_route(host, &network, 16), IFACE_OK);
+    wants("remove again", iface_remove_route(host, &network, 16), IFACE_NOT_THERE);
+    a.version = 0, wants("version 0", iface_set_default_route(host, &a), IFACE_BAD_ARGUMENT);
+    a = v4(10, 0, 0, 1), wants("no group", iface_join_group(host, &a), IFACE_BAD_ADDRESS);
+    wants("no group left", iface_leave_group(host, &a), IFACE_BAD_ADDRESS);
+    for (uint8_t i = 0; i < 7; i++) a = v4(239, 1, 1, i), wants("group", iface_join_group(host, &a), IFACE_OK);
+    a = v4(239, 2, 2, 2), wants("ninth group", iface_join_group(host, &a), IFACE_TABLE_FULL);
+    a = v4(239, 1, 1, 3), wants("leave", iface_leave_group(host, &a), IFACE_OK);
+    wants("leave again", iface_leave_group(host, &a), IFACE_OK);
+}
+
+static void refuses_sockets(iface *host) {
+    uint32_t socket = 77, other = 77;
+    size_t n = 77;
+    struct iface_endpoint to = {v4(192, 168, 69, 100), 9}, any = {{0, {0}}, 6969}, from;
+    struct iface_address a = v4(192, 168, 69, 100);
+    any.port = 0, wants("port 0", iface_udp_open(host, &any, 64, 65536, &socket), IFACE_BAD_PORT);
+    any.address.version = 7, wants("version 7", iface_udp_open(host, &any, 64, 65536, &socket), IFACE_BAD_ARGUMENT);
+    wants("version 5", iface_raw_open(host, 5, 89, 1, 1, &socket), IFACE_BAD_ARGUMENT);
+    wants("nothing written", socket, 77);
+    wants("unopened socket", iface_udp_send(host, 0, &to, big, 1), IFACE_NO_SOCKET);
+    wants("unopened socket", iface_udp_receive(host, 0xffffffff, &from, big, sizeof big, &n), IFACE_NO_SOCKET);
+    wants("unopened socket", iface_close(host, 8), IFACE_NO_SOCKET);
+    any = (struct iface_endpoint){{0, {0}}, 6969}, wants("socket", iface_udp_open(host, &any, 64, 65536, &socket), IFACE_OK);
+    wants("its number", socket, 0);
+    wants("raw", iface_raw_open(host, 4, 89, 4, 4096, &other), IFACE_OK);
+    wants("its number", other, 1);
+    wants("another kind", iface_raw_send(host, socket, big, 20), IFACE_NO_SOCKET);
+    wants("another kind", iface_icmp_send(host, other, &a, big, 20), IFACE_NO_SOCKET);
+    wants("empty", iface_udp_receive(host, socket, &from, big, sizeof big, &n), IFACE_EMPTY);
+    wants("nothing written", n, 77);
+    to.port = 0, wants("to port 0", iface_udp_send(host, socket, &to, big, 1), IFACE_BAD_PORT);
+    to = (struct iface_endpoint){v4(0, 0, 0, 0), 9}, wants("to 0.0.0.0", iface_udp_send(host, socket, &to, big, 1), IFACE_BAD_ADDRESS);
+    to = (struct iface_endpoint){v6(0, 0, 0), 9}, wants("to ::", iface_udp_send(host, socket, &to, big, 1), IFACE_BAD_ADDRESS);
+    to.address.version = 0, wants("to version 0", iface_udp_send(host, socket, &to, big, 1), IFACE_BAD_ARGUMENT);
+    to = (struct iface_endpoint){v4(192, 168, 69, 100), 9};
+    wants("4069 octets", iface_udp_send(host, socket, &to, big, 4069), IFACE_TOO_LONG);
+    wants("65536 octets", iface_udp_send(host, socket, &to, big, 65536), IFACE_TOO_LONG);
+    struct iface_endpoint to6 = {v6(0xfe, 0x80, 100), 9};
+    wants("1453 octets", iface_udp_send(host, socket, &to6, big, 1453), IFACE_TOO_LONG);
+    wants("1452 octets", iface_udp_send(host, socket, &to6, big, 1452), IFACE_OK);
+    wants("4068 octets", iface_udp_send(host, socket, &to, big, 4068), IFACE_OK);
+    wants("no octets", iface_udp_send(host, socket, &to, big, 0), IFACE_OK);
+    for (int i = 0; i < 61; i++) wants("queue", iface_udp_send(host, socket, &to, big, 10), IFACE_OK);
+    wants("full queue", iface_udp_send(host, socket, &to, big, 10), IFACE_QUEUE_FULL);
+    for (uint32_t i = 2; i < 8; i++) wants("icmp", iface_icmp_open_ident(host, (uint16_t)i, 2, 256, &other), IFACE_OK);
+    wants("ninth socket", iface_icmp_open_port(host, 6969, 2, 256, &other), IFACE_TABLE_FULL);
+    wants("close", iface_close(host, 5), IFACE_OK);
+    wants("close again", iface_close(host, 5), IFACE_NO_SOCKET);
+    wants("open", iface_icmp_open_port(host, 6969, 2, 256, &other), IFACE_OK);
+    wants("the least number", other, 5);
+}
+
+static void refuses_frames(iface *host) {
+    size_t n = 77;
+    int64_t at = 77;
+    wants("moment -1", iface_next(host, -1, out, sizeof out, &n), IFACE_BAD_MOMENT);
+    wants("moment 2^62+1", iface_next(host, IFACE_LAST_MOMENT + 1, out, sizeof out, &n), IFACE_BAD_MOMENT);
+    wants("moment -1", iface_receive(host, INT64_MIN, big, 60, out, sizeof out, &n), IFACE_BAD_MOMENT);
+    wants("moment -1", iface_poll_at(host, -1, &at), IFACE_BAD_MOMENT);
+    wants("1513 octets of room", iface_next(host, 0, out, 1513, &n), IFACE_NO_ROOM);
+    wants("no room", iface_receive(host, 0, big, 60, out, 0, &n), IFACE_NO_ROOM);
+    wants("nothing written", n == 77 && at == 77, 1);
+    wants("due at once", iface_poll_at(host, 0, &at), IFACE_OK);
+    wants("its instant", (uint64_t)at, 0);
+    wants("empty frame", iface_receive(host, 0, big, 0, out, sizeof out, &n), IFACE_OK);
+    wants("no answer", n, 0);
+    wants("frame of 70000", iface_receive(host, 0, big, 70000, out, sizeof out, &n), IFACE_OK);
+}
+
+/* Noise, and noise behind good headers: no fault, and no frame longer than the room. */
+static void takes_noise(iface *host, int frames) {
+    static const uint8_t head[] = {2, 0, 0, 0, 0, 1, 2, 0, 0, 0, 0, 2, 8, 0, 0x45};
+    static const uint8_t protocols[] = {17, 1, 6, 89, 2};
+    uint64_t seed = 42;
+    int wrong = 0;
+    for (int i = 0; i < frames; i++) {
+        size_t length = word(&seed) % 1515, n;
+        for (size_t k = 0; k < length; k += 8) {
+            uint64_t w = word(&seed);
+            memcpy(big + k, &w, 8);
+        }
+        if (i % 2) memcpy(big, head, sizeof head), big[13] = i % 8 == 1 ? 6 : 0;
+        if (i % 8 == 5) memcpy(big + 12, "\x86\xdd\x60\0\0\0", 6), big[18] = (uint8_t)(length >> 8), big[20] = protocols[i / 8 % 5];
+        if (i % 4 == 3) { /* a header of IPv4 whose checksum is right */
+            uint8_t *p = big + 14;
+            uint32_t sum = 0;
+            if (length < 34) length = 34;
+            size_t total = length - 14;
+            p[1] = 0, p[2] = (uint8_t)(total >> 8), p[3] = (uint8_t)total, p[6] = (uint8_t)(i % 3 ? 0x40 : 0x20), p[7] = 0, p[8] = 64;
+            p[9] = protocols[i / 4 % 5], p[10] = p[11] = 0;
+            memcpy(p + 12, "\xc0\xa8\x45\x64\xc0\xa8\x45\x01", 8);
+            for (int k = 0; k < 20; k += 2) sum += (uint32_t)(p[k] << 8 | p[k + 1]);
+            sum = (sum & 0xffff) + (sum >> 16), sum = ~((sum & 0xffff) + (sum >> 16));
+            p[10] = (uint8_t)(sum >> 8), p[11] = (uint8_t)sum;
+        }
+        wrong += iface_receive(host, i, big, length, out, sizeof out, &n) != IFACE_OK || n > sizeof out;
+        if (i % 16 == 0) wrong += iface_next(host, i, out, sizeof out, &n) != IFACE_OK || n > sizeof out;
+        if (i % 64 == 0) {
+            struct iface_endpoint from;
+            iface_udp_receive(host, 0, &from, big, sizeof big, &n);
+        }
+    }
+    wants("frames of noise that went wrong", (uint64_t)wrong, 0);
+}
+
+int main(int argc, char **argv) {
+    int frames = argc > 1 && strcmp(argv[1], "--short") == 0 ? 20000 : 300000;
+    iface host = IFACE_NONE;
+    refuses_configurations();
+    refuses_without_host();
+    wants("host", iface_new(&host, &good), IFACE_OK);
+    refuses_addresses(&host);
+    refuses_routes_and_groups(&host);
+    refuses_sockets(&host);
+    refuses_frames(&host);
+    takes_noise(&host, frames);
+    wants("free", iface_free(&host), IFACE_OK);
+    printf("misuse: %d checks and %d frames of noise: %d wrong\n", checks, frames, failures);
+    return failures != 0;
+}

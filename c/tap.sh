@@ -1,0 +1,52 @@
+#!/bin/bash
+# Runs tap_host on a TAP device in a network namespace of its own, and talks to it by ping and by tap_peer. It changes
+# nothing outside that namespace, and ends by itself after at most three minutes.
+#
+#   tap.sh TAP_HOST TAP_PEER      the built programs, of Linux
+#
+# It needs: root (for the namespace and the device), unshare (util-linux), ip (iproute2), ping (iputils), /dev/net/tun.
+set -eu
+host=$(realpath "$1")
+peer=$(realpath "$2")
+
+need() {
+    echo "tap.sh: this needs $1" >&2
+    exit 2
+}
+
+if [ -z "${IS_INSIDE:-}" ]; then
+    [ "$(uname)" = Linux ] || need "Linux"
+    [ "$(id -u)" = 0 ] || need "root, for a network namespace and a TAP device"
+    [ -c /dev/net/tun ] || need "/dev/net/tun (modprobe tun)"
+    for tool in unshare ip ping; do
+        command -v "$tool" >/dev/null || need "$tool"
+    done
+    exec env IS_INSIDE=1 timeout 180 unshare -n -- "$0" "$host" "$peer"
+fi
+
+ip link set lo up
+ip tuntap add dev tap0 mode tap
+ip addr add 192.168.69.100/24 dev tap0
+ip -6 addr add fd69::100/64 dev tap0 nodad
+ip link set tap0 up
+"$host" tap0 170 &
+running=$!
+trap 'kill $running 2>/dev/null || true; wait $running || true' EXIT
+sleep 2 # until the kernel may use its link-local address
+
+status=0
+try() {
+    echo "== $*"
+    "$@" || status=1
+}
+try ping -c 3 -i 0.2 192.168.69.1
+try ping -c 3 -i 0.2 fd69::1
+try ping -c 3 -i 0.2 fe80::1%tap0
+try ping -f -q -c 10000 192.168.69.1
+try ping -f -q -c 10000 fd69::1
+try ping -f -q -c 10000 -s 1472 192.168.69.1
+try ping -c 3 -i 0.2 -s 3000 192.168.69.1
+try "$peer"
+echo "== neighbours"
+ip neigh show dev tap0
+exit $status

@@ -1,0 +1,3 @@
+mod AsBox
+mod Networks
+pub mod Values

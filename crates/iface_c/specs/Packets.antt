@@ -1,0 +1,32 @@
+-- What C reads of packets that came, and of the next instant.
+use Rattle.std.specs.Prelude.{ℕ, ℤ, ◌≡◌, ◌-◌, ◌^◌, pos, List, Option, Some, None}
+use Rattle.ip_address.specs.declared.ip.IpAddress.{IpAddress}
+use Rattle.socket_base.specs.declared.endpoint.IpEndpoint.{IpEndpoint}
+use Rattle.iface_host.specs.declared.host.Host.{Host}
+use Rattle.iface_host.specs.Frames.{IsDue}
+use Rattle.iface_host.specs.Sockets as sockets
+use Rattle.iface_c.specs.declared.addresses.IfaceAddress.{IfaceAddress}
+use Rattle.iface_c.specs.declared.addresses.IfaceEndpoint.{IfaceEndpoint}
+use Rattle.iface_c.specs.Addresses.{written, written_end}
+
+-- a datagram was read, and where it came from is written
+pub record ReceivesUdp (n : ℕ) (shown : IfaceEndpoint) (len : ℕ) (out : List ℕ) (old new : Host) : Type 0 where
+  pub remote : IpEndpoint
+  pub received : sockets.ReceivesUdp n remote len out old new
+  pub is_written : shown ≡ written_end remote
+
+pub record ReceivesIcmp (n : ℕ) (shown : IfaceAddress) (len : ℕ) (out : List ℕ) (old new : Host) : Type 0 where
+  pub remote : IpAddress
+  pub received : sockets.ReceivesIcmp n remote len out old new
+  pub is_written : shown ≡ written remote
+
+-- an instant as C reads it: the last number for none
+abbrev pub read_as : Option ℤ → ℤ
+read_as None = pos (2 ^ 63 - 1)
+read_as (Some t) = t
+
+-- the instant that was written
+pub record IsDueAt (t : ℤ) (at : ℤ) (old new : Host) : Type 0 where
+  pub due : Option ℤ
+  pub is_due : IsDue t due old new
+  pub written : at ≡ read_as due

@@ -1,0 +1,280 @@
+//! Hosts: how they are made, given addresses and routes, and freed.
+ghost use Rattle.std.specs.Prelude.{◌≡◌, ◌≢◌, ◌==◌, None, IsSomeAnd, is_some};
+ghost use Rattle.iface_c.specs.Addresses.{address_in, cidr_in};
+ghost use Rattle.iface_c.specs.Calls.{Did, Made, Ruled};
+ghost use Rattle.iface_c.specs.Config.{settings_in};
+ghost use Rattle.iface_c.specs.Handle.{host_in};
+ghost use Rattle.iface_c.specs.Hosts.{ShowsAddress};
+ghost use Rattle.iface_host.specs.Calls.{AddsAddress, AddsRoute, JoinsGroup, LeavesGroup, RemovesAddress, RemovesRoute, SetsDefault};
+ghost use Rattle.iface_host.specs.Stands.{Follows};
+
+use crate::addresses::IfaceAddress;
+use crate::handle::Iface;
+use crate::status::{BAD_ARGUMENT, HAS_HOST, NO_HOST, NO_MEMORY, NOT_THERE, OK, code};
+use iface_host::{Host, Settings};
+use ip_wire::{EthernetAddress, HardwareAddress};
+use std::alloc::Global;
+
+/// How a host is to be made.
+#[repr(C)]
+#[derive(Drop)]
+pub struct IfaceConfig {
+    /// The seed of its random words.
+    pub seed: u64,
+    /// The longest frame, in octets.
+    pub frame_len: u32,
+    /// How many sockets may be open at once.
+    pub sockets: u32,
+    /// Its address on Ethernet.
+    pub hardware_address: [u8; 6],
+    /// 0 for Ethernet, 1 for packets without a header of the link.
+    pub medium: u8,
+    /// Whether it takes addresses from routers: 0, or not.
+    pub slaac: u8,
+}
+
+impl IfaceConfig {
+    /// The settings, if the medium is 0 or 1.
+    fn settings(&self) -> Option<Settings>
+        ensures { result ≡ settings_in self.now }
+    {
+        let hardware_addr = match self.medium {
+            0 => HardwareAddress::Ethernet(EthernetAddress(self.hardware_address)),
+            1 => HardwareAddress::Ip,
+            _ => return None,
+        };
+        Some(Settings {
+            random_seed: self.seed,
+            hardware_addr,
+            frame_len: self.frame_len as usize,
+            slaac: self.slaac != 0,
+            sockets: self.sockets as usize,
+        })
+    }
+}
+
+/// Makes a host, which its handle owns from then on.
+#[unsafe(no_mangle)]
+pub extern "C" fn iface_new(handle: &mut Iface, alloc: Global, config: &IfaceConfig) -> u32
+    ensures { Made result config.now handle.old handle.new }
+{
+    if handle.is_made() {
+        return HAS_HOST;
+    }
+    let Some(settings) = config.settings() else {
+        return BAD_ARGUMENT;
+    };
+    match Host::new(alloc, &settings) {
+        Ok(host) => match Box::new(alloc, host) {
+            Ok(boxed) => {
+                handle.put(boxed);
+                OK
+            }
+            Err(_) => NO_MEMORY,
+        },
+        Err(refusal) => code(refusal),
+    }
+}
+
+/// Frees a host with all that it holds: its handle owns none from then on.
+#[unsafe(no_mangle)]
+pub extern "C" fn iface_free(handle: &mut Iface, alloc: Global) -> u32
+    ensures freed { host_in handle.new ≡ None }
+    ensures code { (result == 0) ≡ is_some (host_in handle.old) }
+{
+    match handle.take(alloc) {
+        Some(host) => {
+            drop(host);
+            OK
+        }
+        None => NO_HOST,
+    }
+}
+
+/// Adds an own address with its network.
+#[unsafe(no_mangle)]
+pub extern "C" fn iface_add_address(
+    handle: &mut Iface,
+    alloc: Global,
+    address: &IfaceAddress,
+    prefix_len: u8,
+) -> u32
+    ensures { Ruled result (λ old new. IsSomeAnd (cidr_in address.now prefix_len) (λ cidr. Follows (AddsAddress cidr) old new)) handle.old handle.new }
+{
+    let Some(cidr) = address.cidr(prefix_len) else {
+        return BAD_ARGUMENT;
+    };
+    let Some(mut host) = handle.take(alloc) else {
+        return NO_HOST;
+    };
+    let done = host.add_address(cidr);
+    handle.put(host);
+    match done {
+        Ok(()) => OK,
+        Err(refusal) => code(refusal),
+    }
+}
+
+/// Takes out an own address.
+#[unsafe(no_mangle)]
+pub extern "C" fn iface_remove_address(
+    handle: &mut Iface,
+    alloc: Global,
+    address: &IfaceAddress,
+    prefix_len: u8,
+) -> u32
+    ensures { Ruled result (λ old new. IsSomeAnd (cidr_in address.now prefix_len) (λ cidr. Follows (RemovesAddress cidr) old new)) handle.old handle.new }
+{
+    let Some(cidr) = address.cidr(prefix_len) else {
+        return BAD_ARGUMENT;
+    };
+    let Some(mut host) = handle.take(alloc) else {
+        return NO_HOST;
+    };
+    let done = host.remove_address(cidr);
+    handle.put(host);
+    match done {
+        Ok(()) => OK,
+        Err(refusal) => code(refusal),
+    }
+}
+
+/// Sets the default route of a family.
+#[unsafe(no_mangle)]
+pub extern "C" fn iface_set_default_route(
+    handle: &mut Iface,
+    alloc: Global,
+    gateway: &IfaceAddress,
+) -> u32
+    ensures { Ruled result (λ old new. IsSomeAnd (address_in gateway.now) (λ via. Follows (SetsDefault via) old new)) handle.old handle.new }
+{
+    let Some(gateway) = gateway.ip() else {
+        return BAD_ARGUMENT;
+    };
+    let Some(mut host) = handle.take(alloc) else {
+        return NO_HOST;
+    };
+    let done = host.set_default_route(gateway);
+    handle.put(host);
+    match done {
+        Ok(()) => OK,
+        Err(refusal) => code(refusal),
+    }
+}
+
+/// Adds a route to a network by a router.
+#[unsafe(no_mangle)]
+pub extern "C" fn iface_add_route(
+    handle: &mut Iface,
+    alloc: Global,
+    network: &IfaceAddress,
+    prefix_len: u8,
+    router: &IfaceAddress,
+) -> u32
+    ensures { Ruled result (λ old new. IsSomeAnd (cidr_in network.now prefix_len) (λ cidr. IsSomeAnd (address_in router.now) (λ via. Follows (AddsRoute cidr via) old new))) handle.old handle.new }
+{
+    let Some(cidr) = network.cidr(prefix_len) else {
+        return BAD_ARGUMENT;
+    };
+    let Some(router) = router.ip() else {
+        return BAD_ARGUMENT;
+    };
+    let Some(mut host) = handle.take(alloc) else {
+        return NO_HOST;
+    };
+    let done = host.add_route(cidr, router);
+    handle.put(host);
+    match done {
+        Ok(()) => OK,
+        Err(refusal) => code(refusal),
+    }
+}
+
+/// Takes out a route to a network.
+#[unsafe(no_mangle)]
+pub extern "C" fn iface_remove_route(
+    handle: &mut Iface,
+    alloc: Global,
+    network: &IfaceAddress,
+    prefix_len: u8,
+) -> u32
+    ensures { Ruled result (λ old new. IsSomeAnd (cidr_in network.now prefix_len) (λ cidr. Follows (RemovesRoute cidr) old new)) handle.old handle.new }
+{
+    let Some(cidr) = network.cidr(prefix_len) else {
+        return BAD_ARGUMENT;
+    };
+    let Some(mut host) = handle.take(alloc) else {
+        return NO_HOST;
+    };
+    let done = host.remove_route(cidr);
+    handle.put(host);
+    match done {
+        Ok(()) => OK,
+        Err(refusal) => code(refusal),
+    }
+}
+
+/// Joins a group.
+#[unsafe(no_mangle)]
+pub extern "C" fn iface_join_group(handle: &mut Iface, alloc: Global, group: &IfaceAddress) -> u32
+    ensures { Ruled result (λ old new. IsSomeAnd (address_in group.now) (λ joined. Follows (JoinsGroup joined) old new)) handle.old handle.new }
+{
+    let Some(group) = group.ip() else {
+        return BAD_ARGUMENT;
+    };
+    let Some(mut host) = handle.take(alloc) else {
+        return NO_HOST;
+    };
+    let done = host.join_group(group);
+    handle.put(host);
+    match done {
+        Ok(()) => OK,
+        Err(refusal) => code(refusal),
+    }
+}
+
+/// Leaves a group.
+#[unsafe(no_mangle)]
+pub extern "C" fn iface_leave_group(handle: &mut Iface, alloc: Global, group: &IfaceAddress) -> u32
+    ensures { Ruled result (λ old new. IsSomeAnd (address_in group.now) (λ left. Follows (LeavesGroup left) old new)) handle.old handle.new }
+{
+    let Some(group) = group.ip() else {
+        return BAD_ARGUMENT;
+    };
+    let Some(mut host) = handle.take(alloc) else {
+        return NO_HOST;
+    };
+    let done = host.leave_group(group);
+    handle.put(host);
+    match done {
+        Ok(()) => OK,
+        Err(refusal) => code(refusal),
+    }
+}
+
+/// Writes the own address at a place of their list.
+#[unsafe(no_mangle)]
+pub extern "C" fn iface_address_at(
+    handle: &mut Iface,
+    alloc: Global,
+    place: u32,
+    address: &mut IfaceAddress,
+    prefix_len: &mut u8,
+) -> u32
+    ensures shown { Did result (λ old new. ShowsAddress place address.new prefix_len.new old new) handle.old handle.new }
+    ensures kept { result ≢ 0 → (address.new ≡ address.old) × (prefix_len.new ≡ prefix_len.old) }
+{
+    let Some(host) = handle.take(alloc) else {
+        return NO_HOST;
+    };
+    let found = host.address_at(place as usize);
+    handle.put(host);
+    match found {
+        Some(cidr) => {
+            *address = IfaceAddress::of(&cidr.address());
+            *prefix_len = cidr.prefix_len();
+            OK
+        }
+        None => NOT_THERE,
+    }
+}

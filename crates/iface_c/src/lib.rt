@@ -1,0 +1,18 @@
+//! The calls of a host (crate `iface_host`) for C. `c/iface.h` says what each does.
+//!
+//! C keeps a host by a handle of two words, which owns it. Each call takes the host out of its handle and puts it
+//! back, and answers by a code: 0, or why it was refused.
+#![tactic(auto)]
+
+pub mod addresses;
+pub mod frames;
+pub mod handle;
+pub mod hosts;
+pub mod loose;
+pub mod opening;
+pub mod packets;
+pub mod status;
+
+pub use addresses::{IfaceAddress, IfaceEndpoint};
+pub use handle::Iface;
+pub use hosts::IfaceConfig;

@@ -1,0 +1,174 @@
+//! Sockets: opened and closed.
+ghost use Rattle.std.specs.Prelude.{◌≡◌, ◌≢◌, IsSomeAnd};
+ghost use Rattle.iface_c.specs.Addresses.{listen_end_in, version_in};
+ghost use Rattle.iface_c.specs.Calls.{Did};
+ghost use Rattle.iface_host.specs.Sockets.{Closes, Opens, icmp, raw, udp};
+ghost use Rattle.ip_address.specs.Protocol.{protocol_of};
+ghost use Rattle.network_sockets.specs.declared.icmp.Endpoint.TheVariants as endpoint;
+
+use crate::addresses::IfaceEndpoint;
+use crate::handle::Iface;
+use crate::status::{BAD_ARGUMENT, NO_HOST, OK, code};
+use iface_host::Room;
+use ip_wire::{IpProtocol, IpVersion};
+use sockets::icmp;
+use std::alloc::Global;
+
+/// The version of IP of a number, if it is 4 or 6.
+fn version_of(number: u8) -> Option<IpVersion>
+    ensures { result ≡ version_in number }
+{
+    match number {
+        4 => Some(IpVersion::Ipv4),
+        6 => Some(IpVersion::Ipv6),
+        _ => None,
+    }
+}
+
+/// Opens a UDP socket, and writes its number.
+#[unsafe(no_mangle)]
+pub extern "C" fn iface_udp_open(
+    handle: &mut Iface,
+    alloc: Global,
+    local: &IfaceEndpoint,
+    packets: u32,
+    octets: u32,
+    socket: &mut u32,
+) -> u32
+    ensures done { Did result (λ old new. IsSomeAnd (listen_end_in local.now) (λ end. Opens (udp end (record { packets = packets; octets = octets })) socket.new old new)) handle.old handle.new }
+    ensures kept { result ≢ 0 → socket.new ≡ socket.old }
+{
+    let Some(local) = local.listen_end() else {
+        return BAD_ARGUMENT;
+    };
+    let room = Room {
+        packets: packets as usize,
+        octets: octets as usize,
+    };
+    let Some(mut host) = handle.take(alloc) else {
+        return NO_HOST;
+    };
+    let done = host.open_udp(local, room);
+    handle.put(host);
+    match done {
+        Ok(number) => {
+            *socket = number;
+            OK
+        },
+        Err(refusal) => code(refusal),
+    }
+}
+
+/// Opens a raw socket, and writes its number.
+#[unsafe(no_mangle)]
+pub extern "C" fn iface_raw_open(
+    handle: &mut Iface,
+    alloc: Global,
+    version: u8,
+    protocol: u8,
+    packets: u32,
+    octets: u32,
+    socket: &mut u32,
+) -> u32
+    ensures done { Did result (λ old new. IsSomeAnd (version_in version) (λ v. Opens (raw v (protocol_of protocol) (record { packets = packets; octets = octets })) socket.new old new)) handle.old handle.new }
+    ensures kept { result ≢ 0 → socket.new ≡ socket.old }
+{
+    let Some(version) = version_of(version) else {
+        return BAD_ARGUMENT;
+    };
+    let protocol = IpProtocol::from_number(protocol);
+    let room = Room {
+        packets: packets as usize,
+        octets: octets as usize,
+    };
+    let Some(mut host) = handle.take(alloc) else {
+        return NO_HOST;
+    };
+    let done = host.open_raw(version, protocol, room);
+    handle.put(host);
+    match done {
+        Ok(number) => {
+            *socket = number;
+            OK
+        },
+        Err(refusal) => code(refusal),
+    }
+}
+
+/// Opens an ICMP socket for echo messages with an identifier, and writes its number.
+#[unsafe(no_mangle)]
+pub extern "C" fn iface_icmp_open_ident(
+    handle: &mut Iface,
+    alloc: Global,
+    ident: u16,
+    packets: u32,
+    octets: u32,
+    socket: &mut u32,
+) -> u32
+    ensures done { Did result (λ old new. Opens (icmp (endpoint.Ident ident) (record { packets = packets; octets = octets })) socket.new old new) handle.old handle.new }
+    ensures kept { result ≢ 0 → socket.new ≡ socket.old }
+{
+    let room = Room {
+        packets: packets as usize,
+        octets: octets as usize,
+    };
+    let Some(mut host) = handle.take(alloc) else {
+        return NO_HOST;
+    };
+    let done = host.open_icmp(icmp::Endpoint::Ident(ident), room);
+    handle.put(host);
+    match done {
+        Ok(number) => {
+            *socket = number;
+            OK
+        },
+        Err(refusal) => code(refusal),
+    }
+}
+
+/// Opens an ICMP socket for port unreachables for a UDP port of ours, and writes its number.
+#[unsafe(no_mangle)]
+pub extern "C" fn iface_icmp_open_port(
+    handle: &mut Iface,
+    alloc: Global,
+    port: u16,
+    packets: u32,
+    octets: u32,
+    socket: &mut u32,
+) -> u32
+    ensures done { Did result (λ old new. Opens (icmp (endpoint.Udp port) (record { packets = packets; octets = octets })) socket.new old new) handle.old handle.new }
+    ensures kept { result ≢ 0 → socket.new ≡ socket.old }
+{
+    let room = Room {
+        packets: packets as usize,
+        octets: octets as usize,
+    };
+    let Some(mut host) = handle.take(alloc) else {
+        return NO_HOST;
+    };
+    let done = host.open_icmp(icmp::Endpoint::Udp(port), room);
+    handle.put(host);
+    match done {
+        Ok(number) => {
+            *socket = number;
+            OK
+        },
+        Err(refusal) => code(refusal),
+    }
+}
+
+/// Closes a socket.
+#[unsafe(no_mangle)]
+pub extern "C" fn iface_close(handle: &mut Iface, alloc: Global, socket: u32) -> u32
+    ensures { Did result (λ old new. Closes socket old new) handle.old handle.new }
+{
+    let Some(mut host) = handle.take(alloc) else {
+        return NO_HOST;
+    };
+    let done = host.close(socket);
+    handle.put(host);
+    match done {
+        Ok(()) => OK,
+        Err(refusal) => code(refusal),
+    }
+}

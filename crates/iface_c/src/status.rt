@@ -1,0 +1,45 @@
+//! Codes: what calls answer.
+ghost use Rattle.std.specs.Prelude.{◌≡◌, ◌≢◌, pos};
+ghost use Rattle.iface_c.specs.Status.{code_of};
+
+use iface_host::Refusal;
+
+/// The call is done.
+pub const OK: u32 = 0;
+
+/// The handle owns no host.
+pub const NO_HOST: u32 = 1;
+
+/// The handle owns a host already.
+pub const HAS_HOST: u32 = 2;
+
+/// The version of IP is neither 4 nor 6, the prefix is longer than an address, or the medium is neither 0 nor 1.
+pub const BAD_ARGUMENT: u32 = 3;
+
+/// Memory is refused.
+pub const NO_MEMORY: u32 = 4;
+
+/// There is no such address.
+pub const NOT_THERE: u32 = 9;
+
+/// The code of a refusal.
+pub fn code(refusal: Refusal) -> u32
+    ensures code { result ≡ code_of refusal }
+    ensures refuses { result ≢ 0 }
+{
+    match refusal {
+        Refusal::NoMemory => 4,
+        Refusal::BadMtu => 5,
+        Refusal::NotUnicast => 6,
+        Refusal::BadMoment => 7,
+        Refusal::BadAddress => 8,
+        Refusal::NotThere => 9,
+        Refusal::TableFull => 10,
+        Refusal::NoSocket => 11,
+        Refusal::BadPort => 12,
+        Refusal::TooLong => 13,
+        Refusal::QueueFull => 14,
+        Refusal::Empty => 15,
+        Refusal::NoRoom => 16,
+    }
+}
