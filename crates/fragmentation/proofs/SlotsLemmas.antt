@@ -14,14 +14,14 @@ use Rattle.fragmentation.proofs.KeyLemmas.{key_tied, keys_equal, get_put, get_pu
 
 module _ {K : Type 0} (key_of : K → FragKey) where
   -- its key, and that the others stand for the rest
-  cases : (s : Assembly K) (Others : Slots → Type 0) (m : Slots) (P : Option K → Type 0) → StandsBefore key_of s s.key Others m → (s.key ≡ None → Others m → P None) → ((k : K) → s.key ≡ Some k → StandsAt s (key_of k) m → Others (map.remove m (key_of k)) → P (Some k)) → P s.key
+  pub cases : (s : Assembly K) (Others : Slots → Type 0) (m : Slots) (P : Option K → Type 0) → StandsBefore key_of s s.key Others m → (s.key ≡ None → Others m → P None) → ((k : K) → s.key ≡ Some k → StandsAt s (key_of k) m → Others (map.remove m (key_of k)) → P (Some k)) → P s.key
   cases s Others m P h none some =
       elim s.key as (λ o. s.key ≡ o → StandsBefore key_of s o Others m → P o) [
         | None ↦ λ e h. none e h
         | Some k ↦ λ e h. some k e h.0 h.1
       ] refl h
 
-  key_is : (s : Assembly K) (Others : Slots → Type 0) (m : Slots) (o : Option K) → s.key ≡ o → StandsBefore key_of s o Others m → StandsBefore key_of s s.key Others m
+  pub key_is : (s : Assembly K) (Others : Slots → Type 0) (m : Slots) (o : Option K) → s.key ≡ o → StandsBefore key_of s o Others m → StandsBefore key_of s s.key Others m
   key_is s Others m o e h = subst (λ (o : Option K). StandsBefore key_of s o Others m) (sym e) h
 
   same_place : (s new : Assembly K) (Others : Slots → Type 0) (m : Slots) (o : Option K) → new ≡ s → s.key ≡ o → StandsBefore key_of s o Others m → StandsBefore key_of new new.key Others m

@@ -1,5 +1,5 @@
 -- What a place for a datagram in fragments is seen as.
-use Rattle.std.specs.Prelude.{◌≡◌, ◌+◌, ◌<◌, [], ◌∷◌, ◌++◌, is_none, length, take, drop, ℕ, ℤ, pos, ◌&&◌, ◌||◌, List, Option, None, Some, Bool, true, false, ◌==◌, not, nat_lt, nat_le, int_lt, if◌then◌else◌}
+use Rattle.std.specs.Prelude.{◌≡◌, ◌+◌, ◌<◌, [], ◌∷◌, ◌++◌, is_none, length, slice_get, take, drop, ℕ, zero, suc, ℤ, pos, ◌&&◌, ◌||◌, List, Option, None, Some, Bool, true, false, ◌==◌, not, nat_lt, nat_le, int_lt, if◌then◌else◌}
 use Rattle.net_base.specs.declared.assembler.Range.{Range}
 use Rattle.net_base.specs.Ranges.{front, covered, add_range, AreSeparate}
 
@@ -69,6 +69,46 @@ module _ {K : Type 0} where
   -- where it is free, it is taken for a key until an end
   abbrev pub taken : K → ℤ → Assembly K → Assembly K
   taken k end s = if is_none s.key then record { key = Some k; expires_at = end; total = None; ranges = []; octets = s.octets } else s
+
+  -- where it is taken, it is taken for this key, if there is one, and else free
+  abbrev pub with_key : Option K → Assembly K → Assembly K
+  with_key o s = record s { key = if is_none s.key then None else o }
+
+  -- each place with its key
+  abbrev pub with_keys : List (Option K) → List (Assembly K) → List (Assembly K)
+  with_keys [] ss = []
+  with_keys (o ∷ os) [] = []
+  with_keys (o ∷ os) (s ∷ ss) = with_key o s ∷ with_keys os ss
+
+  -- for which key each place is taken
+  abbrev pub keys_of : List (Assembly K) → List (Option K)
+  keys_of [] = []
+  keys_of (s ∷ ss) = s.key ∷ keys_of ss
+
+  -- the place at i is taken for a key until an end, where it is free
+  abbrev pub taken_at : ℕ → K → ℤ → List (Assembly K) → List (Assembly K)
+  taken_at i k end [] = []
+  taken_at zero k end (s ∷ ss) = taken k end s ∷ ss
+  taken_at (suc i) k end (s ∷ ss) = s ∷ taken_at i k end ss
+
+  -- its ranges are apart and within its octets
+  pub record IsSound (s : Assembly K) : Type 0 where
+    pub ranges : AreSound s.ranges
+    pub octets : length s.octets ≡ 4096
+
+  abbrev pub AllSound : List (Assembly K) → Type 0
+  AllSound [] = Unit {0}
+  AllSound (s ∷ ss) = IsSound s × AllSound ss
+
+  -- no key has two places
+  abbrev pub AreApart : List (Option K) → Type 0
+  AreApart os = (i j : ℕ) (k : K) → slice_get os i ≡ Some (Some k) → slice_get os j ≡ Some (Some k) → i ≡ j
+
+  -- two keys for two places, and no key for both
+  pub record AreKept (os : List (Option K)) (ss : List (Assembly K)) : Type 0 where
+    pub keys : length os ≡ 2
+    pub places : length ss ≡ 2
+    pub apart : AreApart os
 
   -- the place of the key, or the length
   abbrev pub keyed : (K → K → Bool) → K → List (Assembly K) → ℕ

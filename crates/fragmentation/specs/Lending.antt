@@ -1,8 +1,8 @@
 -- What a place, and a set of them, end as once what they lent is given back.
-use Rattle.std.specs.Prelude.{◌≡◌, ℕ, List, slice_set, Result, Option, None, Some}
+use Rattle.std.specs.Prelude.{◌≡◌, ℕ, List, slice_set, Result, Ok, Err, Option, None, Some}
 use Rattle.std.specs.Borrow.{LendsIfOk, Fml, RattleType, MutBor}
 use Rattle.std.specs.Io.BufRead.{Rests}
-use Rattle.fragmentation.specs.Assembly.{Assembly, freed}
+use Rattle.fragmentation.specs.Assembly.{Assembly, freed, with_key}
 use Rattle.fragmentation.specs.contracts.reassembly.PacketAssembler.{the_row}
 use Rattle.fragmentation.specs.contracts.reassembly.PacketAssemblerSet as set
 
@@ -16,6 +16,11 @@ module _ (K : RattleType) (s : MutBor (Assembly K.Denot)) where
   Frees r = Rests (the_row K) s (FreedIfLent s.now r)
 
 module _ (K : RattleType) (s : MutBor (List (Assembly K.Denot))) where
-  -- a place ends as what the reference shows last. A refusal changes nothing
+  -- the key for which the place is taken that the reference shows
+  abbrev pub key_of : {E : Type 0} → Result (MutBor (Assembly K.Denot)) E → Option K.Denot
+  key_of (Ok place) = place.now.key
+  key_of (Err e) = None
+
+  -- a place ends as what the reference shows last, but that it is of the key for which it was lent, or free. A refusal changes nothing
   abbrev pub LendsPlace : {E : Type 0} → ℕ → Result (MutBor (Assembly K.Denot)) E → Fml
-  LendsPlace i r = LendsIfOk (set.the_row K) (the_row K) s r (slice_set s.now i) s.now
+  LendsPlace i r = LendsIfOk (set.the_row K) (the_row K) s r (λ w. slice_set s.now i (with_key (key_of r) w)) s.now

@@ -5,7 +5,7 @@
 ghost use Rattle.std.specs.Prelude.{◌≡◌, List, ◌↔◌, ◌≤◌, ◌<◌, ◌+◌, ◌-◌, ℕ, Bool, nat_le, nat_lt, ◌&&◌, IsTrue, is_none, IsSome, false, IsOk, IsErr, slice_index, slice_index_or, if◌then◌else◌, IfOk, OnOk, OnErr, IfSome, map as each, length, None, Some};
 ghost use Rattle.std.specs.Borrow.{sem};
 ghost use Rattle.fragmentation.specs.Assembly as spec;
-ghost use Rattle.fragmentation.specs.Assembly.{written, keyed, free_place, left_at};
+ghost use Rattle.fragmentation.specs.Assembly.{written, keyed, free_place, left_at, with_keys, keys_of, taken_at, AllSound};
 ghost use Rattle.fragmentation.specs.Stands.{fragment};
 ghost use Rattle.fragmentation.specs.Reassembled.{RestsReassembled};
 
@@ -56,7 +56,7 @@ impl<K> Model for PacketAssembler<K> {
 }
 
 impl<K> PacketAssembler<K> {
-    ghost use Rattle.fragmentation.specs.Assembly.{IsFree};
+    ghost use Rattle.fragmentation.specs.Assembly.{IsFree, IsSound};
 
     /// A free place.
     pub fn new() -> PacketAssembler<K>
@@ -82,6 +82,13 @@ impl<K> PacketAssembler<K> {
         ensures { result ≡ is_none self.now.key }
     {
         self.key.is_none()
+    }
+
+    // States what is so of a place by its type.
+    fn is_sound(&self)
+        ensures { IsSound self.now }
+    {
+        has_its_octets(&self.buffer);
     }
 }
 
@@ -205,20 +212,37 @@ impl<K: Drop> PacketAssembler<K> {
     }
 }
 
+impl<K: Copy> PacketAssembler<K> {
+    ghost use Rattle.fragmentation.specs.Assembly.{with_key};
+
+    // Where the place is taken, it is taken for this key from now on, and free without one. Tells its key.
+    fn keep_key(&mut self, key: Option<K>) -> Option<K>
+        ensures kept { self.new ≡ with_key key self.old }
+        ensures value { result ≡ self.new.key }
+    {
+        if self.key.is_some() {
+            self.key = key;
+        }
+        self.key
+    }
+}
+
 impl<K: Eq> PacketAssembler<K> {
     ghost use Rattle.fragmentation.specs.Assembly.{has_key, taken};
 
-    // Takes the place for the key, where it is free.
-    fn take_for(&mut self, key: &K, end: Instant)
+    // Takes the place for the key, where it is free, and tells its key.
+    fn take_for(&mut self, key: &K, end: Instant) -> Option<K>
     where
         K: Copy,
-        ensures { self.new ≡ taken key.now end self.old }
+        ensures taken { self.new ≡ taken key.now end self.old }
+        ensures value { result ≡ self.new.key }
     {
         if self.key.is_none() {
             self.reset();
             self.key = Some(*key);
             self.expires_at = end;
         }
+        self.key
     }
 
     fn is_for(&self, key: &K) -> bool
@@ -230,6 +254,11 @@ impl<K: Eq> PacketAssembler<K> {
         }
     }
 }
+
+// States that a buffer has as many octets as its type says.
+fn has_its_octets(buffer: &[u8; REASSEMBLY_BUFFER_SIZE])
+    ensures { length buffer.now ≡ 4096 }
+{}
 
 // Whether octets from a place on end beyond the buffer.
 fn ends_beyond(octets: &[u8], offset: usize) -> bool
@@ -246,23 +275,25 @@ fn write(buffer: &mut [u8], offset: usize, octets: &[u8])
     buffer[offset..offset + octets.len()].copy_from_slice(octets);
 }
 
-/// Two places for datagrams, each for the fragments of one key.
+/// Two places for datagrams, each for the fragments of one key, and no two for one key.
 ///
-/// In contracts it is the list of the places.
+/// In contracts it is the list of the places. Since the set keeps the keys itself, a place that was lent
+/// stays of the key for which it was lent, or is free, whatever is left in it.
 #[derive(Drop)]
 pub struct PacketAssemblerSet<K> {
+    keys: ArrayVec<Option<K>, REASSEMBLY_BUFFER_COUNT>,
     assemblers: ArrayVec<PacketAssembler<K>, REASSEMBLY_BUFFER_COUNT>,
 }
 
 impl<K> Model for PacketAssemblerSet<K> {
-    ghost use Rattle.std.specs.Prelude.{◌≡◌, List, length};
-    ghost use Rattle.fragmentation.specs.Assembly.{Assembly};
+    ghost use Rattle.std.specs.Prelude.{List};
+    ghost use Rattle.fragmentation.specs.Assembly.{Assembly, with_keys, AreKept};
 
     ghost Value = { List (Assembly K) };
 
-    ghost view = { λ a. a.assemblers.items };
+    ghost view = { λ a. with_keys a.keys.items a.assemblers.items };
 
-    ghost invariant = { λ a. length a.assemblers.items ≡ 2 };
+    ghost invariant = { λ a. AreKept a.keys.items a.assemblers.items };
 }
 
 impl<K: Eq + Copy> PacketAssemblerSet<K> {
@@ -284,12 +315,14 @@ impl<K: Eq + Copy> PacketAssemblerSet<K> {
         ensures within { place_for K.eq key.now self.old ≤ length self.old }
         ensures two { length self.old ≡ 2 }
     {
-        let place = place_for(self.assemblers.as_slice(), key);
+        let place = take(
+            self.keys.as_mut_slice(),
+            self.assemblers.as_mut_slice(),
+            key,
+            end,
+        );
         match self.assemblers.get_mut(place) {
-            Some(assembler) => {
-                assembler.take_for(key, end);
-                Ok(assembler)
-            }
+            Some(assembler) => Ok(assembler),
             None => Err(AssemblerFullError),
         }
     }
@@ -309,10 +342,13 @@ impl<K: Drop> PacketAssemblerSet<K> {
         ensures free { AreFree result }
         ensures stands { (key_of : K → FragKey) → StandForSlotsOf key_of result map.empty }
     {
+        let mut keys = ArrayVec::new();
+        keys.push(None);
+        keys.push(None);
         let mut assemblers = ArrayVec::new();
         assemblers.push(PacketAssembler::new());
         assemblers.push(PacketAssembler::new());
-        PacketAssemblerSet { assemblers }
+        PacketAssemblerSet { keys, assemblers }
     }
 
     /// Frees the places whose end lies before a moment.
@@ -321,7 +357,24 @@ impl<K: Drop> PacketAssemblerSet<K> {
         ensures places { self.new ≡ each (left_at timestamp) self.old }
         ensures stands { (key_of : K → FragKey) (m : Slots) → StandForSlotsOf key_of self.old m → StandForSlotsOf key_of self.new (slots.left_at timestamp m) }
     {
-        drop_expired(self.assemblers.as_mut_slice(), timestamp);
+        drop_expired(
+            self.keys.as_slice(),
+            self.assemblers.as_mut_slice(),
+            timestamp,
+        );
+    }
+}
+
+impl PacketAssemblerSet<FragKey> {
+    ghost use Rattle.fragmentation.specs.Slots.{Slots};
+    ghost use Rattle.fragmentation.specs.Stands.{StandForSlots};
+
+    /// States, for those who prove something of a set, that there are slots for which its places stand: no two
+    /// of them for the slot of one key. It does nothing.
+    pub fn stands_for_slots(&self)
+        ensures { (slots : Slots) × StandForSlots self.now slots }
+    {
+        are_sound(self.assemblers.as_slice());
     }
 }
 
@@ -356,12 +409,64 @@ pub fn reassemble<'s>(
 
 // Frees the places whose end lies before a moment.
 #[inline(always)]
-fn drop_expired<K: Drop>(assemblers: &mut [PacketAssembler<K>], timestamp: Instant)
-    requires { length assemblers.old ≡ 2 }
-    ensures { assemblers.new ≡ each (left_at timestamp) assemblers.old }
+fn drop_expired<K: Drop>(
+    keys: &[Option<K>],
+    assemblers: &mut [PacketAssembler<K>],
+    timestamp: Instant,
+)
+    requires keys { length keys.now ≡ 2 }
+    requires places { length assemblers.old ≡ 2 }
+    ensures left { with_keys keys.now assemblers.new ≡ each (left_at timestamp) (with_keys keys.now assemblers.old) }
+    ensures places { length assemblers.new ≡ 2 }
 {
-    assemblers[0].leave_at(timestamp);
-    assemblers[1].leave_at(timestamp);
+    if keys[0].is_some() {
+        assemblers[0].leave_at(timestamp);
+    }
+    if keys[1].is_some() {
+        assemblers[1].leave_at(timestamp);
+    }
+}
+
+// States what is so of two places by their type.
+fn are_sound<K>(assemblers: &[PacketAssembler<K>])
+    requires { length assemblers.now ≡ 2 }
+    ensures { AllSound assemblers.now }
+{
+    assemblers[0].is_sound();
+    assemblers[1].is_sound();
+}
+
+// Takes a free place for the key, if it has none, and tells which place serves it. The keys are those of the places
+// then.
+fn take<K: Eq + Copy>(
+    keys: &mut [Option<K>],
+    assemblers: &mut [PacketAssembler<K>],
+    key: &K,
+    end: Instant,
+) -> usize
+    requires keys { length keys.old ≡ 2 }
+    requires places { length assemblers.old ≡ 2 }
+    ensures place { result ≡ spec.place_for K.eq key.now (with_keys keys.old assemblers.old) }
+    ensures taken { assemblers.new ≡ taken_at (spec.place_for K.eq key.now (with_keys keys.old assemblers.old)) key.now end (with_keys keys.old assemblers.old) }
+    ensures keys { keys.new ≡ keys_of assemblers.new }
+{
+    keep_keys(keys, assemblers);
+    let place = place_for(assemblers, key);
+    if place < 2 {
+        keys[place] = assemblers[place].take_for(key, end);
+    }
+    place
+}
+
+// Each place that is taken is taken for its key among these, and each free one has none from now on.
+fn keep_keys<K: Copy>(keys: &mut [Option<K>], assemblers: &mut [PacketAssembler<K>])
+    requires keys { length keys.old ≡ 2 }
+    requires places { length assemblers.old ≡ 2 }
+    ensures places { assemblers.new ≡ with_keys keys.old assemblers.old }
+    ensures keys { keys.new ≡ keys_of assemblers.new }
+{
+    keys[0] = assemblers[0].keep_key(keys[0]);
+    keys[1] = assemblers[1].keep_key(keys[1]);
 }
 
 // The place of the key, or else the first free one, or else the length.

@@ -2,6 +2,7 @@ use Rattle.std.proofs.Common.{refl, sym}
 use Rattle.fragmentation.specs.contracts.key.FragKeyPartialEq.TheImpl.{eq-value}
 use Rattle.fragmentation.specs.Stands.{fragment}
 use Rattle.fragmentation.proofs.KeyLemmas.{key_ties}
+use Rattle.fragmentation.proofs.KeptLemmas.{with_own, lent_left}
 use Rattle.fragmentation.proofs.ReassemblyLemmas.{below, no_slot, unfit, fit_then}
 use Rattle.fragmentation.proofs.reassembly.reassemble.Goals as goal
 
@@ -13,7 +14,7 @@ returns-then-not-accept c = (
     λ m h.
         let f = fragment c.args.offset c.args.payload.now c.args.is_last in
         let l = below _ _ c.in-Ok.ensures.within c.in-Ok.ensures.refused.1 in
-        rw (c.accept.ensures.unfit c.if-not-accept.true) (unfit eq-value.it key_ties c.args.end c.args.key.now m c.args.slots.now c.in-Ok.ensures.two h f c.in-Ok.assembler.now l c.in-Ok.ensures.value (sym c.if-not-accept.ensures.fit)),
+        rw (c.accept.ensures.unfit c.if-not-accept.true, with_own c.in-Ok.assembler.now.key c.in-Ok.assembler.now refl) (unfit eq-value.it key_ties c.args.end c.args.key.now m c.args.slots.now c.in-Ok.ensures.two h f c.in-Ok.assembler.now l c.in-Ok.ensures.value (sym c.if-not-accept.ensures.fit)),
   ),
   record { rests = tt; short = tt },
 )
@@ -26,8 +27,9 @@ returns-else-not-accept c = (
     λ m h.
         let f = fragment c.args.offset c.args.payload.now c.args.is_last in
         let l = below _ _ c.in-Ok.ensures.within c.in-Ok.ensures.refused.1 in
-        fit_then eq-value.it key_ties c.args.end c.args.key.now m c.args.slots.now c.in-Ok.ensures.two h f c.in-Ok.assembler.now c.accept.new.self c.assemble.follows.lender-at-none c.assemble.result l c.in-Ok.ensures.value
-        (sym c.if-not-accept.ensures.fit) c.accept.ensures.key c.accept.ensures.end c.accept.ensures.gathers c.assemble.follows.holds-at-none c.assemble.ensures.found c.assemble.ensures.rebuilt,
+        rw (lent_left c.in-Ok.assembler.now c.accept.new.self c.assemble.follows.lender-at-none c.assemble.result c.accept.ensures.key c.assemble.follows.holds-at-none)
+        (fit_then eq-value.it key_ties c.args.end c.args.key.now m c.args.slots.now c.in-Ok.ensures.two h f c.in-Ok.assembler.now c.accept.new.self c.assemble.follows.lender-at-none c.assemble.result l c.in-Ok.ensures.value
+        (sym c.if-not-accept.ensures.fit) c.accept.ensures.key c.accept.ensures.end c.accept.ensures.gathers c.assemble.follows.holds-at-none c.assemble.ensures.found c.assemble.ensures.rebuilt),
   ),
   record { rests = tt; short = c.assemble.ensures.short },
 )
