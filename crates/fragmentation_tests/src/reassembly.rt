@@ -137,6 +137,25 @@ fn a_set_has_two_places(rt: HostRuntime) {
 }
 
 #[test]
+fn a_place_stays_of_its_key(rt: HostRuntime) {
+    let mut set: PacketAssemblerSet<u8> = PacketAssemblerSet::new();
+    let mut other: PacketAssemblerSet<u8> = PacketAssemblerSet::new();
+    match set.get(&1, MINUTE) {
+        Ok(here) => match other.get(&2, Instant::ZERO) {
+            Ok(there) => std::mem::swap(here, there),
+            Err(_error) => assert!(rt; false),
+        },
+        Err(_error) => assert!(rt; false),
+    }
+    for (k, end) in [(2, MINUTE), (1, Instant::ZERO)] {
+        match set.get(&k, MINUTE) {
+            Ok(assembler) => assert_eq!(rt; assembler.expires_at(), end),
+            Err(_error) => assert!(rt; false),
+        }
+    }
+}
+
+#[test]
 fn pairs_and_keys_of_fragments_have_places(rt: HostRuntime) {
     let mut pairs: PacketAssemblerSet<(u16, u8)> = PacketAssemblerSet::new();
     let mut keys: PacketAssemblerSet<FragKey> = PacketAssemblerSet::new();
