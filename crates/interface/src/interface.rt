@@ -174,6 +174,15 @@ impl Interface {
         ensures mtu { (sockets : Sockets (Bor (Unit {0}))) (H : Host) → StandsFor self.now sockets H → 576 ≤ ip_mtu_of H.capabilities }
     {}
 
+    /// States, for those who prove something of an interface, that with any sockets there is a host that it
+    /// stands for. So what a call's clause says of each host that the interface stands for, it says of one at
+    /// least. It does nothing.
+    pub fn stands_for_a_host(&self)
+        ensures { (sockets : Sockets (Bor (Unit {0}))) → (H : Host) × StandsFor self.now sockets H }
+    {
+        self.fragments.stands_for_slots();
+    }
+
     /// Gives the interface another address on its link. The errors are tested in the order in which
     /// [`HardwareError`] lists them, and come exactly as it says; then nothing changes.
     pub fn set_hardware_addr(&mut self, hardware_addr: HardwareAddress) -> Result<(), HardwareError>

@@ -1,0 +1,63 @@
+//! What a client concludes of an interface that is lent to it, whichever it is.
+//!
+//! What the calls of an [`Interface`] do is said of each host that the interface stands for. That there is
+//! one, with any sockets, is the law [`Interface::stands_for_a_host`], which a client calls where it wants to
+//! conclude what its interface is after a call.
+#![tactic(auto)]
+
+ghost use Rattle.std.specs.Prelude.{◌≡◌, false, true, Err};
+ghost use Rattle.host_machine.specs.Host.{SocketSet, are_assignable};
+ghost use Rattle.ip_address.specs.Ip.{is_multicast};
+ghost use Rattle.host_machine.specs.declared.results.AddrError.TheVariants as addr_error;
+ghost use Rattle.host_machine.specs.declared.results.MulticastError.TheVariants as multicast_error;
+ghost use Rattle.host_machine.specs.Step.{UpdatesIpAddrs};
+ghost use Rattle.interface.specs.Stands.{host_with, Follows};
+
+use arrayvec::ArrayVec;
+use interface::{AddrError, Interface, MulticastError};
+use ip_address::{IpAddress, IpCidr};
+
+/// Takes every address for an own one, and tells whether the interface does.
+pub fn takes_any(interface: &mut Interface) -> bool
+    ensures told { result ≡ true }
+    ensures any { (sockets : SocketSet) → (host_with interface.new sockets).any_ip ≡ true }
+{
+    interface.stands_for_a_host();
+    interface.set_any_ip(true);
+    interface.any_ip()
+}
+
+/// Gives the interface addresses one of which it can't have: it refuses them, and its addresses are as before.
+pub fn keeps_its_addresses(
+    interface: &mut Interface,
+    list: &ArrayVec<IpCidr, 4>,
+) -> Result<(), AddrError>
+    requires { are_assignable list.now.items ≡ false }
+    ensures refused { result ≡ Err addr_error.NotUnicast }
+    ensures kept { (sockets : SocketSet) → (host_with interface.new sockets).ip_addrs ≡ (host_with interface.old sockets).ip_addrs }
+{
+    interface.stands_for_a_host();
+    put_ip_addrs(interface, list)
+}
+
+/// Joins what is no group: the interface refuses it, and is in the groups in which it was before.
+pub fn joins_no_other_address(
+    interface: &mut Interface,
+    address: IpAddress,
+) -> Result<(), MulticastError>
+    requires { is_multicast address ≡ false }
+    ensures refused { result ≡ Err multicast_error.Unaddressable }
+    ensures kept { (sockets : SocketSet) → (host_with interface.new sockets).groups ≡ (host_with interface.old sockets).groups }
+{
+    interface.stands_for_a_host();
+    interface.join_multicast_group(address)
+}
+
+// Replaces the addresses by a list.
+fn put_ip_addrs(interface: &mut Interface, list: &ArrayVec<IpCidr, 4>) -> Result<(), AddrError>
+    ensures { Follows interface.old interface.new (UpdatesIpAddrs list.now.items result) }
+{
+    let mut addrs = ArrayVec::new();
+    let _ = addrs.try_extend_from_slice(list.as_slice());
+    interface.update_ip_addrs(move |_| addrs)
+}
