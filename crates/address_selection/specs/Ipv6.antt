@@ -37,6 +37,11 @@ is_preferred a b d =
 abbrev pub is_candidate : Ipv6Address → Ipv6Cidr → Bool
 is_candidate d a = not (is_unspecified a.address) && (not (is_link_local d) || is_link_local a.address)
 
+-- whether one of the own addresses is, of whatever family
+abbrev pub is_candidate_of : Ipv6Address → IpCidr → Bool
+is_candidate_of d (cidr.Ipv4 other) = false
+is_candidate_of d (cidr.Ipv6 a) = is_candidate d a
+
 -- a candidate that is preferred to another one
 abbrev pub beats : Ipv6Address → Ipv6Cidr → IpCidr → Bool
 beats d a (cidr.Ipv4 other) = false

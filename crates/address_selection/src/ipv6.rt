@@ -1,7 +1,10 @@
 //! The source of a packet to an IPv6 destination (RFC 6724 5).
-ghost use Rattle.std.specs.Prelude.{◌≡◌};
+ghost use Rattle.std.specs.Prelude.{◌≡◌, List, IsTrue, IsSome};
+ghost use Rattle.ip_address.specs.declared.cidr.IpCidr.{IpCidr};
+ghost use Rattle.ip_address.specs.declared.ipv6.Ipv6Address.{Ipv6Address};
 ghost use Rattle.std.specs.List.{list_any};
 ghost use Rattle.address_selection.specs.Ipv6 as spec;
+ghost use Rattle.address_selection.specs.Ipv6.{is_candidate_of};
 
 use ip_address::{IpCidr, Ipv6Address, Ipv6Cidr};
 
@@ -25,6 +28,12 @@ pub fn get_source_address_ipv6(own: &[IpCidr], dst_addr: &Ipv6Address) -> Ipv6Ad
         },
     }
 }
+
+/// States, for those who prove something of sources, that where one of a host's own addresses is a candidate for a
+/// destination, one of them is best: no candidate is preferred to it. It does nothing.
+pub fn a_best_source_is_there()
+    ensures { (own : List IpCidr) (d : Ipv6Address) → IsTrue (list_any (is_candidate_of d) own) → IsSome (spec.first_best own d own) }
+{}
 
 /// The first IPv6 address of some networks.
 pub fn ipv6_addr(own: &[IpCidr]) -> Option<Ipv6Address>
