@@ -10,7 +10,6 @@ use Rattle.group_table.specs.declared.groups.Group.{Group}
 use Rattle.group_table.specs.declared.groups.GroupState.{GroupState}
 use Rattle.group_table.specs.declared.groups.GroupState.TheVariants.{Joining, Joined, Leaving}
 use Rattle.group_table.specs.declared.groups.GroupTableFull.{GroupTableFull}
-use Rattle.group_table.specs.declared.groups.TheConstants.{IFACE_MAX_MULTICAST_GROUP_COUNT}
 
 -- whether two are one address
 abbrev pub is_same : IpAddress → IpAddress → Bool
@@ -30,9 +29,9 @@ is_same_state s t = false
 abbrev pub is_empty : List Group → Bool
 is_empty gs = length gs == 0
 
--- whether there is no room for another one
+-- whether there is no room for another one: there is for eight
 abbrev pub is_full : List Group → Bool
-is_full gs = nat_le IFACE_MAX_MULTICAST_GROUP_COUNT (length gs)
+is_full gs = nat_le 8 (length gs)
 
 -- a group that was joined just now
 abbrev pub new_group : IpAddress → Group

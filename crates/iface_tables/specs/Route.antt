@@ -13,7 +13,6 @@ use Rattle.ip_address.specs.declared.cidr.IpCidr.{IpCidr}
 use Rattle.ip_address.specs.declared.cidr.IpCidr.TheVariants.{Ipv4, Ipv6}
 use Rattle.iface_tables.specs.declared.route.Route.{Route}
 use Rattle.iface_tables.specs.declared.route.RouteTableFull.{RouteTableFull}
-use Rattle.iface_tables.specs.declared.route.TheConstants.{IFACE_MAX_ROUTE_COUNT}
 
 -- a list of at most four routes, as it is handed over
 abbrev pub Storage : Type 0
@@ -125,7 +124,7 @@ without_first is_kind rs = remove rs (position_or_len is_kind rs)
 
 -- whether a route finds no place: the table is full, and none of its kind makes room
 abbrev pub is_refused : (Route → Bool) → List Route → Bool
-is_refused is_kind rs = is_none (first is_kind rs) && nat_le IFACE_MAX_ROUTE_COUNT (length rs)
+is_refused is_kind rs = is_none (first is_kind rs) && nat_le 4 (length rs)
 
 -- what a call answers that puts a route in place of the first of its kind
 abbrev pub old_or_full : (Route → Bool) → List Route → Result (Option Route) RouteTableFull

@@ -17,7 +17,7 @@ use arrayvec::ArrayVec;
 use interface::{AddrError, Interface, MulticastError};
 use ip_address::{IpAddress, IpCidr};
 
-/// Takes every address for an own one, and tells whether the interface does.
+/// Takes addresses that are routed to the interface for own ones, and tells whether it does.
 pub fn takes_any(interface: &mut Interface) -> bool
     ensures told { result ≡ true }
     ensures any { (sockets : SocketSet) → (host_with interface.new sockets).any_ip ≡ true }

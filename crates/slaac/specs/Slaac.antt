@@ -15,7 +15,6 @@ use Rattle.slaac.specs.declared.slaac.Phase.TheVariants as phase
 use Rattle.slaac.specs.declared.slaac.PrefixInfo.{PrefixInfo}
 use Rattle.slaac.specs.declared.slaac.Prefix.{Prefix}
 use Rattle.slaac.specs.declared.slaac.Route.{Route}
-use Rattle.slaac.specs.declared.slaac.TheConstants.{IFACE_MAX_PREFIX_COUNT, IFACE_MAX_ROUTE_COUNT}
 
 -- the prefixes and the routers that are known, how far the search for routers is, when the next solicitation may go and how many are left, and whether what is known changed
 pub record Learnt : Type 0 where
@@ -50,9 +49,9 @@ prefix_place ps c = position_or_len (is_of c) ps
 abbrev pub knows_prefix : List Prefix → Ipv6Cidr → Bool
 knows_prefix ps c = nat_lt (prefix_place ps c) (length ps)
 
--- whether there is no room for another prefix
+-- whether there is no room for another prefix: there is for two
 abbrev pub is_prefix_full : List Prefix → Bool
-is_prefix_full ps = nat_le IFACE_MAX_PREFIX_COUNT (length ps)
+is_prefix_full ps = nat_le 2 (length ps)
 
 -- whether a prefix holds at t
 abbrev pub is_prefix_valid : ℤ → Prefix → Bool
@@ -142,7 +141,7 @@ knows_router rs router = nat_lt (router_place rs router) (length rs)
 
 -- whether there is no room for another router
 abbrev pub is_router_full : List Route → Bool
-is_router_full rs = nat_le IFACE_MAX_ROUTE_COUNT (length rs)
+is_router_full rs = nat_le 4 (length rs)
 
 -- whether a router may be taken at t
 abbrev pub is_route_valid : ℤ → Route → Bool
