@@ -1,5 +1,5 @@
 -- What the words of a line say.
-use Rattle.std.specs.Prelude.{◌≡◌, ℕ, ℤ, pos, ◌^◌, ◌==◌, ◌&&◌, nat_lt, nat_le, Bool, if◌then◌else◌, List, codes, length, map, take, slice_index, Option, Some, None, Result, Ok, Err}
+use Rattle.std.specs.Prelude.{◌≡◌, ◌≤◌, ℕ, ℤ, pos, ◌^◌, ◌==◌, ◌&&◌, nat_lt, nat_le, Bool, if◌then◌else◌, List, codes, length, map, take, slice_index, Option, Some, None, Result, Ok, Err}
 use Rattle.std.specs.List.{list_all, slice_split, before_first, after_first}
 use Rattle.std.specs.Option.{option_map, option_and_then}
 use Rattle.std.specs.Char.{is_ascii_digit}
@@ -92,9 +92,16 @@ parts_of network = Some (cidr.address_of network, cidr.prefix_len_of network)
 abbrev pub SpellNetworks : List ℕ → List IpCidr → Type 0
 SpellNetworks words networks = map network_in (slice_split is_space words) ≡ map parts_of networks
 
+-- they spell no networks, or more than four
+abbrev pub SpellNoNetworks : List ℕ → Type 0
+SpellNoNetworks words = (networks : List IpCidr) → length networks ≤ 4 → SpellNetworks words networks → ⊥
+
 -- a moment and a budget, parted by one space
 abbrev pub SpellPoll : List ℕ → ℤ → ℕ → Type 0
 SpellPoll words t budget = (moment_in (before_first is_space words) ≡ Some t) × (budget_in (after_first is_space words) ≡ Some budget)
+
+abbrev pub SpellNoPoll : List ℕ → Type 0
+SpellNoPoll words = (t : ℤ) (budget : ℕ) → SpellPoll words t budget → ⊥
 
 -- the word and its values ask for this call
 abbrev pub SayCall : List ℕ → List ℕ → Call → Type 0

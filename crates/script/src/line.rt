@@ -1,5 +1,5 @@
 //! What a line says.
-ghost use Rattle.std.specs.Prelude.{◌≡◌, ◌<◌, ◌≤◌, ◌*◌, ◌==◌, ◌↔◌, length, take, Ok, Some, IfSome, IsSome, MatchOption};
+ghost use Rattle.std.specs.Prelude.{◌≡◌, ◌<◌, ◌≤◌, ◌*◌, ◌==◌, ◌↔◌, length, take, None, Ok, Some, IfNone, IfSome, IsSome, MatchOption};
 ghost use Rattle.std.specs.List.{before_first, after_first, position_or_len};
 ghost use Rattle.hex.specs.Hex.{decode_of};
 ghost use Rattle.net_base.specs.Time.{IsMoment};
@@ -7,7 +7,7 @@ ghost use Rattle.host_machine.specs.Step.{IsTimely};
 ghost use Rattle.script.specs.Commands.{IsTimelyLine};
 ghost use Rattle.script.specs.Commands as commands;
 ghost use Rattle.script.specs.Hex.{IsHexUpTo};
-ghost use Rattle.script.specs.Text.{Say, SpellNetworks, SpellPoll, address_in, budget_in, ipv4_in, ipv6_in, is_space, moment_in, network_in, number_up_to, parts_of, port_in};
+ghost use Rattle.script.specs.Text.{Say, SpellNetworks, SpellNoNetworks, SpellNoPoll, SpellPoll, address_in, budget_in, ipv4_in, ipv6_in, is_space, moment_in, network_in, number_up_to, parts_of, port_in};
 
 use arrayvec::ArrayVec;
 use interface::Command;
@@ -157,11 +157,12 @@ fn parse_hex(digits: &[u8], octets: &mut [u8]) -> Option<usize>
 
 /// One to four networks, parted by one space.
 fn parse_addrs(words: &[u8]) -> Option<ArrayVec<IpCidr, 4>>
-    ensures { IfSome result (λ list. SpellNetworks words.now list.items) }
+    ensures said { IfSome result (λ list. SpellNetworks words.now list.items) }
+    ensures none { IfNone result (SpellNoNetworks words.now) }
 {
     let mut list = ArrayVec::new();
     let mut left = words;
-    for _ in 0..4 {
+    for _ in 0..4usize {
         let (word, rest) = split_at(left, b' ');
         list.try_push(parse_cidr(word)?).ok()?;
         match rest {
@@ -204,7 +205,8 @@ fn parse_ipv6(digits: &[u8]) -> Option<Ipv6Address>
 
 /// A network: an address, `/` and the length of the prefix, at most 32, or 128 for IPv6.
 fn parse_cidr(word: &[u8]) -> Option<IpCidr>
-    ensures { IfSome result (λ network. network_in word.now ≡ parts_of network) }
+    ensures network { IfSome result (λ network. network_in word.now ≡ parts_of network) }
+    ensures none { IfNone result (network_in word.now ≡ None) }
 {
     let (digits, prefix_len) = split_at(word, b'/');
     match parse_address(digits)? {
@@ -222,6 +224,7 @@ fn parse_cidr(word: &[u8]) -> Option<IpCidr>
 /// A moment and a budget, parted by one space.
 fn parse_poll(words: &[u8]) -> Option<(Instant, usize)>
     ensures said { IfSome result (λ poll. SpellPoll words.now poll.0 poll.1) }
+    ensures none { IfNone result (SpellNoPoll words.now) }
     ensures timely { IfSome result (λ poll. IsMoment poll.0) }
 {
     let (moment, budget) = split_at(words, b' ');
