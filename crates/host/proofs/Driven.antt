@@ -21,9 +21,15 @@ use Rattle.host_machine.proofs.Joined.{run_laws, ran_on}
 use Rattle.interface.specs.declared.interface.Interface.{Interface}
 use Rattle.interface.specs.Stands.{StandsFor, Led}
 use Rattle.interface.specs.Goes.{Went}
+use Rattle.host_laws.proofs.Ran.{runs_keep_datagrams}
 use Rattle.host.specs.Commands.{CommandWent, CommandGoes}
+use Rattle.host.specs.Driven.{Driven}
 
 module _ {D O : Type 0} (tells : D → List Event → D → Type 0) (did : O → ℕ → SocketSet → SocketSet → O → Type 0) where
+  -- a run keeps the laws of UDP sockets, too
+  pub driven : {d e : D} {o p : O} {commands : List Command} {answers : List Answer} {H : Host} {after : Host → Type 0} → Ran tells did d e o p commands answers H after → Driven tells did d e o p commands answers H after
+  driven {H = H} ran = record { ran = ran; datagrams = runs_keep_datagrams H ran.last ran.places ran.run }
+
   -- one command is a run of one place
   pub ran_one : (d e : D) (o p : O) (c : Command) (a : Answer) (H : Host) (after : Host → Type 0) → CommandWent tells did d e o p c a H after → Ran tells did d e o p (c ∷ []) (a ∷ []) H after
   ran_one d e o p c a H after went = record {

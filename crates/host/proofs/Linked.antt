@@ -21,6 +21,7 @@ use Rattle.host_machine.proofs.Views.{handed-append}
 use Rattle.host_machine.proofs.Pieces.{IsIn, contains_in, in_left, in_right, in_either}
 use Rattle.host_machine.proofs.Joined.{run_laws}
 use Rattle.host_machine.proofs.TwoHosts.{run_rebuilds}
+use Rattle.host_laws.proofs.Ran.{runs_keep_datagrams}
 use Rattle.interface.specs.Stands.{StandsFor}
 use Rattle.host.specs.declared.link.Host.{Host as Linked}
 use Rattle.host.specs.declared.link.LinkStep.{LinkStep}
@@ -295,6 +296,8 @@ link_went did_a did_b m n steps done answer a a' b b' is_m is_n none_a none_b fi
       run_b = run_a over;
       laws_a = run_laws (run_a went.links);
       laws_b = run_laws (run_a over);
+      datagrams_a = runs_keep_datagrams H went.last_a went.ps (run_a went.links);
+      datagrams_b = runs_keep_datagrams K went.last_b went.qs (run_a over);
       to_b = were_sent went.links refl none_b;
       to_a = were_sent over refl none_a;
       rebuilds_b = cuts_b;

@@ -1,3 +1,4 @@
 pub mod Commands
+pub mod Driven
 pub mod Joined
 pub mod Link

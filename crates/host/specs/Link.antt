@@ -13,6 +13,7 @@ use Rattle.host_machine.specs.Real.{GivesSix}
 use Rattle.host_machine.specs.TwoHosts.{HaveOwnKeys, RebuildsThese, WereSent, cuts_in, key_of_cut}
 use Rattle.host_machine.specs.Ran.{Laws}
 use Rattle.host_machine.specs.declared.command.Answer.{Answer}
+use Rattle.host_laws.specs.Datagrams.{KeepsDatagrams}
 use Rattle.interface.specs.Stands.{StandsFor}
 use Rattle.host.specs.Commands.{CommandGoes}
 use Rattle.host.specs.declared.link.Host.{Host as Linked}
@@ -149,6 +150,8 @@ pub record LinkWent {O P : Type 0} (did_a : Owns O) (did_b : Owns P) (steps : Li
   pub run_b : Run K went.qs went.last_b
   pub laws_a : Laws H went.ps
   pub laws_b : Laws K went.qs
+  pub datagrams_a : KeepsDatagrams H went.last_a went.ps
+  pub datagrams_b : KeepsDatagrams K went.last_b went.qs
   pub to_b : WereSent went.ps went.qs
   pub to_a : WereSent went.qs went.ps
   pub rebuilds_b : RebuildsCuts H K went.ps went.qs

@@ -2,9 +2,9 @@
 ghost use Rattle.std.specs.Prelude.{◌≡◌, List, length, All};
 ghost use Rattle.host_machine.specs.Host.{Host, SocketSet};
 ghost use Rattle.host_machine.specs.Step.{IsTimely, UpdatesIpAddrs};
-ghost use Rattle.host_machine.specs.Ran.{Ran};
 ghost use Rattle.iface_tables.specs.Route.{first, ipv4_gateway, ipv6_gateway, is_ipv4_gateway, is_ipv6_gateway, old_or_full, with_default, without_first};
 ghost use Rattle.interface.specs.Stands.{StandsFor, Becomes, Follows, host_with};
+ghost use Rattle.host.specs.Driven.{Driven};
 ghost use Rattle.host.specs.Joined.{DrivesJoin};
 ghost use Rattle.host.specs.Commands.{CommandGoes};
 
@@ -170,7 +170,7 @@ pub fn drive<D: Device, O: Owner>(
     requires room { length answers.old ≡ length commands.now }
     requires timely { All IsTimely commands.now }
     ensures { (H : Host) → StandsFor interface.old sockets.old H →
-        Ran D.tells O.did device.old device.new owner.old owner.new commands.now answers.new H (StandsFor interface.new sockets.new) }
+        Driven D.tells O.did device.old device.new owner.old owner.new commands.now answers.new H (StandsFor interface.new sockets.new) }
 {
     for i in 0..commands.len() {
         answers[i] = step(interface, device, sockets, owner, &commands[i]);

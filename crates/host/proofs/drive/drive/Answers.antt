@@ -2,7 +2,7 @@ use Rattle.std.proofs.Common.{◌≡◌, take, arith}
 use Rattle.std.proofs.lemmas.List.{take_more, take_more_set, take_all}
 use Rattle.host_machine.proofs.Joined.{no_commands}
 use Rattle.interface.specs.Stands.{StandsFor}
-use Rattle.host.proofs.Driven.{ran_more}
+use Rattle.host.proofs.Driven.{driven, ran_more}
 use Rattle.host.proofs.drive.drive.Goals as goal
 
 pub loop-i-init : goal.loop-i-init
@@ -21,4 +21,4 @@ pub returns : goal.returns
 returns g c = λ H h.
     let commands : take c.loop-i.i c.args.commands.now ≡ c.args.commands.now = take_all c.loop-i.i c.args.commands.now (omega arith) in
     let answers : take c.loop-i.i c.loop-i.answers ≡ c.loop-i.answers = take_all c.loop-i.i c.loop-i.answers (omega arith) in
-    rw (commands, answers) at (c.loop-i.invariant H h)
+    driven g.D.Device.tells g.O.Owner.did (rw (commands, answers) at (c.loop-i.invariant H h))

@@ -1,7 +1,9 @@
 use Rattle.host_machine.proofs.Joined.{ran_on}
 use Rattle.interface.specs.Stands.{StandsFor}
+use Rattle.host.proofs.Driven.{driven}
 use Rattle.host.proofs.drive.drives_join.Goals as goal
 
 pub returns : goal.returns
-returns g c = λ d e f o p q commands more_commands answers more_answers H i j s t ran goes.
-    ran_on g.D.Device.tells g.O.Owner.did g.met.D.Device.tells_on d e f o p q commands more_commands answers more_answers H (StandsFor i s) (StandsFor j t) ran goes
+returns g c = λ d e f o p q commands more_commands answers more_answers H i j s t one two.
+    driven g.D.Device.tells g.O.Owner.did
+    (ran_on g.D.Device.tells g.O.Owner.did g.met.D.Device.tells_on d e f o p q commands more_commands answers more_answers H (StandsFor i s) (StandsFor j t) one.ran (λ K stands. (two K stands).ran))

@@ -1,0 +1,153 @@
+-- What a call that sends does to UDP sockets, from the turn of one to the whole call.
+use Rattle.std.proofs.Common.{◌≡◌, ℕ, ◌==◌, Bool, true, false, List, [], ◌∷◌, refl, sym, ◌∙◌, ap, Option, Some, None, option_map, option_and_then, slice_get, slice_set, if◌then◌else◌, arith}
+use Rattle.std.specs.Prelude.{ℤ}
+use Rattle.std.proofs.lemmas.Bool.Decides.{nat_tests}
+use Rattle.net_base.specs.Device.{Event, sent}
+use Rattle.socket_base.specs.declared.endpoint.IpEndpoint.{IpEndpoint}
+use Rattle.sockets.specs.Kinds.{down_udp}
+use Rattle.sockets.specs.declared.socket.SocketOf.TheVariants.{Raw, Icmp, Udp, Tcp}
+use Rattle.transport_sockets.specs.Udp.{UdpSocket, gone}
+use Rattle.host_machine.specs.declared.results.PollResult.{PollResult}
+use Rattle.host_machine.specs.declared.results.Turn.{Turn}
+use Rattle.host_machine.specs.Note.{Note, cut_notes}
+use Rattle.host_machine.specs.Host.{Host, Socket, Storage, SocketSet}
+use Rattle.host_machine.specs.Egress.{SocketTurn, Serves, Walks, SocketsSend, Round, Egress}
+use Rattle.host_machine.specs.Egress as egress
+use Rattle.host_machine.specs.Order.{IsBeginning}
+use Rattle.host_machine.specs.TwoHosts.{cuts}
+use Rattle.host_machine.proofs.Repeated.{both}
+use Rattle.host_laws.specs.Deliveries.{udp_at}
+use Rattle.host_laws.specs.Departures.{Departure, entries, from_index, without}
+use Rattle.host_laws.proofs.Places.{set_other, set_same, udp_of}
+use Rattle.host_laws.proofs.Idle.{Idle, base, dispatch_idle, idle, piece_idle, routers_idle, all_idle, igmp_idle, mld_idle}
+use Rattle.host_laws.proofs.Departed.{Turned, Stays, Loses, turned, turned_other}
+use Rattle.host_laws.proofs.Lists.{none_among}
+use Rattle.host_laws.proofs.Lost.{LosesOver, leaves_alike, lost_none, lost_on}
+
+turn_idle : {s s' : Socket} {turn : Turn} {H new : Host} {told : List Event} {notes : List Note} → SocketTurn s turn s' H told notes new → Idle H new
+turn_idle (egress.Silent p t o n e r) = idle e
+turn_idle (egress.Refused p q t o n e r) = idle e
+turn_idle (egress.Sent p outcome frames q d t o r) = dispatch_idle d
+
+id_mapped : (o : Option UdpSocket) → o ≡ option_map (λ s. s) o
+id_mapped None = refl
+id_mapped (Some s) = refl
+
+eq_of : (k i : ℕ) → (k == i) ≡ true → k ≡ i
+eq_of k i e = grind (arith, nat_tests)
+
+-- where one datagram left one socket
+one_gone : (i : ℕ) (d : Departure) (s : UdpSocket) (o : Option UdpSocket) → (d.index ≡ i → o ≡ Some s) → (if d.index == i then Some (gone s) else o) ≡ option_map (without (from_index i (d ∷ []))) o
+one_gone i d s o there = by (d.index == i) refl where
+  by : (b : Bool) → (d.index == i) ≡ b → (if b then Some (gone s) else o) ≡ option_map (without (if b then d ∷ [] else [])) o
+  by true e = sym (ap (option_map (without (d ∷ []))) (there (eq_of d.index i e)))
+  by false e = id_mapped o
+
+one_front : (i : ℕ) (d : Departure) (s v : UdpSocket) → (rest : List (IpEndpoint × List ℕ)) → s.tx.packets ≡ (d.destination, d.payload) ∷ rest → (d.index ≡ i → v ≡ s) →
+    IsBeginning (entries (from_index i (d ∷ []))) v.tx.packets
+one_front i d s v rest front there = by (d.index == i) refl where
+  by : (b : Bool) → (d.index == i) ≡ b → IsBeginning (entries (if b then d ∷ [] else [])) v.tx.packets
+  by true e = (rest, sym front ∙ ap (λ (x : UdpSocket). x.tx.packets) (sym (there (eq_of d.index i e))))
+  by false e = (v.tx.packets, refl)
+
+-- the turn of the socket at an index
+one_turn : (B H : Host) (i : ℕ) (s s' : UdpSocket) (told : List Event) (notes : List Note) (new : Host) → udp_at H.sockets i ≡ Some s → Turned H i s s' (sent told) notes → base new ≡ base H →
+    ((j : ℕ) → udp_at new.sockets j ≡ (if i == j then Some s' else udp_at H.sockets j)) → LosesOver B H told notes new
+one_turn B H i s s' told notes new there (Stays e) b after = λ like. record {
+  base_is = b ∙ like;
+  departures = [];
+  left = tt;
+  went = none_among (sent told);
+  cut = none_among (cuts (cut_notes notes));
+  fronts = λ j v at_j. (v.tx.packets, refl);
+  udp_is = λ j. after j ∙ stays j;
+} where
+  stays : (j : ℕ) → (if i == j then Some s' else udp_at H.sockets j) ≡ option_map (without []) (udp_at H.sockets j)
+  stays j = by (i == j) refl where
+    by : (c : Bool) → (i == j) ≡ c → (if c then Some s' else udp_at H.sockets j) ≡ option_map (without []) (udp_at H.sockets j)
+    by true same = ap (λ x. Some x) e ∙ sym there ∙ ap (λ k. udp_at H.sockets k) (eq_of i j same) ∙ id_mapped (udp_at H.sockets j)
+    by false apart = id_mapped (udp_at H.sockets j)
+one_turn B H i s s' told notes new there (Loses l e) b after = λ like. record {
+  base_is = b ∙ like;
+  departures = l.departure ∷ [];
+  left = (
+    record {
+      socket = s;
+      there = ap (λ k. udp_at H.sockets k) l.at_index ∙ there;
+      leaves = leaves_alike H (record B { sockets = H.sockets }) s s l.departure like refl refl l.leaves;
+    },
+    tt,
+  );
+  went = l.went;
+  cut = l.cut;
+  fronts = λ j v at_j. one_front j l.departure s v l.front.0 l.front.1 (λ same. is_it j v at_j same);
+  udp_is = λ j. after j ∙ ap (λ k. if k == j then Some s' else udp_at H.sockets j) (sym l.at_index) ∙ ap (λ x. if l.departure.index == j then Some x else udp_at H.sockets j) e
+      ∙ one_gone j l.departure s (udp_at H.sockets j) (λ same. ap (λ k. udp_at H.sockets k) (sym same ∙ l.at_index) ∙ there);
+} where
+  is_it : (j : ℕ) (v : UdpSocket) → udp_at H.sockets j ≡ Some v → l.departure.index ≡ j → v ≡ s
+  is_it j v at_j same =
+      let one : udp_at H.sockets j ≡ Some s = ap (λ k. udp_at H.sockets k) (sym same ∙ l.at_index) ∙ there in
+      cc
+
+-- by kind: only a UDP socket loses a datagram
+kept_kind : (H : Host) (i : ℕ) (s s' : Socket) → slice_get H.sockets.places i ≡ Some (Some s) → down_udp s' ≡ down_udp s → (j : ℕ) → udp_of (slice_set H.sockets.places i (Some s')) j ≡ udp_at H.sockets j
+kept_kind H i s s' there same j = set_same H.sockets.places i (Some s) (Some s') there same j
+
+other_served : (B H : Host) (i : ℕ) (s s' : Socket) (turn : Turn) (told : List Event) (notes : List Note) (mid new : Host) → slice_get H.sockets.places i ≡ Some (Some s) → down_udp s ≡ None → SocketTurn s turn s' H told notes mid →
+    base new ≡ base mid → ((j : ℕ) → udp_at new.sockets j ≡ udp_of (slice_set mid.sockets.places i (Some s')) j) → LosesOver B H told notes new
+other_served B H i s s' turn told notes mid new there none t b after = λ like.
+    let i' = turn_idle t in record {
+      base_is = b ∙ i'.base_is ∙ like;
+      departures = [];
+      left = tt;
+      went = none_among (sent told);
+      cut = none_among (cuts (cut_notes notes));
+      fronts = λ j v at_j. (v.tx.packets, refl);
+      udp_is = λ j. after j ∙ ap (λ (x : SocketSet). udp_of (slice_set x.places i (Some s')) j) i'.sockets_are ∙ kept_kind H i s s' there (turned_other none t ∙ sym none) j ∙ id_mapped (udp_at H.sockets j);
+    }
+
+served : (B H : Host) (i : ℕ) (s s' : Socket) (turn : Turn) (told : List Event) (notes : List Note) (mid new : Host) → slice_get H.sockets.places i ≡ Some (Some s) → SocketTurn s turn s' H told notes mid →
+    base new ≡ base mid → ((j : ℕ) → udp_at new.sockets j ≡ udp_of (slice_set mid.sockets.places i (Some s')) j) → LosesOver B H told notes new
+served B H i (Udp u) s' turn told notes mid new there t b after =
+    let one = turned H i u t in
+    let i' = turn_idle t in
+    one_turn B H i u one.socket told notes new (ap (λ o. option_and_then down_udp (option_and_then (λ (place : Storage). place) o)) there) one.turned (b ∙ i'.base_is)
+    (λ j. after j ∙ ap (λ (t : SocketSet). udp_of (slice_set t.places i (Some s')) j) i'.sockets_are ∙ set_other H.sockets.places i (Some (Udp u)) (Some s') there j
+    ∙ ap (λ o. if i == j then o else udp_at H.sockets j) (ap down_udp one.is))
+served B H i (Raw u) s' turn told notes mid new there t b after = other_served B H i (Raw u) s' turn told notes mid new there refl t b after
+served B H i (Icmp u) s' turn told notes mid new there t b after = other_served B H i (Icmp u) s' turn told notes mid new there refl t b after
+served B H i (Tcp u) s' turn told notes mid new there t b after = other_served B H i (Tcp u) s' turn told notes mid new there refl t b after
+
+-- the place of an index has its turn
+place_served : (B H : Host) (i : ℕ) (turn : Turn) (told : List Event) (notes : List Note) (new : Host) → Serves i turn H told notes new → LosesOver B H told notes new
+place_served B H i turn told notes new (egress.Free s t o n e) = lost_none B H told notes new (idle e)
+place_served B H i turn told notes new (egress.Waits s known h k p t o n e) = lost_none B H told notes new (idle e)
+place_served B H i turn told notes new (egress.Served s s' known mid there k p t e) =
+    served B H i s s' turn told notes mid new there t (ap base e) (λ j. ap (λ (K : Host). udp_at K.sockets j) e)
+
+walked : (B : Host) {old new : Host} {n : ℕ} {going changed : Bool} {told : List Event} {notes : List Note} → Walks old n going changed told notes new → LosesOver B old told notes new
+walked B {old} egress.Begins = lost_none B old [] [] old (idle refl)
+walked B {old} {new} (egress.Goes {n = n} {told_so = told_so} {notes_so = so} {mid = mid} turn told notes _ w s t) =
+    lost_on B old mid new told_so told so notes (walked B w) (place_served B mid n turn told notes new s)
+walked B {old} {new} (egress.Stops {n = n} {told_so = told_so} {notes_so = so} {mid = mid} turn told notes _ w s t) =
+    lost_on B old mid new told_so told so notes (walked B w) (place_served B mid n turn told notes new s)
+
+sockets_lose : (B : Host) {old new : Host} {changed : Bool} {told : List Event} {notes : List Note} → SocketsSend old changed told notes new → LosesOver B old told notes new
+sockets_lose B (egress.Whole w) = walked B w
+sockets_lose B (egress.Stopped n w) = walked B w
+
+pub nothing_lost : (B H : Host) → LosesOver B H [] [] H
+nothing_lost B H = lost_none B H [] [] H (idle refl)
+
+round : (B : Host) {changed : Bool} {old new : Host} {told : List Event} {notes : List Note} → Round changed old told notes new → LosesOver B old told notes new
+round B {old = old} {new = new} {told = told} {notes = notes} r = both (LosesOver B) (nothing_lost B) (lost_on B) (λ o n t ns p. lost_none B o t ns n (piece_idle p))
+    (both (LosesOver B) (nothing_lost B) (lost_on B) (λ o n t ns p. lost_none B o t ns n (routers_idle p))
+    (both (LosesOver B) (nothing_lost B) (lost_on B) (λ o n t ns p. lost_none B o t ns n (all_idle p))
+    (both (LosesOver B) (nothing_lost B) (lost_on B) (λ o n t ns p. lost_none B o t ns n (all_idle p))
+    (both (LosesOver B) (nothing_lost B) (lost_on B) (λ o n t ns p. lost_none B o t ns n (igmp_idle p))
+    (both (LosesOver B) (nothing_lost B) (lost_on B) (λ o n t ns p. lost_none B o t ns n (mld_idle p)) (λ o n t ns p. sockets_lose B p)))))) old new told notes r
+
+pub egress_loses : (B : Host) (t : ℤ) (answer : PollResult) (old new : Host) (told : List Event) (notes : List Note) → Egress t answer old told notes new → LosesOver B old told notes new
+egress_loses B t answer old new told notes e = λ like.
+    let l = round B e.round like in
+    record { base_is = l.base_is; departures = l.departures; left = l.left; went = l.went; cut = l.cut; fronts = l.fronts; udp_is = l.udp_is }

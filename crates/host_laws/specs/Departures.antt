@@ -1,0 +1,92 @@
+-- What leaves the transmit queues of UDP sockets, and in which frames it goes (RFC 768, RFC 791 3.2).
+use Rattle.std.specs.Prelude.{◌≡◌, ℕ, ◌==◌, ◌<◌, true, false, List, [], ◌∷◌, Option, Some, None, if◌then◌else◌}
+use Rattle.net_base.specs.Checksum.{ip_mtu_of}
+use Rattle.ip_address.specs.declared.ip.IpAddress.{IpAddress}
+use Rattle.ip_address.specs.declared.hardware.HardwareAddress.{HardwareAddress}
+use Rattle.ip_address.specs.Ip.{is_unspecified}
+use Rattle.socket_base.specs.declared.endpoint.IpEndpoint.{IpEndpoint}
+use Rattle.socket_base.specs.Source.{source_of}
+use Rattle.transport_sockets.specs.Udp.{UdpSocket, gone}
+use Rattle.fragmentation.specs.Cuts.{Datagram, Piece, pieces_of}
+use Rattle.host_machine.specs.Host.{Host}
+use Rattle.host_machine.specs.Addresses.{source_for}
+use Rattle.host_machine.specs.Packet.{Packet, PacketV4, Udp, total_len}
+use Rattle.host_machine.specs.Packet as packet
+use Rattle.host_machine.specs.Frame.{ip_frame, piece_frame}
+use Rattle.host_machine.specs.Dispatch.{datagram_of, may_be_cut}
+use Rattle.host_machine.specs.Egress.{packet_between}
+use Rattle.host_laws.specs.Deliveries.{udp_at}
+
+-- how a datagram left: it was dropped; it went in a frame; or it was cut, and its first piece went in a frame
+pub data Way : Type 0 where
+  Dropped : Way
+  InOneFrame : (frame : List ℕ) → Way
+  InPieces : (cut : Datagram) → (first : List ℕ) → Way
+
+-- a datagram that left a socket's transmit queue: the index of the socket's place, where it was to go, its payload, and how it left
+pub record Departure : Type 0 where
+  pub index : ℕ
+  pub destination : IpEndpoint
+  pub payload : List ℕ
+  pub way : Way
+
+-- its packet, from a source: with the socket's port and hop limit, and its own destination and payload
+abbrev pub packet_of : UdpSocket → Departure → IpAddress → Option Packet
+packet_of s d src = packet_between src d.destination.addr s.hop_limit (Udp (record { src_port = s.endpoint.port; dst_port = d.destination.port }) d.payload)
+
+-- the address from which it goes: the socket's own, or that which the host has for its destination
+abbrev pub departs_from : Host → UdpSocket → Departure → Option IpAddress
+departs_from H s d = source_of (source_for H.ip_addrs) s.endpoint.addr d.destination.addr
+
+-- How a datagram leaves its socket's queue. It goes in one packet, whole, or cut, by its first piece. Or it is dropped: since there is no
+-- source for it; since it is to nobody, 0.0.0.0 or ::; or since it is longer than the device's packets and may not be cut.
+pub data Leaves (H : Host) (s : UdpSocket) (d : Departure) : Type 0 where
+  GoesWhole : (src : IpAddress) (p : Packet) (h : HardwareAddress) → departs_from H s d ≡ Some src → packet_of s d src ≡ Some p →
+      d.way ≡ InOneFrame (ip_frame H h p) → Leaves H s d
+  GoesInPieces : (src : IpAddress) (q : PacketV4) (h : HardwareAddress) (identification : ℕ) (first : Piece) (rest : List Piece) →
+      departs_from H s d ≡ Some src → packet_of s d src ≡ Some (packet.Ipv4 q) → pieces_of (datagram_of H h identification q) ≡ first ∷ rest →
+      d.way ≡ InPieces (datagram_of H h identification q) (piece_frame H first) → Leaves H s d
+  NoSource : departs_from H s d ≡ None → d.way ≡ Dropped → Leaves H s d
+  ToNobody : is_unspecified d.destination.addr ≡ true → d.way ≡ Dropped → Leaves H s d
+  TooLong : (src : IpAddress) (p : Packet) → departs_from H s d ≡ Some src → packet_of s d src ≡ Some p → ip_mtu_of H.capabilities < total_len p →
+      may_be_cut p ≡ false → d.way ≡ Dropped → Leaves H s d
+
+-- the socket that it left is there, and it left it so
+pub record IsLeft (H : Host) (d : Departure) : Type 0 where
+  pub socket : UdpSocket
+  pub there : udp_at H.sockets d.index ≡ Some socket
+  pub leaves : Leaves H socket d
+
+-- the frames that went of them at once, and the packets that were cut, in order
+abbrev pub frames_by : Way → List (List ℕ) → List (List ℕ)
+frames_by Dropped frames = frames
+frames_by (InOneFrame frame) frames = frame ∷ frames
+frames_by (InPieces cut first) frames = first ∷ frames
+
+abbrev pub frames_of : List Departure → List (List ℕ)
+frames_of [] = []
+frames_of (d ∷ ds) = frames_by d.way (frames_of ds)
+
+abbrev pub cuts_by : Way → List Datagram → List Datagram
+cuts_by Dropped cuts = cuts
+cuts_by (InOneFrame frame) cuts = cuts
+cuts_by (InPieces cut first) cuts = cut ∷ cuts
+
+abbrev pub cuts_of : List Departure → List Datagram
+cuts_of [] = []
+cuts_of (d ∷ ds) = cuts_by d.way (cuts_of ds)
+
+-- those that left the socket at an index, in order
+abbrev pub from_index : ℕ → List Departure → List Departure
+from_index i [] = []
+from_index i (d ∷ ds) = if d.index == i then d ∷ from_index i ds else from_index i ds
+
+-- as they stood in the queue
+abbrev pub entries : List Departure → List (IpEndpoint × List ℕ)
+entries [] = []
+entries (d ∷ ds) = (d.destination, d.payload) ∷ entries ds
+
+-- the socket without so many at the front of its transmit queue
+abbrev pub without : List Departure → UdpSocket → UdpSocket
+without [] s = s
+without (d ∷ ds) s = without ds (gone s)
