@@ -1,5 +1,5 @@
 -- What the turns of sockets do to UDP sockets: what left their transmit queues departed.
-use Rattle.std.proofs.Common.{◌≡◌, ℕ, Bool, List, [], ◌∷◌, refl, sym, ◌∙◌, ap, subst, Option, Some, None, Ok, Err, option_map, option_and_then, is_ok}
+use Rattle.std.proofs.Common.{◌≡◌, ◌<◌, ℕ, Bool, List, [], ◌∷◌, refl, sym, ◌∙◌, ap, subst, Option, Some, None, Ok, Err, option_map, option_and_then, is_ok}
 use Rattle.net_base.specs.Device.{Event, sent}
 use Rattle.ip_address.specs.declared.ip.IpAddress.{IpAddress}
 use Rattle.ip_address.specs.Ip.{is_unspecified}
@@ -15,9 +15,10 @@ use Rattle.host_machine.specs.declared.results.Turn.{Turn}
 use Rattle.host_machine.specs.Note.{Note, cut_notes}
 use Rattle.host_machine.specs.Host.{Host, Socket}
 use Rattle.host_machine.specs.Addresses.{source_for}
-use Rattle.host_machine.specs.Packet.{Packet, Udp as UdpPayload}
+use Rattle.net_base.specs.Checksum.{ip_mtu_of}
+use Rattle.host_machine.specs.Packet.{Packet, total_len, Udp as UdpPayload}
 use Rattle.host_machine.specs.Frame.{ip_frame, piece_frame}
-use Rattle.host_machine.specs.Dispatch.{datagram_of}
+use Rattle.host_machine.specs.Dispatch.{datagram_of, may_be_cut}
 use Rattle.host_machine.specs.Egress.{SocketTurn, Serves, packet_between, packet_from, asked, with_socket}
 use Rattle.host_machine.specs.Egress as egress
 use Rattle.host_machine.specs.Order.{IsAmong, NoneOfNone, OneOf}
@@ -103,19 +104,19 @@ sent_udp H i s o p frames notes f e g = Loses (by g) refl where
   packet_is = subst (λ d. egress.packet_of (UdpOffer d) ≡ Some p) f.is e
 
   by : Goes H p frames notes → Leaving H s frames notes i
-  by (ways.InAFrame h w c) = record {
+  by (ways.InAFrame h l w c) = record {
     departure = record { index = i; destination = f.first.0; payload = f.first.1; way = InOneFrame (ip_frame H h p) };
     at_index = refl;
     front = (f.rest, f.front);
-    leaves = spec.GoesWhole f.src p h f.source packet_is refl;
+    leaves = spec.GoesWhole f.src p h f.source packet_is l refl;
     went = rw w (OneOf (ip_frame H h p) NoneOfNone);
     cut = none_among (cuts (cut_notes notes));
   }
-  by (ways.Cut q h id first rest is pieces w c) = record {
+  by (ways.Cut q h id first rest is l m pieces w c) = record {
     departure = record { index = i; destination = f.first.0; payload = f.first.1; way = InPieces (datagram_of H h id q) (piece_frame H first) };
     at_index = refl;
     front = (f.rest, f.front);
-    leaves = spec.GoesInPieces f.src q h id first rest f.source (packet_is ∙ ap (λ x. Some x) is) pieces refl;
+    leaves = spec.GoesInPieces f.src q h id first rest f.source (packet_is ∙ ap (λ x. Some x) is) (subst (λ (x : Packet). ip_mtu_of H.capabilities < total_len x) is l) (sym (ap may_be_cut is) ∙ m) pieces refl;
     went = rw w (OneOf (piece_frame H first) NoneOfNone);
     cut = rw c (OneOf (datagram_of H h id q) NoneOfNone);
   }

@@ -1,5 +1,5 @@
 -- What calls that send do to UDP sockets: they lose what departed, part after part.
-use Rattle.std.proofs.Common.{◌≡◌, ℕ, List, [], ◌∷◌, ◌++◌, refl, sym, ◌∙◌, ap, subst, Option, Some, None, option_map, drop}
+use Rattle.std.proofs.Common.{◌≡◌, ◌≤◌, ◌<◌, ℕ, List, [], ◌∷◌, ◌++◌, refl, sym, ◌∙◌, ap, subst, Option, Some, None, option_map, drop}
 use Rattle.std.specs.List.{AllByRecursion}
 use Rattle.std.proofs.lemmas.List.{append_assoc}
 use Rattle.net_base.specs.Device.{Event, sent}
@@ -12,6 +12,9 @@ use Rattle.host_machine.specs.Note.{Note, CutNote, Cut, PieceSent, cut_notes}
 use Rattle.host_machine.specs.Host.{Host, SocketSet}
 use Rattle.host_machine.specs.Frame.{ip_frame, piece_frame}
 use Rattle.host_machine.specs.Dispatch.{datagram_of}
+use Rattle.host_machine.specs.Packet.{total_len}
+use Rattle.host_machine.specs.Packet as packet
+use Rattle.net_base.specs.Checksum.{ip_mtu_of}
 use Rattle.host_machine.specs.Order.{IsAmong, IsBeginning}
 use Rattle.host_machine.specs.Parts.{Part}
 use Rattle.host_machine.specs.TwoHosts.{cuts}
@@ -66,10 +69,10 @@ leaves_alike H K s s' d e ends hops l = by l where
   packet_is src = ap (λ (x : IpListenEndpoint). packet_of (record s { endpoint = x }) d src) ends ∙ ap (λ n. packet_of (record s { endpoint = s'.endpoint; hop_limit = n }) d src) hops
 
   by : Leaves H s d → Leaves K s' d
-  by (spec.GoesWhole src p h f q w) = spec.GoesWhole src p h (sym from_is ∙ f) (sym (packet_is src) ∙ q) (w ∙ ap (λ (X : Host). InOneFrame (ip_frame X h p)) e)
-  by (spec.GoesInPieces src q h id first rest f k pieces w) =
+  by (spec.GoesWhole src p h f q l w) = spec.GoesWhole src p h (sym from_is ∙ f) (sym (packet_is src) ∙ q) (subst (λ (X : Host). total_len p ≤ ip_mtu_of X.capabilities) e l) (w ∙ ap (λ (X : Host). InOneFrame (ip_frame X h p)) e)
+  by (spec.GoesInPieces src q h id first rest f k l m pieces w) =
       let same : datagram_of H h id q ≡ datagram_of K h id q = ap (λ (X : Host). datagram_of X h id q) e in
-      spec.GoesInPieces src q h id first rest (sym from_is ∙ f) (sym (packet_is src) ∙ k) (subst (λ (x : Datagram). pieces_of x ≡ first ∷ rest) same pieces) (w ∙ ap (λ (X : Host). InPieces (datagram_of X h id q) (piece_frame X first)) e)
+      spec.GoesInPieces src q h id first rest (sym from_is ∙ f) (sym (packet_is src) ∙ k) (subst (λ (X : Host). ip_mtu_of X.capabilities < total_len (packet.Ipv4 q)) e l) m (subst (λ (x : Datagram). pieces_of x ≡ first ∷ rest) same pieces) (w ∙ ap (λ (X : Host). InPieces (datagram_of X h id q) (piece_frame X first)) e)
   by (spec.NoSource f w) = spec.NoSource (sym from_is ∙ f) w
   by (spec.ToNobody n w) = spec.ToNobody n w
   by (spec.TooLong src p f q l m w) =

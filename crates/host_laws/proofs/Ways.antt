@@ -1,5 +1,5 @@
 -- How a packet goes that counts as gone.
-use Rattle.std.proofs.Common.{◌≡◌, ◌<◌, ℕ, true, false, List, [], ◌∷◌, sym, ◌∙◌, ap, Some, Ok}
+use Rattle.std.proofs.Common.{◌≡◌, ◌≤◌, ◌<◌, ℕ, true, false, List, [], ◌∷◌, sym, ◌∙◌, ap, Some, Ok}
 use Rattle.net_base.specs.Checksum.{ip_mtu_of}
 use Rattle.ip_address.specs.declared.hardware.HardwareAddress.{HardwareAddress}
 use Rattle.ip_address.specs.declared.hardware.HardwareAddress.TheVariants as hardware
@@ -19,9 +19,9 @@ use Rattle.host_machine.specs.TwoHosts.{cuts}
 
 -- whole, cut, or not at all
 pub data Goes (H : Host) (p : Packet) (frames : List (List ℕ)) (notes : List Note) : Type 0 where
-  InAFrame : (h : HardwareAddress) → frames ≡ ip_frame H h p ∷ [] → cuts (cut_notes notes) ≡ [] → Goes H p frames notes
-  Cut : (q : PacketV4) (h : HardwareAddress) (id : ℕ) (first : Piece) (rest : List Piece) → p ≡ packet.Ipv4 q → pieces_of (datagram_of H h id q) ≡ first ∷ rest →
-      frames ≡ piece_frame H first ∷ [] → cuts (cut_notes notes) ≡ datagram_of H h id q ∷ [] → Goes H p frames notes
+  InAFrame : (h : HardwareAddress) → total_len p ≤ ip_mtu_of H.capabilities → frames ≡ ip_frame H h p ∷ [] → cuts (cut_notes notes) ≡ [] → Goes H p frames notes
+  Cut : (q : PacketV4) (h : HardwareAddress) (id : ℕ) (first : Piece) (rest : List Piece) → p ≡ packet.Ipv4 q → ip_mtu_of H.capabilities < total_len p → may_be_cut p ≡ true →
+      pieces_of (datagram_of H h id q) ≡ first ∷ rest → frames ≡ piece_frame H first ∷ [] → cuts (cut_notes notes) ≡ datagram_of H h id q ∷ [] → Goes H p frames notes
   OfNobody : is_unspecified (destination_of p) ≡ true → frames ≡ [] → cuts (cut_notes notes) ≡ [] → Goes H p frames notes
   Longer : ip_mtu_of H.capabilities < total_len p → may_be_cut p ≡ false → frames ≡ [] → cuts (cut_notes notes) ≡ [] → Goes H p frames notes
 
@@ -29,8 +29,8 @@ cuts_none : {notes : List Note} → notes ≡ [] → cuts (cut_notes notes) ≡ 
 cuts_none e = ap (λ ns. cuts (cut_notes ns)) e
 
 emitted : {id : ℕ} {p : Packet} {h : HardwareAddress} {outcome : Outcome} {H new : Host} {frames : List (List ℕ)} {notes : List Note} → Emits id p h outcome H frames notes new → Goes H p frames notes
-emitted {h = h} (dispatch.Whole fits o f n e) = InAFrame h f (cuts_none n)
-emitted {id} {h = h} (dispatch.InPieces q first rest is long fits pieces form o f n e) = Cut q h _ first rest is pieces f (ap (λ ns. cuts (cut_notes ns)) n)
+emitted {h = h} (dispatch.Whole fits o f n e) = InAFrame h fits f (cuts_none n)
+emitted {id} {h = h} (dispatch.InPieces q first rest is long may pieces form o f n e) = Cut q h _ first rest is long may pieces f (ap (λ ns. cuts (cut_notes ns)) n)
 emitted (dispatch.TooLong long longer o u) = Longer long longer u.silent (cuts_none u.unnoted)
 
 -- what isn't gone doesn't count
@@ -55,8 +55,8 @@ over id hardware.Ip p H frames notes new s = emitted s
 
 -- an identification was taken
 identifies : {H : Host} {p : Packet} {frames : List (List ℕ)} {more notes : List Note} → cuts (cut_notes notes) ≡ cuts (cut_notes more) → Goes (identified H) p frames more → Goes H p frames notes
-identifies e (InAFrame h f c) = InAFrame h f (e ∙ c)
-identifies e (Cut q h id first rest is pieces f c) = Cut q h id first rest is pieces f (e ∙ c)
+identifies e (InAFrame h l f c) = InAFrame h l f (e ∙ c)
+identifies e (Cut q h id first rest is l m pieces f c) = Cut q h id first rest is l m pieces f (e ∙ c)
 identifies e (OfNobody n f c) = OfNobody n f (e ∙ c)
 identifies e (Longer l m f c) = Longer l m f (e ∙ c)
 

@@ -1,5 +1,5 @@
 -- What leaves the transmit queues of UDP sockets, and in which frames it goes (RFC 768, RFC 791 3.2).
-use Rattle.std.specs.Prelude.{◌≡◌, ℕ, ◌==◌, ◌<◌, true, false, List, [], ◌∷◌, Option, Some, None, if◌then◌else◌}
+use Rattle.std.specs.Prelude.{◌≡◌, ℕ, ◌==◌, ◌<◌, ◌≤◌, true, false, List, [], ◌∷◌, Option, Some, None, if◌then◌else◌}
 use Rattle.net_base.specs.Checksum.{ip_mtu_of}
 use Rattle.ip_address.specs.declared.ip.IpAddress.{IpAddress}
 use Rattle.ip_address.specs.declared.hardware.HardwareAddress.{HardwareAddress}
@@ -38,13 +38,14 @@ packet_of s d src = packet_between src d.destination.addr s.hop_limit (Udp (reco
 abbrev pub departs_from : Host → UdpSocket → Departure → Option IpAddress
 departs_from H s d = source_of (source_for H.ip_addrs) s.endpoint.addr d.destination.addr
 
--- How a datagram leaves its socket's queue. It goes in one packet, whole, or cut, by its first piece. Or it is dropped: since there is no
--- source for it; since it is to nobody, 0.0.0.0 or ::; or since it is longer than the device's packets and may not be cut.
+-- How a datagram leaves its socket's queue. It goes in one packet: whole, if the device's packets may be so long, or else cut, by its first
+-- piece. Or it is dropped: since there is no source for it; since it is to nobody, 0.0.0.0 or ::; or since it is longer and may not be cut.
 pub data Leaves (H : Host) (s : UdpSocket) (d : Departure) : Type 0 where
   GoesWhole : (src : IpAddress) (p : Packet) (h : HardwareAddress) → departs_from H s d ≡ Some src → packet_of s d src ≡ Some p →
-      d.way ≡ InOneFrame (ip_frame H h p) → Leaves H s d
+      total_len p ≤ ip_mtu_of H.capabilities → d.way ≡ InOneFrame (ip_frame H h p) → Leaves H s d
   GoesInPieces : (src : IpAddress) (q : PacketV4) (h : HardwareAddress) (identification : ℕ) (first : Piece) (rest : List Piece) →
-      departs_from H s d ≡ Some src → packet_of s d src ≡ Some (packet.Ipv4 q) → pieces_of (datagram_of H h identification q) ≡ first ∷ rest →
+      departs_from H s d ≡ Some src → packet_of s d src ≡ Some (packet.Ipv4 q) → ip_mtu_of H.capabilities < total_len (packet.Ipv4 q) →
+      may_be_cut (packet.Ipv4 q) ≡ true → pieces_of (datagram_of H h identification q) ≡ first ∷ rest →
       d.way ≡ InPieces (datagram_of H h identification q) (piece_frame H first) → Leaves H s d
   NoSource : departs_from H s d ≡ None → d.way ≡ Dropped → Leaves H s d
   ToNobody : is_unspecified d.destination.addr ≡ true → d.way ≡ Dropped → Leaves H s d
