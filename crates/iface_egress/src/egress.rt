@@ -24,7 +24,7 @@ use host_machine::Turn;
 use icmpv6_wire::Icmpv6Repr;
 use iface_send::dispatch::{dispatch, has_neighbor};
 use iface_send::fragments::emit_next_piece;
-use iface_send::{Context, IpPayload, Packet, PacketV4, PacketV6};
+use iface_send::{AnyPacket, Context, IpPayload, Packet, PacketV4, PacketV6};
 use ip_wire::emit::FrameBuffer;
 use ip_wire::{IpAddress, UdpRepr};
 use net_base::phy::Device;

@@ -1,5 +1,5 @@
 -- What messages over IPv6 bring about, over plain variables.
-use Rattle.std.proofs.Common.{◌≡◌, ℕ, Bool, true, false, List, [], Option, Some, None, refl}
+use Rattle.std.proofs.Common.{◌≡◌, ℕ, Bool, true, false, List, [], drop, Option, Some, None, refl}
 use Rattle.std.specs.Prelude.{◌==◌, if◌then◌else◌}
 use Rattle.ip_address.specs.declared.ethernet_address.EthernetAddress.{EthernetAddress}
 use Rattle.ip_address.specs.declared.hardware.HardwareAddress.TheVariants as hardware
@@ -11,6 +11,8 @@ use Rattle.icmpv6_wire.specs.declared.ndisc.NdiscRepr.{NdiscRepr}
 use Rattle.icmpv6_wire.specs.declared.ndisc.NdiscRepr.TheVariants.{NeighborSolicit}
 use Rattle.icmpv6_wire.specs.declared.router.RouterRepr.{RouterRepr}
 use Rattle.group_wire.specs.declared.mld.MldRepr.{MldRepr}
+use Rattle.icmpv6_wire.specs.Icmpv6.{echo_reply_to, echo_request_in}
+use Rattle.host_machine.specs.Packet as value
 use Rattle.host_machine.specs.Note.{Note}
 use Rattle.host_machine.specs.Host.{Host}
 use Rattle.host_machine.specs.Reply.{Reply, Ip}
@@ -24,6 +26,11 @@ use Rattle.iface_protocols.proofs.Processing.{dropped}
 pub echoed : (r : Ipv6Repr) (message : Icmpv6Repr) (contents : List ℕ) (ident seq_no : ℕ) (H : Host) (reply : Option Reply) → message ≡ EchoRequest ident seq_no →
     reply ≡ Some (message_back H.ip_addrs r (EchoReply ident seq_no) contents) → TakesMessage r message contents H reply [] H
 echoed r message contents ident seq_no H reply is answers = rw is (answers, refl, refl)
+
+-- what an echo request's octets are answered with
+pub echoes : (octets contents : List ℕ) (message : Icmpv6Repr) (ident seq_no : ℕ) → message ≡ echo_request_in octets → contents ≡ drop 8 octets → message ≡ EchoRequest ident seq_no →
+    value.Icmpv6 (echo_reply_to octets) (drop 8 octets) ≡ value.Icmpv6 (EchoReply ident seq_no) contents
+echoes octets contents message ident seq_no read rest is = cc
 
 -- a message to a neighbour is taken as such
 pub to_neighbor : (r : Ipv6Repr) (message : Icmpv6Repr) (contents : List ℕ) (m : NdiscRepr) (H K : Host) (reply : Option Reply) (notes : List Note) → message ≡ Ndisc m →

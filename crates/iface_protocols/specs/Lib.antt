@@ -1,2 +1,3 @@
 pub mod Processed
 pub mod Segment
+pub mod Back

@@ -1,11 +1,10 @@
 //! What an interface does with ICMP messages (RFC 792, RFC 1122 3.2.2), and which it sends in reply.
-ghost use Rattle.std.specs.Prelude.{◌≡◌, ◌+◌, ◌<◌, ◌^◌, [], IfSome, drop, length};
-ghost use Rattle.control_wire.specs.Icmpv4.{IsIcmpv4, QuotesPacket, echo_reply_to, icmpv4_in};
+ghost use Rattle.std.specs.Prelude.{◌≡◌, ◌+◌, ◌<◌, ◌^◌, [], length};
+ghost use Rattle.control_wire.specs.Icmpv4.{IsIcmpv4, QuotesPacket, icmpv4_in};
 ghost use Rattle.host_machine.specs.Host.{no_sockets};
 ghost use Rattle.host_machine.specs.Icmpv4 as spec;
 ghost use Rattle.host_machine.specs.Packet as value;
 ghost use Rattle.host_machine.specs.Response.{Responds};
-ghost use Rattle.iface_send.specs.Shown as shown;
 ghost use Rattle.iface_send.specs.Built.{Built};
 ghost use Rattle.iface_send.specs.Stands.{host_of};
 ghost use Rattle.iface_protocols.specs.Processed.{Processed};
@@ -15,7 +14,8 @@ use control_wire::IcmpRepr;
 use control_wire::icmpv4::{EchoRequest, Icmpv4DstUnreachable, Icmpv4Repr};
 use iface_send::dispatch::dispatch;
 use iface_send::packet::icmp_reply_payload_len;
-use iface_send::{Context, IpPayload, Packet, PacketV4};
+use iface_send::payload::{EchoReply, Unreachable};
+use iface_send::{Context, IpPayload, PacketV4, Payload};
 use ip_wire::emit::FrameBuffer;
 use ip_wire::ipv4_packet::HEADER_LEN;
 use ip_wire::{IpAddress, Ipv4Address, Ipv4Repr};
@@ -72,12 +72,13 @@ fn answer(
         ident: *ident,
         seq_no: *seq_no,
     };
-    let request = if checked {
-        Some(EchoRequest { octets })
+    if checked {
+        let request = EchoRequest { octets };
+        send_back(context, header, reply, EchoReply { request }, out);
     } else {
-        None
-    };
-    send_back(context, header, reply, contents, request, out);
+        let payload = IpPayload::Icmpv4(reply, contents);
+        send_back(context, header, reply, payload, out);
+    }
 }
 
 /// Builds an error in reply to a packet, in an empty buffer. It quotes the packet's header and at most
@@ -103,7 +104,12 @@ pub fn refuse(
         reason,
         header: *header,
     };
-    send_back(context, header, message, quoted(payload), None, out);
+    let error = Unreachable {
+        reason,
+        header: *header,
+        octets: quoted(payload),
+    };
+    send_back(context, header, message, error, out);
 }
 
 /// As much of a payload as an error quotes.
@@ -113,48 +119,30 @@ fn quoted(payload: &[u8]) -> &[u8]
     &payload[..icmp_reply_payload_len(payload.len(), IPV4_MIN_MTU, HEADER_LEN)]
 }
 
-/// Builds a message in reply to a packet, with hop limit 64, if it may go. The message may be the reply
-/// to a request whose checksum was tested.
+/// Builds a message in reply to a packet, with hop limit 64, if it may go.
 #[inline(always)]
-fn send_back(
+fn send_back<P: Payload>(
     context: &mut Context,
     header: &Ipv4Repr,
     message: Icmpv4Repr,
-    octets: &[u8],
-    request: Option<EchoRequest<'_>>,
+    payload: P,
     out: &mut FrameBuffer,
 )
     requires empty { out.old ≡ [] }
     requires quoted { QuotesPacket message }
-    requires replies { IfSome request (λ r. (message ≡ echo_reply_to r.octets.now) × (octets.now ≡ drop 8 r.octets.now)) }
-    ensures { Built out.new (Responds (spec.icmpv4_reply (host_of context.old no_sockets).ip_addrs header.now message octets.now)) context.old context.new }
+    requires carried { P.carried payload ≡ value.Icmpv4 message (P.behind payload) }
+    ensures { Built out.new (Responds (spec.icmpv4_reply (host_of context.old no_sockets).ip_addrs header.now message (P.behind payload))) context.old context.new }
 {
     let Some(src_addr) = reply_source(context, header, &message) else {
         return;
     };
-    let packet = Packet::Ipv4(PacketV4 {
+    let packet = PacketV4 {
         src_addr,
         dst_addr: header.src_addr,
         hop_limit: 64,
-        payload: payload_of(message, octets, request),
-    });
+        payload,
+    };
     let _ = dispatch(context, &packet, out);
-}
-
-/// A message as a payload.
-#[inline(always)]
-fn payload_of<'p>(
-    message: Icmpv4Repr,
-    octets: &'p [u8],
-    request: Option<EchoRequest<'p>>,
-) -> IpPayload<'p>
-    requires { IfSome request (λ r. (message ≡ echo_reply_to r.octets.now) × (octets.now ≡ drop 8 r.octets.now)) }
-    ensures { shown.payload result ≡ value.Icmpv4 message octets.now }
-{
-    match request {
-        Some(request) => IpPayload::EchoReply(request),
-        None => IpPayload::Icmpv4(message, octets),
-    }
 }
 
 /// The address from which a message goes in reply to a packet: the packet's destination, if that is

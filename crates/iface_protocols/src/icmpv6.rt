@@ -2,14 +2,14 @@
 ghost use Rattle.std.specs.Prelude.{◌≡◌, ◌<◌, ◌^◌, [], Some, IfSome, true, drop, length};
 ghost use Rattle.ip_address.specs.declared.ip.IpAddress.TheVariants as ip;
 ghost use Rattle.icmpv6_wire.specs.Icmpv6.{IsIcmpv6, echo_reply_to, echo_request_in, icmpv6_in};
-ghost use Rattle.host_machine.specs.Packet as value;
-ghost use Rattle.iface_send.specs.Shown as shown;
+ghost use Rattle.host_machine.specs.Packet.{IsWritablePayload};
 ghost use Rattle.ip_address.specs.Ipv6.{is_unicast};
 ghost use Rattle.host_machine.specs.Host.{SocketSet, no_sockets};
 ghost use Rattle.host_machine.specs.Icmpv6 as spec;
 ghost use Rattle.host_machine.specs.Response.{Responds};
 ghost use Rattle.iface_send.specs.Built.{Built};
 ghost use Rattle.iface_send.specs.Stands.{host_of};
+ghost use Rattle.iface_protocols.specs.Back.{payload_back};
 ghost use Rattle.iface_protocols.specs.Processed.{Processed};
 
 use crate::icmp::deliver;
@@ -21,7 +21,8 @@ use icmpv6_wire::echo::EchoRequest;
 use icmpv6_wire::{Icmpv6DstUnreachable, Icmpv6ParamProblem, Icmpv6Repr};
 use iface_send::dispatch::dispatch;
 use iface_send::packet::icmp_reply_payload_len;
-use iface_send::{Context, IpPayload, Packet, PacketV6};
+use iface_send::payload::{EchoReplyV6, UnreachableV6};
+use iface_send::{Context, IpPayload, Packet, PacketV6, Payload};
 use ip_wire::emit::FrameBuffer;
 use ip_wire::ipv6_packet::HEADER_LEN;
 use ip_wire::{IpAddress, Ipv6Address, Ipv6Repr};
@@ -80,8 +81,10 @@ fn process_message(
                 ident: *ident,
                 seq_no: *seq_no,
             };
-            let request = tested(header, message, contents, octets, checked);
-            send_back(context, header, reply, contents, request, out);
+            match tested(header, message, contents, octets, checked) {
+                Some(request) => send_back(context, header, EchoReplyV6 { request }, out),
+                None => send_message(context, header, reply, contents, out),
+            }
         }
         Icmpv6Repr::Ndisc(message) => process_ndisc(context, header, message, out),
         Icmpv6Repr::Router(message) => process_router(context, header, message),
@@ -126,11 +129,12 @@ pub(crate) fn refuse_port(
     if by_raw {
         return;
     }
-    let message = Icmpv6Repr::DstUnreachable {
+    let error = UnreachableV6 {
         reason: Icmpv6DstUnreachable::PortUnreachable,
         header: *header,
+        octets: quoted(payload),
     };
-    send_back(context, header, message, quoted(payload), None, out);
+    send_back(context, header, error, out);
 }
 
 /// Builds the error in reply to a packet in which something isn't known, in an empty buffer: behind its
@@ -151,7 +155,7 @@ pub fn complain(
         pointer: 40,
         header: *header,
     };
-    send_back(context, header, message, quoted(payload), None, out);
+    send_message(context, header, message, quoted(payload), out);
 }
 
 /// As much of a payload as an error quotes.
@@ -161,43 +165,46 @@ fn quoted(payload: &[u8]) -> &[u8]
     &payload[..icmp_reply_payload_len(payload.len(), IPV6_MIN_MTU, HEADER_LEN)]
 }
 
-/// Builds a message in reply to a packet, with hop limit 64. The message may be the reply to a request
-/// whose checksum was tested.
-fn send_back(
+/// Builds a message in reply to a packet, with hop limit 64.
+#[inline(never)]
+fn send_message(
     context: &mut Context,
     header: &Ipv6Repr,
     message: Icmpv6Repr,
-    contents: &[u8],
-    request: Option<EchoRequest<'_>>,
+    octets: &[u8],
     out: &mut FrameBuffer,
 )
-    requires empty { out.old ≡ [] }
-    requires replies { IfSome request (λ r. (message ≡ echo_reply_to r.octets.now) × (contents.now ≡ drop 8 r.octets.now)) }
-    ensures { Built out.new (Responds (Some (spec.message_back (host_of context.old no_sockets).ip_addrs header.now message contents.now))) context.old context.new }
+    requires { out.old ≡ [] }
+    ensures { Built out.new (Responds (Some (spec.message_back (host_of context.old no_sockets).ip_addrs header.now message octets.now))) context.old context.new }
 {
     let packet = Packet::Ipv6(PacketV6 {
         src_addr: reply_source(context, header),
         dst_addr: header.src_addr,
         hop_limit: 64,
-        payload: payload_of(message, contents, request),
+        payload: IpPayload::Icmpv6(message, octets),
     });
     let _ = dispatch(context, &packet, out);
 }
 
-/// A message as a payload.
+/// Builds a message of one kind in reply to a packet, with hop limit 64.
 #[inline(always)]
-fn payload_of<'p>(
-    message: Icmpv6Repr,
-    contents: &'p [u8],
-    request: Option<EchoRequest<'p>>,
-) -> IpPayload<'p>
-    requires { IfSome request (λ r. (message ≡ echo_reply_to r.octets.now) × (contents.now ≡ drop 8 r.octets.now)) }
-    ensures { shown.payload result ≡ value.Icmpv6 message contents.now }
+fn send_back<P: Payload>(
+    context: &mut Context,
+    header: &Ipv6Repr,
+    payload: P,
+    out: &mut FrameBuffer,
+)
+    requires empty { out.old ≡ [] }
+    requires writable { IsWritablePayload (P.carried payload) }
+    ensures { Built out.new (Responds (Some (payload_back (host_of context.old no_sockets).ip_addrs header.now (P.carried payload)))) context.old context.new }
 {
-    match request {
-        Some(request) => IpPayload::EchoReplyV6(request),
-        None => IpPayload::Icmpv6(message, contents),
-    }
+    let packet = PacketV6 {
+        src_addr: reply_source(context, header),
+        dst_addr: header.src_addr,
+        hop_limit: 64,
+        payload,
+    };
+    let _ = dispatch(context, &packet, out);
 }
 
 /// The address from which a message goes in reply to a packet: the packet's destination, if that is one

@@ -8,15 +8,17 @@ ghost use Rattle.icmpv6_wire.specs.declared.ndisc.NdiscRepr.TheVariants.{Neighbo
 ghost use Rattle.fragmentation.specs.Slots.{Slots};
 ghost use Rattle.host_machine.specs.Host.{SocketSet, no_sockets};
 ghost use Rattle.host_machine.specs.Ndisc as spec;
+ghost use Rattle.host_machine.specs.Packet as value;
 ghost use Rattle.iface_send.specs.Shown as shown;
 ghost use Rattle.iface_send.specs.Stands.{host_in, host_of};
 ghost use Rattle.iface_protocols.specs.Processed.{Processed};
 
 use bitflags::Flags;
-use icmpv6_wire::{Icmpv6Repr, NdiscNeighborFlags, NdiscRepr};
+use icmpv6_wire::{NdiscNeighborFlags, NdiscRepr};
 use iface_send::dispatch::dispatch;
 use iface_send::neighbors::{fill_neighbor, is_known};
-use iface_send::{Context, IpPayload, Packet, PacketV6};
+use iface_send::payload::NeighborAdvert;
+use iface_send::{Context, PacketV6};
 use ip_wire::emit::FrameBuffer;
 use ip_wire::{EthernetAddress, HardwareAddress, IpAddress, Ipv6Address, Ipv6Repr};
 
@@ -167,22 +169,22 @@ fn asks_for(context: &Context, header: &Ipv6Repr, target: &Ipv6Address) -> bool
 }
 
 /// The advertisement that answers a solicitation for a target.
+#[inline(always)]
 fn advertisement_of(
     own: EthernetAddress,
     header: &Ipv6Repr,
     target: &Ipv6Address,
-) -> Packet<'static>
-    ensures { shown.packet result ≡ spec.advertisement_of own header.now target.now }
+) -> PacketV6<NeighborAdvert>
+    ensures { value.Ipv6 (shown.packet_v6 shown.neighbor_advert result) ≡ spec.advertisement_of own header.now target.now }
 {
-    let message = NdiscRepr::NeighborAdvert {
-        flags: NdiscNeighborFlags::SOLICITED,
-        target_addr: *target,
-        lladdr: Some(own),
-    };
-    Packet::Ipv6(PacketV6 {
+    PacketV6 {
         src_addr: *target,
         dst_addr: header.src_addr,
         hop_limit: 255,
-        payload: IpPayload::Icmpv6(Icmpv6Repr::Ndisc(message), &[]),
-    })
+        payload: NeighborAdvert {
+            flags: NdiscNeighborFlags::SOLICITED,
+            target_addr: *target,
+            lladdr: own,
+        },
+    }
 }

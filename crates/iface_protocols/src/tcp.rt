@@ -12,7 +12,8 @@ ghost use Rattle.iface_send.specs.Built.{Built};
 ghost use Rattle.iface_send.specs.Stands.{host_of};
 
 use iface_send::dispatch::dispatch;
-use iface_send::{Context, IpPayload, Packet};
+use iface_send::payload::Segment;
+use iface_send::{Context, PacketV4, PacketV6};
 use ip_wire::emit::FrameBuffer;
 use ip_wire::{IpRepr, TcpControl, TcpRepr};
 use socket_set::{SocketSet, by_index};
@@ -84,13 +85,17 @@ fn send_back(context: &mut Context, header: &IpRepr, repr: Option<TcpRepr>, out:
     let Some(repr) = repr else {
         return;
     };
+    let payload = Segment {
+        header: repr,
+        octets: &[],
+    };
     match header {
-        IpRepr::Ipv4(_) => {
-            let packet = Packet::back(header, IpPayload::Tcp(repr, &[]));
+        IpRepr::Ipv4(header) => {
+            let packet = PacketV4::back(header, payload);
             let _ = dispatch(context, &packet, out);
         }
-        IpRepr::Ipv6(_) => {
-            let packet = Packet::back(header, IpPayload::Tcp(repr, &[]));
+        IpRepr::Ipv6(header) => {
+            let packet = PacketV6::back(header, payload);
             let _ = dispatch(context, &packet, out);
         }
     }

@@ -1,6 +1,6 @@
 //! Where one IP packet goes: the next hop, its hardware address, and the frame that is built for it (RFC
 //! 1122 3.3.1, RFC 826).
-ghost use Rattle.std.specs.Prelude.{◌≡◌, ◌≤◌, true, false, [], length, None, Ok, Err, IfSome};
+ghost use Rattle.std.specs.Prelude.{◌≡◌, ◌≤◌, ◌<◌, true, false, [], length, None, Ok, Err, IfSome};
 ghost use Rattle.net_base.specs.Checksum.{ip_mtu_of};
 ghost use Rattle.ip_address.specs.Ip.{is_unicast, is_unspecified};
 ghost use Rattle.fragmentation.specs.Slots.{Slots};
@@ -18,7 +18,8 @@ ghost use Rattle.iface_send.specs.Stands.{host_in, host_of};
 
 use crate::context::Context;
 use crate::fragments::emit_in_pieces;
-use crate::packet::{IpPayload, Packet, PacketV6, emit_arp, emit_link_header};
+use crate::packet::{AnyPacket, Packet, PacketV6, emit_arp, emit_link_header};
+use crate::payload::IpPayload;
 use fragmentation::fragmenter::FRAGMENTATION_BUFFER_SIZE;
 use host_machine::DispatchError;
 use icmpv6_wire::{Icmpv6Repr, NdiscRepr};
@@ -34,14 +35,14 @@ use ip_wire::{
 /// ask for it. `NeighborPending` if its hardware address isn't known; then the request for that is
 /// built, unless another one went less than a second ago. An empty buffer means that nothing is to be
 /// sent. A header that the packet quotes has to be that of a packet of at most 65,535 octets.
-pub fn dispatch(
+pub fn dispatch<Q: AnyPacket>(
     context: &mut Context,
-    packet: &Packet<'_>,
+    packet: &Q,
     out: &mut FrameBuffer,
 ) -> Result<(), DispatchError>
     requires empty { out.old ≡ [] }
-    requires writable { IsWritable (shown.packet packet.now) }
-    ensures { Built out.new (spec.Dispatches (shown.packet packet.now) result) context.old context.new }
+    requires writable { IsWritable (Q.stands_for packet.now) }
+    ensures { Built out.new (spec.Dispatches (Q.stands_for packet.now) result) context.old context.new }
 {
     if packet.dst_addr().is_unspecified() {
         return Ok(());
@@ -61,17 +62,17 @@ pub fn dispatch(
 
 /// Builds a packet's frame over Ethernet: to many hosts straight, else by the next hop.
 #[inline(always)]
-fn dispatch_ethernet(
+fn dispatch_ethernet<Q: AnyPacket>(
     context: &mut Context,
     identification: u16,
     own: EthernetAddress,
-    packet: &Packet<'_>,
+    packet: &Q,
     out: &mut FrameBuffer,
 ) -> Result<(), DispatchError>
     requires empty { out.old ≡ [] }
-    requires somebody { is_unspecified (spec.destination_of (shown.packet packet.now)) ≡ false }
-    requires writable { IsWritable (shown.packet packet.now) }
-    ensures { Built out.new (spec.SendsEthernet identification own (shown.packet packet.now) result) context.old context.new }
+    requires somebody { is_unspecified (spec.destination_of (Q.stands_for packet.now)) ≡ false }
+    requires writable { IsWritable (Q.stands_for packet.now) }
+    ensures { Built out.new (spec.SendsEthernet identification own (Q.stands_for packet.now) result) context.old context.new }
 {
     let dst_addr = packet.dst_addr();
     if let Some(many) = many_address(context, &dst_addr) {
@@ -87,18 +88,18 @@ fn dispatch_ethernet(
 
 /// Builds a packet's frame for a next hop, or the request for that one's hardware address.
 #[inline(always)]
-fn dispatch_by_hop(
+fn dispatch_by_hop<Q: AnyPacket>(
     context: &mut Context,
     identification: u16,
     own: EthernetAddress,
-    packet: &Packet<'_>,
+    packet: &Q,
     hop: &IpAddress,
     out: &mut FrameBuffer,
 ) -> Result<(), DispatchError>
     requires empty { out.old ≡ [] }
     requires hop { is_unicast hop.now ≡ true }
-    requires writable { IsWritable (shown.packet packet.now) }
-    ensures { Built out.new (spec.SendsByHop identification own (shown.packet packet.now) hop.now result) context.old context.new }
+    requires writable { IsWritable (Q.stands_for packet.now) }
+    ensures { Built out.new (spec.SendsByHop identification own (Q.stands_for packet.now) hop.now result) context.old context.new }
 {
     match context.neighbor_cache.lookup(hop, context.moment) {
         Answer::Found(destination) => {
@@ -204,7 +205,35 @@ fn request_for(own: EthernetAddress, source: Ipv4Address, target: Ipv4Address) -
 /// if it is longer than the device's packets. One of more than 4,096 octets is dropped then, and so is
 /// one of IPv6 (RFC 8200 5).
 #[inline(always)]
-fn emit_to(
+fn emit_to<Q: AnyPacket>(
+    context: &mut Context,
+    identification: u16,
+    destination: &HardwareAddress,
+    packet: &Q,
+    out: &mut FrameBuffer,
+)
+    requires empty { out.old ≡ [] }
+    requires writable { IsWritable (Q.stands_for packet.now) }
+    ensures { Built out.new (spec.Emits identification (Q.stands_for packet.now) destination.now (Ok tt)) context.old context.new }
+{
+    let total_len = packet.total_len();
+    if total_len <= context.capabilities.ip_mtu() {
+        emit_frame(context, destination, packet, out);
+        return;
+    }
+    emit_long(
+        context,
+        identification,
+        destination,
+        &packet.as_packet(),
+        out,
+    );
+}
+
+/// Builds the frame of the first piece of a packet that is longer than the device's packets, if it may be
+/// cut; else it is dropped.
+#[inline(never)]
+fn emit_long(
     context: &mut Context,
     identification: u16,
     destination: &HardwareAddress,
@@ -213,13 +242,10 @@ fn emit_to(
 )
     requires empty { out.old ≡ [] }
     requires writable { IsWritable (shown.packet packet.now) }
+    requires long { ip_mtu_of context.old.capabilities < value.total_len (shown.packet packet.now) }
     ensures { Built out.new (spec.Emits identification (shown.packet packet.now) destination.now (Ok tt)) context.old context.new }
 {
     let total_len = packet.total_len();
-    if total_len <= context.capabilities.ip_mtu() {
-        emit_frame(context, destination, packet, out);
-        return;
-    }
     if let Packet::Ipv4(packet) = packet {
         if total_len <= FRAGMENTATION_BUFFER_SIZE {
             emit_in_pieces(context, identification, destination, packet, out);
@@ -229,16 +255,16 @@ fn emit_to(
 
 /// Builds the frame of a packet that fits.
 #[inline(always)]
-fn emit_frame(
+fn emit_frame<Q: AnyPacket>(
     context: &Context,
     destination: &HardwareAddress,
-    packet: &Packet<'_>,
+    packet: &Q,
     out: &mut FrameBuffer,
 )
     requires empty { out.old ≡ [] }
-    requires writable { IsWritable (shown.packet packet.now) }
-    requires fits { value.total_len (shown.packet packet.now) ≤ ip_mtu_of context.now.capabilities }
-    ensures items { out.new ≡ ip_frame (host_of context.now no_sockets) destination.now (shown.packet packet.now) }
+    requires writable { IsWritable (Q.stands_for packet.now) }
+    requires fits { value.total_len (Q.stands_for packet.now) ≤ ip_mtu_of context.now.capabilities }
+    ensures items { out.new ≡ ip_frame (host_of context.now no_sockets) destination.now (Q.stands_for packet.now) }
     ensures some { 20 ≤ length out.new }
 {
     emit_link_header(&context.hardware_addr, destination, packet.ethertype(), out);

@@ -13,7 +13,8 @@ ghost use Rattle.iface_send.specs.Pieces.{NextPieceGoes};
 ghost use Rattle.iface_send.specs.Stands.{host_of};
 
 use crate::context::Context;
-use crate::packet::{PacketV4, emit_link_header, emit_payload_header};
+use crate::packet::{PacketV4, emit_link_header};
+use crate::payload::{IpPayload, Payload};
 use ip_wire::emit::FrameBuffer;
 use ip_wire::ipv4_packet::HEADER_LEN;
 use ip_wire::{EthernetProtocol, HardwareAddress, IpRepr};
@@ -26,14 +27,14 @@ pub(crate) fn emit_in_pieces(
     context: &mut Context,
     identification: u16,
     destination: &HardwareAddress,
-    packet: &PacketV4<'_>,
+    packet: &PacketV4<IpPayload<'_>>,
     out: &mut FrameBuffer,
 )
     requires empty { out.old ≡ [] }
     requires writable { IsWritablePayload (shown.payload packet.now.payload) }
-    requires long { ip_mtu_of context.old.capabilities < value.total_len (value.Ipv4 (shown.packet_v4 packet.now)) }
-    requires fits { value.total_len (value.Ipv4 (shown.packet_v4 packet.now)) ≤ 4096 }
-    ensures { Built out.new (spec.Emits identification (value.Ipv4 (shown.packet_v4 packet.now)) destination.now (Ok tt)) context.old context.new }
+    requires long { ip_mtu_of context.old.capabilities < value.total_len (value.Ipv4 (shown.packet_v4 shown.payload packet.now)) }
+    requires fits { value.total_len (value.Ipv4 (shown.packet_v4 shown.payload packet.now)) ≤ 4096 }
+    ensures { Built out.new (spec.Emits identification (value.Ipv4 (shown.packet_v4 shown.payload packet.now)) destination.now (Ok tt)) context.old context.new }
 {
     cut(context, identification, destination, packet, out);
     out.clear();
@@ -46,25 +47,23 @@ fn cut(
     context: &mut Context,
     identification: u16,
     destination: &HardwareAddress,
-    packet: &PacketV4<'_>,
+    packet: &PacketV4<IpPayload<'_>>,
     scratch: &mut FrameBuffer,
 )
     requires empty { scratch.old ≡ [] }
     requires writable { IsWritablePayload (shown.payload packet.now.payload) }
-    requires some { 20 < value.total_len (value.Ipv4 (shown.packet_v4 packet.now)) }
-    requires fits { value.total_len (value.Ipv4 (shown.packet_v4 packet.now)) ≤ 4096 }
+    requires some { 20 < value.total_len (value.Ipv4 (shown.packet_v4 shown.payload packet.now)) }
+    requires fits { value.total_len (value.Ipv4 (shown.packet_v4 shown.payload packet.now)) ≤ 4096 }
     ensures left { (sockets : SocketSet) → host_of context.new sockets ≡ with_left (host_of context.old sockets)
-        (pieces_of (spec.datagram_of (host_of context.old sockets) destination.now identification (shown.packet_v4 packet.now))) }
+        (pieces_of (spec.datagram_of (host_of context.old sockets) destination.now identification (shown.packet_v4 shown.payload packet.now))) }
     ensures some { is_nil (host_of context.new no_sockets).left ≡ false }
-    ensures fits { HasForm (spec.datagram_of (host_of context.old no_sockets) destination.now identification (shown.packet_v4 packet.now)) }
+    ensures fits { HasForm (spec.datagram_of (host_of context.old no_sockets) destination.now identification (shown.packet_v4 shown.payload packet.now)) }
 {
     let header = packet.header();
-    emit_payload_header(
-        &IpRepr::Ipv4(header),
-        &packet.payload,
-        &context.capabilities,
-        scratch,
-    );
+    let link = &context.capabilities;
+    packet
+        .payload
+        .emit_header(&IpRepr::Ipv4(header), link, scratch);
     let size = (context.capabilities.ip_mtu() - HEADER_LEN) / 8 * 8;
     context.fragmenter.fill(
         *destination,

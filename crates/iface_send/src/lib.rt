@@ -10,7 +10,9 @@ mod membership;
 pub mod multicast;
 pub mod neighbors;
 pub mod packet;
+pub mod payload;
 pub mod settings;
 
 pub use context::Context;
-pub use packet::{IpPayload, Packet, PacketV4, PacketV6};
+pub use packet::{AnyPacket, Packet, PacketV4, PacketV6};
+pub use payload::{IpPayload, Payload};

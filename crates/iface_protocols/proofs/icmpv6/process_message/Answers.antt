@@ -1,12 +1,19 @@
-use Rattle.std.proofs.Common.{refl}
+use Rattle.std.proofs.Common.{◌≡◌, drop, refl}
+use Rattle.icmpv6_wire.specs.Icmpv6.{echo_request_in}
 use Rattle.iface_send.specs.Stands.{host_in}
 use Rattle.iface_protocols.proofs.Processing.{answered, by_rule, unanswered}
-use Rattle.iface_protocols.proofs.Messages.{echoed, of_groups, of_routers, to_neighbor, unheeded}
+use Rattle.iface_protocols.proofs.Messages.{echoed, echoes, of_groups, of_routers, to_neighbor, unheeded}
 use Rattle.iface_protocols.proofs.icmpv6.process_message.Goals as goal
 
-pub returns-in-EchoRequest : goal.returns-in-EchoRequest
-returns-in-EchoRequest c = λ sockets.
-    answered sockets _ (λ slots. echoed c.args.header.now c.args.message.now c.args.contents.now _ _ (host_in c.args.context.now slots sockets) _ c.in-EchoRequest.is refl) c.send_back.ensures
+pub returns-in-Some : goal.returns-in-Some
+returns-in-Some c = λ sockets.
+    let read : (c.args.message.now ≡ echo_request_in c.in-Some.request.octets.now) × (c.args.contents.now ≡ drop 8 c.in-Some.request.octets.now) = rw c.in-Some.is at c.tested.ensures in
+    answered sockets _ (λ slots. echoed c.args.header.now c.args.message.now c.args.contents.now _ _ (host_in c.args.context.now slots sockets) _ c.in-EchoRequest.is refl)
+    (rw (echoes c.in-Some.request.octets.now c.args.contents.now c.args.message.now _ _ read.0 read.1 c.in-EchoRequest.is) at c.send_back.ensures)
+
+pub returns-in-None : goal.returns-in-None
+returns-in-None c = λ sockets.
+    answered sockets _ (λ slots. echoed c.args.header.now c.args.message.now c.args.contents.now _ _ (host_in c.args.context.now slots sockets) _ c.in-EchoRequest.is refl) c.send_message.ensures
 
 pub returns-in-Ndisc : goal.returns-in-Ndisc
 returns-in-Ndisc c = λ sockets.

@@ -1,6 +1,6 @@
 use Rattle.std.proofs.Common.{refl}
 use Rattle.ipv6_wire.specs.HopByHop.{option_text}
-use Rattle.iface_send.proofs.packet.router_alert.Goals as goal
+use Rattle.iface_send.proofs.payload.router_alert.Goals as goal
 
 pub returns-clause-len : goal.returns-clause-len
 unfolding option_text

@@ -1,0 +1,561 @@
+//! What IP packets carry: of one kind, or of any; with their octets as a slice of where they came from.
+ghost use Rattle.std.specs.Prelude.{◌≡◌, ◌+◌, ◌<◌, ◌≤◌, ◌^◌, ◌++◌, ℕ, List, [], Some, drop, length};
+ghost use Rattle.control_wire.specs.declared.icmpv4.Icmpv4Repr.TheVariants as icmpv4;
+ghost use Rattle.icmpv6_wire.specs.declared.icmpv6.Icmpv6Repr.TheVariants as icmpv6;
+ghost use Rattle.icmpv6_wire.specs.declared.ndisc.NdiscRepr.TheVariants as ndisc;
+ghost use Rattle.host_machine.specs.Frame.{limited, mld_options, payload_text};
+ghost use Rattle.host_machine.specs.Packet.{IsWritablePayload, payload_len, protocol_of};
+ghost use Rattle.host_machine.specs.Packet as value;
+ghost use Rattle.ipv6_wire.specs.HopByHop.{text_len};
+ghost use Rattle.iface_send.specs.Shown as shown;
+
+use arrayvec::ArrayVec;
+use control_wire::icmpv4::{EchoRequest, Icmpv4DstUnreachable, Icmpv4Repr};
+use group_wire::{IgmpRepr, MldRepr};
+use icmpv6_wire::{Icmpv6DstUnreachable, Icmpv6Repr, NdiscNeighborFlags, NdiscRepr, echo};
+use ip_wire::emit::FrameBuffer;
+use ip_wire::{
+    EthernetAddress, IpProtocol, IpRepr, Ipv4Repr, Ipv6Address, Ipv6Repr, TcpRepr, UdpRepr,
+};
+use ipv6_wire::{Ipv6HopByHopRepr, Ipv6OptionRepr};
+use net_base::phy::DeviceCapabilities;
+
+/// What an IP packet carries. Where its kind is a type, what builds the packet's frame is compiled for
+/// that kind.
+pub trait Payload: Copy {
+    ghost use Rattle.host_machine.specs.Packet.{IpPayload};
+
+    /// The payload as a value.
+    ghost carried: { Self → IpPayload };
+
+    /// The octets behind its protocol's header.
+    ghost behind: { Self → List ℕ };
+
+    /// Its protocol.
+    fn protocol(&self) -> IpProtocol
+        ensures { result ≡ protocol_of (carried self.now) };
+
+    /// Its length with the protocol's header, in octets.
+    fn len(&self) -> usize
+        ensures value { result ≡ payload_len (carried self.now) }
+        ensures short { result < 2 ^ 63 + 56 };
+
+    /// The octets behind its protocol's header.
+    fn octets(&self) -> &[u8]
+        ensures { result.now ≡ behind self.now };
+
+    /// Appends it behind a packet's header, up to the octets behind its protocol's header, with its
+    /// checksum where that is on.
+    fn emit_header(&self, header: &IpRepr, capabilities: &DeviceCapabilities, out: &mut FrameBuffer)
+        requires writable { IsWritablePayload (carried self.now) }
+        requires short { payload_len (carried self.now) < 2 ^ 16 }
+        requires room { length out.old + payload_len (carried self.now) ≤ 1514 + length (behind self.now) }
+        ensures items { out.new ++ behind self.now ≡ out.old ++ payload_text capabilities.now header.now (carried self.now) }
+        ensures len { length out.new + length (behind self.now) ≡ length out.old + payload_len (carried self.now) };
+
+    /// The payload as one of any kind.
+    fn as_ip_payload(&self) -> IpPayload<'_>
+        ensures { shown.payload result ≡ carried self.now };
+}
+
+/// A payload of any kind: by protocol, with the octets behind that header; or as it stands.
+#[derive(Clone, Copy)]
+pub enum IpPayload<'p> {
+    Icmpv4(Icmpv4Repr, &'p [u8]),
+    Icmpv6(Icmpv6Repr, &'p [u8]),
+    /// The reply to an echo request.
+    EchoReply(EchoRequest<'p>),
+    /// The same over IPv6.
+    EchoReplyV6(echo::EchoRequest<'p>),
+    Udp(UdpRepr, &'p [u8]),
+    Tcp(TcpRepr, &'p [u8]),
+    Raw(IpProtocol, &'p [u8]),
+    Igmp(IgmpRepr),
+    /// A report of MLD: how many records it has, and their octets.
+    Mld(u16, &'p [u8]),
+}
+
+/// The reply to an echo request.
+#[derive(Clone, Copy)]
+pub struct EchoReply<'p> {
+    pub request: EchoRequest<'p>,
+}
+
+/// The reply to an echo request over IPv6.
+#[derive(Clone, Copy)]
+pub struct EchoReplyV6<'p> {
+    pub request: echo::EchoRequest<'p>,
+}
+
+/// An error for a packet that didn't reach its destination: why, the packet's header, and as much of its
+/// payload as is quoted.
+#[derive(Clone, Copy)]
+pub struct Unreachable<'p> {
+    pub reason: Icmpv4DstUnreachable,
+    pub header: Ipv4Repr,
+    pub octets: &'p [u8],
+}
+
+/// The same over IPv6.
+#[derive(Clone, Copy)]
+pub struct UnreachableV6<'p> {
+    pub reason: Icmpv6DstUnreachable,
+    pub header: Ipv6Repr,
+    pub octets: &'p [u8],
+}
+
+/// An advertisement of a neighbour (RFC 4861 4.4), with its hardware address.
+#[derive(Clone, Copy)]
+pub struct NeighborAdvert {
+    pub flags: NdiscNeighborFlags,
+    pub target_addr: Ipv6Address,
+    pub lladdr: EthernetAddress,
+}
+
+/// A TCP segment.
+#[derive(Clone, Copy)]
+pub struct Segment<'p> {
+    pub header: TcpRepr,
+    pub octets: &'p [u8],
+}
+
+impl Payload for IpPayload<'_> {
+    ghost carried = { shown.payload };
+
+    ghost behind = { shown.octets_behind };
+
+    #[inline(always)]
+    fn protocol(&self) -> IpProtocol {
+        match self {
+            IpPayload::Icmpv4(..) | IpPayload::EchoReply(_) => IpProtocol::Icmp,
+            IpPayload::Icmpv6(..) | IpPayload::EchoReplyV6(_) => IpProtocol::Icmpv6,
+            IpPayload::Udp(..) => IpProtocol::Udp,
+            IpPayload::Tcp(..) => IpProtocol::Tcp,
+            IpPayload::Raw(protocol, _) => *protocol,
+            IpPayload::Igmp(_) => IpProtocol::Igmp,
+            IpPayload::Mld(..) => IpProtocol::HopByHop,
+        }
+    }
+
+    #[inline(always)]
+    fn len(&self) -> usize {
+        match self {
+            IpPayload::Icmpv4(message, octets) => message.header_len() + octets.len(),
+            IpPayload::Icmpv6(message, octets) => message.header_len() + octets.len(),
+            IpPayload::EchoReply(request) => request.octets.len(),
+            IpPayload::EchoReplyV6(request) => request.octets.len(),
+            IpPayload::Udp(_, octets) => 8 + octets.len(),
+            IpPayload::Tcp(_, octets) => 20 + octets.len(),
+            IpPayload::Raw(_, octets) => octets.len(),
+            IpPayload::Igmp(_) => group_wire::igmp::HEADER_LEN,
+            IpPayload::Mld(_, records) => 16 + records.len(),
+        }
+    }
+
+    #[inline(always)]
+    fn octets(&self) -> &[u8] {
+        match self {
+            IpPayload::EchoReply(request) => request.payload(),
+            IpPayload::EchoReplyV6(request) => request.payload(),
+            IpPayload::Icmpv4(_, octets)
+            | IpPayload::Icmpv6(_, octets)
+            | IpPayload::Udp(_, octets)
+            | IpPayload::Tcp(_, octets)
+            | IpPayload::Raw(_, octets)
+            | IpPayload::Mld(_, octets) => octets,
+            IpPayload::Igmp(_) => &[],
+        }
+    }
+
+    #[inline(always)]
+    fn emit_header(
+        &self,
+        header: &IpRepr,
+        capabilities: &DeviceCapabilities,
+        out: &mut FrameBuffer,
+    ) {
+        match self {
+            IpPayload::Icmpv4(message, octets) => message.emit_header(
+                octets,
+                capabilities.checksum.icmpv4.tx(),
+                capabilities.checksum.ipv4.tx(),
+                out,
+            ),
+            IpPayload::EchoReply(request) => {
+                request.emit_reply_header(capabilities.checksum.icmpv4.tx(), out);
+            }
+            IpPayload::EchoReplyV6(request) => {
+                let (src, dst) = (header.src_addr(), header.dst_addr());
+                request.emit_reply_header(&src, &dst, capabilities.checksum.icmpv6.tx(), out);
+            }
+            IpPayload::Icmpv6(message, octets) => {
+                let (src, dst) = (header.src_addr(), header.dst_addr());
+                message.emit_header(&src, &dst, octets, capabilities.checksum.icmpv6.tx(), out);
+            }
+            IpPayload::Udp(ports, octets) => {
+                let (src, dst) = (header.src_addr(), header.dst_addr());
+                ports.emit_header(&src, &dst, octets, capabilities.checksum.udp.tx(), out);
+            }
+            IpPayload::Tcp(segment, octets) => {
+                emit_tcp_header(segment, octets, header, capabilities, out);
+            }
+            IpPayload::Raw(..) => {}
+            IpPayload::Igmp(message) => out.append(&message.octets()),
+            IpPayload::Mld(count, records) => {
+                emit_mld_header(header, *count, records, capabilities, out);
+            }
+        }
+    }
+
+    #[inline(always)]
+    fn as_ip_payload(&self) -> IpPayload<'_> {
+        *self
+    }
+}
+
+impl Payload for EchoReply<'_> {
+    ghost carried = { shown.echo_reply };
+
+    ghost behind = { λ p. drop 8 p.request.octets.now };
+
+    #[inline(always)]
+    fn protocol(&self) -> IpProtocol {
+        IpProtocol::Icmp
+    }
+
+    #[inline(always)]
+    fn len(&self) -> usize {
+        self.request.octets.len()
+    }
+
+    #[inline(always)]
+    fn octets(&self) -> &[u8] {
+        self.request.payload()
+    }
+
+    #[inline(always)]
+    fn emit_header(
+        &self,
+        _header: &IpRepr,
+        capabilities: &DeviceCapabilities,
+        out: &mut FrameBuffer,
+    ) {
+        self.request
+            .emit_reply_header(capabilities.checksum.icmpv4.tx(), out);
+    }
+
+    #[inline(always)]
+    fn as_ip_payload(&self) -> IpPayload<'_> {
+        IpPayload::EchoReply(self.request)
+    }
+}
+
+impl Payload for EchoReplyV6<'_> {
+    ghost carried = { shown.echo_reply_v6 };
+
+    ghost behind = { λ p. drop 8 p.request.octets.now };
+
+    #[inline(always)]
+    fn protocol(&self) -> IpProtocol {
+        IpProtocol::Icmpv6
+    }
+
+    #[inline(always)]
+    fn len(&self) -> usize {
+        self.request.octets.len()
+    }
+
+    #[inline(always)]
+    fn octets(&self) -> &[u8] {
+        self.request.payload()
+    }
+
+    #[inline(always)]
+    fn emit_header(
+        &self,
+        header: &IpRepr,
+        capabilities: &DeviceCapabilities,
+        out: &mut FrameBuffer,
+    ) {
+        let (src, dst) = (header.src_addr(), header.dst_addr());
+        self.request
+            .emit_reply_header(&src, &dst, capabilities.checksum.icmpv6.tx(), out);
+    }
+
+    #[inline(always)]
+    fn as_ip_payload(&self) -> IpPayload<'_> {
+        IpPayload::EchoReplyV6(self.request)
+    }
+}
+
+impl Payload for Unreachable<'_> {
+    ghost carried = { shown.unreachable };
+
+    ghost behind = { λ p. p.octets.now };
+
+    #[inline(always)]
+    fn protocol(&self) -> IpProtocol {
+        IpProtocol::Icmp
+    }
+
+    #[inline(always)]
+    fn len(&self) -> usize {
+        28 + self.octets.len()
+    }
+
+    #[inline(always)]
+    fn octets(&self) -> &[u8] {
+        self.octets
+    }
+
+    #[inline(always)]
+    fn emit_header(
+        &self,
+        _header: &IpRepr,
+        capabilities: &DeviceCapabilities,
+        out: &mut FrameBuffer,
+    ) {
+        let summed = capabilities.checksum.icmpv4.tx();
+        let quoted_summed = capabilities.checksum.ipv4.tx();
+        self.message()
+            .emit_header(self.octets, summed, quoted_summed, out);
+    }
+
+    #[inline(always)]
+    fn as_ip_payload(&self) -> IpPayload<'_> {
+        IpPayload::Icmpv4(self.message(), self.octets)
+    }
+}
+
+impl Payload for UnreachableV6<'_> {
+    ghost carried = { shown.unreachable_v6 };
+
+    ghost behind = { λ p. p.octets.now };
+
+    #[inline(always)]
+    fn protocol(&self) -> IpProtocol {
+        IpProtocol::Icmpv6
+    }
+
+    #[inline(always)]
+    fn len(&self) -> usize {
+        48 + self.octets.len()
+    }
+
+    #[inline(always)]
+    fn octets(&self) -> &[u8] {
+        self.octets
+    }
+
+    #[inline(always)]
+    fn emit_header(
+        &self,
+        header: &IpRepr,
+        capabilities: &DeviceCapabilities,
+        out: &mut FrameBuffer,
+    ) {
+        let (src, dst) = (header.src_addr(), header.dst_addr());
+        let summed = capabilities.checksum.icmpv6.tx();
+        self.message()
+            .emit_header(&src, &dst, self.octets, summed, out);
+    }
+
+    #[inline(always)]
+    fn as_ip_payload(&self) -> IpPayload<'_> {
+        IpPayload::Icmpv6(self.message(), self.octets)
+    }
+}
+
+impl Payload for NeighborAdvert {
+    ghost carried = { shown.neighbor_advert };
+
+    ghost behind = { λ p. [] };
+
+    #[inline(always)]
+    fn protocol(&self) -> IpProtocol {
+        IpProtocol::Icmpv6
+    }
+
+    #[inline(always)]
+    fn len(&self) -> usize {
+        32
+    }
+
+    #[inline(always)]
+    fn octets(&self) -> &[u8] {
+        &[]
+    }
+
+    #[inline(always)]
+    fn emit_header(
+        &self,
+        header: &IpRepr,
+        capabilities: &DeviceCapabilities,
+        out: &mut FrameBuffer,
+    ) {
+        let (src, dst) = (header.src_addr(), header.dst_addr());
+        let summed = capabilities.checksum.icmpv6.tx();
+        self.message().emit_header(&src, &dst, &[], summed, out);
+    }
+
+    #[inline(always)]
+    fn as_ip_payload(&self) -> IpPayload<'_> {
+        IpPayload::Icmpv6(self.message(), &[])
+    }
+}
+
+impl Payload for Segment<'_> {
+    ghost carried = { shown.segment };
+
+    ghost behind = { λ p. p.octets.now };
+
+    #[inline(always)]
+    fn protocol(&self) -> IpProtocol {
+        IpProtocol::Tcp
+    }
+
+    #[inline(always)]
+    fn len(&self) -> usize {
+        20 + self.octets.len()
+    }
+
+    #[inline(always)]
+    fn octets(&self) -> &[u8] {
+        self.octets
+    }
+
+    #[inline(always)]
+    fn emit_header(
+        &self,
+        header: &IpRepr,
+        capabilities: &DeviceCapabilities,
+        out: &mut FrameBuffer,
+    ) {
+        emit_tcp_header(&self.header, self.octets, header, capabilities, out);
+    }
+
+    #[inline(always)]
+    fn as_ip_payload(&self) -> IpPayload<'_> {
+        IpPayload::Tcp(self.header, self.octets)
+    }
+}
+
+impl Unreachable<'_> {
+    /// The error's message.
+    #[inline(always)]
+    fn message(&self) -> Icmpv4Repr
+        ensures { result ≡ icmpv4.DstUnreachable self.now.reason self.now.header }
+    {
+        Icmpv4Repr::DstUnreachable {
+            reason: self.reason,
+            header: self.header,
+        }
+    }
+}
+
+impl UnreachableV6<'_> {
+    /// The error's message.
+    #[inline(always)]
+    fn message(&self) -> Icmpv6Repr
+        ensures { result ≡ icmpv6.DstUnreachable self.now.reason self.now.header }
+    {
+        Icmpv6Repr::DstUnreachable {
+            reason: self.reason,
+            header: self.header,
+        }
+    }
+}
+
+impl NeighborAdvert {
+    /// The message of the advertisement.
+    #[inline(always)]
+    fn message(&self) -> Icmpv6Repr
+        ensures { result ≡ icmpv6.Ndisc (ndisc.NeighborAdvert self.now.flags self.now.target_addr (Some self.now.lladdr)) }
+    {
+        Icmpv6Repr::Ndisc(NdiscRepr::NeighborAdvert {
+            flags: self.flags,
+            target_addr: self.target_addr,
+            lladdr: Some(self.lladdr),
+        })
+    }
+}
+
+/// Appends a segment's header behind a packet's, with its window within the device's, and with its
+/// checksum where that is on.
+#[inline(always)]
+fn emit_tcp_header(
+    segment: &TcpRepr,
+    octets: &[u8],
+    header: &IpRepr,
+    capabilities: &DeviceCapabilities,
+    out: &mut FrameBuffer,
+)
+    requires short { 20 + length octets.now < 2 ^ 16 }
+    requires room { length out.old + 20 ≤ 1514 }
+    ensures items { out.new ++ octets.now ≡ out.old ++ payload_text capabilities.now header.now (value.Tcp segment.now octets.now) }
+    ensures len { length out.new ≡ length out.old + 20 }
+{
+    let (src, dst) = (header.src_addr(), header.dst_addr());
+    let segment = limited(capabilities, header.header_len(), segment);
+    segment.emit_header(&src, &dst, octets, capabilities.checksum.tcp.tx(), out);
+}
+
+/// Appends a report of MLD up to its records: the options by which routers look at it, and its header
+/// with its checksum where that is on (RFC 3810 5.2).
+#[inline(never)]
+fn emit_mld_header(
+    header: &IpRepr,
+    count: u16,
+    records: &[u8],
+    capabilities: &DeviceCapabilities,
+    out: &mut FrameBuffer,
+)
+    requires short { 16 + length records.now < 2 ^ 16 }
+    requires room { length out.old + 16 ≤ 1514 }
+    ensures items { out.new ++ records.now ≡ out.old ++ payload_text capabilities.now header.now (value.Mld count records.now) }
+    ensures len { length out.new ≡ length out.old + 16 }
+{
+    router_alert().emit(out);
+    let (src, dst) = (header.src_addr(), header.dst_addr());
+    let report = Icmpv6Repr::Mld(MldRepr::Report {
+        nr_mcast_addr_rcrds: count,
+    });
+    report.emit_header(&src, &dst, records, capabilities.checksum.icmpv6.tx(), out);
+}
+
+/// The options of a report of MLD: routers look at it (RFC 2711), and they are padded to eight octets.
+fn router_alert() -> Ipv6HopByHopRepr
+    ensures value { result ≡ mld_options }
+    ensures len { text_len result ≡ 8 }
+{
+    let mut options = ArrayVec::new();
+    options.push(Ipv6OptionRepr::RouterAlert(0));
+    options.push(Ipv6OptionRepr::PadN(0));
+    Ipv6HopByHopRepr {
+        next_header: IpProtocol::Icmpv6,
+        options,
+    }
+}
+
+/// A segment's header as it goes behind a packet's header of so many octets: its window is at most
+/// what a device with a limited burst can take, so many segments as long as its packets allow.
+#[inline(always)]
+fn limited(capabilities: &DeviceCapabilities, ip_header_len: usize, header: &TcpRepr) -> TcpRepr
+    requires { ip_header_len ≤ 40 }
+    ensures { result ≡ limited capabilities.now ip_header_len header.now }
+{
+    let Some(burst) = capabilities.max_burst_size else {
+        return *header;
+    };
+    let mtu = capabilities.max_transmission_unit;
+    let limit = burst.saturating_mul(mtu.saturating_sub(ip_header_len + 20));
+    let window_len = if usize::from(header.window_len) <= limit {
+        header.window_len
+    } else {
+        limit as u16
+    };
+    TcpRepr {
+        window_len,
+        ..*header
+    }
+}
