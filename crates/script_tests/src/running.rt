@@ -85,11 +85,12 @@ impl Write for Page {
 }
 
 /// What a script does where its streams take so many octets, and reading on at its end fails or not,
-/// as does flushing the output.
+/// as does flushing the output, and the error stream.
 #[derive(Clone, Copy)]
 struct Case<'a> {
     read_fails: bool,
     flush_fails: bool,
+    errors_flush_fails: bool,
     output_room: usize,
     errors_room: usize,
     output: &'a [u8],
@@ -101,6 +102,7 @@ const fn ends<'a>(output: &'a [u8], errors: &'a [u8], status: u8) -> Case<'a> {
     Case {
         read_fails: false,
         flush_fails: false,
+        errors_flush_fails: false,
         output_room: 512,
         errors_room: 512,
         output,
@@ -118,11 +120,18 @@ fn check<'a>(rt: &impl Abort, alloc: Global, pieces: &'a [&'a [u8]], case: Case<
             fails: case.read_fails,
         };
         let mut output = Page::new(case.output_room, case.flush_fails);
-        let mut errors = Page::new(case.errors_room, false);
+        let mut errors = Page::new(case.errors_room, case.errors_flush_fails);
         let status = run(alloc, &mut input, &mut output, &mut errors);
         assert_eq!(rt; output.flushes, 1);
         if errors.text.as_slice() == b"out of memory\n".as_slice() {
-            assert_eq!(rt; status, if case.flush_fails { 4 } else { 3 });
+            assert_eq!(rt;
+                status,
+                if case.flush_fails || case.errors_flush_fails {
+                    4
+                } else {
+                    3
+                }
+            );
             assert!(rt; case.output.starts_with(output.text.as_slice()));
         } else {
             assert_eq!(rt; output.text.as_slice(), case.output);
@@ -1004,6 +1013,23 @@ fn tells_that_the_output_is_not_flushed(rt: HostRuntime) {
         let stuck = Case {
             flush_fails: true,
             ..ends(output, errors, 4)
+        };
+        check(&rt, rt.alloc(), &[script], stuck);
+    }
+}
+
+// Where nothing is said there, it isn't flushed.
+#[test]
+fn tells_that_the_error_stream_is_not_flushed(rt: HostRuntime) {
+    let scripts: [(&[u8], &[u8], &[u8], u8); 3] = [
+        (b"", b"", b"", 0),
+        (REQUEST, REPLY, b"", 0),
+        (b"ingress\npol 0\n", b"None\n", b"bad line 2\n", 4),
+    ];
+    for (script, output, errors, status) in scripts {
+        let stuck = Case {
+            errors_flush_fails: true,
+            ..ends(output, errors, status)
         };
         check(&rt, rt.alloc(), &[script], stuck);
     }

@@ -611,12 +611,11 @@ fn what_a_socket_tells_of_itself(rt: HostRuntime) -> Result<(), Fail> {
 #[test]
 fn printed_ends(rt: HostRuntime) -> Result<(), Fail> {
     let listening = IpListenEndpoint::from(7);
-    assert_eq!(rt;
-        format!(in rt.alloc(); "{REMOTE}")?.as_str(),
-        "192.168.69.100:5000"
-    );
-    assert_eq!(rt; format!(in rt.alloc(); "{listening}")?.as_str(), "*:7");
     let number = TcpSeqNumber::from(4_294_967_295);
-    assert_eq!(rt; format!(in rt.alloc(); "{number}")?.as_str(), "4294967295");
+    let text = match format!(in rt.alloc(); "{REMOTE} {listening} {number}") {
+        Ok(text) => text,
+        Err(_) => format!(in rt.alloc(); "{REMOTE} {listening} {number}")?,
+    };
+    assert_eq!(rt; text.as_str(), "192.168.69.100:5000 *:7 4294967295");
     Ok(())
 }

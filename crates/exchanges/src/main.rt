@@ -1,0 +1,83 @@
+//! Compares what scripts of a host print with what they have to print.
+//!
+//! Each argument names a case, which is two files of the folder that the program runs in: `NAME.txt`,
+//! a script as `hostrun` reads it, and `NAME.out`, what it has to print, on standard output and then
+//! on the error stream. Each case gets a line; where it came otherwise, the first line that differs follows,
+//! as it came and as it had to come. The exit status is 0 if all came as they had to, and else 1.
+#![tactic(auto)]
+
+use anyhow::{Context, Result};
+use script::run::run;
+use std::alloc::Global;
+use std::fmt::{self, Display, Formatter, Write};
+use std::process::ExitCode;
+use std::{env, fs};
+
+/// The first line that came otherwise. Behind the end of a text stand empty lines.
+#[derive(Clone, Copy)]
+struct Difference<'a> {
+    /// Its number, counted from 1.
+    number: u64,
+    came: &'a str,
+    had_to_come: &'a str,
+}
+
+impl Display for Difference<'_> {
+    fn fmt<W: Write>(&self, f: &mut Formatter<W>) -> fmt::Result {
+        writeln!(f, "line {}", self.number)?;
+        writeln!(f, "came: {}", self.came)?;
+        write!(f, "had to come: {}", self.had_to_come)
+    }
+}
+
+fn main(rt: HostRuntime) -> Result<ExitCode> {
+    let alloc = rt.alloc();
+    let mut status = ExitCode::SUCCESS;
+    for name in env::args(&rt)?.skip(1) {
+        let script = text_of(&rt, format!(in alloc; "{name}.txt")?)?;
+        let had_to_come = text_of(&rt, format!(in alloc; "{name}.out")?)?;
+        let came = printed(alloc, &script)?;
+        match first_difference(&came, &had_to_come) {
+            None => println!(rt; "{name}: as it has to be")?,
+            Some(difference) => {
+                println!(rt; "{name}: {difference}")?;
+                status = ExitCode::FAILURE;
+            }
+        }
+    }
+    Ok(status)
+}
+
+/// What a file holds. An error names the file.
+fn text_of(rt: &HostRuntime, path: String) -> Result<String> {
+    fs::read_to_string(rt, path.as_str()).context(path)
+}
+
+/// What a script prints, on standard output and then on the error stream.
+fn printed(alloc: Global, script: &str) -> Result<String> {
+    let mut output = Vec::new(alloc);
+    let mut errors = Vec::new(alloc);
+    run(alloc, &mut script.as_bytes(), &mut output, &mut errors);
+    output.extend_from_slice(&errors)?;
+    Ok(String::from_utf8(output)?)
+}
+
+/// The first line in which a text that came differs from the one that had to come.
+fn first_difference<'a>(came: &'a str, had_to_come: &'a str) -> Option<Difference<'a>> {
+    let mut came = came.split('\n');
+    let mut had_to_come = had_to_come.split('\n');
+    for number in 1..u64::MAX {
+        let (line, wanted) = (came.next(), had_to_come.next());
+        if line != wanted {
+            return Some(Difference {
+                number,
+                came: line.unwrap_or(""),
+                had_to_come: wanted.unwrap_or(""),
+            });
+        }
+        if line.is_none() {
+            break;
+        }
+    }
+    None
+}
