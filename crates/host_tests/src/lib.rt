@@ -4,4 +4,6 @@
 #[cfg(test)]
 mod ends;
 #[cfg(test)]
+mod errors;
+#[cfg(test)]
 mod link;
