@@ -1,9 +1,8 @@
 -- What calls that take frames do to UDP sockets: they gain what came in the frames.
-use Rattle.std.proofs.Common.{◌≡◌, ℕ, ◌==◌, ◌&&◌, Bool, true, false, List, [], ◌∷◌, ◌++◌, refl, sym, ◌∙◌, ap, subst, Option, Some, None, option_map, if◌then◌else◌, arith}
+use Rattle.std.proofs.Common.{◌≡◌, ℕ, ◌==◌, ◌&&◌, Bool, true, false, List, [], ◌∷◌, ◌++◌, refl, sym, ◌∙◌, ap, subst, Option, Some, None, option_map, if◌then◌else◌}
 use Rattle.std.specs.Prelude.{ℤ}
 use Rattle.std.specs.List.{AllByRecursion}
 use Rattle.std.proofs.lemmas.List.{append-nil}
-use Rattle.std.proofs.lemmas.Bool.Decides.{nat_tests}
 use Rattle.net_base.specs.Device.{Event, Reception, Received, handed}
 use Rattle.ip_wire.specs.declared.ip_packet.IpRepr.{IpRepr}
 use Rattle.ip_wire.specs.IpPacket.{src_addr, dst_addr}
@@ -33,7 +32,7 @@ use Rattle.host_laws.specs.Deliveries as spec
 use Rattle.host_laws.proofs.Handed.{Same, seen}
 use Rattle.host_laws.proofs.Brought.{Brought, Took, took}
 use Rattle.host_laws.proofs.Brought as brought
-use Rattle.host_laws.proofs.Lists.{deliver-append, endpoint_stays, option_map_then, to_index-append, with_deliveries-append}
+use Rattle.host_laws.proofs.Lists.{deliver-append, endpoint_stays, eq_of, id_mapped, option_map_then, to_index-append, with_deliveries-append}
 
 -- a dispatch leaves what deliveries read, and the sockets, and notes nothing of slots
 pub record Unheard (old : Host) (notes : List Note) (new : Host) : Type 0 where
@@ -99,10 +98,6 @@ pub record Gained (B old : Host) (told : List Event) (notes : List Note) (new : 
 
 abbrev pub Gains : Host → Part
 Gains B old told notes new = seen old ≡ seen B → Gained B old told notes new
-
-id_mapped : (o : Option UdpSocket) → o ≡ option_map (λ s. s) o
-id_mapped None = refl
-id_mapped (Some s) = refl
 
 -- where nothing is handed over
 pub gained_none : (B old : Host) (told : List Event) (notes : List Note) (new : Host) → handed told ≡ [] → slot_notes notes ≡ [] → seen new ≡ seen old → new.sockets ≡ old.sockets → Gains B old told notes new
@@ -199,9 +194,6 @@ gets {H} {B} e b =
     }
 
 -- at one index of one delivery
-eq_of : (k i : ℕ) → (k == i) ≡ true → k ≡ i
-eq_of k i e = grind (arith, nat_tests)
-
 one_put : (i : ℕ) (d : Delivery) (s : UdpSocket) (o : Option UdpSocket) → (d.index ≡ i → o ≡ Some s) →
     (if d.index == i then Some (delivered d.source d.payload s) else o) ≡ option_map (with_deliveries (to_index i (d ∷ []))) o
 one_put i d s o there = by (d.index == i) refl where

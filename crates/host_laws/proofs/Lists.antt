@@ -1,5 +1,6 @@
 -- What is delivered, and what departs, of parts one after the other.
-use Rattle.std.proofs.Common.{◌≡◌, ℕ, ◌==◌, Bool, true, false, List, [], ◌∷◌, ◌++◌, refl, sym, ◌∙◌, ap, subst, Option, Some, None, option_map, if◌then◌else◌}
+use Rattle.std.proofs.Common.{◌≡◌, ℕ, ◌==◌, Bool, true, false, List, [], ◌∷◌, ◌++◌, refl, sym, ◌∙◌, ap, subst, Option, Some, None, option_map, if◌then◌else◌, arith}
+use Rattle.std.proofs.lemmas.Bool.Decides.{nat_tests}
 use Rattle.std.proofs.lemmas.List.{append_assoc}
 use Rattle.fragmentation.specs.Cuts.{Datagram}
 use Rattle.fragmentation.specs.Reassembly.{SlotNote}
@@ -46,6 +47,14 @@ pub option_map_then : {A B C : Type 0} (g : B → C) (f : A → B) (h : A → C)
 option_map_then g f h same None = refl
 option_map_then g f h same (Some x) = ap (λ y. Some y) (same x)
 
+pub id_mapped : (o : Option UdpSocket) → o ≡ option_map (λ s. s) o
+id_mapped None = refl
+id_mapped (Some s) = refl
+
+-- numbers that are equal by test
+pub eq_of : (k i : ℕ) → (k == i) ≡ true → k ≡ i
+eq_of k i e = grind (arith, nat_tests)
+
 -- departures
 pub from_index-append : (i : ℕ) (ds es : List Departure) → from_index i (ds ++ es) ≡ from_index i ds ++ from_index i es
 from_index-append i [] es = refl
@@ -59,7 +68,7 @@ pub entries-append : (ds es : List Departure) → entries (ds ++ es) ≡ entries
 entries-append [] es = refl
 entries-append (d ∷ ds) es = ap (λ xs. (d.destination, d.payload) ∷ xs) (entries-append ds es)
 
-pub frames_by-append : (w : Way) (fs gs : List (List ℕ)) → frames_by w (fs ++ gs) ≡ frames_by w fs ++ gs
+frames_by-append : (w : Way) (fs gs : List (List ℕ)) → frames_by w (fs ++ gs) ≡ frames_by w fs ++ gs
 frames_by-append Dropped fs gs = refl
 frames_by-append (InOneFrame frame) fs gs = refl
 frames_by-append (InPieces cut first) fs gs = refl

@@ -25,7 +25,7 @@ use Rattle.host_laws.specs.Departures.{Departure, IsLeft, Leaves, InOneFrame, In
 use Rattle.host_laws.specs.Departures as spec
 use Rattle.host_laws.proofs.Idle.{Idle, base}
 use Rattle.host_laws.proofs.Gained.{all-append}
-use Rattle.host_laws.proofs.Lists.{none_among, among-append, option_map_then, from_index-append, without-append, entries-append, frames_of-append, cuts_of-append}
+use Rattle.host_laws.proofs.Lists.{among-append, cuts_of-append, entries-append, frames_of-append, from_index-append, id_mapped, none_among, option_map_then, without-append}
 
 abbrev LeftIn : Host → SocketSet → Departure → Type 0
 LeftIn B sockets d = IsLeft (record B { sockets = sockets }) d
@@ -42,10 +42,6 @@ pub record Lost (B old : Host) (told : List Event) (notes : List Note) (new : Ho
 
 abbrev pub LosesOver : Host → Part
 LosesOver B old told notes new = base old ≡ base B → Lost B old told notes new
-
-id_mapped : (o : Option UdpSocket) → o ≡ option_map (λ s. s) o
-id_mapped None = refl
-id_mapped (Some s) = refl
 
 -- where no socket loses anything
 pub lost_none : (B old : Host) (told : List Event) (notes : List Note) (new : Host) → Idle old new → LosesOver B old told notes new

@@ -1,5 +1,5 @@
 -- What moves over a run.
-use Rattle.std.proofs.Common.{◌≡◌, ℕ, List, [], ◌∷◌, ◌++◌, refl, sym, ◌∙◌, ap, subst, Option, Some, None, option_map}
+use Rattle.std.proofs.Common.{◌≡◌, ℕ, List, [], ◌∷◌, ◌++◌, refl, sym, ◌∙◌, ap, subst, option_map}
 use Rattle.std.proofs.lemmas.List.{append_assoc}
 use Rattle.transport_sockets.specs.Udp.{UdpSocket, delivered, gone}
 use Rattle.host_machine.specs.Host.{Host}
@@ -11,7 +11,7 @@ use Rattle.host_laws.specs.Datagrams.{KeepsQueues, OnePlace, RunsKeepDatagrams, 
 use Rattle.host_laws.proofs.Stepped.{step_moves}
 use Rattle.host_laws.proofs.Lost.{rest_stays}
 use Rattle.socket_base.specs.declared.endpoint.IpEndpoint.{IpEndpoint}
-use Rattle.host_laws.proofs.Lists.{entries-append, from_index-append, option_map_then, to_index-append, tx_stays, with_deliveries-append, without-append}
+use Rattle.host_laws.proofs.Lists.{entries-append, from_index-append, id_mapped, option_map_then, to_index-append, tx_stays, with_deliveries-append, without-append}
 
 none_before : {X : Type 0} (xs ys : List X) → xs ++ ys ≡ [] → xs ≡ []
 none_before [] ys e = refl
@@ -37,10 +37,6 @@ moved_on ds ds' es es' s =
 moved_at : (i : ℕ) (ds ds' : List Delivery) (es es' : List Departure) (s : UdpSocket) →
     moved (to_index i ds') (from_index i es') (moved (to_index i ds) (from_index i es) s) ≡ moved (to_index i (ds ++ ds')) (from_index i (es ++ es')) s
 moved_at i ds ds' es es' s = moved_on (to_index i ds) (to_index i ds') (from_index i es) (from_index i es') s ∙ rw (to_index-append, from_index-append) refl
-
-id_mapped : (o : Option UdpSocket) → o ≡ option_map (λ s. s) o
-id_mapped None = refl
-id_mapped (Some s) = refl
 
 -- the front of a queue behind what moved before
 front_after : (ds : List Delivery) (es : List Departure) (rest : List (IpEndpoint × List ℕ)) (s : UdpSocket) → entries es ++ rest ≡ s.tx.packets → (moved ds es s).tx.packets ≡ rest

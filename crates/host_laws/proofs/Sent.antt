@@ -1,7 +1,6 @@
 -- What a call that sends does to UDP sockets, from the turn of one to the whole call.
-use Rattle.std.proofs.Common.{◌≡◌, ℕ, ◌==◌, Bool, true, false, List, [], ◌∷◌, refl, sym, ◌∙◌, ap, Option, Some, None, option_map, option_and_then, slice_get, slice_set, if◌then◌else◌, arith}
+use Rattle.std.proofs.Common.{◌≡◌, ℕ, ◌==◌, Bool, true, false, List, [], ◌∷◌, refl, sym, ◌∙◌, ap, Option, Some, None, option_map, option_and_then, slice_get, slice_set, if◌then◌else◌}
 use Rattle.std.specs.Prelude.{ℤ}
-use Rattle.std.proofs.lemmas.Bool.Decides.{nat_tests}
 use Rattle.net_base.specs.Device.{Event, sent}
 use Rattle.socket_base.specs.declared.endpoint.IpEndpoint.{IpEndpoint}
 use Rattle.sockets.specs.Kinds.{down_udp}
@@ -21,20 +20,13 @@ use Rattle.host_laws.specs.Departures.{Departure, entries, from_index, without}
 use Rattle.host_laws.proofs.Places.{set_other, set_same, udp_of}
 use Rattle.host_laws.proofs.Idle.{Idle, base, dispatch_idle, idle, piece_idle, routers_idle, all_idle, igmp_idle, mld_idle}
 use Rattle.host_laws.proofs.Departed.{Turned, Stays, Loses, turned, turned_other}
-use Rattle.host_laws.proofs.Lists.{none_among}
+use Rattle.host_laws.proofs.Lists.{eq_of, id_mapped, none_among}
 use Rattle.host_laws.proofs.Lost.{LosesOver, leaves_alike, lost_none, lost_on}
 
 turn_idle : {s s' : Socket} {turn : Turn} {H new : Host} {told : List Event} {notes : List Note} → SocketTurn s turn s' H told notes new → Idle H new
 turn_idle (egress.Silent p t o n e r) = idle e
 turn_idle (egress.Refused p q t o n e r) = idle e
 turn_idle (egress.Sent p outcome frames q d t o r) = dispatch_idle d
-
-id_mapped : (o : Option UdpSocket) → o ≡ option_map (λ s. s) o
-id_mapped None = refl
-id_mapped (Some s) = refl
-
-eq_of : (k i : ℕ) → (k == i) ≡ true → k ≡ i
-eq_of k i e = grind (arith, nat_tests)
 
 -- where one datagram left one socket
 one_gone : (i : ℕ) (d : Departure) (s : UdpSocket) (o : Option UdpSocket) → (d.index ≡ i → o ≡ Some s) → (if d.index == i then Some (gone s) else o) ≡ option_map (without (from_index i (d ∷ []))) o

@@ -33,7 +33,7 @@ use Rattle.host_laws.proofs.Gained.{Gains, IsAt, gained_none, gained_on, ingress
 use Rattle.host_laws.proofs.Lost.{LosesOver, leaves_alike, lost_on, cuts-append}
 use Rattle.host_laws.proofs.Sent.{egress_loses, nothing_lost}
 use Rattle.host_laws.proofs.Calls.{until}
-use Rattle.host_laws.proofs.Lists.{none_among, among-append, endpoint_stays, hop_limit_stays, option_map_then, tx_stays}
+use Rattle.host_laws.proofs.Lists.{among-append, endpoint_stays, hop_limit_stays, id_mapped, none_among, option_map_then, tx_stays}
 
 -- what moved at a step from a host, as it was when the step began
 pub record Moved (begin old : Host) (told : List Event) (notes : List Note) (new : Host) : Type 0 where
@@ -46,10 +46,6 @@ pub record Moved (begin old : Host) (told : List Event) (notes : List Note) (new
   pub cut : IsAmong (cuts_of departures) (cuts (cut_notes notes))
   pub fronts : (i : ℕ) (s : UdpSocket) → udp_at old.sockets i ≡ Some s → IsBeginning (entries (from_index i departures)) s.tx.packets
   pub queues : (i : ℕ) → udp_at new.sockets i ≡ option_map (moved (to_index i deliveries) (from_index i departures)) (udp_at old.sockets i)
-
-id_mapped : (o : Option UdpSocket) → o ≡ option_map (λ s. s) o
-id_mapped None = refl
-id_mapped (Some s) = refl
 
 -- where the sockets stay, and nothing is told or noted
 unmoved : {begin old new : Host} → new.sockets ≡ old.sockets → Moved begin old [] [] new
