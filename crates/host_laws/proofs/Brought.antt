@@ -89,7 +89,7 @@ whole_handed : {frame packet : List ℕ} {H new : Host} {noted : List SlotNote} 
     may_be_source H.ip_addrs (ipv4_in packet).0.src_addr ≡ true → is_fragment (ipv4_in packet).1 ≡ false → Same H new ⊎ HandsPacket (ipv4_in packet).0.next_header (repr.Ipv4 (ipv4_in packet).0) (ipv4_in packet).2 H new →
     Same H new ⊎ Brought H frame noted new
 whole_handed c i s g (inl x) = inl x
-whole_handed {frame} {packet} c i s g (inr h) = inr (record { header = repr.Ipv4 (ipv4_in packet).0; octets = (ipv4_in packet).2; brings = spec.Whole packet c i s g h.is_udp refl refl; for_host = h.for_host; hands = h.hands })
+whole_handed {frame} {packet} c i s g (inr h) = inr (record { header = repr.Ipv4 (ipv4_in packet).0; octets = (ipv4_in packet).2; brings = spec.AtOnce (spec.OverIpv4 packet c i s g h.is_udp refl refl); for_host = h.for_host; hands = h.hands })
 
 ipv4_brought : {source : HardwareAddress} {frame packet : List ℕ} {H new : Host} {reply : Option Reply} {notes : List Note} → Carries H.hardware_addr frame packet → TakesIpv4 source H packet reply notes new →
     Same H new ⊎ Brought H frame (slot_notes notes) new
@@ -107,7 +107,7 @@ options_handed c i u z o s (inl x) = inl x
 options_handed {frame} {packet} c i u z o s (inr h) = inr (record {
   header = repr.Ipv6 (ipv6_in packet).0;
   octets = (hop_by_hop_in (ipv6_in packet).1).1;
-  brings = spec.BehindOptions packet c i u z o s h.is_udp refl refl;
+  brings = spec.AtOnce (spec.BehindOptions packet c i u z o s h.is_udp refl refl);
   for_host = h.for_host;
   hands = h.hands;
 })
@@ -115,7 +115,7 @@ options_handed {frame} {packet} c i u z o s (inr h) = inr (record {
 bare_handed : {frame packet : List ℕ} {H new : Host} {noted : List SlotNote} → CarriesIpv6 H.hardware_addr frame packet → IsIpv6 packet → is_unicast (ipv6_in packet).0.src_addr ≡ true →
     Same H new ⊎ HandsPacket (ipv6_in packet).0.next_header (repr.Ipv6 (ipv6_in packet).0) (ipv6_in packet).1 H new → Same H new ⊎ Brought H frame noted new
 bare_handed c i u (inl x) = inl x
-bare_handed {frame} {packet} c i u (inr h) = inr (record { header = repr.Ipv6 (ipv6_in packet).0; octets = (ipv6_in packet).1; brings = spec.OverIpv6 packet c i u h.is_udp refl refl; for_host = h.for_host; hands = h.hands })
+bare_handed {frame} {packet} c i u (inr h) = inr (record { header = repr.Ipv6 (ipv6_in packet).0; octets = (ipv6_in packet).1; brings = spec.AtOnce (spec.OverIpv6 packet c i u h.is_udp refl refl); for_host = h.for_host; hands = h.hands })
 
 ipv6_brought : {source : HardwareAddress} {frame packet : List ℕ} {H new : Host} {reply : Option Reply} {notes : List Note} → CarriesIpv6 H.hardware_addr frame packet → ipv6.TakesIpv6 source H packet reply notes new →
     Same H new ⊎ Brought H frame (slot_notes notes) new

@@ -27,7 +27,7 @@ use Rattle.host_machine.specs.Parts.{Part}
 use Rattle.host_machine.proofs.Notes.{slot_notes-append}
 use Rattle.host_machine.proofs.Malformed.{handed-sends}
 use Rattle.host_machine.proofs.Views.{handed-append}
-use Rattle.host_laws.specs.Deliveries.{BringsUdp, Delivery, Deliver, Gets, IsHeard, NoFrame, NobodyGets, OneGets, to_index, udp_at, with_deliveries}
+use Rattle.host_laws.specs.Deliveries.{BringsPacket, BringsUdp, Delivery, Deliver, Gets, IsHeard, NoFrame, NobodyGets, OneGets, to_index, udp_at, with_deliveries}
 use Rattle.host_laws.specs.Deliveries as spec
 use Rattle.host_laws.proofs.Handed.{Same, seen}
 use Rattle.host_laws.proofs.Brought.{Brought, Took, took}
@@ -50,8 +50,8 @@ unsent : {H new : Host} {frames : List (List ℕ)} {notes : List Note} → IsUns
 unsent u = still u.unchanged u.unnoted
 
 emitted : {id : ℕ} {p : Packet} {h : HardwareAddress} {outcome : Outcome} {H new : Host} {frames : List (List ℕ)} {notes : List Note} → Emits id p h outcome H frames notes new → Unheard H notes new
-emitted (dispatch.Whole fits o f n e) = still e n
-emitted (dispatch.InPieces q first rest is long fits pieces form o f n e) = changed e refl refl (ap slot_notes n)
+emitted (dispatch.Whole fits formed o f n e) = still e n
+emitted (dispatch.InPieces q first rest is long fits pieces form formed o f n e) = changed e refl refl (ap slot_notes n)
 emitted (dispatch.TooLong long longer o u) = unsent u
 
 discovered : {own : _} {hop : _} {outcome : Outcome} {H new : Host} {frames : List (List ℕ)} {notes : List Note} → Discovers own hop outcome H frames notes new → Unheard H notes new
@@ -152,23 +152,26 @@ gained_on B a b c ts us xs ys one two = λ like.
     }
 
 -- what a frame brings, as it is read by the call's host
-brings_alike : {H B : Host} {frame : List ℕ} {noted : List SlotNote} {r : IpRepr} {octets : List ℕ} → seen H ≡ seen B → BringsUdp H frame noted r octets → BringsUdp B frame noted r octets
-brings_alike {H} {B} e (spec.Whole packet c i s g n r o) =
+packet_alike : {H B : Host} {frame : List ℕ} {r : IpRepr} {octets : List ℕ} → seen H ≡ seen B → BringsPacket H frame r octets → BringsPacket B frame r octets
+packet_alike {H} {B} e (spec.OverIpv4 packet c i s g n r o) =
     let h : H.hardware_addr ≡ B.hardware_addr = ap (λ (K : Host). K.hardware_addr) e in
     let k : H.capabilities ≡ B.capabilities = ap (λ (K : Host). K.capabilities) e in
     let a : H.ip_addrs ≡ B.ip_addrs = ap (λ (K : Host). K.ip_addrs) e in
-    spec.Whole packet (rw (← h) c) (rw (← k) i) (rw (← a) s) g n r o
+    spec.OverIpv4 packet (rw (← h) c) (rw (← k) i) (rw (← a) s) g n r o
+packet_alike {H} {B} e (spec.OverIpv6 packet c i u n r o) =
+    let h : H.hardware_addr ≡ B.hardware_addr = ap (λ (K : Host). K.hardware_addr) e in
+    spec.OverIpv6 packet (rw (← h) c) i u n r o
+packet_alike {H} {B} e (spec.BehindOptions packet c i u z o s n r p) =
+    let h : H.hardware_addr ≡ B.hardware_addr = ap (λ (K : Host). K.hardware_addr) e in
+    spec.BehindOptions packet (rw (← h) c) i u z o s n r p
+
+brings_alike : {H B : Host} {frame : List ℕ} {noted : List SlotNote} {r : IpRepr} {octets : List ℕ} → seen H ≡ seen B → BringsUdp H frame noted r octets → BringsUdp B frame noted r octets
+brings_alike e (spec.AtOnce b) = spec.AtOnce (packet_alike e b)
 brings_alike {H} {B} e (spec.InFragments packet earlier c i s g n l r) =
     let h : H.hardware_addr ≡ B.hardware_addr = ap (λ (K : Host). K.hardware_addr) e in
     let k : H.capabilities ≡ B.capabilities = ap (λ (K : Host). K.capabilities) e in
     let a : H.ip_addrs ≡ B.ip_addrs = ap (λ (K : Host). K.ip_addrs) e in
     spec.InFragments packet earlier (rw (← h) c) (rw (← k) i) (rw (← a) s) g n l r
-brings_alike {H} {B} e (spec.OverIpv6 packet c i u n r o) =
-    let h : H.hardware_addr ≡ B.hardware_addr = ap (λ (K : Host). K.hardware_addr) e in
-    spec.OverIpv6 packet (rw (← h) c) i u n r o
-brings_alike {H} {B} e (spec.BehindOptions packet c i u z o s n r p) =
-    let h : H.hardware_addr ≡ B.hardware_addr = ap (λ (K : Host). K.hardware_addr) e in
-    spec.BehindOptions packet (rw (← h) c) i u z o s n r p
 
 -- the delivery that a frame brings
 abbrev delivery : {H new : Host} {frame : List ℕ} {noted : List SlotNote} → Brought H frame noted new → Delivery

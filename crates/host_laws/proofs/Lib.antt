@@ -3,6 +3,8 @@ mod Handed
 mod Brought
 mod Lists
 mod Gained
+mod Unspoken
+mod Accounts
 mod Idle
 mod Ways
 mod Departed
@@ -10,4 +12,7 @@ mod Lost
 mod Sent
 mod Calls
 mod Stepped
+mod ReadBack
 pub mod Ran
+mod Regular
+pub mod Traced

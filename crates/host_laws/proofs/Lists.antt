@@ -70,7 +70,7 @@ entries-append (d ∷ ds) es = ap (λ xs. (d.destination, d.payload) ∷ xs) (en
 
 frames_by-append : (w : Way) (fs gs : List (List ℕ)) → frames_by w (fs ++ gs) ≡ frames_by w fs ++ gs
 frames_by-append Dropped fs gs = refl
-frames_by-append (InOneFrame frame) fs gs = refl
+frames_by-append (InOneFrame to frame) fs gs = refl
 frames_by-append (InPieces cut first) fs gs = refl
 
 pub frames_of-append : (ds es : List Departure) → frames_of (ds ++ es) ≡ frames_of ds ++ frames_of es
@@ -79,7 +79,7 @@ frames_of-append (d ∷ ds) es = ap (frames_by d.way) (frames_of-append ds es) �
 
 cuts_by-append : (w : Way) (cs es : List Datagram) → cuts_by w (cs ++ es) ≡ cuts_by w cs ++ es
 cuts_by-append Dropped cs es = refl
-cuts_by-append (InOneFrame frame) cs es = refl
+cuts_by-append (InOneFrame to frame) cs es = refl
 cuts_by-append (InPieces cut first) cs es = refl
 
 pub cuts_of-append : (ds es : List Departure) → cuts_of (ds ++ es) ≡ cuts_of ds ++ cuts_of es

@@ -8,7 +8,7 @@ use Rattle.socket_base.specs.declared.endpoint.IpEndpoint.{IpEndpoint}
 use Rattle.socket_base.specs.declared.endpoint.IpListenEndpoint.{IpListenEndpoint}
 use Rattle.transport_sockets.specs.Udp.{UdpSocket, gone}
 use Rattle.fragmentation.specs.Cuts.{Datagram, pieces_of}
-use Rattle.host_machine.specs.Note.{Note, CutNote, Cut, PieceSent, cut_notes}
+use Rattle.host_machine.specs.Note.{Note, cut_notes}
 use Rattle.host_machine.specs.Host.{Host, SocketSet}
 use Rattle.host_machine.specs.Frame.{ip_frame, piece_frame}
 use Rattle.host_machine.specs.Dispatch.{datagram_of}
@@ -23,6 +23,8 @@ use Rattle.host_machine.proofs.Walk.{sent-append}
 use Rattle.host_laws.specs.Deliveries.{udp_at}
 use Rattle.host_laws.specs.Departures.{Departure, IsLeft, Leaves, InOneFrame, InPieces, cuts_of, departs_from, entries, frames_of, from_index, packet_of, without}
 use Rattle.host_laws.specs.Departures as spec
+use Rattle.host_machine.proofs.TwoHosts.{cuts-append}
+use Rattle.host_laws.proofs.Accounts.{AccountsFor, accounts_on}
 use Rattle.host_laws.proofs.Idle.{Idle, base}
 use Rattle.host_laws.proofs.Gained.{all-append}
 use Rattle.host_laws.proofs.Lists.{among-append, cuts_of-append, entries-append, frames_of-append, from_index-append, id_mapped, none_among, option_map_then, without-append}
@@ -39,13 +41,14 @@ pub record Lost (B old : Host) (told : List Event) (notes : List Note) (new : Ho
   pub cut : IsAmong (cuts_of departures) (cuts (cut_notes notes))
   pub fronts : (i : ℕ) (s : UdpSocket) → udp_at old.sockets i ≡ Some s → IsBeginning (entries (from_index i departures)) s.tx.packets
   pub udp_is : (i : ℕ) → udp_at new.sockets i ≡ option_map (without (from_index i departures)) (udp_at old.sockets i)
+  pub accounts : AccountsFor old departures (sent told) notes new
 
 abbrev pub LosesOver : Host → Part
 LosesOver B old told notes new = base old ≡ base B → Lost B old told notes new
 
 -- where no socket loses anything
-pub lost_none : (B old : Host) (told : List Event) (notes : List Note) (new : Host) → Idle old new → LosesOver B old told notes new
-lost_none B old told notes new i = λ like. record {
+pub lost_none : (B old : Host) (told : List Event) (notes : List Note) (new : Host) → Idle old new → AccountsFor old [] (sent told) notes new → LosesOver B old told notes new
+lost_none B old told notes new i accounts = λ like. record {
   base_is = i.base_is ∙ like;
   departures = [];
   left = tt;
@@ -53,6 +56,7 @@ lost_none B old told notes new i = λ like. record {
   cut = none_among (cuts (cut_notes notes));
   fronts = λ k s e. (s.tx.packets, refl);
   udp_is = λ k. ap (λ t. udp_at t k) i.sockets_are ∙ id_mapped (udp_at old.sockets k);
+  accounts = accounts;
 }
 
 -- how a datagram leaves is the same for a host that is alike, and for a socket with the same end and hop limit
@@ -65,10 +69,10 @@ leaves_alike H K s s' d e ends hops l = by l where
   packet_is src = ap (λ (x : IpListenEndpoint). packet_of (record s { endpoint = x }) d src) ends ∙ ap (λ n. packet_of (record s { endpoint = s'.endpoint; hop_limit = n }) d src) hops
 
   by : Leaves H s d → Leaves K s' d
-  by (spec.GoesWhole src p h f q l w) = spec.GoesWhole src p h (sym from_is ∙ f) (sym (packet_is src) ∙ q) (subst (λ (X : Host). total_len p ≤ ip_mtu_of X.capabilities) e l) (w ∙ ap (λ (X : Host). InOneFrame (ip_frame X h p)) e)
-  by (spec.GoesInPieces src q h id first rest f k l m pieces w) =
+  by (spec.GoesWhole src p h f q l formed w) = spec.GoesWhole src p h (sym from_is ∙ f) (sym (packet_is src) ∙ q) (subst (λ (X : Host). total_len p ≤ ip_mtu_of X.capabilities) e l) formed (w ∙ ap (λ (X : Host). InOneFrame h (ip_frame X h p)) e)
+  by (spec.GoesInPieces src q h id first rest f k l m pieces formed w) =
       let same : datagram_of H h id q ≡ datagram_of K h id q = ap (λ (X : Host). datagram_of X h id q) e in
-      spec.GoesInPieces src q h id first rest (sym from_is ∙ f) (sym (packet_is src) ∙ k) (subst (λ (X : Host). ip_mtu_of X.capabilities < total_len (packet.Ipv4 q)) e l) m (subst (λ (x : Datagram). pieces_of x ≡ first ∷ rest) same pieces) (w ∙ ap (λ (X : Host). InPieces (datagram_of X h id q) (piece_frame X first)) e)
+      spec.GoesInPieces src q h id first rest (sym from_is ∙ f) (sym (packet_is src) ∙ k) (subst (λ (X : Host). ip_mtu_of X.capabilities < total_len (packet.Ipv4 q)) e l) m (subst (λ (x : Datagram). pieces_of x ≡ first ∷ rest) same pieces) formed (w ∙ ap (λ (X : Host). InPieces (datagram_of X h id q) (piece_frame X first)) e)
   by (spec.NoSource f w) = spec.NoSource (sym from_is ∙ f) w
   by (spec.ToNobody n w) = spec.ToNobody n w
   by (spec.TooLong src p f q l m w) =
@@ -122,11 +126,6 @@ fronts_on old mid ds es i one two e s there =
     let all : entries (from_index i (ds ++ es)) ≡ entries (from_index i ds) ++ entries (from_index i es) = ap entries (from_index-append i ds es) ∙ entries-append (from_index i ds) (from_index i es) in
     (y.0, ap (λ xs. xs ++ y.0) all ∙ append_assoc (entries (from_index i ds)) (entries (from_index i es)) y.0 ∙ ap (λ xs. entries (from_index i ds) ++ xs) rest ∙ x.1)
 
-pub cuts-append : (xs ys : List CutNote) → cuts (xs ++ ys) ≡ cuts xs ++ cuts ys
-cuts-append [] ys = refl
-cuts-append (Cut d ∷ xs) ys = ap (λ ds. d ∷ ds) (cuts-append xs ys)
-cuts-append (PieceSent p ∷ xs) ys = cuts-append xs ys
-
 pub lost_on : (B a b c : Host) (ts us : List Event) (xs ys : List Note) → LosesOver B a ts xs b → LosesOver B b us ys c → LosesOver B a (ts ++ us) (xs ++ ys) c
 lost_on B a b c ts us xs ys one two = λ like.
     let x = one like in
@@ -141,4 +140,5 @@ lost_on B a b c ts us xs ys one two = λ like.
       udp_is = λ i. y.udp_is i ∙ ap (option_map (without (from_index i y.departures))) (x.udp_is i)
           ∙ option_map_then (without (from_index i y.departures)) (without (from_index i x.departures)) (without (from_index i (x.departures ++ y.departures)))
           (λ s. sym (ap (λ ds. without ds s) (from_index-append i x.departures y.departures) ∙ without-append (from_index i x.departures) (from_index i y.departures) s)) (udp_at a.sockets i);
+      accounts = rw sent-append (accounts_on a b c x.departures y.departures (sent ts) (sent us) xs ys x.accounts y.accounts);
     }

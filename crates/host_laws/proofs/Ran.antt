@@ -63,7 +63,7 @@ keeps_queues {first} {last} (Then {mid = mid} {command = c} {answer = answer} {t
     let p : Place = record { command = c; answer = answer; told = told; acts = acts; notes = notes; before = first; after = mid } in record {
       deliveries = x.deliveries ++ y.deliveries;
       departures = x.departures ++ y.departures;
-      moves = OnePlace p x.deliveries x.departures (record { came = x.came; heard = x.heard; left = x.left; went = x.went; cut = x.cut }) y.moves;
+      moves = OnePlace p x.deliveries x.departures (record { came = x.came; heard = x.heard; left = x.left; went = x.went; cut = x.cut; only = x.only }) y.moves;
       fronts = λ i v there. fronts_then i x.deliveries x.departures y.departures v (x.fronts i v there) (y.fronts i (moved (to_index i x.deliveries) (from_index i x.departures) v) (x.queues i ∙ ap (option_map (moved (to_index i x.deliveries) (from_index i x.departures))) there));
       queues = λ i. y.queues i ∙ ap (option_map (moved (to_index i y.deliveries) (from_index i y.departures))) (x.queues i)
           ∙ option_map_then (moved (to_index i y.deliveries) (from_index i y.departures)) (moved (to_index i x.deliveries) (from_index i x.departures))

@@ -30,7 +30,11 @@ use Rattle.host_laws.specs.Departures.{Departure, IsLeft, cuts_of, entries, fram
 use Rattle.host_laws.specs.Datagrams.{begun, moved}
 use Rattle.host_laws.proofs.Idle.{base}
 use Rattle.host_laws.proofs.Gained.{Gains, IsAt, gained_none, gained_on, ingress_gained, ingress_gains}
-use Rattle.host_laws.proofs.Lost.{LosesOver, leaves_alike, lost_on, cuts-append}
+use Rattle.host_machine.proofs.Shown.{maintains}
+use Rattle.host_machine.proofs.TwoHosts.{cuts-append}
+use Rattle.host_laws.specs.Senders.{CarryOnly, IsRegular, NobodyWritesUdp}
+use Rattle.host_laws.proofs.Accounts.{AccountsFor, Follows, accounts_after, accounts_on, accounts_same, follows, ingress_accounts}
+use Rattle.host_laws.proofs.Lost.{LosesOver, leaves_alike, lost_on}
 use Rattle.host_laws.proofs.Sent.{egress_loses, nothing_lost}
 use Rattle.host_laws.proofs.Calls.{until}
 use Rattle.host_laws.proofs.Lists.{among-append, endpoint_stays, hop_limit_stays, id_mapped, none_among, option_map_then, tx_stays}
@@ -46,6 +50,7 @@ pub record Moved (begin old : Host) (told : List Event) (notes : List Note) (new
   pub cut : IsAmong (cuts_of departures) (cuts (cut_notes notes))
   pub fronts : (i : ℕ) (s : UdpSocket) → udp_at old.sockets i ≡ Some s → IsBeginning (entries (from_index i departures)) s.tx.packets
   pub queues : (i : ℕ) → udp_at new.sockets i ≡ option_map (moved (to_index i deliveries) (from_index i departures)) (udp_at old.sockets i)
+  pub only : IsRegular old → NobodyWritesUdp old → CarryOnly old.capabilities.medium departures (sent told) (cuts (cut_notes notes))
 
 -- where the sockets stay, and nothing is told or noted
 unmoved : {begin old new : Host} → new.sockets ≡ old.sockets → Moved begin old [] [] new
@@ -59,6 +64,7 @@ unmoved {begin} {old} {new} e = record {
   cut = none_among [];
   fronts = λ i s there. (s.tx.packets, refl);
   queues = λ i. ap (λ (t : SocketSet). udp_at t i) e ∙ id_mapped (udp_at old.sockets i);
+  only = λ r none. record { frames_are = tt; cuts_are = tt };
 }
 
 -- a call that takes a frame
@@ -74,6 +80,7 @@ ingress_moves t answer old new told notes i =
       cut = none_among (cuts (cut_notes notes));
       fronts = λ i s there. (s.tx.packets, refl);
       queues = g.udp_is;
+      only = λ r none. (ingress_accounts t answer old new told notes i r none).carry;
     }
 
 -- a call that sends
@@ -90,6 +97,7 @@ egress_moves t answer old new told notes e =
       cut = l.cut;
       fronts = l.fronts;
       queues = l.udp_is;
+      only = λ r none. (l.accounts r none).carry;
     }
 
 -- a maintained host has the sockets that it had, and is at its moment
@@ -159,6 +167,20 @@ heard_own : (B : Host) (ds : List Delivery) → AllByRecursion (IsHeard (record 
 heard_own B [] all = tt
 heard_own B (d ∷ ds) all = (record { socket = all.0.socket; there = all.0.there; hears = all.0.hears }, heard_own B ds all.1)
 
+-- a maintained host is regular, too
+maintained_follows : (H : Host) (t : ℤ) → IsRegular H → Follows H (maintained (at H t))
+maintained_follows H t r = let s = maintains H t r.real in follows H (maintained (at H t)) s.same (maintained_left (sync_required H.slaac t)) s.real r where
+  maintained_left : (b : Bool) → (if b then in_line (swept H t) else swept H t).left ≡ H.left
+  maintained_left true = refl
+  maintained_left false = refl
+
+-- calls that receive send nothing of sockets
+abbrev Quietly : Part
+Quietly old told notes new = AccountsFor old [] (sent told) notes new
+
+quietly_on : (a b c : Host) (ts us : List Event) (xs ys : List Note) → Quietly a ts xs b → Quietly b us ys c → Quietly a (ts ++ us) (xs ++ ys) c
+quietly_on a b c ts us xs ys one two = rw sent-append (accounts_on a b c [] [] (sent ts) (sent us) xs ys one two)
+
 -- a poll: what its calls that receive gain, and what those that send lose
 poll_moves : (t : ℤ) (budget : ℕ) (answer : PollResult) (old new : Host) (told : List Event) (notes : List Note) → Polls t budget answer old told notes new → Moved (maintained (at old t)) old told notes new
 poll_moves t budget answer old new told notes p =
@@ -166,6 +188,9 @@ poll_moves t budget answer old new told notes p =
     let kept : B.sockets ≡ old.sockets = maintained_sockets old t in
     let g = until (Gains B) (λ H. gained_none B H [] [] H refl refl refl refl) (gained_on B) (ingress_gains B t (maintained_at old t)) p.receives refl in
     let l = until (LosesOver B) (nothing_lost B) (lost_on B) (egress_loses B t) p.sends (ap (λ (K : Host). base K) g.seen_is) in
+    let received = until Quietly (λ H. accounts_same refl refl refl) quietly_on (λ answer old new told notes e. ingress_accounts t answer old new told notes e) p.receives in
+    let poll_accounts : AccountsFor old l.departures (sent p.told_receiving ++ sent p.told_sending) (p.notes_receiving ++ p.notes_sending) new = accounts_after (maintained_follows old t) (λ x. rw kept x)
+    (accounts_on B p.mid new [] l.departures (sent p.told_receiving) (sent p.told_sending) p.notes_receiving p.notes_sending received l.accounts) in
     let h = until HandsNone (λ H. record { none = refl; unnoted = refl }) hands_on (λ answer old new told notes e. record { none = egress_hands_none e; unnoted = (egress_still e).silent }) p.sends in record {
       deliveries = g.deliveries;
       departures = l.departures;
@@ -178,6 +203,7 @@ poll_moves t budget answer old new told notes p =
       queues = λ i. l.udp_is i ∙ ap (option_map (without (from_index i l.departures))) (g.udp_is i)
           ∙ option_map_then (without (from_index i l.departures)) (with_deliveries (to_index i g.deliveries)) (moved (to_index i g.deliveries) (from_index i l.departures)) (λ s. refl) (udp_at B.sockets i)
           ∙ ap (λ (x : SocketSet). option_map (moved (to_index i g.deliveries) (from_index i l.departures)) (udp_at x i)) kept;
+      only = λ r none. rw (p.events, p.all_notes, sent-append) (poll_accounts r none).carry;
     }
 
 join_same : {group : _} {answer : _} {old new : Host} → JoinsGroup group answer old new → new.sockets ≡ old.sockets

@@ -1,37 +1,43 @@
 -- How a packet goes that counts as gone.
-use Rattle.std.proofs.Common.{◌≡◌, ◌≤◌, ◌<◌, ℕ, true, false, List, [], ◌∷◌, sym, ◌∙◌, ap, Some, Ok}
+use Rattle.std.proofs.Common.{◌≡◌, ◌≤◌, ◌<◌, ℕ, true, false, List, [], ◌∷◌, refl, sym, ◌∙◌, ap, Some, Ok}
 use Rattle.net_base.specs.Checksum.{ip_mtu_of}
 use Rattle.ip_address.specs.declared.hardware.HardwareAddress.{HardwareAddress}
 use Rattle.ip_address.specs.declared.hardware.HardwareAddress.TheVariants as hardware
 use Rattle.ip_address.specs.declared.ip.IpAddress.{IpAddress}
 use Rattle.ip_address.specs.declared.ip.IpAddress.TheVariants as address
 use Rattle.ip_address.specs.Ip.{is_unspecified}
-use Rattle.fragmentation.specs.Cuts.{Piece, pieces_of}
+use Rattle.ip_address.specs.declared.ethernet_address.EthernetAddress.{EthernetAddress}
+use Rattle.ip_address.specs.Hardware.{IsOf}
+use Rattle.fragmentation.specs.Cuts.{Piece, pieces_of, HasForm}
 use Rattle.host_machine.specs.Note.{Note, cut_notes}
 use Rattle.host_machine.specs.Host.{Host}
-use Rattle.host_machine.specs.Packet.{IpPayload, Packet, PacketV4, total_len}
+use Rattle.host_machine.specs.Packet.{IpPayload, Packet, PacketV4, IsFormed, total_len}
+use Rattle.host_machine.specs.Real.{IsReal}
 use Rattle.host_machine.specs.Packet as packet
 use Rattle.host_machine.specs.Frame.{ip_frame, piece_frame}
 use Rattle.host_machine.specs.Dispatch.{Outcome, IsUnsent, Emits, Discovers, SendsByHop, SendsEthernet, SendsOver, Dispatches, datagram_of, destination_of, identified, may_be_cut}
 use Rattle.host_machine.specs.Dispatch as dispatch
 use Rattle.host_machine.specs.Egress.{packet_between}
 use Rattle.host_machine.specs.TwoHosts.{cuts}
+use Rattle.host_machine.proofs.Walk.{Reached, ByNeighbor, ByGroup, WithoutAddresses}
+use Rattle.host_machine.proofs.Shown.{reached_of}
 
 -- whole, cut, or not at all
 pub data Goes (H : Host) (p : Packet) (frames : List (List ℕ)) (notes : List Note) : Type 0 where
-  InAFrame : (h : HardwareAddress) → total_len p ≤ ip_mtu_of H.capabilities → frames ≡ ip_frame H h p ∷ [] → cuts (cut_notes notes) ≡ [] → Goes H p frames notes
-  Cut : (q : PacketV4) (h : HardwareAddress) (id : ℕ) (first : Piece) (rest : List Piece) → p ≡ packet.Ipv4 q → ip_mtu_of H.capabilities < total_len p → may_be_cut p ≡ true →
-      pieces_of (datagram_of H h id q) ≡ first ∷ rest → frames ≡ piece_frame H first ∷ [] → cuts (cut_notes notes) ≡ datagram_of H h id q ∷ [] → Goes H p frames notes
+  InAFrame : (h : HardwareAddress) → (IsReal H → IsOf H.capabilities.medium h) → total_len p ≤ ip_mtu_of H.capabilities → IsFormed p → frames ≡ ip_frame H h p ∷ [] → cuts (cut_notes notes) ≡ [] → Goes H p frames notes
+  Cut : (q : PacketV4) (h : HardwareAddress) (id : ℕ) (first : Piece) (rest : List Piece) → (IsReal H → IsOf H.capabilities.medium h) → p ≡ packet.Ipv4 q → ip_mtu_of H.capabilities < total_len p → may_be_cut p ≡ true →
+      pieces_of (datagram_of H h id q) ≡ first ∷ rest → HasForm (datagram_of H h id q) → IsFormed p → frames ≡ piece_frame H first ∷ [] → cuts (cut_notes notes) ≡ datagram_of H h id q ∷ [] → Goes H p frames notes
   OfNobody : is_unspecified (destination_of p) ≡ true → frames ≡ [] → cuts (cut_notes notes) ≡ [] → Goes H p frames notes
   Longer : ip_mtu_of H.capabilities < total_len p → may_be_cut p ≡ false → frames ≡ [] → cuts (cut_notes notes) ≡ [] → Goes H p frames notes
 
 cuts_none : {notes : List Note} → notes ≡ [] → cuts (cut_notes notes) ≡ []
 cuts_none e = ap (λ ns. cuts (cut_notes ns)) e
 
-emitted : {id : ℕ} {p : Packet} {h : HardwareAddress} {outcome : Outcome} {H new : Host} {frames : List (List ℕ)} {notes : List Note} → Emits id p h outcome H frames notes new → Goes H p frames notes
-emitted {h = h} (dispatch.Whole fits o f n e) = InAFrame h fits f (cuts_none n)
-emitted {id} {h = h} (dispatch.InPieces q first rest is long may pieces form o f n e) = Cut q h _ first rest is long may pieces f (ap (λ ns. cuts (cut_notes ns)) n)
-emitted (dispatch.TooLong long longer o u) = Longer long longer u.silent (cuts_none u.unnoted)
+emitted : {id : ℕ} {p : Packet} {h : HardwareAddress} {outcome : Outcome} {H new : Host} {frames : List (List ℕ)} {notes : List Note} → Reached H h → Emits id p h outcome H frames notes new → Goes H p frames notes
+emitted {h = h} {H = H} r (dispatch.Whole fits formed o f n e) = InAFrame h (λ real. reached_of H h real r) fits formed f (cuts_none n)
+emitted {id} {h = h} {H = H} r (dispatch.InPieces q first rest is long may pieces form formed o f n e) =
+    Cut q h _ first rest (λ real. reached_of H h real r) is long may pieces form formed f (ap (λ ns. cuts (cut_notes ns)) n)
+emitted r (dispatch.TooLong long longer o u) = Longer long longer u.silent (cuts_none u.unnoted)
 
 -- what isn't gone doesn't count
 not_discovered : {own : _} {hop : _} {H new : Host} {frames : List (List ℕ)} {notes : List Note} → Discovers own hop (Ok tt) H frames notes new → ⊥
@@ -40,29 +46,32 @@ not_discovered (dispatch.NoSource target i s o u) = absurd cc
 not_discovered (dispatch.Solicited target i o f n e) = absurd cc
 
 by_hop : {id : ℕ} {own : _} {p : Packet} {hop : _} {H new : Host} {frames : List (List ℕ)} {notes : List Note} → SendsByHop id own p hop (Ok tt) H frames notes new → Goes H p frames notes
-by_hop (dispatch.Known h k e) = emitted e
+by_hop {hop = hop} (dispatch.Known h k e) = emitted (ByNeighbor hop k) e
 by_hop (dispatch.Silent k o u) = absurd cc
 by_hop (dispatch.Unknown k d) = absurd (not_discovered d)
 
-by_ethernet : {id : ℕ} {own : _} {p : Packet} {H new : Host} {frames : List (List ℕ)} {notes : List Note} → SendsEthernet id own p (Ok tt) H frames notes new → Goes H p frames notes
-by_ethernet (dispatch.ToMany h m e) = emitted e
-by_ethernet (dispatch.NoHop m i o u) = absurd cc
-by_ethernet (dispatch.ByHop hop m i s) = by_hop s
+by_ethernet : {id : ℕ} {own : EthernetAddress} {p : Packet} {H new : Host} {frames : List (List ℕ)} {notes : List Note} → H.hardware_addr ≡ hardware.Ethernet own → SendsEthernet id own p (Ok tt) H frames notes new → Goes H p frames notes
+by_ethernet {own = own} {p = p} mine (dispatch.ToMany h m e) = emitted (ByGroup own (destination_of p) h mine m refl) e
+by_ethernet mine (dispatch.NoHop m i o u) = absurd cc
+by_ethernet mine (dispatch.ByHop hop m i s) = by_hop s
 
-over : (id : ℕ) (h : HardwareAddress) (p : Packet) (H : Host) (frames : List (List ℕ)) (notes : List Note) (new : Host) → SendsOver id h p (Ok tt) H frames notes new → Goes H p frames notes
-over id (hardware.Ethernet own) p H frames notes new s = by_ethernet s
-over id hardware.Ip p H frames notes new s = emitted s
+over : (id : ℕ) (h : HardwareAddress) (p : Packet) (H : Host) (frames : List (List ℕ)) (notes : List Note) (new : Host) → H.hardware_addr ≡ h → SendsOver id h p (Ok tt) H frames notes new → Goes H p frames notes
+over id (hardware.Ethernet own) p H frames notes new mine s = by_ethernet mine s
+over id hardware.Ip p H frames notes new mine s = emitted (WithoutAddresses mine refl) s
 
 -- an identification was taken
+before : (H : Host) (h : HardwareAddress) → (IsReal (identified H) → IsOf H.capabilities.medium h) → IsReal H → IsOf H.capabilities.medium h
+before H h to real = to (record { own = real.own; neighbors = real.neighbors })
+
 identifies : {H : Host} {p : Packet} {frames : List (List ℕ)} {more notes : List Note} → cuts (cut_notes notes) ≡ cuts (cut_notes more) → Goes (identified H) p frames more → Goes H p frames notes
-identifies e (InAFrame h l f c) = InAFrame h l f (e ∙ c)
-identifies e (Cut q h id first rest is l m pieces f c) = Cut q h id first rest is l m pieces f (e ∙ c)
+identifies {H} e (InAFrame h to l formed f c) = InAFrame h (before H h to) l formed f (e ∙ c)
+identifies {H} e (Cut q h id first rest to is l m pieces form formed f c) = Cut q h id first rest (before H h to) is l m pieces form formed f (e ∙ c)
 identifies e (OfNobody n f c) = OfNobody n f (e ∙ c)
 identifies e (Longer l m f c) = Longer l m f (e ∙ c)
 
 pub gone : {p : Packet} {H new : Host} {frames : List (List ℕ)} {notes : List Note} → Dispatches p (Ok tt) H frames notes new → Goes H p frames notes
 gone (dispatch.ToNobody n o u) = OfNobody n u.silent (cuts_none u.unnoted)
-gone {p} {H} {new} {frames} {notes} (dispatch.ToSomebody more s d n) = identifies (ap (λ ns. cuts (cut_notes ns)) n) (over H.ipv4_id H.hardware_addr p (identified H) frames more new d)
+gone {p} {H} {new} {frames} {notes} (dispatch.ToSomebody more s d n) = identifies (ap (λ ns. cuts (cut_notes ns)) n) (over H.ipv4_id H.hardware_addr p (identified H) frames more new refl d)
 
 -- a packet between two addresses goes to the one
 pub between : (src dst : IpAddress) (hop_limit : ℕ) (payload : IpPayload) (p : Packet) → packet_between src dst hop_limit payload ≡ Some p → destination_of p ≡ dst

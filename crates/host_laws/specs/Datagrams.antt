@@ -13,6 +13,7 @@ use Rattle.host_machine.specs.Run.{Place, Run, acts_in}
 use Rattle.host_machine.specs.TwoHosts.{cuts}
 use Rattle.transport_sockets.specs.Udp.{UdpSocket}
 use Rattle.host_laws.specs.Deliveries.{Delivery, Deliver, IsHeard, to_index, udp_at, with_deliveries}
+use Rattle.host_laws.specs.Senders.{IsRegular, NobodyWritesUdp, CarryOnly}
 use Rattle.host_laws.specs.Departures.{Departure, IsLeft, cuts_of, entries, frames_of, from_index, without}
 
 -- the host when a command takes its first frame, or sends its first: at the command's moment, and maintained if it is a poll
@@ -37,14 +38,16 @@ begun (SetReassemblyTimeout timeout) H = H
 begun (Owner number) H = H
 
 -- What moves at a place of a run: each datagram that a socket gets came in a frame that was handed over there, at most one in each, or was
--- rebuilt there when a fragment came, and the socket hears it; and what left a socket's queue went in a frame that was sent there, or was
--- cut there, in this order, or was dropped.
+-- rebuilt there when a fragment came, and the socket hears it; what left a socket's queue went in a frame that was sent there, or was
+-- cut there, in this order, or was dropped; and nothing else that was sent there carries UDP, unless a raw socket writes it.
 pub record MovesAt (p : Place) (deliveries : List Delivery) (departures : List Departure) : Type 0 where
   pub came : Deliver (begun p.command p.before) (handed p.told) (slot_notes p.notes) deliveries
   pub heard : AllByRecursion (IsHeard (begun p.command p.before)) deliveries
   pub left : AllByRecursion (IsLeft (begun p.command p.before)) departures
   pub went : IsAmong (frames_of departures) (sent p.told)
   pub cut : IsAmong (cuts_of departures) (cuts (cut_notes p.notes))
+  pub only : IsRegular p.before → NobodyWritesUdp p.before →
+      CarryOnly p.before.capabilities.medium departures (sent p.told) (cuts (cut_notes p.notes))  -- and no other frame carries UDP
 
 -- and at several, one after the other
 pub data Move : List Place → List Delivery → List Departure → Type 0 where

@@ -47,23 +47,28 @@ pub data CarriesIpv6 (h : HardwareAddress) (frame packet : List ℕ) : Type 0 wh
       (header_in frame).ethertype ≡ ethertype.Ipv6 → packet ≡ drop 14 frame → CarriesIpv6 h frame packet
   AsItStands : h ≡ hardware.Ip → version_in frame ≡ 6 → packet ≡ frame → CarriesIpv6 h frame packet
 
--- A frame brings octets for UDP, by the header of their packet: as the payload of an IPv4 packet that came whole; as what was rebuilt when
--- the frame brought a fragment, which is the last that is noted then; as the payload of an IPv6 packet; or as what stands there behind
--- hop-by-hop options that are known or to be skipped. The packet's header is right, and it may come from where it says.
-pub data BringsUdp (H : Host) (frame : List ℕ) (noted : List SlotNote) (r : IpRepr) (octets : List ℕ) : Type 0 where
-  Whole : (packet : List ℕ) → Carries H.hardware_addr frame packet → IsIpv4 (is_rx H.capabilities.checksum.ipv4) packet →
+-- A frame brings octets for UDP in one packet, by that one's header: as the payload of an IPv4 packet that came whole; as the payload of an IPv6
+-- packet; or as what stands there behind hop-by-hop options that are known or to be skipped. The header is right, and the packet may come from
+-- where it says.
+pub data BringsPacket (H : Host) (frame : List ℕ) (r : IpRepr) (octets : List ℕ) : Type 0 where
+  OverIpv4 : (packet : List ℕ) → Carries H.hardware_addr frame packet → IsIpv4 (is_rx H.capabilities.checksum.ipv4) packet →
       may_be_source H.ip_addrs (ipv4_in packet).0.src_addr ≡ true → is_fragment (ipv4_in packet).1 ≡ false →
-      (ipv4_in packet).0.next_header ≡ protocol.Udp → r ≡ repr.Ipv4 (ipv4_in packet).0 → octets ≡ (ipv4_in packet).2 → BringsUdp H frame noted r octets
+      (ipv4_in packet).0.next_header ≡ protocol.Udp → r ≡ repr.Ipv4 (ipv4_in packet).0 → octets ≡ (ipv4_in packet).2 → BringsPacket H frame r octets
+  OverIpv6 : (packet : List ℕ) → CarriesIpv6 H.hardware_addr frame packet → IsIpv6 packet → is_unicast (ipv6_in packet).0.src_addr ≡ true →
+      (ipv6_in packet).0.next_header ≡ protocol.Udp → r ≡ repr.Ipv6 (ipv6_in packet).0 → octets ≡ (ipv6_in packet).1 → BringsPacket H frame r octets
+  BehindOptions : (packet : List ℕ) → CarriesIpv6 H.hardware_addr frame packet → IsIpv6 packet → is_unicast (ipv6_in packet).0.src_addr ≡ true →
+      number_of (ipv6_in packet).0.next_header ≡ 0 → IsHopByHop (ipv6_in packet).1 →
+      first_failure (hop_by_hop_in (ipv6_in packet).1).0.options.items ≡ Skip → (hop_by_hop_in (ipv6_in packet).1).0.next_header ≡ protocol.Udp →
+      r ≡ repr.Ipv6 (ipv6_in packet).0 → octets ≡ (hop_by_hop_in (ipv6_in packet).1).1 → BringsPacket H frame r octets
+
+-- A frame brings octets for UDP: in one packet; or as what was rebuilt when the frame brought a fragment, which is the last that is noted then,
+-- with that one's header.
+pub data BringsUdp (H : Host) (frame : List ℕ) (noted : List SlotNote) (r : IpRepr) (octets : List ℕ) : Type 0 where
+  AtOnce : BringsPacket H frame r octets → BringsUdp H frame noted r octets
   InFragments : (packet : List ℕ) (earlier : List SlotNote) → Carries H.hardware_addr frame packet → IsIpv4 (is_rx H.capabilities.checksum.ipv4) packet →
       may_be_source H.ip_addrs (ipv4_in packet).0.src_addr ≡ true → is_fragment (ipv4_in packet).1 ≡ true →
       (ipv4_in packet).0.next_header ≡ protocol.Udp → noted ≡ earlier ++ Rebuild (key_in (ipv4_in packet).0 (ipv4_in packet).1) octets ∷ [] →
       r ≡ repr.Ipv4 (rebuilt_header (ipv4_in packet).0 octets) → BringsUdp H frame noted r octets
-  OverIpv6 : (packet : List ℕ) → CarriesIpv6 H.hardware_addr frame packet → IsIpv6 packet → is_unicast (ipv6_in packet).0.src_addr ≡ true →
-      (ipv6_in packet).0.next_header ≡ protocol.Udp → r ≡ repr.Ipv6 (ipv6_in packet).0 → octets ≡ (ipv6_in packet).1 → BringsUdp H frame noted r octets
-  BehindOptions : (packet : List ℕ) → CarriesIpv6 H.hardware_addr frame packet → IsIpv6 packet → is_unicast (ipv6_in packet).0.src_addr ≡ true →
-      number_of (ipv6_in packet).0.next_header ≡ 0 → IsHopByHop (ipv6_in packet).1 →
-      first_failure (hop_by_hop_in (ipv6_in packet).1).0.options.items ≡ Skip → (hop_by_hop_in (ipv6_in packet).1).0.next_header ≡ protocol.Udp →
-      r ≡ repr.Ipv6 (ipv6_in packet).0 → octets ≡ (hop_by_hop_in (ipv6_in packet).1).1 → BringsUdp H frame noted r octets
 
 -- a frame brings what a socket gets: a datagram with its lengths right, and with its checksum right where that is tested and there is one,
 -- for an address of the host

@@ -10,17 +10,17 @@ use Rattle.transport_sockets.specs.Udp.{UdpSocket, gone}
 use Rattle.fragmentation.specs.Cuts.{Datagram, Piece, pieces_of}
 use Rattle.host_machine.specs.Host.{Host}
 use Rattle.host_machine.specs.Addresses.{source_for}
-use Rattle.host_machine.specs.Packet.{Packet, PacketV4, Udp, total_len}
+use Rattle.host_machine.specs.Packet.{Packet, PacketV4, IsFormed, Udp, total_len}
 use Rattle.host_machine.specs.Packet as packet
 use Rattle.host_machine.specs.Frame.{ip_frame, piece_frame}
 use Rattle.host_machine.specs.Dispatch.{datagram_of, may_be_cut}
 use Rattle.host_machine.specs.Egress.{packet_between}
 use Rattle.host_laws.specs.Deliveries.{udp_at}
 
--- how a datagram left: it was dropped; it went in a frame; or it was cut, and its first piece went in a frame
+-- how a datagram left: it was dropped; it went to a hardware address in a frame; or it was cut, and its first piece went in a frame
 pub data Way : Type 0 where
   Dropped : Way
-  InOneFrame : (frame : List ℕ) → Way
+  InOneFrame : (to : HardwareAddress) (frame : List ℕ) → Way
   InPieces : (cut : Datagram) → (first : List ℕ) → Way
 
 -- a datagram that left a socket's transmit queue: the index of the socket's place, where it was to go, its payload, and how it left
@@ -38,14 +38,15 @@ packet_of s d src = packet_between src d.destination.addr s.hop_limit (Udp (reco
 abbrev pub departs_from : Host → UdpSocket → Departure → Option IpAddress
 departs_from H s d = source_of (source_for H.ip_addrs) s.endpoint.addr d.destination.addr
 
--- How a datagram leaves its socket's queue. It goes in one packet: whole, if the device's packets may be so long, or else cut, by its first
--- piece. Or it is dropped: since there is no source for it; since it is to nobody, 0.0.0.0 or ::; or since it is longer and may not be cut.
+-- How a datagram leaves its socket's queue. It goes in one packet, whose values fit the fields of its forms: whole, if the device's packets may
+-- be so long, or else cut, by its first piece. Or it is dropped: since there is no source for it; since it is to nobody, 0.0.0.0 or ::; or since it
+-- is longer and may not be cut.
 pub data Leaves (H : Host) (s : UdpSocket) (d : Departure) : Type 0 where
   GoesWhole : (src : IpAddress) (p : Packet) (h : HardwareAddress) → departs_from H s d ≡ Some src → packet_of s d src ≡ Some p →
-      total_len p ≤ ip_mtu_of H.capabilities → d.way ≡ InOneFrame (ip_frame H h p) → Leaves H s d
+      total_len p ≤ ip_mtu_of H.capabilities → IsFormed p → d.way ≡ InOneFrame h (ip_frame H h p) → Leaves H s d
   GoesInPieces : (src : IpAddress) (q : PacketV4) (h : HardwareAddress) (identification : ℕ) (first : Piece) (rest : List Piece) →
       departs_from H s d ≡ Some src → packet_of s d src ≡ Some (packet.Ipv4 q) → ip_mtu_of H.capabilities < total_len (packet.Ipv4 q) →
-      may_be_cut (packet.Ipv4 q) ≡ true → pieces_of (datagram_of H h identification q) ≡ first ∷ rest →
+      may_be_cut (packet.Ipv4 q) ≡ true → pieces_of (datagram_of H h identification q) ≡ first ∷ rest → IsFormed (packet.Ipv4 q) →
       d.way ≡ InPieces (datagram_of H h identification q) (piece_frame H first) → Leaves H s d
   NoSource : departs_from H s d ≡ None → d.way ≡ Dropped → Leaves H s d
   ToNobody : is_unspecified d.destination.addr ≡ true → d.way ≡ Dropped → Leaves H s d
@@ -61,7 +62,7 @@ pub record IsLeft (H : Host) (d : Departure) : Type 0 where
 -- the frames that went of them at once, and the packets that were cut, in order
 abbrev pub frames_by : Way → List (List ℕ) → List (List ℕ)
 frames_by Dropped frames = frames
-frames_by (InOneFrame frame) frames = frame ∷ frames
+frames_by (InOneFrame to frame) frames = frame ∷ frames
 frames_by (InPieces cut first) frames = first ∷ frames
 
 abbrev pub frames_of : List Departure → List (List ℕ)
@@ -70,7 +71,7 @@ frames_of (d ∷ ds) = frames_by d.way (frames_of ds)
 
 abbrev pub cuts_by : Way → List Datagram → List Datagram
 cuts_by Dropped cuts = cuts
-cuts_by (InOneFrame frame) cuts = cuts
+cuts_by (InOneFrame to frame) cuts = cuts
 cuts_by (InPieces cut first) cuts = cut ∷ cuts
 
 abbrev pub cuts_of : List Departure → List Datagram

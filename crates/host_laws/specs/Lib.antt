@@ -1,3 +1,5 @@
 pub mod Deliveries
 pub mod Departures
+pub mod Senders
 pub mod Datagrams
+pub mod EndToEnd

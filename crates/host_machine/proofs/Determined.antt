@@ -38,17 +38,17 @@ cut_once id h H q first first' rest rest' pieces pieces' o o' f f' n n' x x' =
 
 emits_once : {id : ℕ} {p : Packet} {h : HardwareAddress} {o o' : Outcome} {H x x' : Host} {f f' : List (List ℕ)} {n n' : List Note} →
     Emits id p h o H f n x → Emits id p h o' H f' n' x' → IsOneDispatch o o' f f' n n' x x'
-emits_once (dispatch.Whole fits o f n x) (dispatch.Whole fits' o' f' n' x') = agree o f n x o' f' n' x'
-emits_once (dispatch.Whole fits o f n x) (dispatch.InPieces q first rest of long short pieces form o' f' n' x') = absurd (omega (arith, fits, long))
-emits_once (dispatch.Whole fits o f n x) (dispatch.TooLong long longer o' u) = absurd (omega (arith, fits, long))
-emits_once (dispatch.InPieces q first rest of long short pieces form o f n x) (dispatch.Whole fits o' f' n' x') = absurd (omega (arith, fits, long))
-emits_once {id} {p} {h} {H = H} (dispatch.InPieces q first rest of long short pieces form o f n x) (dispatch.InPieces q' first' rest' of' long' short' pieces' form' o' f' n' x') =
+emits_once (dispatch.Whole fits formed o f n x) (dispatch.Whole fits' formed' o' f' n' x') = agree o f n x o' f' n' x'
+emits_once (dispatch.Whole fits formed o f n x) (dispatch.InPieces q first rest of long short pieces form formed' o' f' n' x') = absurd (omega (arith, fits, long))
+emits_once (dispatch.Whole fits formed o f n x) (dispatch.TooLong long longer o' u) = absurd (omega (arith, fits, long))
+emits_once (dispatch.InPieces q first rest of long short pieces form formed o f n x) (dispatch.Whole fits formed' o' f' n' x') = absurd (omega (arith, fits, long))
+emits_once {id} {p} {h} {H = H} (dispatch.InPieces q first rest of long short pieces form formed o f n x) (dispatch.InPieces q' first' rest' of' long' short' pieces' form' formed' o' f' n' x') =
     let lists : packet.Ipv4 q ≡ packet.Ipv4 q' = sym of ∙ of' in
     let same : q ≡ q' = cc in
     cut_once id h H q first first' rest rest' pieces (rw same pieces') o o' f f' n (rw same n') x x'
-emits_once (dispatch.InPieces q first rest of long short pieces form o f n x) (dispatch.TooLong long' longer o' u) = absurd cc
-emits_once (dispatch.TooLong long longer o u) (dispatch.Whole fits o' f' n' x') = absurd (omega (arith, fits, long))
-emits_once (dispatch.TooLong long longer o u) (dispatch.InPieces q first rest of long' short pieces form o' f' n' x') = absurd cc
+emits_once (dispatch.InPieces q first rest of long short pieces form formed o f n x) (dispatch.TooLong long' longer o' u) = absurd cc
+emits_once (dispatch.TooLong long longer o u) (dispatch.Whole fits formed o' f' n' x') = absurd (omega (arith, fits, long))
+emits_once (dispatch.TooLong long longer o u) (dispatch.InPieces q first rest of long' short pieces form formed' o' f' n' x') = absurd cc
 emits_once (dispatch.TooLong long longer o u) (dispatch.TooLong long' longer' o' v) = both_unsent o o' u v
 
 discovers_once : {own : EthernetAddress} {hop : IpAddress} {o o' : Outcome} {H x x' : Host} {f f' : List (List ℕ)} {n n' : List Note} →

@@ -62,8 +62,8 @@ module _ (id : ℕ) where
   unsent u = rw u.unnoted (NotThis id NoneOfNone)
 
   emitted : {p : Packet} {h : HardwareAddress} {outcome : Outcome} {H new : Host} {frames : List (List ℕ)} {more : List Note} → Emits id p h outcome H frames more new → Behind more
-  emitted (dispatch.Whole fits o f n e) = rw n (NotThis id NoneOfNone)
-  emitted (dispatch.InPieces q first rest of long short pieces fits o f n e) = rw n (OneOf id NoneOfNone)
+  emitted (dispatch.Whole fits formed o f n e) = rw n (NotThis id NoneOfNone)
+  emitted (dispatch.InPieces q first rest of long short pieces fits formed o f n e) = rw n (OneOf id NoneOfNone)
   emitted (dispatch.TooLong long longer o u) = unsent u
 
   discovered : {own : EthernetAddress} {hop : IpAddress} {outcome : Outcome} {H new : Host} {frames : List (List ℕ)} {more : List Note} → Discovers own hop outcome H frames more new → Behind more

@@ -4,6 +4,7 @@ pub mod Six
 pub mod Repeated
 pub mod Kept
 pub mod Speakers
+pub mod Own
 pub mod Plain
 pub mod Walk
 pub mod Spaced
@@ -15,8 +16,8 @@ pub mod Malformed
 mod Single
 mod Refused
 pub mod Turns
-mod Noted
-mod Requested
+pub mod Noted
+pub mod Requested
 mod Determined
 mod RoomMade
 mod Received

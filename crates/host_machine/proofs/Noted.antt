@@ -149,49 +149,49 @@ ethernet_is medium.Ethernet own is = refl
 ethernet_is medium.Ip own is = absurd is
 
 -- each dispatch sends one thing
-one_unsent : {p : Packet} {H H' new : Host} {frames : List (List ℕ)} {notes : List Note} → IsUnsent H' frames notes new → SendsOneThing p H frames notes
+one_unsent : {p : Packet} {outcome : Outcome} {H H' new : Host} {frames : List (List ℕ)} {notes : List Note} → IsUnsent H' frames notes new → SendsOneThing p outcome H frames notes
 one_unsent u = Nothing u.silent (ap asks u.unnoted) (ap cut_notes u.unnoted)
 
 module _ (p : Packet) (outcome : Outcome) (H new : Host) (frames : List (List ℕ)) (real : IsReal (identified H)) where
-  one_emitted : {h : HardwareAddress} {more : List Note} → Reached (identified H) h → Emits H.ipv4_id p h outcome (identified H) frames more new → SendsOneThing p H frames more
-  one_emitted {h} r (dispatch.Whole fits o f n e) = ThePacket h (reached_of (identified H) h real r) f (ap asks n) (ap cut_notes n)
-  one_emitted {h} r (dispatch.InPieces q first rest of long short pieces fits o f n e) = ItsFirstPiece h q first rest (reached_of (identified H) h real r) of pieces f (ap asks n) (ap cut_notes n)
+  one_emitted : {h : HardwareAddress} {more : List Note} → Reached (identified H) h → Emits H.ipv4_id p h outcome (identified H) frames more new → SendsOneThing p outcome H frames more
+  one_emitted {h} r (dispatch.Whole fits formed o f n e) = ThePacket h (reached_of (identified H) h real r) o f (ap asks n) (ap cut_notes n)
+  one_emitted {h} r (dispatch.InPieces q first rest of long short pieces fits formed o f n e) = ItsFirstPiece h q first rest (reached_of (identified H) h real r) of pieces o f (ap asks n) (ap cut_notes n)
   one_emitted r (dispatch.TooLong long longer o u) = one_unsent u
 
   one_discovered : {own : EthernetAddress} {hop : IpAddress} {more : List Note} → H.hardware_addr ≡ hardware.Ethernet own → IsOf H.capabilities.medium (hardware.Ethernet own) → answer_of H.neighbors hop H.moment ≡ NotFound →
-      Discovers own hop outcome (identified H) frames more new → SendsOneThing p H frames more
+      Discovers own hop outcome (identified H) frames more new → SendsOneThing p outcome H frames more
   one_discovered {own} {hop} mine is unknown (dispatch.Asked target source h s o f n e) =
       let asks_it : is_request H.capabilities.medium (arp_frame (request_for own source target)) ≡ true =
       rw (ethernet_is H.capabilities.medium own is) (a_request own source target (six_of H.capabilities.medium own is)) in
-      ARequest _ asks_it (silence_passed (finite.get H.neighbors.known hop) H.neighbors.silent_until H.moment unknown) f (ap asks n) (ap cut_notes n)
+      ARequest _ asks_it (silence_passed (finite.get H.neighbors.known hop) H.neighbors.silent_until H.moment unknown) o f (ap asks n) (ap cut_notes n)
   one_discovered mine is unknown (dispatch.NoSource target h s o u) = one_unsent u
   one_discovered {own} {hop} mine is unknown (dispatch.Solicited target h o f n e) =
       let asks_it : is_request H.capabilities.medium (ip_frame H (hardware.Ethernet (group_address_v6 (solicited_node target))) (solicitation_for own (source_v6 H.ip_addrs target) target)) ≡ true =
       rw (ethernet_is H.capabilities.medium own is) (a_solicitation H own (source_v6 H.ip_addrs target) target mine (six_of H.capabilities.medium own is)) in
-      ARequest _ asks_it (silence_passed (finite.get H.neighbors.known hop) H.neighbors.silent_until H.moment unknown) f (ap asks n) (ap cut_notes n)
+      ARequest _ asks_it (silence_passed (finite.get H.neighbors.known hop) H.neighbors.silent_until H.moment unknown) o f (ap asks n) (ap cut_notes n)
 
   one_by_hop : {own : EthernetAddress} {hop : IpAddress} {more : List Note} → H.hardware_addr ≡ hardware.Ethernet own → IsOf H.capabilities.medium (hardware.Ethernet own) →
-      SendsByHop H.ipv4_id own p hop outcome (identified H) frames more new → SendsOneThing p H frames more
+      SendsByHop H.ipv4_id own p hop outcome (identified H) frames more new → SendsOneThing p outcome H frames more
   one_by_hop {own} {hop} mine is (dispatch.Known h k e) = one_emitted (ByNeighbor hop k) e
   one_by_hop mine is (dispatch.Silent s o u) = one_unsent u
   one_by_hop mine is (dispatch.Unknown u d) = one_discovered mine is u d
 
   one_ethernet : {own : EthernetAddress} {more : List Note} → H.hardware_addr ≡ hardware.Ethernet own → IsOf H.capabilities.medium (hardware.Ethernet own) → SendsEthernet H.ipv4_id own p outcome (identified H) frames more new →
-      SendsOneThing p H frames more
+      SendsOneThing p outcome H frames more
   one_ethernet {own} mine is (dispatch.ToMany h m e) = one_emitted (ByGroup own (destination_of p) h mine m refl) e
   one_ethernet mine is (dispatch.NoHop m n o u) = one_unsent u
   one_ethernet mine is (dispatch.ByHop hop m n s) = one_by_hop mine is s
 
-  one_over : (h : HardwareAddress) {more : List Note} → H.hardware_addr ≡ h → IsOf H.capabilities.medium h → SendsOver H.ipv4_id h p outcome (identified H) frames more new → SendsOneThing p H frames more
+  one_over : (h : HardwareAddress) {more : List Note} → H.hardware_addr ≡ h → IsOf H.capabilities.medium h → SendsOver H.ipv4_id h p outcome (identified H) frames more new → SendsOneThing p outcome H frames more
   one_over (hardware.Ethernet own) mine is s = one_ethernet mine is s
   one_over hardware.Ip mine is s = one_emitted (WithoutAddresses mine refl) s
 
 -- the identification that it takes is noted before
-one_identified : {p : Packet} {H : Host} {frames : List (List ℕ)} {notes more : List Note} → asks notes ≡ asks more → cut_notes notes ≡ cut_notes more → SendsOneThing p H frames more → SendsOneThing p H frames notes
+one_identified : {p : Packet} {outcome : Outcome} {H : Host} {frames : List (List ℕ)} {notes more : List Note} → asks notes ≡ asks more → cut_notes notes ≡ cut_notes more → SendsOneThing p outcome H frames more → SendsOneThing p outcome H frames notes
 one_identified a c (Nothing f x y) = Nothing f (a ∙ x) (c ∙ y)
-one_identified a c (ThePacket h to f x y) = ThePacket h to f (a ∙ x) (c ∙ y)
-one_identified a c (ItsFirstPiece h q first rest to of pieces f x y) = ItsFirstPiece h q first rest to of pieces f (a ∙ x) (c ∙ y)
-one_identified a c (ARequest frame is silent f x y) = ARequest frame is silent f (a ∙ x) (c ∙ y)
+one_identified a c (ThePacket h to o f x y) = ThePacket h to o f (a ∙ x) (c ∙ y)
+one_identified a c (ItsFirstPiece h q first rest to of pieces o f x y) = ItsFirstPiece h q first rest to of pieces o f (a ∙ x) (c ∙ y)
+one_identified a c (ARequest frame is silent o f x y) = ARequest frame is silent o f (a ∙ x) (c ∙ y)
 
 pub sends_one : DispatchesSendOneThing
 sends_one p outcome H new frames notes real (dispatch.ToNobody n o u) = one_unsent u

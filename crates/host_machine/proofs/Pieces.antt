@@ -41,7 +41,7 @@ in_either (y ∷ xs) ys x (inr i) = by (in_either xs ys x i) where
   by (inr j) = inr j
 
 -- which pieces there are
-length-pieces_from : (m : ℕ) (payload : List ℕ) (k n : ℕ) → length (pieces_from m payload k n) ≡ n
+pub length-pieces_from : (m : ℕ) (payload : List ℕ) (k n : ℕ) → length (pieces_from m payload k n) ≡ n
 length-pieces_from m payload k zero = refl
 length-pieces_from m payload k (suc n) = ap suc (length-pieces_from m payload (k + 1) n)
 

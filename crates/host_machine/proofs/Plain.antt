@@ -71,14 +71,14 @@ use Rattle.host_machine.specs.Ipv6.{TakesIpv6, TakesPacket, TakesOptions, TakesP
 use Rattle.host_machine.specs.Ipv6 as ipv6
 use Rattle.host_machine.proofs.Kept.{Keeps, rest_of, kept, kept_by, kept_then, unread, heard_kept, sender_kept}
 use Rattle.host_machine.proofs.Six.{filled_of, of_six}
-use Rattle.host_machine.specs.Requests.{may_ask}
+use Rattle.host_machine.proofs.Own.{is_own}
 use Rattle.host_machine.specs.Packet.{payload_of}
 use Rattle.host_machine.proofs.Speakers.{Nobody, Attends, attends, attends_by, attends_then, raw_attends, icmp_attends, icmp_heard, udp_delivered, tcp_delivered, sender_attends}
 
--- no packet of ARP, and none that may ask for a neighbour
+-- no packet of ARP, and one with a message of the host's own, which asks for no neighbour
 abbrev pub IsByIp : Option Reply → Type 0
 IsByIp None = Unit {0}
-IsByIp (Some (Ip p)) = may_ask (payload_of p) ≡ false
+IsByIp (Some (Ip p)) = is_own (payload_of p) ≡ true
 IsByIp (Some (Arp r)) = ⊥
 
 pub record IsPlain (H : Host) (reply : Option Reply) (notes : List Note) (new : Host) : Type 0 where
@@ -99,7 +99,7 @@ replied : {H new : Host} {reply : Option Reply} {notes : List Note} (o : Option 
 replied o i r n e = record { by_ip = rw r i; unnoted = n; keeps = kept e; attends = attends e }
 
 -- or where sockets got something
-placed : {H new : Host} {reply : Option Reply} {notes : List Note} {places : List Storage} (o : Option Reply) → IsByIp o → (Nobody H.sockets.places → Nobody places) → reply ≡ o → notes ≡ [] →
+placed : {H new : Host} {reply : Option Reply} {notes : List Note} {places : List Storage} (o : Option Reply) → IsByIp o → ((spoken : ℕ → Bool) → Nobody spoken H.sockets.places → Nobody spoken places) → reply ≡ o → notes ≡ [] →
     new ≡ with_places H places → IsPlain H reply notes new
 placed o i s r n e = record { by_ip = rw r i; unnoted = n; keeps = kept_by e (unread refl refl); attends = attends_by e (record { nobody = s; moment = refl }) }
 
@@ -124,7 +124,7 @@ port_refusal false own (repr.Ipv6 r) payload = refl
 udp_plain : {by_raw : Bool} {r : IpRepr} {H new : Host} {octets : List ℕ} {reply : Option Reply} {notes : List Note} → TakesUdp by_raw r H octets reply notes new → IsPlain H reply notes new
 udp_plain (udp.Malformed m d) = dropped d
 udp_plain {by_raw} {r} {H} {new} {octets} (udp.Delivered places u f e n s) =
-    placed None tt (λ none. udp_delivered (udp.accepts H.ip_addrs r (udp_in octets).0) r (udp_in octets).0 (udp_in octets).1 H.sockets.places places f none) e n s
+    placed None tt (λ spoken none. udp_delivered spoken (udp.accepts H.ip_addrs r (udp_in octets).0) r (udp_in octets).0 (udp_in octets).1 H.sockets.places places f none) e n s
 udp_plain {by_raw} {r} {H} {new} {octets} (udp.Unheard u none e n s) = replied _ (port_refusal by_raw H.ip_addrs r octets) e n s
 
 segment : (r : IpRepr) (o : Option TcpRepr) → IsByIp (option_map (segment_back r) o)
@@ -136,7 +136,7 @@ tcp_plain : {by_raw : Bool} {r : IpRepr} {H new : Host} {octets : List ℕ} {rep
 tcp_plain (tcp.BetweenNobody b d) = dropped d
 tcp_plain (tcp.Malformed b m d) = dropped d
 tcp_plain {by_raw} {r} {H} {new} {octets} (tcp.Delivered index place b t f e n s) =
-    placed _ (segment r _) (λ none. tcp_delivered r (tcp_in octets).0 (tcp_in octets).1 H.sockets.places index place f.is_there none) e n s
+    placed _ (segment r _) (λ spoken none. tcp_delivered spoken r (tcp_in octets).0 (tcp_in octets).1 H.sockets.places index place f.is_there none) e n s
 tcp_plain {by_raw} {r} (tcp.Unheard b t none e n s) = replied _ (segment r _) e n s
 
 -- ICMP for IPv4
@@ -148,7 +148,7 @@ answered own r (TimeExceeded code header) octets = tt
 
 icmpv4_plain : {r : Ipv4Repr} {H new : Host} {octets : List ℕ} {reply : Option Reply} {notes : List Note} → TakesIcmpv4 r H octets reply notes new → IsPlain H reply notes new
 icmpv4_plain (icmpv4.Malformed m d) = dropped d
-icmpv4_plain {r} {H} {new} {octets} (icmpv4.Taken i e n s) = placed _ (answered H.ip_addrs r _ _) (λ none. icmp_heard _ _ _ octets H none) e n s
+icmpv4_plain {r} {H} {new} {octets} (icmpv4.Taken i e n s) = placed _ (answered H.ip_addrs r _ _) (λ spoken none. icmp_heard spoken _ _ _ octets H none) e n s
 
 refused_v4 : {by_raw : Bool} {r : Ipv4Repr} {H new : Host} {octets : List ℕ} {reply : Option Reply} {notes : List Note} → ipv4.IsRefused by_raw r H octets reply notes new → IsPlain H reply notes new
 refused_v4 {by_raw} {r} {H} {new} {octets} i = replied _ (refusal by_raw H.ip_addrs _ r octets) i.replied i.unnoted i.unchanged
@@ -159,9 +159,9 @@ asked_kept H dst (MembershipReport group version) = unread refl refl
 asked_kept H dst (LeaveGroup group) = unread refl refl
 
 asked_attends : (H : Host) (dst : Ipv4Address) (m : IgmpRepr) → Attends H (reports.asked_by H dst m)
-asked_attends H dst (MembershipQuery code group) = record { nobody = λ none. none; moment = refl }
-asked_attends H dst (MembershipReport group version) = record { nobody = λ none. none; moment = refl }
-asked_attends H dst (LeaveGroup group) = record { nobody = λ none. none; moment = refl }
+asked_attends H dst (MembershipQuery code group) = record { nobody = λ spoken none. none; moment = refl }
+asked_attends H dst (MembershipReport group version) = record { nobody = λ spoken none. none; moment = refl }
+asked_attends H dst (LeaveGroup group) = record { nobody = λ spoken none. none; moment = refl }
 
 igmp_plain : {r : Ipv4Repr} {H new : Host} {octets : List ℕ} {reply : Option Reply} {notes : List Note} → reports.TakesIgmp r H octets reply notes new → IsPlain H reply notes new
 igmp_plain (reports.Malformed m d) = dropped d
@@ -181,7 +181,7 @@ mld_kept H r code group = by (reports.is_near r) where
 mld_attends : (H : Host) (r : Ipv6Repr) (code : ℕ) (group : Ipv6Address) → Attends H (reports.mld_asked H r code group)
 mld_attends H r code group = by (reports.is_near r) where
   by : (b : Bool) → Attends H (if b then record H { mld_report = reports.mld_report_for H r.dst_addr (H.moment +ℤ pos (reports.delay code H.random)) group; random = reports.drawn code H.random } else H)
-  by true = record { nobody = λ none. none; moment = refl }
+  by true = record { nobody = λ spoken none. none; moment = refl }
   by false = attends refl
 
 mld_plain : (r : Ipv6Repr) (m : MldRepr) (H : Host) (reply : Option Reply) (notes : List Note) (new : Host) → reports.TakesMld r m H reply notes new → IsPlain H reply notes new
@@ -241,7 +241,7 @@ solicited own H r target = by (asks_for H r target) where
 
 learns_attends : (H new : Host) (a : Ipv6Address) (o : Option EthernetAddress) → Learns o a H new → Attends H new
 learns_attends H new a None e = attends e
-learns_attends H new a (Some h) learns = attends_by learns.same (record { nobody = λ none. none; moment = refl })
+learns_attends H new a (Some h) learns = attends_by learns.same (record { nobody = λ spoken none. none; moment = refl })
 
 heard_plain : {own : EthernetAddress} {r : Ipv6Repr} {message : NdiscRepr} {H new : Host} {reply : Option Reply} {notes : List Note} → IsLinkLayerAddr (lladdr_of message) →
     H.hardware_addr ≡ hardware.Ethernet own → HearsNeighbor own r H reply notes new message → IsPlain H reply notes new
@@ -329,7 +329,7 @@ message_plain : (r : Ipv6Repr) (m : Icmpv6Repr) (octets : List ℕ) (H : Host) (
     TakesMessage r m octets H reply notes new → IsPlain H reply notes new
 message_plain r (icmp.EchoRequest ident seq_no) octets H reply notes new six t = replied (Some _) refl t.0 t.1 t.2
 message_plain r (icmp.Ndisc message) octets H reply notes new six t = ndisc_plain six t
-message_plain r (icmp.Router message) octets H reply notes new six t = record { by_ip = rw t.0 tt; unnoted = t.1; keeps = kept_by t.2 (unread refl refl); attends = attends_by t.2 (record { nobody = λ none. none; moment = refl }) }
+message_plain r (icmp.Router message) octets H reply notes new six t = record { by_ip = rw t.0 tt; unnoted = t.1; keeps = kept_by t.2 (unread refl refl); attends = attends_by t.2 (record { nobody = λ spoken none. none; moment = refl }) }
 message_plain r (icmp.Mld message) octets H reply notes new six t = mld_plain r message H reply notes new t
 message_plain r (icmp.EchoReply ident seq_no) octets H reply notes new six t = dropped t
 message_plain r (icmp.DstUnreachable reason header) octets H reply notes new six t = dropped t

@@ -66,7 +66,7 @@ no_address : (a : EthernetAddress) → hardware.Ethernet a ≡ hardware.Ip → �
 no_address a e = cc
 
 -- the packet that a host takes out of a frame is the one that stands behind the frame's header
-same_packet : (m : Medium) (own far mine : HardwareAddress) (text packet : List ℕ) → IsOf m own → IsOf m far → IsOf m mine → Carries mine (link_header own far protocol.Ipv4 ++ text) packet → packet ≡ text
+pub same_packet : (m : Medium) (own far mine : HardwareAddress) (text packet : List ℕ) → IsOf m own → IsOf m far → IsOf m mine → Carries mine (link_header own far protocol.Ipv4 ++ text) packet → packet ≡ text
 same_packet medium.Ethernet (hardware.Ethernet own) (hardware.Ethernet far) (hardware.Ethernet mine) text packet s t u (OverEthernet a e w for type is) = is ∙ behind own far text s t
 same_packet medium.Ethernet (hardware.Ethernet own) (hardware.Ethernet far) (hardware.Ethernet mine) text packet s t u (AsItStands e v is) = absurd (no_address mine e)
 same_packet medium.Ethernet (hardware.Ethernet own) (hardware.Ethernet far) hardware.Ip text packet s t u c = absurd u
@@ -82,7 +82,7 @@ same_packet medium.Ip hardware.Ip hardware.Ip hardware.Ip text packet s t u (AsI
 not_six : protocol.Ipv6 ≡ protocol.Ipv4 → ⊥
 not_six e = cc
 
-other_packet : (m : Medium) (own far mine : HardwareAddress) (text packet : List ℕ) → IsOf m own → IsOf m far → IsOf m mine → (version_in text ≡ 4 → ⊥) → Carries mine (link_header own far protocol.Ipv6 ++ text) packet → ⊥
+pub other_packet : (m : Medium) (own far mine : HardwareAddress) (text packet : List ℕ) → IsOf m own → IsOf m far → IsOf m mine → (version_in text ≡ 4 → ⊥) → Carries mine (link_header own far protocol.Ipv6 ++ text) packet → ⊥
 other_packet medium.Ethernet (hardware.Ethernet own) (hardware.Ethernet far) (hardware.Ethernet mine) text packet s t u other (OverEthernet a e w for type is) =
     let again = ethernet_again.read_again (record { src_addr = own; dst_addr = far; ethertype = protocol.Ipv6 }) text (record { destination = t; source = s; number = omega arith; protocol = refl }) in
     not_six (sym (ap (λ (x : EthernetRepr × List ℕ). x.0.ethertype) again) ∙ type)
@@ -96,7 +96,7 @@ other_packet medium.Ip hardware.Ip hardware.Ip (hardware.Ethernet mine) text pac
 other_packet medium.Ip hardware.Ip hardware.Ip hardware.Ip text packet s t u other (OverEthernet a e w for type is) = absurd (no_address a (sym e))
 other_packet medium.Ip hardware.Ip hardware.Ip hardware.Ip text packet s t u other (AsItStands e v is) = other v
 
-version_six : (r : Ipv6Repr) (rest : List ℕ) → version_in (ipv6.header_text r ++ rest) ≡ 4 → ⊥
+pub version_six : (r : Ipv6Repr) (rest : List ℕ) → version_in (ipv6.header_text r ++ rest) ≡ 4 → ⊥
 unfolding ipv6.header_text
 version_six r rest e = absurd (omega (arith, e))
 
@@ -113,7 +113,7 @@ whole_other m H h (packet.Ipv4 p) own far K key f mine b =
 whole_other m H h (packet.Ipv6 p) own far K key f mine b = other_packet m H.hardware_addr h K.hardware_addr (packet_text H.capabilities (packet.Ipv6 p)) b.packet own far mine (version_six (packet.header_v6 p) _) b.carried
 
 -- a protocol is written by its number, and read as one with that number
-number_again : (n : ℕ) → number_of (protocol_of n) ≡ n
+pub number_again : (n : ℕ) → number_of (protocol_of n) ≡ n
 number_again n = by0 (n == 0) refl where
   same : (k : ℕ) → (n == k) ≡ true → k ≡ n
   same k e = grind (arith, nat_tests)

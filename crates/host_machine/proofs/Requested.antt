@@ -1,6 +1,6 @@
 -- The requests for hardware addresses among the frames of a run are those that it notes.
 use Rattle.std.proofs.Common.{◌≡◌, ℕ, Bool, true, false, List, [], ◌∷◌, ◌++◌, refl, sym, ap, ◌∙◌, subst, Option, Some, None}
-use Rattle.std.specs.Prelude.{ℤ, pos, if◌then◌else◌}
+use Rattle.std.specs.Prelude.{ℤ, pos, ◌==◌, if◌then◌else◌}
 use Rattle.std.specs.List.{AllByRecursion}
 use Rattle.net_base.specs.Device.{Event, Reception, Frame, Nothing, Withheld, Received, Asked, Sent}
 use Rattle.net_base.specs.declared.phy.DeviceCapabilities.{DeviceCapabilities}
@@ -48,6 +48,7 @@ use Rattle.host_machine.specs.Run.{Place, Run, Ends, Then, told_in, notes_in}
 use Rattle.host_machine.proofs.Notes.{asks-append, asks-slots}
 use Rattle.host_machine.proofs.Kept.{Keeps}
 use Rattle.host_machine.proofs.Speakers.{Attends, attends, attends_by, attends_then}
+use Rattle.host_machine.proofs.Own.{own_asks}
 use Rattle.host_machine.proofs.Plain.{whole_plain, ipv6_plain}
 use Rattle.host_machine.proofs.Noted.{quiet_packet, quiet_piece, quiet_reply, pieces_go, sends_one}
 use Rattle.host_machine.proofs.Shown.{GoodReply, takes_good, takes_real, given, reached_of}
@@ -121,14 +122,14 @@ refused : (H : Host) → AskedOver H (Asked H.moment false ∷ []) [] H
 refused H = λ sound none. record { asks = record { noted = λ t. refl; same = refl; sound = sound }; nobody = none }
 
 -- the frames of a dispatch
-at_dispatch : (p : Packet) (H : Host) (frames : List (List ℕ)) (notes : List Note) → IsReal H → may_ask (payload_of p) ≡ false → SendsOneThing p H frames notes →
+at_dispatch : (p : Packet) (outcome : Outcome) (H : Host) (frames : List (List ℕ)) (notes : List Note) → IsReal H → may_ask (payload_of p) ≡ false → SendsOneThing p outcome H frames notes →
     (t : ℤ) → requests_at H.capabilities.medium (sent_at t (Asked H.moment true ∷ sends frames)) ≡ asks notes
-at_dispatch p H frames notes real none (laws.Nothing f a c) t = rw (f, a) refl
-at_dispatch p H frames notes real none (ThePacket h to f a c) t = rw (f, a, quiet_packet H.capabilities.medium H H.hardware_addr h p refl real.own to none) refl
-at_dispatch p H frames notes real none (ItsFirstPiece h q first rest to of pieces f a c) t =
+at_dispatch p outcome H frames notes real none (laws.Nothing f a c) t = rw (f, a) refl
+at_dispatch p outcome H frames notes real none (ThePacket h to o f a c) t = rw (f, a, quiet_packet H.capabilities.medium H H.hardware_addr h p refl real.own to none) refl
+at_dispatch p outcome H frames notes real none (ItsFirstPiece h q first rest to of pieces o f a c) t =
     let went = (pieces_go H.capabilities.medium (datagram_of H h H.ipv4_id q) (first ∷ rest) pieces to).0 in
     rw (f, a, quiet_piece H.capabilities.medium H H.hardware_addr first refl real.own went) refl
-at_dispatch p H frames notes real none (ARequest frame is silent f a c) t = rw (f, a, is) refl
+at_dispatch p outcome H frames notes real none (ARequest frame is silent o f a c) t = rw (f, a, is) refl
 
 -- what is left after a dispatch goes where the medium has an address, too
 record Sounds (old new : Host) : Type 0 where
@@ -174,7 +175,7 @@ dispatches : (p : Packet) (outcome : Outcome) (H new : Host) (frames : List (Lis
 dispatches p outcome H new frames notes may d = λ s none.
     let after = dispatch_sound d s in record {
       asks = record {
-        noted = at_dispatch p H frames notes s.real (sent_is H p none may) (sends_one p outcome H new frames notes s.real d);
+        noted = at_dispatch p outcome H frames notes s.real (sent_is H p none may) (sends_one p outcome H new frames notes s.real d);
         same = after.same;
         sound = after.sound;
       };
@@ -196,10 +197,10 @@ pieces H p rest e = λ s none.
 arp_attends : {own : EthernetAddress} {H new : Host} {payload : List ℕ} {reply : Option Reply} {notes : List Note} → TakesArp own H payload reply notes new → Attends H new
 arp_attends (arp.Malformed m d) = attends d.unchanged
 arp_attends (arp.NotForUs a l d) = attends d.unchanged
-arp_attends (arp.Learnt a l learns r n) = attends_by learns.same (record { nobody = λ none. none; moment = refl })
+arp_attends (arp.Learnt a l learns r n) = attends_by learns.same (record { nobody = λ spoken none. none; moment = refl })
 
 fragment_attends : {key : FragKey} {f : Fragment} {result : Option (List ℕ)} {H new : Host} {notes : List Note} → TakesFragment key f result H notes new → Attends H new
-fragment_attends t = attends_by t.changed (record { nobody = λ none. none; moment = refl })
+fragment_attends t = attends_by t.changed (record { nobody = λ spoken none. none; moment = refl })
 
 packet_attends : {source : HardwareAddress} {r : Ipv4Repr} {f : Ipv4Fragment} {H new : Host} {payload : List ℕ} {reply : Option Reply} {notes : List Note} → TakesPacket source r f H payload reply notes new →
     Attends H new
@@ -230,7 +231,7 @@ frame_attends hardware.Ip H frame reply notes new (ethernet.Ipv4 v t) = ipv4_att
 frame_attends hardware.Ip H frame reply notes new (ethernet.Ipv6 v t) = (ipv6_plain t).attends
 frame_attends hardware.Ip H frame reply notes new (ethernet.OtherVersion v w d) = attends d.unchanged
 
-takes_attends : (H : Host) (r : Reception) (reply : Option Reply) (notes : List Note) (new : Host) → Takes H r reply notes new → Attends H new
+pub takes_attends : (H : Host) (r : Reception) (reply : Option Reply) (notes : List Note) (new : Host) → Takes H r reply notes new → Attends H new
 takes_attends H Nothing reply notes new t = attends t.unchanged
 takes_attends H Withheld reply notes new t = attends t.unchanged
 takes_attends H (Frame []) reply notes new t = attends t.unchanged
@@ -256,7 +257,7 @@ responds (Some (Arp packet)) H frames notes new t at good r s none =
     (rw (r.0, r.1, quiet_reply H.capabilities.medium packet good.0 good.1 good.2) refl, rw r.2 (sound_still H H refl refl refl refl s), rw r.2 none)
 responds (Some (Ip packet)) H frames notes new t at good r s none =
     let one = sends_one packet r.0 H new frames notes s.real r.1 in
-    (rw (← at) (at_dispatch packet H frames notes s.real good one (pos 0)), dispatch_sound r.1 s, rw (dispatched_sockets r.1) none)
+    (rw (← at) (at_dispatch packet r.0 H frames notes s.real (own_asks (payload_of packet) good) one (pos 0)), dispatch_sound r.1 s, rw (dispatched_sockets r.1) none)
 
 ingress : {t : ℤ} {answer : PollIngressSingleResult} {old new : Host} {told : List Event} {notes : List Note} → Ingress t answer old told notes new → AskedOver old told notes new
 ingress {t} {answer} {old} {new} {told} {notes} i = λ s none.
@@ -269,7 +270,7 @@ ingress {t} {answer} {old} {new} {told} {notes} i = λ s none.
     let there : IsSound r.taken = record { real = shown.real; left = rw (same, untold.left) s.left } in
     let attended = takes_attends (swept old t) i.reception r.reply r.notes_taking r.taken r.takes in
     let went = responds r.reply r.taken i.frames r.notes_responding new t attended.moment
-    (subst (λ (d : DeviceCapabilities). GoodReply d.medium r.reply) (sym same) good) r.responds there (attended.nobody none) in
+    (subst (λ (d : DeviceCapabilities). GoodReply d.medium r.reply) (sym same) good) r.responds there (attended.nobody (λ n. n == 58) none) in
     let heard : requests_at old.capabilities.medium (sent_at t (sends i.frames)) ≡ asks r.notes_responding =
     subst (λ (d : DeviceCapabilities). requests_at d.medium (sent_at t (sends i.frames)) ≡ asks r.notes_responding) same went.0 in record {
       asks = record {

@@ -45,7 +45,6 @@ use Rattle.host_machine.specs.Polling.{maintained}
 use Rattle.host_machine.specs.Host.{Host, at, swept, with_left, with_neighbors}
 use Rattle.host_machine.specs.Addresses.{is_broadcast_v4}
 use Rattle.host_machine.specs.Packet.{Packet, PacketV4, payload_of}
-use Rattle.host_machine.specs.Requests.{may_ask}
 use Rattle.host_machine.specs.Reply.{Reply, Arp, Ip, IsDropped}
 use Rattle.host_machine.specs.Frame.{arp_frame, ip_frame, piece_frame}
 use Rattle.host_machine.specs.Arp.{TakesArp, request_for, answer_by}
@@ -72,6 +71,7 @@ use Rattle.host_machine.proofs.Repeated.{polled}
 use Rattle.host_machine.proofs.Six.{none_of, arp_source_of}
 use Rattle.host_machine.proofs.Readings.{arp_other, whole_other}
 use Rattle.host_machine.proofs.Kept.{Keeps}
+use Rattle.host_machine.proofs.Own.{is_own}
 use Rattle.host_machine.proofs.Plain.{IsByIp, whole_plain, ipv6_plain}
 use Rattle.host_machine.proofs.Walk.{Reached, ByNeighbor, ByGroup, WithoutAddresses, sent-append, dispatched, taken, egressed}
 
@@ -86,7 +86,7 @@ pub record Shown (old : Host) (frames : List (List ℕ)) (notes : List Note) (ne
   pub same : new.capabilities ≡ old.capabilities
   pub real : IsReal new
 
-abbrev ShownOver : Host → List (List ℕ) → List Note → Host → Type 0
+abbrev pub ShownOver : Host → List (List ℕ) → List Note → Host → Type 0
 ShownOver old frames notes new = IsReal old → Shown old frames notes new
 
 -- where the addresses stay
@@ -176,10 +176,10 @@ fragments H key f result notes new t = λ r. rw (t.noted, t.changed) (stays H []
 pieces : (H : Host) (p : Piece) (rest : List Piece) → H.left ≡ p ∷ rest → ShownOver H (piece_frame H p ∷ []) (OfCuts (PieceSent p) ∷ []) (with_left H rest)
 pieces H p rest e = λ r. stays H _ _ _ (OnePiece H p r.own Nothing) refl refl refl r
 
--- an ARP reply goes between addresses of the medium, and a packet asks for no neighbour
+-- an ARP reply goes between addresses of the medium, and a packet has a message of the host's own
 abbrev pub GoodReply : Medium → Option Reply → Type 0
 GoodReply m None = Unit {0}
-GoodReply m (Some (Ip p)) = may_ask (payload_of p) ≡ false
+GoodReply m (Some (Ip p)) = is_own (payload_of p) ≡ true
 GoodReply m (Some (Arp r)) = IsOf m (hardware.Ethernet r.source_hardware_addr) × IsOf m (hardware.Ethernet r.target_hardware_addr) × (r.operation ≡ operation.Reply)
 
 module _ (kind : Medium) where
@@ -296,7 +296,7 @@ syncs : (H : Host) (b : Bool) → ShownOver H [] [] (if b then in_line H else H)
 syncs H true = λ real. record { shows = Nothing; same = refl; real = record { own = real.own; neighbors = none_of H.capabilities.medium H.neighbors } }
 syncs H false = silent refl refl refl
 
-maintains : (H : Host) (t : ℤ) → ShownOver H [] [] (maintained (at H t))
+pub maintains : (H : Host) (t : ℤ) → ShownOver H [] [] (maintained (at H t))
 maintains H t = on H (swept H t) (maintained (at H t)) [] [] [] [] (sweeps H t) (syncs (swept H t) (sync_required H.slaac t))
 
 -- over the calls of a poll

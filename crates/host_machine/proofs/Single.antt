@@ -16,8 +16,8 @@ use Rattle.host_machine.specs.Ingress.{Ingress}
 use Rattle.host_machine.proofs.Malformed.{handed-sends, sent-sends}
 
 emitted : {id : ℕ} {p : Packet} {h : HardwareAddress} {outcome : Outcome} {H new : Host} {frames : List (List ℕ)} {notes : List Note} → Emits id p h outcome H frames notes new → length frames ≤ 1
-emitted (dispatch.Whole fits o f n e) = rw f (lit≤ tt)
-emitted (dispatch.InPieces q first rest is long short pieces fits o f n e) = rw f (lit≤ tt)
+emitted (dispatch.Whole fits formed o f n e) = rw f (lit≤ tt)
+emitted (dispatch.InPieces q first rest is long short pieces fits formed o f n e) = rw f (lit≤ tt)
 emitted (dispatch.TooLong long longer o u) = rw u.silent (lit≤ tt)
 
 discovered : {hop : _} {own : _} {outcome : Outcome} {H new : Host} {frames : List (List ℕ)} {notes : List Note} → Discovers own hop outcome H frames notes new → length frames ≤ 1

@@ -1,4 +1,4 @@
--- Who has no raw socket for ICMPv6 has none after frames were taken and sockets asked.
+-- Who has no raw socket for some protocols has none after frames were taken and sockets asked.
 use Rattle.std.proofs.Common.{◌≡◌, ℕ, zero, suc, Bool, true, false, List, [], ◌∷◌, refl, ap, ◌∙◌, Option, Some, None}
 use Rattle.std.specs.Prelude.{ℤ, slice_get, slice_set, cond, if◌then◌else◌}
 use Rattle.std.specs.Option.{is_none}
@@ -13,7 +13,7 @@ use Rattle.sockets.specs.declared.socket.SocketOf.TheVariants.{Raw, Icmp, Udp, T
 use Rattle.sockets.specs.Kinds.{settled, told}
 use Rattle.network_sockets.specs.Raw as socket
 use Rattle.host_machine.specs.Host.{Host, Socket, Storage, with_neighbors}
-use Rattle.host_machine.specs.Delivery.{DeliversFirst, to_each, to_this}
+use Rattle.host_machine.specs.Delivery.{DeliversFirst, holds, to_each, to_this}
 use Rattle.host_machine.specs.Raw as raw
 use Rattle.host_machine.specs.Icmp as icmp
 use Rattle.host_machine.specs.Udp as udp
@@ -22,125 +22,131 @@ use Rattle.ip_wire.specs.IpPacket.{src_addr, dst_addr}
 use Rattle.iface_tables.specs.Neighbor.{expiry_from, renewed}
 use Rattle.host_machine.specs.Renewal.{sender_renewed}
 use Rattle.host_machine.specs.Addresses.{is_unicast}
-use Rattle.host_machine.specs.Requests.{speaks_icmpv6, NobodySpeaks}
+use Rattle.ip_address.specs.Protocol.{number_of}
+use Rattle.sockets.specs.Kinds.{down_raw}
 
--- at none of these places
-abbrev pub Nobody : List Storage → Type 0
-Nobody places = AllByRecursion (λ place. speaks_icmpv6 place ≡ false) places
+module _ (spoken : ℕ → Bool) where
+  -- a raw socket for such a protocol, by its number
+  abbrev pub speaks : Storage → Bool
+  speaks place = holds down_raw (λ s. spoken (number_of s.protocol)) place
 
-each_is : (test : Storage → Bool) (deliver : Storage → Storage) → ((p : Storage) → speaks_icmpv6 (deliver p) ≡ speaks_icmpv6 p) → (p : Storage) →
-    speaks_icmpv6 p ≡ false → speaks_icmpv6 (to_this test deliver p) ≡ false
-each_is test deliver same p none = by (test p) where
-  by : (b : Bool) → speaks_icmpv6 (if b then deliver p else p) ≡ false
-  by true = rw same none
-  by false = none
+  -- at none of these places
+  abbrev pub Nobody : List Storage → Type 0
+  Nobody places = AllByRecursion (λ place. speaks place ≡ false) places
 
-pub to_each_speaks : (test : Storage → Bool) (deliver : Storage → Storage) → ((p : Storage) → speaks_icmpv6 (deliver p) ≡ speaks_icmpv6 p) →
-    (places : List Storage) → Nobody places → Nobody (to_each test deliver places)
-to_each_speaks test deliver same [] none = tt
-to_each_speaks test deliver same (p ∷ ps) none = (each_is test deliver same p none.0, to_each_speaks test deliver same ps none.1)
+  each_is : (test : Storage → Bool) (deliver : Storage → Storage) → ((p : Storage) → speaks (deliver p) ≡ speaks p) → (p : Storage) →
+      speaks p ≡ false → speaks (to_this test deliver p) ≡ false
+  each_is test deliver same p none = by (test p) where
+    by : (b : Bool) → speaks (if b then deliver p else p) ≡ false
+    by true = rw same none
+    by false = none
 
-pub set_speaks : (places : List Storage) (i : ℕ) (p : Storage) → speaks_icmpv6 p ≡ false → Nobody places → Nobody (slice_set places i p)
-set_speaks [] i p mine none = tt
-set_speaks (q ∷ qs) zero p mine none = (mine, none.1)
-set_speaks (q ∷ qs) (suc i) p mine none = (none.0, set_speaks qs i p mine none.1)
+  pub to_each_speaks : (test : Storage → Bool) (deliver : Storage → Storage) → ((p : Storage) → speaks (deliver p) ≡ speaks p) →
+      (places : List Storage) → Nobody places → Nobody (to_each test deliver places)
+  to_each_speaks test deliver same [] none = tt
+  to_each_speaks test deliver same (p ∷ ps) none = (each_is test deliver same p none.0, to_each_speaks test deliver same ps none.1)
 
-pub get_speaks : (places : List Storage) (i : ℕ) (p : Storage) → slice_get places i ≡ Some p → Nobody places → speaks_icmpv6 p ≡ false
-get_speaks [] i p there none = absurd cc
-get_speaks (q ∷ qs) zero p there none = let same : q ≡ p = cc in rw (← same) none.0
-get_speaks (q ∷ qs) (suc i) p there none = get_speaks qs i p there none.1
+  pub set_speaks : (places : List Storage) (i : ℕ) (p : Storage) → speaks p ≡ false → Nobody places → Nobody (slice_set places i p)
+  set_speaks [] i p mine none = tt
+  set_speaks (q ∷ qs) zero p mine none = (mine, none.1)
+  set_speaks (q ∷ qs) (suc i) p mine none = (none.0, set_speaks qs i p mine none.1)
 
--- what a socket gets doesn't change what it speaks
-raw_speaks : (summed : Bool) (r : IpRepr) (payload : List ℕ) (p : Storage) → speaks_icmpv6 (raw.delivered summed r payload p) ≡ speaks_icmpv6 p
-raw_speaks summed r payload None = refl
-raw_speaks summed r payload (Some (Raw s)) = refl
-raw_speaks summed r payload (Some (Icmp s)) = refl
-raw_speaks summed r payload (Some (Udp s)) = refl
-raw_speaks summed r payload (Some (Tcp s)) = refl
+  pub get_speaks : (places : List Storage) (i : ℕ) (p : Storage) → slice_get places i ≡ Some p → Nobody places → speaks p ≡ false
+  get_speaks [] i p there none = absurd cc
+  get_speaks (q ∷ qs) zero p there none = let same : q ≡ p = cc in rw (← same) none.0
+  get_speaks (q ∷ qs) (suc i) p there none = get_speaks qs i p there none.1
 
-icmp_speaks : (remote : IpAddress) (octets : List ℕ) (p : Storage) → speaks_icmpv6 (icmp.delivered remote octets p) ≡ speaks_icmpv6 p
-icmp_speaks remote octets None = refl
-icmp_speaks remote octets (Some (Raw s)) = refl
-icmp_speaks remote octets (Some (Icmp s)) = refl
-icmp_speaks remote octets (Some (Udp s)) = refl
-icmp_speaks remote octets (Some (Tcp s)) = refl
+  -- what a socket gets doesn't change what it speaks
+  raw_speaks : (summed : Bool) (r : IpRepr) (payload : List ℕ) (p : Storage) → speaks (raw.delivered summed r payload p) ≡ speaks p
+  raw_speaks summed r payload None = refl
+  raw_speaks summed r payload (Some (Raw s)) = refl
+  raw_speaks summed r payload (Some (Icmp s)) = refl
+  raw_speaks summed r payload (Some (Udp s)) = refl
+  raw_speaks summed r payload (Some (Tcp s)) = refl
 
-udp_speaks : (r : IpRepr) (ports : UdpRepr) (payload : List ℕ) (p : Storage) → speaks_icmpv6 (udp.delivered r ports payload p) ≡ speaks_icmpv6 p
-udp_speaks r ports payload None = refl
-udp_speaks r ports payload (Some (Raw s)) = refl
-udp_speaks r ports payload (Some (Icmp s)) = refl
-udp_speaks r ports payload (Some (Udp s)) = refl
-udp_speaks r ports payload (Some (Tcp s)) = refl
+  icmp_speaks : (remote : IpAddress) (octets : List ℕ) (p : Storage) → speaks (icmp.delivered remote octets p) ≡ speaks p
+  icmp_speaks remote octets None = refl
+  icmp_speaks remote octets (Some (Raw s)) = refl
+  icmp_speaks remote octets (Some (Icmp s)) = refl
+  icmp_speaks remote octets (Some (Udp s)) = refl
+  icmp_speaks remote octets (Some (Tcp s)) = refl
 
-tcp_speaks : (r : IpRepr) (t : TcpRepr) (payload : List ℕ) (p : Storage) → speaks_icmpv6 (tcp.delivered r t payload p) ≡ speaks_icmpv6 p
-tcp_speaks r t payload None = refl
-tcp_speaks r t payload (Some (Raw s)) = refl
-tcp_speaks r t payload (Some (Icmp s)) = refl
-tcp_speaks r t payload (Some (Udp s)) = refl
-tcp_speaks r t payload (Some (Tcp s)) = refl
+  udp_speaks : (r : IpRepr) (ports : UdpRepr) (payload : List ℕ) (p : Storage) → speaks (udp.delivered r ports payload p) ≡ speaks p
+  udp_speaks r ports payload None = refl
+  udp_speaks r ports payload (Some (Raw s)) = refl
+  udp_speaks r ports payload (Some (Icmp s)) = refl
+  udp_speaks r ports payload (Some (Udp s)) = refl
+  udp_speaks r ports payload (Some (Tcp s)) = refl
 
--- packets that are heard, and delivered
-pub raw_heard : (r : IpRepr) (payload : List ℕ) (H : Host) → NobodySpeaks H → NobodySpeaks (raw.heard r payload H)
-raw_heard r payload H none = to_each_speaks (raw.takes r) _ (raw_speaks _ r payload) H.sockets.places none
+  tcp_speaks : (r : IpRepr) (t : TcpRepr) (payload : List ℕ) (p : Storage) → speaks (tcp.delivered r t payload p) ≡ speaks p
+  tcp_speaks r t payload None = refl
+  tcp_speaks r t payload (Some (Raw s)) = refl
+  tcp_speaks r t payload (Some (Icmp s)) = refl
+  tcp_speaks r t payload (Some (Udp s)) = refl
+  tcp_speaks r t payload (Some (Tcp s)) = refl
 
-pub icmp_heard : (message : IcmpRepr) (contents : List ℕ) (remote : IpAddress) (octets : List ℕ) (H : Host) → NobodySpeaks H →
-    NobodySpeaks (icmp.heard message contents remote octets H)
-icmp_heard message contents remote octets H none = to_each_speaks (icmp.accepts message contents) _ (icmp_speaks remote octets) H.sockets.places none
+  -- packets that are heard, and delivered
+  pub raw_heard : (r : IpRepr) (payload : List ℕ) (H : Host) → Nobody H.sockets.places → Nobody (raw.heard r payload H).sockets.places
+  raw_heard r payload H none = to_each_speaks (raw.takes r) _ (raw_speaks _ r payload) H.sockets.places none
 
-pub udp_delivered : (test : Storage → Bool) (r : IpRepr) (ports : UdpRepr) (payload : List ℕ) (old new : List Storage) →
-    DeliversFirst test (udp.delivered r ports payload) old new → Nobody old → Nobody new
-udp_delivered test r ports payload old new d none =
-    rw d.changed (set_speaks old d.index _ (rw udp_speaks (get_speaks old d.index d.place d.first.is_there none)) none)
+  pub icmp_heard : (message : IcmpRepr) (contents : List ℕ) (remote : IpAddress) (octets : List ℕ) (H : Host) → Nobody H.sockets.places →
+      Nobody (icmp.heard message contents remote octets H).sockets.places
+  icmp_heard message contents remote octets H none = to_each_speaks (icmp.accepts message contents) _ (icmp_speaks remote octets) H.sockets.places none
 
-pub tcp_delivered : (r : IpRepr) (t : TcpRepr) (payload : List ℕ) (places : List Storage) (i : ℕ) (p : Storage) → slice_get places i ≡ Some p → Nobody places →
-    Nobody (slice_set places i (tcp.delivered r t payload p))
-tcp_delivered r t payload places i p there none = set_speaks places i _ (rw tcp_speaks (get_speaks places i p there none)) none
+  pub udp_delivered : (test : Storage → Bool) (r : IpRepr) (ports : UdpRepr) (payload : List ℕ) (old new : List Storage) →
+      DeliversFirst test (udp.delivered r ports payload) old new → Nobody old → Nobody new
+  udp_delivered test r ports payload old new d none =
+      rw d.changed (set_speaks old d.index _ (rw udp_speaks (get_speaks old d.index d.place d.first.is_there none)) none)
 
--- nor does being asked, and told
-settled_protocol : (s : socket.RawSocket) → (socket.settled s).protocol ≡ s.protocol
-settled_protocol s = by (is_none (socket.offered s)) where
-  by : (b : Bool) → (cond b (socket.gone s) s).protocol ≡ s.protocol
-  by true = refl
-  by false = refl
+  pub tcp_delivered : (r : IpRepr) (t : TcpRepr) (payload : List ℕ) (places : List Storage) (i : ℕ) (p : Storage) → slice_get places i ≡ Some p → Nobody places →
+      Nobody (slice_set places i (tcp.delivered r t payload p))
+  tcp_delivered r t payload places i p there none = set_speaks places i _ (rw tcp_speaks (get_speaks places i p there none)) none
 
-told_protocol : (is_gone : Bool) (s : socket.RawSocket) → (socket.told is_gone s).protocol ≡ s.protocol
-told_protocol true s = refl
-told_protocol false s = refl
+  -- nor does being asked, and told
+  settled_protocol : (s : socket.RawSocket) → (socket.settled s).protocol ≡ s.protocol
+  settled_protocol s = by (is_none (socket.offered s)) where
+    by : (b : Bool) → (cond b (socket.gone s) s).protocol ≡ s.protocol
+    by true = refl
+    by false = refl
 
-pub asked_speaks : (t : ℤ) (source : IpAddress → Option IpAddress) (s : Socket) → speaks_icmpv6 (Some (settled t source s)) ≡ speaks_icmpv6 (Some s)
-asked_speaks t source (Raw s) = rw settled_protocol refl
-asked_speaks t source (Icmp s) = refl
-asked_speaks t source (Udp s) = refl
-asked_speaks t source (Tcp s) = refl
+  told_protocol : (is_gone : Bool) (s : socket.RawSocket) → (socket.told is_gone s).protocol ≡ s.protocol
+  told_protocol true s = refl
+  told_protocol false s = refl
 
-pub told_speaks : (is_gone : Bool) (s : Socket) → speaks_icmpv6 (Some (told is_gone s)) ≡ speaks_icmpv6 (Some s)
-told_speaks is_gone (Raw s) = rw told_protocol refl
-told_speaks is_gone (Icmp s) = refl
-told_speaks is_gone (Udp s) = refl
-told_speaks is_gone (Tcp s) = refl
+  pub asked_speaks : (t : ℤ) (source : IpAddress → Option IpAddress) (s : Socket) → speaks (Some (settled t source s)) ≡ speaks (Some s)
+  asked_speaks t source (Raw s) = rw settled_protocol refl
+  asked_speaks t source (Icmp s) = refl
+  asked_speaks t source (Udp s) = refl
+  asked_speaks t source (Tcp s) = refl
+
+  pub told_speaks : (is_gone : Bool) (s : Socket) → speaks (Some (told is_gone s)) ≡ speaks (Some s)
+  told_speaks is_gone (Raw s) = rw told_protocol refl
+  told_speaks is_gone (Icmp s) = refl
+  told_speaks is_gone (Udp s) = refl
+  told_speaks is_gone (Tcp s) = refl
 
 -- while frames are taken nobody begins to speak, and no time passes
 pub record Attends (old new : Host) : Type 0 where
-  pub nobody : NobodySpeaks old → NobodySpeaks new
+  pub nobody : (spoken : ℕ → Bool) → Nobody spoken old.sockets.places → Nobody spoken new.sockets.places
   pub moment : new.moment ≡ old.moment
 
 pub attends : {old new : Host} → new ≡ old → Attends old new
-attends e = record { nobody = λ none. rw e none; moment = ap (λ (K : Host). K.moment) e }
+attends e = record { nobody = λ spoken none. rw e none; moment = ap (λ (K : Host). K.moment) e }
 
 pub attends_by : {old mid new : Host} → new ≡ mid → Attends old mid → Attends old new
-attends_by e a = record { nobody = λ none. rw e (a.nobody none); moment = ap (λ (K : Host). K.moment) e ∙ a.moment }
+attends_by e a = record { nobody = λ spoken none. rw e (a.nobody spoken none); moment = ap (λ (K : Host). K.moment) e ∙ a.moment }
 
 pub attends_then : {old mid new : Host} → Attends old mid → Attends mid new → Attends old new
-attends_then a b = record { nobody = λ none. b.nobody (a.nobody none); moment = b.moment ∙ a.moment }
+attends_then a b = record { nobody = λ spoken none. b.nobody spoken (a.nobody spoken none); moment = b.moment ∙ a.moment }
 
 pub raw_attends : (r : IpRepr) (payload : List ℕ) (H : Host) → Attends H (raw.heard r payload H)
-raw_attends r payload H = record { nobody = λ none. raw_heard r payload H none; moment = refl }
+raw_attends r payload H = record { nobody = λ spoken none. raw_heard spoken r payload H none; moment = refl }
 
 pub icmp_attends : (message : IcmpRepr) (contents : List ℕ) (remote : IpAddress) (octets : List ℕ) (H : Host) → Attends H (icmp.heard message contents remote octets H)
-icmp_attends message contents remote octets H = record { nobody = λ none. icmp_heard message contents remote octets H none; moment = refl }
+icmp_attends message contents remote octets H = record { nobody = λ spoken none. icmp_heard spoken message contents remote octets H none; moment = refl }
 
 pub sender_attends : (source : HardwareAddress) (r : IpRepr) (H : Host) → Attends H (sender_renewed source r H)
 sender_attends source r H = by (is_unicast H.ip_addrs (dst_addr r)) where
   by : (b : Bool) → Attends H (if b then with_neighbors H (renewed H.neighbors (src_addr r) source (expiry_from H.moment)) else H)
-  by true = record { nobody = λ none. none; moment = refl }
+  by true = record { nobody = λ spoken none. none; moment = refl }
   by false = attends refl

@@ -1,5 +1,5 @@
 -- A law on what the device tells and on what is noted, from whole dispatches to whole steps.
-use Rattle.std.proofs.Common.{◌≡◌, ℕ, List, [], ◌∷◌, ◌++◌, refl, ap, subst, Option, Some, None}
+use Rattle.std.proofs.Common.{◌≡◌, ℕ, List, [], ◌∷◌, ◌++◌, refl, sym, ◌∙◌, ap, subst, Option, Some, None}
 use Rattle.std.proofs.lemmas.List.{append-nil}
 use Rattle.std.proofs.lemmas.Bool.Decides.{nat_tests}
 use Rattle.std.specs.Prelude.{ℤ, Bool, true, false, ◌==◌, cond, slice_get, slice_set, if◌then◌else◌}
@@ -15,6 +15,7 @@ use Rattle.ip_address.specs.declared.ip.IpAddress.TheVariants as address
 use Rattle.ip_address.specs.declared.ipv4.Ipv4Address.{Ipv4Address}
 use Rattle.ip_address.specs.declared.ipv6.Ipv6Address.{Ipv6Address}
 use Rattle.ip_address.specs.Protocol.{number_of}
+use Rattle.ip_address.specs.declared.protocol.IpProtocol.{IpProtocol}
 use Rattle.ip_wire.specs.declared.ip_packet.IpRepr.{IpRepr}
 use Rattle.ip_wire.specs.declared.ip_packet.IpRepr.TheVariants as repr
 use Rattle.ip_wire.specs.IpPacket.{next_header}
@@ -68,22 +69,27 @@ use Rattle.host_machine.specs.Step as step
 use Rattle.host_machine.proofs.Grouped.{join_groups, leave_groups}
 use Rattle.host_machine.proofs.Kept.{Keeps, kept, kept_by, unread}
 use Rattle.host_machine.proofs.Repeated.{both, polled}
-use Rattle.host_machine.proofs.Speakers.{Nobody, get_speaks, set_speaks, asked_speaks, told_speaks}
+use Rattle.host_machine.proofs.Own.{is_own, own_asks}
+use Rattle.host_machine.proofs.Speakers.{Nobody, speaks, get_speaks, set_speaks, asked_speaks, told_speaks}
 
--- where a packet comes from that a host dispatches by itself: it asks for no neighbour, or a socket offers it
+-- the number of ICMPv6
+abbrev icmpv6 : ℕ → Bool
+icmpv6 n = n == 58
+
+-- where a packet comes from that a host dispatches by itself: it has a message of the host's own, or a socket offers it
 pub data MaySend (H : Host) (p : Packet) : Type 0 where
-  AsksNobody : may_ask (payload_of p) ≡ false → MaySend H p
+  OfItsOwn : is_own (payload_of p) ≡ true → MaySend H p
   Offers : (i : ℕ) (s : Socket) → slice_get H.sockets.places i ≡ Some (Some s) → packet_from H s ≡ Some p → MaySend H p
 
--- what sockets offer asks for no neighbour, but for raw sockets that speak ICMPv6
-between_is : (a b : IpAddress) (hop_limit : ℕ) (payload : IpPayload) (p : Packet) → packet_between a b hop_limit payload ≡ Some p → may_ask payload ≡ false →
-    may_ask (payload_of p) ≡ false
-between_is (address.Ipv4 a) (address.Ipv4 b) hop_limit payload p e none = let same : packet.Ipv4 (record { src_addr = a; dst_addr = b; hop_limit = hop_limit; payload = payload }) ≡ p = cc in rw (← same) none
-between_is (address.Ipv4 a) (address.Ipv6 b) hop_limit payload p e none = absurd cc
-between_is (address.Ipv6 a) (address.Ipv4 b) hop_limit payload p e none = absurd cc
-between_is (address.Ipv6 a) (address.Ipv6 b) hop_limit payload p e none = let same : packet.Ipv6 (record { src_addr = a; dst_addr = b; hop_limit = hop_limit; payload = payload }) ≡ p = cc in rw (← same) none
+-- a packet between two addresses carries what it is to
+pub between_is : (a b : IpAddress) (hop_limit : ℕ) (payload : IpPayload) (p : Packet) → packet_between a b hop_limit payload ≡ Some p → payload_of p ≡ payload
+between_is (address.Ipv4 a) (address.Ipv4 b) hop_limit payload p e = let same : packet.Ipv4 (record { src_addr = a; dst_addr = b; hop_limit = hop_limit; payload = payload }) ≡ p = cc in rw (← same) refl
+between_is (address.Ipv4 a) (address.Ipv6 b) hop_limit payload p e = absurd cc
+between_is (address.Ipv6 a) (address.Ipv4 b) hop_limit payload p e = absurd cc
+between_is (address.Ipv6 a) (address.Ipv6 b) hop_limit payload p e = let same : packet.Ipv6 (record { src_addr = a; dst_addr = b; hop_limit = hop_limit; payload = payload }) ≡ p = cc in rw (← same) refl
 
-echo_is : (m : IcmpRepr) (octets : List ℕ) (payload : IpPayload) → if_echo m octets ≡ Some payload → may_ask payload ≡ false
+-- what ICMP and TCP sockets offer is of the host's own
+echo_is : (m : IcmpRepr) (octets : List ℕ) (payload : IpPayload) → if_echo m octets ≡ Some payload → is_own payload ≡ true
 echo_is (icmp.Ipv4 (v4.EchoRequest ident seq_no)) octets payload e = let same : packet.Icmpv4 (v4.EchoRequest ident seq_no) octets ≡ payload = cc in rw (← same) refl
 echo_is (icmp.Ipv4 (v4.EchoReply ident seq_no)) octets payload e = let same : packet.Icmpv4 (v4.EchoReply ident seq_no) octets ≡ payload = cc in rw (← same) refl
 echo_is (icmp.Ipv4 (v4.DstUnreachable reason header)) octets payload e = absurd cc
@@ -98,97 +104,101 @@ echo_is (icmp.Ipv6 (v6.Ndisc message)) octets payload e = absurd cc
 echo_is (icmp.Ipv6 (v6.Router message)) octets payload e = absurd cc
 echo_is (icmp.Ipv6 (v6.Mld message)) octets payload e = absurd cc
 
-raw_is : (h : IpRepr) (octets : List ℕ) → may_ask (payload_of (packet_with h (packet.Raw (next_header h) octets))) ≡ (number_of (next_header h) == 58)
-raw_is (repr.Ipv4 h) octets = refl
-raw_is (repr.Ipv6 h) octets = refl
-
-spoken_is : (s : RawSocket) (x : Sent) (p : Packet) → (number_of s.protocol == 58) ≡ false → option_and_then packet_of (option_map RawOffer (if_spoken s x)) ≡ Some p →
-    may_ask (payload_of p) ≡ false
-spoken_is s x p other e = by (number_of s.protocol == number_of (next_header x.header)) refl e where
-  by : (b : Bool) → (number_of s.protocol == number_of (next_header x.header)) ≡ b → option_and_then packet_of (option_map RawOffer (cond b (Some x) None)) ≡ Some p →
-      may_ask (payload_of p) ≡ false
-  by true test q =
-      let same : packet_with x.header (packet.Raw (next_header x.header) x.payload) ≡ p = cc in
-      let number : number_of s.protocol ≡ number_of (next_header x.header) = grind (arith, nat_tests) in
-      rw (← same, raw_is, ← number) other
-  by false test q = absurd cc
-
-parsed_is : (s : RawSocket) (o : Option Sent) (p : Packet) → (number_of s.protocol == 58) ≡ false → option_and_then packet_of (option_map RawOffer (option_and_then (if_spoken s) o)) ≡ Some p →
-    may_ask (payload_of p) ≡ false
-parsed_is s None p other e = absurd cc
-parsed_is s (Some x) p other e = spoken_is s x p other e
-
-first_is : (s : RawSocket) (o : Option (Unit {0} × List ℕ)) (p : Packet) → (number_of s.protocol == 58) ≡ false →
-    option_and_then packet_of (option_map RawOffer (option_and_then (λ q. raw.sent s q.1) o)) ≡ Some p → may_ask (payload_of p) ≡ false
-first_is s None p other e = absurd cc
-first_is s (Some q) p other e = parsed_is s (packet_in s.version q.1) p other e
-
-icmp_between : (m : icmp_socket.Sent) (o : Option IpPayload) (p : Packet) → ((payload : IpPayload) → o ≡ Some payload → may_ask payload ≡ false) →
-    option_and_then (packet_between m.src_addr m.dst_addr m.hop_limit) o ≡ Some p → may_ask (payload_of p) ≡ false
+icmp_between : (m : icmp_socket.Sent) (o : Option IpPayload) (p : Packet) → ((payload : IpPayload) → o ≡ Some payload → is_own payload ≡ true) →
+    option_and_then (packet_between m.src_addr m.dst_addr m.hop_limit) o ≡ Some p → is_own (payload_of p) ≡ true
 icmp_between m None p all e = absurd cc
-icmp_between m (Some payload) p all e = between_is m.src_addr m.dst_addr m.hop_limit payload p e (all payload refl)
+icmp_between m (Some payload) p all e = rw (between_is m.src_addr m.dst_addr m.hop_limit payload p e) (all payload refl)
 
-icmp_is : (o : Option icmp_socket.Sent) (p : Packet) → option_and_then packet_of (option_map IcmpOffer o) ≡ Some p → may_ask (payload_of p) ≡ false
+pub icmp_is : (o : Option icmp_socket.Sent) (p : Packet) → option_and_then packet_of (option_map IcmpOffer o) ≡ Some p → is_own (payload_of p) ≡ true
 icmp_is None p e = absurd cc
 icmp_is (Some m) p e = icmp_between m (if_echo m.repr m.payload) p (λ payload is. echo_is m.repr m.payload payload is) e
 
+pub tcp_is : (o : Option tcp_socket.Sent) (p : Packet) → option_and_then packet_of (option_map TcpOffer o) ≡ Some p → is_own (payload_of p) ≡ true
+tcp_is None p e = absurd cc
+tcp_is (Some s) p e = rw (between_is s.src_addr s.dst_addr s.hop_limit _ p e) refl
+
 udp_is : (o : Option udp_socket.Datagram) (p : Packet) → option_and_then packet_of (option_map UdpOffer o) ≡ Some p → may_ask (payload_of p) ≡ false
 udp_is None p e = absurd cc
-udp_is (Some d) p e = between_is d.src.addr d.dst.addr d.hop_limit _ p e refl
+udp_is (Some d) p e = rw (between_is d.src.addr d.dst.addr d.hop_limit _ p e) refl
 
-tcp_is : (o : Option tcp_socket.Sent) (p : Packet) → option_and_then packet_of (option_map TcpOffer o) ≡ Some p → may_ask (payload_of p) ≡ false
-tcp_is None p e = absurd cc
-tcp_is (Some s) p e = between_is s.src_addr s.dst_addr s.hop_limit _ p e refl
+-- what a raw socket offers is of its protocol
+pub record IsRaw (s : RawSocket) (p : Packet) : Type 0 where
+  pub protocol : IpProtocol
+  pub octets : List ℕ
+  pub is : payload_of p ≡ packet.Raw protocol octets
+  pub same : number_of protocol ≡ number_of s.protocol
 
+raw_is : (h : IpRepr) (octets : List ℕ) → payload_of (packet_with h (packet.Raw (next_header h) octets)) ≡ packet.Raw (next_header h) octets
+raw_is (repr.Ipv4 h) octets = refl
+raw_is (repr.Ipv6 h) octets = refl
+
+spoken_is : (s : RawSocket) (x : Sent) (p : Packet) → option_and_then packet_of (option_map RawOffer (if_spoken s x)) ≡ Some p → IsRaw s p
+spoken_is s x p e = by (number_of s.protocol == number_of (next_header x.header)) refl e where
+  by : (b : Bool) → (number_of s.protocol == number_of (next_header x.header)) ≡ b → option_and_then packet_of (option_map RawOffer (cond b (Some x) None)) ≡ Some p → IsRaw s p
+  by true test q =
+      let same : packet_with x.header (packet.Raw (next_header x.header) x.payload) ≡ p = cc in
+      let number : number_of s.protocol ≡ number_of (next_header x.header) = grind (arith, nat_tests) in
+      record { protocol = next_header x.header; octets = x.payload; is = ap payload_of (sym same) ∙ raw_is x.header x.payload; same = sym number }
+  by false test q = absurd cc
+
+parsed_is : (s : RawSocket) (o : Option Sent) (p : Packet) → option_and_then packet_of (option_map RawOffer (option_and_then (if_spoken s) o)) ≡ Some p → IsRaw s p
+parsed_is s None p e = absurd cc
+parsed_is s (Some x) p e = spoken_is s x p e
+
+pub first_is : (s : RawSocket) (o : Option (Unit {0} × List ℕ)) (p : Packet) → option_and_then packet_of (option_map RawOffer (option_and_then (λ q. raw.sent s q.1) o)) ≡ Some p → IsRaw s p
+first_is s None p e = absurd cc
+first_is s (Some q) p e = parsed_is s (packet_in s.version q.1) p e
+
+-- what sockets offer asks for no neighbour, but for raw sockets that speak ICMPv6
 offered_is : (H : Host) (s : Socket) (p : Packet) → packet_from H s ≡ Some p → speaks_icmpv6 (Some s) ≡ false → may_ask (payload_of p) ≡ false
-offered_is H (Raw s) p e other = first_is s (first_of s.tx.packets) p other e
-offered_is H (Icmp s) p e other = icmp_is (icmp_socket.offered (source_for H.ip_addrs) s) p e
+offered_is H (Raw s) p e other = let r = first_is s (first_of s.tx.packets) p e in rw (r.is, r.same) other
+offered_is H (Icmp s) p e other = own_asks (payload_of p) (icmp_is (icmp_socket.offered (source_for H.ip_addrs) s) p e)
 offered_is H (Udp s) p e other = udp_is (udp_socket.offered (source_for H.ip_addrs) s) p e
-offered_is H (Tcp s) p e other = tcp_is (tcp_socket.offered H.moment (source_for H.ip_addrs) s) p e
+offered_is H (Tcp s) p e other = own_asks (payload_of p) (tcp_is (tcp_socket.offered H.moment (source_for H.ip_addrs) s) p e)
 
 pub sent_is : (H : Host) (p : Packet) → NobodySpeaks H → MaySend H p → may_ask (payload_of p) ≡ false
-sent_is H p none (AsksNobody is) = is
-sent_is H p none (Offers i s there offers) = offered_is H s p offers (get_speaks H.sockets.places i (Some s) there none)
+sent_is H p none (OfItsOwn is) = own_asks (payload_of p) is
+sent_is H p none (Offers i s there offers) = offered_is H s p offers (get_speaks icmpv6 H.sockets.places i (Some s) there none)
 
--- nor do messages to routers
-igmp_is : (own : List IpCidr) (dst : Ipv4Address) (m : IgmpRepr) (p : Packet) → igmp_packet own dst m ≡ Some p → may_ask (payload_of p) ≡ false
+-- messages to routers are of the host's own
+igmp_is : (own : List IpCidr) (dst : Ipv4Address) (m : IgmpRepr) (p : Packet) → igmp_packet own dst m ≡ Some p → is_own (payload_of p) ≡ true
 igmp_is own dst m p e = by (ipv4_addr own) e where
-  by : (o : Option Ipv4Address) → option_map (λ src. packet.Ipv4 (record { src_addr = src; dst_addr = dst; hop_limit = 1; payload = packet.Igmp m })) o ≡ Some p → may_ask (payload_of p) ≡ false
+  by : (o : Option Ipv4Address) → option_map (λ src. packet.Ipv4 (record { src_addr = src; dst_addr = dst; hop_limit = 1; payload = packet.Igmp m })) o ≡ Some p → is_own (payload_of p) ≡ true
   by None q = absurd cc
   by (Some src) q = let same : packet.Ipv4 (record { src_addr = src; dst_addr = dst; hop_limit = 1; payload = packet.Igmp m }) ≡ p = cc in rw (← same) refl
 
-mld_is : (p q : Packet) → may_ask (payload_of p) ≡ false → Some p ≡ Some q → may_ask (payload_of q) ≡ false
+mld_is : (p q : Packet) → is_own (payload_of p) ≡ true → Some p ≡ Some q → is_own (payload_of q) ≡ true
 mld_is p q none e = let same : p ≡ q = cc in rw (← same) none
 
-join_is : (own : List IpCidr) (a : IpAddress) (p : Packet) → join_packet own a ≡ Some p → may_ask (payload_of p) ≡ false
+pub join_is : (own : List IpCidr) (a : IpAddress) (p : Packet) → join_packet own a ≡ Some p → is_own (payload_of p) ≡ true
 join_is own (address.Ipv4 a) p e = igmp_is own a _ p e
 join_is own (address.Ipv6 a) p e = mld_is _ p refl e
 
-leave_is : (own : List IpCidr) (a : IpAddress) (p : Packet) → leave_packet own a ≡ Some p → may_ask (payload_of p) ≡ false
+pub leave_is : (own : List IpCidr) (a : IpAddress) (p : Packet) → leave_packet own a ≡ Some p → is_own (payload_of p) ≡ true
 leave_is own (address.Ipv4 a) p e = igmp_is own multicast.all_routers _ p e
 leave_is own (address.Ipv6 a) p e = mld_is _ p refl e
 
-report_is : (H : Host) (p : Packet) → next_report H ≡ Some p → may_ask (payload_of p) ≡ false
+pub report_is : (H : Host) (p : Packet) → next_report H ≡ Some p → is_own (payload_of p) ≡ true
 report_is H p e = by (next_group H H.igmp_report) e where
-  by : (o : Option (IgmpVersion × Ipv4Address)) → option_and_then (λ n. multicast.igmp_report H.ip_addrs n.0 n.1) o ≡ Some p → may_ask (payload_of p) ≡ false
+  by : (o : Option (IgmpVersion × Ipv4Address)) → option_and_then (λ n. multicast.igmp_report H.ip_addrs n.0 n.1) o ≡ Some p → is_own (payload_of p) ≡ true
   by None q = absurd cc
   by (Some n) q = igmp_is H.ip_addrs n.1 _ p q
 
-solicitation_is : (H : Host) (p : Packet) → due_solicitation H ≡ Some p → may_ask (payload_of p) ≡ false
+pub solicitation_is : (H : Host) (p : Packet) → due_solicitation H ≡ Some p → is_own (payload_of p) ≡ true
 solicitation_is H p e = due (rs_required H.slaac H.moment) e where
-  from : (own : EthernetAddress) (o : Option Ipv6Address) → option_and_then (λ source. Some (solicitation_from own source)) o ≡ Some p → may_ask (payload_of p) ≡ false
+  from : (own : EthernetAddress) (o : Option Ipv6Address) → option_and_then (λ source. Some (solicitation_from own source)) o ≡ Some p → is_own (payload_of p) ≡ true
   from own None q = absurd cc
   from own (Some source) q = mld_is (solicitation_from own source) p refl q
 
-  on_medium : (h : HardwareAddress) → solicitation_by h H.ip_addrs ≡ Some p → may_ask (payload_of p) ≡ false
+  on_medium : (h : HardwareAddress) → solicitation_by h H.ip_addrs ≡ Some p → is_own (payload_of p) ≡ true
   on_medium (hardware.Ethernet own) q = from own (link_local_addr H.ip_addrs) q
   on_medium hardware.Ip q = absurd cc
 
-  enabled : (b : Bool) → (if b then solicitation_by H.hardware_addr H.ip_addrs else None) ≡ Some p → may_ask (payload_of p) ≡ false
+  enabled : (b : Bool) → (if b then solicitation_by H.hardware_addr H.ip_addrs else None) ≡ Some p → is_own (payload_of p) ≡ true
   enabled true q = on_medium H.hardware_addr q
   enabled false q = absurd cc
 
-  due : (b : Bool) → (if b then router_solicitation H else None) ≡ Some p → may_ask (payload_of p) ≡ false
+  due : (b : Bool) → (if b then router_solicitation H else None) ≡ Some p → is_own (payload_of p) ≡ true
   due true q = enabled H.slaac_enabled q
   due false q = absurd cc
 
@@ -198,8 +208,8 @@ unsent_sockets u = ap (λ (K : Host). K.sockets) u.unchanged
 
 emitted_sockets : {id : ℕ} {p : Packet} {h : HardwareAddress} {outcome : Outcome} {H new : Host} {frames : List (List ℕ)} {notes : List Note} →
     Emits id p h outcome H frames notes new → new.sockets ≡ H.sockets
-emitted_sockets (dispatch.Whole fits o f n e) = ap (λ (K : Host). K.sockets) e
-emitted_sockets (dispatch.InPieces q first rest is long short pieces fits o f n e) = ap (λ (K : Host). K.sockets) e
+emitted_sockets (dispatch.Whole fits formed o f n e) = ap (λ (K : Host). K.sockets) e
+emitted_sockets (dispatch.InPieces q first rest is long short pieces fits formed o f n e) = ap (λ (K : Host). K.sockets) e
 emitted_sockets (dispatch.TooLong long longer o u) = unsent_sockets u
 
 discovered_sockets : {own : EthernetAddress} {hop : IpAddress} {outcome : Outcome} {H new : Host} {frames : List (List ℕ)} {notes : List Note} →
@@ -236,16 +246,17 @@ turn_sockets (egress.Silent p t o n e r) = ap (λ (K : Host). K.sockets) e
 turn_sockets (egress.Refused p q t o n e r) = ap (λ (K : Host). K.sockets) e
 turn_sockets (egress.Sent p outcome frames q d t o r) = dispatched_sockets d
 
-turn_speaks : {s s' : Socket} {turn : Turn} {H new : Host} {told_it : List Event} {notes : List Note} → SocketTurn s turn s' H told_it notes new → speaks_icmpv6 (Some s') ≡ speaks_icmpv6 (Some s)
-turn_speaks {s} {s'} {turn} {H} (egress.Silent p t o n e r) = rw r (asked_speaks H.moment (source_for H.ip_addrs) s)
-turn_speaks {s} {s'} {turn} {H} (egress.Refused p q t o n e r) = rw r (asked_speaks H.moment (source_for H.ip_addrs) s)
-turn_speaks {s} {s'} {turn} {H} (egress.Sent p outcome frames q d t o r) = rw (r, told_speaks) (asked_speaks H.moment (source_for H.ip_addrs) s)
+turn_speaks : (spoken : ℕ → Bool) {s s' : Socket} {turn : Turn} {H new : Host} {told_it : List Event} {notes : List Note} → SocketTurn s turn s' H told_it notes new →
+    speaks spoken (Some s') ≡ speaks spoken (Some s)
+turn_speaks spoken {s} {s'} {turn} {H} (egress.Silent p t o n e r) = rw r (asked_speaks spoken H.moment (source_for H.ip_addrs) s)
+turn_speaks spoken {s} {s'} {turn} {H} (egress.Refused p q t o n e r) = rw r (asked_speaks spoken H.moment (source_for H.ip_addrs) s)
+turn_speaks spoken {s} {s'} {turn} {H} (egress.Sent p outcome frames q d t o r) = rw (r, told_speaks spoken) (asked_speaks spoken H.moment (source_for H.ip_addrs) s)
 
-served_speaks : (i : ℕ) {s s' : Socket} {turn : Turn} {H mid : Host} {told_it : List Event} {notes : List Note} → slice_get H.sockets.places i ≡ Some (Some s) →
-    SocketTurn s turn s' H told_it notes mid → NobodySpeaks mid → Nobody (slice_set mid.sockets.places i (Some s'))
-served_speaks i {s} {s'} {turn} {H} {mid} there t none =
+pub served_speaks : (spoken : ℕ → Bool) (i : ℕ) {s s' : Socket} {turn : Turn} {H mid : Host} {told_it : List Event} {notes : List Note} → slice_get H.sockets.places i ≡ Some (Some s) →
+    SocketTurn s turn s' H told_it notes mid → Nobody spoken mid.sockets.places → Nobody spoken (slice_set mid.sockets.places i (Some s'))
+served_speaks spoken i {s} {s'} {turn} {H} {mid} there t none =
     let at_mid : slice_get mid.sockets.places i ≡ Some (Some s) = rw (turn_sockets t) there in
-    set_speaks mid.sockets.places i (Some s') (rw (turn_speaks t) (get_speaks mid.sockets.places i (Some s) at_mid none)) none
+    set_speaks spoken mid.sockets.places i (Some s') (rw (turn_speaks spoken t) (get_speaks spoken mid.sockets.places i (Some s) at_mid none)) none
 
 -- A law is given by its leaves. Of each: where what it reads stays, and nothing is told or noted; where one part follows another; where leave is
 -- refused; where a packet is dispatched; and where a piece that was left goes.
@@ -281,7 +292,7 @@ module _ (Law : Part)
   served : {i : ℕ} {turn : Turn} {H new : Host} {told : List Event} {notes : List Note} → Serves i turn H told notes new → Law H told notes new
   served (egress.Free s t o n e) = still o n e
   served (egress.Waits s known h k p t o n e) = still o n e
-  served {i} (egress.Served s s' known mid h k p t e) = before (had_turn i h t) (kept_by e (unread refl refl)) (λ none. rw e (served_speaks i h t none))
+  served {i} (egress.Served s s' known mid h k p t e) = before (had_turn i h t) (kept_by e (unread refl refl)) (λ none. rw e (served_speaks icmpv6 i h t none))
 
   walked : {old new : Host} {n : ℕ} {going changed : Bool} {told : List Event} {notes : List Note} → Walks old n going changed told notes new → Law old told notes new
   walked egress.Begins = still refl refl refl
@@ -298,7 +309,7 @@ module _ (Law : Part)
   piece_sent {H} {new} {told} {notes} (egress.PieceGoes piece rest l t n e) = rw (t, n, e) (pieces H piece rest l)
 
   -- groups that are told of
-  module _ {packet_for : List IpCidr → IpAddress → Option Packet} (plain : (own : List IpCidr) (a : IpAddress) (p : Packet) → packet_for own a ≡ Some p → may_ask (payload_of p) ≡ false) where
+  module _ {packet_for : List IpCidr → IpAddress → Option Packet} (plain : (own : List IpCidr) (a : IpAddress) (p : Packet) → packet_for own a ≡ Some p → is_own (payload_of p) ≡ true) where
     groups_told : {state : GroupState} {told_of : List Group → IpAddress → List Group} {old new : Host} {going : Bool} {told : List Event} {notes : List Note} →
         multicast.Tells state packet_for told_of old going told notes new → Law old told notes new
     groups_told multicast.Begins = still refl refl refl
@@ -307,7 +318,7 @@ module _ (Law : Part)
         subst (λ ns. Law old (told ++ Asked mid.moment false ∷ []) ns mid) (append-nil notes) (on old mid mid told (Asked mid.moment false ∷ []) notes [] (groups_told w) (refused mid))
     groups_told {told_of = told_of} {old = old} (multicast.Told {told = told} {notes = notes} {mid = mid} a p outcome frames more new w f q d) =
         on old mid (with_groups new (told_of new.groups a)) told (Asked mid.moment true ∷ sends frames) notes more (groups_told w)
-        (before (dispatches p outcome mid new frames more (AsksNobody (plain mid.ip_addrs a p q)) d) (unread refl refl) (λ none. none))
+        (before (dispatches p outcome mid new frames more (OfItsOwn (plain mid.ip_addrs a p q)) d) (unread refl refl) (λ none. none))
 
     all_told : {state : GroupState} {told_of : List Group → IpAddress → List Group} {old new : Host} {told : List Event} {notes : List Note} →
         multicast.TellsAll state packet_for told_of old told notes new → Law old told notes new
@@ -320,19 +331,19 @@ module _ (Law : Part)
   igmp_sent (reports.NoAddress next h g a t n e) = still t n e
   igmp_sent (reports.NoLeave p h r t n e) = not_given t n e
   igmp_sent {H} {new} {told} {notes} (reports.Sent p outcome frames mid h r d t e) =
-      rw t (before (dispatches p outcome H mid frames notes (AsksNobody (report_is H p r)) d) (kept_by e (unread refl refl)) (λ none. rw e none))
+      rw t (before (dispatches p outcome H mid frames notes (OfItsOwn (report_is H p r)) d) (kept_by e (unread refl refl)) (λ none. rw e none))
 
   routers_solicited : {H new : Host} {told : List Event} {notes : List Note} → SolicitsRouters H told notes new → Law H told notes new
   routers_solicited (slaac.NotDue d t n e) = still t n e
   routers_solicited (slaac.NoLeave p d t n e) = not_given t n e
   routers_solicited {H} {new} {told} {notes} (slaac.Goes p outcome frames mid h d t e) =
-      rw t (before (dispatches p outcome H mid frames notes (AsksNobody (solicitation_is H p h)) d) (kept_by e (unread refl refl)) (λ none. rw e none))
+      rw t (before (dispatches p outcome H mid frames notes (OfItsOwn (solicitation_is H p h)) d) (kept_by e (unread refl refl)) (λ none. rw e none))
 
   mld_sent : {H new : Host} {told : List Event} {notes : List Note} → SendsMldReport H told notes new → Law H told notes new
   mld_sent (reports.NotYet h t n e) = still t n e
   mld_sent {H} (reports.GivenUp h t n e) = rw (t, n) (before (refused H) (kept_by e (unread refl refl)) (λ none. rw e none))
   mld_sent {H} {new} {told} {notes} (reports.ReportGoes outcome frames mid h d t e) =
-      rw t (before (dispatches _ outcome H mid frames notes (AsksNobody refl) d) (kept_by e (unread refl refl)) (λ none. rw e none))
+      rw t (before (dispatches _ outcome H mid frames notes (OfItsOwn refl) d) (kept_by e (unread refl refl)) (λ none. rw e none))
 
   -- each part of a round, in order
   round : {changed : Bool} {old new : Host} {told : List Event} {notes : List Note} → Round changed old told notes new → Law old told notes new

@@ -48,7 +48,7 @@ two_ways b h k = cc
 abbrev FormedOver : Host → List (List ℕ) → List Note → Host → Type 0
 FormedOver old frames notes new = AllByRecursion HasForm (cuts (cut_notes notes))
 
-cuts-append : (xs ys : List CutNote) → cuts (xs ++ ys) ≡ cuts xs ++ cuts ys
+pub cuts-append : (xs ys : List CutNote) → cuts (xs ++ ys) ≡ cuts xs ++ cuts ys
 cuts-append [] ys = refl
 cuts-append (Cut d ∷ xs) ys = ap (λ ds. d ∷ ds) (cuts-append xs ys)
 cuts-append (PieceSent p ∷ xs) ys = cuts-append xs ys
@@ -59,7 +59,7 @@ formed_on xs ys a b = rw (cut_notes-append, cuts-append) (all_push HasForm (cuts
 fragments : (H : Host) (key : FragKey) (f : Fragment) (result : Option (List ℕ)) (notes : List Note) (new : Host) → TakesFragment key f result H notes new → FormedOver H [] notes new
 fragments H key f result notes new t = rw (t.noted, cut_notes-slots t.slot_notes) tt
 
-run_forms : {first last : Host} {places : List Place} → Run first places last → AllByRecursion HasForm (cuts_in places)
+pub run_forms : {first last : Host} {places : List Place} → Run first places last → AllByRecursion HasForm (cuts_in places)
 run_forms r =
     walk FormedOver (λ old new k. tt) (λ a b c fs gs xs ys one two. formed_on xs ys one two)
     (λ H own source target mine. tt)
@@ -130,7 +130,7 @@ from_cut size left (PieceSent q ∷ notes) p first all (inr i) = by (from_cut si
   by (inr j) = inr (subst (λ l. IsIn p l) first.1 (inr j))
 
 -- a piece of a packet with a form can be written
-in_map : {X Y : Type 0} (f : X → Y) (xs : List X) (y : Y) → IsIn y (map f xs) → (x : X) × IsIn x xs × (y ≡ f x)
+pub in_map : {X Y : Type 0} (f : X → Y) (xs : List X) (y : Y) → IsIn y (map f xs) → (x : X) × IsIn x xs × (y ≡ f x)
 in_map f [] y i = absurd i
 in_map f (x ∷ xs) y (inl e) = (x, inl refl, e)
 in_map f (x ∷ xs) y (inr i) = let r = in_map f xs y i in (r.0, inr r.1, r.2)
@@ -140,10 +140,10 @@ eights k y =
     let e : k * (y * 8) ≡ k * y * 8 = sym (mul_assoc k y 8) in
     rw e (omega arith)
 
-size_positive : (n : ℕ) → 576 ≤ n → 0 < (n - 20) / 8 * 8
+pub size_positive : (n : ℕ) → 576 ≤ n → 0 < (n - 20) / 8 * 8
 size_positive n l = omega arith
 
-written : (m : Medium) (d : Datagram) (y : ℕ) (f : Fragment) → HasForm d → GoesTo m d → d.size ≡ y * 8 → 0 < d.size → IsPiece d.size d.payload f → IsWritten m (piece_of d f)
+pub written : (m : Medium) (d : Datagram) (y : ℕ) (f : Fragment) → HasForm d → GoesTo m d → d.size ≡ y * 8 → 0 < d.size → IsPiece d.size d.payload f → IsWritten m (piece_of d f)
 written m d y f form far is pos piece =
     let part = part_of d.size d.payload f pos piece in
     let within = part.within in
@@ -162,12 +162,12 @@ written m d y f form far is pos piece =
     }
 
 -- where a fragment that came was cut
-record CutBy (ds : List Datagram) (key : FragKey) (f : Fragment) : Type 0 where
-  datagram : Datagram
-  is_there : IsIn datagram ds
-  positive : 0 < datagram.size
-  key_is : key ≡ key_of_cut datagram
-  piece : IsPiece datagram.size datagram.payload f
+pub record CutBy (ds : List Datagram) (key : FragKey) (f : Fragment) : Type 0 where
+  pub datagram : Datagram
+  pub is_there : IsIn datagram ds
+  pub positive : 0 < datagram.size
+  pub key_is : key ≡ key_of_cut datagram
+  pub piece : IsPiece datagram.size datagram.payload f
 
 all_in : {X : Type 0} (P : X → Type 0) (xs : List X) (x : X) → AllByRecursion P xs → IsIn x xs → P x
 all_in P [] x all i = absurd i
@@ -316,8 +316,17 @@ run_rebuilds a a' b b' ps qs ra rb may a_six b_six were own free =
     (began_of d.payload b (key_of_cut d) (all_in (λ e. finite.get b.slots (key_of_cut e) ≡ None) (cuts_in ps) d free i))
     (parts_under (cuts_in ps) d (slot_notes_in qs) own i came_all))
 
+-- a fragment in a frame that a run sent is of a packet that the run cut
+pub frame_is_cut : (a a' : Host) (ps : List Place) → Run a ps a' → IsReal a → 576 ≤ ip_mtu_of a.capabilities → a.left ≡ [] → AllByRecursion (λ p. GivesSix p.command) ps →
+    (K : Host) → IsOf a.capabilities.medium K.hardware_addr → (frame : List ℕ) → Contains (sent (told_in ps)) frame → (key : FragKey) (f : Fragment) → Brings K frame key f → CutBy (cuts_in ps) key f
+frame_is_cut a a' ps ra real mtu left six K mine frame there key f b =
+    let c = a.capabilities in
+    let shows = run_shows a a' ps ra real six in
+    brought c.medium (piece_size c) ((ip_mtu_of c - 20) / 8) refl (size_positive (ip_mtu_of c) mtu) (cuts_in ps) (run_forms ra) (go_to shows)
+    (sent (told_in ps)) (cut_notes (notes_in ps)) shows refl a.left left (run_first ra) (run_ordered ra) frame K key f mine (origin frame shows (is_in (sent (told_in ps)) frame there)) b
+
 -- a piece of two or more is a part
-is_part : (y : ℕ) (d : Datagram) (f : Fragment) → d.size ≡ y * 8 → 0 < d.size → d.size < length d.payload → IsPiece d.size d.payload f → is_fragment (piece_fragment (piece_of d f)) ≡ true
+pub is_part : (y : ℕ) (d : Datagram) (f : Fragment) → d.size ≡ y * 8 → 0 < d.size → d.size < length d.payload → IsPiece d.size d.payload f → is_fragment (piece_fragment (piece_of d f)) ≡ true
 is_part y d f size pos more piece = rw piece.is (by piece.number) where
   above : (a b : ℕ) → b < a → nat_le a b ≡ false
   above a b l = grind (arith, nat_tests)

@@ -191,8 +191,8 @@ module _ (Law : Host → List (List ℕ) → List Note → Host → Type 0)
     unsent u = keeping u.silent u.unnoted (kept u.unchanged)
 
     emitted : {id : ℕ} {p : Packet} {h : HardwareAddress} {outcome : Outcome} {H new : Host} {frames : List (List ℕ)} {notes : List Note} → Reached H h → Emits id p h outcome H frames notes new → Law H frames notes new
-    emitted {id} {p} {h} {outcome} {H} {new} {frames} {notes} r (dispatch.Whole fits o f n e) = rw (f, n, e) (whole H h p r)
-    emitted {id} {p} {h} {outcome} {H} {new} {frames} {notes} r (dispatch.InPieces q first rest is long fits pieces form o f n e) = rw (f, n, e) (cuts H h id q first rest pieces form r)
+    emitted {id} {p} {h} {outcome} {H} {new} {frames} {notes} r (dispatch.Whole fits formed o f n e) = rw (f, n, e) (whole H h p r)
+    emitted {id} {p} {h} {outcome} {H} {new} {frames} {notes} r (dispatch.InPieces q first rest is long fits pieces form formed o f n e) = rw (f, n, e) (cuts H h id q first rest pieces form r)
     emitted r (dispatch.TooLong long longer o u) = unsent u
 
     abbrev solicitation : Host → EthernetAddress → Ipv6Address → List ℕ

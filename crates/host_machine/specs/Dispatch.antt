@@ -29,7 +29,7 @@ use Rattle.host_machine.specs.Host.{Host, in_same_network, with_neighbors, with_
 use Rattle.host_machine.specs.Addresses.{is_broadcast_v4, source_v4}
 use Rattle.ip_wire.specs.declared.ip_packet.IpRepr.TheVariants as repr
 use Rattle.ip_wire.specs.IpPacket.{dst_addr}
-use Rattle.host_machine.specs.Packet.{Packet, PacketV4, total_len, header_of, header_v4}
+use Rattle.host_machine.specs.Packet.{Packet, PacketV4, IsFormed, total_len, header_of, header_v4}
 use Rattle.host_machine.specs.Packet as packet
 use Rattle.host_machine.specs.Arp.{request_for}
 use Rattle.host_machine.specs.Ndisc.{solicitation_for}
@@ -102,13 +102,13 @@ may_be_cut (packet.Ipv6 p) = false
 
 -- the packet goes to a hardware address, and counts as gone: whole, if the device's packets may be so long; else, if it may be cut, its
 -- first piece goes and the others are left, in place of what was left before; else it is dropped (RFC 791 3.2). The values of a packet
--- that is cut fit the fields of a header
+-- that goes fit the fields of its forms
 pub data Emits (id : ℕ) (p : Packet) (h : HardwareAddress) (outcome : Outcome) (H : Host) (frames : List (List ℕ))
     (notes : List Note) (new : Host) : Type 0 where
-  Whole : total_len p ≤ ip_mtu_of H.capabilities → outcome ≡ Ok tt → frames ≡ ip_frame H h p ∷ [] → notes ≡ [] → new ≡ H →
+  Whole : total_len p ≤ ip_mtu_of H.capabilities → (formed : IsFormed p) → outcome ≡ Ok tt → frames ≡ ip_frame H h p ∷ [] → notes ≡ [] → new ≡ H →
       Emits id p h outcome H frames notes new
   InPieces : (q : PacketV4) (first : Piece) (rest : List Piece) → p ≡ packet.Ipv4 q → ip_mtu_of H.capabilities < total_len p →
-      may_be_cut p ≡ true → pieces_of (datagram_of H h id q) ≡ first ∷ rest → (fits : HasForm (datagram_of H h id q)) → outcome ≡ Ok tt →
+      may_be_cut p ≡ true → pieces_of (datagram_of H h id q) ≡ first ∷ rest → (fits : HasForm (datagram_of H h id q)) → (formed : IsFormed p) → outcome ≡ Ok tt →
       frames ≡ piece_frame H first ∷ [] → notes ≡ OfCuts (Cut (datagram_of H h id q)) ∷ OfCuts (PieceSent first) ∷ [] →
       new ≡ with_left H rest → Emits id p h outcome H frames notes new
   TooLong : ip_mtu_of H.capabilities < total_len p → may_be_cut p ≡ false → outcome ≡ Ok tt → IsUnsent H frames notes new →

@@ -1,5 +1,5 @@
 -- Laws that follow from the definitions.
-use Rattle.std.specs.Prelude.{◌≡◌, ℕ, ℤ, ◌≤◌, ◌≤ℤ◌, true, List, [], ◌∷◌, ◌++◌, length, drop}
+use Rattle.std.specs.Prelude.{◌≡◌, ℕ, ℤ, ◌≤◌, ◌≤ℤ◌, true, List, [], ◌∷◌, ◌++◌, length, drop, Ok, Err}
 use Rattle.std.specs.List.{AllByRecursion}
 use Rattle.net_base.specs.declared.phy.ChecksumCapabilities.{ChecksumCapabilities}
 use Rattle.net_base.specs.Checksum.{is_rx}
@@ -12,6 +12,7 @@ use Rattle.ip_wire.specs.Arp.{IsArp}
 use Rattle.ip_wire.specs.Ipv4Packet.{IsIpv4}
 use Rattle.ipv6_wire.specs.Ipv6Packet.{IsIpv6}
 use Rattle.host_machine.specs.declared.results.PollIngressSingleResult.{PollIngressSingleResult}
+use Rattle.host_machine.specs.declared.results.DispatchError.TheVariants.{NeighborPending}
 use Rattle.fragmentation.specs.Cuts.{Piece, pieces_of}
 use Rattle.host_machine.specs.Note.{Note, Cut, PieceSent, asks, cut_notes}
 use Rattle.host_machine.specs.Host.{Host, swept}
@@ -52,23 +53,23 @@ IngressIsSingle =
     (t : ℤ) (answer : PollIngressSingleResult) (old new : Host) (told : List Event) (notes : List Note) →
     Ingress t answer old told notes new → (length (handed told) ≤ 1) × (length (sent told) ≤ 1)
 
--- what a dispatch sends: nothing; the packet, or the first of its pieces; or, while no silence stands, one request for the hardware address of its
--- next hop, which is noted
-pub data SendsOneThing (p : Packet) (H : Host) (frames : List (List ℕ)) (notes : List Note) : Type 0 where
-  Nothing : frames ≡ [] → asks notes ≡ [] → cut_notes notes ≡ [] → SendsOneThing p H frames notes
-  ThePacket : (h : HardwareAddress) → IsOf H.capabilities.medium h → frames ≡ ip_frame H h p ∷ [] → asks notes ≡ [] → cut_notes notes ≡ [] →
-      SendsOneThing p H frames notes
+-- what a dispatch sends: nothing; the packet, or the first of its pieces, and then it counts as gone; or, while no silence stands, one request for
+-- the hardware address of its next hop, which is noted, and then it waits for that
+pub data SendsOneThing (p : Packet) (outcome : Outcome) (H : Host) (frames : List (List ℕ)) (notes : List Note) : Type 0 where
+  Nothing : frames ≡ [] → asks notes ≡ [] → cut_notes notes ≡ [] → SendsOneThing p outcome H frames notes
+  ThePacket : (h : HardwareAddress) → IsOf H.capabilities.medium h → outcome ≡ Ok tt → frames ≡ ip_frame H h p ∷ [] → asks notes ≡ [] → cut_notes notes ≡ [] →
+      SendsOneThing p outcome H frames notes
   ItsFirstPiece : (h : HardwareAddress) (q : PacketV4) (first : Piece) (rest : List Piece) → IsOf H.capabilities.medium h → p ≡ packet.Ipv4 q →
-      pieces_of (datagram_of H h H.ipv4_id q) ≡ first ∷ rest → frames ≡ piece_frame H first ∷ [] → asks notes ≡ [] →
-      cut_notes notes ≡ Cut (datagram_of H h H.ipv4_id q) ∷ PieceSent first ∷ [] → SendsOneThing p H frames notes
-  ARequest : (frame : List ℕ) → is_request H.capabilities.medium frame ≡ true → H.neighbors.silent_until ≤ℤ H.moment → frames ≡ frame ∷ [] →
-      asks notes ≡ H.moment ∷ [] → cut_notes notes ≡ [] → SendsOneThing p H frames notes
+      pieces_of (datagram_of H h H.ipv4_id q) ≡ first ∷ rest → outcome ≡ Ok tt → frames ≡ piece_frame H first ∷ [] → asks notes ≡ [] →
+      cut_notes notes ≡ Cut (datagram_of H h H.ipv4_id q) ∷ PieceSent first ∷ [] → SendsOneThing p outcome H frames notes
+  ARequest : (frame : List ℕ) → is_request H.capabilities.medium frame ≡ true → H.neighbors.silent_until ≤ℤ H.moment → outcome ≡ Err NeighborPending → frames ≡ frame ∷ [] →
+      asks notes ≡ H.moment ∷ [] → cut_notes notes ≡ [] → SendsOneThing p outcome H frames notes
 
 -- and so each dispatch does, of whatever packet
 abbrev pub DispatchesSendOneThing : Type 0
 DispatchesSendOneThing =
     (p : Packet) (outcome : Outcome) (H new : Host) (frames : List (List ℕ)) (notes : List Note) →
-    IsReal H → Dispatches p outcome H frames notes new → SendsOneThing p H frames notes
+    IsReal H → Dispatches p outcome H frames notes new → SendsOneThing p outcome H frames notes
 
 -- the ARP requests and neighbour solicitations among the frames that a run sends are the discovery requests that it notes: none goes unnoted,
 -- and each that is noted goes, at its moment

@@ -14,8 +14,8 @@ same : {H new : Host} → new ≡ H → new.groups ≡ H.groups
 same e = ap (λ (K : Host). K.groups) e
 
 emitted : {id : ℕ} {p : Packet} {h : HardwareAddress} {outcome : Outcome} {H new : Host} {frames : List (List ℕ)} {notes : List Note} → Emits id p h outcome H frames notes new → new.groups ≡ H.groups
-emitted (dispatch.Whole fits o f n e) = same e
-emitted (dispatch.InPieces q first rest p long cut pieces form o f n e) = ap (λ (K : Host). K.groups) e
+emitted (dispatch.Whole fits formed o f n e) = same e
+emitted (dispatch.InPieces q first rest p long cut pieces form formed o f n e) = ap (λ (K : Host). K.groups) e
 emitted (dispatch.TooLong long cut o u) = same u.unchanged
 
 discovered : {own : EthernetAddress} {hop : IpAddress} {outcome : Outcome} {H new : Host} {frames : List (List ℕ)} {notes : List Note} → Discovers own hop outcome H frames notes new → new.groups ≡ H.groups

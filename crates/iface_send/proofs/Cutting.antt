@@ -12,7 +12,7 @@ use Rattle.fragmentation.specs.declared.fragmenter.NextPiece.{NextPiece}
 use Rattle.net_base.specs.Checksum.{ip_mtu_of}
 use Rattle.host_machine.specs.Note.{OfCuts, Cut, PieceSent}
 use Rattle.std.proofs.lemmas.Bool.Decides.{nat_tests}
-use Rattle.host_machine.specs.Packet.{PacketV4, Ipv4, total_len}
+use Rattle.host_machine.specs.Packet.{PacketV4, Ipv4, HasPorts, total_len}
 use Rattle.host_machine.specs.Dispatch.{Emits, InPieces, datagram_of}
 use Rattle.host_machine.specs.Host.{Host, SocketSet, no_sockets, with_slots, with_left}
 use Rattle.host_machine.specs.Frame.{link_header, piece_frame}
@@ -56,11 +56,11 @@ in_parts link header octets empty by_link by_header by_octets =
 -- the first piece of a packet that was cut goes
 pub begins : {buffer : List ℕ} {old mid new : Context} (id : ℕ) (p : PacketV4) (h : HardwareAddress) →
     ((sockets : SocketSet) → host_of mid sockets ≡ with_left (host_of old sockets) (pieces_of (datagram_of (host_of old sockets) h id p))) →
-    HasForm (datagram_of (host_of old no_sockets) h id p) → ip_mtu_of old.capabilities < total_len (Ipv4 p) → total_len (Ipv4 p) ≤ 4096 →
+    HasForm (datagram_of (host_of old no_sockets) h id p) → HasPorts p.payload → ip_mtu_of old.capabilities < total_len (Ipv4 p) → total_len (Ipv4 p) ≤ 4096 →
     Built buffer NextPieceGoes mid new → Built buffer (Emits id (Ipv4 p) h (Ok tt)) old new
-begins {buffer} {old} {mid} {new} id p h left form long fits built =
+begins {buffer} {old} {mid} {new} id p h left form ports long fits built =
     noting (OfCuts (Cut (datagram_of (host_of old no_sockets) h id p))) built (λ slots sockets frames notes goes. InPieces p goes.piece goes.rest refl long (grind (arith, nat_tests, fits))
-    (sym (ap (λ (H : Host). H.left) (left sockets)) ∙ goes.is_first) form refl
+    (sym (ap (λ (H : Host). H.left) (left sockets)) ∙ goes.is_first) form (record { source = form.source_addr; destination = form.destination_addr; len = omega (arith, fits); ports = ports }) refl
     (goes.sent ∙ ap (λ H. piece_frame (with_slots H slots) goes.piece ∷ []) (left sockets))
     (ap (λ ns. OfCuts (Cut (datagram_of (host_of old no_sockets) h id p)) ∷ ns) goes.noted)
     (goes.others_left ∙ ap (λ H. with_left (with_slots H slots) goes.rest) (left sockets)))

@@ -9,7 +9,7 @@ ghost use Rattle.ip_address.specs.declared.ip.IpAddress.TheVariants.{Ipv4, Ipv6}
 ghost use Rattle.host_machine.specs.Arp.{request_for};
 ghost use Rattle.host_machine.specs.Ndisc.{solicitation_for};
 ghost use Rattle.host_machine.specs.Frame.{ip_frame};
-ghost use Rattle.host_machine.specs.Packet.{IsWritable};
+ghost use Rattle.host_machine.specs.Packet.{IsFormed, IsWritable};
 ghost use Rattle.host_machine.specs.Packet as value;
 ghost use Rattle.host_machine.specs.Dispatch as spec;
 ghost use Rattle.iface_send.specs.Shown as shown;
@@ -266,6 +266,7 @@ fn emit_frame<Q: AnyPacket>(
     requires fits { value.total_len (Q.stands_for packet.now) ≤ ip_mtu_of context.now.capabilities }
     ensures items { out.new ≡ ip_frame (host_of context.now no_sockets) destination.now (Q.stands_for packet.now) }
     ensures some { 20 ≤ length out.new }
+    ensures formed { IsFormed (Q.stands_for packet.now) }
 {
     emit_link_header(&context.hardware_addr, destination, packet.ethertype(), out);
     packet.emit(&context.capabilities, out);

@@ -4,7 +4,7 @@ ghost use Rattle.net_base.specs.Checksum.{ip_mtu_of};
 ghost use Rattle.fragmentation.specs.Cuts.{HasForm, pieces_of};
 ghost use Rattle.fragmentation.specs.Pending.{is_nil};
 ghost use Rattle.host_machine.specs.Host.{SocketSet, no_sockets, with_left};
-ghost use Rattle.host_machine.specs.Packet.{IsWritablePayload};
+ghost use Rattle.host_machine.specs.Packet.{HasPorts, IsWritablePayload};
 ghost use Rattle.host_machine.specs.Packet as value;
 ghost use Rattle.host_machine.specs.Dispatch as spec;
 ghost use Rattle.iface_send.specs.Shown as shown;
@@ -58,6 +58,7 @@ fn cut(
         (pieces_of (spec.datagram_of (host_of context.old sockets) destination.now identification (shown.packet_v4 shown.payload packet.now))) }
     ensures some { is_nil (host_of context.new no_sockets).left ≡ false }
     ensures fits { HasForm (spec.datagram_of (host_of context.old no_sockets) destination.now identification (shown.packet_v4 shown.payload packet.now)) }
+    ensures ports { HasPorts (shown.payload packet.now.payload) }
 {
     let header = packet.header();
     let link = &context.capabilities;

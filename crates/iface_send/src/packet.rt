@@ -2,7 +2,7 @@
 //! frames, which are appended to a buffer.
 ghost use Rattle.std.specs.Prelude.{◌≡◌, ◌+◌, ◌-◌, ◌*◌, ◌<◌, ◌≤◌, ◌^◌, ◌++◌, [], length, min};
 ghost use Rattle.host_machine.specs.Frame.{arp_frame, ethertype_of, link_header, packet_text};
-ghost use Rattle.host_machine.specs.Packet.{IsWritable, total_len};
+ghost use Rattle.host_machine.specs.Packet.{IsFormed, IsWritable, total_len};
 ghost use Rattle.host_machine.specs.Packet as value;
 ghost use Rattle.host_machine.specs.Dispatch.{destination_of};
 ghost use Rattle.ip_wire.specs.IpPacket.{TellsLength};
@@ -43,7 +43,8 @@ pub trait AnyPacket {
         requires writable { IsWritable (stands_for self.now) }
         requires room { length out.old + total_len (stands_for self.now) ≤ 1514 }
         ensures items { out.new ≡ out.old ++ packet_text capabilities.now (stands_for self.now) }
-        ensures len { length out.new ≡ length out.old + total_len (stands_for self.now) };
+        ensures len { length out.new ≡ length out.old + total_len (stands_for self.now) }
+        ensures formed { IsFormed (stands_for self.now) };
 
     /// The packet as one with any payload.
     fn as_packet(&self) -> Packet<'_>
@@ -230,6 +231,8 @@ impl<P: Payload> AnyPacket for PacketV4<P> {
 
     #[inline(always)]
     fn emit(&self, capabilities: &DeviceCapabilities, out: &mut FrameBuffer) {
+        has_bits_v4(self.src_addr);
+        has_bits_v4(self.dst_addr);
         let header = self.header();
         header.emit(&Ipv4Fragment::WHOLE, capabilities.checksum.ipv4.tx(), out);
         self.payload
@@ -268,6 +271,8 @@ impl<P: Payload> AnyPacket for PacketV6<P> {
 
     #[inline(always)]
     fn emit(&self, capabilities: &DeviceCapabilities, out: &mut FrameBuffer) {
+        has_bits_v6(self.src_addr);
+        has_bits_v6(self.dst_addr);
         let header = self.header();
         header.emit(out);
         self.payload
@@ -326,6 +331,18 @@ impl AnyPacket for Packet<'_> {
         *self
     }
 }
+
+/// States that an address has 32 bits.
+#[inline(always)]
+fn has_bits_v4(address: Ipv4Address)
+    ensures { address.bits < 2 ^ 32 }
+{}
+
+/// States that an address has 128 bits.
+#[inline(always)]
+fn has_bits_v6(address: Ipv6Address)
+    ensures { address.bits < 2 ^ 128 }
+{}
 
 /// How many octets an ICMP error quotes of a payload of `len`: so many that the error is at most `mtu`
 /// octets long, with a header of `header_len`, the 8 octets of the message and the quoted header, which

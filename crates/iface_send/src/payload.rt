@@ -4,7 +4,7 @@ ghost use Rattle.control_wire.specs.declared.icmpv4.Icmpv4Repr.TheVariants as ic
 ghost use Rattle.icmpv6_wire.specs.declared.icmpv6.Icmpv6Repr.TheVariants as icmpv6;
 ghost use Rattle.icmpv6_wire.specs.declared.ndisc.NdiscRepr.TheVariants as ndisc;
 ghost use Rattle.host_machine.specs.Frame.{limited, mld_options, payload_text};
-ghost use Rattle.host_machine.specs.Packet.{IsWritablePayload, payload_len, protocol_of};
+ghost use Rattle.host_machine.specs.Packet.{HasPorts, IsWritablePayload, payload_len, protocol_of};
 ghost use Rattle.host_machine.specs.Packet as value;
 ghost use Rattle.ipv6_wire.specs.HopByHop.{text_len};
 ghost use Rattle.iface_send.specs.Shown as shown;
@@ -51,7 +51,8 @@ pub trait Payload: Copy {
         requires short { payload_len (carried self.now) < 2 ^ 16 }
         requires room { length out.old + payload_len (carried self.now) ≤ 1514 + length (behind self.now) }
         ensures items { out.new ++ behind self.now ≡ out.old ++ payload_text capabilities.now header.now (carried self.now) }
-        ensures len { length out.new + length (behind self.now) ≡ length out.old + payload_len (carried self.now) };
+        ensures len { length out.new + length (behind self.now) ≡ length out.old + payload_len (carried self.now) }
+        ensures ports { HasPorts (carried self.now) };
 
     /// The payload as one of any kind.
     fn as_ip_payload(&self) -> IpPayload<'_>
@@ -193,6 +194,7 @@ impl Payload for IpPayload<'_> {
                 message.emit_header(&src, &dst, octets, capabilities.checksum.icmpv6.tx(), out);
             }
             IpPayload::Udp(ports, octets) => {
+                have_bits(*ports);
                 let (src, dst) = (header.src_addr(), header.dst_addr());
                 ports.emit_header(&src, &dst, octets, capabilities.checksum.udp.tx(), out);
             }
@@ -479,6 +481,12 @@ impl NeighborAdvert {
         })
     }
 }
+
+/// States that ports have 16 bits.
+#[inline(always)]
+fn have_bits(ports: UdpRepr)
+    ensures { (ports.src_port < 2 ^ 16) × (ports.dst_port < 2 ^ 16) }
+{}
 
 /// Appends a segment's header behind a packet's, with its window within the device's, and with its
 /// checksum where that is on.

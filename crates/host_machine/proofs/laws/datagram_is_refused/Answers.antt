@@ -39,7 +39,7 @@ returns c = record {
     responds = (
       Ok tt,
       ToSomebody [] refl (ByHop example.sender refl (OnLink refl refl)
-          (Known example.sender_hardware is_known (Whole (lit≤ tt) refl refl refl refl))) refl,
+          (Known example.sender_hardware is_known (Whole (lit≤ tt) (record { source = lit≤ tt; destination = lit≤ tt; len = lit≤ tt; ports = tt }) refl refl refl refl))) refl,
     );
     all_notes = refl;
   };

@@ -10,4 +10,4 @@ use Rattle.host_machine.proofs.laws.leave_is_told.Goals as goal
 
 pub returns : goal.returns
 unfolding word_sum front back header_with text_with
-returns c = All (Told example.group _ (Ok tt) (example.leave ∷ []) (identify ∷ []) _ Begins refl refl (ToSomebody [] refl (ToMany _ refl (Whole (lit≤ tt) refl refl refl refl)) refl)) refl
+returns c = All (Told example.group _ (Ok tt) (example.leave ∷ []) (identify ∷ []) _ Begins refl refl (ToSomebody [] refl (ToMany _ refl (Whole (lit≤ tt) (record { source = lit≤ tt; destination = lit≤ tt; len = lit≤ tt; ports = tt }) refl refl refl refl)) refl)) refl

@@ -33,7 +33,7 @@ returns c = record {
         (ipv4.Whole refl refl (ipv4.Accepted refl (icmpv4.Taken (record { whole_header = lit≤ tt; sum = λ on. refl; body = Request refl refl }) refl refl refl)))));
     responds = (
       Ok tt,
-      ToSomebody [] refl (Whole (lit≤ tt) refl refl refl (rw nobody_renewed refl)) refl,
+      ToSomebody [] refl (Whole (lit≤ tt) (record { source = lit≤ tt; destination = lit≤ tt; len = lit≤ tt; ports = tt }) refl refl refl (rw nobody_renewed refl)) refl,
     );
     all_notes = refl;
   };

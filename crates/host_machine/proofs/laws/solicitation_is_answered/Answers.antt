@@ -49,7 +49,7 @@ returns c = record {
         (ndisc.FromNeighbor (record { 0 = 2 ∷ 0 ∷ 0 ∷ 0 ∷ 0 ∷ 1 ∷ [] }) refl refl (ndisc.Solicited own (Some (record { 0 = 2 ∷ 0 ∷ 0 ∷ 0 ∷ 0 ∷ 2 ∷ [] })) refl
         (record { neighbors = learnt; filled = record { puts = record { there = λ h. refl; room = λ h. refl; full = λ none four. absurd (omega (arith, len-empty address_cmp Neighbor)) }; silence = refl }; same = refl })
         refl refl)))))));
-    responds = (Ok tt, ToSomebody [] refl (ByHop sender refl (OnLink refl refl) (Known example.sender_hardware is_learnt_v6 (Whole (lit≤ tt) refl refl refl refl))) refl);
+    responds = (Ok tt, ToSomebody [] refl (ByHop sender refl (OnLink refl refl) (Known example.sender_hardware is_learnt_v6 (Whole (lit≤ tt) (record { source = lit≤ tt; destination = lit≤ tt; len = lit≤ tt; ports = tt }) refl refl refl refl))) refl);
     all_notes = refl;
   };
   events = refl;
