@@ -22,6 +22,7 @@ use Rattle.host_machine.proofs.Pieces.{IsIn, contains_in, in_left, in_right, in_
 use Rattle.host_machine.proofs.Joined.{run_laws}
 use Rattle.host_machine.proofs.TwoHosts.{run_rebuilds}
 use Rattle.host_laws.proofs.Ran.{runs_keep_datagrams}
+use Rattle.host_laws.proofs.Traced.{runs_get_what_was_sent}
 use Rattle.interface.specs.Stands.{StandsFor}
 use Rattle.host.specs.declared.link.Host.{Host as Linked}
 use Rattle.host.specs.declared.link.LinkStep.{LinkStep}
@@ -30,7 +31,7 @@ use Rattle.host.specs.declared.link.LinkError.{LinkError}
 use Rattle.host.specs.Commands.{CommandGoes}
 use Rattle.host_machine.specs.Real.{GivesSix, IsReal}
 use Rattle.host_machine.specs.TwoHosts.{WereSent}
-use Rattle.host.specs.Link.{End, Owns, Acts, sent_since, Links, Stops, OnA, OnB, ToA, ToB, NoneToA, NoneToB, IsDone, end_of, HandsOver, NoFrame, OneFrame, RebuildsCuts, RebuildsFew, Went, Goes, LinkGoes}
+use Rattle.host.specs.Link.{End, Owns, Acts, sent_since, Links, Stops, OnA, OnB, ToA, ToB, NoneToA, NoneToB, IsDone, end_of, HandsOver, NoFrame, OneFrame, RebuildsCuts, RebuildsFew, GetsDatagrams, Went, Goes, LinkGoes}
 
 -- the ends named the other way round
 abbrev turn : List LinkStep → List LinkStep
@@ -276,6 +277,12 @@ rebuilds H last_a K last_b ps qs fit_a fit_b h k ra rb six_ps six_qs were = λ m
     run_rebuilds H last_a K last_b ps qs ra rb
     (record { one_medium = medium; a_real = fit_a.real H h; b_real = fit_b.real K k; mtu = fit_a.mtu H h; left = left }) six_ps six_qs were own free
 
+-- what UDP sockets of the one get those of the other sent
+gets : {O P : Type 0} {a : Linked O} {b : Linked P} (H last_a K last_b : Host) (ps qs : List Place) → IsFit a → IsFit b → StandsFor a.interface a.sockets H → StandsFor b.interface b.sockets K →
+    Run H ps last_a → Run K qs last_b → AllByRecursion (λ p. GivesSix p.command) ps → AllByRecursion (λ q. GivesSix q.command) qs → WereSent ps qs → GetsDatagrams H K ps qs
+gets H last_a K last_b ps qs fit_a fit_b h k ra rb six_ps six_qs were = λ medium left nobody.
+    runs_get_what_was_sent H last_a K last_b ps qs ra rb (record { real = fit_a.real H h; mtu = fit_a.mtu H h; left = left }) (fit_b.real K k) medium six_ps six_qs nobody were
+
 -- and without the premise on keys, where the other dispatched few packets
 rebuilds_few : {last_a : Host} (H K : Host) (ps qs : List Place) → Run H ps last_a → RebuildsCuts H K ps qs → RebuildsFew H K ps qs
 rebuilds_few H K ps qs ra cuts = λ medium left few free. cuts medium left ((run_laws ra).own_keys few) free
@@ -304,4 +311,6 @@ link_went did_a did_b m n steps done answer a a' b b' is_m is_n none_a none_b fi
       rebuilds_a = cuts_a;
       few_b = rebuilds_few H K went.ps went.qs (run_a went.links) cuts_b;
       few_a = rebuilds_few K H went.qs went.ps (run_a over) cuts_a;
+      gets_b = gets {a = a} {b = b} H went.last_a K went.last_b went.ps went.qs fit_a fit_b h k (run_a went.links) (run_a over) (six_a went.links) (six_a over) (were_sent went.links refl none_b);
+      gets_a = gets {a = b} {b = a} K went.last_b H went.last_a went.qs went.ps fit_b fit_a k h (run_a over) (run_a went.links) (six_a over) (six_a went.links) (were_sent over refl none_a);
     }

@@ -14,6 +14,8 @@ use Rattle.host_machine.specs.TwoHosts.{HaveOwnKeys, RebuildsThese, WereSent, cu
 use Rattle.host_machine.specs.Ran.{Laws}
 use Rattle.host_machine.specs.declared.command.Answer.{Answer}
 use Rattle.host_laws.specs.Datagrams.{KeepsDatagrams}
+use Rattle.host_laws.specs.EndToEnd.{GetWhatWasSent}
+use Rattle.host_laws.specs.Senders.{IsPart, NobodyWritesUdp}
 use Rattle.interface.specs.Stands.{StandsFor}
 use Rattle.host.specs.Commands.{CommandGoes}
 use Rattle.host.specs.declared.link.Host.{Host as Linked}
@@ -139,8 +141,16 @@ RebuildsFew H K ps qs =
     K.capabilities.medium ≡ H.capabilities.medium → H.left ≡ [] → length (identifications (notes_in ps)) < 2 ^ 16 →
     AllByRecursion (λ d. map.get K.slots (key_of_cut d) ≡ None) (cuts_in ps) → RebuildsThese (cuts_in ps) qs
 
+-- Each datagram that a UDP socket of an end gets was sent by a UDP socket of the other, whole or, under the premises above, in fragments. Both
+-- are on one medium; what the other had left of a packet that was cut before are parts of it, as where nothing was left; and no raw socket of
+-- the other writes UDP.
+abbrev pub GetsDatagrams : Host → Host → List Place → List Place → Type 0
+GetsDatagrams H K ps qs =
+    K.capabilities.medium ≡ H.capabilities.medium → AllByRecursion (IsPart H.capabilities.medium) H.left → AllByRecursion (λ p. NobodyWritesUdp p.before) ps →
+    GetWhatWasSent H K ps qs
+
 -- what `link` did: some of its steps, which ones by its answer; so the ends went along runs, of which the laws hold, what was handed
--- over in each was sent in the other, and what one end rebuilds is what the other cut
+-- over in each was sent in the other, what one end rebuilds is what the other cut, and what UDP sockets of the one get those of the other sent
 pub record LinkWent {O P : Type 0} (did_a : Owns O) (did_b : Owns P) (steps : List LinkStep) (answer : Result (Unit {0}) LinkError)
     (a a' : Linked O) (b b' : Linked P) (H K : Host) : Type 0 where
   pub done : List LinkStep
@@ -158,6 +168,8 @@ pub record LinkWent {O P : Type 0} (did_a : Owns O) (did_b : Owns P) (steps : Li
   pub rebuilds_a : RebuildsCuts K H went.qs went.ps
   pub few_b : RebuildsFew H K went.ps went.qs
   pub few_a : RebuildsFew K H went.qs went.ps
+  pub gets_b : GetsDatagrams H K went.ps went.qs
+  pub gets_a : GetsDatagrams K H went.qs went.ps
 
 -- so it goes from all hosts that both stood for
 abbrev pub LinkGoes : {O P : Type 0} → Owns O → Owns P → List LinkStep → Result (Unit {0}) LinkError → Linked O → Linked O → Linked P → Linked P → Type 0
