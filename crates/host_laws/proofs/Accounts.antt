@@ -189,7 +189,7 @@ pub accounts_silent : {old new : Host} {ds : List Departure} {frames : List (Lis
     AccountsFor old ds frames notes new
 accounts_silent {notes = notes} f c keeps nobody = λ r none. let x = keeps r in record { carry = nothing_carried notes f c; same = x.same; regular = x.regular; nobody = nobody none }
 
-itself : (H : Host) → IsRegular H → Follows H H
+pub itself : (H : Host) → IsRegular H → Follows H H
 itself H r = record { same = refl; regular = r }
 
 pub accounts_same : {H new : Host} {ds : List Departure} {frames : List (List ℕ)} {notes : List Note} → frames ≡ [] → notes ≡ [] → new ≡ H → AccountsFor H ds frames notes new

@@ -10,7 +10,6 @@ mod Ways
 mod Departed
 mod Lost
 mod Sent
-mod Calls
 mod Stepped
 mod ReadBack
 pub mod Ran

@@ -92,28 +92,30 @@ pub rest_stays : (ds : List Departure) (s : UdpSocket) (rest : List (IpEndpoint 
 rest_stays [] s rest e = sym e
 rest_stays (d ∷ ds) s rest e = rest_stays ds (gone s) rest (ap (λ ps. drop 1 ps) e)
 
--- the socket that a datagram left behind others is the one that they left
-left_before : (B : Host) (old mid : SocketSet) (ds : List Departure) (d : Departure) → udp_at mid d.index ≡ option_map (without (from_index d.index ds)) (udp_at old d.index) → LeftIn B mid d → LeftIn B old d
-left_before B old mid ds d e l = by (udp_at old d.index) refl where
+-- the socket that a datagram left is the one that it was before, where that kept its end and its hop limit
+left_as_before : (B : Host) (old mid : SocketSet) (change : UdpSocket → UdpSocket) (d : Departure) → ((s : UdpSocket) → (change s).endpoint ≡ s.endpoint) → ((s : UdpSocket) → (change s).hop_limit ≡ s.hop_limit) →
+    udp_at mid d.index ≡ option_map change (udp_at old d.index) → LeftIn B mid d → LeftIn B old d
+left_as_before B old mid change d ends hops e l = by (udp_at old d.index) refl where
   by : (o : Option UdpSocket) → udp_at old d.index ≡ o → LeftIn B old d
   by None none =
-      let no : udp_at mid d.index ≡ None = e ∙ ap (option_map (without (from_index d.index ds))) none in
+      let no : udp_at mid d.index ≡ None = e ∙ ap (option_map change) none in
       let some : udp_at mid d.index ≡ Some l.socket = l.there in
       absurd cc
   by (Some s) some =
-      let one : udp_at mid d.index ≡ Some (without (from_index d.index ds) s) = e ∙ ap (option_map (without (from_index d.index ds))) some in
+      let one : udp_at mid d.index ≡ Some (change s) = e ∙ ap (option_map change) some in
       let two : udp_at mid d.index ≡ Some l.socket = l.there in
-      let is : l.socket ≡ without (from_index d.index ds) s = cc in
+      let is : l.socket ≡ change s = cc in
       record {
         socket = s;
         there = some;
         leaves = leaves_alike (record B { sockets = mid }) (record B { sockets = old }) l.socket s d refl
-            (ap (λ (x : UdpSocket). x.endpoint) is ∙ endpoint_stays (from_index d.index ds) s) (ap (λ (x : UdpSocket). x.hop_limit) is ∙ hop_limit_stays (from_index d.index ds) s) l.leaves;
+            (ap (λ (x : UdpSocket). x.endpoint) is ∙ ends s) (ap (λ (x : UdpSocket). x.hop_limit) is ∙ hops s) l.leaves;
       }
 
-all_left_before : (B : Host) (old mid : SocketSet) (ds es : List Departure) → ((i : ℕ) → udp_at mid i ≡ option_map (without (from_index i ds)) (udp_at old i)) → AllByRecursion (LeftIn B mid) es → AllByRecursion (LeftIn B old) es
-all_left_before B old mid ds [] e all = tt
-all_left_before B old mid ds (d ∷ es) e all = (left_before B old mid ds d (e d.index) all.0, all_left_before B old mid ds es e all.1)
+pub all_left_as_before : (B : Host) (old mid : SocketSet) (change : ℕ → UdpSocket → UdpSocket) (ds : List Departure) → ((i : ℕ) (s : UdpSocket) → (change i s).endpoint ≡ s.endpoint) →
+    ((i : ℕ) (s : UdpSocket) → (change i s).hop_limit ≡ s.hop_limit) → ((i : ℕ) → udp_at mid i ≡ option_map (change i) (udp_at old i)) → AllByRecursion (LeftIn B mid) ds → AllByRecursion (LeftIn B old) ds
+all_left_as_before B old mid change [] ends hops e all = tt
+all_left_as_before B old mid change (d ∷ ds) ends hops e all = (left_as_before B old mid (change d.index) d (ends d.index) (hops d.index) (e d.index) all.0, all_left_as_before B old mid change ds ends hops e all.1)
 
 -- and what was at the front of its queue comes behind what they took
 fronts_on : (old mid : SocketSet) (ds es : List Departure) (i : ℕ) → ((s : UdpSocket) → udp_at old i ≡ Some s → IsBeginning (entries (from_index i ds)) s.tx.packets) →
@@ -133,7 +135,7 @@ lost_on B a b c ts us xs ys one two = λ like.
     record {
       base_is = y.base_is;
       departures = x.departures ++ y.departures;
-      left = all-append (LeftIn B a.sockets) x.departures y.departures x.left (all_left_before B a.sockets b.sockets x.departures y.departures x.udp_is y.left);
+      left = all-append (LeftIn B a.sockets) x.departures y.departures x.left (all_left_as_before B a.sockets b.sockets (λ i. without (from_index i x.departures)) y.departures (λ i. endpoint_stays (from_index i x.departures)) (λ i. hop_limit_stays (from_index i x.departures)) x.udp_is y.left);
       went = rw (sent-append, frames_of-append) (among-append x.went y.went);
       cut = rw (cut_notes-append, cuts-append, cuts_of-append) (among-append x.cut y.cut);
       fronts = λ i s there. fronts_on a.sockets b.sockets x.departures y.departures i (x.fronts i) (y.fronts i) (x.udp_is i) s there;

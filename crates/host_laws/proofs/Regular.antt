@@ -32,14 +32,11 @@ use Rattle.host_machine.proofs.Turns.{stepped}
 use Rattle.host_laws.specs.Departures.{Departure, IsLeft}
 use Rattle.host_laws.specs.Datagrams.{begun}
 use Rattle.host_laws.specs.Senders.{CarryOnly, IsPart, IsRegular, NobodyWritesUdp}
-use Rattle.host_laws.proofs.Accounts.{Follows, dispatch_follows, follows, keeps, taken_left}
+use Rattle.host_laws.proofs.Accounts.{Follows, dispatch_follows, follows, itself, keeps, taken_left}
 use Rattle.host_laws.proofs.Stepped.{step_moves}
 
 abbrev Over : Part
 Over old told notes new = IsRegular old → Follows old new
-
-itself : (H : Host) → IsRegular H → Follows H H
-itself H r = record { same = refl; regular = r }
 
 on : (a b c : Host) (ts us : List Event) (xs ys : List Note) → Over a ts xs b → Over b us ys c → Over a (ts ++ us) (xs ++ ys) c
 on a b c ts us xs ys one two = λ r. let x = one r in let y = two x.regular in record { same = y.same ∙ x.same; regular = y.regular }
@@ -61,10 +58,6 @@ ingress t answer old new told notes i = λ r.
     let taken = follows old x.taken shown.same (taken_left (swept old t) i.reception x.reply x.notes_taking x.taken x.takes) shown.real r in
     let last = responds x.reply x.taken i.frames x.notes_responding new x.responds taken.regular in
     record { same = last.same ∙ taken.same; regular = last.regular }
-
--- where only what is named changes
-quiet : (H new : Host) → new.capabilities ≡ H.capabilities → new.left ≡ H.left → IsReal new → Over H [] [] new
-quiet H new c l real = λ r. follows H new c l real r
 
 step_follows : {command : Command} {answer : Answer} {old new : Host} {told : List Event} {acts : List Act} {notes : List Note} → Step command answer old told acts notes new → GivesSix command → Over old told notes new
 step_follows s six = stepped Over (λ old new k nobody. keeps old new k) on (λ H. itself H) (λ p outcome H new frames notes may d. dispatch_follows d) pieces ingress

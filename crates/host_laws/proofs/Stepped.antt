@@ -30,13 +30,13 @@ use Rattle.host_laws.specs.Departures.{Departure, IsLeft, cuts_of, entries, fram
 use Rattle.host_laws.specs.Datagrams.{begun, moved}
 use Rattle.host_laws.proofs.Idle.{base}
 use Rattle.host_laws.proofs.Gained.{Gains, IsAt, gained_none, gained_on, ingress_gained, ingress_gains}
+use Rattle.host_machine.proofs.Repeated.{until}
 use Rattle.host_machine.proofs.Shown.{maintains}
 use Rattle.host_machine.proofs.TwoHosts.{cuts-append}
 use Rattle.host_laws.specs.Senders.{CarryOnly, IsRegular, NobodyWritesUdp}
 use Rattle.host_laws.proofs.Accounts.{AccountsFor, Follows, accounts_after, accounts_on, accounts_same, follows, ingress_accounts}
-use Rattle.host_laws.proofs.Lost.{LosesOver, leaves_alike, lost_on}
+use Rattle.host_laws.proofs.Lost.{LosesOver, all_left_as_before, leaves_alike, lost_on}
 use Rattle.host_laws.proofs.Sent.{egress_loses, nothing_lost}
-use Rattle.host_laws.proofs.Calls.{until}
 use Rattle.host_laws.proofs.Lists.{among-append, endpoint_stays, hop_limit_stays, id_mapped, none_among, option_map_then, tx_stays}
 
 -- what moved at a step from a host, as it was when the step began
@@ -124,31 +124,7 @@ HandsNone old told notes new = Hands told notes
 hands_on : (a b c : Host) (ts us : List Event) (xs ys : List Note) → HandsNone a ts xs b → HandsNone b us ys c → HandsNone a (ts ++ us) (xs ++ ys) c
 hands_on a b c ts us xs ys one two = record { none = rw (handed-append, one.none) two.none; unnoted = rw (slot_notes-append, one.unnoted) two.unnoted }
 
--- what left sockets behind what they gained left them as they were
-left_gained : (B : Host) (old mid : SocketSet) (ds : List Delivery) (d : Departure) → udp_at mid d.index ≡ option_map (with_deliveries (to_index d.index ds)) (udp_at old d.index) →
-    IsLeft (record B { sockets = mid }) d → IsLeft (record B { sockets = old }) d
-left_gained B old mid ds d e l = by (udp_at old d.index) refl where
-  by : (o : Option UdpSocket) → udp_at old d.index ≡ o → IsLeft (record B { sockets = old }) d
-  by None none =
-      let no : udp_at mid d.index ≡ None = e ∙ ap (option_map (with_deliveries (to_index d.index ds))) none in
-      let some : udp_at mid d.index ≡ Some l.socket = l.there in
-      absurd cc
-  by (Some s) some =
-      let one : udp_at mid d.index ≡ Some (with_deliveries (to_index d.index ds) s) = e ∙ ap (option_map (with_deliveries (to_index d.index ds))) some in
-      let two : udp_at mid d.index ≡ Some l.socket = l.there in
-      let is : l.socket ≡ with_deliveries (to_index d.index ds) s = cc in
-      record {
-        socket = s;
-        there = some;
-        leaves = leaves_alike (record B { sockets = mid }) (record B { sockets = old }) l.socket s d refl
-            (ap (λ (x : UdpSocket). x.endpoint) is ∙ endpoint_stays (to_index d.index ds) s) (ap (λ (x : UdpSocket). x.hop_limit) is ∙ hop_limit_stays (to_index d.index ds) s) l.leaves;
-      }
-
-all_left_gained : (B : Host) (old mid : SocketSet) (ds : List Delivery) (es : List Departure) → ((i : ℕ) → udp_at mid i ≡ option_map (with_deliveries (to_index i ds)) (udp_at old i)) →
-    AllByRecursion (IsLeft (record B { sockets = mid })) es → AllByRecursion (IsLeft (record B { sockets = old })) es
-all_left_gained B old mid ds [] e all = tt
-all_left_gained B old mid ds (d ∷ es) e all = (left_gained B old mid ds d (e d.index) all.0, all_left_gained B old mid ds es e all.1)
-
+-- what gaining leaves of the front of a queue
 fronts_gained : (old mid : SocketSet) (ds : List Delivery) (es : List Departure) (i : ℕ) → udp_at mid i ≡ option_map (with_deliveries (to_index i ds)) (udp_at old i) →
     ((s : UdpSocket) → udp_at mid i ≡ Some s → IsBeginning (entries (from_index i es)) s.tx.packets) → (s : UdpSocket) → udp_at old i ≡ Some s → IsBeginning (entries (from_index i es)) s.tx.packets
 fronts_gained old mid ds es i e fronts s there =
@@ -196,7 +172,7 @@ poll_moves t budget answer old new told notes p =
       departures = l.departures;
       came = rw (p.events, p.all_notes, handed-append, slot_notes-append, h.none, h.unnoted, append-nil (handed p.told_receiving), append-nil (slot_notes p.notes_receiving)) g.came;
       heard = heard_own B g.deliveries g.heard;
-      left = all_own B l.departures (all_left_gained B B.sockets p.mid.sockets g.deliveries l.departures g.udp_is l.left);
+      left = all_own B l.departures (all_left_as_before B B.sockets p.mid.sockets (λ i. with_deliveries (to_index i g.deliveries)) l.departures (λ i. endpoint_stays (to_index i g.deliveries)) (λ i. hop_limit_stays (to_index i g.deliveries)) g.udp_is l.left);
       went = rw (p.events, sent-append) (among-append (none_among (sent p.told_receiving)) l.went);
       cut = rw (p.all_notes, cut_notes-append, cuts-append) (among-append (none_among (cuts (cut_notes p.notes_receiving))) l.cut);
       fronts = λ i s there. fronts_gained B.sockets p.mid.sockets g.deliveries l.departures i (g.udp_is i) (l.fronts i) s (ap (λ (x : SocketSet). udp_at x i) kept ∙ there);
