@@ -18,29 +18,27 @@ use Rattle.socket_set.specs.SocketMeta.{Wait, IsTold, is_permitted, after_asking
 use Rattle.socket_set.specs.SocketSet.{socket_at, wait_at, with_place, with_wait}
 use Rattle.host_machine.specs.declared.results.Turn.{Turn}
 use Rattle.host_machine.specs.declared.results.Turn.TheVariants.{Idle, Gone, Unsent, Exhausted}
+use Rattle.host_machine.specs.Note.{Note}
 use Rattle.host_machine.specs.Host.{Host, Socket, SocketSet, Storage, no_sockets}
 use Rattle.host_machine.specs.Addresses.{source_for}
 use Rattle.host_machine.specs.Packet as value
 use Rattle.host_machine.specs.Frame.{frames_in, sends}
 use Rattle.host_machine.specs.Dispatch.{Outcome, Dispatches, KnowsNextHop, destination_of}
-use Rattle.host_machine.specs.Egress.{packet_of, packet_from, asked, turn_of, is_gone, is_exhausted, Silent, Refused, Sent, Free, Waits, Served, wait_after, Begins, Goes, Stops, Stopped, Whole, Serves, Walks, SocketsSend, SendsPiece, NoPiece, NoLeave, PieceGoes}
+use Rattle.host_machine.specs.Egress.{SocketTurn, packet_of, packet_from, asked, turn_of, is_gone, is_exhausted, Silent, Refused, Sent, Free, Waits, Served, wait_after, Begins, Goes, Stops, Stopped, Whole, Serves, Walks, SocketsSend, SendsPiece, NoPiece, NoLeave, PieceGoes}
 use Rattle.iface_send.specs.declared.context.Context.{Context}
-use Rattle.iface_send.specs.declared.packet.Packet.{Packet}
-use Rattle.iface_send.specs.Shown as shown
 use Rattle.iface_send.specs.Built.{Built}
 use Rattle.iface_send.specs.Pieces.{NextPieceGoes}
 use Rattle.iface_send.specs.Stands.{host_in, host_of}
 use Rattle.iface_egress.specs.Told.{Told}
-use Rattle.iface_egress.specs.Turns.{HasTurn, PieceHasTurn, IsDecided, NoSocket, OfSocket}
+use Rattle.iface_egress.specs.Turns.{HasTurn, PieceHasTurn, OfferTurn, OfferHasTurn, NoPacket, NotGiven, Given, IsDecided, NoSocket, OfSocket}
 
 -- a socket that offers nothing has no packet
 pub none_offered : (H : Host) (s : Socket) (r : Option Offer) → option_map kinds.shown r ≡ offered H.moment (source_for H.ip_addrs) s → r ≡ None → packet_from H s ≡ None
 none_offered H s r offers is = rw (← offers, is) refl
 
 -- a socket's packet is that of its offer
-pub packet_is : (H : Host) (s : Socket) (r : Option Offer) (o : Offer) (p : Option Packet) → option_map kinds.shown r ≡ offered H.moment (source_for H.ip_addrs) s → r ≡ Some o →
-    option_map shown.packet p ≡ packet_of (kinds.shown o) → packet_from H s ≡ option_map shown.packet p
-packet_is H s r o p offers is shows = rw (← offers, is, shows) refl
+pub packet_is : (H : Host) (s : Socket) (r : Option Offer) (o : Offer) → option_map kinds.shown r ≡ offered H.moment (source_for H.ip_addrs) s → r ≡ Some o → packet_from H s ≡ packet_of (kinds.shown o)
+packet_is H s r o offers is = rw (← offers, is) refl
 
 gone_turn : (p : value.Packet) (o : Outcome) → is_ok o ≡ true → Gone ≡ turn_of p o
 gone_turn p (Ok done) is = refl
@@ -50,35 +48,69 @@ kept_turn : (p : value.Packet) (o : Outcome) → is_ok o ≡ false → Unsent (d
 kept_turn p (Ok done) is = absurd cc
 kept_turn p (Err error) is = refl
 
+-- what a socket is told of its packet
+module _ {s s' : Socket} {packet : Option value.Packet} {t : Turn} {H new : Host} {told_it : List Event} {notes : List Note} (is : packet_from H s ≡ packet) where
+  was_gone : t ≡ Gone → s' ≡ told true (asked H s) → OfferTurn packet t H told_it notes new → SocketTurn s t s' H told_it notes new
+  was_gone gone tells_it (NoPacket none idle o n e) = absurd cc
+  was_gone gone tells_it (NotGiven p some refused o n e) = absurd cc
+  was_gone gone tells_it (Given p (Ok done) frames some d turns o) = Sent p (Ok done) frames (is ∙ some) d turns o tells_it
+  was_gone gone tells_it (Given p (Err error) frames some d turns o) = absurd cc
+
+  was_kept : (a : IpAddress) → t ≡ Unsent a → s' ≡ told false (asked H s) → OfferTurn packet t H told_it notes new → SocketTurn s t s' H told_it notes new
+  was_kept a kept tells_it (NoPacket none idle o n e) = absurd cc
+  was_kept a kept tells_it (NotGiven p some refused o n e) = absurd cc
+  was_kept a kept tells_it (Given p (Ok done) frames some d turns o) = absurd cc
+  was_kept a kept tells_it (Given p (Err error) frames some d turns o) = Sent p (Err error) frames (is ∙ some) d turns o tells_it
+
+  was_idle : (t ≡ Idle) ⊎ (t ≡ Exhausted) → s' ≡ asked H s → OfferTurn packet t H told_it notes new → SocketTurn s t s' H told_it notes new
+  was_idle rests settles (NoPacket none idle o n e) = Silent (is ∙ none) idle o n e settles
+  was_idle rests settles (NotGiven p some refused o n e) = Refused p (is ∙ some) refused o n e settles
+  was_idle (inl idle) settles (Given p (Ok done) frames some d turns o) = absurd cc
+  was_idle (inr refused) settles (Given p (Ok done) frames some d turns o) = absurd cc
+  was_idle (inl idle) settles (Given p (Err error) frames some d turns o) = absurd cc
+  was_idle (inr refused) settles (Given p (Err error) frames some d turns o) = absurd cc
+
 module _ {D : Type 0} {tells : D → List Event → D → Type 0} where
   pub silent : {d : D} (c : Context) {s s' : Socket} → tells d [] d → packet_from (host_of c no_sockets) s ≡ None → s' ≡ asked (host_of c no_sockets) s → Told tells d d (HasTurn s Idle s' c) c
   silent c quiet none settles = record { told = []; notes = []; tells_it = quiet; follows = λ slots sockets. Silent none refl refl refl refl settles }
 
-  pub refused : {d e : D} (c : Context) {s s' : Socket} (p : value.Packet) → tells d (Asked c.moment false ∷ []) e → packet_from (host_of c no_sockets) s ≡ Some p → s' ≡ asked (host_of c no_sockets) s →
-      Told tells d e (HasTurn s Exhausted s' c) c
-  refused c p asks some settles = record { told = Asked c.moment false ∷ []; notes = []; tells_it = asks; follows = λ slots sockets. Refused p some refl refl refl refl settles }
+  -- of what is offered
+  pub no_packet : {d : D} (c : Context) {packet : Option value.Packet} → tells d [] d → packet ≡ None → Told tells d d (OfferHasTurn packet Idle c) c
+  no_packet c quiet none = record { told = []; notes = []; tells_it = quiet; follows = λ slots sockets. NoPacket none refl refl refl refl }
 
-  sent : {d m e : D} {buffer : List ℕ} (c c' : Context) {s s' : Socket} {t : Turn} → ((a b c : D) (xs ys : List Event) → tells a xs b → tells b ys c → tells a (xs ++ ys) c) →
-      (p : value.Packet) (o : Outcome) → tells d (Asked c.moment true ∷ []) m → Built buffer (Dispatches p o) c c' → tells m (sends (frames_in buffer)) e → packet_from (host_of c no_sockets) s ≡ Some p → t ≡ turn_of p o →
-      s' ≡ told (is_ok o) (asked (host_of c no_sockets) s) → Told tells d e (HasTurn s t s' c) c'
-  sent {d} {m} {e} {buffer} c c' tells_on p o asks built sends_it some turns tells_it = record {
+  pub not_given : {d e : D} (c : Context) (p : value.Packet) → tells d (Asked c.moment false ∷ []) e → Told tells d e (OfferHasTurn (Some p) Exhausted c) c
+  not_given c p asks = record { told = Asked c.moment false ∷ []; notes = []; tells_it = asks; follows = λ slots sockets. NotGiven p refl refl refl refl refl }
+
+  given : {d m e : D} {buffer : List ℕ} (c c' : Context) {t : Turn} → ((a b c : D) (xs ys : List Event) → tells a xs b → tells b ys c → tells a (xs ++ ys) c) →
+      (p : value.Packet) (o : Outcome) → tells d (Asked c.moment true ∷ []) m → Built buffer (Dispatches p o) c c' → tells m (sends (frames_in buffer)) e → t ≡ turn_of p o → Told tells d e (OfferHasTurn (Some p) t c) c'
+  given {d} {m} {e} {buffer} c c' tells_on p o asks built sends_it turns = record {
     told = Asked c.moment true ∷ sends (frames_in buffer);
     notes = built.notes;
     tells_it = tells_on d m e (Asked c.moment true ∷ []) (sends (frames_in buffer)) asks sends_it;
-    follows = λ slots sockets. Sent p o (frames_in buffer) some (built.follows slots sockets) turns refl tells_it;
+    follows = λ slots sockets. Given p o (frames_in buffer) refl (built.follows slots sockets) turns refl;
   }
 
-  pub sent_gone : {d m e : D} {buffer : List ℕ} (c c' : Context) {s s' asked_so : Socket} → ((a b c : D) (xs ys : List Event) → tells a xs b → tells b ys c → tells a (xs ++ ys) c) →
-      (p : value.Packet) (o : Outcome) (gone : Bool) → tells d (Asked c.moment true ∷ []) m → Built buffer (Dispatches p o) c c' → tells m (sends (frames_in buffer)) e → packet_from (host_of c no_sockets) s ≡ Some p →
-      gone ≡ is_ok o → gone ≡ true → asked_so ≡ asked (host_of c no_sockets) s → s' ≡ told gone asked_so → Told tells d e (HasTurn s Gone s' c) c'
-  sent_gone c c' tells_on p o gone asks built sends_it some is_it is settles tells_it =
-      sent c c' tells_on p o asks built sends_it some (gone_turn p o (sym is_it ∙ is)) (rw (← is_it, ← settles) tells_it)
+  pub given_gone : {d m e : D} {buffer : List ℕ} (c c' : Context) → ((a b c : D) (xs ys : List Event) → tells a xs b → tells b ys c → tells a (xs ++ ys) c) →
+      (p : value.Packet) (o : Outcome) (gone : Bool) → tells d (Asked c.moment true ∷ []) m → Built buffer (Dispatches p o) c c' → tells m (sends (frames_in buffer)) e → gone ≡ is_ok o → gone ≡ true →
+      Told tells d e (OfferHasTurn (Some p) Gone c) c'
+  given_gone c c' tells_on p o gone asks built sends_it is_it is = given c c' tells_on p o asks built sends_it (gone_turn p o (sym is_it ∙ is))
 
-  pub sent_kept : {d m e : D} {buffer : List ℕ} (c c' : Context) {s s' asked_so : Socket} {a : IpAddress} → ((a b c : D) (xs ys : List Event) → tells a xs b → tells b ys c → tells a (xs ++ ys) c) →
-      (p : value.Packet) (o : Outcome) (gone : Bool) → tells d (Asked c.moment true ∷ []) m → Built buffer (Dispatches p o) c c' → tells m (sends (frames_in buffer)) e → packet_from (host_of c no_sockets) s ≡ Some p →
-      gone ≡ is_ok o → gone ≡ false → a ≡ destination_of p → asked_so ≡ asked (host_of c no_sockets) s → s' ≡ told gone asked_so → Told tells d e (HasTurn s (Unsent a) s' c) c'
-  sent_kept c c' tells_on p o gone asks built sends_it some is_it is goes_to settles tells_it =
-      sent c c' tells_on p o asks built sends_it some (ap Unsent goes_to ∙ kept_turn p o (sym is_it ∙ is)) (rw (← is_it, ← settles) tells_it)
+  pub given_kept : {d m e : D} {buffer : List ℕ} (c c' : Context) {a : IpAddress} → ((a b c : D) (xs ys : List Event) → tells a xs b → tells b ys c → tells a (xs ++ ys) c) →
+      (p : value.Packet) (o : Outcome) (gone : Bool) → tells d (Asked c.moment true ∷ []) m → Built buffer (Dispatches p o) c c' → tells m (sends (frames_in buffer)) e → gone ≡ is_ok o → gone ≡ false →
+      a ≡ destination_of p → Told tells d e (OfferHasTurn (Some p) (Unsent a) c) c'
+  given_kept c c' tells_on p o gone asks built sends_it is_it is goes_to = given c c' tells_on p o asks built sends_it (ap Unsent goes_to ∙ kept_turn p o (sym is_it ∙ is))
+
+  -- of the socket that offered it
+  module _ {d e : D} (c c' : Context) {s s' asked_so : Socket} {packet : Option value.Packet} {t : Turn} (is : packet_from (host_of c no_sockets) s ≡ packet) (settles : asked_so ≡ asked (host_of c no_sockets) s)
+      (offer : Told tells d e (OfferHasTurn packet t c) c') where
+    pub turned_gone : t ≡ Gone → s' ≡ told true asked_so → Told tells d e (HasTurn s t s' c) c'
+    turned_gone gone tells_it = record { told = offer.told; notes = offer.notes; tells_it = offer.tells_it; follows = λ slots sockets. was_gone is gone (rw (← settles) tells_it) (offer.follows slots sockets) }
+
+    pub turned_kept : (a : IpAddress) → t ≡ Unsent a → s' ≡ told false asked_so → Told tells d e (HasTurn s t s' c) c'
+    turned_kept a kept tells_it = record { told = offer.told; notes = offer.notes; tells_it = offer.tells_it; follows = λ slots sockets. was_kept is a kept (rw (← settles) tells_it) (offer.follows slots sockets) }
+
+    pub turned_idle : (t ≡ Idle) ⊎ (t ≡ Exhausted) → s' ≡ asked_so → Told tells d e (HasTurn s t s' c) c'
+    turned_idle rests same = record { told = offer.told; notes = offer.notes; tells_it = offer.tells_it; follows = λ slots sockets. was_idle is rests (same ∙ settles) (offer.follows slots sockets) }
 
 none_some : {A : Type 0} {x : A} → None ≡ Some x → ⊥
 none_some is = absurd cc

@@ -1,14 +1,17 @@
 -- The turns of sockets, over what an interface keeps.
-use Rattle.std.specs.Prelude.{◌≡◌, ℕ, Bool, false, List, Some, None}
-use Rattle.net_base.specs.Device.{Event}
+use Rattle.std.specs.Prelude.{◌≡◌, ℕ, Bool, true, false, List, [], ◌∷◌, Option, Some, None}
+use Rattle.net_base.specs.Device.{Event, Asked}
 use Rattle.host_machine.specs.declared.results.Turn.{Turn}
+use Rattle.host_machine.specs.declared.results.Turn.TheVariants.{Idle, Exhausted}
 use Rattle.host_machine.specs.Note.{Note}
 use Rattle.fragmentation.specs.Slots.{Slots}
 use Rattle.socket_set.specs.SocketMeta.{IsTold, is_permitted, after_asking}
 use Rattle.socket_set.specs.SocketSet.{socket_at, wait_at, with_wait}
-use Rattle.host_machine.specs.Host.{Socket, SocketSet}
-use Rattle.host_machine.specs.Dispatch.{KnowsNextHop}
-use Rattle.host_machine.specs.Egress.{SocketTurn, SendsPiece}
+use Rattle.host_machine.specs.Host.{Host, Socket, SocketSet}
+use Rattle.host_machine.specs.Packet.{Packet}
+use Rattle.host_machine.specs.Frame.{sends}
+use Rattle.host_machine.specs.Dispatch.{Outcome, Dispatches, KnowsNextHop}
+use Rattle.host_machine.specs.Egress.{SocketTurn, SendsPiece, turn_of}
 use Rattle.iface_send.specs.declared.context.Context.{Context}
 use Rattle.iface_send.specs.Stands.{host_in}
 
@@ -16,6 +19,18 @@ use Rattle.iface_send.specs.Stands.{host_in}
 abbrev pub HasTurn : Socket → Turn → Socket → Context → List Event → List Note → Context → Type 0
 HasTurn s turn s' old told notes new =
     (slots : Slots) (sockets : SocketSet) → SocketTurn s turn s' (host_in old slots sockets) told notes (host_in new slots sockets)
+
+-- what becomes of a packet that is offered, if there is one: without leave nothing; else it is dispatched, and gone or not
+pub data OfferTurn (packet : Option Packet) (turn : Turn) (H : Host) (told_it : List Event) (notes : List Note) (new : Host) : Type 0 where
+  NoPacket : packet ≡ None → turn ≡ Idle → told_it ≡ [] → notes ≡ [] → new ≡ H → OfferTurn packet turn H told_it notes new
+  NotGiven : (p : Packet) → packet ≡ Some p → turn ≡ Exhausted → told_it ≡ Asked H.moment false ∷ [] → notes ≡ [] → new ≡ H → OfferTurn packet turn H told_it notes new
+  Given : (p : Packet) (outcome : Outcome) (frames : List (List ℕ)) → packet ≡ Some p → Dispatches p outcome H frames notes new → turn ≡ turn_of p outcome →
+      told_it ≡ Asked H.moment true ∷ sends frames → OfferTurn packet turn H told_it notes new
+
+-- and so whatever the slots and the sockets are
+abbrev pub OfferHasTurn : Option Packet → Turn → Context → List Event → List Note → Context → Type 0
+OfferHasTurn packet turn old told_it notes new =
+    (slots : Slots) (sockets : SocketSet) → OfferTurn packet turn (host_in old slots sockets) told_it notes (host_in new slots sockets)
 
 -- the turn of the pieces that are left, whatever the slots and the sockets are
 abbrev pub PieceHasTurn : Context → List Event → List Note → Context → Type 0

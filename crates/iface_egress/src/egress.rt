@@ -5,6 +5,7 @@ ghost use Rattle.std.specs.Option.{option_map};
 ghost use Rattle.sockets.specs.Kinds as kinds;
 ghost use Rattle.network_sockets.specs.Icmp as icmp;
 ghost use Rattle.network_sockets.specs.Raw as raw;
+ghost use Rattle.transport_sockets.specs.Tcp as tcp;
 ghost use Rattle.transport_sockets.specs.Udp as udp;
 ghost use Rattle.net_base.specs.Time.{IsMoment};
 ghost use Rattle.socket_set.specs.SocketSet.{wait_at, with_wait};
@@ -16,7 +17,7 @@ ghost use Rattle.host_machine.specs.Packet.{IsWritable, IsWritablePayload};
 ghost use Rattle.iface_send.specs.Shown as shown;
 ghost use Rattle.iface_send.specs.Stands.{host_in};
 ghost use Rattle.iface_egress.specs.Told.{Told};
-ghost use Rattle.iface_egress.specs.Turns.{HasTurn, IsDecided, PieceHasTurn};
+ghost use Rattle.iface_egress.specs.Turns.{HasTurn, IsDecided, OfferHasTurn, PieceHasTurn};
 
 use crate::transmit::send_frame;
 use control_wire::{IcmpRepr, Icmpv4Repr};
@@ -24,13 +25,14 @@ use host_machine::Turn;
 use icmpv6_wire::Icmpv6Repr;
 use iface_send::dispatch::{dispatch, has_neighbor};
 use iface_send::fragments::emit_next_piece;
+use iface_send::payload::Datagram;
 use iface_send::{AnyPacket, Context, IpPayload, Packet, PacketV4, PacketV6};
 use ip_wire::emit::FrameBuffer;
 use ip_wire::{IpAddress, UdpRepr};
 use net_base::phy::Device;
 use net_base::time::Instant;
 use socket_set::{SocketSet, by_index};
-use sockets::{Offer, Socket, SocketContext, icmp, raw, udp};
+use sockets::{Offer, Socket, SocketContext, icmp, raw, tcp, udp};
 
 /// Sends the next of the pieces that are left of a packet that was cut, if one is left and the device
 /// gives leave. The others stay left.
@@ -136,42 +138,109 @@ fn give_turn<D: Device>(
     let Some(offer) = socket.offer(context) else {
         return Turn::Idle;
     };
-    let Some(packet) = packet_of(&offer) else {
-        return Turn::Idle;
-    };
-    if !device.transmit(context.now()) {
-        return Turn::Exhausted;
+    let turn = send_offer(context, device, out, &offer);
+    match turn {
+        Turn::Gone => socket.told(true),
+        Turn::Unsent(_) => socket.told(false),
+        Turn::Idle | Turn::Exhausted => {}
     }
-    let destination = packet.dst_addr();
-    out.clear();
-    let gone = dispatch(context, &packet, out).is_ok();
-    send_frame(device, out);
-    socket.told(gone);
-    if gone {
-        Turn::Gone
-    } else {
-        Turn::Unsent(destination)
+    turn
+}
+
+/// Sends what a socket offers, if it makes a packet and the device gives leave. A datagram's frame is built for its kind.
+fn send_offer<D: Device>(
+    context: &mut Context,
+    device: &mut D,
+    out: &mut FrameBuffer,
+    offer: &Offer<'_>,
+) -> Turn
+    ensures { Told D.tells device.old device.new (OfferHasTurn (spec.packet_of (kinds.shown offer.now)) result context.old) context.new }
+{
+    match offer {
+        Offer::Raw(packet) => send(context, device, out, &raw_packet(packet)),
+        Offer::Icmp(packet) => send_if(context, device, out, icmp_packet(packet)),
+        Offer::Udp(packet) => send_datagram(context, device, out, packet),
+        Offer::Tcp(packet) => send_if(context, device, out, tcp_packet(packet)),
     }
 }
 
-/// What a socket offers as a packet.
-fn packet_of<'p>(offer: &Offer<'p>) -> Option<Packet<'p>>
-    ensures value { option_map shown.packet result ≡ spec.packet_of (kinds.shown offer.now) }
-    ensures writable { IfSome result (λ p. IsWritable (shown.packet p)) }
+/// Sends a packet, if there is one.
+#[inline(always)]
+fn send_if<D: Device>(
+    context: &mut Context,
+    device: &mut D,
+    out: &mut FrameBuffer,
+    packet: Option<Packet<'_>>,
+) -> Turn
+    requires { IfSome packet (λ p. IsWritable (shown.packet p)) }
+    ensures { Told D.tells device.old device.new (OfferHasTurn (option_map shown.packet packet.entry) result context.old) context.new }
 {
-    match offer {
-        Offer::Raw(packet) => Some(raw_packet(packet)),
-        Offer::Icmp(packet) => icmp_packet(packet),
-        Offer::Udp(packet) => udp_packet(packet),
-        Offer::Tcp(packet) => {
-            let payload = IpPayload::Tcp(packet.repr, packet.payload);
-            packet_between(
-                &packet.src_addr,
-                &packet.dst_addr,
-                packet.hop_limit,
+    match packet {
+        Some(packet) => send(context, device, out, &packet),
+        None => Turn::Idle,
+    }
+}
+
+/// Sends a datagram of a UDP socket in a packet of the family of its ends.
+fn send_datagram<D: Device>(
+    context: &mut Context,
+    device: &mut D,
+    out: &mut FrameBuffer,
+    datagram: &udp::Packet<'_>,
+) -> Turn
+    ensures { Told D.tells device.old device.new (OfferHasTurn (spec.packet_of (kinds.UdpOffer (udp.shown datagram.now))) result context.old) context.new }
+{
+    let hop_limit = datagram.hop_limit;
+    let payload = Datagram {
+        header: UdpRepr {
+            src_port: datagram.src.port,
+            dst_port: datagram.dst.port,
+        },
+        octets: datagram.payload,
+    };
+    match (&datagram.src.addr, &datagram.dst.addr) {
+        (IpAddress::Ipv4(src_addr), IpAddress::Ipv4(dst_addr)) => {
+            let packet = PacketV4 {
+                src_addr: *src_addr,
+                dst_addr: *dst_addr,
+                hop_limit,
                 payload,
-            )
+            };
+            send(context, device, out, &packet)
         }
+        (IpAddress::Ipv6(src_addr), IpAddress::Ipv6(dst_addr)) => {
+            let packet = PacketV6 {
+                src_addr: *src_addr,
+                dst_addr: *dst_addr,
+                hop_limit,
+                payload,
+            };
+            send(context, device, out, &packet)
+        }
+        _ => Turn::Idle,
+    }
+}
+
+/// Sends a packet, if the device gives leave. It waits for its destination where it isn't gone.
+fn send<D: Device, Q: AnyPacket>(
+    context: &mut Context,
+    device: &mut D,
+    out: &mut FrameBuffer,
+    packet: &Q,
+) -> Turn
+    requires { IsWritable (Q.stands_for packet.now) }
+    ensures { Told D.tells device.old device.new (OfferHasTurn (Some (Q.stands_for packet.now)) result context.old) context.new }
+{
+    if !device.transmit(context.now()) {
+        return Turn::Exhausted;
+    }
+    out.clear();
+    let gone = dispatch(context, packet, out).is_ok();
+    send_frame(device, out);
+    if gone {
+        Turn::Gone
+    } else {
+        Turn::Unsent(packet.dst_addr())
     }
 }
 
@@ -212,20 +281,16 @@ fn echo_payload<'p>(repr: &IcmpRepr, octets: &'p [u8]) -> Option<IpPayload<'p>>
     }
 }
 
-/// A datagram as a packet.
-fn udp_packet<'p>(datagram: &udp::Packet<'p>) -> Option<Packet<'p>>
-    ensures value { option_map shown.packet result ≡ spec.packet_of (kinds.UdpOffer (udp.shown datagram.now)) }
+/// A segment of a TCP socket.
+fn tcp_packet<'p>(segment: &tcp::Packet<'p>) -> Option<Packet<'p>>
+    ensures value { option_map shown.packet result ≡ spec.packet_of (kinds.TcpOffer (tcp.shown segment.now)) }
     ensures writable { IfSome result (λ p. IsWritable (shown.packet p)) }
 {
-    let header = UdpRepr {
-        src_port: datagram.src.port,
-        dst_port: datagram.dst.port,
-    };
-    let payload = IpPayload::Udp(header, datagram.payload);
+    let payload = IpPayload::Tcp(segment.repr, segment.payload);
     packet_between(
-        &datagram.src.addr,
-        &datagram.dst.addr,
-        datagram.hop_limit,
+        &segment.src_addr,
+        &segment.dst_addr,
+        segment.hop_limit,
         payload,
     )
 }

@@ -14,6 +14,7 @@ use Rattle.iface_send.specs.declared.payload.EchoReplyV6.{EchoReplyV6}
 use Rattle.iface_send.specs.declared.payload.Unreachable.{Unreachable}
 use Rattle.iface_send.specs.declared.payload.UnreachableV6.{UnreachableV6}
 use Rattle.iface_send.specs.declared.payload.NeighborAdvert.{NeighborAdvert}
+use Rattle.iface_send.specs.declared.payload.Datagram.{Datagram}
 use Rattle.iface_send.specs.declared.payload.Segment.{Segment}
 use Rattle.iface_send.specs.declared.packet.PacketV4.{PacketV4}
 use Rattle.iface_send.specs.declared.packet.PacketV6.{PacketV6}
@@ -46,6 +47,9 @@ unreachable_v6 p = value.Icmpv6 (icmpv6.DstUnreachable p.reason p.header) p.octe
 
 abbrev pub neighbor_advert : NeighborAdvert → value.IpPayload
 neighbor_advert p = value.Icmpv6 (icmpv6.Ndisc (ndisc.NeighborAdvert p.flags p.target_addr (Some p.lladdr))) []
+
+abbrev pub datagram : Datagram → value.IpPayload
+datagram p = value.Udp p.header p.octets.now
 
 abbrev pub segment : Segment → value.IpPayload
 segment p = value.Tcp p.header p.octets.now

@@ -113,6 +113,13 @@ pub struct NeighborAdvert {
     pub lladdr: EthernetAddress,
 }
 
+/// A UDP datagram.
+#[derive(Clone, Copy)]
+pub struct Datagram<'p> {
+    pub header: UdpRepr,
+    pub octets: &'p [u8],
+}
+
 /// A TCP segment.
 #[derive(Clone, Copy)]
 pub struct Segment<'p> {
@@ -403,6 +410,46 @@ impl Payload for NeighborAdvert {
     #[inline(always)]
     fn as_ip_payload(&self) -> IpPayload<'_> {
         IpPayload::Icmpv6(self.message(), &[])
+    }
+}
+
+impl Payload for Datagram<'_> {
+    ghost carried = { shown.datagram };
+
+    ghost behind = { λ p. p.octets.now };
+
+    #[inline(always)]
+    fn protocol(&self) -> IpProtocol {
+        IpProtocol::Udp
+    }
+
+    #[inline(always)]
+    fn len(&self) -> usize {
+        8 + self.octets.len()
+    }
+
+    #[inline(always)]
+    fn octets(&self) -> &[u8] {
+        self.octets
+    }
+
+    #[inline(always)]
+    fn emit_header(
+        &self,
+        header: &IpRepr,
+        capabilities: &DeviceCapabilities,
+        out: &mut FrameBuffer,
+    ) {
+        have_bits(self.header);
+        let (src, dst) = (header.src_addr(), header.dst_addr());
+        let summed = capabilities.checksum.udp.tx();
+        self.header
+            .emit_header(&src, &dst, self.octets, summed, out);
+    }
+
+    #[inline(always)]
+    fn as_ip_payload(&self) -> IpPayload<'_> {
+        IpPayload::Udp(self.header, self.octets)
     }
 }
 
