@@ -1,5 +1,5 @@
 -- The turns of sockets, from their parts.
-use Rattle.std.proofs.Common.{◌≡◌, ℕ, ◌+◌, ◌<◌, Bool, true, false, List, [], ◌∷◌, ◌++◌, length, ◌≤◌, refl, sym, ap, ◌∙◌, subst, zero, suc, ◌⊎◌, inl, inr, get_or, arith, Option, Some, None, Ok, Err}
+use Rattle.std.proofs.Common.{◌≡◌, ℕ, ◌+◌, ◌-◌, ◌<◌, Bool, true, false, List, [], ◌∷◌, ◌++◌, length, ◌≤◌, refl, sym, ap, ◌∙◌, subst, zero, suc, ◌⊎◌, inl, inr, get_or, arith, Option, Some, None, Ok, Err}
 use Rattle.std.specs.Prelude.{not, IfSome, IsSome, IsNone, ℤ, ◌||◌, is_ok, slice_get, slice_set}
 use Rattle.std.specs.Option.{option_map, option_and_then}
 use Rattle.std.proofs.lemmas.List.{set-get_or, set-set}
@@ -14,6 +14,7 @@ use Rattle.socket_base.specs.declared.poll_at.PollAt.TheVariants.{Ingress}
 use Rattle.host_machine.proofs.QuietSockets.{socket_quiet}
 use Rattle.sockets.specs.declared.socket.Offer.{Offer}
 use Rattle.ip_address.specs.declared.ip.IpAddress.{IpAddress}
+use Rattle.socket_set.specs.Busy.{IsIdle}
 use Rattle.socket_set.specs.SocketMeta.{Wait, IsTold, is_permitted, after_asking}
 use Rattle.socket_set.specs.SocketSet.{socket_at, wait_at, with_place, with_wait}
 use Rattle.host_machine.specs.declared.results.Turn.{Turn}
@@ -165,6 +166,10 @@ places_back [] i s is = refl
 places_back (p ∷ ps) zero s is = ap (λ (q : Storage). q ∷ ps) (sym is)
 places_back (p ∷ ps) (suc i) s is = ap (λ (rest : List Storage). p ∷ rest) (places_back ps i s is)
 
+or_false : (b : Bool) → (b || false) ≡ b
+or_false true = refl
+or_false false = refl
+
 waits_back : (ws : List Wait) (i : ℕ) → get_or ws i None ≡ None → slice_set ws i None ≡ ws
 waits_back [] i is = refl
 waits_back (w ∷ ws) zero is = ap (λ (v : Wait). v ∷ ws) (sym is)
@@ -182,14 +187,14 @@ module _ {D : Type 0} {tells : D → List Event → D → Type 0} where
       rw unchanged (record { told = []; notes = []; tells_it = quiet; follows = Waits s known (taken_place (slice_get sockets.places i) s some) (knows slots) not_permitted refl refl refl refl })
 
   -- a place whose socket doesn't wait and has nothing to send has its turn for nothing
-  pub idle_served : {d : D} (c : Context) (slots : Slots) (sockets : SocketSet) (i : ℕ) (busy : Bool) → tells d [] d → i < length sockets.places → busy ≡ false →
-      IfSome (socket_at sockets i) (λ s. busy ≡ false → (kinds.poll_at s ≡ Ingress) × (wait_at sockets i ≡ None)) → Told tells d d (Serves i Idle (host_in c slots sockets)) (host_in c slots sockets)
-  idle_served {d} c slots sockets i busy quiet within idle rests = by (socket_at sockets i) refl rests where
-    by : (o : Option Socket) → socket_at sockets i ≡ o → IfSome o (λ s. busy ≡ false → (kinds.poll_at s ≡ Ingress) × (wait_at sockets i ≡ None)) → Told tells d d (Serves i Idle (host_in c slots sockets)) (host_in c slots sockets)
+  pub idle_served : {d : D} (c : Context) (slots : Slots) (sockets : SocketSet) (i : ℕ) → tells d [] d → i < length sockets.places → IsIdle sockets i →
+      Told tells d d (Serves i Idle (host_in c slots sockets)) (host_in c slots sockets)
+  idle_served {d} c slots sockets i quiet within rests = by (socket_at sockets i) refl rests where
+    by : (o : Option Socket) → socket_at sockets i ≡ o → IfSome o (λ s. (kinds.poll_at s ≡ Ingress) × (wait_at sockets i ≡ None)) → Told tells d d (Serves i Idle (host_in c slots sockets)) (host_in c slots sockets)
     by None none rests = record { told = []; notes = []; tells_it = quiet; follows = Free (free_place (slice_get sockets.places i) none (inside sockets.places i within)) refl refl refl refl }
     by (Some s) some rests =
-        let no_wait = (rests idle).1 in
-        let q = socket_quiet (source_for c.ip_addrs.items) s c.moment c.timely.low (rw (rests idle).0 tt) in
+        let no_wait = rests.1 in
+        let q = socket_quiet (source_for c.ip_addrs.items) s c.moment c.timely.low (rw rests.0 tt) in
         let back : with_wait (with_place sockets i (Some s)) i None ≡ sockets =
         ap (λ (ps : List Storage). with_wait (record sockets { places = ps }) i None) (places_back sockets.places i s some)
         ∙ ap (λ (ws : List Wait). record sockets { waits = ws }) (waits_back sockets.waits i no_wait) in
@@ -236,6 +241,21 @@ module _ {D : Type 0} {tells : D → List Event → D → Type 0} where
     tells_it = tells_on d m e so.told one.told so.tells_it one.tells_it;
     follows = Goes t one.told one.notes new so.follows one.follows going;
   }
+
+  -- over idle places a walk goes on for nothing
+  pub idle_passed : {d m : D} {old : Host} {changed : Bool} → ((a b c : D) (xs ys : List Event) → tells a xs b → tells b ys c → tells a (xs ++ ys) c) → tells m [] m →
+      (c : Context) (slots : Slots) (sockets : SocketSet) (from to : ℕ) → from ≤ to → to ≤ length sockets.places → ((i : ℕ) → from ≤ i → i < to → IsIdle sockets i) →
+      Told tells d m (Walks old from true changed) (host_in c slots sockets) → Told tells d m (Walks old to true changed) (host_in c slots sockets)
+  idle_passed {d} {m} {old} {changed} tells_on quiet c slots sockets from to behind within idle so = walk (to - from) from (omega arith) idle so where
+    at : ℕ → Type 0
+    at n = Told tells d m (Walks old n true changed) (host_in c slots sockets)
+
+    walk : (k n : ℕ) → n + k ≡ to → ((i : ℕ) → n ≤ i → i < to → IsIdle sockets i) → at n → at to
+    walk zero n is idle so = subst at (omega (arith, is)) so
+    walk (suc k) n is idle so =
+        let one = idle_served c slots sockets n quiet (omega (arith, is)) (idle n (omega arith) (omega (arith, is))) in
+        let next : at (n + 1) = subst (λ (b : Bool). Told tells d m (Walks old (n + 1) true b) (host_in c slots sockets)) (or_false changed) (one_served tells_on Idle so one refl) in
+        walk k (n + 1) (omega (arith, is)) (λ i after. idle i (omega (arith, after))) next
 
   pub one_refused : {d m e : D} {old mid new : Host} {n : ℕ} {changed : Bool} → ((a b c : D) (xs ys : List Event) → tells a xs b → tells b ys c → tells a (xs ++ ys) c) →
       (t : Turn) → Told tells d m (Walks old n true changed) mid → Told tells m e (Serves n t mid) new → is_exhausted t ≡ true →

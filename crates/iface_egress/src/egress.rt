@@ -50,8 +50,8 @@ pub fn ipv4_egress<D: Device>(context: &mut Context, device: &mut D, out: &mut F
     send_frame(device, out);
 }
 
-/// Gives each socket that needn't wait its turn in order, until the device refuses leave to send. Answers whether a
-/// packet of some socket counts as gone.
+/// Gives each socket that needn't wait its turn in order, until the device refuses leave to send, and passes over idle
+/// ones. Answers whether a packet of some socket counts as gone.
 pub fn socket_egress<D: Device>(
     context: &mut Context,
     device: &mut D,
@@ -61,18 +61,20 @@ pub fn socket_egress<D: Device>(
     ensures { (slots : Slots) → Told D.tells device.old device.new (spec.SocketsSend (host_in context.old slots sockets.old) result) (host_in context.new slots sockets.new) }
 {
     let mut changed = false;
-    for index in 0..by_index::places(sockets) {
+    let mut index = by_index::next_busy(sockets, 0);
+    while index < by_index::places(sockets) {
         let turn = serve(context, device, out, sockets, index);
         if turn.is_exhausted() {
             return changed;
         }
         changed |= turn.is_gone();
+        index = by_index::next_busy(sockets, index + 1);
     }
     changed
 }
 
 /// Gives the place of an index its turn. A socket whose packet isn't gone waits for its destination
-/// from then on.
+/// from then on; one that is idle rests until it is lent again.
 fn serve<D: Device>(
     context: &mut Context,
     device: &mut D,
@@ -84,7 +86,7 @@ fn serve<D: Device>(
     ensures told { (slots : Slots) → Told D.tells device.old device.new (spec.Serves index result (host_in context.old slots sockets.old)) (host_in context.new slots sockets.new) }
     ensures places { length sockets.new.places ≡ length sockets.old.places }
 {
-    if !by_index::is_busy(sockets, index) {
+    if by_index::rest(sockets, index) {
         return Turn::Idle;
     }
     let now = context.now();

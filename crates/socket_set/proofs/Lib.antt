@@ -1,1 +1,2 @@
+pub mod BusyLemmas
 pub mod SocketSetLemmas

@@ -1,9 +1,13 @@
 -- Places of a set.
-use Rattle.std.proofs.Common.{◌≡◌, ℕ, ◌<◌, ◌≤◌, Bool, false, List, [], ◌∷◌, ◌++◌, length, get_or, slice_get, slice_set, Option, Some, None, refl, sym, ap, ◌∙◌, zero, suc, arith}
-use Rattle.std.specs.Prelude.{nat_lt, is_some, true, IsNone, IfSome}
+use Rattle.std.proofs.Common.{◌≡◌, ℕ, ◌<◌, ◌≤◌, Bool, false, List, [], ◌∷◌, ◌++◌, length, get_or, slice_get, slice_set, Option, Some, None, refl, sym, ap, ◌∙◌, subst, ◌⊎◌, inl, inr, zero, suc, arith}
+use Rattle.std.specs.Prelude.{nat_lt, is_some, true, IsNone, IfSome, ◌≢◌, ◌↔◌}
 use Rattle.std.specs.Option.{option_and_then}
+use Rattle.std.proofs.lemmas.Bool.{cases_eq}
 use Rattle.std.proofs.lemmas.List.{set-get_or, length-map}
+use Rattle.sockets.specs.Kinds.{poll_at}
+use Rattle.socket_base.specs.declared.poll_at.PollAt.TheVariants.{Ingress}
 use Rattle.sockets.specs.declared.socket.SocketOf.{SocketOf}
+use Rattle.socket_set.specs.Busy.{IsClear, IsIdle, AreTrue}
 use Rattle.socket_set.specs.SocketMeta.{Wait}
 use Rattle.socket_set.specs.SocketSet.{Storage, Sockets, added, first_free, has_free, over, socket_at, wait_at, with_place, with_wait}
 
@@ -27,6 +31,13 @@ module _ {S : Type 0} where
   pub some_none : (o : Option S) → is_some o ≡ true → IsNone o → ⊥
   some_none None some none = absurd cc
   some_none (Some s) some none = absurd cc
+
+module _ {L : Type 0} where
+  -- the least free index is within the places, or their number
+  pub first_free_le : (ps : List (Option (SocketOf L))) → first_free ps ≤ length ps
+  first_free_le [] = omega arith
+  first_free_le (None ∷ ps) = omega arith
+  first_free_le (Some s ∷ ps) = omega (arith, first_free_le ps)
 
 module _ {L : Type 0} (grows : Bool) where
   -- a set with one more place in front
@@ -98,3 +109,64 @@ module _ {L : Type 0} (grows : Bool) where
   wait_past [] i w h = refl
   wait_past (q ∷ ps) zero w h = absurd (omega arith)
   wait_past (q ∷ ps) (suc i) w h = ap (behind q) (wait_past ps i w (omega arith))
+
+  -- a place that wasn't written is as idle as before
+  idle_other : (ps : List (Storage L)) (k : ℕ) (p : Storage L) (i : ℕ) → i ≢ k → IsIdle (over ps grows) i → IsIdle (over (slice_set ps k p) grows) i
+  idle_other [] k p i other idle = idle
+  idle_other (q ∷ ps) zero p zero other idle = absurd (other refl)
+  idle_other (q ∷ ps) zero p (suc i) other idle = idle
+  idle_other (q ∷ ps) (suc k) p zero other idle = idle
+  idle_other (q ∷ ps) (suc k) p (suc i) other idle = idle_other ps k p i (λ is. other (ap suc is)) idle
+
+  idle_before : (ps : List (Storage L)) (p : Storage L) (i : ℕ) → i ≢ length ps → IsIdle (over ps grows) i → IsIdle (over (ps ++ p ∷ []) grows) i
+  idle_before [] p zero other idle = absurd (other refl)
+  idle_before [] p (suc i) other idle = idle
+  idle_before (q ∷ ps) p zero other idle = idle
+  idle_before (q ∷ ps) p (suc i) other idle = idle_before ps p i (λ is. other (ap suc is)) idle
+
+  idle_freed : (ps : List (Storage L)) (k : ℕ) (w : Wait) (i : ℕ) → IsIdle (over ps grows) i → IsIdle (over (slice_set ps k (record { socket = None; wait = w })) grows) i
+  idle_freed [] k w i idle = idle
+  idle_freed (q ∷ ps) zero w zero idle = tt
+  idle_freed (q ∷ ps) zero w (suc i) idle = idle
+  idle_freed (q ∷ ps) (suc k) w zero idle = idle
+  idle_freed (q ∷ ps) (suc k) w (suc i) idle = idle_freed ps k w i idle
+
+  -- marks stay true where one more is set
+  pub true_set : (ps : List (Storage L)) (marks new : List ℕ) (k : ℕ) → (IsClear new k → ⊥) → ((i : ℕ) → i ≢ k → IsClear new i ↔ IsClear marks i) → AreTrue marks (over ps grows) → AreTrue new (over ps grows)
+  true_set ps marks new k marked others holds i is = by (cases_eq i k) where
+    by : ((i ≡ k) ⊎ (i ≡ k → ⊥)) → IsIdle (over ps grows) i
+    by (inl same) = absurd (marked (subst (IsClear new) same is))
+    by (inr other) = holds i ((others i other).0 is)
+
+  -- and where that place is written
+  pub true_written : (ps : List (Storage L)) (marks new : List ℕ) (k : ℕ) (p : Storage L) → (IsClear new k → ⊥) → ((i : ℕ) → i ≢ k → IsClear new i ↔ IsClear marks i) → AreTrue marks (over ps grows) →
+      AreTrue new (over (slice_set ps k p) grows)
+  true_written ps marks new k p marked others holds i is = by (cases_eq i k) where
+    by : ((i ≡ k) ⊎ (i ≡ k → ⊥)) → IsIdle (over (slice_set ps k p) grows) i
+    by (inl same) = absurd (marked (subst (IsClear new) same is))
+    by (inr other) = idle_other ps k p i other (holds i ((others i other).0 is))
+
+  -- or comes behind all
+  pub true_pushed : (ps : List (Storage L)) (marks new : List ℕ) (k : ℕ) (p : Storage L) → k ≡ length ps → (IsClear new k → ⊥) → ((i : ℕ) → i ≢ k → IsClear new i ↔ IsClear marks i) → AreTrue marks (over ps grows) →
+      AreTrue new (over (ps ++ p ∷ []) grows)
+  true_pushed ps marks new k p last marked others holds i is = by (cases_eq i k) where
+    by : ((i ≡ k) ⊎ (i ≡ k → ⊥)) → IsIdle (over (ps ++ p ∷ []) grows) i
+    by (inl same) = absurd (marked (subst (IsClear new) same is))
+    by (inr other) = idle_before ps p i (λ e. other (e ∙ sym last)) (holds i ((others i other).0 is))
+
+  -- where a place is freed
+  pub true_freed : (ps : List (Storage L)) (marks : List ℕ) (k : ℕ) (w : Wait) → AreTrue marks (over ps grows) → AreTrue marks (over (slice_set ps k (record { socket = None; wait = w })) grows)
+  true_freed ps marks k w holds i is = idle_freed ps k w i (holds i is)
+
+  -- and where the mark of an idle place is cleared
+  pub true_cleared : (ps : List (Storage L)) (marks new : List ℕ) (k : ℕ) → IsIdle (over ps grows) k → ((i : ℕ) → i ≢ k → IsClear new i ↔ IsClear marks i) → AreTrue marks (over ps grows) → AreTrue new (over ps grows)
+  true_cleared ps marks new k idle others holds i is = by (cases_eq i k) where
+    by : ((i ≡ k) ⊎ (i ≡ k → ⊥)) → IsIdle (over ps grows) i
+    by (inl same) = subst (IsIdle (over ps grows)) (sym same) idle
+    by (inr other) = holds i ((others i other).0 is)
+
+  -- a place whose socket isn't busy is idle
+  pub idle_is : (ps : List (Storage L)) (i : ℕ) (p : Storage L) → i < length ps → p ≡ get_or ps i p → IfSome p.socket (λ s. (poll_at s ≡ Ingress) × (p.wait ≡ None)) → IsIdle (over ps grows) i
+  idle_is [] i p within is idle = absurd (omega arith)
+  idle_is (q ∷ ps) zero p within is idle = subst (λ (x : Storage L). IsIdle (over (x ∷ ps) grows) zero) is idle
+  idle_is (q ∷ ps) (suc i) p within is idle = idle_is ps i p (omega arith) is idle

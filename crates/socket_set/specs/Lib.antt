@@ -1,2 +1,3 @@
+pub mod Busy
 pub mod SocketMeta
 pub mod SocketSet

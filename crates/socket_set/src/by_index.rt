@@ -1,11 +1,12 @@
 //! The sockets of a set by the indices of their places, for the layers that serve all of them in turn.
 ghost use Rattle.std.specs.Borrow.{sem, LendsIf};
-ghost use Rattle.std.specs.Prelude.{◌≡◌, Bool, false, Some, IsSome, IsNone, IfSome, length};
+ghost use Rattle.std.specs.Prelude.{◌≡◌, ◌<◌, ◌≤◌, ℕ, Bool, true, false, Some, IsSome, IsNone, IfSome, length};
 ghost use Rattle.std.specs.Option.{option_copied, option_copied_mut, option_and_then};
 ghost use Rattle.net_base.specs.Time.{IsMoment, silence_from};
 ghost use Rattle.sockets.specs.Kinds.{poll_at as own_poll_at};
 ghost use Rattle.sockets.specs.contracts.socket.SocketOf.{the_row as socket_row};
 ghost use Rattle.socket_base.specs.declared.poll_at.PollAt.TheVariants.{Ingress};
+ghost use Rattle.socket_set.specs.Busy.{IsIdle};
 ghost use Rattle.socket_set.specs.SocketMeta.{poll_at as poll_at_of, IsTold, after_asking, is_permitted};
 ghost use Rattle.socket_set.specs.SocketSet.{socket_at, wait_at, with_place, with_wait};
 ghost use Rattle.socket_set.specs.contracts.socket_set.SocketSetOf.{the_row as set_row};
@@ -70,14 +71,25 @@ pub fn egress_permitted<L: Drop, F: Fn(IpAddress) -> bool>(
     sockets.egress_permitted(index, timestamp, has_neighbor)
 }
 
-/// Whether the socket at an index may have something to send, now or later, or waits: of one of which
-/// that isn't so nothing is due, and nothing comes when it is asked. A free place, and an index out
-/// of range, has no such socket.
+/// The first place from an index on whose socket may have something to send, now or later, or waits;
+/// the number of places, where there is none. The places passed over are idle.
 #[inline(always)]
-pub fn is_busy<L: Drop>(sockets: &SocketSetOf<L>, index: usize) -> bool
-    ensures { IfSome (socket_at sockets.now index) (λ s. result ≡ false → (own_poll_at s ≡ Ingress) × (wait_at sockets.now index ≡ None)) }
+pub fn next_busy<L: Drop>(sockets: &SocketSetOf<L>, from: usize) -> usize
+    ensures within { result ≤ length sockets.now.places }
+    ensures behind { from ≤ length sockets.now.places → from ≤ result }
+    ensures idle { (i : ℕ) → from ≤ i → i < result → IsIdle sockets.now i }
 {
-    sockets.is_busy(index)
+    sockets.next_busy(from)
+}
+
+/// Passes over the place of an index from now on, until its socket is lent again, if it is idle.
+/// Answers whether that is so. In contracts the set stays as it was.
+#[inline(always)]
+pub fn rest<L: Drop>(sockets: &mut SocketSetOf<L>, index: usize) -> bool
+    ensures idle { result ≡ true → IsIdle sockets.old index }
+    ensures unchanged { sockets.new ≡ sockets.old }
+{
+    sockets.rest(index)
 }
 
 /// When the socket at an index wants to be asked for a packet: by its own answer, or at the end of

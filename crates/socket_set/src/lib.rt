@@ -1,6 +1,7 @@
 //! The sockets of an interface: a set with a handle for each, and what each waits for.
 #![tactic(auto)]
 
+pub mod busy;
 pub mod by_index;
 pub mod iter;
 pub mod socket_meta;

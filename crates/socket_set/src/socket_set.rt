@@ -1,12 +1,14 @@
 //! Sets of sockets, each with a handle.
-ghost use Rattle.std.specs.Prelude.{◌≡◌, ◌<◌, Bool, true, false, not, Some, None, IsOk, IsErr, IsSome, IsNone, IfSome, IfOk, IfErr, OnOk, OnErr, length, map};
+ghost use Rattle.std.specs.Prelude.{◌≡◌, ◌<◌, ◌≤◌, ℕ, Bool, true, false, not, Some, None, IsOk, IsErr, IsSome, IsNone, IfSome, IfOk, IfErr, OnOk, OnErr, length, map};
 ghost use Rattle.std.specs.Option.{option_copied, option_copied_mut, option_and_then};
 ghost use Rattle.net_base.specs.Time.{IsMoment, silence_from};
 ghost use Rattle.sockets.specs.Kinds.{poll_at as own_poll_at};
 ghost use Rattle.socket_base.specs.declared.poll_at.PollAt.TheVariants.{Ingress};
+ghost use Rattle.socket_set.specs.Busy.{IsIdle};
 ghost use Rattle.socket_set.specs.SocketMeta.{poll_at as poll_at_of, IsTold, after_asking, is_permitted};
 ghost use Rattle.socket_set.specs.SocketSet.{added, first_free, given_back, handles, has_free, is_full, over, pairs, socket_at, wait_at, with_place, with_wait};
 
+use crate::busy::BusyMarks;
 use crate::iter::{HandlesOf, IterOf};
 use crate::socket_meta::Meta;
 use ip_wire::IpAddress;
@@ -80,7 +82,7 @@ impl<L: Drop> SocketStorageOf<L> {
     // Whether it has a socket that waits or has something to send.
     #[inline(always)]
     fn is_busy(&self) -> bool
-        ensures { IfSome self.now.socket (λ s. result ≡ false → (own_poll_at s ≡ Ingress) × (self.now.wait ≡ None)) }
+        ensures { result ≡ false → IfSome self.now.socket (λ s. (own_poll_at s ≡ Ingress) × (self.now.wait ≡ None)) }
     {
         match self.socket() {
             None => false,
@@ -171,17 +173,22 @@ impl fmt::Display for SocketHandle {
 pub struct SocketSetOf<L> {
     sockets: Vec<SocketStorageOf<L>>,
     grows: bool,
+    busy: BusyMarks,
 }
 
 /// A set of sockets.
 pub type SocketSet<'a> = SocketSetOf<&'a ()>;
 
 impl<L> Model for SocketSetOf<L> {
+    ghost use Rattle.socket_set.specs.Busy.{AreTrue};
     ghost use Rattle.socket_set.specs.SocketSet.{Sockets, over};
 
     ghost Value = { Sockets L };
 
     ghost view = { λ s. over s.sockets.items s.grows };
+
+    // Where a mark is clear, the place is idle.
+    ghost invariant = { λ s. AreTrue s.busy (over s.sockets.items s.grows) };
 }
 
 /// Why a socket found no place. Both give it back. They print as their names.
@@ -223,6 +230,7 @@ impl<L> SocketSetOf<L> {
         SocketSetOf {
             sockets,
             grows: true,
+            busy: BusyMarks::all(),
         }
     }
 
@@ -233,6 +241,7 @@ impl<L> SocketSetOf<L> {
         SocketSetOf {
             sockets,
             grows: false,
+            busy: BusyMarks::all(),
         }
     }
 }
@@ -255,6 +264,7 @@ impl<L: Drop> SocketSetOf<L> {
         ensures unchanged { OnErr result (self.new ≡ self.old) }
     {
         let index = first_free(self.sockets.as_slice());
+        self.busy.set(index);
         if index < self.sockets.len() {
             self.sockets[index] = SocketStorageOf::holding(socket.upcast());
             return Ok(SocketHandle(index));
@@ -314,6 +324,7 @@ impl<L: Drop> SocketSetOf<L> {
         ensures* lends { sem 𝓛 (LendsIf (set_row L.row) (socket_row L.row) self.entry result (λ w. with_place self.old index (Some w)) self.old) }
         ensures value { option_copied_mut result ≡ socket_at self.old index }
     {
+        self.busy.set(index);
         let storage = self.sockets.get_mut(index)?;
         storage.socket_mut()
     }
@@ -356,6 +367,7 @@ impl<L: Drop> SocketSetOf<L> {
             × (result ≡ is_permitted (wait_at self.old index) known timestamp) × (self.new ≡ with_wait self.old index (after_asking (wait_at self.old index) known)) }
         ensures nobody { IsNone (socket_at self.old index) → (result ≡ false) × (self.new ≡ self.old) }
     {
+        self.busy.set(index);
         let Some(storage) = self.sockets.get_mut(index) else {
             return false;
         };
@@ -365,17 +377,32 @@ impl<L: Drop> SocketSetOf<L> {
         storage.meta.egress_permitted(timestamp, has_neighbor)
     }
 
-    /// Whether the socket at an index may have something to send, now or later, or waits: of one of which
-    /// that isn't so nothing is due, and nothing comes when it is asked. A free place, and an index out
-    /// of range, has no such socket.
+    /// The first place from an index on whose socket may have something to send, now or later, or waits;
+    /// the number of places, where there is none. The places before it are idle.
     #[inline(always)]
-    pub(crate) fn is_busy(&self, index: usize) -> bool
-        ensures { IfSome (socket_at self.now index) (λ s. result ≡ false → (own_poll_at s ≡ Ingress) × (wait_at self.now index ≡ None)) }
+    pub(crate) fn next_busy(&self, from: usize) -> usize
+        ensures within { result ≤ length self.now.places }
+        ensures behind { from ≤ length self.now.places → from ≤ result }
+        ensures idle { (i : ℕ) → from ≤ i → i < result → IsIdle self.now i }
+    {
+        self.busy.next(from, self.sockets.len())
+    }
+
+    /// Passes over the place of an index from now on, until its socket is lent again, if it is idle.
+    /// Answers whether that is so.
+    #[inline(always)]
+    pub(crate) fn rest(&mut self, index: usize) -> bool
+        ensures idle { result ≡ true → IsIdle self.old index }
+        ensures unchanged { self.new ≡ self.old }
     {
         let Some(storage) = self.sockets.get(index) else {
-            return false;
+            return true;
         };
-        storage.is_busy()
+        if storage.is_busy() {
+            return false;
+        }
+        self.busy.clear(index);
+        true
     }
 
     /// When the socket at an index wants to be asked for a packet: by its own answer, or at the end of
@@ -403,6 +430,7 @@ impl<L: Drop> SocketSetOf<L> {
         requires { IsMoment timestamp }
         ensures { self.new ≡ with_wait self.old index (Some (neighbor, silence_from timestamp)) }
     {
+        self.busy.set(index);
         let Some(storage) = self.sockets.get_mut(index) else {
             return;
         };

@@ -1,7 +1,9 @@
-use Rattle.std.proofs.Common.{◌≡◌, ◌++◌, ◌∷◌, [], Some, None, ◌∙◌, ap, arith}
+use Rattle.std.proofs.Common.{◌≡◌, ◌≤◌, length, ◌++◌, ◌∷◌, [], Option, Some, None, ◌∙◌, ap, arith}
 use Rattle.std.proofs.lemmas.Grind.{common_steps}
+use Rattle.std.proofs.lemmas.List.{length-map}
+use Rattle.sockets.specs.declared.socket.SocketOf.{SocketOf}
 use Rattle.socket_set.specs.SocketSet.{Storage, over}
-use Rattle.socket_set.proofs.SocketSetLemmas.{added_within, added_behind}
+use Rattle.socket_set.proofs.SocketSetLemmas.{added_within, added_behind, first_free_le, true_pushed, true_written}
 use Rattle.socket_set.proofs.socket_set.SocketSetOf.add.Goals as goal
 
 pub returns-then-index-len-clause-added : goal.returns-then-index-len-clause-added
@@ -16,3 +18,15 @@ returns-clause-added g c =
     rw (← c.self.view_is, ← c.upcast-2.ensures)
     (ap (λ ps. over ps c.self.inside.grows) pushed
     ∙ added_behind c.self.inside.grows c.self.inside.sockets.items c.first_free-index.result c.upcast-2.result (rw c.as_slice.ensures.value at c.first_free-index.ensures) (grind (arith, common_steps)))
+
+pub invariant_of-self : goal.invariant_of-self
+invariant_of-self g c = true_written c.self.inside.grows c.self.inside.sockets.items c.self.inside.busy c.set.new.self c.first_free-index.result c.holding.result c.set.ensures.marked c.set.ensures.others c.self.invariant
+
+pub invariant_of-self-2 : goal.invariant_of-self-2
+invariant_of-self-2 g c =
+    let ps = c.self.inside.sockets.items in
+    let p : Storage g.row.L.Denot = record { socket = Some c.upcast-2.result; wait = None } in
+    let pushed : c.push_reserved.new.self.items ≡ ps ++ p ∷ [] = grind (arith, common_steps) in
+    let least : c.first_free-index.result ≤ length ps = omega (arith, first_free_le (over ps c.self.inside.grows).places, length-map {A = Storage g.row.L.Denot} {B = Option (SocketOf g.row.L.Denot)}, rw c.as_slice.ensures.value at c.first_free-index.ensures) in
+    let last : c.first_free-index.result ≡ length ps = omega arith in
+    rw pushed (true_pushed c.self.inside.grows ps c.self.inside.busy c.set.new.self c.first_free-index.result p last c.set.ensures.marked c.set.ensures.others c.self.invariant)

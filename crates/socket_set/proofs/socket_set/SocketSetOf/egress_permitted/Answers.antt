@@ -1,6 +1,6 @@
 use Rattle.std.proofs.Common.{◌∙◌, ap, refl}
 use Rattle.socket_set.specs.SocketSet.{Storage, over, with_wait}
-use Rattle.socket_set.proofs.SocketSetLemmas.{wait_set, wait_is, socket_is, some_none}
+use Rattle.socket_set.proofs.SocketSetLemmas.{wait_set, wait_is, socket_is, some_none, true_written}
 use Rattle.socket_set.proofs.socket_set.SocketSetOf.egress_permitted.Goals as goal
 
 pub returns-clause-socket : goal.returns-clause-socket
@@ -20,3 +20,8 @@ returns-clause-nobody g c = λ none.
     let p : Storage g.row.L.Denot = record { socket = c.storage.inside.inner; wait = c.storage.inside.meta } in
     let is = rw (← c.storage.view_is) at c.in-Some.ensures.value in
     absurd (some_none c.storage.inside.inner (c.is_none.ensures ∙ rw c.if-is_none.false refl) (rw (← c.self.view_is, socket_is c.self.inside.grows ps c.args.index p c.in-Some.ensures.item.3.0 is) at none))
+
+pub invariant_of-self-2 : goal.invariant_of-self-2
+invariant_of-self-2 g c =
+    let p : Storage g.row.L.Denot = record { socket = c.storage.inside.inner; wait = c.egress_permitted.new.self } in
+    true_written c.self.inside.grows c.self.inside.sockets.items c.self.inside.busy c.set.new.self c.args.index p c.set.ensures.marked c.set.ensures.others c.self.invariant

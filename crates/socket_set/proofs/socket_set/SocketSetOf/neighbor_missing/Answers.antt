@@ -1,5 +1,5 @@
 use Rattle.socket_set.specs.SocketSet.{Storage}
-use Rattle.socket_set.proofs.SocketSetLemmas.{wait_set}
+use Rattle.socket_set.proofs.SocketSetLemmas.{wait_set, true_written}
 use Rattle.socket_set.proofs.socket_set.SocketSetOf.neighbor_missing.Goals as goal
 
 pub returns : goal.returns
@@ -7,3 +7,8 @@ returns g c =
     let p : Storage g.row.L.Denot = record { socket = c.storage.inside.inner; wait = c.storage.inside.meta } in
     rw (← c.self.view_is, ← c.neighbor_missing.ensures)
     (wait_set c.self.inside.grows c.self.inside.sockets.items c.args.index p c.neighbor_missing.new.self (rw (← c.storage.view_is) at c.in-Some.ensures.value))
+
+pub invariant_of-self-2 : goal.invariant_of-self-2
+invariant_of-self-2 g c =
+    let p : Storage g.row.L.Denot = record { socket = c.storage.inside.inner; wait = c.neighbor_missing.new.self } in
+    true_written c.self.inside.grows c.self.inside.sockets.items c.self.inside.busy c.set.new.self c.args.index p c.set.ensures.marked c.set.ensures.others c.self.invariant

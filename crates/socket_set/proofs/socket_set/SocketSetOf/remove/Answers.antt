@@ -1,6 +1,6 @@
 use Rattle.std.proofs.Common.{None}
 use Rattle.socket_set.specs.SocketSet.{Storage}
-use Rattle.socket_set.proofs.SocketSetLemmas.{place_set, put_again, none_is}
+use Rattle.socket_set.proofs.SocketSetLemmas.{place_set, put_again, none_is, socket_is, true_freed}
 use Rattle.socket_set.proofs.socket_set.SocketSetOf.remove.Goals as goal
 
 pub returns-clause-freed : goal.returns-clause-freed
@@ -14,3 +14,11 @@ returns-clause-unchanged g c = λ none.
     let p : Storage g.row.L.Denot = record { socket = c.storage.inside.inner; wait = c.storage.inside.meta } in
     rw (← c.self.view_is, c.take.ensures.after, ← none_is c.take.result none, c.take.ensures.value)
     (put_again c.self.inside.grows c.self.inside.sockets.items c.handle.inside.0 p (rw (← c.storage.view_is) at c.in_ok-storage.ensures.value))
+
+pub invariant_of-self-2 : goal.invariant_of-self-2
+invariant_of-self-2 g c = rw c.take.ensures.after (true_freed c.self.inside.grows c.self.inside.sockets.items c.self.inside.busy c.handle.inside.0 c.storage.inside.meta c.self.invariant)
+
+pub returns-clause-value : goal.returns-clause-value
+returns-clause-value g c =
+    let p : Storage g.row.L.Denot = record { socket = c.storage.inside.inner; wait = c.storage.inside.meta } in
+    rw (← c.self.view_is, ← c.handle.view_is, socket_is c.self.inside.grows c.self.inside.sockets.items c.handle.inside.0 p c.in_ok-storage.ensures.item.3.0 (rw (← c.storage.view_is) at c.in_ok-storage.ensures.value)) c.take.ensures.value
