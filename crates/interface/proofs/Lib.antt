@@ -1,5 +1,6 @@
 mod Made
 pub mod Setting
 mod Egressed
+mod Passed
 mod Received
 mod Repeated

@@ -23,12 +23,14 @@ use sockets::{PollAt, SocketContext};
 /// The least instant at which something is due, if anything is: at once a piece that waits, a group of which
 /// it is to be told, and addresses and routes that are to be brought into line; a router solicitation and a
 /// report at its time, and the end of what routers advertised; and a socket at its own instant or at the end of its wait.
+/// Idle sockets, which have no instant, are passed over.
 pub fn poll_at(context: &Context, sockets: &SocketSet<'_>) -> Option<Instant>
     ensures { (slots : Slots) → IsLeast (Due (host_in context.now slots sockets.now)) result }
 {
     let now = context.now();
     let mut least = None;
-    for index in 0..by_index::places(sockets) {
+    let mut index = by_index::next_busy(sockets, 0);
+    while index < by_index::places(sockets) {
         let own = by_index::poll_at(
             sockets,
             index,
@@ -38,6 +40,7 @@ pub fn poll_at(context: &Context, sockets: &SocketSet<'_>) -> Option<Instant>
             { has_neighbor(context, &address) },
         );
         least = sooner(least, instant_of(own));
+        index = by_index::next_busy(sockets, index + 1);
     }
     let of_routers = routers_poll_at(context, groups_poll_at(context, least));
     sooner(piece_poll_at(context), of_routers)

@@ -1,3 +1,4 @@
+use Rattle.std.proofs.Common.{◌≤◌, ◌-◌, length}
 use Rattle.fragmentation.specs.Slots.{Slots}
 use Rattle.host_machine.specs.Due.{IsLeast}
 use Rattle.host_machine.proofs.Least.{DueBelow}
@@ -5,4 +6,9 @@ use Rattle.iface_send.specs.Stands.{host_in}
 use Rattle.interface.proofs.polling.poll_at.Given as goal
 
 abbrev pub invariant-loop-index : goal.invariant-loop-index
-invariant-loop-index l = (slots : Slots) → IsLeast (DueBelow (host_in l.context slots l.sockets) l.index) l.least
+invariant-loop-index l =
+    ((slots : Slots) → IsLeast (DueBelow (host_in l.context slots l.sockets) l.index) l.least)
+    × (l.index ≤ length l.sockets.places)
+
+abbrev pub decreases-loop-index : goal.decreases-loop-index
+decreases-loop-index l = length l.sockets.places - l.index
