@@ -1,9 +1,9 @@
 -- Router solicitations that are due, from their parts.
-use Rattle.std.proofs.Common.{◌≡◌, Bool, true, false, List, [], refl, ap, ◌∙◌, Option, Some, None}
+use Rattle.std.proofs.Common.{◌≡◌, Bool, true, false, List, [], refl, ap, ◌∙◌, Some, None}
 use Rattle.net_base.specs.Device.{Event}
 use Rattle.fragmentation.specs.Slots.{Slots}
 use Rattle.slaac.specs.Slaac.{rs_sent}
-use Rattle.host_machine.specs.Host.{Host, SocketSet, no_sockets, with_slots}
+use Rattle.host_machine.specs.Host.{SocketSet, no_sockets, with_slots}
 use Rattle.host_machine.specs.Packet as value
 use Rattle.host_machine.specs.Slaac as slaac
 use Rattle.host_machine.specs.Slaac.{SolicitsRouters, due_solicitation, with_slaac}

@@ -8,11 +8,10 @@ use Rattle.net_base.specs.Device.{Event, Asked}
 use Rattle.fragmentation.specs.Slots.{Slots}
 use Rattle.fragmentation.specs.Cuts.{Piece}
 use Rattle.fragmentation.specs.Pending.{is_nil}
-use Rattle.sockets.specs.Kinds.{offered, told}
+use Rattle.sockets.specs.Kinds.{Offered, told}
 use Rattle.sockets.specs.Kinds as kinds
 use Rattle.socket_base.specs.declared.poll_at.PollAt.TheVariants.{Ingress}
 use Rattle.host_machine.proofs.QuietSockets.{socket_quiet}
-use Rattle.sockets.specs.declared.socket.Offer.{Offer}
 use Rattle.ip_address.specs.declared.ip.IpAddress.{IpAddress}
 use Rattle.socket_set.specs.Busy.{IsIdle}
 use Rattle.socket_set.specs.SocketMeta.{Wait, IsTold, is_permitted, after_asking}
@@ -31,15 +30,17 @@ use Rattle.iface_send.specs.Built.{Built}
 use Rattle.iface_send.specs.Pieces.{NextPieceGoes}
 use Rattle.iface_send.specs.Stands.{host_in, host_of}
 use Rattle.iface_egress.specs.Told.{Told}
-use Rattle.iface_egress.specs.Turns.{HasTurn, PieceHasTurn, OfferTurn, OfferHasTurn, NoPacket, NotGiven, Given, IsDecided, NoSocket, OfSocket}
+use Rattle.iface_egress.specs.Turns.{HasTurn, PieceHasTurn, OfferTurn, OfferHasTurn, NoPacket, NotGiven, Given, IsDecided, NoSocket, OfSocket, outcome_of}
 
--- a socket that offers nothing has no packet
-pub none_offered : (H : Host) (s : Socket) (r : Option Offer) → option_map kinds.shown r ≡ offered H.moment (source_for H.ip_addrs) s → r ≡ None → packet_from H s ≡ None
-none_offered H s r offers is = rw (← offers, is) refl
+-- of an offer of some kind
+module _ {A B : Type 0} (kind : B → Offered) (shown : A → B) {offers : Option B} (r : Option A) (is : option_map shown r ≡ offers) where
+  -- without one there is no packet
+  pub none_offered : r ≡ None → option_and_then packet_of (option_map kind offers) ≡ None
+  none_offered none = rw (← is, none) refl
 
--- a socket's packet is that of its offer
-pub packet_is : (H : Host) (s : Socket) (r : Option Offer) (o : Offer) → option_map kinds.shown r ≡ offered H.moment (source_for H.ip_addrs) s → r ≡ Some o → packet_from H s ≡ packet_of (kinds.shown o)
-packet_is H s r o offers is = rw (← offers, is) refl
+  -- else its packet
+  pub packet_is : (o : A) → r ≡ Some o → option_and_then packet_of (option_map kind offers) ≡ packet_of (kind (shown o))
+  packet_is o some = rw (← is, some) refl
 
 gone_turn : (p : value.Packet) (o : Outcome) → is_ok o ≡ true → Gone ≡ turn_of p o
 gone_turn p (Ok done) is = refl
@@ -104,14 +105,32 @@ module _ {D : Type 0} {tells : D → List Event → D → Type 0} where
   -- of the socket that offered it
   module _ {d e : D} (c c' : Context) {s s' asked_so : Socket} {packet : Option value.Packet} {t : Turn} (is : packet_from (host_of c no_sockets) s ≡ packet) (settles : asked_so ≡ asked (host_of c no_sockets) s)
       (offer : Told tells d e (OfferHasTurn packet t c) c') where
-    pub turned_gone : t ≡ Gone → s' ≡ told true asked_so → Told tells d e (HasTurn s t s' c) c'
+    turned_gone : t ≡ Gone → s' ≡ told true asked_so → Told tells d e (HasTurn s t s' c) c'
     turned_gone gone tells_it = record { told = offer.told; notes = offer.notes; tells_it = offer.tells_it; follows = λ slots sockets. was_gone is gone (rw (← settles) tells_it) (offer.follows slots sockets) }
 
-    pub turned_kept : (a : IpAddress) → t ≡ Unsent a → s' ≡ told false asked_so → Told tells d e (HasTurn s t s' c) c'
+    turned_kept : (a : IpAddress) → t ≡ Unsent a → s' ≡ told false asked_so → Told tells d e (HasTurn s t s' c) c'
     turned_kept a kept tells_it = record { told = offer.told; notes = offer.notes; tells_it = offer.tells_it; follows = λ slots sockets. was_kept is a kept (rw (← settles) tells_it) (offer.follows slots sockets) }
 
-    pub turned_idle : (t ≡ Idle) ⊎ (t ≡ Exhausted) → s' ≡ asked_so → Told tells d e (HasTurn s t s' c) c'
+    turned_idle : (t ≡ Idle) ⊎ (t ≡ Exhausted) → s' ≡ asked_so → Told tells d e (HasTurn s t s' c) c'
     turned_idle rests same = record { told = offer.told; notes = offer.notes; tells_it = offer.tells_it; follows = λ slots sockets. was_idle is rests (same ∙ settles) (offer.follows slots sockets) }
+
+    -- which was told of its packet
+    pub turned_told : (gone : Bool) → outcome_of t ≡ Some gone → s' ≡ told gone asked_so → Told tells d e (HasTurn s t s' c) c'
+    turned_told gone so tells_it = by t refl so where
+      by : (u : Turn) → t ≡ u → outcome_of u ≡ Some gone → Told tells d e (HasTurn s t s' c) c'
+      by Gone is_it so = turned_gone is_it cc
+      by (Unsent a) is_it so = turned_kept a is_it cc
+      by Idle is_it so = absurd cc
+      by Exhausted is_it so = absurd cc
+
+    -- or wasn't
+    pub turned_untold : outcome_of t ≡ None → s' ≡ asked_so → Told tells d e (HasTurn s t s' c) c'
+    turned_untold so same = by t refl so where
+      by : (u : Turn) → t ≡ u → outcome_of u ≡ None → Told tells d e (HasTurn s t s' c) c'
+      by Gone is_it so = absurd cc
+      by (Unsent a) is_it so = absurd cc
+      by Idle is_it so = turned_idle (inl is_it) same
+      by Exhausted is_it so = turned_idle (inr is_it) same
 
 none_some : {A : Type 0} {x : A} → None ≡ Some x → ⊥
 none_some is = absurd cc

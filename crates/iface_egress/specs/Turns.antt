@@ -2,7 +2,7 @@
 use Rattle.std.specs.Prelude.{◌≡◌, ℕ, Bool, true, false, List, [], ◌∷◌, Option, Some, None}
 use Rattle.net_base.specs.Device.{Event, Asked}
 use Rattle.host_machine.specs.declared.results.Turn.{Turn}
-use Rattle.host_machine.specs.declared.results.Turn.TheVariants.{Idle, Exhausted}
+use Rattle.host_machine.specs.declared.results.Turn.TheVariants.{Idle, Gone, Unsent, Exhausted}
 use Rattle.host_machine.specs.Note.{Note}
 use Rattle.fragmentation.specs.Slots.{Slots}
 use Rattle.socket_set.specs.SocketMeta.{IsTold, is_permitted, after_asking}
@@ -31,6 +31,13 @@ pub data OfferTurn (packet : Option Packet) (turn : Turn) (H : Host) (told_it : 
 abbrev pub OfferHasTurn : Option Packet → Turn → Context → List Event → List Note → Context → Type 0
 OfferHasTurn packet turn old told_it notes new =
     (slots : Slots) (sockets : SocketSet) → OfferTurn packet turn (host_in old slots sockets) told_it notes (host_in new slots sockets)
+
+-- what its socket is told: whether it is gone, if there was one and leave was given
+abbrev pub outcome_of : Turn → Option Bool
+outcome_of Gone = Some true
+outcome_of (Unsent destination) = Some false
+outcome_of Idle = None
+outcome_of Exhausted = None
 
 -- the turn of the pieces that are left, whatever the slots and the sockets are
 abbrev pub PieceHasTurn : Context → List Event → List Note → Context → Type 0

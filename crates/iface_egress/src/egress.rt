@@ -17,7 +17,7 @@ ghost use Rattle.host_machine.specs.Packet.{IsWritable, IsWritablePayload};
 ghost use Rattle.iface_send.specs.Shown as shown;
 ghost use Rattle.iface_send.specs.Stands.{host_in};
 ghost use Rattle.iface_egress.specs.Told.{Told};
-ghost use Rattle.iface_egress.specs.Turns.{HasTurn, IsDecided, OfferHasTurn, PieceHasTurn};
+ghost use Rattle.iface_egress.specs.Turns.{HasTurn, IsDecided, OfferHasTurn, PieceHasTurn, outcome_of};
 
 use crate::transmit::send_frame;
 use control_wire::{IcmpRepr, Icmpv4Repr};
@@ -32,7 +32,7 @@ use ip_wire::{IpAddress, UdpRepr};
 use net_base::phy::Device;
 use net_base::time::Instant;
 use socket_set::{SocketSet, by_index};
-use sockets::{Offer, Socket, SocketContext, icmp, raw, tcp, udp};
+use sockets::{Socket, SocketContext, icmp, raw, tcp, udp};
 
 /// Sends the next of the pieces that are left of a packet that was cut, if one is left and the device
 /// gives leave. The others stay left.
@@ -127,8 +127,7 @@ fn keep_wait(sockets: &mut SocketSet<'_>, index: usize, now: Instant, turn: Turn
     }
 }
 
-/// Gives a socket its turn: what it offers is dispatched, if the device gives leave, and the socket
-/// told whether it is gone.
+/// Gives a socket its turn, by its kind.
 fn give_turn<D: Device>(
     socket: &mut Socket<'_>,
     context: &mut Context,
@@ -137,32 +136,100 @@ fn give_turn<D: Device>(
 ) -> Turn
     ensures { Told D.tells device.old device.new (HasTurn socket.old result socket.new context.old) context.new }
 {
-    let Some(offer) = socket.offer(context) else {
+    match socket {
+        Socket::Raw(raw) => give_raw_turn(raw, context, device, out),
+        Socket::Icmp(icmp) => give_icmp_turn(icmp, context, device, out),
+        Socket::Udp(udp) => give_udp_turn(udp, context, device, out),
+        Socket::Tcp(tcp) => give_tcp_turn(tcp, context, device, out),
+    }
+}
+
+/// Gives a raw socket its turn: what it offers is dispatched, if the device gives leave, and the socket
+/// told whether it is gone.
+fn give_raw_turn<D: Device>(
+    socket: &mut raw::Socket<'_>,
+    context: &mut Context,
+    device: &mut D,
+    out: &mut FrameBuffer,
+) -> Turn
+    ensures { Told D.tells device.old device.new (HasTurn (kinds.up_raw socket.old) result (kinds.up_raw socket.new) context.old) context.new }
+{
+    let Some(packet) = socket.offer() else {
         return Turn::Idle;
     };
-    let turn = send_offer(context, device, out, &offer);
-    match turn {
-        Turn::Gone => socket.told(true),
-        Turn::Unsent(_) => socket.told(false),
-        Turn::Idle | Turn::Exhausted => {}
+    let turn = send(context, device, out, &raw_packet(&packet));
+    if let Some(gone) = is_gone(turn) {
+        socket.told(gone);
     }
     turn
 }
 
-/// Sends what a socket offers, if it makes a packet and the device gives leave. A datagram's frame is built for its kind.
-fn send_offer<D: Device>(
+/// The same of an ICMP socket.
+fn give_icmp_turn<D: Device>(
+    socket: &mut icmp::Socket<'_>,
     context: &mut Context,
     device: &mut D,
     out: &mut FrameBuffer,
-    offer: &Offer<'_>,
 ) -> Turn
-    ensures { Told D.tells device.old device.new (OfferHasTurn (spec.packet_of (kinds.shown offer.now)) result context.old) context.new }
+    ensures { Told D.tells device.old device.new (HasTurn (kinds.up_icmp socket.old) result (kinds.up_icmp socket.new) context.old) context.new }
 {
-    match offer {
-        Offer::Raw(packet) => send(context, device, out, &raw_packet(packet)),
-        Offer::Icmp(packet) => send_if(context, device, out, icmp_packet(packet)),
-        Offer::Udp(packet) => send_datagram(context, device, out, packet),
-        Offer::Tcp(packet) => send_if(context, device, out, tcp_packet(packet)),
+    let Some(message) = socket.offer(context) else {
+        return Turn::Idle;
+    };
+    let turn = send_if(context, device, out, icmp_packet(&message));
+    if let Some(gone) = is_gone(turn) {
+        socket.told(gone);
+    }
+    turn
+}
+
+/// The same of a UDP socket.
+fn give_udp_turn<D: Device>(
+    socket: &mut udp::Socket<'_>,
+    context: &mut Context,
+    device: &mut D,
+    out: &mut FrameBuffer,
+) -> Turn
+    ensures { Told D.tells device.old device.new (HasTurn (kinds.up_udp socket.old) result (kinds.up_udp socket.new) context.old) context.new }
+{
+    let Some(datagram) = socket.offer(context) else {
+        return Turn::Idle;
+    };
+    let turn = send_datagram(context, device, out, &datagram);
+    if let Some(gone) = is_gone(turn) {
+        socket.told(gone);
+    }
+    turn
+}
+
+/// The same of a TCP socket.
+fn give_tcp_turn<D: Device>(
+    socket: &mut tcp::Socket<'_>,
+    context: &mut Context,
+    device: &mut D,
+    out: &mut FrameBuffer,
+) -> Turn
+    ensures { Told D.tells device.old device.new (HasTurn (kinds.up_tcp socket.old) result (kinds.up_tcp socket.new) context.old) context.new }
+{
+    let Some(segment) = socket.offer(context) else {
+        return Turn::Idle;
+    };
+    let turn = send_if(context, device, out, tcp_packet(&segment));
+    if let Some(gone) = is_gone(turn) {
+        socket.told(gone);
+    }
+    turn
+}
+
+/// Whether the packet of a turn is gone, if there was one and the device gave leave.
+#[inline(always)]
+fn is_gone(turn: Turn) -> Option<bool>
+    ensures { result ≡ outcome_of turn }
+{
+    match turn {
+        Turn::Gone => Some(true),
+        Turn::Unsent(_) => Some(false),
+        Turn::Idle | Turn::Exhausted => None,
     }
 }
 

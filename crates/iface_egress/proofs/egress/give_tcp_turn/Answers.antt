@@ -1,0 +1,19 @@
+use Rattle.std.proofs.Common.{◌∙◌, refl, sym, ap}
+use Rattle.transport_sockets.specs.Tcp as tcp
+use Rattle.sockets.specs.Kinds.{TcpOffer, up_tcp}
+use Rattle.iface_egress.proofs.Turned.{none_offered, packet_is, silent, turned_told, turned_untold}
+use Rattle.iface_egress.proofs.egress.give_tcp_turn.Goals as goal
+
+pub returns-in_default : goal.returns-in_default
+returns-in_default g c =
+    silent c.args.context.now (g.met.D.Device.tells_nothing c.args.device.now) (none_offered TcpOffer tcp.shown c.offer.result c.offer.ensures.value c.in_default.is) (ap up_tcp c.offer.follows.holds-at-none)
+
+pub returns-in-Some-is_gone : goal.returns-in-Some-is_gone
+returns-in-Some-is_gone g c =
+    turned_told c.args.context.now c.send_if-turn.new.context (packet_is TcpOffer tcp.shown c.offer.result c.offer.ensures.value c.in-Some.segment c.in-Some.is ∙ sym c.tcp_packet.ensures.value) (ap up_tcp c.offer.follows.holds-at-none)
+    c.send_if-turn.ensures c.in-Some-is_gone.gone (sym c.is_gone.ensures ∙ c.in-Some-is_gone.is) (ap up_tcp c.told.ensures)
+
+pub returns-in_default-is_gone : goal.returns-in_default-is_gone
+returns-in_default-is_gone g c =
+    turned_untold c.args.context.now c.send_if-turn.new.context (packet_is TcpOffer tcp.shown c.offer.result c.offer.ensures.value c.in-Some.segment c.in-Some.is ∙ sym c.tcp_packet.ensures.value) (ap up_tcp c.offer.follows.holds-at-none)
+    c.send_if-turn.ensures (sym c.is_gone.ensures ∙ c.in_default-is_gone.is) refl
