@@ -262,3 +262,30 @@ fn errors_print_their_names(rt: HostRuntime) -> Result<(), Fail> {
     assert_eq!(rt; text.as_str(), "Full, NoMemory");
     Ok(())
 }
+
+// Lets each place rest that can, and gives the first that may be busy from then on.
+fn first_busy(set: &mut SocketSet<'_>) -> usize {
+    for index in 0..by_index::places(set) {
+        by_index::rest(set, index);
+    }
+    by_index::next_busy(set, 0)
+}
+
+#[test]
+fn one_of_many_is_busy(rt: HostRuntime) -> Result<(), Fail> {
+    let mut set: SocketSet<'_> = SocketSet::new(Vec::new(rt.alloc()));
+    for port in 1..131 {
+        add(&mut set, udp_socket(rt.alloc(), port)?)?;
+    }
+    assert_eq!(rt; first_busy(&mut set), 130);
+    for index in [0, 63, 64, 66, 129] {
+        by_index::neighbor_missing(&mut set, index, Instant::from_secs(1), FIRST);
+        assert_eq!(rt; first_busy(&mut set), index);
+        assert_eq!(rt; by_index::next_busy(&set, index + 1), 130);
+        assert!(rt; by_index::egress_permitted(&mut set, index, Instant::ZERO, |a| a == FIRST));
+        assert_eq!(rt; first_busy(&mut set), 130);
+        assert!(rt; by_index::socket_mut(&mut set, index).is_some());
+        assert_eq!(rt; by_index::next_busy(&set, 0), index);
+    }
+    Ok(())
+}
