@@ -6,7 +6,8 @@
 //! one behind the other in one line are `fragments` that bring a datagram to the socket, or a request that is
 //! answered in three pieces (`pieces`); what is sent may be `cut` into three, and each of them taken by
 //! another host, whose socket gets the datagram (`link`). The second says how many times; a third, if there
-//! is one, how many sockets the host has, and with any fourth it speaks IPv6. The first line of standard input is a frame in hex that is taken
+//! is one, how many sockets the host has, and with any fourth it speaks IPv6. The host is polled once before all,
+//! as any program polls. The first line of standard input is a frame in hex that is taken
 //! once before, and the second the frame that is taken or the payload that is sent over and over.
 //! `docs/PERFORMANCE.md` says how to count instructions with it.
 #![tactic(auto)]
@@ -122,6 +123,7 @@ fn main(rt: HostRuntime) -> Result<()> {
         _ => Medium::Ethernet,
     };
     let mut host = Host::new(alloc, sockets, medium, version)?;
+    host.poll();
     let mut peer = Host::peer(alloc)?;
     let mut digits = String::new(alloc);
     rt.read_line(&mut digits)?;
