@@ -24,7 +24,7 @@ fn packets_need_no_neighbors(rt: HostRuntime) {
     );
 }
 
-// ARP, with its Ethernet header and without, and IPv6 without a payload.
+// ARP, with its Ethernet header and without, and IPv6, in which the host has no address.
 #[test]
 fn other_packets_are_dropped(rt: HostRuntime) {
     bare(
