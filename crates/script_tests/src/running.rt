@@ -1059,16 +1059,20 @@ fn counts_lines(rt: HostRuntime) {
 }
 
 #[test]
-fn tells_why_there_is_no_host(rt: HostRuntime) {
-    for (error, text) in [
+fn tells_why_it_ended(rt: HostRuntime) {
+    for (stop, text) in [
         (
-            NewError::MediumMismatch,
+            Stop::NoHost(NewError::MediumMismatch),
             b"no host: MediumMismatch\n".as_slice(),
         ),
-        (NewError::MtuTooLarge, b"no host: MtuTooLarge\n"),
+        (
+            Stop::NoHost(NewError::MtuTooLarge),
+            b"no host: MtuTooLarge\n",
+        ),
+        (Stop::NoMemory, b"out of memory\n"),
     ] {
         let mut errors = Page::new(512, false);
-        assert!(rt; tell(Err(Stop::NoHost(error)), &mut errors).is_ok());
+        assert!(rt; tell(Err(stop), &mut errors).is_ok());
         assert_eq!(rt; errors.text.as_slice(), text);
         assert_eq!(rt; errors.flushes, 1);
     }
