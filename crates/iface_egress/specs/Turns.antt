@@ -23,9 +23,10 @@ HasTurn s turn s' old told notes new =
 -- what becomes of a packet that is offered, if there is one: without leave nothing; else it is dispatched, and gone or not
 pub data OfferTurn (packet : Option Packet) (turn : Turn) (H : Host) (told_it : List Event) (notes : List Note) (new : Host) : Type 0 where
   NoPacket : packet ≡ None → turn ≡ Idle → told_it ≡ [] → notes ≡ [] → new ≡ H → OfferTurn packet turn H told_it notes new
-  NotGiven : (p : Packet) → packet ≡ Some p → turn ≡ Exhausted → told_it ≡ Asked H.moment false ∷ [] → notes ≡ [] → new ≡ H → OfferTurn packet turn H told_it notes new
-  Given : (p : Packet) (outcome : Outcome) (frames : List (List ℕ)) → packet ≡ Some p → Dispatches p outcome H frames notes new → turn ≡ turn_of p outcome →
-      told_it ≡ Asked H.moment true ∷ sends frames → OfferTurn packet turn H told_it notes new
+  NotGiven : (p : Packet) → packet ≡ Some p → turn ≡ Exhausted → told_it ≡ Asked H.moment false ∷ [] → notes ≡ [] → new ≡ H →
+      OfferTurn packet turn H told_it notes new
+  Given : (p : Packet) (outcome : Outcome) (frames : List (List ℕ)) → packet ≡ Some p → Dispatches p outcome H frames notes new →
+      turn ≡ turn_of p outcome → told_it ≡ Asked H.moment true ∷ sends frames → OfferTurn packet turn H told_it notes new
 
 -- and so whatever the slots and the sockets are
 abbrev pub OfferHasTurn : Option Packet → Turn → Context → List Event → List Note → Context → Type 0
