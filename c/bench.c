@@ -76,6 +76,7 @@ int main(int argc, char **argv) {
     must("address", iface_add_address(&host, &own, 24));
     must("socket", iface_udp_open(&host, &local, 4, 8192, &socket));
     must("receive", iface_receive(&host, 0, frame, length, out, sizeof out, &n));
+    must("next", iface_next(&host, 0, out, sizeof out, &n)); /* as any program asks, once before all */
     char work = argv[1][0]; /* arp, echo, deliver, send, poll_at */
     if (work == 'e') length = echo_request();
     if (work == 'd') length = datagram();
