@@ -158,7 +158,7 @@ fn give_raw_turn<D: Device>(
         return Turn::Idle;
     };
     let turn = send(context, device, out, &raw_packet(&packet));
-    if let Some(gone) = is_gone(turn) {
+    if let Some(gone) = outcome(turn) {
         socket.told(gone);
     }
     turn
@@ -177,7 +177,7 @@ fn give_icmp_turn<D: Device>(
         return Turn::Idle;
     };
     let turn = send_if(context, device, out, icmp_packet(&message));
-    if let Some(gone) = is_gone(turn) {
+    if let Some(gone) = outcome(turn) {
         socket.told(gone);
     }
     turn
@@ -196,7 +196,7 @@ fn give_udp_turn<D: Device>(
         return Turn::Idle;
     };
     let turn = send_datagram(context, device, out, &datagram);
-    if let Some(gone) = is_gone(turn) {
+    if let Some(gone) = outcome(turn) {
         socket.told(gone);
     }
     turn
@@ -215,7 +215,7 @@ fn give_tcp_turn<D: Device>(
         return Turn::Idle;
     };
     let turn = send_if(context, device, out, tcp_packet(&segment));
-    if let Some(gone) = is_gone(turn) {
+    if let Some(gone) = outcome(turn) {
         socket.told(gone);
     }
     turn
@@ -223,7 +223,7 @@ fn give_tcp_turn<D: Device>(
 
 /// Whether the packet of a turn is gone, if there was one and the device gave leave.
 #[inline(always)]
-fn is_gone(turn: Turn) -> Option<bool>
+fn outcome(turn: Turn) -> Option<bool>
     ensures { result ≡ outcome_of turn }
 {
     match turn {
