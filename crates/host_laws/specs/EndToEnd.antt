@@ -35,12 +35,14 @@ pub record MayRebuild (a b : Host) (ps : List Place) : Type 0 where
   pub free : AllByRecursion (λ d. map.get b.slots (key_of_cut d) ≡ None) (cuts_in ps)
 
 -- a datagram that came in one packet was sent; one that came in fragments was, where what is rebuilt is what was cut
-abbrev pub WasSentSo : Type 0 → List Place → Delivery → {H : Host} {frame : List ℕ} {noted : List SlotNote} {r : _} {octets : List ℕ} → BringsUdp H frame noted r octets → Type 0
+abbrev pub WasSentSo : Type 0 → List Place → Delivery →
+    {H : Host} {frame : List ℕ} {noted : List SlotNote} {r : _} {octets : List ℕ} → BringsUdp H frame noted r octets → Type 0
 WasSentSo Trusted ps d (AtOnce brings) = WasSent ps d
 WasSentSo Trusted ps d (InFragments packet earlier carried ipv4 source part next last is) = Trusted → WasSent ps d
 
 -- each of those that are got, by how it came
-abbrev pub WereSentSo : Type 0 → List Place → {H : Host} {frames : List (List ℕ)} {noted : List SlotNote} {ds : List Delivery} → Deliver H frames noted ds → Type 0
+abbrev pub WereSentSo : Type 0 → List Place →
+    {H : Host} {frames : List (List ℕ)} {noted : List SlotNote} {ds : List Delivery} → Deliver H frames noted ds → Type 0
 WereSentSo Trusted ps NoFrame = Unit {0}
 WereSentSo Trusted ps (OneGets frame own d gets rest) = WasSentSo Trusted ps d gets.brought × WereSentSo Trusted ps rest
 WereSentSo Trusted ps (NobodyGets frame own rest) = WereSentSo Trusted ps rest
@@ -48,7 +50,8 @@ WereSentSo Trusted ps (NobodyGets frame own rest) = WereSentSo Trusted ps rest
 -- whatever moves at the places of one run, what its sockets get was sent in another
 abbrev pub GetWhatWasSent : Host → Host → List Place → List Place → Type 0
 GetWhatWasSent a b ps qs =
-    AllByRecursion (λ q. (deliveries : List Delivery) (departures : List Departure) (moves : MovesAt q deliveries departures) → WereSentSo (MayRebuild a b ps) ps moves.came) qs
+    AllByRecursion (λ q. (deliveries : List Delivery) (departures : List Departure) (moves : MovesAt q deliveries departures) →
+    WereSentSo (MayRebuild a b ps) ps moves.came) qs
 
 -- Where one host takes nothing but frames that another on its medium sent, each datagram that a UDP socket of the one gets was sent by a UDP socket
 -- of the other. No raw socket of the other writes UDP.

@@ -108,8 +108,8 @@ pub data Emits (id : ℕ) (p : Packet) (h : HardwareAddress) (outcome : Outcome)
   Whole : total_len p ≤ ip_mtu_of H.capabilities → (formed : IsFormed p) → outcome ≡ Ok tt → frames ≡ ip_frame H h p ∷ [] → notes ≡ [] → new ≡ H →
       Emits id p h outcome H frames notes new
   InPieces : (q : PacketV4) (first : Piece) (rest : List Piece) → p ≡ packet.Ipv4 q → ip_mtu_of H.capabilities < total_len p →
-      may_be_cut p ≡ true → pieces_of (datagram_of H h id q) ≡ first ∷ rest → (fits : HasForm (datagram_of H h id q)) → (formed : IsFormed p) → outcome ≡ Ok tt →
-      frames ≡ piece_frame H first ∷ [] → notes ≡ OfCuts (Cut (datagram_of H h id q)) ∷ OfCuts (PieceSent first) ∷ [] →
+      may_be_cut p ≡ true → pieces_of (datagram_of H h id q) ≡ first ∷ rest → (fits : HasForm (datagram_of H h id q)) → (formed : IsFormed p) →
+      outcome ≡ Ok tt → frames ≡ piece_frame H first ∷ [] → notes ≡ OfCuts (Cut (datagram_of H h id q)) ∷ OfCuts (PieceSent first) ∷ [] →
       new ≡ with_left H rest → Emits id p h outcome H frames notes new
   TooLong : ip_mtu_of H.capabilities < total_len p → may_be_cut p ≡ false → outcome ≡ Ok tt → IsUnsent H frames notes new →
       Emits id p h outcome H frames notes new

@@ -62,8 +62,8 @@ pub data SendsOneThing (p : Packet) (outcome : Outcome) (H : Host) (frames : Lis
   ItsFirstPiece : (h : HardwareAddress) (q : PacketV4) (first : Piece) (rest : List Piece) → IsOf H.capabilities.medium h → p ≡ packet.Ipv4 q →
       pieces_of (datagram_of H h H.ipv4_id q) ≡ first ∷ rest → outcome ≡ Ok tt → frames ≡ piece_frame H first ∷ [] → asks notes ≡ [] →
       cut_notes notes ≡ Cut (datagram_of H h H.ipv4_id q) ∷ PieceSent first ∷ [] → SendsOneThing p outcome H frames notes
-  ARequest : (frame : List ℕ) → is_request H.capabilities.medium frame ≡ true → H.neighbors.silent_until ≤ℤ H.moment → outcome ≡ Err NeighborPending → frames ≡ frame ∷ [] →
-      asks notes ≡ H.moment ∷ [] → cut_notes notes ≡ [] → SendsOneThing p outcome H frames notes
+  ARequest : (frame : List ℕ) → is_request H.capabilities.medium frame ≡ true → H.neighbors.silent_until ≤ℤ H.moment → outcome ≡ Err NeighborPending →
+      frames ≡ frame ∷ [] → asks notes ≡ H.moment ∷ [] → cut_notes notes ≡ [] → SendsOneThing p outcome H frames notes
 
 -- and so each dispatch does, of whatever packet
 abbrev pub DispatchesSendOneThing : Type 0
