@@ -231,8 +231,6 @@ impl<P: Payload> AnyPacket for PacketV4<P> {
 
     #[inline(always)]
     fn emit(&self, capabilities: &DeviceCapabilities, out: &mut FrameBuffer) {
-        has_bits_v4(self.src_addr);
-        has_bits_v4(self.dst_addr);
         let header = self.header();
         header.emit(&Ipv4Fragment::WHOLE, capabilities.checksum.ipv4.tx(), out);
         self.payload
@@ -271,8 +269,6 @@ impl<P: Payload> AnyPacket for PacketV6<P> {
 
     #[inline(always)]
     fn emit(&self, capabilities: &DeviceCapabilities, out: &mut FrameBuffer) {
-        has_bits_v6(self.src_addr);
-        has_bits_v6(self.dst_addr);
         let header = self.header();
         header.emit(out);
         self.payload
@@ -331,18 +327,6 @@ impl AnyPacket for Packet<'_> {
         *self
     }
 }
-
-/// States that an address has 32 bits.
-#[inline(always)]
-fn has_bits_v4(address: Ipv4Address)
-    ensures { address.bits < 2 ^ 32 }
-{}
-
-/// States that an address has 128 bits.
-#[inline(always)]
-fn has_bits_v6(address: Ipv6Address)
-    ensures { address.bits < 2 ^ 128 }
-{}
 
 /// How many octets an ICMP error quotes of a payload of `len`: so many that the error is at most `mtu`
 /// octets long, with a header of `header_len`, the 8 octets of the message and the quoted header, which
