@@ -1,5 +1,5 @@
 -- The router that a lookup found is that of the best route.
-use Rattle.std.proofs.Common.{◌≡◌, List, refl, sym}
+use Rattle.std.proofs.Common.{◌≡◌, List, sym}
 use Rattle.std.specs.Prelude.{ℤ, Option}
 use Rattle.ip_address.specs.declared.ip.IpAddress.{IpAddress}
 use Rattle.iface_tables.specs.declared.route.Route.{Route}
