@@ -131,14 +131,7 @@ module _ {L : Type 0} (grows : Bool) where
   idle_freed (q ∷ ps) (suc k) w zero idle = idle
   idle_freed (q ∷ ps) (suc k) w (suc i) idle = idle_freed ps k w i idle
 
-  -- marks stay true where one more is set
-  pub true_set : (ps : List (Storage L)) (marks new : List ℕ) (k : ℕ) → (IsClear new k → ⊥) → ((i : ℕ) → i ≢ k → IsClear new i ↔ IsClear marks i) → AreTrue marks (over ps grows) → AreTrue new (over ps grows)
-  true_set ps marks new k marked others holds i is = by (cases_eq i k) where
-    by : ((i ≡ k) ⊎ (i ≡ k → ⊥)) → IsIdle (over ps grows) i
-    by (inl same) = absurd (marked (subst (IsClear new) same is))
-    by (inr other) = holds i ((others i other).0 is)
-
-  -- and where that place is written
+  -- marks stay true where one more is set, and that place is written
   pub true_written : (ps : List (Storage L)) (marks new : List ℕ) (k : ℕ) (p : Storage L) → (IsClear new k → ⊥) → ((i : ℕ) → i ≢ k → IsClear new i ↔ IsClear marks i) → AreTrue marks (over ps grows) →
       AreTrue new (over (slice_set ps k p) grows)
   true_written ps marks new k p marked others holds i is = by (cases_eq i k) where
