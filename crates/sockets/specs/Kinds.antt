@@ -1,5 +1,5 @@
 -- The kinds of sockets as one.
-use Rattle.std.specs.Prelude.{ℤ, Bool, Option, Some, None}
+use Rattle.std.specs.Prelude.{ℕ, ℤ, Bool, Option, Some, None}
 use Rattle.std.specs.Option.{option_map}
 use Rattle.ip_address.specs.declared.ip.IpAddress.{IpAddress}
 use Rattle.network_sockets.specs.Raw as raw
@@ -64,6 +64,13 @@ module _ {L : Type 0} where
   down_tcp (Icmp s) = None
   down_tcp (Udp s) = None
   down_tcp (Tcp s) = Some s
+
+  -- the port of its own end; raw and ICMP sockets have none
+  abbrev pub own_port : SocketOf L → Option ℕ
+  own_port (Raw s) = None
+  own_port (Icmp s) = None
+  own_port (Udp s) = Some s.endpoint.port
+  own_port (Tcp s) = Some s.local.port
 
   -- when it has to be polled again
   abbrev pub poll_at : SocketOf L → PollAt

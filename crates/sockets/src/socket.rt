@@ -1,5 +1,5 @@
 //! The kinds of sockets as one type.
-ghost use Rattle.std.specs.Prelude.{◌≡◌, Option, IfSome};
+ghost use Rattle.std.specs.Prelude.{◌≡◌, Option, IfSome, is_some};
 ghost use Rattle.std.specs.Option.{option_copied, option_copied_mut};
 ghost use Rattle.std.specs.Borrow.{sem, LendsIf};
 
@@ -33,6 +33,18 @@ impl<L: Drop> SocketOf<L> {
     ghost use Rattle.std.specs.Option.{option_map};
     ghost use Rattle.sockets.specs.Kinds as spec;
     ghost use Rattle.sockets.specs.KindsLending.{Settles};
+
+    /// The port of its own end, 0 where it is bound to none; raw and ICMP sockets have no such port.
+    #[inline(always)]
+    pub fn own_port(&self) -> Option<u16>
+        ensures { result ≡ spec.own_port self.now }
+    {
+        match self {
+            SocketOf::Raw(_) | SocketOf::Icmp(_) => None,
+            SocketOf::Udp(udp) => Some(udp.endpoint().port),
+            SocketOf::Tcp(tcp) => Some(tcp.local().port),
+        }
+    }
 
     /// When the socket has to be polled again.
     #[inline(always)]
@@ -90,6 +102,7 @@ impl<L: Drop> SocketOf<L> {
 pub trait AnySocketOf<L>: Sized + Drop {
     ghost use Rattle.sockets.specs.declared.socket.SocketOf.{SocketOf};
     ghost use Rattle.sockets.specs.contracts.socket.SocketOf.{the_row as socket_row};
+    ghost use Rattle.sockets.specs.Kinds.{own_port};
 
     ghost up: { Self → SocketOf L };
 
@@ -103,11 +116,12 @@ pub trait AnySocketOf<L>: Sized + Drop {
     fn downcast(socket: &SocketOf<L>) -> Option<&Self>
         ensures { option_copied result ≡ down socket.now };
 
-    /// The same, for writing.
+    /// The same, for writing. Whatever stands there then, the kind still has ports, or still has none.
     fn downcast_mut(socket: &mut SocketOf<L>) -> Option<&mut Self>
         ensures* lends { sem 𝓛 (LendsIf (socket_row L.row) Self.row socket.entry result up socket.old) }
         ensures value { option_copied_mut result ≡ down socket.old }
-        ensures whole { IfSome (option_copied_mut result) (λ s. socket.old ≡ up s) };
+        ensures whole { IfSome (option_copied_mut result) (λ s. socket.old ≡ up s) }
+        ensures ports { IfSome (option_copied_mut result) (λ s. (other : Self) → is_some (own_port (up other)) ≡ is_some (own_port socket.old)) };
 }
 
 /// A kind of socket.
