@@ -1,2 +1,3 @@
 pub mod BusyLemmas
+pub mod KeyLemmas
 pub mod SocketSetLemmas

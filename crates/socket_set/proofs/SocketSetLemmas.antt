@@ -1,14 +1,16 @@
 -- Places of a set.
-use Rattle.std.proofs.Common.{◌≡◌, ℕ, ◌<◌, ◌≤◌, Bool, false, List, [], ◌∷◌, ◌++◌, length, get_or, slice_get, slice_set, Option, Some, None, refl, sym, ap, ◌∙◌, subst, ◌⊎◌, inl, inr, zero, suc, arith}
-use Rattle.std.specs.Prelude.{nat_lt, is_some, true, IsNone, IfSome, ◌≢◌, ◌↔◌}
+use Rattle.std.proofs.Common.{◌≡◌, ℕ, ◌+◌, ◌<◌, ◌≤◌, Bool, false, List, [], ◌∷◌, ◌++◌, length, get_or, slice_get, slice_set, Option, Some, None, refl, sym, ap, ◌∙◌, subst, ◌⊎◌, inl, inr, zero, suc, arith}
+use Rattle.std.specs.Prelude.{nat_lt, is_some, true, IsNone, IfSome, ◌≢◌, ◌↔◌, ◌||◌}
 use Rattle.std.specs.Option.{option_and_then}
-use Rattle.std.proofs.lemmas.Bool.{cases_eq}
-use Rattle.std.proofs.lemmas.List.{set-get_or, length-map}
-use Rattle.sockets.specs.Kinds.{poll_at}
+use Rattle.std.proofs.lemmas.Bool.{cases_eq, cases_lt}
+use Rattle.std.proofs.lemmas.List.{get_or-set_other, set-get_or, length-map}
+use Rattle.sockets.specs.Kinds.{own_port, poll_at}
 use Rattle.socket_base.specs.declared.poll_at.PollAt.TheVariants.{Ingress}
 use Rattle.sockets.specs.declared.socket.SocketOf.{SocketOf}
 use Rattle.socket_set.specs.Busy.{IsClear, IsIdle, AreTrue}
-use Rattle.socket_set.specs.SocketMeta.{Wait}
+use Rattle.socket_set.specs.Keys.{AllHavePorts, AreKeysOf, key_at}
+use Rattle.socket_set.proofs.KeyLemmas.{Tells, known_there, unknown_there}
+use Rattle.socket_set.specs.SocketMeta.{Wait, after_asking}
 use Rattle.socket_set.specs.SocketSet.{Storage, Sockets, added, first_free, has_free, over, socket_at, wait_at, with_place, with_wait}
 
 module _ {S : Type 0} where
@@ -22,6 +24,21 @@ module _ {S : Type 0} where
 pub stands_for : {T S : Type 0} {s : S} {place : Option S} (up : T → S) (o : Option T) → Some s ≡ place → IfSome o (λ t. s ≡ up t) → IfSome o (λ t. place ≡ Some (up t))
 stands_for up None is whole = tt
 stands_for up (Some t) is whole = sym is ∙ ap Some whole
+
+-- and is of a kind that has ports, if that has
+pub ported_for : {L T : Type 0} {s : SocketOf L} {place : Option (SocketOf L)} (up : T → SocketOf L) (o : Option T) → Some s ≡ place → IfSome o (λ t. (other : T) → is_some (own_port (up other)) ≡ is_some (own_port s)) →
+    IfSome o (λ t. (other : T) → IfSome place (λ old. is_some (own_port (up other)) ≡ is_some (own_port old)))
+ported_for up None is ports = tt
+ported_for up (Some t) is ports = rw (← is) ports
+
+pub neither_true : (a b : Bool) → a || b ≡ false → (a ≡ false) × (b ≡ false)
+neither_true true b none = absurd cc
+neither_true false b none = (refl, none)
+
+-- a port that is there
+pub has_port : (o own : Option ℕ) → is_some o ≡ true → o ≡ own → own ≢ None
+has_port o None is same = absurd cc
+has_port o (Some port) is same = λ none. absurd cc
 
 module _ {S : Type 0} where
   pub none_is : (o : Option S) → IsNone o → o ≡ None
@@ -147,6 +164,23 @@ module _ {L : Type 0} (grows : Bool) where
     by (inl same) = absurd (marked (subst (IsClear new) same is))
     by (inr other) = idle_before ps p i (λ e. other (e ∙ sym last)) (holds i ((others i other).0 is))
 
+  -- who doesn't wait doesn't wait after it was asked
+  unasked : (o : Option (SocketOf L)) (w : Wait) (known : Bool) → IfSome o (λ s. (poll_at s ≡ Ingress) × (w ≡ None)) → IfSome o (λ s. (poll_at s ≡ Ingress) × (after_asking w known ≡ None))
+  unasked None w known idle = tt
+  unasked (Some s) None known idle = idle
+  unasked (Some s) (Some wait) known idle = let never = idle.1 in absurd cc
+
+  idle_asked : (ps : List (Storage L)) (k : ℕ) (p : Storage L) (known : Bool) (i : ℕ) → p ≡ get_or ps k p → IsIdle (over ps grows) i → IsIdle (over (slice_set ps k (record { socket = p.socket; wait = after_asking p.wait known })) grows) i
+  idle_asked [] k p known i is idle = idle
+  idle_asked (q ∷ ps) zero p known zero is idle = unasked p.socket p.wait known (subst (λ (x : Storage L). IfSome x.socket (λ s. (poll_at s ≡ Ingress) × (x.wait ≡ None))) (sym is) idle)
+  idle_asked (q ∷ ps) zero p known (suc i) is idle = idle
+  idle_asked (q ∷ ps) (suc k) p known zero is idle = idle
+  idle_asked (q ∷ ps) (suc k) p known (suc i) is idle = idle_asked ps k p known i is idle
+
+  pub true_asked : (ps : List (Storage L)) (marks : List ℕ) (k : ℕ) (p : Storage L) (known : Bool) → p ≡ get_or ps k p → AreTrue marks (over ps grows) →
+      AreTrue marks (over (slice_set ps k (record { socket = p.socket; wait = after_asking p.wait known })) grows)
+  true_asked ps marks k p known is holds i clear = idle_asked ps k p known i is (holds i clear)
+
   -- where a place is freed
   pub true_freed : (ps : List (Storage L)) (marks : List ℕ) (k : ℕ) (w : Wait) → AreTrue marks (over ps grows) → AreTrue marks (over (slice_set ps k (record { socket = None; wait = w })) grows)
   true_freed ps marks k w holds i is = idle_freed ps k w i (holds i is)
@@ -163,3 +197,122 @@ module _ {L : Type 0} (grows : Bool) where
   idle_is [] i p within is idle = absurd (omega arith)
   idle_is (q ∷ ps) zero p within is idle = subst (λ (x : Storage L). IsIdle (over (x ∷ ps) grows) zero) is idle
   idle_is (q ∷ ps) (suc i) p within is idle = idle_is ps i p (omega arith) is idle
+
+  -- a key tells of a place that wasn't written what it told
+  tells_other : (ps : List (Storage L)) (k : ℕ) (p : Storage L) (key i : ℕ) → i ≢ k → Tells key (socket_at (over ps grows) i) → Tells key (socket_at (over (slice_set ps k p) grows) i)
+  tells_other [] k p key i other tells = tells
+  tells_other (q ∷ ps) zero p key zero other tells = absurd (other refl)
+  tells_other (q ∷ ps) zero p key (suc i) other tells = tells
+  tells_other (q ∷ ps) (suc k) p key zero other tells = tells
+  tells_other (q ∷ ps) (suc k) p key (suc i) other tells = tells_other ps k p key i (λ is. other (ap suc is)) tells
+
+  tells_before : (ps : List (Storage L)) (p : Storage L) (key i : ℕ) → i ≢ length ps → Tells key (socket_at (over ps grows) i) → Tells key (socket_at (over (ps ++ p ∷ []) grows) i)
+  tells_before [] p key zero other tells = absurd (other refl)
+  tells_before [] p key (suc i) other tells = tells
+  tells_before (q ∷ ps) p key zero other tells = tells
+  tells_before (q ∷ ps) p key (suc i) other tells = tells_before ps p key i (λ is. other (ap suc is)) tells
+
+  tells_freed : (ps : List (Storage L)) (k : ℕ) (w : Wait) (key i : ℕ) → Tells key (socket_at (over ps grows) i) → Tells key (socket_at (over (slice_set ps k (record { socket = None; wait = w })) grows) i)
+  tells_freed [] k w key i tells = tells
+  tells_freed (q ∷ ps) zero w key zero tells = tt
+  tells_freed (q ∷ ps) zero w key (suc i) tells = tells
+  tells_freed (q ∷ ps) (suc k) w key zero tells = tells
+  tells_freed (q ∷ ps) (suc k) w key (suc i) tells = tells_freed ps k w key i tells
+
+  -- keys are true where nothing is known of any place
+  pub keyed_at_first : (ps : List (Storage L)) (keys : List ℕ) → ((i : ℕ) → i < length ps → key_at keys i ≡ 0) → AreKeysOf keys (over ps grows)
+  keyed_at_first ps keys unknown i known = by (cases_lt i (length ps)) where
+    by : ((i < length ps) ⊎ (length ps ≤ i)) → Tells (key_at keys i) (socket_at (over ps grows) i)
+    by (inl within) = absurd (known (unknown i within))
+    by (inr past) = subst (Tells (key_at keys i)) (sym (nobody_past ps i past)) tt
+
+  -- they stay true where a place is written of which nothing is known any more
+  pub keyed_written : (ps : List (Storage L)) (keys : List ℕ) (k : ℕ) (p : Storage L) → AreKeysOf keys (over ps grows) → AreKeysOf (slice_set keys k 0) (over (slice_set ps k p) grows)
+  keyed_written ps keys k p holds i known = by (cases_eq i k) where
+    by : ((i ≡ k) ⊎ (i ≡ k → ⊥)) → Tells (key_at (slice_set keys k 0) i) (socket_at (over (slice_set ps k p) grows) i)
+    by (inl same) = absurd (known (ap (key_at (slice_set keys k 0)) same ∙ unknown_there keys k))
+    by (inr other) =
+        let stays : key_at (slice_set keys k 0) i ≡ key_at keys i = get_or-set_other keys k i 0 0 other in
+        rw stays (tells_other ps k p (key_at keys i) i other (holds i (rw stays at known)))
+
+  -- or such a place comes behind all
+  pub keyed_pushed : (ps : List (Storage L)) (keys : List ℕ) (k : ℕ) (p : Storage L) → k ≡ length ps → AreKeysOf keys (over ps grows) → AreKeysOf (slice_set keys k 0) (over (ps ++ p ∷ []) grows)
+  keyed_pushed ps keys k p last holds i known = by (cases_eq i k) where
+    by : ((i ≡ k) ⊎ (i ≡ k → ⊥)) → Tells (key_at (slice_set keys k 0) i) (socket_at (over (ps ++ p ∷ []) grows) i)
+    by (inl same) = absurd (known (ap (key_at (slice_set keys k 0)) same ∙ unknown_there keys k))
+    by (inr other) =
+        let stays : key_at (slice_set keys k 0) i ≡ key_at keys i = get_or-set_other keys k i 0 0 other in
+        rw stays (tells_before ps p (key_at keys i) i (λ e. other (e ∙ sym last)) (holds i (rw stays at known)))
+
+  -- where a place is freed
+  pub keyed_freed : (ps : List (Storage L)) (keys : List ℕ) (k : ℕ) (w : Wait) → AreKeysOf keys (over ps grows) → AreKeysOf keys (over (slice_set ps k (record { socket = None; wait = w })) grows)
+  keyed_freed ps keys k w holds i known = tells_freed ps k w (key_at keys i) i (holds i known)
+
+  -- where its socket waits, or waits no more
+  pub keyed_waiting : (ps : List (Storage L)) (keys : List ℕ) (i : ℕ) (p : Storage L) (w : Wait) → p ≡ get_or ps i p → AreKeysOf keys (over ps grows) → AreKeysOf keys (over (slice_set ps i (record { socket = p.socket; wait = w })) grows)
+  keyed_waiting ps keys i p w is holds = subst (AreKeysOf keys) (sym (wait_set ps i p w is)) holds
+
+  -- and where the key of a place's socket is put down
+  pub keyed_learnt : (ps : List (Storage L)) (keys : List ℕ) (k : ℕ) (p : Storage L) (key : ℕ) → k < length ps → p ≡ get_or ps k p → Tells key p.socket → AreKeysOf keys (over ps grows) →
+      AreKeysOf (slice_set keys k key) (over ps grows)
+  keyed_learnt ps keys k p key within is tells holds i known = by (cases_eq i k) where
+    by : ((i ≡ k) ⊎ (i ≡ k → ⊥)) → Tells (key_at (slice_set keys k key) i) (socket_at (over ps grows) i)
+    by (inl same) =
+        let here : key_at (slice_set keys k key) k ≢ 0 = rw same at known in
+        let learnt : key_at (slice_set keys k key) k ≡ key = known_there keys k key here in
+        rw (same, learnt) (subst (Tells key) (sym (socket_is ps k p within is)) tells)
+    by (inr other) =
+        let stays : key_at (slice_set keys k key) i ≡ key_at keys i = get_or-set_other keys k i key 0 other in
+        rw stays (holds i (rw stays at known))
+
+  -- a socket of a kind that has ports, or none
+  abbrev pub HasPort : Option (SocketOf L) → Type 0
+  HasPort place = IfSome place (λ socket. own_port socket ≢ None)
+
+  -- such a one is put at a place
+  pub ported_written : (ps : List (Storage L)) (k : ℕ) (p : Storage L) → HasPort p.socket → AllHavePorts (over ps grows) → AllHavePorts (over (slice_set ps k p) grows)
+  ported_written [] k p this holds i = holds i
+  ported_written (q ∷ ps) zero p this holds zero = this
+  ported_written (q ∷ ps) zero p this holds (suc i) = holds (suc i)
+  ported_written (q ∷ ps) (suc k) p this holds zero = holds 0
+  ported_written (q ∷ ps) (suc k) p this holds (suc i) = ported_written ps k p this (λ j. holds (suc j)) i
+
+  -- or behind all
+  pub ported_pushed : (ps : List (Storage L)) (p : Storage L) → HasPort p.socket → AllHavePorts (over ps grows) → AllHavePorts (over (ps ++ p ∷ []) grows)
+  ported_pushed [] p this holds zero = this
+  ported_pushed [] p this holds (suc i) = tt
+  ported_pushed (q ∷ ps) p this holds zero = holds 0
+  ported_pushed (q ∷ ps) p this holds (suc i) = ported_pushed ps p this (λ j. holds (suc j)) i
+
+  -- or waits, or waits no more
+  pub ported_waiting : (ps : List (Storage L)) (i : ℕ) (p : Storage L) (w : Wait) → p ≡ get_or ps i p → AllHavePorts (over ps grows) → AllHavePorts (over (slice_set ps i (record { socket = p.socket; wait = w })) grows)
+  ported_waiting ps i p w is holds = subst AllHavePorts (sym (wait_set ps i p w is)) holds
+
+  -- what stands at a place is one
+  pub ported_here : (ps : List (Storage L)) (i : ℕ) (p : Storage L) → i < length ps → p ≡ get_or ps i p → AllHavePorts (over ps grows) → HasPort p.socket
+  ported_here ps i p within is holds = subst HasPort (socket_is ps i p within is) (holds i)
+
+  -- one place more, and all of them
+  pub one_ported : (ps : List (Storage L)) (n : ℕ) (p : Storage L) → n < length ps → p ≡ get_or ps n p → ((i : ℕ) → i < n → HasPort (socket_at (over ps grows) i)) → HasPort p.socket →
+      (i : ℕ) → i < n + 1 → HasPort (socket_at (over ps grows) i)
+  one_ported ps n p there is before this i within = by (cases_lt i n) where
+    by : ((i < n) ⊎ (n ≤ i)) → HasPort (socket_at (over ps grows) i)
+    by (inl earlier) = before i earlier
+    by (inr last) =
+        let same : i ≡ n = omega (arith, within, last) in
+        subst (λ (k : ℕ). HasPort (socket_at (over ps grows) k)) (sym same) (subst HasPort (sym (socket_is ps n p there is)) this)
+
+  pub all_ported : (ps : List (Storage L)) (n : ℕ) → length ps ≤ n → ((i : ℕ) → i < n → HasPort (socket_at (over ps grows) i)) → AllHavePorts (over ps grows)
+  all_ported ps n all before i = by (cases_lt i n) where
+    by : ((i < n) ⊎ (n ≤ i)) → HasPort (socket_at (over ps grows) i)
+    by (inl within) = before i within
+    by (inr past) = subst HasPort (sym (nobody_past ps i (omega (arith, all, past)))) tt
+
+-- a kind that has ports still has them
+pub kept_port : {L : Type 0} (place : Option (SocketOf L)) (new old : SocketOf L) → place ≡ Some old → IfSome place (λ s. is_some (own_port new) ≡ is_some (own_port s)) → HasPort true place → own_port new ≢ None
+kept_port None new old is same this = absurd cc
+kept_port (Some s) new old is same this = by (own_port new) (own_port s) same this where
+  by : (n o : Option ℕ) → is_some n ≡ is_some o → o ≢ None → n ≢ None
+  by None None same this = this
+  by None (Some port) same this = absurd cc
+  by (Some port) o same this = λ none. absurd cc

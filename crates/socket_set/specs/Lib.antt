@@ -1,3 +1,4 @@
 pub mod Busy
+pub mod Keys
 pub mod SocketMeta
 pub mod SocketSet

@@ -1,12 +1,13 @@
 //! The sockets of a set by the indices of their places, for the layers that serve all of them in turn.
 ghost use Rattle.std.specs.Borrow.{sem, LendsIf};
-ghost use Rattle.std.specs.Prelude.{◌≡◌, ◌<◌, ◌≤◌, ℕ, Bool, true, false, Some, IsSome, IsNone, IfSome, length};
+ghost use Rattle.std.specs.Prelude.{◌≡◌, ◌≢◌, ◌<◌, ◌≤◌, ℕ, Bool, true, false, Some, IsSome, IsNone, IfSome, length};
 ghost use Rattle.std.specs.Option.{option_copied, option_copied_mut, option_and_then};
 ghost use Rattle.net_base.specs.Time.{IsMoment, silence_from};
-ghost use Rattle.sockets.specs.Kinds.{poll_at as own_poll_at};
+ghost use Rattle.sockets.specs.Kinds.{own_port, poll_at as own_poll_at};
 ghost use Rattle.sockets.specs.contracts.socket.SocketOf.{the_row as socket_row};
 ghost use Rattle.socket_base.specs.declared.poll_at.PollAt.TheVariants.{Ingress};
 ghost use Rattle.socket_set.specs.Busy.{IsIdle};
+ghost use Rattle.socket_set.specs.Keys.{AllHavePorts};
 ghost use Rattle.socket_set.specs.SocketMeta.{poll_at as poll_at_of, IsTold, after_asking, is_permitted};
 ghost use Rattle.socket_set.specs.SocketSet.{socket_at, wait_at, with_place, with_wait};
 ghost use Rattle.socket_set.specs.contracts.socket_set.SocketSetOf.{the_row as set_row};
@@ -82,8 +83,28 @@ pub fn next_busy<L: Drop>(sockets: &SocketSetOf<L>, from: usize) -> usize
     sockets.next_busy(from)
 }
 
-/// Passes over the place of an index from now on, until its socket is lent again, if it is idle.
-/// Answers whether that is so. In contracts the set stays as it was.
+/// Whether a raw or ICMP socket may be there, which have no ports. Where it says no, there is none.
+#[inline(always)]
+pub fn may_have_portless<L: Drop>(sockets: &SocketSetOf<L>) -> bool
+    ensures { result ≡ false → AllHavePorts sockets.now }
+{
+    sockets.may_have_portless()
+}
+
+/// The first place from an index on whose socket may have this port for its own, as UDP and TCP sockets have
+/// one, or no port for `None`, as raw and ICMP sockets have none; the number of places, where there is none.
+/// The places passed over have other sockets, or none.
+#[inline(always)]
+pub fn next_at<L: Drop>(sockets: &SocketSetOf<L>, from: usize, port: Option<u16>) -> usize
+    ensures within { result ≤ length sockets.now.places }
+    ensures behind { from ≤ length sockets.now.places → from ≤ result }
+    ensures passed { (i : ℕ) → from ≤ i → i < result → IfSome (socket_at sockets.now i) (λ s. own_port s ≢ port) }
+{
+    sockets.next_at(from, port)
+}
+
+/// Passes over the place of an index from now on, until its socket is lent again, if it is idle, and finds
+/// it by its own port. Answers whether it is idle. In contracts the set stays as it was.
 #[inline(always)]
 pub fn rest<L: Drop>(sockets: &mut SocketSetOf<L>, index: usize) -> bool
     ensures idle { result ≡ true → IsIdle sockets.old index }

@@ -4,6 +4,7 @@
 pub mod busy;
 pub mod by_index;
 pub mod iter;
+pub mod keys;
 pub mod socket_meta;
 pub mod socket_set;
 

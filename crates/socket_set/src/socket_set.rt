@@ -1,15 +1,17 @@
 //! Sets of sockets, each with a handle.
-ghost use Rattle.std.specs.Prelude.{◌≡◌, ◌<◌, ◌≤◌, ℕ, Bool, true, false, not, Some, None, IsOk, IsErr, IsSome, IsNone, IfSome, IfOk, IfErr, OnOk, OnErr, length, map};
+ghost use Rattle.std.specs.Prelude.{◌≡◌, ◌≢◌, ◌<◌, ◌≤◌, ℕ, Bool, true, false, not, Some, None, IsOk, IsErr, IsSome, IsNone, IfSome, IfOk, IfErr, OnOk, OnErr, is_some, length, map};
 ghost use Rattle.std.specs.Option.{option_copied, option_copied_mut, option_and_then};
 ghost use Rattle.net_base.specs.Time.{IsMoment, silence_from};
-ghost use Rattle.sockets.specs.Kinds.{poll_at as own_poll_at};
+ghost use Rattle.sockets.specs.Kinds.{own_port, poll_at as own_poll_at};
 ghost use Rattle.socket_base.specs.declared.poll_at.PollAt.TheVariants.{Ingress};
 ghost use Rattle.socket_set.specs.Busy.{IsIdle};
+ghost use Rattle.socket_set.specs.Keys.{AllHavePorts, key_of};
 ghost use Rattle.socket_set.specs.SocketMeta.{poll_at as poll_at_of, IsTold, after_asking, is_permitted};
 ghost use Rattle.socket_set.specs.SocketSet.{added, first_free, given_back, handles, has_free, is_full, over, pairs, socket_at, wait_at, with_place, with_wait};
 
 use crate::busy::BusyMarks;
 use crate::iter::{HandlesOf, IterOf};
+use crate::keys::{Keys, NOBODY, UNKNOWN, key_of};
 use crate::socket_meta::Meta;
 use ip_wire::IpAddress;
 use net_base::time::Instant;
@@ -79,6 +81,20 @@ impl<L> SocketStorageOf<L> {
 }
 
 impl<L: Drop> SocketStorageOf<L> {
+    ghost use Rattle.std.specs.Borrow.{sem, LendsIf};
+    ghost use Rattle.socket_set.specs.contracts.socket_set.SocketStorageOf.{the_row as storage_row};
+
+    // The socket, if it is of a kind, for writing.
+    fn kind_mut<T: AnySocketOf<L>>(&mut self) -> Option<&mut T>
+        ensures* lends { sem 𝓛 (LendsIf (storage_row L.row) T.row self.entry result (λ w. record self.old { socket = Some (T.up w) }) self.old) }
+        ensures value { option_copied_mut result ≡ option_and_then T.down self.old.socket }
+        ensures whole { IfSome (option_copied_mut result) (λ s. self.old.socket ≡ Some (T.up s)) }
+        ensures ports { IfSome (option_copied_mut result) (λ s. (other : T) → IfSome self.old.socket (λ old. is_some (own_port (T.up other)) ≡ is_some (own_port old))) }
+    {
+        let socket = self.socket_mut()?;
+        T::downcast_mut(socket)
+    }
+
     // Whether it has a socket that waits or has something to send.
     #[inline(always)]
     fn is_busy(&self) -> bool
@@ -87,6 +103,27 @@ impl<L: Drop> SocketStorageOf<L> {
         match self.socket() {
             None => false,
             Some(socket) => self.meta.is_waiting() || is_due(socket.poll_at()),
+        }
+    }
+
+    // Its key.
+    #[inline(always)]
+    fn key(&self) -> u16
+        ensures { IfSome self.now.socket (λ s. result ≡ key_of (own_port s)) }
+    {
+        match self.socket() {
+            None => NOBODY,
+            Some(socket) => key_of(socket.own_port()),
+        }
+    }
+
+    // Whether it has a socket of a kind without ports.
+    fn is_portless(&self) -> bool
+        ensures { result ≡ false → IfSome self.now.socket (λ s. own_port s ≢ None) }
+    {
+        match self.socket() {
+            Some(socket) => socket.own_port().is_none(),
+            None => false,
         }
     }
 
@@ -174,21 +211,28 @@ pub struct SocketSetOf<L> {
     sockets: Vec<SocketStorageOf<L>>,
     grows: bool,
     busy: BusyMarks,
+    keys: Keys,
+    // Whether a socket may be there whose kind has no ports.
+    portless: bool,
 }
 
 /// A set of sockets.
 pub type SocketSet<'a> = SocketSetOf<&'a ()>;
 
 impl<L> Model for SocketSetOf<L> {
+    ghost use Rattle.std.specs.Prelude.{◌≡◌, false};
     ghost use Rattle.socket_set.specs.Busy.{AreTrue};
+    ghost use Rattle.socket_set.specs.Keys.{AllHavePorts, AreKeysOf};
     ghost use Rattle.socket_set.specs.SocketSet.{Sockets, over};
 
     ghost Value = { Sockets L };
 
     ghost view = { λ s. over s.sockets.items s.grows };
 
-    // Where a mark is clear, the place is idle.
-    ghost invariant = { λ s. AreTrue s.busy (over s.sockets.items s.grows) };
+    // Where a mark is clear, the place is idle; each key that isn't 0 is that of its place's socket; and where no socket
+    // without ports may be there, none is.
+    ghost invariant = { λ s. AreTrue s.busy (over s.sockets.items s.grows) × AreKeysOf s.keys (over s.sockets.items s.grows)
+        × (s.portless ≡ false → AllHavePorts (over s.sockets.items s.grows)) };
 }
 
 /// Why a socket found no place. Both give it back. They print as their names.
@@ -222,15 +266,19 @@ impl<T> fmt::Debug for AddError<T> {
 
 impl<T: Drop> error::Error for AddError<T> {}
 
-impl<L> SocketSetOf<L> {
+impl<L: Drop> SocketSetOf<L> {
     /// A set over these places, which makes more of them where none is free.
     pub fn new(sockets: Vec<SocketStorageOf<L>>) -> SocketSetOf<L>
         ensures { result ≡ over sockets.items true }
     {
+        let keys = Keys::of(sockets.len());
+        let portless = has_portless(sockets.as_slice());
         SocketSetOf {
             sockets,
             grows: true,
             busy: BusyMarks::all(),
+            keys,
+            portless,
         }
     }
 
@@ -238,10 +286,14 @@ impl<L> SocketSetOf<L> {
     pub fn fixed(sockets: Vec<SocketStorageOf<L>>) -> SocketSetOf<L>
         ensures { result ≡ over sockets.items false }
     {
+        let keys = Keys::of(sockets.len());
+        let portless = has_portless(sockets.as_slice());
         SocketSetOf {
             sockets,
             grows: false,
             busy: BusyMarks::all(),
+            keys,
+            portless,
         }
     }
 }
@@ -265,8 +317,11 @@ impl<L: Drop> SocketSetOf<L> {
     {
         let index = first_free(self.sockets.as_slice());
         self.busy.set(index);
+        self.keys.set(index, UNKNOWN);
         if index < self.sockets.len() {
-            self.sockets[index] = SocketStorageOf::holding(socket.upcast());
+            let socket = socket.upcast();
+            self.portless |= socket.own_port().is_none();
+            self.sockets[index] = SocketStorageOf::holding(socket);
             return Ok(SocketHandle(index));
         }
         if !self.grows {
@@ -275,8 +330,9 @@ impl<L: Drop> SocketSetOf<L> {
         if self.sockets.try_reserve(1).is_err() {
             return Err(AddError::NoMemory(socket));
         }
-        self.sockets
-            .push_reserved(SocketStorageOf::holding(socket.upcast()));
+        let socket = socket.upcast();
+        self.portless |= socket.own_port().is_none();
+        self.sockets.push_reserved(SocketStorageOf::holding(socket));
         Ok(SocketHandle(index))
     }
 
@@ -289,7 +345,8 @@ impl<L: Drop> SocketSetOf<L> {
         T::downcast(socket)
     }
 
-    /// The same, for writing. At `None` the set stays as it was.
+    /// The same, for writing. At `None` the set stays as it was. Who only reads takes [`SocketSetOf::get`]: a
+    /// socket that was lent for writing is looked at again by the next frame and the next round of sending.
     pub fn get_mut<T: AnySocketOf<L>>(&mut self, handle: SocketHandle) -> Option<&mut T>
         ensures* lends { sem 𝓛 (LendsIf (set_row L.row) T.row self.entry result (λ w. with_place self.old handle (Some (T.up w))) self.old) }
         ensures value { option_copied_mut result ≡ option_and_then T.down (socket_at self.old handle) }
@@ -314,8 +371,12 @@ impl<L: Drop> SocketSetOf<L> {
         ensures value { option_copied_mut result ≡ option_and_then T.down (socket_at self.old index) }
         ensures whole { IfSome (option_copied_mut result) (λ s. socket_at self.old index ≡ Some (T.up s)) }
     {
-        let socket = self.socket_mut(index)?;
-        T::downcast_mut(socket)
+        self.busy.set(index);
+        self.keys.set(index, UNKNOWN);
+        let storage = self.sockets.get_mut(index)?;
+        // Only what is lent has to keep its kind.
+        let socket = storage.kind_mut()?;
+        Some(socket)
     }
 
     /// The socket at an index, of whatever kind. `None` exactly for a free place or an index out of
@@ -325,6 +386,8 @@ impl<L: Drop> SocketSetOf<L> {
         ensures value { option_copied_mut result ≡ socket_at self.old index }
     {
         self.busy.set(index);
+        self.keys.set(index, UNKNOWN);
+        self.portless = true;
         let storage = self.sockets.get_mut(index)?;
         storage.socket_mut()
     }
@@ -367,7 +430,6 @@ impl<L: Drop> SocketSetOf<L> {
             × (result ≡ is_permitted (wait_at self.old index) known timestamp) × (self.new ≡ with_wait self.old index (after_asking (wait_at self.old index) known)) }
         ensures nobody { IsNone (socket_at self.old index) → (result ≡ false) × (self.new ≡ self.old) }
     {
-        self.busy.set(index);
         let Some(storage) = self.sockets.get_mut(index) else {
             return false;
         };
@@ -388,8 +450,27 @@ impl<L: Drop> SocketSetOf<L> {
         self.busy.next(from, self.sockets.len())
     }
 
-    /// Passes over the place of an index from now on, until its socket is lent again, if it is idle.
-    /// Answers whether that is so.
+    /// Whether a raw or ICMP socket may be there, which have no ports.
+    #[inline(always)]
+    pub(crate) fn may_have_portless(&self) -> bool
+        ensures { result ≡ false → AllHavePorts self.now }
+    {
+        self.portless
+    }
+
+    /// The first place from an index on whose socket may have this port for its own, or no port for
+    /// `None`; the number of places, where there is none. The places passed over have other sockets, or none.
+    #[inline(always)]
+    pub(crate) fn next_at(&self, from: usize, port: Option<u16>) -> usize
+        ensures within { result ≤ length self.now.places }
+        ensures behind { from ≤ length self.now.places → from ≤ result }
+        ensures passed { (i : ℕ) → from ≤ i → i < result → IfSome (socket_at self.now i) (λ s. own_port s ≢ port) }
+    {
+        self.keys.next(from, self.sockets.len(), key_of(port))
+    }
+
+    /// Passes over the place of an index from now on, until its socket is lent again, if it is idle, and
+    /// finds it by its own port. Answers whether it is idle.
     #[inline(always)]
     pub(crate) fn rest(&mut self, index: usize) -> bool
         ensures idle { result ≡ true → IsIdle self.old index }
@@ -401,6 +482,8 @@ impl<L: Drop> SocketSetOf<L> {
         if storage.is_busy() {
             return false;
         }
+        let key = storage.key();
+        self.keys.set(index, key);
         self.busy.clear(index);
         true
     }
@@ -444,9 +527,34 @@ impl<L: Drop> SocketSetOf<L> {
         ensures freed { handle < length self.old.places → self.new ≡ with_place self.old handle None }
         ensures unchanged { IsNone result → self.new ≡ self.old }
     {
+        let socket = self.take(handle)?;
+        if socket.own_port().is_none() {
+            self.portless = has_portless(self.sockets.as_slice());
+        }
+        Some(socket)
+    }
+
+    // The same; what is known of kinds stays as it was.
+    fn take(&mut self, handle: SocketHandle) -> Option<SocketOf<L>>
+        ensures value { result ≡ socket_at self.old handle }
+        ensures freed { handle < length self.old.places → self.new ≡ with_place self.old handle None }
+        ensures unchanged { IsNone result → self.new ≡ self.old }
+    {
         let storage = self.sockets.get_mut(handle.0)?;
         storage.inner.take()
     }
+}
+
+// Whether some socket is of a kind without ports.
+fn has_portless<L: Drop>(places: &[SocketStorageOf<L>]) -> bool
+    ensures { result ≡ false → AllHavePorts (over places.now false) }
+{
+    for index in 0..places.len() {
+        if places[index].is_portless() {
+            return true;
+        }
+    }
+    false
 }
 
 // The least free index, or the number of places.

@@ -1,10 +1,10 @@
 // Each test also holds where any one request for memory is refused.
-use ip_wire::{IpAddress, Ipv4Address};
+use ip_wire::{IpAddress, IpProtocol, IpVersion, Ipv4Address};
 use net_base::time::Instant;
 use socket_set::{AddError, SocketHandle, SocketSet, SocketStorage, by_index};
 use sockets::queue::{NoMemory, Queue};
 use sockets::socket::{AnySocket, SocketOf};
-use sockets::{IpEndpoint, IpListenEndpoint, tcp, udp};
+use sockets::{IpEndpoint, IpListenEndpoint, raw, tcp, udp};
 use std::alloc::Global;
 use std::process::Abort;
 use std::test::Fail;
@@ -278,7 +278,7 @@ fn one_of_many_is_busy(rt: HostRuntime) -> Result<(), Fail> {
         add(&mut set, udp_socket(rt.alloc(), port)?)?;
     }
     assert_eq!(rt; first_busy(&mut set), 130);
-    for index in [0, 63, 64, 66, 129] {
+    for index in [0, 15, 16, 17, 63, 64, 66, 129] {
         by_index::neighbor_missing(&mut set, index, Instant::from_secs(1), FIRST);
         assert_eq!(rt; first_busy(&mut set), index);
         assert_eq!(rt; by_index::next_busy(&set, index + 1), 130);
@@ -287,5 +287,58 @@ fn one_of_many_is_busy(rt: HostRuntime) -> Result<(), Fail> {
         assert!(rt; by_index::socket_mut(&mut set, index).is_some());
         assert_eq!(rt; by_index::next_busy(&set, 0), index);
     }
+    Ok(())
+}
+
+#[test]
+fn sockets_are_found_by_their_ports(rt: HostRuntime) -> Result<(), Fail> {
+    let mut set: SocketSet<'_> = SocketSet::new(Vec::new(rt.alloc()));
+    for port in 0..41 {
+        add(&mut set, udp_socket(rt.alloc(), port)?)?;
+    }
+    assert_eq!(rt; by_index::next_at(&set, 0, Some(7)), 0);
+    assert_eq!(rt; first_busy(&mut set), 41);
+    for port in [0, 1, 15, 16, 17, 40] {
+        assert_eq!(rt; by_index::next_at(&set, 0, Some(port)), usize::from(port));
+        assert_eq!(rt;
+            by_index::next_at(&set, usize::from(port) + 1, Some(port)),
+            41
+        );
+    }
+    assert_eq!(rt; by_index::next_at(&set, 0, Some(41)), 41);
+    // What was lent for writing may be anywhere, but is still a UDP socket.
+    assert!(rt; by_index::kind_mut::<udp::Socket<'_>, _>(&mut set, 20).is_some());
+    assert_eq!(rt; by_index::next_at(&set, 0, Some(30)), 20);
+    assert_eq!(rt; by_index::next_at(&set, 21, Some(30)), 30);
+    assert!(rt; !by_index::may_have_portless(&set));
+    // Lent as one of any kind, it may be of another.
+    assert!(rt; by_index::socket_mut(&mut set, 20).is_some());
+    assert!(rt; by_index::may_have_portless(&set));
+    Ok(())
+}
+
+#[test]
+fn a_raw_socket_is_looked_for_until_it_is_removed(rt: HostRuntime) -> Result<(), Fail> {
+    let mut set: SocketSet<'_> = SocketSet::new(Vec::new(rt.alloc()));
+    for port in 1..21 {
+        add(&mut set, udp_socket(rt.alloc(), port)?)?;
+    }
+    let socket: raw::Socket<'_> = raw::SocketOf::new(
+        IpVersion::Ipv4,
+        IpProtocol::Icmp,
+        queue(rt.alloc())?,
+        queue(rt.alloc())?,
+    );
+    let handle = add(&mut set, socket)?;
+    assert!(rt; by_index::may_have_portless(&set));
+    assert_eq!(rt; first_busy(&mut set), 21);
+    assert_eq!(rt; by_index::next_at(&set, 0, None), 20);
+    assert_eq!(rt; by_index::next_at(&set, 0, Some(20)), 19);
+    assert!(rt; is_removed(&mut set, handle));
+    assert!(rt; !by_index::may_have_portless(&set));
+    // Nothing is known of a place that has just become free.
+    assert_eq!(rt; by_index::next_at(&set, 0, None), 20);
+    assert_eq!(rt; first_busy(&mut set), 21);
+    assert_eq!(rt; by_index::next_at(&set, 0, None), 21);
     Ok(())
 }

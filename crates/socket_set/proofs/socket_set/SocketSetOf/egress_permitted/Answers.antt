@@ -1,6 +1,7 @@
 use Rattle.std.proofs.Common.{◌∙◌, ap, refl}
+use Rattle.socket_set.specs.SocketMeta.{after_asking}
 use Rattle.socket_set.specs.SocketSet.{Storage, over, with_wait}
-use Rattle.socket_set.proofs.SocketSetLemmas.{wait_set, wait_is, socket_is, some_none, true_written}
+use Rattle.socket_set.proofs.SocketSetLemmas.{keyed_waiting, ported_waiting, wait_set, wait_is, socket_is, some_none, true_asked}
 use Rattle.socket_set.proofs.socket_set.SocketSetOf.egress_permitted.Goals as goal
 
 pub returns-clause-socket : goal.returns-clause-socket
@@ -23,5 +24,14 @@ returns-clause-nobody g c = λ none.
 
 pub invariant_of-self-2 : goal.invariant_of-self-2
 invariant_of-self-2 g c =
-    let p : Storage g.row.L.Denot = record { socket = c.storage.inside.inner; wait = c.egress_permitted.new.self } in
-    true_written c.self.inside.grows c.self.inside.sockets.items c.self.inside.busy c.set.new.self c.args.index p c.set.ensures.marked c.set.ensures.others c.self.invariant
+    let ps = c.self.inside.sockets.items in
+    let grows = c.self.inside.grows in
+    let i = c.args.index in
+    let p : Storage g.row.L.Denot = record { socket = c.storage.inside.inner; wait = c.storage.inside.meta } in
+    let is = rw (← c.storage.view_is) at c.in-Some.ensures.value in
+    let e = c.egress_permitted.ensures in
+    rw e.3 (
+      true_asked grows ps c.self.inside.busy i p e.0 is c.self.invariant.0,
+      keyed_waiting grows ps c.self.inside.keys i p (after_asking p.wait e.0) is c.self.invariant.1,
+      λ none. ported_waiting grows ps i p (after_asking p.wait e.0) is (c.self.invariant.2 none),
+    )

@@ -1,20 +1,45 @@
 use borrow.Follows.Closed.{read_of}
-use Rattle.std.proofs.Common.{Some}
+use Rattle.std.proofs.Common.{Some, ap, inr}
 use Rattle.std.specs.Option.{ghost_name_of}
-use Rattle.socket_set.specs.SocketSet.{Sockets, with_place}
-use Rattle.socket_set.proofs.SocketSetLemmas.{put_back, stands_for}
+use Rattle.socket_set.specs.SocketSet.{Storage}
+use Rattle.socket_set.proofs.SocketSetLemmas.{keyed_written, kept_port, place_set, ported_here, ported_written, put_again, socket_is, true_written}
 use Rattle.socket_set.proofs.socket_set.SocketSetOf.kind_mut.Goals as goal
 
 pub returns : goal.returns
 returns g c =
-    let set = c.args.self.now in
+    let ps = c.self.inside.sockets.items in
     let i = c.args.index in
-    let back : (w : g.row.T.Denot) → Sockets g.row.L.Denot = λ w. with_place set i (Some (g.T.AnySocketOf.up w)) in
-    let same = put_back set.places i c.in_ok-socket.socket.now c.in_ok-socket.ensures.value in (
-      λ t. read_of (ghost_name_of c.downcast_mut.result) back (record { places = same t; waits = set.waits; grows = set.grows }),
-      record {
-        lends = tt;
-        value = rw (← c.in_ok-socket.ensures.value) c.downcast_mut.ensures.value;
-        whole = stands_for g.T.AnySocketOf.up _ c.in_ok-socket.ensures.value c.downcast_mut.ensures.whole;
-      },
+    let p = c.in_ok-storage.storage.now in
+    let grows = c.self.inside.grows in
+    let is = c.in_ok-storage.ensures.value in
+    let here = socket_is grows ps i p c.in_ok-storage.ensures.item.3.0 is in
+    rw (← c.self.view_is) (
+      λ t. read_of (ghost_name_of (Some c.in_ok-socket.socket)) (λ w. place_set grows ps i p (Some (g.T.AnySocketOf.up w)) is t) (put_again grows ps i p is t),
+      record { lends = tt; value = rw here c.in_ok-socket.ensures.value; whole = rw here c.in_ok-socket.ensures.whole },
+    )
+
+pub returns-in_err-socket : goal.returns-in_err-socket
+returns-in_err-socket g c =
+    let ps = c.self.inside.sockets.items in
+    let i = c.args.index in
+    let p = c.in_ok-storage.storage.now in
+    let grows = c.self.inside.grows in
+    let is = c.in_ok-storage.ensures.value in
+    let here = socket_is grows ps i p c.in_ok-storage.ensures.item.3.0 is in
+    rw (← c.self.view_is, c.from_residual-in_err-socket.ensures) (ap inr (put_again grows ps i p is), record { lends = tt; value = rw here c.in_err-socket.ensures.value; whole = tt })
+
+pub invariant_of-self-lent : goal.invariant_of-self-lent
+invariant_of-self-lent g c = λ w.
+    let ps = c.self.inside.sockets.items in
+    let i = c.args.index in
+    let p = c.in_ok-storage.storage.now in
+    let grows = c.self.inside.grows in
+    let is = c.in_ok-storage.ensures.value in
+    let written : Storage g.row.L.Denot = record { socket = Some (g.T.AnySocketOf.up w); wait = p.wait } in (
+      true_written grows ps c.self.inside.busy c.set.new.self i written c.set.ensures.marked c.set.ensures.others c.self.invariant.0,
+      (rw c.set-2.ensures (keyed_written grows ps c.self.inside.keys i written c.self.invariant.1)),
+      λ none.
+          let ported = c.self.invariant.2 none in
+          let here = ported_here grows ps i p c.in_ok-storage.ensures.item.3.0 is ported in
+          ported_written grows ps i written (kept_port p.socket (g.T.AnySocketOf.up w) _ c.in_ok-socket.ensures.whole (c.in_ok-socket.ensures.ports w) here) ported,
     )

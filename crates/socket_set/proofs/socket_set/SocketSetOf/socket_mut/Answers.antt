@@ -2,7 +2,7 @@ use borrow.Follows.Closed.{read_of}
 use Rattle.std.proofs.Common.{Some, sym, ◌∙◌}
 use Rattle.std.specs.Option.{ghost_name_of}
 use Rattle.socket_set.specs.SocketSet.{Storage}
-use Rattle.socket_set.proofs.SocketSetLemmas.{place_set, put_again, socket_is, true_written}
+use Rattle.socket_set.proofs.SocketSetLemmas.{keyed_written, place_set, put_again, socket_is, true_written}
 use Rattle.socket_set.proofs.socket_set.SocketSetOf.socket_mut.Goals as goal
 
 pub returns : goal.returns
@@ -21,5 +21,8 @@ pub invariant_of-self-lent : goal.invariant_of-self-lent
 invariant_of-self-lent g c = λ lent.
     let ps = c.self.inside.sockets.items in
     let p = c.in_ok-storage.storage.now in
-    let written = λ (q : Storage g.row.L.Denot). true_written c.self.inside.grows ps c.self.inside.busy c.set.new.self c.args.index q c.set.ensures.marked c.set.ensures.others c.self.invariant in
-    (λ w. written (record { socket = Some w; wait = p.wait }), written p)
+    let grows = c.self.inside.grows in
+    let i = c.args.index in
+    let marked = λ (q : Storage g.row.L.Denot). true_written grows ps c.self.inside.busy c.set.new.self i q c.set.ensures.marked c.set.ensures.others c.self.invariant.0 in
+    let keyed = λ (q : Storage g.row.L.Denot). keyed_written grows ps c.self.inside.keys i q c.self.invariant.1 in
+    (λ w. (marked (record { socket = Some w; wait = p.wait }), (rw c.set-2.ensures (keyed (record { socket = Some w; wait = p.wait }))), λ none. absurd cc), (marked p, (rw c.set-2.ensures (keyed p)), λ none. absurd cc))

@@ -1,7 +1,7 @@
 use Rattle.std.proofs.Common.{None}
 use Rattle.socket_set.specs.SocketSet.{Storage}
-use Rattle.socket_set.proofs.SocketSetLemmas.{place_set, put_again, none_is, socket_is, true_freed}
-use Rattle.socket_set.proofs.socket_set.SocketSetOf.remove.Goals as goal
+use Rattle.socket_set.proofs.SocketSetLemmas.{keyed_freed, place_set, put_again, none_is, ported_written, socket_is, true_freed}
+use Rattle.socket_set.proofs.socket_set.SocketSetOf.take.Goals as goal
 
 pub returns-clause-freed : goal.returns-clause-freed
 returns-clause-freed g c = λ within.
@@ -16,7 +16,16 @@ returns-clause-unchanged g c = λ none.
     (put_again c.self.inside.grows c.self.inside.sockets.items c.handle.inside.0 p (rw (← c.storage.view_is) at c.in_ok-storage.ensures.value))
 
 pub invariant_of-self-2 : goal.invariant_of-self-2
-invariant_of-self-2 g c = rw c.take.ensures.after (true_freed c.self.inside.grows c.self.inside.sockets.items c.self.inside.busy c.handle.inside.0 c.storage.inside.meta c.self.invariant)
+invariant_of-self-2 g c =
+    let ps = c.self.inside.sockets.items in
+    let grows = c.self.inside.grows in
+    let i = c.handle.inside.0 in
+    let p : Storage g.row.L.Denot = record { socket = None; wait = c.storage.inside.meta } in
+    rw c.take.ensures.after (
+      true_freed grows ps c.self.inside.busy i c.storage.inside.meta c.self.invariant.0,
+      keyed_freed grows ps c.self.inside.keys i c.storage.inside.meta c.self.invariant.1,
+      λ none. ported_written grows ps i p tt (c.self.invariant.2 none),
+    )
 
 pub returns-clause-value : goal.returns-clause-value
 returns-clause-value g c =
