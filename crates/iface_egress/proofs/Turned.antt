@@ -194,6 +194,13 @@ waits_back [] i is = refl
 waits_back (w ∷ ws) zero is = ap (λ (v : Wait). v ∷ ws) (sym is)
 waits_back (w ∷ ws) (suc i) is = ap (λ (rest : List Wait). w ∷ rest) (waits_back ws i is)
 
+-- a place that may be asked has a socket
+there : (c : Context) (sockets mid : SocketSet) (i : ℕ) (permitted : Bool) → permitted ≡ true → IsDecided c sockets i permitted mid → socket_at mid i ≡ None → ⊥
+there c sockets mid i permitted allowed (NoSocket none isn_t same) free = absurd cc
+there c sockets mid i permitted allowed (OfSocket s known some knows is same) free =
+    let both : Some s ≡ None = sym some ∙ sym (ap (λ (x : SocketSet). socket_at x i) same) ∙ free in
+    absurd cc
+
 module _ {D : Type 0} {tells : D → List Event → D → Type 0} where
   -- a place that isn't asked has its turn for nothing
   pub not_asked : {d : D} (c : Context) (slots : Slots) (sockets new : SocketSet) (i : ℕ) (permitted : Bool) → tells d [] d → i < length sockets.places → permitted ≡ false →
@@ -226,7 +233,7 @@ module _ {D : Type 0} {tells : D → List Event → D → Type 0} where
         }
 
   -- the socket of a place had its turn, and waits or not from then on
-  pub was_asked : {d e : D} (c c' : Context) (s s' : Socket) (t : Turn) (slots : Slots) (sockets mid new : SocketSet) (i : ℕ) (permitted : Bool) → permitted ≡ true →
+  was_asked : {d e : D} (c c' : Context) (s s' : Socket) (t : Turn) (slots : Slots) (sockets mid new : SocketSet) (i : ℕ) (permitted : Bool) → permitted ≡ true →
       IsDecided c sockets i permitted mid → Some s ≡ socket_at mid i → Told tells d e (HasTurn s t s' c) c' →
       new ≡ with_wait (with_place mid i (Some s')) i (wait_after t c.moment (wait_at (with_place mid i (Some s')) i)) →
       Told tells d e (Serves i t (host_in c slots sockets)) (host_in c' slots new)
@@ -247,6 +254,18 @@ module _ {D : Type 0} {tells : D → List Event → D → Type 0} where
         tells_it = turned.tells_it;
         follows = Served s s' known (host_in c' slots sockets) (taken_place (slice_get sockets.places i) s at_place) (knows slots) (sym is ∙ allowed) (turned.follows slots sockets) (ap (host_in c' slots) whole);
       }
+
+  -- and so, whatever its kind
+  pub was_served : {d e : D} (c c' : Context) (t : Turn) (slots : Slots) (sockets mid turned new : SocketSet) (i : ℕ) (permitted : Bool) → permitted ≡ true → IsDecided c sockets i permitted mid →
+      IfSome (socket_at mid i) (λ s. (after : Socket) × Told tells d e (HasTurn s t after c) c' × (turned ≡ with_place mid i (Some after))) →
+      new ≡ with_wait turned i (wait_after t c.moment (wait_at turned i)) → Told tells d e (Serves i t (host_in c slots sockets)) (host_in c' slots new)
+  was_served {d} {e} c c' t slots sockets mid turned new i permitted allowed decided had changed = by (socket_at mid i) refl had where
+    by : (o : Option Socket) → socket_at mid i ≡ o → IfSome o (λ s. (after : Socket) × Told tells d e (HasTurn s t after c) c' × (turned ≡ with_place mid i (Some after))) →
+        Told tells d e (Serves i t (host_in c slots sockets)) (host_in c' slots new)
+    by None none had = absurd (there c sockets mid i permitted allowed decided none)
+    by (Some s) some had =
+        was_asked c c' s had.0 t slots sockets mid new i permitted allowed decided (sym some) had.1
+        (changed ∙ ap (λ (x : SocketSet). with_wait x i (wait_after t c.moment (wait_at x i))) had.2)
 
   pub none_served : {d : D} (H : Host) → tells d [] d → Told tells d d (Walks H 0 true false) H
   none_served H quiet = record { told = []; notes = []; tells_it = quiet; follows = Begins }

@@ -8,9 +8,9 @@ ghost use Rattle.network_sockets.specs.Raw as raw;
 ghost use Rattle.transport_sockets.specs.Tcp as tcp;
 ghost use Rattle.transport_sockets.specs.Udp as udp;
 ghost use Rattle.net_base.specs.Time.{IsMoment};
-ghost use Rattle.socket_set.specs.SocketSet.{wait_at, with_wait};
+ghost use Rattle.socket_set.specs.SocketSet.{socket_at, wait_at, with_place, with_wait};
 ghost use Rattle.fragmentation.specs.Slots.{Slots};
-ghost use Rattle.host_machine.specs.Host.{SocketSet};
+ghost use Rattle.host_machine.specs.Host.{Socket, SocketSet};
 ghost use Rattle.host_machine.specs.Dispatch.{KnowsNextHop};
 ghost use Rattle.host_machine.specs.Egress as spec;
 ghost use Rattle.host_machine.specs.Packet.{IsWritable, IsWritablePayload};
@@ -32,7 +32,7 @@ use ip_wire::{IpAddress, UdpRepr};
 use net_base::phy::Device;
 use net_base::time::Instant;
 use socket_set::{SocketSet, by_index};
-use sockets::{Socket, SocketContext, icmp, raw, tcp, udp};
+use sockets::{SocketContext, icmp, raw, tcp, udp};
 
 /// Sends the next of the pieces that are left of a packet that was cut, if one is left and the device
 /// gives leave. The others stay left.
@@ -89,14 +89,27 @@ fn serve<D: Device>(
     if by_index::rest(sockets, index) {
         return Turn::Idle;
     }
+    serve_busy(context, device, out, sockets, index)
+}
+
+/// The same of a place that may be busy.
+#[inline(never)]
+fn serve_busy<D: Device>(
+    context: &mut Context,
+    device: &mut D,
+    out: &mut FrameBuffer,
+    sockets: &mut SocketSet<'_>,
+    index: usize,
+) -> Turn
+    requires { index < length sockets.old.places }
+    ensures told { (slots : Slots) → Told D.tells device.old device.new (spec.Serves index result (host_in context.old slots sockets.old)) (host_in context.new slots sockets.new) }
+    ensures places { length sockets.new.places ≡ length sockets.old.places }
+{
     let now = context.now();
     if !is_permitted(context, sockets, index) {
         return Turn::Idle;
     }
-    let Some(socket) = by_index::socket_mut(sockets, index) else {
-        return Turn::Idle;
-    };
-    let turn = give_turn(socket, context, device, out);
+    let turn = give_turn(sockets, index, context, device, out);
     keep_wait(sockets, index, now, turn);
     turn
 }
@@ -127,21 +140,30 @@ fn keep_wait(sockets: &mut SocketSet<'_>, index: usize, now: Instant, turn: Turn
     }
 }
 
-/// Gives a socket its turn, by its kind.
+/// Gives the socket at an index its turn, by its kind, which it keeps.
+#[inline(always)]
 fn give_turn<D: Device>(
-    socket: &mut Socket<'_>,
+    sockets: &mut SocketSet<'_>,
+    index: usize,
     context: &mut Context,
     device: &mut D,
     out: &mut FrameBuffer,
 ) -> Turn
-    ensures { Told D.tells device.old device.new (HasTurn socket.old result socket.new context.old) context.new }
+    ensures { IfSome (socket_at sockets.old index) (λ before. (after : Socket) × Told D.tells device.old device.new (HasTurn before result after context.old) context.new × (sockets.new ≡ with_place sockets.old index (Some after))) }
 {
-    match socket {
-        Socket::Raw(raw) => give_raw_turn(raw, context, device, out),
-        Socket::Icmp(icmp) => give_icmp_turn(icmp, context, device, out),
-        Socket::Udp(udp) => give_udp_turn(udp, context, device, out),
-        Socket::Tcp(tcp) => give_tcp_turn(tcp, context, device, out),
+    if let Some(udp) = by_index::kind_mut::<udp::Socket<'_>, _>(sockets, index) {
+        return give_udp_turn(udp, context, device, out);
     }
+    if let Some(tcp) = by_index::kind_mut::<tcp::Socket<'_>, _>(sockets, index) {
+        return give_tcp_turn(tcp, context, device, out);
+    }
+    if let Some(icmp) = by_index::kind_mut::<icmp::Socket<'_>, _>(sockets, index) {
+        return give_icmp_turn(icmp, context, device, out);
+    }
+    if let Some(raw) = by_index::kind_mut::<raw::Socket<'_>, _>(sockets, index) {
+        return give_raw_turn(raw, context, device, out);
+    }
+    Turn::Idle
 }
 
 /// Gives a raw socket its turn: what it offers is dispatched, if the device gives leave, and the socket

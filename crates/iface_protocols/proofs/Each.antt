@@ -34,6 +34,41 @@ module _ {S : Type 0} where
   at_mapped f [] (suc i) = refl
   at_mapped f (p ∷ ps) (suc i) = at_mapped f ps i
 
+  -- what stands at a place that is still to come
+  pub at_later : (f : Option S → Option S) (ps : List (Option S)) (i k : ℕ) → i ≤ k → at_place (mapped f i ps) k ≡ at_place ps k
+  at_later f ps zero k later = refl
+  at_later f [] (suc i) k later = refl
+  at_later f (p ∷ ps) (suc i) zero later = absurd (omega (arith, later))
+  at_later f (p ∷ ps) (suc i) (suc k) later = at_later f ps i k (omega (arith, later))
+
+  -- places that the function leaves as they are
+  pub mapped_passed : (f : Option S → Option S) (ps : List (Option S)) (i j : ℕ) → i ≤ j → ((k : ℕ) → i ≤ k → k < j → f (at_place ps k) ≡ at_place ps k) → mapped f i ps ≡ mapped f j ps
+  mapped_passed f [] zero zero within same = refl
+  mapped_passed f [] zero (suc j) within same = refl
+  mapped_passed f [] (suc i) zero within same = refl
+  mapped_passed f [] (suc i) (suc j) within same = refl
+  mapped_passed f (p ∷ ps) zero zero within same = refl
+  mapped_passed f (p ∷ ps) zero (suc j) within same =
+      let this : f p ≡ p = same 0 (omega arith) (omega arith) in
+      rw this (ap (λ (rest : List (Option S)). p ∷ rest) (mapped_passed f ps zero j (omega arith) (λ k from to. same (suc k) (omega (arith, from)) (omega (arith, to)))))
+  mapped_passed f (p ∷ ps) (suc i) zero within same = absurd (omega (arith, within))
+  mapped_passed f (p ∷ ps) (suc i) (suc j) within same =
+      ap (λ (rest : List (Option S)). f p ∷ rest) (mapped_passed f ps i j (omega (arith, within)) (λ k from to. same (suc k) (omega (arith, from)) (omega (arith, to))))
+
+  -- places that don't meet the test
+  pub any_passed : (test : Option S → Bool) (ps : List (Option S)) (i j : ℕ) → i ≤ j → ((k : ℕ) → i ≤ k → k < j → test (at_place ps k) ≡ false) → any_of test i ps ≡ any_of test j ps
+  any_passed test [] zero zero within none = refl
+  any_passed test [] zero (suc j) within none = refl
+  any_passed test [] (suc i) zero within none = refl
+  any_passed test [] (suc i) (suc j) within none = refl
+  any_passed test (p ∷ ps) zero zero within none = refl
+  any_passed test (p ∷ ps) zero (suc j) within none =
+      let this : test p ≡ false = none 0 (omega arith) (omega arith) in
+      rw this (any_passed test ps zero j (omega arith) (λ k from to. none (suc k) (omega (arith, from)) (omega (arith, to))))
+  any_passed test (p ∷ ps) (suc i) zero within none = absurd (omega (arith, within))
+  any_passed test (p ∷ ps) (suc i) (suc j) within none =
+      ap (λ b. test p || b) (any_passed test ps i j (omega (arith, within)) (λ k from to. none (suc k) (omega (arith, from)) (omega (arith, to))))
+
   pub mapped_more : (f : Option S → Option S) (ps : List (Option S)) (i : ℕ) → i < length ps → slice_set (mapped f i ps) i (f (at_place ps i)) ≡ mapped f (suc i) ps
   mapped_more f [] i within = absurd (omega arith)
   mapped_more f (p ∷ ps) zero within = refl
@@ -87,12 +122,6 @@ module _ {S : Type 0} where
       let whole : i ≡ length ps = omega (arith, len, low, high) in
       is ∙ ap (λ k. any_of test k ps) whole ∙ any_all test ps
 
-  -- the first places of which none meets the test, and one more
-  pub none_more : (test : Option S → Bool) (ps : List (Option S)) (i : ℕ) → i < length ps → any_of test i ps ≡ false → test (at_place ps i) ≡ false → any_of test (i + 1) ps ≡ false
-  none_more test ps i within none not_this =
-      let next : i + 1 ≡ suc i = omega arith in
-      rw (next, ← any_more test ps i within, none, not_this) refl
-
   -- one that meets the test
   pub one_meets : (test : Option S → Bool) (ps : List (Option S)) (i : ℕ) → i < length ps → test (at_place ps i) ≡ true → list_any test ps ≡ true
   one_meets test [] i within is = absurd (omega arith)
@@ -101,10 +130,6 @@ module _ {S : Type 0} where
     by : (b : Bool) → list_any test ps ≡ true → b || list_any test ps ≡ true
     by true rest = refl
     by false rest = rest
-
-  -- none of them meets the test
-  pub none_meets : (test : Option S → Bool) (ps : List (Option S)) (i n : ℕ) → n ≡ length ps → i ≤ n → n ≤ i → any_of test i ps ≡ false → list_any test ps ≡ false
-  none_meets test ps i n len low high none = sym (all_tested test ps i n false len low high (sym none))
 
   -- a place that meets a test which a free one doesn't meet is one of them
   pub met_within : (test : Option S → Bool) (ps : List (Option S)) (i : ℕ) → test None ≡ false → test (at_place ps i) ≡ true → i < length ps

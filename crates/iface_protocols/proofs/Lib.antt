@@ -3,3 +3,4 @@ mod Received
 mod Each
 mod Grouping
 mod Messages
+mod Elsewhere

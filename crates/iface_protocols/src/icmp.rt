@@ -21,22 +21,39 @@ pub(crate) fn deliver(
 )
     ensures { sockets.new ≡ with_places sockets.old (to_each (accepts message.now contents.now) (delivered remote octets.now) sockets.old.places) }
 {
-    if !has_taker(sockets, message, contents) {
+    if !by_index::may_have_portless(sockets) {
         return;
     }
     let heard = *message;
-    deliver_to_each(sockets, remote, &heard, contents, octets);
+    deliver_to_takers(sockets, remote, &heard, contents, octets);
+}
+
+/// The same, where there may be ICMP sockets.
+#[inline(never)]
+fn deliver_to_takers(
+    sockets: &mut SocketSet<'_>,
+    remote: IpAddress,
+    message: &IcmpRepr,
+    contents: &[u8],
+    octets: &[u8],
+)
+    ensures { sockets.new ≡ with_places sockets.old (to_each (accepts message.now contents.now) (delivered remote octets.now) sockets.old.places) }
+{
+    if has_taker(sockets, message, contents) {
+        deliver_to_each(sockets, remote, message, contents, octets);
+    }
 }
 
 /// Whether some ICMP socket takes a message.
-#[inline(always)]
 fn has_taker(sockets: &SocketSet<'_>, message: &IcmpRepr, contents: &[u8]) -> bool
     ensures { result ≡ is_somebody (accepts message.now contents.now) sockets.now.places }
 {
-    for index in 0..by_index::places(sockets) {
+    let mut index = by_index::next_at(sockets, 0, None);
+    while index < by_index::places(sockets) {
         if takes_at(sockets, index, message, contents) {
             return true;
         }
+        index = by_index::next_at(sockets, index + 1, None);
     }
     false
 }
@@ -53,7 +70,6 @@ fn takes_at(sockets: &SocketSet<'_>, index: usize, message: &IcmpRepr, contents:
 }
 
 /// The same as [`deliver`], where some socket may take it.
-#[inline(never)]
 fn deliver_to_each(
     sockets: &mut SocketSet<'_>,
     remote: IpAddress,
@@ -63,8 +79,10 @@ fn deliver_to_each(
 )
     ensures { sockets.new ≡ with_places sockets.old (to_each (accepts message.now contents.now) (delivered remote octets.now) sockets.old.places) }
 {
-    for index in 0..by_index::places(sockets) {
+    let mut index = by_index::next_at(sockets, 0, None);
+    while index < by_index::places(sockets) {
         deliver_at(sockets, index, remote, message, contents, octets);
+        index = by_index::next_at(sockets, index + 1, None);
     }
 }
 

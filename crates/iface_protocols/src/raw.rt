@@ -24,22 +24,41 @@ pub fn deliver(
     ensures taken { result ≡ is_taken header.now (host_of context.now sockets.old) }
     ensures heard { host_of context.now sockets.new ≡ heard header.now payload.now (host_of context.now sockets.old) }
 {
-    if !has_taker(sockets, header) {
+    if !by_index::may_have_portless(sockets) {
         return false;
     }
     let taken = *header;
-    deliver_to_each(context, sockets, &taken, payload)
+    deliver_to_takers(context, sockets, &taken, payload)
+}
+
+/// The same, where there may be raw sockets.
+#[inline(never)]
+fn deliver_to_takers(
+    context: &Context,
+    sockets: &mut SocketSet<'_>,
+    header: &IpRepr,
+    payload: &[u8],
+) -> bool
+    requires { TellsLength header.now }
+    ensures taken { result ≡ is_taken header.now (host_of context.now sockets.old) }
+    ensures heard { host_of context.now sockets.new ≡ heard header.now payload.now (host_of context.now sockets.old) }
+{
+    if !has_taker(sockets, header) {
+        return false;
+    }
+    deliver_to_each(context, sockets, header, payload)
 }
 
 /// Whether some raw socket takes a packet with this header.
-#[inline(always)]
 fn has_taker(sockets: &SocketSet<'_>, header: &IpRepr) -> bool
     ensures { result ≡ is_somebody (takes header.now) sockets.now.places }
 {
-    for index in 0..by_index::places(sockets) {
+    let mut index = by_index::next_at(sockets, 0, None);
+    while index < by_index::places(sockets) {
         if takes_at(sockets, index, header) {
             return true;
         }
+        index = by_index::next_at(sockets, index + 1, None);
     }
     false
 }
@@ -56,7 +75,6 @@ fn takes_at(sockets: &SocketSet<'_>, index: usize, header: &IpRepr) -> bool
 }
 
 /// The same as [`deliver`], where some socket may take it.
-#[inline(never)]
 fn deliver_to_each(
     context: &Context,
     sockets: &mut SocketSet<'_>,
@@ -69,8 +87,10 @@ fn deliver_to_each(
 {
     let summed = context.capabilities().checksum.ipv4.tx();
     let mut taken = false;
-    for index in 0..by_index::places(sockets) {
+    let mut index = by_index::next_at(sockets, 0, None);
+    while index < by_index::places(sockets) {
         taken |= deliver_at(sockets, index, header, payload, summed);
+        index = by_index::next_at(sockets, index + 1, None);
     }
     taken
 }

@@ -126,12 +126,15 @@ fn first_taker(sockets: &SocketSet<'_>, header: &IpRepr, repr: &TcpRepr) -> usiz
     ensures found { result < length sockets.now.places → spec.accepts header.now repr.now (socket_at sockets.now result) ≡ true }
     ensures within { result ≤ length sockets.now.places }
 {
-    for index in 0..by_index::places(sockets) {
+    let port = Some(repr.dst_port);
+    let mut index = by_index::next_at(sockets, 0, port);
+    while index < by_index::places(sockets) {
         if takes_at(sockets, index, header, repr) {
             return index;
         }
+        index = by_index::next_at(sockets, index + 1, port);
     }
-    by_index::places(sockets)
+    index
 }
 
 /// Whether the socket at an index accepts a segment.

@@ -62,7 +62,8 @@ fn deliver(
     deliver_at(context, sockets, index, header, ports, payload)
 }
 
-/// The index of the first socket that accepts a datagram, or the number of places.
+/// The index of the first socket that accepts a datagram, or the number of places. Where it is the only socket, or
+/// the first, no walk begins.
 #[inline(always)]
 fn first_taker(
     context: &Context,
@@ -74,12 +75,37 @@ fn first_taker(
     ensures found { result < length sockets.now.places → accepts (host_of context.now no_sockets).ip_addrs header.now ports.now (socket_at sockets.now result) ≡ true }
     ensures within { result ≤ length sockets.now.places }
 {
-    for index in 0..by_index::places(sockets) {
+    if takes_at(context, sockets, 0, header, ports) {
+        return 0;
+    }
+    if by_index::places(sockets) <= 1 {
+        return by_index::places(sockets);
+    }
+    let (sought, wanted) = (*header, *ports);
+    first_of_several(context, sockets, &sought, &wanted)
+}
+
+/// The same, where there may be several sockets.
+#[inline(never)]
+fn first_of_several(
+    context: &Context,
+    sockets: &SocketSet<'_>,
+    header: &IpRepr,
+    ports: &UdpRepr,
+) -> usize
+    ensures none_before { (k : ℕ) (other : Storage) → k < result → slice_get sockets.now.places k ≡ Some other → accepts (host_of context.now no_sockets).ip_addrs header.now ports.now other ≡ false }
+    ensures found { result < length sockets.now.places → accepts (host_of context.now no_sockets).ip_addrs header.now ports.now (socket_at sockets.now result) ≡ true }
+    ensures within { result ≤ length sockets.now.places }
+{
+    let port = Some(ports.dst_port);
+    let mut index = by_index::next_at(sockets, 0, port);
+    while index < by_index::places(sockets) {
         if takes_at(context, sockets, index, header, ports) {
             return index;
         }
+        index = by_index::next_at(sockets, index + 1, port);
     }
-    by_index::places(sockets)
+    index
 }
 
 /// Whether the socket at an index accepts a datagram.

@@ -1,8 +1,11 @@
-use Rattle.std.proofs.Common.{◌≡◌, false}
+use Rattle.std.proofs.Common.{◌≤◌, ◌-◌, length}
 use Rattle.host_machine.specs.Icmp.{accepts}
-use Rattle.iface_protocols.proofs.Each.{any_of}
+use Rattle.iface_protocols.proofs.Elsewhere.{NoneBefore}
 use Rattle.iface_protocols.proofs.icmp.has_taker.Given as goal
 
 -- no socket below the index takes it
 abbrev pub invariant-loop-index : goal.invariant-loop-index
-invariant-loop-index l = any_of (accepts l.message l.contents) l.index l.sockets.places ≡ false
+invariant-loop-index l = (l.index ≤ length l.sockets.places) × NoneBefore (accepts l.message l.contents) l.sockets.places l.index
+
+abbrev pub decreases-loop-index : goal.decreases-loop-index
+decreases-loop-index l = length l.sockets.places - l.index
