@@ -1,5 +1,5 @@
 -- A frame's header is read as it was written, and written as it was read.
-use Rattle.std.proofs.Common.{◌≡◌, ℕ, ◌+◌, ◌*◌, ◌/◌, ◌%◌, ◌<◌, ◌^◌, List, [], ◌∷◌, ◌++◌, length, get_or, refl, ap, ◌∙◌, arith}
+use Rattle.std.proofs.Common.{◌≡◌, ℕ, ◌+◌, ◌*◌, ◌/◌, ◌%◌, ◌<◌, ◌^◌, List, ◌++◌, refl, ap, ◌∙◌, arith}
 use Rattle.std.specs.Int.{w16, to_be_bytes}
 use Rattle.ip_wire.specs.declared.ethernet.EthernetProtocol.{EthernetProtocol}
 use Rattle.ip_address.specs.declared.ethernet_address.EthernetAddress.{EthernetAddress}
@@ -20,10 +20,3 @@ header_again d s payload t n d6 s6 lt e = rw (d6.is, s6.is) (made _ _ _ t payloa
 
 pub read_again : ReadAgain
 read_again r payload h = header_again r.dst_addr.0 r.src_addr.0 payload r.ethertype (number_of r.ethertype) (six r.dst_addr.0 h.destination) (six r.src_addr.0 h.source) h.number h.protocol
-
--- the text, octet by octet
-pub header_cells : (d s t : List ℕ) (n : ℕ) → length d ≡ 6 → length s ≡ 6 → t ≡ to_be_bytes w16 n
-    → get_or d 0 0 ∷ get_or d 1 0 ∷ get_or d 2 0 ∷ get_or d 3 0 ∷ get_or d 4 0 ∷ get_or d 5 0
-    ∷ get_or s 0 0 ∷ get_or s 1 0 ∷ get_or s 2 0 ∷ get_or s 3 0 ∷ get_or s 4 0 ∷ get_or s 5 0
-    ∷ get_or t 0 0 ∷ get_or t 1 0 ∷ [] ≡ d ++ s ++ to_be_bytes w16 n
-header_cells d s t n ld ls e = let d6 = six d ld in let s6 = six s ls in rw (e, d6.is, s6.is) refl

@@ -109,10 +109,9 @@ impl EthernetRepr {
         ensures items { out.new ≡ out.old ++ spec.header_text self.now }
         ensures len { length out.new ≡ length out.old + 14 }
     {
-        let [d0, d1, d2, d3, d4, d5] = self.dst_addr.0;
-        let [s0, s1, s2, s3, s4, s5] = self.src_addr.0;
-        let [t0, t1] = self.ethertype.number().to_be_bytes();
-        out.append(&[d0, d1, d2, d3, d4, d5, s0, s1, s2, s3, s4, s5, t0, t1]);
+        out.append(&self.dst_addr.0);
+        out.append(&self.src_addr.0);
+        out.append(&self.ethertype.number().to_be_bytes());
     }
 }
 

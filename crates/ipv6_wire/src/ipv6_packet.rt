@@ -1,5 +1,6 @@
 //! IPv6 packets (RFC 8200).
 ghost use Rattle.std.specs.Prelude.{◌≡◌, ◌+◌, ◌≤◌, ◌++◌, length};
+ghost use Rattle.std.specs.Int.{w64, to_be_bytes};
 ghost use Rattle.std.specs.Option.{SomeIff, option_map};
 ghost use Rattle.ipv6_wire.specs.Ipv6Packet as spec;
 
@@ -32,11 +33,19 @@ pub fn address_octets(address: &Ipv6Address) -> [u8; 16]
 {
     let high = (address.bits / (1 << 64)) as u64;
     let low = (address.bits % (1 << 64)) as u64;
-    let [h0, h1, h2, h3, h4, h5, h6, h7] = high.to_be_bytes();
-    let [l0, l1, l2, l3, l4, l5, l6, l7] = low.to_be_bytes();
-    [
-        h0, h1, h2, h3, h4, h5, h6, h7, l0, l1, l2, l3, l4, l5, l6, l7,
-    ]
+    let mut octets = [0; 16];
+    octets[..8].copy_from_slice(&octets_of(high));
+    octets[8..].copy_from_slice(&octets_of(low));
+    octets
+}
+
+/// The eight octets of a number, which is swapped at once.
+#[inline(always)]
+#[tactic(auto, using(crate::proofs::Halves::swapped))]
+fn octets_of(number: u64) -> [u8; 8]
+    ensures { result ≡ to_be_bytes w64 number }
+{
+    number.swap_bytes().to_le_bytes()
 }
 
 /// The values of a packet's header, but its traffic class and its flow label.
