@@ -1,7 +1,7 @@
 -- Sums over the parts of a message.
 use Rattle.std.proofs.Common.{◌≡◌, ℕ, zero, suc, ◌+◌, ◌-◌, ◌/◌, ◌%◌, ◌<◌, ◌≤◌, ◌^◌, List, [], ◌++◌, length, drop, refl, sym, ap, ◌∙◌, length-append, arith}
 use Rattle.wire_base.specs.Checksum.{folded, word_sum, checksum_of}
-use Rattle.wire_base.proofs.Sums.{word, word_sum-append, folded_again}
+use Rattle.wire_base.proofs.Sums.{word, word_sum-append}
 use Rattle.wire_base.specs.Octets.{u16_at}
 use Rattle.control_wire.specs.declared.icmpv4.Icmpv4Repr.TheVariants.{EchoReply}
 use Rattle.control_wire.specs.Icmpv4.{IsEchoRequest, code_in, echo_reply_to, head_with, type_in}
@@ -12,14 +12,14 @@ words h q d eh eq =
     let two = word_sum-append h q (length h / 2) (omega arith) in
     omega (arith, one, two)
 
--- the checksum of three parts is summed one after the other
-pub checksum_of_parts : (h q d : List ℕ) (a b c : ℕ) → length h % 2 ≡ 0 → length q % 2 ≡ 0 →
-    a ≡ folded (0 + word_sum h) → b ≡ folded (a + word_sum q) → c ≡ folded (b + word_sum d) → 65535 - c ≡ checksum_of (h ++ q ++ d)
-checksum_of_parts h q d a b c eh eq ea eb ec =
-    let first : a ≡ folded (word_sum h) = ea ∙ ap folded (omega arith) in
-    let second : b ≡ folded (word_sum h + word_sum q) = eb ∙ ap (λ (t : ℕ). folded (t + word_sum q)) first ∙ folded_again (word_sum h) (word_sum q) in
-    let third : c ≡ folded (word_sum h + word_sum q + word_sum d) = ec ∙ ap (λ (t : ℕ). folded (t + word_sum d)) second ∙ folded_again (word_sum h + word_sum q) (word_sum d) in
-    ap (λ (t : ℕ). 65535 - t) (third ∙ ap folded (sym (words h q d eh eq)))
+-- the checksum of three parts, two of them in sums that fold as theirs do
+pub checksum_of_parts : (h q d : List ℕ) (a b c : ℕ) → length h % 2 ≡ 0 → length q % 2 ≡ 0 → ((sum : ℕ) → folded (sum + a) ≡ folded (sum + word_sum h)) →
+    ((sum : ℕ) → folded (sum + b) ≡ folded (sum + word_sum q)) → c ≡ folded (a + b + word_sum d) → 65535 - c ≡ checksum_of (h ++ q ++ d)
+checksum_of_parts h q d a b c eh eq heads quotes ec =
+    let second : a + b + word_sum d ≡ a + word_sum d + b = omega arith in
+    let first : a + word_sum d + word_sum q ≡ word_sum q + word_sum d + a = omega arith in
+    let all : word_sum q + word_sum d + word_sum h ≡ word_sum (h ++ q ++ d) = omega (arith, words h q d eh eq) in
+    ap (λ (t : ℕ). 65535 - t) (ec ∙ ap folded second ∙ quotes (a + word_sum d) ∙ ap folded first ∙ heads (word_sum q + word_sum d) ∙ ap folded all)
 
 -- what a word leaves of a sum that is all ones
 complement : (n k w : ℕ) → n ≡ k + w → folded n ≡ 65535 → 0 < k % 65535 → k % 65535 ≡ 65535 - folded w

@@ -1,5 +1,5 @@
 -- The sums of an echo request and of its reply.
-use Rattle.std.proofs.Common.{◌≡◌, ℕ, zero, suc, ◌+◌, ◌-◌, ◌*◌, ◌/◌, ◌%◌, ◌<◌, ◌≤◌, ◌^◌, List, [], ◌++◌, length, drop, refl, sym, ap, ◌∙◌, arith}
+use Rattle.std.proofs.Common.{◌≡◌, ℕ, zero, suc, ◌+◌, ◌-◌, ◌%◌, ◌<◌, ◌≤◌, ◌^◌, List, [], ◌++◌, length, drop, refl, sym, ap, ◌∙◌, arith}
 use Rattle.wire_base.specs.Checksum.{folded, word_sum, checksum_of}
 use Rattle.wire_base.specs.Pseudo.{pseudo}
 use Rattle.wire_base.specs.Octets.{u16_at}
@@ -43,11 +43,12 @@ rest_words octets long =
     omega (arith, three, four)
 
 -- what the words behind a request's checksum leave
-pub rest_of_request : (src dst : IpAddress) (octets : List ℕ) (start sum n : ℕ) → IsEchoRequest src dst octets → n ≡ length octets → start ≡ folded (word_sum (pseudo src dst 58 n)) → sum ≡ u16_at octets 2 →
+pub rest_of_request : (src dst : IpAddress) (octets : List ℕ) (start sum n : ℕ) → IsEchoRequest src dst octets → n ≡ length octets →
+    ((s : ℕ) → folded (s + start) ≡ folded (s + word_sum (pseudo src dst 58 n))) → sum ≡ u16_at octets 2 →
     (65535 - folded (start + 32768 + sum)) % 65535 ≡ word_sum (drop 4 octets) % 65535
-rest_of_request src dst octets start sum n request en estart esum =
+rest_of_request src dst octets start sum n request en starts esum =
     let own : word_sum octets ≡ 32768 + sum + word_sum (drop 4 octets) = rw esum (request_words octets request.whole_header request.type request.code) in
-    let ones : folded (start + (32768 + sum + word_sum (drop 4 octets))) ≡ 65535 = rw (estart, en, ← own) (sym (behind src dst 58 (length octets) octets) ∙ request.sum) in
+    let ones : folded (start + (32768 + sum + word_sum (drop 4 octets))) ≡ 65535 = rw (← own) (sym (behind src dst 58 n start octets starts) ∙ rw en request.sum) in
     let turned : start + 32768 + sum ≡ start + (32768 + sum) = omega arith in
     rw turned (leaves start (32768 + sum) (word_sum (drop 4 octets)) (omega arith) ones)
 
@@ -57,10 +58,10 @@ unfolding head_with word_sum
 reply_words i s xs il sl = omega (arith, il, sl)
 
 pub reply_checksum : (src dst : IpAddress) (octets : List ℕ) (start rest n : ℕ) → 8 ≤ length octets → u16_at octets 4 < 2 ^ 16 → u16_at octets 6 < 2 ^ 16 → n ≡ length octets →
-    start ≡ folded (word_sum (pseudo src dst 58 n)) → rest % 65535 ≡ word_sum (drop 4 octets) % 65535 →
+    ((s : ℕ) → folded (s + start) ≡ folded (s + word_sum (pseudo src dst 58 n))) → rest % 65535 ≡ word_sum (drop 4 octets) % 65535 →
     65535 - folded (start + 33024 + rest) ≡ checksum_of (pseudo src dst 58 n ++ (head_with 0 (echo_reply_to octets) ++ [] ++ drop 8 octets))
-reply_checksum src dst octets start rest n long il sl en estart leaves_it =
+reply_checksum src dst octets start rest n long il sl en starts leaves_it =
     let xs = head_with 0 (echo_reply_to octets) ++ [] ++ drop 8 octets in
     let own : word_sum xs ≡ 33024 + word_sum (drop 4 octets) = rw (rest_words octets long) (reply_words (u16_at octets 4) (u16_at octets 6) (drop 8 octets) il sl) in
-    let there : folded (start + (33024 + word_sum (drop 4 octets))) ≡ folded (word_sum (pseudo src dst 58 n ++ xs)) = rw (estart, ← own) (sym (behind src dst 58 n xs)) in
+    let there : folded (start + (33024 + word_sum (drop 4 octets))) ≡ folded (word_sum (pseudo src dst 58 n ++ xs)) = rw (← own) (sym (behind src dst 58 n start xs starts)) in
     ap (λ (t : ℕ). 65535 - t) (alike start 33024 (word_sum (drop 4 octets)) rest (omega arith) leaves_it ∙ there)

@@ -4,7 +4,7 @@ use Rattle.wire_base.specs.Checksum.{folded, word_sum, checksum_of}
 use Rattle.wire_base.specs.Pseudo.{pseudo}
 use Rattle.ip_address.specs.declared.ip.IpAddress.{IpAddress}
 use Rattle.wire_base.proofs.Pseudos.{behind}
-use Rattle.wire_base.proofs.Sums.{word_sum-append, folded_again}
+use Rattle.wire_base.proofs.Sums.{word_sum-append}
 
 pub ruleset before = (behind)
 
@@ -15,28 +15,27 @@ words h b d eh eb =
     let two = word_sum-append h b (length h / 2) (omega arith) in
     omega (arith, one, two)
 
--- a head, a body of two parts and the data are summed one after the other, behind the pseudo-header
+-- a head and the two parts of a body, in sums that fold as theirs do, and the data, behind the pseudo-header
 sum_of_all : (src dst : IpAddress) (len : ℕ) (h f s body d : List ℕ) (start a b c e : ℕ) → length h % 2 ≡ 0 → length f % 2 ≡ 0 → length s % 2 ≡ 0 → f ++ s ≡ body →
-    start ≡ folded (word_sum (pseudo src dst 58 len)) →
-    a ≡ folded (start + word_sum h) → b ≡ folded (a + word_sum f) → c ≡ folded (b + word_sum s) → e ≡ folded (c + word_sum d) →
+    ((sum : ℕ) → folded (sum + start) ≡ folded (sum + word_sum (pseudo src dst 58 len))) → ((sum : ℕ) → folded (sum + a) ≡ folded (sum + word_sum h)) →
+    ((sum : ℕ) → folded (sum + b) ≡ folded (sum + word_sum f)) → ((sum : ℕ) → folded (sum + c) ≡ folded (sum + word_sum s)) → e ≡ folded (start + a + (b + c) + word_sum d) →
     65535 - e ≡ checksum_of (pseudo src dst 58 len ++ (h ++ body ++ d))
-sum_of_all src dst len h f s body d start a b c e eh ef es is estart ea eb ec ee =
-    let p = word_sum (pseudo src dst 58 len) in
+sum_of_all src dst len h f s body d start a b c e eh ef es is starts heads firsts seconds ee =
+    let behind_it = word_sum d in
     let parts = word_sum-append f s (length f / 2) (omega arith) in
     let even : length (f ++ s) % 2 ≡ 0 = omega (arith, length-append f s, ef, es) in
     let whole = words h (f ++ s) d eh even in
-    let second : b ≡ folded (start + word_sum h + word_sum f) = eb ∙ ap (λ (t : ℕ). folded (t + word_sum f)) ea ∙ folded_again (start + word_sum h) (word_sum f) in
-    let third : c ≡ folded (start + word_sum h + word_sum f + word_sum s) = ec ∙ ap (λ (t : ℕ). folded (t + word_sum s)) second ∙ folded_again (start + word_sum h + word_sum f) (word_sum s) in
-    let fourth : e ≡ folded (start + word_sum h + word_sum f + word_sum s + word_sum d) =
-    ee ∙ ap (λ (t : ℕ). folded (t + word_sum d)) third ∙ folded_again (start + word_sum h + word_sum f + word_sum s) (word_sum d) in
-    let all : start + word_sum h + word_sum f + word_sum s + word_sum d ≡ start + word_sum (h ++ (f ++ s) ++ d) = omega (arith, whole, parts) in
-    let there : folded (start + word_sum (h ++ (f ++ s) ++ d)) ≡ folded (folded p + word_sum (h ++ body ++ d)) =
-    ap (λ (t : ℕ). folded (t + word_sum (h ++ (f ++ s) ++ d))) estart ∙ ap (λ (xs : List ℕ). folded (folded p + word_sum (h ++ xs ++ d))) is in
-    ap (λ (t : ℕ). 65535 - t) (fourth ∙ ap folded all ∙ there ∙ sym (behind src dst 58 len (h ++ body ++ d)))
+    let third : start + a + (b + c) + behind_it ≡ start + a + b + behind_it + c = omega arith in
+    let second : start + a + b + behind_it + word_sum s ≡ start + a + word_sum s + behind_it + b = omega arith in
+    let first : start + a + word_sum s + behind_it + word_sum f ≡ start + word_sum f + word_sum s + behind_it + a = omega arith in
+    let all : start + word_sum f + word_sum s + behind_it + word_sum h ≡ start + word_sum (h ++ (f ++ s) ++ d) = omega (arith, whole, parts) in
+    let joined : folded (start + word_sum (h ++ (f ++ s) ++ d)) ≡ folded (start + word_sum (h ++ body ++ d)) = ap (λ (xs : List ℕ). folded (start + word_sum (h ++ xs ++ d))) is in
+    ap (λ (t : ℕ). 65535 - t) (ee ∙ ap folded third ∙ seconds (start + a + b + behind_it) ∙ ap folded second ∙ firsts (start + a + word_sum s + behind_it) ∙ ap folded first
+    ∙ heads (start + word_sum f + word_sum s + behind_it) ∙ ap folded all ∙ joined ∙ sym (behind src dst 58 len start (h ++ body ++ d) starts))
 
 pub sum_of_parts : (src dst : IpAddress) (n len : ℕ) (h head f s body d : List ℕ) (start a b c e : ℕ) → n ≡ len → h ≡ head → length h % 2 ≡ 0 → length f % 2 ≡ 0 → length s % 2 ≡ 0 → f ++ s ≡ body →
-    start ≡ folded (word_sum (pseudo src dst 58 n)) →
-    a ≡ folded (start + word_sum h) → b ≡ folded (a + word_sum f) → c ≡ folded (b + word_sum s) → e ≡ folded (c + word_sum d) →
+    ((sum : ℕ) → folded (sum + start) ≡ folded (sum + word_sum (pseudo src dst 58 n))) → ((sum : ℕ) → folded (sum + a) ≡ folded (sum + word_sum h)) →
+    ((sum : ℕ) → folded (sum + b) ≡ folded (sum + word_sum f)) → ((sum : ℕ) → folded (sum + c) ≡ folded (sum + word_sum s)) → e ≡ folded (start + a + (b + c) + word_sum d) →
     65535 - e ≡ checksum_of (pseudo src dst 58 len ++ (head ++ body ++ d))
-sum_of_parts src dst n len h head f s body d start a b c e en is-head eh ef es is estart ea eb ec ee =
-    rw (← en, ← is-head) (sum_of_all src dst n h f s body d start a b c e eh ef es is estart ea eb ec ee)
+sum_of_parts src dst n len h head f s body d start a b c e en is-head eh ef es is starts heads firsts seconds ee =
+    rw (← en, ← is-head) (sum_of_all src dst n h f s body d start a b c e eh ef es is starts heads firsts seconds ee)

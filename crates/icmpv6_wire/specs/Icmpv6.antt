@@ -70,7 +70,11 @@ pub data IsBody (octets : List ℕ) : Type 0 where
 abbrev pub pseudo_header : IpAddress → IpAddress → ℕ → List ℕ
 pseudo_header src dst len = pseudo src dst 58 len
 
--- the octets are a message; its checksum is right if the sum with the pseudo-header is all ones
+-- the octets may be a message: its checksum is right if the sum with the pseudo-header is all ones
+abbrev pub IsSound : Bool → IpAddress → IpAddress → List ℕ → Type 0
+IsSound checked src dst octets = (8 ≤ length octets) × (IsTrue checked → folded (word_sum (pseudo_header src dst (length octets) ++ octets)) ≡ 65535)
+
+-- they are one
 pub record IsIcmpv6 (checked : Bool) (src dst : IpAddress) (octets : List ℕ) : Type 0 where
   pub whole_header : 8 ≤ length octets
   pub sum : IsTrue checked → folded (word_sum (pseudo_header src dst (length octets) ++ octets)) ≡ 65535

@@ -33,7 +33,7 @@ impl<'p> EchoRequest<'p> {
     {
         let start = pseudo_header_sum(src, dst, octets.len() as u16);
         let sum = u16_at(octets, 2);
-        let rest = 0xffff - fold(u64::from(start) + 0x8000 + u64::from(sum));
+        let rest = 0xffff - fold(start + 0x8000 + u64::from(sum));
         EchoRequest { octets, rest }
     }
 }
@@ -81,5 +81,5 @@ fn reply_sum(request: &EchoRequest<'_>, src: &IpAddress, dst: &IpAddress) -> u16
     ensures { result ≡ spec.sum_of true src.now dst.now (echo_reply_to request.now.octets.now) (drop 8 request.now.octets.now) }
 {
     let start = pseudo_header_sum(src, dst, request.octets.len() as u16);
-    0xffff - fold(u64::from(start) + 0x8100 + u64::from(request.rest))
+    0xffff - fold(start + 0x8100 + u64::from(request.rest))
 }

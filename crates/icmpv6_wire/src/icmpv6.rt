@@ -1,6 +1,6 @@
 //! ICMP for IPv6 (RFC 4443): echo messages, errors with their quotations, and the messages of neighbours,
 //! routers and listeners.
-ghost use Rattle.std.specs.Prelude.{◌≡◌, ◌==◌, ◌+◌, ◌%◌, ◌<◌, ◌≤◌, ◌^◌, ◌++◌, length, true};
+ghost use Rattle.std.specs.Prelude.{◌≡◌, ◌==◌, ◌+◌, ◌%◌, ◌<◌, ◌≤◌, ◌^◌, ◌++◌, ℕ, length, true, false};
 ghost use Rattle.std.specs.Option.{SomeIff, option_map};
 ghost use Rattle.std.specs.Cmp.Rules.{comparing};
 ghost use Rattle.std.proofs.Common.{rules};
@@ -12,7 +12,7 @@ use crate::router::RouterRepr;
 use group_wire::mld::MldRepr;
 use ip_address::IpAddress;
 use ipv6_wire::ipv6_packet::Ipv6Repr;
-use wire_base::checksum::sum_with;
+use wire_base::checksum::{part_sum, sum_with};
 use wire_base::emit::FrameBuffer;
 use wire_base::octets::{u16_at, u32_at};
 use wire_base::pseudo::pseudo_sum;
@@ -183,13 +183,10 @@ impl Icmpv6Repr {
         requires { length octets.now < 2 ^ 16 }
         ensures { SomeIff (option_map spec.parts result) (spec.IsIcmpv6 checked src.now dst.now octets.now) (spec.icmpv6_in octets.now) }
     {
-        if octets.len() < HEADER_LEN {
+        if !is_sound(octets, src, dst, checked) {
             return None;
         }
-        if checked && !sums_up(octets, src, dst) {
-            return None;
-        }
-        parse_body(octets)
+        parse_sound(octets)
     }
 
     /// Appends the message with its data; one of neighbours or routers is to have none. The message has to
@@ -276,6 +273,18 @@ impl Icmpv6Repr {
     }
 }
 
+/// Whether octets, which have to be fewer than 65,536, may be a message that came between two addresses: there are as
+/// many as a header has, and, where `checked`, the checksum over the pseudo-header and all of them is right (RFC 4443
+/// 2.3).
+#[inline(always)]
+pub fn is_sound(octets: &[u8], src: &IpAddress, dst: &IpAddress, checked: bool) -> bool
+    requires { length octets.now < 2 ^ 16 }
+    ensures sound { result ≡ true → spec.IsSound checked src.now dst.now octets.now }
+    ensures unsound { result ≡ false → spec.IsSound checked src.now dst.now octets.now → ⊥ }
+{
+    octets.len() >= HEADER_LEN && (!checked || sums_up(octets, src, dst))
+}
+
 /// Whether a message and its pseudo-header sum up to all ones.
 #[tactic(auto, using(crate::proofs::Icmpv6Sums::before))]
 fn sums_up(octets: &[u8], src: &IpAddress, dst: &IpAddress) -> bool
@@ -286,10 +295,11 @@ fn sums_up(octets: &[u8], src: &IpAddress, dst: &IpAddress) -> bool
     sum_with(start, octets) == 0xffff
 }
 
-/// The folded sum of the pseudo-header of a message of this length, in octets.
+/// What folds as the sum of the pseudo-header of a message of this length, in octets, in whichever sum it is.
 #[inline(always)]
-pub(crate) fn pseudo_header_sum(src: &IpAddress, dst: &IpAddress, len: u16) -> u16
-    ensures { result ≡ folded (word_sum (spec.pseudo_header src.now dst.now len)) }
+pub(crate) fn pseudo_header_sum(src: &IpAddress, dst: &IpAddress, len: u16) -> u64
+    ensures folds { (sum : ℕ) → folded (sum + result) ≡ folded (sum + word_sum (spec.pseudo_header src.now dst.now len)) }
+    ensures small { result < 2 ^ 40 }
 {
     pseudo_sum(src, dst, 58, len)
 }
@@ -341,9 +351,10 @@ pub(crate) fn head_with(sum: u16, repr: &Icmpv6Repr) -> [u8; HEADER_LEN]
     }
 }
 
-/// Appends a message up to its data: its first eight octets, and its body in two parts.
+/// Appends a message up to its data, as [`Icmpv6Repr::emit_header`] does, by its first eight octets and its body in two
+/// parts of even length. Where the kind of a message is known, what appends it is compiled for that kind alone.
 #[inline(always)]
-fn emit_parts(
+pub fn emit_parts(
     message: &Icmpv6Repr,
     first: &[u8],
     second: &[u8],
@@ -391,13 +402,15 @@ fn sum_of(
 {
     let len = (message.header_len() + payload.len()) as u16;
     let start = pseudo_header_sum(src, dst, len);
-    let head = sum_with(start, &head_with(0, message));
-    0xffff - sum_with(sum_with(sum_with(head, first), second), payload)
+    let head = part_sum(&head_with(0, message));
+    let body = part_sum(first) + part_sum(second);
+    0xffff - sum_with(start + head + body, payload)
 }
 
-/// The message by its type, and its data.
+/// The message by its type, and its data, of octets that are [sound](is_sound). `None` exactly where
+/// [`Icmpv6Repr::parse`] gives none for them.
 #[inline(always)]
-fn parse_body(octets: &[u8]) -> Option<(Icmpv6Repr, &[u8])>
+pub fn parse_sound(octets: &[u8]) -> Option<(Icmpv6Repr, &[u8])>
     requires { 8 ≤ length octets.now }
     ensures { SomeIff (option_map spec.parts result) (spec.IsBody octets.now) (spec.icmpv6_in octets.now) }
 {

@@ -1,5 +1,5 @@
 -- The sums of datagrams and segments, whose pseudo-header stands before them.
-use Rattle.std.proofs.Common.{◌≡◌, ℕ, zero, suc, ◌+◌, ◌-◌, List, ◌++◌, refl, sym, ap, ◌∙◌, Bool, true, false, cond, eqb, arith}
+use Rattle.std.proofs.Common.{◌≡◌, ℕ, zero, suc, ◌+◌, ◌-◌, ◌*◌, ◌<◌, ◌^◌, List, ◌++◌, length, refl, sym, ap, ◌∙◌, Bool, true, false, cond, eqb, arith}
 use Rattle.std.proofs.lemmas.Bool.{eqb-true}
 use Rattle.ip_address.specs.declared.ip.IpAddress.{IpAddress}
 use Rattle.wire_base.specs.Checksum.{folded, word_sum, checksum_of}
@@ -14,17 +14,32 @@ use Rattle.ip_wire.specs.declared.udp.UdpRepr.{UdpRepr}
 
 pub ruleset before = (behind)
 
-pub datagram_sum : (src dst : IpAddress) (len sum payload_len : ℕ) (r : UdpRepr) (payload : List ℕ)
-    → checksum_of (pseudo src dst 17 len ++ (udp.header_with sum r payload_len ++ payload)) ≡ 65535 - folded (folded (folded (word_sum (pseudo src dst 17 len)) + word_sum (udp.header_with sum r payload_len)) + word_sum payload)
+-- the words of a datagram's header: its ports and its length
+header_words : (sum payload_len : ℕ) (r : UdpRepr) → sum ≡ 0 → r.src_port < 2 ^ 16 → r.dst_port < 2 ^ 16 → 8 + payload_len < 2 ^ 16
+    → word_sum (udp.header_with sum r payload_len) ≡ r.src_port + r.dst_port + (8 + payload_len)
+unfolding udp.header_with word_sum
+header_words sum payload_len r none ls ld ll = omega (arith, none, ls, ld, ll)
+
+header_len : (payload_len : ℕ) (r : UdpRepr) → length (udp.header_with 0 r payload_len) ≡ 2 * 4
 unfolding udp.header_with
-datagram_sum src dst len sum payload_len r payload = parts src dst 17 len 4 (udp.header_with sum r payload_len) payload refl
+header_len payload_len r = refl
+
+pub datagram_sum : (src dst : IpAddress) (payload_len start : ℕ) (r : UdpRepr) (payload : List ℕ) → r.src_port < 2 ^ 16 → r.dst_port < 2 ^ 16 → 8 + payload_len < 2 ^ 16
+    → ((sum : ℕ) → folded (sum + start) ≡ folded (sum + word_sum (pseudo src dst 17 (8 + payload_len))))
+    → checksum_of (pseudo src dst 17 (8 + payload_len) ++ (udp.header_with 0 r payload_len ++ payload)) ≡ 65535 - folded (start + (r.src_port + r.dst_port) + (8 + payload_len) + word_sum payload)
+datagram_sum src dst payload_len start r payload ls ld ll starts =
+    let words = header_words 0 payload_len r refl ls ld ll in
+    let grouped : start + (r.src_port + r.dst_port + (8 + payload_len)) + word_sum payload ≡ start + (r.src_port + r.dst_port) + (8 + payload_len) + word_sum payload = omega arith in
+    parts src dst 17 (8 + payload_len) 4 start (r.src_port + r.dst_port + (8 + payload_len)) (udp.header_with 0 r payload_len) payload (header_len payload_len r) starts (λ sum. ap (λ (t : ℕ). folded (sum + t)) (sym words))
+    ∙ ap (λ (t : ℕ). 65535 - folded t) grouped
 
 pub ruleset datagrams = (datagram_sum)
 
-pub segment_sum : (src dst : IpAddress) (len sum : ℕ) (r : TcpRepr) (payload : List ℕ)
-    → checksum_of (pseudo src dst 6 len ++ (tcp.header_with sum r ++ payload)) ≡ 65535 - folded (folded (folded (word_sum (pseudo src dst 6 len)) + word_sum (tcp.header_with sum r)) + word_sum payload)
+pub segment_sum : (src dst : IpAddress) (len sum start head : ℕ) (r : TcpRepr) (payload : List ℕ)
+    → ((s : ℕ) → folded (s + start) ≡ folded (s + word_sum (pseudo src dst 6 len))) → ((s : ℕ) → folded (s + head) ≡ folded (s + word_sum (tcp.header_with sum r)))
+    → checksum_of (pseudo src dst 6 len ++ (tcp.header_with sum r ++ payload)) ≡ 65535 - folded (start + head + word_sum payload)
 unfolding tcp.header_with
-segment_sum src dst len sum r payload = parts src dst 6 len 10 (tcp.header_with sum r) payload refl
+segment_sum src dst len sum start head r payload starts heads = parts src dst 6 len 10 start head (tcp.header_with sum r) payload refl starts heads
 
 pub ruleset segments = (segment_sum)
 

@@ -7,7 +7,7 @@ ghost use Rattle.ip_wire.specs.Tcp as spec;
 
 use ip_address::IpAddress;
 use std::fmt;
-use wire_base::checksum::sum_with;
+use wire_base::checksum::{part_sum, sum_with};
 use wire_base::emit::FrameBuffer;
 use wire_base::octets::{u16_at, u32_at};
 use wire_base::pseudo::pseudo_sum;
@@ -257,7 +257,7 @@ fn sum_for(repr: &TcpRepr, src: &IpAddress, dst: &IpAddress, payload: &[u8]) -> 
     ensures { result ≡ spec.sum_of true src.now dst.now repr.now payload.now }
 {
     let len = 20 + payload.len() as u16;
-    let start = sum_with(pseudo_sum(src, dst, 6, len), &header_with(0, repr));
+    let start = pseudo_sum(src, dst, 6, len) + part_sum(&header_with(0, repr));
     0xffff - sum_with(start, payload)
 }
 

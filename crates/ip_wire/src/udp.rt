@@ -145,10 +145,8 @@ fn sum_for(repr: &UdpRepr, src: &IpAddress, dst: &IpAddress, payload: &[u8]) -> 
     ensures { result ≡ spec.sum_of true src.now dst.now repr.now payload.now }
 {
     let len = payload.len() as u16;
-    let start = sum_with(
-        pseudo_sum(src, dst, 17, 8 + len),
-        &header_with(0, repr, len),
-    );
+    let ports = u64::from(repr.src_port) + u64::from(repr.dst_port);
+    let start = pseudo_sum(src, dst, 17, 8 + len) + ports + u64::from(8 + len);
     let sum = 0xffff - sum_with(start, payload);
     if sum == 0 { 0xffff } else { sum }
 }

@@ -7,7 +7,7 @@ use Rattle.ip_address.specs.declared.ipv6.Ipv6Address.{Ipv6Address}
 use Rattle.ip_address.specs.declared.ipv4.Ipv4Address.{Ipv4Address}
 use Rattle.ip_address.specs.declared.ip.IpAddress.{IpAddress}
 use Rattle.ip_address.specs.declared.ip.IpAddress.TheVariants.{Ipv4, Ipv6}
-use Rattle.wire_base.proofs.Sums.{word_sum-append, folded_again, folded_shift}
+use Rattle.wire_base.proofs.Sums.{word_sum-append, folded_again, folded_shift, folds_in}
 
 -- an address has whole words
 address_words : (a : IpAddress) (xs : List ℕ) → word_sum (address_octets a ++ xs) ≡ word_sum (address_octets a) + word_sum xs
@@ -93,12 +93,36 @@ numbers6 src dst protocol len ls ld ll =
     let qd = quarters_words dst.bits ld in
     ap folded words ∙ sym (folded_shift (quarters src.bits + quarters dst.bits + protocol + len) n k (omega (arith, qs, qd)))
 
-pub ruleset sums = (chained, numbers, numbers6)
+-- in whichever sum it is
+pub in_sums4 : (sum : ℕ) (src dst : Ipv4Address) (protocol len : ℕ) → src.bits < 2 ^ 32 → dst.bits < 2 ^ 32 → len < 2 ^ 16
+    → folded (sum + (src.bits + dst.bits + protocol + len)) ≡ folded (sum + word_sum (pseudo (Ipv4 src) (Ipv4 dst) protocol len))
+in_sums4 sum src dst protocol len ls ld ll =
+    folds_in (src.bits + dst.bits + protocol + len) (word_sum (pseudo (Ipv4 src) (Ipv4 dst) protocol len)) (sym (numbers src dst protocol len ls ld ll)) sum
+
+pub in_sums6 : (sum : ℕ) (src dst : Ipv6Address) (protocol len : ℕ) → src.bits < 2 ^ 128 → dst.bits < 2 ^ 128 → len < 2 ^ 16
+    → folded (sum + (quarters src.bits + quarters dst.bits + protocol + len)) ≡ folded (sum + word_sum (pseudo (Ipv6 src) (Ipv6 dst) protocol len))
+in_sums6 sum src dst protocol len ls ld ll =
+    folds_in (quarters src.bits + quarters dst.bits + protocol + len) (word_sum (pseudo (Ipv6 src) (Ipv6 dst) protocol len)) (sym (numbers6 src dst protocol len ls ld ll)) sum
+
+pub in_sums : (sum : ℕ) (src dst : IpAddress) (protocol len : ℕ)
+    → folded (sum + folded (folded (folded (0 + word_sum (address_octets src)) + word_sum (address_octets dst)) + word_sum (ending dst protocol len))) ≡ folded (sum + word_sum (pseudo src dst protocol len))
+in_sums sum src dst protocol len =
+    let p = word_sum (pseudo src dst protocol len) in
+    let f = folded (folded (folded (0 + word_sum (address_octets src)) + word_sum (address_octets dst)) + word_sum (ending dst protocol len)) in
+    let turned : sum + p ≡ p + sum = omega arith in
+    let back : f + sum ≡ sum + f = omega arith in
+    sym (ap folded turned ∙ sym (folded_again p sum) ∙ ap (λ (t : ℕ). folded (t + sum)) (chained src dst protocol len) ∙ ap folded back)
+
+pub ruleset sums = (in_sums4, in_sums6, in_sums)
 
 -- what stands behind it
-pub behind : (src dst : IpAddress) (protocol len : ℕ) (xs : List ℕ) → folded (word_sum (pseudo src dst protocol len ++ xs)) ≡ folded (folded (word_sum (pseudo src dst protocol len)) + word_sum xs)
-behind src dst protocol len xs =
-    ap folded (words_behind src dst protocol len xs) ∙ sym (folded_again (word_sum (pseudo src dst protocol len)) (word_sum xs))
+pub behind : (src dst : IpAddress) (protocol len start : ℕ) (xs : List ℕ) → ((sum : ℕ) → folded (sum + start) ≡ folded (sum + word_sum (pseudo src dst protocol len)))
+    → folded (word_sum (pseudo src dst protocol len ++ xs)) ≡ folded (start + word_sum xs)
+behind src dst protocol len start xs folds =
+    let p = word_sum (pseudo src dst protocol len) in
+    let turned : p + word_sum xs ≡ word_sum xs + p = omega arith in
+    let back : word_sum xs + start ≡ start + word_sum xs = omega arith in
+    ap folded (words_behind src dst protocol len xs ∙ turned) ∙ sym (folds (word_sum xs)) ∙ ap folded back
 
 -- behind it a header of whole words, and a payload
 pub header_words : (src dst : IpAddress) (protocol len k : ℕ) (header payload : List ℕ) → length header ≡ 2 * k
@@ -108,10 +132,14 @@ header_words src dst protocol len k header payload even =
     let two = word_sum-append header payload k even in
     omega (arith, one, two)
 
-pub parts : (src dst : IpAddress) (protocol len k : ℕ) (header payload : List ℕ) → length header ≡ 2 * k
-    → checksum_of (pseudo src dst protocol len ++ (header ++ payload)) ≡ 65535 - folded (folded (folded (word_sum (pseudo src dst protocol len)) + word_sum header) + word_sum payload)
-parts src dst protocol len k header payload even =
+pub parts : (src dst : IpAddress) (protocol len k start head : ℕ) (header payload : List ℕ) → length header ≡ 2 * k
+    → ((sum : ℕ) → folded (sum + start) ≡ folded (sum + word_sum (pseudo src dst protocol len))) → ((sum : ℕ) → folded (sum + head) ≡ folded (sum + word_sum header))
+    → checksum_of (pseudo src dst protocol len ++ (header ++ payload)) ≡ 65535 - folded (start + head + word_sum payload)
+parts src dst protocol len k start head header payload even starts heads =
     let p = word_sum (pseudo src dst protocol len) in
-    ap (λ (t : ℕ). 65535 - t) (ap folded (header_words src dst protocol len k header payload even)
-    ∙ sym (folded_again (p + word_sum header) (word_sum payload))
-    ∙ ap (λ (t : ℕ). folded (t + word_sum payload)) (sym (folded_again p (word_sum header))))
+    let h = word_sum header in
+    let d = word_sum payload in
+    let first : p + h + d ≡ p + d + h = omega arith in
+    let second : p + d + head ≡ head + d + p = omega arith in
+    let third : head + d + start ≡ start + head + d = omega arith in
+    ap (λ (t : ℕ). 65535 - t) (ap folded (header_words src dst protocol len k header payload even ∙ first) ∙ sym (heads (p + d)) ∙ ap folded second ∙ sym (starts (head + d)) ∙ ap folded third)

@@ -132,6 +132,13 @@ folded_again (suc n) m =
     let there : suc n + m ≡ suc (n + m) = omega arith in
     ap folded here ∙ sym (folded-more (n % 65535 + m) (n + m) (n / 65535) (omega arith)) ∙ ap folded (sym there)
 
+-- what folds alike does so in whichever sum it is
+pub folds_in : (a b : ℕ) → folded a ≡ folded b → (sum : ℕ) → folded (sum + a) ≡ folded (sum + b)
+folds_in a b e sum =
+    let first : sum + a ≡ a + sum = omega arith in
+    let second : b + sum ≡ sum + b = omega arith in
+    ap folded first ∙ sym (folded_again a sum) ∙ ap (λ (t : ℕ). folded (t + sum)) e ∙ folded_again b sum ∙ ap folded second
+
 -- a sum with its checksum folds to all ones
 pub summed_up : (n c : ℕ) → c ≡ 65535 - folded n → folded (n + c) ≡ 65535
 summed_up zero c e = rw e refl

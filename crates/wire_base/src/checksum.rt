@@ -5,16 +5,17 @@ ghost use Rattle.wire_base.specs.Octets.{u64_le_at};
 
 use crate::octets::{u32_le_at, u64_le_at};
 
-/// A folded sum with the 16-bit words of some octets, of which there are fewer than 65,536, added
-/// to it, folded again. A last odd octet is the high half of a word, so parts are summed one after
+/// A sum of less than 2^48 with the 16-bit words of some octets, of which there are fewer than 65,536, added
+/// to it, folded. A last odd octet is the high half of a word, so parts are summed one after
 /// the other as long as all but the last are of even length.
 #[inline(always)]
-pub fn sum_with(start: u16, octets: &[u8]) -> u16
-    requires { length octets.now < 2 ^ 16 }
+pub fn sum_with(start: u64, octets: &[u8]) -> u16
+    requires short { length octets.now < 2 ^ 16 }
+    requires small { start < 2 ^ 48 }
     ensures { result ≡ spec.folded (start + spec.word_sum octets.now) }
 {
     if octets.len() < 32 {
-        return fold(u64::from(start) + rest_sum(octets));
+        return fold(start + short_sum(octets));
     }
     long_sum_with(start, octets)
 }
@@ -22,8 +23,9 @@ pub fn sum_with(start: u16, octets: &[u8]) -> u16
 /// The same, in blocks of 64 octets, and one of 32 where that is left. Read little-endian, eight octets need no swap: times 256 they
 /// fold as their four words do (RFC 1071 2).
 #[inline(never)]
-fn long_sum_with(start: u16, octets: &[u8]) -> u16
-    requires { length octets.now < 2 ^ 16 }
+fn long_sum_with(start: u64, octets: &[u8]) -> u16
+    requires short { length octets.now < 2 ^ 16 }
+    requires small { start < 2 ^ 48 }
     ensures { result ≡ spec.folded (start + spec.word_sum octets.now) }
 {
     let mut swapped = 0u128;
@@ -32,8 +34,8 @@ fn long_sum_with(start: u16, octets: &[u8]) -> u16
         swapped += blocks_sum(octets, 64 * i);
     }
     let whole = with_odd_block(swapped, octets, count);
-    let sum = u64::from(start) + 256 * parts_sum(whole);
-    fold(sum + rest_sum(&octets[32 * count..]))
+    let sum = start + 256 * parts_sum(whole);
+    fold(sum + short_sum(&octets[32 * count..]))
 }
 
 /// A sum of the little-endian numbers in the pairs of so many blocks of 32 octets, with those of the last
@@ -75,12 +77,27 @@ fn block_sum(octets: &[u8], at: usize) -> u128
         + u128::from(u64_le_at(octets, at + 24))
 }
 
-/// What folds as the sum of the words of fewer than 32 octets, which are read four at a time.
+/// What folds as the sum of the words of some octets, of which there are fewer than 65,536, in whichever sum it is:
+/// so several parts, all but the last of even length, are folded once.
 #[inline(always)]
-fn rest_sum(octets: &[u8]) -> u64
+pub fn part_sum(octets: &[u8]) -> u64
+    requires { length octets.now < 2 ^ 16 }
+    ensures folds { (sum : ℕ) → spec.folded (sum + result) ≡ spec.folded (sum + spec.word_sum octets.now) }
+    ensures small { result < 2 ^ 44 }
+{
+    if octets.len() < 32 {
+        short_sum(octets)
+    } else {
+        u64::from(long_sum_with(0, octets))
+    }
+}
+
+/// The same of fewer than 32 octets, which are read four at a time.
+#[inline(always)]
+fn short_sum(octets: &[u8]) -> u64
     requires { length octets.now < 32 }
     ensures folds { (sum : ℕ) → spec.folded (sum + result) ≡ spec.folded (sum + spec.word_sum octets.now) }
-    ensures small { result < 2 ^ 48 }
+    ensures small { result < 2 ^ 44 }
 {
     let mut swapped = 0u64;
     let count = octets.len() / 4;

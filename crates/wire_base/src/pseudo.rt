@@ -1,28 +1,27 @@
 //! The pseudo-header that the checksums of UDP and TCP cover (RFC 768, RFC 9293 3.1, RFC 8200 8.1).
-ghost use Rattle.std.specs.Prelude.{◌≡◌, ◌+◌, ◌<◌, ◌^◌};
+ghost use Rattle.std.specs.Prelude.{◌≡◌, ◌+◌, ◌<◌, ◌^◌, ℕ};
 ghost use Rattle.wire_base.specs.Checksum.{folded, word_sum};
 ghost use Rattle.wire_base.specs.Pseudo as spec;
 
-use crate::checksum::{fold, sum_with};
+use crate::checksum::sum_with;
 use ip_address::IpAddress;
 
-/// The folded sum of the words of a pseudo-header: source, destination, the protocol's number, and
-/// the length of what follows, in octets.
+/// What folds as the sum of the words of a pseudo-header, in whichever sum it is: source, destination, the
+/// protocol's number, and the length of what follows, in octets.
 #[inline(always)]
 #[tactic(auto, using(crate::proofs::Pseudos::sums))]
-pub fn pseudo_sum(src: &IpAddress, dst: &IpAddress, protocol: u8, len: u16) -> u16
-    ensures { result ≡ folded (word_sum (spec.pseudo src.now dst.now protocol len)) }
+pub fn pseudo_sum(src: &IpAddress, dst: &IpAddress, protocol: u8, len: u16) -> u64
+    ensures folds { (sum : ℕ) → folded (sum + result) ≡ folded (sum + word_sum (spec.pseudo src.now dst.now protocol len)) }
+    ensures small { result < 2 ^ 40 }
 {
     if let (IpAddress::Ipv4(src), IpAddress::Ipv4(dst)) = (src, dst) {
-        return fold(
-            u64::from(src.bits) + u64::from(dst.bits) + u64::from(protocol) + u64::from(len),
-        );
+        return u64::from(src.bits) + u64::from(dst.bits) + u64::from(protocol) + u64::from(len);
     }
     if let (IpAddress::Ipv6(src), IpAddress::Ipv6(dst)) = (src, dst) {
-        return fold(quarters(src.bits) + quarters(dst.bits) + u64::from(protocol) + u64::from(len));
+        return quarters(src.bits) + quarters(dst.bits) + u64::from(protocol) + u64::from(len);
     }
     let addresses = address_sum(address_sum(0, src), dst);
-    ending_sum(addresses, dst, protocol, len)
+    u64::from(ending_sum(addresses, dst, protocol, len))
 }
 
 /// The sum of the four quarters of an IPv6 address, of 32 bits each. It folds as the sum of its words.
@@ -43,8 +42,8 @@ fn address_sum(start: u16, address: &IpAddress) -> u16
     ensures { result ≡ folded (start + word_sum (spec.address_octets address.now)) }
 {
     match address {
-        IpAddress::Ipv4(address) => sum_with(start, &address.octets()),
-        IpAddress::Ipv6(address) => sum_with(start, &address.bits.to_be_bytes()),
+        IpAddress::Ipv4(address) => sum_with(u64::from(start), &address.octets()),
+        IpAddress::Ipv6(address) => sum_with(u64::from(start), &address.bits.to_be_bytes()),
     }
 }
 
@@ -55,11 +54,11 @@ fn ending_sum(start: u16, dst: &IpAddress, protocol: u8, len: u16) -> u16
     match dst {
         IpAddress::Ipv4(_) => {
             let [l0, l1] = len.to_be_bytes();
-            sum_with(start, &[0, protocol, l0, l1])
+            sum_with(u64::from(start), &[0, protocol, l0, l1])
         }
         IpAddress::Ipv6(_) => {
             let [l0, l1, l2, l3] = u32::from(len).to_be_bytes();
-            sum_with(start, &[l0, l1, l2, l3, 0, 0, 0, protocol])
+            sum_with(u64::from(start), &[l0, l1, l2, l3, 0, 0, 0, protocol])
         }
     }
 }

@@ -1,4 +1,4 @@
-use ip_wire::checksum::{checksum, sum_with};
+use ip_wire::checksum::{checksum, part_sum, sum_with};
 use ip_wire::emit::FrameBuffer;
 use ip_wire::pseudo::pseudo_sum;
 use ip_wire::{
@@ -53,7 +53,11 @@ fn checksums(rt: HostRuntime) -> Result<(), Fail> {
     let example = [0x00, 0x01, 0xf2, 0x03, 0xf4, 0xf5, 0xf6, 0xf7];
     assert_eq!(rt; sum_with(0, &example), 0xddf2);
     assert_eq!(rt; checksum(&example), 0x220d);
-    assert_eq!(rt; sum_with(sum_with(0, &example[..2]), &example[2..]), 0xddf2);
+    assert_eq!(rt; sum_with(part_sum(&example[..2]), &example[2..]), 0xddf2);
+    assert_eq!(rt;
+        sum_with(part_sum(&example[..4]) + part_sum(&example[4..]), &[]),
+        0xddf2
+    );
     assert_eq!(rt; sum_with(0, &example[..7]), 0xdcfb);
     assert_eq!(rt; sum_with(0, &[]), 0);
     assert_eq!(rt; sum_with(0, &[0x12]), 0x1200);

@@ -1,6 +1,6 @@
 use Rattle.std.proofs.Common.{ℕ, ◌≡◌, ◌+◌, ◌*◌, ◌≤◌, drop}
 use Rattle.wire_base.specs.Checksum.{folded, word_sum}
-use Rattle.wire_base.proofs.checksum.rest_sum.Given as goal
+use Rattle.wire_base.proofs.checksum.short_sum.Given as goal
 
 abbrev pub invariant-loop-i : goal.invariant-loop-i
 invariant-loop-i l = record {

@@ -2,7 +2,7 @@ use Rattle.std.proofs.Common.{rules, arith, ap, ◌≡◌, ◌∙◌, ℕ, ◌+�
 use Rattle.wire_base.specs.Checksum.{folded, word_sum}
 use Rattle.wire_base.specs.Octets.{u32_le_at}
 use Rattle.wire_base.proofs.Sums.{chunk_folds}
-use Rattle.wire_base.proofs.checksum.rest_sum.Goals as goal
+use Rattle.wire_base.proofs.checksum.short_sum.Goals as goal
 
 pub loop-i-preserved : goal.loop-i-preserved
 loop-i-preserved c = record {
