@@ -2,7 +2,7 @@
 use Rattle.std.proofs.Common.{◌≡◌, ◌≢◌, ℕ, ◌<◌, ◌≤◌, List, [], ◌∷◌, ◌++◌, length, get_or, refl, sym, ap, subst, ◌∙◌, arith, suc}
 use Rattle.std.proofs.lemmas.Bool.Decides.{nat_tests}
 use Rattle.ip_address.specs.Hardware.{IsOf}
-use Rattle.std.specs.Prelude.{Option, is_some, nat_lt, IsTrue, if◌then◌else◌, Bool, ◌==◌, ℤ, pos, ◌≤ℤ◌, true, false, cond, Some, None}
+use Rattle.std.specs.Prelude.{IfSome, Option, is_some, slice_get, nat_lt, IsTrue, if◌then◌else◌, Bool, ◌==◌, ℤ, pos, ◌≤ℤ◌, true, false, cond, Some, None}
 use Rattle.std.specs.List.{remove}
 use Rattle.std.specs.Ordering.{nat_cmp, eq_by_cmp}
 use Rattle.std.specs.Cmp.{IsTotalOrder, nat_cmp_total}
@@ -19,7 +19,7 @@ use Rattle.ip_address.specs.declared.ip.IpAddress.{IpAddress}
 use Rattle.ip_address.specs.declared.hardware.HardwareAddress.{HardwareAddress}
 use Rattle.iface_tables.specs.declared.neighbor.Neighbor.{Neighbor}
 use Rattle.iface_tables.proofs.EntriesLemmas.{place_of-le, find-absent, find-there, key-there, from_entries-remove, from_entries-put, len-from_entries, distinct_after-remove, distinct_after-put, find-at, absent_after-remove, put_over, tied_itself}
-use Rattle.iface_tables.proofs.SettleLemmas.{taken, remove_last}
+use Rattle.iface_tables.proofs.SettleLemmas.{element_of, taken, remove_last}
 
 pub address_total : IsTotalOrder address_cmp
 address_total = then_total (on_total (λ a. (address_key a).0) nat_cmp_total) (on_total (λ a. (address_key a).1) nat_cmp_total)
@@ -132,6 +132,13 @@ pub record RenewsIn (es fs : List (IpAddress × Neighbor)) (a : IpAddress) (h : 
 -- the entry at an address's place is the one that is found
 found_is : (es : List (IpAddress × Neighbor)) (a : IpAddress) (e : IpAddress × Neighbor) (i : ℕ) → i ≡ place_of address_cmp a es → i < length es → e ≡ get_or es i e → find address_cmp a es ≡ Some e.1
 found_is es a e i at within is = find-there address_cmp a es e (rw at at within) ∙ ap (λ (d : IpAddress × Neighbor). Some d.1) (sym (rw at at is))
+
+-- the entry at an address's place has it, and its own hardware address
+pub has_address : (es : List (IpAddress × Neighbor)) (a : IpAddress) (e : IpAddress × Neighbor) (i : ℕ) → i ≡ place_of address_cmp a es → i < length es → e ≡ get_or es i e
+    → IfSome (slice_get es i) (λ x. (x.0 ≡ a) × (x.1.hardware_addr ≡ e.1.hardware_addr))
+has_address es a e i at within is =
+    let key : (get_or es i e).0 ≡ a = rw at (key-there address_total address_same a es e (rw at at within)) in
+    element_of (λ x. (x.0 ≡ a) × (x.1.hardware_addr ≡ e.1.hardware_addr)) es i e within (key, ap (λ (x : IpAddress × Neighbor). x.1.hardware_addr) (sym is))
 
 pub renewed_there : (es fs : List (IpAddress × Neighbor)) (a : IpAddress) (h : HardwareAddress) (end : ℤ) (e : IpAddress × Neighbor) (i : ℕ) → IsKept es → i ≡ place_of address_cmp a es → i < length es → e ≡ get_or es i e → is_same e.1.hardware_addr h ≡ true → IsSettled (remove es i) (a, record e.1 { expires_at = end }) fs → RenewsIn es fs a h end
 renewed_there es fs a h end e i kept at within is same settled =

@@ -1,10 +1,10 @@
 -- The best route of a list, found from its end on.
-use Rattle.std.proofs.Common.{◌≡◌, ◌<◌, ◌≤◌, ℕ, zero, suc, ◌+◌, Bool, true, false, List, [], ◌∷◌, refl, sym, ap, ◌∙◌, arith}
+use Rattle.std.proofs.Common.{◌≡◌, ◌<◌, ◌≤◌, ℕ, zero, suc, Bool, true, false, List, [], ◌∷◌, refl, sym, ap, ◌∙◌, arith}
 use Rattle.std.specs.Prelude.{ℤ, nat_le, Option, Some, None, slice_get, if◌then◌else◌}
 use Rattle.std.proofs.lemmas.Bool.Decides.{nat_tests}
 use Rattle.ip_address.specs.declared.ip.IpAddress.{IpAddress}
 use Rattle.iface_tables.specs.declared.route.Route.{Route}
-use Rattle.iface_tables.specs.Route.{BestIsFound, IsBest, IsBestAt, IsRouter, best, matches, more_specific, prefix_len, router_of}
+use Rattle.iface_tables.specs.Route.{BestIsFound, IsBest, IsRouter, best, matches, more_specific, prefix_len, router_of}
 use Rattle.iface_tables.proofs.RouteLemmas.{routers_are_one, some_is}
 
 -- a route in front that doesn't match changes nothing

@@ -1,6 +1,6 @@
 -- An entry that moves to where it stands by its end: lists without one element and with one more, and their order.
 use Rattle.std.proofs.Common.{◌≡◌, ℕ, zero, suc, ◌+◌, ◌-◌, ◌<◌, ◌≤◌, inl, inr, List, [], ◌∷◌, ◌++◌, length, get_or, drop, refl, sym, ap, ◌∙◌, subst, arith, add-one}
-use Rattle.std.specs.Prelude.{true, false, ℤ, ◌≤ℤ◌, slice_set}
+use Rattle.std.specs.Prelude.{true, false, ℤ, ◌≤ℤ◌, IfSome, slice_get, slice_set}
 use Rattle.std.specs.List.{insert, refill, remove}
 use Rattle.std.specs.Ordering.{int_cmp, is_le, is_lt}
 use Rattle.std.specs.declared.cmp.Ordering.{Ordering}
@@ -185,3 +185,18 @@ stays_last es p e x by last later =
           let b : end_at es p d ≤ℤ e.1.expires_at = rw (get_or_default es p d x within, end_at) later in
           let same : get_or (remove es p) k d ≡ get_or es k d = get_or-remove_below es p d k below within in
           subst (λ (y : IpAddress × Neighbor). y.1.expires_at ≤ℤ e.1.expires_at) (sym same) (omega (arith, ints, a, b))
+
+-- what holds of the element at a place
+pub of_element : (P : IpAddress × Neighbor → Type 0) (es : List (IpAddress × Neighbor)) (p : ℕ) (d : IpAddress × Neighbor) → p < length es → IfSome (slice_get es p) P → P (get_or es p d)
+of_element P [] p d h of = absurd (omega arith)
+of_element P (e ∷ es) zero d h of = of
+of_element P (e ∷ es) (suc p) d h of = of_element P es p d (omega arith) of
+
+pub element_of : (P : IpAddress × Neighbor → Type 0) (es : List (IpAddress × Neighbor)) (p : ℕ) (d : IpAddress × Neighbor) → p < length es → P (get_or es p d) → IfSome (slice_get es p) P
+element_of P [] p d h of = absurd (omega arith)
+element_of P (e ∷ es) zero d h of = of
+element_of P (e ∷ es) (suc p) d h of = element_of P es p d (omega arith) of
+
+-- an entry of which only the end is another
+pub of_another_end : (e : IpAddress × Neighbor) (a : IpAddress) (n : Neighbor) → (e.0 ≡ a) × (e.1.hardware_addr ≡ n.hardware_addr) → ◌≡◌ {A = IpAddress × Neighbor} (e.0, record e.1 { expires_at = n.expires_at }) (a, n)
+of_another_end e a n same = rw (same.0, same.1) refl

@@ -1,6 +1,6 @@
 //! The neighbour cache (RFC 826, RFC 4861): which hardware address an IP address has, and until when
 //! no discovery is sent.
-ghost use Rattle.std.specs.Prelude.{◌≡◌, ◌<◌, true, pos, length};
+ghost use Rattle.std.specs.Prelude.{◌≡◌, ◌<◌, IfSome, true, pos, length, slice_get};
 ghost use Rattle.std.specs.List.{remove};
 ghost use Rattle.std.specs.FinMap as map;
 ghost use Rattle.std.specs.FinMap.{find};
@@ -294,7 +294,8 @@ fn settle(
     entries[hole] = (address, neighbor);
 }
 
-// The same of an entry that most often stands last already, and ends no sooner than it did.
+// The same of an entry of which only the end is another, that most often stands last already, and ends no sooner than
+// it did.
 #[inline(always)]
 fn settle_renewed(
     entries: &mut [(IpAddress, Neighbor)],
@@ -304,10 +305,11 @@ fn settle_renewed(
 )
     requires within { place < length entries.old }
     requires order { IsByEnd entries.old }
+    requires same { IfSome (slice_get entries.old place) (λ e. (e.0 ≡ address) × (e.1.hardware_addr ≡ neighbor.hardware_addr)) }
     ensures { IsSettled (remove entries.old place) (address, neighbor) entries.new }
 {
     if place + 1 == entries.len() && entries[place].1.expires_at <= neighbor.expires_at {
-        entries[place] = (address, neighbor);
+        entries[place].1.expires_at = neighbor.expires_at;
         return;
     }
     settle(entries, place, address, neighbor);

@@ -2,7 +2,7 @@ use Rattle.std.proofs.Common.{length, sym, ap, ◌∙◌, arith}
 use Rattle.std.specs.List.{refill}
 use Rattle.ip_address.specs.Ip.{address_cmp}
 use Rattle.iface_tables.specs.Entries.{place_of}
-use Rattle.iface_tables.proofs.NeighborLemmas.{RenewsIn, renewed_there, renewed_other, renewed_none}
+use Rattle.iface_tables.proofs.NeighborLemmas.{RenewsIn, has_address, renewed_there, renewed_other, renewed_none}
 use Rattle.iface_tables.proofs.SettleLemmas.{refilled}
 use Rattle.iface_tables.proofs.neighbor.renew_in.Goals as goal
 
@@ -19,6 +19,12 @@ returns-then-not-is_same-clause-renews c =
 
 pub settle_renewed-requires-clause-order : goal.settle_renewed-requires-clause-order
 settle_renewed-requires-clause-order c = rw c.as_mut_slice.ensures.value c.requires.by_end
+
+pub settle_renewed-requires-clause-same : goal.settle_renewed-requires-clause-same
+settle_renewed-requires-clause-same c = rw c.as_mut_slice.ensures.value (
+    has_address c.args.entries.now.items c.args.address.now c.index-as_slice-place.result c.place_of-place.result
+    (c.place_of-place.ensures ∙ ap (place_of address_cmp c.args.address.now) c.as_slice.ensures.value) (omega (arith, c.len.ensures.value))
+    (rw c.as_slice-2.ensures.value at c.index-as_slice-place.is))
 
 renewed : (c : goal.After-entries-1) → RenewsIn c.args.entries.now.items (refill (length c.args.entries.now.items) c.args.entries.now.items c.settle_renewed.new.entries) c.args.address.now c.args.hardware_addr.now c.args.expires_at
 renewed c =
