@@ -107,7 +107,11 @@ fn dispatch_by_hop<Q: AnyPacket>(
             Ok(())
         }
         Answer::RateLimited => Err(DispatchError::NeighborPending),
-        Answer::NotFound => Err(discover(context, own, hop, out)),
+        Answer::NotFound => {
+            // Copies, so that a packet that goes stores neither for this call.
+            let (own, hop) = (own, *hop);
+            Err(discover(context, own, &hop, out))
+        }
     }
 }
 
@@ -221,10 +225,12 @@ fn emit_to<Q: AnyPacket>(
         emit_frame(context, destination, packet, out);
         return;
     }
+    // A copy, so that the address isn't stored for this call where the packet fits.
+    let destination = *destination;
     emit_long(
         context,
         identification,
-        destination,
+        &destination,
         &packet.as_packet(),
         out,
     );
@@ -354,7 +360,9 @@ fn next_hop(context: &Context, address: &IpAddress) -> Option<IpAddress>
     if context.in_same_network(address) {
         return Some(*address);
     }
-    let router = context.routes.lookup(address, context.moment)?;
+    // A copy, so that the address isn't stored for this call where it is near.
+    let far = *address;
+    let router = context.routes.lookup(&far, context.moment)?;
     if router.is_unicast() {
         Some(router)
     } else {

@@ -12,11 +12,14 @@ ghost use Rattle.iface_send.specs.Shown as shown;
 use arrayvec::ArrayVec;
 use control_wire::icmpv4::{EchoRequest, Icmpv4DstUnreachable, Icmpv4Repr};
 use group_wire::{IgmpRepr, MldRepr};
+use icmpv6_wire::icmpv6::emit_parts;
+use icmpv6_wire::ndisc_option::{NdiscOptionType, lladdr_option};
 use icmpv6_wire::{Icmpv6DstUnreachable, Icmpv6Repr, NdiscNeighborFlags, NdiscRepr, echo};
 use ip_wire::emit::FrameBuffer;
 use ip_wire::{
     EthernetAddress, IpProtocol, IpRepr, Ipv4Repr, Ipv6Address, Ipv6Repr, TcpRepr, UdpRepr,
 };
+use ipv6_wire::ipv6_packet::address_octets;
 use ipv6_wire::{Ipv6HopByHopRepr, Ipv6OptionRepr};
 use net_base::phy::DeviceCapabilities;
 
@@ -365,8 +368,17 @@ impl Payload for UnreachableV6<'_> {
     ) {
         let (src, dst) = (header.src_addr(), header.dst_addr());
         let summed = capabilities.checksum.icmpv6.tx();
-        self.message()
-            .emit_header(&src, &dst, self.octets, summed, out);
+        let quoted = self.header.octets();
+        emit_parts(
+            &self.message(),
+            &quoted,
+            &[],
+            self.octets,
+            &src,
+            &dst,
+            summed,
+            out,
+        );
     }
 
     #[inline(always)]
@@ -404,7 +416,18 @@ impl Payload for NeighborAdvert {
     ) {
         let (src, dst) = (header.src_addr(), header.dst_addr());
         let summed = capabilities.checksum.icmpv6.tx();
-        self.message().emit_header(&src, &dst, &[], summed, out);
+        let target = address_octets(&self.target_addr);
+        let option = lladdr_option(NdiscOptionType::TargetLinkLayerAddr, &self.lladdr);
+        emit_parts(
+            &self.message(),
+            &target,
+            &option,
+            &[],
+            &src,
+            &dst,
+            summed,
+            out,
+        );
     }
 
     #[inline(always)]
