@@ -1,3 +1,4 @@
+pub mod Back
+pub mod Messages
 pub mod Processed
 pub mod Segment
-pub mod Back

@@ -1,7 +1,9 @@
 //! What an interface does with ICMP messages of IPv6 (RFC 4443), and which it sends in reply.
-ghost use Rattle.std.specs.Prelude.{◌≡◌, ◌<◌, ◌^◌, [], Some, IfSome, true, drop, length};
+ghost use Rattle.std.specs.Prelude.{◌≡◌, ◌≢◌, ◌<◌, ◌^◌, ◌⊎◌, [], Some, true, length};
 ghost use Rattle.ip_address.specs.declared.ip.IpAddress.TheVariants as ip;
-ghost use Rattle.icmpv6_wire.specs.Icmpv6.{IsIcmpv6, echo_reply_to, echo_request_in, icmpv6_in};
+ghost use Rattle.icmpv6_wire.specs.declared.icmpv6.Icmpv6Repr.TheVariants.{Ndisc};
+ghost use Rattle.icmpv6_wire.specs.declared.ndisc.NdiscRepr.{NdiscRepr};
+ghost use Rattle.icmpv6_wire.specs.Icmpv6.{IsEchoRequest, type_in};
 ghost use Rattle.host_machine.specs.Packet.{IsWritablePayload};
 ghost use Rattle.ip_address.specs.Ipv6.{is_unicast};
 ghost use Rattle.host_machine.specs.Host.{SocketSet, no_sockets};
@@ -10,6 +12,7 @@ ghost use Rattle.host_machine.specs.Response.{Responds};
 ghost use Rattle.iface_send.specs.Built.{Built};
 ghost use Rattle.iface_send.specs.Stands.{host_of};
 ghost use Rattle.iface_protocols.specs.Back.{payload_back};
+ghost use Rattle.iface_protocols.specs.Messages.{MayBeMessage};
 ghost use Rattle.iface_protocols.specs.Processed.{Processed};
 
 use crate::icmp::deliver;
@@ -18,13 +21,15 @@ use crate::ndisc::process_ndisc;
 use crate::router::process_router;
 use control_wire::IcmpRepr;
 use icmpv6_wire::echo::EchoRequest;
-use icmpv6_wire::{Icmpv6DstUnreachable, Icmpv6ParamProblem, Icmpv6Repr};
+use icmpv6_wire::icmpv6::{is_sound, parse_sound};
+use icmpv6_wire::{Icmpv6DstUnreachable, Icmpv6ParamProblem, Icmpv6Repr, NdiscRepr};
 use iface_send::dispatch::dispatch;
 use iface_send::packet::icmp_reply_payload_len;
 use iface_send::payload::{EchoReplyV6, UnreachableV6};
 use iface_send::{Context, IpPayload, Packet, PacketV6, Payload};
 use ip_wire::emit::FrameBuffer;
 use ip_wire::ipv6_packet::HEADER_LEN;
+use ip_wire::octets::u16_at;
 use ip_wire::{IpAddress, Ipv6Address, Ipv6Repr};
 use socket_set::SocketSet;
 
@@ -50,29 +55,115 @@ pub fn process_icmpv6(
     let src_addr = IpAddress::Ipv6(header.src_addr);
     let dst_addr = IpAddress::Ipv6(header.dst_addr);
     let checked = context.capabilities().checksum.icmpv6.rx();
-    let Some((message, contents)) = Icmpv6Repr::parse(octets, &src_addr, &dst_addr, checked) else {
+    if !is_sound(octets, &src_addr, &dst_addr, checked) {
+        return;
+    }
+    match (octets[0], octets[1]) {
+        (128, 0) if checked => process_echo_request(context, sockets, header, octets, out),
+        (135 | 136, _) => process_neighbor(context, sockets, header, octets, out),
+        _ => {
+            // A copy, so that the header isn't stored for this call where it isn't made.
+            let header = *header;
+            process_other(context, sockets, &header, octets, out);
+        }
+    }
+}
+
+/// The same of an echo request whose checksum was tested: that of the reply comes from it.
+#[inline(always)]
+fn process_echo_request(
+    context: &mut Context,
+    sockets: &mut SocketSet<'_>,
+    header: &Ipv6Repr,
+    octets: &[u8],
+    out: &mut FrameBuffer,
+)
+    requires empty { out.old ≡ [] }
+    requires short { length octets.now < 2 ^ 16 }
+    requires request { IsEchoRequest (ip.Ipv6 header.now.src_addr) (ip.Ipv6 header.now.dst_addr) octets.now }
+    ensures { Processed out.new (λ H. spec.TakesIcmpv6 header.now H octets.now) (host_of context.old sockets.old) (host_of context.new sockets.new) }
+{
+    let src_addr = IpAddress::Ipv6(header.src_addr);
+    let dst_addr = IpAddress::Ipv6(header.dst_addr);
+    let message = Icmpv6Repr::EchoRequest {
+        ident: u16_at(octets, 4),
+        seq_no: u16_at(octets, 6),
+    };
+    let heard = IcmpRepr::Ipv6(message);
+    deliver(sockets, src_addr, &heard, &octets[8..], octets);
+    let request = EchoRequest::new(octets, &src_addr, &dst_addr);
+    send_back(context, header, EchoReplyV6 { request }, out);
+}
+
+/// The same of octets that are sound and of the type of a neighbour message.
+#[inline(always)]
+fn process_neighbor(
+    context: &mut Context,
+    sockets: &mut SocketSet<'_>,
+    header: &Ipv6Repr,
+    octets: &[u8],
+    out: &mut FrameBuffer,
+)
+    requires empty { out.old ≡ [] }
+    requires sound { MayBeMessage (host_of context.old no_sockets) header.now octets.now }
+    requires kind { (type_in octets.now ≡ 135) ⊎ (type_in octets.now ≡ 136) }
+    requires from_one { is_unicast header.now.src_addr ≡ true }
+    ensures { Processed out.new (λ H. spec.TakesIcmpv6 header.now H octets.now) (host_of context.old sockets.old) (host_of context.new sockets.new) }
+{
+    let Some(message) = NdiscRepr::parse(octets) else {
+        return;
+    };
+    let heard = IcmpRepr::Ipv6(Icmpv6Repr::Ndisc(message));
+    deliver(
+        sockets,
+        IpAddress::Ipv6(header.src_addr),
+        &heard,
+        &[],
+        octets,
+    );
+    process_ndisc(context, header, &message, out);
+}
+
+/// The same of octets that are sound, of any type but that of a neighbour message.
+#[inline(never)]
+fn process_other(
+    context: &mut Context,
+    sockets: &mut SocketSet<'_>,
+    header: &Ipv6Repr,
+    octets: &[u8],
+    out: &mut FrameBuffer,
+)
+    requires empty { out.old ≡ [] }
+    requires sound { MayBeMessage (host_of context.old no_sockets) header.now octets.now }
+    requires no_solicitation { type_in octets.now ≢ 135 }
+    requires no_advertisement { type_in octets.now ≢ 136 }
+    ensures { Processed out.new (λ H. spec.TakesIcmpv6 header.now H octets.now) (host_of context.old sockets.old) (host_of context.new sockets.new) }
+{
+    let Some((message, contents)) = parse_sound(octets) else {
         return;
     };
     let heard = IcmpRepr::Ipv6(message);
-    deliver(sockets, src_addr, &heard, contents, octets);
-    process_message(context, header, &message, contents, octets, checked, out);
+    deliver(
+        sockets,
+        IpAddress::Ipv6(header.src_addr),
+        &heard,
+        contents,
+        octets,
+    );
+    process_message(context, header, &message, contents, out);
 }
 
-/// Takes a message, of which these are all octets, by its values and its data. Where its checksum was
-/// tested, that of an echo reply comes from it.
+/// Takes a message other than one of neighbours, by its values and its data.
+#[inline(always)]
 fn process_message(
     context: &mut Context,
     header: &Ipv6Repr,
     message: &Icmpv6Repr,
     contents: &[u8],
-    octets: &[u8],
-    checked: bool,
     out: &mut FrameBuffer,
 )
     requires empty { out.old ≡ [] }
-    requires short { length octets.now < 2 ^ 16 }
-    requires read { IsIcmpv6 checked (ip.Ipv6 header.now.src_addr) (ip.Ipv6 header.now.dst_addr) octets.now × ((message.now, contents.now) ≡ icmpv6_in octets.now) }
-    requires from_one { is_unicast header.now.src_addr ≡ true }
+    requires no_neighbor { (m : NdiscRepr) → message.now ≢ Ndisc m }
     ensures { (sockets : SocketSet) → Processed out.new (λ H. spec.TakesMessage header.now message.now contents.now H) (host_of context.old sockets) (host_of context.new sockets) }
 {
     match message {
@@ -81,37 +172,12 @@ fn process_message(
                 ident: *ident,
                 seq_no: *seq_no,
             };
-            match tested(header, message, contents, octets, checked) {
-                Some(request) => send_back(context, header, EchoReplyV6 { request }, out),
-                None => send_message(context, header, reply, contents, out),
-            }
+            send_message(context, header, reply, contents, out);
         }
-        Icmpv6Repr::Ndisc(message) => process_ndisc(context, header, message, out),
         Icmpv6Repr::Router(message) => process_router(context, header, message),
         Icmpv6Repr::Mld(message) => process_mld(context, header, message),
         _ => {}
     }
-}
-
-/// An echo request by its octets, if its checksum was tested.
-#[inline(always)]
-fn tested<'p>(
-    header: &Ipv6Repr,
-    message: &Icmpv6Repr,
-    contents: &[u8],
-    octets: &'p [u8],
-    checked: bool,
-) -> Option<EchoRequest<'p>>
-    requires short { length octets.now < 2 ^ 16 }
-    requires read { IsIcmpv6 checked (ip.Ipv6 header.now.src_addr) (ip.Ipv6 header.now.dst_addr) octets.now × ((message.now, contents.now) ≡ icmpv6_in octets.now) }
-    ensures { IfSome result (λ r. (message.now ≡ echo_request_in r.octets.now) × (contents.now ≡ drop 8 r.octets.now)) }
-{
-    if !checked || octets[0] != 128 || octets[1] != 0 {
-        return None;
-    }
-    let src_addr = IpAddress::Ipv6(header.src_addr);
-    let dst_addr = IpAddress::Ipv6(header.dst_addr);
-    Some(EchoRequest::new(octets, &src_addr, &dst_addr))
 }
 
 /// Builds the error in reply to a datagram to a port at which nobody listens, in an empty buffer. None is
