@@ -123,6 +123,13 @@ a_neighbor octets type (Listener (IsReport t c l)) = absurd (apart type t) where
   apart (inr is) t = omega (arith, is, t)
 
 -- octets of another type are read as another message
+abbrev error_by : List ℕ → (i j k : Bool) → Icmpv6Repr
+error_by octets i j k =
+    if i then DstUnreachable (unreachable_of (code_in octets)) (quoted_in (drop 8 octets)).0 else
+    if j then PktTooBig (u32_at octets 4) (quoted_in (drop 8 octets)).0 else
+    if k then TimeExceeded (code_in octets) (quoted_in (drop 8 octets)).0 else
+    ParamProblem (problem_of (code_in octets)) (u32_at octets 4) (quoted_in (drop 8 octets)).0
+
 abbrev by_types : List ℕ → (a b c d e f g h i j k : Bool) → Icmpv6Repr × List ℕ
 by_types octets a b c d e f g h i j k =
     if a then (EchoRequest (u16_at octets 4) (u16_at octets 6), drop 8 octets) else
@@ -133,10 +140,7 @@ by_types octets a b c d e f g h i j k =
     if f then (Router (router_in octets), []) else
     if g then (Mld (mld_in octets).0, (mld_in octets).1) else
     if h then (Mld (mld_in octets).0, (mld_in octets).1) else
-    (if i then DstUnreachable (unreachable_of (code_in octets)) (quoted_in (drop 8 octets)).0 else
-    if j then PktTooBig (u32_at octets 4) (quoted_in (drop 8 octets)).0 else
-    if k then TimeExceeded (code_in octets) (quoted_in (drop 8 octets)).0 else
-    ParamProblem (problem_of (code_in octets)) (u32_at octets 4) (quoted_in (drop 8 octets)).0, (quoted_in (drop 8 octets)).1)
+    (error_by octets i j k, (quoted_in (drop 8 octets)).1)
 
 by_another_type : (octets : List ℕ) (m : NdiscRepr) (a b c d e f g h i j k : Bool) → c ≡ false → d ≡ false → (by_types octets a b c d e f g h i j k).0 ≢ Ndisc m
 by_another_type octets m true b c d e f g h i j k no_c no_d is = cc
