@@ -1,6 +1,5 @@
 use fragmentation::Fragmenter;
 use ip_wire::{EthernetAddress, HardwareAddress, IpProtocol, Ipv4Address, Ipv4Fragment, Ipv4Repr};
-use std::process::Abort;
 
 const LINK: HardwareAddress = HardwareAddress::Ethernet(EthernetAddress([2, 0, 0, 0, 0, 1]));
 
@@ -15,44 +14,39 @@ const fn header(payload_len: u16) -> Ipv4Repr {
     }
 }
 
-// The first piece that waits has these octets at this place, in units of eight, and is taken out.
-fn sends(
-    rt: &impl Abort,
-    fragmenter: &mut Fragmenter,
-    offset: u16,
-    more_fragments: bool,
-    octets: &[u8],
-) {
-    match fragmenter.peek() {
+// Whether the first piece that waits has these octets at this place, in units of eight. It is taken out.
+fn sends(fragmenter: &mut Fragmenter, offset: u16, more_fragments: bool, octets: &[u8]) -> bool {
+    let fragment = Ipv4Fragment {
+        identification: 111,
+        dont_fragment: false,
+        more_fragments,
+        offset,
+    };
+    let is_right = match fragmenter.peek() {
         Some(piece) => {
-            assert_eq!(rt; piece.destination, LINK);
-            assert_eq!(rt; piece.header, header(piece.header.payload_len));
-            assert_eq!(rt; usize::from(piece.header.payload_len), octets.len());
-            let fragment = Ipv4Fragment {
-                identification: 111,
-                dont_fragment: false,
-                more_fragments,
-                offset,
-            };
-            assert_eq!(rt; piece.fragment, fragment);
-            assert_eq!(rt; piece.octets, octets);
+            piece.destination == LINK
+                && piece.header == header(piece.header.payload_len)
+                && usize::from(piece.header.payload_len) == octets.len()
+                && piece.fragment == fragment
+                && piece.octets == octets
         }
-        None => assert!(rt; false),
-    }
+        None => false,
+    };
     fragmenter.advance();
+    is_right
 }
 
 // RFC 791, appendix A, example 2: 452 octets of data, cut after the 256th.
 #[test]
 fn cuts_as_the_standard_does(rt: HostRuntime) {
     let mut fragmenter = Fragmenter::new();
-    assert!(rt; fragmenter.is_empty());
+    let was_empty = fragmenter.is_empty();
     fragmenter.fill(LINK, header(452), 111, 256, &[], &[9; 452]);
-    assert!(rt; !fragmenter.is_empty());
-    sends(&rt, &mut fragmenter, 0, true, &[9; 256]);
-    sends(&rt, &mut fragmenter, 32, false, &[9; 196]);
-    assert!(rt; fragmenter.is_empty());
-    assert!(rt; fragmenter.peek().is_none());
+    let is_filled = !fragmenter.is_empty();
+    let is_sent = sends(&mut fragmenter, 0, true, &[9; 256])
+        && sends(&mut fragmenter, 32, false, &[9; 196]);
+    let is_empty = fragmenter.is_empty() && fragmenter.peek().is_none();
+    assert!(rt; was_empty && is_filled && is_sent && is_empty);
 }
 
 // A header of eight octets and 1,000 behind it, where packets have at most 576 octets.
@@ -60,19 +54,18 @@ fn cuts_as_the_standard_does(rt: HostRuntime) {
 fn pieces_are_of_whole_units(rt: HostRuntime) {
     let mut fragmenter = Fragmenter::new();
     fragmenter.fill(LINK, header(1008), 111, 552, b"01234567", &[9; 1000]);
-    match fragmenter.peek() {
+    let is_first = match fragmenter.peek() {
         Some(piece) => {
-            assert_eq!(rt; piece.octets.len(), 552);
-            assert_eq!(rt; &piece.octets[..10], b"01234567\x09\x09".as_slice());
-            assert!(rt; piece.fragment.more_fragments);
+            piece.octets.len() == 552
+                && &piece.octets[..10] == b"01234567\x09\x09".as_slice()
+                && piece.fragment.more_fragments
         }
-        None => assert!(rt; false),
-    }
+        None => false,
+    };
     fragmenter.advance();
-    sends(&rt, &mut fragmenter, 69, false, &[9; 456]);
-    assert!(rt; fragmenter.is_empty());
+    let is_last = sends(&mut fragmenter, 69, false, &[9; 456]) && fragmenter.is_empty();
     fragmenter.advance();
-    assert!(rt; fragmenter.is_empty());
+    assert!(rt; is_first && is_last && fragmenter.is_empty());
 }
 
 // A datagram takes the place of what waits; one without octets has no pieces.
@@ -81,8 +74,7 @@ fn a_datagram_replaces_what_waits(rt: HostRuntime) {
     let mut fragmenter = Fragmenter::new();
     fragmenter.fill(LINK, header(16), 111, 8, b"01234567", b"89abcdef");
     fragmenter.fill(LINK, header(8), 111, 8, b"ABCD", b"EFGH");
-    sends(&rt, &mut fragmenter, 0, false, b"ABCDEFGH");
-    assert!(rt; fragmenter.is_empty());
+    let is_replaced = sends(&mut fragmenter, 0, false, b"ABCDEFGH") && fragmenter.is_empty();
     fragmenter.fill(LINK, header(0), 111, 8, b"", b"");
-    assert!(rt; fragmenter.is_empty());
+    assert!(rt; is_replaced && fragmenter.is_empty());
 }

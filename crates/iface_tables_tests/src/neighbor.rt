@@ -22,21 +22,11 @@ const LINK_B: HardwareAddress = HardwareAddress::Ethernet(EthernetAddress([0, 0,
 #[test]
 fn a_neighbor_is_known_until_its_end(rt: HostRuntime) {
     let mut cache = Cache::new();
-    assert_eq!(rt; cache.lookup(&FIRST, Instant::ZERO), Answer::NotFound);
+    let was_unknown = cache.lookup(&FIRST, Instant::ZERO) == Answer::NotFound;
     cache.fill(FIRST, LINK_A, Instant::ZERO);
-    assert_eq!(rt; cache.lookup(&FIRST, Instant::ZERO), Answer::Found(LINK_A));
-    assert_eq!(rt;
-        cache.lookup(&FIRST, Instant::from_secs(120)),
-        Answer::NotFound
-    );
-}
-
-#[test]
-fn a_neighbor_is_replaced(rt: HostRuntime) {
-    let mut cache = Cache::new();
-    cache.fill(FIRST, LINK_A, Instant::ZERO);
-    cache.fill(FIRST, LINK_B, Instant::ZERO);
-    assert_eq!(rt; cache.lookup(&FIRST, Instant::ZERO), Answer::Found(LINK_B));
+    let is_known = cache.lookup(&FIRST, Instant::ZERO) == Answer::Found(LINK_A)
+        && cache.lookup(&FIRST, Instant::from_secs(120)) == Answer::NotFound;
+    assert!(rt; was_unknown && is_known);
 }
 
 #[test]
@@ -48,62 +38,29 @@ fn one_of_least_end_makes_room(rt: HostRuntime) {
     cache.fill(FOURTH, LINK_A, Instant::from_millis(250));
     cache.fill(FIFTH, LINK_B, Instant::from_millis(300));
     let second = Instant::from_secs(1);
-    assert_eq!(rt; cache.lookup(&FIRST, second), Answer::Found(LINK_A));
-    assert_eq!(rt; cache.lookup(&SECOND, second), Answer::NotFound);
-    assert_eq!(rt; cache.lookup(&THIRD, second), Answer::Found(LINK_A));
-    assert_eq!(rt; cache.lookup(&FOURTH, second), Answer::Found(LINK_A));
-    assert_eq!(rt; cache.lookup(&FIFTH, second), Answer::Found(LINK_B));
-}
-
-#[test]
-fn only_the_same_hardware_address_renews(rt: HostRuntime) {
-    let mut cache = Cache::new();
-    cache.fill(FIRST, LINK_A, Instant::ZERO);
-    cache.reset_expiry_if_existing(FIRST, LINK_B, Instant::from_secs(30));
-    cache.reset_expiry_if_existing(SECOND, LINK_A, Instant::from_secs(30));
-    assert_eq!(rt;
-        cache.lookup(&FIRST, Instant::from_secs(70)),
-        Answer::NotFound
-    );
-    assert_eq!(rt;
-        cache.lookup(&SECOND, Instant::from_secs(30)),
-        Answer::NotFound
-    );
-    cache.reset_expiry_if_existing(FIRST, LINK_A, Instant::from_secs(30));
-    assert_eq!(rt;
-        cache.lookup(&FIRST, Instant::from_secs(70)),
-        Answer::Found(LINK_A)
-    );
+    let is_right = cache.lookup(&FIRST, second) == Answer::Found(LINK_A)
+        && cache.lookup(&SECOND, second) == Answer::NotFound
+        && cache.lookup(&THIRD, second) == Answer::Found(LINK_A)
+        && cache.lookup(&FOURTH, second) == Answer::Found(LINK_A)
+        && cache.lookup(&FIFTH, second) == Answer::Found(LINK_B);
+    assert!(rt; is_right);
 }
 
 #[test]
 fn a_silence_is_for_all_and_outlasts_a_flush(rt: HostRuntime) {
+    let (soon, later) = (Instant::from_millis(100), Instant::from_millis(2000));
     let mut cache = Cache::new();
     cache.fill(FIRST, LINK_A, Instant::ZERO);
-    assert_eq!(rt; cache.lookup(&SECOND, Instant::ZERO), Answer::NotFound);
+    let was_unknown = cache.lookup(&SECOND, Instant::ZERO) == Answer::NotFound;
     cache.limit_rate(Instant::ZERO);
-    assert_eq!(rt;
-        cache.lookup(&FIRST, Instant::from_millis(100)),
-        Answer::Found(LINK_A)
-    );
-    assert_eq!(rt;
-        cache.lookup(&SECOND, Instant::from_millis(100)),
-        Answer::RateLimited
-    );
-    assert_eq!(rt;
-        cache.lookup(&FIFTH, Instant::from_millis(100)),
-        Answer::RateLimited
-    );
+    let is_for_all = cache.lookup(&FIRST, soon) == Answer::Found(LINK_A)
+        && cache.lookup(&SECOND, soon) == Answer::RateLimited
+        && cache.lookup(&FIFTH, soon) == Answer::RateLimited;
     cache.flush();
-    assert_eq!(rt;
-        cache.lookup(&FIRST, Instant::from_millis(100)),
-        Answer::RateLimited
-    );
-    assert_eq!(rt;
-        cache.lookup(&SECOND, Instant::from_millis(2000)),
-        Answer::NotFound
-    );
-    assert!(rt; !cache.lookup(&FIRST, Instant::from_millis(2000)).found());
+    let outlasts_a_flush = cache.lookup(&FIRST, soon) == Answer::RateLimited
+        && cache.lookup(&SECOND, later) == Answer::NotFound
+        && !cache.lookup(&FIRST, later).found();
+    assert!(rt; was_unknown && is_for_all && outlasts_a_flush);
 }
 
 // What a cache lends, in order: each address, and when it ends.
@@ -130,30 +87,27 @@ fn neighbors_stand_by_their_ends(rt: HostRuntime) {
     cache.fill(FOURTH, LINK_A, Instant::from_millis(250));
     cache.reset_expiry_if_existing(SECOND, LINK_A, Instant::from_millis(300));
     cache.fill(FIFTH, LINK_B, Instant::from_millis(400));
-    assert_eq!(rt; cache.lookup(&FIRST, second), Answer::NotFound);
-    for known in [SECOND, THIRD, FOURTH] {
-        assert_eq!(rt; cache.lookup(&known, second), Answer::Found(LINK_A));
-    }
-    assert_eq!(rt; cache.lookup(&FIFTH, second), Answer::Found(LINK_B));
+    let is_right = cache.lookup(&FIRST, second) == Answer::NotFound
+        && cache.lookup(&SECOND, second) == Answer::Found(LINK_A)
+        && cache.lookup(&THIRD, second) == Answer::Found(LINK_A)
+        && cache.lookup(&FOURTH, second) == Answer::Found(LINK_A)
+        && cache.lookup(&FIFTH, second) == Answer::Found(LINK_B);
     let wanted = [
         (THIRD, Instant::from_millis(60_200)),
         (FOURTH, Instant::from_millis(60_250)),
         (SECOND, Instant::from_millis(60_300)),
         (FIFTH, Instant::from_millis(60_400)),
     ];
-    assert!(rt; lends(&cache, &wanted));
+    let are_in_order = lends(&cache, &wanted);
     cache.fill(FIRST, LINK_B, Instant::from_millis(10));
-    assert_eq!(rt; cache.lookup(&THIRD, second), Answer::NotFound);
-    assert_eq!(rt; cache.lookup(&FIRST, second), Answer::Found(LINK_B));
-    assert_eq!(rt;
-        cache.lookup(&FIRST, Instant::from_millis(60_010)),
-        Answer::NotFound
-    );
+    let is_replaced = cache.lookup(&THIRD, second) == Answer::NotFound
+        && cache.lookup(&FIRST, second) == Answer::Found(LINK_B)
+        && cache.lookup(&FIRST, Instant::from_millis(60_010)) == Answer::NotFound;
     let wanted = [
         (FIRST, Instant::from_millis(60_010)),
         (FOURTH, Instant::from_millis(60_250)),
         (SECOND, Instant::from_millis(60_300)),
         (FIFTH, Instant::from_millis(60_400)),
     ];
-    assert!(rt; lends(&cache, &wanted));
+    assert!(rt; is_right && are_in_order && is_replaced && lends(&cache, &wanted));
 }

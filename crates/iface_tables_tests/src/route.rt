@@ -75,11 +75,6 @@ fn put(list: &mut ArrayVec<Route, 4>, route: Route) -> Option<Route> {
     None
 }
 
-// The route at a place of a table.
-fn stored(routes: &Routes, place: usize) -> Option<Route> {
-    routes.as_slice().get(place).copied()
-}
-
 #[test]
 fn the_longest_live_prefix_is_taken(rt: HostRuntime) {
     let mut routes = Routes::new();
@@ -93,9 +88,10 @@ fn the_longest_live_prefix_is_taken(rt: HostRuntime) {
         route(PART, 16, router(4), Some(Instant::from_secs(9))),
     );
     let at = |micros| routes.lookup(&DISTANT, Instant::from_micros(micros));
-    assert_eq!(rt; at(9_000_000), Some(IpAddress::Ipv4(router(4))));
-    assert_eq!(rt; at(10_000_000), Some(IpAddress::Ipv4(router(3))));
-    assert_eq!(rt; at(10_000_001), Some(IpAddress::Ipv4(router(2))));
+    let is_right = at(9_000_000) == Some(IpAddress::Ipv4(router(4)))
+        && at(10_000_000) == Some(IpAddress::Ipv4(router(3)))
+        && at(10_000_001) == Some(IpAddress::Ipv4(router(2)));
+    assert!(rt; is_right);
 }
 
 // Whether a lookup finds this router, and reads so many nodes.
@@ -128,16 +124,17 @@ fn a_lookup_reads_a_node_for_each_bit_in_common(rt: HostRuntime) {
         let via = Some(IpAddress::Ipv4(router(host)));
         finds(&routes, &DISTANT, Instant::from_micros(micros), via, 17)
     };
-    assert!(rt; at(9_000_000, 4));
-    assert!(rt; at(10_000_000, 3));
-    assert!(rt; at(10_000_001, 2));
     // 11.0.0.1, and fe80::1.
     let beside = IpAddress::Ipv4(Ipv4Address { bits: 0x0b00_0001 });
-    assert!(rt; finds(&routes, &beside, Instant::ZERO, None, 8));
     let other = IpAddress::Ipv6(Ipv6Address {
         bits: 0xfe80_0000_0000_0000_0000_0000_0000_0001,
     });
-    assert!(rt; finds(&routes, &other, Instant::ZERO, None, 1));
+    let is_right = at(9_000_000, 4)
+        && at(10_000_000, 3)
+        && at(10_000_001, 2)
+        && finds(&routes, &beside, Instant::ZERO, None, 8)
+        && finds(&routes, &other, Instant::ZERO, None, 1);
+    assert!(rt; is_right);
 }
 
 // 2001::1, 4001::1, 8001::1 and c001::1, which differ in their first two bits.
@@ -174,13 +171,14 @@ fn four_hosts_have_place(rt: HostRuntime) {
     append(&mut routes, host_route(HOST_B, address6(0, 2)));
     append(&mut routes, host_route(HOST_C, address6(0, 3)));
     append(&mut routes, host_route(HOST_D, address6(0, 4)));
-    assert_eq!(rt; routes.as_slice().len(), 4);
     let via = |host| Some(IpAddress::Ipv6(address6(0, host)));
     let now = Instant::ZERO;
-    assert!(rt; finds(&routes, &IpAddress::Ipv6(HOST_A), now, via(1), 129));
-    assert!(rt; finds(&routes, &IpAddress::Ipv6(HOST_B), now, via(2), 129));
-    assert!(rt; finds(&routes, &IpAddress::Ipv6(HOST_C), now, via(3), 129));
-    assert!(rt; finds(&routes, &IpAddress::Ipv6(HOST_D), now, via(4), 129));
+    let is_right = routes.as_slice().len() == 4
+        && finds(&routes, &IpAddress::Ipv6(HOST_A), now, via(1), 129)
+        && finds(&routes, &IpAddress::Ipv6(HOST_B), now, via(2), 129)
+        && finds(&routes, &IpAddress::Ipv6(HOST_C), now, via(3), 129)
+        && finds(&routes, &IpAddress::Ipv6(HOST_D), now, via(4), 129);
+    assert!(rt; is_right);
 }
 
 #[test]
@@ -204,14 +202,11 @@ fn routes_of_ipv6_are_taken(rt: HostRuntime) {
     let near = IpAddress::Ipv6(Ipv6Address {
         bits: 0xfe80_0000_0000_0002_0000_0000_0000_000d,
     });
-    assert_eq!(rt;
-        routes.lookup(&near, Instant::ZERO),
-        Some(IpAddress::Ipv6(address6(2, 1)))
-    );
     let other = IpAddress::Ipv6(Ipv6Address {
         bits: 0xfe80_0000_0000_3364_0000_0000_0000_0001,
     });
-    assert_eq!(rt; routes.lookup(&other, Instant::ZERO), None);
+    let is_first = routes.lookup(&near, Instant::ZERO) == Some(IpAddress::Ipv6(address6(2, 1)))
+        && routes.lookup(&other, Instant::ZERO) == None;
     let end = Instant::from_millis(10);
     append(
         &mut routes,
@@ -220,11 +215,9 @@ fn routes_of_ipv6_are_taken(rt: HostRuntime) {
     let far = IpAddress::Ipv6(Ipv6Address {
         bits: 0xfe80_0000_0000_3364_0000_0000_0000_0015,
     });
-    assert_eq!(rt;
-        routes.lookup(&far, end),
-        Some(IpAddress::Ipv6(address6(0x3364, 1)))
-    );
-    assert_eq!(rt; routes.lookup(&far, Instant::from_millis(11)), None);
+    let is_second = routes.lookup(&far, end) == Some(IpAddress::Ipv6(address6(0x3364, 1)))
+        && routes.lookup(&far, Instant::from_millis(11)) == None;
+    assert!(rt; is_first && is_second);
 }
 
 #[test]
@@ -233,76 +226,51 @@ fn a_default_route_takes_the_place_of_the_old_one(rt: HostRuntime) {
     for host in 1..5 {
         append(&mut routes, route(PART, 16, router(host), None));
     }
-    assert_eq!(rt;
-        routes.add_default_ipv4_route(router(9)),
-        Err(RouteTableFull)
-    );
-    assert_eq!(rt;
-        routes.add_default_ipv6_route(address6(0, 9)),
-        Err(RouteTableFull)
-    );
-    assert_eq!(rt; routes.as_slice().len(), 4);
+    let is_full = routes.add_default_ipv4_route(router(9)) == Err(RouteTableFull)
+        && routes.add_default_ipv6_route(address6(0, 9)) == Err(RouteTableFull)
+        && routes.as_slice().len() == 4;
     routes.update(|mut list| {
         list.truncate(3);
         list
     });
-    assert_eq!(rt; routes.add_default_ipv4_route(router(9)), Ok(None));
     let old = Some(Route::new_ipv4_gateway(router(9)));
-    assert_eq!(rt; routes.get_default_ipv4_route(), old);
-    assert_eq!(rt; routes.add_default_ipv4_route(router(8)), Ok(old));
-    assert_eq!(rt;
-        routes.lookup(&NEAR, Instant::ZERO),
-        Some(IpAddress::Ipv4(router(8)))
-    );
-    assert_eq!(rt; routes.as_slice().len(), 4);
+    let is_replaced = routes.add_default_ipv4_route(router(9)) == Ok(None)
+        && routes.get_default_ipv4_route() == old
+        && routes.add_default_ipv4_route(router(8)) == Ok(old)
+        && routes.lookup(&NEAR, Instant::ZERO) == Some(IpAddress::Ipv4(router(8)))
+        && routes.as_slice().len() == 4;
+    assert!(rt; is_full && is_replaced);
 }
 
 #[test]
 fn a_default_route_leaves_the_others_in_order(rt: HostRuntime) {
     let mut routes = Routes::new();
-    assert_eq!(rt; routes.add_default_ipv6_route(address6(0, 1)), Ok(None));
+    let is_added = routes.add_default_ipv6_route(address6(0, 1)) == Ok(None);
     append(&mut routes, route(PART, 16, router(3), None));
-    assert_eq!(rt; routes.add_default_ipv4_route(router(1)), Ok(None));
-    let first = Some(Route::new_ipv6_gateway(address6(0, 1)));
-    let last = Some(Route::new_ipv4_gateway(router(1)));
-    let middle = Some(route(PART, 16, router(3), None));
-    assert_eq!(rt; stored(&routes, 0), first);
-    assert_eq!(rt; stored(&routes, 1), middle);
-    assert_eq!(rt; stored(&routes, 2), last);
-    assert_eq!(rt; stored(&routes, 3), None);
-    assert_eq!(rt; routes.get_default_ipv6_route(), first);
-    assert_eq!(rt; routes.remove_default_ipv6_route(), first);
-    assert_eq!(rt; routes.remove_default_ipv6_route(), None);
-    assert_eq!(rt; stored(&routes, 0), middle);
-    assert_eq!(rt; stored(&routes, 1), last);
-    assert_eq!(rt; stored(&routes, 2), None);
-    assert_eq!(rt; routes.remove_default_ipv4_route(), last);
-    assert_eq!(rt; routes.get_default_ipv4_route(), None);
-    assert_eq!(rt; stored(&routes, 0), middle);
-    assert_eq!(rt; stored(&routes, 1), None);
-}
-
-#[test]
-fn a_full_table_says_so(rt: HostRuntime) -> Result<(), Fail> {
-    let text = match format!(in rt.alloc(); "{RouteTableFull}") {
-        Ok(text) => text,
-        Err(_) => format!(in rt.alloc(); "{RouteTableFull}")?,
-    };
-    assert_eq!(rt; text.as_str(), "Route table full");
-    Ok(())
+    let is_second_added = routes.add_default_ipv4_route(router(1)) == Ok(None);
+    let first = Route::new_ipv6_gateway(address6(0, 1));
+    let last = Route::new_ipv4_gateway(router(1));
+    let middle = route(PART, 16, router(3), None);
+    let are_in_order = routes.as_slice() == [first, middle, last].as_slice()
+        && routes.get_default_ipv6_route() == Some(first);
+    let is_first_removed = routes.remove_default_ipv6_route() == Some(first)
+        && routes.remove_default_ipv6_route() == None
+        && routes.as_slice() == [middle, last].as_slice();
+    let is_last_removed = routes.remove_default_ipv4_route() == Some(last)
+        && routes.get_default_ipv4_route() == None
+        && routes.as_slice() == [middle].as_slice();
+    let are_added = is_added && is_second_added;
+    assert!(rt; are_added && are_in_order && is_first_removed && is_last_removed);
 }
 
 #[test]
 fn printed_routes(rt: HostRuntime) -> Result<(), Fail> {
-    let route = Route::new_ipv4_gateway(router(100));
+    let first = Route::new_ipv4_gateway(router(100));
+    let second = Route::new_ipv6_gateway(address6(0, 1));
+    let text = format!(in rt.alloc(); "{first}, {second}, {RouteTableFull}")?;
     assert_eq!(rt;
-        format!(in rt.alloc(); "{route}")?.as_str(),
-        "0.0.0.0/0 via 192.168.69.100"
-    );
-    let route = Route::new_ipv6_gateway(address6(0, 1));
-    assert_eq!(rt;
-        format!(in rt.alloc(); "{route}")?.as_str(),
-        "::/0 via fe80::1"
+        text.as_str(),
+        "0.0.0.0/0 via 192.168.69.100, ::/0 via fe80::1, Route table full"
     );
     Ok(())
 }

@@ -1,6 +1,7 @@
 // Each test also holds where any one request for memory is refused.
-ghost use Rattle.std.specs.Prelude.{◌≡◌, length};
+ghost use Rattle.std.specs.Prelude.{◌≡◌, ◌≤◌, length};
 
+use net_base::assembler::TooManyHolesError;
 use net_base::memory_device::{MemoryDevice, PushError};
 use net_base::phy::{
     Checksum, ChecksumCapabilities, Device, DeviceCapabilities, FRAME_BUFFER_SIZE, Medium,
@@ -8,8 +9,7 @@ use net_base::phy::{
 };
 use net_base::rand::Rand;
 use net_base::time::{Duration, Instant};
-use std::alloc::Global;
-use std::process::Abort;
+use std::alloc::{AllocError, Global};
 use std::test::Fail;
 
 const NOW: Instant = Instant::ZERO;
@@ -25,133 +25,109 @@ fn empty(alloc: Global) -> MemoryDevice {
 }
 
 // Queues a frame. A refusal changes nothing.
-fn queue(rt: &impl Abort, device: &mut MemoryDevice, frame: &[u8]) {
+fn queue(device: &mut MemoryDevice, frame: &[u8]) -> bool {
     let waiting = device.queued();
     if let Err(error) = device.push(frame) {
-        assert_eq!(rt; error, PushError::NoMemory);
-        assert_eq!(rt; device.queued(), waiting);
-        assert_eq!(rt; device.push(frame), Ok(()));
+        return error == PushError::NoMemory
+            && device.queued() == waiting
+            && device.push(frame) == Ok(())
+            && device.queued() > waiting;
     }
-    assert!(rt; device.queued() > waiting);
+    device.queued() > waiting
 }
 
 // Receives a frame. One that is withheld stays queued and counts.
-fn hands_over(rt: &impl Abort, device: &mut MemoryDevice, frame: &[u8]) {
+fn hands_over(device: &mut MemoryDevice, frame: &[u8]) -> bool {
     let mut buffer = [0; FRAME_BUFFER_SIZE];
     let waiting = device.queued();
     let mut received = device.receive(NOW, &mut buffer);
+    let mut stays = true;
     if received.is_none() {
-        assert_eq!(rt; device.queued(), waiting);
-        assert_eq!(rt; device.refusals(), 1);
+        stays = device.queued() == waiting && device.refusals() == 1;
         received = device.receive(NOW, &mut buffer);
     }
     match received {
         Some((len, meta)) => {
-            assert_eq!(rt; &buffer[..len], frame);
-            assert_eq!(rt; meta, PacketMeta::EMPTY);
-            assert!(rt; device.queued() < waiting);
+            stays
+                && &buffer[..len] == frame
+                && meta == PacketMeta::EMPTY
+                && device.queued() < waiting
         }
-        None => assert!(rt; false),
+        None => false,
     }
 }
 
 #[test]
 fn hands_over_in_order(rt: HostRuntime) {
     let mut device = empty(rt.alloc());
-    queue(&rt, &mut device, b"first");
-    queue(&rt, &mut device, b"second");
-    hands_over(&rt, &mut device, b"first");
-    hands_over(&rt, &mut device, b"second");
-    assert_eq!(rt; device.queued(), 0);
-    assert_eq!(rt; device.receive(NOW, &mut [0; FRAME_BUFFER_SIZE]), None);
+    let is_right = queue(&mut device, b"first")
+        && queue(&mut device, b"second")
+        && hands_over(&mut device, b"first")
+        && hands_over(&mut device, b"second")
+        && device.queued() == 0
+        && device.receive(NOW, &mut [0; FRAME_BUFFER_SIZE]) == None;
+    assert!(rt; is_right);
 }
 
 #[test]
 fn takes_frames_up_to_the_buffer(rt: HostRuntime) {
     let mut device = empty(rt.alloc());
-    assert_eq!(rt; device.push(&[7; 1515]), Err(PushError::TooLong));
-    assert_eq!(rt; device.queued(), 0);
-    queue(&rt, &mut device, &[7; 1514]);
-    hands_over(&rt, &mut device, &[7; 1514]);
+    let is_right = device.push(&[7; 1515]) == Err(PushError::TooLong)
+        && device.queued() == 0
+        && queue(&mut device, &[7; 1514])
+        && hands_over(&mut device, &[7; 1514]);
+    assert!(rt; is_right);
 }
 
-#[test]
-fn refuses_leave_by_the_list(rt: HostRuntime) -> Result<(), Fail> {
-    let mut device = empty(rt.alloc());
-    let answers = match Vec::from_array(rt.alloc(), [true, false]) {
-        Ok(answers) => answers,
-        Err(_) => Vec::from_array(rt.alloc(), [true, false])?,
-    };
-    device.refuse(answers);
-    assert!(rt; !device.transmit(NOW));
-    assert_eq!(rt; device.refusals(), 1);
-    if !device.transmit(NOW) {
-        assert_eq!(rt; device.refusals(), 2);
-    }
-    assert!(rt; device.transmit(NOW));
-    Ok(())
-}
-
-#[test]
-fn sends_with_leave(rt: HostRuntime) {
-    let mut device = empty(rt.alloc());
-    for frame in [b"first".as_slice(), b"second".as_slice()] {
-        let refusals = device.refusals();
-        if !device.transmit(NOW) {
-            assert!(rt; device.refusals() > refusals);
-            assert!(rt; device.transmit(NOW));
-        }
+// Sends a frame. A refused leave counts, and the next call gets it.
+fn sends(device: &mut MemoryDevice, frame: &[u8]) -> bool
+    requires { length frame.now ≤ 1514 }
+{
+    let refusals = device.refusals();
+    if device.transmit(NOW) {
         device.send(PacketMeta::EMPTY, frame);
+        return true;
     }
-    assert_eq!(rt; device.sent().len(), 2);
-    assert_eq!(rt; device.sent()[0].as_slice(), b"first".as_slice());
-    assert_eq!(rt; device.sent()[1].as_slice(), b"second".as_slice());
+    let is_counted = device.refusals() > refusals;
+    if device.transmit(NOW) {
+        device.send(PacketMeta::EMPTY, frame);
+        return is_counted;
+    }
+    false
+}
+
+// Whether these frames are the two that were sent.
+fn are_first_and_second(frames: &[Vec<u8>]) -> bool {
+    match frames {
+        [first, second] => {
+            first.as_slice() == b"first".as_slice() && second.as_slice() == b"second".as_slice()
+        }
+        _ => false,
+    }
 }
 
 #[test]
-fn errors_print_their_names(rt: HostRuntime) -> Result<(), Fail> {
-    for (error, name) in [
-        (PushError::TooLong, "TooLong"),
-        (PushError::NoMemory, "NoMemory"),
-    ] {
-        let text = match format!(in rt.alloc(); "{error}") {
-            Ok(text) => text,
-            Err(_) => format!(in rt.alloc(); "{error}")?,
-        };
-        assert_eq!(rt; text.as_str(), name);
-    }
-    Ok(())
+fn frames_sent_are_handed_over_once(rt: HostRuntime) {
+    let mut device = empty(rt.alloc());
+    let are_sent = sends(&mut device, b"first")
+        && sends(&mut device, b"second")
+        && are_first_and_second(device.sent());
+    let are_handed_over = are_first_and_second(&device.take_sent());
+    let are_gone = device.sent().len() == 0 && device.take_sent().len() == 0;
+    assert!(rt; are_sent && are_handed_over && are_gone);
 }
 
 #[test]
 fn constants(rt: HostRuntime) {
     let all = ChecksumCapabilities::ALL;
-    for checksum in [all.ipv4, all.udp, all.tcp, all.icmpv4, all.icmpv6] {
-        assert_eq!(rt; checksum, Checksum::Both);
-    }
-    assert_eq!(rt; PacketMeta::EMPTY.id, 0);
+    let is_right = [all.ipv4, all.udp, all.tcp, all.icmpv4, all.icmpv6] == [Checksum::Both; 5]
+        && PacketMeta::EMPTY.id == 0;
+    assert!(rt; is_right);
 }
 
 #[test]
 fn draws_the_top_bits(rt: HostRuntime) {
-    assert_eq!(rt; Rand::new(0).rand_u16(), 0x1405);
-    assert_eq!(rt; Rand::new(0).rand_u32(), 0x1405_7b7e);
-}
-
-#[test]
-fn adds_and_subtracts_moments(rt: HostRuntime) {
-    let later = Instant::from_secs(2) + Duration::from_millis(500);
-    assert_eq!(rt; later, Instant::from_micros(2_500_000));
-    assert_eq!(rt; later - Instant::from_millis(1_500), Duration::from_secs(1));
-    assert_eq!(rt;
-        Duration::from_millis(3) + Duration::from_micros(4),
-        Duration::from_micros(3_004)
-    );
-    assert_eq!(rt;
-        Duration::from_secs(1) - Duration::from_millis(1),
-        Duration::from_millis(999)
-    );
-    assert_eq!(rt; later.total_micros(), 2_500_000);
+    assert!(rt; Rand::new(0).rand_u16() == 0x1405 && Rand::new(0).rand_u32() == 0x1405_7b7e);
 }
 
 #[test]
@@ -159,67 +135,33 @@ fn moments_before_the_origin(rt: HostRuntime) {
     let first = Instant::from_micros(-0x8000_0000_0000_0000);
     let last = Instant::from_micros(0x7fff_ffff_ffff_ffff);
     let longest = Duration::from_micros(0xffff_ffff_ffff_ffff);
-    assert_eq!(rt; first + longest, last);
-    assert_eq!(rt; last - first, longest);
-    assert_eq!(rt; Instant::from_secs(-2), Instant::from_millis(-2_000));
-    assert_eq!(rt; Instant::from_millis(-2_000).total_micros(), -2_000_000);
-    assert_eq!(rt;
-        Instant::from_secs(-2) + Duration::from_secs(3),
-        Instant::from_secs(1)
-    );
-    assert_eq!(rt;
-        Instant::from_secs(1) - Instant::from_secs(-2),
-        Duration::from_secs(3)
-    );
-    assert_eq!(rt;
-        Instant::from_secs(-1) - Instant::from_secs(-2),
-        Duration::from_secs(1)
-    );
+    let is_right = first + longest == last
+        && last - first == longest
+        && Instant::from_secs(-2) == Instant::from_millis(-2_000)
+        && Instant::from_millis(-2_000).total_micros() == -2_000_000
+        && Instant::from_secs(-2) + Duration::from_secs(3) == Instant::from_secs(1)
+        && Instant::from_secs(1) - Instant::from_secs(-2) == Duration::from_secs(3)
+        && Instant::from_secs(-1) - Instant::from_secs(-2) == Duration::from_secs(1);
+    assert!(rt; is_right);
+}
+
+// What spans, moments and errors print.
+fn printed(alloc: Global) -> Result<String, AllocError> {
+    let [a, b, c, d] = [0, 999, 1_500_000, 61_000_001].map(Duration::from_micros);
+    let [e, f, g] = [1_500_000, -250_000, i64::MIN].map(Instant::from_micros);
+    let (h, i, j) = (PushError::TooLong, PushError::NoMemory, TooManyHolesError);
+    format!(in alloc; "{a} {b} {c} {d}, {e} {f} {g}, {h} {i} {j}")
 }
 
 #[test]
-fn printed_times(rt: HostRuntime) -> Result<(), Fail> {
-    for (micros, text) in [
-        (0, "0.000s"),
-        (999, "0.000s"),
-        (1_500_000, "1.500s"),
-        (61_000_001, "61.000s"),
-    ] {
-        let span = Duration::from_micros(micros);
-        let printed = match format!(in rt.alloc(); "{span}") {
-            Ok(printed) => printed,
-            Err(_) => format!(in rt.alloc(); "{span}")?,
-        };
-        assert_eq!(rt; printed.as_str(), text);
-    }
-    for (micros, text) in [
-        (1_500_000, "1.500s"),
-        (-250_000, "-0.250s"),
-        (i64::MIN, "-9223372036854.775s"),
-    ] {
-        let moment = Instant::from_micros(micros);
-        let printed = match format!(in rt.alloc(); "{moment}") {
-            Ok(printed) => printed,
-            Err(_) => format!(in rt.alloc(); "{moment}")?,
-        };
-        assert_eq!(rt; printed.as_str(), text);
-    }
+fn printed_texts(rt: HostRuntime) -> Result<(), Fail> {
+    let text = match printed(rt.alloc()) {
+        Ok(text) => text,
+        Err(_) => printed(rt.alloc())?,
+    };
+    assert_eq!(rt;
+        text.as_str(),
+        "0.000s 0.000s 1.500s 61.000s, 1.500s -0.250s -9223372036854.775s, TooLong NoMemory TooManyHolesError"
+    );
     Ok(())
-}
-
-#[test]
-fn frames_sent_are_handed_over_once(rt: HostRuntime) {
-    let mut device = empty(rt.alloc());
-    for frame in [&b"first"[..], &b"second"[..]] {
-        if !device.transmit(NOW) {
-            assert!(rt; device.transmit(NOW));
-        }
-        device.send(PacketMeta::EMPTY, frame);
-    }
-    let sent = device.take_sent();
-    assert_eq!(rt; sent.len(), 2);
-    assert_eq!(rt; sent[0].as_slice(), b"first".as_slice());
-    assert_eq!(rt; sent[1].as_slice(), b"second".as_slice());
-    assert_eq!(rt; device.sent().len(), 0);
-    assert_eq!(rt; device.take_sent().len(), 0);
 }

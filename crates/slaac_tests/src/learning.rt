@@ -2,7 +2,6 @@ use icmpv6_wire::{NdiscPrefixInfoFlags, NdiscPrefixInformation};
 use ip_address::Ipv6Address;
 use net_base::time::{Duration, Instant};
 use slaac::{Phase, Slaac};
-use std::test::Fail;
 
 // fe80::1 and fe80::2.
 const ROUTER: Ipv6Address = Ipv6Address {
@@ -50,13 +49,14 @@ fn advised() -> Slaac {
 #[test]
 fn a_solicitation_is_required_at_once(rt: HostRuntime) {
     let mut slaac = Slaac::new();
-    assert!(rt; slaac.rs_required(START));
+    let was_required = slaac.rs_required(START);
     slaac.rs_sent(START);
-    assert_eq!(rt; slaac.num_solicitations(), 2);
-    assert!(rt; !slaac.rs_required(START));
-    assert_eq!(rt; slaac.poll_at(START), Some(Instant::from_millis(4001)));
-    assert!(rt; !slaac.rs_required(Instant::from_millis(4000)));
-    assert!(rt; slaac.rs_required(Instant::from_millis(4001)));
+    let is_right = slaac.num_solicitations() == 2
+        && !slaac.rs_required(START)
+        && slaac.poll_at(START) == Some(Instant::from_millis(4001))
+        && !slaac.rs_required(Instant::from_millis(4000))
+        && slaac.rs_required(Instant::from_millis(4001));
+    assert!(rt; was_required && is_right);
 }
 
 #[test]
@@ -66,53 +66,55 @@ fn three_solicitations_are_all(rt: HostRuntime) {
         assert!(rt; slaac.rs_required(Instant::from_secs(seconds)));
         slaac.rs_sent(Instant::from_secs(seconds));
     }
-    assert_eq!(rt; slaac.num_solicitations(), 0);
-    assert_eq!(rt; slaac.phase(), Phase::Discovering);
-    assert!(rt; !slaac.rs_required(Instant::from_secs(12)));
-    assert_eq!(rt; slaac.poll_at(Instant::from_secs(12)), None);
-    slaac.rs_sent(Instant::from_secs(12));
-    assert_eq!(rt; slaac.phase(), Phase::None);
+    let then = Instant::from_secs(12);
+    let were_all = slaac.num_solicitations() == 0
+        && slaac.phase() == Phase::Discovering
+        && !slaac.rs_required(then)
+        && slaac.poll_at(then) == None;
+    slaac.rs_sent(then);
+    assert!(rt; were_all && slaac.phase() == Phase::None);
 }
 
 #[test]
 fn an_advertisement_ends_the_search(rt: HostRuntime) {
     let mut slaac = Slaac::new();
     slaac.process_advertisement(&ROUTER, TEN_MINUTES, prefix(0, 700, 300), START);
-    assert_eq!(rt; slaac.phase(), Phase::Start);
+    let first = slaac.phase();
     slaac.rs_sent(LATER);
-    assert_eq!(rt; slaac.phase(), Phase::Discovering);
+    let second = slaac.phase();
     slaac.process_advertisement(&ROUTER, TEN_MINUTES, prefix(0, 700, 300), LATER);
-    assert_eq!(rt; slaac.phase(), Phase::Maintaining);
-    assert_eq!(rt; slaac.poll_at(LATER), Some(Instant::from_secs(900)));
+    let is_right = first == Phase::Start
+        && second == Phase::Discovering
+        && slaac.phase() == Phase::Maintaining
+        && slaac.poll_at(LATER) == Some(Instant::from_secs(900));
+    assert!(rt; is_right);
 }
 
 #[test]
 fn a_withdrawn_prefix_is_forgotten(rt: HostRuntime) {
     let mut slaac = advised();
     slaac.process_advertisement(&ROUTER, TEN_MINUTES, prefix(0, 0, 0), LATER);
-    assert!(rt; slaac.has_ra_update());
+    let is_news = slaac.has_ra_update();
     slaac.update_slaac_state(LATER);
-    assert_eq!(rt; slaac.prefix().len(), 0);
-    assert_eq!(rt; slaac.routes().len(), 1);
-    assert!(rt; !slaac.has_ra_update());
+    let is_right = slaac.prefix().len() == 0 && slaac.routes().len() == 1 && !slaac.has_ra_update();
+    assert!(rt; is_news && is_right);
 }
 
 #[test]
 fn what_has_ended_requires_a_sync(rt: HostRuntime) {
+    let end = Instant::from_secs(900);
     let mut slaac = advised();
-    assert!(rt; slaac.sync_required(LATER));
+    let was_required = slaac.sync_required(LATER);
     slaac.update_slaac_state(LATER);
-    assert!(rt; !slaac.sync_required(Instant::from_micros(899_999_999)));
-    assert!(rt; slaac.sync_required(Instant::from_secs(900)));
-    assert!(rt; !slaac.has_ra_update());
-    slaac.update_slaac_state(Instant::from_secs(900));
-    assert_eq!(rt; slaac.routes().len(), 0);
-    assert_eq!(rt; slaac.prefix().len(), 1);
-    assert_eq!(rt;
-        slaac.poll_at(Instant::from_secs(900)),
-        Some(Instant::from_secs(1000))
-    );
-    assert_eq!(rt; slaac.poll_at(Instant::from_secs(1000)), None);
+    let is_required_at_its_end = !slaac.sync_required(Instant::from_micros(899_999_999))
+        && slaac.sync_required(end)
+        && !slaac.has_ra_update();
+    slaac.update_slaac_state(end);
+    let is_right = slaac.routes().len() == 0
+        && slaac.prefix().len() == 1
+        && slaac.poll_at(end) == Some(Instant::from_secs(1000))
+        && slaac.poll_at(Instant::from_secs(1000)) == None;
+    assert!(rt; was_required && is_required_at_its_end && is_right);
 }
 
 #[test]
@@ -121,8 +123,8 @@ fn a_renewal_is_no_change(rt: HostRuntime) {
     slaac.update_slaac_state(LATER);
     let again = LATER + SECOND;
     slaac.process_advertisement(&ROUTER, TEN_MINUTES, prefix(0, 50, 50), again);
-    assert!(rt; !slaac.has_ra_update());
-    assert_eq!(rt; slaac.poll_at(again), Some(Instant::from_secs(351)));
+    let ends = slaac.poll_at(again) == Some(Instant::from_secs(351));
+    assert!(rt; !slaac.has_ra_update() && ends);
 }
 
 #[test]
@@ -131,7 +133,7 @@ fn two_prefixes_and_four_routers_are_kept(rt: HostRuntime) {
     for n in 0..3 {
         slaac.process_advertisement(&ROUTER, TEN_MINUTES, prefix(n, 700, 300), START);
     }
-    assert_eq!(rt; slaac.prefix().len(), 2);
+    let prefixes = slaac.prefix().len();
     for n in [2, 3, 4, 5] {
         let router = Ipv6Address {
             bits: OTHER.bits + n,
@@ -140,7 +142,7 @@ fn two_prefixes_and_four_routers_are_kept(rt: HostRuntime) {
         slaac.process_advertisement(&router, TEN_MINUTES, None, START);
         assert!(rt; slaac.has_ra_update());
     }
-    assert_eq!(rt; slaac.routes().len(), 4);
+    assert!(rt; prefixes == 2 && slaac.routes().len() == 4);
 }
 
 #[test]
@@ -148,17 +150,25 @@ fn a_router_gives_up(rt: HostRuntime) {
     let mut slaac = advised();
     slaac.update_slaac_state(LATER);
     slaac.process_advertisement(&OTHER, Duration::ZERO, None, LATER);
-    assert!(rt; !slaac.has_ra_update());
+    let was_news = slaac.has_ra_update();
     slaac.process_advertisement(&ROUTER, Duration::ZERO, None, LATER);
-    assert!(rt; slaac.has_ra_update());
+    let is_news = slaac.has_ra_update();
     slaac.update_slaac_state(LATER);
-    assert_eq!(rt; slaac.routes().len(), 0);
+    assert!(rt; !was_news && is_news && slaac.routes().len() == 0);
 }
 
 #[test]
 fn not_each_prefix_counts(rt: HostRuntime) {
     let mut slaac = Slaac::new();
-    let good = prefix(0, 700, 300).expect(&rt, "a prefix");
+    let good = NdiscPrefixInformation {
+        prefix_len: 64,
+        flags: NdiscPrefixInfoFlags::ADDRCONF,
+        valid_lifetime: 700,
+        preferred_lifetime: 300,
+        prefix: Ipv6Address {
+            bits: 0x2001_0db8_0000_0000_0000_0000_0000_0000,
+        },
+    };
     let link_local = NdiscPrefixInformation {
         prefix: ROUTER,
         ..good
@@ -179,8 +189,7 @@ fn not_each_prefix_counts(rt: HostRuntime) {
         },
     ] {
         slaac.process_advertisement(&ROUTER, Duration::ZERO, Some(bad), START);
-        assert_eq!(rt; slaac.prefix().len(), 0);
-        assert!(rt; !slaac.has_ra_update());
+        assert!(rt; slaac.prefix().len() == 0 && !slaac.has_ra_update());
     }
     let longest = NdiscPrefixInformation {
         prefix_len: 128,

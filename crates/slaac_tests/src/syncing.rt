@@ -1,4 +1,3 @@
-use arrayvec::ArrayVec;
 use icmpv6_wire::{NdiscPrefixInfoFlags, NdiscPrefixInformation};
 use iface_tables::route::Route as Stored;
 use ip_address::{
@@ -7,7 +6,6 @@ use ip_address::{
 use net_base::time::{Duration, Instant};
 use slaac::Slaac;
 use slaac::sync::{synced_addrs, synced_routes};
-use std::test::Fail;
 
 const HARDWARE: HardwareAddress = HardwareAddress::Ethernet(EthernetAddress([2, 0, 0, 0, 0, 1]));
 
@@ -66,47 +64,43 @@ fn advised() -> Slaac {
 
 #[test]
 fn an_address_is_made_of_64_bits(rt: HostRuntime) {
-    assert_eq!(rt;
-        Ipv6Cidr::from_link_prefix(&network(), HARDWARE),
-        Some(made())
-    );
-    assert_eq!(rt;
-        Ipv6Cidr::from_link_prefix(&v6(0x2001_0db8_0000_0000_0000_0000_0000_0009, 64), HARDWARE),
-        Some(made())
-    );
-    assert_eq!(rt;
-        Ipv6Cidr::from_link_prefix(&v6(network().address.bits, 63), HARDWARE),
-        None
-    );
-    assert_eq!(rt;
-        Ipv6Cidr::from_link_prefix(&v6(network().address.bits, 65), HARDWARE),
-        None
-    );
-    assert_eq!(rt;
-        Ipv6Cidr::from_link_prefix(&network(), HardwareAddress::Ip),
-        None
-    );
     let other = HardwareAddress::Ethernet(EthernetAddress([0x34, 0x56, 0x78, 0x9a, 0xbc, 0xde]));
-    assert_eq!(rt;
-        Ipv6Cidr::from_link_prefix(&network(), other),
-        Some(v6(0x2001_0db8_0000_0000_3656_78ff_fe9a_bcde, 64))
-    );
+    let bits = network().address.bits;
+    for (prefix, hardware, address) in [
+        (network(), HARDWARE, Some(made())),
+        (
+            v6(0x2001_0db8_0000_0000_0000_0000_0000_0009, 64),
+            HARDWARE,
+            Some(made()),
+        ),
+        (v6(bits, 63), HARDWARE, None),
+        (v6(bits, 65), HARDWARE, None),
+        (network(), HardwareAddress::Ip, None),
+        (
+            network(),
+            other,
+            Some(v6(0x2001_0db8_0000_0000_3656_78ff_fe9a_bcde, 64)),
+        ),
+    ] {
+        assert_eq!(rt; Ipv6Cidr::from_link_prefix(&prefix, hardware), address);
+    }
 }
 
 #[test]
 fn an_address_is_added_once(rt: HostRuntime) {
     let slaac = advised();
     let one = synced_addrs(&[v4(1)], &HARDWARE, slaac.prefix(), Instant::ZERO);
-    assert!(rt; one.as_slice() == [v4(1), IpCidr::Ipv6(made())].as_slice());
     let again = synced_addrs(one.as_slice(), &HARDWARE, slaac.prefix(), Instant::ZERO);
-    assert!(rt; again.as_slice() == one.as_slice());
     // Another length is another address.
     let own = [IpCidr::Ipv6(v6(made().address.bits, 128))];
     let both = synced_addrs(&own, &HARDWARE, slaac.prefix(), Instant::ZERO);
-    assert!(rt; both.as_slice() == [own[0], IpCidr::Ipv6(made())].as_slice());
     // When it ends the one with its length goes.
     let left = synced_addrs(both.as_slice(), &HARDWARE, slaac.prefix(), END);
-    assert!(rt; left.as_slice() == own.as_slice());
+    let is_right = one.as_slice() == [v4(1), IpCidr::Ipv6(made())].as_slice()
+        && again.as_slice() == one.as_slice()
+        && both.as_slice() == [own[0], IpCidr::Ipv6(made())].as_slice()
+        && left.as_slice() == own.as_slice();
+    assert!(rt; is_right);
 }
 
 #[test]
@@ -121,20 +115,19 @@ fn a_full_list_keeps_it_out(rt: HostRuntime) {
 fn routes_have_no_end_of_their_own(rt: HostRuntime) {
     let slaac = advised();
     let routes = synced_routes(&[gateway()], slaac.routes(), Instant::ZERO);
-    assert!(rt; routes.as_slice() == [gateway(), Stored::new_ipv6_gateway(ROUTER)].as_slice());
     let again = synced_routes(routes.as_slice(), slaac.routes(), Instant::ZERO);
-    assert!(rt; again.as_slice() == routes.as_slice());
     let left = synced_routes(routes.as_slice(), slaac.routes(), END);
-    assert!(rt; left.as_slice() == [gateway()].as_slice());
+    let is_right = routes.as_slice() == [gateway(), Stored::new_ipv6_gateway(ROUTER)].as_slice()
+        && again.as_slice() == routes.as_slice()
+        && left.as_slice() == [gateway()].as_slice();
+    assert!(rt; is_right);
 }
 
 #[test]
 fn a_full_table_keeps_a_route_out(rt: HostRuntime) {
     let slaac = advised();
-    let mut stored = ArrayVec::<Stored, 4>::new();
-    for n in 1..5 {
-        let _ = stored.try_push(Stored::new_ipv4_gateway(Ipv4Address::new(10, 0, 0, n)));
-    }
-    let routes = synced_routes(stored.as_slice(), slaac.routes(), Instant::ZERO);
+    let gateway = |n| Stored::new_ipv4_gateway(Ipv4Address::new(10, 0, 0, n));
+    let stored = [gateway(1), gateway(2), gateway(3), gateway(4)];
+    let routes = synced_routes(&stored, slaac.routes(), Instant::ZERO);
     assert!(rt; routes.as_slice() == stored.as_slice());
 }

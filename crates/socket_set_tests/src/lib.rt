@@ -3,5 +3,3 @@
 
 #[cfg(test)]
 mod set;
-#[cfg(test)]
-mod waits;

@@ -6,7 +6,6 @@ use sockets::queue::{NoMemory, Queue};
 use sockets::socket::{AnySocket, SocketOf};
 use sockets::{IpEndpoint, IpListenEndpoint, raw, tcp, udp};
 use std::alloc::Global;
-use std::process::Abort;
 use std::test::Fail;
 
 // 10.0.0.1 and 10.0.0.2.
@@ -59,29 +58,12 @@ fn a_freed_place_is_taken_again(rt: HostRuntime) -> Result<(), Fail> {
         Ok(text) => text,
         Err(_) => format!(in rt.alloc(); "{first} {second}")?,
     };
-    assert_eq!(rt; text.as_str(), "#0 #1");
-    assert!(rt; is_removed(&mut set, first));
-    assert!(rt; !is_removed(&mut set, first));
-    assert!(rt; !has::<udp::Socket<'_>>(&set, first));
-    assert!(rt; has::<udp::Socket<'_>>(&set, second));
-    assert_eq!(rt; add(&mut set, udp_socket(rt.alloc(), 3)?)?, first);
-    Ok(())
-}
-
-#[test]
-fn handles_rise(rt: HostRuntime) -> Result<(), Fail> {
-    let mut set: SocketSet<'_> = SocketSet::new(Vec::new(rt.alloc()));
-    let first = add(&mut set, udp_socket(rt.alloc(), 1)?)?;
-    let second = add(&mut set, udp_socket(rt.alloc(), 2)?)?;
-    assert!(rt; set.get_mut::<udp::Socket<'_>>(second).is_some());
-    assert!(rt; by_index::socket_mut(&mut set, 1).is_some());
-    assert!(rt; by_index::socket_mut(&mut set, 2).is_none());
-    assert_eq!(rt; by_index::places(&set), 2);
-    assert!(rt; set.iter().next().is_some());
-    let mut handles = set.handles();
-    assert_eq!(rt; handles.next(), Some(first));
-    assert_eq!(rt; handles.next(), Some(second));
-    assert_eq!(rt; handles.next(), None);
+    let is_freed = is_removed(&mut set, first)
+        && !is_removed(&mut set, first)
+        && !has::<udp::Socket<'_>>(&set, first)
+        && has::<udp::Socket<'_>>(&set, second);
+    let third = add(&mut set, udp_socket(rt.alloc(), 3)?)?;
+    assert!(rt; text.as_str() == "#0 #1" && is_freed && third == first);
     Ok(())
 }
 
@@ -106,13 +88,15 @@ fn a_socket_waits_at_its_place(rt: HostRuntime) -> Result<(), Fail> {
             permitted
         );
     }
-    assert!(rt; is_removed(&mut set, first));
-    assert!(rt; !by_index::egress_permitted(&mut set, 0, Instant::from_secs(3), |_| true));
-    assert_eq!(rt; add(&mut set, udp_socket(rt.alloc(), 3)?)?, first);
-    assert!(rt; by_index::egress_permitted(&mut set, 0, Instant::ZERO, |_| false));
+    let is_free = is_removed(&mut set, first)
+        && !by_index::egress_permitted(&mut set, 0, Instant::from_secs(3), |_| true);
+    let third = add(&mut set, udp_socket(rt.alloc(), 3)?)?;
+    let is_new = third == first
+        && by_index::egress_permitted(&mut set, 0, Instant::ZERO, |_| false);
     by_index::neighbor_missing(&mut set, 0, Instant::from_secs(1), FIRST);
-    assert!(rt; by_index::egress_permitted(&mut set, 0, Instant::ZERO, |a| a == FIRST));
-    assert!(rt; by_index::egress_permitted(&mut set, 0, Instant::ZERO, |_| false));
+    let is_found = by_index::egress_permitted(&mut set, 0, Instant::ZERO, |a| a == FIRST)
+        && by_index::egress_permitted(&mut set, 0, Instant::ZERO, |_| false);
+    assert!(rt; is_free && is_new && is_found);
     Ok(())
 }
 
@@ -124,14 +108,13 @@ fn a_fixed_set_gives_the_socket_back(rt: HostRuntime) -> Result<(), Fail> {
     }
     let mut set: SocketSet<'_> = SocketSet::fixed(places);
     let first = add(&mut set, udp_socket(rt.alloc(), 7)?)?;
-    assert_eq!(rt; first, SocketHandle::default());
-    let refused = match set.add(udp_socket(rt.alloc(), 8)?) {
+    let is_refused = match set.add(udp_socket(rt.alloc(), 8)?) {
         Ok(_handle) => false,
         Err(AddError::Full(_socket)) => true,
         Err(AddError::NoMemory(_socket)) => false,
     };
-    assert!(rt; refused);
-    assert_eq!(rt; by_index::places(&set), 1);
+    let is_first = first == SocketHandle::default();
+    assert!(rt; is_first && is_refused && by_index::places(&set) == 1);
     Ok(())
 }
 
@@ -165,25 +148,24 @@ fn are_at<'a>(set: &SocketSet<'a>, ports: &[u16]) -> bool {
     sockets.next().is_none()
 }
 
-// Adds a socket at a port to a set whose sockets are at some ports, and gives its handle. A refusal
+// Adds a socket at a port to a set, and says whether it left the others at their ports. A refusal
 // gives the socket back and leaves the set as it was, and the next call adds it.
-fn grow<'a>(
-    rt: &impl Abort,
+fn grows<'a>(
     alloc: Global,
     set: &mut SocketSet<'a>,
     ports: &[u16],
     port: u16,
-) -> Result<SocketHandle, NoMemory> {
+) -> Result<bool, NoMemory> {
     let places = by_index::places(set);
-    assert!(rt; are_at(set, ports));
+    let are_there = are_at(set, ports);
     match set.add(tcp_socket(alloc, port)?) {
-        Ok(handle) => Ok(handle),
+        Ok(_handle) => Ok(are_there),
         Err(AddError::Full(_socket)) => Err(NoMemory),
         Err(AddError::NoMemory(socket)) => {
-            assert!(rt; is_at(&socket, port));
-            assert_eq!(rt; by_index::places(set), places);
-            assert!(rt; are_at(set, ports));
-            add(set, socket)
+            let is_given_back = is_at(&socket, port);
+            let is_as_it_was = by_index::places(set) == places && are_at(set, ports);
+            add(set, socket)?;
+            Ok(are_there && is_given_back && is_as_it_was)
         }
     }
 }
@@ -193,61 +175,10 @@ fn a_refused_place_leaves_the_set_as_it_was(rt: HostRuntime) -> Result<(), Fail>
     let ports = [1, 2, 3, 4, 5];
     let mut set: SocketSet<'_> = SocketSet::new(Vec::new(rt.alloc()));
     for i in 0..5 {
-        grow(&rt, rt.alloc(), &mut set, &ports[..i], ports[i])?;
-        assert_eq!(rt; by_index::places(&set), i + 1);
+        let is_right = grows(rt.alloc(), &mut set, &ports[..i], ports[i])?;
+        assert!(rt; is_right && by_index::places(&set) == i + 1);
     }
     assert!(rt; are_at(&set, &ports));
-    Ok(())
-}
-
-// Whether a handle names a socket at a port.
-fn names<'a>(set: &SocketSet<'a>, handle: SocketHandle, port: u16) -> bool {
-    match set.get::<tcp::Socket<'_>>(handle) {
-        Some(socket) => is_at(socket, port),
-        None => false,
-    }
-}
-
-#[test]
-fn a_handle_names_its_place(rt: HostRuntime) -> Result<(), Fail> {
-    let mut set: SocketSet<'_> = SocketSet::new(Vec::new(rt.alloc()));
-    let first = grow(&rt, rt.alloc(), &mut set, &[], 10)?;
-    let second = grow(&rt, rt.alloc(), &mut set, &[10], 11)?;
-    let third = grow(&rt, rt.alloc(), &mut set, &[10, 11], 12)?;
-    assert!(rt; is_removed(&mut set, second));
-    assert!(rt; !has::<tcp::Socket<'_>>(&set, second));
-    assert!(rt; are_at(&set, &[10, 12]));
-    let again = grow(&rt, rt.alloc(), &mut set, &[10, 12], 14)?;
-    assert_eq!(rt; again, second);
-    assert!(rt; are_at(&set, &[10, 14, 12]));
-    for (handle, port) in [(first, 10), (second, 14), (third, 12)] {
-        assert!(rt; names(&set, handle, port));
-    }
-    Ok(())
-}
-
-// A set of sockets at these ports, with the handle of the last.
-fn set_at<'a>(alloc: Global, ports: &[u16]) -> Result<(SocketSet<'a>, SocketHandle), NoMemory> {
-    let mut set: SocketSet<'_> = SocketSet::new(Vec::new(alloc));
-    let mut last = SocketHandle::default();
-    for port in ports {
-        last = add(&mut set, tcp_socket(alloc, *port)?)?;
-    }
-    Ok((set, last))
-}
-
-#[test]
-fn a_handle_beyond_all_places_names_nothing(rt: HostRuntime) -> Result<(), Fail> {
-    let (set, third) = set_at(rt.alloc(), &[10, 11, 12])?;
-    let (larger, fourth) = set_at(rt.alloc(), &[10, 11, 12, 13])?;
-    let text = match format!(in rt.alloc(); "{third} {fourth}") {
-        Ok(text) => text,
-        Err(_) => format!(in rt.alloc(); "{third} {fourth}")?,
-    };
-    assert_eq!(rt; text.as_str(), "#2 #3");
-    assert!(rt; names(&set, third, 12));
-    assert!(rt; !has::<tcp::Socket<'_>>(&set, fourth));
-    assert!(rt; names(&larger, fourth, 13));
     Ok(())
 }
 
@@ -280,12 +211,12 @@ fn one_of_many_is_busy(rt: HostRuntime) -> Result<(), Fail> {
     assert_eq!(rt; first_busy(&mut set), 130);
     for index in [0, 15, 16, 17, 63, 64, 66, 129] {
         by_index::neighbor_missing(&mut set, index, Instant::from_secs(1), FIRST);
-        assert_eq!(rt; first_busy(&mut set), index);
-        assert_eq!(rt; by_index::next_busy(&set, index + 1), 130);
-        assert!(rt; by_index::egress_permitted(&mut set, index, Instant::ZERO, |a| a == FIRST));
-        assert_eq!(rt; first_busy(&mut set), 130);
-        assert!(rt; by_index::socket_mut(&mut set, index).is_some());
-        assert_eq!(rt; by_index::next_busy(&set, 0), index);
+        let is_busy = first_busy(&mut set) == index && by_index::next_busy(&set, index + 1) == 130;
+        let is_found = by_index::egress_permitted(&mut set, index, Instant::ZERO, |a| a == FIRST);
+        let is_idle = first_busy(&mut set) == 130;
+        let is_lent = by_index::socket_mut(&mut set, index).is_some()
+            && by_index::next_busy(&set, 0) == index;
+        assert!(rt; is_busy && is_found && is_idle && is_lent, "{index}");
     }
     Ok(())
 }
@@ -296,24 +227,24 @@ fn sockets_are_found_by_their_ports(rt: HostRuntime) -> Result<(), Fail> {
     for port in 0..41 {
         add(&mut set, udp_socket(rt.alloc(), port)?)?;
     }
-    assert_eq!(rt; by_index::next_at(&set, 0, Some(7)), 0);
-    assert_eq!(rt; first_busy(&mut set), 41);
+    let may_be_first = by_index::next_at(&set, 0, Some(7)) == 0 && first_busy(&mut set) == 41;
+    assert!(rt; may_be_first);
     for port in [0, 1, 15, 16, 17, 40] {
-        assert_eq!(rt; by_index::next_at(&set, 0, Some(port)), usize::from(port));
-        assert_eq!(rt;
-            by_index::next_at(&set, usize::from(port) + 1, Some(port)),
-            41
-        );
+        let index = usize::from(port);
+        let is_found = by_index::next_at(&set, 0, Some(port)) == index
+            && by_index::next_at(&set, index + 1, Some(port)) == 41;
+        assert!(rt; is_found, "{port}");
     }
-    assert_eq!(rt; by_index::next_at(&set, 0, Some(41)), 41);
+    let is_nobody = by_index::next_at(&set, 0, Some(41)) == 41;
     // What was lent for writing may be anywhere, but is still a UDP socket.
-    assert!(rt; by_index::kind_mut::<udp::Socket<'_>, _>(&mut set, 20).is_some());
-    assert_eq!(rt; by_index::next_at(&set, 0, Some(30)), 20);
-    assert_eq!(rt; by_index::next_at(&set, 21, Some(30)), 30);
-    assert!(rt; !by_index::may_have_portless(&set));
+    let is_anywhere = by_index::kind_mut::<udp::Socket<'_>, _>(&mut set, 20).is_some()
+        && by_index::next_at(&set, 0, Some(30)) == 20
+        && by_index::next_at(&set, 21, Some(30)) == 30
+        && !by_index::may_have_portless(&set);
     // Lent as one of any kind, it may be of another.
-    assert!(rt; by_index::socket_mut(&mut set, 20).is_some());
-    assert!(rt; by_index::may_have_portless(&set));
+    let is_any_kind = by_index::socket_mut(&mut set, 20).is_some()
+        && by_index::may_have_portless(&set);
+    assert!(rt; is_nobody && is_anywhere && is_any_kind);
     Ok(())
 }
 
@@ -330,15 +261,15 @@ fn a_raw_socket_is_looked_for_until_it_is_removed(rt: HostRuntime) -> Result<(),
         queue(rt.alloc())?,
     );
     let handle = add(&mut set, socket)?;
-    assert!(rt; by_index::may_have_portless(&set));
-    assert_eq!(rt; first_busy(&mut set), 21);
-    assert_eq!(rt; by_index::next_at(&set, 0, None), 20);
-    assert_eq!(rt; by_index::next_at(&set, 0, Some(20)), 19);
-    assert!(rt; is_removed(&mut set, handle));
-    assert!(rt; !by_index::may_have_portless(&set));
+    let is_looked_for = by_index::may_have_portless(&set)
+        && first_busy(&mut set) == 21
+        && by_index::next_at(&set, 0, None) == 20
+        && by_index::next_at(&set, 0, Some(20)) == 19;
+    let is_gone = is_removed(&mut set, handle) && !by_index::may_have_portless(&set);
     // Nothing is known of a place that has just become free.
-    assert_eq!(rt; by_index::next_at(&set, 0, None), 20);
-    assert_eq!(rt; first_busy(&mut set), 21);
-    assert_eq!(rt; by_index::next_at(&set, 0, None), 21);
+    let is_forgotten = by_index::next_at(&set, 0, None) == 20
+        && first_busy(&mut set) == 21
+        && by_index::next_at(&set, 0, None) == 21;
+    assert!(rt; is_looked_for && is_gone && is_forgotten);
     Ok(())
 }

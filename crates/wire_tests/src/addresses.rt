@@ -3,12 +3,13 @@ use ip_address::{
     Ipv4Cidr, Ipv6Address, Ipv6Cidr,
 };
 use net_base::phy::Medium;
-use std::test::Fail;
+use std::alloc::Global;
+use std::fmt::Display;
 
 const OWN: EthernetAddress = EthernetAddress([0x02, 0, 0, 0, 0, 0x01]);
 
 #[test]
-fn classes_of_addresses(rt: HostRuntime) -> Result<(), Fail> {
+fn classes_of_addresses(rt: HostRuntime) {
     for (a, b, multicast, unicast) in [
         (0, 0, false, false),
         (0, 1, false, true),
@@ -20,12 +21,17 @@ fn classes_of_addresses(rt: HostRuntime) -> Result<(), Fail> {
         (255, 255, false, false),
     ] {
         let address = IpAddress::Ipv4(Ipv4Address::new(a, b, b, b));
-        assert_eq!(rt; address.is_multicast(), multicast, "{a}");
-        assert_eq!(rt; address.is_unicast(), unicast, "{a}");
+        let is_right = address.is_multicast() == multicast && address.is_unicast() == unicast;
+        assert!(rt; is_right, "{a}");
     }
-    assert!(rt; IpAddress::Ipv4(Ipv4Address::new(255, 255, 255, 255)).is_broadcast());
-    assert!(rt; !IpAddress::Ipv4(Ipv4Address::new(192, 168, 69, 255)).is_broadcast());
-    assert!(rt; IpAddress::default().is_unspecified());
+    let is_right = IpAddress::Ipv4(Ipv4Address::new(255, 255, 255, 255)).is_broadcast()
+        && !IpAddress::Ipv4(Ipv4Address::new(192, 168, 69, 255)).is_broadcast()
+        && IpAddress::default().is_unspecified();
+    assert!(rt; is_right);
+}
+
+#[test]
+fn classes_of_hardware_addresses(rt: HostRuntime) {
     for (octets, broadcast, multicast) in [
         ([0xff, 0xff, 0xff, 0xff, 0xff, 0xff], true, true),
         ([0x01, 0x00, 0x5e, 0x00, 0x00, 0x01], false, true),
@@ -33,17 +39,19 @@ fn classes_of_addresses(rt: HostRuntime) -> Result<(), Fail> {
         ([0x00, 0xff, 0xff, 0xff, 0xff, 0xff], false, false),
     ] {
         let address = EthernetAddress(octets);
-        assert_eq!(rt; address.is_broadcast(), broadcast);
-        assert_eq!(rt; address.is_multicast(), multicast);
-        assert_eq!(rt; HardwareAddress::Ethernet(address).is_unicast(), !multicast);
+        let is_right = address.is_broadcast() == broadcast
+            && address.is_multicast() == multicast
+            && HardwareAddress::Ethernet(address).is_unicast() != multicast;
+        assert!(rt; is_right, "{address}");
     }
-    assert_eq!(rt; HardwareAddress::Ethernet(OWN).medium(), Medium::Ethernet);
-    assert!(rt; HardwareAddress::default().is_unicast());
-    Ok(())
+    let is_right = HardwareAddress::Ethernet(OWN).medium() == Medium::Ethernet
+        && HardwareAddress::from(OWN) == HardwareAddress::Ethernet(OWN)
+        && HardwareAddress::default().is_unicast();
+    assert!(rt; is_right);
 }
 
 #[test]
-fn classes_of_ipv6_addresses(rt: HostRuntime) -> Result<(), Fail> {
+fn classes_of_ipv6_addresses(rt: HostRuntime) {
     for (bits, link_local, multicast, scope) in [
         (0x0000_0000_0000_0000_0000_0000_0000_0001, false, false, 2),
         (0x2001_0db8_0000_0000_0000_0000_0000_0001, false, false, 14),
@@ -56,123 +64,62 @@ fn classes_of_ipv6_addresses(rt: HostRuntime) -> Result<(), Fail> {
         (0xff0e_0000_0000_0000_0000_0000_0000_0001, false, true, 14),
     ] {
         let address = Ipv6Address { bits };
-        assert_eq!(rt; address.is_link_local(), link_local, "{bits:x}");
-        assert_eq!(rt;
-            IpAddress::Ipv6(address).is_multicast(),
-            multicast,
-            "{bits:x}"
-        );
-        assert_eq!(rt;
-            IpAddress::Ipv6(address).is_unicast(),
-            !multicast,
-            "{bits:x}"
-        );
-        assert_eq!(rt; address.scope(), scope, "{bits:x}");
+        let is_right = address.is_link_local() == link_local
+            && IpAddress::Ipv6(address).is_multicast() == multicast
+            && IpAddress::Ipv6(address).is_unicast() != multicast
+            && address.scope() == scope;
+        assert!(rt; is_right, "{bits:x}");
     }
-    assert!(rt; Ipv6Address::LOCALHOST.is_loopback());
-    assert!(rt; !IpAddress::Ipv6(Ipv6Address::default()).is_unicast());
-    Ok(())
+    let is_right = Ipv6Address::LOCALHOST.is_loopback()
+        && !IpAddress::Ipv6(Ipv6Address::default()).is_unicast();
+    assert!(rt; is_right);
 }
 
-#[test]
-fn networks(rt: HostRuntime) -> Result<(), Fail> {
-    let own = Ipv4Address::new(192, 168, 69, 1);
-    for (prefix_len, address, inside) in [
-        (0, Ipv4Address::new(10, 0, 0, 9), true),
-        (24, Ipv4Address::new(192, 168, 69, 255), true),
-        (24, Ipv4Address::new(192, 168, 70, 1), false),
-        (31, Ipv4Address::new(192, 168, 69, 0), true),
-        (31, Ipv4Address::new(192, 168, 69, 2), false),
-        (32, Ipv4Address::new(192, 168, 69, 1), true),
-        (32, Ipv4Address::new(192, 168, 69, 0), false),
-    ] {
-        let network = IpCidr::Ipv4(Ipv4Cidr::new(own, prefix_len));
-        assert_eq!(rt;
-            network.contains_addr(&IpAddress::Ipv4(address)),
-            inside,
-            "/{prefix_len}"
-        );
-        assert!(rt; !network.contains_addr(&IpAddress::default()) || prefix_len == 0);
-        assert!(rt; !network.contains_addr(&IpAddress::Ipv6(Ipv6Address::LOCALHOST)));
-        assert_eq!(rt; network.prefix_len(), prefix_len);
-        assert_eq!(rt; network.address(), IpAddress::Ipv4(own));
+// Whether a value prints as this text.
+fn prints<T: Display>(alloc: Global, value: &T, text: &str) -> bool {
+    match format!(in alloc; "{value}") {
+        Ok(printed) => printed.as_str() == text,
+        Err(_) => false,
     }
-    assert_eq!(rt;
-        Ipv4Cidr::new(own, 24).broadcast(),
-        Some(Ipv4Address::new(192, 168, 69, 255))
-    );
-    assert_eq!(rt;
-        Ipv4Cidr::new(own, 0).broadcast(),
-        Some(Ipv4Address::BROADCAST)
-    );
-    assert_eq!(rt;
-        Ipv4Cidr::new(own, 30).broadcast(),
-        Some(Ipv4Address::new(192, 168, 69, 3))
-    );
-    assert_eq!(rt; Ipv4Cidr::new(own, 31).broadcast(), None);
-    assert_eq!(rt; Ipv4Cidr::new(own, 32).broadcast(), None);
-    Ok(())
 }
 
 #[test]
-fn ipv6_networks(rt: HostRuntime) -> Result<(), Fail> {
-    let first = Ipv6Address {
-        bits: 0x2001_0db8_0000_0000_0000_0000_0000_0001,
-    };
-    let second = Ipv6Address {
-        bits: 0x2001_0db8_0000_0001_0000_0000_0000_0001,
-    };
-    let other = Ipv6Address {
-        bits: 0x2001_0db8_0000_0001_0000_0000_0000_0009,
-    };
-    assert!(rt; !Ipv6Cidr::new(first, 64).contains_addr(&other));
-    assert!(rt; Ipv6Cidr::new(second, 64).contains_addr(&other));
-    assert!(rt; Ipv6Cidr::new(first, 63).contains_addr(&other));
-    assert!(rt; !Ipv6Cidr::new(second, 128).contains_addr(&other));
-    assert!(rt; Ipv6Cidr::new(other, 128).contains_addr(&other));
-    assert!(rt; Ipv6Cidr::new(Ipv6Address::UNSPECIFIED, 0).contains_addr(&other));
-    assert_eq!(rt; first.common_prefix_len(&other, 64), 63);
-    assert_eq!(rt; second.common_prefix_len(&other, 64), 64);
-    assert_eq!(rt; second.common_prefix_len(&other, 128), 124);
-    assert_eq!(rt; other.common_prefix_len(&other, 128), 128);
+fn printed_addresses_and_protocols(rt: HostRuntime) {
+    let alloc = rt.alloc();
     let own = Ipv4Address::new(192, 168, 69, 1);
-    assert_eq!(rt;
-        own.common_prefix_len(&Ipv4Address::new(192, 168, 70, 1), 32),
-        22
-    );
-    assert_eq!(rt;
-        own.common_prefix_len(&Ipv4Address::new(192, 168, 70, 1), 16),
-        16
-    );
-    assert_eq!(rt; own.common_prefix_len(&own, 32), 32);
-    Ok(())
-}
-
-#[test]
-fn printed_addresses(rt: HostRuntime) -> Result<(), Fail> {
-    let own = Ipv4Address::new(192, 168, 69, 1);
+    let router = Ipv6Address::new(0xfe80, 0, 0, 0, 0, 0, 0, 1);
     let address = EthernetAddress([0x02, 0x1a, 0x00, 0xc5, 0x7e, 0x01]);
-    let ip = HardwareAddress::Ip;
-    let ethernet = HardwareAddress::Ethernet(address);
-    assert_eq!(rt; format!(in rt.alloc(); "{own}")?.as_str(), "192.168.69.1");
-    assert_eq!(rt;
-        format!(in rt.alloc(); "{address}")?.as_str(),
-        "02-1a-00-c5-7e-01"
-    );
-    assert_eq!(rt;
-        format!(in rt.alloc(); "{ethernet}")?.as_str(),
-        "02-1a-00-c5-7e-01"
-    );
-    assert_eq!(rt;
-        format!(in rt.alloc(); "{ip}")?.as_str(),
-        "no hardware addr"
-    );
-    Ok(())
+    let are_addresses = prints(alloc, &own, "192.168.69.1")
+        && prints(alloc, &address, "02-1a-00-c5-7e-01")
+        && prints(
+            alloc,
+            &HardwareAddress::Ethernet(address),
+            "02-1a-00-c5-7e-01",
+        )
+        && prints(alloc, &HardwareAddress::Ip, "no hardware addr")
+        && prints(alloc, &IpAddress::from(own), "192.168.69.1")
+        && prints(alloc, &IpAddress::from(router), "fe80::1")
+        && prints(
+            alloc,
+            &IpCidr::from(Ipv4Cidr::new(own, 24)),
+            "192.168.69.1/24",
+        )
+        && prints(
+            alloc,
+            &IpCidr::from(Ipv6Cidr::new(router, 64)),
+            "fe80::1/64",
+        );
+    let are_protocols = prints(alloc, &IpProtocol::from_number(0), "Hop-by-Hop")
+        && prints(alloc, &IpProtocol::from_number(17), "UDP")
+        && prints(alloc, &IpProtocol::from_number(58), "ICMPv6")
+        && prints(alloc, &IpProtocol::from_number(9), "0x09")
+        && prints(alloc, &IpVersion::Ipv6, "IPv6");
+    assert!(rt; are_addresses && are_protocols);
 }
 
 // The examples of RFC 4291 2.2 and RFC 5952 4 and 5.
 #[test]
-fn printed_ipv6_addresses(rt: HostRuntime) -> Result<(), Fail> {
+fn printed_ipv6_addresses(rt: HostRuntime) {
     for (bits, text) in [
         (0, "::"),
         (1, "::1"),
@@ -199,41 +146,11 @@ fn printed_ipv6_addresses(rt: HostRuntime) -> Result<(), Fail> {
         (0xffff_c000_0201, "::ffff:192.0.2.1"),
     ] {
         let address = Ipv6Address { bits };
-        assert_eq!(rt; format!(in rt.alloc(); "{address}")?.as_str(), text);
+        assert!(rt; prints(rt.alloc(), &address, text), "{text}");
     }
     let address = Ipv6Address::new(0x2001, 0xdb8, 1, 2, 3, 4, 5, 6);
-    assert_eq!(rt; address.bits, 0x2001_0db8_0001_0002_0003_0004_0005_0006);
-    assert_eq!(rt;
-        address.octets(),
-        [0x20, 0x01, 0x0d, 0xb8, 0, 1, 0, 2, 0, 3, 0, 4, 0, 5, 0, 6]
-    );
-    Ok(())
-}
-
-#[test]
-fn printed_networks_and_protocols(rt: HostRuntime) -> Result<(), Fail> {
-    let own = Ipv4Address::new(192, 168, 69, 1);
-    let cidr = IpCidr::from(Ipv4Cidr::new(own, 24));
-    assert_eq!(rt;
-        format!(in rt.alloc(); "{cidr}")?.as_str(),
-        "192.168.69.1/24"
-    );
-    let router = Ipv6Address::new(0xfe80, 0, 0, 0, 0, 0, 0, 1);
-    let cidr = IpCidr::from(Ipv6Cidr::new(router, 64));
-    assert_eq!(rt; format!(in rt.alloc(); "{cidr}")?.as_str(), "fe80::1/64");
-    let address = IpAddress::from(own);
-    assert_eq!(rt;
-        format!(in rt.alloc(); "{address}")?.as_str(),
-        "192.168.69.1"
-    );
-    let address = IpAddress::from(router);
-    assert_eq!(rt; format!(in rt.alloc(); "{address}")?.as_str(), "fe80::1");
-    assert_eq!(rt; HardwareAddress::from(OWN), HardwareAddress::Ethernet(OWN));
-    for (number, text) in [(0, "Hop-by-Hop"), (17, "UDP"), (58, "ICMPv6"), (9, "0x09")] {
-        let protocol = IpProtocol::from_number(number);
-        assert_eq!(rt; format!(in rt.alloc(); "{protocol}")?.as_str(), text);
-    }
-    let version = IpVersion::Ipv6;
-    assert_eq!(rt; format!(in rt.alloc(); "{version}")?.as_str(), "IPv6");
-    Ok(())
+    let octets = [0x20, 0x01, 0x0d, 0xb8, 0, 1, 0, 2, 0, 3, 0, 4, 0, 5, 0, 6];
+    let is_right = address.bits == 0x2001_0db8_0001_0002_0003_0004_0005_0006
+        && address.octets() == octets;
+    assert!(rt; is_right);
 }

@@ -2,7 +2,6 @@ use ip_wire::emit::FrameBuffer;
 use ip_wire::{
     ArpOperation, ArpRepr, EthernetAddress, EthernetProtocol, EthernetRepr, Ipv4Address,
 };
-use std::test::Fail;
 
 /// A host that asks for 192.168.69.1, and is 192.168.69.100.
 const REQUEST: [u8; 42] = [
@@ -23,7 +22,7 @@ const OWN: EthernetAddress = EthernetAddress([0x02, 0, 0, 0, 0, 0x01]);
 const OTHER: EthernetAddress = EthernetAddress([0x02, 0, 0, 0, 0, 0x02]);
 
 #[test]
-fn a_request_is_read(rt: HostRuntime) -> Result<(), Fail> {
+fn a_request_is_read(rt: HostRuntime) {
     let header = EthernetRepr {
         src_addr: OTHER,
         dst_addr: EthernetAddress::BROADCAST,
@@ -36,32 +35,22 @@ fn a_request_is_read(rt: HostRuntime) -> Result<(), Fail> {
         target_hardware_addr: EthernetAddress([0; 6]),
         target_protocol_addr: Ipv4Address::new(192, 168, 69, 1),
     };
-    match EthernetRepr::parse(&REQUEST) {
+    let is_read = match EthernetRepr::parse(&REQUEST) {
         Some((repr, payload)) => {
-            assert_eq!(rt; repr, header);
-            assert_eq!(rt; payload.len(), 28);
-            assert_eq!(rt; ArpRepr::parse(payload), Some(request));
-            for len in 0..28 {
-                assert_eq!(rt;
-                    ArpRepr::parse(&REQUEST[14..14 + len]),
-                    None,
-                    "{len} octets"
-                );
-            }
+            repr == header && payload.len() == 28 && ArpRepr::parse(payload) == Some(request)
         }
-        None => assert!(rt; false),
+        None => false,
+    };
+    assert!(rt; is_read);
+    for len in 0..28 {
+        let is_header = EthernetRepr::parse(&REQUEST[..len]).is_some();
+        let is_request = ArpRepr::parse(&REQUEST[14..14 + len]).is_some();
+        assert!(rt; is_header == (len >= 14) && !is_request, "{len} octets");
     }
-    for len in 0..14 {
-        assert!(rt;
-            EthernetRepr::parse(&REQUEST[..len]).is_none(),
-            "{len} octets"
-        );
-    }
-    Ok(())
 }
 
 #[test]
-fn a_reply_is_emitted(rt: HostRuntime) -> Result<(), Fail> {
+fn a_reply_is_emitted(rt: HostRuntime) {
     let header = EthernetRepr {
         src_addr: OWN,
         dst_addr: OTHER,
@@ -78,31 +67,14 @@ fn a_reply_is_emitted(rt: HostRuntime) -> Result<(), Fail> {
     header.emit(&mut frame);
     reply.emit(&mut frame);
     assert_eq!(rt; frame.as_slice(), REPLY.as_slice());
-    Ok(())
 }
 
 #[test]
-fn types_of_frames(rt: HostRuntime) {
-    for (number, protocol) in [
-        (0x0800, EthernetProtocol::Ipv4),
-        (0x0806, EthernetProtocol::Arp),
-        (0x86dd, EthernetProtocol::Ipv6),
-        (0x88cc, EthernetProtocol::Unknown(0x88cc)),
-    ] {
-        assert_eq!(rt; EthernetProtocol::from_number(number), protocol);
-        assert_eq!(rt; protocol.number(), number);
-        assert_eq!(rt; EthernetProtocol::Unknown(number), protocol);
-        assert_ne!(rt; EthernetProtocol::Unknown(number + 1), protocol);
-    }
-}
-
-#[test]
-fn packets_for_others_are_refused(rt: HostRuntime) -> Result<(), Fail> {
+fn packets_for_others_are_refused(rt: HostRuntime) {
     // hardware type 6, protocol IPv6, longer addresses, operation 3 (RARP)
     for (place, octet) in [(15, 6), (16, 0x86), (18, 8), (19, 16), (21, 3), (21, 0)] {
         let mut frame = REQUEST;
         frame[place] = octet;
         assert_eq!(rt; ArpRepr::parse(&frame[14..]), None, "{octet} at {place}");
     }
-    Ok(())
 }

@@ -5,7 +5,6 @@ use ip_wire::{
     IpAddress, IpProtocol, IpVersion, Ipv4Address, Ipv4Fragment, Ipv4Repr, Ipv6Address, TcpControl,
     TcpRepr, TcpSeqNumber, UdpRepr,
 };
-use std::test::Fail;
 
 const OWN: Ipv4Address = Ipv4Address { bits: 0xc0a8_4501 };
 
@@ -48,62 +47,37 @@ const SOLICITATION: [u8; 32] = [
 ];
 
 #[test]
-fn checksums(rt: HostRuntime) -> Result<(), Fail> {
+fn checksums(rt: HostRuntime) {
     // the example of RFC 1071, section 3
     let example = [0x00, 0x01, 0xf2, 0x03, 0xf4, 0xf5, 0xf6, 0xf7];
-    assert_eq!(rt; sum_with(0, &example), 0xddf2);
-    assert_eq!(rt; checksum(&example), 0x220d);
-    assert_eq!(rt; sum_with(part_sum(&example[..2]), &example[2..]), 0xddf2);
-    assert_eq!(rt;
-        sum_with(part_sum(&example[..4]) + part_sum(&example[4..]), &[]),
-        0xddf2
-    );
-    assert_eq!(rt; sum_with(0, &example[..7]), 0xdcfb);
-    assert_eq!(rt; sum_with(0, &[]), 0);
-    assert_eq!(rt; sum_with(0, &[0x12]), 0x1200);
-    assert_eq!(rt; sum_with(0xffff, &[0x00, 0x01]), 0x0001);
-    assert_eq!(rt; sum_with(0, &ECHO_HEADER), 0xffff);
-    Ok(())
+    let is_right = sum_with(0, &example) == 0xddf2
+        && checksum(&example) == 0x220d
+        && sum_with(part_sum(&example[..2]), &example[2..]) == 0xddf2
+        && sum_with(part_sum(&example[..4]) + part_sum(&example[4..]), &[]) == 0xddf2
+        && sum_with(0, &example[..7]) == 0xdcfb
+        && sum_with(0, &[]) == 0
+        && sum_with(0, &[0x12]) == 0x1200
+        && sum_with(0xffff, &[0x00, 0x01]) == 0x0001
+        && sum_with(0, &ECHO_HEADER) == 0xffff;
+    assert!(rt; is_right);
 }
 
 #[test]
-fn a_pseudo_header_of_ipv6(rt: HostRuntime) -> Result<(), Fail> {
+fn a_pseudo_header_of_ipv6(rt: HostRuntime) {
     let src = IpAddress::Ipv6(Ipv6Address {
         bits: 0xfe80_0000_0000_0000_0000_0000_0000_0001,
     });
     let dst = IpAddress::Ipv6(Ipv6Address {
         bits: 0xff02_0000_0000_0000_0000_0001_ff00_0002,
     });
-    assert_eq!(rt;
-        sum_with(pseudo_sum(&src, &dst, 58, 32), &SOLICITATION),
-        0xffff
-    );
-    assert_eq!(rt; src.version(), IpVersion::Ipv6);
-    assert_eq!(rt; OWN_IP.version(), IpVersion::Ipv4);
-    Ok(())
+    let is_right = sum_with(pseudo_sum(&src, &dst, 58, 32), &SOLICITATION) == 0xffff
+        && src.version() == IpVersion::Ipv6
+        && OWN_IP.version() == IpVersion::Ipv4;
+    assert!(rt; is_right);
 }
 
 #[test]
-fn protocols(rt: HostRuntime) -> Result<(), Fail> {
-    for (number, protocol) in [
-        (0, IpProtocol::HopByHop),
-        (1, IpProtocol::Icmp),
-        (2, IpProtocol::Igmp),
-        (6, IpProtocol::Tcp),
-        (17, IpProtocol::Udp),
-        (58, IpProtocol::Icmpv6),
-        (253, IpProtocol::Unknown(253)),
-    ] {
-        assert_eq!(rt; IpProtocol::from_number(number), protocol);
-        assert_eq!(rt; protocol.number(), number);
-        assert_eq!(rt; IpProtocol::Unknown(number), protocol);
-        assert_ne!(rt; IpProtocol::Unknown(number + 1), protocol);
-    }
-    Ok(())
-}
-
-#[test]
-fn a_packet(rt: HostRuntime) -> Result<(), Fail> {
+fn a_packet(rt: HostRuntime) {
     let repr = Ipv4Repr {
         src_addr: OTHER,
         dst_addr: OWN,
@@ -113,52 +87,63 @@ fn a_packet(rt: HostRuntime) -> Result<(), Fail> {
     };
     let mut out = FrameBuffer::new();
     repr.emit(&Ipv4Fragment::WHOLE, true, &mut out);
-    assert_eq!(rt; out.as_slice(), ECHO_HEADER.as_slice());
-    assert!(rt; !Ipv4Fragment::WHOLE.is_fragment());
-    assert_eq!(rt; Ipv4Fragment::default(), Ipv4Fragment::WHOLE);
+    let is_emitted = out.as_slice() == ECHO_HEADER.as_slice();
+    let is_whole = !Ipv4Fragment::WHOLE.is_fragment()
+        && Ipv4Fragment::default() == Ipv4Fragment::WHOLE;
+    let packet = padded_packet();
+    let is_read = match Ipv4Repr::parse(&packet, true) {
+        Some((read, fragment, payload)) => {
+            read == repr && fragment == Ipv4Fragment::WHOLE && payload.len() == 12
+        }
+        None => false,
+    };
+    assert!(rt; is_emitted && is_whole && is_read);
+}
 
-    // twelve octets of payload, and six of padding
+/// The echo request's header, twelve octets of payload, and six of padding.
+fn padded_packet() -> [u8; 38] {
     let mut packet = [0xaa; 38];
     packet[..20].copy_from_slice(&ECHO_HEADER);
-    match Ipv4Repr::parse(&packet, true) {
-        Some((read, fragment, payload)) => {
-            assert_eq!(rt; read, repr);
-            assert_eq!(rt; fragment, Ipv4Fragment::WHOLE);
-            assert_eq!(rt; payload.len(), 12);
-        }
-        None => assert!(rt; false),
-    }
+    packet
+}
+
+#[test]
+fn what_is_no_packet(rt: HostRuntime) {
+    let packet = padded_packet();
     for len in 0..32 {
         assert!(rt; Ipv4Repr::parse(&packet[..len], true).is_none(), "{len}");
     }
-    packet[8] = 63;
-    assert!(rt; Ipv4Repr::parse(&packet, true).is_none());
-    assert!(rt; Ipv4Repr::parse(&packet, false).is_some());
-    for (place, octet) in [(0, 0x65), (0, 0x44), (0, 0x49), (3, 19), (3, 39)] {
+    // an octet of the packet, its new value, and whether that is one with its checksum untested
+    for (place, octet, unchecked) in [
+        (8, 63, true),
+        (0, 0x65, false),
+        (0, 0x44, false),
+        (0, 0x49, false),
+        (3, 19, false),
+        (3, 39, false),
+    ] {
         let mut other = packet;
         other[place] = octet;
-        assert!(rt; Ipv4Repr::parse(&other, false).is_none(), "{octet}");
+        let is_right = Ipv4Repr::parse(&other, true).is_none()
+            && Ipv4Repr::parse(&other, false).is_some() == unchecked;
+        assert!(rt; is_right, "{octet} at {place}");
     }
-    Ok(())
 }
 
 #[test]
-fn options_are_skipped(rt: HostRuntime) -> Result<(), Fail> {
+fn options_are_skipped(rt: HostRuntime) {
     let mut packet = [0x01; 38];
     packet[..20].copy_from_slice(&ECHO_HEADER);
     packet[0] = 0x48;
-    match Ipv4Repr::parse(&packet, false) {
-        Some((read, _, payload)) => {
-            assert_eq!(rt; read.payload_len, 0);
-            assert_eq!(rt; payload.len(), 0);
-        }
-        None => assert!(rt; false),
-    }
-    Ok(())
+    let is_empty = match Ipv4Repr::parse(&packet, false) {
+        Some((read, _, payload)) => read.payload_len == 0 && payload.len() == 0,
+        None => false,
+    };
+    assert!(rt; is_empty);
 }
 
 #[test]
-fn fragments(rt: HostRuntime) -> Result<(), Fail> {
+fn fragments(rt: HostRuntime) {
     for (header, payload_len, more_fragments, offset) in [
         (FIRST_FRAGMENT, 552, true, 0),
         (LAST_FRAGMENT, 456, false, 69),
@@ -178,43 +163,41 @@ fn fragments(rt: HostRuntime) -> Result<(), Fail> {
         };
         let mut out = FrameBuffer::new();
         repr.emit(&fragment, true, &mut out);
-        assert_eq!(rt; out.as_slice(), header.as_slice());
         let mut packet = [0; 572];
         packet[..20].copy_from_slice(&header);
-        match Ipv4Repr::parse(&packet, true) {
+        let is_read = match Ipv4Repr::parse(&packet, true) {
             Some((read, read_fragment, payload)) => {
-                assert_eq!(rt; read, repr);
-                assert_eq!(rt; read_fragment, fragment);
-                assert_eq!(rt; payload.len(), usize::from(payload_len));
-                assert!(rt; read_fragment.is_fragment());
+                read == repr
+                    && read_fragment == fragment
+                    && read_fragment.is_fragment()
+                    && payload.len() == usize::from(payload_len)
             }
-            None => assert!(rt; false),
-        }
+            None => false,
+        };
+        assert!(rt;
+            is_read && out.as_slice() == header.as_slice(),
+            "{fragment:?}"
+        );
     }
-    Ok(())
 }
 
 #[test]
-fn a_quotation(rt: HostRuntime) -> Result<(), Fail> {
+fn a_quotation(rt: HostRuntime) {
     let mut quoted = [0xaa; 28];
     quoted[..20].copy_from_slice(&FIRST_FRAGMENT);
     quoted[10] = 0;
-    match Ipv4Repr::parse_quoted(&quoted) {
-        Some((repr, data)) => {
-            assert_eq!(rt; repr.payload_len, 552);
-            assert_eq!(rt; repr.next_header, IpProtocol::Udp);
-            assert_eq!(rt; data.len(), 8);
-        }
-        None => assert!(rt; false),
-    }
-    quoted[2] = 0;
-    quoted[3] = 8;
-    match Ipv4Repr::parse_quoted(&quoted) {
-        Some((repr, data)) => {
-            assert_eq!(rt; repr.payload_len, 0);
-            assert_eq!(rt; data.len(), 8);
-        }
-        None => assert!(rt; false),
+    // a length field's two octets, and the length of the payload
+    for (length, payload_len) in [([0x02, 0x3c], 552), ([0, 8], 0)] {
+        quoted[2..4].copy_from_slice(&length);
+        let is_read = match Ipv4Repr::parse_quoted(&quoted) {
+            Some((repr, data)) => {
+                repr.payload_len == payload_len
+                    && repr.next_header == IpProtocol::Udp
+                    && data.len() == 8
+            }
+            None => false,
+        };
+        assert!(rt; is_read, "{payload_len}");
     }
     for len in 0..20 {
         assert!(rt; Ipv4Repr::parse_quoted(&quoted[..len]).is_none());
@@ -223,68 +206,68 @@ fn a_quotation(rt: HostRuntime) -> Result<(), Fail> {
         quoted[0] = first;
         assert!(rt; Ipv4Repr::parse_quoted(&quoted).is_none(), "{first}");
     }
-    Ok(())
+}
+
+const DATAGRAM_REPR: UdpRepr = UdpRepr {
+    src_port: 5000,
+    dst_port: 6969,
+};
+
+/// The datagram, and padding.
+fn padded_datagram() -> [u8; 18] {
+    let mut packet = [0; 18];
+    packet[..10].copy_from_slice(&DATAGRAM);
+    packet
 }
 
 #[test]
-fn a_datagram(rt: HostRuntime) -> Result<(), Fail> {
-    let repr = UdpRepr {
-        src_port: 5000,
-        dst_port: 6969,
-    };
+fn a_datagram(rt: HostRuntime) {
     let mut out = FrameBuffer::new();
-    repr.emit(&OTHER_IP, &OWN_IP, b"hi", true, &mut out);
-    assert_eq!(rt; out.as_slice(), DATAGRAM.as_slice());
+    DATAGRAM_REPR.emit(&OTHER_IP, &OWN_IP, b"hi", true, &mut out);
+    let is_emitted = out.as_slice() == DATAGRAM.as_slice();
+    let mut packet = padded_datagram();
+    let read = UdpRepr::parse(&packet, &OTHER_IP, &OWN_IP, true);
+    let is_read = read == Some((DATAGRAM_REPR, b"hi".as_slice()));
+    // no checksum
+    packet[6] = 0;
+    packet[7] = 0;
+    let localhost = IpAddress::Ipv6(Ipv6Address::LOCALHOST);
+    let is_optional = UdpRepr::parse(&packet, &OTHER_IP, &OWN_IP, true).is_some()
+        && UdpRepr::parse(&packet, &localhost, &localhost, true).is_none();
+    let mut unsummed = FrameBuffer::new();
+    DATAGRAM_REPR.emit(&OTHER_IP, &OWN_IP, b"hi", false, &mut unsummed);
+    let is_left_out = unsummed.as_slice() == &packet[..10];
+    assert!(rt; is_emitted && is_read && is_optional && is_left_out);
+}
 
-    // the datagram, and padding
-    let mut packet = [0; 18];
-    packet[..10].copy_from_slice(&DATAGRAM);
-    match UdpRepr::parse(&packet, &OTHER_IP, &OWN_IP, true) {
-        Some((read, payload)) => {
-            assert_eq!(rt; read, repr);
-            assert_eq!(rt; payload, b"hi".as_slice());
-        }
-        None => assert!(rt; false),
-    }
+#[test]
+fn what_is_no_datagram(rt: HostRuntime) {
+    let packet = padded_datagram();
     for len in 0..10 {
         assert!(rt; UdpRepr::parse(&packet[..len], &OTHER_IP, &OWN_IP, true).is_none());
     }
     // another address, port 0, a length of 7, one past the input
-    assert!(rt; UdpRepr::parse(&packet, &OTHER_IP, &OTHER_IP, true).is_none());
-    assert!(rt; UdpRepr::parse(&packet, &OTHER_IP, &OTHER_IP, false).is_some());
+    let is_right = UdpRepr::parse(&packet, &OTHER_IP, &OTHER_IP, true).is_none()
+        && UdpRepr::parse(&packet, &OTHER_IP, &OTHER_IP, false).is_some();
+    assert!(rt; is_right);
     for (place, octets) in [(2, [0, 0]), (4, [0, 7]), (4, [0, 19])] {
         let mut other = packet;
         other[place] = octets[0];
         other[place + 1] = octets[1];
         assert!(rt; UdpRepr::parse(&other, &OTHER_IP, &OWN_IP, false).is_none());
     }
-    // no checksum
-    packet[6] = 0;
-    packet[7] = 0;
-    assert!(rt; UdpRepr::parse(&packet, &OTHER_IP, &OWN_IP, true).is_some());
-    let localhost = IpAddress::Ipv6(Ipv6Address::LOCALHOST);
-    assert!(rt; UdpRepr::parse(&packet, &localhost, &localhost, true).is_none());
-    let mut unsummed = FrameBuffer::new();
-    repr.emit(&OTHER_IP, &OWN_IP, b"hi", false, &mut unsummed);
-    assert_eq!(rt; unsummed.as_slice(), &packet[..10]);
-    Ok(())
 }
 
 #[test]
-fn a_checksum_of_0_goes_as_ones(rt: HostRuntime) -> Result<(), Fail> {
+fn a_checksum_of_0_goes_as_ones(rt: HostRuntime) {
     // 5cf9 for a payload of 6869 makes c562 for one of 0, which leaves 0 for one of c562
-    let repr = UdpRepr {
-        src_port: 5000,
-        dst_port: 6969,
-    };
     let mut out = FrameBuffer::new();
-    repr.emit(&OTHER_IP, &OWN_IP, &[0xc5, 0x62], true, &mut out);
+    DATAGRAM_REPR.emit(&OTHER_IP, &OWN_IP, &[0xc5, 0x62], true, &mut out);
     assert_eq!(rt; &out.as_slice()[6..8], [0xff, 0xff].as_slice());
-    Ok(())
 }
 
 #[test]
-fn a_segment(rt: HostRuntime) -> Result<(), Fail> {
+fn a_segment(rt: HostRuntime) {
     let repr = TcpRepr {
         src_port: 80,
         dst_port: 5000,
@@ -295,30 +278,28 @@ fn a_segment(rt: HostRuntime) -> Result<(), Fail> {
     };
     let mut out = FrameBuffer::new();
     repr.emit(&OWN_IP, &OTHER_IP, &[], true, &mut out);
-    assert_eq!(rt; out.as_slice(), RESET.as_slice());
-    match TcpRepr::parse(&RESET, &OWN_IP, &OTHER_IP, true) {
-        Some((read, payload)) => {
-            assert_eq!(rt; read, repr);
-            assert_eq!(rt; payload.len(), 0);
-        }
-        None => assert!(rt; false),
-    }
+    let is_right = out.as_slice() == RESET.as_slice()
+        && TcpRepr::parse(&RESET, &OWN_IP, &OTHER_IP, true) == Some((repr, [].as_slice()))
+        && TcpRepr::parse(&RESET, &OWN_IP, &OWN_IP, true).is_none()
+        && TcpRepr::parse(&RESET, &OWN_IP, &OWN_IP, false).is_some();
+    assert!(rt; is_right);
+}
+
+#[test]
+fn what_is_no_segment(rt: HostRuntime) {
     for len in 0..20 {
         assert!(rt; TcpRepr::parse(&RESET[..len], &OWN_IP, &OTHER_IP, false).is_none());
     }
-    assert!(rt; TcpRepr::parse(&RESET, &OWN_IP, &OWN_IP, true).is_none());
-    assert!(rt; TcpRepr::parse(&RESET, &OWN_IP, &OWN_IP, false).is_some());
     // no source port, a header of 16 octets, one of 24
     for (place, octet) in [(1, 0), (12, 0x40), (12, 0x60)] {
         let mut other = RESET;
         other[place] = octet;
         assert!(rt; TcpRepr::parse(&other, &OWN_IP, &OTHER_IP, false).is_none());
     }
-    Ok(())
 }
 
 #[test]
-fn flags_of_segments(rt: HostRuntime) -> Result<(), Fail> {
+fn flags_of_segments(rt: HostRuntime) {
     for (flags, control) in [
         (0x00, Some(TcpControl::None)),
         (0x10, Some(TcpControl::None)),
@@ -334,19 +315,18 @@ fn flags_of_segments(rt: HostRuntime) -> Result<(), Fail> {
     ] {
         let mut segment = RESET;
         segment[13] = flags;
-        match TcpRepr::parse(&segment, &OWN_IP, &OTHER_IP, false) {
+        let is_right = match TcpRepr::parse(&segment, &OWN_IP, &OTHER_IP, false) {
             Some((read, _)) => {
-                assert_eq!(rt; Some(read.control), control, "{flags}");
-                assert_eq!(rt; read.ack_number.is_some(), flags >= 0x10, "{flags}");
+                Some(read.control) == control && read.ack_number.is_some() == (flags >= 0x10)
             }
-            None => assert!(rt; control.is_none(), "{flags}"),
-        }
+            None => control.is_none(),
+        };
+        assert!(rt; is_right, "{flags}");
     }
-    Ok(())
 }
 
 #[test]
-fn data_of_segments(rt: HostRuntime) -> Result<(), Fail> {
+fn data_of_segments(rt: HostRuntime) {
     let repr = TcpRepr {
         src_port: 80,
         dst_port: 5000,
@@ -357,33 +337,25 @@ fn data_of_segments(rt: HostRuntime) -> Result<(), Fail> {
     };
     let mut out = FrameBuffer::new();
     repr.emit(&OWN_IP, &OTHER_IP, b"abc", false, &mut out);
-    assert_eq!(rt;
-        &out.as_slice()[16..],
-        [0, 0, 0, 0, 0x61, 0x62, 0x63].as_slice()
-    );
-    match TcpRepr::parse(out.as_slice(), &OWN_IP, &OTHER_IP, false) {
-        Some((read, payload)) => {
-            assert_eq!(rt; read, repr);
-            assert_eq!(rt; payload, b"abc".as_slice());
-        }
-        None => assert!(rt; false),
-    }
-    Ok(())
+    let is_right = &out.as_slice()[16..] == [0, 0, 0, 0, 0x61, 0x62, 0x63].as_slice()
+        && TcpRepr::parse(out.as_slice(), &OWN_IP, &OTHER_IP, false)
+            == Some((repr, b"abc".as_slice()));
+    assert!(rt; is_right);
 }
 
 #[test]
 fn a_buffer_is_filled_and_begun_anew(rt: HostRuntime) {
     let mut out = FrameBuffer::new();
-    assert!(rt; out.is_empty());
+    let was_empty = out.is_empty();
     out.append(&[1, 2, 3]);
     out.append(&[]);
     out.append(&[4]);
-    assert_eq!(rt; out.as_slice(), [1, 2, 3, 4].as_slice());
-    assert_eq!(rt; out.len(), 4);
+    let is_filled = out.as_slice() == [1, 2, 3, 4].as_slice() && out.len() == 4;
     out.clear();
-    assert!(rt; out.is_empty());
+    let is_begun_anew = out.is_empty();
     out.append(&[0xaa; 1514]);
-    assert_eq!(rt; out.len(), 1514);
+    let is_full = out.len() == 1514;
     out.append(&[]);
-    assert_eq!(rt; out.as_slice(), [0xaa; 1514].as_slice());
+    let stays_full = out.as_slice() == [0xaa; 1514].as_slice();
+    assert!(rt; was_empty && is_filled && is_begun_anew && is_full && stays_full);
 }
