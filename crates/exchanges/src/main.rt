@@ -2,8 +2,11 @@
 //!
 //! Each argument names a case, which is two files of the folder that the program runs in: `NAME.txt`,
 //! a script as `hostrun` reads it, and `NAME.out`, what it has to print, on standard output and then
-//! on the error stream. Each case gets a line; where it came otherwise, the first line that differs follows,
-//! as it came and as it had to come. The exit status is 0 if all came as they had to, and else 1.
+//! on the error stream. `NAME.txt` may have several scripts, parted by lines `---`, each of which gets a
+//! host of its own; what they have to print is parted by such lines too.
+//!
+//! Each case gets a line; where it came otherwise, the first line that differs follows, as it came and as
+//! it had to come. The exit status is 0 if all came as they had to, and else 1.
 #![tactic(auto)]
 
 use anyhow::{Context, Result};
@@ -12,6 +15,9 @@ use std::alloc::Global;
 use std::fmt::{self, Display, Formatter, Write};
 use std::process::ExitCode;
 use std::{env, fs};
+
+/// What stands between two scripts. The first line feed belongs to it, so that a script can end without.
+const PARTING: &str = "\n---\n";
 
 /// The first line that came otherwise. Behind the end of a text stand empty lines.
 #[derive(Clone, Copy)]
@@ -34,9 +40,9 @@ fn main(rt: HostRuntime) -> Result<ExitCode> {
     let alloc = rt.alloc();
     let mut status = ExitCode::SUCCESS;
     for name in env::args(&rt)?.skip(1) {
-        let script = text_of(&rt, format!(in alloc; "{name}.txt")?)?;
+        let scripts = text_of(&rt, format!(in alloc; "{name}.txt")?)?;
         let had_to_come = text_of(&rt, format!(in alloc; "{name}.out")?)?;
-        let came = printed(alloc, &script)?;
+        let came = printed(alloc, &scripts)?;
         match first_difference(&came, &had_to_come) {
             None => println!(rt; "{name}: as it has to be")?,
             Some(difference) => {
@@ -53,12 +59,17 @@ fn text_of(rt: &HostRuntime, path: String) -> Result<String> {
     fs::read_to_string(rt, path.as_str()).context(path)
 }
 
-/// What a script prints, on standard output and then on the error stream.
-fn printed(alloc: Global, script: &str) -> Result<String> {
+/// What scripts print, each on standard output and then on the error stream.
+fn printed(alloc: Global, scripts: &str) -> Result<String> {
     let mut output = Vec::new(alloc);
-    let mut errors = Vec::new(alloc);
-    run(alloc, &mut script.as_bytes(), &mut output, &mut errors);
-    output.extend_from_slice(&errors)?;
+    for (number, script) in scripts.split(PARTING).enumerate() {
+        if number != 0 {
+            output.extend_from_slice(b"---\n")?;
+        }
+        let mut errors = Vec::new(alloc);
+        run(alloc, &mut script.as_bytes(), &mut output, &mut errors);
+        output.extend_from_slice(&errors)?;
+    }
     Ok(String::from_utf8(output)?)
 }
 
