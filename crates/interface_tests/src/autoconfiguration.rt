@@ -1,6 +1,6 @@
 // Stateless address autoconfiguration: how routers are asked, and what follows from what they advertise.
 
-use crate::script::each_reporting;
+use crate::script::{Scene, plays_reporting};
 
 // At fe80::1, where routers were asked at 0, and one advertised 2001:db8::/64 at 1 s, for 700 s, and itself for 600 s.
 const ADVISED: &str = "slaac
@@ -12,12 +12,11 @@ const ADVISED: &str = "slaac
 const ALONE: &str = "slaac
     addr fe800000000000000000000000000001/64";
 
-#[test]
-fn routers_are_asked_three_times(rt: HostRuntime) {
-    each_reporting(
-        &rt,
-        ALONE,
-        &[
+const SCENES: &[Scene] = &[
+    Scene {
+        name: "routers are asked three times",
+        begins: ALONE,
+        scripts: &[
             "phase? = start 3
             at 0 = 0
             poll 0 9 = None tx ASK_ROUTERS JOIN_1
@@ -44,15 +43,11 @@ fn routers_are_asked_three_times(rt: HostRuntime) {
             egress 8_999_999 = None
             egress 9_000_000 = None tx ASK_ROUTERS",
         ],
-    );
-}
-
-#[test]
-fn a_refused_leave_keeps_a_solicitation(rt: HostRuntime) {
-    each_reporting(
-        &rt,
-        ALONE,
-        &[
+    },
+    Scene {
+        name: "a refused leave keeps a solicitation",
+        begins: ALONE,
+        scripts: &[
             "refuse
             egress 0 = None refused tx JOIN_1
             phase? = start 3
@@ -60,15 +55,11 @@ fn a_refused_leave_keeps_a_solicitation(rt: HostRuntime) {
             egress 1 = None tx ASK_ROUTERS
             at 1 = 4_000_001",
         ],
-    );
-}
-
-#[test]
-fn who_takes_no_addresses_asks_no_router(rt: HostRuntime) {
-    each_reporting(
-        &rt,
-        "",
-        &[
+    },
+    Scene {
+        name: "who takes no addresses asks no router",
+        begins: "",
+        scripts: &[
             "addr fe800000000000000000000000000001/64
             egress 0 = None tx JOIN_1
             at 0 = none
@@ -88,16 +79,12 @@ fn who_takes_no_addresses_asks_no_router(rt: HostRuntime) {
             at 0 = none
             phase? = start 3",
         ],
-    );
-}
-
-#[test]
-fn a_solicitation_goes_from_a_link_local_address(rt: HostRuntime) {
-    each_reporting(
-        &rt,
-        "slaac
+    },
+    Scene {
+        name: "a solicitation goes from a link local address",
+        begins: "slaac
         addr 20010db8000000000000000000000005/64",
-        &[
+        scripts: &[
             "egress 0 = None tx JOIN_5_BY_NOBODY
             at 0 = none
             slaac_at 0 = 0
@@ -106,15 +93,11 @@ fn a_solicitation_goes_from_a_link_local_address(rt: HostRuntime) {
             egress 3_000_000 = None tx ASK_ROUTERS JOIN_1
             at 3_000_000 = 7_000_000",
         ],
-    );
-}
-
-#[test]
-fn a_prefix_brings_an_address(rt: HostRuntime) {
-    each_reporting(
-        &rt,
-        ADVISED,
-        &[
+    },
+    Scene {
+        name: "a prefix brings an address",
+        begins: ADVISED,
+        scripts: &[
             "phase? = maintaining 2
             synced? = 0
             at 1_000_000 = 0
@@ -150,15 +133,11 @@ fn a_prefix_brings_an_address(rt: HostRuntime) {
             poll 701_000_000 9 = None
             addr? = fe800000000000000000000000000001/64",
         ],
-    );
-}
-
-#[test]
-fn a_sync_forgets_neighbors(rt: HostRuntime) {
-    each_reporting(
-        &rt,
-        ADVISED,
-        &[
+    },
+    Scene {
+        name: "a sync forgets neighbors",
+        begins: ADVISED,
+        scripts: &[
             "rx SOLICIT_1
             ingress 1_000_000 = SocketStateChanged tx ADVERT_1
             rx ECHO_V6
@@ -180,15 +159,11 @@ fn a_sync_forgets_neighbors(rt: HostRuntime) {
             maintain 602_999_999
             routes? = 00000000000000000000000000000000/0>fe800000000000000000000000000002",
         ],
-    );
-}
-
-#[test]
-fn a_withdrawn_prefix_takes_its_address_away(rt: HostRuntime) {
-    each_reporting(
-        &rt,
-        ADVISED,
-        &[
+    },
+    Scene {
+        name: "a withdrawn prefix takes its address away",
+        begins: ADVISED,
+        scripts: &[
             "maintain 1_000_000
             rx WITHDRAWN
             ingress 2_000_000 = SocketStateChanged
@@ -202,20 +177,16 @@ fn a_withdrawn_prefix_takes_its_address_away(rt: HostRuntime) {
             ingress 3_000_000 = SocketStateChanged
             at 3_000_000 = none",
         ],
-    );
-}
-
-#[test]
-fn a_full_list_takes_no_address(rt: HostRuntime) {
-    each_reporting(
-        &rt,
-        "slaac
+    },
+    Scene {
+        name: "a full list takes no address",
+        begins: "slaac
         addr fe800000000000000000000000000001/64 c0a84501/24 c0a84502/24 c0a84503/24
         egress 0 = None tx ASK_ROUTERS JOIN_1
         rx ADVERTISED
         ingress 1_000_000 = SocketStateChanged
         maintain 1_000_000",
-        &[
+        scripts: &[
             "addr? = fe800000000000000000000000000001/64 c0a84501/24 c0a84502/24 c0a84503/24
             routes? = 00000000000000000000000000000000/0>fe800000000000000000000000000002
             at 1_000_000 = 601_000_000
@@ -231,14 +202,10 @@ fn a_full_list_takes_no_address(rt: HostRuntime) {
             maintain 4_000_000
             addr? = fe800000000000000000000000000001/64 c0a84501/24 20010db800000000000000fffe000001/64 20010db800010000000000fffe000001/64",
         ],
-    );
-}
-
-#[test]
-fn where_all_tables_are_full_nothing_is_added(rt: HostRuntime) {
-    each_reporting(
-        &rt,
-        "slaac
+    },
+    Scene {
+        name: "where all tables are full nothing is added",
+        begins: "slaac
         addr fe800000000000000000000000000001/64 c0a84501/24 c0a84502/24 c0a84503/24
         routes 0a000000/8>c0a84502 0a000000/8>c0a84503 0a000000/8>c0a84504 00000000/0>c0a84505
         egress 0 = None tx ASK_ROUTERS JOIN_1
@@ -252,7 +219,7 @@ fn where_all_tables_are_full_nothing_is_added(rt: HostRuntime) {
         join ef01020a = GroupTableFull
         receive 0 HI_START = none
         receive 0 HI_START_8 = none",
-        &[
+        scripts: &[
             "rx ADVERTISED
             ingress 1_000_000 = SocketStateChanged
             maintain 1_000_000
@@ -260,17 +227,13 @@ fn where_all_tables_are_full_nothing_is_added(rt: HostRuntime) {
             routes? = 0a000000/8>c0a84502 0a000000/8>c0a84503 0a000000/8>c0a84504 00000000/0>c0a84505
             synced? = 1_000_000",
         ],
-    );
-}
-
-#[test]
-fn routes_of_routers_stand_beside_others(rt: HostRuntime) {
-    each_reporting(
-        &rt,
-        "slaac
+    },
+    Scene {
+        name: "routes of routers stand beside others",
+        begins: "slaac
         addr fe800000000000000000000000000001/64
         egress 0 = None tx ASK_ROUTERS JOIN_1",
-        &[
+        scripts: &[
             // An IPv4 gateway doesn't keep it out, and stays.
             "gw c0a84502 = none
             rx ADVERTISED
@@ -303,17 +266,13 @@ fn routes_of_routers_stand_beside_others(rt: HostRuntime) {
             maintain 601_000_000
             routes? = 00000000000000000000000000000000/0>fe800000000000000000000000000003",
         ],
-    );
-}
-
-#[test]
-fn advertisements_count_from_neighbors(rt: HostRuntime) {
-    each_reporting(
-        &rt,
-        "slaac
+    },
+    Scene {
+        name: "advertisements count from neighbors",
+        begins: "slaac
         addr fe800000000000000000000000000001/64 20010db8000000000000000000000005/64
         egress 0 = None tx ASK_ROUTERS JOIN_1 JOIN_5_BY_1",
-        &[
+        scripts: &[
             "rx ADVERTISED_FAR
             ingress 0 = SocketStateChanged
             rx ADVERTISED_GLOBALLY
@@ -331,17 +290,13 @@ fn advertisements_count_from_neighbors(rt: HostRuntime) {
             ingress 0 = SocketStateChanged
             phase? = discovering 2",
         ],
-    );
-}
-
-#[test]
-fn not_each_prefix_brings_an_address(rt: HostRuntime) {
-    each_reporting(
-        &rt,
-        "slaac
+    },
+    Scene {
+        name: "not each prefix brings an address",
+        begins: "slaac
         addr fe800000000000000000000000000001/64
         egress 0 = None tx ASK_ROUTERS JOIN_1",
-        &[
+        scripts: &[
             // Nothing of these is kept.
             "rx ADVERTISED_NO_CONF
             ingress 0 = SocketStateChanged
@@ -375,5 +330,10 @@ fn not_each_prefix_brings_an_address(rt: HostRuntime) {
             addr? = fe800000000000000000000000000001/64 20010db800010000000000fffe000001/64 20010db800020000000000fffe000001/64
             routes? = 00000000000000000000000000000000/0>fe800000000000000000000000000002",
         ],
-    );
+    },
+];
+
+#[test]
+fn scenes(rt: HostRuntime) {
+    plays_reporting(&rt, SCENES);
 }

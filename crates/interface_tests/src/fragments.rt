@@ -1,12 +1,12 @@
 // Datagrams that come and go in fragments (RFC 791 3.2).
 
-use crate::script::{acquainted, each_acquainted, each_at_home, each_narrow};
+use crate::script::{ACQUAINTED, AT_HOME, NARROW, Scene, plays};
 
-#[test]
-fn fragments_in_any_order_are_one_datagram(rt: HostRuntime) {
-    each_at_home(
-        &rt,
-        &[
+const SCENES: &[Scene] = &[
+    Scene {
+        name: "fragments in any order are one datagram",
+        begins: AT_HOME,
+        scripts: &[
             // In order; and a further one waits for its other part.
             "udp 6969
             rx HI_START
@@ -38,14 +38,11 @@ fn fragments_in_any_order_are_one_datagram(rt: HostRuntime) {
             done 0
             heard? 0 = none",
         ],
-    );
-}
-
-#[test]
-fn where_fragments_overlap_the_last_one_counts(rt: HostRuntime) {
-    each_at_home(
-        &rt,
-        &[
+    },
+    Scene {
+        name: "where fragments overlap the last one counts",
+        begins: AT_HOME,
+        scripts: &[
             "udp 6969
             receive 0 LETTERS_A = none
             receive 0 LETTERS_B = none
@@ -57,14 +54,11 @@ fn where_fragments_overlap_the_last_one_counts(rt: HostRuntime) {
             receive 0 LETTERS_C = none
             heard? 0 = c0a84564 5000 616161616161616161616161616161616363",
         ],
-    );
-}
-
-#[test]
-fn fragments_are_kept_until_the_timeout(rt: HostRuntime) {
-    each_at_home(
-        &rt,
-        &[
+    },
+    Scene {
+        name: "fragments are kept until the timeout",
+        begins: AT_HOME,
+        scripts: &[
             // At its last microsecond.
             "udp 6969
             timeout 1_000_000
@@ -86,14 +80,11 @@ fn fragments_are_kept_until_the_timeout(rt: HostRuntime) {
             timeout 86_400_000_001 = TimeoutTooLong
             timeout? = 1_000_000",
         ],
-    );
-}
-
-#[test]
-fn two_datagrams_are_put_together_at_one_time(rt: HostRuntime) {
-    each_at_home(
-        &rt,
-        &[
+    },
+    Scene {
+        name: "two datagrams are put together at one time",
+        begins: AT_HOME,
+        scripts: &[
             // Others by their identification and by their source.
             "udp 6969
             receive 0 HI_START_8 = none
@@ -123,14 +114,11 @@ fn two_datagrams_are_put_together_at_one_time(rt: HostRuntime) {
             receive 0 HO_END_TO_7 = none
             heard? 0 = c0a84564 5000 686f",
         ],
-    );
-}
-
-#[test]
-fn fragments_from_one_host_to_any_are_kept(rt: HostRuntime) {
-    each_at_home(
-        &rt,
-        &[
+    },
+    Scene {
+        name: "fragments from one host to any are kept",
+        begins: AT_HOME,
+        scripts: &[
             // To another host.
             "udp 6969
             receive 0 HO_START_TO_7 = none
@@ -150,14 +138,11 @@ fn fragments_from_one_host_to_any_are_kept(rt: HostRuntime) {
             receive 0 HI_END = none
             heard? 0 = c0a84564 5000 6869",
         ],
-    );
-}
-
-#[test]
-fn a_long_datagram_goes_in_pieces(rt: HostRuntime) {
-    each_narrow(
-        &rt,
-        &[
+    },
+    Scene {
+        name: "a long datagram goes in pieces",
+        begins: NARROW,
+        scripts: &[
             // By polls.
             "udp 6969
             send 0 c0a84564 5000 ~0+1000
@@ -180,14 +165,11 @@ fn a_long_datagram_goes_in_pieces(rt: HostRuntime) {
             send 0 c0a84564 5000 6869
             egress 0 = SocketStateChanged tx PIECE_456~544+456 HI_BACK_TO_OTHER",
         ],
-    );
-}
-
-#[test]
-fn a_piece_waits_for_leave(rt: HostRuntime) {
-    each_narrow(
-        &rt,
-        &[
+    },
+    Scene {
+        name: "a piece waits for leave",
+        begins: NARROW,
+        scripts: &[
             "udp 6969
             send 0 c0a84564 5000 ~0+1000
             egress 0 = SocketStateChanged tx PIECE_552~0+544
@@ -211,29 +193,25 @@ fn a_piece_waits_for_leave(rt: HostRuntime) {
             egress 0 = None tx NEXT_456~644+456
             egress 0 = None",
         ],
-    );
-}
-
-#[test]
-fn what_fits_the_link_goes_whole(rt: HostRuntime) {
-    acquainted(
-        &rt,
-        "udp 6969
-        send 0 c0a84564 5000 ~0+1472
-        egress 0 = SocketStateChanged tx WHOLE_1480~0+1472
-        egress 0 = None
-        send 0 c0a84564 5000 ~0+1473
-        egress 0 = SocketStateChanged tx PIECE_1480~0+1472
-        egress 0 = None tx PIECE_1~1472+1
-        egress 0 = None",
-    );
-}
-
-#[test]
-fn a_long_echo_request_is_answered_in_pieces(rt: HostRuntime) {
-    each_acquainted(
-        &rt,
-        &[
+    },
+    Scene {
+        name: "what fits the link goes whole",
+        begins: ACQUAINTED,
+        scripts: &[
+            "udp 6969
+            send 0 c0a84564 5000 ~0+1472
+            egress 0 = SocketStateChanged tx WHOLE_1480~0+1472
+            egress 0 = None
+            send 0 c0a84564 5000 ~0+1473
+            egress 0 = SocketStateChanged tx PIECE_1480~0+1472
+            egress 0 = None tx PIECE_1~1472+1
+            egress 0 = None",
+        ],
+    },
+    Scene {
+        name: "a long echo request is answered in pieces",
+        begins: ACQUAINTED,
+        scripts: &[
             // By a packet of 4096 octets.
             "rx PING_1~0+1472
             ingress 0 = SocketStateChanged
@@ -257,5 +235,10 @@ fn a_long_echo_request_is_answered_in_pieces(rt: HostRuntime) {
             heard? 0 = c0a84564 5000 6869
             receive 0 ECHO_END = ECHO_REPLY",
         ],
-    );
+    },
+];
+
+#[test]
+fn scenes(rt: HostRuntime) {
+    plays(&rt, SCENES);
 }

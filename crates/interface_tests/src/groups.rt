@@ -1,6 +1,6 @@
 // Multicast groups: who is in them, and when routers are told so.
 
-use crate::script::each_reporting;
+use crate::script::{Scene, plays_reporting};
 
 // 239.1.2.3 to 239.1.2.10, of which nothing can be told without an address.
 const EIGHT: &str = "join ef010203
@@ -13,12 +13,11 @@ const EIGHT: &str = "join ef010203
     join ef01020a
     egress 0 = None";
 
-#[test]
-fn routers_are_told_of_joins_and_leaves(rt: HostRuntime) {
-    each_reporting(
-        &rt,
-        "",
-        &[
+const SCENES: &[Scene] = &[
+    Scene {
+        name: "routers are told of joins and leaves",
+        begins: "",
+        scripts: &[
             "addr c0a84501/24
             member? ef010203 = no
             leave ef010203
@@ -68,15 +67,11 @@ fn routers_are_told_of_joins_and_leaves(rt: HostRuntime) {
             egress 0 = None tx LEAVE_FF02_5
             at 0 = none",
         ],
-    );
-}
-
-#[test]
-fn one_address_is_no_group(rt: HostRuntime) {
-    each_reporting(
-        &rt,
-        "addr c0a84501/24",
-        &[
+    },
+    Scene {
+        name: "one address is no group",
+        begins: "addr c0a84501/24",
+        scripts: &[
             "join c0a84502 = Unaddressable
             leave c0a84502 = Unaddressable
             join c0a845ff = Unaddressable
@@ -86,16 +81,12 @@ fn one_address_is_no_group(rt: HostRuntime) {
             at 0 = none
             egress 0 = None",
         ],
-    );
-}
-
-// Over IPv4 no leave is asked for then; over IPv6 a report goes from the unspecified address.
-#[test]
-fn a_host_without_addresses_is_in_groups(rt: HostRuntime) {
-    each_reporting(
-        &rt,
-        "",
-        &[
+    },
+    // Over IPv4 no leave is asked for then; over IPv6 a report goes from the unspecified address.
+    Scene {
+        name: "a host without addresses is in groups",
+        begins: "",
+        scripts: &[
             "join ef010203
             at 0 = 0
             refuse
@@ -112,15 +103,11 @@ fn a_host_without_addresses_is_in_groups(rt: HostRuntime) {
             leave ff020000000000000000000000000005
             egress 0 = None tx LEAVE_FF02_5_BY_NOBODY",
         ],
-    );
-}
-
-#[test]
-fn eight_groups_are_all(rt: HostRuntime) {
-    each_reporting(
-        &rt,
-        EIGHT,
-        &[
+    },
+    Scene {
+        name: "eight groups are all",
+        begins: EIGHT,
+        scripts: &[
             // A leave that isn't told yet counts.
             "join ef01020b = GroupTableFull
             join ff020000000000000000000000000005 = GroupTableFull
@@ -154,15 +141,11 @@ fn eight_groups_are_all(rt: HostRuntime) {
             join ef01020b
             egress 0 = None tx JOIN_K",
         ],
-    );
-}
-
-#[test]
-fn a_full_table_takes_no_solicited_node_group(rt: HostRuntime) {
-    each_reporting(
-        &rt,
-        EIGHT,
-        &[
+    },
+    Scene {
+        name: "a full table takes no solicited node group",
+        begins: EIGHT,
+        scripts: &[
             // It is joined with the next addresses that find a place.
             "addr c0a84501/24 fe800000000000000000000000000001/64
             member? ff0200000000000000000001ff000001 = yes
@@ -189,15 +172,11 @@ fn a_full_table_takes_no_solicited_node_group(rt: HostRuntime) {
             addr fe800000000000000000000000000002/64
             egress 0 = None tx JOIN_2",
         ],
-    );
-}
-
-#[test]
-fn solicited_node_groups_follow_the_addresses(rt: HostRuntime) {
-    each_reporting(
-        &rt,
-        "",
-        &[
+    },
+    Scene {
+        name: "solicited node groups follow the addresses",
+        begins: "",
+        scripts: &[
             "addr fe800000000000000000000000000001/64
             at 0 = 0
             egress 0 = None tx JOIN_1
@@ -231,16 +210,12 @@ fn solicited_node_groups_follow_the_addresses(rt: HostRuntime) {
             member? ff0200000000000000000001ff000001 = no
             egress 0 = None tx JOIN_A",
         ],
-    );
-}
-
-// The group of ::1 is left and joined again with each list: it stands behind the other, until its join is told.
-#[test]
-fn the_group_of_a_loopback_address_comes_again(rt: HostRuntime) {
-    each_reporting(
-        &rt,
-        "",
-        &[
+    },
+    // The group of ::1 is left and joined again with each list: it stands behind the other, until its join is told.
+    Scene {
+        name: "the group of a loopback address comes again",
+        begins: "",
+        scripts: &[
             "addr 00000000000000000000000000000001/128 fe800000000000000000000000000005/64
             addr 00000000000000000000000000000001/128 fe800000000000000000000000000005/64
             egress 0 = None tx JOIN_5 JOIN_1_BY_5
@@ -252,15 +227,11 @@ fn the_group_of_a_loopback_address_comes_again(rt: HostRuntime) {
             member? ff0200000000000000000001ff000001 = no
             egress 0 = None tx LEAVE_1_BY_5",
         ],
-    );
-}
-
-#[test]
-fn a_link_without_hardware_addresses_has_no_solicited_node_groups(rt: HostRuntime) {
-    each_reporting(
-        &rt,
-        "host ip ip 1500",
-        &[
+    },
+    Scene {
+        name: "a link without hardware addresses has no solicited node groups",
+        begins: "host ip ip 1500",
+        scripts: &[
             "join ff0200000000000000000001ff000009
             addr fe800000000000000000000000000001/64
             leave ff0200000000000000000001ff000009
@@ -276,5 +247,10 @@ fn a_link_without_hardware_addresses_has_no_solicited_node_groups(rt: HostRuntim
             join ef010203
             egress 0 = None tx JOIN_A/14",
         ],
-    );
+    },
+];
+
+#[test]
+fn scenes(rt: HostRuntime) {
+    plays_reporting(&rt, SCENES);
 }

@@ -2,50 +2,164 @@
 // (`malformed_is_dropped`), and fragments take two slots at most, for the time of a slot.
 
 use crate::frames::{Octets, frame};
-use crate::script::{acquainted, at_home, at_home_v6, each_at_home, each_reporting, each_spoilt};
+use crate::script::{ACQUAINTED, AT_HOME, AT_HOME_V6, Scene, each_spoilt, plays, plays_reporting};
 use crate::test_host::{ETHERNET, Host, OWN};
 use arrayvec::ArrayVec;
 use net_base::rand::Rand;
 use std::process::Abort;
 
-// The beginnings of a frame do nothing: the frame itself is taken as if none had come.
-#[test]
-fn beginnings_of_frames_do_nothing(rt: HostRuntime) {
-    at_home(
-        &rt,
-        "begins REQUEST
-        rx REQUEST
-        ingress 0 = SocketStateChanged tx REPLY
-        begins ECHO
-        rx ECHO
-        ingress 0 = SocketStateChanged tx ECHO_REPLY
-        begins SYN
-        rx SYN
-        ingress 0 = SocketStateChanged tx RESET
-        udp 6969
-        begins HI
-        heard? 0 = none
-        rx HI
-        ingress 0 = SocketStateChanged
-        heard? 0 = c0a84564 5000 6869",
-    );
-    at_home_v6(
-        &rt,
-        "begins SOLICIT_1
-        rx SOLICIT_1
-        ingress 0 = SocketStateChanged tx ADVERT_1",
-    );
-    each_reporting(
-        &rt,
-        "slaac
+const SCENES: &[Scene] = &[
+    // The beginnings of a frame do nothing: the frame itself is taken as if none had come.
+    Scene {
+        name: "beginnings of frames do nothing",
+        begins: AT_HOME,
+        scripts: &[
+            "begins REQUEST
+            rx REQUEST
+            ingress 0 = SocketStateChanged tx REPLY
+            begins ECHO
+            rx ECHO
+            ingress 0 = SocketStateChanged tx ECHO_REPLY
+            begins SYN
+            rx SYN
+            ingress 0 = SocketStateChanged tx RESET
+            udp 6969
+            begins HI
+            heard? 0 = none
+            rx HI
+            ingress 0 = SocketStateChanged
+            heard? 0 = c0a84564 5000 6869",
+        ],
+    },
+    Scene {
+        name: "beginnings of frames do nothing",
+        begins: AT_HOME_V6,
+        scripts: &[
+            "begins SOLICIT_1
+            rx SOLICIT_1
+            ingress 0 = SocketStateChanged tx ADVERT_1",
+        ],
+    },
+    Scene {
+        name: "fragments behind the end only take a slot",
+        begins: AT_HOME,
+        scripts: &[
+            // Neither octets nor a total are kept of them.
+            "udp 6969
+            receive 0 BEYOND_END = none
+            receive 0 BEHIND_END = none
+            receive 0 HI_START = none
+            receive 0 HI_END = none
+            heard? 0 = c0a84564 5000 6869",
+            // But their key has a slot.
+            "udp 6969
+            receive 0 BEYOND_END = none
+            receive 0 HI_START_8 = none
+            receive 0 HI_START_BY_101 = none
+            receive 0 HI_END_BY_101 = none
+            heard? 0 = none
+            receive 0 HI_END_8 = none
+            heard? 0 = c0a84564 5000 6869",
+            // So has that of a datagram for another host.
+            "udp 6969
+            receive 0 HO_START_TO_7 = none
+            receive 0 HI_START_8 = none
+            receive 0 HI_START = none
+            receive 0 HI_END = none
+            heard? 0 = none",
+            // An empty last fragment ends a datagram.
+            "udp 6969
+            receive 0 BARE_START = none
+            receive 0 BARE_END = none
+            heard? 0 = c0a84564 5000 EMPTY",
+        ],
+    },
+    // An ARP reply that nobody asked for moves a neighbour, and ends no silence.
+    Scene {
+        name: "an unasked reply moves a neighbor",
+        begins: ACQUAINTED,
+        scripts: &[
+            "udp 6969
+            send 0 c0a84532 5000 6869
+            egress 0 = None tx WHO_HAS_50
+            rx MOVED
+            ingress 0 = SocketStateChanged
+            udp 6969
+            send 1 c0a84502 5000 6869
+            egress 999_999 = None
+            udp 6969
+            send 2 c0a84564 5000 6869
+            egress 999_999 = SocketStateChanged tx HI_BACK_TO_OTHER",
+        ],
+    },
+    Scene {
+        name: "no neighbor is at a groups hardware address",
+        begins: AT_HOME_V6,
+        scripts: &[
+            "rx SOLICIT_1_AT_GROUP
+            ingress 0 = SocketStateChanged
+            udp 6969
+            send 0 fe800000000000000000000000000002 5000 6869
+            egress 0 = None tx SOLICIT_2",
+        ],
+    },
+    // A segment with a wrong checksum is heard by raw sockets, and renews its sender, which it came from.
+    Scene {
+        name: "a spoilt segment renews its sender",
+        begins: ACQUAINTED,
+        scripts: &[
+            "raw 6
+            rx SYN_UNSUMMED
+            ingress 59_000_000 = SocketStateChanged
+            heard? 0 = SYN_UNSUMMED/14
+            rx ECHO
+            ingress 118_999_999 = SocketStateChanged tx ECHO_REPLY",
+        ],
+    },
+];
+
+const REPORTING_SCENES: &[Scene] = &[
+    Scene {
+        name: "beginnings of frames do nothing",
+        begins: "slaac
         addr fe800000000000000000000000000001/64
         egress 0 = None tx ASK_ROUTERS JOIN_1",
-        &[
+        scripts: &[
             "begins ADVERTISED
             phase? = discovering 2
             slaac_at 0 = 4_000_000",
         ],
-    );
+    },
+    // What is wrong with a prefix says nothing of its router.
+    Scene {
+        name: "a router counts whose prefix does not",
+        begins: "slaac
+        addr fe800000000000000000000000000001/64
+        egress 0 = None tx ASK_ROUTERS JOIN_1",
+        scripts: &[
+            "rx ADVERTISED_600_129
+            ingress 0 = SocketStateChanged
+            maintain 0
+            addr? = fe800000000000000000000000000001/64
+            routes? = 00000000000000000000000000000000/0>fe800000000000000000000000000002
+            at 0 = 600_000_000",
+            // A group's prefix brings no address, not by the next change either.
+            "rx ADVERTISED_FF0E
+            ingress 0 = SocketStateChanged
+            maintain 0
+            addr? = fe800000000000000000000000000001/64
+            rx ADVERTISED_BY_3
+            ingress 1_000_000 = SocketStateChanged
+            maintain 1_000_000
+            addr? = fe800000000000000000000000000001/64",
+        ],
+    },
+];
+
+#[test]
+fn scenes(rt: HostRuntime) {
+    plays(&rt, SCENES);
+    plays_reporting(&rt, REPORTING_SCENES);
 }
 
 // Whatever bit of a frame was changed on its way, the good one is answered as if the bad one hadn't come.
@@ -159,116 +273,6 @@ fn fragments_of_many_datagrams_take_two_slots(rt: HostRuntime) {
         receive 60_000_001 HI_END_BY_101 = none
         heard? 0 = c0a84565 5000 6869"
         )
-    );
-}
-
-#[test]
-fn fragments_behind_the_end_only_take_a_slot(rt: HostRuntime) {
-    each_at_home(
-        &rt,
-        &[
-            // Neither octets nor a total are kept of them.
-            "udp 6969
-            receive 0 BEYOND_END = none
-            receive 0 BEHIND_END = none
-            receive 0 HI_START = none
-            receive 0 HI_END = none
-            heard? 0 = c0a84564 5000 6869",
-            // But their key has a slot.
-            "udp 6969
-            receive 0 BEYOND_END = none
-            receive 0 HI_START_8 = none
-            receive 0 HI_START_BY_101 = none
-            receive 0 HI_END_BY_101 = none
-            heard? 0 = none
-            receive 0 HI_END_8 = none
-            heard? 0 = c0a84564 5000 6869",
-            // So has that of a datagram for another host.
-            "udp 6969
-            receive 0 HO_START_TO_7 = none
-            receive 0 HI_START_8 = none
-            receive 0 HI_START = none
-            receive 0 HI_END = none
-            heard? 0 = none",
-            // An empty last fragment ends a datagram.
-            "udp 6969
-            receive 0 BARE_START = none
-            receive 0 BARE_END = none
-            heard? 0 = c0a84564 5000 EMPTY",
-        ],
-    );
-}
-
-// An ARP reply that nobody asked for moves a neighbour, and ends no silence.
-#[test]
-fn an_unasked_reply_moves_a_neighbor(rt: HostRuntime) {
-    acquainted(
-        &rt,
-        "udp 6969
-        send 0 c0a84532 5000 6869
-        egress 0 = None tx WHO_HAS_50
-        rx MOVED
-        ingress 0 = SocketStateChanged
-        udp 6969
-        send 1 c0a84502 5000 6869
-        egress 999_999 = None
-        udp 6969
-        send 2 c0a84564 5000 6869
-        egress 999_999 = SocketStateChanged tx HI_BACK_TO_OTHER",
-    );
-}
-
-#[test]
-fn no_neighbor_is_at_a_groups_hardware_address(rt: HostRuntime) {
-    at_home_v6(
-        &rt,
-        "rx SOLICIT_1_AT_GROUP
-        ingress 0 = SocketStateChanged
-        udp 6969
-        send 0 fe800000000000000000000000000002 5000 6869
-        egress 0 = None tx SOLICIT_2",
-    );
-}
-
-// What is wrong with a prefix says nothing of its router.
-#[test]
-fn a_router_counts_whose_prefix_does_not(rt: HostRuntime) {
-    each_reporting(
-        &rt,
-        "slaac
-        addr fe800000000000000000000000000001/64
-        egress 0 = None tx ASK_ROUTERS JOIN_1",
-        &[
-            "rx ADVERTISED_600_129
-            ingress 0 = SocketStateChanged
-            maintain 0
-            addr? = fe800000000000000000000000000001/64
-            routes? = 00000000000000000000000000000000/0>fe800000000000000000000000000002
-            at 0 = 600_000_000",
-            // A group's prefix brings no address, not by the next change either.
-            "rx ADVERTISED_FF0E
-            ingress 0 = SocketStateChanged
-            maintain 0
-            addr? = fe800000000000000000000000000001/64
-            rx ADVERTISED_BY_3
-            ingress 1_000_000 = SocketStateChanged
-            maintain 1_000_000
-            addr? = fe800000000000000000000000000001/64",
-        ],
-    );
-}
-
-// A segment with a wrong checksum is heard by raw sockets, and renews its sender, which it came from.
-#[test]
-fn a_spoilt_segment_renews_its_sender(rt: HostRuntime) {
-    acquainted(
-        &rt,
-        "raw 6
-        rx SYN_UNSUMMED
-        ingress 59_000_000 = SocketStateChanged
-        heard? 0 = SYN_UNSUMMED/14
-        rx ECHO
-        ingress 118_999_999 = SocketStateChanged tx ECHO_REPLY",
     );
 }
 

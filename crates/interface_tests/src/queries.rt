@@ -1,6 +1,6 @@
 // What routers ask of multicast groups, and the reports that follow.
 
-use crate::script::each_reporting;
+use crate::script::{Scene, plays_reporting};
 
 // A, B and C: 239.1.2.3, .4 and .5.
 const IN_THREE: &str = "addr c0a84501/24
@@ -18,12 +18,11 @@ const IN_ONE: &str = "addr c0a84501/24
     join ef010203
     egress 0 = None tx JOIN_A";
 
-#[test]
-fn a_general_query_is_answered_group_by_group(rt: HostRuntime) {
-    each_reporting(
-        &rt,
-        IN_THREE,
-        &[
+const SCENES: &[Scene] = &[
+    Scene {
+        name: "a general query is answered group by group",
+        begins: IN_THREE,
+        scripts: &[
             "rx ASK_ALL
             ingress 0 = SocketStateChanged
             at 0 = 2_500_000
@@ -59,16 +58,12 @@ fn a_general_query_is_answered_group_by_group(rt: HostRuntime) {
             egress 6_666_666 = None tx JOIN_B
             at 6_666_666 = none",
         ],
-    );
-}
-
-// A general query leaves an older one standing where there is no group to report.
-#[test]
-fn a_later_query_counts(rt: HostRuntime) {
-    each_reporting(
-        &rt,
-        IN_TWO,
-        &[
+    },
+    // A general query leaves an older one standing where there is no group to report.
+    Scene {
+        name: "a later query counts",
+        begins: IN_TWO,
+        scripts: &[
             "rx ASK_ALL
             ingress 0 = SocketStateChanged
             rx ASK_B
@@ -97,15 +92,11 @@ fn a_later_query_counts(rt: HostRuntime) {
             egress 2_500_000 = None tx HOSTS
             at 2_500_000 = none",
         ],
-    );
-}
-
-#[test]
-fn a_query_names_its_version_and_its_time(rt: HostRuntime) {
-    each_reporting(
-        &rt,
-        IN_ONE,
-        &[
+    },
+    Scene {
+        name: "a query names its version and its time",
+        begins: IN_ONE,
+        scripts: &[
             "rx ASK_A_OLD
             ingress 2_000_000 = SocketStateChanged
             at 2_000_000 = 2_000_000
@@ -121,15 +112,11 @@ fn a_query_names_its_version_and_its_time(rt: HostRuntime) {
             at 3_000_000 = 15_400_000
             egress 15_400_000 = None tx JOIN_A",
         ],
-    );
-}
-
-#[test]
-fn other_messages_of_igmp_do_nothing(rt: HostRuntime) {
-    each_reporting(
-        &rt,
-        IN_ONE,
-        &[
+    },
+    Scene {
+        name: "other messages of igmp do nothing",
+        begins: IN_ONE,
+        scripts: &[
             "rx ASK_A_BY_ALL
             ingress 0 = SocketStateChanged
             rx ASK_ALL_BY_A
@@ -148,15 +135,11 @@ fn other_messages_of_igmp_do_nothing(rt: HostRuntime) {
             at 0 = none
             egress 9_000_000 = None",
         ],
-    );
-}
-
-#[test]
-fn a_report_waits_for_an_address(rt: HostRuntime) {
-    each_reporting(
-        &rt,
-        IN_ONE,
-        &[
+    },
+    Scene {
+        name: "a report waits for an address",
+        begins: IN_ONE,
+        scripts: &[
             "addr
             rx ASK_A
             ingress 1_000_000 = SocketStateChanged
@@ -178,15 +161,11 @@ fn a_report_waits_for_an_address(rt: HostRuntime) {
             at 6_000_000 = 5_000_000
             egress 6_000_000 = None tx JOIN_A",
         ],
-    );
-}
-
-// What goes later may still go in the same call.
-#[test]
-fn a_refused_leave_to_send_ends_one_part_of_a_call(rt: HostRuntime) {
-    each_reporting(
-        &rt,
-        "addr c0a84501/24 fe800000000000000000000000000001/64
+    },
+    // What goes later may still go in the same call.
+    Scene {
+        name: "a refused leave to send ends one part of a call",
+        begins: "addr c0a84501/24 fe800000000000000000000000000001/64
         rx REQUEST
         ingress 0 = SocketStateChanged tx REPLY
         join ef010203
@@ -203,7 +182,7 @@ fn a_refused_leave_to_send_ends_one_part_of_a_call(rt: HostRuntime) {
         send 0 c0a84564 5000 6869
         udp 6969
         send 1 c0a84564 5000 6869",
-        &[
+        scripts: &[
             "egress 2_500_000 = SocketStateChanged tx JOIN_C JOIN_FF02_5 LEAVE_A JOIN_B REPORT_BOTH HI_BACK HI_BACK
             at 2_500_000 = none",
             "refuse
@@ -228,5 +207,10 @@ fn a_refused_leave_to_send_ends_one_part_of_a_call(rt: HostRuntime) {
             egress 2_500_000 = SocketStateChanged refused tx JOIN_C JOIN_FF02_5 LEAVE_A JOIN_B REPORT_BOTH HI_BACK
             egress 2_500_000 = SocketStateChanged tx HI_BACK",
         ],
-    );
+    },
+];
+
+#[test]
+fn scenes(rt: HostRuntime) {
+    plays_reporting(&rt, SCENES);
 }

@@ -1,17 +1,16 @@
 // What routers ask of IPv6 groups, and the reports that follow.
 
-use crate::script::each_reporting;
+use crate::script::{Scene, plays_reporting};
 
 const AT_HOME: &str = "addr fe800000000000000000000000000001/64
     egress 0 = None tx JOIN_1";
 
-// The first delays of up to a second are 282, 889, 32, 912 and 156 milliseconds.
-#[test]
-fn a_query_is_answered_by_chance_within_its_time(rt: HostRuntime) {
-    each_reporting(
-        &rt,
-        AT_HOME,
-        &[
+const SCENES: &[Scene] = &[
+    // The first delays of up to a second are 282, 889, 32, 912 and 156 milliseconds.
+    Scene {
+        name: "a query is answered by chance within its time",
+        begins: AT_HOME,
+        scripts: &[
             "rx ASK_V6_NOW
             ingress 5_000_000 = SocketStateChanged
             at 5_000_000 = 5_000_000
@@ -33,16 +32,12 @@ fn a_query_is_answered_by_chance_within_its_time(rt: HostRuntime) {
             egress 19_119_999 = None
             egress 19_120_000 = None tx REPORT_1",
         ],
-    );
-}
-
-// A delay is drawn for each query of the link that gives time for one, whether it counts or not.
-#[test]
-fn queries_of_the_link_draw_delays(rt: HostRuntime) {
-    each_reporting(
-        &rt,
-        AT_HOME,
-        &[
+    },
+    // A delay is drawn for each query of the link that gives time for one, whether it counts or not.
+    Scene {
+        name: "queries of the link draw delays",
+        begins: AT_HOME,
+        scripts: &[
             "rx ASK_V6_FAR
             ingress 0 = SocketStateChanged
             rx ASK_V6_GLOBAL
@@ -70,16 +65,12 @@ fn queries_of_the_link_draw_delays(rt: HostRuntime) {
             egress 156_000 = None tx REPORT_1
             at 156_000 = none",
         ],
-    );
-}
-
-// All groups that there are then, in whatever state, in the order in which they stand.
-#[test]
-fn one_report_names_all_groups(rt: HostRuntime) {
-    each_reporting(
-        &rt,
-        AT_HOME,
-        &[
+    },
+    // All groups that there are then, in whatever state, in the order in which they stand.
+    Scene {
+        name: "one report names all groups",
+        begins: AT_HOME,
+        scripts: &[
             "join ff020000000000000000000000000005
             join ff050000000000000000000000000009
             egress 0 = None tx JOIN_FF02_5 JOIN_FF05_9
@@ -104,15 +95,11 @@ fn one_report_names_all_groups(rt: HostRuntime) {
             egress 0 = None tx LEAVE_FF02_5_BY_NOBODY REPORT_NONE_BY_NOBODY
             at 0 = none",
         ],
-    );
-}
-
-#[test]
-fn a_general_query_without_groups_changes_nothing(rt: HostRuntime) {
-    each_reporting(
-        &rt,
-        "addr c0a84501/24",
-        &[
+    },
+    Scene {
+        name: "a general query without groups changes nothing",
+        begins: "addr c0a84501/24",
+        scripts: &[
             "rx ASK_NODES
             ingress 0 = SocketStateChanged
             at 0 = 282_000
@@ -122,16 +109,12 @@ fn a_general_query_without_groups_changes_nothing(rt: HostRuntime) {
             egress 282_000 = None tx REPORT_NODES_BY_NOBODY
             at 282_000 = none",
         ],
-    );
-}
-
-// A query for all groups counts at each address of its own, with AnyIP also at one that is routed to it.
-#[test]
-fn a_general_query_may_go_to_the_host_alone(rt: HostRuntime) {
-    each_reporting(
-        &rt,
-        AT_HOME,
-        &[
+    },
+    // A query for all groups counts at each address of its own, with AnyIP also at one that is routed to it.
+    Scene {
+        name: "a general query may go to the host alone",
+        begins: AT_HOME,
+        scripts: &[
             "anyip
             rx ASK_V6_BY_9
             ingress 0 = SocketStateChanged
@@ -142,5 +125,10 @@ fn a_general_query_may_go_to_the_host_alone(rt: HostRuntime) {
             at 0 = 282_000
             egress 282_000 = None tx REPORT_1",
         ],
-    );
+    },
+];
+
+#[test]
+fn scenes(rt: HostRuntime) {
+    plays_reporting(&rt, SCENES);
 }

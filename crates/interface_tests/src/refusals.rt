@@ -1,6 +1,6 @@
 // Devices that refuse leave to send: each part of a call that sends asks by itself, and what it couldn't send waits.
 
-use crate::script::each_reporting;
+use crate::script::{Scene, plays_reporting};
 
 // At one moment a piece is left, routers are to be asked, one group is joined, one left and one reported, IPv6
 // groups are reported, and two sockets have a datagram each for a known neighbour.
@@ -28,12 +28,11 @@ const BUSY: &str = "slaac 590
     udp 6969
     send 1 c0a84564 5000 6869";
 
-#[test]
-fn each_part_asks_by_itself(rt: HostRuntime) {
-    each_reporting(
-        &rt,
-        BUSY,
-        &[
+const SCENES: &[Scene] = &[
+    Scene {
+        name: "each part asks by itself",
+        begins: BUSY,
+        scripts: &[
             "egress 4_000_000 = SocketStateChanged tx PIECE_456~544+456 ASK_ROUTERS JOIN_C LEAVE_A JOIN_B REPORT_1 HI_BACK HI_BACK
             egress 4_000_000 = None",
             "refuse
@@ -58,16 +57,12 @@ fn each_part_asks_by_itself(rt: HostRuntime) {
             egress 4_000_000 = None tx JOIN_B
             egress 4_000_000 = None",
         ],
-    );
-}
-
-// A report of IPv6 groups is given up; a socket whose datagram couldn't go ends the turns.
-#[test]
-fn a_refusal_may_end_a_report_and_the_turns(rt: HostRuntime) {
-    each_reporting(
-        &rt,
-        BUSY,
-        &[
+    },
+    // A report of IPv6 groups is given up; a socket whose datagram couldn't go ends the turns.
+    Scene {
+        name: "a refusal may end a report and the turns",
+        begins: BUSY,
+        scripts: &[
             "refuse 5
             egress 4_000_000 = SocketStateChanged refused tx PIECE_456~544+456 ASK_ROUTERS JOIN_C LEAVE_A JOIN_B HI_BACK HI_BACK
             egress 4_000_000 = None",
@@ -80,5 +75,10 @@ fn a_refusal_may_end_a_report_and_the_turns(rt: HostRuntime) {
             egress 4_000_000 = SocketStateChanged tx HI_BACK
             egress 4_000_000 = None",
         ],
-    );
+    },
+];
+
+#[test]
+fn scenes(rt: HostRuntime) {
+    plays_reporting(&rt, SCENES);
 }

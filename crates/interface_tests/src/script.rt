@@ -60,65 +60,55 @@ use slaac::Phase;
 use std::alloc::Global;
 use std::process::Abort;
 
-/// Runs a script on a host without addresses.
-pub fn bare(rt: &(impl Abort + AllocGlobal), script: &str) {
-    runs(rt, "", script);
+/// Scripts that begin alike, each of which is followed on a new host.
+#[derive(Clone, Copy)]
+pub struct Scene {
+    pub name: &'static str,
+    pub begins: &'static str,
+    pub scripts: &'static [&'static str],
 }
 
-/// Runs a script on a host at 192.168.69.1.
-pub fn at_home(rt: &(impl Abort + AllocGlobal), script: &str) {
-    runs(rt, AT_HOME, script);
-}
+/// How a host comes to be at 192.168.69.1.
+pub const AT_HOME: &str = "addr c0a84501/24";
 
-/// The same for several scripts.
-pub fn each_at_home(rt: &(impl Abort + AllocGlobal), scripts: &[&str]) {
-    for script in scripts {
-        runs(rt, AT_HOME, script);
+/// How it also knows its neighbour.
+pub const ACQUAINTED: &str = "addr c0a84501/24
+    rx REQUEST
+    ingress 0 = SocketStateChanged tx REPLY";
+
+/// The same where its packets have at most 576 octets.
+pub const NARROW: &str = "host 020000000001 ethernet 590
+    addr c0a84501/24
+    rx REQUEST
+    ingress 0 = SocketStateChanged tx REPLY";
+
+/// How a host comes to be at fe80::1.
+pub const AT_HOME_V6: &str = "addr fe800000000000000000000000000001/64
+    egress 0 = None tx JOIN_1";
+
+/// How it also knows its neighbour fe80::2.
+pub const ACQUAINTED_V6: &str = "addr fe800000000000000000000000000001/64
+    egress 0 = None tx JOIN_1
+    rx SOLICIT_1
+    ingress 0 = SocketStateChanged tx ADVERT_1";
+
+/// Runs the scripts of scenes, each on a new host.
+pub fn plays(rt: &(impl Abort + AllocGlobal), scenes: &[Scene]) {
+    for scene in scenes {
+        for script in scene.scripts {
+            runs(rt, scene, script);
+        }
     }
 }
 
-/// Runs a script on a host at 192.168.69.1 that knows its neighbour.
-pub fn acquainted(rt: &(impl Abort + AllocGlobal), script: &str) {
-    runs(rt, ACQUAINTED, script);
-}
-
-/// The same for several scripts.
-pub fn each_acquainted(rt: &(impl Abort + AllocGlobal), scripts: &[&str]) {
-    for script in scripts {
-        runs(rt, ACQUAINTED, script);
-    }
-}
-
-/// Runs scripts each on a host that knows its neighbour, and whose packets have at most 576 octets.
-pub fn each_narrow(rt: &(impl Abort + AllocGlobal), scripts: &[&str]) {
-    for script in scripts {
-        runs(rt, NARROW, script);
-    }
-}
-
-/// Runs a script on a host at fe80::1.
-pub fn at_home_v6(rt: &(impl Abort + AllocGlobal), script: &str) {
-    runs(rt, AT_HOME_V6, script);
-}
-
-/// Runs a script on a host at fe80::1 that knows its neighbour fe80::2.
-pub fn acquainted_v6(rt: &(impl Abort + AllocGlobal), script: &str) {
-    runs(rt, ACQUAINTED_V6, script);
-}
-
-/// The same for several scripts.
-pub fn each_acquainted_v6(rt: &(impl Abort + AllocGlobal), scripts: &[&str]) {
-    for script in scripts {
-        runs(rt, ACQUAINTED_V6, script);
-    }
-}
-
-/// Runs scripts that begin alike, each on a host without addresses. One that comes otherwise runs again: where
-/// there is no memory for a report, it is given up, or goes behind what has to come later.
-pub fn each_reporting(rt: &(impl Abort + AllocGlobal), first: &str, scripts: &[&str]) {
-    for script in scripts {
-        if !comes(rt.alloc(), first, script) {
-            runs(rt, first, script);
+/// The same where a script that comes otherwise runs again: where there is no memory for a report, it is given
+/// up, or goes behind what has to come later.
+pub fn plays_reporting(rt: &(impl Abort + AllocGlobal), scenes: &[Scene]) {
+    for scene in scenes {
+        for script in scene.scripts {
+            if !comes(rt.alloc(), scene.begins, script) {
+                runs(rt, scene, script);
+            }
         }
     }
 }
@@ -156,25 +146,6 @@ fn outlives(alloc: Global, first: &str, bad: &[u8], second: &str) -> bool {
     host.follows(first) && host.takes(bad).is_some() && host.follows(second)
 }
 
-const AT_HOME_V6: &str = "addr fe800000000000000000000000000001/64
-    egress 0 = None tx JOIN_1";
-
-const ACQUAINTED_V6: &str = "addr fe800000000000000000000000000001/64
-    egress 0 = None tx JOIN_1
-    rx SOLICIT_1
-    ingress 0 = SocketStateChanged tx ADVERT_1";
-
-const NARROW: &str = "host 020000000001 ethernet 590
-    addr c0a84501/24
-    rx REQUEST
-    ingress 0 = SocketStateChanged tx REPLY";
-
-const AT_HOME: &str = "addr c0a84501/24";
-
-const ACQUAINTED: &str = "addr c0a84501/24
-    rx REQUEST
-    ingress 0 = SocketStateChanged tx REPLY";
-
 // Whether two parts of a script come as they say, on a new host.
 fn comes(alloc: Global, first: &str, second: &str) -> bool {
     let Ok(mut host) = Host::new(alloc, OWN, ETHERNET) else {
@@ -183,22 +154,22 @@ fn comes(alloc: Global, first: &str, second: &str) -> bool {
     host.follows(first) && host.follows(second) && host.kept && host.device.queued() == 0
 }
 
-// Runs two parts of a script on a new host, at which no frame may wait in the end.
-fn runs(rt: &(impl Abort + AllocGlobal), first: &str, second: &str) {
+// Runs a script of a scene on a new host, at which no frame may wait in the end.
+fn runs(rt: &(impl Abort + AllocGlobal), scene: &Scene, script: &str) {
+    let name = scene.name;
     let mut host = Host::new(rt.alloc(), OWN, ETHERNET).expect(rt, "a host");
-    for part in [first, second] {
+    for part in [scene.begins, script] {
         for (number, line) in part.lines().enumerate() {
             let outcome = host.follow(line);
-            assert!(rt; outcome.is_some(), "line {number} can't be read: {line}");
             assert!(rt;
                 outcome == Some(true),
-                "line {number} came otherwise: {line}"
+                "{name}, line {number} can't be read or came otherwise: {line}"
             );
         }
     }
     assert!(rt;
         host.kept && host.device.queued() == 0,
-        "a frame waits, or was lost"
+        "{name}: a frame waits, or was lost"
     );
 }
 

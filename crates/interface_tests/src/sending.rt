@@ -1,26 +1,283 @@
 // What sockets send, and when they wait.
 
-use crate::script::{acquainted, acquainted_v6, at_home, bare, each_acquainted, each_reporting};
+use crate::script::{ACQUAINTED, ACQUAINTED_V6, AT_HOME, Scene, plays, plays_reporting};
 use crate::test_host::{ETHERNET, Host, OWN};
 use interface::Command;
 use net_base::time::Instant;
 use std::alloc::Global;
 
-#[test]
-fn asks_for_one_neighbor_a_second(rt: HostRuntime) {
-    at_home(
-        &rt,
-        "udp 6969
+const SCENES: &[Scene] = &[
+    Scene {
+        name: "asks for one neighbor a second",
+        begins: AT_HOME,
+        scripts: &[
+            "udp 6969
+            send 0 c0a84532 5000 6869
+            udp 6969
+            send 1 c0a84533 5000 6869
+            egress 5_000_000 = None tx WHO_HAS_50
+            egress 2_000_000 = None
+            egress 5_999_999 = None
+            egress 6_000_000 = None tx WHO_HAS_50
+            due? 0 = Now
+            due? 1 = Now",
+        ],
+    },
+    Scene {
+        name: "no worse route is tried",
+        begins: AT_HOME,
+        scripts: &[
+            "routes 0a000000/8>c0a84502 0a010000/16>ffffffff
+            udp 6969
+            send 0 0a010203 5000 6869
+            egress 0 = None
+            due? 0 = Now
+            routes 0a000000/8>c0a84502
+            egress 1_000_000 = None tx WHO_HAS_2
+            due? 0 = Now",
+        ],
+    },
+    Scene {
+        name: "datagrams go",
+        begins: ACQUAINTED,
+        scripts: &[
+            // To the neighbour.
+            "udp 6969
+            send 0 c0a84564 5000 6869
+            egress 0 = SocketStateChanged tx HI_BACK
+            due? 0 = Ingress
+            egress 0 = None",
+            // To all.
+            "udp 6969
+            send 0 ffffffff 5000 6869
+            egress 0 = SocketStateChanged tx HI_EVERYBODY
+            due? 0 = Ingress
+            egress 0 = None",
+            // To a group.
+            "udp 6969
+            send 0 e0010203 5000 6869
+            egress 0 = SocketStateChanged tx HI_GROUP
+            due? 0 = Ingress
+            egress 0 = None",
+        ],
+    },
+    Scene {
+        name: "a datagram waits for leave",
+        begins: ACQUAINTED,
+        scripts: &[
+            "udp 6969
+            send 0 c0a84564 5000 6869
+            refuse
+            egress 0 = None refused
+            due? 0 = Now
+            egress 0 = SocketStateChanged tx HI_BACK
+            due? 0 = Ingress",
+        ],
+    },
+    Scene {
+        name: "a socket without a route waits",
+        begins: AT_HOME,
+        scripts: &[
+            "udp 6969
+            send 0 0a090909 5000 6869
+            egress 0 = None
+            refuse
+            egress 0 = None
+            egress 500_000 = None
+            egress 999_999 = None
+            egress 1_000_000 = None refused
+            due? 0 = Now",
+        ],
+    },
+    // A refused leave lets no socket wait, so the next call asks again. A socket behind one that waits has its
+    // turn.
+    Scene {
+        name: "a refused leave is no reason to wait",
+        begins: ACQUAINTED,
+        scripts: &[
+            "udp 6969
+            send 0 0a090909 5000 6869
+            udp 6969
+            send 1 c0a84564 5000 6869
+            refuse
+            egress 0 = None refused
+            egress 0 = SocketStateChanged tx HI_BACK
+            due? 1 = Ingress
+            due? 0 = Now",
+        ],
+    },
+    // The wait lasts from 1 s to 2 s, and ends sooner where the neighbour becomes known.
+    Scene {
+        name: "a known neighbor ends the wait",
+        begins: AT_HOME,
+        scripts: &[
+            "udp 6969
+            send 0 c0a84564 5000 6869
+            egress 1_000_000 = None tx WHO_HAS_100
+            egress 1_500_000 = None
+            rx REQUEST
+            ingress 0 = SocketStateChanged tx REPLY
+            egress 1_500_000 = SocketStateChanged tx HI_BACK
+            due? 0 = Ingress",
+        ],
+    },
+    // A neighbour that becomes known as a router ends the wait for what lies behind it.
+    Scene {
+        name: "a known router ends the wait",
+        begins: AT_HOME,
+        scripts: &[
+            "udp 6969
+            send 0 0a010203 5000 6869
+            egress 0 = None
+            rx REQUEST
+            ingress 0 = SocketStateChanged tx REPLY
+            egress 0 = None
+            routes 0a000000/8>c0a84564
+            egress 0 = SocketStateChanged tx HI_FAR
+            due? 0 = Ingress",
+        ],
+    },
+    Scene {
+        name: "an icmp socket hears and sends",
+        begins: ACQUAINTED,
+        scripts: &[
+            "icmp 4660
+            send 0 c0a84564 080021041234000161626364
+            egress 0 = SocketStateChanged tx ECHO_OUT
+            rx ECHO
+            ingress 0 = SocketStateChanged tx ECHO_REPLY
+            heard? 0 = c0a84564 080021041234000161626364",
+        ],
+    },
+    Scene {
+        name: "a raw socket sends",
+        begins: ACQUAINTED,
+        scripts: &[
+            "raw 1
+            send 0 45000020beef000040010000c0a84501c0a84564080021041234000161626364
+            egress 0 = SocketStateChanged tx ECHO_OUT",
+        ],
+    },
+    // Over IPv6 too, with class and flow label 0; a packet of another protocol is dropped.
+    Scene {
+        name: "a raw socket sends over ipv6",
+        begins: ACQUAINTED_V6,
+        scripts: &[
+            "raw6 17
+            send 0 6b012345000a1140fe800000000000000000000000000001fe8000000000000000000000000000021b391388000a6bab6869
+            egress 0 = SocketStateChanged tx HI_V6
+            send 0 60000000000a0640fe800000000000000000000000000001fe8000000000000000000000000000021b391388000a6bab6869
+            egress 0 = None
+            due? 0 = Ingress",
+        ],
+    },
+    Scene {
+        name: "a held segment goes at its moment",
+        begins: ACQUAINTED,
+        scripts: &[
+            "segment 80 c0a84564 5000 7 4096 6869
+            hold 0 5_000_000
+            egress 4_999_999 = None
+            egress 5_000_000 = SocketStateChanged tx SEGMENT_4096",
+        ],
+    },
+    Scene {
+        name: "a window fits the burst",
+        begins: "",
+        scripts: &[
+            "host 020000000001 ethernet 1514 1
+            addr c0a84501/24
+            rx REQUEST
+            ingress 0 = SocketStateChanged tx REPLY
+            segment 80 c0a84564 5000 7 4096 6869
+            egress 0 = SocketStateChanged tx SEGMENT_1474",
+        ],
+    },
+    Scene {
+        name: "a window fits the burst",
+        begins: "",
+        scripts: &[
+            "host 020000000001 ethernet 1514 max
+            addr c0a84501/24
+            rx REQUEST
+            ingress 0 = SocketStateChanged tx REPLY
+            segment 80 c0a84564 5000 7 4096 6869
+            egress 0 = SocketStateChanged tx SEGMENT_4096",
+        ],
+    },
+    // Over IPv6 a group is reached straight, and one host asked for by a solicitation. What doesn't fit a packet
+    // of the device's is dropped, and gone.
+    Scene {
+        name: "datagrams go over ipv6",
+        begins: "",
+        scripts: &[
+            "host 020000000001 ethernet 1514
+            addr fe800000000000000000000000000001/64
+            egress 0 = None tx JOIN_1
+            udp 6969
+            send 0 ff020000000000000000000000000002 5000 6869
+            egress 0 = SocketStateChanged tx HI_ROUTERS
+            due? 0 = Ingress
+            send 0 fe800000000000000000000000000002 5000 6869
+            egress 0 = None tx SOLICIT_2
+            egress 999_999 = None
+            egress 1_000_000 = None tx SOLICIT_2
+            due? 0 = Now",
+        ],
+    },
+    Scene {
+        name: "datagrams go over ipv6",
+        begins: "",
+        scripts: &[
+            "host ip ip 576
+            addr c0a84501/24 20010db8000000000000000000000001/64
+            udp 6969
+            send 0 20010db8000000000000000000000009 5000 6869
+            egress 0 = SocketStateChanged tx HI_NEAR
+            send 0 20010db8000000000000000000000009 5000 EMPTY~0+529
+            egress 0 = SocketStateChanged
+            due? 0 = Ingress",
+        ],
+    },
+    Scene {
+        name: "a window fits the burst over ipv6",
+        begins: "",
+        scripts: &[
+            "host 020000000001 ethernet 1514 1
+            addr fe800000000000000000000000000001/64
+            egress 0 = None tx JOIN_1
+            segment 80 ff020000000000000000000000000002 5000 7 4096 6869
+            egress 0 = SocketStateChanged tx SEGMENT_1454",
+        ],
+    },
+];
+
+const REPORTING_SCENES: &[Scene] = &[
+    // One silence stands for both families.
+    Scene {
+        name: "asks for one neighbor a second over both",
+        begins: "addr c0a84501/24 fe800000000000000000000000000001/64",
+        scripts: &[
+            "udp 6969
         send 0 c0a84532 5000 6869
         udp 6969
-        send 1 c0a84533 5000 6869
-        egress 5_000_000 = None tx WHO_HAS_50
-        egress 2_000_000 = None
-        egress 5_999_999 = None
-        egress 6_000_000 = None tx WHO_HAS_50
-        due? 0 = Now
+        send 1 fe800000000000000000000000000050 5000 6869
+        egress 0 = None tx JOIN_1 WHO_HAS_50
+        egress 1_000_000 = None tx WHO_HAS_50
+        rx REPLY_OF_50
+        ingress 1_500_000 = SocketStateChanged
+        egress 1_500_000 = SocketStateChanged tx HI_TO_50
+        egress 2_000_000 = None tx SOLICIT_50
+        due? 0 = Ingress
         due? 1 = Now",
-    );
+        ],
+    },
+];
+
+#[test]
+fn scenes(rt: HostRuntime) {
+    plays(&rt, SCENES);
+    plays_reporting(&rt, REPORTING_SCENES);
 }
 
 // In whatever order the moments come, two requests are a second apart at least.
@@ -80,264 +337,4 @@ fn asks_spaced(alloc: Global, order: [usize; 4]) -> bool {
         silent_until = micros.saturating_add(1_000_000);
     }
     is_ready && silent_until != 0
-}
-
-#[test]
-fn no_worse_route_is_tried(rt: HostRuntime) {
-    at_home(
-        &rt,
-        "routes 0a000000/8>c0a84502 0a010000/16>ffffffff
-        udp 6969
-        send 0 0a010203 5000 6869
-        egress 0 = None
-        due? 0 = Now
-        routes 0a000000/8>c0a84502
-        egress 1_000_000 = None tx WHO_HAS_2
-        due? 0 = Now",
-    );
-}
-
-#[test]
-fn datagrams_go(rt: HostRuntime) {
-    each_acquainted(
-        &rt,
-        &[
-            // To the neighbour.
-            "udp 6969
-            send 0 c0a84564 5000 6869
-            egress 0 = SocketStateChanged tx HI_BACK
-            due? 0 = Ingress
-            egress 0 = None",
-            // To all.
-            "udp 6969
-            send 0 ffffffff 5000 6869
-            egress 0 = SocketStateChanged tx HI_EVERYBODY
-            due? 0 = Ingress
-            egress 0 = None",
-            // To a group.
-            "udp 6969
-            send 0 e0010203 5000 6869
-            egress 0 = SocketStateChanged tx HI_GROUP
-            due? 0 = Ingress
-            egress 0 = None",
-        ],
-    );
-}
-
-#[test]
-fn a_datagram_waits_for_leave(rt: HostRuntime) {
-    acquainted(
-        &rt,
-        "udp 6969
-        send 0 c0a84564 5000 6869
-        refuse
-        egress 0 = None refused
-        due? 0 = Now
-        egress 0 = SocketStateChanged tx HI_BACK
-        due? 0 = Ingress",
-    );
-}
-
-#[test]
-fn a_socket_without_a_route_waits(rt: HostRuntime) {
-    at_home(
-        &rt,
-        "udp 6969
-        send 0 0a090909 5000 6869
-        egress 0 = None
-        refuse
-        egress 0 = None
-        egress 500_000 = None
-        egress 999_999 = None
-        egress 1_000_000 = None refused
-        due? 0 = Now",
-    );
-}
-
-// A refused leave lets no socket wait, so the next call asks again. A socket behind one that waits has its
-// turn.
-#[test]
-fn a_refused_leave_is_no_reason_to_wait(rt: HostRuntime) {
-    acquainted(
-        &rt,
-        "udp 6969
-        send 0 0a090909 5000 6869
-        udp 6969
-        send 1 c0a84564 5000 6869
-        refuse
-        egress 0 = None refused
-        egress 0 = SocketStateChanged tx HI_BACK
-        due? 1 = Ingress
-        due? 0 = Now",
-    );
-}
-
-// The wait lasts from 1 s to 2 s, and ends sooner where the neighbour becomes known.
-#[test]
-fn a_known_neighbor_ends_the_wait(rt: HostRuntime) {
-    at_home(
-        &rt,
-        "udp 6969
-        send 0 c0a84564 5000 6869
-        egress 1_000_000 = None tx WHO_HAS_100
-        egress 1_500_000 = None
-        rx REQUEST
-        ingress 0 = SocketStateChanged tx REPLY
-        egress 1_500_000 = SocketStateChanged tx HI_BACK
-        due? 0 = Ingress",
-    );
-}
-
-// A neighbour that becomes known as a router ends the wait for what lies behind it.
-#[test]
-fn a_known_router_ends_the_wait(rt: HostRuntime) {
-    at_home(
-        &rt,
-        "udp 6969
-        send 0 0a010203 5000 6869
-        egress 0 = None
-        rx REQUEST
-        ingress 0 = SocketStateChanged tx REPLY
-        egress 0 = None
-        routes 0a000000/8>c0a84564
-        egress 0 = SocketStateChanged tx HI_FAR
-        due? 0 = Ingress",
-    );
-}
-
-#[test]
-fn an_icmp_socket_hears_and_sends(rt: HostRuntime) {
-    acquainted(
-        &rt,
-        "icmp 4660
-        send 0 c0a84564 080021041234000161626364
-        egress 0 = SocketStateChanged tx ECHO_OUT
-        rx ECHO
-        ingress 0 = SocketStateChanged tx ECHO_REPLY
-        heard? 0 = c0a84564 080021041234000161626364",
-    );
-}
-
-#[test]
-fn a_raw_socket_sends(rt: HostRuntime) {
-    acquainted(
-        &rt,
-        "raw 1
-        send 0 45000020beef000040010000c0a84501c0a84564080021041234000161626364
-        egress 0 = SocketStateChanged tx ECHO_OUT",
-    );
-}
-
-// Over IPv6 too, with class and flow label 0; a packet of another protocol is dropped.
-#[test]
-fn a_raw_socket_sends_over_ipv6(rt: HostRuntime) {
-    acquainted_v6(
-        &rt,
-        "raw6 17
-        send 0 6b012345000a1140fe800000000000000000000000000001fe8000000000000000000000000000021b391388000a6bab6869
-        egress 0 = SocketStateChanged tx HI_V6
-        send 0 60000000000a0640fe800000000000000000000000000001fe8000000000000000000000000000021b391388000a6bab6869
-        egress 0 = None
-        due? 0 = Ingress",
-    );
-}
-
-#[test]
-fn a_held_segment_goes_at_its_moment(rt: HostRuntime) {
-    acquainted(
-        &rt,
-        "segment 80 c0a84564 5000 7 4096 6869
-        hold 0 5_000_000
-        egress 4_999_999 = None
-        egress 5_000_000 = SocketStateChanged tx SEGMENT_4096",
-    );
-}
-
-#[test]
-fn a_window_fits_the_burst(rt: HostRuntime) {
-    bare(
-        &rt,
-        "host 020000000001 ethernet 1514 1
-        addr c0a84501/24
-        rx REQUEST
-        ingress 0 = SocketStateChanged tx REPLY
-        segment 80 c0a84564 5000 7 4096 6869
-        egress 0 = SocketStateChanged tx SEGMENT_1474",
-    );
-    bare(
-        &rt,
-        "host 020000000001 ethernet 1514 max
-        addr c0a84501/24
-        rx REQUEST
-        ingress 0 = SocketStateChanged tx REPLY
-        segment 80 c0a84564 5000 7 4096 6869
-        egress 0 = SocketStateChanged tx SEGMENT_4096",
-    );
-}
-
-// Over IPv6 a group is reached straight, and one host asked for by a solicitation. What doesn't fit a packet
-// of the device's is dropped, and gone.
-#[test]
-fn datagrams_go_over_ipv6(rt: HostRuntime) {
-    bare(
-        &rt,
-        "host 020000000001 ethernet 1514
-        addr fe800000000000000000000000000001/64
-        egress 0 = None tx JOIN_1
-        udp 6969
-        send 0 ff020000000000000000000000000002 5000 6869
-        egress 0 = SocketStateChanged tx HI_ROUTERS
-        due? 0 = Ingress
-        send 0 fe800000000000000000000000000002 5000 6869
-        egress 0 = None tx SOLICIT_2
-        egress 999_999 = None
-        egress 1_000_000 = None tx SOLICIT_2
-        due? 0 = Now",
-    );
-    bare(
-        &rt,
-        "host ip ip 576
-        addr c0a84501/24 20010db8000000000000000000000001/64
-        udp 6969
-        send 0 20010db8000000000000000000000009 5000 6869
-        egress 0 = SocketStateChanged tx HI_NEAR
-        send 0 20010db8000000000000000000000009 5000 EMPTY~0+529
-        egress 0 = SocketStateChanged
-        due? 0 = Ingress",
-    );
-}
-
-// One silence stands for both families.
-#[test]
-fn asks_for_one_neighbor_a_second_over_both(rt: HostRuntime) {
-    each_reporting(
-        &rt,
-        "addr c0a84501/24 fe800000000000000000000000000001/64",
-        &[
-            "udp 6969
-        send 0 c0a84532 5000 6869
-        udp 6969
-        send 1 fe800000000000000000000000000050 5000 6869
-        egress 0 = None tx JOIN_1 WHO_HAS_50
-        egress 1_000_000 = None tx WHO_HAS_50
-        rx REPLY_OF_50
-        ingress 1_500_000 = SocketStateChanged
-        egress 1_500_000 = SocketStateChanged tx HI_TO_50
-        egress 2_000_000 = None tx SOLICIT_50
-        due? 0 = Ingress
-        due? 1 = Now",
-        ],
-    );
-}
-
-#[test]
-fn a_window_fits_the_burst_over_ipv6(rt: HostRuntime) {
-    bare(
-        &rt,
-        "host 020000000001 ethernet 1514 1
-        addr fe800000000000000000000000000001/64
-        egress 0 = None tx JOIN_1
-        segment 80 ff020000000000000000000000000002 5000 7 4096 6869
-        egress 0 = SocketStateChanged tx SEGMENT_1454",
-    );
 }
