@@ -6,6 +6,8 @@ use sockets::queue::{NoMemory, Queue};
 use sockets::socket::{AnySocket, SocketOf};
 use sockets::{IpEndpoint, IpListenEndpoint, raw, tcp, udp};
 use std::alloc::Global;
+use std::fmt::Display;
+use std::ops::Range;
 use std::test::Fail;
 
 // 10.0.0.1 and 10.0.0.2.
@@ -39,6 +41,42 @@ fn add<'a, T: AnySocket<'a>>(set: &mut SocketSet<'a>, socket: T) -> Result<Socke
     }
 }
 
+// Adds a UDP socket at a port, and gives its handle.
+fn add_udp<'a>(
+    set: &mut SocketSet<'a>,
+    alloc: Global,
+    port: u16,
+) -> Result<SocketHandle, NoMemory> {
+    add(set, udp_socket(alloc, port)?)
+}
+
+// A set of UDP sockets at these ports, in this order.
+fn udp_set<'a>(alloc: Global, ports: Range<u16>) -> Result<SocketSet<'a>, NoMemory> {
+    let mut set = SocketSet::new(Vec::new(alloc));
+    for port in ports {
+        add_udp(&mut set, alloc, port)?;
+    }
+    Ok(set)
+}
+
+// A set of two UDP sockets with their handles.
+fn two<'a>(alloc: Global) -> Result<(SocketSet<'a>, SocketHandle, SocketHandle), NoMemory> {
+    let mut set = SocketSet::new(Vec::new(alloc));
+    let first = add_udp(&mut set, alloc, 1)?;
+    let second = add_udp(&mut set, alloc, 2)?;
+    Ok((set, first, second))
+}
+
+// Whether a value prints as this text. If memory for it is refused, the next call gets it.
+fn prints<T: Display>(alloc: Global, value: &T, text: &str) -> bool {
+    for _ in 0..2 {
+        if let Ok(printed) = format!(in alloc; "{value}") {
+            return printed.as_str() == text;
+        }
+    }
+    false
+}
+
 // Whether a set has a socket of a kind.
 fn has<'a, T: AnySocket<'a>>(set: &SocketSet<'a>, handle: SocketHandle) -> bool {
     set.get::<T>(handle).is_some()
@@ -51,27 +89,20 @@ fn is_removed<'a>(set: &mut SocketSet<'a>, handle: SocketHandle) -> bool {
 
 #[test]
 fn a_freed_place_is_taken_again(rt: HostRuntime) -> Result<(), Fail> {
-    let mut set: SocketSet<'_> = SocketSet::new(Vec::new(rt.alloc()));
-    let first = add(&mut set, udp_socket(rt.alloc(), 1)?)?;
-    let second = add(&mut set, udp_socket(rt.alloc(), 2)?)?;
-    let text = match format!(in rt.alloc(); "{first} {second}") {
-        Ok(text) => text,
-        Err(_) => format!(in rt.alloc(); "{first} {second}")?,
-    };
+    let (mut set, first, second) = two(rt.alloc())?;
+    let are_numbered = prints(rt.alloc(), &first, "#0") && prints(rt.alloc(), &second, "#1");
     let is_freed = is_removed(&mut set, first)
         && !is_removed(&mut set, first)
         && !has::<udp::Socket<'_>>(&set, first)
         && has::<udp::Socket<'_>>(&set, second);
-    let third = add(&mut set, udp_socket(rt.alloc(), 3)?)?;
-    assert!(rt; text.as_str() == "#0 #1" && is_freed && third == first);
+    let third = add_udp(&mut set, rt.alloc(), 3)?;
+    assert!(rt; are_numbered && is_freed && third == first);
     Ok(())
 }
 
 #[test]
 fn a_socket_waits_at_its_place(rt: HostRuntime) -> Result<(), Fail> {
-    let mut set: SocketSet<'_> = SocketSet::new(Vec::new(rt.alloc()));
-    let first = add(&mut set, udp_socket(rt.alloc(), 1)?)?;
-    add(&mut set, udp_socket(rt.alloc(), 2)?)?;
+    let (mut set, first, _second) = two(rt.alloc())?;
     by_index::neighbor_missing(&mut set, 0, Instant::from_secs(1), FIRST);
     by_index::neighbor_missing(&mut set, 2, Instant::from_secs(1), FIRST);
     for (index, micros, permitted) in [
@@ -90,7 +121,7 @@ fn a_socket_waits_at_its_place(rt: HostRuntime) -> Result<(), Fail> {
     }
     let is_free = is_removed(&mut set, first)
         && !by_index::egress_permitted(&mut set, 0, Instant::from_secs(3), |_| true);
-    let third = add(&mut set, udp_socket(rt.alloc(), 3)?)?;
+    let third = add_udp(&mut set, rt.alloc(), 3)?;
     let is_new = third == first
         && by_index::egress_permitted(&mut set, 0, Instant::ZERO, |_| false);
     by_index::neighbor_missing(&mut set, 0, Instant::from_secs(1), FIRST);
@@ -100,19 +131,29 @@ fn a_socket_waits_at_its_place(rt: HostRuntime) -> Result<(), Fail> {
     Ok(())
 }
 
-#[test]
-fn a_fixed_set_gives_the_socket_back(rt: HostRuntime) -> Result<(), Fail> {
-    let mut places = Vec::new(rt.alloc());
-    if places.push(SocketStorage::EMPTY).is_err() {
-        places.push(SocketStorage::EMPTY)?;
+// A set with one place.
+fn fixed_set<'a>(alloc: Global) -> Result<SocketSet<'a>, NoMemory> {
+    let mut places = Vec::new(alloc);
+    if places.push(SocketStorage::EMPTY).is_err() && places.push(SocketStorage::EMPTY).is_err() {
+        return Err(NoMemory);
     }
-    let mut set: SocketSet<'_> = SocketSet::fixed(places);
-    let first = add(&mut set, udp_socket(rt.alloc(), 7)?)?;
-    let is_refused = match set.add(udp_socket(rt.alloc(), 8)?) {
+    Ok(SocketSet::fixed(places))
+}
+
+// Whether a set gives a socket back, since it is full.
+fn is_full<'a>(set: &mut SocketSet<'a>, socket: udp::Socket<'a>) -> bool {
+    match set.add(socket) {
         Ok(_handle) => false,
         Err(AddError::Full(_socket)) => true,
         Err(AddError::NoMemory(_socket)) => false,
-    };
+    }
+}
+
+#[test]
+fn a_fixed_set_gives_the_socket_back(rt: HostRuntime) -> Result<(), Fail> {
+    let mut set = fixed_set(rt.alloc())?;
+    let first = add_udp(&mut set, rt.alloc(), 7)?;
+    let is_refused = is_full(&mut set, udp_socket(rt.alloc(), 8)?);
     let is_first = first == SocketHandle::default();
     assert!(rt; is_first && is_refused && by_index::places(&set) == 1);
     Ok(())
@@ -183,15 +224,16 @@ fn a_refused_place_leaves_the_set_as_it_was(rt: HostRuntime) -> Result<(), Fail>
 }
 
 #[test]
-fn errors_print_their_names(rt: HostRuntime) -> Result<(), Fail> {
+fn errors_print_their_names(rt: HostRuntime) {
     let full: AddError<u8> = AddError::Full(0);
     let no_memory: AddError<u8> = AddError::NoMemory(0);
-    let text = match format!(in rt.alloc(); "{full}, {no_memory}") {
-        Ok(text) => text,
-        Err(_) => format!(in rt.alloc(); "{full}, {no_memory}")?,
-    };
-    assert_eq!(rt; text.as_str(), "Full, NoMemory");
-    Ok(())
+    let is_right = prints(rt.alloc(), &full, "Full") && prints(rt.alloc(), &no_memory, "NoMemory");
+    assert!(rt; is_right);
+}
+
+fn raw_socket<'a>(alloc: Global) -> Result<raw::Socket<'a>, NoMemory> {
+    let (rx, tx) = (queue(alloc)?, queue(alloc)?);
+    Ok(raw::SocketOf::new(IpVersion::Ipv4, IpProtocol::Icmp, rx, tx))
 }
 
 // Lets each place rest that can, and gives the first that may be busy from then on.
@@ -204,10 +246,7 @@ fn first_busy(set: &mut SocketSet<'_>) -> usize {
 
 #[test]
 fn one_of_many_is_busy(rt: HostRuntime) -> Result<(), Fail> {
-    let mut set: SocketSet<'_> = SocketSet::new(Vec::new(rt.alloc()));
-    for port in 1..131 {
-        add(&mut set, udp_socket(rt.alloc(), port)?)?;
-    }
+    let mut set = udp_set(rt.alloc(), 1..131)?;
     assert_eq!(rt; first_busy(&mut set), 130);
     for index in [0, 15, 16, 17, 63, 64, 66, 129] {
         by_index::neighbor_missing(&mut set, index, Instant::from_secs(1), FIRST);
@@ -223,10 +262,7 @@ fn one_of_many_is_busy(rt: HostRuntime) -> Result<(), Fail> {
 
 #[test]
 fn sockets_are_found_by_their_ports(rt: HostRuntime) -> Result<(), Fail> {
-    let mut set: SocketSet<'_> = SocketSet::new(Vec::new(rt.alloc()));
-    for port in 0..41 {
-        add(&mut set, udp_socket(rt.alloc(), port)?)?;
-    }
+    let mut set = udp_set(rt.alloc(), 0..41)?;
     let may_be_first = by_index::next_at(&set, 0, Some(7)) == 0 && first_busy(&mut set) == 41;
     assert!(rt; may_be_first);
     for port in [0, 1, 15, 16, 17, 40] {
@@ -250,17 +286,8 @@ fn sockets_are_found_by_their_ports(rt: HostRuntime) -> Result<(), Fail> {
 
 #[test]
 fn a_raw_socket_is_looked_for_until_it_is_removed(rt: HostRuntime) -> Result<(), Fail> {
-    let mut set: SocketSet<'_> = SocketSet::new(Vec::new(rt.alloc()));
-    for port in 1..21 {
-        add(&mut set, udp_socket(rt.alloc(), port)?)?;
-    }
-    let socket: raw::Socket<'_> = raw::SocketOf::new(
-        IpVersion::Ipv4,
-        IpProtocol::Icmp,
-        queue(rt.alloc())?,
-        queue(rt.alloc())?,
-    );
-    let handle = add(&mut set, socket)?;
+    let mut set = udp_set(rt.alloc(), 1..21)?;
+    let handle = add(&mut set, raw_socket(rt.alloc())?)?;
     let is_looked_for = by_index::may_have_portless(&set)
         && first_busy(&mut set) == 21
         && by_index::next_at(&set, 0, None) == 20
