@@ -33,44 +33,44 @@ fn the_last_moves_into_the_gap(rt: HostRuntime) {
     let mut groups = joined(3);
     groups.leave(&address(0));
     groups.leave_reported(&address(0));
-    let walk = [Some(group(2)), Some(group(1)), None];
-    for n in 0..3 {
-        assert_eq!(rt; groups.nth_ipv4(n), walk[n]);
+    let walk = [groups.nth_ipv4(0), groups.nth_ipv4(1), groups.nth_ipv4(2)];
+    assert!(rt; walk == [Some(group(2)), Some(group(1)), None]);
+}
+
+// Whether these are the IPv4 groups, in this order.
+fn are_walked(groups: &Groups, hosts: [u8; 8]) -> bool {
+    for n in 0..8 {
+        if groups.nth_ipv4(n) != Some(group(hosts[n])) {
+            return false;
+        }
     }
+    true
 }
 
 #[test]
 fn a_ninth_group_waits_for_room(rt: HostRuntime) {
     let mut groups = joined(8);
     groups.leave(&address(3));
-    let refused = groups.join(address(8));
-    let before = groups.ipv4_count();
-    let leaving = groups.first_in(GroupState::Leaving);
+    let is_refused = groups.join(address(8)) == Err(GroupTableFull)
+        && groups.ipv4_count() == 8
+        && groups.first_in(GroupState::Leaving) == Some(address(3));
     groups.leave_reported(&address(3));
-    let taken = groups.join(address(8));
-    assert_eq!(rt; refused, Err(GroupTableFull));
-    assert_eq!(rt; (before, leaving), (8, Some(address(3))));
-    assert_eq!(rt; taken, Ok(()));
-    let walk = [0, 1, 2, 7, 4, 5, 6, 8];
-    for n in 0..8 {
-        assert_eq!(rt; groups.nth_ipv4(n), Some(group(walk[n])));
-    }
+    let is_taken = groups.join(address(8)) == Ok(());
+    assert!(rt; is_refused && is_taken && are_walked(&groups, [0, 1, 2, 7, 4, 5, 6, 8]));
 }
 
 #[test]
 fn a_group_of_ipv6_has_its_own_place(rt: HostRuntime) {
+    let sixth = IpAddress::Ipv6(SIXTH);
     let mut groups = joined(1);
-    let _ = groups.join(IpAddress::Ipv6(SIXTH));
-    let counts = (groups.len(), groups.ipv4_count(), groups.ipv6_count());
-    assert_eq!(rt; counts, (2, 1, 1));
-    assert_eq!(rt; groups.nth_ipv6(0), Some(SIXTH));
-    let is_first = groups.is_member(&IpAddress::Ipv6(SIXTH));
-    groups.leave(&IpAddress::Ipv6(SIXTH));
-    let is_then = groups.is_member(&IpAddress::Ipv6(SIXTH));
-    assert_eq!(rt;
-        (is_first, is_then, groups.is_empty()),
-        (true, false, false)
-    );
+    let _ = groups.join(sixth);
+    let is_there = groups.len() == 2
+        && groups.ipv4_count() == 1
+        && groups.ipv6_count() == 1
+        && groups.nth_ipv6(0) == Some(SIXTH)
+        && groups.is_member(&sixth);
+    groups.leave(&sixth);
+    assert!(rt; is_there && !groups.is_member(&sixth) && !groups.is_empty());
 }
 
 #[test]

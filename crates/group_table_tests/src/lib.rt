@@ -1,5 +1,0 @@
-//! The tests of `group_table`.
-#![tactic(auto)]
-
-#[cfg(test)]
-mod groups;

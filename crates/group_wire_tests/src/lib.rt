@@ -1,7 +1,0 @@
-//! The tests of `group_wire`.
-#![tactic(auto)]
-
-#[cfg(test)]
-mod igmp;
-#[cfg(test)]
-mod mld;
