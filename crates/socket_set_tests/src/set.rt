@@ -23,9 +23,17 @@ fn queue<M: Drop>(alloc: Global) -> Result<Queue<M>, NoMemory> {
     }
 }
 
+// Two such queues.
+fn queues<M: Drop>(alloc: Global) -> Result<(Queue<M>, Queue<M>), NoMemory> {
+    let rx = queue(alloc)?;
+    let tx = queue(alloc)?;
+    Ok((rx, tx))
+}
+
 fn udp_socket<'a>(alloc: Global, port: u16) -> Result<udp::Socket<'a>, NoMemory> {
     let endpoint = IpListenEndpoint { addr: None, port };
-    Ok(udp::SocketOf::new(endpoint, queue(alloc)?, queue(alloc)?))
+    let (rx, tx) = queues(alloc)?;
+    Ok(udp::SocketOf::new(endpoint, rx, tx))
 }
 
 // Adds a socket, and gives its handle. If the memory for its place is refused, the next call adds
@@ -232,7 +240,7 @@ fn errors_print_their_names(rt: HostRuntime) {
 }
 
 fn raw_socket<'a>(alloc: Global) -> Result<raw::Socket<'a>, NoMemory> {
-    let (rx, tx) = (queue(alloc)?, queue(alloc)?);
+    let (rx, tx) = queues(alloc)?;
     Ok(raw::SocketOf::new(IpVersion::Ipv4, IpProtocol::Icmp, rx, tx))
 }
 

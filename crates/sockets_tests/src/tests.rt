@@ -70,6 +70,13 @@ fn ample<M: Drop>(alloc: Global) -> Result<Queue<M>, NoMemory> {
     }
 }
 
+// Two such queues.
+fn queues<M: Drop>(alloc: Global) -> Result<(Queue<M>, Queue<M>), NoMemory> {
+    let rx = ample(alloc)?;
+    let tx = ample(alloc)?;
+    Ok((rx, tx))
+}
+
 fn udp_at(alloc: Global) -> Result<udp::Socket<'static>, Fail>
     ensures { IfOk result (λ s. s.endpoint.port ≡ 6969) }
 {
@@ -77,7 +84,8 @@ fn udp_at(alloc: Global) -> Result<udp::Socket<'static>, Fail>
         addr: None,
         port: 6969,
     };
-    Ok(udp::Socket::new(endpoint, ample(alloc)?, ample(alloc)?))
+    let (rx, tx) = queues(alloc)?;
+    Ok(udp::Socket::new(endpoint, rx, tx))
 }
 
 #[test]
@@ -130,7 +138,8 @@ fn tcp_at(alloc: Global) -> Result<tcp::Socket<'static>, Fail>
         addr: None,
         port: 80,
     };
-    Ok(tcp::Socket::new(local, None, ample(alloc)?, ample(alloc)?))
+    let (rx, tx) = queues(alloc)?;
+    Ok(tcp::Socket::new(local, None, rx, tx))
 }
 
 const SYN: TcpRepr = TcpRepr {
@@ -188,7 +197,7 @@ fn raw_for(
     version: IpVersion,
     protocol: IpProtocol,
 ) -> Result<raw::Socket<'static>, NoMemory> {
-    let (rx, tx) = (ample(alloc)?, ample(alloc)?);
+    let (rx, tx) = queues(alloc)?;
     Ok(raw::Socket::new(version, protocol, rx, tx))
 }
 
@@ -274,7 +283,8 @@ fn offers_echo(socket: &mut icmp::Socket<'static>) -> bool {
 #[test]
 fn only_echo_messages_are_offered(rt: HostRuntime) -> Result<(), Fail> {
     let endpoint = icmp::Endpoint::Ident(0x22b);
-    let mut socket = icmp::Socket::new(endpoint, ample(rt.alloc())?, ample(rt.alloc())?);
+    let (rx, tx) = queues(rt.alloc())?;
+    let mut socket = icmp::Socket::new(endpoint, rx, tx);
     socket.process(OTHER, UNREACHABLE);
     let is_read = socket.recv() == Some((&OTHER, UNREACHABLE));
     let is_queued = socket.send(OTHER, UNREACHABLE) == Ok(()) && socket.send(OTHER, ECHO) == Ok(());
