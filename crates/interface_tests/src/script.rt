@@ -96,7 +96,7 @@ pub const ACQUAINTED_V6: &str = "addr fe800000000000000000000000000001/64
 pub fn plays(rt: &(impl Abort + AllocGlobal), scenes: &[Scene]) {
     for scene in scenes {
         for script in scene.scripts {
-            runs(rt, scene, script);
+            runs(rt, scene.name, scene.begins, script);
         }
     }
 }
@@ -107,7 +107,7 @@ pub fn plays_reporting(rt: &(impl Abort + AllocGlobal), scenes: &[Scene]) {
     for scene in scenes {
         for script in scene.scripts {
             if !comes(rt.alloc(), scene.begins, script) {
-                runs(rt, scene, script);
+                runs(rt, scene.name, scene.begins, script);
             }
         }
     }
@@ -154,11 +154,10 @@ fn comes(alloc: Global, first: &str, second: &str) -> bool {
     host.follows(first) && host.follows(second) && host.kept && host.device.queued() == 0
 }
 
-// Runs a script of a scene on a new host, at which no frame may wait in the end.
-fn runs(rt: &(impl Abort + AllocGlobal), scene: &Scene, script: &str) {
-    let name = scene.name;
+// Runs the two parts of a named script on a new host, at which no frame may wait in the end.
+fn runs(rt: &(impl Abort + AllocGlobal), name: &str, first: &str, second: &str) {
     let mut host = Host::new(rt.alloc(), OWN, ETHERNET).expect(rt, "a host");
-    for part in [scene.begins, script] {
+    for part in [first, second] {
         for (number, line) in part.lines().enumerate() {
             let outcome = host.follow(line);
             assert!(rt;
