@@ -47,3 +47,11 @@ pub mod Begun
 mod Answered
 mod Listening
 mod Fragmented
+mod Served
+mod Queued
+mod Going
+mod Fewer
+mod Done
+mod Served6
+mod Asking
+mod InLine

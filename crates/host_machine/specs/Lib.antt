@@ -46,6 +46,7 @@ pub mod Wire
 pub mod TwoHosts
 pub mod Laws
 pub mod Determined
+pub mod Service
 pub mod Example
 pub mod ExampleAnyIp
 pub mod ExampleSockets

@@ -12,6 +12,7 @@ ghost use Rattle.host_machine.specs.ExampleSockets.{ConfigurationsAreTested, Con
 ghost use Rattle.host_machine.specs.Quiet.{SocketsAreQuiet};
 ghost use Rattle.host_machine.specs.Refusals.{RefusalsLoseNothing};
 ghost use Rattle.host_machine.specs.Determined.{DispatchIsDetermined, EgressIsDetermined, IngressIsDetermined, PollIsDetermined, ReceptionIsDetermined, RunIsDetermined, StepIsDetermined};
+ghost use Rattle.host_machine.specs.Service.{ArpRequestsAreAnswered, ClosedPortsAreTold, DatagramsAreQueued, DueIsDone, FirstDatagramsGo, LittleStaysDue, PiecesGo, PingsAreAnswered, PingsV6AreAnswered, PollsBringIntoLine, PollsEndInCalls, PollsLeaveLittle, RequestFramesAreRead, RequestsGo, SolicitationsAreAnswered};
 ghost use Rattle.host_machine.specs.Laws.{DiscoveriesAreNoted, DispatchesSendOneThing, FragmentsComeInFrames, IngressIsSingle, MalformedIsDropped, RunsJoin, RunsKeepLaws};
 ghost use Rattle.host_machine.specs.Unfolded.{RunsUnfold};
 ghost use Rattle.host_machine.specs.TwoHosts.{PiecesAreRead, RebuildsWhatWasCut};
@@ -322,4 +323,90 @@ pub fn groups_follow_addresses()
 /// A worked example: which addresses are the host's own with AnyIP, until when, and which are not.
 pub fn addresses_are_routed_here()
     ensures { AddressesAreRoutedHere }
+{}
+
+/// An ARP request of a neighbour for an address of the host's is answered in the call that takes it, and the
+/// neighbour known from then on.
+pub fn arp_requests_are_answered()
+    ensures { ArpRequestsAreAnswered }
+{}
+
+/// An echo request over IPv4 is answered in the call that takes it, with its identifier, its number and its
+/// data, if the way back to its sender is known.
+pub fn pings_are_answered()
+    ensures { PingsAreAnswered }
+{}
+
+/// A datagram over IPv4 for the host stands, once the call that takes it is over, behind what the queue of the
+/// first socket had that listens at its port, if there is room; no other UDP socket changes, and nothing is sent.
+pub fn datagrams_are_queued()
+    ensures { DatagramsAreQueued }
+{}
+
+/// One for a port at which no socket listens brings the error that says so in the call that takes it, unless a
+/// raw socket took it.
+pub fn closed_ports_are_told()
+    ensures { ClosedPortsAreTold }
+{}
+
+/// A call that sends, and is given each leave that it asks for, sends the first datagram of each UDP socket that
+/// may be asked, if the way to its destination is known and the device takes packets so long; those behind it are left.
+pub fn first_datagrams_go()
+    ensures { FirstDatagramsGo }
+{}
+
+/// Where a piece is left, the first frame of a call that sends and is given each leave is that piece.
+pub fn pieces_go()
+    ensures { PiecesGo }
+{}
+
+/// Behind a call that sends, and is given each leave that it asks for, what was due is done: no join, no leave, no
+/// router solicitation and no report of MLD is due at its moment any more; a report of IGMP that was due went; and a socket that is
+/// due still has one packet less to send.
+pub fn due_is_done()
+    ensures { DueIsDone }
+{}
+
+/// An echo request over IPv6 is answered so, too.
+pub fn pings_v6_are_answered()
+    ensures { PingsV6AreAnswered }
+{}
+
+/// A neighbour's solicitation for an address of the host's is answered in the call that takes it, and the
+/// neighbour known from then on.
+pub fn solicitations_are_answered()
+    ensures { SolicitationsAreAnswered }
+{}
+
+/// As long as a UDP socket's first datagram waits for its next hop, each call that sends behind the silence, and is
+/// given each leave, sends a request for some hardware address, which begins the next silence.
+pub fn requests_go()
+    ensures { RequestsGo }
+{}
+
+/// A poll to which no frame is handed over leaves addresses and routes in line with what was learnt of routers.
+pub fn polls_bring_into_line()
+    ensures { PollsBringIntoLine }
+{}
+
+/// A poll with a budget ends in a call that sends, for which the laws of such calls hold.
+pub fn polls_end_in_calls()
+    ensures { PollsEndInCalls }
+{}
+
+/// So whatever `poll_at` names behind it, at a moment that has come, stands behind something of its kind that went: a
+/// piece that is left, the next report of IGMP, or a socket that has one packet less; or it has to be brought into line, which a poll does.
+pub fn little_stays_due()
+    ensures { LittleStaysDue }
+{}
+
+/// The frame of an ARP request, octet by octet and however it is padded, is such a request.
+pub fn request_frames_are_read()
+    ensures { RequestFramesAreRead }
+{}
+
+/// So of a poll with a budget, to which no frame is handed over and which is given each leave: whatever is due behind
+/// it, at a moment that has come, stands behind something of its kind that went in the poll's last call.
+pub fn polls_leave_little()
+    ensures { PollsLeaveLittle }
 {}

@@ -1,0 +1,5 @@
+use Rattle.host_machine.proofs.Served.{arp_served}
+use Rattle.host_machine.proofs.laws.arp_requests_are_answered.Goals as goal
+
+pub returns : goal.returns
+returns c = arp_served

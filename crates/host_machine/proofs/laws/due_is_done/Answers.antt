@@ -1,0 +1,5 @@
+use Rattle.host_machine.proofs.Done.{due_done}
+use Rattle.host_machine.proofs.laws.due_is_done.Goals as goal
+
+pub returns : goal.returns
+returns c = due_done

@@ -1,0 +1,5 @@
+use Rattle.host_machine.proofs.Done.{little_stays_due}
+use Rattle.host_machine.proofs.laws.little_stays_due.Goals as goal
+
+pub returns : goal.returns
+returns c = little_stays_due

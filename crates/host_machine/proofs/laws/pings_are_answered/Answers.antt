@@ -1,0 +1,5 @@
+use Rattle.host_machine.proofs.Served.{pings_served}
+use Rattle.host_machine.proofs.laws.pings_are_answered.Goals as goal
+
+pub returns : goal.returns
+returns c = pings_served

@@ -1,0 +1,5 @@
+use Rattle.host_machine.proofs.InLine.{polls_leave_little}
+use Rattle.host_machine.proofs.laws.polls_leave_little.Goals as goal
+
+pub returns : goal.returns
+returns c = polls_leave_little

@@ -1,0 +1,5 @@
+use Rattle.host_machine.proofs.Served.{request_frames_read}
+use Rattle.host_machine.proofs.laws.request_frames_are_read.Goals as goal
+
+pub returns : goal.returns
+returns c = request_frames_read

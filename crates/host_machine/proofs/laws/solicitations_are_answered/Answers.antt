@@ -1,0 +1,5 @@
+use Rattle.host_machine.proofs.Served6.{solicitations_served}
+use Rattle.host_machine.proofs.laws.solicitations_are_answered.Goals as goal
+
+pub returns : goal.returns
+returns c = solicitations_served
