@@ -89,10 +89,9 @@ IsThere before d k = (frame : List ℕ) × (sent_since before d k ≡ Some frame
 
 -- a step copies a frame that is there
 abbrev pub Copies : ℕ → ℕ → LinkStep → Memory → Memory → Type 0
-Copies m n (step.A command) a b = ⊥
-Copies m n (step.B command) a b = ⊥
 Copies m n (step.ToA k t) a b = IsThere n b k
 Copies m n (step.ToB k t) a b = IsThere m a k
+Copies m n other a b = ⊥
 
 -- which steps were done: all; or those before the one whose copy was refused, which alone may be
 pub data IsDone (steps : List LinkStep) (m n : ℕ) (a b : Memory) : Result (Unit {0}) LinkError → List LinkStep → Type 0 where

@@ -1,6 +1,6 @@
 -- What parts of a call send: the frames of departures, and others that carry no UDP.
-use Rattle.std.proofs.Common.{inl, inr, ◌≡◌, ℕ, ◌*◌, ◌<◌, ◌≤◌, Bool, true, false, List, [], ◌∷◌, ◌++◌, length, refl, sym, ◌∙◌, ap, subst, Option, Some, None, Ok, Err, arith, length-append}
-use Rattle.std.specs.Prelude.{ℤ, ◌⊎◌, ◌-◌, ◌+◌, ◌/◌, map, slice_get}
+use Rattle.std.proofs.Common.{inl, inr, ◌≡◌, ℕ, ◌*◌, ◌<◌, Bool, true, false, List, [], ◌∷◌, ◌++◌, length, refl, sym, ◌∙◌, ap, subst, Option, Some, None, Err, arith}
+use Rattle.std.specs.Prelude.{ℤ, ◌⊎◌, ◌-◌, ◌/◌, map}
 use Rattle.std.specs.List.{AllByRecursion}
 use Rattle.std.proofs.lemmas.List.{length-map, append-nil}
 use Rattle.net_base.specs.Checksum.{ip_mtu_of}
@@ -10,28 +10,23 @@ use Rattle.net_base.specs.declared.phy.Medium.{Medium}
 use Rattle.ip_address.specs.declared.cidr.IpCidr.{IpCidr}
 use Rattle.ip_address.specs.declared.hardware.HardwareAddress.{HardwareAddress}
 use Rattle.ip_address.specs.declared.ip.IpAddress.{IpAddress}
-use Rattle.ip_address.specs.declared.ipv4.Ipv4Address.{Ipv4Address}
-use Rattle.ip_address.specs.declared.ethernet_address.EthernetAddress.{EthernetAddress}
 use Rattle.ip_address.specs.Hardware.{IsOf}
 use Rattle.ip_address.specs.Protocol.{number_of}
 use Rattle.group_table.specs.declared.groups.Group.{Group}
 use Rattle.group_table.specs.declared.groups.GroupState.{GroupState}
-use Rattle.fragmentation.specs.declared.key.FragKey.{FragKey}
 use Rattle.fragmentation.specs.Fragments.{Fragment}
 use Rattle.fragmentation.specs.Cuts.{Datagram, Piece, HasForm, cut, count, pieces_of, piece_of}
 use Rattle.host_machine.specs.declared.results.PollIngressSingleResult.{PollIngressSingleResult}
 use Rattle.host_machine.specs.declared.results.DispatchError.{DispatchError}
 use Rattle.host_machine.specs.Note.{Note, OfCuts, Cut, PieceSent, cut_notes}
-use Rattle.host_machine.specs.Host.{Host, SocketSet, swept, with_left}
+use Rattle.host_machine.specs.Host.{Host, swept, with_left}
 use Rattle.host_machine.specs.Packet.{Packet, PacketV4, payload_of}
-use Rattle.host_machine.specs.Packet as packet
-use Rattle.host_machine.specs.Frame.{ip_frame, piece_frame, sends}
-use Rattle.host_machine.specs.Dispatch.{Outcome, Dispatches, datagram_of, piece_size}
+use Rattle.host_machine.specs.Frame.{piece_frame, sends}
+use Rattle.host_machine.specs.Dispatch.{Outcome, Dispatches, datagram_of}
 use Rattle.host_machine.specs.Real.{IsReal}
 use Rattle.host_machine.specs.Reply.{Reply, Arp, Ip}
 use Rattle.host_machine.specs.Response.{Responds}
 use Rattle.host_machine.specs.Ingress.{Takes, Ingress}
-use Rattle.host_machine.specs.Reassembly.{TakesFragment}
 use Rattle.host_machine.specs.Laws.{SendsOneThing, ThePacket, ItsFirstPiece, ARequest}
 use Rattle.host_machine.specs.Laws as laws
 use Rattle.host_machine.specs.Multicast as multicast
@@ -51,9 +46,9 @@ use Rattle.host_machine.proofs.Walk.{Reached, dispatched, taken, sent-append}
 use Rattle.host_machine.proofs.Shown.{GoodReply, takes_good, takes_real, reached_of}
 use Rattle.host_machine.proofs.Noted.{sends_one}
 use Rattle.host_machine.proofs.Requested.{takes_attends}
-use Rattle.host_machine.proofs.Turns.{dispatched_sockets, join_is, leave_is, report_is, solicitation_is}
+use Rattle.host_machine.proofs.Turns.{dispatched_sockets, report_is, solicitation_is}
 use Rattle.host_machine.proofs.Own.{is_own}
-use Rattle.host_laws.specs.Departures.{Departure, Way}
+use Rattle.host_laws.specs.Departures.{Departure}
 use Rattle.host_laws.specs.Senders.{IsPart, IsRegular, NobodyWritesUdp, CarriesNoUdp, CarryOnly, WentIn, may_be_udp, ways}
 use Rattle.host_laws.proofs.Gained.{all-append}
 use Rattle.host_laws.proofs.Lists.{cuts_of-append}

@@ -18,7 +18,7 @@ use Rattle.host_machine.specs.Addresses.{source_for}
 use Rattle.net_base.specs.Checksum.{ip_mtu_of}
 use Rattle.host_machine.specs.Packet.{Packet, PacketV4, IsFormed, header_v4, payload_len, total_len, Udp as UdpPayload}
 use Rattle.host_machine.specs.Packet as packet
-use Rattle.std.specs.Prelude.{◌⊎◌, length, ◌+◌, ◌-◌, ◌/◌}
+use Rattle.std.specs.Prelude.{length, ◌+◌, ◌-◌, ◌/◌}
 use Rattle.std.specs.List.{AllByRecursion}
 use Rattle.std.proofs.Common.{inl, inr, arith}
 use Rattle.net_base.specs.Checksum.{is_tx}

@@ -1,5 +1,5 @@
 -- What a host on the medium reads in the packet of a departure.
-use Rattle.std.proofs.Common.{◌≡◌, ℕ, ◌<◌, ◌≤◌, Bool, true, false, List, [], ◌∷◌, ◌++◌, length, length-append, take_at, refl, sym, ◌∙◌, ap, subst, Some, arith}
+use Rattle.std.proofs.Common.{◌≡◌, ℕ, ◌<◌, Bool, false, List, [], ◌++◌, length, take_at, refl, ◌∙◌, ap, subst, Some, arith}
 use Rattle.std.specs.Prelude.{◌+◌, ◌-◌, ◌*◌, ◌/◌, ◌%◌, ◌^◌, slice_range, take}
 use Rattle.std.proofs.lemmas.List.{append-nil}
 use Rattle.net_base.specs.Checksum.{is_tx}
@@ -10,7 +10,7 @@ use Rattle.ip_address.specs.declared.ip.IpAddress.TheVariants as address
 use Rattle.ip_address.specs.declared.ipv4.Ipv4Address.{Ipv4Address}
 use Rattle.ip_address.specs.declared.ipv6.Ipv6Address.{Ipv6Address}
 use Rattle.ip_address.specs.Hardware.{IsOf}
-use Rattle.ip_address.specs.Protocol.{number_of, protocol_of}
+use Rattle.ip_address.specs.Protocol.{number_of}
 use Rattle.ip_wire.specs.declared.ip_packet.IpRepr.{IpRepr}
 use Rattle.ip_wire.specs.declared.ip_packet.IpRepr.TheVariants as repr
 use Rattle.ip_wire.specs.declared.ipv4_packet.Ipv4Repr.{Ipv4Repr}

@@ -1,22 +1,19 @@
 -- A host stays regular over a run, and what each place of it sends.
-use Rattle.std.proofs.Common.{inl, inr, ◌≡◌, ℕ, Bool, true, false, List, [], ◌∷◌, ◌++◌, refl, sym, ◌∙◌, ap, subst, Option, Some, None}
-use Rattle.std.specs.Prelude.{ℤ, ◌⊎◌, if◌then◌else◌}
+use Rattle.std.proofs.Common.{inl, inr, ◌≡◌, ℕ, true, List, [], ◌∷◌, ◌++◌, refl, ◌∙◌, subst, Option, Some, None}
+use Rattle.std.specs.Prelude.{ℤ, ◌⊎◌}
 use Rattle.std.specs.List.{AllByRecursion}
 use Rattle.net_base.specs.Device.{Event, Asked, sent}
 use Rattle.net_base.specs.declared.phy.DeviceCapabilities.{DeviceCapabilities}
-use Rattle.ip_address.specs.declared.cidr.IpCidr.{IpCidr}
 use Rattle.ip_address.specs.declared.hardware.HardwareAddress.{HardwareAddress}
 use Rattle.fragmentation.specs.Cuts.{Piece}
 use Rattle.host_machine.specs.declared.command.Command.{Command}
 use Rattle.host_machine.specs.declared.command.Command.TheVariants.{SetHardwareAddr}
 use Rattle.host_machine.specs.declared.command.Answer.{Answer}
 use Rattle.host_machine.specs.declared.results.PollIngressSingleResult.{PollIngressSingleResult}
-use Rattle.host_machine.specs.Config.{hardware_refusal_of}
 use Rattle.host_machine.specs.Note.{Note, OfCuts, PieceSent, cut_notes}
-use Rattle.host_machine.specs.Host.{Host, SocketSet, swept, with_left}
+use Rattle.host_machine.specs.Host.{Host, swept, with_left}
 use Rattle.host_machine.specs.Frame.{piece_frame, sends}
 use Rattle.host_machine.specs.Ingress.{Ingress}
-use Rattle.host_machine.specs.Multicast.{flushed}
 use Rattle.host_machine.specs.Parts.{Part}
 use Rattle.host_machine.specs.Real.{IsReal, IsSix, GivesSix}
 use Rattle.host_machine.specs.Reply.{Reply, Arp, Ip}
@@ -25,7 +22,6 @@ use Rattle.host_machine.specs.Run.{Place, Run, Ends, Then}
 use Rattle.host_machine.specs.Step.{Act, Step}
 use Rattle.host_machine.specs.Step as step
 use Rattle.host_machine.specs.TwoHosts.{cuts}
-use Rattle.host_machine.proofs.Kept.{Keeps}
 use Rattle.host_machine.proofs.Shown.{given, takes_real}
 use Rattle.host_machine.proofs.Six.{none_of}
 use Rattle.host_machine.proofs.Turns.{stepped}
@@ -80,24 +76,8 @@ pub record Sends (p : Place) : Type 0 where
 
 -- the owner of the sockets sends nothing
 acts_or : {command : Command} {answer : Answer} {old new : Host} {told : List Event} {acts : List Act} {notes : List Note} → Step command answer old told acts notes new → (acts ≡ []) ⊎ ((told ≡ []) × (notes ≡ []))
-acts_or (step.UpdatedIpAddrs u) = inl refl
-acts_or (step.PolledIngressSingle i) = inl refl
-acts_or (step.PolledEgress e) = inl refl
-acts_or (step.Polled p) = inl refl
-acts_or step.PolledMaintenance = inl refl
-acts_or (step.PolledAt least) = inl refl
-acts_or (step.PolledDelay end least rest) = inl refl
-acts_or step.UpdatedRoutes = inl refl
-acts_or step.AddedDefaultIpv4Route = inl refl
-acts_or step.RemovedDefaultIpv4Route = inl refl
-acts_or step.AddedDefaultIpv6Route = inl refl
-acts_or step.RemovedDefaultIpv6Route = inl refl
-acts_or (step.JoinedGroup j) = inl refl
-acts_or (step.LeftGroup j) = inl refl
-acts_or step.TookAnyIp = inl refl
-acts_or (step.TookHardwareAddr s) = inl refl
-acts_or (step.TookReassemblyTimeout s) = inl refl
 acts_or (step.OwnerActed sockets) = inr (refl, refl)
+acts_or other = inl refl
 
 place_sends : {command : Command} {answer : Answer} {old new : Host} {told : List Event} {acts : List Act} {notes : List Note} → Step command answer old told acts notes new → IsRegular old → NobodyWritesUdp old →
     Sends (record { command = command; answer = answer; told = told; acts = acts; notes = notes; before = old; after = new })

@@ -1,5 +1,5 @@
 -- What moves at one step.
-use Rattle.std.proofs.Common.{◌≡◌, ℕ, Bool, true, false, List, [], ◌∷◌, ◌++◌, refl, ◌∙◌, ap, Option, Some, None, option_map, if◌then◌else◌}
+use Rattle.std.proofs.Common.{◌≡◌, ℕ, Bool, true, false, List, [], ◌∷◌, ◌++◌, refl, ◌∙◌, ap, Some, option_map, if◌then◌else◌}
 use Rattle.std.specs.Prelude.{ℤ}
 use Rattle.std.specs.List.{AllByRecursion}
 use Rattle.std.proofs.lemmas.List.{append-nil}
@@ -199,18 +199,11 @@ step_moves (step.PolledIngressSingle i) none = ingress_moves _ _ _ _ _ _ i
 step_moves (step.PolledEgress e) none = egress_moves _ _ _ _ _ _ e
 step_moves (step.Polled p) none = poll_moves _ _ _ _ _ _ _ p
 step_moves (step.PolledMaintenance {t} {old}) none = unmoved (maintained_sockets old t)
-step_moves (step.PolledAt least) none = unmoved refl
-step_moves (step.PolledDelay end least rest) none = unmoved refl
-step_moves step.UpdatedRoutes none = unmoved refl
-step_moves step.AddedDefaultIpv4Route none = unmoved refl
-step_moves step.RemovedDefaultIpv4Route none = unmoved refl
-step_moves step.AddedDefaultIpv6Route none = unmoved refl
-step_moves step.RemovedDefaultIpv6Route none = unmoved refl
 step_moves (step.JoinedGroup j) none = unmoved (join_same j)
 step_moves (step.LeftGroup j) none = unmoved (leave_same j)
-step_moves step.TookAnyIp none = unmoved refl
 step_moves (step.TookHardwareAddr (Taken a r e)) none = unmoved (ap (λ (K : Host). K.sockets) e)
 step_moves (step.TookHardwareAddr (NotTaken error a r e)) none = unmoved (ap (λ (K : Host). K.sockets) e)
 step_moves (step.TookReassemblyTimeout (WithinDay l r e)) none = unmoved (ap (λ (K : Host). K.sockets) e)
 step_moves (step.TookReassemblyTimeout (OverDay l r e)) none = unmoved (ap (λ (K : Host). K.sockets) e)
 step_moves (step.OwnerActed sockets) none = absurd cc
+step_moves other none = unmoved refl

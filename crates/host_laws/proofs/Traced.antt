@@ -1,10 +1,9 @@
 -- What UDP sockets get of another host was sent by a UDP socket of that.
-use Rattle.std.proofs.Common.{inl, inr, ◌≡◌, ℕ, Bool, true, false, List, [], ◌∷◌, ◌++◌, refl, sym, ◌∙◌, ap, subst, Some, None}
+use Rattle.std.proofs.Common.{inl, inr, ◌≡◌, ℕ, Bool, true, false, List, [], ◌∷◌, ◌++◌, refl, sym, ◌∙◌, ap, subst, Some}
 use Rattle.std.specs.Prelude.{◌⊎◌, if◌then◌else◌}
 use Rattle.std.specs.List.{AllByRecursion, Contains}
-use Rattle.std.specs.FinMap as map
 use Rattle.net_base.specs.Checksum.{is_rx}
-use Rattle.net_base.specs.Device.{Event, handed, sent}
+use Rattle.net_base.specs.Device.{handed, sent}
 use Rattle.net_base.specs.declared.phy.DeviceCapabilities.{DeviceCapabilities}
 use Rattle.net_base.specs.declared.phy.Medium.{Medium}
 use Rattle.ip_address.specs.declared.hardware.HardwareAddress.{HardwareAddress}
@@ -23,43 +22,42 @@ use Rattle.socket_base.specs.declared.endpoint.IpEndpoint.{IpEndpoint}
 use Rattle.slaac.specs.Slaac.{sync_required}
 use Rattle.fragmentation.specs.declared.key.FragKey.{FragKey}
 use Rattle.fragmentation.specs.Keys.{same_key}
-use Rattle.fragmentation.specs.Cuts.{Datagram, Piece}
+use Rattle.fragmentation.specs.Cuts.{Datagram}
 use Rattle.fragmentation.specs.Reassembly.{SlotNote, Take, Came, Rebuild}
 use Rattle.host_machine.specs.declared.command.Command.{Command}
 use Rattle.host_machine.specs.declared.command.Command.TheVariants as command
-use Rattle.host_machine.specs.Note.{Note, CutNote, Cut, PieceSent, cut_notes, slot_notes}
-use Rattle.host_machine.specs.Host.{Host, at, swept}
+use Rattle.host_machine.specs.Note.{cut_notes, slot_notes}
+use Rattle.host_machine.specs.Host.{Host, swept}
 use Rattle.host_machine.specs.Slaac.{in_line}
-use Rattle.host_machine.specs.Polling.{maintained}
 use Rattle.host_machine.specs.Addresses.{may_be_source}
 use Rattle.host_machine.specs.Egress.{packet_between}
 use Rattle.host_machine.specs.Packet.{IpPayload, Packet, PacketV4, Udp, IsFormed, header_v4, payload_of}
 use Rattle.host_machine.specs.Packet as packet
-use Rattle.host_machine.specs.Frame.{ip_frame, payload_text}
-use Rattle.host_machine.specs.Frames.{Carries, Brings}
+use Rattle.host_machine.specs.Frame.{ip_frame}
+use Rattle.host_machine.specs.Frames.{Carries}
 use Rattle.host_machine.specs.Dispatch.{datagram_of}
 use Rattle.host_machine.specs.Ipv4.{key_in, fragment_in, rebuilt_header}
 use Rattle.host_machine.specs.Arrivals.{rebuilt, slot_notes_in}
 use Rattle.host_machine.specs.Real.{IsReal, GivesSix}
 use Rattle.host_machine.specs.Run.{Place, Run, Ends, Then, told_in, notes_in}
-use Rattle.host_machine.specs.TwoHosts.{RebuildsThese, WereSent, cuts, cuts_in, key_of_cut}
+use Rattle.host_machine.specs.TwoHosts.{WereSent, cuts, cuts_in, key_of_cut}
 use Rattle.host_machine.proofs.Notes.{cut_notes-append, slot_notes-append}
 use Rattle.host_machine.proofs.Pieces.{IsIn, is_in, contains_in, in_left, in_right, in_either}
 use Rattle.host_machine.proofs.Rebuilt.{test_same}
 use Rattle.host_machine.proofs.Shown.{run_real}
 use Rattle.host_machine.proofs.Shown as shown
 use Rattle.host_machine.proofs.Turns.{between_is}
-use Rattle.host_machine.proofs.TwoHosts.{CutBy, cuts-append, frame_is_cut, run_rebuilds}
+use Rattle.host_machine.proofs.TwoHosts.{cuts-append, frame_is_cut, run_rebuilds}
 use Rattle.host_machine.proofs.Views.{handed-append}
 use Rattle.host_machine.proofs.Walk.{sent-append}
-use Rattle.host_laws.specs.Deliveries.{Delivery, Deliver, NoFrame, OneGets, NobodyGets, BringsPacket, BringsUdp, AtOnce, InFragments, Gets}
+use Rattle.host_laws.specs.Deliveries.{Delivery, Deliver, NoFrame, OneGets, NobodyGets, BringsPacket, BringsUdp, AtOnce, InFragments}
 use Rattle.host_laws.specs.Departures.{Departure, Way, Dropped, InOneFrame, InPieces, IsLeft, Leaves, cuts_by, cuts_of, departs_from}
 use Rattle.host_laws.specs.Departures as spec
 use Rattle.host_laws.specs.Senders.{CarriesNoUdp, IsRegular, NobodyWritesUdp, WentIn, ways}
-use Rattle.host_laws.specs.Datagrams.{MovesAt, begun}
+use Rattle.host_laws.specs.Datagrams.{begun}
 use Rattle.host_laws.specs.EndToEnd.{GetWhatWasSent, MayRebuild, RunsGetWhatWasSent, WasSent, WasSentAt, WasSentSo, WereSentSo}
 use Rattle.host_laws.proofs.ReadBack.{IsRead, read_payload, read_whole}
-use Rattle.host_laws.proofs.Regular.{Sends, SendsOver, all_send}
+use Rattle.host_laws.proofs.Regular.{SendsOver, all_send}
 
 all_in : {X : Type 0} (P : X → Type 0) (xs : List X) (x : X) → AllByRecursion P xs → IsIn x xs → P x
 all_in P [] x all i = absurd i
@@ -224,23 +222,7 @@ maintained_hardware H false = refl
 
 begun_hardware : (c : Command) (H : Host) → (begun c H).hardware_addr ≡ H.hardware_addr
 begun_hardware (command.Poll t budget) H = maintained_hardware (swept H t) (sync_required H.slaac t)
-begun_hardware (command.UpdateIpAddrs list) H = refl
-begun_hardware (command.PollIngressSingle t) H = refl
-begun_hardware (command.PollEgress t) H = refl
-begun_hardware (command.PollMaintenance t) H = refl
-begun_hardware (command.PollAt t) H = refl
-begun_hardware (command.PollDelay t) H = refl
-begun_hardware (command.UpdateRoutes list) H = refl
-begun_hardware (command.AddDefaultIpv4Route gateway) H = refl
-begun_hardware command.RemoveDefaultIpv4Route H = refl
-begun_hardware (command.AddDefaultIpv6Route gateway) H = refl
-begun_hardware command.RemoveDefaultIpv6Route H = refl
-begun_hardware (command.JoinMulticastGroup group) H = refl
-begun_hardware (command.LeaveMulticastGroup group) H = refl
-begun_hardware (command.SetAnyIp any_ip) H = refl
-begun_hardware (command.SetHardwareAddr h) H = refl
-begun_hardware (command.SetReassemblyTimeout timeout) H = refl
-begun_hardware (command.Owner number) H = refl
+begun_hardware other H = refl
 
 begun_of : (m : Medium) (c : Command) (H : Host) → IsOf m H.hardware_addr → IsOf m (begun c H).hardware_addr
 begun_of m c H is = rw begun_hardware is

@@ -1,6 +1,6 @@
 -- Frames that carry no UDP.
-use Rattle.std.proofs.Common.{◌≡◌, ℕ, zero, suc, Bool, true, false, List, [], ◌∷◌, ◌++◌, length, take, drop, refl, sym, ◌∙◌, ap, subst, arith, get_or-drop}
-use Rattle.std.specs.Prelude.{◌==◌, ◌≤◌, ◌+◌, ◌||◌, ◌&&◌, ◌-◌, not, slice_index}
+use Rattle.std.proofs.Common.{◌≡◌, ℕ, zero, suc, Bool, true, false, List, [], ◌∷◌, ◌++◌, take, drop, refl, sym, ◌∙◌, ap, subst, arith, get_or-drop}
+use Rattle.std.specs.Prelude.{◌==◌, ◌||◌, ◌&&◌, ◌-◌, slice_index}
 use Rattle.std.proofs.lemmas.Bool.Decides.{nat_tests}
 use Rattle.wire_base.specs.Octets.{u16_at}
 use Rattle.net_base.specs.Checksum.{is_tx}
@@ -12,13 +12,11 @@ use Rattle.ip_address.specs.declared.hardware.HardwareAddress.TheVariants as har
 use Rattle.ip_address.specs.declared.ipv6.Ipv6Address.{Ipv6Address}
 use Rattle.ip_address.specs.Hardware.{IsOf}
 use Rattle.ip_address.specs.Protocol.{protocol_of, number_of}
-use Rattle.ip_address.specs.declared.protocol.IpProtocol.{IpProtocol}
 use Rattle.ip_address.specs.declared.protocol.IpProtocol.TheVariants as kind
 use Rattle.ip_wire.specs.declared.arp.ArpRepr.{ArpRepr}
 use Rattle.ip_wire.specs.declared.ethernet.EthernetProtocol.{EthernetProtocol}
 use Rattle.ip_wire.specs.declared.ethernet.EthernetProtocol.TheVariants as protocol
 use Rattle.ip_wire.specs.declared.ethernet.EthernetRepr.{EthernetRepr}
-use Rattle.ip_wire.specs.declared.ip_packet.IpRepr.{IpRepr}
 use Rattle.ip_wire.specs.declared.ipv4_packet.Ipv4Repr.{Ipv4Repr}
 use Rattle.ip_wire.specs.declared.ipv4_packet.Ipv4Fragment.{Ipv4Fragment}
 use Rattle.ip_wire.specs.Ethernet.{header_in, header_text, IsHeader}
@@ -36,10 +34,10 @@ use Rattle.fragmentation.specs.Cuts.{Piece, piece_header, piece_fragment}
 use Rattle.host_machine.specs.Host.{Host}
 use Rattle.host_machine.specs.Packet.{Packet, IpPayload, Icmpv4, Icmpv6, Udp, Tcp, Raw, Igmp, Mld, payload_of}
 use Rattle.host_machine.specs.Packet as packet
-use Rattle.host_machine.specs.Frame.{arp_frame, ip_frame, piece_frame, piece_text, link_header, packet_text}
+use Rattle.host_machine.specs.Frame.{arp_frame, ip_frame, piece_frame, piece_text, link_header}
 use Rattle.host_machine.specs.Frames.{Carries}
 use Rattle.host_machine.specs.Frames as frames
-use Rattle.host_machine.specs.Ethernet.{is_for, version_in}
+use Rattle.host_machine.specs.Ethernet.{version_in}
 use Rattle.host_machine.specs.Requests.{is_request, is_arp_request, is_solicitation}
 use Rattle.host_machine.proofs.Own.{is_own}
 use Rattle.host_machine.proofs.Readings.{number_again, same_packet, other_packet, version_six}

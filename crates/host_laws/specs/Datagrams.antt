@@ -4,7 +4,7 @@ use Rattle.std.specs.Option.{option_map}
 use Rattle.std.specs.List.{AllByRecursion}
 use Rattle.net_base.specs.Device.{handed, sent}
 use Rattle.host_machine.specs.declared.command.Command.{Command}
-use Rattle.host_machine.specs.declared.command.Command.TheVariants.{UpdateIpAddrs, PollIngressSingle, PollEgress, Poll, PollMaintenance, PollAt, PollDelay, UpdateRoutes, AddDefaultIpv4Route, RemoveDefaultIpv4Route, AddDefaultIpv6Route, RemoveDefaultIpv6Route, JoinMulticastGroup, LeaveMulticastGroup, SetAnyIp, SetHardwareAddr, SetReassemblyTimeout, Owner}
+use Rattle.host_machine.specs.declared.command.Command.TheVariants.{PollIngressSingle, PollEgress, Poll}
 use Rattle.host_machine.specs.Note.{slot_notes, cut_notes}
 use Rattle.host_machine.specs.Host.{Host, at, swept}
 use Rattle.host_machine.specs.Polling.{maintained}
@@ -21,21 +21,7 @@ abbrev pub begun : Command → Host → Host
 begun (PollIngressSingle t) H = swept H t
 begun (PollEgress t) H = at H t
 begun (Poll t budget) H = maintained (at H t)
-begun (UpdateIpAddrs list) H = H
-begun (PollMaintenance t) H = H
-begun (PollAt t) H = H
-begun (PollDelay t) H = H
-begun (UpdateRoutes list) H = H
-begun (AddDefaultIpv4Route gateway) H = H
-begun RemoveDefaultIpv4Route H = H
-begun (AddDefaultIpv6Route gateway) H = H
-begun RemoveDefaultIpv6Route H = H
-begun (JoinMulticastGroup group) H = H
-begun (LeaveMulticastGroup group) H = H
-begun (SetAnyIp any_ip) H = H
-begun (SetHardwareAddr h) H = H
-begun (SetReassemblyTimeout timeout) H = H
-begun (Owner number) H = H
+begun other H = H
 
 -- What moves at a place of a run: each datagram that a socket gets came in a frame that was handed over there, at most one in each, or was
 -- rebuilt there when a fragment came, and the socket hears it; what left a socket's queue went in a frame that was sent there, or was

@@ -1,5 +1,5 @@
 -- From socket to socket, where one host takes nothing but frames that another sent: what a UDP socket of the one gets was sent by one of the other.
-use Rattle.std.specs.Prelude.{◌≡◌, ℕ, List, [], ◌∷◌, Some, None}
+use Rattle.std.specs.Prelude.{◌≡◌, ℕ, List, [], Some, None}
 use Rattle.std.specs.List.{AllByRecursion, Contains}
 use Rattle.std.specs.FinMap as map
 use Rattle.fragmentation.specs.Reassembly.{SlotNote}
@@ -8,7 +8,7 @@ use Rattle.host_machine.specs.Real.{IsReal, GivesSix}
 use Rattle.host_machine.specs.Run.{Place, Run}
 use Rattle.host_machine.specs.TwoHosts.{HaveOwnKeys, WereSent, cuts_in, key_of_cut}
 use Rattle.host_laws.specs.Deliveries.{Delivery, Deliver, NoFrame, OneGets, NobodyGets, BringsUdp, AtOnce, InFragments}
-use Rattle.host_laws.specs.Departures.{Departure, Way, Dropped, IsLeft, departs_from}
+use Rattle.host_laws.specs.Departures.{Departure, Dropped, IsLeft, departs_from}
 use Rattle.host_laws.specs.Senders.{IsRegular, NobodyWritesUdp}
 use Rattle.host_laws.specs.Datagrams.{MovesAt, begun}
 

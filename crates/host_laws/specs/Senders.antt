@@ -15,7 +15,7 @@ use Rattle.host_machine.specs.Host.{Host, Storage}
 use Rattle.host_machine.specs.Delivery.{holds}
 use Rattle.host_machine.specs.Real.{IsReal}
 use Rattle.host_laws.specs.Deliveries.{BringsPacket}
-use Rattle.host_laws.specs.Departures.{Way, Dropped, InOneFrame, InPieces, Departure, cuts_of}
+use Rattle.host_laws.specs.Departures.{Way, InOneFrame, Departure, cuts_of}
 
 -- a raw socket whose owner may write datagrams: one for UDP, or for hop-by-hop options, behind which UDP may stand
 abbrev pub may_be_udp : ℕ → Bool

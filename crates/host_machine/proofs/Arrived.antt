@@ -2,8 +2,7 @@
 use Rattle.std.proofs.Common.{◌≡◌, ℕ, ◌<◌, ◌≤◌, List, [], ◌∷◌, ◌++◌, length, append_assoc, refl, sym, ◌∙◌, ap, subst, arith, Option, Some, None}
 use Rattle.std.proofs.lemmas.List.{append-nil}
 use Rattle.std.proofs.lemmas.Bool.Decides.{nat_tests}
-use Rattle.std.specs.Prelude as int
-use Rattle.std.specs.Prelude.{ℤ, ◌+ℤ◌, Bool, true, false, ◌==◌, ◌&&◌, nat_le, if◌then◌else◌}
+use Rattle.std.specs.Prelude.{ℤ, Bool, true, false, ◌==◌, ◌&&◌, nat_le, if◌then◌else◌}
 use Rattle.std.specs.List.{AllByRecursion, Contains}
 use Rattle.std.specs.FinMap as map
 use Rattle.std.specs.FinMap.{get-insert, get-remove}
@@ -26,7 +25,7 @@ use Rattle.host_machine.specs.Slaac.{in_line}
 use Rattle.host_machine.specs.Frame.{sends}
 use Rattle.host_machine.specs.Ingress.{Ingress}
 use Rattle.host_machine.specs.Egress.{Egress}
-use Rattle.host_machine.specs.Reassembly.{TakesFragment}
+use Rattle.host_machine.specs.Reassembly.{TakesFragment, slot_end}
 use Rattle.host_machine.specs.Step.{Act, Step}
 use Rattle.host_machine.specs.Step as step
 use Rattle.host_machine.specs.Run.{Place, Run, Ends, Then, notes_in}
@@ -259,8 +258,8 @@ module _ (m : ℕ) (payload : List ℕ) (key : FragKey) (pos : 0 < m) (short : l
 
     by : (x : Bool) → same_key key k ≡ x → (if x then g ∷ [] else []) ≡ f ∷ [] → rebuilt key (slot_notes p.notes) ≡ payload ∷ []
     by true is same =
-        let r' : Reassembles (t +ℤ int.pos p.before.reassembly_timeout) key f result (left_at t p.before.slots) (slot_notes p.notes) p.after.slots = rw (same_is key k is, ← same_fragment g f same) r in
-        ending (one_piece payload (t +ℤ int.pos p.before.reassembly_timeout) (left_at t p.before.slots) key f result (slot_notes p.notes) p.after.slots so_far short parts (part_of m payload f pos c.last_is) c.few.0 (start e served holding) (room e served one) r')
+        let r' : Reassembles (slot_end t p.before.reassembly_timeout) key f result (left_at t p.before.slots) (slot_notes p.notes) p.after.slots = rw (same_is key k is, ← same_fragment g f same) r in
+        ending (one_piece payload (slot_end t p.before.reassembly_timeout) (left_at t p.before.slots) key f result (slot_notes p.notes) p.after.slots so_far short parts (part_of m payload f pos c.last_is) c.few.0 (start e served holding) (room e served one) r')
     by false is same = absurd (nothing_came f same)
 
   -- one step before the last piece
@@ -286,8 +285,8 @@ module _ (m : ℕ) (payload : List ℕ) (key : FragKey) (pos : 0 < m) (short : l
     by true is =
         let one : came key (slot_notes p.notes) ≡ g ∷ [] = came_of key r ∙ rw is refl in
         let c' : Coming m payload so_far (g ∷ coming) f = rw one at c in
-        let r' : Reassembles (t +ℤ int.pos p.before.reassembly_timeout) key g result (left_at t p.before.slots) (slot_notes p.notes) p.after.slots = rw (same_is key k is) r in
-        ending one c' (one_piece payload (t +ℤ int.pos p.before.reassembly_timeout) (left_at t p.before.slots) key g result (slot_notes p.notes) p.after.slots so_far short parts (part_of m payload g pos c'.coming_are.0) c'.few.0 (start e served holding) (room e served one) r')
+        let r' : Reassembles (slot_end t p.before.reassembly_timeout) key g result (left_at t p.before.slots) (slot_notes p.notes) p.after.slots = rw (same_is key k is) r in
+        ending one c' (one_piece payload (slot_end t p.before.reassembly_timeout) (left_at t p.before.slots) key g result (slot_notes p.notes) p.after.slots so_far short parts (part_of m payload g pos c'.coming_are.0) c'.few.0 (start e served holding) (room e served one) r')
     by false is =
         let one : came key (slot_notes p.notes) ≡ [] = came_of key r ∙ rw is refl in
         let a = aside key is r in
@@ -458,21 +457,7 @@ comes (step.Polled {t} p) =
     p).bring
 comes (step.PolledIngressSingle i) = ingress_bring i
 comes {old = old} {told = told} {notes = notes} (step.PolledEgress e) = silent_bring old told notes (egress_hands_none e) (egress_still e).silent
-comes (step.UpdatedIpAddrs u) = NoFrame
-comes step.PolledMaintenance = NoFrame
-comes (step.PolledAt least) = NoFrame
-comes (step.PolledDelay end least rest) = NoFrame
-comes step.UpdatedRoutes = NoFrame
-comes step.AddedDefaultIpv4Route = NoFrame
-comes step.RemovedDefaultIpv4Route = NoFrame
-comes step.AddedDefaultIpv6Route = NoFrame
-comes step.RemovedDefaultIpv6Route = NoFrame
-comes (step.JoinedGroup j) = NoFrame
-comes (step.LeftGroup j) = NoFrame
-comes step.TookAnyIp = NoFrame
-comes (step.TookHardwareAddr s) = NoFrame
-comes (step.TookReassemblyTimeout s) = NoFrame
-comes (step.OwnerActed sockets) = NoFrame
+comes other = NoFrame
 
 -- a host keeps its hardware address while it is maintained
 maintained_hardware : (H : Host) (b : Bool) → (if b then in_line H else H).hardware_addr ≡ H.hardware_addr
@@ -481,23 +466,7 @@ maintained_hardware H false = refl
 
 pub receiving_hardware : (c : Command) (H : Host) → (receiving c H).hardware_addr ≡ H.hardware_addr
 receiving_hardware (command.Poll t budget) H = maintained_hardware (swept H t) (sync_required H.slaac t)
-receiving_hardware (command.UpdateIpAddrs list) H = refl
-receiving_hardware (command.PollIngressSingle t) H = refl
-receiving_hardware (command.PollEgress t) H = refl
-receiving_hardware (command.PollMaintenance t) H = refl
-receiving_hardware (command.PollAt t) H = refl
-receiving_hardware (command.PollDelay t) H = refl
-receiving_hardware (command.UpdateRoutes list) H = refl
-receiving_hardware (command.AddDefaultIpv4Route gateway) H = refl
-receiving_hardware command.RemoveDefaultIpv4Route H = refl
-receiving_hardware (command.AddDefaultIpv6Route gateway) H = refl
-receiving_hardware command.RemoveDefaultIpv6Route H = refl
-receiving_hardware (command.JoinMulticastGroup group) H = refl
-receiving_hardware (command.LeaveMulticastGroup group) H = refl
-receiving_hardware (command.SetAnyIp any_ip) H = refl
-receiving_hardware (command.SetHardwareAddr h) H = refl
-receiving_hardware (command.SetReassemblyTimeout timeout) H = refl
-receiving_hardware (command.Owner number) H = refl
+receiving_hardware other H = refl
 
 pub run_comes : {first last : Host} {places : List Place} → Run first places last → AllByRecursion ComesInFrames places
 run_comes Ends = tt

@@ -276,20 +276,12 @@ module _ (key other : FragKey) (t0 end : ℤ) where
   timeout_of single (step.PolledEgress e) = inl (egress_alike e).timeout
   timeout_of single (step.Polled p) = absurd single
   timeout_of single (step.PolledMaintenance {t} {old}) = inl (kept (swept old t) (sync_required old.slaac t))
-  timeout_of single (step.PolledAt least) = inl refl
-  timeout_of single (step.PolledDelay given least rest) = inl refl
-  timeout_of single step.UpdatedRoutes = inl refl
-  timeout_of single step.AddedDefaultIpv4Route = inl refl
-  timeout_of single step.RemovedDefaultIpv4Route = inl refl
-  timeout_of single step.AddedDefaultIpv6Route = inl refl
-  timeout_of single step.RemovedDefaultIpv6Route = inl refl
   timeout_of single (step.JoinedGroup j) = inl (ap (λ (K : Host). K.reassembly_timeout) (join_groups j).1)
   timeout_of single (step.LeftGroup j) = inl (ap (λ (K : Host). K.reassembly_timeout) (leave_groups j).1)
-  timeout_of single step.TookAnyIp = inl refl
   timeout_of single (step.TookHardwareAddr s) = inl (address_set s)
   timeout_of single (step.TookReassemblyTimeout {timeout = timeout} (step.WithinDay l r e)) = inr (timeout, refl, ap (λ (K : Host). K.reassembly_timeout) e)
   timeout_of single (step.TookReassemblyTimeout (step.OverDay l r e)) = inl (ap (λ (K : Host). K.reassembly_timeout) e)
-  timeout_of single (step.OwnerActed sockets) = inl refl
+  timeout_of single other = inl refl
 
   -- one place
   module _ (q : Place) (fits : Fits q.before.slots q.before.reassembly_timeout) (in_time : IsInTime t0 end q.command) (timeout : Timeout q.command q.before q.after) where

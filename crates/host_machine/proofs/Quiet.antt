@@ -629,23 +629,7 @@ quiet_while t0 end low due (Then s r) = λ undisturbed.
 quiet_after : {command : Command} {answer : Answer} {old mid last : Host} {told : List Event} {acts : List Act} {notes : List Note} {places : List Place} →
     Step command answer old told acts notes mid → Run mid places last → QuietAfter command answer places
 quiet_after (step.PolledAt {t} {end} {old} least) r = λ low. quiet_while t end low (due_from (at old t) t end least) r
-quiet_after (step.PolledIngressSingle i) r = tt
-quiet_after (step.PolledEgress e) r = tt
-quiet_after (step.Polled p) r = tt
-quiet_after step.PolledMaintenance r = tt
-quiet_after (step.PolledDelay given least rest) r = tt
-quiet_after (step.UpdatedIpAddrs u) r = tt
-quiet_after step.UpdatedRoutes r = tt
-quiet_after step.AddedDefaultIpv4Route r = tt
-quiet_after step.RemovedDefaultIpv4Route r = tt
-quiet_after step.AddedDefaultIpv6Route r = tt
-quiet_after step.RemovedDefaultIpv6Route r = tt
-quiet_after (step.JoinedGroup j) r = tt
-quiet_after (step.LeftGroup j) r = tt
-quiet_after step.TookAnyIp r = tt
-quiet_after (step.TookHardwareAddr s) r = tt
-quiet_after (step.TookReassemblyTimeout s) r = tt
-quiet_after (step.OwnerActed sockets) r = tt
+quiet_after other r = tt
 
 -- over a whole run
 pub run_quiet : {first last : Host} {places : List Place} → Run first places last → AreQuiet places

@@ -315,19 +315,11 @@ stepped (step.PolledIngressSingle i) six real = ingress i real
 stepped (step.PolledEgress e) six real = egressed ShownOver keeps on requests asked identifies whole cuts pieces e real
 stepped (step.Polled {t} p) six real = polled Told begins follows t (λ H. maintains H t) (λ answer old new told notes i. ingress i) (λ answer old new told notes e. egressed ShownOver keeps on requests asked identifies whole cuts pieces e) p real
 stepped (step.PolledMaintenance {t} {old}) six real = maintains old t real
-stepped {old = old} (step.PolledAt least) six real = stays old [] [] _ Nothing refl refl refl real
-stepped {old = old} (step.PolledDelay end least rest) six real = stays old [] [] _ Nothing refl refl refl real
-stepped {old = old} step.UpdatedRoutes six real = stays old [] [] _ Nothing refl refl refl real
-stepped {old = old} step.AddedDefaultIpv4Route six real = stays old [] [] _ Nothing refl refl refl real
-stepped {old = old} step.RemovedDefaultIpv4Route six real = stays old [] [] _ Nothing refl refl refl real
-stepped {old = old} step.AddedDefaultIpv6Route six real = stays old [] [] _ Nothing refl refl refl real
-stepped {old = old} step.RemovedDefaultIpv6Route six real = stays old [] [] _ Nothing refl refl refl real
 stepped {old = old} (step.JoinedGroup j) six real = let g = join_groups j in rw g.1 (stays old [] [] _ Nothing refl refl refl real)
 stepped {old = old} (step.LeftGroup j) six real = let g = leave_groups j in rw g.1 (stays old [] [] _ Nothing refl refl refl real)
-stepped {old = old} step.TookAnyIp six real = stays old [] [] _ Nothing refl refl refl real
 stepped (step.TookHardwareAddr s) six real = sets six s real
 stepped (step.TookReassemblyTimeout s) six real = lasts s real
-stepped {old = old} (step.OwnerActed sockets) six real = stays old [] [] _ Nothing refl refl refl real
+stepped {old = old} other six real = stays old [] [] _ Nothing refl refl refl real
 
 -- over a whole run
 all_shown : {first last : Host} {places : List Place} → Run first places last → IsReal first → AllByRecursion (λ p. GivesSix p.command) places → Shown first (sent (told_in places)) (notes_in places) last

@@ -1,7 +1,7 @@
 -- What one step does to the slots, and from which frame.
 use Rattle.std.proofs.Common.{◌≡◌, ℕ, List, [], ◌∷◌, ◌++◌, length, drop, refl, sym, ◌∙◌, ap, subst, arith, Option, Some, None}
 use Rattle.std.proofs.lemmas.List.{append-nil}
-use Rattle.std.specs.Prelude.{ℤ, pos, ◌+ℤ◌, ◌≤◌, Bool, true, false, if◌then◌else◌}
+use Rattle.std.specs.Prelude.{ℤ, ◌≤◌, Bool, true, false, if◌then◌else◌}
 use Rattle.net_base.specs.Device.{Event, Reception, Frame, Nothing, Withheld, Received, Asked, Sent, handed}
 use Rattle.net_base.specs.Checksum.{is_rx}
 use Rattle.ip_address.specs.declared.ethernet_address.EthernetAddress.{EthernetAddress}
@@ -28,7 +28,7 @@ use Rattle.host_machine.specs.Packet.{Packet}
 use Rattle.host_machine.specs.Reply.{Reply, Arp, Ip, IsDropped}
 use Rattle.host_machine.specs.Frame.{sends}
 use Rattle.host_machine.specs.Arp.{TakesArp}
-use Rattle.host_machine.specs.Reassembly.{TakesFragment}
+use Rattle.host_machine.specs.Reassembly.{TakesFragment, slot_end}
 use Rattle.host_machine.specs.Ipv4.{TakesWhole, TakesPacket, TakesIpv4, key_in, fragment_in}
 use Rattle.host_machine.specs.Ipv4 as ipv4
 use Rattle.host_machine.specs.Addresses.{may_be_source}
@@ -124,7 +124,7 @@ ipv6_still t = ipv6_taken StillOver still_kept still_on t
 
 -- what a fragment does to the slots of a host, now
 abbrev pub Changes : FragKey → Fragment → Option (List ℕ) → Host → List Note → Host → Type 0
-Changes key f result H notes new = Reassembles (H.moment +ℤ pos H.reassembly_timeout) key f result H.slots (slot_notes notes) new.slots
+Changes key f result H notes new = Reassembles (slot_end H.moment H.reassembly_timeout) key f result H.slots (slot_notes notes) new.slots
 
 -- and where nothing else is noted of slots behind it, and they stay
 changes : {key : FragKey} {f : Fragment} {result : Option (List ℕ)} {H mid : Host} {first : List Note} (notes : List Note) (new : Host) → TakesFragment key f result H first mid →
@@ -358,7 +358,7 @@ pub data StepView (c : Command) (H : Host) (told : List Event) (notes : List Not
   NoPart : ((frame : List ℕ) (key : FragKey) (f : Fragment) → handed told ≡ frame ∷ [] → Brings H frame key f → ⊥) → slot_notes notes ≡ [] → new.slots ≡ slots_then c H.slots →
       StepView c H told notes new
   APart : (t : ℤ) (frame : List ℕ) (key : FragKey) (f : Fragment) (result : Option (List ℕ)) → c ≡ command.PollIngressSingle t → handed told ≡ frame ∷ [] → Brings H frame key f →
-      Reassembles (t +ℤ pos H.reassembly_timeout) key f result (left_at t H.slots) (slot_notes notes) new.slots → StepView c H told notes new
+      Reassembles (slot_end t H.reassembly_timeout) key f result (left_at t H.slots) (slot_notes notes) new.slots → StepView c H told notes new
 
 -- a frame brings the same before a sweep and behind it
 unswept : (H : Host) (t : ℤ) (frame : List ℕ) (key : FragKey) (f : Fragment) → Brings (swept H t) frame key f → Brings H frame key f
@@ -410,16 +410,8 @@ step_view single (step.PolledIngressSingle i) = ingress_view i
 step_view single (step.PolledEgress e) = quiet_view (egress_hands_none e) (egress_still e).silent (egress_still e).slots
 step_view single (step.Polled p) = absurd single
 step_view single (step.PolledMaintenance {t} {old}) = quiet_view refl refl (maintained_slots old t (sync_required old.slaac t))
-step_view single (step.PolledAt least) = quiet_view refl refl refl
-step_view single (step.PolledDelay end least rest) = quiet_view refl refl refl
-step_view single step.UpdatedRoutes = quiet_view refl refl refl
-step_view single step.AddedDefaultIpv4Route = quiet_view refl refl refl
-step_view single step.RemovedDefaultIpv4Route = quiet_view refl refl refl
-step_view single step.AddedDefaultIpv6Route = quiet_view refl refl refl
-step_view single step.RemovedDefaultIpv6Route = quiet_view refl refl refl
 step_view single (step.JoinedGroup j) = quiet_view refl refl (ap (λ (K : Host). K.slots) (join_groups j).1)
 step_view single (step.LeftGroup j) = quiet_view refl refl (ap (λ (K : Host). K.slots) (leave_groups j).1)
-step_view single step.TookAnyIp = quiet_view refl refl refl
 step_view single (step.TookHardwareAddr s) = quiet_view refl refl (sets_slots s)
 step_view single (step.TookReassemblyTimeout s) = quiet_view refl refl (timeout_slots s)
-step_view single (step.OwnerActed sockets) = quiet_view refl refl refl
+step_view single other = quiet_view refl refl refl

@@ -347,21 +347,13 @@ module _ (Law : Host → List (List ℕ) → List Note → Host → Type 0)
         stepped (step.PolledEgress e) = egressed pieces e
         stepped (step.Polled p) = polls p
         stepped (step.PolledMaintenance {t} {old}) = maintains old t
-        stepped (step.PolledAt least) = same refl refl
-        stepped (step.PolledDelay end least rest) = same refl refl
-        stepped step.UpdatedRoutes = same refl refl
-        stepped step.AddedDefaultIpv4Route = same refl refl
-        stepped step.RemovedDefaultIpv4Route = same refl refl
-        stepped step.AddedDefaultIpv6Route = same refl refl
-        stepped step.RemovedDefaultIpv6Route = same refl refl
         stepped (step.JoinedGroup j) = let g = join_groups j in rw g.1 (same refl refl)
         stepped (step.LeftGroup j) = let g = leave_groups j in rw g.1 (same refl refl)
-        stepped step.TookAnyIp = same refl refl
         stepped {old = old} (step.TookHardwareAddr {h = h} (Taken a r e)) = rw e (sets old h)
         stepped (step.TookHardwareAddr (NotTaken error a r e)) = keeping refl refl (kept e)
         stepped {old = old} (step.TookReassemblyTimeout {timeout = timeout} (WithinDay l r e)) = rw e (lasts old timeout)
         stepped (step.TookReassemblyTimeout (OverDay l r e)) = keeping refl refl (kept e)
-        stepped (step.OwnerActed sockets) = same refl refl
+        stepped other = same refl refl
 
         pub walk : {first last : Host} {places : List Place} → Run first places last → Law first (sent (told_in places)) (notes_in places) last
         walk Ends = keeping refl refl (kept refl)

@@ -9,7 +9,7 @@ use Rattle.fragmentation.specs.Slots.{Slot, Slots, left_at}
 use Rattle.fragmentation.specs.Reassembly.{SlotNote, Take, Came, Rebuild}
 use Rattle.fragmentation.specs.Cuts.{cut}
 use Rattle.host_machine.specs.declared.command.Command.{Command}
-use Rattle.host_machine.specs.declared.command.Command.TheVariants.{UpdateIpAddrs, PollIngressSingle, PollEgress, Poll, PollMaintenance, PollAt, PollDelay, UpdateRoutes, AddDefaultIpv4Route, RemoveDefaultIpv4Route, AddDefaultIpv6Route, RemoveDefaultIpv6Route, JoinMulticastGroup, LeaveMulticastGroup, SetAnyIp, SetHardwareAddr, SetReassemblyTimeout, Owner}
+use Rattle.host_machine.specs.declared.command.Command.TheVariants.{PollIngressSingle, Poll, PollMaintenance, SetReassemblyTimeout}
 use Rattle.host_machine.specs.Note.{slot_notes}
 use Rattle.host_machine.specs.Host.{Host}
 use Rattle.host_machine.specs.Run.{Place, Run, notes_in}
@@ -39,21 +39,7 @@ abbrev pub sweeps_at : Command → Option ℤ
 sweeps_at (PollIngressSingle t) = Some t
 sweeps_at (Poll t budget) = Some t
 sweeps_at (PollMaintenance t) = Some t
-sweeps_at (UpdateIpAddrs list) = None
-sweeps_at (PollEgress t) = None
-sweeps_at (PollAt t) = None
-sweeps_at (PollDelay t) = None
-sweeps_at (UpdateRoutes list) = None
-sweeps_at (AddDefaultIpv4Route gateway) = None
-sweeps_at RemoveDefaultIpv4Route = None
-sweeps_at (AddDefaultIpv6Route gateway) = None
-sweeps_at RemoveDefaultIpv6Route = None
-sweeps_at (JoinMulticastGroup group) = None
-sweeps_at (LeaveMulticastGroup group) = None
-sweeps_at (SetAnyIp any_ip) = None
-sweeps_at (SetHardwareAddr h) = None
-sweeps_at (SetReassemblyTimeout timeout) = None
-sweeps_at (Owner number) = None
+sweeps_at other = None
 
 abbrev pub left_by : Option ℤ → Slots → Slots
 left_by None slots = slots

@@ -13,7 +13,7 @@ use Rattle.fragmentation.specs.Fragments.{Fragment}
 use Rattle.fragmentation.specs.Reassembly.{SlotNote, Take, Came, Rebuild}
 use Rattle.host_machine.specs.Note.{slot_notes}
 use Rattle.host_machine.specs.declared.command.Command.{Command}
-use Rattle.host_machine.specs.declared.command.Command.TheVariants.{UpdateIpAddrs, PollIngressSingle, PollEgress, Poll, PollMaintenance, PollAt, PollDelay, UpdateRoutes, AddDefaultIpv4Route, RemoveDefaultIpv4Route, AddDefaultIpv6Route, RemoveDefaultIpv6Route, JoinMulticastGroup, LeaveMulticastGroup, SetAnyIp, SetHardwareAddr, SetReassemblyTimeout, Owner}
+use Rattle.host_machine.specs.declared.command.Command.TheVariants.{Poll}
 use Rattle.host_machine.specs.Host.{Host, at}
 use Rattle.host_machine.specs.Polling.{maintained}
 use Rattle.host_machine.specs.Addresses.{may_be_source}
@@ -56,23 +56,7 @@ pub data Bring (H : Host) : List (List ℕ) → List (FragKey × Fragment) → T
 -- the host to which a command hands frames over: a poll maintains it first
 abbrev pub receiving : Command → Host → Host
 receiving (Poll t budget) H = maintained (at H t)
-receiving (UpdateIpAddrs list) H = H
-receiving (PollIngressSingle t) H = H
-receiving (PollEgress t) H = H
-receiving (PollMaintenance t) H = H
-receiving (PollAt t) H = H
-receiving (PollDelay t) H = H
-receiving (UpdateRoutes list) H = H
-receiving (AddDefaultIpv4Route gateway) H = H
-receiving RemoveDefaultIpv4Route H = H
-receiving (AddDefaultIpv6Route gateway) H = H
-receiving RemoveDefaultIpv6Route H = H
-receiving (JoinMulticastGroup group) H = H
-receiving (LeaveMulticastGroup group) H = H
-receiving (SetAnyIp any_ip) H = H
-receiving (SetHardwareAddr h) H = H
-receiving (SetReassemblyTimeout timeout) H = H
-receiving (Owner number) H = H
+receiving other H = H
 
 -- at one place: what the frames bring that were handed over comes, in order, and nothing else
 abbrev pub ComesInFrames : Place → Type 0

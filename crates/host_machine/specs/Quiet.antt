@@ -6,7 +6,7 @@ use Rattle.iface_tables.specs.declared.route.Route.{Route}
 use Rattle.sockets.specs.Kinds.{offered, settled}
 use Rattle.sockets.specs.Kinds as socket
 use Rattle.host_machine.specs.declared.command.Command.{Command}
-use Rattle.host_machine.specs.declared.command.Command.TheVariants.{UpdateIpAddrs, PollIngressSingle, PollEgress, Poll, PollMaintenance, PollAt, PollDelay, UpdateRoutes, AddDefaultIpv4Route, RemoveDefaultIpv4Route, AddDefaultIpv6Route, RemoveDefaultIpv6Route, JoinMulticastGroup, LeaveMulticastGroup, SetAnyIp, SetHardwareAddr, SetReassemblyTimeout, Owner}
+use Rattle.host_machine.specs.declared.command.Command.TheVariants.{PollIngressSingle, PollEgress, Poll, PollMaintenance, PollAt, PollDelay, SetReassemblyTimeout}
 use Rattle.host_machine.specs.declared.command.Answer.{Answer}
 use Rattle.host_machine.specs.declared.command.Answer.TheVariants as answer
 use Rattle.host_machine.specs.declared.results.PollIngressSingleResult.TheVariants as ingress
@@ -46,18 +46,8 @@ IsCalm t0 end (Poll s budget) p = IsWithin t0 end p.before.routes s
 IsCalm t0 end (PollMaintenance s) p = IsWithin t0 end p.before.routes s
 IsCalm t0 end (PollAt s) p = Unit {0}
 IsCalm t0 end (PollDelay s) p = Unit {0}
-IsCalm t0 end (UpdateIpAddrs list) p = p.after ≡ p.before
-IsCalm t0 end (UpdateRoutes list) p = p.after ≡ p.before
-IsCalm t0 end (AddDefaultIpv4Route gateway) p = p.after ≡ p.before
-IsCalm t0 end RemoveDefaultIpv4Route p = p.after ≡ p.before
-IsCalm t0 end (AddDefaultIpv6Route gateway) p = p.after ≡ p.before
-IsCalm t0 end RemoveDefaultIpv6Route p = p.after ≡ p.before
-IsCalm t0 end (JoinMulticastGroup group) p = p.after ≡ p.before
-IsCalm t0 end (LeaveMulticastGroup group) p = p.after ≡ p.before
-IsCalm t0 end (SetAnyIp any_ip) p = p.after ≡ p.before
-IsCalm t0 end (SetHardwareAddr h) p = p.after ≡ p.before
 IsCalm t0 end (SetReassemblyTimeout timeout) p = Unit {0}
-IsCalm t0 end (Owner number) p = p.after ≡ p.before
+IsCalm t0 end other p = p.after ≡ p.before
 
 -- nothing disturbs a place: such a call, and no frame handed over
 pub record IsUndisturbed (t0 : ℤ) (end : Option ℤ) (p : Place) : Type 0 where
@@ -69,21 +59,7 @@ abbrev pub AnswersNone : Answer → Type 0
 AnswersNone (answer.PollIngressSingle r) = r ≡ ingress.None
 AnswersNone (answer.PollEgress r) = r ≡ result.None
 AnswersNone (answer.Poll r) = r ≡ result.None
-AnswersNone answer.PollMaintenance = Unit {0}
-AnswersNone (answer.PollAt r) = Unit {0}
-AnswersNone (answer.PollDelay r) = Unit {0}
-AnswersNone (answer.UpdateIpAddrs r) = Unit {0}
-AnswersNone answer.UpdateRoutes = Unit {0}
-AnswersNone (answer.AddDefaultIpv4Route r) = Unit {0}
-AnswersNone (answer.RemoveDefaultIpv4Route r) = Unit {0}
-AnswersNone (answer.AddDefaultIpv6Route r) = Unit {0}
-AnswersNone (answer.RemoveDefaultIpv6Route r) = Unit {0}
-AnswersNone (answer.JoinMulticastGroup r) = Unit {0}
-AnswersNone (answer.LeaveMulticastGroup r) = Unit {0}
-AnswersNone answer.SetAnyIp = Unit {0}
-AnswersNone (answer.SetHardwareAddr r) = Unit {0}
-AnswersNone (answer.SetReassemblyTimeout r) = Unit {0}
-AnswersNone answer.Owner = Unit {0}
+AnswersNone other = Unit {0}
 
 -- nothing is sent, a poll answers so, and each socket is as it was; its wait may end
 pub record IsQuiet (p : Place) : Type 0 where

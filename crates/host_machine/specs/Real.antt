@@ -5,7 +5,7 @@ use Rattle.ip_address.specs.declared.hardware.HardwareAddress.TheVariants as har
 use Rattle.ip_address.specs.Hardware.{IsOf}
 use Rattle.iface_tables.specs.Neighbor.{AreOf}
 use Rattle.host_machine.specs.declared.command.Command.{Command}
-use Rattle.host_machine.specs.declared.command.Command.TheVariants.{UpdateIpAddrs, PollIngressSingle, PollEgress, Poll, PollMaintenance, PollAt, PollDelay, UpdateRoutes, AddDefaultIpv4Route, RemoveDefaultIpv4Route, AddDefaultIpv6Route, RemoveDefaultIpv6Route, JoinMulticastGroup, LeaveMulticastGroup, SetAnyIp, SetHardwareAddr, SetReassemblyTimeout, Owner}
+use Rattle.host_machine.specs.declared.command.Command.TheVariants.{SetHardwareAddr}
 use Rattle.host_machine.specs.Host.{Host}
 
 -- an address of six octets, if it is one of Ethernet, as each is that a program holds
@@ -21,20 +21,4 @@ pub record IsReal (H : Host) : Type 0 where
 -- a command that gives a hardware address gives one of six octets, or none
 abbrev pub GivesSix : Command → Type 0
 GivesSix (SetHardwareAddr h) = IsSix h
-GivesSix (UpdateIpAddrs list) = Unit {0}
-GivesSix (PollIngressSingle t) = Unit {0}
-GivesSix (PollEgress t) = Unit {0}
-GivesSix (Poll t budget) = Unit {0}
-GivesSix (PollMaintenance t) = Unit {0}
-GivesSix (PollAt t) = Unit {0}
-GivesSix (PollDelay t) = Unit {0}
-GivesSix (UpdateRoutes list) = Unit {0}
-GivesSix (AddDefaultIpv4Route gateway) = Unit {0}
-GivesSix RemoveDefaultIpv4Route = Unit {0}
-GivesSix (AddDefaultIpv6Route gateway) = Unit {0}
-GivesSix RemoveDefaultIpv6Route = Unit {0}
-GivesSix (JoinMulticastGroup group) = Unit {0}
-GivesSix (LeaveMulticastGroup group) = Unit {0}
-GivesSix (SetAnyIp any_ip) = Unit {0}
-GivesSix (SetReassemblyTimeout timeout) = Unit {0}
-GivesSix (Owner number) = Unit {0}
+GivesSix other = Unit {0}

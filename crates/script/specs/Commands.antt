@@ -6,20 +6,15 @@ use Rattle.ip_address.specs.declared.ip.IpAddress.TheVariants as ip
 use Rattle.host_machine.specs.declared.command.Command.{Command}
 use Rattle.host_machine.specs.declared.command.Command.TheVariants as command
 use Rattle.script.specs.declared.line.Line.{Line}
-use Rattle.script.specs.declared.line.Line.TheVariants.{Rx, Udp, Asks}
+use Rattle.script.specs.declared.line.Line.TheVariants.{Asks}
 use Rattle.script.specs.declared.line.Call.{Call}
 use Rattle.script.specs.declared.line.Call.TheVariants.{Addr, Gw, Join, Leave, Ingress, Egress, Poll, At}
 
 -- the moment last given, once a call is made
 abbrev pub moment_after : ℤ → Call → ℤ
-moment_after last (Addr networks) = last
-moment_after last (Gw router) = last
-moment_after last (Join group) = last
-moment_after last (Leave group) = last
-moment_after last Ingress = last
-moment_after last Egress = last
 moment_after last (Poll t budget) = t
 moment_after last (At t) = t
+moment_after last other = last
 
 -- the router of the default route of its family
 abbrev pub default_route_by : IpAddress → Command
@@ -39,16 +34,10 @@ command_of last (At t) = command.PollAt t
 
 -- the moment that a call gives, if it does, is one that may be given
 abbrev pub IsTimelyCall : Call → Type 0
-IsTimelyCall (Addr networks) = Unit {0}
-IsTimelyCall (Gw router) = Unit {0}
-IsTimelyCall (Join group) = Unit {0}
-IsTimelyCall (Leave group) = Unit {0}
-IsTimelyCall Ingress = Unit {0}
-IsTimelyCall Egress = Unit {0}
 IsTimelyCall (Poll t budget) = IsMoment t
 IsTimelyCall (At t) = IsMoment t
+IsTimelyCall other = Unit {0}
 
 abbrev pub IsTimelyLine : Line → Type 0
-IsTimelyLine (Rx len) = Unit {0}
-IsTimelyLine (Udp port) = Unit {0}
 IsTimelyLine (Asks call) = IsTimelyCall call
+IsTimelyLine other = Unit {0}

@@ -39,31 +39,18 @@ next_text None = codes "at none"
 
 -- a result or an error by its name, the instant of the next poll, `ok` for the rest
 abbrev pub text_of : Answer → List ℕ
-text_of (answer.UpdateIpAddrs (Ok done)) = codes "ok"
 text_of (answer.UpdateIpAddrs (Err e)) = codes "NotUnicast"
 text_of (answer.PollIngressSingle result) = ingress_text result
 text_of (answer.PollEgress result) = poll_text result
 text_of (answer.Poll result) = poll_text result
-text_of answer.PollMaintenance = codes "ok"
 text_of (answer.PollAt next) = next_text next
-text_of (answer.PollDelay rest) = codes "ok"
-text_of answer.UpdateRoutes = codes "ok"
-text_of (answer.AddDefaultIpv4Route (Ok old)) = codes "ok"
 text_of (answer.AddDefaultIpv4Route (Err e)) = codes "RouteTableFull"
-text_of (answer.RemoveDefaultIpv4Route old) = codes "ok"
-text_of (answer.AddDefaultIpv6Route (Ok old)) = codes "ok"
 text_of (answer.AddDefaultIpv6Route (Err e)) = codes "RouteTableFull"
-text_of (answer.RemoveDefaultIpv6Route old) = codes "ok"
-text_of (answer.JoinMulticastGroup (Ok done)) = codes "ok"
 text_of (answer.JoinMulticastGroup (Err e)) = multicast_text e
-text_of (answer.LeaveMulticastGroup (Ok done)) = codes "ok"
 text_of (answer.LeaveMulticastGroup (Err e)) = multicast_text e
-text_of answer.SetAnyIp = codes "ok"
-text_of (answer.SetHardwareAddr (Ok done)) = codes "ok"
 text_of (answer.SetHardwareAddr (Err e)) = hardware_text e
-text_of (answer.SetReassemblyTimeout (Ok done)) = codes "ok"
 text_of (answer.SetReassemblyTimeout (Err e)) = codes "TimeoutTooLong"
-text_of answer.Owner = codes "ok"
+text_of other = codes "ok"
 
 -- a frame that arrived or was too long; nothing where memory was refused
 abbrev pub push_text : Result (Unit {0}) PushError → Option (List ℕ)
