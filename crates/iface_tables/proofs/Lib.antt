@@ -2,6 +2,7 @@ pub mod EntriesLemmas
 pub mod NeighborLemmas
 pub mod RouteBestLemmas
 pub mod RouteLemmas
+pub mod RouteMaskLemmas
 pub mod RouteTrieLemmas
 pub mod RouteWalkLemmas
 pub mod SettleLemmas

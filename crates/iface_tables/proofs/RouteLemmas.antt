@@ -1,6 +1,6 @@
 -- The best route: how it moves with one more route behind, and that it is the only one.
-use Rattle.std.proofs.Common.{◌≡◌, ◌<◌, ◌≤◌, inl, inr, ℕ, zero, suc, ◌+◌, Bool, true, false, List, [], ◌∷◌, ◌++◌, length, get_or, refl, sym, ap, ◌∙◌, arith, get_or-set_same, get_or-set_other}
-use Rattle.std.specs.Prelude.{ℤ, nat_le, Option, Some, None, Ok, Err, slice_get, slice_set}
+use Rattle.std.proofs.Common.{◌≡◌, ◌≢◌, ◌<◌, ◌≤◌, inl, inr, ℕ, zero, suc, ◌+◌, Bool, true, false, List, [], ◌∷◌, ◌++◌, length, get_or, refl, sym, ap, ◌∙◌, arith}
+use Rattle.std.specs.Prelude.{ℤ, nat_le, Option, Some, None, Ok, Err, slice_get}
 use Rattle.std.proofs.Common.{lit≤}
 use Rattle.std.specs.List.{position_or_len, remove}
 use Rattle.std.proofs.Math.Bridge.{le_prop}
@@ -13,11 +13,11 @@ use Rattle.ip_address.specs.Cidr.{contains, prefix_len_of}
 use Rattle.ip_address.specs.declared.cidr.IpCidr.{IpCidr}
 use Rattle.std.proofs.lemmas.Bool.{cases_eq, cases_order}
 use Rattle.std.proofs.lemmas.Bool.Decides.{nat_tests}
-use Rattle.std.proofs.lemmas.Option.{slice_get_cases, slice_get_read}
+use Rattle.std.proofs.lemmas.Option.{slice_get_cases, slice_get_read, slice_get_within}
 use Rattle.ip_address.specs.declared.ip.IpAddress.{IpAddress}
 use Rattle.iface_tables.specs.declared.route.Route.{Route}
 use Rattle.iface_tables.specs.Route.{AreLive, IsBest, IsBestAt, Replaces, RouterIsOne, cidrs, first, ipv4_gateway, ipv6_gateway, is_live, matches, prefix_len, route_at, router_of}
-use Rattle.iface_tables.specs.RouteTrie.{IsBestPlace, IsCandidate}
+use Rattle.iface_tables.specs.RouteTrie.{IsBestPlace, IsCandidate, has_place}
 use Rattle.iface_tables.proofs.RouteTrieLemmas.{both}
 
 pub some_is : (x y : Route) → Some x ≡ Some y → x ≡ y
@@ -35,13 +35,15 @@ prefix_there (x ∷ rs) zero r h = ap (λ (y : Route). Some y.cidr) (some_is x r
 prefix_there (x ∷ rs) (suc k) r h = prefix_there rs k r h
 
 -- a route that matches is one to be chosen from
-chosen_from : (rs : List Route) (a : IpAddress) (t : ℤ) (live : List Bool) (k : ℕ) (r : Route) → AreLive rs t live → slice_get rs k ≡ Some r → matches r a t ≡ true → IsCandidate (cidrs rs) a live k (prefix_len r)
+chosen_from : (rs : List Route) (a : IpAddress) (t : ℤ) (live : ℕ) (k : ℕ) (r : Route) → AreLive rs t live → slice_get rs k ≡ Some r → matches r a t ≡ true
+    → IsCandidate (cidrs rs) a live k (prefix_len r)
 chosen_from rs a t live k r alive there match =
     let m = both (contains r.cidr a) (is_live r t) match in
     record { prefix = r.cidr; is_there = prefix_there rs k r there; is_match = m.0; is_live = alive k r there ∙ m.1; len = refl }
 
 -- the best place is that of the best route
-pub best_at : (rs : List Route) (a : IpAddress) (t : ℤ) (live : List Bool) (best : Option ℕ) → AreLive rs t live → IsBestPlace (cidrs rs) a live best → IsBest rs a t (route_at rs best)
+pub best_at : (rs : List Route) (a : IpAddress) (t : ℤ) (live : ℕ) (best : Option ℕ) → AreLive rs t live → IsBestPlace (cidrs rs) a live best
+    → IsBest rs a t (route_at rs best)
 best_at rs a t live None alive best = λ k other there.
     elim (matches other a t) as (λ m. matches other a t ≡ m → m ≡ false) [
       | true ↦ λ m. absurd (best k (prefix_len other) (chosen_from rs a t live k other alive there m))
@@ -60,15 +62,21 @@ best_at rs a t live (Some place) alive best =
     rw at.1 (place, is)
 
 -- one place more is looked at
-pub live_more : (rs : List Route) (t : ℤ) (live : List Bool) (i : ℕ) (x : Route) (alive : Bool) → i < length live → i < length rs → x ≡ get_or rs i x → alive ≡ is_live x t
-    → ((k : ℕ) (r : Route) → k < i → slice_get rs k ≡ Some r → get_or live k false ≡ is_live r t) → (k : ℕ) (r : Route) → k < i + 1 → slice_get rs k ≡ Some r → get_or (slice_set live i alive) k false ≡ is_live r t
-live_more rs t live i x alive long within is tested done k r lt there =
+pub live_more : (rs : List Route) (t : ℤ) (mask new i : ℕ) (x : Route) → i < length rs → x ≡ get_or rs i x → has_place new i ≡ is_live x t
+    → ((k : ℕ) → k ≢ i → has_place new k ≡ has_place mask k)
+    → ((k : ℕ) (r : Route) → k < i → slice_get rs k ≡ Some r → has_place mask k ≡ is_live r t) → (k : ℕ) (r : Route) → k < i + 1 → slice_get rs k ≡ Some r
+    → has_place new k ≡ is_live r t
+live_more rs t mask new i x within is tested kept done k r lt there =
     elim (cases_eq k i) [
       | inl at ↦
           let same : x ≡ r = some_is x r (sym (slice_get_read rs (length rs) i x refl within is) ∙ ap (slice_get rs) (sym at) ∙ there) in
-          rw (at, get_or-set_same live i alive false long) (tested ∙ ap (λ (y : Route). is_live y t) same)
-      | inr other ↦ get_or-set_other live i k alive false other ∙ done k r (omega arith) there
+          rw at (tested ∙ ap (λ (y : Route). is_live y t) same)
+      | inr other ↦ kept k other ∙ done k r (omega arith) there
     ]
+
+pub live_all : (rs : List Route) (t : ℤ) (mask i : ℕ) → length rs ≤ i
+    → ((k : ℕ) (r : Route) → k < i → slice_get rs k ≡ Some r → has_place mask k ≡ is_live r t) → AreLive rs t mask
+live_all rs t mask i past done k r there = let lt = slice_get_within rs k r there in done k r (omega arith) there
 
 -- two best routes stand at one place
 best_is_one : (rs : List Route) (a : IpAddress) (t : ℤ) (x y : Option Route) → IsBest rs a t x → IsBest rs a t y → x ≡ y

@@ -1,6 +1,6 @@
 -- The nodes of a trie, and the walk along an address.
 use Rattle.std.proofs.Common.{◌≡◌, ◌≢◌, ◌<◌, ◌≤◌, ◌⊎◌, inl, inr, ℕ, zero, suc, ◌+◌, ◌-◌, ◌*◌, ◌/◌, ◌^◌, Bool, true, false, cond, List, [], ◌∷◌, length, get_or, refl, sym, ap, subst, ◌∙◌, arith, one-add, get_or-set_same, get_or-set_other}
-use Rattle.std.specs.Prelude.{Option, Some, None, slice_get, slice_set, not, nat_le, nat_lt, ◌==◌, ◌&&◌}
+use Rattle.std.specs.Prelude.{Some, None, slice_get, slice_set, not, nat_le, nat_lt, ◌==◌, ◌&&◌}
 use Rattle.std.proofs.lemmas.Bool.{cases_eq, cases_lt, eq-eqb, eqb-true}
 use Rattle.std.proofs.lemmas.Option.{slice_get_past, slice_get_read}
 use Rattle.std.proofs.Math.Nat.{div-eq_of_lt, sub-zero}
@@ -11,7 +11,7 @@ use Rattle.iface_tables.specs.declared.route_trie.Node.{Node}
 use Rattle.ip_address.specs.Cidr.{prefix_len_of}
 use Rattle.ip_address.specs.declared.cidr.IpCidr.TheVariants as cidr
 use Rattle.std.specs.List.{position_or_len}
-use Rattle.iface_tables.specs.RouteTrie.{HasNodes, IsNodeOf, begins, is_marked, is_whole, network_of, number, place_of, start_of}
+use Rattle.iface_tables.specs.RouteTrie.{HasNodes, IsNodeOf, begins, has_place, is_marked, is_whole, network_of, number, place_of, start_of}
 use Rattle.std.proofs.lemmas.Bool.Decides.{nat_tests}
 
 -- the prefix of no bit
@@ -26,30 +26,23 @@ whole_root b p none len width fits root =
     at_most m n h = grind (arith, nat_tests)
 
 -- one place more is looked at
-pub marks_more : (b : Beginning) (cidrs : List IpCidr) (places : List Bool) (i : ℕ) (c : IpCidr) (r : Bool) → i < length places → i < length cidrs → c ≡ get_or cidrs i c → r ≡ is_whole b (network_of c)
-    → ((k : ℕ) → k < i → get_or places k false ≡ is_marked b (slice_get cidrs k)) → (k : ℕ) → k < i + 1 → get_or (slice_set places i r) k false ≡ is_marked b (slice_get cidrs k)
-marks_more b cidrs places i c r long within is tested done k lt =
+pub marks_more : (b : Beginning) (cidrs : List IpCidr) (mask new i : ℕ) (c : IpCidr) → i < length cidrs → c ≡ get_or cidrs i c
+    → has_place new i ≡ is_whole b (network_of c) → ((k : ℕ) → k ≢ i → has_place new k ≡ has_place mask k)
+    → ((k : ℕ) → k < i → has_place mask k ≡ is_marked b (slice_get cidrs k)) → (k : ℕ) → k < i + 1 → has_place new k ≡ is_marked b (slice_get cidrs k)
+marks_more b cidrs mask new i c within is tested kept done k lt =
     elim (cases_eq k i) [
-      | inl at ↦ rw (at, get_or-set_same places i r false long, slice_get_read cidrs (length cidrs) i c refl within is) tested
-      | inr other ↦ get_or-set_other places i k r false other ∙ done k (omega arith)
+      | inl at ↦ rw (at, slice_get_read cidrs (length cidrs) i c refl within is) tested
+      | inr other ↦ kept k other ∙ done k (omega arith)
     ]
 
-pub rest_more : (places : List Bool) (i : ℕ) (r : Bool) → ((k : ℕ) → i ≤ k → get_or places k false ≡ false) → (k : ℕ) → i + 1 ≤ k → get_or (slice_set places i r) k false ≡ false
-rest_more places i r rest k le = let other : k ≢ i = omega arith in get_or-set_other places i k r false other ∙ rest k (omega arith)
-
-pub marks_all : (b : Beginning) (cidrs : List IpCidr) (places : List Bool) (i : ℕ) → length cidrs ≤ i → ((k : ℕ) → k < i → get_or places k false ≡ is_marked b (slice_get cidrs k)) → ((k : ℕ) → i ≤ k → get_or places k false ≡ false)
-    → (k : ℕ) → get_or places k false ≡ is_marked b (slice_get cidrs k)
-marks_all b cidrs places i past done rest k =
+pub marks_all : (b : Beginning) (cidrs : List IpCidr) (mask i : ℕ) → length cidrs ≤ i → ((k : ℕ) → k < i → has_place mask k ≡ is_marked b (slice_get cidrs k))
+    → ((k : ℕ) → i ≤ k → has_place mask k ≡ false)
+    → (k : ℕ) → has_place mask k ≡ is_marked b (slice_get cidrs k)
+marks_all b cidrs mask i past done rest k =
     elim (cases_lt k i) [
       | inl lt ↦ done k lt
       | inr ge ↦ rw (slice_get_past cidrs k (omega arith)) (rest k ge)
     ]
-
--- of the first i places, the last that is marked and live
-abbrev pub IsLastBelow : ℕ → List Bool → List Bool → Option ℕ → Type 0
-IsLastBelow i marks live None = (k : ℕ) → k < i → get_or marks k false ≡ true → get_or live k false ≡ true → ⊥
-IsLastBelow i marks live (Some place) = (get_or marks place false ≡ true) × (get_or live place false ≡ true)
-    × ((k : ℕ) → k < i → get_or marks k false ≡ true → get_or live k false ≡ true → k ≤ place)
 
 pub some_is : {X : Type 0} (x y : X) → Some x ≡ Some y → x ≡ y
 some_is x y e = cc

@@ -1,5 +1,5 @@
 -- Routes (RFC 1122 3.3.1, RFC 4632 5.1): of those that match an address, the one of longest prefix is taken.
-use Rattle.std.specs.Prelude.{◌≡◌, ℕ, ◌<◌, ◌≤◌, ◌==◌, ◌&&◌, nat_le, ℤ, Bool, true, false, is_none, if◌then◌else◌, List, [], ◌∷◌, ◌++◌, length, map, slice_get, slice_index_or, Option, Some, None, Result, Ok, Err}
+use Rattle.std.specs.Prelude.{◌≡◌, ℕ, ◌<◌, ◌≤◌, ◌==◌, ◌&&◌, nat_le, ℤ, Bool, true, false, is_none, if◌then◌else◌, List, [], ◌∷◌, ◌++◌, length, map, slice_get, Option, Some, None, Result, Ok, Err}
 use Rattle.std.specs.List.{find, position_or_len, remove}
 use Rattle.std.specs.Ordering.{int_cmp, is_le}
 use Rattle.std.proofs.Common.{lit≤}
@@ -13,6 +13,7 @@ use Rattle.ip_address.specs.declared.cidr.IpCidr.{IpCidr}
 use Rattle.ip_address.specs.declared.cidr.IpCidr.TheVariants.{Ipv4, Ipv6}
 use Rattle.iface_tables.specs.declared.route.Route.{Route}
 use Rattle.iface_tables.specs.declared.route.RouteTableFull.{RouteTableFull}
+use Rattle.iface_tables.specs.RouteTrie.{has_place}
 
 -- a list of at most four routes, as it is handed over
 abbrev pub Storage : Type 0
@@ -78,9 +79,9 @@ RouterIsOne = (rs : List Route) (a : IpAddress) (t : ℤ) (x y : Option IpAddres
 abbrev pub cidrs : List Route → List IpCidr
 cidrs rs = map (λ r. r.cidr) rs
 
--- which of them have not expired at t, by place
-abbrev pub AreLive : List Route → ℤ → List Bool → Type 0
-AreLive rs t live = (k : ℕ) (r : Route) → slice_get rs k ≡ Some r → slice_index_or live k false ≡ is_live r t
+-- which of them have not expired at t, as a mask of their places
+abbrev pub AreLive : List Route → ℤ → ℕ → Type 0
+AreLive rs t live = (k : ℕ) (r : Route) → slice_get rs k ≡ Some r → has_place live k ≡ is_live r t
 
 -- the route at a place, if one is meant
 abbrev pub route_at : List Route → Option ℕ → Option Route

@@ -1,5 +1,6 @@
 -- A binary trie of prefixes (RFC 4632 5.1): a node for each beginning of a stored prefix, which leads to the two that are longer by a bit.
-use Rattle.std.specs.Prelude.{◌≡◌, ℕ, ◌+◌, ◌-◌, ◌*◌, ◌/◌, ◌^◌, ◌<◌, ◌≤◌, ◌==◌, ◌&&◌, nat_le, nat_lt, Bool, true, false, if◌then◌else◌, List, length, slice_get, slice_index_or, Option, Some, None}
+use Rattle.std.specs.Prelude.{◌≡◌, ℕ, ◌+◌, ◌-◌, ◌*◌, ◌/◌, ◌^◌, ◌<◌, ◌≤◌, ◌==◌, ◌&&◌, nat_le, nat_lt, Bool, true, false, if◌then◌else◌, List, length, slice_get, slice_index, slice_index_or, Option, Some, None}
+use Rattle.std.specs.Int.{bit_at}
 use Rattle.std.specs.List.{position_or_len}
 use Rattle.ip_address.specs.Cidr.{contains, prefix_len_of}
 use Rattle.ip_address.specs.declared.ip.IpAddress.{IpAddress}
@@ -56,11 +57,19 @@ number_at count place len = if nat_lt place count then 1 + 128 * place + len els
 abbrev pub number : List IpCidr → Beginning → ℕ
 number cidrs b = number_at (length cidrs) (place_of cidrs b) b.len
 
+-- whether a mask has a place
+abbrev pub has_place : ℕ → ℕ → Bool
+has_place mask place = bit_at mask place == 1
+
+-- the last place of a mask, or none
+abbrev pub IsLastOf : ℕ → Option ℕ → Type 0
+IsLastOf mask None = (k : ℕ) → has_place mask k ≡ false
+IsLastOf mask (Some place) = (has_place mask place ≡ true) × ((k : ℕ) → has_place mask k ≡ true → k ≤ place)
+
 -- the node of a beginning leads to those that are longer by a bit, and marks the places of the prefixes that it is
 pub record IsNodeOf (cidrs : List IpCidr) (b : Beginning) (node : Node) : Type 0 where
-  pub zero : node.zero ≡ number cidrs (longer b 0)
-  pub one : node.one ≡ number cidrs (longer b 1)
-  pub marks : (k : ℕ) → slice_index_or node.places k false ≡ is_marked b (slice_get cidrs k)
+  pub next : (bit : ℕ) → bit < 2 → slice_index node.next bit ≡ number cidrs (longer b bit)
+  pub marks : (k : ℕ) → has_place node.places k ≡ is_marked b (slice_get cidrs k)
 
 -- the trie of these prefixes: its roots, and a node for each beginning of one
 pub record IsTrieOf (nodes : List Node) (cidrs : List IpCidr) : Type 0 where
@@ -74,17 +83,23 @@ abbrev pub HasNodes : List Node → List IpCidr → ℕ → Type 0
 HasNodes nodes cidrs place = (c : IpCidr) (m : ℕ) (d : Node) → slice_get cidrs place ≡ Some c → m < (network_of c).len → IsNodeOf cidrs (start_of (network_of c) (m + 1)) (slice_index_or nodes (2 + 128 * place + m) d)
 
 -- the prefix at a place is live, has n bits, and the address begins with them
-pub record IsCandidate (cidrs : List IpCidr) (a : IpAddress) (live : List Bool) (place n : ℕ) : Type 0 where
+pub record IsCandidate (cidrs : List IpCidr) (a : IpAddress) (live : ℕ) (place n : ℕ) : Type 0 where
   pub prefix : IpCidr
   pub is_there : slice_get cidrs place ≡ Some prefix
   pub is_match : contains prefix a ≡ true
-  pub is_live : slice_index_or live place false ≡ true
+  pub is_live : has_place live place ≡ true
   pub len : prefix_len_of prefix ≡ n
 
 -- of the live prefixes of an address the longest, of equals the last
-abbrev pub IsBestPlace : List IpCidr → IpAddress → List Bool → Option ℕ → Type 0
+abbrev pub IsBestPlace : List IpCidr → IpAddress → ℕ → Option ℕ → Type 0
 IsBestPlace cidrs a live None = (k n : ℕ) → IsCandidate cidrs a live k n → ⊥
 IsBestPlace cidrs a live (Some place) = (n : ℕ) × IsCandidate cidrs a live place n × ((k m : ℕ) → IsCandidate cidrs a live k m → (m ≤ n) × (place < k → m < n))
+
+-- the same of those with fewer than i bits
+abbrev pub IsBestBelow : List IpCidr → IpAddress → ℕ → ℕ → Option ℕ → Type 0
+IsBestBelow cidrs a live i None = (k n : ℕ) → IsCandidate cidrs a live k n → n < i → ⊥
+IsBestBelow cidrs a live i (Some place) = (n : ℕ) × IsCandidate cidrs a live place n
+    × ((k m : ℕ) → IsCandidate cidrs a live k m → m < i → (m ≤ n) × (place < k → m < n)) × (n < i)
 
 -- the first n bits of an address are those of a prefix of its family, which has as many
 abbrev pub shares : IpCidr → IpAddress → ℕ → Bool
@@ -95,8 +110,16 @@ pub record IsLongest (cidrs : List IpCidr) (a : IpAddress) (n : ℕ) : Type 0 wh
   pub shared : 0 < n → (k : ℕ) × (c : IpCidr) × (slice_get cidrs k ≡ Some c) × (shares c a n ≡ true)
   pub most : (k m : ℕ) (c : IpCidr) → slice_get cidrs k ≡ Some c → shares c a m ≡ true → m ≤ n
 
--- the last place that is marked and live
-abbrev pub IsLastOf : List Bool → List Bool → Option ℕ → Type 0
-IsLastOf marks live None = (k : ℕ) → slice_index_or marks k false ≡ true → slice_index_or live k false ≡ true → ⊥
-IsLastOf marks live (Some place) = (slice_index_or marks place false ≡ true) × (slice_index_or live place false ≡ true)
-    × ((k : ℕ) → slice_index_or marks k false ≡ true → slice_index_or live k false ≡ true → k ≤ place)
+-- a walk has followed i bits of an address, by 1 + i nodes: it is at the node of these bits, and the last place of its mask
+-- is the best so far
+pub record IsAt (cidrs : List IpCidr) (a : IpAddress) (live i : ℕ) (node : Node) (mask steps : ℕ) : Type 0 where
+  pub node_is : IsNodeOf cidrs (start_of (host_of a) i) node
+  pub best_is : (place : Option ℕ) → IsLastOf mask place → IsBestBelow cidrs a live (i + 1) place
+  pub shared : 0 < i → (k : ℕ) × (c : IpCidr) × (slice_get cidrs k ≡ Some c) × (shares c a i ≡ true)
+  pub counted : steps ≡ 1 + i
+
+-- so many bits of an address, behind the first i, are the top ones of a number of 64 bits
+pub record AreNextBits (a : IpAddress) (i count leading : ℕ) : Type 0 where
+  pub few : count ≤ 64
+  pub within : i + count ≤ (host_of a).width
+  pub same : (j : ℕ) → j < count → bit_at leading (63 - j) ≡ bit_at (host_of a).bits ((host_of a).width - 1 - (i + j))

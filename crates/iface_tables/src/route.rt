@@ -266,7 +266,7 @@ impl Routes {
         ensures count { (n : ℕ) × IsLongest (cidrs self.now) address.now n × (result.1 ≡ 1 + n) }
     {
         let live = live_places(self.storage.as_slice(), timestamp);
-        let (place, steps) = self.trie.walk(address, &live);
+        let (place, steps) = self.trie.walk(address, live);
         (router_at(self.storage.as_slice(), place), steps)
     }
 }
@@ -283,14 +283,16 @@ fn rebuild(trie: &mut RouteTrie, routes: &[Route])
     trie.build(prefixes.as_slice());
 }
 
-// Which routes have not expired at a moment, by place.
-fn live_places(routes: &[Route], timestamp: Instant) -> [bool; IFACE_MAX_ROUTE_COUNT]
+// Which routes have not expired at a moment, as a mask of their places.
+fn live_places(routes: &[Route], timestamp: Instant) -> u32
     requires { length routes.now ≤ IFACE_MAX_ROUTE_COUNT }
     ensures { AreLive routes.now timestamp result }
 {
-    let mut live = [false; IFACE_MAX_ROUTE_COUNT];
+    let mut live = 0;
     for (place, route) in routes.iter().enumerate() {
-        live[place] = route.is_live(timestamp);
+        if route.is_live(timestamp) {
+            live |= 1 << place;
+        }
     }
     live
 }

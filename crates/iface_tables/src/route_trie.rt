@@ -3,12 +3,15 @@
 //!
 //! It has a root for each family and, for each stored prefix, a node for each of its beginnings that
 //! no earlier one has. A node names those of the two beginnings that are longer by a bit, and has the
-//! places of the prefixes that it is itself.
-ghost use Rattle.std.specs.Prelude.{◌≡◌, ℕ, ◌+◌, ◌-◌, ◌*◌, ◌/◌, ◌%◌, ◌^◌, ◌<◌, ◌≤◌, ◌==◌, cond, List, [], true, false, length, slice_get, slice_index_or};
+//! places of the prefixes that it is itself, as a mask: its lowest bit is the first place.
+ghost use Rattle.std.specs.Prelude.{◌≡◌, ℕ, ◌+◌, ◌-◌, ◌*◌, ◌/◌, ◌%◌, ◌^◌, ◌<◌, ◌≤◌, ◌==◌, cond, List, [], length, slice_get, slice_index, slice_index_or};
+ghost use Rattle.std.specs.Int.RustNames.{bit_and};
+ghost use Rattle.std.specs.Bool.{OnFalse, OnTrue};
 ghost use Rattle.ip_address.specs.declared.cidr.IpCidr.{IpCidr};
+ghost use Rattle.ip_address.specs.declared.ip.IpAddress.{IpAddress};
 ghost use Rattle.iface_tables.specs.declared.route_trie.Node.{Node};
 ghost use Rattle.iface_tables.specs.RouteTrie as spec;
-ghost use Rattle.iface_tables.specs.RouteTrie.{HasNodes, IsBestPlace, IsLastOf, IsLongest, IsNodeOf, IsTrieOf, begins, is_marked, is_whole, longer, number, place_of, root_of, start_of};
+ghost use Rattle.iface_tables.specs.RouteTrie.{AreNextBits, HasNodes, IsAt, IsBestPlace, IsLastOf, IsLongest, IsNodeOf, IsTrieOf, begins, has_place, is_marked, is_whole, longer, number, place_of, root_of, start_of};
 
 use ip_wire::{IpAddress, IpCidr};
 use std::marker::Model;
@@ -44,12 +47,21 @@ impl Steps {
     }
 }
 
-// A node: those that are longer by a bit, by number, where 0 is none, and which prefixes it is.
+// A node: those that are longer by a bit, by number, first the one by a 0, where number 0 is none, and
+// which prefixes it is.
 #[derive(Clone, Copy)]
 struct Node {
-    zero: u16,
-    one: u16,
-    places: [bool; ROUTE_TRIE_PLACE_COUNT],
+    next: [u16; 2],
+    places: u32,
+}
+
+// Where a walk is: the node that it read last, the live places of the longest prefix so far, and
+// whether no node goes on.
+#[derive(Clone, Copy)]
+struct Walk {
+    node: Node,
+    best: u32,
+    is_over: bool,
 }
 
 // The leading bits of an address of so many bits, as a number.
@@ -81,9 +93,8 @@ impl RouteTrie {
     {
         RouteTrie {
             nodes: [Node {
-                zero: 0,
-                one: 0,
-                places: [false; ROUTE_TRIE_PLACE_COUNT],
+                next: [0; 2],
+                places: 0,
             }; ROUTE_TRIE_NODE_COUNT],
         }
     }
@@ -101,30 +112,90 @@ impl RouteTrie {
     }
 
     /// The best place for an address, and how many nodes were read: of the prefixes that the address
-    /// has and that are live, the longest, of equals the last. It reads the root, and a node for each
-    /// further bit that a prefix shares with the address.
-    pub fn walk(
-        &self,
-        address: &IpAddress,
-        live: &[bool; ROUTE_TRIE_PLACE_COUNT],
-    ) -> (Option<usize>, Steps)
+    /// has and whose places are in the mask of live ones, the longest, of equals the last. It reads the
+    /// root, and a node for each further bit that a prefix shares with the address.
+    pub fn walk(&self, address: &IpAddress, live: u32) -> (Option<usize>, Steps)
         requires { (cidrs : List IpCidr) × IsTrieOf self.now.nodes cidrs }
-        ensures best { (cidrs : List IpCidr) → IsTrieOf self.now.nodes cidrs → IsBestPlace cidrs address.now live.now result.0 }
+        ensures best { (cidrs : List IpCidr) → IsTrieOf self.now.nodes cidrs → IsBestPlace cidrs address.now live result.0 }
         ensures count { (cidrs : List IpCidr) → IsTrieOf self.now.nodes cidrs → (n : ℕ) × IsLongest cidrs address.now n × (result.1 ≡ 1 + n) }
     {
-        let host = host_of(address);
         let mut steps = Steps { count: 0 };
-        let mut node = self.visit(root_number(&host), &mut steps);
-        let mut best = last_of(&node.places, live);
-        for i in 0..host.width {
-            let child = child_of(&node, &host, i);
-            if child == 0 {
-                return (best, steps);
+        let end = self.end_of(address, live, &mut steps);
+        (last_place(end.best), steps)
+    }
+
+    // Walks along an address to its last bit, or to where no node goes on.
+    #[inline(always)]
+    fn end_of(&self, address: &IpAddress, live: u32, steps: &mut Steps) -> Walk
+        requires trie { (cidrs : List IpCidr) × IsTrieOf self.now.nodes cidrs }
+        requires first { steps.old ≡ 0 }
+        ensures { (cidrs : List IpCidr) → IsTrieOf self.now.nodes cidrs
+            → (n : ℕ) × IsAt cidrs address.now live n result.node result.best steps.new × IsLongest cidrs address.now n }
+    {
+        match address {
+            IpAddress::Ipv4(address) => {
+                let root = self.start(0, live, steps);
+                self.walk_on(&root, u64::from(address.bits) << 32, 32, live, steps)
             }
-            node = self.visit(child, &mut steps);
-            best = last_of(&node.places, live).or(best);
+            IpAddress::Ipv6(address) => {
+                let root = self.start(1, live, steps);
+                let middle = self.walk_on(&root, first_half(address.bits), 64, live, steps);
+                if middle.is_over {
+                    return middle;
+                }
+                self.walk_on(&middle, second_half(address.bits), 64, live, steps)
+            }
         }
-        (best, steps)
+    }
+
+    // Reads a root, and starts there.
+    #[inline(always)]
+    fn start(&self, root: u16, live: u32, steps: &mut Steps) -> Walk
+        requires within { root < ROUTE_TRIE_NODE_COUNT }
+        requires few { steps.old < ROUTE_TRIE_NODE_COUNT }
+        ensures node { result.node ≡ slice_index_or self.now.nodes root result.node }
+        ensures best { result.best ≡ bit_and result.node.places live }
+        ensures counted { steps.new ≡ steps.old + 1 }
+    {
+        let node = self.visit(root, steps);
+        Walk {
+            node,
+            best: node.places & live,
+            is_over: false,
+        }
+    }
+
+    // Goes on by so many bits, the top ones of a number, or to where no node does.
+    #[inline(always)]
+    fn walk_on(&self, from: &Walk, leading: u64, count: u8, live: u32, steps: &mut Steps) -> Walk
+        requires at { (cidrs : List IpCidr) × (a : IpAddress) × (i : ℕ) × IsTrieOf self.now.nodes cidrs
+            × IsAt cidrs a live i from.now.node from.now.best steps.old × AreNextBits a i count leading }
+        ensures { (cidrs : List IpCidr) (a : IpAddress) (i : ℕ) → IsTrieOf self.now.nodes cidrs
+            → IsAt cidrs a live i from.now.node from.now.best steps.old → AreNextBits a i count leading
+            → (n : ℕ) × IsAt cidrs a live n result.node result.best steps.new
+            × OnTrue result.is_over (IsLongest cidrs a n) × OnFalse result.is_over (n ≡ i + count) }
+    {
+        let mut node = from.node;
+        let mut best = from.best;
+        let mut bits = leading;
+        for i in 0..count {
+            let child = child_of(&node, bits);
+            if child == 0 {
+                return Walk {
+                    node,
+                    best,
+                    is_over: true,
+                };
+            }
+            node = self.visit(child, steps);
+            best = better(node.places & live, best);
+            bits <<= 1;
+        }
+        Walk {
+            node,
+            best,
+            is_over: false,
+        }
     }
 
     // Reads a node, and counts that.
@@ -140,42 +211,36 @@ impl RouteTrie {
     }
 }
 
-// An address by its numbers.
+// The first 64 bits of an address.
 #[inline(always)]
-fn host_of(address: &IpAddress) -> Network
-    ensures value { result ≡ spec.host_of address.now }
-    ensures fits { result.bits < 2 ^ result.width }
+fn first_half(bits: u128) -> u64
+    ensures { result ≡ bits / 2 ^ 64 }
 {
-    match address {
-        IpAddress::Ipv4(address) => Network {
-            width: 32,
-            bits: u128::from(address.bits),
-            len: 32,
-        },
-        IpAddress::Ipv6(address) => wide_network(address.bits, 128),
-    }
+    (bits >> 64) as u64
 }
 
-// The number of the root of an address's family.
+// Its last 64 bits.
 #[inline(always)]
-fn root_number(host: &Network) -> u16
-    ensures { result ≡ cond (host.now.width == 32) 0 1 }
+fn second_half(bits: u128) -> u64
+    ensures { result ≡ bits % 2 ^ 64 }
 {
-    if host.width == 32 { 0 } else { 1 }
+    (bits % 0x1_0000_0000_0000_0000) as u64
 }
 
-// The number of the node behind this one on the way to an address, or 0.
+// The number of the node behind this one by the top bit of a number of 64, or 0.
 #[inline(always)]
-fn child_of(node: &Node, host: &Network, i: u8) -> u16
-    requires within { i < host.now.width }
-    requires wide { host.now.width ≤ 128 }
-    ensures { result ≡ cond (host.now.bits / 2 ^ (host.now.width - 1 - i) % 2 == 0) node.now.zero node.now.one }
+fn child_of(node: &Node, bits: u64) -> u16
+    ensures { result ≡ slice_index node.now.next (bits / 2 ^ 63) }
 {
-    if (host.bits >> (host.width - 1 - i)) % 2 == 0 {
-        node.zero
-    } else {
-        node.one
-    }
+    node.next[(bits >> 63) as usize]
+}
+
+// The places of a longer prefix, or, if there is none, those of a shorter one.
+#[inline(always)]
+fn better(longer: u32, shorter: u32) -> u32
+    ensures { result ≡ cond (longer == 0) shorter longer }
+{
+    if longer == 0 { shorter } else { longer }
 }
 
 // The beginning of no bit.
@@ -289,14 +354,16 @@ fn number_of(cidrs: &[IpCidr], beginning: &Beginning, bit: u128) -> u16
 }
 
 // Which prefixes are this one.
-fn marks_of(cidrs: &[IpCidr], beginning: &Beginning) -> [bool; ROUTE_TRIE_PLACE_COUNT]
+fn marks_of(cidrs: &[IpCidr], beginning: &Beginning) -> u32
     requires few { length cidrs.now ≤ ROUTE_TRIE_PLACE_COUNT }
     requires root { beginning.now.len ≡ 0 → beginning.now.leading ≡ 0 }
-    ensures { (k : ℕ) → slice_index_or result k false ≡ is_marked beginning.now (slice_get cidrs.now k) }
+    ensures { (k : ℕ) → has_place result k ≡ is_marked beginning.now (slice_get cidrs.now k) }
 {
-    let mut places = [false; ROUTE_TRIE_PLACE_COUNT];
+    let mut places = 0;
     for (place, cidr) in cidrs.iter().enumerate() {
-        places[place] = is_whole(&network_of(cidr), beginning);
+        if is_whole(&network_of(cidr), beginning) {
+            places |= 1 << place;
+        }
     }
     places
 }
@@ -309,8 +376,10 @@ fn node_of(cidrs: &[IpCidr], beginning: &Beginning) -> Node
     ensures { IsNodeOf cidrs.now beginning.now result }
 {
     Node {
-        zero: number_of(cidrs, beginning, 0),
-        one: number_of(cidrs, beginning, 1),
+        next: [
+            number_of(cidrs, beginning, 0),
+            number_of(cidrs, beginning, 1),
+        ],
         places: marks_of(cidrs, beginning),
     }
 }
@@ -329,19 +398,13 @@ fn fill(nodes: &mut [Node; ROUTE_TRIE_NODE_COUNT], cidrs: &[IpCidr], place: usiz
     }
 }
 
-// The last place that a node has and that is live.
+// The last place of a mask, if it has one.
 #[inline(always)]
-fn last_of(
-    places: &[bool; ROUTE_TRIE_PLACE_COUNT],
-    live: &[bool; ROUTE_TRIE_PLACE_COUNT],
-) -> Option<usize>
-    ensures { IsLastOf places.now live.now result }
+fn last_place(mask: u32) -> Option<usize>
+    ensures { IsLastOf mask result }
 {
-    let mut last = None;
-    for place in 0..ROUTE_TRIE_PLACE_COUNT {
-        if places[place] && live[place] {
-            last = Some(place);
-        }
+    if mask == 0 {
+        return None;
     }
-    last
+    Some(31 - mask.leading_zeros() as usize)
 }

@@ -1,0 +1,13 @@
+use Rattle.std.proofs.Common.{◌≡◌, ℕ, ◌+◌, ◌*◌, ◌^◌, ◌%◌, List}
+use Rattle.ip_address.specs.declared.cidr.IpCidr.{IpCidr}
+use Rattle.ip_address.specs.declared.ip.IpAddress.{IpAddress}
+use Rattle.iface_tables.specs.RouteTrie.{AreNextBits, IsAt, IsTrieOf}
+use Rattle.iface_tables.proofs.route_trie.RouteTrie.walk_on.Given as goal
+
+abbrev pub invariant-loop-i : goal.invariant-loop-i
+invariant-loop-i l = record {
+  bits : l.bits ≡ l.leading * 2 ^ l.i % 2 ^ 64;
+  at : (cidrs : List IpCidr) (a : IpAddress) (i : ℕ) → IsTrieOf l.self.nodes cidrs → IsAt cidrs a l.live i l.from.node l.from.best l.fn.steps
+      → AreNextBits a i l.count l.leading
+      → IsAt cidrs a l.live (i + l.i) l.node l.best l.steps;
+}
