@@ -1,5 +1,5 @@
 -- Places of a host's sockets: one that gets what it has stays as it was, and one with a socket is there.
-use Rattle.std.specs.Prelude.{ℕ, ◌≡◌, ◌+◌, ◌<◌, zero, suc, true, false, cond, is_some, List, [], ◌∷◌, ◌++◌, length, slice_get, slice_set, Option, Some, IsSome, refl}
+use Rattle.std.specs.Prelude.{ℕ, ◌≡◌, ◌<◌, zero, suc, true, false, cond, is_some, List, [], ◌∷◌, ◌++◌, length, slice_get, slice_set, Option, Some, IsSome, refl}
 use Rattle.std.specs.Option.{option_and_then}
 use Rattle.std.proofs.Common.{sym, ap, ◌∙◌, arith}
 use mathlib.Core.Bool.{true≢false}

@@ -1,5 +1,5 @@
 -- The frames that were sent and wait to be handed over.
-use Rattle.std.specs.Prelude.{ℕ, ◌≡◌, Bool, List, [], ◌∷◌, ◌++◌, length, take, drop}
+use Rattle.std.specs.Prelude.{ℕ, ◌≡◌, Bool, true, List, [], ◌∷◌, ◌++◌, length, take, drop}
 use Rattle.net_base.specs.declared.phy.DeviceCapabilities.{DeviceCapabilities}
 use Rattle.net_base.specs.Device.{Event, raised, refusals_after, sent}
 
@@ -27,7 +27,12 @@ abbrev pub IsFirst : List (List ℕ) → ℕ → List ℕ → List ℕ → List 
 IsFirst [] n before after rest = (n ≡ 0) × (after ≡ before) × (rest ≡ [])
 IsFirst (frame ∷ frames) n before after rest = (n ≡ length frame) × (take n after ≡ frame) × (drop n after ≡ drop n before) × (rest ≡ frames)
 
+-- whether room is reserved once the first of some frames was handed over, whose room is free then
+abbrev pub room_after : List (List ℕ) → Bool → Bool
+room_after [] room = room
+room_after (frame ∷ frames) room = true
+
 -- the first frame that waits was handed over
 pub record HandsFirst (old : Waiting) (n : ℕ) (before after : List ℕ) (new : Waiting) : Type 0 where
   pub first : IsFirst old.frames n before after new.frames
-  pub rest : new ≡ record old { frames = new.frames }
+  pub rest : new ≡ record old { frames = new.frames; has_room = room_after old.frames old.has_room }

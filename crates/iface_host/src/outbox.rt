@@ -32,7 +32,8 @@ impl Model for Outbox {
 
     ghost view = { λ o. record { capabilities = o.capabilities; frames = map (λ v. v.items) o.frames.items; refusals = o.refusals; has_room = is_some o.room } };
 
-    ghost invariant = { λ o. All (λ v. vec_len v ≤ 1514) o.frames.items × ForSome o.room (λ v. (v.items ≡ []) × (1514 ≤ vec_capacity v) × (deque_len o.frames < deque_capacity o.frames)) };
+    ghost invariant = { λ o. All (λ v. vec_len v ≤ 1514) o.frames.items × All (λ v. 1514 ≤ vec_capacity v) o.frames.items
+        × (deque_len o.frames ≤ deque_capacity o.frames) × ForSome o.room (λ v. (v.items ≡ []) × (1514 ≤ vec_capacity v) × (deque_len o.frames < deque_capacity o.frames)) };
 }
 
 impl Outbox {
@@ -73,14 +74,21 @@ impl Outbox {
         Ok(())
     }
 
-    /// Writes the first frame that waits to the front of a buffer, and hands it over: it waits no more. Answers how
-    /// many octets it has, and 0 where none waits.
+    /// Writes the first frame that waits to the front of a buffer, and hands it over: it waits no more, and its room is
+    /// kept for the next one. Answers how many octets it has, and 0 where none waits.
     pub fn hand_over(&mut self, out: &mut [u8]) -> usize
         requires { 1514 ≤ length out.old }
         ensures { HandsFirst self.old result out.old out.new self.new }
     {
         match self.frames.pop_front() {
-            Some(frame) => write_front(out, &frame),
+            Some(mut frame) => {
+                let len = write_front(out, &frame);
+                if self.room.is_none() {
+                    frame.clear();
+                    self.room = Some(frame);
+                }
+                len
+            }
             None => 0,
         }
     }
