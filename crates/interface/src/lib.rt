@@ -7,15 +7,21 @@
 //! hands frames over by `receive_frame`. The crate `host` runs lists of such calls.
 #![tactic(auto)]
 
+pub mod autoconfiguration;
 pub mod interface;
 mod polling;
 
+pub use fragmentation::reassembly::{AssemblerError, AssemblerFullError};
+pub use fragmentation::{FragKey, Fragmenter, PacketAssembler, PacketAssemblerSet};
 pub use host_machine::{
     AddrError, Answer, Command, HardwareError, MulticastError, NewError, PollIngressSingleResult,
     PollResult, TimeoutError,
 };
+pub use iface_send::packet::icmp_reply_payload_len;
 pub use iface_send::{Context, IpPayload, Packet, PacketV4, PacketV6};
-pub use iface_tables::neighbor::{Answer as NeighborAnswer, Cache as NeighborCache, Neighbor};
+pub use iface_tables::neighbor;
+pub use iface_tables::neighbor::Neighbor;
 pub use iface_tables::route::{Route, RouteTableFull, Routes};
+pub use iface_tables::route_trie::Steps;
 pub use interface::{Config, Interface};
 pub use socket_set::{AddError, Handles, Iter, Meta, SocketHandle, SocketSet, SocketStorage};
