@@ -178,7 +178,7 @@ impl Payload for IpPayload<'_> {
         }
     }
 
-    #[inline(always)]
+    #[inline(never)]
     fn emit_header(
         &self,
         header: &IpRepr,
