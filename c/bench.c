@@ -1,6 +1,6 @@
 /* Has a host do one thing over and over, so that its instructions can be counted:
  *
- *   bench WORK ROUNDS      WORK: arp, echo, deliver, send or poll_at
+ *   bench WORK ROUNDS      WORK: arp, echo, deliver (and read), back (delivered, read and sent back), send or poll_at
  *
  * valgrind --tool=callgrind counts them; the difference of two runs, divided by the rounds between them, is a call's.
  */
@@ -49,9 +49,14 @@ static size_t echo_request(void) {
     return length;
 }
 
-static size_t datagram(void) { /* without a checksum, as RFC 768 allows */
+/* A datagram of 64 octets from port 5000 to port 4000, with its checksum over the pseudo-header of RFC 768. */
+static size_t datagram(void) {
     size_t length = ipv4(17, 8 + PAYLOAD);
+    uint8_t summed[12 + 8 + PAYLOAD] = {[9] = 17, [11] = 8 + PAYLOAD};
     frame[34] = 0x13, frame[35] = 0x88, frame[36] = 0x0f, frame[37] = 0xa0, frame[39] = 8 + PAYLOAD;
+    memcpy(summed, frame + 26, 8);
+    memcpy(summed + 12, frame + 34, 8 + PAYLOAD);
+    sum_into(frame + 40, summed, sizeof summed);
     return length;
 }
 
@@ -77,9 +82,9 @@ int main(int argc, char **argv) {
     must("socket", iface_udp_open(&host, &local, 4, 8192, &socket));
     must("receive", iface_receive(&host, 0, frame, length, out, sizeof out, &n));
     must("next", iface_next(&host, 0, out, sizeof out, &n)); /* as any program asks, once before all */
-    char work = argv[1][0]; /* arp, echo, deliver, send, poll_at */
+    char work = argv[1][0]; /* arp, echo, deliver, back, send, poll_at */
     if (work == 'e') length = echo_request();
-    if (work == 'd') length = datagram();
+    if (work == 'd' || work == 'b') length = datagram();
     for (long i = 0; i < rounds; i++) {
         if (work == 's') {
             must("send", iface_udp_send(&host, socket, &remote, payload, 1400));
@@ -91,8 +96,13 @@ int main(int argc, char **argv) {
         } else {
             must("receive", iface_receive(&host, 0, frame, length, out, sizeof out, &n));
             octets += (long)n;
-            if (work == 'd') {
+            if (work == 'd' || work == 'b') {
                 must("read", iface_udp_receive(&host, socket, &from, payload, sizeof payload, &n));
+                octets += (long)n;
+            }
+            if (work == 'b') {
+                must("send", iface_udp_send(&host, socket, &from, payload, n));
+                must("next", iface_next(&host, 0, out, sizeof out, &n));
                 octets += (long)n;
             }
         }

@@ -19,4 +19,4 @@ done
 set -- "$@" --antt-project "$kit/rattle/logic/antt-project.json" --logic-built "$kit/logic_built" --toolchain "$kit/toolchain"
 mkdir -p "$crates/iface_c/out"
 cd "$crates/iface_c"
-exec "$kit/bin/rattle" build "$@" --backend llvm --jobs 2 -o out/libiface_c.a
+exec "$kit/bin/rattle" build "$@" --backend llvm --jobs "$(nproc)" -o out/libiface_c.a

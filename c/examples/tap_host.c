@@ -105,20 +105,6 @@ static void echo(iface *host, uint32_t socket) {
     }
 }
 
-/* Takes what the device has, at most some frames. */
-static void take_frames(iface *host, uint32_t socket, int tap) {
-    static uint8_t frame[65536], out[IFACE_FRAME_ROOM];
-    size_t length;
-    for (int i = 0; i < BURST; i++) {
-        ssize_t got = read(tap, frame, sizeof frame);
-        if (got <= 0) return;
-        counts.in++;
-        must("receive", iface_receive(host, now_micros(), frame, (size_t)got, out, sizeof out, &length));
-        put(tap, out, length);
-        echo(host, socket);
-    }
-}
-
 /* Sends what is to be sent, and tells how many milliseconds to sleep: -1 until a frame comes. */
 static int send_frames(iface *host, int tap) {
     static uint8_t out[IFACE_FRAME_ROOM];
@@ -131,6 +117,22 @@ static int send_frames(iface *host, int tap) {
     must("poll_at", iface_poll_at(host, now, &at));
     if (at == IFACE_NEVER) return -1;
     return at <= now ? 0 : at - now > 3600000000 ? 3600000 : (int)((at - now + 999) / 1000);
+}
+
+/* Takes what the device has, at most some frames. After each it sends what is to be sent: of a reply in pieces the others wait,
+ * and the next reply in pieces would take their place. */
+static void take_frames(iface *host, uint32_t socket, int tap) {
+    static uint8_t frame[65536], out[IFACE_FRAME_ROOM];
+    size_t length;
+    for (int i = 0; i < BURST; i++) {
+        ssize_t got = read(tap, frame, sizeof frame);
+        if (got <= 0) return;
+        counts.in++;
+        must("receive", iface_receive(host, now_micros(), frame, (size_t)got, out, sizeof out, &length));
+        put(tap, out, length);
+        echo(host, socket);
+        send_frames(host, tap);
+    }
 }
 
 int main(int argc, char **argv) {
