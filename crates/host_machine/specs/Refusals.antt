@@ -48,7 +48,7 @@ pub record LosesNothing (H : Host) (answer : PollResult) (told : List Event) (no
   pub unnoted : notes ≡ []
   pub waits : StillWaits H new
 
--- where the device gives no leave, nothing is lost but a report of MLD that is due
+-- where the device gives no leave, this still waits; a report of MLD that is due is given up
 abbrev pub RefusalsLoseNothing : Type 0
 RefusalsLoseNothing =
     (t : ℤ) (answer : PollResult) (old new : Host) (told : List Event) (notes : List Note) →

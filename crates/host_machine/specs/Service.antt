@@ -262,8 +262,7 @@ pub record WasAsked (t : ℤ) (notes : List Note) (new : Host) : Type 0 where
   pub noted : asks notes ≡ front ++ (t ∷ back)
   pub silence : new.neighbors.silent_until ≡ silence_from t
 
--- as long as a datagram waits for its next hop, each call that sends behind the silence, and is given each leave, asks for some next hop: of its own, or of
--- another socket's packet that was asked for before it
+-- as long as a datagram waits for its next hop, each call that sends behind the silence, and is given each leave, asks for some next hop
 abbrev pub RequestsGo : Type 0
 RequestsGo =
     (own : EthernetAddress) (t : ℤ) (answer : PollResult) (old new : Host) (told : List Event) (notes : List Note) (i : ℕ) (s : UdpSocket) (p : Packet) (hop : IpAddress)
@@ -399,8 +398,8 @@ PollsEndInCalls =
     (t : ℤ) (budget : ℕ) (answer : PollResult) (old new : Host) (told : List Event) (notes : List Note) →
     Polls t budget answer old told notes new → 1 ≤ budget → EndsIn t told new
 
--- what may still be due at a moment behind a call that sends: what has to be brought into line, which a poll does; and where more of the same stands behind what went: a piece
--- that is left, the next report of IGMP, and a socket that has one packet less to send
+-- what may still be due at a moment behind a call that sends: what has to be brought into line, which a poll does, a piece that is left, the next report of IGMP, and
+-- a socket that has one packet less to send
 pub data IsStillDue (H new : Host) : Type 0 where
   StillLine : sync_instant new ≡ Some (pos 0) → IsStillDue H new
   StillPiece : (piece : Piece) (rest : List Piece) → new.left ≡ piece ∷ rest → IsStillDue H new
@@ -427,7 +426,8 @@ RequestFramesAreRead =
     is_assigned addrs (Ipv4 r.target_protocol_addr) ≡ true → ipv4.is_unicast r.source_protocol_addr ≡ true → ethernet.is_unicast r.source_hardware_addr ≡ true →
     in_same_network addrs (Ipv4 r.source_protocol_addr) ≡ true → AsksByArp own addrs (request_frame source destination r padding) r
 
--- so of a poll to which no frame is handed over, and which is given each leave: whatever is due behind it stands behind what went in its last call
+-- so of a poll to which no frame is handed over, and which is given each leave: where something is due behind it, one of these is there, where packets are counted
+-- from some host
 abbrev pub PollsLeaveLittle : Type 0
 PollsLeaveLittle =
     (t : ℤ) (budget : ℕ) (answer : PollResult) (old new : Host) (told : List Event) (notes : List Note) (x : ℤ) →

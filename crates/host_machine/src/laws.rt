@@ -76,9 +76,9 @@ pub fn run_is_determined()
     ensures { RunIsDetermined }
 {}
 
-/// A call that sends, where the device gives no leave, sends nothing, notes nothing and loses nothing that waits
-/// but a report of MLD that is due: pieces, router solicitations, joins and leaves, reports of IGMP and the packets
-/// of sockets still wait, and what is known of neighbours and routers stays.
+/// A call that sends, where the device gives no leave, sends nothing and notes nothing. Pieces and router solicitations
+/// still wait, and with an IPv4 address groups and a report of IGMP for one that is there. Neighbours and routers stay
+/// known. A report of MLD that is due is given up, and a socket that is asked may drop what can't be sent.
 pub fn refusals_lose_nothing()
     ensures { RefusalsLoseNothing }
 {}
@@ -394,8 +394,8 @@ pub fn polls_end_in_calls()
     ensures { PollsEndInCalls }
 {}
 
-/// So whatever `poll_at` names behind it, at a moment that has come, stands behind something of its kind that went: a
-/// piece that is left, the next report of IGMP, or a socket that has one packet less; or it has to be brought into line, which a poll does.
+/// So where `poll_at` names a moment behind it that has come, there is a piece that is left, the next report of IGMP, or a
+/// socket that has one packet less; or something has to be brought into line, which a poll does.
 pub fn little_stays_due()
     ensures { LittleStaysDue }
 {}
@@ -405,8 +405,8 @@ pub fn request_frames_are_read()
     ensures { RequestFramesAreRead }
 {}
 
-/// So of a poll with a budget, to which no frame is handed over and which is given each leave: whatever is due behind
-/// it, at a moment that has come, stands behind something of its kind that went in the poll's last call.
+/// So of a poll with a budget, to which no frame is handed over and which is given each leave: where something is due
+/// behind it, at a moment that has come, one of the four is there, where packets are counted from some host.
 pub fn polls_leave_little()
     ensures { PollsLeaveLittle }
 {}
