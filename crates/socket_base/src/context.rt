@@ -10,10 +10,13 @@ pub trait SocketContext {
     ghost use Rattle.std.specs.Prelude.{ℤ, Bool, Option};
     ghost use Rattle.ip_address.specs.declared.ip.IpAddress.{IpAddress};
 
+    /// The moment at which the socket is asked, in microseconds since the origin of its clock.
     ghost moment: { Self → ℤ };
 
+    /// The source address for what goes to a destination, `None` if there is none.
     ghost source_for: { Self → IpAddress → Option IpAddress };
 
+    /// Whether an address is the broadcast address of all networks, or of one of the host's.
     ghost is_broadcast_in: { Self → IpAddress → Bool };
 
     /// The moment at which the socket is asked.

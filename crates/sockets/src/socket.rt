@@ -104,8 +104,10 @@ pub trait AnySocketOf<L>: Sized + Drop {
     ghost use Rattle.sockets.specs.contracts.socket.SocketOf.{the_row as socket_row};
     ghost use Rattle.sockets.specs.Kinds.{own_port};
 
+    /// A socket of this kind as a socket of any kind.
     ghost up: { Self → SocketOf L };
 
+    /// The socket of this kind that a socket of any kind is, `None` if it is of another kind.
     ghost down: { SocketOf L → Option Self };
 
     /// It as a socket of any kind.

@@ -1,0 +1,106 @@
+#!/usr/bin/env python3
+"""The reference of all public items, as pages of HTML made from the sources: what each is, its
+contract, and the definitions of which contracts speak. Crates of tests are left out.
+
+usage: reference.py [FOLDER]     writes the pages into a folder, out/reference if none is named
+       reference.py --check      writes nothing; names each public item without docs, each link
+                                 that leads nowhere, and each construct of a source that wasn't
+                                 understood
+"""
+import html
+import json
+import pathlib
+import re
+import shutil
+import sys
+import urllib.parse
+
+from reference_definitions import read_specs
+from reference_names import Crate
+from reference_pages import Writer
+from reference_sources import read_sources
+
+HERE = pathlib.Path(__file__).resolve().parent
+TOP = HERE.parent
+SHEETS = ("reference.css", "reference.js")
+
+
+def read_crates(problems):
+    """The crates that crates.txt lists, without those of tests, each with its layer."""
+    lines = (TOP / "crates.txt").read_text(encoding="utf-8").split("\n")
+    named = {}
+    for line in lines:
+        head, _, below = line.partition("#")[0].partition(":")
+        if head.strip():
+            named[head.split()[0]] = below.split()
+    problems += [f"crates/{folder.name}: not in crates.txt"
+                 for folder in sorted((TOP / "crates").iterdir()) if folder.name not in named]
+    crates = {}
+    for name, below in named.items():
+        if name.endswith("_tests"):
+            continue
+        folder = TOP / "crates" / name
+        below = [other for other in below if other in crates]
+        layer = 1 + max((crates[other].layer for other in below), default=0)
+        crates[name] = Crate(name, read_sources(folder, problems), read_specs(folder, problems),
+                             below, layer)
+    return list(crates.values())
+
+
+def test_links(pages, problems):
+    """Tests that each link leads to a page and a place on it, and no two places have one name."""
+    places = {}
+    for name, text in pages.items():
+        places[name] = set()
+        for found in re.findall(r' id="([^"]+)"', text):
+            if found in places[name]:
+                problems.append(f"{name}: a place twice: {found}")
+            places[name].add(found)
+    for name, text in pages.items():
+        for link in sorted(set(re.findall(r'<a[^>]* href="([^"]+)"', text))):
+            file, _, found = link.partition("#")
+            found = html.escape(urllib.parse.unquote(found))
+            if re.match(r"https?:", link):
+                continue
+            if (file or name) not in pages or found and found not in places[file or name]:
+                problems.append(f"{name}: a link leads nowhere: {link}")
+
+
+def make(problems):
+    """All pages with the list of names for the search, and what was counted."""
+    crates = read_crates(problems)
+    writer = Writer(crates, problems)
+    pages = {f"{crate.name}.html": writer.crate(crate) for crate in crates}
+    pages["index.html"] = writer.first_page(crates)
+    test_links(pages, problems)
+    entries = ",\n".join(json.dumps(entry, ensure_ascii=False)
+                         for entry in sorted(set(writer.index)))
+    pages["names.js"] = f"const names = [\n{entries}\n];\n"
+    return pages, f"{len(crates)} crates, {writer.items} public items, {writer.definitions} " \
+        f"definitions; {writer.bare} fields and variants have no docs of their own"
+
+
+def main(arguments):
+    """Writes the pages, or checks the sources."""
+    check = arguments == ["--check"]
+    if len(arguments) > 1 or not check and arguments and arguments[0].startswith("-"):
+        sys.exit(__doc__)
+    problems = []
+    pages, count = make(problems)
+    for problem in problems:
+        print(problem, file=sys.stderr)
+    if check:
+        print(f"{count}; {len(problems) or 'no'} problems")
+        return bool(problems)
+    folder = pathlib.Path(arguments[0]) if arguments else TOP / "out" / "reference"
+    folder.mkdir(parents=True, exist_ok=True)
+    for name, text in pages.items():
+        (folder / name).write_text(text, encoding="utf-8")
+    for name in SHEETS:
+        shutil.copyfile(HERE / name, folder / name)
+    print(f"{count}; {len(pages) + len(SHEETS)} files in {folder}")
+    return False
+
+
+if __name__ == "__main__":
+    sys.exit(main(sys.argv[1:]))
