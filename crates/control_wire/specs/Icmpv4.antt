@@ -2,7 +2,7 @@
 use Rattle.std.specs.Prelude.{◌≡◌, ℕ, ◌+◌, ◌<◌, ◌≤◌, ◌^◌, ◌==◌, Bool, IsTrue, List, [], ◌∷◌, ◌++◌, length, drop, slice_index, if◌then◌else◌}
 use Rattle.std.specs.Borrow.{Bor}
 use Rattle.std.specs.Int.{w16, to_be_bytes}
-use Rattle.wire_base.specs.Checksum.{folded, word_sum, checksum_of}
+use Rattle.wire_base.specs.Checksum.{folded_sum, word_sum, checksum_of}
 use Rattle.wire_base.specs.Octets.{u16_at}
 use Rattle.ip_wire.specs.Ipv4Packet.{IsQuoted, quoted_in, header_text, whole, IsHeader}
 use Rattle.control_wire.specs.declared.icmpv4.Icmpv4DstUnreachable.{Icmpv4DstUnreachable}
@@ -39,7 +39,7 @@ pub data IsBody (octets : List ℕ) : Type 0 where
 -- the octets are a message; its checksum is right if the sum of all of them is all ones
 pub record IsIcmpv4 (checked : Bool) (octets : List ℕ) : Type 0 where
   pub whole_header : 8 ≤ length octets
-  pub sum : IsTrue checked → folded (word_sum octets) ≡ 65535
+  pub sum : IsTrue checked → folded_sum (word_sum octets) ≡ 65535
   pub body : IsBody octets
 
 -- its values and its data
@@ -86,19 +86,19 @@ unfoldable pub head_with : ℕ → Icmpv4Repr → List ℕ
 head_with sum r = type_of r ∷ message_code r ∷ (to_be_bytes w16 sum ++ rest_of r)
 
 -- a quoted header is emitted anew from its values, as that of a whole packet, with its checksum or with 0 in its place
-abbrev pub quoted : Bool → Icmpv4Repr → List ℕ
-quoted quoted_summed (EchoRequest ident seq_no) = []
-quoted quoted_summed (EchoReply ident seq_no) = []
-quoted quoted_summed (DstUnreachable reason header) = header_text quoted_summed header whole
-quoted quoted_summed (TimeExceeded code header) = header_text quoted_summed header whole
+abbrev pub quoted_text : Bool → Icmpv4Repr → List ℕ
+quoted_text quoted_summed (EchoRequest ident seq_no) = []
+quoted_text quoted_summed (EchoReply ident seq_no) = []
+quoted_text quoted_summed (DstUnreachable reason header) = header_text quoted_summed header whole
+quoted_text quoted_summed (TimeExceeded code header) = header_text quoted_summed header whole
 
 -- its checksum, or 0 where that is off: that of the message with 0 in its place
 abbrev pub sum_of : Bool → Bool → Icmpv4Repr → List ℕ → ℕ
-sum_of summed quoted_summed r octets = if summed then checksum_of (head_with 0 r ++ quoted quoted_summed r ++ octets) else 0
+sum_of summed quoted_summed r octets = if summed then checksum_of (head_with 0 r ++ quoted_text quoted_summed r ++ octets) else 0
 
 -- the text of a message with its data
 abbrev pub text : Bool → Bool → Icmpv4Repr → List ℕ → List ℕ
-text summed quoted_summed r octets = head_with (sum_of summed quoted_summed r octets) r ++ quoted quoted_summed r ++ octets
+text summed quoted_summed r octets = head_with (sum_of summed quoted_summed r octets) r ++ quoted_text quoted_summed r ++ octets
 
 -- a quoted header is one of a packet of at most 65,535 octets
 abbrev pub QuotesPacket : Icmpv4Repr → Type 0
@@ -124,7 +124,7 @@ pub record IsEchoRequest (octets : List ℕ) : Type 0 where
   pub whole_header : 8 ≤ length octets
   pub type : type_in octets ≡ 8
   pub code : code_in octets ≡ 0
-  pub sum : folded (word_sum octets) ≡ 65535
+  pub sum : folded_sum (word_sum octets) ≡ 65535
 
 -- the reply to it gives its identifier and its number back, and its data
 abbrev pub echo_reply_to : List ℕ → Icmpv4Repr

@@ -6,7 +6,7 @@ use Rattle.std.proofs.lemmas.List.{ext_get_or, get_or-take, get_or-drop, get_or_
 use Rattle.net_base.specs.declared.assembler.Range.{Range}
 use Rattle.net_base.specs.Ranges.{AreSeparate, covered, front, IsUnion}
 use Rattle.fragmentation.specs.Fragments.{Fragment, Got, end_of, has_place, is_covered, octet_at, begins_run, runs_below, ranges, allows, is_fit, with_one, IsWhole, IsRebuilt}
-use Rattle.fragmentation.specs.Assembly.{Assembly, is_total, is_refused, is_complete, AreSound, written}
+use Rattle.fragmentation.specs.Assembly.{Assembly, is_total, is_refused, is_complete, AreSound, octets_after_write}
 use Rattle.fragmentation.specs.Stands.{Gathers, with_kept, with_total}
 
 or_swap : (a b c : Bool) → a || (b || c) ≡ b || (a || c)
@@ -154,10 +154,10 @@ many_test : (n : ℕ) → 4 < n → nat_le n 4 ≡ false
 many_test n h = grind (arith, nat_tests)
 
 -- what is written, place by place
-written_at : (xs bytes : List ℕ) (offset p : ℕ) → offset + length bytes ≤ length xs → get_or (written xs offset bytes) p 0 ≡ cond (nat_le offset p && nat_lt p (offset + length bytes)) (get_or bytes (p - offset) 0) (get_or xs p 0)
+written_at : (xs bytes : List ℕ) (offset p : ℕ) → offset + length bytes ≤ length xs → get_or (octets_after_write xs offset bytes) p 0 ≡ cond (nat_le offset p && nat_lt p (offset + length bytes)) (get_or bytes (p - offset) 0) (get_or xs p 0)
 written_at xs bytes offset p h =
     let front_length : length (take offset xs) ≡ offset = omega (arith, length-take offset xs) in
-    elim (nat_le offset p) as (λ b. nat_le offset p ≡ b → get_or (written xs offset bytes) p 0 ≡ cond (b && nat_lt p (offset + length bytes)) (get_or bytes (p - offset) 0) (get_or xs p 0)) [
+    elim (nat_le offset p) as (λ b. nat_le offset p ≡ b → get_or (octets_after_write xs offset bytes) p 0 ≡ cond (b && nat_lt p (offset + length bytes)) (get_or bytes (p - offset) 0) (get_or xs p 0)) [
       | true ↦ λ t.
           let low : offset ≤ p = grind (arith, nat_tests) in
           get_or-append_right (take offset xs) (bytes ++ drop (offset + length bytes) xs) offset p 0 front_length low
@@ -203,7 +203,7 @@ module _ {K : Type 0} where
       ∙ runs_of 0 4096 rs u.separate (λ p k. below_end s.ranges f p w (sound.within p) (sym (u.covers p) ∙ k))
 
   -- a place that took a fragment's octets
-  pub gathers_more : (s : Assembly K) (g : Got) (f : Fragment) (rs : List Range) (xs : List ℕ) → Gathers s g → AreSound s.ranges → IsUnion s.ranges rs f.offset (end_of f) → end_of f ≤ 4096 → length s.octets ≡ 4096 → length rs ≤ 4 → xs ≡ written s.octets f.offset f.octets → Gathers (record s { ranges = rs; octets = xs }) (with_kept g f)
+  pub gathers_more : (s : Assembly K) (g : Got) (f : Fragment) (rs : List Range) (xs : List ℕ) → Gathers s g → AreSound s.ranges → IsUnion s.ranges rs f.offset (end_of f) → end_of f ≤ 4096 → length s.octets ≡ 4096 → length rs ≤ 4 → xs ≡ octets_after_write s.octets f.offset f.octets → Gathers (record s { ranges = rs; octets = xs }) (with_kept g f)
   gathers_more s g f rs xs h sound u w long few e =
       let n = ranges_are s g f rs h sound u w in
       rw (n, few_test (length rs) few) (record {

@@ -5,9 +5,9 @@ use Rattle.std.proofs.lemmas.Bool.Decides.{nat_tests}
 use Rattle.std.proofs.Math.Path.{fun_ext}
 use Rattle.std.proofs.lemmas.List.{length-set}
 use Rattle.std.specs.List.{refill}
-use Rattle.fragmentation.specs.Assembly.{Assembly, keyed, free_place, place_for, has_key, IsFree, taken, with_key, with_keys, keys_of, taken_at, AreApart, AreKept}
+use Rattle.fragmentation.specs.Assembly.{Assembly, index_of_key, free_slot, slot_for, has_key, IsFree, taken, with_key, with_keys, keys_of, taken_at, AreApart, AreKept}
 use Rattle.fragmentation.specs.Lending.{FreedIfLent}
-use Rattle.fragmentation.proofs.PlacesLemmas.{choose_keyed, keyed-le, refilled}
+use Rattle.fragmentation.proofs.PlacesLemmas.{choose_keyed, index_of_key-le, refilled}
 
 no_key : {A : Type 0} (k : A) → None ≡ Some k → ⊥
 no_key k e = cc
@@ -122,42 +122,42 @@ module _ {K : Type 0} where
 
   module _ (eq : K → K → Bool) (reflexive : (k : K) → eq k k ≡ true) where
     -- where a key has no place, none is taken for it
-    keyed_none : (k : K) (ss : List (Assembly K)) (j : ℕ) → keyed eq k ss ≡ length ss → slice_get (keys_of ss) j ≡ Some (Some k) → ⊥
+    keyed_none : (k : K) (ss : List (Assembly K)) (j : ℕ) → index_of_key eq k ss ≡ length ss → slice_get (keys_of ss) j ≡ Some (Some k) → ⊥
     keyed_none k [] j h e = no_key (Some k) e
     keyed_none k (s ∷ ss) zero h e =
         let own : has_key eq k s.key ≡ true = ap (has_key eq k) (same_some s.key (Some k) e) ∙ reflexive k in
-        let first : cond (has_key eq k s.key) 0 (keyed eq k ss + 1) ≡ 0 = ap (λ b. cond b 0 (keyed eq k ss + 1)) own in
+        let first : cond (has_key eq k s.key) 0 (index_of_key eq k ss + 1) ≡ 0 = ap (λ b. cond b 0 (index_of_key eq k ss + 1)) own in
         omega arith
     keyed_none k (s ∷ ss) (suc j) h e =
-        elim (has_key eq k s.key) as (λ b. cond b 0 (keyed eq k ss + 1) ≡ suc (length ss) → ⊥) [
+        elim (has_key eq k s.key) as (λ b. cond b 0 (index_of_key eq k ss + 1) ≡ suc (length ss) → ⊥) [
           | true ↦ λ h. omega arith
           | false ↦ λ h. keyed_none k ss j (omega arith) e
         ] h
 
     -- and its place is taken
-    keyed_some : (k : K) (ss : List (Assembly K)) → keyed eq k ss < length ss → slice_get (keys_of ss) (keyed eq k ss) ≡ Some None → ⊥
+    keyed_some : (k : K) (ss : List (Assembly K)) → index_of_key eq k ss < length ss → slice_get (keys_of ss) (index_of_key eq k ss) ≡ Some None → ⊥
     keyed_some k [] h e = omega arith
     keyed_some k (s ∷ ss) h e =
-        elim s.key as (λ o. cond (has_key eq k o) 0 (keyed eq k ss + 1) < suc (length ss) → slice_get (o ∷ keys_of ss) (cond (has_key eq k o) 0 (keyed eq k ss + 1)) ≡ Some None → ⊥) [
+        elim s.key as (λ o. cond (has_key eq k o) 0 (index_of_key eq k ss + 1) < suc (length ss) → slice_get (o ∷ keys_of ss) (cond (has_key eq k o) 0 (index_of_key eq k ss + 1)) ≡ Some None → ⊥) [
           | None ↦ λ l f. keyed_some k ss (omega arith) (rw add-one at f)
           | Some q ↦ λ l f.
-              elim (eq q k) as (λ b. cond b 0 (keyed eq k ss + 1) < suc (length ss) → slice_get (Some q ∷ keys_of ss) (cond b 0 (keyed eq k ss + 1)) ≡ Some None → ⊥) [
+              elim (eq q k) as (λ b. cond b 0 (index_of_key eq k ss + 1) < suc (length ss) → slice_get (Some q ∷ keys_of ss) (cond b 0 (index_of_key eq k ss + 1)) ≡ Some None → ⊥) [
                 | true ↦ λ l f. no_key q (sym (same_some (Some q) None f))
                 | false ↦ λ l f. keyed_some k ss (omega arith) (rw add-one at f)
               ] l f
         ] h e
 
     -- where the place that serves a key is free, no place is taken for the key
-    unserved : (k : K) (ss : List (Assembly K)) (i j : ℕ) → i ≡ place_for eq k ss → slice_get (keys_of ss) i ≡ Some None → slice_get (keys_of ss) j ≡ Some (Some k) → ⊥
+    unserved : (k : K) (ss : List (Assembly K)) (i j : ℕ) → i ≡ slot_for eq k ss → slice_get (keys_of ss) i ≡ Some None → slice_get (keys_of ss) j ≡ Some (Some k) → ⊥
     unserved k ss i j is free there =
-        elim (below_or_at (keyed eq k ss) (length ss) (keyed-le eq k ss)) [
-          | inl below ↦ keyed_some k ss below (ap (slice_get (keys_of ss)) (sym (is ∙ choose_keyed (keyed eq k ss) (length ss) (free_place ss) below)) ∙ free)
+        elim (below_or_at (index_of_key eq k ss) (length ss) (index_of_key-le eq k ss)) [
+          | inl below ↦ keyed_some k ss below (ap (slice_get (keys_of ss)) (sym (is ∙ choose_keyed (index_of_key eq k ss) (length ss) (free_slot ss) below)) ∙ free)
           | inr at ↦ keyed_none k ss j at there
         ]
 
-    pub apart_taken : (k : K) (end : ℤ) (ss : List (Assembly K)) → AreApart (keys_of ss) → AreApart (keys_of (taken_at (place_for eq k ss) k end ss))
+    pub apart_taken : (k : K) (end : ℤ) (ss : List (Assembly K)) → AreApart (keys_of ss) → AreApart (keys_of (taken_at (slot_for eq k ss) k end ss))
     apart_taken k end ss h a b q at_a at_b =
-        let i = place_for eq k ss in
+        let i = slot_for eq k ss in
         let other : (c : ℕ) → slice_get (keys_of ss) i ≡ Some None → slice_get (keys_of ss) c ≡ Some (Some q) → q ≡ k → ⊥ = λ c free there same. unserved k ss i c refl free (there ∙ ap (λ (x : K). Some (Some x)) same) in
         elim (taken_there i k end ss a q at_a) [
           | inl f ↦ elim (taken_there i k end ss b q at_b) [
@@ -172,48 +172,48 @@ module _ {K : Type 0} where
 
   -- the key and the place that were found for it, and what the keys and the places are then
   pub record Took (eq : K → K → Bool) (k : K) (end : ℤ) (os : List (Option K)) (ss : List (Assembly K)) (p : ℕ) (ks : List (Option K)) (ps : List (Assembly K)) : Type 0 where
-    pub place : p ≡ place_for eq k (with_keys os ss)
-    pub taken : ps ≡ taken_at (place_for eq k (with_keys os ss)) k end (with_keys os ss)
+    pub slot : p ≡ slot_for eq k (with_keys os ss)
+    pub taken : ps ≡ taken_at (slot_for eq k (with_keys os ss)) k end (with_keys os ss)
     pub keys : ks ≡ keys_of ps
 
   -- where they were lent as slices
   pub took_of : {eq : K → K → Bool} {k : K} {end : ℤ} {os os' : List (Option K)} {ss ss' : List (Assembly K)} {p : ℕ} {ks : List (Option K)} {ps : List (Assembly K)} → os' ≡ os → ss' ≡ ss
-      → p ≡ place_for eq k (with_keys os' ss') → ps ≡ taken_at (place_for eq k (with_keys os' ss')) k end (with_keys os' ss') → ks ≡ keys_of ps → Took eq k end os ss p ks ps
-  took_of e f place taken keys = record { place = rw (e, f) at place; taken = rw (e, f) at taken; keys = keys }
+      → p ≡ slot_for eq k (with_keys os' ss') → ps ≡ taken_at (slot_for eq k (with_keys os' ss')) k end (with_keys os' ss') → ks ≡ keys_of ps → Took eq k end os ss p ks ps
+  took_of e f slot taken keys = record { slot = rw (e, f) at slot; taken = rw (e, f) at taken; keys = keys }
 
   module _ (eq : K → K → Bool) (reflexive : (k : K) → eq k k ≡ true) (k : K) (end : ℤ) (os : List (Option K)) (ss : List (Assembly K)) (p : ℕ) (ks : List (Option K)) (ps : List (Assembly K)) (kept : AreKept os ss) (took : Took eq k end os ss p ks ps) where
     pub length-shown : length (with_keys os ss) ≡ 2
     length-shown = length-with_keys os ss (kept.keys ∙ sym kept.places) ∙ kept.places
 
     length-places : length ps ≡ 2
-    length-places = ap length took.taken ∙ length-taken_at (place_for eq k (with_keys os ss)) k end (with_keys os ss) ∙ length-shown
+    length-places = ap length took.taken ∙ length-taken_at (slot_for eq k (with_keys os ss)) k end (with_keys os ss) ∙ length-shown
 
     length-keys : length ks ≡ 2
     length-keys = ap length took.keys ∙ length-keys_of ps ∙ length-places
 
-    keys_are : refill (length os) os ks ≡ keys_of (taken_at (place_for eq k (with_keys os ss)) k end (with_keys os ss))
+    keys_are : refill (length os) os ks ≡ keys_of (taken_at (slot_for eq k (with_keys os ss)) k end (with_keys os ss))
     keys_are = refilled os ks (length-keys ∙ sym kept.keys) ∙ took.keys ∙ ap keys_of took.taken
 
-    places_are : refill (length ss) ss ps ≡ taken_at (place_for eq k (with_keys os ss)) k end (with_keys os ss)
+    places_are : refill (length ss) ss ps ≡ taken_at (slot_for eq k (with_keys os ss)) k end (with_keys os ss)
     places_are = refilled ss ps (length-places ∙ sym kept.places) ∙ took.taken
 
     apart_then : AreApart (refill (length os) os ks)
     apart_then = rw keys_are (apart_taken eq reflexive k end (with_keys os ss) (apart_with os ss kept.apart))
 
     pub kept_then : AreKept (refill (length os) os ks) (refill (length ss) ss ps)
-    kept_then = record { keys = ap length keys_are ∙ length-keys_of (taken_at (place_for eq k (with_keys os ss)) k end (with_keys os ss)) ∙ sym (ap length took.taken) ∙ length-places; places = ap length places_are ∙ sym (ap length took.taken) ∙ length-places; apart = apart_then }
+    kept_then = record { keys = ap length keys_are ∙ length-keys_of (taken_at (slot_for eq k (with_keys os ss)) k end (with_keys os ss)) ∙ sym (ap length took.taken) ∙ length-places; places = ap length places_are ∙ sym (ap length took.taken) ∙ length-places; apart = apart_then }
 
     pub kept_lent : (w : Assembly K) → AreKept (refill (length os) os ks) (slice_set (refill (length ss) ss ps) p w)
     kept_lent w = record { keys = kept_then.keys; places = length-set (refill (length ss) ss ps) p w ∙ kept_then.places; apart = apart_then }
 
-    pub shown_place : (d : Assembly K) → p < length (with_keys os ss) → get_or (refill (length ss) ss ps) p d ≡ taken k end (get_or (with_keys os ss) (place_for eq k (with_keys os ss)) d)
-    shown_place d h = ap (λ (xs : List (Assembly K)). get_or xs p d) places_are ∙ ap (λ i. get_or (taken_at (place_for eq k (with_keys os ss)) k end (with_keys os ss)) i d) took.place ∙ get_taken (place_for eq k (with_keys os ss)) k end (with_keys os ss) d (rw took.place at h)
+    pub shown_place : (d : Assembly K) → p < length (with_keys os ss) → get_or (refill (length ss) ss ps) p d ≡ taken k end (get_or (with_keys os ss) (slot_for eq k (with_keys os ss)) d)
+    shown_place d h = ap (λ (xs : List (Assembly K)). get_or xs p d) places_are ∙ ap (λ i. get_or (taken_at (slot_for eq k (with_keys os ss)) k end (with_keys os ss)) i d) took.slot ∙ get_taken (slot_for eq k (with_keys os ss)) k end (with_keys os ss) d (rw took.slot at h)
 
-    pub lent_shown : (o : Option K) (d : Assembly K) → p < length (with_keys os ss) → o ≡ (taken k end (get_or (with_keys os ss) (place_for eq k (with_keys os ss)) d)).key
-        → ◌≡◌ {A = Assembly K → List (Assembly K)} (λ w. with_keys (refill (length os) os ks) (slice_set (refill (length ss) ss ps) p w)) (λ w. slice_set (with_keys os ss) (place_for eq k (with_keys os ss)) (with_key o w))
-    lent_shown o d h e = rw (keys_are, places_are, took.place) (lent_as (place_for eq k (with_keys os ss)) k end (with_keys os ss) o d (rw took.place at h) e)
+    pub lent_shown : (o : Option K) (d : Assembly K) → p < length (with_keys os ss) → o ≡ (taken k end (get_or (with_keys os ss) (slot_for eq k (with_keys os ss)) d)).key
+        → ◌≡◌ {A = Assembly K → List (Assembly K)} (λ w. with_keys (refill (length os) os ks) (slice_set (refill (length ss) ss ps) p w)) (λ w. slice_set (with_keys os ss) (slot_for eq k (with_keys os ss)) (with_key o w))
+    lent_shown o d h e = rw (keys_are, places_are, took.slot) (lent_as (slot_for eq k (with_keys os ss)) k end (with_keys os ss) o d (rw took.slot at h) e)
 
     pub none_shown : length (with_keys os ss) ≤ p → with_keys (refill (length os) os ks) (refill (length ss) ss ps) ≡ with_keys os ss
     none_shown h =
-        ap (λ xs. with_keys xs (refill (length ss) ss ps)) keys_are ∙ ap (with_keys (keys_of (taken_at (place_for eq k (with_keys os ss)) k end (with_keys os ss)))) places_are
-        ∙ with_own_keys (taken_at (place_for eq k (with_keys os ss)) k end (with_keys os ss)) ∙ taken_beyond (place_for eq k (with_keys os ss)) k end (with_keys os ss) (rw took.place at h)
+        ap (λ xs. with_keys xs (refill (length ss) ss ps)) keys_are ∙ ap (with_keys (keys_of (taken_at (slot_for eq k (with_keys os ss)) k end (with_keys os ss)))) places_are
+        ∙ with_own_keys (taken_at (slot_for eq k (with_keys os ss)) k end (with_keys os ss)) ∙ taken_beyond (slot_for eq k (with_keys os ss)) k end (with_keys os ss) (rw took.slot at h)

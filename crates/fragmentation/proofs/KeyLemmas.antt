@@ -9,7 +9,7 @@ use Rattle.std.specs.FinMap as map
 use Rattle.std.specs.FinMap.{IsAntisymmetric, nat_cmp-IsAntisymmetric, same_map, get-insert, get-remove, get-empty, get-retain_keys, len-insert}
 use Rattle.fragmentation.specs.declared.key.FragKey.{FragKey}
 use Rattle.fragmentation.specs.Keys.{key_cmp}
-use Rattle.fragmentation.specs.Slots.{Slot, Slots, has_ended, left_at}
+use Rattle.fragmentation.specs.Slots.{Slot, Slots, has_ended, live_at}
 
 pub key_total : IsTotalOrder key_cmp
 key_total = then_total (on_total (λ (k : FragKey). k.identification) nat_cmp_total) (then_total (on_total (λ (k : FragKey). k.src_addr.bits) nat_cmp_total)
@@ -124,26 +124,26 @@ pub len_out : (m : Slots) (k : FragKey) (v : Slot) → map.get m k ≡ Some v �
 len_out m k v e = sym (ap map.len (out_put m k v e)) ∙ len-insert key_total (map.remove m k) k v ∙ rw (get_out m k) refl
 
 -- what is left at t
-pub get_left : (t : ℤ) (m : Slots) (q : FragKey) → map.get (left_at t m) q ≡ cond (not (has_ended t (map.get m q))) (map.get m q) None
+pub get_left : (t : ℤ) (m : Slots) (q : FragKey) → map.get (live_at t m) q ≡ cond (not (has_ended t (map.get m q))) (map.get m q) None
 get_left t m q = get-retain_keys m (λ k. not (has_ended t (map.get m k))) q (λ x e. ap (λ k. not (has_ended t (map.get m k))) (sym (key_same q x e)))
 
 left_out : (t : ℤ) (b : Bool) (o : Option Slot) → cond b None (cond (not (has_ended t o)) o None) ≡ cond (not (has_ended t (cond b None o))) (cond b None o) None
 left_out t true o = refl
 left_out t false o = refl
 
-pub left_remove : (t : ℤ) (m : Slots) (k : FragKey) → map.remove (left_at t m) k ≡ left_at t (map.remove m k)
+pub left_remove : (t : ℤ) (m : Slots) (k : FragKey) → map.remove (live_at t m) k ≡ live_at t (map.remove m k)
 left_remove t m k = same _ _ (λ q.
-    get-remove key_total (left_at t m) k q ∙ ap (cond (eq_by_cmp key_cmp q k) None) (get_left t m q) ∙ left_out t (eq_by_cmp key_cmp q k) (map.get m q)
+    get-remove key_total (live_at t m) k q ∙ ap (cond (eq_by_cmp key_cmp q k) None) (get_left t m q) ∙ left_out t (eq_by_cmp key_cmp q k) (map.get m q)
     ∙ sym (ap (λ (o : Option Slot). cond (not (has_ended t o)) o None) (get-remove key_total m k q)) ∙ sym (get_left t (map.remove m k) q))
 
 -- a slot that has ended is not left
-pub left_ended : (t : ℤ) (m : Slots) (k : FragKey) → has_ended t (map.get m k) ≡ true → left_at t (map.remove m k) ≡ left_at t m
-left_ended t m k e = sym (left_remove t m k) ∙ out_absent (left_at t m) k (get_left t m k ∙ rw e refl)
+pub left_ended : (t : ℤ) (m : Slots) (k : FragKey) → has_ended t (map.get m k) ≡ true → live_at t (map.remove m k) ≡ live_at t m
+left_ended t m k e = sym (left_remove t m k) ∙ out_absent (live_at t m) k (get_left t m k ∙ rw e refl)
 
-pub left_kept : (t : ℤ) (m : Slots) (k : FragKey) → has_ended t (map.get m k) ≡ false → map.get (left_at t m) k ≡ map.get m k
+pub left_kept : (t : ℤ) (m : Slots) (k : FragKey) → has_ended t (map.get m k) ≡ false → map.get (live_at t m) k ≡ map.get m k
 left_kept t m k e = get_left t m k ∙ rw e refl
 
-pub left_none : (t : ℤ) → left_at t map.empty ≡ map.empty
+pub left_none : (t : ℤ) → live_at t map.empty ≡ map.empty
 left_none t = same _ _ (λ q. get_left t map.empty q ∙ rw (get-empty {X = Slot} key_cmp q) refl)
 
 ties : (r s : Ordering) → is_eq (ordering_then r s) ≡ is_eq r && is_eq s

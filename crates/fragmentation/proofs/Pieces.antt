@@ -22,8 +22,8 @@ take_more (suc n) zero xs more = refl
 take_more (suc n) (suc m) [] more = refl
 take_more (suc n) (suc m) (x ∷ xs) more = ap (λ ys. x ∷ ys) (take_more n m xs (omega (arith, more)))
 
-behind : (len a : ℕ) (buffer : List ℕ) → a ≤ len → drop a (take len buffer) ≡ take (len - a) (drop a buffer)
-behind len a buffer within = ap (λ n. drop a (take n buffer)) whole ∙ drop-take a (len - a) buffer where
+after : (len a : ℕ) (buffer : List ℕ) → a ≤ len → drop a (take len buffer) ≡ take (len - a) (drop a buffer)
+after len a buffer within = ap (λ n. drop a (take n buffer)) whole ∙ drop-take a (len - a) buffer where
   whole : len ≡ a + (len - a)
   whole = omega (arith, within)
 
@@ -31,10 +31,10 @@ behind len a buffer within = ap (λ n. drop a (take n buffer)) whole ∙ drop-ta
 pub piece_octets : (len a size end : ℕ) (buffer : List ℕ) → a ≤ len → end ≡ min len (a + size) → take (end - a) (drop a buffer) ≡ take size (drop a (take len buffer))
 piece_octets len a size end buffer within ends = by_end (nat_le len (a + size)) refl where
   by_end : (b : Bool) → nat_le len (a + size) ≡ b → take (end - a) (drop a buffer) ≡ take size (drop a (take len buffer))
-  by_end true last = ap (λ n. take n (drop a buffer)) rest ∙ sym (ap (take size) (behind len a buffer within) ∙ take_more size (len - a) (drop a buffer) (grind (arith, nat_tests))) where
+  by_end true last = ap (λ n. take n (drop a buffer)) rest ∙ sym (ap (take size) (after len a buffer within) ∙ take_more size (len - a) (drop a buffer) (grind (arith, nat_tests))) where
     rest : end - a ≡ len - a
     rest = grind (arith, nat_tests)
-  by_end false more = ap (λ n. take n (drop a buffer)) whole ∙ sym (ap (take size) (behind len a buffer within) ∙ take_fewer size (len - a) (drop a buffer) (grind (arith, nat_tests))) where
+  by_end false more = ap (λ n. take n (drop a buffer)) whole ∙ sym (ap (take size) (after len a buffer within) ∙ take_fewer size (len - a) (drop a buffer) (grind (arith, nat_tests))) where
     whole : end - a ≡ size
     whole = grind (arith, nat_tests)
 

@@ -4,7 +4,7 @@ use Rattle.std.proofs.lemmas.Bool.Decides.{nat_tests}
 use Rattle.std.proofs.lemmas.List.{take_all, drop_all, append-nil}
 use Rattle.std.specs.List.{refill}
 use Rattle.std.specs.Prelude.{cond, is_none, ◌==◌}
-use Rattle.fragmentation.specs.Assembly.{Assembly, keyed, free_place, place_for, has_key}
+use Rattle.fragmentation.specs.Assembly.{Assembly, index_of_key, free_slot, slot_for, has_key}
 
 pub choose_keyed : (k n f : ℕ) → k < n → cond (k == n) f k ≡ k
 choose_keyed k n f h = grind (arith, nat_tests)
@@ -13,19 +13,19 @@ pub choose_free : (k n f : ℕ) → k ≡ n → cond (k == n) f k ≡ f
 choose_free k n f h = grind (arith, nat_tests)
 
 module _ {K : Type 0} where
-  pub keyed-le : (eq : K → K → Bool) (k : K) (ss : List (Assembly K)) → keyed eq k ss ≤ length ss
-  keyed-le eq k [] = omega arith
-  keyed-le eq k (s ∷ ss) =
-      elim (has_key eq k s.key) as (λ b. cond b 0 (keyed eq k ss + 1) ≤ suc (length ss)) [ true ↦ omega arith | false ↦ let h = keyed-le eq k ss in omega arith ]
+  pub index_of_key-le : (eq : K → K → Bool) (k : K) (ss : List (Assembly K)) → index_of_key eq k ss ≤ length ss
+  index_of_key-le eq k [] = omega arith
+  index_of_key-le eq k (s ∷ ss) =
+      elim (has_key eq k s.key) as (λ b. cond b 0 (index_of_key eq k ss + 1) ≤ suc (length ss)) [ true ↦ omega arith | false ↦ let h = index_of_key-le eq k ss in omega arith ]
 
-  pub free_place-le : (ss : List (Assembly K)) → free_place ss ≤ length ss
-  free_place-le [] = omega arith
-  free_place-le (s ∷ ss) =
-      elim (is_none s.key) as (λ b. cond b 0 (free_place ss + 1) ≤ suc (length ss)) [ true ↦ omega arith | false ↦ let h = free_place-le ss in omega arith ]
+  pub free_slot-le : (ss : List (Assembly K)) → free_slot ss ≤ length ss
+  free_slot-le [] = omega arith
+  free_slot-le (s ∷ ss) =
+      elim (is_none s.key) as (λ b. cond b 0 (free_slot ss + 1) ≤ suc (length ss)) [ true ↦ omega arith | false ↦ let h = free_slot-le ss in omega arith ]
 
   -- a place is at most the length
-  pub place_for-le : (eq : K → K → Bool) (k : K) (ss : List (Assembly K)) → place_for eq k ss ≤ length ss
-  place_for-le eq k ss = elim (keyed eq k ss == length ss) as (λ b. cond b (free_place ss) (keyed eq k ss) ≤ length ss) [ true ↦ free_place-le ss | false ↦ keyed-le eq k ss ]
+  pub slot_for-le : (eq : K → K → Bool) (k : K) (ss : List (Assembly K)) → slot_for eq k ss ≤ length ss
+  slot_for-le eq k ss = elim (index_of_key eq k ss == length ss) as (λ b. cond b (free_slot ss) (index_of_key eq k ss) ≤ length ss) [ true ↦ free_slot-le ss | false ↦ index_of_key-le eq k ss ]
 
 -- a list that is written anew through a slice of it
 pub refilled : {A : Type 0} (xs ws : List A) → length ws ≡ length xs → refill (length xs) xs ws ≡ ws

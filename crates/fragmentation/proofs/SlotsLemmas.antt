@@ -8,7 +8,7 @@ use Rattle.fragmentation.specs.declared.key.FragKey.{FragKey}
 use Rattle.fragmentation.specs.Keys.{key_cmp}
 use Rattle.fragmentation.specs.Slots as slots
 use Rattle.fragmentation.specs.Slots.{Slot, Slots, has_ended}
-use Rattle.fragmentation.specs.Assembly.{Assembly, keyed, free_place, has_key, freed, left_at, AreFree}
+use Rattle.fragmentation.specs.Assembly.{Assembly, index_of_key, free_slot, has_key, slot_after_free, live_at, AreFree}
 use Rattle.fragmentation.specs.Stands.{StandsFor, StandsAt, StandsBefore, StandForSlotsOf, StandForSlots}
 use Rattle.fragmentation.proofs.KeyLemmas.{key_tied, keys_equal, get_put, get_put_apart, get_out, get_out_apart, put_out, put_out_apart, out_out, out_absent, len_out, left_remove, left_ended, left_kept, left_none}
 
@@ -103,13 +103,13 @@ free_at (s ∷ ss) m (suc i) k d new l may e h =
     ))
 
 module _ {K : Type 0} where
-  left_free : (t : ℤ) (s : Assembly K) → s.key ≡ None → left_at t s ≡ s
+  left_free : (t : ℤ) (s : Assembly K) → s.key ≡ None → live_at t s ≡ s
   left_free t s e = rw e refl
 
-  left_expired : (t : ℤ) (s : Assembly K) (k : K) → s.key ≡ Some k → int_lt s.expires_at t ≡ true → left_at t s ≡ freed s
+  left_expired : (t : ℤ) (s : Assembly K) (k : K) → s.key ≡ Some k → int_lt s.expires_at t ≡ true → live_at t s ≡ slot_after_free s
   left_expired t s k e h = rw (e, h) refl
 
-  left_alive : (t : ℤ) (s : Assembly K) (k : K) → s.key ≡ Some k → int_lt s.expires_at t ≡ false → left_at t s ≡ s
+  left_alive : (t : ℤ) (s : Assembly K) (k : K) → s.key ≡ Some k → int_lt s.expires_at t ≡ false → live_at t s ≡ s
   left_alive t s k e h = rw (e, h) refl
 
   ended_as : (t : ℤ) (s : Assembly K) (k : FragKey) (m : Slots) (b : Bool) → StandsAt s k m → int_lt s.expires_at t ≡ b → has_ended t (map.get m k) ≡ b
@@ -117,17 +117,17 @@ module _ {K : Type 0} where
 
 module _ {K : Type 0} (key_of : K → FragKey) where
   -- what is left of the places stands for what is left of the slots
-  pub left_all : (t : ℤ) (ss : List (Assembly K)) (m : Slots) → StandForSlotsOf key_of ss m → StandForSlotsOf key_of (each (left_at t) ss) (slots.left_at t m)
-  left_all t [] m h = ap (slots.left_at t) h ∙ left_none t
+  pub left_all : (t : ℤ) (ss : List (Assembly K)) (m : Slots) → StandForSlotsOf key_of ss m → StandForSlotsOf key_of (each (live_at t) ss) (slots.live_at t m)
+  left_all t [] m h = ap (slots.live_at t) h ∙ left_none t
   left_all t (s ∷ ss) m h =
-      let Others : Slots → Type 0 = StandForSlotsOf key_of (each (left_at t) ss) in
-      cases key_of s (StandForSlotsOf key_of ss) m (λ _. StandsBefore key_of (left_at t s) (left_at t s).key Others (slots.left_at t m)) h
-      (λ e others. same_place key_of s (left_at t s) Others (slots.left_at t m) None (left_free t s e) e (left_all t ss m others))
+      let Others : Slots → Type 0 = StandForSlotsOf key_of (each (live_at t) ss) in
+      cases key_of s (StandForSlotsOf key_of ss) m (λ _. StandsBefore key_of (live_at t s) (live_at t s).key Others (slots.live_at t m)) h
+      (λ e others. same_place key_of s (live_at t s) Others (slots.live_at t m) None (left_free t s e) e (left_all t ss m others))
       (λ k e at others.
       let rest = left_all t ss (map.remove m (key_of k)) others in
-      elim (int_lt s.expires_at t) as (λ b. int_lt s.expires_at t ≡ b → StandsBefore key_of (left_at t s) (left_at t s).key Others (slots.left_at t m)) [
-        | true ↦ λ u. same_place key_of (freed s) (left_at t s) Others (slots.left_at t m) None (left_expired t s k e u) refl (subst Others (left_ended t m (key_of k) (ended_as t s (key_of k) m true at u)) rest)
-        | false ↦ λ u. same_place key_of s (left_at t s) Others (slots.left_at t m) (Some k) (left_alive t s k e u) e
+      elim (int_lt s.expires_at t) as (λ b. int_lt s.expires_at t ≡ b → StandsBefore key_of (live_at t s) (live_at t s).key Others (slots.live_at t m)) [
+        | true ↦ λ u. same_place key_of (slot_after_free s) (live_at t s) Others (slots.live_at t m) None (left_expired t s k e u) refl (subst Others (left_ended t m (key_of k) (ended_as t s (key_of k) m true at u)) rest)
+        | false ↦ λ u. same_place key_of s (live_at t s) Others (slots.live_at t m) (Some k) (left_alive t s k e u) e
             (record { slot = at.slot; found = left_kept t m (key_of k) (ended_as t s (key_of k) m false at u) ∙ at.found; stands = at.stands }, subst Others (sym (left_remove t m (key_of k))) rest)
       ] refl)
 
@@ -144,49 +144,49 @@ len_le (s ∷ ss) m h =
     (λ _ others. let k = len_le ss m others in omega arith)
     (λ k _ at others. let l = len_le ss (map.remove m k) others in let e = len_out m k at.slot at.found in omega arith)
 
-pub has_room : (ss : List (Assembly FragKey)) (m : Slots) → free_place ss < length ss → StandForSlots ss m → map.len m < length ss
+pub has_room : (ss : List (Assembly FragKey)) (m : Slots) → free_slot ss < length ss → StandForSlots ss m → map.len m < length ss
 has_room [] m f h = absurd (omega arith)
 has_room (s ∷ ss) m f h =
-    cases (λ k. k) s (StandForSlots ss) m (λ o. cond (is_none o) 0 (free_place ss + 1) < suc (length ss) → map.len m < suc (length ss)) h
+    cases (λ k. k) s (StandForSlots ss) m (λ o. cond (is_none o) 0 (free_slot ss + 1) < suc (length ss) → map.len m < suc (length ss)) h
     (λ _ others f. let k = len_le ss m others in omega arith)
     (λ k _ at others f. let l = has_room ss (map.remove m k) (omega arith) others in let e = len_out m k at.slot at.found in omega arith) f
 
-pub is_full : (ss : List (Assembly FragKey)) (m : Slots) → free_place ss ≡ length ss → StandForSlots ss m → length ss ≤ map.len m
+pub is_full : (ss : List (Assembly FragKey)) (m : Slots) → free_slot ss ≡ length ss → StandForSlots ss m → length ss ≤ map.len m
 is_full [] m f h = omega arith
 is_full (s ∷ ss) m f h =
-    cases (λ k. k) s (StandForSlots ss) m (λ o. cond (is_none o) 0 (free_place ss + 1) ≡ suc (length ss) → suc (length ss) ≤ map.len m) h
+    cases (λ k. k) s (StandForSlots ss) m (λ o. cond (is_none o) 0 (free_slot ss + 1) ≡ suc (length ss) → suc (length ss) ≤ map.len m) h
     (λ _ others f. absurd (omega arith))
     (λ k _ at others f. let l = is_full ss (map.remove m k) (omega arith) others in let e = len_out m k at.slot at.found in omega arith) f
 
-pub free_key : (ss : List (Assembly FragKey)) (d : Assembly FragKey) → free_place ss < length ss → (get_or ss (free_place ss) d).key ≡ None
+pub free_key : (ss : List (Assembly FragKey)) (d : Assembly FragKey) → free_slot ss < length ss → (get_or ss (free_slot ss) d).key ≡ None
 free_key [] d h = absurd (omega arith)
 free_key (s ∷ ss) d h =
-    elim s.key as (λ o. s.key ≡ o → cond (is_none o) 0 (free_place ss + 1) < suc (length ss) → (get_or (s ∷ ss) (cond (is_none o) 0 (free_place ss + 1)) d).key ≡ None) [
+    elim s.key as (λ o. s.key ≡ o → cond (is_none o) 0 (free_slot ss + 1) < suc (length ss) → (get_or (s ∷ ss) (cond (is_none o) 0 (free_slot ss + 1)) d).key ≡ None) [
       | None ↦ λ e l. e
       | Some k ↦ λ e l. rw add-one (free_key ss d (omega arith))
     ] refl h
 
 -- a test that tells keys apart
 module _ (eq : FragKey → FragKey → Bool) (exact : (a b : FragKey) → eq a b ≡ eq_by_cmp key_cmp a b) where
-  pub keyed_key : (k : FragKey) (ss : List (Assembly FragKey)) (d : Assembly FragKey) → keyed eq k ss < length ss → (get_or ss (keyed eq k ss) d).key ≡ Some k
+  pub keyed_key : (k : FragKey) (ss : List (Assembly FragKey)) (d : Assembly FragKey) → index_of_key eq k ss < length ss → (get_or ss (index_of_key eq k ss) d).key ≡ Some k
   keyed_key k [] d h = absurd (omega arith)
   keyed_key k (s ∷ ss) d h =
-      elim s.key as (λ o. s.key ≡ o → cond (has_key eq k o) 0 (keyed eq k ss + 1) < suc (length ss) → (get_or (s ∷ ss) (cond (has_key eq k o) 0 (keyed eq k ss + 1)) d).key ≡ Some k) [
+      elim s.key as (λ o. s.key ≡ o → cond (has_key eq k o) 0 (index_of_key eq k ss + 1) < suc (length ss) → (get_or (s ∷ ss) (cond (has_key eq k o) 0 (index_of_key eq k ss + 1)) d).key ≡ Some k) [
         | None ↦ λ e l. rw add-one (keyed_key k ss d (omega arith))
         | Some j ↦ λ e.
-            elim (eq j k) as (λ b. eq j k ≡ b → cond b 0 (keyed eq k ss + 1) < suc (length ss) → (get_or (s ∷ ss) (cond b 0 (keyed eq k ss + 1)) d).key ≡ Some k) [
+            elim (eq j k) as (λ b. eq j k ≡ b → cond b 0 (index_of_key eq k ss + 1) < suc (length ss) → (get_or (s ∷ ss) (cond b 0 (index_of_key eq k ss + 1)) d).key ≡ Some k) [
               | true ↦ λ t l. e ∙ ap (λ (x : FragKey). Some x) (keys_equal j k (sym (exact j k) ∙ t))
               | false ↦ λ t l. rw add-one (keyed_key k ss d (omega arith))
             ] refl
       ] refl h
 
-  pub not_there : (k : FragKey) (ss : List (Assembly FragKey)) (m : Slots) → keyed eq k ss ≡ length ss → StandForSlots ss m → map.get m k ≡ None
+  pub not_there : (k : FragKey) (ss : List (Assembly FragKey)) (m : Slots) → index_of_key eq k ss ≡ length ss → StandForSlots ss m → map.get m k ≡ None
   not_there k [] m f h = ap (λ (n : Slots). map.get n k) h ∙ get-empty key_cmp k
   not_there k (s ∷ ss) m f h =
-      cases (λ k. k) s (StandForSlots ss) m (λ o. cond (has_key eq k o) 0 (keyed eq k ss + 1) ≡ suc (length ss) → map.get m k ≡ None) h
+      cases (λ k. k) s (StandForSlots ss) m (λ o. cond (has_key eq k o) 0 (index_of_key eq k ss + 1) ≡ suc (length ss) → map.get m k ≡ None) h
       (λ _ others f. not_there k ss m (omega arith) others)
       (λ j _ at others.
-      elim (eq j k) as (λ b. eq j k ≡ b → cond b 0 (keyed eq k ss + 1) ≡ suc (length ss) → map.get m k ≡ None) [
+      elim (eq j k) as (λ b. eq j k ≡ b → cond b 0 (index_of_key eq k ss + 1) ≡ suc (length ss) → map.get m k ≡ None) [
         | true ↦ λ t f. absurd (omega arith)
         | false ↦ λ t f. sym (get_out_apart m j k (λ same. true_false (sym (exact j k ∙ ap (eq_by_cmp key_cmp j) same ∙ key_tied j) ∙ t))) ∙ not_there k ss (map.remove m j) (omega arith) others
       ] refl) f

@@ -33,8 +33,8 @@ has_key eq k None = false
 has_key eq k (Some j) = eq j k
 
 -- the octets of xs with these from a place on
-abbrev pub written : List ℕ → ℕ → List ℕ → List ℕ
-written xs offset bytes = take offset xs ++ (bytes ++ drop (offset + length bytes) xs)
+abbrev pub octets_after_write : List ℕ → ℕ → List ℕ → List ℕ
+octets_after_write xs offset bytes = take offset xs ++ (bytes ++ drop (offset + length bytes) xs)
 
 module _ {K : Type 0} where
   -- a total was fixed, and it is the first place that wasn't got
@@ -45,14 +45,14 @@ module _ {K : Type 0} where
   abbrev pub with_octets : ℕ → List ℕ → Assembly K → Assembly K
   with_octets offset bytes s =
       let rs = add_range offset (offset + length bytes) s.ranges in
-      if nat_le (length rs) 4 then record s { ranges = rs; octets = written s.octets offset bytes } else s
+      if nat_le (length rs) 4 then record s { ranges = rs; octets = octets_after_write s.octets offset bytes } else s
 
   -- free
-  abbrev pub freed : Assembly K → Assembly K
-  freed s = record { key = None; expires_at = pos 0; total = None; ranges = []; octets = s.octets }
+  abbrev pub slot_after_free : Assembly K → Assembly K
+  slot_after_free s = record { key = None; expires_at = pos 0; total = None; ranges = []; octets = s.octets }
 
   abbrev pub IsFree : Assembly K → Type 0
-  IsFree s = s ≡ freed s
+  IsFree s = s ≡ slot_after_free s
 
   abbrev pub AreFree : List (Assembly K) → Type 0
   AreFree [] = Unit {0}
@@ -63,8 +63,8 @@ module _ {K : Type 0} where
   is_expired t s = not (is_none s.key) && int_lt s.expires_at t
 
   -- what is left of it at t
-  abbrev pub left_at : ℤ → Assembly K → Assembly K
-  left_at t s = if is_expired t s then freed s else s
+  abbrev pub live_at : ℤ → Assembly K → Assembly K
+  live_at t s = if is_expired t s then slot_after_free s else s
 
   -- where it is free, it is taken for a key until an end
   abbrev pub taken : K → ℤ → Assembly K → Assembly K
@@ -111,15 +111,15 @@ module _ {K : Type 0} where
     pub apart : AreApart os
 
   -- the place of the key, or the length
-  abbrev pub keyed : (K → K → Bool) → K → List (Assembly K) → ℕ
-  keyed eq k [] = 0
-  keyed eq k (s ∷ ss) = if has_key eq k s.key then 0 else keyed eq k ss + 1
+  abbrev pub index_of_key : (K → K → Bool) → K → List (Assembly K) → ℕ
+  index_of_key eq k [] = 0
+  index_of_key eq k (s ∷ ss) = if has_key eq k s.key then 0 else index_of_key eq k ss + 1
 
   -- the first free place, or the length
-  abbrev pub free_place : List (Assembly K) → ℕ
-  free_place [] = 0
-  free_place (s ∷ ss) = if is_none s.key then 0 else free_place ss + 1
+  abbrev pub free_slot : List (Assembly K) → ℕ
+  free_slot [] = 0
+  free_slot (s ∷ ss) = if is_none s.key then 0 else free_slot ss + 1
 
   -- the place that serves a key: its own, or else the first free one
-  abbrev pub place_for : (K → K → Bool) → K → List (Assembly K) → ℕ
-  place_for eq k ss = if keyed eq k ss == length ss then free_place ss else keyed eq k ss
+  abbrev pub slot_for : (K → K → Bool) → K → List (Assembly K) → ℕ
+  slot_for eq k ss = if index_of_key eq k ss == length ss then free_slot ss else index_of_key eq k ss

@@ -2,14 +2,14 @@
 use Rattle.std.specs.Prelude.{◌≡◌, ℕ, List, slice_set, Result, Ok, Err, Option, None, Some}
 use Rattle.std.specs.Borrow.{LendsIfOk, Fml, RattleType, MutBor}
 use Rattle.std.specs.Io.BufRead.{Rests}
-use Rattle.fragmentation.specs.Assembly.{Assembly, freed, with_key}
+use Rattle.fragmentation.specs.Assembly.{Assembly, slot_after_free, with_key}
 use Rattle.fragmentation.specs.contracts.reassembly.PacketAssembler.{the_row}
 use Rattle.fragmentation.specs.contracts.reassembly.PacketAssemblerSet as set
 
 -- free where a payload was lent, and as it was where not
 abbrev pub FreedIfLent : {K B : Type 0} → Assembly K → Option B → Assembly K → Type 0
 FreedIfLent old None new = new ≡ old
-FreedIfLent old (Some _) new = new ≡ freed old
+FreedIfLent old (Some _) new = new ≡ slot_after_free old
 
 module _ (K : RattleType) (s : MutBor (Assembly K.Denot)) where
   abbrev pub Frees : {B : Type 0} → Option B → Fml
@@ -18,7 +18,7 @@ module _ (K : RattleType) (s : MutBor (Assembly K.Denot)) where
 module _ (K : RattleType) (s : MutBor (List (Assembly K.Denot))) where
   -- the key for which the place is taken that the reference shows
   abbrev pub key_of : {E : Type 0} → Result (MutBor (Assembly K.Denot)) E → Option K.Denot
-  key_of (Ok place) = place.now.key
+  key_of (Ok slot) = slot.now.key
   key_of (Err e) = None
 
   -- a place ends as what the reference shows last, but that it is of the key for which it was lent, or free. A refusal changes nothing

@@ -2,30 +2,30 @@
 use Rattle.std.specs.Prelude.{◌≡◌, ℕ, ℤ, ◌<◌, ◌≤◌, true, false, List, [], ◌∷◌, ◌++◌, Option, Some, None}
 use Rattle.std.specs.FinMap as map
 use Rattle.fragmentation.specs.declared.key.FragKey.{FragKey}
-use Rattle.fragmentation.specs.Fragments.{Fragment, nothing, is_fit, with_one, IsRebuilt}
+use Rattle.fragmentation.specs.Fragments.{Fragment, no_fragments, is_fit, with_one, IsRebuilt}
 use Rattle.fragmentation.specs.Slots.{Slot, Slots}
 
 -- what happens in the slots, as it is told: a slot is taken for a key; a fragment came under a key, whether or not it is accepted; and
 -- the datagram of a key is rebuilt, which frees its slot
 pub data SlotNote : Type 0 where
   Take : (key : FragKey) → SlotNote
-  Came : (key : FragKey) → (fragment : Fragment) → SlotNote
+  Arrival : (key : FragKey) → (fragment : Fragment) → SlotNote
   Rebuild : (key : FragKey) → (octets : List ℕ) → SlotNote
 
 -- the slot of a key, or a new one with this end where fewer than two are taken
 pub data Enters (ends : ℤ) (key : FragKey) (slots : Slots) (slot : Slot) (notes : List SlotNote) : Type 0 where
   Stood : map.get slots key ≡ Some slot → notes ≡ [] → Enters ends key slots slot notes
-  Taken : map.get slots key ≡ None → map.len slots < 2 → slot ≡ record { got = nothing; ends = ends } → notes ≡ Take key ∷ [] → Enters ends key slots slot notes
+  Taken : map.get slots key ≡ None → map.len slots < 2 → slot ≡ record { got = no_fragments; ends = ends } → notes ≡ Take key ∷ [] → Enters ends key slots slot notes
 
 -- a fragment under a key, and the datagram that it completes, if it does: there is no slot for it; it isn't fit; others are missing; or
 -- the datagram is rebuilt, and the slot free again
 pub data Reassembles (ends : ℤ) (key : FragKey) (f : Fragment) (result : Option (List ℕ)) (slots : Slots) (notes : List SlotNote) (new : Slots) : Type 0 where
-  NoSlot : map.get slots key ≡ None → 2 ≤ map.len slots → result ≡ None → notes ≡ Came key f ∷ [] → new ≡ slots → Reassembles ends key f result slots notes new
+  NoSlot : map.get slots key ≡ None → 2 ≤ map.len slots → result ≡ None → notes ≡ Arrival key f ∷ [] → new ≡ slots → Reassembles ends key f result slots notes new
   Unfit : (slot : Slot) (first : List SlotNote) → Enters ends key slots slot first → is_fit slot.got.total f ≡ false → result ≡ None →
-      notes ≡ first ++ Came key f ∷ [] → new ≡ map.insert slots key slot → Reassembles ends key f result slots notes new
+      notes ≡ first ++ Arrival key f ∷ [] → new ≡ map.insert slots key slot → Reassembles ends key f result slots notes new
   Waits : (slot : Slot) (first : List SlotNote) → Enters ends key slots slot first → is_fit slot.got.total f ≡ true →
-      ((octets : List ℕ) → IsRebuilt (with_one slot.got f) octets → ⊥) → result ≡ None → notes ≡ first ++ Came key f ∷ [] →
+      ((octets : List ℕ) → IsRebuilt (with_one slot.got f) octets → ⊥) → result ≡ None → notes ≡ first ++ Arrival key f ∷ [] →
       new ≡ map.insert slots key (record slot { got = with_one slot.got f }) → Reassembles ends key f result slots notes new
   Rebuilt : (slot : Slot) (first : List SlotNote) (octets : List ℕ) → Enters ends key slots slot first → is_fit slot.got.total f ≡ true →
-      IsRebuilt (with_one slot.got f) octets → result ≡ Some octets → notes ≡ first ++ (Came key f ∷ Rebuild key octets ∷ []) →
+      IsRebuilt (with_one slot.got f) octets → result ≡ Some octets → notes ≡ first ++ (Arrival key f ∷ Rebuild key octets ∷ []) →
       new ≡ map.remove slots key → Reassembles ends key f result slots notes new

@@ -20,5 +20,5 @@ has_ended t None = false
 has_ended t (Some s) = int_lt s.ends t
 
 -- the slots that are left at t
-abbrev pub left_at : ℤ → Slots → Slots
-left_at t slots = map.retain_keys slots (λ k. not (has_ended t (map.get slots k)))
+abbrev pub live_at : ℤ → Slots → Slots
+live_at t slots = map.retain_keys slots (λ k. not (has_ended t (map.get slots k)))

@@ -5,7 +5,7 @@
 ghost use Rattle.std.specs.Prelude.{◌≡◌, List, ◌↔◌, ◌≤◌, ◌<◌, ◌+◌, ◌-◌, ℕ, Bool, nat_le, nat_lt, ◌&&◌, IsTrue, is_none, IsSome, false, IsOk, IsErr, slice_index, slice_index_or, if◌then◌else◌, IfOk, OnOk, OnErr, IfSome, map as each, length, None, Some};
 ghost use Rattle.std.specs.Borrow.{sem};
 ghost use Rattle.fragmentation.specs.Assembly as spec;
-ghost use Rattle.fragmentation.specs.Assembly.{written, keyed, free_place, left_at, with_keys, keys_of, taken_at, AllSound};
+ghost use Rattle.fragmentation.specs.Assembly.{octets_after_write, index_of_key, free_slot, live_at, with_keys, keys_of, taken_at, AllSound};
 ghost use Rattle.fragmentation.specs.Stands.{fragment};
 ghost use Rattle.fragmentation.specs.Reassembled.{RestsReassembled};
 
@@ -104,7 +104,7 @@ impl<K> Default for PacketAssembler<K> {
 }
 
 impl<K: Drop> PacketAssembler<K> {
-    ghost use Rattle.fragmentation.specs.Assembly.{is_complete, freed, is_refused, with_octets};
+    ghost use Rattle.fragmentation.specs.Assembly.{is_complete, slot_after_free, is_refused, with_octets};
     ghost use Rattle.fragmentation.specs.Fragments.{Got, Fragment, is_fit, with_one, IsWhole, IsRebuilt};
     ghost use Rattle.fragmentation.specs.Stands.{fragment, Gathers, with_kept, with_total};
     ghost use Rattle.fragmentation.specs.Lending.{Frees};
@@ -193,7 +193,7 @@ impl<K: Drop> PacketAssembler<K> {
     }
 
     fn reset(&mut self)
-        ensures { self.new ≡ freed self.old }
+        ensures { self.new ≡ slot_after_free self.old }
     {
         self.assembler.clear();
         self.total_size = None;
@@ -204,7 +204,7 @@ impl<K: Drop> PacketAssembler<K> {
     // Frees the place if its end lies before a moment.
     #[inline(always)]
     fn leave_at(&mut self, timestamp: Instant)
-        ensures { self.new ≡ left_at timestamp self.old }
+        ensures { self.new ≡ live_at timestamp self.old }
     {
         if self.key.is_some() && self.expires_at < timestamp {
             self.reset();
@@ -270,7 +270,7 @@ fn ends_beyond(octets: &[u8], offset: usize) -> bool
 // Writes octets from a place on.
 fn write(buffer: &mut [u8], offset: usize, octets: &[u8])
     requires { offset + length octets.now ≤ length buffer.old }
-    ensures { buffer.new ≡ written buffer.old offset octets.now }
+    ensures { buffer.new ≡ octets_after_write buffer.old offset octets.now }
 {
     buffer[offset..offset + octets.len()].copy_from_slice(octets);
 }
@@ -297,7 +297,7 @@ impl<K> Model for PacketAssemblerSet<K> {
 }
 
 impl<K: Eq + Copy> PacketAssemblerSet<K> {
-    ghost use Rattle.fragmentation.specs.Assembly.{place_for, taken};
+    ghost use Rattle.fragmentation.specs.Assembly.{slot_for, taken};
     ghost use Rattle.fragmentation.specs.Lending.{LendsPlace};
 
     /// The place of a key, whose end stays. Where it has none, a free one is taken for it, until the
@@ -309,19 +309,19 @@ impl<K: Eq + Copy> PacketAssemblerSet<K> {
         key: &K,
         end: Instant,
     ) -> Result<&mut PacketAssembler<K>, AssemblerFullError>
-        ensures* lends { sem 𝓛 (LendsPlace K.row self.entry (place_for K.eq key.now self.old) result) }
-        ensures value { IfOk result (λ r. r.now ≡ taken key.now end (slice_index_or self.old (place_for K.eq key.now self.old) r.now)) }
-        ensures refused { IsErr result ↔ (place_for K.eq key.now self.old ≡ length self.old) }
-        ensures within { place_for K.eq key.now self.old ≤ length self.old }
+        ensures* lends { sem 𝓛 (LendsPlace K.row self.entry (slot_for K.eq key.now self.old) result) }
+        ensures value { IfOk result (λ r. r.now ≡ taken key.now end (slice_index_or self.old (slot_for K.eq key.now self.old) r.now)) }
+        ensures refused { IsErr result ↔ (slot_for K.eq key.now self.old ≡ length self.old) }
+        ensures within { slot_for K.eq key.now self.old ≤ length self.old }
         ensures two { length self.old ≡ 2 }
     {
-        let place = take(
+        let slot = take(
             self.keys.as_mut_slice(),
             self.assemblers.as_mut_slice(),
             key,
             end,
         );
-        match self.assemblers.get_mut(place) {
+        match self.assemblers.get_mut(slot) {
             Some(assembler) => Ok(assembler),
             None => Err(AssemblerFullError),
         }
@@ -354,8 +354,8 @@ impl<K: Drop> PacketAssemblerSet<K> {
     /// Frees the places whose end lies before a moment.
     #[inline(always)]
     pub fn remove_expired(&mut self, timestamp: Instant)
-        ensures places { self.new ≡ each (left_at timestamp) self.old }
-        ensures stands { (key_of : K → FragKey) (m : Slots) → StandForSlotsOf key_of self.old m → StandForSlotsOf key_of self.new (slots.left_at timestamp m) }
+        ensures places { self.new ≡ each (live_at timestamp) self.old }
+        ensures stands { (key_of : K → FragKey) (m : Slots) → StandForSlotsOf key_of self.old m → StandForSlotsOf key_of self.new (slots.live_at timestamp m) }
     {
         drop_expired(
             self.keys.as_slice(),
@@ -416,7 +416,7 @@ fn drop_expired<K: Drop>(
 )
     requires keys { length keys.now ≡ 2 }
     requires places { length assemblers.old ≡ 2 }
-    ensures left { with_keys keys.now assemblers.new ≡ each (left_at timestamp) (with_keys keys.now assemblers.old) }
+    ensures left { with_keys keys.now assemblers.new ≡ each (live_at timestamp) (with_keys keys.now assemblers.old) }
     ensures places { length assemblers.new ≡ 2 }
 {
     if keys[0].is_some() {
@@ -446,16 +446,16 @@ fn take<K: Eq + Copy>(
 ) -> usize
     requires keys { length keys.old ≡ 2 }
     requires places { length assemblers.old ≡ 2 }
-    ensures place { result ≡ spec.place_for K.eq key.now (with_keys keys.old assemblers.old) }
-    ensures taken { assemblers.new ≡ taken_at (spec.place_for K.eq key.now (with_keys keys.old assemblers.old)) key.now end (with_keys keys.old assemblers.old) }
+    ensures slot { result ≡ spec.slot_for K.eq key.now (with_keys keys.old assemblers.old) }
+    ensures taken { assemblers.new ≡ taken_at (spec.slot_for K.eq key.now (with_keys keys.old assemblers.old)) key.now end (with_keys keys.old assemblers.old) }
     ensures keys { keys.new ≡ keys_of assemblers.new }
 {
     keep_keys(keys, assemblers);
-    let place = place_for(assemblers, key);
-    if place < 2 {
-        keys[place] = assemblers[place].take_for(key, end);
+    let slot = slot_for(assemblers, key);
+    if slot < 2 {
+        keys[slot] = assemblers[slot].take_for(key, end);
     }
-    place
+    slot
 }
 
 // Each place that is taken is taken for its key among these, and each free one has none from now on.
@@ -470,20 +470,20 @@ fn keep_keys<K: Copy>(keys: &mut [Option<K>], assemblers: &mut [PacketAssembler<
 }
 
 // The place of the key, or else the first free one, or else the length.
-fn place_for<K: Eq>(assemblers: &[PacketAssembler<K>], key: &K) -> usize
-    ensures { result ≡ spec.place_for K.eq key.now assemblers.now }
+fn slot_for<K: Eq>(assemblers: &[PacketAssembler<K>], key: &K) -> usize
+    ensures { result ≡ spec.slot_for K.eq key.now assemblers.now }
 {
-    let place = keyed(assemblers, key);
-    if place == assemblers.len() {
-        free_place(assemblers)
+    let slot = index_of_key(assemblers, key);
+    if slot == assemblers.len() {
+        free_slot(assemblers)
     } else {
-        place
+        slot
     }
 }
 
 // The place of the key, or the length.
-fn keyed<K: Eq>(assemblers: &[PacketAssembler<K>], key: &K) -> usize
-    ensures { result ≡ spec.keyed K.eq key.now assemblers.now }
+fn index_of_key<K: Eq>(assemblers: &[PacketAssembler<K>], key: &K) -> usize
+    ensures { result ≡ spec.index_of_key K.eq key.now assemblers.now }
 {
     for (i, assembler) in assemblers.iter().enumerate() {
         if assembler.is_for(key) {
@@ -494,8 +494,8 @@ fn keyed<K: Eq>(assemblers: &[PacketAssembler<K>], key: &K) -> usize
 }
 
 // The first free place, or the length.
-fn free_place<K>(assemblers: &[PacketAssembler<K>]) -> usize
-    ensures { result ≡ spec.free_place assemblers.now }
+fn free_slot<K>(assemblers: &[PacketAssembler<K>]) -> usize
+    ensures { result ≡ spec.free_slot assemblers.now }
 {
     for (i, assembler) in assemblers.iter().enumerate() {
         if assembler.is_free() {

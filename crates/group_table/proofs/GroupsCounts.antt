@@ -10,7 +10,7 @@ use Rattle.group_table.specs.declared.groups.Group.{Group}
 use Rattle.group_table.specs.declared.groups.GroupState.{GroupState}
 use Rattle.group_table.specs.declared.groups.GroupState.TheVariants.{Joining, Joined, Leaving}
 use Rattle.group_table.specs.Groups.{AreDistinct, JoinReportsEnd, LeaveReportsEnd, NoneLeft, count_in, first_in, is_same_state}
-use Rattle.group_table.specs.Groups.{join_reported_from, leave_reported_from, new_group, place_of, state_of, taken_out, with_state}
+use Rattle.group_table.specs.Groups.{join_reported_from, leave_reported_from, new_group, index_of, state_of, taken_out, with_state}
 use Rattle.group_table.proofs.GroupsLaws.{stands_at, state_at}
 
 -- two states that pass the test are one
@@ -55,7 +55,7 @@ none_left s gs none = first_at s gs ∙ by (slice_get_cases gs p).1 where
 record IsFirst (s : GroupState) (gs : List Group) (a : IpAddress) (d : Group) : Type 0 where
   within : first_place s gs < length gs
   passes : is_in s (get_or gs (first_place s gs) d) ≡ true
-  place : place_of gs a ≡ first_place s gs
+  index : index_of gs a ≡ first_place s gs
   state : state_of gs a ≡ Some s
 
 is_first : (s : GroupState) (gs : List Group) (a : IpAddress) (d : Group) → AreDistinct gs → first_in s gs ≡ Some a → IsFirst s gs a d
@@ -70,7 +70,7 @@ is_first s gs a d distinct first = by (slice_get_cases gs (first_place s gs)).1 
       record {
         within = h;
         passes = passes;
-        place = stands_at gs a p d distinct h at;
+        index = stands_at gs a p d distinct h at;
         state = state_at gs a p d distinct h at ∙ ap (λ (t : GroupState). Some t) (same_state_is _ s passes);
       }
 
@@ -89,7 +89,7 @@ fewer-state s t gs a other first =
     let e : count_in s (set gs p y) + cond (is_in s (get_or gs p d)) 1 0 ≡ count_in s gs + cond (is_same_state t s) 1 0 =
     sum_by-set (λ (g : Group). cond (is_in s g) 1 0) gs p y d first.within in
     let one : count_in s (set gs p y) + 1 ≡ count_in s gs + 0 = rw (first.passes, other) at e in
-    rw first.place (omega arith)
+    rw first.index (omega arith)
 
 -- so does taking it out
 fewer-taken_out : (s : GroupState) (gs : List Group) (a : IpAddress) → IsFirst s gs a (new_group a) → count_in s gs ≡ count_in s (taken_out gs a) + 1
@@ -99,7 +99,7 @@ fewer-taken_out s gs a first =
     let e : count_in s (swap_remove gs p d) + cond (is_in s (get_or gs p d)) 1 0 ≡ count_in s gs =
     sum_by-swap_remove (λ (g : Group). cond (is_in s g) 1 0) gs p d first.within in
     let one : count_in s (swap_remove gs p d) + 1 ≡ count_in s gs = rw first.passes at e in
-    rw first.place (sym one)
+    rw first.index (sym one)
 
 pub join_reports_end : JoinReportsEnd
 join_reports_end gs a distinct first =

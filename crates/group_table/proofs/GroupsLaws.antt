@@ -15,13 +15,13 @@ use Rattle.group_table.specs.declared.groups.GroupState.{GroupState}
 use Rattle.group_table.specs.declared.groups.GroupState.TheVariants.{Joining, Joined, Leaving}
 use Rattle.group_table.specs.Groups.{AreDistinct, JoinsMember, LastGoesAlone, LastMovesIntoGap, LeavesNoMember, OthersStay, StayDistinct}
 use Rattle.group_table.specs.Groups.{is_at, is_full, is_member, is_member_in, is_same, join_reported_from, joined_from, leave_reported_from}
-use Rattle.group_table.specs.Groups.{left_from, new_group, place_of, state_of, taken_out, with_new, with_state}
-use Rattle.group_table.proofs.GroupsLemmas.{addr_at_place, addr_kept, new_at, came_from, came_from-lt, distinct_after-new}
+use Rattle.group_table.specs.Groups.{left_from, new_group, index_of, state_of, taken_out, with_new, with_state}
+use Rattle.group_table.proofs.GroupsLemmas.{addr_at_index, addr_kept, new_at, came_from, came_from-lt, distinct_after-new}
 use Rattle.group_table.proofs.GroupsLemmas.{distinct_after-state, distinct_after-taken_out, length-taken_out, not_at, place_within, same_is}
-use Rattle.group_table.proofs.GroupsLemmas.{same_itself, state_at_place, taken_at}
+use Rattle.group_table.proofs.GroupsLemmas.{same_itself, state_at_index, taken_at}
 
 -- a group with a state has a place
-within : (gs : List Group) (a : IpAddress) (s : GroupState) → state_of gs a ≡ Some s → place_of gs a < length gs
+within : (gs : List Group) (a : IpAddress) (s : GroupState) → state_of gs a ≡ Some s → index_of gs a < length gs
 within gs a s is = place_within gs a (rw is refl)
 
 distinct-joined : (gs : List Group) (a : IpAddress) → AreDistinct gs → (o : Option GroupState) → state_of gs a ≡ o → AreDistinct (joined_from o gs a)
@@ -62,7 +62,7 @@ stay_distinct gs a distinct = record {
 }
 
 -- a group stands where its address does
-pub stands_at : (gs : List Group) (a : IpAddress) (i : ℕ) (d : Group) → AreDistinct gs → i < length gs → (get_or gs i d).addr ≡ a → place_of gs a ≡ i
+pub stands_at : (gs : List Group) (a : IpAddress) (i : ℕ) (d : Group) → AreDistinct gs → i < length gs → (get_or gs i d).addr ≡ a → index_of gs a ≡ i
 stands_at gs a i d distinct h at = position_or_len_is (is_at a) gs i d (omega arith) before (λ _. rw at (same_itself a)) where
   before : (k : ℕ) → k < i → is_same (get_or gs k d).addr a ≡ false
   before k below = by (is_same (get_or gs k d).addr a) refl where
@@ -74,14 +74,14 @@ stands_at gs a i d distinct h at = position_or_len_is (is_at a) gs i d (omega ar
 pub state_at : (gs : List Group) (a : IpAddress) (i : ℕ) (d : Group) → AreDistinct gs → i < length gs → (get_or gs i d).addr ≡ a →
     state_of gs a ≡ Some (get_or gs i d).state
 state_at gs a i d distinct h at =
-    sym (state_at_place gs a) ∙ ap (λ (k : ℕ). option_map (λ (g : Group). g.state) (slice_get gs k)) (stands_at gs a i d distinct h at)
+    sym (state_at_index gs a) ∙ ap (λ (k : ℕ). option_map (λ (g : Group). g.state) (slice_get gs k)) (stands_at gs a i d distinct h at)
     ∙ ap (option_map (λ (g : Group). g.state)) (slice_get-get_or gs i d h)
 
 -- a group at no place has no state
 no_state : (gs : List Group) (a : IpAddress) (d : Group) → ((k : ℕ) → k < length gs → (get_or gs k d).addr ≢ a) → state_of gs a ≡ None
 no_state gs a d none =
-    let past : place_of gs a ≡ length gs = position_or_len_is (is_at a) gs (length gs) d (omega arith) before (λ h. absurd (omega arith)) in
-    sym (state_at_place gs a) ∙ ap (option_map (λ (g : Group). g.state)) (slice_get_past gs (place_of gs a) (omega arith))
+    let past : index_of gs a ≡ length gs = position_or_len_is (is_at a) gs (length gs) d (omega arith) before (λ h. absurd (omega arith)) in
+    sym (state_at_index gs a) ∙ ap (option_map (λ (g : Group). g.state)) (slice_get_past gs (index_of gs a) (omega arith))
   where
     before : (k : ℕ) → k < length gs → is_same (get_or gs k d).addr a ≡ false
     before k below = by (is_same (get_or gs k d).addr a) refl where
@@ -90,7 +90,7 @@ no_state gs a d none =
       by false t = refl
 
 -- a group in the middle stands there
-middle : (front back : List Group) (g : Group) → AreDistinct (front ++ g ∷ back) → place_of (front ++ g ∷ back) g.addr ≡ length front
+middle : (front back : List Group) (g : Group) → AreDistinct (front ++ g ∷ back) → index_of (front ++ g ∷ back) g.addr ≡ length front
 middle front back g distinct =
     stands_at (front ++ g ∷ back) g.addr (length front) g distinct (grind (arith, common_steps))
     (ap (λ (x : Group). x.addr) (get_or-append_seam front g back g))
@@ -110,12 +110,12 @@ last_moves front back g last distinct =
     let whole : List Group = (front ++ g ∷ back) ++ last ∷ [] in
     let d = new_group g.addr in
     let e : whole ≡ front ++ g ∷ (back ++ last ∷ []) = simp append_assoc in
-    let p : place_of whole g.addr ≡ length front =
-    ap (λ (l : List Group). place_of l g.addr) e ∙ middle front (back ++ last ∷ []) g (subst AreDistinct e distinct) in
+    let p : index_of whole g.addr ≡ length front =
+    ap (λ (l : List Group). index_of l g.addr) e ∙ middle front (back ++ last ∷ []) g (subst AreDistinct e distinct) in
     let n : length whole - 1 ≡ length (front ++ g ∷ back) = grind (arith, common_steps) in
     let l : get_or whole (length whole - 1) d ≡ last = ap (λ (k : ℕ). get_or whole k d) n ∙ get_or-append_seam (front ++ g ∷ back) last [] d in
     let m : length whole - 1 ≡ length front + 1 + length back = grind (arith, common_steps) in
-    ap (λ (x : Group). take (length whole - 1) (set whole (place_of whole g.addr) x)) l ∙ moved whole front back g last _ _ e p m
+    ap (λ (x : Group). take (length whole - 1) (set whole (index_of whole g.addr) x)) l ∙ moved whole front back g last _ _ e p m
 
 pub last_goes : LastGoesAlone
 last_goes front g distinct =
@@ -132,13 +132,13 @@ new_state gs a distinct none =
     state_at (with_new gs a) a (length gs) d (distinct_after-new gs a none distinct) (grind (arith, common_steps)) (new_at gs a (length gs) d refl)
     ∙ ap (λ (g : Group). Some g.state) (get_or-append_seam gs d [] d)
 
-other_state : (gs : List Group) (a : IpAddress) (s : GroupState) → AreDistinct gs → place_of gs a < length gs → state_of (with_state gs a s) a ≡ Some s
+other_state : (gs : List Group) (a : IpAddress) (s : GroupState) → AreDistinct gs → index_of gs a < length gs → state_of (with_state gs a s) a ≡ Some s
 other_state gs a s distinct h =
     let d = new_group a in
     let at : Group = record { addr = a; state = s } in
-    let is = get_or-set_same gs (place_of gs a) at d h in
-    let n : length (with_state gs a s) ≡ length gs = length-set gs (place_of gs a) at in
-    state_at (with_state gs a s) a (place_of gs a) d (distinct_after-state gs a s h distinct) (omega (arith, n)) (ap (λ (g : Group). g.addr) is)
+    let is = get_or-set_same gs (index_of gs a) at d h in
+    let n : length (with_state gs a s) ≡ length gs = length-set gs (index_of gs a) at in
+    state_at (with_state gs a s) a (index_of gs a) d (distinct_after-state gs a s h distinct) (omega (arith, n)) (ap (λ (g : Group). g.addr) is)
     ∙ ap (λ (g : Group). Some g.state) is
 
 came_from-same : (n p i : ℕ) → i ≡ p → came_from n p i ≡ n - 1
@@ -159,17 +159,17 @@ came_from-past n p i h = by (nat_eq i p) refl where
   by true t = let e : i ≡ p = grind (arith, nat_tests) in λ f. omega arith
   by false t = let e : i ≢ p = grind (arith, nat_tests) in e
 
-gone_state : (gs : List Group) (a : IpAddress) → AreDistinct gs → place_of gs a < length gs → state_of (taken_out gs a) a ≡ None
+gone_state : (gs : List Group) (a : IpAddress) → AreDistinct gs → index_of gs a < length gs → state_of (taken_out gs a) a ≡ None
 gone_state gs a distinct h = no_state (taken_out gs a) a (new_group a) none where
   none : (k : ℕ) → k < length (taken_out gs a) → (get_or (taken_out gs a) k (new_group a)).addr ≢ a
   none k k_in at =
       let d = new_group a in
-      let p = place_of gs a in
+      let p = index_of gs a in
       let n = length-taken_out gs a h in
       let from = came_from (length gs) p k in
       let is : (get_or gs from d).addr ≡ a = sym (ap (λ (g : Group). g.addr) (taken_at gs a k d h k_in)) ∙ at in
       came_from-past (length gs) p k (omega (arith, n))
-      (distinct from p d (came_from-lt (length gs) p k (omega (arith, n))) h (is ∙ sym (addr_at_place gs a d h)))
+      (distinct from p d (came_from-lt (length gs) p k (omega (arith, n))) h (is ∙ sym (addr_at_index gs a d h)))
 
 pub joins_member : JoinsMember
 joins_member gs a distinct taken = by (state_of gs a) refl taken where
@@ -202,10 +202,10 @@ same_state gs hs b d distinct distinct_hs forth back = by (state_of gs b) refl w
   by None none = no_state hs b d (λ k k_in at. let w = back k k_in at in not_at gs b w.0 d none w.1 (ap (λ (g : Group). g.addr) w.2 ∙ at)) ∙ sym none
   by (Some s) is =
       let h = within gs b s is in
-      let at = addr_at_place gs b d h in
-      let w = forth (place_of gs b) h at in
+      let at = addr_at_index gs b d h in
+      let w = forth (index_of gs b) h at in
       state_at hs b w.0 d distinct_hs w.1 (ap (λ (g : Group). g.addr) w.2 ∙ at) ∙ ap (λ (g : Group). Some g.state) w.2
-      ∙ sym (state_at gs b (place_of gs b) d distinct h at)
+      ∙ sym (state_at gs b (index_of gs b) d distinct h at)
 
 module _ (gs : List Group) (a b : IpAddress) (distinct : AreDistinct gs) (other : a ≢ b) where
   kept_new : state_of gs a ≡ None → state_of (with_new gs a) b ≡ state_of gs b
@@ -225,13 +225,13 @@ module _ (gs : List Group) (a b : IpAddress) (distinct : AreDistinct gs) (other 
       by true t = let lt : j < length gs = grind (arith, nat_tests) in (j, lt, sym (get_or_append_left gs (d ∷ []) d j lt))
       by false t = let is : j ≡ length gs = grind (arith, nat_tests, n) in absurd (other (sym (new_at gs a j d is) ∙ at))
 
-  kept_state : (s : GroupState) → place_of gs a < length gs → state_of (with_state gs a s) b ≡ state_of gs b
+  kept_state : (s : GroupState) → index_of gs a < length gs → state_of (with_state gs a s) b ≡ state_of gs b
   kept_state s p_in = same_state gs (with_state gs a s) b d distinct (distinct_after-state gs a s p_in distinct) forth back where
     d : Group
     d = new_group a
 
     p : ℕ
-    p = place_of gs a
+    p = index_of gs a
 
     at_p : Group
     at_p = record { addr = a; state = s }
@@ -240,7 +240,7 @@ module _ (gs : List Group) (a b : IpAddress) (distinct : AreDistinct gs) (other 
     n = length-set gs p at_p
 
     apart : (i : ℕ) → (get_or gs i d).addr ≡ b → i ≢ p
-    apart i at is = other (sym (addr_at_place gs a d p_in) ∙ ap (λ (k : ℕ). (get_or gs k d).addr) (sym is) ∙ at)
+    apart i at is = other (sym (addr_at_index gs a d p_in) ∙ ap (λ (k : ℕ). (get_or gs k d).addr) (sym is) ∙ at)
 
     forth : IsAlso b d gs (with_state gs a s)
     forth i h at = (i, omega (arith, n), get_or-set_other gs p i at_p d (apart i at))
@@ -248,13 +248,13 @@ module _ (gs : List Group) (a b : IpAddress) (distinct : AreDistinct gs) (other 
     back : IsAlso b d (with_state gs a s) gs
     back j h at = (j, omega (arith, n), sym (get_or-set_other gs p j at_p d (apart j (sym (addr_kept gs a s j d p_in) ∙ at))))
 
-  kept_taken_out : place_of gs a < length gs → state_of (taken_out gs a) b ≡ state_of gs b
+  kept_taken_out : index_of gs a < length gs → state_of (taken_out gs a) b ≡ state_of gs b
   kept_taken_out p_in = same_state gs (taken_out gs a) b d distinct (distinct_after-taken_out gs a p_in distinct) forth back where
     d : Group
     d = new_group a
 
     p : ℕ
-    p = place_of gs a
+    p = index_of gs a
 
     n : length (taken_out gs a) + 1 ≡ length gs
     n = length-taken_out gs a p_in
@@ -262,7 +262,7 @@ module _ (gs : List Group) (a b : IpAddress) (distinct : AreDistinct gs) (other 
     forth : IsAlso b d gs (taken_out gs a)
     forth i h at = by (nat_eq i (length gs - 1)) refl where
       apart : i ≢ p
-      apart is = other (sym (addr_at_place gs a d p_in) ∙ ap (λ (k : ℕ). (get_or gs k d).addr) (sym is) ∙ at)
+      apart is = other (sym (addr_at_index gs a d p_in) ∙ ap (λ (k : ℕ). (get_or gs k d).addr) (sym is) ∙ at)
 
       by : (t : Bool) → nat_eq i (length gs - 1) ≡ t → (j : ℕ) × (j < length (taken_out gs a)) × (get_or (taken_out gs a) j d ≡ get_or gs i d)
       by true t =

@@ -13,7 +13,7 @@ use Rattle.ip_address.specs.declared.ip.IpAddress.{IpAddress}
 use Rattle.ip_address.specs.declared.ip.IpAddress.TheVariants.{Ipv4, Ipv6}
 use Rattle.group_table.specs.declared.groups.Group.{Group}
 use Rattle.group_table.specs.declared.groups.GroupState.{GroupState}
-use Rattle.group_table.specs.Groups.{AreDistinct, is_at, is_same, new_group, place_of, state_of, taken_out, with_new, with_state}
+use Rattle.group_table.specs.Groups.{AreDistinct, is_at, is_same, new_group, index_of, state_of, taken_out, with_new, with_state}
 
 -- two addresses that pass the test are one
 pub same_is : (a b : IpAddress) → is_same a b ≡ true → a ≡ b
@@ -28,26 +28,26 @@ same_itself (Ipv4 a) = grind (arith, nat_tests)
 same_itself (Ipv6 a) = grind (arith, nat_tests)
 
 -- the state at a group's place is its state
-pub state_at_place : (gs : List Group) (a : IpAddress) → option_map (λ (g : Group). g.state) (slice_get gs (place_of gs a)) ≡ state_of gs a
-state_at_place gs a = ap (option_map (λ (g : Group). g.state)) (sym (find_at (is_at a) gs))
+pub state_at_index : (gs : List Group) (a : IpAddress) → option_map (λ (g : Group). g.state) (slice_get gs (index_of gs a)) ≡ state_of gs a
+state_at_index gs a = ap (option_map (λ (g : Group). g.state)) (sym (find_at (is_at a) gs))
 
 -- a group with a state stands within the list
-pub place_within : (gs : List Group) (a : IpAddress) → IsSome (state_of gs a) → place_of gs a < length gs
-place_within gs a h = elim (slice_get_cases gs (place_of gs a)).1 [
+pub place_within : (gs : List Group) (a : IpAddress) → IsSome (state_of gs a) → index_of gs a < length gs
+place_within gs a h = elim (slice_get_cases gs (index_of gs a)).1 [
   | inl is ↦ is.1
-  | inr past ↦ absurd (let f = rw (← state_at_place gs a, past.1) at h in cc)
+  | inr past ↦ absurd (let f = rw (← state_at_index gs a, past.1) at h in cc)
 ]
 
 -- one without a state has no place
-pub no_place : (gs : List Group) (a : IpAddress) → state_of gs a ≡ None → length gs ≤ place_of gs a
-no_place gs a h = elim (slice_get_cases gs (place_of gs a)).1 [
-  | inl is ↦ absurd (let e = state_at_place gs a in let f = ap (option_map (λ (g : Group). g.state)) is.2 in cc)
+pub no_place : (gs : List Group) (a : IpAddress) → state_of gs a ≡ None → length gs ≤ index_of gs a
+no_place gs a h = elim (slice_get_cases gs (index_of gs a)).1 [
+  | inl is ↦ absurd (let e = state_at_index gs a in let f = ap (option_map (λ (g : Group). g.state)) is.2 in cc)
   | inr past ↦ past.0
 ]
 
 -- the group at a group's place has its address
-pub addr_at_place : (gs : List Group) (a : IpAddress) (d : Group) → place_of gs a < length gs → (get_or gs (place_of gs a) d).addr ≡ a
-addr_at_place gs a d h = same_is _ a (passes_at_first (is_at a) gs d h)
+pub addr_at_index : (gs : List Group) (a : IpAddress) (d : Group) → index_of gs a < length gs → (get_or gs (index_of gs a) d).addr ≡ a
+addr_at_index gs a d h = same_is _ a (passes_at_first (is_at a) gs d h)
 
 -- one without a state is at no place
 pub not_at : (gs : List Group) (a : IpAddress) (k : ℕ) (d : Group) → state_of gs a ≡ None → k < length gs → (get_or gs k d).addr ≡ a → ⊥
@@ -85,54 +85,54 @@ distinct_after-new gs a none distinct i j d i_in j_in same = by (nat_lt i (lengt
   by false false p q = grind (arith, nat_tests, n)
 
 -- another state changes no address
-pub addr_kept : (gs : List Group) (a : IpAddress) (s : GroupState) (i : ℕ) (d : Group) → place_of gs a < length gs →
+pub addr_kept : (gs : List Group) (a : IpAddress) (s : GroupState) (i : ℕ) (d : Group) → index_of gs a < length gs →
     (get_or (with_state gs a s) i d).addr ≡ (get_or gs i d).addr
-addr_kept gs a s i d h = by (nat_eq i (place_of gs a)) refl where
+addr_kept gs a s i d h = by (nat_eq i (index_of gs a)) refl where
   at : Group
   at = record { addr = a; state = s }
 
-  by : (b : Bool) → nat_eq i (place_of gs a) ≡ b → (get_or (with_state gs a s) i d).addr ≡ (get_or gs i d).addr
+  by : (b : Bool) → nat_eq i (index_of gs a) ≡ b → (get_or (with_state gs a s) i d).addr ≡ (get_or gs i d).addr
   by true e =
-      let is : i ≡ place_of gs a = grind (arith, nat_tests) in
-      rw is (ap (λ (g : Group). g.addr) (get_or-set_same gs (place_of gs a) at d h) ∙ sym (addr_at_place gs a d h))
+      let is : i ≡ index_of gs a = grind (arith, nat_tests) in
+      rw is (ap (λ (g : Group). g.addr) (get_or-set_same gs (index_of gs a) at d h) ∙ sym (addr_at_index gs a d h))
   by false e =
-      let other : i ≢ place_of gs a = grind (arith, nat_tests) in
-      ap (λ (g : Group). g.addr) (get_or-set_other gs (place_of gs a) i at d other)
+      let other : i ≢ index_of gs a = grind (arith, nat_tests) in
+      ap (λ (g : Group). g.addr) (get_or-set_other gs (index_of gs a) i at d other)
 
-pub distinct_after-state : (gs : List Group) (a : IpAddress) (s : GroupState) → place_of gs a < length gs → AreDistinct gs →
+pub distinct_after-state : (gs : List Group) (a : IpAddress) (s : GroupState) → index_of gs a < length gs → AreDistinct gs →
     AreDistinct (with_state gs a s)
 distinct_after-state gs a s h distinct i j d i_in j_in same =
-    let n : length (with_state gs a s) ≡ length gs = length-set gs (place_of gs a) (record { addr = a; state = s }) in
+    let n : length (with_state gs a s) ≡ length gs = length-set gs (index_of gs a) (record { addr = a; state = s }) in
     distinct i j d (omega (arith, n)) (omega (arith, n)) (sym (addr_kept gs a s i d h) ∙ same ∙ addr_kept gs a s j d h)
 
 -- where a group stood that stands at i after the one at p was taken out: the last moved to p
 abbrev pub came_from : ℕ → ℕ → ℕ → ℕ
 came_from n p i = cond (nat_eq i p) (n - 1) i
 
-pub length-taken_out : (gs : List Group) (a : IpAddress) → place_of gs a < length gs → length (taken_out gs a) + 1 ≡ length gs
+pub length-taken_out : (gs : List Group) (a : IpAddress) → index_of gs a < length gs → length (taken_out gs a) + 1 ≡ length gs
 length-taken_out gs a h = grind (arith, common_steps)
 
 -- taking out at a group's place, whatever stands for the last of an empty list
-pub taken_is : (gs : List Group) (a : IpAddress) (i : ℕ) (d : Group) → i ≡ place_of gs a → i < length gs → swap_remove gs i d ≡ taken_out gs a
+pub taken_is : (gs : List Group) (a : IpAddress) (i : ℕ) (d : Group) → i ≡ index_of gs a → i < length gs → swap_remove gs i d ≡ taken_out gs a
 taken_is gs a i d at h =
-    rw at (ap (λ (g : Group). take (length gs - 1) (set gs (place_of gs a) g)) (get_or_default gs (length gs - 1) d (new_group a) (omega arith)))
+    rw at (ap (λ (g : Group). take (length gs - 1) (set gs (index_of gs a) g)) (get_or_default gs (length gs - 1) d (new_group a) (omega arith)))
 
-pub taken_at : (gs : List Group) (a : IpAddress) (i : ℕ) (d : Group) → place_of gs a < length gs → i < length (taken_out gs a) →
-    get_or (taken_out gs a) i d ≡ get_or gs (came_from (length gs) (place_of gs a) i) d
-taken_at gs a i d h within = get_or-take (length gs - 1) (set gs (place_of gs a) last) i d before ∙ by (nat_eq i (place_of gs a)) refl where
+pub taken_at : (gs : List Group) (a : IpAddress) (i : ℕ) (d : Group) → index_of gs a < length gs → i < length (taken_out gs a) →
+    get_or (taken_out gs a) i d ≡ get_or gs (came_from (length gs) (index_of gs a) i) d
+taken_at gs a i d h within = get_or-take (length gs - 1) (set gs (index_of gs a) last) i d before ∙ by (nat_eq i (index_of gs a)) refl where
   last : Group
   last = get_or gs (length gs - 1) (new_group a)
 
   before : i < length gs - 1
   before = let n = length-taken_out gs a h in omega arith
 
-  by : (b : Bool) → nat_eq i (place_of gs a) ≡ b → get_or (set gs (place_of gs a) last) i d ≡ get_or gs (cond b (length gs - 1) i) d
+  by : (b : Bool) → nat_eq i (index_of gs a) ≡ b → get_or (set gs (index_of gs a) last) i d ≡ get_or gs (cond b (length gs - 1) i) d
   by true e =
-      let is : i ≡ place_of gs a = grind (arith, nat_tests) in
-      get_or-set_at gs (place_of gs a) i last d is h ∙ get_or_default gs (length gs - 1) (new_group a) d (omega arith)
+      let is : i ≡ index_of gs a = grind (arith, nat_tests) in
+      get_or-set_at gs (index_of gs a) i last d is h ∙ get_or_default gs (length gs - 1) (new_group a) d (omega arith)
   by false e =
-      let other : i ≢ place_of gs a = grind (arith, nat_tests) in
-      get_or-set_other gs (place_of gs a) i last d other
+      let other : i ≢ index_of gs a = grind (arith, nat_tests) in
+      get_or-set_other gs (index_of gs a) i last d other
 
 came_from-one : (n p i j : ℕ) → i + 1 < n → j + 1 < n → came_from n p i ≡ came_from n p j → i ≡ j
 came_from-one n p i j i_in j_in same = by (nat_eq i p) (nat_eq j p) refl refl same where
@@ -148,10 +148,10 @@ came_from-lt n p i h = by (nat_eq i p) where
   by true = omega arith
   by false = omega arith
 
-pub distinct_after-taken_out : (gs : List Group) (a : IpAddress) → place_of gs a < length gs → AreDistinct gs → AreDistinct (taken_out gs a)
+pub distinct_after-taken_out : (gs : List Group) (a : IpAddress) → index_of gs a < length gs → AreDistinct gs → AreDistinct (taken_out gs a)
 distinct_after-taken_out gs a h distinct i j d i_in j_in same =
     let n = length-taken_out gs a h in
-    let p = place_of gs a in
+    let p = index_of gs a in
     let is = λ (k : ℕ) (k_in : k < length (taken_out gs a)). ap (λ (g : Group). g.addr) (taken_at gs a k d h k_in) in
     came_from-one (length gs) p i j (omega (arith, n)) (omega (arith, n))
     (distinct _ _ d (came_from-lt (length gs) p i (omega (arith, n))) (came_from-lt (length gs) p j (omega (arith, n))) (sym (is i i_in) ∙ same ∙ is j j_in))

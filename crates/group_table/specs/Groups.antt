@@ -42,8 +42,8 @@ abbrev pub is_at : IpAddress → Group → Bool
 is_at a g = is_same g.addr a
 
 -- where a group stands, or the length
-abbrev pub place_of : List Group → IpAddress → ℕ
-place_of gs a = position_or_len (is_at a) gs
+abbrev pub index_of : List Group → IpAddress → ℕ
+index_of gs a = position_or_len (is_at a) gs
 
 -- the state of a group, if it is there
 abbrev pub state_of : List Group → IpAddress → Option GroupState
@@ -59,11 +59,11 @@ with_new gs a = gs ++ new_group a ∷ []
 
 -- the groups where one that is there has another state
 abbrev pub with_state : List Group → IpAddress → GroupState → List Group
-with_state gs a s = slice_set gs (place_of gs a) (record { addr = a; state = s })
+with_state gs a s = slice_set gs (index_of gs a) (record { addr = a; state = s })
 
 -- the groups without one that is there: the last moves into its place
 abbrev pub taken_out : List Group → IpAddress → List Group
-taken_out gs a = swap_remove gs (place_of gs a) (new_group a)
+taken_out gs a = swap_remove gs (index_of gs a) (new_group a)
 
 -- whether a group in this state is one that the interface is in
 abbrev pub is_member_in : Option GroupState → Bool
@@ -92,8 +92,8 @@ joined_from (Some Joined) gs a = gs
 joined_from (Some Leaving) gs a = with_state gs a Joined
 
 -- what a join leaves
-abbrev pub joined : List Group → IpAddress → List Group
-joined gs a = joined_from (state_of gs a) gs a
+abbrev pub groups_after_join : List Group → IpAddress → List Group
+groups_after_join gs a = joined_from (state_of gs a) gs a
 
 -- what a leave leaves, by the state of the group before: a join that wasn't reported needs no report
 abbrev pub left_from : Option GroupState → List Group → IpAddress → List Group
@@ -103,8 +103,8 @@ left_from (Some Joined) gs a = with_state gs a Leaving
 left_from (Some Leaving) gs a = gs
 
 -- what a leave leaves
-abbrev pub left : List Group → IpAddress → List Group
-left gs a = left_from (state_of gs a) gs a
+abbrev pub groups_after_leave : List Group → IpAddress → List Group
+groups_after_leave gs a = left_from (state_of gs a) gs a
 
 -- what the report of a join leaves, by the state of the group before
 abbrev pub join_reported_from : Option GroupState → List Group → IpAddress → List Group
@@ -156,8 +156,8 @@ ipv6_groups gs = filter_map (λ (g : Group). of_ipv6 g.addr) gs
 
 -- no call lets an address stand twice
 pub record KeepsDistinct (gs : List Group) (a : IpAddress) : Type 0 where
-  pub after_join : AreDistinct (joined gs a)
-  pub after_leave : AreDistinct (left gs a)
+  pub after_join : AreDistinct (groups_after_join gs a)
+  pub after_leave : AreDistinct (groups_after_leave gs a)
   pub after_join_reported : AreDistinct (join_reported gs a)
   pub after_leave_reported : AreDistinct (leave_reported gs a)
 
@@ -176,16 +176,16 @@ LastGoesAlone = (front : List Group) (g : Group) → AreDistinct (front ++ g ∷
 
 -- who joins is a member then, unless it was refused
 abbrev pub JoinsMember : Type 0
-JoinsMember = (gs : List Group) (a : IpAddress) → AreDistinct gs → is_refused gs a ≡ false → is_member (joined gs a) a ≡ true
+JoinsMember = (gs : List Group) (a : IpAddress) → AreDistinct gs → is_refused gs a ≡ false → is_member (groups_after_join gs a) a ≡ true
 
 -- who leaves is no member then
 abbrev pub LeavesNoMember : Type 0
-LeavesNoMember = (gs : List Group) (a : IpAddress) → AreDistinct gs → is_member (left gs a) a ≡ false
+LeavesNoMember = (gs : List Group) (a : IpAddress) → AreDistinct gs → is_member (groups_after_leave gs a) a ≡ false
 
 -- no call changes the state of another group
 pub record KeepsOthers (gs : List Group) (a b : IpAddress) : Type 0 where
-  pub join : state_of (joined gs a) b ≡ state_of gs b
-  pub leave : state_of (left gs a) b ≡ state_of gs b
+  pub join : state_of (groups_after_join gs a) b ≡ state_of gs b
+  pub leave : state_of (groups_after_leave gs a) b ≡ state_of gs b
   pub report_of_join : state_of (join_reported gs a) b ≡ state_of gs b
   pub report_of_leave : state_of (leave_reported gs a) b ≡ state_of gs b
 

@@ -5,8 +5,8 @@ ghost use Rattle.ip_address.specs.Ip as ip;
 ghost use Rattle.group_table.specs.declared.groups.Group.{Group};
 ghost use Rattle.group_table.specs.declared.groups.GroupState.TheVariants.{Joining, Leaving};
 ghost use Rattle.group_table.specs.Groups as spec;
-ghost use Rattle.group_table.specs.Groups.{AreDistinct, done_or_full, ipv4_groups, ipv6_groups, join_reported, joined, leave_reported, left};
-ghost use Rattle.group_table.specs.Groups.{new_group, place_of, state_of, taken_out, with_state};
+ghost use Rattle.group_table.specs.Groups.{AreDistinct, done_or_full, ipv4_groups, ipv6_groups, join_reported, groups_after_join, leave_reported, groups_after_leave};
+ghost use Rattle.group_table.specs.Groups.{new_group, index_of, state_of, taken_out, with_state};
 ghost use Rattle.group_table.specs.Groups.{JoinReportsEnd, JoinsMember, LastGoesAlone, LastMovesIntoGap, LeaveReportsEnd, LeavesNoMember};
 ghost use Rattle.group_table.specs.Groups.{NoneLeft, OthersStay, StayDistinct};
 
@@ -55,7 +55,7 @@ impl Group {
 
 impl Default for Group {
     fn default() -> Group
-        ensures { result ≡ new_group ip.unspecified }
+        ensures { result ≡ new_group ip.unspecified_address }
     {
         Group::new(IpAddress::default())
     }
@@ -137,7 +137,7 @@ impl Groups {
     /// group isn't there and eight others are; then nothing changes.
     pub fn join(&mut self, group: IpAddress) -> Result<(), GroupTableFull>
         ensures answer { result ≡ done_or_full self.old group }
-        ensures groups { self.new ≡ joined self.old group }
+        ensures groups { self.new ≡ groups_after_join self.old group }
         ensures unchanged { OnErr result (self.new ≡ self.old) }
     {
         join_in(&mut self.entries, group)
@@ -146,7 +146,7 @@ impl Groups {
     /// Leaves a group. One whose join isn't reported yet is taken out, and the last group moves into
     /// the gap; of one whose join is, the leave is to be reported. Else nothing changes.
     pub fn leave(&mut self, group: &IpAddress)
-        ensures { self.new ≡ left self.old group.now }
+        ensures { self.new ≡ groups_after_leave self.old group.now }
     {
         leave_in(&mut self.entries, group);
     }
@@ -223,8 +223,8 @@ impl Groups {
 }
 
 // Where a group stands, or the length.
-fn place_of(groups: &[Group], group: &IpAddress) -> usize
-    ensures { result ≡ place_of groups.now group.now }
+fn index_of(groups: &[Group], group: &IpAddress) -> usize
+    ensures { result ≡ index_of groups.now group.now }
 {
     for (i, g) in groups.iter().enumerate() {
         if g.addr == *group {
@@ -236,37 +236,37 @@ fn place_of(groups: &[Group], group: &IpAddress) -> usize
 
 // The state of the group at a place, if there is one.
 #[inline(always)]
-fn state_at(groups: &[Group], place: usize) -> Option<GroupState>
-    ensures { result ≡ option_map (λ (g : Group). g.state) (slice_get groups.now place) }
+fn state_at(groups: &[Group], index: usize) -> Option<GroupState>
+    ensures { result ≡ option_map (λ (g : Group). g.state) (slice_get groups.now index) }
 {
-    Some(groups.get(place)?.state)
+    Some(groups.get(index)?.state)
 }
 
 // Where a group stands, or the length, and its state, if it is there.
-#[tactic(auto, using(crate::proofs::GroupsLemmas::state_at_place, crate::proofs::GroupsLemmas::place_within))]
+#[tactic(auto, using(crate::proofs::GroupsLemmas::state_at_index, crate::proofs::GroupsLemmas::place_within))]
 fn find(groups: &[Group], group: &IpAddress) -> (usize, Option<GroupState>)
-    ensures place { result.0 ≡ place_of groups.now group.now }
+    ensures index { result.0 ≡ index_of groups.now group.now }
     ensures state { result.1 ≡ state_of groups.now group.now }
     ensures within { IsSome result.1 → result.0 < length groups.now }
 {
-    let place = place_of(groups, group);
-    (place, state_at(groups, place))
+    let index = index_of(groups, group);
+    (index, state_at(groups, index))
 }
 
 // Gives the group at a place another state.
 fn set_state(
     entries: &mut ArrayVec<Group, IFACE_MAX_MULTICAST_GROUP_COUNT>,
     group: &IpAddress,
-    place: usize,
+    index: usize,
     state: GroupState,
 )
-    requires place { place ≡ place_of entries.old.items group.now }
-    requires within { place < length entries.old.items }
+    requires index { index ≡ index_of entries.old.items group.now }
+    requires within { index < length entries.old.items }
     requires distinct { AreDistinct entries.old.items }
     ensures groups { entries.new.items ≡ with_state entries.old.items group.now state }
     ensures distinct { AreDistinct entries.new.items }
 {
-    if let Some(entry) = entries.get_mut(place) {
+    if let Some(entry) = entries.get_mut(index) {
         *entry = Group {
             addr: *group,
             state,
@@ -278,15 +278,15 @@ fn set_state(
 fn take_out(
     entries: &mut ArrayVec<Group, IFACE_MAX_MULTICAST_GROUP_COUNT>,
     group: &IpAddress,
-    place: usize,
+    index: usize,
 )
-    requires place { place ≡ place_of entries.old.items group.now }
-    requires within { place < length entries.old.items }
+    requires index { index ≡ index_of entries.old.items group.now }
+    requires within { index < length entries.old.items }
     requires distinct { AreDistinct entries.old.items }
     ensures groups { entries.new.items ≡ taken_out entries.old.items group.now }
     ensures distinct { AreDistinct entries.new.items }
 {
-    entries.swap_remove(place);
+    entries.swap_remove(index);
 }
 
 // Puts a group that isn't there behind all others, if there is room.
@@ -297,7 +297,7 @@ fn append(
     requires absent { state_of entries.old.items group ≡ None }
     requires distinct { AreDistinct entries.old.items }
     ensures answer { result ≡ done_or_full entries.old.items group }
-    ensures groups { entries.new.items ≡ joined entries.old.items group }
+    ensures groups { entries.new.items ≡ groups_after_join entries.old.items group }
     ensures distinct { AreDistinct entries.new.items }
 {
     if entries.is_full() {
@@ -314,15 +314,15 @@ fn join_in(
 ) -> Result<(), GroupTableFull>
     requires { AreDistinct entries.old.items }
     ensures answer { result ≡ done_or_full entries.old.items group }
-    ensures groups { entries.new.items ≡ joined entries.old.items group }
+    ensures groups { entries.new.items ≡ groups_after_join entries.old.items group }
     ensures distinct { AreDistinct entries.new.items }
 {
-    let (place, state) = find(entries.as_slice(), &group);
+    let (index, state) = find(entries.as_slice(), &group);
     match state {
         None => append(entries, group),
         Some(GroupState::Joining | GroupState::Joined) => Ok(()),
         Some(GroupState::Leaving) => {
-            set_state(entries, &group, place, GroupState::Joined);
+            set_state(entries, &group, index, GroupState::Joined);
             Ok(())
         }
     }
@@ -331,13 +331,13 @@ fn join_in(
 // Leaves a group.
 fn leave_in(entries: &mut ArrayVec<Group, IFACE_MAX_MULTICAST_GROUP_COUNT>, group: &IpAddress)
     requires { AreDistinct entries.old.items }
-    ensures groups { entries.new.items ≡ left entries.old.items group.now }
+    ensures groups { entries.new.items ≡ groups_after_leave entries.old.items group.now }
     ensures distinct { AreDistinct entries.new.items }
 {
-    let (place, state) = find(entries.as_slice(), group);
+    let (index, state) = find(entries.as_slice(), group);
     match state {
-        Some(GroupState::Joining) => take_out(entries, group, place),
-        Some(GroupState::Joined) => set_state(entries, group, place, GroupState::Leaving),
+        Some(GroupState::Joining) => take_out(entries, group, index),
+        Some(GroupState::Joined) => set_state(entries, group, index, GroupState::Leaving),
         Some(GroupState::Leaving) | None => {}
     }
 }
@@ -351,9 +351,9 @@ fn join_reported_in(
     ensures groups { entries.new.items ≡ join_reported entries.old.items group.now }
     ensures distinct { AreDistinct entries.new.items }
 {
-    let (place, state) = find(entries.as_slice(), group);
+    let (index, state) = find(entries.as_slice(), group);
     match state {
-        Some(GroupState::Joining) => set_state(entries, group, place, GroupState::Joined),
+        Some(GroupState::Joining) => set_state(entries, group, index, GroupState::Joined),
         Some(GroupState::Joined | GroupState::Leaving) | None => {}
     }
 }
@@ -367,9 +367,9 @@ fn leave_reported_in(
     ensures groups { entries.new.items ≡ leave_reported entries.old.items group.now }
     ensures distinct { AreDistinct entries.new.items }
 {
-    let (place, state) = find(entries.as_slice(), group);
+    let (index, state) = find(entries.as_slice(), group);
     match state {
-        Some(GroupState::Leaving) => take_out(entries, group, place),
+        Some(GroupState::Leaving) => take_out(entries, group, index),
         Some(GroupState::Joining | GroupState::Joined) | None => {}
     }
 }

@@ -1,2 +1,2 @@
-mod Driven
-mod Linked
+mod DriveSteps
+mod LinkSteps

@@ -11,4 +11,4 @@ use Rattle.host_laws.specs.Datagrams.{KeepsDatagrams}
 pub record Driven {D O : Type 0} (tells : D → List Event → D → Type 0) (did : O → ℕ → SocketSet → SocketSet → O → Type 0)
     (device device' : D) (owner owner' : O) (commands : List Command) (answers : List Answer) (first : Host) (after : Host → Type 0) : Type 0 where
   pub ran : Ran tells did device device' owner owner' commands answers first after
-  pub datagrams : KeepsDatagrams first ran.last ran.places  -- what UDP sockets get came in frames, and what they send goes in frames
+  pub datagrams : KeepsDatagrams first ran.last ran.transitions  -- what UDP sockets get came in frames, and what they send goes in frames

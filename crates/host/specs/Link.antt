@@ -8,14 +8,14 @@ use Rattle.host_machine.specs.declared.command.Command.TheVariants.{PollIngressS
 use Rattle.host_machine.specs.Host.{Host, SocketSet}
 use Rattle.host_machine.specs.Step.{Step, IsTimely}
 use Rattle.host_machine.specs.Note.{identifications}
-use Rattle.host_machine.specs.Run.{Place, Run, Did, notes_in}
+use Rattle.host_machine.specs.Run.{Transition, Run, Did, notes_in}
 use Rattle.host_machine.specs.Real.{GivesSix}
 use Rattle.host_machine.specs.TwoHosts.{HaveOwnKeys, RebuildsThese, WereSent, cuts_in, key_of_cut}
 use Rattle.host_machine.specs.Ran.{Laws}
 use Rattle.host_machine.specs.declared.command.Answer.{Answer}
 use Rattle.host_laws.specs.Datagrams.{KeepsDatagrams}
 use Rattle.host_laws.specs.EndToEnd.{GetWhatWasSent}
-use Rattle.host_laws.specs.Senders.{IsPart, NobodyWritesUdp}
+use Rattle.host_laws.specs.Senders.{IsPart, NoSocketWritesUdp}
 use Rattle.interface.specs.Stands.{StandsFor}
 use Rattle.host.specs.Commands.{CommandGoes}
 use Rattle.host.specs.declared.link.Host.{Host as Linked}
@@ -43,7 +43,7 @@ Owns O = O → ℕ → SocketSet → SocketSet → O → Type 0
 
 -- one place of an end's run: its device told what the place says, and its owner did it. A hardware address that its command gives has
 -- six octets, if it is one of Ethernet, as each has that a program holds
-pub record Acts {O : Type 0} (did : Owns O) (p : Place) (old new : End O) : Type 0 where
+pub record Acts {O : Type 0} (did : Owns O) (p : Transition) (old new : End O) : Type 0 where
   pub step : Step p.command p.answer old.host p.told p.acts p.notes new.host
   pub before : p.before ≡ old.host
   pub after : p.after ≡ new.host
@@ -55,8 +55,8 @@ pub record Acts {O : Type 0} (did : Owns O) (p : Place) (old new : End O) : Type
 abbrev pub with_frame : Memory → List ℕ → Memory
 with_frame d frame = record d { queued = d.queued ++ frame ∷ [] }
 
-abbrev pub pushed : {O : Type 0} → End O → List ℕ → End O
-pushed e frame = record e { device = with_frame e.device frame }
+abbrev pub end_with_frame : {O : Type 0} → End O → List ℕ → End O
+end_with_frame e frame = record e { device = with_frame e.device frame }
 
 -- frame k, from 0, of those that a device has sent since the link began, where it had sent so many before
 abbrev pub sent_since : ℕ → Memory → ℕ → Option (List ℕ)
@@ -66,21 +66,21 @@ sent_since before d k = slice_get (drop before d.sent) k
 -- or a copy of a frame that the one has sent is queued for the other, which is then polled for a frame. Where there is no such frame,
 -- nothing is done.
 pub data Links {O P : Type 0} (did_a : Owns O) (did_b : Owns P) (m n : ℕ) :
-    List LinkStep → End O → End P → List Place → List Place → End O → End P → Type 0 where
+    List LinkStep → End O → End P → List Transition → List Transition → End O → End P → Type 0 where
   Stops : {a : End O} {b : End P} → Links did_a did_b m n [] a b [] [] a b
-  OnA : {steps : List LinkStep} {a c a' : End O} {b b' : End P} {p : Place} {ps qs : List Place} →
+  OnA : {steps : List LinkStep} {a c a' : End O} {b b' : End P} {p : Transition} {ps qs : List Transition} →
       Acts did_a p a c → Links did_a did_b m n steps c b ps qs a' b' → Links did_a did_b m n (step.A p.command ∷ steps) a b (p ∷ ps) qs a' b'
-  OnB : {steps : List LinkStep} {a a' : End O} {b c b' : End P} {q : Place} {ps qs : List Place} →
+  OnB : {steps : List LinkStep} {a a' : End O} {b c b' : End P} {q : Transition} {ps qs : List Transition} →
       Acts did_b q b c → Links did_a did_b m n steps a c ps qs a' b' → Links did_a did_b m n (step.B q.command ∷ steps) a b ps (q ∷ qs) a' b'
-  ToA : {steps : List LinkStep} {a c a' : End O} {b b' : End P} {p : Place} {ps qs : List Place} (k : ℕ) (t : ℤ) (frame : List ℕ) →
-      sent_since n b.device k ≡ Some frame → p.command ≡ PollIngressSingle t → Acts did_a p (pushed a frame) c → Links did_a did_b m n steps c b ps qs a' b' →
+  ToA : {steps : List LinkStep} {a c a' : End O} {b b' : End P} {p : Transition} {ps qs : List Transition} (k : ℕ) (t : ℤ) (frame : List ℕ) →
+      sent_since n b.device k ≡ Some frame → p.command ≡ PollIngressSingle t → Acts did_a p (end_with_frame a frame) c → Links did_a did_b m n steps c b ps qs a' b' →
       Links did_a did_b m n (step.ToA k t ∷ steps) a b (p ∷ ps) qs a' b'
-  ToB : {steps : List LinkStep} {a a' : End O} {b c b' : End P} {q : Place} {ps qs : List Place} (k : ℕ) (t : ℤ) (frame : List ℕ) →
-      sent_since m a.device k ≡ Some frame → q.command ≡ PollIngressSingle t → Acts did_b q (pushed b frame) c → Links did_a did_b m n steps a c ps qs a' b' →
+  ToB : {steps : List LinkStep} {a a' : End O} {b c b' : End P} {q : Transition} {ps qs : List Transition} (k : ℕ) (t : ℤ) (frame : List ℕ) →
+      sent_since m a.device k ≡ Some frame → q.command ≡ PollIngressSingle t → Acts did_b q (end_with_frame b frame) c → Links did_a did_b m n steps a c ps qs a' b' →
       Links did_a did_b m n (step.ToB k t ∷ steps) a b ps (q ∷ qs) a' b'
-  NoneToA : {steps : List LinkStep} {a a' : End O} {b b' : End P} {ps qs : List Place} (k : ℕ) (t : ℤ) →
+  NoneToA : {steps : List LinkStep} {a a' : End O} {b b' : End P} {ps qs : List Transition} (k : ℕ) (t : ℤ) →
       sent_since n b.device k ≡ None → Links did_a did_b m n steps a b ps qs a' b' → Links did_a did_b m n (step.ToA k t ∷ steps) a b ps qs a' b'
-  NoneToB : {steps : List LinkStep} {a a' : End O} {b b' : End P} {ps qs : List Place} (k : ℕ) (t : ℤ) →
+  NoneToB : {steps : List LinkStep} {a a' : End O} {b b' : End P} {ps qs : List Transition} (k : ℕ) (t : ℤ) →
       sent_since m a.device k ≡ None → Links did_a did_b m n steps a b ps qs a' b' → Links did_a did_b m n (step.ToB k t ∷ steps) a b ps qs a' b'
 
 -- there is a frame so numbered
@@ -105,8 +105,8 @@ end_of h H = record { host = H; device = h.device; owner = h.owner }
 -- what these steps did, from hosts that both stood for: the places of both runs, and the hosts that they stand for after
 pub record Went {O P : Type 0} (did_a : Owns O) (did_b : Owns P) (m n : ℕ) (steps : List LinkStep) (a a' : Linked O) (b b' : Linked P)
     (H K : Host) : Type 0 where
-  pub ps : List Place
-  pub qs : List Place
+  pub ps : List Transition
+  pub qs : List Transition
   pub last_a : Host
   pub last_b : Host
   pub links : Links did_a did_b m n steps (end_of a H) (end_of b K) ps qs (end_of a' last_a) (end_of b' last_b)
@@ -129,13 +129,13 @@ Goes did_a did_b m n steps a a' b b' =
 
 -- Whatever an end rebuilds under the key of a packet that the other cut is that packet's payload. Both are on one medium; the other had
 -- no piece left when the link began, and cuts no two packets under one key; and the one had no slot with such a key.
-abbrev pub RebuildsCuts : Host → Host → List Place → List Place → Type 0
+abbrev pub RebuildsCuts : Host → Host → List Transition → List Transition → Type 0
 RebuildsCuts H K ps qs =
     K.capabilities.medium ≡ H.capabilities.medium → H.left ≡ [] → HaveOwnKeys (cuts_in ps) →
     AllByRecursion (λ d. map.get K.slots (key_of_cut d) ≡ None) (cuts_in ps) → RebuildsThese (cuts_in ps) qs
 
 -- Where the other makes fewer than 65,536 dispatches, it cuts no two packets under one key, and the same holds without that premise.
-abbrev pub RebuildsFew : Host → Host → List Place → List Place → Type 0
+abbrev pub RebuildsFew : Host → Host → List Transition → List Transition → Type 0
 RebuildsFew H K ps qs =
     K.capabilities.medium ≡ H.capabilities.medium → H.left ≡ [] → length (identifications (notes_in ps)) < 2 ^ 16 →
     AllByRecursion (λ d. map.get K.slots (key_of_cut d) ≡ None) (cuts_in ps) → RebuildsThese (cuts_in ps) qs
@@ -143,9 +143,9 @@ RebuildsFew H K ps qs =
 -- Each datagram that a UDP socket of an end gets was sent by a UDP socket of the other, whole or, under the premises above, in fragments. Both
 -- are on one medium; what the other had left of a packet that was cut before are parts of it, as where nothing was left; and no raw socket of
 -- the other writes UDP.
-abbrev pub GetsDatagrams : Host → Host → List Place → List Place → Type 0
+abbrev pub GetsDatagrams : Host → Host → List Transition → List Transition → Type 0
 GetsDatagrams H K ps qs =
-    K.capabilities.medium ≡ H.capabilities.medium → AllByRecursion (IsPart H.capabilities.medium) H.left → AllByRecursion (λ p. NobodyWritesUdp p.before) ps →
+    K.capabilities.medium ≡ H.capabilities.medium → AllByRecursion (IsPart H.capabilities.medium) H.left → AllByRecursion (λ p. NoSocketWritesUdp p.before) ps →
     GetWhatWasSent H K ps qs
 
 -- what `link` did: some of its steps, which ones by its answer; so the ends went along runs, of which the laws hold, what was handed

@@ -4,7 +4,7 @@ use Rattle.std.specs.Prelude.{ℤ, ◌⊎◌, ◌-◌, ◌/◌, map}
 use Rattle.std.specs.List.{AllByRecursion}
 use Rattle.std.proofs.lemmas.List.{length-map, append-nil}
 use Rattle.net_base.specs.Checksum.{ip_mtu_of}
-use Rattle.net_base.specs.Device.{Event, Reception, Asked, sent}
+use Rattle.net_base.specs.Device.{Event, Reception, Asked, sent_frames}
 use Rattle.net_base.specs.declared.phy.DeviceCapabilities.{DeviceCapabilities}
 use Rattle.net_base.specs.declared.phy.Medium.{Medium}
 use Rattle.ip_address.specs.declared.cidr.IpCidr.{IpCidr}
@@ -19,7 +19,7 @@ use Rattle.fragmentation.specs.Cuts.{Datagram, Piece, HasForm, cut, count, piece
 use Rattle.host_machine.specs.declared.results.PollIngressSingleResult.{PollIngressSingleResult}
 use Rattle.host_machine.specs.declared.results.DispatchError.{DispatchError}
 use Rattle.host_machine.specs.Note.{Note, OfCuts, Cut, PieceSent, cut_notes}
-use Rattle.host_machine.specs.Host.{Host, swept, with_left}
+use Rattle.host_machine.specs.Host.{Host, without_expired, with_left}
 use Rattle.host_machine.specs.Packet.{Packet, PacketV4, payload_of}
 use Rattle.host_machine.specs.Frame.{piece_frame, sends}
 use Rattle.host_machine.specs.Dispatch.{Outcome, Dispatches, datagram_of}
@@ -30,29 +30,29 @@ use Rattle.host_machine.specs.Ingress.{Takes, Ingress}
 use Rattle.host_machine.specs.Laws.{SendsOneThing, ThePacket, ItsFirstPiece, ARequest}
 use Rattle.host_machine.specs.Laws as laws
 use Rattle.host_machine.specs.Multicast as multicast
-use Rattle.host_machine.specs.Reports.{SendsIgmpReport, SendsMldReport}
+use Rattle.host_machine.specs.Reports.{IgmpEgress, MldEgress}
 use Rattle.host_machine.specs.Reports as reports
-use Rattle.host_machine.specs.Slaac.{SolicitsRouters}
+use Rattle.host_machine.specs.Slaac.{NdiscRsEgress}
 use Rattle.host_machine.specs.Slaac as slaac
-use Rattle.host_machine.specs.Egress.{SendsPiece}
+use Rattle.host_machine.specs.Egress.{Ipv4Egress}
 use Rattle.host_machine.specs.Egress as egress
 use Rattle.host_machine.specs.TwoHosts.{cuts}
-use Rattle.host_machine.proofs.Notes.{cut_notes-append, cut_notes-slots}
-use Rattle.host_machine.proofs.Kept.{Keeps}
-use Rattle.host_machine.proofs.Malformed.{sent-sends}
+use Rattle.host_machine.proofs.NotesBySubject.{cut_notes-append, cut_notes-slots}
+use Rattle.host_machine.proofs.UnchangedFields.{Keeps}
+use Rattle.host_machine.proofs.Malformed.{sent_frames-sends}
 use Rattle.host_machine.proofs.Pieces.{IsIn, is_in, contains_in, in_left, in_right, IsPiece, piece_in, part_of, count_below, length-pieces_from}
 use Rattle.host_machine.proofs.TwoHosts.{in_map, size_positive, is_part, cuts-append}
-use Rattle.host_machine.proofs.Walk.{Reached, dispatched, taken, sent-append}
-use Rattle.host_machine.proofs.Shown.{GoodReply, takes_good, takes_real, reached_of}
-use Rattle.host_machine.proofs.Noted.{sends_one}
-use Rattle.host_machine.proofs.Requested.{takes_attends}
+use Rattle.host_machine.proofs.Walk.{Reached, dispatched, taken, sent_frames-append}
+use Rattle.host_machine.proofs.SentPieces.{GoodReply, takes_good, takes_real, reached_of}
+use Rattle.host_machine.proofs.NotedRequests.{sends_one}
+use Rattle.host_machine.proofs.RunRequests.{takes_attends}
 use Rattle.host_machine.proofs.Turns.{dispatched_sockets, report_is, solicitation_is}
-use Rattle.host_machine.proofs.Own.{is_own}
+use Rattle.host_machine.proofs.OwnMessages.{is_own}
 use Rattle.host_laws.specs.Departures.{Departure}
-use Rattle.host_laws.specs.Senders.{IsPart, IsRegular, NobodyWritesUdp, CarriesNoUdp, CarryOnly, WentIn, may_be_udp, ways}
-use Rattle.host_laws.proofs.Gained.{all-append}
+use Rattle.host_laws.specs.Senders.{IsPart, IsRegular, NoSocketWritesUdp, CarriesNoUdp, CarryOnly, WentIn, may_be_udp, ways}
+use Rattle.host_laws.proofs.IngressDeliveries.{all-append}
 use Rattle.host_laws.proofs.Lists.{cuts_of-append}
-use Rattle.host_laws.proofs.Unspoken.{has_udp, own_has_none, packet_none, piece_none, arp_none, request_none, v4_none}
+use Rattle.host_laws.proofs.FramesWithoutUdp.{has_udp, own_has_none, packet_none, piece_none, arp_none, request_none, v4_none}
 use Rattle.host_laws.specs.Departures.{cuts_of}
 
 -- where nothing is sent
@@ -167,10 +167,10 @@ pub record Accounts (old : Host) (ds : List Departure) (frames : List (List ℕ)
   pub carry : CarryOnly old.capabilities.medium ds frames (cuts (cut_notes notes))
   pub same : new.capabilities ≡ old.capabilities
   pub regular : IsRegular new
-  pub nobody : NobodyWritesUdp new
+  pub nobody : NoSocketWritesUdp new
 
 abbrev pub AccountsFor : Host → List Departure → List (List ℕ) → List Note → Host → Type 0
-AccountsFor old ds frames notes new = IsRegular old → NobodyWritesUdp old → Accounts old ds frames notes new
+AccountsFor old ds frames notes new = IsRegular old → NoSocketWritesUdp old → Accounts old ds frames notes new
 
 pub accounts_on : (a b c : Host) (ds es : List Departure) (fs gs : List (List ℕ)) (xs ys : List Note) → AccountsFor a ds fs xs b → AccountsFor b es gs ys c → AccountsFor a (ds ++ es) (fs ++ gs) (xs ++ ys) c
 accounts_on a b c ds es fs gs xs ys one two = λ r none.
@@ -180,7 +180,7 @@ accounts_on a b c ds es fs gs xs ys one two = λ r none.
     record { carry = carried_on a.capabilities.medium ds es fs gs xs ys x.carry more; same = y.same ∙ x.same; regular = y.regular; nobody = y.nobody }
 
 -- where nothing is sent
-pub accounts_silent : {old new : Host} {ds : List Departure} {frames : List (List ℕ)} {notes : List Note} → frames ≡ [] → cut_notes notes ≡ [] → (IsRegular old → Follows old new) → (NobodyWritesUdp old → NobodyWritesUdp new) →
+pub accounts_silent : {old new : Host} {ds : List Departure} {frames : List (List ℕ)} {notes : List Note} → frames ≡ [] → cut_notes notes ≡ [] → (IsRegular old → Follows old new) → (NoSocketWritesUdp old → NoSocketWritesUdp new) →
     AccountsFor old ds frames notes new
 accounts_silent {notes = notes} f c keeps nobody = λ r none. let x = keeps r in record { carry = nothing_carried notes f c; same = x.same; regular = x.regular; nobody = nobody none }
 
@@ -210,7 +210,7 @@ accounts_before {K = K} accounts e s = rw e (λ r none.
     let y = stays_follow s x.regular in
     record { carry = x.carry; same = y.same ∙ x.same; regular = y.regular; nobody = rw s.sockets x.nobody })
 
-pub accounts_after : {old mid new : Host} {ds : List Departure} {frames : List (List ℕ)} {notes : List Note} → (IsRegular old → Follows old mid) → (NobodyWritesUdp old → NobodyWritesUdp mid) → AccountsFor mid ds frames notes new →
+pub accounts_after : {old mid new : Host} {ds : List Departure} {frames : List (List ℕ)} {notes : List Note} → (IsRegular old → Follows old mid) → (NoSocketWritesUdp old → NoSocketWritesUdp mid) → AccountsFor mid ds frames notes new →
     AccountsFor old ds frames notes new
 accounts_after {ds = ds} {frames = frames} {notes = notes} f nobody accounts = λ r none.
     let x = f r in
@@ -253,12 +253,12 @@ unsent_carry p error H frames notes (ItsFirstPiece h q first rest to of pieces o
 unsent_carry p error H frames notes (ARequest frame is silent o f a c) = rw (f, c) (record { frames_are = (inl (request_none H.capabilities.medium frame is), tt); cuts_are = tt })
 
 -- the parts of a round but sockets
-over_told : {old new : Host} {frames : List (List ℕ)} (told : List Event) {notes : List Note} → sent told ≡ frames → AccountsFor old [] frames notes new → AccountsFor old [] (sent told) notes new
+over_told : {old new : Host} {frames : List (List ℕ)} (told : List Event) {notes : List Note} → sent_frames told ≡ frames → AccountsFor old [] frames notes new → AccountsFor old [] (sent_frames told) notes new
 over_told {old} {new} {frames} told {notes} e accounts = subst (λ fs. AccountsFor old [] fs notes new) (sym e) accounts
 
-pub piece_accounts : {H new : Host} {told : List Event} {notes : List Note} → SendsPiece H told notes new → AccountsFor H [] (sent told) notes new
-piece_accounts (egress.NoPiece l t n e) = accounts_same (ap sent t) n e
-piece_accounts (egress.NoLeave piece rest l t n e) = accounts_same (ap sent t) n e
+pub piece_accounts : {H new : Host} {told : List Event} {notes : List Note} → Ipv4Egress H told notes new → AccountsFor H [] (sent_frames told) notes new
+piece_accounts (egress.NoPiece l t n e) = accounts_same (ap sent_frames t) n e
+piece_accounts (egress.NotGranted piece rest l t n e) = accounts_same (ap sent_frames t) n e
 piece_accounts {H} {new} {told} {notes} (egress.PieceGoes piece rest l t n e) = rw (t, n, e) (λ r none.
     let all : AllByRecursion (IsPart H.capabilities.medium) (piece ∷ rest) = rw l at r.left in
     record {
@@ -268,36 +268,36 @@ piece_accounts {H} {new} {told} {notes} (egress.PieceGoes piece rest l t n e) = 
       nobody = none;
     })
 
-pub routers_account : {H new : Host} {told : List Event} {notes : List Note} → SolicitsRouters H told notes new → AccountsFor H [] (sent told) notes new
-routers_account (slaac.NotDue d t n e) = accounts_same (ap sent t) n e
-routers_account (slaac.NoLeave p d t n e) = accounts_same (ap sent t) n e
-routers_account {H} {new} {told} {notes} (slaac.Goes p outcome frames mid h d t e) = over_told told (ap sent t ∙ sent-sends frames) (accounts_before (own_accounts (solicitation_is H p h) d) e (stay refl refl refl refl refl))
+pub routers_account : {H new : Host} {told : List Event} {notes : List Note} → NdiscRsEgress H told notes new → AccountsFor H [] (sent_frames told) notes new
+routers_account (slaac.NotDue d t n e) = accounts_same (ap sent_frames t) n e
+routers_account (slaac.NotGranted p d t n e) = accounts_same (ap sent_frames t) n e
+routers_account {H} {new} {told} {notes} (slaac.Goes p outcome frames mid h d t e) = over_told told (ap sent_frames t ∙ sent_frames-sends frames) (accounts_before (own_accounts (solicitation_is H p h) d) e (stay refl refl refl refl refl))
 
 module _ {packet_for : List IpCidr → IpAddress → Option Packet} (plain : (own : List IpCidr) (a : IpAddress) (p : Packet) → packet_for own a ≡ Some p → is_own (payload_of p) ≡ true) where
-  groups_account : {state : GroupState} {told_of : List Group → IpAddress → List Group} {old new : Host} {going : Bool} {told : List Event} {notes : List Note} →
-      multicast.Tells state packet_for told_of old going told notes new → AccountsFor old [] (sent told) notes new
+  groups_account : {state : GroupState} {after_report : List Group → IpAddress → List Group} {old new : Host} {granted : Bool} {told : List Event} {notes : List Note} →
+      multicast.ReportsEach state packet_for after_report old granted told notes new → AccountsFor old [] (sent_frames told) notes new
   groups_account multicast.Begins = accounts_same refl refl refl
   groups_account (multicast.Silently a w f p) = accounts_before (groups_account w) refl (stay refl refl refl refl refl)
-  groups_account {old = old} (multicast.Refused {told = told} {notes = notes} {mid = mid} a p w f q) = over_told (told ++ Asked mid.moment false ∷ []) (sent-append told (Asked mid.moment false ∷ []) ∙ append-nil (sent told)) (groups_account w)
-  groups_account {told_of = told_of} {old = old} (multicast.Told {told = told} {notes = notes} {mid = mid} a p outcome frames more new w f q d) =
-      over_told (told ++ Asked mid.moment true ∷ sends frames) (sent-append told (Asked mid.moment true ∷ sends frames) ∙ ap (λ fs. sent told ++ fs) (sent-sends frames)) (accounts_before (accounts_on old mid new [] [] (sent told) frames notes more (groups_account w) (own_accounts (plain mid.ip_addrs a p q) d)) refl (stay refl refl refl refl refl))
+  groups_account {old = old} (multicast.Refused {told = told} {notes = notes} {mid = mid} a p w f q) = over_told (told ++ Asked mid.moment false ∷ []) (sent_frames-append told (Asked mid.moment false ∷ []) ∙ append-nil (sent_frames told)) (groups_account w)
+  groups_account {after_report = after_report} {old = old} (multicast.Reported {told = told} {notes = notes} {mid = mid} a p outcome frames more new w f q d) =
+      over_told (told ++ Asked mid.moment true ∷ sends frames) (sent_frames-append told (Asked mid.moment true ∷ sends frames) ∙ ap (λ fs. sent_frames told ++ fs) (sent_frames-sends frames)) (accounts_before (accounts_on old mid new [] [] (sent_frames told) frames notes more (groups_account w) (own_accounts (plain mid.ip_addrs a p q) d)) refl (stay refl refl refl refl refl))
 
-  pub all_account : {state : GroupState} {told_of : List Group → IpAddress → List Group} {old new : Host} {told : List Event} {notes : List Note} →
-      multicast.TellsAll state packet_for told_of old told notes new → AccountsFor old [] (sent told) notes new
+  pub all_account : {state : GroupState} {after_report : List Group → IpAddress → List Group} {old new : Host} {told : List Event} {notes : List Note} →
+      multicast.ReportsAll state packet_for after_report old told notes new → AccountsFor old [] (sent_frames told) notes new
   all_account (multicast.All w n) = groups_account w
   all_account (multicast.UpToRefusal w) = groups_account w
 
-pub igmp_accounts : {H new : Host} {told : List Event} {notes : List Note} → SendsIgmpReport H told notes new → AccountsFor H [] (sent told) notes new
-igmp_accounts (reports.NotDue h t n e) = accounts_same (ap sent t) n e
-igmp_accounts (reports.NoFurtherGroup h g t n e) = accounts_before (accounts_same (ap sent t) n refl) e (stay refl refl refl refl refl)
-igmp_accounts (reports.NoAddress next h g a t n e) = accounts_same (ap sent t) n e
-igmp_accounts (reports.NoLeave p h r t n e) = accounts_same (ap sent t) n e
-igmp_accounts {H} {new} {told} {notes} (reports.Sent p outcome frames mid h r d t e) = over_told told (ap sent t ∙ sent-sends frames) (accounts_before (own_accounts (report_is H p r) d) e (stay refl refl refl refl refl))
+pub igmp_accounts : {H new : Host} {told : List Event} {notes : List Note} → IgmpEgress H told notes new → AccountsFor H [] (sent_frames told) notes new
+igmp_accounts (reports.NotDue h t n e) = accounts_same (ap sent_frames t) n e
+igmp_accounts (reports.NoFurtherGroup h g t n e) = accounts_before (accounts_same (ap sent_frames t) n refl) e (stay refl refl refl refl refl)
+igmp_accounts (reports.NoAddress next h g a t n e) = accounts_same (ap sent_frames t) n e
+igmp_accounts (reports.NotGranted p h r t n e) = accounts_same (ap sent_frames t) n e
+igmp_accounts {H} {new} {told} {notes} (reports.Sent p outcome frames mid h r d t e) = over_told told (ap sent_frames t ∙ sent_frames-sends frames) (accounts_before (own_accounts (report_is H p r) d) e (stay refl refl refl refl refl))
 
-pub mld_accounts : {H new : Host} {told : List Event} {notes : List Note} → SendsMldReport H told notes new → AccountsFor H [] (sent told) notes new
-mld_accounts (reports.NotYet h t n e) = accounts_same (ap sent t) n e
-mld_accounts (reports.GivenUp h t n e) = accounts_before (accounts_same (ap sent t) n refl) e (stay refl refl refl refl refl)
-mld_accounts {H} {new} {told} {notes} (reports.ReportGoes outcome frames mid h d t e) = over_told told (ap sent t ∙ sent-sends frames) (accounts_before (own_accounts refl d) e (stay refl refl refl refl refl))
+pub mld_accounts : {H new : Host} {told : List Event} {notes : List Note} → MldEgress H told notes new → AccountsFor H [] (sent_frames told) notes new
+mld_accounts (reports.NotYet h t n e) = accounts_same (ap sent_frames t) n e
+mld_accounts (reports.GivenUp h t n e) = accounts_before (accounts_same (ap sent_frames t) n refl) e (stay refl refl refl refl refl)
+mld_accounts {H} {new} {told} {notes} (reports.ReportGoes outcome frames mid h d t e) = over_told told (ap sent_frames t ∙ sent_frames-sends frames) (accounts_before (own_accounts refl d) e (stay refl refl refl refl refl))
 
 -- a call that takes a frame
 pub taken_left : (H : Host) (r : Reception) (reply : Option Reply) (notes : List Note) (new : Host) → Takes H r reply notes new → new.left ≡ H.left
@@ -320,19 +320,19 @@ responds (Some (Arp packet)) H frames notes new good r = rw (r.0, r.1, r.2) (λ 
 })
 responds (Some (Ip packet)) H frames notes new good r = own_accounts good r.1
 
-pub ingress_accounts : (t : ℤ) (answer : PollIngressSingleResult) (old new : Host) (told : List Event) (notes : List Note) → Ingress t answer old told notes new → AccountsFor old [] (sent told) notes new
+pub ingress_accounts : (t : ℤ) (answer : PollIngressSingleResult) (old new : Host) (told : List Event) (notes : List Note) → Ingress t answer old told notes new → AccountsFor old [] (sent_frames told) notes new
 ingress_accounts t answer old new told notes i = λ regular none.
     let r = i.response in
-    let began : IsReal (swept old t) = record { own = regular.real.own; neighbors = regular.real.neighbors } in
-    let shown = takes_real (swept old t) i.reception r.reply r.notes_taking r.taken r.takes began in
-    let good = takes_good (swept old t) i.reception r.reply r.notes_taking r.taken began r.takes in
+    let began : IsReal (without_expired old t) = record { own = regular.real.own; neighbors = regular.real.neighbors } in
+    let shown = takes_real (without_expired old t) i.reception r.reply r.notes_taking r.taken r.takes began in
+    let good = takes_good (without_expired old t) i.reception r.reply r.notes_taking r.taken began r.takes in
     let same : r.taken.capabilities ≡ old.capabilities = shown.same in
     let good' : GoodReply r.taken.capabilities.medium r.reply = subst (λ (d : DeviceCapabilities). GoodReply d.medium r.reply) (sym same) good in
-    let left : r.taken.left ≡ old.left = taken_left (swept old t) i.reception r.reply r.notes_taking r.taken r.takes in
-    let attended = takes_attends (swept old t) i.reception r.reply r.notes_taking r.taken r.takes in
-    let frames : sent told ≡ i.frames = ap sent i.events ∙ sent-sends i.frames in
+    let left : r.taken.left ≡ old.left = taken_left (without_expired old t) i.reception r.reply r.notes_taking r.taken r.takes in
+    let attended = takes_attends (without_expired old t) i.reception r.reply r.notes_taking r.taken r.takes in
+    let frames : sent_frames told ≡ i.frames = ap sent_frames i.events ∙ sent_frames-sends i.frames in
     let first : AccountsFor old [] [] r.notes_taking r.taken =
-    accounts_silent refl (taken_uncut (swept old t) i.reception r.reply r.notes_taking r.taken r.takes) (λ x. follows old r.taken same left shown.real x) (λ x. attended.nobody may_be_udp x) in
+    accounts_silent refl (taken_uncut (without_expired old t) i.reception r.reply r.notes_taking r.taken r.takes) (λ x. follows old r.taken same left shown.real x) (λ x. attended.nobody may_be_udp x) in
     let both : AccountsFor old [] i.frames (r.notes_taking ++ r.notes_responding) new =
     accounts_on old r.taken new [] [] [] i.frames r.notes_taking r.notes_responding first (responds r.reply r.taken i.frames r.notes_responding new good' r.responds) in
     rw (frames, r.all_notes) (both regular none)

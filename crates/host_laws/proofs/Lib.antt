@@ -1,17 +1,17 @@
 mod Places
-mod Handed
-mod Brought
+mod DatagramHandover
+mod FrameDatagrams
 mod Lists
-mod Gained
-mod Unspoken
+mod IngressDeliveries
+mod FramesWithoutUdp
 mod Accounts
-mod Idle
+mod IdleParts
 mod Ways
-mod Departed
-mod Lost
-mod Sent
-mod Stepped
+mod TurnDepartures
+mod EgressDepartures
+mod CallDepartures
+mod StepTraffic
 mod ReadBack
-pub mod Ran
-mod Regular
-pub mod Traced
+pub mod RunTraffic
+mod RegularHosts
+pub mod DatagramOrigin

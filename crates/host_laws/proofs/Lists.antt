@@ -4,10 +4,10 @@ use Rattle.std.proofs.lemmas.Bool.Decides.{nat_tests}
 use Rattle.std.proofs.lemmas.List.{append_assoc}
 use Rattle.fragmentation.specs.Cuts.{Datagram}
 use Rattle.fragmentation.specs.Reassembly.{SlotNote}
-use Rattle.transport_sockets.specs.Udp.{UdpSocket, delivered, gone}
+use Rattle.transport_sockets.specs.Udp.{UdpSocket, socket_after_delivery, without_first_to_send}
 use Rattle.host_machine.specs.Host.{Host}
 use Rattle.host_machine.specs.Order.{IsAmong, NoneOfNone, OneOf, NotThis}
-use Rattle.host_laws.specs.Deliveries.{Delivery, Deliver, NoFrame, OneGets, NobodyGets, to_index, with_deliveries}
+use Rattle.host_laws.specs.Deliveries.{Delivery, Deliver, NoFrame, OneGets, NoSocketGets, to_index, with_deliveries}
 use Rattle.host_laws.specs.Departures.{Departure, Way, Dropped, InOneFrame, InPieces, frames_by, frames_of, cuts_by, cuts_of, from_index, entries, without}
 
 if_append : {A : Type 0} (b : Bool) (x : A) (xs ys : List A) → (if b then x ∷ (xs ++ ys) else (xs ++ ys)) ≡ (if b then x ∷ xs else xs) ++ ys
@@ -21,27 +21,27 @@ to_index-append i (d ∷ ds) es = ap (λ rest. if d.index == i then d ∷ rest e
 
 pub with_deliveries-append : (ds es : List Delivery) (s : UdpSocket) → with_deliveries (ds ++ es) s ≡ with_deliveries es (with_deliveries ds s)
 with_deliveries-append [] es s = refl
-with_deliveries-append (d ∷ ds) es s = with_deliveries-append ds es (delivered d.source d.payload s)
+with_deliveries-append (d ∷ ds) es s = with_deliveries-append ds es (socket_after_delivery d.source d.payload s)
 
 pub deliver-append : {B : Host} {fs gs : List (List ℕ)} {ns ms : List SlotNote} {ds es : List Delivery} → Deliver B fs ns ds → Deliver B gs ms es → Deliver B (fs ++ gs) (ns ++ ms) (ds ++ es)
 deliver-append NoFrame e = e
 deliver-append {B = B} {gs = gs} {ms = ms} {es = es} (OneGets {frames = frames} {noted = noted} {ds = ds} frame own d g r) e =
     subst (λ ns. Deliver B (frame ∷ (frames ++ gs)) ns (d ∷ (ds ++ es))) (sym (append_assoc own noted ms)) (OneGets frame own d g (deliver-append r e))
-deliver-append {B = B} {gs = gs} {ms = ms} {es = es} (NobodyGets {frames = frames} {noted = noted} {ds = ds} frame own r) e =
-    subst (λ ns. Deliver B (frame ∷ (frames ++ gs)) ns (ds ++ es)) (sym (append_assoc own noted ms)) (NobodyGets frame own (deliver-append r e))
+deliver-append {B = B} {gs = gs} {ms = ms} {es = es} (NoSocketGets {frames = frames} {noted = noted} {ds = ds} frame own r) e =
+    subst (λ ns. Deliver B (frame ∷ (frames ++ gs)) ns (ds ++ es)) (sym (append_assoc own noted ms)) (NoSocketGets frame own (deliver-append r e))
 
 -- what a delivery leaves of a socket
 pub endpoint_stays : (ds : List Delivery) (s : UdpSocket) → (with_deliveries ds s).endpoint ≡ s.endpoint
 endpoint_stays [] s = refl
-endpoint_stays (d ∷ ds) s = endpoint_stays ds (delivered d.source d.payload s)
+endpoint_stays (d ∷ ds) s = endpoint_stays ds (socket_after_delivery d.source d.payload s)
 
 pub hop_limit_stays : (ds : List Delivery) (s : UdpSocket) → (with_deliveries ds s).hop_limit ≡ s.hop_limit
 hop_limit_stays [] s = refl
-hop_limit_stays (d ∷ ds) s = hop_limit_stays ds (delivered d.source d.payload s)
+hop_limit_stays (d ∷ ds) s = hop_limit_stays ds (socket_after_delivery d.source d.payload s)
 
 pub tx_stays : (ds : List Delivery) (s : UdpSocket) → (with_deliveries ds s).tx ≡ s.tx
 tx_stays [] s = refl
-tx_stays (d ∷ ds) s = tx_stays ds (delivered d.source d.payload s)
+tx_stays (d ∷ ds) s = tx_stays ds (socket_after_delivery d.source d.payload s)
 
 pub option_map_then : {A B C : Type 0} (g : B → C) (f : A → B) (h : A → C) → ((x : A) → g (f x) ≡ h x) → (o : Option A) → option_map g (option_map f o) ≡ option_map h o
 option_map_then g f h same None = refl
@@ -62,7 +62,7 @@ from_index-append i (d ∷ ds) es = ap (λ rest. if d.index == i then d ∷ rest
 
 pub without-append : (ds es : List Departure) (s : UdpSocket) → without (ds ++ es) s ≡ without es (without ds s)
 without-append [] es s = refl
-without-append (d ∷ ds) es s = without-append ds es (gone s)
+without-append (d ∷ ds) es s = without-append ds es (without_first_to_send s)
 
 pub entries-append : (ds es : List Departure) → entries (ds ++ es) ≡ entries ds ++ entries es
 entries-append [] es = refl

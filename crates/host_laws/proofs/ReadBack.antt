@@ -31,11 +31,11 @@ use Rattle.host_machine.specs.Packet.{Packet, PacketV4, PacketV6, IpPayload, Udp
 use Rattle.host_machine.specs.Packet as packet
 use Rattle.host_machine.specs.Frame.{ip_frame, packet_text, payload_text}
 use Rattle.host_machine.specs.Egress.{packet_between}
-use Rattle.host_machine.proofs.Readings.{same_packet, other_packet, version_six}
+use Rattle.host_machine.proofs.FrameReading.{same_packet, other_packet, version_six}
 use Rattle.host_laws.specs.Deliveries.{BringsPacket}
 use Rattle.host_laws.specs.Deliveries as spec
-use Rattle.host_laws.proofs.Departed.{datagram_len}
-use Rattle.host_laws.proofs.Unspoken.{number_v6, other_packet_v6, same_packet_v6, version_four}
+use Rattle.host_laws.proofs.TurnDepartures.{datagram_len}
+use Rattle.host_laws.proofs.FramesWithoutUdp.{number_v6, other_packet_v6, same_packet_v6, version_four}
 
 -- octets behind a header are read as a datagram between two addresses, with these ports and this payload
 pub record IsRead (r : IpRepr) (octets : List ℕ) (src dst : IpAddress) (ports : UdpRepr) (payload : List ℕ) : Type 0 where
@@ -100,7 +100,7 @@ module _ (m : Medium) (H : Host) (h : HardwareAddress) (own : IsOf m H.hardware_
             ∙ udp_again (is_tx H.capabilities.checksum.udp) (address.Ipv4 a) (address.Ipv4 b) ports payload formed.ports.0 formed.ports.1 (omega (arith, short));
       }
   read_v4 a b formed r octets (spec.OverIpv6 text c i u next is_r is_octets) = absurd (other_packet_v6 m H.hardware_addr h K.hardware_addr _ text own far mine (version_four _ _ whole _) c)
-  read_v4 a b formed r octets (spec.BehindOptions text c i u z o skip next is_r is_octets) = absurd (other_packet_v6 m H.hardware_addr h K.hardware_addr _ text own far mine (version_four _ _ whole _) c)
+  read_v4 a b formed r octets (spec.AfterOptions text c i u z o skip next is_r is_octets) = absurd (other_packet_v6 m H.hardware_addr h K.hardware_addr _ text own far mine (version_four _ _ whole _) c)
 
   read_v6 : (a b : Ipv6Address) → IsFormedV6 (record { src_addr = a; dst_addr = b; hop_limit = hop_limit; payload = Udp ports payload }) → (r : IpRepr) (octets : List ℕ) →
       BringsPacket K (ip_frame H h (packet.Ipv6 (record { src_addr = a; dst_addr = b; hop_limit = hop_limit; payload = Udp ports payload }))) r octets → IsRead r octets (address.Ipv6 a) (address.Ipv6 b) ports payload
@@ -119,7 +119,7 @@ module _ (m : Medium) (H : Host) (h : HardwareAddress) (own : IsOf m H.hardware_
         values = ap udp_in (is_octets ∙ ap (λ (x : Ipv6Repr × List ℕ). x.1) again)
             ∙ udp_again (is_tx H.capabilities.checksum.udp) (address.Ipv6 a) (address.Ipv6 b) ports payload formed.ports.0 formed.ports.1 (omega (arith, short));
       }
-  read_v6 a b formed r octets (spec.BehindOptions text c i u z o skip next is_r is_octets) =
+  read_v6 a b formed r octets (spec.AfterOptions text c i u z o skip next is_r is_octets) =
       let p : PacketV6 = record { src_addr = a; dst_addr = b; hop_limit = hop_limit; payload = Udp ports payload } in
       let e : text ≡ packet_text H.capabilities (packet.Ipv6 p) = same_packet_v6 m H.hardware_addr h K.hardware_addr (packet_text H.capabilities (packet.Ipv6 p)) text own far mine c in
       let n : number_of (ipv6_in text).0.next_header ≡ 17 = ap (λ (t : List ℕ). number_of (ipv6_in t).0.next_header) e ∙ ap number_of (number_v6 (header_v6 p) _) in

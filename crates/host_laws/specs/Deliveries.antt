@@ -20,7 +20,7 @@ use Rattle.ipv6_wire.specs.HopByHop.{IsHopByHop, hop_by_hop_in, first_failure}
 use Rattle.ipv6_wire.specs.declared.hop_by_hop.Ipv6OptionFailureType.TheVariants.{Skip}
 use Rattle.socket_base.specs.declared.endpoint.IpEndpoint.{IpEndpoint}
 use Rattle.sockets.specs.Kinds.{down_udp}
-use Rattle.transport_sockets.specs.Udp.{UdpSocket, accepts, delivered}
+use Rattle.transport_sockets.specs.Udp.{UdpSocket, accepts, socket_after_delivery}
 use Rattle.fragmentation.specs.Reassembly.{SlotNote, Rebuild}
 use Rattle.socket_set.specs.SocketSet.{socket_at}
 use Rattle.host_machine.specs.Host.{Host, SocketSet}
@@ -56,7 +56,7 @@ pub data BringsPacket (H : Host) (frame : List ℕ) (r : IpRepr) (octets : List 
       (ipv4_in packet).0.next_header ≡ protocol.Udp → r ≡ repr.Ipv4 (ipv4_in packet).0 → octets ≡ (ipv4_in packet).2 → BringsPacket H frame r octets
   OverIpv6 : (packet : List ℕ) → CarriesIpv6 H.hardware_addr frame packet → IsIpv6 packet → is_unicast (ipv6_in packet).0.src_addr ≡ true →
       (ipv6_in packet).0.next_header ≡ protocol.Udp → r ≡ repr.Ipv6 (ipv6_in packet).0 → octets ≡ (ipv6_in packet).1 → BringsPacket H frame r octets
-  BehindOptions : (packet : List ℕ) → CarriesIpv6 H.hardware_addr frame packet → IsIpv6 packet → is_unicast (ipv6_in packet).0.src_addr ≡ true →
+  AfterOptions : (packet : List ℕ) → CarriesIpv6 H.hardware_addr frame packet → IsIpv6 packet → is_unicast (ipv6_in packet).0.src_addr ≡ true →
       number_of (ipv6_in packet).0.next_header ≡ 0 → IsHopByHop (ipv6_in packet).1 →
       first_failure (hop_by_hop_in (ipv6_in packet).1).0.options.items ≡ Skip → (hop_by_hop_in (ipv6_in packet).1).0.next_header ≡ protocol.Udp →
       r ≡ repr.Ipv6 (ipv6_in packet).0 → octets ≡ (hop_by_hop_in (ipv6_in packet).1).1 → BringsPacket H frame r octets
@@ -87,11 +87,11 @@ pub data Deliver (H : Host) : List (List ℕ) → List SlotNote → List Deliver
   NoFrame : Deliver H [] [] []
   OneGets : {frames : List (List ℕ)} {noted : List SlotNote} {ds : List Delivery} (frame : List ℕ) (own : List SlotNote) (d : Delivery) →
       Gets H frame own d → Deliver H frames noted ds → Deliver H (frame ∷ frames) (own ++ noted) (d ∷ ds)
-  NobodyGets : {frames : List (List ℕ)} {noted : List SlotNote} {ds : List Delivery} (frame : List ℕ) (own : List SlotNote) →
+  NoSocketGets : {frames : List (List ℕ)} {noted : List SlotNote} {ds : List Delivery} (frame : List ℕ) (own : List SlotNote) →
       Deliver H frames noted ds → Deliver H (frame ∷ frames) (own ++ noted) ds
 
 -- the socket that was handed a datagram is one that hears its destination: at its port, and at its address or at one of many hosts
-pub record IsHeard (H : Host) (d : Delivery) : Type 0 where
+pub record IsAccepted (H : Host) (d : Delivery) : Type 0 where
   pub socket : UdpSocket
   pub there : udp_at H.sockets d.index ≡ Some socket
   pub hears : accepts (is_broadcast H.ip_addrs) socket d.destination.addr d.destination.port ≡ true
@@ -104,4 +104,4 @@ to_index i (d ∷ ds) = if d.index == i then d ∷ to_index i ds else to_index i
 -- the socket with these behind what its receive queue has, each as far as there is room for it
 abbrev pub with_deliveries : List Delivery → UdpSocket → UdpSocket
 with_deliveries [] s = s
-with_deliveries (d ∷ ds) s = with_deliveries ds (delivered d.source d.payload s)
+with_deliveries (d ∷ ds) s = with_deliveries ds (socket_after_delivery d.source d.payload s)

@@ -6,7 +6,7 @@ use Rattle.ip_address.specs.declared.hardware.HardwareAddress.{HardwareAddress}
 use Rattle.ip_address.specs.Ip.{is_unspecified}
 use Rattle.socket_base.specs.declared.endpoint.IpEndpoint.{IpEndpoint}
 use Rattle.socket_base.specs.Source.{source_of}
-use Rattle.transport_sockets.specs.Udp.{UdpSocket, gone}
+use Rattle.transport_sockets.specs.Udp.{UdpSocket, without_first_to_send}
 use Rattle.fragmentation.specs.Cuts.{Datagram, Piece, pieces_of}
 use Rattle.host_machine.specs.Host.{Host}
 use Rattle.host_machine.specs.Addresses.{source_for}
@@ -41,23 +41,23 @@ departs_from H s d = source_of (source_for H.ip_addrs) s.endpoint.addr d.destina
 -- How a datagram leaves its socket's queue. It goes in one packet, whose values fit the fields of its forms: whole, if the device's packets may
 -- be so long, or else cut, by its first piece. Or it is dropped: since there is no source for it; since it is to nobody, 0.0.0.0 or ::; or since it
 -- is longer and may not be cut.
-pub data Leaves (H : Host) (s : UdpSocket) (d : Departure) : Type 0 where
+pub data Departs (H : Host) (s : UdpSocket) (d : Departure) : Type 0 where
   GoesWhole : (src : IpAddress) (p : Packet) (h : HardwareAddress) → departs_from H s d ≡ Some src → packet_of s d src ≡ Some p →
-      total_len p ≤ ip_mtu_of H.capabilities → IsFormed p → d.way ≡ InOneFrame h (ip_frame H h p) → Leaves H s d
+      total_len p ≤ ip_mtu_of H.capabilities → IsFormed p → d.way ≡ InOneFrame h (ip_frame H h p) → Departs H s d
   GoesInPieces : (src : IpAddress) (q : PacketV4) (h : HardwareAddress) (identification : ℕ) (first : Piece) (rest : List Piece) →
       departs_from H s d ≡ Some src → packet_of s d src ≡ Some (packet.Ipv4 q) → ip_mtu_of H.capabilities < total_len (packet.Ipv4 q) →
       may_be_cut (packet.Ipv4 q) ≡ true → pieces_of (datagram_of H h identification q) ≡ first ∷ rest → IsFormed (packet.Ipv4 q) →
-      d.way ≡ InPieces (datagram_of H h identification q) (piece_frame H first) → Leaves H s d
-  NoSource : departs_from H s d ≡ None → d.way ≡ Dropped → Leaves H s d
-  ToNobody : is_unspecified d.destination.addr ≡ true → d.way ≡ Dropped → Leaves H s d
+      d.way ≡ InPieces (datagram_of H h identification q) (piece_frame H first) → Departs H s d
+  NoSource : departs_from H s d ≡ None → d.way ≡ Dropped → Departs H s d
+  ToUnspecified : is_unspecified d.destination.addr ≡ true → d.way ≡ Dropped → Departs H s d
   TooLong : (src : IpAddress) (p : Packet) → departs_from H s d ≡ Some src → packet_of s d src ≡ Some p → ip_mtu_of H.capabilities < total_len p →
-      may_be_cut p ≡ false → d.way ≡ Dropped → Leaves H s d
+      may_be_cut p ≡ false → d.way ≡ Dropped → Departs H s d
 
 -- the socket that it left is there, and it left it so
-pub record IsLeft (H : Host) (d : Departure) : Type 0 where
+pub record HasDeparted (H : Host) (d : Departure) : Type 0 where
   pub socket : UdpSocket
   pub there : udp_at H.sockets d.index ≡ Some socket
-  pub leaves : Leaves H socket d
+  pub leaves : Departs H socket d
 
 -- the frames that went of them at once, and the packets that were cut, in order
 abbrev pub frames_by : Way → List (List ℕ) → List (List ℕ)
@@ -91,4 +91,4 @@ entries (d ∷ ds) = (d.destination, d.payload) ∷ entries ds
 -- the socket without so many at the front of its transmit queue
 abbrev pub without : List Departure → UdpSocket → UdpSocket
 without [] s = s
-without (d ∷ ds) s = without ds (gone s)
+without (d ∷ ds) s = without ds (without_first_to_send s)

@@ -5,50 +5,50 @@ use Rattle.std.specs.FinMap as map
 use Rattle.fragmentation.specs.Reassembly.{SlotNote}
 use Rattle.host_machine.specs.Host.{Host}
 use Rattle.host_machine.specs.Real.{IsReal, GivesSix}
-use Rattle.host_machine.specs.Run.{Place, Run}
+use Rattle.host_machine.specs.Run.{Transition, Run}
 use Rattle.host_machine.specs.TwoHosts.{HaveOwnKeys, WereSent, cuts_in, key_of_cut}
-use Rattle.host_laws.specs.Deliveries.{Delivery, Deliver, NoFrame, OneGets, NobodyGets, BringsUdp, AtOnce, InFragments}
-use Rattle.host_laws.specs.Departures.{Departure, Dropped, IsLeft, departs_from}
-use Rattle.host_laws.specs.Senders.{IsRegular, NobodyWritesUdp}
-use Rattle.host_laws.specs.Datagrams.{MovesAt, begun}
+use Rattle.host_laws.specs.Deliveries.{Delivery, Deliver, NoFrame, OneGets, NoSocketGets, BringsUdp, AtOnce, InFragments}
+use Rattle.host_laws.specs.Departures.{Departure, Dropped, HasDeparted, departs_from}
+use Rattle.host_laws.specs.Senders.{IsRegular, NoSocketWritesUdp}
+use Rattle.host_laws.specs.Datagrams.{MovesAt, host_at_command}
 
 -- A datagram was sent at a place of a run: there it left the transmit queue of a UDP socket, to its destination and with its payload, and went in a
 -- packet from its source.
-pub record WasSentAt (p : Place) (d : Delivery) : Type 0 where
+pub record WasSentAt (p : Transition) (d : Delivery) : Type 0 where
   pub departure : Departure
-  pub left : IsLeft (begun p.command p.before) departure
+  pub left : HasDeparted (host_at_command p.command p.before) departure
   pub went : departure.way ≡ Dropped → ⊥
   pub destination : departure.destination ≡ d.destination
   pub payload : departure.payload ≡ d.payload
-  pub address : departs_from (begun p.command p.before) left.socket departure ≡ Some d.source.addr
+  pub address : departs_from (host_at_command p.command p.before) left.socket departure ≡ Some d.source.addr
   pub port : left.socket.endpoint.port ≡ d.source.port
 
 -- and so at some place of it
-abbrev pub WasSent : List Place → Delivery → Type 0
-WasSent ps d = (p : Place) × Contains ps p × WasSentAt p d
+abbrev pub WasSent : List Transition → Delivery → Type 0
+WasSent ps d = (p : Transition) × Contains ps p × WasSentAt p d
 
 -- What the law on what is rebuilt asks for: the sender had no piece left when the run began, and cuts no two packets under one key; and who
 -- rebuilds had no slot with such a key.
-pub record MayRebuild (a b : Host) (ps : List Place) : Type 0 where
+pub record MayRebuild (a b : Host) (ps : List Transition) : Type 0 where
   pub left : a.left ≡ []
   pub own : HaveOwnKeys (cuts_in ps)
   pub free : AllByRecursion (λ d. map.get b.slots (key_of_cut d) ≡ None) (cuts_in ps)
 
 -- a datagram that came in one packet was sent; one that came in fragments was, where what is rebuilt is what was cut
-abbrev pub WasSentSo : Type 0 → List Place → Delivery →
+abbrev pub WasSentSo : Type 0 → List Transition → Delivery →
     {H : Host} {frame : List ℕ} {noted : List SlotNote} {r : _} {octets : List ℕ} → BringsUdp H frame noted r octets → Type 0
 WasSentSo Trusted ps d (AtOnce brings) = WasSent ps d
 WasSentSo Trusted ps d (InFragments packet earlier carried ipv4 source part next last is) = Trusted → WasSent ps d
 
 -- each of those that are got, by how it came
-abbrev pub WereSentSo : Type 0 → List Place →
+abbrev pub WereSentSo : Type 0 → List Transition →
     {H : Host} {frames : List (List ℕ)} {noted : List SlotNote} {ds : List Delivery} → Deliver H frames noted ds → Type 0
 WereSentSo Trusted ps NoFrame = Unit {0}
 WereSentSo Trusted ps (OneGets frame own d gets rest) = WasSentSo Trusted ps d gets.brought × WereSentSo Trusted ps rest
-WereSentSo Trusted ps (NobodyGets frame own rest) = WereSentSo Trusted ps rest
+WereSentSo Trusted ps (NoSocketGets frame own rest) = WereSentSo Trusted ps rest
 
 -- whatever moves at the places of one run, what its sockets get was sent in another
-abbrev pub GetWhatWasSent : Host → Host → List Place → List Place → Type 0
+abbrev pub GetWhatWasSent : Host → Host → List Transition → List Transition → Type 0
 GetWhatWasSent a b ps qs =
     AllByRecursion (λ q. (deliveries : List Delivery) (departures : List Departure) (moves : MovesAt q deliveries departures) →
     WereSentSo (MayRebuild a b ps) ps moves.came) qs
@@ -57,6 +57,6 @@ GetWhatWasSent a b ps qs =
 -- of the other. No raw socket of the other writes UDP.
 abbrev pub RunsGetWhatWasSent : Type 0
 RunsGetWhatWasSent =
-    (a a' b b' : Host) (ps qs : List Place) → Run a ps a' → Run b qs b' → IsRegular a → IsReal b → b.capabilities.medium ≡ a.capabilities.medium →
-    AllByRecursion (λ p. GivesSix p.command) ps → AllByRecursion (λ q. GivesSix q.command) qs → AllByRecursion (λ p. NobodyWritesUdp p.before) ps →
+    (a a' b b' : Host) (ps qs : List Transition) → Run a ps a' → Run b qs b' → IsRegular a → IsReal b → b.capabilities.medium ≡ a.capabilities.medium →
+    AllByRecursion (λ p. GivesSix p.command) ps → AllByRecursion (λ q. GivesSix q.command) qs → AllByRecursion (λ p. NoSocketWritesUdp p.before) ps →
     WereSent ps qs → GetWhatWasSent a b ps qs

@@ -25,8 +25,8 @@ abbrev pub writes_udp : Storage → Bool
 writes_udp place = holds down_raw (λ s. may_be_udp (number_of s.protocol)) place
 
 -- a host has none
-abbrev pub NobodyWritesUdp : Host → Type 0
-NobodyWritesUdp H = AllByRecursion (λ place. writes_udp place ≡ false) H.sockets.places
+abbrev pub NoSocketWritesUdp : Host → Type 0
+NoSocketWritesUdp H = AllByRecursion (λ place. writes_udp place ≡ false) H.sockets.places
 
 -- a piece goes to an address of the medium; and if it is one of UDP, more pieces follow or some precede, and its values fit the fields of a header
 pub record IsPart (m : Medium) (p : Piece) : Type 0 where

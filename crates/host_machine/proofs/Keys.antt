@@ -11,7 +11,7 @@ use Rattle.std.proofs.lemmas.Cmp.{on_total, then_total}
 use Rattle.std.proofs.lemmas.Map.Lookups.{exact_pairs, exact_unsigned}
 use Rattle.fragmentation.specs.declared.key.FragKey.{FragKey}
 use Rattle.fragmentation.specs.Keys.{key_cmp, same_key}
-use Rattle.fragmentation.specs.Slots.{Slots, has_ended, left_at}
+use Rattle.fragmentation.specs.Slots.{Slots, has_ended, live_at}
 
 pub key_total : IsTotalOrder key_cmp
 key_total =
@@ -39,5 +39,5 @@ is_equal Greater e = absurd cc
 pub same_is : (a b : FragKey) → same_key a b ≡ true → a ≡ b
 same_is a b e = key_exact a b (is_equal (key_cmp a b) e)
 
-pub get-left_at : (t : ℤ) (slots : Slots) (k : FragKey) → map.get (left_at t slots) k ≡ (if not (has_ended t (map.get slots k)) then map.get slots k else None)
-get-left_at t slots k = get-retain_keys slots (λ x. not (has_ended t (map.get slots x))) k (λ x e. ap (λ y. not (has_ended t (map.get slots y))) (sym (key_exact k x e)))
+pub get-live_at : (t : ℤ) (slots : Slots) (k : FragKey) → map.get (live_at t slots) k ≡ (if not (has_ended t (map.get slots k)) then map.get slots k else None)
+get-live_at t slots k = get-retain_keys slots (λ x. not (has_ended t (map.get slots x))) k (λ x e. ap (λ y. not (has_ended t (map.get slots y))) (sym (key_exact k x e)))

@@ -1,57 +1,57 @@
-pub mod Notes
+pub mod NotesBySubject
 pub mod Keys
-pub mod Six
-pub mod Repeated
-pub mod Kept
-pub mod Speakers
-pub mod Own
-pub mod Plain
+pub mod MediumAddresses
+pub mod PollCalls
+pub mod UnchangedFields
+pub mod RawProtocols
+pub mod OwnMessages
+pub mod PacketEffects
 pub mod Walk
-pub mod Spaced
-pub mod Rebuilt
-pub mod Counted
-pub mod Ordered
-pub mod Unfolded
+pub mod DiscoverySpacing
+pub mod ReassemblyOrigin
+pub mod IdentificationOrder
+pub mod PieceOrder
+pub mod SingleCalls
 pub mod Malformed
-mod Single
-mod Refused
+mod OneFrameCalls
+mod RefusedEgress
 pub mod Turns
-pub mod Noted
-pub mod Requested
-mod Determined
+pub mod NotedRequests
+pub mod RunRequests
+mod DispatchDeterminism
 mod RoomMade
-mod Received
-mod OnePart
-mod OneUntil
-mod OneRound
-mod OneCall
-mod OneStep
-mod OneRun
-pub mod Identified
+mod ReceiveDeterminism
+mod PartDeterminism
+mod LoopDeterminism
+mod EgressDeterminism
+mod CallDeterminism
+mod StepDeterminism
+mod RunDeterminism
+pub mod CutIdentifications
 pub mod QuietSockets
-pub mod Earlier
+pub mod EarlierNeighbors
 pub mod Quiet
-pub mod Least
-pub mod Joined
+pub mod EarliestInstant
+pub mod RunConcatenation
 pub mod Pieces
-pub mod Views
-pub mod Arrived
-pub mod InTime
-pub mod Readings
-pub mod Shown
+pub mod SlotEffects
+pub mod FragmentArrivals
+pub mod TimelyArrivals
+pub mod FrameReading
+pub mod SentPieces
 pub mod TwoHosts
-pub mod Few
-mod Grouped
+pub mod FewFragments
+mod GroupChanges
 mod Exchange
-pub mod Begun
-mod Answered
-mod Listening
-mod Fragmented
-mod Served
-mod Queued
-mod Going
-mod Fewer
-mod Done
-mod Served6
-mod Asking
-mod InLine
+pub mod RoundWithoutPieces
+mod ArpExchange
+mod ExampleListeners
+mod ExamplePair
+mod FrameReplies
+mod DatagramDelivery
+mod GrantedEgress
+mod QueueDecrease
+mod DueWork
+mod FrameRepliesV6
+mod RequestsWhileWaiting
+mod SlaacPolls

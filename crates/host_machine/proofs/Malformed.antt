@@ -1,7 +1,7 @@
 -- A malformed frame is dropped.
 use Rattle.std.proofs.Common.{◌≡◌, ℕ, List, [], ◌∷◌, refl, sym, ◌∙◌, ap, subst, drop, Option, None}
 use Rattle.std.specs.Prelude.{ℤ}
-use Rattle.net_base.specs.Device.{Event, Reception, Received, Frame, Nothing, Withheld, handed, sent}
+use Rattle.net_base.specs.Device.{Event, Reception, Received, Frame, Nothing, Withheld, handed_frames, sent_frames}
 use Rattle.ip_address.specs.declared.ethernet_address.EthernetAddress.{EthernetAddress}
 use Rattle.ip_wire.specs.declared.ethernet.EthernetProtocol.{EthernetProtocol}
 use Rattle.ip_wire.specs.declared.ethernet.EthernetProtocol.TheVariants as protocol
@@ -13,34 +13,34 @@ use Rattle.ip_wire.specs.Ipv4Packet.{IsIpv4}
 use Rattle.ipv6_wire.specs.Ipv6Packet.{IsIpv6}
 use Rattle.host_machine.specs.declared.results.PollIngressSingleResult.{PollIngressSingleResult}
 use Rattle.host_machine.specs.Note.{Note}
-use Rattle.host_machine.specs.Host.{Host, swept}
+use Rattle.host_machine.specs.Host.{Host, without_expired}
 use Rattle.host_machine.specs.Reply.{Reply, IsDropped}
 use Rattle.host_machine.specs.Frame.{sends}
-use Rattle.host_machine.specs.Arp.{TakesArp}
+use Rattle.host_machine.specs.Arp.{ProcessesArp}
 use Rattle.host_machine.specs.Arp as arp
-use Rattle.host_machine.specs.Ethernet.{TakesPayload, TakesEthernet, TakesFrame}
+use Rattle.host_machine.specs.Ethernet.{ProcessesEthertype, ProcessesEthernet, ProcessesFrame}
 use Rattle.host_machine.specs.Ethernet as ethernet
-use Rattle.host_machine.specs.Ipv4.{TakesIpv4}
+use Rattle.host_machine.specs.Ipv4.{ProcessesIpv4}
 use Rattle.host_machine.specs.Ipv4 as ipv4
-use Rattle.host_machine.specs.Ipv6.{TakesIpv6}
+use Rattle.host_machine.specs.Ipv6.{ProcessesIpv6}
 use Rattle.host_machine.specs.Ipv6 as ipv6
 use Rattle.host_machine.specs.Response.{Responds}
 use Rattle.host_machine.specs.Ingress.{Takes, Ingress}
 use Rattle.host_machine.specs.Laws.{IsMalformed, IsMalformedFrame}
 use Rattle.host_machine.specs.Laws as law
 
-arp_dropped : {own : EthernetAddress} {H new : Host} {payload : List ℕ} {reply : Option Reply} {notes : List Note} → TakesArp own H payload reply notes new → (IsArp payload → ⊥) → IsDropped H reply notes new
+arp_dropped : {own : EthernetAddress} {H new : Host} {payload : List ℕ} {reply : Option Reply} {notes : List Note} → ProcessesArp own H payload reply notes new → (IsArp payload → ⊥) → IsDropped H reply notes new
 arp_dropped (arp.Malformed m d) other = d
 arp_dropped (arp.NotForUs a l d) other = d
 arp_dropped (arp.Learnt a l learns r n) other = absurd (other a)
 
 ipv4_dropped : {source : HardwareAddress} {H new : Host} {octets : List ℕ} {reply : Option Reply} {notes : List Note} →
-    TakesIpv4 source H octets reply notes new → (IsIpv4 (is_rx H.capabilities.checksum.ipv4) octets → ⊥) → IsDropped H reply notes new
+    ProcessesIpv4 source H octets reply notes new → (IsIpv4 (is_rx H.capabilities.checksum.ipv4) octets → ⊥) → IsDropped H reply notes new
 ipv4_dropped (ipv4.Malformed m d) other = d
 ipv4_dropped (ipv4.Read i t) other = absurd (other i)
 
 ipv6_dropped : {source : HardwareAddress} {H new : Host} {octets : List ℕ} {reply : Option Reply} {notes : List Note} →
-    TakesIpv6 source H octets reply notes new → (IsIpv6 octets → ⊥) → IsDropped H reply notes new
+    ProcessesIpv6 source H octets reply notes new → (IsIpv6 octets → ⊥) → IsDropped H reply notes new
 ipv6_dropped (ipv6.Malformed m d) other = d
 ipv6_dropped (ipv6.Read i t) other = absurd (other i)
 
@@ -52,14 +52,14 @@ IsNone H protocol.Ipv6 payload = IsIpv6 payload → ⊥
 IsNone H (protocol.Unknown n) payload = Unit {0}
 
 payload_dropped : (own source : EthernetAddress) (H : Host) (p : EthernetProtocol) (payload : List ℕ) (reply : Option Reply) (notes : List Note) (new : Host) →
-    TakesPayload own source H p payload reply notes new → IsNone H p payload → IsDropped H reply notes new
+    ProcessesEthertype own source H p payload reply notes new → IsNone H p payload → IsDropped H reply notes new
 payload_dropped own source H protocol.Arp payload reply notes new t other = arp_dropped t other
 payload_dropped own source H protocol.Ipv4 payload reply notes new t other = ipv4_dropped t other
 payload_dropped own source H protocol.Ipv6 payload reply notes new t other = ipv6_dropped t other
 payload_dropped own source H (protocol.Unknown n) payload reply notes new t other = t
 
 ethernet_dropped : {own : EthernetAddress} {H new : Host} {frame : List ℕ} {reply : Option Reply} {notes : List Note} →
-    TakesEthernet own H frame reply notes new → IsMalformedFrame H.capabilities.checksum frame → IsDropped H reply notes new
+    ProcessesEthernet own H frame reply notes new → IsMalformedFrame H.capabilities.checksum frame → IsDropped H reply notes new
 ethernet_dropped (ethernet.Malformed m d) bad = d
 ethernet_dropped (ethernet.NotForUs l f d) bad = d
 ethernet_dropped (ethernet.Accepted l f t) (law.Ethernet short) = absurd (short l)
@@ -71,7 +71,7 @@ ethernet_dropped {own} {H} {new} {frame} {reply} {notes} (ethernet.Accepted l f 
     payload_dropped own _ H _ _ reply notes new t (subst (λ p. IsNone H p (drop 14 frame)) (sym e) other)
 
 frame_dropped : (h : HardwareAddress) (H : Host) (frame : List ℕ) (reply : Option Reply) (notes : List Note) (new : Host) →
-    TakesFrame h H frame reply notes new → IsMalformed h H.capabilities.checksum frame → IsDropped H reply notes new
+    ProcessesFrame h H frame reply notes new → IsMalformed h H.capabilities.checksum frame → IsDropped H reply notes new
 frame_dropped (hardware.Ethernet own) H frame reply notes new t bad = ethernet_dropped t bad
 frame_dropped hardware.Ip H frame reply notes new (ethernet.Ipv4 v t) bad = ipv4_dropped t bad.0
 frame_dropped hardware.Ip H frame reply notes new (ethernet.Ipv6 v t) bad = ipv6_dropped t bad.1
@@ -82,7 +82,7 @@ handed_by (Frame f) = f ∷ []
 handed_by Nothing = []
 handed_by Withheld = []
 
-taken_dropped : (moment : ℤ) (H : Host) (r : Reception) (frame : List ℕ) (reply : Option Reply) (notes : List Note) (new : Host) → Takes H r reply notes new → handed (Received moment r ∷ []) ≡ frame ∷ [] → IsMalformed H.hardware_addr H.capabilities.checksum frame → IsDropped H reply notes new
+taken_dropped : (moment : ℤ) (H : Host) (r : Reception) (frame : List ℕ) (reply : Option Reply) (notes : List Note) (new : Host) → Takes H r reply notes new → handed_frames (Received moment r ∷ []) ≡ frame ∷ [] → IsMalformed H.hardware_addr H.capabilities.checksum frame → IsDropped H reply notes new
 taken_dropped moment H Nothing frame reply notes new t e bad = t
 taken_dropped moment H Withheld frame reply notes new t e bad = t
 taken_dropped moment H (Frame []) frame reply notes new t e bad = t
@@ -90,26 +90,26 @@ taken_dropped moment H (Frame (octet ∷ octets)) frame reply notes new t e bad 
     let same : octet ∷ octets ≡ frame = cc in
     frame_dropped H.hardware_addr H (octet ∷ octets) reply notes new t (rw same bad)
 
-pub handed-sends : (frames : List (List ℕ)) → handed (sends frames) ≡ []
-handed-sends [] = refl
-handed-sends (f ∷ fs) = handed-sends fs
+pub handed_frames-sends : (frames : List (List ℕ)) → handed_frames (sends frames) ≡ []
+handed_frames-sends [] = refl
+handed_frames-sends (f ∷ fs) = handed_frames-sends fs
 
-pub handed-received : (moment : ℤ) (r : Reception) (es : List Event) → handed es ≡ [] → handed (Received moment r ∷ es) ≡ handed (Received moment r ∷ [])
-handed-received moment (Frame f) es e = ap (λ fs. f ∷ fs) e
-handed-received moment Nothing es e = e
-handed-received moment Withheld es e = e
+pub handed_frames-received : (moment : ℤ) (r : Reception) (es : List Event) → handed_frames es ≡ [] → handed_frames (Received moment r ∷ es) ≡ handed_frames (Received moment r ∷ [])
+handed_frames-received moment (Frame f) es e = ap (λ fs. f ∷ fs) e
+handed_frames-received moment Nothing es e = e
+handed_frames-received moment Withheld es e = e
 
-pub sent-sends : (frames : List (List ℕ)) → sent (sends frames) ≡ frames
-sent-sends [] = refl
-sent-sends (f ∷ fs) = ap (λ t. f ∷ t) (sent-sends fs)
+pub sent_frames-sends : (frames : List (List ℕ)) → sent_frames (sends frames) ≡ frames
+sent_frames-sends [] = refl
+sent_frames-sends (f ∷ fs) = ap (λ t. f ∷ t) (sent_frames-sends fs)
 
 pub nothing_responded : {H new : Host} {reply : Option Reply} {frames : List (List ℕ)} {notes : List Note} → reply ≡ None → Responds reply H frames notes new → (frames ≡ []) × (notes ≡ []) × (new ≡ H)
 nothing_responded {H} {new} {reply} {frames} {notes} e r = rw e at r
 
 pub malformed : (t : ℤ) (answer : PollIngressSingleResult) (old new : Host) (told : List Event) (notes : List Note) (frame : List ℕ) →
-    Ingress t answer old told notes new → handed told ≡ frame ∷ [] → IsMalformed old.hardware_addr old.capabilities.checksum frame → (sent told ≡ []) × (notes ≡ []) × (new ≡ swept old t)
+    Ingress t answer old told notes new → handed_frames told ≡ frame ∷ [] → IsMalformed old.hardware_addr old.capabilities.checksum frame → (sent_frames told ≡ []) × (notes ≡ []) × (new ≡ without_expired old t)
 malformed t answer old new told notes frame i is bad =
-    let only : handed (Received t i.reception ∷ []) ≡ frame ∷ [] = sym (handed-received t i.reception (sends i.frames) (handed-sends i.frames)) ∙ sym (ap handed i.events) ∙ is in
-    let d = taken_dropped t (swept old t) i.reception frame i.response.reply i.response.notes_taking i.response.taken i.response.takes only bad in
+    let only : handed_frames (Received t i.reception ∷ []) ≡ frame ∷ [] = sym (handed_frames-received t i.reception (sends i.frames) (handed_frames-sends i.frames)) ∙ sym (ap handed_frames i.events) ∙ is in
+    let d = taken_dropped t (without_expired old t) i.reception frame i.response.reply i.response.notes_taking i.response.taken i.response.takes only bad in
     let r = nothing_responded d.silent i.response.responds in
-    (ap sent i.events ∙ sent-sends i.frames ∙ r.0, i.response.all_notes ∙ rw (d.unnoted, r.1) refl, r.2 ∙ d.unchanged)
+    (ap sent_frames i.events ∙ sent_frames-sends i.frames ∙ r.0, i.response.all_notes ∙ rw (d.unnoted, r.1) refl, r.2 ∙ d.unchanged)

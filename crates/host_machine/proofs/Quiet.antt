@@ -8,12 +8,12 @@ use Rattle.std.specs.Cmp.{int_cmp_is}
 use Rattle.std.specs.declared.cmp.Ordering.TheVariants.{Less, Greater}
 use Rattle.std.specs.Prelude.{ℤ, pos, ◌≤ℤ◌, ◌<ℤ◌, Bool, true, false, not, ◌||◌, nat_lt, map, filter, get_or, slice_get, slice_set}
 use Rattle.std.specs.Option.{option_and_then}
-use Rattle.net_base.specs.Device.{Event, Received, Asked, Sent, Reception, Frame, Nothing, Withheld, handed, sent}
+use Rattle.net_base.specs.Device.{Event, Received, Asked, Sent, Reception, Frame, Nothing, Withheld, handed_frames, sent_frames}
 use Rattle.ip_address.specs.declared.ip.IpAddress.{IpAddress}
 use Rattle.socket_base.specs.declared.poll_at.PollAt.{PollAt}
 use Rattle.socket_base.specs.declared.poll_at.PollAt.TheVariants.{Time}
 use Rattle.sockets.specs.Kinds as socket
-use Rattle.socket_set.specs.SocketMeta.{Wait, IsTold, is_permitted, after_asking, poll_at}
+use Rattle.socket_set.specs.SocketMeta.{Wait, IsAnswerFor, is_permitted, after_asking, poll_at}
 use Rattle.socket_set.specs.SocketSet.{wait_at}
 use Rattle.host_machine.specs.declared.command.Command.{Command}
 use Rattle.host_machine.specs.declared.command.Answer.{Answer}
@@ -25,18 +25,18 @@ use Rattle.host_machine.specs.declared.results.PollResult.TheVariants as result
 use Rattle.host_machine.specs.declared.results.Turn.{Turn}
 use Rattle.host_machine.specs.declared.results.Turn.TheVariants.{Idle}
 use Rattle.host_machine.specs.Note.{Note}
-use Rattle.fragmentation.specs.Slots.{Slots, left_at}
-use Rattle.host_machine.specs.Host.{Host, Socket, Storage, at, swept}
+use Rattle.fragmentation.specs.Slots.{Slots, live_at}
+use Rattle.host_machine.specs.Host.{Host, Socket, Storage, at, without_expired}
 use Rattle.host_machine.specs.Addresses.{source_for}
 use Rattle.host_machine.specs.Dispatch.{KnowsNextHop, OfNoHost, OfHost, IsNextHop, OnLink, ByRouter}
 use Rattle.host_machine.specs.Reply.{IsDropped}
 use Rattle.host_machine.specs.Ingress.{Ingress, Takes, answer_to}
 use Rattle.host_machine.specs.Parts.{Part, Both}
-use Rattle.host_machine.specs.Egress.{Round, SendsPiece, packet_of, packet_from, asked, with_socket, wait_after, SocketTurn, Silent, Refused, Serves, Free, Waits, Served, is_gone, Walks, SocketsSend, Whole, Stopped, Egress}
+use Rattle.host_machine.specs.Egress.{Round, Ipv4Egress, packet_of, packet_from, socket_after_asking, with_socket, wait_after, SocketTurn, Silent, Refused, Serves, Free, Waits, Served, is_done, Walks, SocketEgress, Whole, Stopped, Egress}
 use Rattle.host_machine.specs.Egress as egress
-use Rattle.host_machine.specs.Polling.{maintained, Repeats, Until, Spent, Done, Polls}
+use Rattle.host_machine.specs.Polling.{after_maintenance, Repeats, Until, Spent, Done, Polls}
 use Rattle.host_machine.specs.Polling as polling
-use Rattle.host_machine.specs.Due.{Due, OfPiece, OfSync, OfSolicitation, OfPrefix, OfRouter, OfJoin, OfLeave, OfIgmpReport, OfMldReport, OfSocket, AtOnce, SocketDue, IsLeast, instant_of, told_at}
+use Rattle.host_machine.specs.Due.{Due, OfPiece, OfSync, OfSolicitation, OfPrefix, OfRouter, OfJoin, OfLeave, OfIgmpReport, OfMldReport, OfSocket, AtOnce, SocketDue, IsLeast, instant_of, report_due_at}
 use Rattle.std.specs.Ordering.{int_cmp, is_le, is_lt}
 use Rattle.ip_address.specs.declared.cidr.IpCidr.{IpCidr}
 use Rattle.group_table.specs.declared.groups.Group.{Group}
@@ -46,19 +46,19 @@ use Rattle.group_table.specs.Groups.{first_in}
 use Rattle.host_machine.specs.Packet.{Packet}
 use Rattle.host_machine.specs.Multicast as multicast
 use Rattle.host_machine.specs.Reports as reports
-use Rattle.host_machine.specs.Reports.{SendsIgmpReport, SendsMldReport, igmp_instant, mld_timeout_of, timeout_of, has_come, with_igmp_report}
+use Rattle.host_machine.specs.Reports.{IgmpEgress, MldEgress, igmp_instant, mld_timeout_of, igmp_timeout_of, has_passed, with_igmp_report}
 use Rattle.std.specs.List.{list_any}
 use Rattle.slaac.specs.declared.slaac.Prefix.{Prefix}
 use Rattle.slaac.specs.declared.slaac.Route.{Route as Router}
 use Rattle.slaac.specs.Slaac.{has_ended, is_before, is_prefix_valid, is_route_valid, is_searching, retry_at, sync_required}
 use Rattle.host_machine.specs.Slaac as slaac
-use Rattle.host_machine.specs.Slaac.{SolicitsRouters, due_solicitation, router_solicitation}
+use Rattle.host_machine.specs.Slaac.{NdiscRsEgress, due_solicitation, router_solicitation}
 use Rattle.host_machine.specs.Step.{Act, Step}
 use Rattle.host_machine.specs.Step as step
-use Rattle.host_machine.specs.Run.{Place, Run, Ends, Then}
+use Rattle.host_machine.specs.Run.{Transition, Run, Ends, Then}
 use Rattle.host_machine.specs.Quiet.{IsBefore, RoutesLast, IsWithin, IsCalm, AnswersNone, QuietWhile, QuietAfter, AreQuiet}
 use Rattle.host_machine.proofs.Malformed.{nothing_responded}
-use Rattle.host_machine.proofs.Earlier.{Knew, knew}
+use Rattle.host_machine.proofs.EarlierNeighbors.{Knew, knew}
 use Rattle.host_machine.proofs.QuietSockets.{socket_quiet}
 
 -- the host with other waits for its sockets
@@ -86,15 +86,15 @@ record Stays (t0 : ℤ) (old new : Host) (told : List Event) : Type 0 where
   routes : new.routes ≡ old.routes
   places : new.sockets.places ≡ old.sockets.places
   due : (x : ℤ) → Due (at new t0) x → Due (at old t0) x
-  silent : sent told ≡ []
+  silent : sent_frames told ≡ []
 
-sent-append : (xs ys : List Event) → sent xs ≡ [] → sent ys ≡ [] → sent (xs ++ ys) ≡ []
-sent-append [] ys e f = f
-sent-append (Received t r ∷ xs) ys e f = sent-append xs ys e f
-sent-append (Asked t b ∷ xs) ys e f = sent-append xs ys e f
-sent-append (Sent id frame ∷ xs) ys e f = absurd cc
+sent_frames-append : (xs ys : List Event) → sent_frames xs ≡ [] → sent_frames ys ≡ [] → sent_frames (xs ++ ys) ≡ []
+sent_frames-append [] ys e f = f
+sent_frames-append (Received t r ∷ xs) ys e f = sent_frames-append xs ys e f
+sent_frames-append (Asked t b ∷ xs) ys e f = sent_frames-append xs ys e f
+sent_frames-append (Sent id frame ∷ xs) ys e f = absurd cc
 
-stays : {H new : Host} {told : List Event} (t0 : ℤ) → new ≡ H → sent told ≡ [] → Stays t0 H new told
+stays : {H new : Host} {told : List Event} (t0 : ℤ) → new ≡ H → sent_frames told ≡ [] → Stays t0 H new told
 stays {H} {new} t0 e silent = record {
   moment = ap (λ (K : Host). K.moment) e;
   routes = ap (λ (K : Host). K.routes) e;
@@ -109,7 +109,7 @@ stays_on {told = told} {more = more} a b = record {
   routes = b.routes ∙ a.routes;
   places = b.places ∙ a.places;
   due = λ x d. a.due x (b.due x d);
-  silent = sent-append told more a.silent b.silent;
+  silent = sent_frames-append told more a.silent b.silent;
 }
 
 rests_on : {old new : Host} {told : List Event} {t0 : ℤ} → Stays t0 old new told → Rests t0 old → Rests t0 new
@@ -151,7 +151,7 @@ no_longer w false was s stays unknown not may = absurd cc
 
 -- a socket that is asked has nothing to send, and stays as it is
 asked_by : (H : Host) (t0 : ℤ) (i : ℕ) (s : Socket) (known : Bool) → Rests t0 H → slice_get H.sockets.places i ≡ Some (Some s) → (k : Knew H t0 (wait_at H.sockets i) known) →
-    is_permitted (wait_at H.sockets i) known H.moment ≡ true → (b : Bool) → is_permitted (wait_at H.sockets i) k.was t0 ≡ b → (packet_from H s ≡ None) × (asked H s ≡ s)
+    is_permitted (wait_at H.sockets i) known H.moment ≡ true → (b : Bool) → is_permitted (wait_at H.sockets i) k.was t0 ≡ b → (packet_from H s ≡ None) × (socket_after_asking H s ≡ s)
 asked_by H t0 i s known r here k may true might =
     let low : pos 0 ≤ℤ H.moment = omega (arith, ints, r.low, r.from) in
     let own = before_own H.moment (instant_of (socket.poll_at s)) (λ x e. r.none x (OfSocket i (record { socket = s; known = k.was; here = here; told = k.told; instant = ap instant_of (may_send (wait_at H.sockets i) k.was t0 (socket.poll_at s) might) ∙ e }))) in
@@ -182,11 +182,11 @@ known_on : (H : Host) (K : Host) (t0 : ℤ) {a : IpAddress} {known : Bool} → K
 known_on H K t0 (OfNoHost none e) = OfNoHost none e
 known_on H K t0 (OfHost hop one n e) = OfHost hop one (hop_on H K t0 n) e
 
-told_on : (H : Host) (K : Host) (t0 : ℤ) (w : Wait) (known : Bool) → IsTold (KnowsNextHop (at (altered H K) t0)) w known → IsTold (KnowsNextHop (at H t0)) w known
+told_on : (H : Host) (K : Host) (t0 : ℤ) (w : Wait) (known : Bool) → IsAnswerFor (KnowsNextHop (at (altered H K) t0)) w known → IsAnswerFor (KnowsNextHop (at H t0)) w known
 told_on H K t0 None known told = tt
 told_on H K t0 (Some w) known told = known_on H K t0 told
 
-due_by : (H : Host) (t0 : ℤ) (i : ℕ) (was : Bool) → was ≡ true → IsTold (KnowsNextHop (at H t0)) (wait_at H.sockets i) was →
+due_by : (H : Host) (t0 : ℤ) (i : ℕ) (was : Bool) → was ≡ true → IsAnswerFor (KnowsNextHop (at H t0)) (wait_at H.sockets i) was →
     (x : ℤ) (j : ℕ) → SocketDue (at (with_waits H (slice_set H.sockets.waits i None)) t0) j x → (j ≡ i) ⊎ (j ≡ i → ⊥) → SocketDue (at H t0) j x
 due_by H t0 i was is told x j d (inl same) =
     let gone : get_or (slice_set H.sockets.waits i None) j None ≡ None = rw same (cleared H.sockets.waits i) in
@@ -204,7 +204,7 @@ due_by H t0 i was is told x j d (inr other) =
       socket = d.socket;
       known = d.known;
       here = d.here;
-      told = subst (λ w. IsTold (KnowsNextHop (at H t0)) w d.known) kept (told_on H (with_waits H (slice_set H.sockets.waits i None)) t0 (get_or (slice_set H.sockets.waits i None) j None) d.known d.told);
+      told = subst (λ w. IsAnswerFor (KnowsNextHop (at H t0)) w d.known) kept (told_on H (with_waits H (slice_set H.sockets.waits i None)) t0 (get_or (slice_set H.sockets.waits i None) j None) d.known d.told);
       instant = sym (ap (λ w. instant_of (poll_at w d.known t0 (socket.poll_at d.socket))) kept) ∙ d.instant;
     }
 
@@ -224,7 +224,7 @@ due_altered H t0 x K of_socket of_report (OfIgmpReport d) = OfIgmpReport (of_rep
 due_altered H t0 x K of_socket of_report (OfMldReport d) = OfMldReport d
 due_altered H t0 x K of_socket of_report (OfSocket j d) = OfSocket j (of_socket j d)
 
-due_cleared : (H : Host) (t0 : ℤ) (i : ℕ) (was : Bool) → was ≡ true → IsTold (KnowsNextHop (at H t0)) (wait_at H.sockets i) was →
+due_cleared : (H : Host) (t0 : ℤ) (i : ℕ) (was : Bool) → was ≡ true → IsAnswerFor (KnowsNextHop (at H t0)) (wait_at H.sockets i) was →
     (x : ℤ) → Due (at (with_waits H (slice_set H.sockets.waits i None)) t0) x → Due (at H t0) x
 due_cleared H t0 i was is told x d = due_altered H t0 x (with_waits H (slice_set H.sockets.waits i None)) (λ j d. due_by H t0 i was is told x j d (cases_eq j i)) (λ e. e) d
 
@@ -285,14 +285,14 @@ record Passes (s : Socket) (turn : Turn) (s' : Socket) (old new : Host) (told : 
   unchanged : new ≡ old
   same : s' ≡ s
 
-passes : {s s' : Socket} {turn : Turn} {H new : Host} {told : List Event} {notes : List Note} → packet_from H s ≡ None → asked H s ≡ s → SocketTurn s turn s' H told notes new → Passes s turn s' H new told
+passes : {s s' : Socket} {turn : Turn} {H new : Host} {told : List Event} {notes : List Note} → packet_from H s ≡ None → socket_after_asking H s ≡ s → SocketTurn s turn s' H told notes new → Passes s turn s' H new told
 passes none same (Silent p t o n e r) = record { idle = t; untold = o; unchanged = e; same = r ∙ same }
 passes none same (Refused p some t o n e r) = absurd cc
 passes none same (egress.Sent p outcome frames some d t o r) = absurd cc
 
 serves_quiet : {H new : Host} {i : ℕ} {turn : Turn} {told : List Event} {notes : List Note} {t0 : ℤ} → Rests t0 H → Serves i turn H told notes new → Idles t0 turn H new told
-serves_quiet {t0 = t0} r (Free s t o n e) = record { idle = t; stays = stays t0 e (ap sent o) }
-serves_quiet {t0 = t0} r (Waits s known here told p t o n e) = record { idle = t; stays = stays t0 e (ap sent o) }
+serves_quiet {t0 = t0} r (Free s t o n e) = record { idle = t; stays = stays t0 e (ap sent_frames o) }
+serves_quiet {t0 = t0} r (Waits s known here told p t o n e) = record { idle = t; stays = stays t0 e (ap sent_frames o) }
 serves_quiet {H} {new} {i} {turn} {t0 = t0} r (Served s s' known mid here told may turned e) =
     let k = knew H t0 (wait_at H.sockets i) known r.from r.last told in
     let q = asked_by H t0 i s known r here k may (is_permitted (wait_at H.sockets i) k.was t0) refl in
@@ -313,7 +313,7 @@ record Walked (t0 : ℤ) (changed : Bool) (old new : Host) (told : List Event) :
   unchanged : changed ≡ false
   stays : Stays t0 old new told
 
-walked_quiet : {H new : Host} {n : ℕ} {going changed : Bool} {told : List Event} {notes : List Note} {t0 : ℤ} → Rests t0 H → Walks H n going changed told notes new → Walked t0 changed H new told
+walked_quiet : {H new : Host} {n : ℕ} {granted changed : Bool} {told : List Event} {notes : List Note} {t0 : ℤ} → Rests t0 H → Walks H n granted changed told notes new → Walked t0 changed H new told
 walked_quiet {t0 = t0} r egress.Begins = record { unchanged = refl; stays = stays t0 refl refl }
 walked_quiet r (egress.Goes turn told notes new w s t) =
     let so_far = walked_quiet r w in
@@ -324,7 +324,7 @@ walked_quiet r (egress.Stops turn told notes new w s t) =
     let here = serves_quiet (rests_on so_far.stays r) s in
     record { unchanged = so_far.unchanged; stays = stays_on so_far.stays here.stays }
 
-sockets_quiet : {H new : Host} {changed : Bool} {told : List Event} {notes : List Note} {t0 : ℤ} → Rests t0 H → SocketsSend H changed told notes new → Walked t0 changed H new told
+sockets_quiet : {H new : Host} {changed : Bool} {told : List Event} {notes : List Note} {t0 : ℤ} → Rests t0 H → SocketEgress H changed told notes new → Walked t0 changed H new told
 sockets_quiet r (Whole w) = walked_quiet r w
 sockets_quiet r (Stopped n w) = walked_quiet r w
 
@@ -343,26 +343,26 @@ waits {y = y} {ys = ys} e = record { first = y; others = ys; are = e; instant = 
 at_once : {t0 : ℤ} {H : Host} → Rests t0 H → Due (at H t0) (pos 0) → ⊥
 at_once {t0} {H} r d = let passed : H.moment <ℤ pos 0 = r.none (pos 0) d in absurd (omega (arith, ints, r.low, r.from))
 
-piece_still : (t0 : ℤ) → IsStill t0 SendsPiece
-piece_still t0 old new told notes r (egress.NoPiece l t n e) = stays t0 e (ap sent t)
-piece_still t0 old new told notes r (egress.NoLeave piece rest l t n e) = absurd (at_once r (OfPiece (waits l)))
+piece_still : (t0 : ℤ) → IsStill t0 Ipv4Egress
+piece_still t0 old new told notes r (egress.NoPiece l t n e) = stays t0 e (ap sent_frames t)
+piece_still t0 old new told notes r (egress.NotGranted piece rest l t n e) = absurd (at_once r (OfPiece (waits l)))
 piece_still t0 old new told notes r (egress.PieceGoes piece rest l t n e) = absurd (at_once r (OfPiece (waits l)))
 
 -- nobody is told of a group where none is in that state
-untold : {state : GroupState} {packet_for : List IpCidr → IpAddress → Option Packet} {told_of : List Group → IpAddress → List Group} {old new : Host} {going : Bool} {told : List Event} {notes : List Note} →
-    first_in state old.groups ≡ None → multicast.Tells state packet_for told_of old going told notes new → (new ≡ old) × (told ≡ [])
+untold : {state : GroupState} {packet_for : List IpCidr → IpAddress → Option Packet} {after_report : List Group → IpAddress → List Group} {old new : Host} {granted : Bool} {told : List Event} {notes : List Note} →
+    first_in state old.groups ≡ None → multicast.ReportsEach state packet_for after_report old granted told notes new → (new ≡ old) × (told ≡ [])
 untold none multicast.Begins = (refl, refl)
 untold {state} none (multicast.Silently {mid = mid} a w f p) = let before = untold none w in absurd (let same : first_in state mid.groups ≡ None = rw before.0 none in cc)
 untold {state} none (multicast.Refused {mid = mid} a p w f q) = let before = untold none w in absurd (let same : first_in state mid.groups ≡ None = rw before.0 none in cc)
-untold {state} none (multicast.Told {mid = mid} a p outcome frames more new w f q d) = let before = untold none w in absurd (let same : first_in state mid.groups ≡ None = rw before.0 none in cc)
+untold {state} none (multicast.Reported {mid = mid} a p outcome frames more new w f q d) = let before = untold none w in absurd (let same : first_in state mid.groups ≡ None = rw before.0 none in cc)
 
-all_still : {state : GroupState} {packet_for : List IpCidr → IpAddress → Option Packet} {told_of : List Group → IpAddress → List Group} (t0 : ℤ) →
-    ((H : Host) → told_at state H ≡ Some (pos 0) → Due H (pos 0)) → IsStill t0 (multicast.TellsAll state packet_for told_of)
-all_still {state} {packet_for} {told_of} t0 is_due old new told notes r p = by (first_in state old.groups) refl where
-  of : (going : Bool) → multicast.Tells state packet_for told_of old going told notes new → first_in state old.groups ≡ None → Stays t0 old new told
-  of going w none = let u = untold none w in stays t0 u.0 (ap sent u.1)
+all_still : {state : GroupState} {packet_for : List IpCidr → IpAddress → Option Packet} {after_report : List Group → IpAddress → List Group} (t0 : ℤ) →
+    ((H : Host) → report_due_at state H ≡ Some (pos 0) → Due H (pos 0)) → IsStill t0 (multicast.ReportsAll state packet_for after_report)
+all_still {state} {packet_for} {after_report} t0 is_due old new told notes r p = by (first_in state old.groups) refl where
+  of : (granted : Bool) → multicast.ReportsEach state packet_for after_report old granted told notes new → first_in state old.groups ≡ None → Stays t0 old new told
+  of granted w none = let u = untold none w in stays t0 u.0 (ap sent_frames u.1)
 
-  walk : multicast.TellsAll state packet_for told_of old told notes new → first_in state old.groups ≡ None → Stays t0 old new told
+  walk : multicast.ReportsAll state packet_for after_report old told notes new → first_in state old.groups ≡ None → Stays t0 old new told
   walk (multicast.All w n) none = of true w none
   walk (multicast.UpToRefusal w) none = of false w none
 
@@ -371,16 +371,16 @@ all_still {state} {packet_for} {told_of} t0 is_due old new told notes r p = by (
   by (Some a) e = absurd (at_once r (is_due (at old t0) (rw e refl)))
 
 -- a moment that has come isn't before the instant
-come : (t now : ℤ) → has_come (Some t) now ≡ true → now <ℤ t → ⊥
-come t now h before = absurd (let e : is_lt (int_cmp now t) ≡ true = rw (← int_cmp_is now t Less before) refl in let g : has_come (Some t) now ≡ false = rw e refl in cc)
+come : (t now : ℤ) → has_passed (Some t) now ≡ true → now <ℤ t → ⊥
+come t now h before = absurd (let e : is_lt (int_cmp now t) ≡ true = rw (← int_cmp_is now t Less before) refl in let g : has_passed (Some t) now ≡ false = rw e refl in cc)
 
 -- nothing is due whose moment has come
-not_come : {t0 : ℤ} {H : Host} (o : Option ℤ) → Rests t0 H → ((x : ℤ) → o ≡ Some x → Due (at H t0) x) → has_come o H.moment ≡ true → ⊥
+not_come : {t0 : ℤ} {H : Host} (o : Option ℤ) → Rests t0 H → ((x : ℤ) → o ≡ Some x → Due (at H t0) x) → has_passed o H.moment ≡ true → ⊥
 not_come None r due h = absurd cc
 not_come {t0} {H} (Some t) r due h = come t H.moment h (r.none t (due t refl))
 
-igmp_still : (t0 : ℤ) → IsStill t0 SendsIgmpReport
-igmp_still t0 old new told notes r (reports.NotDue h t n e) = stays t0 e (ap sent t)
+igmp_still : (t0 : ℤ) → IsStill t0 IgmpEgress
+igmp_still t0 old new told notes r (reports.NotDue h t n e) = stays t0 e (ap sent_frames t)
 igmp_still t0 old new told notes r (reports.NoFurtherGroup h g t n e) = rw (e, t) (record {
   moment = refl;
   routes = refl;
@@ -388,12 +388,12 @@ igmp_still t0 old new told notes r (reports.NoFurtherGroup h g t n e) = rw (e, t
   due = λ x d. due_altered old t0 x (with_igmp_report old igmp.Inactive) (λ j s. reported_still old t0 x j s) (λ i. absurd cc) d;
   silent = refl;
 })
-igmp_still t0 old new told notes r (reports.NoAddress next h g a t n e) = stays t0 e (ap sent t)
-igmp_still t0 old new told notes r (reports.NoLeave p h q t n e) = absurd (not_come (timeout_of old.igmp_report) r (λ x i. OfIgmpReport (rw q i)) h)
-igmp_still t0 old new told notes r (reports.Sent p outcome frames mid h q d t e) = absurd (not_come (timeout_of old.igmp_report) r (λ x i. OfIgmpReport (rw q i)) h)
+igmp_still t0 old new told notes r (reports.NoAddress next h g a t n e) = stays t0 e (ap sent_frames t)
+igmp_still t0 old new told notes r (reports.NotGranted p h q t n e) = absurd (not_come (igmp_timeout_of old.igmp_report) r (λ x i. OfIgmpReport (rw q i)) h)
+igmp_still t0 old new told notes r (reports.Sent p outcome frames mid h q d t e) = absurd (not_come (igmp_timeout_of old.igmp_report) r (λ x i. OfIgmpReport (rw q i)) h)
 
-mld_still : (t0 : ℤ) → IsStill t0 SendsMldReport
-mld_still t0 old new told notes r (reports.NotYet h t n e) = stays t0 e (ap sent t)
+mld_still : (t0 : ℤ) → IsStill t0 MldEgress
+mld_still t0 old new told notes r (reports.NotYet h t n e) = stays t0 e (ap sent_frames t)
 mld_still t0 old new told notes r (reports.GivenUp h t n e) = absurd (not_come (mld_timeout_of old.mld_report) r (λ x i. OfMldReport i) h)
 mld_still t0 old new told notes r (reports.ReportGoes outcome frames mid h d t e) = absurd (not_come (mld_timeout_of old.mld_report) r (λ x i. OfMldReport i) h)
 
@@ -418,9 +418,9 @@ has_come_by t now h before = absurd (let e : is_le (int_cmp t now) ≡ false = r
 none_asked : {t0 : ℤ} {H : Host} → Rests t0 H → Soliciting H → ⊥
 none_asked {t0} {H} r s = has_come_by H.slaac.retry_at H.moment s.comes (r.none H.slaac.retry_at (OfSolicitation (rw s.asks s.instant)))
 
-solicitation_still : (t0 : ℤ) → IsStill t0 SolicitsRouters
-solicitation_still t0 old new told notes r (slaac.NotDue d t n e) = stays t0 e (ap sent t)
-solicitation_still t0 old new told notes r (slaac.NoLeave p d t n e) = absurd (none_asked r (soliciting old p d))
+solicitation_still : (t0 : ℤ) → IsStill t0 NdiscRsEgress
+solicitation_still t0 old new told notes r (slaac.NotDue d t n e) = stays t0 e (ap sent_frames t)
+solicitation_still t0 old new told notes r (slaac.NotGranted p d t n e) = absurd (none_asked r (soliciting old p d))
 solicitation_still t0 old new told notes r (slaac.Goes p outcome frames mid d s t e) = absurd (none_asked r (soliciting old p d))
 
 both_still : {t0 : ℤ} {one two : Part} → IsStill t0 one → IsStill t0 two → IsStill t0 (Both one two)
@@ -445,8 +445,8 @@ round_quiet t0 changed =
     (λ old new told notes r w. sockets_quiet r w))))))
 
 -- slots that have ended are dropped
-swept_still : (t0 : ℤ) (H : Host) → Stays t0 H (swept H H.moment) []
-swept_still t0 H = record { moment = refl; routes = refl; places = refl; due = λ x d. due_timed H t0 x (left_at H.moment H.slots) H.reassembly_timeout d; silent = refl }
+swept_still : (t0 : ℤ) (H : Host) → Stays t0 H (without_expired H H.moment) []
+swept_still t0 H = record { moment = refl; routes = refl; places = refl; due = λ x d. due_timed H t0 x (live_at H.moment H.slots) H.reassembly_timeout d; silent = refl }
 
 -- what had not ended at t0 has not ended before its end
 holds_on : {A : Type 0} (end : A → ℤ) (xs : List A) (t0 t : ℤ) → list_any (λ x. not (is_before t0 (end x))) xs ≡ false →
@@ -477,7 +477,7 @@ no_sync {t0} H r = by (sync_required H.slaac t0) refl where
       let routers = holds_on (λ (q : Router). q.valid_until) H.slaac.routers t0 H.moment rest.1 (λ i x is. r.none x (OfRouter i is)) in
       rw (first.0, prefixes, routers) refl
 
-maintained_quiet : {t0 : ℤ} (H : Host) → Rests t0 H → Stays t0 H (maintained H) []
+maintained_quiet : {t0 : ℤ} (H : Host) → Rests t0 H → Stays t0 H (after_maintenance H) []
 maintained_quiet {t0} H r = rw (no_sync H r) (swept_still t0 H)
 
 egress_quiet : {t t0 : ℤ} {answer : PollResult} {old new : Host} {told : List Event} {notes : List Note} → Rests t0 (at old t) → Egress t answer old told notes new → Calls t0 result.None answer (at old t) new told
@@ -487,75 +487,75 @@ egress_quiet {t} {t0} {answer} {old} {new} {told} {notes} r e =
 
 -- a call that receives, where no frame is handed over
 received_nothing : {t : ℤ} {answer : PollIngressSingleResult} {old new : Host} {told : List Event} {notes : List Note} (t0 : ℤ) (i : Ingress t answer old told notes new) →
-    IsDropped (swept old t) i.response.reply i.response.notes_taking i.response.taken → answer_to i.reception ≡ ingress.None → Calls t0 ingress.None answer (at old t) new told
+    IsDropped (without_expired old t) i.response.reply i.response.notes_taking i.response.taken → answer_to i.reception ≡ ingress.None → Calls t0 ingress.None answer (at old t) new told
 received_nothing {t} {old = old} t0 i d e =
     let r = nothing_responded d.silent i.response.responds in
     record { answers = i.answers ∙ e; stays = stays_on (swept_still t0 (at old t)) (stays t0 (r.2 ∙ d.unchanged) (rw (i.events, r.0) refl)) }
 
-ingress_by : {t : ℤ} {answer : PollIngressSingleResult} {old new : Host} {told : List Event} {notes : List Note} (t0 : ℤ) → handed told ≡ [] → (i : Ingress t answer old told notes new) →
+ingress_by : {t : ℤ} {answer : PollIngressSingleResult} {old new : Host} {told : List Event} {notes : List Note} (t0 : ℤ) → handed_frames told ≡ [] → (i : Ingress t answer old told notes new) →
     (reception : Reception) → i.reception ≡ reception → Calls t0 ingress.None answer (at old t) new told
 ingress_by t0 none i (Frame f) is = let some = rw (i.events, is) at none in absurd cc
-ingress_by {t} {old = old} t0 none i Nothing is = received_nothing t0 i (subst (λ r. Takes (swept old t) r i.response.reply i.response.notes_taking i.response.taken) is i.response.takes) (ap answer_to is)
-ingress_by {t} {old = old} t0 none i Withheld is = received_nothing t0 i (subst (λ r. Takes (swept old t) r i.response.reply i.response.notes_taking i.response.taken) is i.response.takes) (ap answer_to is)
+ingress_by {t} {old = old} t0 none i Nothing is = received_nothing t0 i (subst (λ r. Takes (without_expired old t) r i.response.reply i.response.notes_taking i.response.taken) is i.response.takes) (ap answer_to is)
+ingress_by {t} {old = old} t0 none i Withheld is = received_nothing t0 i (subst (λ r. Takes (without_expired old t) r i.response.reply i.response.notes_taking i.response.taken) is i.response.takes) (ap answer_to is)
 
-ingress_quiet : {t : ℤ} {answer : PollIngressSingleResult} {old new : Host} {told : List Event} {notes : List Note} (t0 : ℤ) → handed told ≡ [] → Ingress t answer old told notes new → Calls t0 ingress.None answer (at old t) new told
+ingress_quiet : {t : ℤ} {answer : PollIngressSingleResult} {old new : Host} {told : List Event} {notes : List Note} (t0 : ℤ) → handed_frames told ≡ [] → Ingress t answer old told notes new → Calls t0 ingress.None answer (at old t) new told
 ingress_quiet t0 none i = ingress_by t0 none i i.reception refl
 
-handed-left : (xs ys : List Event) → handed (xs ++ ys) ≡ [] → handed xs ≡ []
-handed-left [] ys e = refl
-handed-left (Received t (Frame f) ∷ xs) ys e = absurd cc
-handed-left (Received t Nothing ∷ xs) ys e = handed-left xs ys e
-handed-left (Received t Withheld ∷ xs) ys e = handed-left xs ys e
-handed-left (Asked t b ∷ xs) ys e = handed-left xs ys e
-handed-left (Sent id f ∷ xs) ys e = handed-left xs ys e
+handed_frames-left : (xs ys : List Event) → handed_frames (xs ++ ys) ≡ [] → handed_frames xs ≡ []
+handed_frames-left [] ys e = refl
+handed_frames-left (Received t (Frame f) ∷ xs) ys e = absurd cc
+handed_frames-left (Received t Nothing ∷ xs) ys e = handed_frames-left xs ys e
+handed_frames-left (Received t Withheld ∷ xs) ys e = handed_frames-left xs ys e
+handed_frames-left (Asked t b ∷ xs) ys e = handed_frames-left xs ys e
+handed_frames-left (Sent id f ∷ xs) ys e = handed_frames-left xs ys e
 
-handed-right : (xs ys : List Event) → handed (xs ++ ys) ≡ [] → handed ys ≡ []
-handed-right [] ys e = e
-handed-right (Received t (Frame f) ∷ xs) ys e = absurd cc
-handed-right (Received t Nothing ∷ xs) ys e = handed-right xs ys e
-handed-right (Received t Withheld ∷ xs) ys e = handed-right xs ys e
-handed-right (Asked t b ∷ xs) ys e = handed-right xs ys e
-handed-right (Sent id f ∷ xs) ys e = handed-right xs ys e
+handed_frames-right : (xs ys : List Event) → handed_frames (xs ++ ys) ≡ [] → handed_frames ys ≡ []
+handed_frames-right [] ys e = e
+handed_frames-right (Received t (Frame f) ∷ xs) ys e = absurd cc
+handed_frames-right (Received t Nothing ∷ xs) ys e = handed_frames-right xs ys e
+handed_frames-right (Received t Withheld ∷ xs) ys e = handed_frames-right xs ys e
+handed_frames-right (Asked t b ∷ xs) ys e = handed_frames-right xs ys e
+handed_frames-right (Sent id f ∷ xs) ys e = handed_frames-right xs ys e
 
 -- such calls until one has nothing to do: that is the first one
 module _ {A : Type 0} (call : A → Host → List Event → List Note → Host → Type 0) (nothing : A) (changes : A → Bool) (t0 : ℤ) (H : Host)
-    (calls : (answer : A) (told : List Event) (notes : List Note) (new : Host) → handed told ≡ [] → call answer H told notes new → Calls t0 nothing answer H new told) where
+    (calls : (answer : A) (told : List Event) (notes : List Note) (new : Host) → handed_frames told ≡ [] → call answer H told notes new → Calls t0 nothing answer H new told) where
   record NoCall (changed : Bool) (new : Host) (told : List Event) : Type 0 where
     unchanged : changed ≡ false
     untold : told ≡ []
     same : new ≡ H
 
-  repeated_quiet : {n : ℕ} {changed : Bool} {new : Host} {told : List Event} {notes : List Note} → handed told ≡ [] → Repeats call nothing changes H n told notes new changed → NoCall changed new told
+  repeated_quiet : {n : ℕ} {changed : Bool} {new : Host} {told : List Event} {notes : List Note} → handed_frames told ≡ [] → Repeats call nothing changes H n told notes new changed → NoCall changed new told
   repeated_quiet none polling.Begins = record { unchanged = refl; untold = refl; same = refl }
   repeated_quiet none (polling.Again {told_so = so} {mid = mid} answer told notes new r c some) =
-      let first = repeated_quiet (handed-left so told none) r in
+      let first = repeated_quiet (handed_frames-left so told none) r in
       let here : call answer H told notes new = subst (λ (K : Host). call answer K told notes new) first.same c in
-      absurd (some (calls answer told notes new (handed-right so told none) here).answers)
+      absurd (some (calls answer told notes new (handed_frames-right so told none) here).answers)
 
-  until_quiet : {budget : ℕ} {changed : Bool} {new : Host} {told : List Event} {notes : List Note} → handed told ≡ [] → Until call nothing changes budget changed H told notes new → Walked t0 changed H new told
-  until_quiet none (Spent r) = let first = repeated_quiet none r in record { unchanged = first.unchanged; stays = stays t0 first.same (ap sent first.untold) }
+  until_quiet : {budget : ℕ} {changed : Bool} {new : Host} {told : List Event} {notes : List Note} → handed_frames told ≡ [] → Until call nothing changes budget changed H told notes new → Walked t0 changed H new told
+  until_quiet none (Spent r) = let first = repeated_quiet none r in record { unchanged = first.unchanged; stays = stays t0 first.same (ap sent_frames first.untold) }
   until_quiet {new = new} none (Done n told_so told_last notes_so notes_last mid l r c t e) =
       let parts = rw t at none in
-      let first = repeated_quiet (handed-left told_so told_last parts) r in
+      let first = repeated_quiet (handed_frames-left told_so told_last parts) r in
       let here : call nothing H told_last notes_last new = subst (λ (K : Host). call nothing K told_last notes_last new) first.same c in
-      let last = calls nothing told_last notes_last new (handed-right told_so told_last parts) here in
+      let last = calls nothing told_last notes_last new (handed_frames-right told_so told_last parts) here in
       record { unchanged = first.unchanged; stays = subst (λ (es : List Event). Stays t0 H new es) (sym (t ∙ ap (λ es. es ++ told_last) first.untold)) last.stays }
 
-polls_quiet : {t t0 : ℤ} {budget : ℕ} {answer : PollResult} {old new : Host} {told : List Event} {notes : List Note} → Rests t0 (at old t) → handed told ≡ [] → Polls t budget answer old told notes new → Calls t0 result.None answer (at old t) new told
+polls_quiet : {t t0 : ℤ} {budget : ℕ} {answer : PollResult} {old new : Host} {told : List Event} {notes : List Note} → Rests t0 (at old t) → handed_frames told ≡ [] → Polls t budget answer old told notes new → Calls t0 result.None answer (at old t) new told
 polls_quiet {t} {t0} {budget} {answer} {old} {new} {told} r none p =
     let parts = rw p.events at none in
-    let K : Host = maintained (at old t) in
+    let K : Host = after_maintenance (at old t) in
     let begun : Stays t0 (at old t) K [] = maintained_quiet (at old t) r in
     let same : at K t ≡ K = ap (at K) (sym begun.moment) in
-    let receives : (answer : PollIngressSingleResult) (told : List Event) (notes : List Note) (new : Host) → handed told ≡ [] → Ingress t answer K told notes new → Calls t0 ingress.None answer K new told =
+    let receives : (answer : PollIngressSingleResult) (told : List Event) (notes : List Note) (new : Host) → handed_frames told ≡ [] → Ingress t answer K told notes new → Calls t0 ingress.None answer K new told =
     λ answer told notes new e i. subst (λ (K : Host). Calls t0 ingress.None answer K new told) same (ingress_quiet t0 e i) in
-    let taken = until_quiet (Ingress t) ingress.None polling.may_change t0 K receives (handed-left p.told_receiving p.told_sending parts) p.receives in
+    let taken = until_quiet (Ingress t) ingress.None polling.may_change t0 K receives (handed_frames-left p.told_receiving p.told_sending parts) p.receives in
     let first : Walked t0 p.received (at old t) p.mid p.told_receiving = record { unchanged = taken.unchanged; stays = stays_on begun taken.stays } in
     let moment : at p.mid t ≡ p.mid = ap (at p.mid) (sym first.stays.moment) in
     let rests : Rests t0 (at p.mid t) = subst (Rests t0) (sym moment) (rests_on first.stays r) in
-    let calls : (answer : PollResult) (told : List Event) (notes : List Note) (new : Host) → handed told ≡ [] → Egress t answer p.mid told notes new → Calls t0 result.None answer p.mid new told =
+    let calls : (answer : PollResult) (told : List Event) (notes : List Note) (new : Host) → handed_frames told ≡ [] → Egress t answer p.mid told notes new → Calls t0 result.None answer p.mid new told =
     λ answer told notes new e sends. subst (λ (K : Host). Calls t0 result.None answer K new told) moment (egress_quiet rests sends) in
-    let second = until_quiet (Egress t) result.None polling.is_changed t0 p.mid calls (handed-right p.told_receiving p.told_sending parts) p.sends in
+    let second = until_quiet (Egress t) result.None polling.is_changed t0 p.mid calls (handed_frames-right p.told_receiving p.told_sending parts) p.sends in
     record {
       answers = p.answers ∙ rw (first.unchanged, second.unchanged) refl;
       stays = subst (λ (es : List Event). Stays t0 (at old t) new es) (sym p.events) (stays_on first.stays second.stays);
@@ -564,7 +564,7 @@ polls_quiet {t} {t0} {budget} {answer} {old} {new} {told} r none p =
 -- one step that nothing disturbs
 record Still (t0 : ℤ) (answer : Answer) (old new : Host) (told : List Event) : Type 0 where
   answers : AnswersNone answer
-  silent : sent told ≡ []
+  silent : sent_frames told ≡ []
   places : new.sockets.places ≡ old.sockets.places
   due : (x : ℤ) → Due (at new t0) x → Due (at old t0) x
 
@@ -596,7 +596,7 @@ rests : {t0 s : ℤ} {end : Option ℤ} (H : Host) → pos 0 ≤ℤ t0 → DueFr
 rests {s = s} H low due within = record { low = low; from = within.from; last = within.routes_last; none = due s within.before }
 
 step_quiet : {command : Command} {answer : Answer} {old new : Host} {told : List Event} {acts : List Act} {notes : List Note} (t0 : ℤ) (end : Option ℤ) → pos 0 ≤ℤ t0 → DueFrom end old t0 →
-    IsCalm t0 end command (record { command = command; answer = answer; told = told; acts = acts; notes = notes; before = old; after = new }) → handed told ≡ [] →
+    IsCalm t0 end command (record { command = command; answer = answer; told = told; acts = acts; notes = notes; before = old; after = new }) → handed_frames told ≡ [] →
     Step command answer old told acts notes new → Still t0 answer old new told
 step_quiet t0 end low due calm none (step.PolledIngressSingle {result = result} i) = let c = ingress_quiet t0 none i in still (answer.PollIngressSingle result) c.answers c.stays
 step_quiet t0 end low due calm none (step.PolledEgress {result = result} {old = old} e) = let c = egress_quiet (rests old low due calm) e in still (answer.PollEgress result) c.answers c.stays
@@ -618,7 +618,7 @@ step_quiet t0 end low due calm none (step.TookReassemblyTimeout {result = result
 step_quiet t0 end low due calm none (step.OwnerActed sockets) = unchanged answer.Owner tt calm
 
 -- a run from where `poll_at` answered, as far as nothing disturbs it
-quiet_while : {first last : Host} {places : List Place} (t0 : ℤ) (end : Option ℤ) → pos 0 ≤ℤ t0 → DueFrom end first t0 → Run first places last → QuietWhile t0 end places
+quiet_while : {first last : Host} {transitions : List Transition} (t0 : ℤ) (end : Option ℤ) → pos 0 ≤ℤ t0 → DueFrom end first t0 → Run first transitions last → QuietWhile t0 end transitions
 quiet_while t0 end low due Ends = tt
 quiet_while t0 end low due (Then s r) = λ undisturbed.
     let q = step_quiet t0 end low due undisturbed.calm undisturbed.no_frame s in (
@@ -626,12 +626,12 @@ quiet_while t0 end low due (Then s r) = λ undisturbed.
       quiet_while t0 end low (λ s before x d. due s before x (q.due x d)) r,
     )
 
-quiet_after : {command : Command} {answer : Answer} {old mid last : Host} {told : List Event} {acts : List Act} {notes : List Note} {places : List Place} →
-    Step command answer old told acts notes mid → Run mid places last → QuietAfter command answer places
+quiet_after : {command : Command} {answer : Answer} {old mid last : Host} {told : List Event} {acts : List Act} {notes : List Note} {transitions : List Transition} →
+    Step command answer old told acts notes mid → Run mid transitions last → QuietAfter command answer transitions
 quiet_after (step.PolledAt {t} {end} {old} least) r = λ low. quiet_while t end low (due_from (at old t) t end least) r
 quiet_after other r = tt
 
 -- over a whole run
-pub run_quiet : {first last : Host} {places : List Place} → Run first places last → AreQuiet places
+pub run_quiet : {first last : Host} {transitions : List Transition} → Run first transitions last → AreQuiet transitions
 run_quiet Ends = tt
 run_quiet (Then s r) = (quiet_after s r, run_quiet r)

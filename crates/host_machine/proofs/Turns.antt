@@ -46,31 +46,31 @@ use Rattle.slaac.specs.Slaac.{sync_required, rs_required}
 use Rattle.host_machine.specs.Addresses.{ipv4_addr, link_local_addr, source_for}
 use Rattle.host_machine.specs.Config.{hardware_refusal_of}
 use Rattle.host_machine.specs.Note.{Note, OfCuts, PieceSent}
-use Rattle.host_machine.specs.Host.{Host, Socket, SocketSet, at, swept, with_left, with_groups}
+use Rattle.host_machine.specs.Host.{Host, Socket, SocketSet, at, without_expired, with_left, with_groups}
 use Rattle.host_machine.specs.Packet.{Packet, IpPayload, packet_with, payload_of}
 use Rattle.host_machine.specs.Packet as packet
 use Rattle.host_machine.specs.Frame.{piece_frame, sends}
-use Rattle.host_machine.specs.Dispatch.{Outcome, IsUnsent, Emits, Discovers, SendsByHop, SendsEthernet, SendsOver, Dispatches, identified}
+use Rattle.host_machine.specs.Dispatch.{Outcome, IsUnsent, Emits, Discovers, DispatchesByHop, DispatchesEthernet, SendsOver, Dispatches, with_next_id}
 use Rattle.host_machine.specs.Dispatch as dispatch
 use Rattle.host_machine.specs.Ingress.{Ingress}
 use Rattle.host_machine.specs.Multicast as multicast
-use Rattle.host_machine.specs.Multicast.{flushed, igmp_packet, join_packet, leave_packet}
+use Rattle.host_machine.specs.Multicast.{without_neighbors, igmp_packet, join_packet, leave_packet}
 use Rattle.host_machine.specs.Reports as reports
-use Rattle.host_machine.specs.Reports.{SendsIgmpReport, SendsMldReport, next_group, next_report}
+use Rattle.host_machine.specs.Reports.{IgmpEgress, MldEgress, next_group, next_report}
 use Rattle.host_machine.specs.Slaac as slaac
-use Rattle.host_machine.specs.Slaac.{SolicitsRouters, in_line, due_solicitation, router_solicitation, solicitation_by, solicitation_from}
-use Rattle.host_machine.specs.Egress.{SocketTurn, Serves, Walks, SocketsSend, SendsPiece, Round, Egress, packet_between, packet_of, packet_from, if_echo}
+use Rattle.host_machine.specs.Slaac.{NdiscRsEgress, with_slaac_applied, due_solicitation, router_solicitation, solicitation_by, solicitation_from}
+use Rattle.host_machine.specs.Egress.{SocketTurn, Serves, Walks, SocketEgress, Ipv4Egress, Round, Egress, packet_between, packet_of, packet_from, if_echo}
 use Rattle.host_machine.specs.Egress as egress
 use Rattle.host_machine.specs.Parts.{Part}
-use Rattle.host_machine.specs.Polling.{maintained}
-use Rattle.host_machine.specs.Requests.{may_ask, speaks_icmpv6, NobodySpeaks}
+use Rattle.host_machine.specs.Polling.{after_maintenance}
+use Rattle.host_machine.specs.Requests.{may_ask, speaks_icmpv6, NoSocketSpeaks}
 use Rattle.host_machine.specs.Step.{Step, Accepted, Refused, Taken, NotTaken, WithinDay, OverDay}
 use Rattle.host_machine.specs.Step as step
-use Rattle.host_machine.proofs.Grouped.{join_groups, leave_groups}
-use Rattle.host_machine.proofs.Kept.{Keeps, kept, kept_by, unread}
-use Rattle.host_machine.proofs.Repeated.{both, polled}
-use Rattle.host_machine.proofs.Own.{is_own, own_asks}
-use Rattle.host_machine.proofs.Speakers.{Nobody, speaks, get_speaks, set_speaks, asked_speaks, told_speaks}
+use Rattle.host_machine.proofs.GroupChanges.{join_groups, leave_groups}
+use Rattle.host_machine.proofs.UnchangedFields.{Keeps, kept, kept_by, unread}
+use Rattle.host_machine.proofs.PollCalls.{both, polled}
+use Rattle.host_machine.proofs.OwnMessages.{is_own, own_asks}
+use Rattle.host_machine.proofs.RawProtocols.{NoSpeaker, speaks, get_speaks, set_speaks, asked_speaks, told_speaks}
 
 -- the number of ICMPv6
 abbrev icmpv6 : ℕ → Bool
@@ -145,18 +145,18 @@ parsed_is : (s : RawSocket) (o : Option Sent) (p : Packet) → option_and_then p
 parsed_is s None p e = absurd cc
 parsed_is s (Some x) p e = spoken_is s x p e
 
-pub first_is : (s : RawSocket) (o : Option (Unit {0} × List ℕ)) (p : Packet) → option_and_then packet_of (option_map RawOffer (option_and_then (λ q. raw.sent s q.1) o)) ≡ Some p → IsRaw s p
+pub first_is : (s : RawSocket) (o : Option (Unit {0} × List ℕ)) (p : Packet) → option_and_then packet_of (option_map RawOffer (option_and_then (λ q. raw.packet_to_send s q.1) o)) ≡ Some p → IsRaw s p
 first_is s None p e = absurd cc
 first_is s (Some q) p e = parsed_is s (packet_in s.version q.1) p e
 
 -- what sockets offer asks for no neighbour, but for raw sockets that speak ICMPv6
 offered_is : (H : Host) (s : Socket) (p : Packet) → packet_from H s ≡ Some p → speaks_icmpv6 (Some s) ≡ false → may_ask (payload_of p) ≡ false
 offered_is H (Raw s) p e other = let r = first_is s (first_of s.tx.packets) p e in rw (r.is, r.same) other
-offered_is H (Icmp s) p e other = own_asks (payload_of p) (icmp_is (icmp_socket.offered (source_for H.ip_addrs) s) p e)
-offered_is H (Udp s) p e other = udp_is (udp_socket.offered (source_for H.ip_addrs) s) p e
-offered_is H (Tcp s) p e other = own_asks (payload_of p) (tcp_is (tcp_socket.offered H.moment (source_for H.ip_addrs) s) p e)
+offered_is H (Icmp s) p e other = own_asks (payload_of p) (icmp_is (icmp_socket.offered_packet (source_for H.ip_addrs) s) p e)
+offered_is H (Udp s) p e other = udp_is (udp_socket.offered_packet (source_for H.ip_addrs) s) p e
+offered_is H (Tcp s) p e other = own_asks (payload_of p) (tcp_is (tcp_socket.offered_packet H.moment (source_for H.ip_addrs) s) p e)
 
-pub sent_is : (H : Host) (p : Packet) → NobodySpeaks H → MaySend H p → may_ask (payload_of p) ≡ false
+pub sent_is : (H : Host) (p : Packet) → NoSocketSpeaks H → MaySend H p → may_ask (payload_of p) ≡ false
 sent_is H p none (OfItsOwn is) = own_asks (payload_of p) is
 sent_is H p none (Offers i s there offers) = offered_is H s p offers (get_speaks icmpv6 H.sockets.places i (Some s) there none)
 
@@ -219,14 +219,14 @@ discovered_sockets (dispatch.NoSource target h s o u) = unsent_sockets u
 discovered_sockets (dispatch.Solicited target h o f n e) = ap (λ (K : Host). K.sockets) e
 
 by_hop_sockets : {id : ℕ} {own : EthernetAddress} {p : Packet} {hop : IpAddress} {outcome : Outcome} {H new : Host} {frames : List (List ℕ)} {notes : List Note} →
-    SendsByHop id own p hop outcome H frames notes new → new.sockets ≡ H.sockets
+    DispatchesByHop id own p hop outcome H frames notes new → new.sockets ≡ H.sockets
 by_hop_sockets (dispatch.Known h k e) = emitted_sockets e
 by_hop_sockets (dispatch.Silent s o u) = unsent_sockets u
 by_hop_sockets (dispatch.Unknown u d) = discovered_sockets d
 
 ethernet_sockets : {id : ℕ} {own : EthernetAddress} {p : Packet} {outcome : Outcome} {H new : Host} {frames : List (List ℕ)} {notes : List Note} →
-    SendsEthernet id own p outcome H frames notes new → new.sockets ≡ H.sockets
-ethernet_sockets (dispatch.ToMany h m e) = emitted_sockets e
+    DispatchesEthernet id own p outcome H frames notes new → new.sockets ≡ H.sockets
+ethernet_sockets (dispatch.ToMulticast h m e) = emitted_sockets e
 ethernet_sockets (dispatch.NoHop m n o u) = unsent_sockets u
 ethernet_sockets (dispatch.ByHop hop m n s) = by_hop_sockets s
 
@@ -237,8 +237,8 @@ over_sockets id hardware.Ip p outcome H frames notes new s = emitted_sockets s
 
 pub dispatched_sockets : {p : Packet} {outcome : Outcome} {H new : Host} {frames : List (List ℕ)} {notes : List Note} →
     Dispatches p outcome H frames notes new → new.sockets ≡ H.sockets
-dispatched_sockets (dispatch.ToNobody n o u) = unsent_sockets u
-dispatched_sockets {p} {outcome} {H} {new} {frames} {notes} (dispatch.ToSomebody more s d n) = over_sockets H.ipv4_id H.hardware_addr p outcome (identified H) frames more new d
+dispatched_sockets (dispatch.ToUnspecified n o u) = unsent_sockets u
+dispatched_sockets {p} {outcome} {H} {new} {frames} {notes} (dispatch.ToSpecified more s d n) = over_sockets H.ipv4_id H.hardware_addr p outcome (with_next_id H) frames more new d
 
 -- and a turn leaves what its socket speaks
 pub turn_sockets : {s s' : Socket} {turn : Turn} {H new : Host} {told_it : List Event} {notes : List Note} → SocketTurn s turn s' H told_it notes new → new.sockets ≡ H.sockets
@@ -253,7 +253,7 @@ turn_speaks spoken {s} {s'} {turn} {H} (egress.Refused p q t o n e r) = rw r (as
 turn_speaks spoken {s} {s'} {turn} {H} (egress.Sent p outcome frames q d t o r) = rw (r, told_speaks spoken) (asked_speaks spoken H.moment (source_for H.ip_addrs) s)
 
 pub served_speaks : (spoken : ℕ → Bool) (i : ℕ) {s s' : Socket} {turn : Turn} {H mid : Host} {told_it : List Event} {notes : List Note} → slice_get H.sockets.places i ≡ Some (Some s) →
-    SocketTurn s turn s' H told_it notes mid → Nobody spoken mid.sockets.places → Nobody spoken (slice_set mid.sockets.places i (Some s'))
+    SocketTurn s turn s' H told_it notes mid → NoSpeaker spoken mid.sockets.places → NoSpeaker spoken (slice_set mid.sockets.places i (Some s'))
 served_speaks spoken i {s} {s'} {turn} {H} {mid} there t none =
     let at_mid : slice_get mid.sockets.places i ≡ Some (Some s) = rw (turn_sockets t) there in
     set_speaks spoken mid.sockets.places i (Some s') (rw (turn_speaks spoken t) (get_speaks spoken mid.sockets.places i (Some s) at_mid none)) none
@@ -261,13 +261,13 @@ served_speaks spoken i {s} {s'} {turn} {H} {mid} there t none =
 -- A law is given by its leaves. Of each: where what it reads stays, and nothing is told or noted; where one part follows another; where leave is
 -- refused; where a packet is dispatched; and where a piece that was left goes.
 module _ (Law : Part)
-    (keeps : (old new : Host) → Keeps old new → (NobodySpeaks old → NobodySpeaks new) → Law old [] [] new)
+    (keeps : (old new : Host) → Keeps old new → (NoSocketSpeaks old → NoSocketSpeaks new) → Law old [] [] new)
     (on : (a b c : Host) (ts us : List Event) (xs ys : List Note) → Law a ts xs b → Law b us ys c → Law a (ts ++ us) (xs ++ ys) c)
     (refused : (H : Host) → Law H (Asked H.moment false ∷ []) [] H)
     (dispatches : (p : Packet) (outcome : Outcome) (H new : Host) (frames : List (List ℕ)) (notes : List Note) → MaySend H p → Dispatches p outcome H frames notes new →
     Law H (Asked H.moment true ∷ sends frames) notes new)
     (pieces : (H : Host) (p : Piece) (rest : List Piece) → H.left ≡ p ∷ rest → Law H (Asked H.moment true ∷ sends (piece_frame H p ∷ [])) (OfCuts (PieceSent p) ∷ []) (with_left H rest)) where
-  keeping : {old new : Host} {told : List Event} {notes : List Note} → told ≡ [] → notes ≡ [] → Keeps old new → (NobodySpeaks old → NobodySpeaks new) → Law old told notes new
+  keeping : {old new : Host} {told : List Event} {notes : List Note} → told ≡ [] → notes ≡ [] → Keeps old new → (NoSocketSpeaks old → NoSocketSpeaks new) → Law old told notes new
   keeping {old} {new} t n k s = rw (t, n) (keeps old new k s)
 
   still : {H new : Host} {told : List Event} {notes : List Note} → told ≡ [] → notes ≡ [] → new ≡ H → Law H told notes new
@@ -276,7 +276,7 @@ module _ (Law : Part)
   not_given : {H new : Host} {told : List Event} {notes : List Note} → told ≡ Asked H.moment false ∷ [] → notes ≡ [] → new ≡ H → Law H told notes new
   not_given {H} t n e = rw (t, n, e) (refused H)
 
-  before : {old mid new : Host} {told : List Event} {notes : List Note} → Law old told notes mid → Keeps mid new → (NobodySpeaks mid → NobodySpeaks new) → Law old told notes new
+  before : {old mid new : Host} {told : List Event} {notes : List Note} → Law old told notes mid → Keeps mid new → (NoSocketSpeaks mid → NoSocketSpeaks new) → Law old told notes new
   before {old} {mid} {new} {told} {notes} law k s =
       subst (λ ns. Law old told ns new) (append-nil notes) (subst (λ ts. Law old ts (notes ++ []) new) (append-nil told) (on old mid new told [] notes [] law (keeps mid new k s)))
 
@@ -294,52 +294,52 @@ module _ (Law : Part)
   served (egress.Waits s known h k p t o n e) = still o n e
   served {i} (egress.Served s s' known mid h k p t e) = before (had_turn i h t) (kept_by e (unread refl refl)) (λ none. rw e (served_speaks icmpv6 i h t none))
 
-  walked : {old new : Host} {n : ℕ} {going changed : Bool} {told : List Event} {notes : List Note} → Walks old n going changed told notes new → Law old told notes new
+  walked : {old new : Host} {n : ℕ} {granted changed : Bool} {told : List Event} {notes : List Note} → Walks old n granted changed told notes new → Law old told notes new
   walked egress.Begins = still refl refl refl
   walked {old} {new} (egress.Goes {told_so = told_so} {notes_so = so} {mid = mid} turn told notes _ w s t) = on old mid new told_so told so notes (walked w) (served s)
   walked {old} {new} (egress.Stops {told_so = told_so} {notes_so = so} {mid = mid} turn told notes _ w s t) = on old mid new told_so told so notes (walked w) (served s)
 
-  sockets_sent : {old new : Host} {changed : Bool} {told : List Event} {notes : List Note} → SocketsSend old changed told notes new → Law old told notes new
+  sockets_sent : {old new : Host} {changed : Bool} {told : List Event} {notes : List Note} → SocketEgress old changed told notes new → Law old told notes new
   sockets_sent (egress.Whole w) = walked w
   sockets_sent (egress.Stopped n w) = walked w
 
-  piece_sent : {H new : Host} {told : List Event} {notes : List Note} → SendsPiece H told notes new → Law H told notes new
+  piece_sent : {H new : Host} {told : List Event} {notes : List Note} → Ipv4Egress H told notes new → Law H told notes new
   piece_sent (egress.NoPiece l t n e) = still t n e
-  piece_sent (egress.NoLeave piece rest l t n e) = not_given t n e
+  piece_sent (egress.NotGranted piece rest l t n e) = not_given t n e
   piece_sent {H} {new} {told} {notes} (egress.PieceGoes piece rest l t n e) = rw (t, n, e) (pieces H piece rest l)
 
   -- groups that are told of
   module _ {packet_for : List IpCidr → IpAddress → Option Packet} (plain : (own : List IpCidr) (a : IpAddress) (p : Packet) → packet_for own a ≡ Some p → is_own (payload_of p) ≡ true) where
-    groups_told : {state : GroupState} {told_of : List Group → IpAddress → List Group} {old new : Host} {going : Bool} {told : List Event} {notes : List Note} →
-        multicast.Tells state packet_for told_of old going told notes new → Law old told notes new
-    groups_told multicast.Begins = still refl refl refl
-    groups_told (multicast.Silently a w f p) = before (groups_told w) (unread refl refl) (λ none. none)
-    groups_told {old = old} (multicast.Refused {told = told} {notes = notes} {mid = mid} a p w f q) =
-        subst (λ ns. Law old (told ++ Asked mid.moment false ∷ []) ns mid) (append-nil notes) (on old mid mid told (Asked mid.moment false ∷ []) notes [] (groups_told w) (refused mid))
-    groups_told {told_of = told_of} {old = old} (multicast.Told {told = told} {notes = notes} {mid = mid} a p outcome frames more new w f q d) =
-        on old mid (with_groups new (told_of new.groups a)) told (Asked mid.moment true ∷ sends frames) notes more (groups_told w)
+    groups_reported : {state : GroupState} {after_report : List Group → IpAddress → List Group} {old new : Host} {granted : Bool} {told : List Event} {notes : List Note} →
+        multicast.ReportsEach state packet_for after_report old granted told notes new → Law old told notes new
+    groups_reported multicast.Begins = still refl refl refl
+    groups_reported (multicast.Silently a w f p) = before (groups_reported w) (unread refl refl) (λ none. none)
+    groups_reported {old = old} (multicast.Refused {told = told} {notes = notes} {mid = mid} a p w f q) =
+        subst (λ ns. Law old (told ++ Asked mid.moment false ∷ []) ns mid) (append-nil notes) (on old mid mid told (Asked mid.moment false ∷ []) notes [] (groups_reported w) (refused mid))
+    groups_reported {after_report = after_report} {old = old} (multicast.Reported {told = told} {notes = notes} {mid = mid} a p outcome frames more new w f q d) =
+        on old mid (with_groups new (after_report new.groups a)) told (Asked mid.moment true ∷ sends frames) notes more (groups_reported w)
         (before (dispatches p outcome mid new frames more (OfItsOwn (plain mid.ip_addrs a p q)) d) (unread refl refl) (λ none. none))
 
-    all_told : {state : GroupState} {told_of : List Group → IpAddress → List Group} {old new : Host} {told : List Event} {notes : List Note} →
-        multicast.TellsAll state packet_for told_of old told notes new → Law old told notes new
-    all_told (multicast.All w n) = groups_told w
-    all_told (multicast.UpToRefusal w) = groups_told w
+    all_reported : {state : GroupState} {after_report : List Group → IpAddress → List Group} {old new : Host} {told : List Event} {notes : List Note} →
+        multicast.ReportsAll state packet_for after_report old told notes new → Law old told notes new
+    all_reported (multicast.All w n) = groups_reported w
+    all_reported (multicast.UpToRefusal w) = groups_reported w
 
-  igmp_sent : {H new : Host} {told : List Event} {notes : List Note} → SendsIgmpReport H told notes new → Law H told notes new
+  igmp_sent : {H new : Host} {told : List Event} {notes : List Note} → IgmpEgress H told notes new → Law H told notes new
   igmp_sent (reports.NotDue h t n e) = still t n e
   igmp_sent (reports.NoFurtherGroup h g t n e) = keeping t n (kept_by e (unread refl refl)) (λ none. rw e none)
   igmp_sent (reports.NoAddress next h g a t n e) = still t n e
-  igmp_sent (reports.NoLeave p h r t n e) = not_given t n e
+  igmp_sent (reports.NotGranted p h r t n e) = not_given t n e
   igmp_sent {H} {new} {told} {notes} (reports.Sent p outcome frames mid h r d t e) =
       rw t (before (dispatches p outcome H mid frames notes (OfItsOwn (report_is H p r)) d) (kept_by e (unread refl refl)) (λ none. rw e none))
 
-  routers_solicited : {H new : Host} {told : List Event} {notes : List Note} → SolicitsRouters H told notes new → Law H told notes new
+  routers_solicited : {H new : Host} {told : List Event} {notes : List Note} → NdiscRsEgress H told notes new → Law H told notes new
   routers_solicited (slaac.NotDue d t n e) = still t n e
-  routers_solicited (slaac.NoLeave p d t n e) = not_given t n e
+  routers_solicited (slaac.NotGranted p d t n e) = not_given t n e
   routers_solicited {H} {new} {told} {notes} (slaac.Goes p outcome frames mid h d t e) =
       rw t (before (dispatches p outcome H mid frames notes (OfItsOwn (solicitation_is H p h)) d) (kept_by e (unread refl refl)) (λ none. rw e none))
 
-  mld_sent : {H new : Host} {told : List Event} {notes : List Note} → SendsMldReport H told notes new → Law H told notes new
+  mld_sent : {H new : Host} {told : List Event} {notes : List Note} → MldEgress H told notes new → Law H told notes new
   mld_sent (reports.NotYet h t n e) = still t n e
   mld_sent {H} (reports.GivenUp h t n e) = rw (t, n) (before (refused H) (kept_by e (unread refl refl)) (λ none. rw e none))
   mld_sent {H} {new} {told} {notes} (reports.ReportGoes outcome frames mid h d t e) =
@@ -349,8 +349,8 @@ module _ (Law : Part)
   round : {changed : Bool} {old new : Host} {told : List Event} {notes : List Note} → Round changed old told notes new → Law old told notes new
   round {changed} {old} {new} {told} {notes} r = both Law begins on (λ o n t ns p. piece_sent p)
       (both Law begins on (λ o n t ns p. routers_solicited p)
-      (both Law begins on (λ o n t ns p. all_told join_is p)
-      (both Law begins on (λ o n t ns p. all_told leave_is p)
+      (both Law begins on (λ o n t ns p. all_reported join_is p)
+      (both Law begins on (λ o n t ns p. all_reported leave_is p)
       (both Law begins on (λ o n t ns p. igmp_sent p)
       (both Law begins on (λ o n t ns p. mld_sent p) (λ o n t ns p. sockets_sent p)))))) old new told notes r
 
@@ -360,19 +360,19 @@ module _ (Law : Part)
   -- of whole steps: where a frame is taken; where slots that have ended are dropped; where the host gets other addresses, and forgets its
   -- neighbours; where it gets another hardware address; and where it gets another timeout
   module _ (ingress : (t : ℤ) (answer : PollIngressSingleResult) (old new : Host) (told : List Event) (notes : List Note) → Ingress t answer old told notes new → Law old told notes new)
-      (sweeps : (H : Host) (t : ℤ) → Law H [] [] (swept H t))
-      (moves : (H : Host) (list : List IpCidr) → Law H [] [] (record H { ip_addrs = list; neighbors = flushed H.neighbors }))
+      (sweeps : (H : Host) (t : ℤ) → Law H [] [] (without_expired H t))
+      (moves : (H : Host) (list : List IpCidr) → Law H [] [] (record H { ip_addrs = list; neighbors = without_neighbors H.neighbors }))
       (Given : HardwareAddress → Type 0)
       (sets : (H : Host) (h : HardwareAddress) → hardware_refusal_of H.capabilities h ≡ None → Given h → Law H [] [] (record H { hardware_addr = h }))
       (lasts : (H : Host) (timeout : ℕ) → Law H [] [] (record H { reassembly_timeout = timeout })) where
-    syncs : (H : Host) (b : Bool) → Law H [] [] (if b then in_line H else H)
+    syncs : (H : Host) (b : Bool) → Law H [] [] (if b then with_slaac_applied H else H)
     syncs H true = before (moves H _) (unread refl refl) (λ none. none)
     syncs H false = begins H
 
-    maintains : (H : Host) (t : ℤ) → Law H [] [] (maintained (at H t))
-    maintains H t = on H (swept H t) (maintained (at H t)) [] [] [] [] (sweeps H t) (syncs (swept H t) (sync_required H.slaac t))
+    maintains : (H : Host) (t : ℤ) → Law H [] [] (after_maintenance (at H t))
+    maintains H t = on H (without_expired H t) (after_maintenance (at H t)) [] [] [] [] (sweeps H t) (syncs (without_expired H t) (sync_required H.slaac t))
 
-    same : {old new : Host} → Keeps old new → (NobodySpeaks old → NobodySpeaks new) → Law old [] [] new
+    same : {old new : Host} → Keeps old new → (NoSocketSpeaks old → NoSocketSpeaks new) → Law old [] [] new
     same {old} {new} k s = keeps old new k s
 
     -- what the owner of the sockets does is told apart: who speaks may change

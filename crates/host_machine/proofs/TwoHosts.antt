@@ -10,36 +10,36 @@ use Rattle.std.specs.FinMap as finite
 use Rattle.net_base.specs.declared.phy.Medium.{Medium}
 use Rattle.net_base.specs.declared.phy.DeviceCapabilities.{DeviceCapabilities}
 use Rattle.net_base.specs.Checksum.{ip_mtu_of}
-use Rattle.net_base.specs.Device.{handed, sent}
+use Rattle.net_base.specs.Device.{handed_frames, sent_frames}
 use Rattle.fragmentation.specs.declared.key.FragKey.{FragKey}
 use Rattle.fragmentation.specs.Keys.{same_key, key_of}
-use Rattle.fragmentation.specs.Fragments.{Fragment, Got, nothing, is_fit, keeps_few, total_with, with_one, IsRebuilt}
-use Rattle.fragmentation.specs.Reassembly.{SlotNote, Take, Came, Rebuild}
+use Rattle.fragmentation.specs.Fragments.{Fragment, Got, no_fragments, is_fit, keeps_few, total_with, with_one, IsRebuilt}
+use Rattle.fragmentation.specs.Reassembly.{SlotNote, Take, Arrival, Rebuild}
 use Rattle.fragmentation.specs.Cuts.{Datagram, Piece, piece_at, piece_of, pieces_of, piece_header, piece_fragment, cut, HasForm}
 use Rattle.host_machine.specs.Note.{Note, CutNote, Cut, PieceSent, cut_notes, slot_notes}
 use Rattle.host_machine.specs.Host.{Host}
 use Rattle.host_machine.specs.Frame.{piece_frame}
 use Rattle.host_machine.specs.Dispatch.{piece_size}
 use Rattle.host_machine.specs.Reassembly.{TakesFragment}
-use Rattle.host_machine.specs.Rebuilding.{History, began, put, AreRebuilt}
+use Rattle.host_machine.specs.Rebuilding.{History, first_history, put, AreRebuilt}
 use Rattle.host_machine.specs.Order.{IsBeginning, sent_of_this, AreBeginnings}
-use Rattle.host_machine.specs.Run.{Place, Run, Ends, Then, told_in, notes_in}
-use Rattle.host_machine.specs.Arrivals.{came, rebuilt, slot_notes_in}
-use Rattle.host_machine.specs.Frames.{Brings, Bring, NoFrame, OneBrings, NoneBrings, all_came, receiving, ComesInFrames}
+use Rattle.host_machine.specs.Run.{Transition, Run, Ends, Then, events_in, notes_in}
+use Rattle.host_machine.specs.Arrivals.{arrivals_under, rebuilt, slot_notes_in}
+use Rattle.host_machine.specs.Frames.{Brings, Bring, NoFrame, OneBrings, NoneBrings, all_arrivals, receiving_host, ArrivesInFrames}
 use Rattle.host_machine.specs.Wire.{Shows, Nothing, OnePiece, OneCut, OtherFrame}
 use Rattle.ip_address.specs.Hardware.{IsOf}
 use Rattle.host_machine.specs.Real.{IsReal, GivesSix}
 use Rattle.host_machine.specs.TwoHosts.{cuts, cuts_in, key_of_cut, HaveOwnKeys, RebuildsWhatWasCut, PiecesAreRead}
 use Rattle.host_machine.proofs.Keys.{same_is}
-use Rattle.host_machine.proofs.Notes.{cut_notes-append, cut_notes-slots, slot_notes-append}
+use Rattle.host_machine.proofs.NotesBySubject.{cut_notes-append, cut_notes-slots, slot_notes-append}
 use Rattle.host_machine.proofs.Walk.{walk}
-use Rattle.host_machine.proofs.Rebuilt.{run_rebuilt, test_same}
-use Rattle.host_machine.proofs.Ordered.{run_ordered, run_first}
+use Rattle.host_machine.proofs.ReassemblyOrigin.{run_rebuilt, test_same}
+use Rattle.host_machine.proofs.PieceOrder.{run_ordered, run_first}
 use Rattle.host_machine.proofs.Pieces.{IsIn, is_in, contains_in, IsPiece, piece_in, IsPartOf, part_of, AreParts, IsTotal, total_stays, rebuilds_payload}
-use Rattle.host_machine.proofs.Views.{handed-append}
-use Rattle.host_machine.proofs.Arrived.{run_comes, receiving_hardware, all_came-append, all_push}
-use Rattle.host_machine.proofs.Readings.{IsWritten, protocol_again, piece_reads, piece_brings}
-use Rattle.host_machine.proofs.Shown.{run_shows, stepped}
+use Rattle.host_machine.proofs.SlotEffects.{handed_frames-append}
+use Rattle.host_machine.proofs.FragmentArrivals.{run_arrivals, receiving_hardware, all_arrivals-append, all_push}
+use Rattle.host_machine.proofs.FrameReading.{IsWritten, protocol_again, piece_reads, piece_brings}
+use Rattle.host_machine.proofs.SentPieces.{run_shows, stepped}
 
 two_ways : (b : Bool) → b ≡ true → b ≡ false → ⊥
 two_ways b h k = cc
@@ -59,7 +59,7 @@ formed_on xs ys a b = rw (cut_notes-append, cuts-append) (all_push HasForm (cuts
 fragments : (H : Host) (key : FragKey) (f : Fragment) (result : Option (List ℕ)) (notes : List Note) (new : Host) → TakesFragment key f result H notes new → FormedOver H [] notes new
 fragments H key f result notes new t = rw (t.noted, cut_notes-slots t.slot_notes) tt
 
-pub run_forms : {first last : Host} {places : List Place} → Run first places last → AllByRecursion HasForm (cuts_in places)
+pub run_forms : {first last : Host} {transitions : List Transition} → Run first transitions last → AllByRecursion HasForm (cuts_in transitions)
 run_forms r =
     walk FormedOver (λ old new k. tt) (λ a b c fs gs xs ys one two. formed_on xs ys one two)
     (λ H own source target mine. tt)
@@ -212,16 +212,16 @@ module _ (m : Medium) (size y : ℕ) (is : size ≡ y * 8) (pos : 0 < size) (ds 
     all_brought mine (NoneBrings frame none more) was = all_brought mine more was.1
 
     -- the medium stays
-    each_came : {H last : Host} {qs : List Place} → Run H qs last → H.capabilities.medium ≡ m → IsReal H → AllByRecursion (λ q. GivesSix q.command) qs →
-        AllByRecursion ComesInFrames qs → AllByRecursion (Contains all) (handed (told_in qs)) → AreCutBy ds (all_came (slot_notes_in qs))
-    each_came Ends medium_is real six comes was = tt
-    each_came {H} (Then {command = command} {told = told} {notes = noted} {places = qs} s r) medium_is real six comes was =
+    each_arrival : {H last : Host} {qs : List Transition} → Run H qs last → H.capabilities.medium ≡ m → IsReal H → AllByRecursion (λ q. GivesSix q.command) qs →
+        AllByRecursion ArrivesInFrames qs → AllByRecursion (Contains all) (handed_frames (events_in qs)) → AreCutBy ds (all_arrivals (slot_notes_in qs))
+    each_arrival Ends medium_is real six comes was = tt
+    each_arrival {H} (Then {command = command} {told = told} {notes = noted} {transitions = qs} s r) medium_is real six comes was =
         let one = stepped s six.0 real in
-        let mine : IsOf m (receiving command H).hardware_addr = rw receiving_hardware (rw medium_is at real.own) in
-        let parted : AllByRecursion (Contains all) (handed told ++ handed (told_in qs)) = subst (AllByRecursion (Contains all)) (handed-append told (told_in qs)) was in
-        let halves = all_parted (Contains all) (handed told) (handed (told_in qs)) parted in
-        let later = each_came r (ap (λ (c : DeviceCapabilities). c.medium) one.same ∙ medium_is) one.real six.1 comes.1 halves.1 in
-        rw (slot_notes-append, all_came-append) (all_push (λ c. CutBy ds c.0 c.1) (all_came (slot_notes noted)) (all_came (slot_notes_in qs)) (all_brought mine comes.0 halves.0) later) where
+        let mine : IsOf m (receiving_host command H).hardware_addr = rw receiving_hardware (rw medium_is at real.own) in
+        let parted : AllByRecursion (Contains all) (handed_frames told ++ handed_frames (events_in qs)) = subst (AllByRecursion (Contains all)) (handed_frames-append told (events_in qs)) was in
+        let halves = all_parted (Contains all) (handed_frames told) (handed_frames (events_in qs)) parted in
+        let later = each_arrival r (ap (λ (c : DeviceCapabilities). c.medium) one.same ∙ medium_is) one.real six.1 comes.1 halves.1 in
+        rw (slot_notes-append, all_arrivals-append) (all_push (λ c. CutBy ds c.0 c.1) (all_arrivals (slot_notes noted)) (all_arrivals (slot_notes_in qs)) (all_brought mine comes.0 halves.0) later) where
           all_parted : {X : Type 0} (P : X → Type 0) (xs ys : List X) → AllByRecursion P (xs ++ ys) → AllByRecursion P xs × AllByRecursion P ys
           all_parted P [] ys a = (tt, a)
           all_parted P (x ∷ xs) ys a = let r = all_parted P xs ys a.1 in ((a.0, r.0), r.1)
@@ -238,17 +238,17 @@ same_datagram (x ∷ ds) d e own (inr i) (inl b) k = absurd (apart x d (all_in (
 same_datagram (x ∷ ds) d e own (inr i) (inr j) k = same_datagram ds d e own.1 i j k
 
 -- what comes under one of their keys is a part of that packet
-parts_under : (ds : List Datagram) (d : Datagram) (notes : List SlotNote) → HaveOwnKeys ds → IsIn d ds → AreCutBy ds (all_came notes) → AreParts d.payload (came (key_of_cut d) notes)
+parts_under : (ds : List Datagram) (d : Datagram) (notes : List SlotNote) → HaveOwnKeys ds → IsIn d ds → AreCutBy ds (all_arrivals notes) → AreParts d.payload (arrivals_under (key_of_cut d) notes)
 parts_under ds d [] own i all = tt
 parts_under ds d (Take k ∷ notes) own i all = parts_under ds d notes own i all
-parts_under ds d (Came k f ∷ notes) own i all = by (same_key (key_of_cut d) k) refl (parts_under ds d notes own i all.1) where
+parts_under ds d (Arrival k f ∷ notes) own i all = by (same_key (key_of_cut d) k) refl (parts_under ds d notes own i all.1) where
   here : key_of_cut d ≡ k → IsPartOf d.payload f
   here e =
       let c = all.0 in
       let same : d ≡ c.datagram = same_datagram ds d c.datagram own i c.is_there (e ∙ c.key_is) in
       rw same (part_of c.datagram.size c.datagram.payload f c.positive c.piece)
 
-  by : (b : Bool) → same_key (key_of_cut d) k ≡ b → AreParts d.payload (came (key_of_cut d) notes) → AreParts d.payload (if b then f ∷ came (key_of_cut d) notes else came (key_of_cut d) notes)
+  by : (b : Bool) → same_key (key_of_cut d) k ≡ b → AreParts d.payload (arrivals_under (key_of_cut d) notes) → AreParts d.payload (if b then f ∷ arrivals_under (key_of_cut d) notes else arrivals_under (key_of_cut d) notes)
   by true e rest = (here (same_is (key_of_cut d) k e), rest)
   by false e rest = rest
 parts_under ds d (Rebuild k octets ∷ notes) own i all = parts_under ds d notes own i all
@@ -272,18 +272,18 @@ one_more payload g f part of = by (is_fit g.total f) where
   by true = record { total = total_stays payload g.total f part of.total; parts = few (keeps_few g.fragments f) }
   by false = of
 
-nothing_of : (payload : List ℕ) → AreOf payload nothing
+nothing_of : (payload : List ℕ) → AreOf payload no_fragments
 nothing_of payload = record { total = λ x e. absurd cc; parts = tt }
 
-only : (payload : List ℕ) (key : FragKey) (h : History) (notes : List SlotNote) → AreRebuilt h notes → AreOf payload (h key) → AreParts payload (came key notes) → AllByRecursion (λ octets. octets ≡ payload) (rebuilt key notes)
+only : (payload : List ℕ) (key : FragKey) (h : History) (notes : List SlotNote) → AreRebuilt h notes → AreOf payload (h key) → AreParts payload (arrivals_under key notes) → AllByRecursion (λ octets. octets ≡ payload) (rebuilt key notes)
 only payload key h [] r of all = tt
-only payload key h (Take k ∷ notes) r of all = only payload key (put h k nothing) notes r (by (same_key key k)) all where
-  by : (b : Bool) → AreOf payload (if b then nothing else h key)
+only payload key h (Take k ∷ notes) r of all = only payload key (put h k no_fragments) notes r (by (same_key key k)) all where
+  by : (b : Bool) → AreOf payload (if b then no_fragments else h key)
   by true = nothing_of payload
   by false = of
-only payload key h (Came k f ∷ notes) r of all = by (same_key key k) refl all (λ now rest. only payload key (put h k (with_one (h k) f)) notes r now rest) where
-  by : (b : Bool) → same_key key k ≡ b → AreParts payload (if b then f ∷ came key notes else came key notes) →
-      (AreOf payload (put h k (with_one (h k) f) key) → AreParts payload (came key notes) → AllByRecursion (λ octets. octets ≡ payload) (rebuilt key notes)) →
+only payload key h (Arrival k f ∷ notes) r of all = by (same_key key k) refl all (λ now rest. only payload key (put h k (with_one (h k) f)) notes r now rest) where
+  by : (b : Bool) → same_key key k ≡ b → AreParts payload (if b then f ∷ arrivals_under key notes else arrivals_under key notes) →
+      (AreOf payload (put h k (with_one (h k) f) key) → AreParts payload (arrivals_under key notes) → AllByRecursion (λ octets. octets ≡ payload) (rebuilt key notes)) →
       AllByRecursion (λ octets. octets ≡ payload) (rebuilt key notes)
   by true e all' more =
       let same : key ≡ k = same_is key k e in
@@ -298,7 +298,7 @@ only payload key h (Rebuild k octets ∷ notes) r of all = by (same_key key k) r
       (rebuilds_payload payload (h key) octets of.total of.parts is, rest)
   by false e rest = rest
 
-began_of : (payload : List ℕ) (H : Host) (key : FragKey) → finite.get H.slots key ≡ None → AreOf payload (began H key)
+began_of : (payload : List ℕ) (H : Host) (key : FragKey) → finite.get H.slots key ≡ None → AreOf payload (first_history H key)
 began_of payload H key e = rw e (nothing_of payload)
 
 each : {X : Type 0} (P : X → Type 0) (xs : List X) → ((x : X) → IsIn x xs → P x) → AllByRecursion P xs
@@ -309,21 +309,21 @@ pub run_rebuilds : RebuildsWhatWasCut
 run_rebuilds a a' b b' ps qs ra rb may a_six b_six were own free =
     let c = a.capabilities in
     let shows = run_shows a a' ps ra may.a_real a_six in
-    let came_all = each_came c.medium (piece_size c) ((ip_mtu_of c - 20) / 8) refl (size_positive (ip_mtu_of c) may.mtu) (cuts_in ps) (run_forms ra) (go_to shows)
-    (sent (told_in ps)) (cut_notes (notes_in ps)) shows refl a.left may.left (run_first ra) (run_ordered ra) rb may.one_medium may.b_real b_six (run_comes rb) were in
+    let came_all = each_arrival c.medium (piece_size c) ((ip_mtu_of c - 20) / 8) refl (size_positive (ip_mtu_of c) may.mtu) (cuts_in ps) (run_forms ra) (go_to shows)
+    (sent_frames (events_in ps)) (cut_notes (notes_in ps)) shows refl a.left may.left (run_first ra) (run_ordered ra) rb may.one_medium may.b_real b_six (run_arrivals rb) were in
     each (λ d. AllByRecursion (λ octets. octets ≡ d.payload) (rebuilt (key_of_cut d) (slot_notes_in qs))) (cuts_in ps) (λ d i.
-    only d.payload (key_of_cut d) (began b) (slot_notes_in qs) (run_rebuilt rb)
+    only d.payload (key_of_cut d) (first_history b) (slot_notes_in qs) (run_rebuilt rb)
     (began_of d.payload b (key_of_cut d) (all_in (λ e. finite.get b.slots (key_of_cut e) ≡ None) (cuts_in ps) d free i))
     (parts_under (cuts_in ps) d (slot_notes_in qs) own i came_all))
 
 -- a fragment in a frame that a run sent is of a packet that the run cut
-pub frame_is_cut : (a a' : Host) (ps : List Place) → Run a ps a' → IsReal a → 576 ≤ ip_mtu_of a.capabilities → a.left ≡ [] → AllByRecursion (λ p. GivesSix p.command) ps →
-    (K : Host) → IsOf a.capabilities.medium K.hardware_addr → (frame : List ℕ) → Contains (sent (told_in ps)) frame → (key : FragKey) (f : Fragment) → Brings K frame key f → CutBy (cuts_in ps) key f
+pub frame_is_cut : (a a' : Host) (ps : List Transition) → Run a ps a' → IsReal a → 576 ≤ ip_mtu_of a.capabilities → a.left ≡ [] → AllByRecursion (λ p. GivesSix p.command) ps →
+    (K : Host) → IsOf a.capabilities.medium K.hardware_addr → (frame : List ℕ) → Contains (sent_frames (events_in ps)) frame → (key : FragKey) (f : Fragment) → Brings K frame key f → CutBy (cuts_in ps) key f
 frame_is_cut a a' ps ra real mtu left six K mine frame there key f b =
     let c = a.capabilities in
     let shows = run_shows a a' ps ra real six in
     brought c.medium (piece_size c) ((ip_mtu_of c - 20) / 8) refl (size_positive (ip_mtu_of c) mtu) (cuts_in ps) (run_forms ra) (go_to shows)
-    (sent (told_in ps)) (cut_notes (notes_in ps)) shows refl a.left left (run_first ra) (run_ordered ra) frame K key f mine (origin frame shows (is_in (sent (told_in ps)) frame there)) b
+    (sent_frames (events_in ps)) (cut_notes (notes_in ps)) shows refl a.left left (run_first ra) (run_ordered ra) frame K key f mine (origin frame shows (is_in (sent_frames (events_in ps)) frame there)) b
 
 -- a piece of two or more is a part
 pub is_part : (y : ℕ) (d : Datagram) (f : Fragment) → d.size ≡ y * 8 → 0 < d.size → d.size < length d.payload → IsPiece d.size d.payload f → is_fragment (piece_fragment (piece_of d f)) ≡ true

@@ -5,55 +5,55 @@ use Rattle.std.specs.FinMap as map
 use Rattle.fragmentation.specs.declared.key.FragKey.{FragKey}
 use Rattle.fragmentation.specs.Keys.{same_key}
 use Rattle.fragmentation.specs.Fragments.{Fragment, keeps_few}
-use Rattle.fragmentation.specs.Slots.{Slot, Slots, left_at}
-use Rattle.fragmentation.specs.Reassembly.{SlotNote, Take, Came, Rebuild}
+use Rattle.fragmentation.specs.Slots.{Slot, Slots, live_at}
+use Rattle.fragmentation.specs.Reassembly.{SlotNote, Take, Arrival, Rebuild}
 use Rattle.fragmentation.specs.Cuts.{cut}
 use Rattle.host_machine.specs.declared.command.Command.{Command}
 use Rattle.host_machine.specs.declared.command.Command.TheVariants.{PollIngressSingle, Poll, PollMaintenance, SetReassemblyTimeout}
 use Rattle.host_machine.specs.Note.{slot_notes}
 use Rattle.host_machine.specs.Host.{Host}
-use Rattle.host_machine.specs.Run.{Place, Run, notes_in}
-use Rattle.host_machine.specs.Frames.{all_came}
+use Rattle.host_machine.specs.Run.{Transition, Run, notes_in}
+use Rattle.host_machine.specs.Frames.{all_arrivals}
 use Rattle.host_machine.specs.Unfolded.{IsSingle}
 
 -- the fragments that came under a key, in order
-abbrev pub came : FragKey → List SlotNote → List Fragment
-came key [] = []
-came key (Take k ∷ notes) = came key notes
-came key (Came k f ∷ notes) = if same_key key k then f ∷ came key notes else came key notes
-came key (Rebuild k octets ∷ notes) = came key notes
+abbrev pub arrivals_under : FragKey → List SlotNote → List Fragment
+arrivals_under key [] = []
+arrivals_under key (Take k ∷ notes) = arrivals_under key notes
+arrivals_under key (Arrival k f ∷ notes) = if same_key key k then f ∷ arrivals_under key notes else arrivals_under key notes
+arrivals_under key (Rebuild k octets ∷ notes) = arrivals_under key notes
 
 -- what was rebuilt under a key, in order
 abbrev pub rebuilt : FragKey → List SlotNote → List (List ℕ)
 rebuilt key [] = []
 rebuilt key (Take k ∷ notes) = rebuilt key notes
-rebuilt key (Came k f ∷ notes) = rebuilt key notes
+rebuilt key (Arrival k f ∷ notes) = rebuilt key notes
 rebuilt key (Rebuild k octets ∷ notes) = if same_key key k then octets ∷ rebuilt key notes else rebuilt key notes
 
 -- what is noted of slots in all, in order
-abbrev pub slot_notes_in : List Place → List SlotNote
-slot_notes_in places = slot_notes (notes_in places)
+abbrev pub slot_notes_in : List Transition → List SlotNote
+slot_notes_in transitions = slot_notes (notes_in transitions)
 
 -- the moment at which a command drops the slots that have ended, if it does: those that poll for frames do, and maintenance
-abbrev pub sweeps_at : Command → Option ℤ
-sweeps_at (PollIngressSingle t) = Some t
-sweeps_at (Poll t budget) = Some t
-sweeps_at (PollMaintenance t) = Some t
-sweeps_at other = None
+abbrev pub expiry_time_of : Command → Option ℤ
+expiry_time_of (PollIngressSingle t) = Some t
+expiry_time_of (Poll t budget) = Some t
+expiry_time_of (PollMaintenance t) = Some t
+expiry_time_of other = None
 
-abbrev pub left_by : Option ℤ → Slots → Slots
-left_by None slots = slots
-left_by (Some t) slots = left_at t slots
+abbrev pub live_by : Option ℤ → Slots → Slots
+live_by None slots = slots
+live_by (Some t) slots = live_at t slots
 
 -- the slots that are there when a command takes its first frame
 abbrev pub slots_then : Command → Slots → Slots
-slots_then c slots = left_by (sweeps_at c) slots
+slots_then c slots = live_by (expiry_time_of c) slots
 
 -- a single call: the slot of a key isn't dropped there, and where a fragment comes under the key and no slot has it, one is free
-pub record IsServed (key : FragKey) (p : Place) : Type 0 where
+pub record IsServed (key : FragKey) (p : Transition) : Type 0 where
   pub single : IsSingle p.command
   pub kept : map.get (slots_then p.command p.before.slots) key ≡ map.get p.before.slots key
-  pub room : 0 < length (came key (slot_notes p.notes)) → map.get p.before.slots key ≡ None → map.len (slots_then p.command p.before.slots) < 2
+  pub room : 0 < length (arrivals_under key (slot_notes p.notes)) → map.get p.before.slots key ≡ None → map.len (slots_then p.command p.before.slots) < 2
 
 -- each fragment that comes behind these leaves at most four separate ranges
 abbrev pub KeepFew : List Fragment → List Fragment → Type 0
@@ -65,36 +65,36 @@ KeepFew so_far (f ∷ fs) = (keeps_few so_far f ≡ true) × KeepFew (so_far ++ 
 -- comes under the key, and each piece leaves at most four separate ranges when it comes. A poll is taken as its single calls.
 abbrev pub PiecesAreRebuilt : Type 0
 PiecesAreRebuilt =
-    (first last : Host) (places : List Place) (p : Place) (key : FragKey) (m : ℕ) (payload : List ℕ) (f : Fragment) →
-    Run first (places ++ p ∷ []) last → 0 < m → length payload ≤ 4096 →
-    map.get first.slots key ≡ None → came key (slot_notes p.notes) ≡ f ∷ [] →
-    AllByRecursion (Contains (cut m payload)) (came key (slot_notes_in places) ++ f ∷ []) →
-    ((g : Fragment) → Contains (cut m payload) g → Contains (came key (slot_notes_in places) ++ f ∷ []) g) →
-    (Contains (came key (slot_notes_in places)) f → ⊥) →
-    KeepFew [] (came key (slot_notes_in places) ++ f ∷ []) →
-    AllByRecursion (IsServed key) (places ++ p ∷ []) →
-    (rebuilt key (slot_notes_in places) ≡ []) × (rebuilt key (slot_notes p.notes) ≡ payload ∷ [])
+    (first last : Host) (transitions : List Transition) (p : Transition) (key : FragKey) (m : ℕ) (payload : List ℕ) (f : Fragment) →
+    Run first (transitions ++ p ∷ []) last → 0 < m → length payload ≤ 4096 →
+    map.get first.slots key ≡ None → arrivals_under key (slot_notes p.notes) ≡ f ∷ [] →
+    AllByRecursion (Contains (cut m payload)) (arrivals_under key (slot_notes_in transitions) ++ f ∷ []) →
+    ((g : Fragment) → Contains (cut m payload) g → Contains (arrivals_under key (slot_notes_in transitions) ++ f ∷ []) g) →
+    (Contains (arrivals_under key (slot_notes_in transitions)) f → ⊥) →
+    KeepFew [] (arrivals_under key (slot_notes_in transitions) ++ f ∷ []) →
+    AllByRecursion (IsServed key) (transitions ++ p ∷ []) →
+    (rebuilt key (slot_notes_in transitions) ≡ []) × (rebuilt key (slot_notes p.notes) ≡ payload ∷ [])
 
 -- a command within a time from t0 to the end, which no timeout that it sets is shorter than
 pub record IsInTime (t0 end : ℤ) (c : Command) : Type 0 where
-  pub polls : (t : ℤ) → sweeps_at c ≡ Some t → (t0 ≤ℤ t) × (t ≤ℤ end)
+  pub polls : (t : ℤ) → expiry_time_of c ≡ Some t → (t0 ≤ℤ t) × (t ≤ℤ end)
   pub timeouts : (timeout : ℕ) → c ≡ SetReassemblyTimeout timeout → end ≤ℤ (t0 +ℤ pos timeout)
 
 -- The same by moments, and of polls too: within a time that no timeout is shorter than, beside fragments of at most one other datagram,
 -- the payload is rebuilt where the last missing piece comes: that it is rebuilt is the next that is noted of slots. Not before.
-abbrev pub PiecesComeInTime : Type 0
-PiecesComeInTime =
-    (first last : Host) (places : List Place) (before behind : List SlotNote) (key other : FragKey) (t0 end : ℤ) (m : ℕ) (payload : List ℕ) (f : Fragment) →
-    Run first places last → 0 < m → length payload ≤ 4096 →
-    slot_notes_in places ≡ before ++ Came key f ∷ behind →
-    AllByRecursion (λ p. IsInTime t0 end p.command) places → end ≤ℤ (t0 +ℤ pos first.reassembly_timeout) →
+abbrev pub PiecesArriveInTime : Type 0
+PiecesArriveInTime =
+    (first last : Host) (transitions : List Transition) (before after : List SlotNote) (key other : FragKey) (t0 end : ℤ) (m : ℕ) (payload : List ℕ) (f : Fragment) →
+    Run first transitions last → 0 < m → length payload ≤ 4096 →
+    slot_notes_in transitions ≡ before ++ Arrival key f ∷ after →
+    AllByRecursion (λ p. IsInTime t0 end p.command) transitions → end ≤ℤ (t0 +ℤ pos first.reassembly_timeout) →
     map.get first.slots key ≡ None → ((k : FragKey) (s : Slot) → map.get first.slots k ≡ Some s → k ≡ other) →
-    AllByRecursion (λ c. (c.0 ≡ key) ⊎ (c.0 ≡ other)) (all_came before) →
-    AllByRecursion (Contains (cut m payload)) (came key before ++ f ∷ []) →
-    ((g : Fragment) → Contains (cut m payload) g → Contains (came key before ++ f ∷ []) g) →
-    (Contains (came key before) f → ⊥) →
-    KeepFew [] (came key before ++ f ∷ []) →
-    (rebuilt key before ≡ []) × (rest : List SlotNote) × (behind ≡ Rebuild key payload ∷ rest)
+    AllByRecursion (λ c. (c.0 ≡ key) ⊎ (c.0 ≡ other)) (all_arrivals before) →
+    AllByRecursion (Contains (cut m payload)) (arrivals_under key before ++ f ∷ []) →
+    ((g : Fragment) → Contains (cut m payload) g → Contains (arrivals_under key before ++ f ∷ []) g) →
+    (Contains (arrivals_under key before) f → ⊥) →
+    KeepFew [] (arrivals_under key before ++ f ∷ []) →
+    (rebuilt key before ≡ []) × (rest : List SlotNote) × (after ≡ Rebuild key payload ∷ rest)
 
 -- a fragment that follows at most three others leaves at most four separate ranges
 abbrev pub FewAreKept : Type 0

@@ -16,7 +16,7 @@ use Rattle.host_machine.specs.declared.results.NewError.{NewError}
 use Rattle.host_machine.specs.declared.results.NewError.TheVariants.{MediumMismatch, NotUnicast, MtuTooSmall, MtuTooLarge}
 use Rattle.group_table.specs.declared.report.IgmpReportState.TheVariants as igmp
 use Rattle.group_table.specs.declared.report.MldReportState.TheVariants as mld
-use Rattle.slaac.specs.Slaac.{nothing}
+use Rattle.slaac.specs.Slaac.{initial_state}
 use Rattle.host_machine.specs.Host.{Host, SocketSet}
 
 abbrev pub same_medium : Medium → Medium → Bool
@@ -57,7 +57,7 @@ first_host c h seed slaac t sockets = record {
   igmp_report = igmp.Inactive;
   mld_report = mld.Inactive;
   slaac_enabled = slaac;
-  slaac = nothing;
+  slaac = initial_state;
   slaac_updated_at = pos 0;
   random = next seed;
   sockets = sockets;

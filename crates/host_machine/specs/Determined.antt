@@ -1,7 +1,7 @@
 -- Laws that the rules say what is done, and leave one thing open: of several neighbours of least end, which makes room for a new one.
 use Rattle.std.specs.Prelude.{◌≡◌, ◌≢◌, ◌⊎◌, ℕ, ◌≤◌, ℤ, Bool, List, [], ◌∷◌, ◌++◌, map, Option, None}
 use Rattle.std.specs.FinMap as finite
-use Rattle.net_base.specs.Device.{Event, Received, Asked, Sent, Reception, leaves}
+use Rattle.net_base.specs.Device.{Event, Received, Asked, Sent, Reception, grants}
 use Rattle.ip_address.specs.declared.ip.IpAddress.{IpAddress}
 use Rattle.iface_tables.specs.declared.neighbor.Neighbor.{Neighbor}
 use Rattle.iface_tables.specs.Neighbor.{IsLeastEnd}
@@ -18,9 +18,9 @@ use Rattle.host_machine.specs.Reply.{Reply}
 use Rattle.host_machine.specs.Dispatch.{Outcome, Dispatches}
 use Rattle.host_machine.specs.Ingress.{Takes, Ingress}
 use Rattle.host_machine.specs.Egress.{Egress}
-use Rattle.host_machine.specs.Polling.{Repeats, Polls, may_change, maintained}
+use Rattle.host_machine.specs.Polling.{Repeats, Polls, may_change, after_maintenance}
 use Rattle.host_machine.specs.Step.{Act, Step}
-use Rattle.host_machine.specs.Run.{Place, Run, told_in, acts_in}
+use Rattle.host_machine.specs.Run.{Transition, Run, events_in, acts_in}
 
 -- A dispatch
 
@@ -84,7 +84,7 @@ pub record IsOneCall {A : Type 0} (answer answer' : A) (told told' : List Event)
 abbrev pub EgressIsDetermined : Type 0
 EgressIsDetermined =
     (t : ℤ) (answer answer' : PollResult) (old new new' : Host) (told told' : List Event) (notes notes' : List Note) →
-    Egress t answer old told notes new → Egress t answer' old told' notes' new' → leaves told ≡ leaves told' →
+    Egress t answer old told notes new → Egress t answer' old told' notes' new' → grants told ≡ grants told' →
     IsOneCall answer answer' told told' notes notes' new new'
 
 -- A call that takes a frame
@@ -123,7 +123,7 @@ pub record PollsDiffer (t : ℤ) (old : Host) (told told' : List Event) : Type 0
   pub told_so : List Event
   pub notes_so : List Note
   pub mid : Host  -- to which both came
-  pub so_far : Repeats (Ingress t) ingress.None may_change (maintained (at old t)) calls told_so notes_so mid changed
+  pub so_far : Repeats (Ingress t) ingress.None may_change (after_maintenance (at old t)) calls told_so notes_so mid changed
   pub next : List Event
   pub next' : List Event
   pub notes_next : List Note
@@ -140,7 +140,7 @@ pub record PollsDiffer (t : ℤ) (old : Host) (told told' : List Event) : Type 0
 abbrev pub PollIsDetermined : Type 0
 PollIsDetermined =
     (t : ℤ) (budget : ℕ) (answer answer' : PollResult) (old new new' : Host) (told told' : List Event) (notes notes' : List Note) →
-    Polls t budget answer old told notes new → Polls t budget answer' old told' notes' new' → receptions told ≡ receptions told' → leaves told ≡ leaves told' →
+    Polls t budget answer old told notes new → Polls t budget answer' old told' notes' new' → receptions told ≡ receptions told' → grants told ≡ grants told' →
     IsOneCall answer answer' told told' notes notes' new new' ⊎ PollsDiffer t old told told'
 
 -- A step
@@ -155,21 +155,21 @@ abbrev pub StepIsDetermined : Type 0
 StepIsDetermined =
     (command : Command) (answer answer' : Answer) (old new new' : Host) (told told' : List Event) (acts acts' : List Act) (notes notes' : List Note) →
     Step command answer old told acts notes new → Step command answer' old told' acts' notes' new' →
-    receptions told ≡ receptions told' → leaves told ≡ leaves told' → acts ≡ acts' →
+    receptions told ≡ receptions told' → grants told ≡ grants told' → acts ≡ acts' →
     IsOneCall answer answer' told told' notes notes' new new' ⊎ StepsDiffer old new new' told told' notes notes' command
 
 -- A run
 
 -- places of two runs that are one up to some, at which the steps differ
-pub data PlacesDiffer : List Place → List Place → Type 0 where
-  Here : {p q : Place} {ps qs : List Place} → p.command ≡ q.command → p.before ≡ q.before →
-      StepsDiffer p.before p.after q.after p.told q.told p.notes q.notes p.command → PlacesDiffer (p ∷ ps) (q ∷ qs)
-  Behind : {p q : Place} {ps qs : List Place} → p ≡ q → PlacesDiffer ps qs → PlacesDiffer (p ∷ ps) (q ∷ qs)
+pub data TransitionsDiffer : List Transition → List Transition → Type 0 where
+  Here : {p q : Transition} {ps qs : List Transition} → p.command ≡ q.command → p.before ≡ q.before →
+      StepsDiffer p.before p.after q.after p.told q.told p.notes q.notes p.command → TransitionsDiffer (p ∷ ps) (q ∷ qs)
+  Behind : {p q : Transition} {ps qs : List Transition} → p ≡ q → TransitionsDiffer ps qs → TransitionsDiffer (p ∷ ps) (q ∷ qs)
 
 -- what a run does is determined by the host, the commands, all that the device gives and all its leaves, and all that the owner does, but for that
 abbrev pub RunIsDetermined : Type 0
 RunIsDetermined =
-    (first last last' : Host) (places places' : List Place) → Run first places last → Run first places' last' →
-    map (λ p. p.command) places ≡ map (λ p. p.command) places' → receptions (told_in places) ≡ receptions (told_in places') →
-    leaves (told_in places) ≡ leaves (told_in places') → acts_in places ≡ acts_in places' →
-    ((places ≡ places') × (last ≡ last')) ⊎ PlacesDiffer places places'
+    (first last last' : Host) (transitions transitions' : List Transition) → Run first transitions last → Run first transitions' last' →
+    map (λ p. p.command) transitions ≡ map (λ p. p.command) transitions' → receptions (events_in transitions) ≡ receptions (events_in transitions') →
+    grants (events_in transitions) ≡ grants (events_in transitions') → acts_in transitions ≡ acts_in transitions' →
+    ((transitions ≡ transitions') × (last ≡ last')) ⊎ TransitionsDiffer transitions transitions'

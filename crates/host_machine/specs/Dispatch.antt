@@ -43,17 +43,17 @@ abbrev pub destination_of : Packet → IpAddress
 destination_of p = dst_addr (header_of p)
 
 -- the hardware address of a group: 01:00:5e, and the low 23 bits of the group (RFC 1112 6.4)
-abbrev pub group_address : Ipv4Address → EthernetAddress
-group_address g = record { 0 = 0x01 ∷ 0 ∷ 0x5e ∷ g.bits / 2 ^ 16 % 128 ∷ g.bits / 2 ^ 8 % 256 ∷ g.bits % 256 ∷ [] }
+abbrev pub group_address_v4 : Ipv4Address → EthernetAddress
+group_address_v4 g = record { 0 = 0x01 ∷ 0 ∷ 0x5e ∷ g.bits / 2 ^ 16 % 128 ∷ g.bits / 2 ^ 8 % 256 ∷ g.bits % 256 ∷ [] }
 
 -- that of an IPv6 group: 33:33, and the last four octets of the group (RFC 2464 7)
 abbrev pub group_address_v6 : Ipv6Address → EthernetAddress
 group_address_v6 g = record { 0 = 0x33 ∷ 0x33 ∷ g.bits / 2 ^ 24 % 256 ∷ g.bits / 2 ^ 16 % 256 ∷ g.bits / 2 ^ 8 % 256 ∷ g.bits % 256 ∷ [] }
 
 -- the hardware address for a destination of many hosts, which are not looked up
-abbrev pub many_address : List IpCidr → IpAddress → Option EthernetAddress
-many_address own (Ipv4 a) = if is_broadcast_v4 own a then Some broadcast else if ipv4.is_multicast a then Some (group_address a) else None
-many_address own (Ipv6 a) = if ipv6.is_multicast a then Some (group_address_v6 a) else None
+abbrev pub multicast_hardware_addr : List IpCidr → IpAddress → Option EthernetAddress
+multicast_hardware_addr own (Ipv4 a) = if is_broadcast_v4 own a then Some broadcast else if ipv4.is_multicast a then Some (group_address_v4 a) else None
+multicast_hardware_addr own (Ipv6 a) = if ipv6.is_multicast a then Some (group_address_v6 a) else None
 
 -- a router, if it is one host's address
 abbrev pub if_unicast : IpAddress → Option IpAddress
@@ -115,54 +115,54 @@ pub data Emits (id : ℕ) (p : Packet) (h : HardwareAddress) (outcome : Outcome)
       Emits id p h outcome H frames notes new
 
 -- no discovery is sent for a second
-abbrev pub silenced : Neighbors → Host → Neighbors
-silenced n H = record n { silent_until = silence_from H.moment }
+abbrev pub with_silence : Neighbors → Host → Neighbors
+with_silence n H = record n { silent_until = silence_from H.moment }
 
 -- a host after it took an identification (RFC 791 3.2)
-abbrev pub identified : Host → Host
-identified H = record H { ipv4_id = (H.ipv4_id + 1) % 2 ^ 16 }
+abbrev pub with_next_id : Host → Host
+with_next_id H = record H { ipv4_id = (H.ipv4_id + 1) % 2 ^ 16 }
 
 -- a neighbour is asked for on behalf of the source for it: over IPv4 by ARP (RFC 826, packet generation; RFC 1122 2.3.2.1), over IPv6 by a
 -- solicitation, which is a dispatch of its own to a group, and takes an identification (RFC 4861 7.2.2)
 pub data Discovers (own : EthernetAddress) (hop : IpAddress) (outcome : Outcome) (H : Host) (frames : List (List ℕ)) (notes : List Note)
     (new : Host) : Type 0 where
   Asked : (target source : Ipv4Address) → hop ≡ Ipv4 target → source_v4 H.ip_addrs target ≡ Some source → outcome ≡ Err NeighborPending →
-      frames ≡ arp_frame (request_for own source target) ∷ [] → notes ≡ OfDiscovery (Ask H.moment) ∷ [] → new ≡ with_neighbors H (silenced H.neighbors H) →
+      frames ≡ arp_frame (request_for own source target) ∷ [] → notes ≡ OfDiscovery (Ask H.moment) ∷ [] → new ≡ with_neighbors H (with_silence H.neighbors H) →
       Discovers own hop outcome H frames notes new
   NoSource : (target : Ipv4Address) → hop ≡ Ipv4 target → source_v4 H.ip_addrs target ≡ None → outcome ≡ Err NoRoute → IsUnsent H frames notes new →
       Discovers own hop outcome H frames notes new
   Solicited : (target : Ipv6Address) → hop ≡ Ipv6 target → outcome ≡ Err NeighborPending →
       frames ≡ ip_frame H (hardware.Ethernet (group_address_v6 (solicited_node target))) (solicitation_for own (source_v6 H.ip_addrs target) target) ∷ [] →
       notes ≡ OfIdentification (Identify H.ipv4_id) ∷ OfDiscovery (Ask H.moment) ∷ [] →
-      new ≡ with_neighbors (identified H) (silenced H.neighbors H) → Discovers own hop outcome H frames notes new
+      new ≡ with_neighbors (with_next_id H) (with_silence H.neighbors H) → Discovers own hop outcome H frames notes new
 
 -- by what is known of the hop: its address; nothing, during the silence; or nothing, and it is asked for
-pub data SendsByHop (id : ℕ) (own : EthernetAddress) (p : Packet) (hop : IpAddress) (outcome : Outcome) (H : Host)
+pub data DispatchesByHop (id : ℕ) (own : EthernetAddress) (p : Packet) (hop : IpAddress) (outcome : Outcome) (H : Host)
     (frames : List (List ℕ)) (notes : List Note) (new : Host) : Type 0 where
   Known : (h : HardwareAddress) → answer_of H.neighbors hop H.moment ≡ Found h → Emits id p h outcome H frames notes new →
-      SendsByHop id own p hop outcome H frames notes new
+      DispatchesByHop id own p hop outcome H frames notes new
   Silent : answer_of H.neighbors hop H.moment ≡ RateLimited → outcome ≡ Err NeighborPending → IsUnsent H frames notes new →
-      SendsByHop id own p hop outcome H frames notes new
+      DispatchesByHop id own p hop outcome H frames notes new
   Unknown : answer_of H.neighbors hop H.moment ≡ NotFound → Discovers own hop outcome H frames notes new →
-      SendsByHop id own p hop outcome H frames notes new
+      DispatchesByHop id own p hop outcome H frames notes new
 
 -- over Ethernet: to many hosts straight, else by the next hop
-pub data SendsEthernet (id : ℕ) (own : EthernetAddress) (p : Packet) (outcome : Outcome) (H : Host) (frames : List (List ℕ))
+pub data DispatchesEthernet (id : ℕ) (own : EthernetAddress) (p : Packet) (outcome : Outcome) (H : Host) (frames : List (List ℕ))
     (notes : List Note) (new : Host) : Type 0 where
-  ToMany : (h : EthernetAddress) → many_address H.ip_addrs (destination_of p) ≡ Some h → Emits id p (hardware.Ethernet h) outcome H frames notes new →
-      SendsEthernet id own p outcome H frames notes new
-  NoHop : many_address H.ip_addrs (destination_of p) ≡ None → IsNextHop H (destination_of p) None → outcome ≡ Err NoRoute → IsUnsent H frames notes new →
-      SendsEthernet id own p outcome H frames notes new
-  ByHop : (hop : IpAddress) → many_address H.ip_addrs (destination_of p) ≡ None → IsNextHop H (destination_of p) (Some hop) →
-      SendsByHop id own p hop outcome H frames notes new → SendsEthernet id own p outcome H frames notes new
+  ToMulticast : (h : EthernetAddress) → multicast_hardware_addr H.ip_addrs (destination_of p) ≡ Some h → Emits id p (hardware.Ethernet h) outcome H frames notes new →
+      DispatchesEthernet id own p outcome H frames notes new
+  NoHop : multicast_hardware_addr H.ip_addrs (destination_of p) ≡ None → IsNextHop H (destination_of p) None → outcome ≡ Err NoRoute → IsUnsent H frames notes new →
+      DispatchesEthernet id own p outcome H frames notes new
+  ByHop : (hop : IpAddress) → multicast_hardware_addr H.ip_addrs (destination_of p) ≡ None → IsNextHop H (destination_of p) (Some hop) →
+      DispatchesByHop id own p hop outcome H frames notes new → DispatchesEthernet id own p outcome H frames notes new
 
 -- by the medium: one without hardware addresses asks for none
 abbrev pub SendsOver : ℕ → HardwareAddress → Packet → Outcome → Host → List (List ℕ) → List Note → Host → Type 0
-SendsOver id (hardware.Ethernet own) p outcome H frames notes new = SendsEthernet id own p outcome H frames notes new
+SendsOver id (hardware.Ethernet own) p outcome H frames notes new = DispatchesEthernet id own p outcome H frames notes new
 SendsOver id hardware.Ip p outcome H frames notes new = Emits id p hardware.Ip outcome H frames notes new
 
 -- each dispatch takes an identification, whatever becomes of the packet; one to nobody, 0.0.0.0 or ::, is dropped, and counts as gone
 pub data Dispatches (p : Packet) (outcome : Outcome) (H : Host) (frames : List (List ℕ)) (notes : List Note) (new : Host) : Type 0 where
-  ToNobody : is_unspecified (destination_of p) ≡ true → outcome ≡ Ok tt → IsUnsent H frames notes new → Dispatches p outcome H frames notes new
-  ToSomebody : (more : List Note) → is_unspecified (destination_of p) ≡ false → SendsOver H.ipv4_id H.hardware_addr p outcome (identified H) frames more new →
+  ToUnspecified : is_unspecified (destination_of p) ≡ true → outcome ≡ Ok tt → IsUnsent H frames notes new → Dispatches p outcome H frames notes new
+  ToSpecified : (more : List Note) → is_unspecified (destination_of p) ≡ false → SendsOver H.ipv4_id H.hardware_addr p outcome (with_next_id H) frames more new →
       notes ≡ OfIdentification (Identify H.ipv4_id) ∷ more → Dispatches p outcome H frames notes new

@@ -3,7 +3,7 @@ use Rattle.std.specs.Prelude.{◌≡◌, ℕ, ℤ, pos, ◌+ℤ◌, ◌≤ℤ◌
 use Rattle.socket_base.specs.declared.poll_at.PollAt.{PollAt}
 use Rattle.socket_base.specs.declared.poll_at.PollAt.TheVariants.{Now, Time, Ingress}
 use Rattle.sockets.specs.Kinds as kinds
-use Rattle.socket_set.specs.SocketMeta.{IsTold, poll_at}
+use Rattle.socket_set.specs.SocketMeta.{IsAnswerFor, poll_at}
 use Rattle.socket_set.specs.SocketSet.{wait_at}
 use Rattle.host_machine.specs.Host.{Host}
 use Rattle.host_machine.specs.Dispatch.{KnowsNextHop}
@@ -13,7 +13,7 @@ use Rattle.group_table.specs.declared.groups.GroupState.{GroupState}
 use Rattle.group_table.specs.declared.groups.GroupState.TheVariants.{Joining, Leaving}
 use Rattle.group_table.specs.Groups.{first_in}
 use Rattle.slaac.specs.Slaac.{end_at, prefix_ends, route_ends, sync_required}
-pub use Rattle.slaac.specs.Instants.{sooner}
+pub use Rattle.slaac.specs.Instants.{earlier_of}
 use Rattle.host_machine.specs.Reports.{igmp_instant, mld_timeout_of}
 use Rattle.host_machine.specs.Slaac.{solicitation_instant}
 
@@ -28,7 +28,7 @@ pub record SocketDue (H : Host) (i : ℕ) (x : ℤ) : Type 0 where
   pub socket : Socket
   pub known : Bool
   pub here : slice_get H.sockets.places i ≡ Some (Some socket)
-  pub told : IsTold (KnowsNextHop H) (wait_at H.sockets i) known
+  pub told : IsAnswerFor (KnowsNextHop H) (wait_at H.sockets i) known
   pub instant : instant_of (poll_at (wait_at H.sockets i) known H.moment (kinds.poll_at socket)) ≡ Some x
 
 -- while a list has an element, something is due at once
@@ -39,8 +39,8 @@ pub record AtOnce {A : Type 0} (xs : List A) (x : ℤ) : Type 0 where
   pub instant : x ≡ pos 0
 
 -- while a group is in a state of which routers are to be told, that is due at once
-abbrev pub told_at : GroupState → Host → Option ℤ
-told_at state H = option_map (λ a. pos 0) (first_in state H.groups)
+abbrev pub report_due_at : GroupState → Host → Option ℤ
+report_due_at state H = option_map (λ a. pos 0) (first_in state H.groups)
 
 -- addresses and routes that have to be brought into line are due at once
 abbrev pub sync_instant : Host → Option ℤ
@@ -53,8 +53,8 @@ pub data Due (H : Host) (x : ℤ) : Type 0 where
   OfSolicitation : solicitation_instant H ≡ Some x → Due H x
   OfPrefix : (i : ℕ) → slice_get (prefix_ends H.slaac.prefixes H.moment) i ≡ Some x → Due H x
   OfRouter : (i : ℕ) → slice_get (route_ends H.slaac.routers H.moment) i ≡ Some x → Due H x
-  OfJoin : told_at Joining H ≡ Some x → Due H x
-  OfLeave : told_at Leaving H ≡ Some x → Due H x
+  OfJoin : report_due_at Joining H ≡ Some x → Due H x
+  OfLeave : report_due_at Leaving H ≡ Some x → Due H x
   OfIgmpReport : igmp_instant H ≡ Some x → Due H x
   OfMldReport : mld_timeout_of H.mld_report ≡ Some x → Due H x
   OfSocket : (i : ℕ) → SocketDue H i x → Due H x
@@ -77,8 +77,8 @@ pub data IsRest (t : ℤ) : (end : Option ℤ) → (rest : Option ℕ) → Type 
 
 -- the sooner of an instant and of those at which something is to be told of groups
 abbrev pub of_groups : Host → Option ℤ → Option ℤ
-of_groups H other = sooner (told_at Joining H) (sooner (told_at Leaving H) (sooner (igmp_instant H) (sooner (mld_timeout_of H.mld_report) other)))
+of_groups H other = earlier_of (report_due_at Joining H) (earlier_of (report_due_at Leaving H) (earlier_of (igmp_instant H) (earlier_of (mld_timeout_of H.mld_report) other)))
 
 -- and of those at which something is due of what is learnt of routers
 abbrev pub of_routers : Host → Option ℤ → Option ℤ
-of_routers H other = sooner (sync_instant H) (sooner (solicitation_instant H) (sooner (end_at H.slaac H.moment) other))
+of_routers H other = earlier_of (sync_instant H) (earlier_of (solicitation_instant H) (earlier_of (end_at H.slaac H.moment) other))

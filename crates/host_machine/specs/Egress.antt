@@ -7,26 +7,26 @@ use Rattle.net_base.specs.Time.{silence_from}
 use Rattle.ip_address.specs.declared.ip.IpAddress.{IpAddress}
 use Rattle.ip_address.specs.declared.ip.IpAddress.TheVariants as address
 use Rattle.ip_wire.specs.IpPacket.{next_header}
-use Rattle.sockets.specs.Kinds.{Offered, RawOffer, IcmpOffer, UdpOffer, TcpOffer, offered, settled, told}
+use Rattle.sockets.specs.Kinds.{Offered, RawOffer, IcmpOffer, UdpOffer, TcpOffer, offered_packet, socket_after_offer, socket_after_told}
 use Rattle.control_wire.specs.declared.icmpv4.Icmpv4Repr.{Icmpv4Repr}
 use Rattle.control_wire.specs.declared.icmpv4.Icmpv4Repr.TheVariants as v4
 use Rattle.icmpv6_wire.specs.declared.icmpv6.Icmpv6Repr.{Icmpv6Repr}
 use Rattle.icmpv6_wire.specs.declared.icmpv6.Icmpv6Repr.TheVariants as v6
 use Rattle.control_wire.specs.declared.icmp.IcmpRepr.{IcmpRepr}
 use Rattle.control_wire.specs.declared.icmp.IcmpRepr.TheVariants as icmp
-use Rattle.socket_set.specs.SocketMeta.{Wait, IsTold, is_permitted, after_asking}
+use Rattle.socket_set.specs.SocketMeta.{Wait, IsAnswerFor, is_permitted, after_asking}
 use Rattle.socket_set.specs.SocketSet.{wait_at, with_place, with_wait}
 use Rattle.host_machine.specs.declared.results.PollResult.{PollResult}
 use Rattle.host_machine.specs.declared.results.PollResult.TheVariants as result
 use Rattle.host_machine.specs.declared.results.Turn.{Turn}
-use Rattle.host_machine.specs.declared.results.Turn.TheVariants.{Idle, Gone, Unsent, Exhausted}
+use Rattle.host_machine.specs.declared.results.Turn.TheVariants.{Idle, Done, Deferred, Exhausted}
 use Rattle.fragmentation.specs.Cuts.{Piece}
 use Rattle.host_machine.specs.Note.{Note, OfCuts, PieceSent}
 use Rattle.host_machine.specs.Host.{Host, Socket, at, with_left}
 use Rattle.host_machine.specs.Parts.{Part, Both}
-use Rattle.host_machine.specs.Multicast.{TellsJoins, TellsLeaves}
-use Rattle.host_machine.specs.Reports.{SendsIgmpReport, SendsMldReport}
-use Rattle.host_machine.specs.Slaac.{SolicitsRouters}
+use Rattle.host_machine.specs.Multicast.{JoinsEgress, LeavesEgress}
+use Rattle.host_machine.specs.Reports.{IgmpEgress, MldEgress}
+use Rattle.host_machine.specs.Slaac.{NdiscRsEgress}
 use Rattle.host_machine.specs.Addresses.{source_for}
 use Rattle.host_machine.specs.Packet.{IpPayload, Icmpv4, Icmpv6, Udp, Tcp, Raw, Packet, Ipv4, Ipv6, packet_with}
 use Rattle.host_machine.specs.Frame.{sends, piece_frame}
@@ -72,10 +72,10 @@ packet_of (TcpOffer s) = packet_between s.src_addr s.dst_addr s.hop_limit (Tcp s
 
 -- the packet that a socket has to send first, and the socket that was asked for it
 abbrev pub packet_from : Host → Socket → Option Packet
-packet_from H s = option_and_then packet_of (offered H.moment (source_for H.ip_addrs) s)
+packet_from H s = option_and_then packet_of (offered_packet H.moment (source_for H.ip_addrs) s)
 
-abbrev pub asked : Host → Socket → Socket
-asked H s = settled H.moment (source_for H.ip_addrs) s
+abbrev pub socket_after_asking : Host → Socket → Socket
+socket_after_asking H s = socket_after_offer H.moment (source_for H.ip_addrs) s
 
 -- the host with a socket and its wait at an index
 abbrev pub with_socket : Host → ℕ → Socket → Wait → Host
@@ -83,82 +83,82 @@ with_socket H i s wait = record H { sockets = with_wait (with_place H.sockets i 
 
 -- what became of a packet: it counts as gone, or it isn't
 abbrev pub turn_of : Packet → Outcome → Turn
-turn_of p (Ok done) = Gone
-turn_of p (Err error) = Unsent (destination_of p)
+turn_of p (Ok done) = Done
+turn_of p (Err error) = Deferred (destination_of p)
 
 -- the wait of a socket after its turn at t: one whose packet isn't gone waits for its destination, until 1 s later
 abbrev pub wait_after : Turn → ℤ → Wait → Wait
 wait_after Idle t wait = wait
-wait_after Gone t wait = wait
-wait_after (Unsent destination) t wait = Some (destination, silence_from t)
+wait_after Done t wait = wait
+wait_after (Deferred destination) t wait = Some (destination, silence_from t)
 wait_after Exhausted t wait = wait
 
 -- a socket's turn: without a packet it is only asked; for a packet the device is asked for leave, once, and then the packet is dispatched
 -- and the socket told whether it is gone
 pub data SocketTurn (s : Socket) (turn : Turn) (s' : Socket) (H : Host) (told_it : List Event) (notes : List Note) (new : Host) : Type 0 where
-  Silent : packet_from H s ≡ None → turn ≡ Idle → told_it ≡ [] → notes ≡ [] → new ≡ H → s' ≡ asked H s → SocketTurn s turn s' H told_it notes new
-  Refused : (p : Packet) → packet_from H s ≡ Some p → turn ≡ Exhausted → told_it ≡ Asked H.moment false ∷ [] → notes ≡ [] → new ≡ H → s' ≡ asked H s →
+  Silent : packet_from H s ≡ None → turn ≡ Idle → told_it ≡ [] → notes ≡ [] → new ≡ H → s' ≡ socket_after_asking H s → SocketTurn s turn s' H told_it notes new
+  Refused : (p : Packet) → packet_from H s ≡ Some p → turn ≡ Exhausted → told_it ≡ Asked H.moment false ∷ [] → notes ≡ [] → new ≡ H → s' ≡ socket_after_asking H s →
       SocketTurn s turn s' H told_it notes new
   Sent : (p : Packet) (outcome : Outcome) (frames : List (List ℕ)) → packet_from H s ≡ Some p → Dispatches p outcome H frames notes new →
-      turn ≡ turn_of p outcome → told_it ≡ Asked H.moment true ∷ sends frames → s' ≡ told (is_ok outcome) (asked H s) → SocketTurn s turn s' H told_it notes new
+      turn ≡ turn_of p outcome → told_it ≡ Asked H.moment true ∷ sends frames → s' ≡ socket_after_told (is_ok outcome) (socket_after_asking H s) → SocketTurn s turn s' H told_it notes new
 
 -- the place of an index has its turn: nobody if it is free; a socket that waits is not asked until the next hop to the destination
 -- that it waits for is a known neighbour, which ends the wait, or the end of the wait has come
 pub data Serves (i : ℕ) (turn : Turn) (H : Host) (told_it : List Event) (notes : List Note) (new : Host) : Type 0 where
   Free : slice_get H.sockets.places i ≡ Some None → turn ≡ Idle → told_it ≡ [] → notes ≡ [] → new ≡ H → Serves i turn H told_it notes new
-  Waits : (s : Socket) (known : Bool) → slice_get H.sockets.places i ≡ Some (Some s) → IsTold (KnowsNextHop H) (wait_at H.sockets i) known →
+  Waits : (s : Socket) (known : Bool) → slice_get H.sockets.places i ≡ Some (Some s) → IsAnswerFor (KnowsNextHop H) (wait_at H.sockets i) known →
       is_permitted (wait_at H.sockets i) known H.moment ≡ false → turn ≡ Idle → told_it ≡ [] → notes ≡ [] → new ≡ H → Serves i turn H told_it notes new
-  Served : (s s' : Socket) (known : Bool) (mid : Host) → slice_get H.sockets.places i ≡ Some (Some s) → IsTold (KnowsNextHop H) (wait_at H.sockets i) known →
+  Served : (s s' : Socket) (known : Bool) (mid : Host) → slice_get H.sockets.places i ≡ Some (Some s) → IsAnswerFor (KnowsNextHop H) (wait_at H.sockets i) known →
       is_permitted (wait_at H.sockets i) known H.moment ≡ true → SocketTurn s turn s' H told_it notes mid →
       new ≡ with_socket mid i s' (wait_after turn H.moment (after_asking (wait_at H.sockets i) known)) → Serves i turn H told_it notes new
 
-abbrev pub is_gone : Turn → Bool
-is_gone Gone = true
-is_gone Idle = false
-is_gone (Unsent destination) = false
-is_gone Exhausted = false
+abbrev pub is_done : Turn → Bool
+is_done Done = true
+is_done Idle = false
+is_done (Deferred destination) = false
+is_done Exhausted = false
 
 -- leave was refused
 abbrev pub is_exhausted : Turn → Bool
 is_exhausted Exhausted = true
 is_exhausted Idle = false
-is_exhausted Gone = false
-is_exhausted (Unsent destination) = false
+is_exhausted Done = false
+is_exhausted (Deferred destination) = false
 
 -- the turns of the first n places in order, and whether leave was never refused: a refused leave ends them
-pub data Walks (old : Host) : (n : ℕ) → (going changed : Bool) → List Event → List Note → Host → Type 0 where
+pub data Walks (old : Host) : (n : ℕ) → (granted changed : Bool) → List Event → List Note → Host → Type 0 where
   Begins : Walks old 0 true false [] [] old
   Goes : {n : ℕ} {changed : Bool} {told_so : List Event} {notes_so : List Note} {mid : Host}
       (turn : Turn) (told_it : List Event) (notes : List Note) (new : Host) →
       Walks old n true changed told_so notes_so mid → Serves n turn mid told_it notes new → is_exhausted turn ≡ false →
-      Walks old (n + 1) true (changed || is_gone turn) (told_so ++ told_it) (notes_so ++ notes) new
+      Walks old (n + 1) true (changed || is_done turn) (told_so ++ told_it) (notes_so ++ notes) new
   Stops : {n : ℕ} {changed : Bool} {told_so : List Event} {notes_so : List Note} {mid : Host}
       (turn : Turn) (told_it : List Event) (notes : List Note) (new : Host) →
       Walks old n true changed told_so notes_so mid → Serves n turn mid told_it notes new → is_exhausted turn ≡ true →
       Walks old (n + 1) false changed (told_so ++ told_it) (notes_so ++ notes) new
 
 -- all places, or those up to a refused leave
-pub data SocketsSend (old : Host) (changed : Bool) (told_it : List Event) (notes : List Note) (new : Host) : Type 0 where
-  Whole : Walks old (length old.sockets.places) true changed told_it notes new → SocketsSend old changed told_it notes new
-  Stopped : (n : ℕ) → Walks old n false changed told_it notes new → SocketsSend old changed told_it notes new
+pub data SocketEgress (old : Host) (changed : Bool) (told_it : List Event) (notes : List Note) (new : Host) : Type 0 where
+  Whole : Walks old (length old.sockets.places) true changed told_it notes new → SocketEgress old changed told_it notes new
+  Stopped : (n : ℕ) → Walks old n false changed told_it notes new → SocketEgress old changed told_it notes new
 
 -- the answer tells whether a socket's packet counts as gone
 abbrev pub answer_of : Bool → PollResult
 answer_of changed = if changed then result.SocketStateChanged else result.None
 
 -- the next of the pieces that are left goes, if the device gives leave, and goes where the first one went; the others stay left
-pub data SendsPiece (H : Host) (told_it : List Event) (notes : List Note) (new : Host) : Type 0 where
-  NoPiece : H.left ≡ [] → told_it ≡ [] → notes ≡ [] → new ≡ H → SendsPiece H told_it notes new
-  NoLeave : (piece : Piece) (rest : List Piece) → H.left ≡ piece ∷ rest → told_it ≡ Asked H.moment false ∷ [] → notes ≡ [] → new ≡ H →
-      SendsPiece H told_it notes new
+pub data Ipv4Egress (H : Host) (told_it : List Event) (notes : List Note) (new : Host) : Type 0 where
+  NoPiece : H.left ≡ [] → told_it ≡ [] → notes ≡ [] → new ≡ H → Ipv4Egress H told_it notes new
+  NotGranted : (piece : Piece) (rest : List Piece) → H.left ≡ piece ∷ rest → told_it ≡ Asked H.moment false ∷ [] → notes ≡ [] → new ≡ H →
+      Ipv4Egress H told_it notes new
   PieceGoes : (piece : Piece) (rest : List Piece) → H.left ≡ piece ∷ rest → told_it ≡ Asked H.moment true ∷ sends (piece_frame H piece ∷ []) →
-      notes ≡ OfCuts (PieceSent piece) ∷ [] → new ≡ with_left H rest → SendsPiece H told_it notes new
+      notes ≡ OfCuts (PieceSent piece) ∷ [] → new ≡ with_left H rest → Ipv4Egress H told_it notes new
 
 -- the parts of a round, in order; whether a socket's packet counts as gone
 abbrev pub Round : Bool → Part
 Round changed =
-    Both SendsPiece (Both SolicitsRouters (Both TellsJoins (Both TellsLeaves (Both SendsIgmpReport (Both SendsMldReport
-    (λ old told_it notes new. SocketsSend old changed told_it notes new))))))
+    Both Ipv4Egress (Both NdiscRsEgress (Both JoinsEgress (Both LeavesEgress (Both IgmpEgress (Both MldEgress
+    (λ old told_it notes new. SocketEgress old changed told_it notes new))))))
 
 pub record Egress (t : ℤ) (answer : PollResult) (old : Host) (told_it : List Event) (notes : List Note) (new : Host) : Type 0 where
   pub changed : Bool

@@ -12,12 +12,12 @@ use Rattle.ip_address.specs.declared.hardware.HardwareAddress.TheVariants as har
 use Rattle.ip_address.specs.declared.ip.IpAddress.TheVariants as ip
 use Rattle.ip_address.specs.declared.hardware.HardwareAddress.{HardwareAddress}
 use Rattle.ip_address.specs.declared.ip.IpAddress.{IpAddress}
-use Rattle.iface_tables.specs.Neighbor.{Neighbors, renewed}
+use Rattle.iface_tables.specs.Neighbor.{Neighbors, after_renewal}
 use Rattle.host_machine.specs.declared.results.PollIngressSingleResult.TheVariants as result
 use Rattle.host_machine.specs.Note.{Note, OfDiscovery, OfIdentification, Ask, Identify}
 use Rattle.group_table.specs.declared.report.IgmpReportState.TheVariants as igmp
 use Rattle.group_table.specs.declared.report.MldReportState.TheVariants as mld
-use Rattle.slaac.specs.Slaac.{nothing}
+use Rattle.slaac.specs.Slaac.{initial_state}
 use Rattle.host_machine.specs.Host.{Host, no_sockets}
 use Rattle.host_machine.specs.Ingress.{Ingress}
 
@@ -53,16 +53,16 @@ sender = ip.Ipv4 (record { bits = 0xc0a84564 })
 abbrev pub sender_hardware : HardwareAddress
 sender_hardware = hardware.Ethernet (record { 0 = 2 ∷ 0 ∷ 0 ∷ 0 ∷ 0 ∷ 2 ∷ [] })
 
-abbrev pub learnt : Neighbors
-learnt = record { known = map.insert map.empty sender (record { hardware_addr = sender_hardware; expires_at = pos 60000000 }); silent_until = pos 0 }
+abbrev pub neighbors_with_sender : Neighbors
+neighbors_with_sender = record { known = map.insert map.empty sender (record { hardware_addr = sender_hardware; expires_at = pos 60000000 }); silent_until = pos 0 }
 
 -- the same neighbour, heard from again
-abbrev pub heard : Neighbors
-heard = renewed learnt sender sender_hardware (pos 60000000)
+abbrev pub neighbors_after_renewal : Neighbors
+neighbors_after_renewal = after_renewal neighbors_with_sender sender sender_hardware (pos 60000000)
 
 -- nobody is known, and there is no silence; or none is sent before a second has passed
-abbrev pub nobody : ℤ → Neighbors
-nobody silent_until = record { known = map.empty; silent_until = silent_until }
+abbrev pub no_neighbors : ℤ → Neighbors
+no_neighbors silent_until = record { known = map.empty; silent_until = silent_until }
 
 abbrev pub host : ℕ → Neighbors → Host
 host ipv4_id neighbors = record {
@@ -81,7 +81,7 @@ host ipv4_id neighbors = record {
   igmp_report = igmp.Inactive;
   mld_report = mld.Inactive;
   slaac_enabled = false;
-  slaac = nothing;
+  slaac = initial_state;
   slaac_updated_at = pos 0;
   random = 0;
   sockets = no_sockets;
@@ -116,24 +116,24 @@ discovery =
 -- the ARP request is answered, and its sender known from then on
 abbrev pub RequestIsAnswered : Type 0
 RequestIsAnswered =
-    Ingress (pos 0) result.SocketStateChanged (host 0x1405 (nobody (pos 0)))
-    (Received (pos 0) (Frame request) ∷ Sent 0 reply ∷ []) [] (host 0x1405 learnt)
+    Ingress (pos 0) result.SocketStateChanged (host 0x1405 (no_neighbors (pos 0)))
+    (Received (pos 0) (Frame request) ∷ Sent 0 reply ∷ []) [] (host 0x1405 neighbors_with_sender)
 
 -- an echo request of a known sender is answered, and takes an identification
 abbrev pub EchoIsAnswered : Type 0
 EchoIsAnswered =
-    Ingress (pos 0) result.SocketStateChanged (host 0x1405 learnt)
-    (Received (pos 0) (Frame echo_request) ∷ Sent 0 echo_reply ∷ []) (identify ∷ []) (host 0x1406 heard)
+    Ingress (pos 0) result.SocketStateChanged (host 0x1405 neighbors_with_sender)
+    (Received (pos 0) (Frame echo_request) ∷ Sent 0 echo_reply ∷ []) (identify ∷ []) (host 0x1406 neighbors_after_renewal)
 
 -- for the reply to an unknown sender a discovery request goes, and the silence begins
 abbrev pub SenderIsDiscovered : Type 0
 SenderIsDiscovered =
-    Ingress (pos 0) result.SocketStateChanged (host 0x1405 (nobody (pos 0)))
-    (Received (pos 0) (Frame echo_request) ∷ Sent 0 discovery ∷ []) (identify ∷ OfDiscovery (Ask (pos 0)) ∷ []) (host 0x1406 (nobody (pos 1000000)))
+    Ingress (pos 0) result.SocketStateChanged (host 0x1405 (no_neighbors (pos 0)))
+    (Received (pos 0) (Frame echo_request) ∷ Sent 0 discovery ∷ []) (identify ∷ OfDiscovery (Ask (pos 0)) ∷ []) (host 0x1406 (no_neighbors (pos 1000000)))
 
 -- the same host on a medium without hardware addresses
 abbrev pub without_hardware : ℕ → Host
-without_hardware ipv4_id = record (host ipv4_id (nobody (pos 0))) {
+without_hardware ipv4_id = record (host ipv4_id (no_neighbors (pos 0))) {
   capabilities = record device { medium = medium.Ip; max_transmission_unit = 1500 };
   hardware_addr = hardware.Ip;
 }

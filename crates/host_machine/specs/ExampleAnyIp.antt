@@ -24,15 +24,15 @@ abbrev pub routes : List Route
 routes = route network 0xc0a84501 (Some (pos 10000000)) ∷ route part 0xc0a84509 None ∷ []
 
 -- whether an address is the host's own at a moment
-abbrev pub owns : Bool → ℤ → ℕ → Bool
-owns any_ip t a = has_ip_addr (record (example.host 0x1405 (example.nobody (pos 0))) { any_ip = any_ip; moment = t; routes = routes }) (Ipv4 (record { bits = a }))
+abbrev pub is_own_at : Bool → ℤ → ℕ → Bool
+is_own_at any_ip t a = has_ip_addr (record (example.host 0x1405 (example.no_neighbors (pos 0))) { any_ip = any_ip; moment = t; routes = routes }) (Ipv4 (record { bits = a }))
 
 -- 10.5.1.1 is its own until the route ends, and only with AnyIP; 10.5.2.1 is reached by another host; to 10.6.0.1, and to a group, no such route goes
 pub record AddressesAreRoutedHere : Type 0 where
-  pub given : owns false (pos 0) 0xc0a84501 ≡ true
-  pub without : owns false (pos 0) 0x0a050101 ≡ false
-  pub routed : owns true (pos 10000000) 0x0a050101 ≡ true
-  pub ended : owns true (pos 10000001) 0x0a050101 ≡ false
-  pub elsewhere : owns true (pos 0) 0x0a050201 ≡ false
-  pub unrouted : owns true (pos 0) 0x0a060001 ≡ false
-  pub group : owns true (pos 0) 0xe0000005 ≡ false
+  pub given : is_own_at false (pos 0) 0xc0a84501 ≡ true
+  pub without : is_own_at false (pos 0) 0x0a050101 ≡ false
+  pub routed : is_own_at true (pos 10000000) 0x0a050101 ≡ true
+  pub ended : is_own_at true (pos 10000001) 0x0a050101 ≡ false
+  pub elsewhere : is_own_at true (pos 0) 0x0a050201 ≡ false
+  pub unrouted : is_own_at true (pos 0) 0x0a060001 ≡ false
+  pub group : is_own_at true (pos 0) 0xe0000005 ≡ false

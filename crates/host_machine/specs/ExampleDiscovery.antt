@@ -42,5 +42,5 @@ solicitation =
 -- its dispatch and that of the solicitation take an identification each, and the silence begins
 abbrev pub NeighborIsSolicited : Type 0
 NeighborIsSolicited =
-    Dispatches packet (Err NeighborPending) (host 0x1405 (example.nobody (pos 0))) (solicitation ∷ [])
-    (example.identify ∷ OfIdentification (Identify 0x1406) ∷ OfDiscovery (Ask (pos 0)) ∷ []) (host 0x1407 (example.nobody (pos 1000000)))
+    Dispatches packet (Err NeighborPending) (host 0x1405 (example.no_neighbors (pos 0))) (solicitation ∷ [])
+    (example.identify ∷ OfIdentification (Identify 0x1406) ∷ OfDiscovery (Ask (pos 0)) ∷ []) (host 0x1407 (example.no_neighbors (pos 1000000)))

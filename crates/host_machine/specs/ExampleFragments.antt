@@ -6,9 +6,9 @@ use Rattle.net_base.specs.Device.{Received, Frame, Asked, Sent}
 use Rattle.ip_address.specs.declared.protocol.IpProtocol.TheVariants as protocol
 use Rattle.fragmentation.specs.declared.key.FragKey.{FragKey}
 use Rattle.fragmentation.specs.Fragments.{Fragment}
-use Rattle.fragmentation.specs.Slots.{Slot, left_at}
+use Rattle.fragmentation.specs.Slots.{Slot, live_at}
 use Rattle.fragmentation.specs.Cuts.{Datagram, cut, piece_of}
-use Rattle.fragmentation.specs.Reassembly.{Take, Came, Rebuild}
+use Rattle.fragmentation.specs.Reassembly.{Take, Arrival, Rebuild}
 use Rattle.host_machine.specs.declared.results.PollIngressSingleResult.TheVariants as result
 use Rattle.host_machine.specs.declared.results.PollResult.TheVariants as poll
 use Rattle.host_machine.specs.declared.results.TimeoutError.{TimeoutError}
@@ -55,25 +55,25 @@ TenAreCut = cut 8 ten ≡ one ∷ two ∷ []
 abbrev pub waiting_slot : Slot
 waiting_slot = record { got = record { total = None; fragments = one ∷ [] }; ends = pos 60000000 }
 
-abbrev pub waiting : Host
-waiting = with_slots (example.host 0x1405 (example.nobody (pos 0))) (map.insert map.empty key waiting_slot)
+abbrev pub waiting_host : Host
+waiting_host = with_slots (example.host 0x1405 (example.no_neighbors (pos 0))) (map.insert map.empty key waiting_slot)
 
 -- the first one takes a slot
 abbrev pub FragmentWaits : Type 0
 FragmentWaits =
-    Ingress (pos 0) result.SocketStateChanged (example.host 0x1405 (example.nobody (pos 0)))
-    (Received (pos 0) (Frame first_fragment) ∷ []) (OfSlots (Take key) ∷ OfSlots (Came key one) ∷ []) waiting
+    Ingress (pos 0) result.SocketStateChanged (example.host 0x1405 (example.no_neighbors (pos 0)))
+    (Received (pos 0) (Frame first_fragment) ∷ []) (OfSlots (Take key) ∷ OfSlots (Arrival key one) ∷ []) waiting_host
 
 -- the last one completes the datagram, and its slot is free again
 abbrev pub DatagramIsRebuilt : Type 0
 DatagramIsRebuilt =
-    Ingress (pos 0) result.SocketStateChanged waiting
-    (Received (pos 0) (Frame last_fragment) ∷ []) (OfSlots (Came key two) ∷ OfSlots (Rebuild key ten) ∷ [])
-    (with_slots waiting (map.remove (left_at (pos 0) waiting.slots) key))
+    Ingress (pos 0) result.SocketStateChanged waiting_host
+    (Received (pos 0) (Frame last_fragment) ∷ []) (OfSlots (Arrival key two) ∷ OfSlots (Rebuild key ten) ∷ [])
+    (with_slots waiting_host (map.remove (live_at (pos 0) waiting_host.slots) key))
 
 -- a host whose device carries packets of 28 octets, so that eight octets go in a piece
-abbrev pub narrow : ℕ → Host
-narrow ipv4_id = record (example.host ipv4_id example.heard) { capabilities = record example.device { max_transmission_unit = 42 } }
+abbrev pub narrow_host : ℕ → Host
+narrow_host ipv4_id = record (example.host ipv4_id example.neighbors_after_renewal) { capabilities = record example.device { max_transmission_unit = 42 } }
 
 -- the ten octets, by protocol 2, from that host to 192.168.69.100
 abbrev pub ten_to_another : PacketV4
@@ -116,14 +116,14 @@ last_sent =
 
 -- that host with the second piece left to send
 abbrev pub half_sent : Host
-half_sent = with_left (narrow 8) (piece_of datagram two ∷ [])
+half_sent = with_left (narrow_host 8) (piece_of datagram two ∷ [])
 
 -- the first piece goes and the second is left; it stays left while the device gives no leave, and then goes
 pub record PacketGoesInPieces : Type 0 where
-  pub first : Dispatches packet (Ok tt) (narrow 7) (first_sent ∷ [])
+  pub first : Dispatches packet (Ok tt) (narrow_host 7) (first_sent ∷ [])
       (OfIdentification (Identify 7) ∷ OfCuts (Cut datagram) ∷ OfCuts (PieceSent (piece_of datagram one)) ∷ []) half_sent
   pub waits : Egress (pos 0) poll.None half_sent (Asked (pos 0) false ∷ []) [] half_sent
-  pub last : Egress (pos 0) poll.None half_sent (Asked (pos 0) true ∷ Sent 0 last_sent ∷ []) (OfCuts (PieceSent (piece_of datagram two)) ∷ []) (narrow 8)
+  pub last : Egress (pos 0) poll.None half_sent (Asked (pos 0) true ∷ Sent 0 last_sent ∷ []) (OfCuts (PieceSent (piece_of datagram two)) ∷ []) (narrow_host 8)
 
 -- a reassembly timeout of a day is taken; one of a microsecond more is refused, and nothing changes
 pub record TimeoutsAreTested : Type 0 where

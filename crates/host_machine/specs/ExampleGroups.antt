@@ -16,8 +16,8 @@ use Rattle.group_table.specs.declared.report.IgmpReportState.TheVariants as igmp
 use Rattle.group_table.specs.declared.report.MldReportState.TheVariants as mld
 use Rattle.host_machine.specs.Host.{Host, with_groups}
 use Rattle.host_machine.specs.Egress.{Round}
-use Rattle.host_machine.specs.Multicast.{TellsJoins, TellsLeaves, groups_for}
-use Rattle.host_machine.specs.Reports.{report_for, with_igmp_report, with_mld_report}
+use Rattle.host_machine.specs.Multicast.{JoinsEgress, LeavesEgress, groups_for}
+use Rattle.host_machine.specs.Reports.{igmp_report_for, with_igmp_report, with_mld_report}
 use Rattle.host_machine.specs.Example as example
 
 -- 239.1.2.3, and ff02::1:ff00:1
@@ -33,7 +33,7 @@ in_state a state = record { addr = a; state = state } ∷ []
 
 -- the host of 192.168.69.1/24, and that of fe80::1/64
 abbrev pub host : ℕ → List Group → Host
-host ipv4_id groups = with_groups (example.host ipv4_id (example.nobody (pos 0))) groups
+host ipv4_id groups = with_groups (example.host ipv4_id (example.no_neighbors (pos 0))) groups
 
 abbrev pub host_v6 : ℕ → List Group → Host
 host_v6 ipv4_id groups = record (host ipv4_id groups) {
@@ -66,14 +66,14 @@ report_v6 =
     ∷ 0x04 ∷ 0 ∷ 0 ∷ 0 ∷ 0xff ∷ 0x02 ∷ 0 ∷ 0 ∷ 0 ∷ 0 ∷ 0 ∷ 0 ∷ 0 ∷ 0 ∷ 0 ∷ 0x01 ∷ 0xff ∷ 0 ∷ 0 ∷ 0x01 ∷ []
 
 -- a join is told by its report
-pub record JoinsAreTold : Type 0 where
-  pub ipv4 : TellsJoins (host 0x1405 (in_state group Joining)) (Asked (pos 0) true ∷ Sent 0 report ∷ []) (example.identify ∷ []) (host 0x1406 (in_state group Joined))
-  pub ipv6 : TellsJoins (host_v6 0x1405 (in_state group_v6 Joining)) (Asked (pos 0) true ∷ Sent 0 report_v6 ∷ []) (example.identify ∷ [])
+pub record JoinsAreReported : Type 0 where
+  pub ipv4 : JoinsEgress (host 0x1405 (in_state group Joining)) (Asked (pos 0) true ∷ Sent 0 report ∷ []) (example.identify ∷ []) (host 0x1406 (in_state group Joined))
+  pub ipv6 : JoinsEgress (host_v6 0x1405 (in_state group_v6 Joining)) (Asked (pos 0) true ∷ Sent 0 report_v6 ∷ []) (example.identify ∷ [])
       (host_v6 0x1406 (in_state group_v6 Joined))
 
 -- a leave, too, and the group is taken out
-abbrev pub LeaveIsTold : Type 0
-LeaveIsTold = TellsLeaves (host 0x1405 (in_state group Leaving)) (Asked (pos 0) true ∷ Sent 0 leave ∷ []) (example.identify ∷ []) (host 0x1406 [])
+abbrev pub LeaveIsReported : Type 0
+LeaveIsReported = LeavesEgress (host 0x1405 (in_state group Leaving)) (Asked (pos 0) true ∷ Sent 0 leave ∷ []) (example.identify ∷ []) (host 0x1406 [])
 
 -- three groups, and a query for all of them that gives ten seconds: they are reported two and a half seconds apart; by a query of version 1
 -- a tenth of a second. A query for one group is answered after a quarter of the time
@@ -82,12 +82,12 @@ three =
     record { addr = group; state = Joined } ∷ record { addr = Ipv4 (record { bits = 0xef010204 }); state = Joined }
     ∷ record { addr = Ipv4 (record { bits = 0xef010205 }); state = Leaving } ∷ []
 
-pub record QueriesAreHeard : Type 0 where
-  pub all : report_for (host 0x1405 three) (record { bits = 0xe0000001 }) 100 (record { bits = 0 }) ≡ igmp.ToGeneralQuery Version2 (pos 2500000) 2500000 0
-  pub version_one : report_for (host 0x1405 three) (record { bits = 0xe0000001 }) 0 (record { bits = 0 }) ≡ igmp.ToGeneralQuery Version1 (pos 100000) 100000 0
-  pub one : report_for (host 0x1405 three) (record { bits = 0xef010203 }) 100 (record { bits = 0xef010203 }) ≡ igmp.ToSpecificQuery Version2 (pos 2500000) (record { bits = 0xef010203 })
-  pub of_another : report_for (host 0x1405 three) (record { bits = 0xef010205 }) 100 (record { bits = 0xef010205 }) ≡ igmp.Inactive
-  pub without_groups : report_for (host 0x1405 []) (record { bits = 0xe0000001 }) 100 (record { bits = 0 }) ≡ igmp.Inactive
+pub record QueriesAreAnswered : Type 0 where
+  pub all : igmp_report_for (host 0x1405 three) (record { bits = 0xe0000001 }) 100 (record { bits = 0 }) ≡ igmp.ToGeneralQuery Version2 (pos 2500000) 2500000 0
+  pub version_one : igmp_report_for (host 0x1405 three) (record { bits = 0xe0000001 }) 0 (record { bits = 0 }) ≡ igmp.ToGeneralQuery Version1 (pos 100000) 100000 0
+  pub one : igmp_report_for (host 0x1405 three) (record { bits = 0xef010203 }) 100 (record { bits = 0xef010203 }) ≡ igmp.ToSpecificQuery Version2 (pos 2500000) (record { bits = 0xef010203 })
+  pub of_another : igmp_report_for (host 0x1405 three) (record { bits = 0xef010205 }) 100 (record { bits = 0xef010205 }) ≡ igmp.Inactive
+  pub without_groups : igmp_report_for (host 0x1405 []) (record { bits = 0xe0000001 }) 100 (record { bits = 0 }) ≡ igmp.Inactive
 
 -- with another address the group of the old one is left, and that of the new one joined; that of ::1 is left and joined again, so that
 -- nothing is told of it; and a medium without hardware addresses has none
@@ -101,8 +101,8 @@ pub record GroupsFollowAddresses : Type 0 where
   pub without_hardware : groups_for hardware.Ip (network 0xfe80_0000_0000_0000_0000_0000_0000_0002 ∷ []) [] ≡ []
 
 -- a host that is to ask routers, has to tell of a join and of a leave, and has reports of both families due
-abbrev pub busy : Host
-busy = record (with_mld_report (with_igmp_report (host 0x1405 (record { addr = Ipv4 (record { bits = 0xef010204 }); state = Joining } ∷ in_state group Leaving))
+abbrev pub busy_host : Host
+busy_host = record (with_mld_report (with_igmp_report (host 0x1405 (record { addr = Ipv4 (record { bits = 0xef010204 }); state = Joining } ∷ in_state group Leaving))
     (igmp.ToSpecificQuery Version2 (pos 0) (record { bits = 0xef010204 }))) (mld.ToGeneralQuery (pos 0))) {
       ip_addrs = (host 0x1405 []).ip_addrs ++ (host_v6 0x1405 []).ip_addrs;
       slaac_enabled = true;
@@ -112,4 +112,4 @@ busy = record (with_mld_report (with_igmp_report (host 0x1405 (record { addr = I
 -- MLD is given up
 abbrev pub RefusalsAreApart : Type 0
 RefusalsAreApart =
-    Round false busy (Asked (pos 0) false ∷ Asked (pos 0) false ∷ Asked (pos 0) false ∷ Asked (pos 0) false ∷ Asked (pos 0) false ∷ []) [] (with_mld_report busy mld.Inactive)
+    Round false busy_host (Asked (pos 0) false ∷ Asked (pos 0) false ∷ Asked (pos 0) false ∷ Asked (pos 0) false ∷ Asked (pos 0) false ∷ []) [] (with_mld_report busy_host mld.Inactive)

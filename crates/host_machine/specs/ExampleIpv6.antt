@@ -5,7 +5,7 @@ use Rattle.std.specs.FinMap as map
 use Rattle.net_base.specs.Device.{Received, Frame, Sent}
 use Rattle.ip_address.specs.declared.ip.IpAddress.{IpAddress}
 use Rattle.ip_address.specs.declared.ip.IpAddress.TheVariants as ip
-use Rattle.iface_tables.specs.Neighbor.{Neighbors, renewed}
+use Rattle.iface_tables.specs.Neighbor.{Neighbors, after_renewal}
 use Rattle.transport_sockets.specs.Udp.{UdpSocket}
 use Rattle.host_machine.specs.declared.results.PollIngressSingleResult.TheVariants as result
 use Rattle.host_machine.specs.Packet.{Packet, Ipv6, Udp}
@@ -13,7 +13,7 @@ use Rattle.host_machine.specs.Dispatch.{Dispatches}
 use Rattle.host_machine.specs.Ingress.{Ingress}
 use Rattle.host_machine.specs.Example as example
 use Rattle.host_machine.specs.ExampleDiscovery.{host, own, neighbor}
-use Rattle.host_machine.specs.ExampleSockets.{empty, listening, with_socket}
+use Rattle.host_machine.specs.ExampleSockets.{empty_queue, listening_socket, with_socket}
 
 -- fe80::2 at 02:00:00:00:00:02 asks the solicited-node group of fe80::1 for its hardware address
 abbrev pub solicitation : List ℕ
@@ -41,18 +41,18 @@ advertisement =
 abbrev pub sender : IpAddress
 sender = ip.Ipv6 neighbor
 
-abbrev pub learnt : Neighbors
-learnt = record { known = map.insert map.empty sender (record { hardware_addr = example.sender_hardware; expires_at = pos 60000000 }); silent_until = pos 0 }
+abbrev pub neighbors_with_sender : Neighbors
+neighbors_with_sender = record { known = map.insert map.empty sender (record { hardware_addr = example.sender_hardware; expires_at = pos 60000000 }); silent_until = pos 0 }
 
 -- the same neighbour, heard from again
-abbrev pub heard : Neighbors
-heard = renewed learnt sender example.sender_hardware (pos 60000000)
+abbrev pub neighbors_after_renewal : Neighbors
+neighbors_after_renewal = after_renewal neighbors_with_sender sender example.sender_hardware (pos 60000000)
 
 -- the solicitation is answered, and its sender known from then on, so that the answer can go
 abbrev pub SolicitationIsAnswered : Type 0
 SolicitationIsAnswered =
-    Ingress (pos 0) result.SocketStateChanged (host 0x1405 (example.nobody (pos 0)))
-    (Received (pos 0) (Frame solicitation) ∷ Sent 0 advertisement ∷ []) (example.identify ∷ []) (host 0x1406 learnt)
+    Ingress (pos 0) result.SocketStateChanged (host 0x1405 (example.no_neighbors (pos 0)))
+    (Received (pos 0) (Frame solicitation) ∷ Sent 0 advertisement ∷ []) (example.identify ∷ []) (host 0x1406 neighbors_with_sender)
 
 -- `hi` from fe80::2, port 5000, to port 6969 of fe80::1
 abbrev pub datagram : List ℕ
@@ -64,14 +64,14 @@ datagram =
     ∷ 0x13 ∷ 0x88 ∷ 0x1b ∷ 0x39 ∷ 0 ∷ 0x0a ∷ 0x6b ∷ 0xab ∷ 0x68 ∷ 0x69 ∷ []
 
 -- the socket that it reached
-abbrev pub reached : UdpSocket
-reached = record listening { rx = record empty { packets = (record { addr = sender; port = 5000 }, 0x68 ∷ 0x69 ∷ []) ∷ [] } }
+abbrev pub socket_with_datagram : UdpSocket
+socket_with_datagram = record listening_socket { rx = record empty_queue { packets = (record { addr = sender; port = 5000 }, 0x68 ∷ 0x69 ∷ []) ∷ [] } }
 
 -- the datagram reaches the socket, and nothing is sent
 abbrev pub DatagramIsDelivered : Type 0
 DatagramIsDelivered =
-    Ingress (pos 0) result.SocketStateChanged (with_socket listening (host 0x1405 learnt))
-    (Received (pos 0) (Frame datagram) ∷ []) [] (with_socket reached (host 0x1405 heard))
+    Ingress (pos 0) result.SocketStateChanged (with_socket listening_socket (host 0x1405 neighbors_with_sender))
+    (Received (pos 0) (Frame datagram) ∷ []) [] (with_socket socket_with_datagram (host 0x1405 neighbors_after_renewal))
 
 -- `hi` the other way, as a packet, and as its frame
 abbrev pub packet : Packet
@@ -87,4 +87,4 @@ frame =
 
 -- the packet goes to the neighbour that is known
 abbrev pub DatagramIsSent : Type 0
-DatagramIsSent = Dispatches packet (Ok tt) (host 0x1405 learnt) (frame ∷ []) (example.identify ∷ []) (host 0x1406 learnt)
+DatagramIsSent = Dispatches packet (Ok tt) (host 0x1405 neighbors_with_sender) (frame ∷ []) (example.identify ∷ []) (host 0x1406 neighbors_with_sender)

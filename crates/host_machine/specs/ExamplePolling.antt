@@ -12,11 +12,11 @@ use Rattle.host_machine.specs.ExampleSockets.{with_sending}
 -- is taken and answered; with
 -- more calls the device is asked once more, and has nothing
 pub record RequestIsPolled : Type 0 where
-  pub not_asked_for : Polls (pos 5) 0 poll.None (example.host 0x1405 (example.nobody (pos 0))) [] [] (at (example.host 0x1405 (example.nobody (pos 0))) (pos 5))
-  pub taken : Polls (pos 0) 1 poll.SocketStateChanged (example.host 0x1405 (example.nobody (pos 0)))
-      (Received (pos 0) (Frame example.request) ∷ Sent 0 example.reply ∷ []) [] (example.host 0x1405 example.learnt)
-  pub taken_alone : Polls (pos 0) 2 poll.SocketStateChanged (example.host 0x1405 (example.nobody (pos 0)))
-      (Received (pos 0) (Frame example.request) ∷ Sent 0 example.reply ∷ Received (pos 0) Nothing ∷ []) [] (example.host 0x1405 example.learnt)
+  pub not_asked_for : Polls (pos 5) 0 poll.None (example.host 0x1405 (example.no_neighbors (pos 0))) [] [] (at (example.host 0x1405 (example.no_neighbors (pos 0))) (pos 5))
+  pub taken : Polls (pos 0) 1 poll.SocketStateChanged (example.host 0x1405 (example.no_neighbors (pos 0)))
+      (Received (pos 0) (Frame example.request) ∷ Sent 0 example.reply ∷ []) [] (example.host 0x1405 example.neighbors_with_sender)
+  pub taken_alone : Polls (pos 0) 2 poll.SocketStateChanged (example.host 0x1405 (example.no_neighbors (pos 0)))
+      (Received (pos 0) (Frame example.request) ∷ Sent 0 example.reply ∷ Received (pos 0) Nothing ∷ []) [] (example.host 0x1405 example.neighbors_with_sender)
 
 -- a socket that waits until 1 s is due then, seen a microsecond before, and from then on at once; a host without sockets is never due
 pub record WaitIsDue : Type 0 where
@@ -24,4 +24,4 @@ pub record WaitIsDue : Type 0 where
   pub rest : IsRest (pos 999999) (Some (pos 1000000)) (Some 1)
   pub passed : IsLeast (Due (with_sending (Some (example.sender, pos 1000000)) (pos 1000000) 0x1406 (pos 1000000))) (Some (pos 0))
   pub without_rest : IsRest (pos 1000000) (Some (pos 0)) (Some 0)
-  pub never : IsLeast (Due (example.host 0x1405 example.learnt)) None
+  pub never : IsLeast (Due (example.host 0x1405 example.neighbors_with_sender)) None

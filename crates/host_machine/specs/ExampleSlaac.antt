@@ -11,14 +11,14 @@ use Rattle.ipv6_wire.specs.declared.ipv6_packet.Ipv6Repr.{Ipv6Repr}
 use Rattle.icmpv6_wire.specs.Router.{router_in}
 use Rattle.iface_tables.specs.Route.{ipv6_gateway}
 use Rattle.slaac.specs.declared.slaac.Phase.TheVariants.{Discovering, Maintaining}
-use Rattle.slaac.specs.Slaac.{Learnt, default_route, nothing}
+use Rattle.slaac.specs.Slaac.{SlaacState, default_route, initial_state}
 use Rattle.host_machine.specs.Host.{Host, at, with_neighbors}
-use Rattle.host_machine.specs.Slaac.{SolicitsRouters, synced, taught}
+use Rattle.host_machine.specs.Slaac.{NdiscRsEgress, after_sync, after_advertisement}
 use Rattle.host_machine.specs.Example as example
 use Rattle.host_machine.specs.ExampleGroups.{host_v6}
 
 -- the host of fe80::1/64 at 02:00:00:00:00:01, which takes addresses from routers
-abbrev pub host : ℕ → Learnt → Host
+abbrev pub host : ℕ → SlaacState → Host
 host ipv4_id learnt = record (host_v6 ipv4_id []) { slaac_enabled = true; slaac = learnt }
 
 -- fe80::1 asks all routers for an advertisement
@@ -32,11 +32,11 @@ solicitation =
     ∷ 0x01 ∷ 0x01 ∷ 0x02 ∷ 0 ∷ 0 ∷ 0 ∷ 0 ∷ 0x01 ∷ []
 
 -- it asked once
-abbrev pub asked : Learnt
-asked = record nothing { phase = Discovering; retry_at = pos 4000000; left = 2 }
+abbrev pub slaac_after_solicitation : SlaacState
+slaac_after_solicitation = record initial_state { phase = Discovering; retry_at = pos 4000000; left = 2 }
 
 abbrev pub RoutersAreAsked : Type 0
-RoutersAreAsked = SolicitsRouters (host 0x1405 nothing) (Asked (pos 0) true ∷ Sent 0 solicitation ∷ []) (example.identify ∷ []) (host 0x1406 asked)
+RoutersAreAsked = NdiscRsEgress (host 0x1405 initial_state) (Asked (pos 0) true ∷ Sent 0 solicitation ∷ []) (example.identify ∷ []) (host 0x1406 slaac_after_solicitation)
 
 -- the message of an advertisement: a router for 600 s, and 2001:db8::/64 to make addresses of, valid for 700 s and preferred for 300 s
 abbrev pub advertisement : List ℕ
@@ -62,8 +62,8 @@ abbrev pub network : ℕ → Ipv6Cidr
 network bits = record { address = record { bits = bits }; prefix_len = 64; in_range = lit≤ tt }
 
 -- what it teaches, where it comes after a second
-abbrev pub learnt : Learnt
-learnt = record {
+abbrev pub slaac_after_advertisement : SlaacState
+slaac_after_advertisement = record {
   prefixes = record { cidr = network 0x2001_0db8_0000_0000_0000_0000_0000_0000; info = record { preferred_until = pos 301000000; valid_until = pos 701000000 } } ∷ [];
   routers = default_route router (pos 601000000) ∷ [];
   phase = Maintaining;
@@ -75,31 +75,31 @@ learnt = record {
 abbrev pub later : Host → Host
 later H = at H (pos 1000000)
 
-pub record AdvertisementsAreLearnt : Type 0 where
-  pub learns : taught (router_in advertisement) (later (host 0x1406 asked)) (header router 255) ≡ learnt
-  pub passed_on : taught (router_in advertisement) (later (host 0x1406 asked)) (header router 254) ≡ asked
-  pub from_elsewhere : taught (router_in advertisement) (later (host 0x1406 asked)) (header (record { bits = 0x2001_0db8_0000_0000_0000_0000_0000_0002 }) 255) ≡ asked
-  pub unasked_for : taught (router_in advertisement) (later (record (host 0x1406 nothing) { slaac_enabled = false })) (header router 255) ≡ nothing
+pub record AdvertisementsAreApplied : Type 0 where
+  pub learns : after_advertisement (router_in advertisement) (later (host 0x1406 slaac_after_solicitation)) (header router 255) ≡ slaac_after_advertisement
+  pub passed_on : after_advertisement (router_in advertisement) (later (host 0x1406 slaac_after_solicitation)) (header router 254) ≡ slaac_after_solicitation
+  pub from_elsewhere : after_advertisement (router_in advertisement) (later (host 0x1406 slaac_after_solicitation)) (header (record { bits = 0x2001_0db8_0000_0000_0000_0000_0000_0002 }) 255) ≡ slaac_after_solicitation
+  pub unasked_for : after_advertisement (router_in advertisement) (later (record (host 0x1406 initial_state) { slaac_enabled = false })) (header router 255) ≡ initial_state
 
 -- a host that learnt this and knows a neighbour; its own address, and that of the prefix
 abbrev pub follower : Host
-follower = later (with_neighbors (host 0x1406 learnt) example.learnt)
+follower = later (with_neighbors (host 0x1406 slaac_after_advertisement) example.neighbors_with_sender)
 
 abbrev pub own : Ipv6Cidr
 own = network 0xfe80_0000_0000_0000_0000_0000_0000_0001
 
-abbrev pub made : Ipv6Cidr
-made = network 0x2001_0db8_0000_0000_0000_00ff_fe00_0001
+abbrev pub assigned_cidr : Ipv6Cidr
+assigned_cidr = network 0x2001_0db8_0000_0000_0000_00ff_fe00_0001
 
 -- it gets an address and a route, forgets its neighbours, and keeps what it learnt; the router's route goes when 600 s have passed, and the address
 -- when 700 s have
 pub record AddressesFollowPrefixes : Type 0 where
-  pub addresses : (synced follower).ip_addrs ≡ cidr.Ipv6 own ∷ cidr.Ipv6 made ∷ []
-  pub routes : (synced follower).routes ≡ ipv6_gateway router ∷ []
-  pub neighbors : (synced follower).neighbors ≡ example.nobody (pos 0)
-  pub learns : (synced follower).slaac ≡ record learnt { changed = false }
-  pub moment : (synced follower).slaac_updated_at ≡ pos 1000000
-  pub without_route : (synced (at (synced follower) (pos 601000000))).routes ≡ []
-  pub with_address : (synced (at (synced follower) (pos 601000000))).ip_addrs ≡ cidr.Ipv6 own ∷ cidr.Ipv6 made ∷ []
-  pub without_address : (synced (at (synced follower) (pos 701000000))).ip_addrs ≡ cidr.Ipv6 own ∷ []
-  pub nothing_new : synced (at (synced follower) (pos 600999999)) ≡ at (synced follower) (pos 600999999)
+  pub addresses : (after_sync follower).ip_addrs ≡ cidr.Ipv6 own ∷ cidr.Ipv6 assigned_cidr ∷ []
+  pub routes : (after_sync follower).routes ≡ ipv6_gateway router ∷ []
+  pub neighbors : (after_sync follower).neighbors ≡ example.no_neighbors (pos 0)
+  pub learns : (after_sync follower).slaac ≡ record slaac_after_advertisement { changed = false }
+  pub moment : (after_sync follower).slaac_updated_at ≡ pos 1000000
+  pub without_route : (after_sync (at (after_sync follower) (pos 601000000))).routes ≡ []
+  pub with_address : (after_sync (at (after_sync follower) (pos 601000000))).ip_addrs ≡ cidr.Ipv6 own ∷ cidr.Ipv6 assigned_cidr ∷ []
+  pub without_address : (after_sync (at (after_sync follower) (pos 701000000))).ip_addrs ≡ cidr.Ipv6 own ∷ []
+  pub nothing_new : after_sync (at (after_sync follower) (pos 600999999)) ≡ at (after_sync follower) (pos 600999999)

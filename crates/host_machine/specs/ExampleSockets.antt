@@ -21,7 +21,7 @@ use Rattle.host_machine.specs.declared.results.PollResult.TheVariants as poll
 use Rattle.host_machine.specs.Note.{OfDiscovery, OfIdentification, Ask, Identify}
 use Rattle.host_machine.specs.Host.{Host}
 use Rattle.host_machine.specs.Config.{first_id, hardware_refusal_of, refusal_of}
-use Rattle.host_machine.specs.Frame.{limited}
+use Rattle.host_machine.specs.Frame.{with_limited_window}
 use Rattle.host_machine.specs.Ingress.{Ingress}
 use Rattle.host_machine.specs.Egress.{Egress}
 use Rattle.host_machine.specs.Example as example
@@ -57,8 +57,8 @@ reset =
     ∷ 0 ∷ 0x50 ∷ 0x13 ∷ 0x88 ∷ 0 ∷ 0 ∷ 0 ∷ 0 ∷ 0x01 ∷ 0x02 ∷ 0x03 ∷ 0x05 ∷ 0x50 ∷ 0x14 ∷ 0 ∷ 0 ∷ 0x8c ∷ 0x3b ∷ 0 ∷ 0 ∷ []
 
 -- `abcd` by protocol 99
-abbrev pub unknown : List ℕ
-unknown =
+abbrev pub unknown_protocol_frame : List ℕ
+unknown_protocol_frame =
     0x02 ∷ 0 ∷ 0 ∷ 0 ∷ 0 ∷ 0x01 ∷ 0x02 ∷ 0 ∷ 0 ∷ 0 ∷ 0 ∷ 0x02 ∷ 0x08 ∷ 0
     ∷ 0x45 ∷ 0 ∷ 0 ∷ 0x18 ∷ 0 ∷ 0 ∷ 0x40 ∷ 0 ∷ 0x40 ∷ 0x63 ∷ 0x2e ∷ 0xcd ∷ 192 ∷ 168 ∷ 69 ∷ 100 ∷ 192 ∷ 168 ∷ 69 ∷ 1
     ∷ 0x61 ∷ 0x62 ∷ 0x63 ∷ 0x64 ∷ []
@@ -73,15 +73,15 @@ protocol_unreachable =
     ∷ 0x61 ∷ 0x62 ∷ 0x63 ∷ 0x64 ∷ []
 
 -- a queue in which one packet fits, of at most 16 octets
-abbrev pub empty : Queued IpEndpoint
-empty = record { packets = []; most = 1; limit = 16 }
+abbrev pub empty_queue : Queued IpEndpoint
+empty_queue = record { packets = []; most = 1; limit = 16 }
 
 -- a UDP socket that listens at port 6969, without a datagram and with this one
-abbrev pub listening : UdpSocket
-listening = record { endpoint = record { addr = None; port = 6969 }; hop_limit = 64; rx = empty; tx = empty }
+abbrev pub listening_socket : UdpSocket
+listening_socket = record { endpoint = record { addr = None; port = 6969 }; hop_limit = 64; rx = empty_queue; tx = empty_queue }
 
-abbrev pub reached : UdpSocket
-reached = record listening { rx = record empty { packets = (record { addr = example.sender; port = 5000 }, 0x68 ∷ 0x69 ∷ []) ∷ [] } }
+abbrev pub socket_with_datagram : UdpSocket
+socket_with_datagram = record listening_socket { rx = record empty_queue { packets = (record { addr = example.sender; port = 5000 }, 0x68 ∷ 0x69 ∷ []) ∷ [] } }
 
 -- a host with that socket at the second place; the first one is free
 abbrev pub with_socket : UdpSocket → Host → Host
@@ -90,18 +90,18 @@ with_socket s H = record H { sockets = record { places = None ∷ Some (kind.Udp
 -- the datagram reaches the socket, and nothing is sent
 abbrev pub DatagramIsDelivered : Type 0
 DatagramIsDelivered =
-    Ingress (pos 0) result.SocketStateChanged (with_socket listening (example.host 0x1405 example.learnt))
-    (Received (pos 0) (Frame datagram) ∷ []) [] (with_socket reached (example.host 0x1405 example.heard))
+    Ingress (pos 0) result.SocketStateChanged (with_socket listening_socket (example.host 0x1405 example.neighbors_with_sender))
+    (Received (pos 0) (Frame datagram) ∷ []) [] (with_socket socket_with_datagram (example.host 0x1405 example.neighbors_after_renewal))
 
 -- where no socket listens the error goes back
 abbrev pub DatagramIsRefused : Type 0
 DatagramIsRefused =
-    Ingress (pos 0) result.SocketStateChanged (example.host 0x1405 example.learnt)
-    (Received (pos 0) (Frame datagram) ∷ Sent 0 port_unreachable ∷ []) (example.identify ∷ []) (example.host 0x1406 example.heard)
+    Ingress (pos 0) result.SocketStateChanged (example.host 0x1405 example.neighbors_with_sender)
+    (Received (pos 0) (Frame datagram) ∷ Sent 0 port_unreachable ∷ []) (example.identify ∷ []) (example.host 0x1406 example.neighbors_after_renewal)
 
 -- a raw socket for UDP over IPv4, without a packet and with the one of the datagram
-abbrev pub hearing : RawSocket
-hearing = record {
+abbrev pub listening_raw_socket : RawSocket
+listening_raw_socket = record {
   version = version.Ipv4;
   protocol = protocol.Udp;
   rx = record { packets = []; most = 1; limit = 64 };
@@ -109,36 +109,36 @@ hearing = record {
 }
 
 abbrev pub having_heard : RawSocket
-having_heard = record hearing { rx = record { packets = (tt, drop 14 datagram) ∷ []; most = 1; limit = 64 } }
+having_heard = record listening_raw_socket { rx = record { packets = (tt, drop 14 datagram) ∷ []; most = 1; limit = 64 } }
 
 abbrev pub with_raw : RawSocket → Host → Host
 with_raw s H = record H { sockets = record { places = Some (kind.Raw s) ∷ []; waits = None ∷ []; grows = false } }
 
 -- a raw socket hears the whole packet, and then no error goes back
-abbrev pub RawSocketHears : Type 0
-RawSocketHears =
-    Ingress (pos 0) result.SocketStateChanged (with_raw hearing (example.host 0x1405 example.learnt))
-    (Received (pos 0) (Frame datagram) ∷ []) [] (with_raw having_heard (example.host 0x1405 example.heard))
+abbrev pub RawSocketReceives : Type 0
+RawSocketReceives =
+    Ingress (pos 0) result.SocketStateChanged (with_raw listening_raw_socket (example.host 0x1405 example.neighbors_with_sender))
+    (Received (pos 0) (Frame datagram) ∷ []) [] (with_raw having_heard (example.host 0x1405 example.neighbors_after_renewal))
 
 -- where no socket takes a connection it is reset; a UDP socket takes none
 abbrev pub ConnectionIsReset : Type 0
 ConnectionIsReset =
-    Ingress (pos 0) result.SocketStateChanged (with_socket listening (example.host 0x1405 example.learnt))
-    (Received (pos 0) (Frame opening) ∷ Sent 0 reset ∷ []) (example.identify ∷ []) (with_socket listening (example.host 0x1406 example.heard))
+    Ingress (pos 0) result.SocketStateChanged (with_socket listening_socket (example.host 0x1405 example.neighbors_with_sender))
+    (Received (pos 0) (Frame opening) ∷ Sent 0 reset ∷ []) (example.identify ∷ []) (with_socket listening_socket (example.host 0x1406 example.neighbors_after_renewal))
 
 -- for a protocol that nobody speaks the error goes back
 abbrev pub ProtocolIsRefused : Type 0
 ProtocolIsRefused =
-    Ingress (pos 0) result.SocketStateChanged (example.host 0x1405 example.learnt)
-    (Received (pos 0) (Frame unknown) ∷ Sent 0 protocol_unreachable ∷ []) (example.identify ∷ []) (example.host 0x1406 example.heard)
+    Ingress (pos 0) result.SocketStateChanged (example.host 0x1405 example.neighbors_with_sender)
+    (Received (pos 0) (Frame unknown_protocol_frame) ∷ Sent 0 protocol_unreachable ∷ []) (example.identify ∷ []) (example.host 0x1406 example.neighbors_after_renewal)
 
 -- a UDP socket with `hi` to send to port 5000 of 192.168.69.100
 abbrev pub sending : UdpSocket
-sending = record listening { tx = record empty { packets = (record { addr = example.sender; port = 5000 }, 0x68 ∷ 0x69 ∷ []) ∷ [] } }
+sending = record listening_socket { tx = record empty_queue { packets = (record { addr = example.sender; port = 5000 }, 0x68 ∷ 0x69 ∷ []) ∷ [] } }
 
 -- a host at a moment that knows nobody, with that socket alone, which waits or not
 abbrev pub with_sending : Wait → ℤ → ℕ → ℤ → Host
-with_sending wait t ipv4_id silent_until = record (example.host ipv4_id (example.nobody silent_until)) {
+with_sending wait t ipv4_id silent_until = record (example.host ipv4_id (example.no_neighbors silent_until)) {
   moment = t;
   sockets = record { places = Some (kind.Udp sending) ∷ []; waits = wait ∷ []; grows = false };
 }
@@ -156,7 +156,7 @@ pub record SocketWaits : Type 0 where
 
 -- a segment with the largest window goes with that of two segments of 1,474 octets, where the device takes bursts of two frames of 1,514
 abbrev pub WindowFitsBurst : Type 0
-WindowFitsBurst = (r : TcpRepr) → r.window_len ≡ 65535 → limited (record example.device { max_burst_size = Some 2 }) 20 r ≡ record r { window_len = 2948 }
+WindowFitsBurst = (r : TcpRepr) → r.window_len ≡ 65535 → with_limited_window (record example.device { max_burst_size = Some 2 }) 20 r ≡ record r { window_len = 2948 }
 
 -- which configurations are refused, and why; the first identification from seed 0
 pub record ConfigurationsAreTested : Type 0 where

@@ -40,8 +40,8 @@ window_within None segment window = window
 window_within (Some burst) segment window = if nat_le window (burst * segment) then window else burst * segment
 
 -- a segment's header as it goes behind a packet's header of so many octets: its window is within the device's
-abbrev pub limited : DeviceCapabilities → ℕ → TcpRepr → TcpRepr
-limited c ip_header_len r = record r { window_len = window_within c.max_burst_size (c.max_transmission_unit - (ip_header_len + 20)) r.window_len }
+abbrev pub with_limited_window : DeviceCapabilities → ℕ → TcpRepr → TcpRepr
+with_limited_window c ip_header_len r = record r { window_len = window_within c.max_burst_size (c.max_transmission_unit - (ip_header_len + 20)) r.window_len }
 
 -- options that tell routers to look at a packet (RFC 2711), padded to eight octets
 abbrev pub mld_options : Ipv6HopByHopRepr
@@ -53,7 +53,7 @@ abbrev pub payload_text : DeviceCapabilities → IpRepr → IpPayload → List �
 payload_text c r (Icmpv4 message octets) = icmpv4.text (is_tx c.checksum.icmpv4) (is_tx c.checksum.ipv4) message octets
 payload_text c r (Icmpv6 message octets) = icmpv6.text (is_tx c.checksum.icmpv6) (src_addr r) (dst_addr r) message octets
 payload_text c r (Udp header octets) = udp.text (is_tx c.checksum.udp) (src_addr r) (dst_addr r) header octets
-payload_text c r (Tcp header octets) = tcp.text (is_tx c.checksum.tcp) (src_addr r) (dst_addr r) (limited c (header_len r) header) octets
+payload_text c r (Tcp header octets) = tcp.text (is_tx c.checksum.tcp) (src_addr r) (dst_addr r) (with_limited_window c (header_len r) header) octets
 payload_text c r (Raw number octets) = octets
 payload_text c r (Igmp message) = igmp.text message
 payload_text c r (Mld count records) =

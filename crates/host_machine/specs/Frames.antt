@@ -1,7 +1,7 @@
 -- Which fragments come in a run, and in which frames.
 use Rattle.std.specs.Prelude.{◌≡◌, ℕ, ◌≤◌, true, List, [], ◌∷◌, length, drop}
 use Rattle.net_base.specs.Checksum.{is_rx}
-use Rattle.net_base.specs.Device.{handed}
+use Rattle.net_base.specs.Device.{handed_frames}
 use Rattle.ip_address.specs.declared.ethernet_address.EthernetAddress.{EthernetAddress}
 use Rattle.ip_address.specs.declared.hardware.HardwareAddress.{HardwareAddress}
 use Rattle.ip_address.specs.declared.hardware.HardwareAddress.TheVariants as hardware
@@ -10,16 +10,16 @@ use Rattle.ip_wire.specs.Ethernet.{header_in}
 use Rattle.ip_wire.specs.Ipv4Packet.{IsIpv4, ipv4_in, is_fragment}
 use Rattle.fragmentation.specs.declared.key.FragKey.{FragKey}
 use Rattle.fragmentation.specs.Fragments.{Fragment}
-use Rattle.fragmentation.specs.Reassembly.{SlotNote, Take, Came, Rebuild}
+use Rattle.fragmentation.specs.Reassembly.{SlotNote, Take, Arrival, Rebuild}
 use Rattle.host_machine.specs.Note.{slot_notes}
 use Rattle.host_machine.specs.declared.command.Command.{Command}
 use Rattle.host_machine.specs.declared.command.Command.TheVariants.{Poll}
 use Rattle.host_machine.specs.Host.{Host, at}
-use Rattle.host_machine.specs.Polling.{maintained}
+use Rattle.host_machine.specs.Polling.{after_maintenance}
 use Rattle.host_machine.specs.Addresses.{may_be_source}
 use Rattle.host_machine.specs.Ethernet.{is_for, version_in}
 use Rattle.host_machine.specs.Ipv4.{key_in, fragment_in}
-use Rattle.host_machine.specs.Run.{Place}
+use Rattle.host_machine.specs.Run.{Transition}
 
 -- a frame that a host takes has an IPv4 packet in it: over Ethernet behind the header, if the frame is for the host (RFC 894); on a medium
 -- without hardware addresses it is the packet
@@ -39,11 +39,11 @@ pub record Brings (H : Host) (frame : List ℕ) (key : FragKey) (f : Fragment) :
   pub fragment_is : f ≡ fragment_in (ipv4_in packet).1 (ipv4_in packet).2
 
 -- all fragments that came, each with its key
-abbrev pub all_came : List SlotNote → List (FragKey × Fragment)
-all_came [] = []
-all_came (Take k ∷ notes) = all_came notes
-all_came (Came k f ∷ notes) = (k, f) ∷ all_came notes
-all_came (Rebuild k octets ∷ notes) = all_came notes
+abbrev pub all_arrivals : List SlotNote → List (FragKey × Fragment)
+all_arrivals [] = []
+all_arrivals (Take k ∷ notes) = all_arrivals notes
+all_arrivals (Arrival k f ∷ notes) = (k, f) ∷ all_arrivals notes
+all_arrivals (Rebuild k octets ∷ notes) = all_arrivals notes
 
 -- what frames bring that are taken one after the other: each fragment that one brings, and no other
 pub data Bring (H : Host) : List (List ℕ) → List (FragKey × Fragment) → Type 0 where
@@ -54,10 +54,10 @@ pub data Bring (H : Host) : List (List ℕ) → List (FragKey × Fragment) → T
       ((key : FragKey) (f : Fragment) → Brings H frame key f → ⊥) → Bring H frames came → Bring H (frame ∷ frames) came
 
 -- the host to which a command hands frames over: a poll maintains it first
-abbrev pub receiving : Command → Host → Host
-receiving (Poll t budget) H = maintained (at H t)
-receiving other H = H
+abbrev pub receiving_host : Command → Host → Host
+receiving_host (Poll t budget) H = after_maintenance (at H t)
+receiving_host other H = H
 
 -- at one place: what the frames bring that were handed over comes, in order, and nothing else
-abbrev pub ComesInFrames : Place → Type 0
-ComesInFrames p = Bring (receiving p.command p.before) (handed p.told) (all_came (slot_notes p.notes))
+abbrev pub ArrivesInFrames : Transition → Type 0
+ArrivesInFrames p = Bring (receiving_host p.command p.before) (handed_frames p.told) (all_arrivals (slot_notes p.notes))

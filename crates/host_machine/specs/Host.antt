@@ -9,8 +9,8 @@ use Rattle.ip_address.specs.declared.hardware.HardwareAddress.{HardwareAddress}
 use Rattle.ip_address.specs.Ip.{is_unicast, is_unspecified}
 use Rattle.ip_address.specs.Cidr.{address_of, contains}
 use Rattle.iface_tables.specs.Neighbor.{Neighbors}
-use Rattle.fragmentation.specs.Slots.{Slots, left_at}
-use Rattle.slaac.specs.Slaac.{Learnt}
+use Rattle.fragmentation.specs.Slots.{Slots, live_at}
+use Rattle.slaac.specs.Slaac.{SlaacState}
 use Rattle.fragmentation.specs.Cuts.{Piece}
 use Rattle.iface_tables.specs.declared.route.Route.{Route}
 use Rattle.iface_tables.specs.Route.{best, router_of}
@@ -53,7 +53,7 @@ pub record Host : Type 0 where
   pub igmp_report : IgmpReportState  -- what is to be reported of its IPv4 groups, and when
   pub mld_report : MldReportState  -- the same of its IPv6 groups
   pub slaac_enabled : Bool  -- whether it takes IPv6 addresses from routers that advertise their prefixes
-  pub slaac : Learnt  -- the prefixes and routers that it learnt of, and how far its search for routers is
+  pub slaac : SlaacState  -- the prefixes and routers that it learnt of, and how far its search for routers is
   pub slaac_updated_at : ℤ  -- when its addresses and routes were last brought into line with those
   pub random : ℕ  -- the state of its source of random words
   pub sockets : SocketSet
@@ -67,8 +67,8 @@ abbrev pub with_slots : Host → Slots → Host
 with_slots H slots = record H { slots = slots }
 
 -- the host at another moment, without the slots that have ended then
-abbrev pub swept : Host → ℤ → Host
-swept H t = record H { moment = t; slots = left_at t H.slots }
+abbrev pub without_expired : Host → ℤ → Host
+without_expired H t = record H { moment = t; slots = live_at t H.slots }
 
 -- the host with other pieces left to send
 abbrev pub with_left : Host → List Piece → Host

@@ -12,9 +12,9 @@ abbrev pub accepts : IcmpRepr → List ℕ → Storage → Bool
 accepts message contents place = holds down_icmp (λ s. socket.accepts s message contents) place
 
 -- the place whose socket was handed a message, whole, from an address
-abbrev pub delivered : IpAddress → List ℕ → Storage → Storage
-delivered remote octets place = changed down_icmp up_icmp (socket.delivered remote octets) place
+abbrev pub storage_after_delivery : IpAddress → List ℕ → Storage → Storage
+storage_after_delivery remote octets place = changed down_icmp up_icmp (socket.socket_after_delivery remote octets) place
 
 -- each ICMP socket that takes the message got it
-abbrev pub heard : IcmpRepr → List ℕ → IpAddress → List ℕ → Host → Host
-heard message contents remote octets H = with_places H (to_each (accepts message contents) (delivered remote octets) H.sockets.places)
+abbrev pub host_after_delivery : IcmpRepr → List ℕ → IpAddress → List ℕ → Host → Host
+host_after_delivery message contents remote octets H = with_places H (to_each (accepts message contents) (storage_after_delivery remote octets) H.sockets.places)

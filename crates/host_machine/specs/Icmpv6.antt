@@ -18,9 +18,9 @@ use Rattle.host_machine.specs.Host.{Host}
 use Rattle.host_machine.specs.Icmp as icmp
 use Rattle.host_machine.specs.Packet.{Ipv6, Icmpv6}
 use Rattle.host_machine.specs.Reply.{Reply, Ip, IsDropped}
-use Rattle.host_machine.specs.Ndisc.{TakesNdisc}
-use Rattle.host_machine.specs.Reports.{TakesMld}
-use Rattle.host_machine.specs.Slaac.{taught, with_slaac}
+use Rattle.host_machine.specs.Ndisc.{ProcessesNdisc}
+use Rattle.host_machine.specs.Reports.{ProcessesMld}
+use Rattle.host_machine.specs.Slaac.{after_advertisement, with_slaac}
 
 -- the address from which a message goes in reply to a packet: the packet's destination, if that is one host's, else the source for its
 -- sender (RFC 4443 2.2)
@@ -38,41 +38,41 @@ message_back own r message octets = Ip (Ipv6 (record {
 
 -- how much of a packet's payload an error quotes: so much that with two headers and the message's 8 octets it has at most 1280 octets
 -- (RFC 4443 2.4)
-abbrev pub quoted : List ℕ → List ℕ
-quoted payload = take (1280 - (40 * 2 + 8)) payload
+abbrev pub quotation_of : List ℕ → List ℕ
+quotation_of payload = take (1280 - (40 * 2 + 8)) payload
 
 -- nobody listens at the port, unless a raw socket took the packet (RFC 4443 3.1)
 abbrev pub port_unreachable : Bool → List IpCidr → Ipv6Repr → List ℕ → Option Reply
-port_unreachable by_raw own r payload = if by_raw then None else Some (message_back own r (DstUnreachable PortUnreachable r) (quoted payload))
+port_unreachable handled_by_raw_socket own r payload = if handled_by_raw_socket then None else Some (message_back own r (DstUnreachable PortUnreachable r) (quotation_of payload))
 
 -- something in the packet isn't known: behind its header, at octet 40 (RFC 4443 3.4)
 abbrev pub problem : List IpCidr → Icmpv6ParamProblem → Ipv6Repr → List ℕ → Reply
-problem own reason r payload = message_back own r (ParamProblem reason 40 r) (quoted payload)
+problem own reason r payload = message_back own r (ParamProblem reason 40 r) (quotation_of payload)
 
 -- each ICMP socket that takes the message got it
-abbrev pub heard : Ipv6Repr → List ℕ → Host → Host
-heard r octets H = icmp.heard (Ipv6Message (icmpv6_in octets).0) (icmpv6_in octets).1 (address.Ipv6 r.src_addr) octets H
+abbrev pub host_after_delivery : Ipv6Repr → List ℕ → Host → Host
+host_after_delivery r octets H = icmp.host_after_delivery (Ipv6Message (icmpv6_in octets).0) (icmpv6_in octets).1 (address.Ipv6 r.src_addr) octets H
 
 -- what a message brings about: an echo request is answered with its identifier, its number and its data; one to a neighbour tells of a
 -- neighbour, or asks for the host; one of routers may teach prefixes and routers; a query asks for groups; nothing else does anything
-abbrev pub TakesMessage : Ipv6Repr → Icmpv6Repr → List ℕ → Host → Option Reply → List Note → Host → Type 0
-TakesMessage r (EchoRequest ident seq_no) octets H reply notes new =
+abbrev pub ProcessesMessage : Ipv6Repr → Icmpv6Repr → List ℕ → Host → Option Reply → List Note → Host → Type 0
+ProcessesMessage r (EchoRequest ident seq_no) octets H reply notes new =
     (reply ≡ Some (message_back H.ip_addrs r (EchoReply ident seq_no) octets)) × (notes ≡ []) × (new ≡ H)
-TakesMessage r (Ndisc message) octets H reply notes new = TakesNdisc r message H reply notes new
-TakesMessage r (Router message) octets H reply notes new = (reply ≡ None) × (notes ≡ []) × (new ≡ with_slaac H (taught message H r))
-TakesMessage r (Mld message) octets H reply notes new = TakesMld r message H reply notes new
-TakesMessage r (EchoReply ident seq_no) octets H reply notes new = IsDropped H reply notes new
-TakesMessage r (DstUnreachable reason header) octets H reply notes new = IsDropped H reply notes new
-TakesMessage r (PktTooBig mtu header) octets H reply notes new = IsDropped H reply notes new
-TakesMessage r (TimeExceeded code header) octets H reply notes new = IsDropped H reply notes new
-TakesMessage r (ParamProblem reason pointer header) octets H reply notes new = IsDropped H reply notes new
+ProcessesMessage r (Ndisc message) octets H reply notes new = ProcessesNdisc r message H reply notes new
+ProcessesMessage r (Router message) octets H reply notes new = (reply ≡ None) × (notes ≡ []) × (new ≡ with_slaac H (after_advertisement message H r))
+ProcessesMessage r (Mld message) octets H reply notes new = ProcessesMld r message H reply notes new
+ProcessesMessage r (EchoReply ident seq_no) octets H reply notes new = IsDropped H reply notes new
+ProcessesMessage r (DstUnreachable reason header) octets H reply notes new = IsDropped H reply notes new
+ProcessesMessage r (PktTooBig mtu header) octets H reply notes new = IsDropped H reply notes new
+ProcessesMessage r (TimeExceeded code header) octets H reply notes new = IsDropped H reply notes new
+ProcessesMessage r (ParamProblem reason pointer header) octets H reply notes new = IsDropped H reply notes new
 
 -- the payload of a packet with this header is a message
 abbrev pub IsMessage : Host → Ipv6Repr → List ℕ → Type 0
 IsMessage H r octets = IsIcmpv6 (is_rx H.capabilities.checksum.icmpv6) (address.Ipv6 r.src_addr) (address.Ipv6 r.dst_addr) octets
 
 -- what is done with the payload of an IPv6 packet with this header
-pub data TakesIcmpv6 (r : Ipv6Repr) (H : Host) (octets : List ℕ) (reply : Option Reply) (notes : List Note) (new : Host) : Type 0 where
-  Malformed : (IsMessage H r octets → ⊥) → IsDropped H reply notes new → TakesIcmpv6 r H octets reply notes new
-  Taken : IsMessage H r octets → TakesMessage r (icmpv6_in octets).0 (icmpv6_in octets).1 (heard r octets H) reply notes new →
-      TakesIcmpv6 r H octets reply notes new
+pub data ProcessesIcmpv6 (r : Ipv6Repr) (H : Host) (octets : List ℕ) (reply : Option Reply) (notes : List Note) (new : Host) : Type 0 where
+  Malformed : (IsMessage H r octets → ⊥) → IsDropped H reply notes new → ProcessesIcmpv6 r H octets reply notes new
+  Taken : IsMessage H r octets → ProcessesMessage r (icmpv6_in octets).0 (icmpv6_in octets).1 (host_after_delivery r octets H) reply notes new →
+      ProcessesIcmpv6 r H octets reply notes new

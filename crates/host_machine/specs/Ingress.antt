@@ -4,18 +4,18 @@ use Rattle.net_base.specs.Device.{Event, Received, Reception, Frame, Nothing, Wi
 use Rattle.host_machine.specs.declared.results.PollIngressSingleResult.{PollIngressSingleResult}
 use Rattle.host_machine.specs.declared.results.PollIngressSingleResult.TheVariants as result
 use Rattle.host_machine.specs.Note.{Note}
-use Rattle.host_machine.specs.Host.{Host, swept}
+use Rattle.host_machine.specs.Host.{Host, without_expired}
 use Rattle.host_machine.specs.Reply.{Reply, IsDropped}
 use Rattle.host_machine.specs.Frame.{sends}
 use Rattle.host_machine.specs.Response.{Response}
-use Rattle.host_machine.specs.Ethernet.{TakesFrame}
+use Rattle.host_machine.specs.Ethernet.{ProcessesFrame}
 
 -- what is done with what the device gave; an empty frame, and none, change nothing
 abbrev pub Takes : Host → Reception → Option Reply → List Note → Host → Type 0
 Takes H Nothing reply notes new = IsDropped H reply notes new
 Takes H Withheld reply notes new = IsDropped H reply notes new
 Takes H (Frame []) reply notes new = IsDropped H reply notes new
-Takes H (Frame (octet ∷ octets)) reply notes new = TakesFrame H.hardware_addr H (octet ∷ octets) reply notes new
+Takes H (Frame (octet ∷ octets)) reply notes new = ProcessesFrame H.hardware_addr H (octet ∷ octets) reply notes new
 
 -- the answer tells whether there was a frame, and whether it was empty
 abbrev pub answer_to : Reception → PollIngressSingleResult
@@ -27,6 +27,6 @@ answer_to (Frame (octet ∷ octets)) = result.SocketStateChanged
 pub record Ingress (t : ℤ) (answer : PollIngressSingleResult) (old : Host) (told : List Event) (notes : List Note) (new : Host) : Type 0 where
   pub reception : Reception
   pub frames : List (List ℕ)
-  pub response : Response (λ H reply noted taken. Takes H reception reply noted taken) (swept old t) frames notes new
+  pub response : Response (λ H reply noted taken. Takes H reception reply noted taken) (without_expired old t) frames notes new
   pub events : told ≡ Received t reception ∷ sends frames
   pub answers : answer ≡ answer_to reception

@@ -18,37 +18,37 @@ use Rattle.host_machine.specs.Host.{Host}
 use Rattle.host_machine.specs.Addresses.{is_for_host, may_be_source}
 use Rattle.host_machine.specs.Reply.{Reply, IsDropped}
 use Rattle.control_wire.specs.declared.icmpv4.Icmpv4DstUnreachable.TheVariants.{ProtoUnreachable}
-use Rattle.host_machine.specs.Raw.{heard, is_taken}
+use Rattle.host_machine.specs.Raw.{host_after_raw_delivery, is_taken}
 use Rattle.host_machine.specs.Renewal.{sender_renewed}
-use Rattle.host_machine.specs.Icmpv4.{TakesIcmpv4, unreachable}
-use Rattle.host_machine.specs.Reports.{TakesIgmp}
-use Rattle.host_machine.specs.Udp.{TakesUdp}
-use Rattle.host_machine.specs.Tcp.{TakesTcp}
+use Rattle.host_machine.specs.Icmpv4.{ProcessesIcmpv4, unreachable}
+use Rattle.host_machine.specs.Reports.{ProcessesIgmp}
+use Rattle.host_machine.specs.Udp.{ProcessesUdp}
+use Rattle.host_machine.specs.Tcp.{ProcessesTcp}
 
 -- a payload of a protocol that nobody here speaks
-pub record IsRefused (by_raw : Bool) (r : Ipv4Repr) (H : Host) (octets : List ℕ) (reply : Option Reply) (notes : List Note) (new : Host) : Type 0 where
-  pub replied : reply ≡ unreachable by_raw H.ip_addrs ProtoUnreachable r octets
+pub record IsRefused (handled_by_raw_socket : Bool) (r : Ipv4Repr) (H : Host) (octets : List ℕ) (reply : Option Reply) (notes : List Note) (new : Host) : Type 0 where
+  pub replied : reply ≡ unreachable handled_by_raw_socket H.ip_addrs ProtoUnreachable r octets
   pub unnoted : notes ≡ []
   pub unchanged : new ≡ H
 
 -- by the protocol of the payload, and whether a raw socket took the packet. For a protocol that nobody here speaks an error is sent
 -- back
-abbrev pub TakesProtocol : IpProtocol → Bool → Ipv4Repr → Host → List ℕ → Option Reply → List Note → Host → Type 0
-TakesProtocol protocol.Icmp by_raw r H octets reply notes new = TakesIcmpv4 r H octets reply notes new
-TakesProtocol protocol.Udp by_raw r H octets reply notes new = TakesUdp by_raw (repr.Ipv4 r) H octets reply notes new
-TakesProtocol protocol.Tcp by_raw r H octets reply notes new = TakesTcp by_raw (repr.Ipv4 r) H octets reply notes new
-TakesProtocol protocol.Igmp by_raw r H octets reply notes new = TakesIgmp r H octets reply notes new
-TakesProtocol protocol.HopByHop by_raw r H octets reply notes new = IsRefused by_raw r H octets reply notes new
-TakesProtocol protocol.Icmpv6 by_raw r H octets reply notes new = IsRefused by_raw r H octets reply notes new
-TakesProtocol (protocol.Unknown number) by_raw r H octets reply notes new = IsRefused by_raw r H octets reply notes new
+abbrev pub ProcessesProtocol : IpProtocol → Bool → Ipv4Repr → Host → List ℕ → Option Reply → List Note → Host → Type 0
+ProcessesProtocol protocol.Icmp handled_by_raw_socket r H octets reply notes new = ProcessesIcmpv4 r H octets reply notes new
+ProcessesProtocol protocol.Udp handled_by_raw_socket r H octets reply notes new = ProcessesUdp handled_by_raw_socket (repr.Ipv4 r) H octets reply notes new
+ProcessesProtocol protocol.Tcp handled_by_raw_socket r H octets reply notes new = ProcessesTcp handled_by_raw_socket (repr.Ipv4 r) H octets reply notes new
+ProcessesProtocol protocol.Igmp handled_by_raw_socket r H octets reply notes new = ProcessesIgmp r H octets reply notes new
+ProcessesProtocol protocol.HopByHop handled_by_raw_socket r H octets reply notes new = IsRefused handled_by_raw_socket r H octets reply notes new
+ProcessesProtocol protocol.Icmpv6 handled_by_raw_socket r H octets reply notes new = IsRefused handled_by_raw_socket r H octets reply notes new
+ProcessesProtocol (protocol.Unknown number) handled_by_raw_socket r H octets reply notes new = IsRefused handled_by_raw_socket r H octets reply notes new
 
 -- a packet that came whole or was put together, by its header and its payload; raw sockets hear it wherever it goes
-pub data TakesWhole (source : HardwareAddress) (r : Ipv4Repr) (H : Host) (payload : List ℕ) (reply : Option Reply)
+pub data ProcessesDatagram (source : HardwareAddress) (r : Ipv4Repr) (H : Host) (payload : List ℕ) (reply : Option Reply)
     (notes : List Note) (new : Host) : Type 0 where
-  NotForUs : is_for_host H (Ipv4 r.dst_addr) ≡ false → IsDropped (heard (repr.Ipv4 r) payload H) reply notes new → TakesWhole source r H payload reply notes new
+  NotForUs : is_for_host H (Ipv4 r.dst_addr) ≡ false → IsDropped (host_after_raw_delivery (repr.Ipv4 r) payload H) reply notes new → ProcessesDatagram source r H payload reply notes new
   Accepted : is_for_host H (Ipv4 r.dst_addr) ≡ true →
-      TakesProtocol r.next_header (is_taken (repr.Ipv4 r) H) r (sender_renewed source (repr.Ipv4 r) (heard (repr.Ipv4 r) payload H)) payload reply notes new →
-      TakesWhole source r H payload reply notes new
+      ProcessesProtocol r.next_header (is_taken (repr.Ipv4 r) H) r (sender_renewed source (repr.Ipv4 r) (host_after_raw_delivery (repr.Ipv4 r) payload H)) payload reply notes new →
+      ProcessesDatagram source r H payload reply notes new
 
 -- what the fragments of a packet's datagram share, and the fragment that it is, which tells its place in units of eight octets (RFC 791 3.2)
 abbrev pub key_in : Ipv4Repr → Ipv4Fragment → FragKey
@@ -63,19 +63,19 @@ rebuilt_header r octets = record r { payload_len = length octets }
 
 -- a packet, by its header, by which fragment it is, and by its payload: a fragment is put together with those that came before, and the
 -- datagram is taken once it is rebuilt
-pub data TakesPacket (source : HardwareAddress) (r : Ipv4Repr) (f : Ipv4Fragment) (H : Host) (payload : List ℕ) (reply : Option Reply)
+pub data ProcessesPacket (source : HardwareAddress) (r : Ipv4Repr) (f : Ipv4Fragment) (H : Host) (payload : List ℕ) (reply : Option Reply)
     (notes : List Note) (new : Host) : Type 0 where
-  FromNoHost : may_be_source H.ip_addrs r.src_addr ≡ false → IsDropped H reply notes new → TakesPacket source r f H payload reply notes new
+  FromNoHost : may_be_source H.ip_addrs r.src_addr ≡ false → IsDropped H reply notes new → ProcessesPacket source r f H payload reply notes new
   Part : may_be_source H.ip_addrs r.src_addr ≡ true → is_fragment f ≡ true → TakesFragment (key_in r f) (fragment_in f payload) None H notes new →
-      reply ≡ None → TakesPacket source r f H payload reply notes new
+      reply ≡ None → ProcessesPacket source r f H payload reply notes new
   Completed : (octets : List ℕ) (mid : Host) (first rest : List Note) → may_be_source H.ip_addrs r.src_addr ≡ true → is_fragment f ≡ true →
-      TakesFragment (key_in r f) (fragment_in f payload) (Some octets) H first mid → TakesWhole source (rebuilt_header r octets) mid octets reply rest new →
-      notes ≡ first ++ rest → TakesPacket source r f H payload reply notes new
-  Whole : may_be_source H.ip_addrs r.src_addr ≡ true → is_fragment f ≡ false → TakesWhole source r H payload reply notes new →
-      TakesPacket source r f H payload reply notes new
+      TakesFragment (key_in r f) (fragment_in f payload) (Some octets) H first mid → ProcessesDatagram source (rebuilt_header r octets) mid octets reply rest new →
+      notes ≡ first ++ rest → ProcessesPacket source r f H payload reply notes new
+  Whole : may_be_source H.ip_addrs r.src_addr ≡ true → is_fragment f ≡ false → ProcessesDatagram source r H payload reply notes new →
+      ProcessesPacket source r f H payload reply notes new
 
 -- what is done with the octets behind a frame's header, which came from this hardware address
-pub data TakesIpv4 (source : HardwareAddress) (H : Host) (octets : List ℕ) (reply : Option Reply) (notes : List Note) (new : Host) : Type 0 where
-  Malformed : (IsIpv4 (is_rx H.capabilities.checksum.ipv4) octets → ⊥) → IsDropped H reply notes new → TakesIpv4 source H octets reply notes new
-  Read : IsIpv4 (is_rx H.capabilities.checksum.ipv4) octets → TakesPacket source (ipv4_in octets).0 (ipv4_in octets).1 H (ipv4_in octets).2 reply notes new →
-      TakesIpv4 source H octets reply notes new
+pub data ProcessesIpv4 (source : HardwareAddress) (H : Host) (octets : List ℕ) (reply : Option Reply) (notes : List Note) (new : Host) : Type 0 where
+  Malformed : (IsIpv4 (is_rx H.capabilities.checksum.ipv4) octets → ⊥) → IsDropped H reply notes new → ProcessesIpv4 source H octets reply notes new
+  Read : IsIpv4 (is_rx H.capabilities.checksum.ipv4) octets → ProcessesPacket source (ipv4_in octets).0 (ipv4_in octets).1 H (ipv4_in octets).2 reply notes new →
+      ProcessesIpv4 source H octets reply notes new

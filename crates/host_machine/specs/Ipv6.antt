@@ -19,40 +19,40 @@ use Rattle.host_machine.specs.Note.{Note}
 use Rattle.host_machine.specs.Host.{Host}
 use Rattle.host_machine.specs.Addresses.{is_for_host}
 use Rattle.host_machine.specs.Reply.{Reply, IsDropped}
-use Rattle.host_machine.specs.Icmpv6.{TakesIcmpv6, problem}
-use Rattle.host_machine.specs.Udp.{TakesUdp}
-use Rattle.host_machine.specs.Tcp.{TakesTcp}
-use Rattle.host_machine.specs.Raw.{heard, is_taken}
+use Rattle.host_machine.specs.Icmpv6.{ProcessesIcmpv6, problem}
+use Rattle.host_machine.specs.Udp.{ProcessesUdp}
+use Rattle.host_machine.specs.Tcp.{ProcessesTcp}
+use Rattle.host_machine.specs.Raw.{host_after_raw_delivery, is_taken}
 use Rattle.host_machine.specs.Renewal.{sender_renewed}
 
 -- what is answered to a packet of a protocol that nobody here speaks: a problem, unless a raw socket took the packet (RFC 4443 3.4)
 abbrev pub protocol_unknown : Bool → List IpCidr → Ipv6Repr → List ℕ → Option Reply
-protocol_unknown by_raw own r payload = if by_raw then None else Some (problem own UnrecognizedNxtHdr r payload)
+protocol_unknown handled_by_raw_socket own r payload = if handled_by_raw_socket then None else Some (problem own UnrecognizedNxtHdr r payload)
 
 -- a payload of such a protocol
-pub record IsRefused (by_raw : Bool) (r : Ipv6Repr) (H : Host) (octets : List ℕ) (reply : Option Reply) (notes : List Note) (new : Host) : Type 0 where
-  pub replied : reply ≡ protocol_unknown by_raw H.ip_addrs r octets
+pub record IsRefused (handled_by_raw_socket : Bool) (r : Ipv6Repr) (H : Host) (octets : List ℕ) (reply : Option Reply) (notes : List Note) (new : Host) : Type 0 where
+  pub replied : reply ≡ protocol_unknown handled_by_raw_socket H.ip_addrs r octets
   pub unnoted : notes ≡ []
   pub unchanged : new ≡ H
 
 -- by the protocol of the payload, which stands in the header or behind options, and whether a raw socket took the packet; options that
 -- don't stand first, and what belongs to IPv4 alone, are such a protocol
-abbrev pub TakesProtocol : IpProtocol → Bool → Ipv6Repr → Host → List ℕ → Option Reply → List Note → Host → Type 0
-TakesProtocol protocol.Icmpv6 by_raw r H octets reply notes new = TakesIcmpv6 r H octets reply notes new
-TakesProtocol protocol.Udp by_raw r H octets reply notes new = TakesUdp by_raw (repr.Ipv6 r) H octets reply notes new
-TakesProtocol protocol.Tcp by_raw r H octets reply notes new = TakesTcp by_raw (repr.Ipv6 r) H octets reply notes new
-TakesProtocol protocol.Icmp by_raw r H octets reply notes new = IsRefused by_raw r H octets reply notes new
-TakesProtocol protocol.Igmp by_raw r H octets reply notes new = IsRefused by_raw r H octets reply notes new
-TakesProtocol protocol.HopByHop by_raw r H octets reply notes new = IsRefused by_raw r H octets reply notes new
-TakesProtocol (protocol.Unknown number) by_raw r H octets reply notes new = IsRefused by_raw r H octets reply notes new
+abbrev pub ProcessesProtocol : IpProtocol → Bool → Ipv6Repr → Host → List ℕ → Option Reply → List Note → Host → Type 0
+ProcessesProtocol protocol.Icmpv6 handled_by_raw_socket r H octets reply notes new = ProcessesIcmpv6 r H octets reply notes new
+ProcessesProtocol protocol.Udp handled_by_raw_socket r H octets reply notes new = ProcessesUdp handled_by_raw_socket (repr.Ipv6 r) H octets reply notes new
+ProcessesProtocol protocol.Tcp handled_by_raw_socket r H octets reply notes new = ProcessesTcp handled_by_raw_socket (repr.Ipv6 r) H octets reply notes new
+ProcessesProtocol protocol.Icmp handled_by_raw_socket r H octets reply notes new = IsRefused handled_by_raw_socket r H octets reply notes new
+ProcessesProtocol protocol.Igmp handled_by_raw_socket r H octets reply notes new = IsRefused handled_by_raw_socket r H octets reply notes new
+ProcessesProtocol protocol.HopByHop handled_by_raw_socket r H octets reply notes new = IsRefused handled_by_raw_socket r H octets reply notes new
+ProcessesProtocol (protocol.Unknown number) handled_by_raw_socket r H octets reply notes new = IsRefused handled_by_raw_socket r H octets reply notes new
 
 -- a packet by its header, by the protocol of its payload, and by its payload: raw sockets hear those for the host
-pub data TakesPayload (source : HardwareAddress) (r : Ipv6Repr) (p : IpProtocol) (H : Host) (payload : List ℕ) (reply : Option Reply)
+pub data ProcessesDatagramV6 (source : HardwareAddress) (r : Ipv6Repr) (p : IpProtocol) (H : Host) (payload : List ℕ) (reply : Option Reply)
     (notes : List Note) (new : Host) : Type 0 where
-  NotForUs : is_for_host H (address.Ipv6 r.dst_addr) ≡ false → IsDropped H reply notes new → TakesPayload source r p H payload reply notes new
+  NotForUs : is_for_host H (address.Ipv6 r.dst_addr) ≡ false → IsDropped H reply notes new → ProcessesDatagramV6 source r p H payload reply notes new
   Accepted : is_for_host H (address.Ipv6 r.dst_addr) ≡ true →
-      TakesProtocol p (is_taken (repr.Ipv6 r) H) r (sender_renewed source (repr.Ipv6 r) (heard (repr.Ipv6 r) payload H)) payload
-      reply notes new → TakesPayload source r p H payload reply notes new
+      ProcessesProtocol p (is_taken (repr.Ipv6 r) H) r (sender_renewed source (repr.Ipv6 r) (host_after_raw_delivery (repr.Ipv6 r) payload H)) payload
+      reply notes new → ProcessesDatagramV6 source r p H payload reply notes new
 
 -- what is answered for an option that isn't known: a problem, quoting from the options on; by its class to a group, too, or not
 abbrev pub complaint : Ipv6OptionFailureType → List IpCidr → Ipv6Repr → List ℕ → Option Reply
@@ -62,25 +62,25 @@ complaint DiscardSendAll own r payload = Some (problem own UnrecognizedOption r 
 complaint DiscardSendUnicast own r payload = if is_multicast r.dst_addr then None else Some (problem own UnrecognizedOption r payload)
 
 -- a payload behind hop-by-hop options: the first one that isn't known and isn't to be skipped ends it, before the destination is looked at
-pub data TakesOptions (source : HardwareAddress) (r : Ipv6Repr) (H : Host) (payload : List ℕ) (reply : Option Reply) (notes : List Note)
+pub data ProcessesHopByHop (source : HardwareAddress) (r : Ipv6Repr) (H : Host) (payload : List ℕ) (reply : Option Reply) (notes : List Note)
     (new : Host) : Type 0 where
-  MalformedOptions : (IsHopByHop payload → ⊥) → IsDropped H reply notes new → TakesOptions source r H payload reply notes new
+  MalformedOptions : (IsHopByHop payload → ⊥) → IsDropped H reply notes new → ProcessesHopByHop source r H payload reply notes new
   Skipped : IsHopByHop payload → first_failure (hop_by_hop_in payload).0.options.items ≡ Skip →
-      TakesPayload source r (hop_by_hop_in payload).0.next_header H (hop_by_hop_in payload).1 reply notes new →
-      TakesOptions source r H payload reply notes new
+      ProcessesDatagramV6 source r (hop_by_hop_in payload).0.next_header H (hop_by_hop_in payload).1 reply notes new →
+      ProcessesHopByHop source r H payload reply notes new
   Discarded : (failure : Ipv6OptionFailureType) → IsHopByHop payload → first_failure (hop_by_hop_in payload).0.options.items ≡ failure →
-      failure ≢ Skip → reply ≡ complaint failure H.ip_addrs r payload → notes ≡ [] → new ≡ H → TakesOptions source r H payload reply notes new
+      failure ≢ Skip → reply ≡ complaint failure H.ip_addrs r payload → notes ≡ [] → new ≡ H → ProcessesHopByHop source r H payload reply notes new
 
 -- a packet by its header and its payload: it comes from one host
-pub data TakesPacket (source : HardwareAddress) (r : Ipv6Repr) (H : Host) (payload : List ℕ) (reply : Option Reply) (notes : List Note)
+pub data ProcessesPacket (source : HardwareAddress) (r : Ipv6Repr) (H : Host) (payload : List ℕ) (reply : Option Reply) (notes : List Note)
     (new : Host) : Type 0 where
-  FromNoHost : is_unicast r.src_addr ≡ false → IsDropped H reply notes new → TakesPacket source r H payload reply notes new
-  WithOptions : is_unicast r.src_addr ≡ true → number_of r.next_header ≡ 0 → TakesOptions source r H payload reply notes new →
-      TakesPacket source r H payload reply notes new
-  Bare : is_unicast r.src_addr ≡ true → number_of r.next_header ≢ 0 → TakesPayload source r r.next_header H payload reply notes new →
-      TakesPacket source r H payload reply notes new
+  FromNoHost : is_unicast r.src_addr ≡ false → IsDropped H reply notes new → ProcessesPacket source r H payload reply notes new
+  WithOptions : is_unicast r.src_addr ≡ true → number_of r.next_header ≡ 0 → ProcessesHopByHop source r H payload reply notes new →
+      ProcessesPacket source r H payload reply notes new
+  Bare : is_unicast r.src_addr ≡ true → number_of r.next_header ≢ 0 → ProcessesDatagramV6 source r r.next_header H payload reply notes new →
+      ProcessesPacket source r H payload reply notes new
 
 -- what is done with the octets behind a frame's header, which came from this hardware address
-pub data TakesIpv6 (source : HardwareAddress) (H : Host) (octets : List ℕ) (reply : Option Reply) (notes : List Note) (new : Host) : Type 0 where
-  Malformed : (IsIpv6 octets → ⊥) → IsDropped H reply notes new → TakesIpv6 source H octets reply notes new
-  Read : IsIpv6 octets → TakesPacket source (ipv6_in octets).0 H (ipv6_in octets).1 reply notes new → TakesIpv6 source H octets reply notes new
+pub data ProcessesIpv6 (source : HardwareAddress) (H : Host) (octets : List ℕ) (reply : Option Reply) (notes : List Note) (new : Host) : Type 0 where
+  Malformed : (IsIpv6 octets → ⊥) → IsDropped H reply notes new → ProcessesIpv6 source H octets reply notes new
+  Read : IsIpv6 octets → ProcessesPacket source (ipv6_in octets).0 H (ipv6_in octets).1 reply notes new → ProcessesIpv6 source H octets reply notes new

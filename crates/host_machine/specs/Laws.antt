@@ -3,7 +3,7 @@ use Rattle.std.specs.Prelude.{◌≡◌, ℕ, ℤ, ◌≤◌, ◌≤ℤ◌, true
 use Rattle.std.specs.List.{AllByRecursion}
 use Rattle.net_base.specs.declared.phy.ChecksumCapabilities.{ChecksumCapabilities}
 use Rattle.net_base.specs.Checksum.{is_rx}
-use Rattle.net_base.specs.Device.{Event, handed, sent}
+use Rattle.net_base.specs.Device.{Event, handed_frames, sent_frames}
 use Rattle.ip_address.specs.declared.hardware.HardwareAddress.{HardwareAddress}
 use Rattle.ip_address.specs.declared.hardware.HardwareAddress.TheVariants as hardware
 use Rattle.ip_wire.specs.declared.ethernet.EthernetProtocol.TheVariants as protocol
@@ -15,17 +15,17 @@ use Rattle.host_machine.specs.declared.results.PollIngressSingleResult.{PollIngr
 use Rattle.host_machine.specs.declared.results.DispatchError.TheVariants.{NeighborPending}
 use Rattle.fragmentation.specs.Cuts.{Piece, pieces_of}
 use Rattle.host_machine.specs.Note.{Note, Cut, PieceSent, asks, cut_notes}
-use Rattle.host_machine.specs.Host.{Host, swept}
+use Rattle.host_machine.specs.Host.{Host, without_expired}
 use Rattle.ip_address.specs.Hardware.{IsOf}
 use Rattle.host_machine.specs.Packet.{Packet, PacketV4}
 use Rattle.host_machine.specs.Packet as packet
 use Rattle.host_machine.specs.Frame.{ip_frame, piece_frame}
 use Rattle.host_machine.specs.Dispatch.{Outcome, Dispatches, datagram_of}
 use Rattle.host_machine.specs.Ingress.{Ingress}
-use Rattle.host_machine.specs.Frames.{ComesInFrames}
+use Rattle.host_machine.specs.Frames.{ArrivesInFrames}
 use Rattle.host_machine.specs.Real.{IsReal}
 use Rattle.host_machine.specs.Requests.{IsSound, IsOrdinary, is_request, requests_in}
-use Rattle.host_machine.specs.Run.{Place, Run, notes_in}
+use Rattle.host_machine.specs.Run.{Transition, Run, notes_in}
 use Rattle.host_machine.specs.Ran.{Laws}
 
 -- a frame whose header of Ethernet, ARP, IPv4 or IPv6 is malformed
@@ -44,14 +44,14 @@ IsMalformed hardware.Ip checksum frame = (¬ IsIpv4 (is_rx checksum.ipv4) frame)
 abbrev pub MalformedIsDropped : Type 0
 MalformedIsDropped =
     (t : ℤ) (answer : PollIngressSingleResult) (old new : Host) (told : List Event) (notes : List Note) (frame : List ℕ) →
-    Ingress t answer old told notes new → handed told ≡ frame ∷ [] → IsMalformed old.hardware_addr old.capabilities.checksum frame →
-    (sent told ≡ []) × (notes ≡ []) × (new ≡ swept old t)
+    Ingress t answer old told notes new → handed_frames told ≡ frame ∷ [] → IsMalformed old.hardware_addr old.capabilities.checksum frame →
+    (sent_frames told ≡ []) × (notes ≡ []) × (new ≡ without_expired old t)
 
 -- one ingress call takes at most one frame, and sends at most one
 abbrev pub IngressIsSingle : Type 0
 IngressIsSingle =
     (t : ℤ) (answer : PollIngressSingleResult) (old new : Host) (told : List Event) (notes : List Note) →
-    Ingress t answer old told notes new → (length (handed told) ≤ 1) × (length (sent told) ≤ 1)
+    Ingress t answer old told notes new → (length (handed_frames told) ≤ 1) × (length (sent_frames told) ≤ 1)
 
 -- what a dispatch sends: nothing; the packet, or the first of its pieces, and then it counts as gone; or, while no silence stands, one request for
 -- the hardware address of its next hop, which is noted, and then it waits for that
@@ -75,17 +75,17 @@ DispatchesSendOneThing =
 -- and each that is noted goes, at its moment
 abbrev pub DiscoveriesAreNoted : Type 0
 DiscoveriesAreNoted =
-    (first last : Host) (places : List Place) → Run first places last → IsSound first → AllByRecursion IsOrdinary places →
-    requests_in first.capabilities.medium places ≡ asks (notes_in places)
+    (first last : Host) (transitions : List Transition) → Run first transitions last → IsSound first → AllByRecursion IsOrdinary transitions →
+    requests_in first.capabilities.medium transitions ≡ asks (notes_in transitions)
 
 -- the places of one run after those of another are one run
 abbrev pub RunsJoin : Type 0
-RunsJoin = (first mid last : Host) (ps qs : List Place) → Run first ps mid → Run mid qs last → Run first (ps ++ qs) last
+RunsJoin = (first mid last : Host) (ps qs : List Transition) → Run first ps mid → Run mid qs last → Run first (ps ++ qs) last
 
 -- every run keeps the laws
 abbrev pub RunsKeepLaws : Type 0
-RunsKeepLaws = (first last : Host) (places : List Place) → Run first places last → Laws first places
+RunsKeepLaws = (first last : Host) (transitions : List Transition) → Run first transitions last → Laws first transitions
 
 -- at each place of every run fragments come in frames
-abbrev pub FragmentsComeInFrames : Type 0
-FragmentsComeInFrames = (first last : Host) (places : List Place) → Run first places last → AllByRecursion ComesInFrames places
+abbrev pub FragmentsArriveInFrames : Type 0
+FragmentsArriveInFrames = (first last : Host) (transitions : List Transition) → Run first transitions last → AllByRecursion ArrivesInFrames transitions

@@ -23,7 +23,7 @@ use Rattle.group_wire.specs.Mld.{record_text}
 use Rattle.group_table.specs.declared.groups.Group.{Group}
 use Rattle.group_table.specs.declared.groups.GroupState.{GroupState}
 use Rattle.group_table.specs.declared.groups.GroupState.TheVariants.{Joining, Leaving}
-use Rattle.group_table.specs.Groups.{first_in, is_refused, join_reported, joined, leave_reported, left}
+use Rattle.group_table.specs.Groups.{first_in, is_refused, join_reported, groups_after_join, leave_reported, groups_after_leave}
 use Rattle.host_machine.specs.declared.results.MulticastError.{MulticastError}
 use Rattle.host_machine.specs.declared.results.MulticastError.TheVariants.{GroupTableFull, Unaddressable}
 use Rattle.iface_tables.specs.Neighbor.{Neighbors}
@@ -40,13 +40,13 @@ use Rattle.host_machine.specs.Parts.{Part}
 pub data JoinsGroup (a : IpAddress) (answer : Result (Unit {0}) MulticastError) (old new : Host) : Type 0 where
   NoGroup : is_multicast a ≡ false → answer ≡ Err Unaddressable → new ≡ old → JoinsGroup a answer old new
   NoPlace : is_multicast a ≡ true → is_refused old.groups a ≡ true → answer ≡ Err GroupTableFull → new ≡ old → JoinsGroup a answer old new
-  JoinTaken : is_multicast a ≡ true → is_refused old.groups a ≡ false → answer ≡ Ok tt → new ≡ with_groups old (joined old.groups a) →
+  JoinTaken : is_multicast a ≡ true → is_refused old.groups a ≡ false → answer ≡ Ok tt → new ≡ with_groups old (groups_after_join old.groups a) →
       JoinsGroup a answer old new
 
 -- a group is left, if the host is in it, unless the address isn't a group's
 pub data LeavesGroup (a : IpAddress) (answer : Result (Unit {0}) MulticastError) (old new : Host) : Type 0 where
   NoGroupEither : is_multicast a ≡ false → answer ≡ Err Unaddressable → new ≡ old → LeavesGroup a answer old new
-  LeaveTaken : is_multicast a ≡ true → answer ≡ Ok tt → new ≡ with_groups old (left old.groups a) → LeavesGroup a answer old new
+  LeaveTaken : is_multicast a ≡ true → answer ≡ Ok tt → new ≡ with_groups old (groups_after_leave old.groups a) → LeavesGroup a answer old new
 
 -- a solicited-node group, of whatever address (RFC 4291 2.7.1): one of ff02::1:ff00:0/104
 abbrev pub is_solicited_node_v6 : Ipv6Address → Bool
@@ -58,30 +58,30 @@ is_idle own (Ipv4 a) = false
 is_idle own (Ipv6 a) = is_solicited_node_v6 a && not (has_solicited_node own a)
 
 -- several groups are left, one after the other
-abbrev pub all_left : List Group → List IpAddress → List Group
-all_left groups [] = groups
-all_left groups (a ∷ addresses) = all_left (left groups a) addresses
+abbrev pub groups_after_leaves : List Group → List IpAddress → List Group
+groups_after_leaves groups [] = groups
+groups_after_leaves groups (a ∷ addresses) = groups_after_leaves (groups_after_leave groups a) addresses
 
 -- the solicited-node group of each IPv6 address is joined, in their order; one for which there is no place isn't
-abbrev pub all_joined : List Group → List IpCidr → List Group
-all_joined groups [] = groups
-all_joined groups (cidr.Ipv4 n ∷ own) = all_joined groups own
-all_joined groups (cidr.Ipv6 n ∷ own) = all_joined (joined groups (Ipv6 (solicited_node n.address))) own
+abbrev pub groups_after_joins : List Group → List IpCidr → List Group
+groups_after_joins groups [] = groups
+groups_after_joins groups (cidr.Ipv4 n ∷ own) = groups_after_joins groups own
+groups_after_joins groups (cidr.Ipv6 n ∷ own) = groups_after_joins (groups_after_join groups (Ipv6 (solicited_node n.address))) own
 
 -- the groups of a host that gets these addresses: on a link with hardware addresses the solicited-node groups that are idle then are left,
 -- in the order in which the groups stood, and then those of the addresses joined (RFC 4861 7.2.1)
 abbrev pub groups_for : HardwareAddress → List IpCidr → List Group → List Group
 groups_for (hardware.Ethernet e) own groups =
-    all_joined (all_left groups (filter (is_idle own) (map (λ (g : Group). g.addr) groups))) own
+    groups_after_joins (groups_after_leaves groups (filter (is_idle own) (map (λ (g : Group). g.addr) groups))) own
 groups_for hardware.Ip own groups = groups
 
 -- no neighbour is known; the silence stays
-abbrev pub flushed : Neighbors → Neighbors
-flushed n = record n { known = map.empty }
+abbrev pub without_neighbors : Neighbors → Neighbors
+without_neighbors n = record n { known = map.empty }
 
 -- the host at other addresses: no neighbour is known, and its solicited-node groups are those of the addresses
-abbrev pub moved : Host → List IpCidr → Host
-moved H list = record H { ip_addrs = list; neighbors = flushed H.neighbors; groups = groups_for H.hardware_addr list H.groups }
+abbrev pub after_address_change : Host → List IpCidr → Host
+after_address_change H list = record H { ip_addrs = list; neighbors = without_neighbors H.neighbors; groups = groups_for H.hardware_addr list H.groups }
 
 -- a message of IGMP goes from the first own IPv4 address, if there is one, and no router passes it on (RFC 2236 2)
 abbrev pub igmp_packet : List IpCidr → Ipv4Address → IgmpRepr → Option Packet
@@ -139,29 +139,29 @@ leave_packet own (Ipv6 a) = Some (mld_report own ChangeToInclude (a ∷ []))
 
 -- the groups in a state are told of one after the other, the first that stands in it each time, each with leave, until leave is refused;
 -- one of which nothing can be told, for want of an address, counts as told of
-pub data Tells (state : GroupState) (packet_for : List IpCidr → IpAddress → Option Packet) (told_of : List Group → IpAddress → List Group)
-    (old : Host) : (going : Bool) → List Event → List Note → Host → Type 0 where
-  Begins : Tells state packet_for told_of old true [] [] old
-  Silently : {told : List Event} {notes : List Note} {mid : Host} (a : IpAddress) → Tells state packet_for told_of old true told notes mid →
+pub data ReportsEach (state : GroupState) (packet_for : List IpCidr → IpAddress → Option Packet) (after_report : List Group → IpAddress → List Group)
+    (old : Host) : (granted : Bool) → List Event → List Note → Host → Type 0 where
+  Begins : ReportsEach state packet_for after_report old true [] [] old
+  Silently : {told : List Event} {notes : List Note} {mid : Host} (a : IpAddress) → ReportsEach state packet_for after_report old true told notes mid →
       first_in state mid.groups ≡ Some a → packet_for mid.ip_addrs a ≡ None →
-      Tells state packet_for told_of old true told notes (with_groups mid (told_of mid.groups a))
-  Refused : {told : List Event} {notes : List Note} {mid : Host} (a : IpAddress) (p : Packet) → Tells state packet_for told_of old true told notes mid →
+      ReportsEach state packet_for after_report old true told notes (with_groups mid (after_report mid.groups a))
+  Refused : {told : List Event} {notes : List Note} {mid : Host} (a : IpAddress) (p : Packet) → ReportsEach state packet_for after_report old true told notes mid →
       first_in state mid.groups ≡ Some a → packet_for mid.ip_addrs a ≡ Some p →
-      Tells state packet_for told_of old false (told ++ Asked mid.moment false ∷ []) notes mid
-  Told : {told : List Event} {notes : List Note} {mid : Host} (a : IpAddress) (p : Packet) (outcome : Outcome) (frames : List (List ℕ))
-      (more : List Note) (new : Host) → Tells state packet_for told_of old true told notes mid →
+      ReportsEach state packet_for after_report old false (told ++ Asked mid.moment false ∷ []) notes mid
+  Reported : {told : List Event} {notes : List Note} {mid : Host} (a : IpAddress) (p : Packet) (outcome : Outcome) (frames : List (List ℕ))
+      (more : List Note) (new : Host) → ReportsEach state packet_for after_report old true told notes mid →
       first_in state mid.groups ≡ Some a → packet_for mid.ip_addrs a ≡ Some p → Dispatches p outcome mid frames more new →
-      Tells state packet_for told_of old true (told ++ Asked mid.moment true ∷ sends frames) (notes ++ more) (with_groups new (told_of new.groups a))
+      ReportsEach state packet_for after_report old true (told ++ Asked mid.moment true ∷ sends frames) (notes ++ more) (with_groups new (after_report new.groups a))
 
 -- all of them, or those up to a refused leave
-pub data TellsAll (state : GroupState) (packet_for : List IpCidr → IpAddress → Option Packet) (told_of : List Group → IpAddress → List Group)
+pub data ReportsAll (state : GroupState) (packet_for : List IpCidr → IpAddress → Option Packet) (after_report : List Group → IpAddress → List Group)
     (old : Host) (told : List Event) (notes : List Note) (new : Host) : Type 0 where
-  All : Tells state packet_for told_of old true told notes new → first_in state new.groups ≡ None → TellsAll state packet_for told_of old told notes new
-  UpToRefusal : Tells state packet_for told_of old false told notes new → TellsAll state packet_for told_of old told notes new
+  All : ReportsEach state packet_for after_report old true told notes new → first_in state new.groups ≡ None → ReportsAll state packet_for after_report old told notes new
+  UpToRefusal : ReportsEach state packet_for after_report old false told notes new → ReportsAll state packet_for after_report old told notes new
 
 -- two parts of a round
-abbrev pub TellsJoins : Part
-TellsJoins = TellsAll Joining join_packet join_reported
+abbrev pub JoinsEgress : Part
+JoinsEgress = ReportsAll Joining join_packet join_reported
 
-abbrev pub TellsLeaves : Part
-TellsLeaves = TellsAll Leaving leave_packet leave_reported
+abbrev pub LeavesEgress : Part
+LeavesEgress = ReportsAll Leaving leave_packet leave_reported

@@ -31,12 +31,12 @@ solicitation_for own source target = Ipv6 (record {
 })
 
 -- it was asked for
-abbrev pub solicited : NdiscNeighborFlags
-solicited = record { 0 = 0x40 }
+abbrev pub solicited_flag : NdiscNeighborFlags
+solicited_flag = record { 0 = 0x40 }
 
 -- it takes the place of what is known
-abbrev pub overrides : NdiscNeighborFlags → Bool
-overrides flags = bit_and flags.0 0x20 == 0x20
+abbrev pub has_override : NdiscNeighborFlags → Bool
+has_override flags = bit_and flags.0 0x20 == 0x20
 
 -- the advertisement that answers a solicitation for a target
 abbrev pub advertisement_of : EthernetAddress → Ipv6Repr → Ipv6Address → Packet
@@ -44,18 +44,18 @@ advertisement_of own r target = Ipv6 (record {
   src_addr = target;
   dst_addr = r.src_addr;
   hop_limit = 255;
-  payload = Icmpv6 (Ndisc (NeighborAdvert solicited target (Some own))) [];
+  payload = Icmpv6 (Ndisc (NeighborAdvert solicited_flag target (Some own))) [];
 })
 
 -- the hardware address that a message tells, if it is one host's and so is the target
-abbrev pub told_by : Option EthernetAddress → Ipv6Address → Option EthernetAddress
-told_by None target = None
-told_by (Some h) target = if ethernet.is_unicast h && ipv6.is_unicast target then Some h else None
+abbrev pub usable_lladdr : Option EthernetAddress → Ipv6Address → Option EthernetAddress
+usable_lladdr None target = None
+usable_lladdr (Some h) target = if ethernet.is_unicast h && ipv6.is_unicast target then Some h else None
 
 -- a message tells an address that isn't one host's, or for a target that isn't
-abbrev pub tells_of_nobody : Option EthernetAddress → Ipv6Address → Bool
-tells_of_nobody None target = false
-tells_of_nobody (Some h) target = not (ethernet.is_unicast h && ipv6.is_unicast target)
+abbrev pub has_no_unicast : Option EthernetAddress → Ipv6Address → Bool
+has_no_unicast None target = false
+has_no_unicast (Some h) target = not (ethernet.is_unicast h && ipv6.is_unicast target)
 
 -- a neighbour is known at a hardware address for 60 seconds, and nothing else changes
 pub record LearnsNeighbor (H : Host) (a : Ipv6Address) (h : EthernetAddress) (new : Host) : Type 0 where
@@ -69,35 +69,35 @@ Learns None a H new = new ≡ H
 Learns (Some h) a H new = LearnsNeighbor H a h new
 
 -- what an advertisement teaches: its address, if it overrides, or where nobody is known (RFC 4861 7.2.5)
-abbrev pub advertised : Host → Ipv6Repr → NdiscNeighborFlags → Ipv6Address → Option EthernetAddress → Option EthernetAddress
-advertised H r flags target lladdr =
-    if overrides flags || not (is_found (answer_of H.neighbors (address.Ipv6 r.src_addr) H.moment)) then told_by lladdr target else None
+abbrev pub advertised_lladdr : Host → Ipv6Repr → NdiscNeighborFlags → Ipv6Address → Option EthernetAddress → Option EthernetAddress
+advertised_lladdr H r flags target lladdr =
+    if has_override flags || not (is_found (answer_of H.neighbors (address.Ipv6 r.src_addr) H.moment)) then usable_lladdr lladdr target else None
 
 -- a solicitation asks for the host: it goes to a solicited-node group of its own, or to an address that was given to it, but ::1, and its
 -- target is an own address (RFC 4861 7.2.3)
-abbrev pub asks_for : Host → Ipv6Repr → Ipv6Address → Bool
-asks_for H r target =
+abbrev pub is_target : Host → Ipv6Repr → Ipv6Address → Bool
+is_target H r target =
     (has_solicited_node H.ip_addrs r.dst_addr || (is_assigned H.ip_addrs (address.Ipv6 r.dst_addr) && not (ipv6.is_loopback r.dst_addr)))
     && has_ip_addr H (address.Ipv6 target)
 
 -- a solicitation is answered by an advertisement, if it asks for the host (RFC 4861 7.2.4)
 abbrev pub answer_by : EthernetAddress → Host → Ipv6Repr → Ipv6Address → Option Reply
-answer_by own H r target = if asks_for H r target then Some (Ip (advertisement_of own r target)) else None
+answer_by own H r target = if is_target H r target then Some (Ip (advertisement_of own r target)) else None
 
 -- what a message brings about that came on a link with hardware addresses, from a neighbour
-pub data HearsNeighbor (own : EthernetAddress) (r : Ipv6Repr) (H : Host) (reply : Option Reply) (notes : List Note) (new : Host) : NdiscRepr → Type 0 where
+pub data ProcessesNdiscMessage (own : EthernetAddress) (r : Ipv6Repr) (H : Host) (reply : Option Reply) (notes : List Note) (new : Host) : NdiscRepr → Type 0 where
   Advertised : (flags : NdiscNeighborFlags) (target : Ipv6Address) (lladdr : Option EthernetAddress) →
-      Learns (advertised H r flags target lladdr) r.src_addr H new → reply ≡ None → notes ≡ [] →
-      HearsNeighbor own r H reply notes new (NeighborAdvert flags target lladdr)
-  OfNobody : (target : Ipv6Address) (lladdr : Option EthernetAddress) → tells_of_nobody lladdr target ≡ true → IsDropped H reply notes new →
-      HearsNeighbor own r H reply notes new (NeighborSolicit target lladdr)
-  Solicited : (target : Ipv6Address) (lladdr : Option EthernetAddress) → tells_of_nobody lladdr target ≡ false →
-      Learns (told_by lladdr target) r.src_addr H new → reply ≡ answer_by own H r target → notes ≡ [] →
-      HearsNeighbor own r H reply notes new (NeighborSolicit target lladdr)
+      Learns (advertised_lladdr H r flags target lladdr) r.src_addr H new → reply ≡ None → notes ≡ [] →
+      ProcessesNdiscMessage own r H reply notes new (NeighborAdvert flags target lladdr)
+  NoUnicast : (target : Ipv6Address) (lladdr : Option EthernetAddress) → has_no_unicast lladdr target ≡ true → IsDropped H reply notes new →
+      ProcessesNdiscMessage own r H reply notes new (NeighborSolicit target lladdr)
+  Solicited : (target : Ipv6Address) (lladdr : Option EthernetAddress) → has_no_unicast lladdr target ≡ false →
+      Learns (usable_lladdr lladdr target) r.src_addr H new → reply ≡ answer_by own H r target → notes ≡ [] →
+      ProcessesNdiscMessage own r H reply notes new (NeighborSolicit target lladdr)
 
 -- messages count that no router passed on, and on a link with hardware addresses (RFC 4861 7.1)
-pub data TakesNdisc (r : Ipv6Repr) (message : NdiscRepr) (H : Host) (reply : Option Reply) (notes : List Note) (new : Host) : Type 0 where
-  FromAfar : (r.hop_limit == 255) ≡ false → IsDropped H reply notes new → TakesNdisc r message H reply notes new
-  WithoutAddresses : H.hardware_addr ≡ hardware.Ip → IsDropped H reply notes new → TakesNdisc r message H reply notes new
+pub data ProcessesNdisc (r : Ipv6Repr) (message : NdiscRepr) (H : Host) (reply : Option Reply) (notes : List Note) (new : Host) : Type 0 where
+  FromAfar : (r.hop_limit == 255) ≡ false → IsDropped H reply notes new → ProcessesNdisc r message H reply notes new
+  WithoutAddresses : H.hardware_addr ≡ hardware.Ip → IsDropped H reply notes new → ProcessesNdisc r message H reply notes new
   FromNeighbor : (own : EthernetAddress) → (r.hop_limit == 255) ≡ true → H.hardware_addr ≡ hardware.Ethernet own →
-      HearsNeighbor own r H reply notes new message → TakesNdisc r message H reply notes new
+      ProcessesNdiscMessage own r H reply notes new message → ProcessesNdisc r message H reply notes new

@@ -7,8 +7,8 @@ use Rattle.host_machine.specs.declared.results.PollIngressSingleResult.TheVarian
 use Rattle.host_machine.specs.declared.results.PollResult.{PollResult}
 use Rattle.host_machine.specs.declared.results.PollResult.TheVariants as result
 use Rattle.host_machine.specs.Note.{Note}
-use Rattle.host_machine.specs.Host.{Host, at, swept}
-use Rattle.host_machine.specs.Slaac.{synced}
+use Rattle.host_machine.specs.Host.{Host, at, without_expired}
+use Rattle.host_machine.specs.Slaac.{after_sync}
 use Rattle.host_machine.specs.Parts.{Part}
 use Rattle.host_machine.specs.Ingress.{Ingress}
 use Rattle.host_machine.specs.Egress.{Egress, answer_of}
@@ -40,8 +40,8 @@ is_changed result.None = false
 is_changed result.SocketStateChanged = true
 
 -- the host after maintenance: slots that have ended are dropped, and addresses and routes are in line with what was learnt of routers
-abbrev pub maintained : Host → Host
-maintained H = synced (swept H H.moment)
+abbrev pub after_maintenance : Host → Host
+after_maintenance H = after_sync (without_expired H H.moment)
 
 -- the calls that receive
 abbrev pub Receives : ℤ → ℕ → Bool → Part
@@ -59,7 +59,7 @@ pub record Polls (t : ℤ) (budget : ℕ) (answer : PollResult) (old : Host) (to
   pub told_sending : List Event
   pub notes_receiving : List Note
   pub notes_sending : List Note
-  pub receives : Receives t budget received (maintained (at old t)) told_receiving notes_receiving mid
+  pub receives : Receives t budget received (after_maintenance (at old t)) told_receiving notes_receiving mid
   pub sends : Sends t budget went mid told_sending notes_sending new
   pub events : told ≡ told_receiving ++ told_sending
   pub all_notes : notes ≡ notes_receiving ++ notes_sending

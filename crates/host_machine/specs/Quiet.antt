@@ -1,9 +1,9 @@
 -- Between an answer of `poll_at` and its instant nothing is due: polls that nothing disturbs send nothing and change no socket.
 use Rattle.std.specs.Prelude.{◌≡◌, ℕ, ℤ, pos, ◌≤ℤ◌, ◌<ℤ◌, List, [], ◌∷◌, slice_get, Option, Some, None}
-use Rattle.net_base.specs.Device.{handed, sent}
+use Rattle.net_base.specs.Device.{handed_frames, sent_frames}
 use Rattle.ip_address.specs.declared.ip.IpAddress.{IpAddress}
 use Rattle.iface_tables.specs.declared.route.Route.{Route}
-use Rattle.sockets.specs.Kinds.{offered, settled}
+use Rattle.sockets.specs.Kinds.{offered_packet, socket_after_offer}
 use Rattle.sockets.specs.Kinds as socket
 use Rattle.host_machine.specs.declared.command.Command.{Command}
 use Rattle.host_machine.specs.declared.command.Command.TheVariants.{PollIngressSingle, PollEgress, Poll, PollMaintenance, PollAt, PollDelay, SetReassemblyTimeout}
@@ -13,7 +13,7 @@ use Rattle.host_machine.specs.declared.results.PollIngressSingleResult.TheVarian
 use Rattle.host_machine.specs.declared.results.PollResult.TheVariants as result
 use Rattle.host_machine.specs.Host.{Socket}
 use Rattle.host_machine.specs.Due.{instant_of}
-use Rattle.host_machine.specs.Run.{Place}
+use Rattle.host_machine.specs.Run.{Transition}
 
 -- before the end, if there is one
 abbrev pub IsBefore : ℤ → Option ℤ → Type 0
@@ -22,7 +22,7 @@ IsBefore s (Some end) = s <ℤ end
 
 -- from t0 until the end a socket that is asked offers nothing and stays as it is
 abbrev pub IsQuietUntil : (IpAddress → Option IpAddress) → Socket → (t0 : ℤ) → (end : Option ℤ) → Type 0
-IsQuietUntil source s t0 end = (t : ℤ) → t0 ≤ℤ t → IsBefore t end → (offered t source s ≡ None) × (settled t source s ≡ s)
+IsQuietUntil source s t0 end = (t : ℤ) → t0 ≤ℤ t → IsBefore t end → (offered_packet t source s ≡ None) × (socket_after_offer t source s ≡ s)
 
 -- each socket is so until the instant that it names itself
 abbrev pub SocketsAreQuiet : Type 0
@@ -39,7 +39,7 @@ pub record IsWithin (t0 : ℤ) (end : Option ℤ) (routes : List Route) (s : ℤ
   pub routes_last : RoutesLast routes t0 s
 
 -- a poll within that time, a question when to poll, a reassembly timeout, or a call that changes nothing
-abbrev pub IsCalm : ℤ → Option ℤ → Command → Place → Type 0
+abbrev pub IsCalm : ℤ → Option ℤ → Command → Transition → Type 0
 IsCalm t0 end (PollIngressSingle s) p = IsWithin t0 end p.before.routes s
 IsCalm t0 end (PollEgress s) p = IsWithin t0 end p.before.routes s
 IsCalm t0 end (Poll s budget) p = IsWithin t0 end p.before.routes s
@@ -50,9 +50,9 @@ IsCalm t0 end (SetReassemblyTimeout timeout) p = Unit {0}
 IsCalm t0 end other p = p.after ≡ p.before
 
 -- nothing disturbs a place: such a call, and no frame handed over
-pub record IsUndisturbed (t0 : ℤ) (end : Option ℤ) (p : Place) : Type 0 where
+pub record IsUndisturbed (t0 : ℤ) (end : Option ℤ) (p : Transition) : Type 0 where
   pub calm : IsCalm t0 end p.command p
-  pub no_frame : handed p.told ≡ []
+  pub no_frame : handed_frames p.told ≡ []
 
 -- a poll answers that nothing was done
 abbrev pub AnswersNone : Answer → Type 0
@@ -62,22 +62,22 @@ AnswersNone (answer.Poll r) = r ≡ result.None
 AnswersNone other = Unit {0}
 
 -- nothing is sent, a poll answers so, and each socket is as it was; its wait may end
-pub record IsQuiet (p : Place) : Type 0 where
-  pub sends_nothing : sent p.told ≡ []
+pub record IsQuiet (p : Transition) : Type 0 where
+  pub sends_nothing : sent_frames p.told ≡ []
   pub answers : AnswersNone p.answer
   pub sockets : p.after.sockets.places ≡ p.before.sockets.places
 
 -- the places of a run that nothing disturbs, up to the first one that something does, are quiet
-abbrev pub QuietWhile : ℤ → Option ℤ → List Place → Type 0
+abbrev pub QuietWhile : ℤ → Option ℤ → List Transition → Type 0
 QuietWhile t0 end [] = Unit {0}
 QuietWhile t0 end (p ∷ ps) = IsUndisturbed t0 end p → IsQuiet p × QuietWhile t0 end ps
 
 -- what follows from an answer of `poll_at` at a moment from 0
-abbrev pub QuietAfter : Command → Answer → List Place → Type 0
+abbrev pub QuietAfter : Command → Answer → List Transition → Type 0
 QuietAfter (PollAt t0) (answer.PollAt end) ps = pos 0 ≤ℤ t0 → QuietWhile t0 end ps
 QuietAfter command given ps = Unit {0}
 
 -- at each place of a run
-abbrev pub AreQuiet : List Place → Type 0
+abbrev pub AreQuiet : List Transition → Type 0
 AreQuiet [] = Unit {0}
 AreQuiet (p ∷ ps) = QuietAfter p.command p.answer ps × AreQuiet ps

@@ -1,7 +1,7 @@
 -- A call that sends, where the device gives no leave: what waits to be sent still waits.
 use Rattle.std.specs.Prelude.{◌≡◌, ℕ, ℤ, ◌&&◌, Bool, false, is_none, List, [], slice_get, Option, Some, None, if◌then◌else◌}
 use Rattle.std.specs.List.{list_any}
-use Rattle.net_base.specs.Device.{Event, leaves, sent}
+use Rattle.net_base.specs.Device.{Event, grants, sent_frames}
 use Rattle.group_table.specs.declared.groups.Group.{Group}
 use Rattle.group_table.specs.declared.report.IgmpReportState.{IgmpReportState}
 use Rattle.group_table.specs.declared.report.IgmpReportState.TheVariants as igmp
@@ -12,25 +12,25 @@ use Rattle.host_machine.specs.declared.results.PollResult.TheVariants as result
 use Rattle.host_machine.specs.Note.{Note}
 use Rattle.host_machine.specs.Host.{Host, Socket, SocketSet, Storage, at, with_groups}
 use Rattle.host_machine.specs.Addresses.{ipv4_addr}
-use Rattle.host_machine.specs.Reports.{has_come, mld_timeout_of, next_group, timeout_of}
-use Rattle.host_machine.specs.Egress.{Egress, asked}
+use Rattle.host_machine.specs.Reports.{has_passed, mld_timeout_of, next_group, igmp_timeout_of}
+use Rattle.host_machine.specs.Egress.{Egress, socket_after_asking}
 
 -- whether the device gave leave for some frame
-abbrev pub gives_leave : List Event → Bool
-gives_leave told = list_any (λ given. given) (leaves told)
+abbrev pub grants_any : List Event → Bool
+grants_any told = list_any (λ given. given) (grants told)
 
 -- a report of IGMP waits, unless there is no further group to report
 abbrev pub waiting_igmp : Host → IgmpReportState
-waiting_igmp H = if has_come (timeout_of H.igmp_report) H.moment && is_none (next_group H H.igmp_report) then igmp.Inactive else H.igmp_report
+waiting_igmp H = if has_passed (igmp_timeout_of H.igmp_report) H.moment && is_none (next_group H H.igmp_report) then igmp.Inactive else H.igmp_report
 
 -- a report of MLD that is due is given up
 abbrev pub waiting_mld : Host → MldReportState
-waiting_mld H = if has_come (mld_timeout_of H.mld_report) H.moment then mld.Inactive else H.mld_report
+waiting_mld H = if has_passed (mld_timeout_of H.mld_report) H.moment then mld.Inactive else H.mld_report
 
 -- what stands at a place, where its socket was asked at most
 pub data IsOnlyAsked (H : Host) (before after : Option Storage) : Type 0 where
   NotAsked : after ≡ before → IsOnlyAsked H before after
-  WasAsked : (s : Socket) → before ≡ Some (Some s) → after ≡ Some (Some (asked H s)) → IsOnlyAsked H before after
+  WasAsked : (s : Socket) → before ≡ Some (Some s) → after ≡ Some (Some (socket_after_asking H s)) → IsOnlyAsked H before after
 
 -- what is left of a host: nothing else has changed; the groups of a host with an IPv4 address, which can tell of each, are untold still; and at
 -- each place its socket is as it was, or as it is once it was asked
@@ -44,7 +44,7 @@ pub record StillWaits (H new : Host) : Type 0 where
 -- nothing is sent and nothing noted, and what waits still waits
 pub record LosesNothing (H : Host) (answer : PollResult) (told : List Event) (notes : List Note) (new : Host) : Type 0 where
   pub answers : answer ≡ result.None
-  pub silent : sent told ≡ []
+  pub silent : sent_frames told ≡ []
   pub unnoted : notes ≡ []
   pub waits : StillWaits H new
 
@@ -52,4 +52,4 @@ pub record LosesNothing (H : Host) (answer : PollResult) (told : List Event) (no
 abbrev pub RefusalsLoseNothing : Type 0
 RefusalsLoseNothing =
     (t : ℤ) (answer : PollResult) (old new : Host) (told : List Event) (notes : List Note) →
-    Egress t answer old told notes new → gives_leave told ≡ false → LosesNothing (at old t) answer told notes new
+    Egress t answer old told notes new → grants_any told ≡ false → LosesNothing (at old t) answer told notes new

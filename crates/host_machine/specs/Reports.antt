@@ -48,35 +48,35 @@ answer_time code = tenths_of code * 100000
 
 -- how long it is from one group's report to the next, where so many are to be reported: in version 1 a tenth of a second, in version 2 the
 -- time that the router waits, divided by one more than the groups
-abbrev pub interval_for : IgmpVersion → ℕ → ℕ → ℕ
-interval_for Version1 time count = 100000
-interval_for Version2 time count = time / (count + 1)
+abbrev pub igmp_interval_for : IgmpVersion → ℕ → ℕ → ℕ
+igmp_interval_for Version1 time count = 100000
+igmp_interval_for Version2 time count = time / (count + 1)
 
 -- a general query: for every group, to all hosts (RFC 2236 2.4, 9), where there is a group to report
-abbrev pub is_general : Host → Ipv4Address → Ipv4Address → Bool
-is_general H dst group = ipv4.is_unspecified group && (dst.bits == 0xe0000001) && nat_lt 0 (length (ipv4_groups H.groups))
+abbrev pub is_igmp_general : Host → Ipv4Address → Ipv4Address → Bool
+is_igmp_general H dst group = ipv4.is_unspecified group && (dst.bits == 0xe0000001) && nat_lt 0 (length (ipv4_groups H.groups))
 
 -- a query for one group of the host's, to that group
-abbrev pub is_specific : Host → Ipv4Address → Ipv4Address → Bool
-is_specific H dst group = has_multicast_group H (address.Ipv4 group) && (dst.bits == group.bits)
+abbrev pub is_igmp_specific : Host → Ipv4Address → Ipv4Address → Bool
+is_igmp_specific H dst group = has_multicast_group H (address.Ipv4 group) && (dst.bits == group.bits)
 
 -- what is to be reported behind a query; it takes the place of what was to be reported before
-abbrev pub report_for : Host → Ipv4Address → ℕ → Ipv4Address → IgmpReportState
-report_for H dst code group =
-    let interval : ℕ = interval_for (query_version code) (answer_time code) (length (ipv4_groups H.groups)) in
-    if is_general H dst group then igmp.ToGeneralQuery (query_version code) (H.moment +ℤ pos interval) interval 0 else
-    if is_specific H dst group then igmp.ToSpecificQuery (query_version code) (H.moment +ℤ pos (answer_time code / 4)) group else
+abbrev pub igmp_report_for : Host → Ipv4Address → ℕ → Ipv4Address → IgmpReportState
+igmp_report_for H dst code group =
+    let interval : ℕ = igmp_interval_for (query_version code) (answer_time code) (length (ipv4_groups H.groups)) in
+    if is_igmp_general H dst group then igmp.ToGeneralQuery (query_version code) (H.moment +ℤ pos interval) interval 0 else
+    if is_igmp_specific H dst group then igmp.ToSpecificQuery (query_version code) (H.moment +ℤ pos (answer_time code / 4)) group else
     H.igmp_report
 
 -- what is done with a message: only a query does anything
-abbrev pub asked_by : Host → Ipv4Address → IgmpRepr → Host
-asked_by H dst (MembershipQuery code group) = with_igmp_report H (report_for H dst code group)
-asked_by H dst (MembershipReport group version) = H
-asked_by H dst (LeaveGroup group) = H
+abbrev pub host_after_igmp : Host → Ipv4Address → IgmpRepr → Host
+host_after_igmp H dst (MembershipQuery code group) = with_igmp_report H (igmp_report_for H dst code group)
+host_after_igmp H dst (MembershipReport group version) = H
+host_after_igmp H dst (LeaveGroup group) = H
 
-pub data TakesIgmp (r : Ipv4Repr) (H : Host) (octets : List ℕ) (reply : Option Reply) (notes : List Note) (new : Host) : Type 0 where
-  Malformed : (IsIgmp octets → ⊥) → IsDropped H reply notes new → TakesIgmp r H octets reply notes new
-  Taken : IsIgmp octets → reply ≡ None → notes ≡ [] → new ≡ asked_by H r.dst_addr (igmp_in octets) → TakesIgmp r H octets reply notes new
+pub data ProcessesIgmp (r : Ipv4Repr) (H : Host) (octets : List ℕ) (reply : Option Reply) (notes : List Note) (new : Host) : Type 0 where
+  Malformed : (IsIgmp octets → ⊥) → IsDropped H reply notes new → ProcessesIgmp r H octets reply notes new
+  Taken : IsIgmp octets → reply ≡ None → notes ≡ [] → new ≡ host_after_igmp H r.dst_addr (igmp_in octets) → ProcessesIgmp r H octets reply notes new
 
 -- which group is reported next, in which version, and when; none where there is no further group, or nothing to report
 abbrev pub next_group : Host → IgmpReportState → Option (IgmpVersion × Ipv4Address)
@@ -84,47 +84,47 @@ next_group H igmp.Inactive = None
 next_group H (igmp.ToGeneralQuery version timeout interval next_index) = option_map (λ g. (version, g)) (slice_get (ipv4_groups H.groups) next_index)
 next_group H (igmp.ToSpecificQuery version timeout group) = Some (version, group)
 
-abbrev pub timeout_of : IgmpReportState → Option ℤ
-timeout_of igmp.Inactive = None
-timeout_of (igmp.ToGeneralQuery version timeout interval next_index) = Some timeout
-timeout_of (igmp.ToSpecificQuery version timeout group) = Some timeout
+abbrev pub igmp_timeout_of : IgmpReportState → Option ℤ
+igmp_timeout_of igmp.Inactive = None
+igmp_timeout_of (igmp.ToGeneralQuery version timeout interval next_index) = Some timeout
+igmp_timeout_of (igmp.ToSpecificQuery version timeout group) = Some timeout
 
 -- the packet that reports it
 abbrev pub next_report : Host → Option Packet
 next_report H = option_and_then (λ n. igmp_report H.ip_addrs n.0 n.1) (next_group H H.igmp_report)
 
 -- a moment that has come
-abbrev pub has_come : Option ℤ → ℤ → Bool
-has_come None now = false
-has_come (Some t) now = if is_lt (int_cmp now t) then false else true
+abbrev pub has_passed : Option ℤ → ℤ → Bool
+has_passed None now = false
+has_passed (Some t) now = if is_lt (int_cmp now t) then false else true
 
-abbrev pub later : ℤ → ℤ → ℤ
-later a b = if is_lt (int_cmp a b) then b else a
+abbrev pub later_of : ℤ → ℤ → ℤ
+later_of a b = if is_lt (int_cmp a b) then b else a
 
 -- what is to be reported behind a report: behind one of a general query's the next group, an interval later, but not before now
-abbrev pub reported : IgmpReportState → ℤ → IgmpReportState
-reported igmp.Inactive now = igmp.Inactive
-reported (igmp.ToGeneralQuery version timeout interval next_index) now =
-    igmp.ToGeneralQuery version (later (timeout +ℤ pos interval) now) interval (next_index + 1)
-reported (igmp.ToSpecificQuery version timeout group) now = igmp.Inactive
+abbrev pub igmp_report_after : IgmpReportState → ℤ → IgmpReportState
+igmp_report_after igmp.Inactive now = igmp.Inactive
+igmp_report_after (igmp.ToGeneralQuery version timeout interval next_index) now =
+    igmp.ToGeneralQuery version (later_of (timeout +ℤ pos interval) now) interval (next_index + 1)
+igmp_report_after (igmp.ToSpecificQuery version timeout group) now = igmp.Inactive
 
 -- a part of a round: a report that is due goes, if the device gives leave, and stays due if not; where there is no further group to report
 -- the answer ends; without an address it stays
-pub data SendsIgmpReport (H : Host) (told : List Event) (notes : List Note) (new : Host) : Type 0 where
-  NotDue : has_come (timeout_of H.igmp_report) H.moment ≡ false → told ≡ [] → notes ≡ [] → new ≡ H → SendsIgmpReport H told notes new
-  NoFurtherGroup : has_come (timeout_of H.igmp_report) H.moment ≡ true → next_group H H.igmp_report ≡ None → told ≡ [] → notes ≡ [] →
-      new ≡ with_igmp_report H igmp.Inactive → SendsIgmpReport H told notes new
-  NoAddress : (next : IgmpVersion × Ipv4Address) → has_come (timeout_of H.igmp_report) H.moment ≡ true → next_group H H.igmp_report ≡ Some next →
-      ipv4_addr H.ip_addrs ≡ None → told ≡ [] → notes ≡ [] → new ≡ H → SendsIgmpReport H told notes new
-  NoLeave : (p : Packet) → has_come (timeout_of H.igmp_report) H.moment ≡ true → next_report H ≡ Some p → told ≡ Asked H.moment false ∷ [] →
-      notes ≡ [] → new ≡ H → SendsIgmpReport H told notes new
-  Sent : (p : Packet) (outcome : Outcome) (frames : List (List ℕ)) (mid : Host) → has_come (timeout_of H.igmp_report) H.moment ≡ true →
+pub data IgmpEgress (H : Host) (told : List Event) (notes : List Note) (new : Host) : Type 0 where
+  NotDue : has_passed (igmp_timeout_of H.igmp_report) H.moment ≡ false → told ≡ [] → notes ≡ [] → new ≡ H → IgmpEgress H told notes new
+  NoFurtherGroup : has_passed (igmp_timeout_of H.igmp_report) H.moment ≡ true → next_group H H.igmp_report ≡ None → told ≡ [] → notes ≡ [] →
+      new ≡ with_igmp_report H igmp.Inactive → IgmpEgress H told notes new
+  NoAddress : (next : IgmpVersion × Ipv4Address) → has_passed (igmp_timeout_of H.igmp_report) H.moment ≡ true → next_group H H.igmp_report ≡ Some next →
+      ipv4_addr H.ip_addrs ≡ None → told ≡ [] → notes ≡ [] → new ≡ H → IgmpEgress H told notes new
+  NotGranted : (p : Packet) → has_passed (igmp_timeout_of H.igmp_report) H.moment ≡ true → next_report H ≡ Some p → told ≡ Asked H.moment false ∷ [] →
+      notes ≡ [] → new ≡ H → IgmpEgress H told notes new
+  Sent : (p : Packet) (outcome : Outcome) (frames : List (List ℕ)) (mid : Host) → has_passed (igmp_timeout_of H.igmp_report) H.moment ≡ true →
       next_report H ≡ Some p → Dispatches p outcome H frames notes mid → told ≡ Asked H.moment true ∷ sends frames →
-      new ≡ with_igmp_report mid (reported H.igmp_report H.moment) → SendsIgmpReport H told notes new
+      new ≡ with_igmp_report mid (igmp_report_after H.igmp_report H.moment) → IgmpEgress H told notes new
 
 -- when the next report is due: at its time, if there is an address to send it from, and a group to report
 abbrev pub igmp_instant : Host → Option ℤ
-igmp_instant H = option_and_then (λ p. timeout_of H.igmp_report) (next_report H)
+igmp_instant H = option_and_then (λ p. igmp_timeout_of H.igmp_report) (next_report H)
 
 -- MLD
 
@@ -133,8 +133,8 @@ abbrev pub delay : ℕ → ℕ → ℕ
 delay code random = if code == 0 then 0 else next random / 2 ^ 48 % code * 1000
 
 -- the source of random words, after it was drawn from, if it was
-abbrev pub drawn : ℕ → ℕ → ℕ
-drawn code random = if code == 0 then random else next random
+abbrev pub random_after_draw : ℕ → ℕ → ℕ
+random_after_draw code random = if code == 0 then random else next random
 
 -- a query for every group, to all hosts or to an own address, where there is a group to report
 abbrev pub is_mld_general : Host → Ipv6Address → Ipv6Address → Bool
@@ -156,10 +156,10 @@ mld_report_for H dst timeout group =
 abbrev pub is_near : Ipv6Repr → Bool
 is_near r = (r.hop_limit == 1) && ipv6.is_link_local r.src_addr
 
-abbrev pub mld_asked : Host → Ipv6Repr → ℕ → Ipv6Address → Host
-mld_asked H r code group =
+abbrev pub host_after_mld_query : Host → Ipv6Repr → ℕ → Ipv6Address → Host
+host_after_mld_query H r code group =
     if is_near r
-    then record H { mld_report = mld_report_for H r.dst_addr (H.moment +ℤ pos (delay code H.random)) group; random = drawn code H.random }
+    then record H { mld_report = mld_report_for H r.dst_addr (H.moment +ℤ pos (delay code H.random)) group; random = random_after_draw code H.random }
     else H
 
 abbrev pub mld_timeout_of : MldReportState → Option ℤ
@@ -177,15 +177,15 @@ abbrev pub next_mld_report : Host → Packet
 next_mld_report H = mld_report H.ip_addrs ModeIsExclude (reported_groups H H.mld_report)
 
 -- a part of a round: a report that is due goes, if the device gives leave; if not it is given up
-pub data SendsMldReport (H : Host) (told : List Event) (notes : List Note) (new : Host) : Type 0 where
-  NotYet : has_come (mld_timeout_of H.mld_report) H.moment ≡ false → told ≡ [] → notes ≡ [] → new ≡ H → SendsMldReport H told notes new
-  GivenUp : has_come (mld_timeout_of H.mld_report) H.moment ≡ true → told ≡ Asked H.moment false ∷ [] → notes ≡ [] →
-      new ≡ with_mld_report H mld.Inactive → SendsMldReport H told notes new
-  ReportGoes : (outcome : Outcome) (frames : List (List ℕ)) (mid : Host) → has_come (mld_timeout_of H.mld_report) H.moment ≡ true →
+pub data MldEgress (H : Host) (told : List Event) (notes : List Note) (new : Host) : Type 0 where
+  NotYet : has_passed (mld_timeout_of H.mld_report) H.moment ≡ false → told ≡ [] → notes ≡ [] → new ≡ H → MldEgress H told notes new
+  GivenUp : has_passed (mld_timeout_of H.mld_report) H.moment ≡ true → told ≡ Asked H.moment false ∷ [] → notes ≡ [] →
+      new ≡ with_mld_report H mld.Inactive → MldEgress H told notes new
+  ReportGoes : (outcome : Outcome) (frames : List (List ℕ)) (mid : Host) → has_passed (mld_timeout_of H.mld_report) H.moment ≡ true →
       Dispatches (next_mld_report H) outcome H frames notes mid → told ≡ Asked H.moment true ∷ sends frames →
-      new ≡ with_mld_report mid mld.Inactive → SendsMldReport H told notes new
+      new ≡ with_mld_report mid mld.Inactive → MldEgress H told notes new
 
 -- what is done with a message: only a query does anything
-abbrev pub TakesMld : Ipv6Repr → MldRepr → Host → Option Reply → List Note → Host → Type 0
-TakesMld r (Query code group) H reply notes new = (reply ≡ None) × (notes ≡ []) × (new ≡ mld_asked H r code group)
-TakesMld r (Report count) H reply notes new = IsDropped H reply notes new
+abbrev pub ProcessesMld : Ipv6Repr → MldRepr → Host → Option Reply → List Note → Host → Type 0
+ProcessesMld r (Query code group) H reply notes new = (reply ≡ None) × (notes ≡ []) × (new ≡ host_after_mld_query H r code group)
+ProcessesMld r (Report count) H reply notes new = IsDropped H reply notes new

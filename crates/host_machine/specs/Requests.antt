@@ -16,7 +16,7 @@ use Rattle.host_machine.specs.Host.{Host, Storage}
 use Rattle.host_machine.specs.Delivery.{holds}
 use Rattle.host_machine.specs.Packet.{IpPayload, Icmpv4, Icmpv6, Udp, Tcp, Raw, Igmp, Mld}
 use Rattle.host_machine.specs.Real.{IsReal, GivesSix}
-use Rattle.host_machine.specs.Run.{Place, told_in}
+use Rattle.host_machine.specs.Run.{Transition, events_in}
 
 -- a frame of Ethernet that asks for a hardware address: its type is that of ARP, the operation behind it a request (RFC 826)
 abbrev pub is_arp_request : List ℕ → Bool
@@ -44,8 +44,8 @@ requests_at m [] = []
 requests_at m (f ∷ fs) = if is_request m f.1 then f.0 ∷ requests_at m fs else requests_at m fs
 
 -- of a whole run
-abbrev pub requests_in : Medium → List Place → List ℤ
-requests_in m places = requests_at m (sent_at (pos 0) (told_in places))
+abbrev pub requests_in : Medium → List Transition → List ℤ
+requests_in m transitions = requests_at m (sent_at (pos 0) (events_in transitions))
 
 -- a payload that may be a solicitation: one by its values, and what a raw socket for ICMPv6 sends
 abbrev pub may_ask_neighbor : NdiscRepr → Bool
@@ -77,12 +77,12 @@ abbrev pub speaks_icmpv6 : Storage → Bool
 speaks_icmpv6 place = holds down_raw (λ s. number_of s.protocol == 58) place
 
 -- a host has none
-abbrev pub NobodySpeaks : Host → Type 0
-NobodySpeaks H = AllByRecursion (λ place. speaks_icmpv6 place ≡ false) H.sockets.places
+abbrev pub NoSocketSpeaks : Host → Type 0
+NoSocketSpeaks H = AllByRecursion (λ place. speaks_icmpv6 place ≡ false) H.sockets.places
 
 -- at a place of a run there is none, and a hardware address that is given has six octets
-abbrev pub IsOrdinary : Place → Type 0
-IsOrdinary p = GivesSix p.command × NobodySpeaks p.before
+abbrev pub IsOrdinary : Transition → Type 0
+IsOrdinary p = GivesSix p.command × NoSocketSpeaks p.before
 
 -- what is left to send of a packet that was cut goes to an address of the medium, as it does where nothing is left
 abbrev pub IsLeftWell : Host → Type 0

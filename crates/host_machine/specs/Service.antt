@@ -4,7 +4,7 @@ use Rattle.std.specs.Prelude.{◌≡◌, ◌≢◌, ℕ, ◌+◌, ◌<◌, ◌�
 use Rattle.std.specs.List.{list_all}
 use Rattle.net_base.specs.Checksum.{is_rx, ip_mtu_of}
 use Rattle.net_base.specs.Time.{silence_from}
-use Rattle.net_base.specs.Device.{Event, handed, leaves, sent}
+use Rattle.net_base.specs.Device.{Event, handed_frames, grants, sent_frames}
 use Rattle.ip_address.specs.declared.cidr.IpCidr.{IpCidr}
 use Rattle.ip_address.specs.declared.ethernet_address.EthernetAddress.{EthernetAddress}
 use Rattle.ip_address.specs.declared.hardware.HardwareAddress.{HardwareAddress}
@@ -65,10 +65,10 @@ use Rattle.host_machine.specs.Dispatch.{IsNextHop, destination_of}
 use Rattle.host_machine.specs.Egress.{Egress}
 use Rattle.host_machine.specs.Ingress.{Ingress}
 use Rattle.host_machine.specs.Icmpv6.{IsMessage}
-use Rattle.host_machine.specs.Ndisc.{solicited}
+use Rattle.host_machine.specs.Ndisc.{solicited_flag}
 use Rattle.host_machine.specs.Slaac.{solicitation_instant}
 use Rattle.host_machine.specs.Reports.{igmp_instant, mld_timeout_of}
-use Rattle.host_machine.specs.Due.{Due, SocketDue, sync_instant, told_at}
+use Rattle.host_machine.specs.Due.{Due, SocketDue, sync_instant, report_due_at}
 use Rattle.host_machine.specs.Polling.{Polls}
 
 -- Frames that come
@@ -84,7 +84,7 @@ pub record Takes (own : EthernetAddress) (t : ℤ) (frame : List ℕ) (old : Hos
   pub answer : PollIngressSingleResult
   pub notes : List Note
   pub call : Ingress t answer old told notes new
-  pub took : handed told ≡ frame ∷ []
+  pub took : handed_frames told ≡ frame ∷ []
   pub on_ethernet : old.hardware_addr ≡ hardware.Ethernet own
 
 -- ARP
@@ -115,7 +115,7 @@ abbrev pub ArpRequestsAreAnswered : Type 0
 ArpRequestsAreAnswered =
     (own : EthernetAddress) (t : ℤ) (frame : List ℕ) (r : ArpRepr) (old new : Host) (told : List Event) →
     Takes own t frame old told new → AsksByArp own old.ip_addrs frame r →
-    (sent told ≡ arp_frame (arp_answer own r) ∷ [])
+    (sent_frames told ≡ arp_frame (arp_answer own r) ∷ [])
     × (answer_of new.neighbors (Ipv4 r.source_protocol_addr) t ≡ Found (hardware.Ethernet r.source_hardware_addr))
 
 -- Echo
@@ -151,7 +151,7 @@ PingsAreAnswered =
     (own : EthernetAddress) (t : ℤ) (frame : List ℕ) (r : Ipv4Repr) (ident seq_no : ℕ) (octets : List ℕ) (h : HardwareAddress) (old new : Host) (told : List Event) →
     Takes own t frame old told new → Pings own old frame r ident seq_no octets → IsReached (at old t) (Ipv4 r.src_addr) h →
     28 + length octets ≤ ip_mtu_of old.capabilities →
-    sent told ≡ ip_frame old h (packet.Ipv4 (record { src_addr = r.dst_addr; dst_addr = r.src_addr; hop_limit = 64; payload = Icmpv4 (EchoReply ident seq_no) octets })) ∷ []
+    sent_frames told ≡ ip_frame old h (packet.Ipv4 (record { src_addr = r.dst_addr; dst_addr = r.src_addr; hop_limit = 64; payload = Icmpv4 (EchoReply ident seq_no) octets })) ∷ []
 
 -- Datagrams
 
@@ -164,7 +164,7 @@ pub record HasDatagram (own : EthernetAddress) (H : Host) (frame : List ℕ) (r 
   pub values : udp_in payload ≡ (ports, octets)
 
 -- the socket at an index listens at the datagram's port, of any address or of its destination, and has room for it; and no UDP socket before it listens at that port
-pub record IsHeardBy (H : Host) (r : Ipv4Repr) (ports : UdpRepr) (octets : List ℕ) (i : ℕ) (s : UdpSocket) : Type 0 where
+pub record IsAcceptedBy (H : Host) (r : Ipv4Repr) (ports : UdpRepr) (octets : List ℕ) (i : ℕ) (s : UdpSocket) : Type 0 where
   pub here : slice_get H.sockets.places i ≡ Some (Some (Udp s))
   pub port : s.endpoint.port ≡ ports.dst_port
   pub addr : (s.endpoint.addr ≡ None) ⊎ (s.endpoint.addr ≡ Some (Ipv4 r.dst_addr))
@@ -181,18 +181,18 @@ pub record IsQueued (r : Ipv4Repr) (ports : UdpRepr) (octets : List ℕ) (i : �
 abbrev pub DatagramsAreQueued : Type 0
 DatagramsAreQueued =
     (own : EthernetAddress) (t : ℤ) (frame : List ℕ) (r : Ipv4Repr) (ports : UdpRepr) (octets : List ℕ) (i : ℕ) (s : UdpSocket) (old new : Host) (told : List Event) →
-    Takes own t frame old told new → HasDatagram own old frame r ports octets → IsHeardBy old r ports octets i s →
-    IsQueued r ports octets i s old new × (sent told ≡ [])
+    Takes own t frame old told new → HasDatagram own old frame r ports octets → IsAcceptedBy old r ports octets i s →
+    IsQueued r ports octets i s old new × (sent_frames told ≡ [])
 
 -- where no socket listens at its port, and no raw socket takes the packet, the call sends the error that says so and nothing else, which quotes the
 -- packet's header and the first octets of its payload (RFC 1122 3.2.2.1, 4.1.3.1)
-abbrev pub ClosedPortsAreTold : Type 0
-ClosedPortsAreTold =
+abbrev pub ClosedPortsAreAnswered : Type 0
+ClosedPortsAreAnswered =
     (own : EthernetAddress) (t : ℤ) (frame : List ℕ) (r : Ipv4Repr) (ports : UdpRepr) (octets : List ℕ) (h : HardwareAddress) (old new : Host) (told : List Event) →
     Takes own t frame old told new → (d : HasDatagram own old frame r ports octets) →
     ((k : ℕ) (other : UdpSocket) → slice_get old.sockets.places k ≡ Some (Some (Udp other)) → other.endpoint.port ≢ ports.dst_port) →
     raw.is_taken (repr.Ipv4 r) old ≡ false → IsReached (at old t) (Ipv4 r.src_addr) h → 576 ≤ ip_mtu_of old.capabilities →
-    sent told ≡ ip_frame old h (packet.Ipv4 (record {
+    sent_frames told ≡ ip_frame old h (packet.Ipv4 (record {
       src_addr = r.dst_addr;
       dst_addr = r.src_addr;
       hop_limit = 64;
@@ -202,8 +202,8 @@ ClosedPortsAreTold =
 -- Datagrams that go
 
 -- each leave to send that was asked for was given
-abbrev pub all_given : List Event → Bool
-all_given told = list_all (λ given. given) (leaves told)
+abbrev pub all_granted : List Event → Bool
+all_granted told = list_all (λ given. given) (grants told)
 
 -- the socket at an index may be asked: it doesn't wait, its wait is over, or the way to whom it waits for is known by now
 pub data MayBeAsked (H : Host) (i : ℕ) : Type 0 where
@@ -234,7 +234,7 @@ pub record HasFirst (H : Host) (i : ℕ) (s : UdpSocket) (p : Packet) (rest : Li
 pub record Went (H : Host) (i : ℕ) (s : UdpSocket) (p : Packet) (h : HardwareAddress) (rest : List (IpEndpoint × List ℕ)) (told : List Event) (new : Host) : Type 0 where
   pub front : List (List ℕ)
   pub back : List (List ℕ)
-  pub frames : sent told ≡ front ++ (ip_frame H h p ∷ back)
+  pub frames : sent_frames told ≡ front ++ (ip_frame H h p ∷ back)
   pub left : slice_get new.sockets.places i ≡ Some (Some (Udp (record s { tx = record s.tx { packets = rest } })))
 
 -- a call that sends and is given each leave sends the first datagram of each UDP socket that may be asked, if it is for one host, the way to it is known
@@ -243,7 +243,7 @@ abbrev pub FirstDatagramsGo : Type 0
 FirstDatagramsGo =
     (own : EthernetAddress) (t : ℤ) (answer : PollResult) (old new : Host) (told : List Event) (notes : List Note) (i : ℕ) (s : UdpSocket) (p : Packet) (h : HardwareAddress)
     (rest : List (IpEndpoint × List ℕ)) →
-    Egress t answer old told notes new → all_given told ≡ true → old.hardware_addr ≡ hardware.Ethernet own →
+    Egress t answer old told notes new → all_granted told ≡ true → old.hardware_addr ≡ hardware.Ethernet own →
     HasFirst (at old t) i s p rest → MayBeAsked (at old t) i → is_unicast old.ip_addrs (destination_of p) ≡ true → IsReached (at old t) (destination_of p) h →
     total_len p ≤ ip_mtu_of old.capabilities → Went old i s p h rest told new
 
@@ -267,7 +267,7 @@ abbrev pub RequestsGo : Type 0
 RequestsGo =
     (own : EthernetAddress) (t : ℤ) (answer : PollResult) (old new : Host) (told : List Event) (notes : List Note) (i : ℕ) (s : UdpSocket) (p : Packet) (hop : IpAddress)
     (rest : List (IpEndpoint × List ℕ)) →
-    Egress t answer old told notes new → all_given told ≡ true → old.hardware_addr ≡ hardware.Ethernet own →
+    Egress t answer old told notes new → all_granted told ≡ true → old.hardware_addr ≡ hardware.Ethernet own →
     HasFirst (at old t) i s p rest → MayBeAsked (at old t) i → is_unicast old.ip_addrs (destination_of p) ≡ true → IsToBeAskedFor (at old t) (destination_of p) hop →
     WasAsked t notes new
 
@@ -295,7 +295,7 @@ PingsV6AreAnswered =
     (own : EthernetAddress) (t : ℤ) (frame : List ℕ) (r : Ipv6Repr) (ident seq_no : ℕ) (octets : List ℕ) (h : HardwareAddress) (old new : Host) (told : List Event) →
     Takes own t frame old told new → PingsV6 own old frame r ident seq_no octets → IsReached (at old t) (Ipv6 r.src_addr) h →
     48 + length octets ≤ ip_mtu_of old.capabilities →
-    sent told ≡ ip_frame old h (packet.Ipv6 (record { src_addr = r.dst_addr; dst_addr = r.src_addr; hop_limit = 64; payload = Icmpv6 (icmpv6.EchoReply ident seq_no) octets })) ∷ []
+    sent_frames told ≡ ip_frame old h (packet.Ipv6 (record { src_addr = r.dst_addr; dst_addr = r.src_addr; hop_limit = 64; payload = Icmpv6 (icmpv6.EchoReply ident seq_no) octets })) ∷ []
 
 -- a neighbour in a network of the host's asks for an own address by a solicitation, to the solicited-node group of an own address or to an own address, with its
 -- own hardware address (RFC 4861 7.2.2)
@@ -317,11 +317,11 @@ abbrev pub SolicitationsAreAnswered : Type 0
 SolicitationsAreAnswered =
     (own : EthernetAddress) (t : ℤ) (frame : List ℕ) (r : Ipv6Repr) (target : Ipv6Address) (h : EthernetAddress) (old new : Host) (told : List Event) →
     Takes own t frame old told new → Solicits own old frame r target h → 72 ≤ ip_mtu_of old.capabilities →
-    (sent told ≡ ip_frame old (hardware.Ethernet h) (packet.Ipv6 (record {
+    (sent_frames told ≡ ip_frame old (hardware.Ethernet h) (packet.Ipv6 (record {
       src_addr = target;
       dst_addr = r.src_addr;
       hop_limit = 255;
-      payload = Icmpv6 (icmpv6.Ndisc (NeighborAdvert solicited target (Some own))) [];
+      payload = Icmpv6 (icmpv6.Ndisc (NeighborAdvert solicited_flag target (Some own))) [];
     })) ∷ [])
     × (answer_of new.neighbors (Ipv6 r.src_addr) t ≡ Found (hardware.Ethernet h))
 
@@ -356,8 +356,8 @@ pub data IsFurther : (old new : IgmpReportState) → Type 0 where
 -- what was due at a host's moment is done behind a call that sends: nothing to be told of groups, no solicitation and no report of MLD is due any more; a report of IGMP
 -- that was due went, and if another one is due that is the next; and a socket that is due still has one packet less to send
 pub record IsDone (H new : Host) : Type 0 where
-  pub joins : told_at Joining new ≡ None
-  pub leaves_told : told_at Leaving new ≡ None
+  pub joins : report_due_at Joining new ≡ None
+  pub leaves_reported : report_due_at Leaving new ≡ None
   pub solicitation : IsLater H.moment (solicitation_instant new)
   pub mld : IsLater H.moment (mld_timeout_of new.mld_report)
   pub igmp : (x : ℤ) → igmp_instant H ≡ Some x → x ≤ℤ H.moment → IsFurther H.igmp_report new.igmp_report
@@ -367,20 +367,20 @@ pub record IsDone (H new : Host) : Type 0 where
 abbrev pub DueIsDone : Type 0
 DueIsDone =
     (t : ℤ) (answer : PollResult) (old new : Host) (told : List Event) (notes : List Note) →
-    Egress t answer old told notes new → all_given told ≡ true → length old.sockets.waits ≡ length old.sockets.places → IsDone (at old t) new
+    Egress t answer old told notes new → all_granted told ≡ true → length old.sockets.waits ≡ length old.sockets.places → IsDone (at old t) new
 
 -- the first piece that was left is the first frame that goes
 
 abbrev pub PiecesGo : Type 0
 PiecesGo =
     (t : ℤ) (answer : PollResult) (old new : Host) (told : List Event) (notes : List Note) (piece : Piece) (rest : List Piece) →
-    Egress t answer old told notes new → all_given told ≡ true → old.left ≡ piece ∷ rest → (others : List (List ℕ)) × (sent told ≡ piece_frame old piece ∷ others)
+    Egress t answer old told notes new → all_granted told ≡ true → old.left ≡ piece ∷ rest → (others : List (List ℕ)) × (sent_frames told ≡ piece_frame old piece ∷ others)
 
 -- a poll to which no frame is handed over leaves addresses and routes in line with what was learnt of routers: nothing of that is due any more
-abbrev pub PollsBringIntoLine : Type 0
-PollsBringIntoLine =
+abbrev pub PollsSyncSlaac : Type 0
+PollsSyncSlaac =
     (t : ℤ) (budget : ℕ) (answer : PollResult) (old new : Host) (told : List Event) (notes : List Note) →
-    Polls t budget answer old told notes new → handed told ≡ [] → sync_instant (at new t) ≡ None
+    Polls t budget answer old told notes new → handed_frames told ≡ [] → sync_instant (at new t) ≡ None
 
 -- the last call of a poll that sends
 pub record EndsIn (t : ℤ) (told : List Event) (new : Host) : Type 0 where
@@ -410,7 +410,7 @@ pub data IsStillDue (H new : Host) : Type 0 where
 abbrev pub LittleStaysDue : Type 0
 LittleStaysDue =
     (t : ℤ) (answer : PollResult) (old new : Host) (told : List Event) (notes : List Note) (x : ℤ) →
-    Egress t answer old told notes new → all_given told ≡ true → length old.sockets.waits ≡ length old.sockets.places → Due (at new t) x → x ≤ℤ t → IsStillDue (at old t) (at new t)
+    Egress t answer old told notes new → all_granted told ≡ true → length old.sockets.waits ≡ length old.sockets.places → Due (at new t) x → x ≤ℤ t → IsStillDue (at old t) (at new t)
 
 -- Frames as others send them
 
@@ -431,5 +431,5 @@ RequestFramesAreRead =
 abbrev pub PollsLeaveLittle : Type 0
 PollsLeaveLittle =
     (t : ℤ) (budget : ℕ) (answer : PollResult) (old new : Host) (told : List Event) (notes : List Note) (x : ℤ) →
-    Polls t budget answer old told notes new → 1 ≤ budget → handed told ≡ [] → all_given told ≡ true → length old.sockets.waits ≡ length old.sockets.places →
+    Polls t budget answer old told notes new → 1 ≤ budget → handed_frames told ≡ [] → all_granted told ≡ true → length old.sockets.waits ≡ length old.sockets.places →
     Due (at new t) x → x ≤ℤ t → (mid : Host) × IsStillDue (at mid t) (at new t)

@@ -13,33 +13,33 @@ use Rattle.ipv6_wire.specs.declared.ipv6_packet.Ipv6Repr.{Ipv6Repr}
 use Rattle.icmpv6_wire.specs.declared.icmpv6.Icmpv6Repr.TheVariants.{Router}
 use Rattle.icmpv6_wire.specs.declared.router.RouterRepr.{RouterRepr}
 use Rattle.icmpv6_wire.specs.declared.router.RouterRepr.TheVariants.{RouterSolicit, RouterAdvert}
-use Rattle.slaac.specs.Slaac.{Learnt, advertised, retry_at, rs_required, rs_sent, seconds, sync_required, updated}
+use Rattle.slaac.specs.Slaac.{SlaacState, slaac_after_message, retry_at, rs_required, rs_sent, seconds, sync_required, slaac_after_update}
 use Rattle.slaac.specs.Sync.{synced_addrs, synced_routes}
 use Rattle.host_machine.specs.Note.{Note}
 use Rattle.host_machine.specs.Host.{Host}
 use Rattle.host_machine.specs.Addresses.{link_local_addr}
 use Rattle.host_machine.specs.Config.{is_ethernet}
-use Rattle.host_machine.specs.Multicast.{moved}
+use Rattle.host_machine.specs.Multicast.{after_address_change}
 use Rattle.host_machine.specs.Packet.{Packet, Ipv6, Icmpv6}
 use Rattle.host_machine.specs.Frame.{sends}
 use Rattle.host_machine.specs.Dispatch.{Outcome, Dispatches}
 
 -- the host with something else learnt
-abbrev pub with_slaac : Host → Learnt → Host
+abbrev pub with_slaac : Host → SlaacState → Host
 with_slaac H learnt = record H { slaac = learnt }
 
 -- an advertisement counts where the host is to take addresses from routers, on a link with hardware addresses, if no router passed it on and it comes
 -- from a router on the link, to all nodes or to an address of the link (RFC 4861 6.1.2, 4.2)
-abbrev pub counts : Host → Ipv6Repr → Bool
-counts H r =
+abbrev pub is_valid_advertisement : Host → Ipv6Repr → Bool
+is_valid_advertisement H r =
     H.slaac_enabled && is_ethernet H.hardware_addr && (r.hop_limit == 255) && is_link_local r.src_addr
     && ((r.dst_addr.bits == all_nodes.bits) || is_link_local r.dst_addr)
 
 -- what is learnt from a message: of an advertisement that counts the router, by its source, and a prefix; a solicitation is for routers (RFC 4861 6.2.6)
-abbrev pub taught : RouterRepr → Host → Ipv6Repr → Learnt
-taught (RouterSolicit lladdr) H r = H.slaac
-taught (RouterAdvert hop_limit flags lifetime lladdr prefix) H r =
-    if counts H r then advertised H.slaac r.src_addr (seconds lifetime) prefix H.moment else H.slaac
+abbrev pub after_advertisement : RouterRepr → Host → Ipv6Repr → SlaacState
+after_advertisement (RouterSolicit lladdr) H r = H.slaac
+after_advertisement (RouterAdvert hop_limit flags lifetime lladdr prefix) H r =
+    if is_valid_advertisement H r then slaac_after_message H.slaac r.src_addr (seconds lifetime) prefix H.moment else H.slaac
 
 -- all routers on the link, ff02::2
 abbrev pub all_routers : Ipv6Address
@@ -72,20 +72,20 @@ abbrev pub solicitation_instant : Host → Option ℤ
 solicitation_instant H = option_and_then (λ p. retry_at H.slaac) (router_solicitation H)
 
 -- the solicitation that is due goes, if the device gives leave, and counts as sent, whatever came of it
-pub data SolicitsRouters (H : Host) (told : List Event) (notes : List Note) (new : Host) : Type 0 where
-  NotDue : due_solicitation H ≡ None → told ≡ [] → notes ≡ [] → new ≡ H → SolicitsRouters H told notes new
-  NoLeave : (p : Packet) → due_solicitation H ≡ Some p → told ≡ Asked H.moment false ∷ [] → notes ≡ [] → new ≡ H → SolicitsRouters H told notes new
+pub data NdiscRsEgress (H : Host) (told : List Event) (notes : List Note) (new : Host) : Type 0 where
+  NotDue : due_solicitation H ≡ None → told ≡ [] → notes ≡ [] → new ≡ H → NdiscRsEgress H told notes new
+  NotGranted : (p : Packet) → due_solicitation H ≡ Some p → told ≡ Asked H.moment false ∷ [] → notes ≡ [] → new ≡ H → NdiscRsEgress H told notes new
   Goes : (p : Packet) (outcome : Outcome) (frames : List (List ℕ)) (mid : Host) → due_solicitation H ≡ Some p → Dispatches p outcome H frames notes mid →
-      told ≡ Asked H.moment true ∷ sends frames → new ≡ with_slaac mid (rs_sent mid.slaac mid.moment) → SolicitsRouters H told notes new
+      told ≡ Asked H.moment true ∷ sends frames → new ≡ with_slaac mid (rs_sent mid.slaac mid.moment) → NdiscRsEgress H told notes new
 
 -- the host with its addresses and its routes in line with what it learnt, as by a change of addresses; what has ended is forgotten
-abbrev pub in_line : Host → Host
-in_line H = record (moved H (synced_addrs H.hardware_addr H.moment H.slaac.prefixes H.ip_addrs)) {
+abbrev pub with_slaac_applied : Host → Host
+with_slaac_applied H = record (after_address_change H (synced_addrs H.hardware_addr H.moment H.slaac.prefixes H.ip_addrs)) {
   routes = synced_routes H.moment H.slaac.routers H.routes;
-  slaac = updated H.slaac H.moment;
+  slaac = slaac_after_update H.slaac H.moment;
   slaac_updated_at = H.moment;
 }
 
 -- that, where it is required: something learnt is new or withdrawn, or has ended
-abbrev pub synced : Host → Host
-synced H = if sync_required H.slaac H.moment then in_line H else H
+abbrev pub after_sync : Host → Host
+after_sync H = if sync_required H.slaac H.moment then with_slaac_applied H else H

@@ -4,7 +4,7 @@ use Rattle.std.specs.List.{AllByRecursion, Contains}
 use Rattle.std.specs.FinMap as map
 use Rattle.net_base.specs.declared.phy.Medium.{Medium}
 use Rattle.net_base.specs.Checksum.{ip_mtu_of, is_rx, is_tx}
-use Rattle.net_base.specs.Device.{handed, sent}
+use Rattle.net_base.specs.Device.{handed_frames, sent_frames}
 use Rattle.ip_address.specs.declared.hardware.HardwareAddress.{HardwareAddress}
 use Rattle.ip_address.specs.declared.hardware.HardwareAddress.TheVariants as hardware
 use Rattle.fragmentation.specs.declared.key.FragKey.{FragKey}
@@ -19,7 +19,7 @@ use Rattle.host_machine.specs.Frame.{piece_frame}
 use Rattle.host_machine.specs.Frames.{Brings}
 use Rattle.ip_address.specs.Hardware.{IsOf}
 use Rattle.host_machine.specs.Real.{IsReal, GivesSix}
-use Rattle.host_machine.specs.Run.{Place, Run, told_in, notes_in}
+use Rattle.host_machine.specs.Run.{Transition, Run, events_in, notes_in}
 use Rattle.host_machine.specs.Arrivals.{rebuilt, slot_notes_in}
 
 -- the packets that were cut, in order
@@ -28,8 +28,8 @@ cuts [] = []
 cuts (Cut d ∷ notes) = d ∷ cuts notes
 cuts (PieceSent p ∷ notes) = cuts notes
 
-abbrev pub cuts_in : List Place → List Datagram
-cuts_in places = cuts (cut_notes (notes_in places))
+abbrev pub cuts_in : List Transition → List Datagram
+cuts_in transitions = cuts (cut_notes (notes_in transitions))
 
 -- what its fragments share
 abbrev pub key_of_cut : Datagram → FragKey
@@ -49,18 +49,18 @@ pub record MayExchange (a b : Host) : Type 0 where
   pub left : a.left ≡ []
 
 -- each frame that is handed over in the one run was sent in the other
-abbrev pub WereSent : List Place → List Place → Type 0
-WereSent ps qs = AllByRecursion (Contains (sent (told_in ps))) (handed (told_in qs))
+abbrev pub WereSent : List Transition → List Transition → Type 0
+WereSent ps qs = AllByRecursion (Contains (sent_frames (events_in ps))) (handed_frames (events_in qs))
 
 -- whatever is rebuilt in a run under the key of one of these packets is that packet's payload
-abbrev pub RebuildsThese : List Datagram → List Place → Type 0
+abbrev pub RebuildsThese : List Datagram → List Transition → Type 0
 RebuildsThese ds qs = AllByRecursion (λ d. AllByRecursion (λ octets. octets ≡ d.payload) (rebuilt (key_of_cut d) (slot_notes_in qs))) ds
 
 -- Where one host takes nothing but frames that another sent, whatever it rebuilds under the key of a packet that the other cut is that
 -- packet's payload. The other cuts no two packets under one key, and the one has no slot with such a key at first.
 abbrev pub RebuildsWhatWasCut : Type 0
 RebuildsWhatWasCut =
-    (a a' b b' : Host) (ps qs : List Place) → Run a ps a' → Run b qs b' → MayExchange a b →
+    (a a' b b' : Host) (ps qs : List Transition) → Run a ps a' → Run b qs b' → MayExchange a b →
     AllByRecursion (λ p. GivesSix p.command) ps → AllByRecursion (λ q. GivesSix q.command) qs → WereSent ps qs →
     HaveOwnKeys (cuts_in ps) → AllByRecursion (λ d. map.get b.slots (key_of_cut d) ≡ None) (cuts_in ps) → RebuildsThese (cuts_in ps) qs
 

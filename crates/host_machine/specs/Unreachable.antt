@@ -10,5 +10,5 @@ use Rattle.host_machine.specs.Icmpv6 as icmpv6
 use Rattle.host_machine.specs.Reply.{Reply}
 
 abbrev pub port_unreachable : Bool → List IpCidr → IpRepr → List ℕ → Option Reply
-port_unreachable by_raw own (Ipv4 r) payload = unreachable by_raw own PortUnreachable r payload
-port_unreachable by_raw own (Ipv6 r) payload = icmpv6.port_unreachable by_raw own r payload
+port_unreachable handled_by_raw_socket own (Ipv4 r) payload = unreachable handled_by_raw_socket own PortUnreachable r payload
+port_unreachable handled_by_raw_socket own (Ipv6 r) payload = icmpv6.port_unreachable handled_by_raw_socket own r payload

@@ -2,7 +2,7 @@
 use Rattle.std.specs.Prelude.{◌≡◌, ℕ, List, [], ◌∷◌}
 use Rattle.std.specs.List.{AllByRecursion}
 use Rattle.net_base.specs.declared.phy.Medium.{Medium}
-use Rattle.net_base.specs.Device.{sent}
+use Rattle.net_base.specs.Device.{sent_frames}
 use Rattle.fragmentation.specs.declared.key.FragKey.{FragKey}
 use Rattle.fragmentation.specs.Fragments.{Fragment}
 use Rattle.fragmentation.specs.Cuts.{Datagram, Piece}
@@ -12,7 +12,7 @@ use Rattle.host_machine.specs.Frame.{piece_frame}
 use Rattle.host_machine.specs.Frames.{Brings}
 use Rattle.ip_address.specs.Hardware.{IsOf}
 use Rattle.host_machine.specs.Real.{IsReal, GivesSix}
-use Rattle.host_machine.specs.Run.{Place, Run, told_in, notes_in}
+use Rattle.host_machine.specs.Run.{Transition, Run, events_in, notes_in}
 
 -- no host on the medium reads a fragment in a frame
 abbrev pub BringsNone : Medium → List ℕ → Type 0
@@ -30,11 +30,11 @@ pub data Shows (m : Medium) : List (List ℕ) → List CutNote → Type 0 where
 -- the frames of a run that a host on the same medium reads as fragments are the pieces that are noted, in order
 abbrev pub FragmentsArePieces : Type 0
 FragmentsArePieces =
-    (first last : Host) (places : List Place) → Run first places last → IsReal first → AllByRecursion (λ p. GivesSix p.command) places →
-    Shows first.capabilities.medium (sent (told_in places)) (cut_notes (notes_in places))
+    (first last : Host) (transitions : List Transition) → Run first transitions last → IsReal first → AllByRecursion (λ p. GivesSix p.command) transitions →
+    Shows first.capabilities.medium (sent_frames (events_in transitions)) (cut_notes (notes_in transitions))
 
 -- what a device can do stays, and so does that hardware addresses are of its medium, so that a run that goes on meets the same premises
 abbrev pub StaysReal : Type 0
 StaysReal =
-    (first last : Host) (places : List Place) → Run first places last → IsReal first → AllByRecursion (λ p. GivesSix p.command) places →
+    (first last : Host) (transitions : List Transition) → Run first transitions last → IsReal first → AllByRecursion (λ p. GivesSix p.command) transitions →
     (last.capabilities ≡ first.capabilities) × IsReal last

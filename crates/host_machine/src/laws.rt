@@ -1,19 +1,19 @@
 //! Laws that follow from the definitions alone, each as the contract of an empty function.
 ghost use Rattle.host_machine.specs.Example.{EchoIsAnswered, PacketIsAnswered, RequestIsAnswered, SenderIsDiscovered};
 ghost use Rattle.host_machine.specs.ExampleAnyIp.{AddressesAreRoutedHere};
-ghost use Rattle.host_machine.specs.Arrivals.{FewAreKept, PiecesAreRebuilt, PiecesComeInTime};
+ghost use Rattle.host_machine.specs.Arrivals.{FewAreKept, PiecesAreRebuilt, PiecesArriveInTime};
 ghost use Rattle.host_machine.specs.ExampleDiscovery.{NeighborIsSolicited};
 ghost use Rattle.host_machine.specs.ExampleIpv6 as ipv6;
-ghost use Rattle.host_machine.specs.ExampleGroups.{GroupsFollowAddresses, JoinsAreTold, LeaveIsTold, QueriesAreHeard, RefusalsAreApart};
-ghost use Rattle.host_machine.specs.ExampleSlaac.{AddressesFollowPrefixes, AdvertisementsAreLearnt, RoutersAreAsked};
+ghost use Rattle.host_machine.specs.ExampleGroups.{GroupsFollowAddresses, JoinsAreReported, LeaveIsReported, QueriesAreAnswered, RefusalsAreApart};
+ghost use Rattle.host_machine.specs.ExampleSlaac.{AddressesFollowPrefixes, AdvertisementsAreApplied, RoutersAreAsked};
 ghost use Rattle.host_machine.specs.ExampleFragments.{DatagramIsRebuilt, FragmentWaits, PacketGoesInPieces, TenAreCut, TimeoutsAreTested};
 ghost use Rattle.host_machine.specs.ExamplePolling.{RequestIsPolled, WaitIsDue};
-ghost use Rattle.host_machine.specs.ExampleSockets.{ConfigurationsAreTested, ConnectionIsReset, DatagramIsDelivered, DatagramIsRefused, ProtocolIsRefused, RawSocketHears, SocketWaits, WindowFitsBurst};
+ghost use Rattle.host_machine.specs.ExampleSockets.{ConfigurationsAreTested, ConnectionIsReset, DatagramIsDelivered, DatagramIsRefused, ProtocolIsRefused, RawSocketReceives, SocketWaits, WindowFitsBurst};
 ghost use Rattle.host_machine.specs.Quiet.{SocketsAreQuiet};
 ghost use Rattle.host_machine.specs.Refusals.{RefusalsLoseNothing};
 ghost use Rattle.host_machine.specs.Determined.{DispatchIsDetermined, EgressIsDetermined, IngressIsDetermined, PollIsDetermined, ReceptionIsDetermined, RunIsDetermined, StepIsDetermined};
-ghost use Rattle.host_machine.specs.Service.{ArpRequestsAreAnswered, ClosedPortsAreTold, DatagramsAreQueued, DueIsDone, FirstDatagramsGo, LittleStaysDue, PiecesGo, PingsAreAnswered, PingsV6AreAnswered, PollsBringIntoLine, PollsEndInCalls, PollsLeaveLittle, RequestFramesAreRead, RequestsGo, SolicitationsAreAnswered};
-ghost use Rattle.host_machine.specs.Laws.{DiscoveriesAreNoted, DispatchesSendOneThing, FragmentsComeInFrames, IngressIsSingle, MalformedIsDropped, RunsJoin, RunsKeepLaws};
+ghost use Rattle.host_machine.specs.Service.{ArpRequestsAreAnswered, ClosedPortsAreAnswered, DatagramsAreQueued, DueIsDone, FirstDatagramsGo, LittleStaysDue, PiecesGo, PingsAreAnswered, PingsV6AreAnswered, PollsSyncSlaac, PollsEndInCalls, PollsLeaveLittle, RequestFramesAreRead, RequestsGo, SolicitationsAreAnswered};
+ghost use Rattle.host_machine.specs.Laws.{DiscoveriesAreNoted, DispatchesSendOneThing, FragmentsArriveInFrames, IngressIsSingle, MalformedIsDropped, RunsJoin, RunsKeepLaws};
 ghost use Rattle.host_machine.specs.Unfolded.{RunsUnfold};
 ghost use Rattle.host_machine.specs.TwoHosts.{PiecesAreRead, RebuildsWhatWasCut};
 ghost use Rattle.host_machine.specs.Wire.{FragmentsArePieces, StaysReal};
@@ -107,8 +107,8 @@ pub fn runs_unfold()
 {}
 
 /// At each place of a run a fragment comes for each frame that is handed over and brings one.
-pub fn fragments_come_in_frames()
-    ensures { FragmentsComeInFrames }
+pub fn fragments_arrive_in_frames()
+    ensures { FragmentsArriveInFrames }
 {}
 
 /// Where all pieces of one payload come under a key, in any order and with repeats before the last
@@ -119,8 +119,8 @@ pub fn pieces_are_rebuilt()
 
 /// The same by moments and for polls: within the time of a slot, beside fragments of one other datagram
 /// at most, the payload is rebuilt at the last missing piece and not before.
-pub fn pieces_come_in_time()
-    ensures { PiecesComeInTime }
+pub fn pieces_arrive_in_time()
+    ensures { PiecesArriveInTime }
 {}
 
 /// The frames of a run that a host on the same medium reads as fragments are the pieces that are noted,
@@ -212,8 +212,8 @@ pub fn datagram_is_refused()
 {}
 
 /// A worked example: a raw socket hears a whole packet, and no error is sent back for it.
-pub fn raw_socket_hears()
-    ensures { RawSocketHears }
+pub fn raw_socket_receives()
+    ensures { RawSocketReceives }
 {}
 
 /// A worked example: a segment that opens a connection, which no socket takes, is answered by a reset.
@@ -278,19 +278,19 @@ pub fn timeouts_are_tested()
 {}
 
 /// A worked example: a join is told by a report, octet by octet, of IGMP over IPv4 and of MLD over IPv6.
-pub fn joins_are_told()
-    ensures { JoinsAreTold }
+pub fn joins_are_reported()
+    ensures { JoinsAreReported }
 {}
 
 /// A worked example: a leave is told by a message of IGMP, octet by octet, and the group is taken out.
-pub fn leave_is_told()
-    ensures { LeaveIsTold }
+pub fn leave_is_reported()
+    ensures { LeaveIsReported }
 {}
 
 /// A worked example: when three groups are reported in answer to a query for all of them, and one in answer
 /// to a query for it; a query for a group that is left, or for all where there is none, changes nothing.
-pub fn queries_are_heard()
-    ensures { QueriesAreHeard }
+pub fn queries_are_answered()
+    ensures { QueriesAreAnswered }
 {}
 
 /// A worked example: where leave to send is refused, joins, leaves and reports ask for it each by itself; a
@@ -306,8 +306,8 @@ pub fn routers_are_asked()
 
 /// A worked example: what an advertisement teaches, and that one from behind a router, from elsewhere, or to
 /// a host that takes no addresses from routers teaches nothing.
-pub fn advertisements_are_learnt()
-    ensures { AdvertisementsAreLearnt }
+pub fn advertisements_are_applied()
+    ensures { AdvertisementsAreApplied }
 {}
 
 /// A worked example: addresses and routes follow what was learnt until its end.
@@ -345,8 +345,8 @@ pub fn datagrams_are_queued()
 
 /// One for a port at which no socket listens brings the error that says so in the call that takes it, unless a
 /// raw socket took it.
-pub fn closed_ports_are_told()
-    ensures { ClosedPortsAreTold }
+pub fn closed_ports_are_answered()
+    ensures { ClosedPortsAreAnswered }
 {}
 
 /// A call that sends, and is given each leave that it asks for, sends the first datagram of each UDP socket that
@@ -385,8 +385,8 @@ pub fn requests_go()
 {}
 
 /// A poll to which no frame is handed over leaves addresses and routes in line with what was learnt of routers.
-pub fn polls_bring_into_line()
-    ensures { PollsBringIntoLine }
+pub fn polls_sync_slaac()
+    ensures { PollsSyncSlaac }
 {}
 
 /// A poll with a budget ends in a call that sends, for which the laws of such calls hold.

@@ -1,6 +1,6 @@
 -- A message is read as it was written.
 use Rattle.std.proofs.Common.{◌≡◌, ℕ, ◌+◌, ◌-◌, ◌/◌, ◌%◌, ◌<◌, ◌^◌, Bool, true, false, IsTrue, List, [], ◌++◌, length, refl, sym, ap, ◌∙◌, append-nil, append_assoc, length-append, Option, Some, None, arith}
-use Rattle.wire_base.specs.Checksum.{folded, word_sum}
+use Rattle.wire_base.specs.Checksum.{folded_sum, word_sum}
 use Rattle.wire_base.proofs.Pseudos.{header_words}
 use Rattle.wire_base.proofs.Sums.{summed_up, word_sum-append}
 use Rattle.ip_address.specs.declared.ipv6.Ipv6Address.{Ipv6Address}
@@ -104,20 +104,20 @@ all_words src dst len c r octets b lt =
     let two = word_sum-append (head_with c r) (body r) 4 (head_length c r) in
     omega (arith, one, two, head_words c r lt)
 
-sums : (src dst : IpAddress) (r : Icmpv6Repr) (octets : List ℕ) → Body r → folded (word_sum (pseudo_header src dst (header_len r + length octets) ++ text true src dst r octets)) ≡ 65535
+sums : (src dst : IpAddress) (r : Icmpv6Repr) (octets : List ℕ) → Body r → folded_sum (word_sum (pseudo_header src dst (header_len r + length octets) ++ text true src dst r octets)) ≡ 65535
 sums src dst r octets b =
     let len : ℕ = header_len r + length octets in
     let before : ℕ = word_sum (pseudo_header src dst len ++ (head_with 0 r ++ body r ++ octets)) in
-    let c : ℕ = 65535 - folded before in
+    let c : ℕ = 65535 - folded_sum before in
     let one = all_words src dst len 0 r octets b (omega arith) in
     let two = all_words src dst len c r octets b (omega arith) in
     let all : word_sum (pseudo_header src dst len ++ (head_with c r ++ body r ++ octets)) ≡ before + c = omega (arith, one, two) in
-    ap folded all ∙ summed_up before c refl
+    ap folded_sum all ∙ summed_up before c refl
 
 checked_sum : (checked summed : Bool) (src dst : IpAddress) (r : Icmpv6Repr) (octets : List ℕ) → Body r → (IsTrue checked → IsTrue summed) → IsTrue checked →
-    folded (word_sum (pseudo_header src dst (length (text summed src dst r octets)) ++ text summed src dst r octets)) ≡ 65535
+    folded_sum (word_sum (pseudo_header src dst (length (text summed src dst r octets)) ++ text summed src dst r octets)) ≡ 65535
 checked_sum checked true src dst r octets b both yes' =
-    ap (λ (n : ℕ). folded (word_sum (pseudo_header src dst n ++ text true src dst r octets))) (text_length (sum_of true src dst r octets) r octets b) ∙ sums src dst r octets b
+    ap (λ (n : ℕ). folded_sum (word_sum (pseudo_header src dst n ++ text true src dst r octets))) (text_length (sum_of true src dst r octets) r octets b) ∙ sums src dst r octets b
 checked_sum checked false src dst r octets b both yes' = absurd (let bad = both yes' in cc)
 
 request_made : (a b : ℕ) (xs : List ℕ) (i s : ℕ) → a ≡ i → b ≡ s → ◌≡◌ {A = Icmpv6Repr × List ℕ} (EchoRequest a b, xs) (EchoRequest i s, xs)

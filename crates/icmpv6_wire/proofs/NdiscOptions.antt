@@ -20,8 +20,8 @@ or_none None = refl
 or_none (Some x) = refl
 
 -- one more option is before the rest
-or_next : {A : Type 0} (behind : Option A) (t : Bool) (a : A) (found : Option A) →
-    option_or behind (cond t (Some a) found) ≡ option_or (option_or behind (cond t (Some a) None)) found
+or_next : {A : Type 0} (after : Option A) (t : Bool) (a : A) (found : Option A) →
+    option_or after (cond t (Some a) found) ≡ option_or (option_or after (cond t (Some a) None)) found
 or_next None true a found = refl
 or_next None false a found = refl
 or_next (Some x) t a found = refl

@@ -2,7 +2,7 @@
 use Rattle.std.specs.Prelude.{◌≡◌, ℕ, ◌+◌, ◌<◌, ◌≤◌, ◌^◌, ◌==◌, Bool, IsTrue, List, [], ◌∷◌, ◌++◌, length, drop, slice_index, if◌then◌else◌}
 use Rattle.std.specs.Borrow.{Bor}
 use Rattle.std.specs.Int.{w16, w32, to_be_bytes}
-use Rattle.wire_base.specs.Checksum.{folded, word_sum, checksum_of}
+use Rattle.wire_base.specs.Checksum.{folded_sum, word_sum, checksum_of}
 use Rattle.wire_base.specs.Octets.{u16_at, u32_at}
 use Rattle.wire_base.specs.Pseudo.{pseudo}
 use Rattle.ip_address.specs.declared.ip.IpAddress.{IpAddress}
@@ -72,12 +72,12 @@ pseudo_header src dst len = pseudo src dst 58 len
 
 -- the octets may be a message: its checksum is right if the sum with the pseudo-header is all ones
 abbrev pub IsSound : Bool → IpAddress → IpAddress → List ℕ → Type 0
-IsSound checked src dst octets = (8 ≤ length octets) × (IsTrue checked → folded (word_sum (pseudo_header src dst (length octets) ++ octets)) ≡ 65535)
+IsSound checked src dst octets = (8 ≤ length octets) × (IsTrue checked → folded_sum (word_sum (pseudo_header src dst (length octets) ++ octets)) ≡ 65535)
 
 -- they are one
 pub record IsIcmpv6 (checked : Bool) (src dst : IpAddress) (octets : List ℕ) : Type 0 where
   pub whole_header : 8 ≤ length octets
-  pub sum : IsTrue checked → folded (word_sum (pseudo_header src dst (length octets) ++ octets)) ≡ 65535
+  pub sum : IsTrue checked → folded_sum (word_sum (pseudo_header src dst (length octets) ++ octets)) ≡ 65535
   pub body : IsBody octets
 
 -- an echo request between two addresses, whose checksum is right
@@ -85,7 +85,7 @@ pub record IsEchoRequest (src dst : IpAddress) (octets : List ℕ) : Type 0 wher
   pub whole_header : 8 ≤ length octets
   pub type : type_in octets ≡ 128
   pub code : code_in octets ≡ 0
-  pub sum : folded (word_sum (pseudo_header src dst (length octets) ++ octets)) ≡ 65535
+  pub sum : folded_sum (word_sum (pseudo_header src dst (length octets) ++ octets)) ≡ 65535
 
 -- its values, and the reply to it, which gives its identifier and its number back, and its data
 abbrev pub echo_request_in : List ℕ → Icmpv6Repr

@@ -27,14 +27,14 @@ pub record IsOption (octets : List ℕ) : Type 0 where
   pub allowed : IsTrue (has_length (slice_index octets 0) (slice_index octets 1))
 
 -- what stands behind it
-abbrev pub behind_option : List ℕ → List ℕ
-behind_option octets = drop (option_len octets) octets
+abbrev pub after_option : List ℕ → List ℕ
+after_option octets = drop (option_len octets) octets
 
 -- the octets from each option on: the next one begins where one's length says; at most so many
 unfoldable pub options_from : ℕ → List ℕ → List (List ℕ)
 options_from zero octets = []
 options_from (suc n) [] = []
-options_from (suc n) (x ∷ xs) = (x ∷ xs) ∷ options_from n (behind_option (x ∷ xs))
+options_from (suc n) (x ∷ xs) = (x ∷ xs) ∷ options_from n (after_option (x ∷ xs))
 
 -- there are no more options than octets
 abbrev pub options_in : List ℕ → List (List ℕ)

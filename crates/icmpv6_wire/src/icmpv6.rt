@@ -4,7 +4,7 @@ ghost use Rattle.std.specs.Prelude.{◌≡◌, ◌==◌, ◌+◌, ◌%◌, ◌<�
 ghost use Rattle.std.specs.Option.{SomeIff, option_map};
 ghost use Rattle.std.specs.Cmp.Rules.{comparing};
 ghost use Rattle.std.proofs.Common.{rules};
-ghost use Rattle.wire_base.specs.Checksum.{folded, word_sum};
+ghost use Rattle.wire_base.specs.Checksum.{folded_sum, word_sum};
 ghost use Rattle.icmpv6_wire.specs.Icmpv6 as spec;
 
 use crate::ndisc::NdiscRepr;
@@ -289,7 +289,7 @@ pub fn is_sound(octets: &[u8], src: &IpAddress, dst: &IpAddress, checked: bool) 
 #[tactic(auto, using(crate::proofs::Icmpv6Sums::before))]
 fn sums_up(octets: &[u8], src: &IpAddress, dst: &IpAddress) -> bool
     requires { length octets.now < 2 ^ 16 }
-    ensures { result ≡ (folded (word_sum (spec.pseudo_header src.now dst.now (length octets.now) ++ octets.now)) == 65535) }
+    ensures { result ≡ (folded_sum (word_sum (spec.pseudo_header src.now dst.now (length octets.now) ++ octets.now)) == 65535) }
 {
     let start = pseudo_header_sum(src, dst, octets.len() as u16);
     sum_with(start, octets) == 0xffff
@@ -298,7 +298,7 @@ fn sums_up(octets: &[u8], src: &IpAddress, dst: &IpAddress) -> bool
 /// What folds as the sum of the pseudo-header of a message of this length, in octets, in whichever sum it is.
 #[inline(always)]
 pub(crate) fn pseudo_header_sum(src: &IpAddress, dst: &IpAddress, len: u16) -> u64
-    ensures folds { (sum : ℕ) → folded (sum + result) ≡ folded (sum + word_sum (spec.pseudo_header src.now dst.now len)) }
+    ensures folds { (sum : ℕ) → folded_sum (sum + result) ≡ folded_sum (sum + word_sum (spec.pseudo_header src.now dst.now len)) }
     ensures small { result < 2 ^ 40 }
 {
     pseudo_sum(src, dst, 58, len)

@@ -37,11 +37,11 @@ pub fn parse_lladdr(octets: &[u8], option_type: NdiscOptionType) -> Option<Optio
     let mut rest = octets;
     let mut found = None;
     while !rest.is_empty() {
-        let behind = behind_option(rest)?;
+        let after = after_option(rest)?;
         if rest[0] == option_type.number() {
             found = Some(address_in(rest));
         }
-        rest = behind;
+        rest = after;
     }
     Some(found)
 }
@@ -49,8 +49,8 @@ pub fn parse_lladdr(octets: &[u8], option_type: NdiscOptionType) -> Option<Optio
 /// What stands behind the option that the octets begin with.
 #[inline(always)]
 #[tactic(auto, using(std::proofs::lemmas::List::take_rest))]
-pub(crate) fn behind_option(octets: &[u8]) -> Option<&[u8]>
-    ensures { SomeIff (option_map spec.octets_of result) (spec.IsOption octets.now) (spec.behind_option octets.now) }
+pub(crate) fn after_option(octets: &[u8]) -> Option<&[u8]>
+    ensures { SomeIff (option_map spec.octets_of result) (spec.IsOption octets.now) (spec.after_option octets.now) }
 {
     if octets.len() < 2 {
         return None;

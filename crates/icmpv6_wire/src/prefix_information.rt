@@ -4,7 +4,7 @@ ghost use Rattle.std.specs.Option.{SomeIff};
 ghost use Rattle.icmpv6_wire.specs.NdiscOption.{AreOptions};
 ghost use Rattle.icmpv6_wire.specs.PrefixInformation as spec;
 
-use crate::ndisc_option::behind_option;
+use crate::ndisc_option::after_option;
 use bitflags::{Flag, Flags, bitflag_items};
 use ip_address::Ipv6Address;
 use ipv6_wire::ipv6_packet::address_at;
@@ -77,11 +77,11 @@ pub fn parse_prefix(octets: &[u8]) -> Option<Option<NdiscPrefixInformation>>
     let mut rest = octets;
     let mut found = None;
     while !rest.is_empty() {
-        let behind = behind_option(rest)?;
+        let after = after_option(rest)?;
         if rest[0] == 3 {
             found = Some(prefix_at(rest));
         }
-        rest = behind;
+        rest = after;
     }
     Some(found)
 }

@@ -75,7 +75,7 @@ impl Device for Link {
 
     ghost tells = { λ old events new. TellsNoRefusal events };
 
-    ghost has_leave = { λ link. true };
+    ghost may_transmit = { λ link. true };
 
     ghost capable = { λ link. capabilities_of link.medium };
 

@@ -9,7 +9,7 @@ use Rattle.std.proofs.alloc.Global.TheLaws as heap
 use Rattle.iface_host.specs.contracts.host.Host as Host
 use Rattle.iface_host.proofs.host.Host.TheLaws as host
 use Rattle.iface_c.specs.contracts.loose.Loose as Loose
-use Rattle.iface_c.specs.contracts.handle.Slot as Place
+use Rattle.iface_c.specs.contracts.handle.Slot as Transition
 
 abbrev pub E : Bx
 E = record { row = Host.the_row; laws = host.the_row_laws; al = record { row = Heap.the_row; laws = heap.the_row_laws; g = ghosts; d = dict; drops = impl [] tnil dnil } }
@@ -18,4 +18,4 @@ abbrev pub FromLoose : Slot 0
 FromLoose = plain (λ _. Loose.the_row Host.the_row Heap.the_row ghosts)
 
 abbrev pub FromPlace : Slot 0
-FromPlace = plain (λ _. Place.the_row)
+FromPlace = plain (λ _. Transition.the_row)

@@ -40,9 +40,9 @@ abbrev pub cidr_in : IfaceAddress → ℕ → Option IpCidr
 cidr_in a n = option_and_then (λ (address : IpAddress). network_of address n) (address_in a)
 
 -- an address as C reads it
-abbrev pub written : IpAddress → IfaceAddress
-written (Ipv4 a) = record { version = 4; octets = to_be_bytes w32 a.bits ++ (0 ∷ 0 ∷ 0 ∷ 0 ∷ 0 ∷ 0 ∷ 0 ∷ 0 ∷ 0 ∷ 0 ∷ 0 ∷ 0 ∷ []) }
-written (Ipv6 a) = record { version = 6; octets = to_be_bytes w128 a.bits }
+abbrev pub address_for_c : IpAddress → IfaceAddress
+address_for_c (Ipv4 a) = record { version = 4; octets = to_be_bytes w32 a.bits ++ (0 ∷ 0 ∷ 0 ∷ 0 ∷ 0 ∷ 0 ∷ 0 ∷ 0 ∷ 0 ∷ 0 ∷ 0 ∷ 0 ∷ []) }
+address_for_c (Ipv6 a) = record { version = 6; octets = to_be_bytes w128 a.bits }
 
 -- one end
 abbrev pub end_in : IfaceEndpoint → Option IpEndpoint
@@ -50,7 +50,7 @@ end_in e = option_map (λ (a : IpAddress). record { addr = a; port = e.port }) (
 
 -- one end as C reads it
 abbrev pub written_end : IpEndpoint → IfaceEndpoint
-written_end e = record { address = written e.addr; port = e.port }
+written_end e = record { address = address_for_c e.addr; port = e.port }
 
 -- the end at which a socket listens: at any address, if the version is 0
 abbrev pub listen_end_in : IfaceEndpoint → Option IpListenEndpoint

@@ -7,7 +7,7 @@ use Rattle.iface_host.specs.Frames.{IsDue}
 use Rattle.iface_host.specs.Sockets as sockets
 use Rattle.iface_c.specs.declared.addresses.IfaceAddress.{IfaceAddress}
 use Rattle.iface_c.specs.declared.addresses.IfaceEndpoint.{IfaceEndpoint}
-use Rattle.iface_c.specs.Addresses.{written, written_end}
+use Rattle.iface_c.specs.Addresses.{address_for_c, written_end}
 
 -- a datagram was read, and where it came from is written
 pub record ReceivesUdp (n : ℕ) (shown : IfaceEndpoint) (len : ℕ) (out : List ℕ) (old new : Host) : Type 0 where
@@ -18,7 +18,7 @@ pub record ReceivesUdp (n : ℕ) (shown : IfaceEndpoint) (len : ℕ) (out : List
 pub record ReceivesIcmp (n : ℕ) (shown : IfaceAddress) (len : ℕ) (out : List ℕ) (old new : Host) : Type 0 where
   pub remote : IpAddress
   pub received : sockets.ReceivesIcmp n remote len out old new
-  pub is_written : shown ≡ written remote
+  pub is_written : shown ≡ address_for_c remote
 
 -- an instant as C reads it: the last number for none
 abbrev pub read_as : Option ℤ → ℤ

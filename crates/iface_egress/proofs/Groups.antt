@@ -14,68 +14,68 @@ use Rattle.host_machine.specs.Host.{Host, SocketSet, with_groups, no_sockets}
 use Rattle.host_machine.specs.Packet.{Packet}
 use Rattle.host_machine.specs.Frame.{frames_in, sends}
 use Rattle.host_machine.specs.Dispatch.{Outcome, Dispatches}
-use Rattle.host_machine.specs.Multicast.{Tells, TellsAll, Begins, Silently, Refused, Told as ToldGroup, All, UpToRefusal}
+use Rattle.host_machine.specs.Multicast.{ReportsEach, ReportsAll, Begins, Silently, Refused, Reported as ToldGroup, All, UpToRefusal}
 use Rattle.host_machine.specs.Parts.{Part}
 use Rattle.iface_send.specs.declared.context.Context.{Context}
 use Rattle.iface_send.specs.Built.{Built}
 use Rattle.iface_send.specs.Stands.{host_in, host_of}
-use Rattle.iface_egress.specs.Multicast.{HasPart, IsOffered, NoPacket, NoLeave, Goes, IsToldOf}
+use Rattle.iface_egress.specs.Multicast.{HasPart, IsOffered, NoPacket, NotGranted, Goes, IsReported}
 use Rattle.iface_egress.specs.Told.{Told}
 
 -- the groups in a state, as far as they were told of
-abbrev pub TellsSo : GroupState → (List IpCidr → IpAddress → Option Packet) → (List Group → IpAddress → List Group) → Bool → Part
-TellsSo state packet_for told_of going old told notes new = Tells state packet_for told_of old going told notes new
+abbrev pub ReportsSo : GroupState → (List IpCidr → IpAddress → Option Packet) → (List Group → IpAddress → List Group) → Bool → Part
+ReportsSo state packet_for after_report granted old told notes new = ReportsEach state packet_for after_report old granted told notes new
 
-module _ (state : GroupState) (packet_for : List IpCidr → IpAddress → Option Packet) (told_of : List Group → IpAddress → List Group) where
+module _ (state : GroupState) (packet_for : List IpCidr → IpAddress → Option Packet) (after_report : List Group → IpAddress → List Group) where
   -- one group more
-  one_more : (old mid new : Host) (a : IpAddress) (going : Bool) (told more : List Event) (notes others : List Note) → Tells state packet_for told_of old true told notes mid →
-      first_in state mid.groups ≡ Some a → IsToldOf packet_for told_of a going mid more others new → Tells state packet_for told_of old going (told ++ more) (notes ++ others) new
-  one_more old mid new a going told more notes others so first one = by one.offered where
-    by : IsOffered (packet_for mid.ip_addrs a) going mid more others one.mid → Tells state packet_for told_of old going (told ++ more) (notes ++ others) new
+  one_more : (old mid new : Host) (a : IpAddress) (granted : Bool) (told more : List Event) (notes others : List Note) → ReportsEach state packet_for after_report old true told notes mid →
+      first_in state mid.groups ≡ Some a → IsReported packet_for after_report a granted mid more others new → ReportsEach state packet_for after_report old granted (told ++ more) (notes ++ others) new
+  one_more old mid new a granted told more notes others so first one = by one.offered where
+    by : IsOffered (packet_for mid.ip_addrs a) granted mid more others one.mid → ReportsEach state packet_for after_report old granted (told ++ more) (notes ++ others) new
     by (NoPacket none is silent unnoted same) =
-        let end : new ≡ with_groups mid (told_of mid.groups a) = one.counts ∙ ap (λ b. if b then with_groups one.mid (told_of one.mid.groups a) else one.mid) is ∙ ap (λ (H : Host). with_groups H (told_of H.groups a)) same in
+        let end : new ≡ with_groups mid (after_report mid.groups a) = one.counts ∙ ap (λ b. if b then with_groups one.mid (after_report one.mid.groups a) else one.mid) is ∙ ap (λ (H : Host). with_groups H (after_report H.groups a)) same in
         rw (end, is, silent, unnoted, append-nil told, append-nil notes) (Silently a so first none)
-    by (NoLeave p some is refused unnoted same) =
-        let end : new ≡ mid = one.counts ∙ ap (λ b. if b then with_groups one.mid (told_of one.mid.groups a) else one.mid) is ∙ same in
+    by (NotGranted p some is refused unnoted same) =
+        let end : new ≡ mid = one.counts ∙ ap (λ b. if b then with_groups one.mid (after_report one.mid.groups a) else one.mid) is ∙ same in
         rw (end, is, refused, unnoted, append-nil notes) (Refused a p so first some)
     by (Goes p outcome frames some is sends_it told_so) =
-        let end : new ≡ with_groups one.mid (told_of one.mid.groups a) = one.counts ∙ ap (λ b. if b then with_groups one.mid (told_of one.mid.groups a) else one.mid) is in
+        let end : new ≡ with_groups one.mid (after_report one.mid.groups a) = one.counts ∙ ap (λ b. if b then with_groups one.mid (after_report one.mid.groups a) else one.mid) is in
         rw (end, is, told_so) (ToldGroup a p outcome frames others one.mid so first some sends_it)
 
   module _ {D : Type 0} {tells : D → List Event → D → Type 0} where
-    pub none_told : {d : D} (c : Context) → tells d [] d → Told tells d d (HasPart (TellsSo state packet_for told_of true) c) c
+    pub none_told : {d : D} (c : Context) → tells d [] d → Told tells d d (HasPart (ReportsSo state packet_for after_report true) c) c
     none_told c quiet = record { told = []; notes = []; tells_it = quiet; follows = λ slots sockets. Begins }
 
-    pub one_told : {d m e : D} (c c' c'' : Context) (going : Bool) (a : IpAddress) → ((a b c : D) (xs ys : List Event) → tells a xs b → tells b ys c → tells a (xs ++ ys) c) →
-        Told tells d m (HasPart (TellsSo state packet_for told_of true) c) c' → (first_in state (host_of c' no_sockets).groups ≡ Some a) →
-        Told tells m e (HasPart (IsToldOf packet_for told_of a going) c') c'' → Told tells d e (HasPart (TellsSo state packet_for told_of going) c) c''
-    one_told {d} {m} {e} c c' c'' going a tells_on so first one = record {
+    pub one_reported : {d m e : D} (c c' c'' : Context) (granted : Bool) (a : IpAddress) → ((a b c : D) (xs ys : List Event) → tells a xs b → tells b ys c → tells a (xs ++ ys) c) →
+        Told tells d m (HasPart (ReportsSo state packet_for after_report true) c) c' → (first_in state (host_of c' no_sockets).groups ≡ Some a) →
+        Told tells m e (HasPart (IsReported packet_for after_report a granted) c') c'' → Told tells d e (HasPart (ReportsSo state packet_for after_report granted) c) c''
+    one_reported {d} {m} {e} c c' c'' granted a tells_on so first one = record {
       told = so.told ++ one.told;
       notes = so.notes ++ one.notes;
       tells_it = tells_on d m e so.told one.told so.tells_it one.tells_it;
-      follows = λ slots sockets. one_more (host_in c slots sockets) (host_in c' slots sockets) (host_in c'' slots sockets) a going so.told one.told so.notes one.notes (so.follows slots sockets) first (one.follows slots sockets);
+      follows = λ slots sockets. one_more (host_in c slots sockets) (host_in c' slots sockets) (host_in c'' slots sockets) a granted so.told one.told so.notes one.notes (so.follows slots sockets) first (one.follows slots sockets);
     }
 
-    pub all_told : {d e : D} (c c' : Context) → Told tells d e (HasPart (TellsSo state packet_for told_of true) c) c' → first_in state (host_of c' no_sockets).groups ≡ None →
-        Told tells d e (HasPart (TellsAll state packet_for told_of) c) c'
-    all_told c c' so none = record { told = so.told; notes = so.notes; tells_it = so.tells_it; follows = λ slots sockets. All (so.follows slots sockets) none }
+    pub all_reported : {d e : D} (c c' : Context) → Told tells d e (HasPart (ReportsSo state packet_for after_report true) c) c' → first_in state (host_of c' no_sockets).groups ≡ None →
+        Told tells d e (HasPart (ReportsAll state packet_for after_report) c) c'
+    all_reported c c' so none = record { told = so.told; notes = so.notes; tells_it = so.tells_it; follows = λ slots sockets. All (so.follows slots sockets) none }
 
-    pub told_until : {d e : D} (c c' : Context) (going : Bool) → going ≡ false → Told tells d e (HasPart (TellsSo state packet_for told_of going) c) c' →
-        Told tells d e (HasPart (TellsAll state packet_for told_of) c) c'
-    told_until c c' going refused so = record { told = so.told; notes = so.notes; tells_it = so.tells_it; follows = λ slots sockets. UpToRefusal (rw refused at (so.follows slots sockets)) }
+    pub told_until : {d e : D} (c c' : Context) (granted : Bool) → granted ≡ false → Told tells d e (HasPart (ReportsSo state packet_for after_report granted) c) c' →
+        Told tells d e (HasPart (ReportsAll state packet_for after_report) c) c'
+    told_until c c' granted refused so = record { told = so.told; notes = so.notes; tells_it = so.tells_it; follows = λ slots sockets. UpToRefusal (rw refused at (so.follows slots sockets)) }
 
 module _ {D : Type 0} {tells : D → List Event → D → Type 0} where
   -- a packet that is offered
-  pub no_packet : {d : D} {packet : Option Packet} {going : Bool} (c : Context) → tells d [] d → packet ≡ None → going ≡ true → Told tells d d (HasPart (IsOffered packet going) c) c
+  pub no_packet : {d : D} {packet : Option Packet} {granted : Bool} (c : Context) → tells d [] d → packet ≡ None → granted ≡ true → Told tells d d (HasPart (IsOffered packet granted) c) c
   no_packet c quiet none is = record { told = []; notes = []; tells_it = quiet; follows = λ slots sockets. NoPacket none is refl refl refl }
 
-  pub no_leave : {d e : D} {packet : Option Packet} {going : Bool} (c : Context) (p : Packet) → tells d (Asked c.moment false ∷ []) e → packet ≡ Some p → going ≡ false →
-      Told tells d e (HasPart (IsOffered packet going) c) c
-  no_leave c p asks some is = record { told = Asked c.moment false ∷ []; notes = []; tells_it = asks; follows = λ slots sockets. NoLeave p some is refl refl refl }
+  pub not_granted : {d e : D} {packet : Option Packet} {granted : Bool} (c : Context) (p : Packet) → tells d (Asked c.moment false ∷ []) e → packet ≡ Some p → granted ≡ false →
+      Told tells d e (HasPart (IsOffered packet granted) c) c
+  not_granted c p asks some is = record { told = Asked c.moment false ∷ []; notes = []; tells_it = asks; follows = λ slots sockets. NotGranted p some is refl refl refl }
 
-  pub goes : {d m e : D} {buffer : List ℕ} {packet : Option Packet} {going : Bool} (c c' : Context) → ((a b c : D) (xs ys : List Event) → tells a xs b → tells b ys c → tells a (xs ++ ys) c) →
-      (p : Packet) (o : Outcome) → tells d (Asked c.moment true ∷ []) m → Built buffer (Dispatches p o) c c' → tells m (sends (frames_in buffer)) e → packet ≡ Some p → going ≡ true →
-      Told tells d e (HasPart (IsOffered packet going) c) c'
+  pub goes : {d m e : D} {buffer : List ℕ} {packet : Option Packet} {granted : Bool} (c c' : Context) → ((a b c : D) (xs ys : List Event) → tells a xs b → tells b ys c → tells a (xs ++ ys) c) →
+      (p : Packet) (o : Outcome) → tells d (Asked c.moment true ∷ []) m → Built buffer (Dispatches p o) c c' → tells m (sends (frames_in buffer)) e → packet ≡ Some p → granted ≡ true →
+      Told tells d e (HasPart (IsOffered packet granted) c) c'
   goes {d} {m} {e} {buffer} c c' tells_on p o asks built sends_it some is = record {
     told = Asked c.moment true ∷ sends (frames_in buffer);
     notes = built.notes;
@@ -84,11 +84,11 @@ module _ {D : Type 0} {tells : D → List Event → D → Type 0} where
   }
 
   -- what was told of a group counts
-  pub told_of_it : {d e : D} (packet_for : List IpCidr → IpAddress → Option Packet) (told_of : List Group → IpAddress → List Group) (a : IpAddress) (going : Bool) (c c' c'' : Context) →
-      Told tells d e (HasPart (IsOffered (packet_for (host_of c no_sockets).ip_addrs a) going) c) c' →
-      ((slots : Slots) (sockets : SocketSet) → host_in c'' slots sockets ≡ (if going then with_groups (host_in c' slots sockets) (told_of (host_in c' slots sockets).groups a) else host_in c' slots sockets)) →
-      Told tells d e (HasPart (IsToldOf packet_for told_of a going) c) c''
-  told_of_it packet_for told_of a going c c' c'' offered counts = record {
+  pub reported_it : {d e : D} (packet_for : List IpCidr → IpAddress → Option Packet) (after_report : List Group → IpAddress → List Group) (a : IpAddress) (granted : Bool) (c c' c'' : Context) →
+      Told tells d e (HasPart (IsOffered (packet_for (host_of c no_sockets).ip_addrs a) granted) c) c' →
+      ((slots : Slots) (sockets : SocketSet) → host_in c'' slots sockets ≡ (if granted then with_groups (host_in c' slots sockets) (after_report (host_in c' slots sockets).groups a) else host_in c' slots sockets)) →
+      Told tells d e (HasPart (IsReported packet_for after_report a granted) c) c''
+  reported_it packet_for after_report a granted c c' c'' offered counts = record {
     told = offered.told;
     notes = offered.notes;
     tells_it = offered.tells_it;

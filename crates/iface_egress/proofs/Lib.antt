@@ -1,6 +1,6 @@
-mod Dispatched
+mod DispatchFrame
 mod Groups
 mod Records
-mod Reporting
-mod Turned
-mod Soliciting
+mod GroupReports
+mod SocketTurns
+mod RouterSolicitations

@@ -14,11 +14,11 @@ abbrev record_for : Ipv6Address → List ℕ
 record_for a = record_text (record { record_type = ModeIsExclude; mcast_addr = a })
 
 -- what is left behind a group of the one family, and of the other
-behind_v6 : (gs : List Group) (i : ℕ) (d : Group) (a : Ipv6Address) → i < length gs → (get_or gs i d).addr ≡ Ipv6 a → ipv6_groups (drop i gs) ≡ a ∷ ipv6_groups (drop (i + 1) gs)
-behind_v6 gs i d a within is = at_drop_more ipv6_groups gs i d within ∙ rw is refl
+after_v6 : (gs : List Group) (i : ℕ) (d : Group) (a : Ipv6Address) → i < length gs → (get_or gs i d).addr ≡ Ipv6 a → ipv6_groups (drop i gs) ≡ a ∷ ipv6_groups (drop (i + 1) gs)
+after_v6 gs i d a within is = at_drop_more ipv6_groups gs i d within ∙ rw is refl
 
-behind_v4 : (gs : List Group) (i : ℕ) (d : Group) (a : Ipv4Address) → i < length gs → (get_or gs i d).addr ≡ Ipv4 a → ipv6_groups (drop i gs) ≡ ipv6_groups (drop (i + 1) gs)
-behind_v4 gs i d a within is = at_drop_more ipv6_groups gs i d within ∙ rw is refl
+after_v4 : (gs : List Group) (i : ℕ) (d : Group) (a : Ipv4Address) → i < length gs → (get_or gs i d).addr ≡ Ipv4 a → ipv6_groups (drop i gs) ≡ ipv6_groups (drop (i + 1) gs)
+after_v4 gs i d a within is = at_drop_more ipv6_groups gs i d within ∙ rw is refl
 
 -- what holds of the records of the first groups
 abbrev pub Pushed : List Group → ℕ → List ℕ → ℕ → Type 0
@@ -31,13 +31,13 @@ Pushed gs i records count =
 pub one_pushed : (gs : List Group) (i count : ℕ) (d : Group) (a : Ipv6Address) (records more : List ℕ) → i < length gs → (get_or gs i d).addr ≡ Ipv6 a → more ≡ records ++ record_for a → length more ≡ length records + 20 →
     Pushed gs i records count → Pushed gs (i + 1) more (count + 1)
 one_pushed gs i count d a records more within is pushed len p =
-    let behind = behind_v6 gs i d a within is in (
-      rw pushed (append_assoc records (record_for a) (records_of ModeIsExclude (ipv6_groups (drop (i + 1) gs))) ∙ (rw behind at p.0)),
-      (let counted = rw behind at p.1 in omega (arith, counted)),
+    let after = after_v6 gs i d a within is in (
+      rw pushed (append_assoc records (record_for a) (records_of ModeIsExclude (ipv6_groups (drop (i + 1) gs))) ∙ (rw after at p.0)),
+      (let counted = rw after at p.1 in omega (arith, counted)),
       (let so = p.2 in omega (arith, so, len)),
       (let so = p.3 in omega (arith, so)),
     )
 
 pub none_pushed : (gs : List Group) (i count : ℕ) (d : Group) (a : Ipv4Address) (records : List ℕ) → i < length gs → (get_or gs i d).addr ≡ Ipv4 a → Pushed gs i records count → Pushed gs (i + 1) records count
 none_pushed gs i count d a records within is p =
-    let behind = behind_v4 gs i d a within is in (rw behind at p.0, rw behind at p.1, p.2, (let so = p.3 in omega (arith, so)))
+    let after = after_v4 gs i d a within is in (rw after at p.0, rw after at p.1, p.2, (let so = p.3 in omega (arith, so)))

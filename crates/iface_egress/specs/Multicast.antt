@@ -19,15 +19,15 @@ abbrev pub HasPart : Part → Context → List Event → List Note → Context �
 HasPart part old told notes new = (slots : Slots) (sockets : SocketSet) → part (host_in old slots sockets) told notes (host_in new slots sockets)
 
 -- a packet goes, if there is one and the device gives leave; and whether that wasn't refused
-pub data IsOffered (packet : Option Packet) (going : Bool) (H : Host) (told : List Event) (notes : List Note) (new : Host) : Type 0 where
-  NoPacket : packet ≡ None → going ≡ true → told ≡ [] → notes ≡ [] → new ≡ H → IsOffered packet going H told notes new
-  NoLeave : (p : Packet) → packet ≡ Some p → going ≡ false → told ≡ Asked H.moment false ∷ [] → notes ≡ [] → new ≡ H → IsOffered packet going H told notes new
-  Goes : (p : Packet) (outcome : Outcome) (frames : List (List ℕ)) → packet ≡ Some p → going ≡ true → Dispatches p outcome H frames notes new →
-      told ≡ Asked H.moment true ∷ sends frames → IsOffered packet going H told notes new
+pub data IsOffered (packet : Option Packet) (granted : Bool) (H : Host) (told : List Event) (notes : List Note) (new : Host) : Type 0 where
+  NoPacket : packet ≡ None → granted ≡ true → told ≡ [] → notes ≡ [] → new ≡ H → IsOffered packet granted H told notes new
+  NotGranted : (p : Packet) → packet ≡ Some p → granted ≡ false → told ≡ Asked H.moment false ∷ [] → notes ≡ [] → new ≡ H → IsOffered packet granted H told notes new
+  Goes : (p : Packet) (outcome : Outcome) (frames : List (List ℕ)) → packet ≡ Some p → granted ≡ true → Dispatches p outcome H frames notes new →
+      told ≡ Asked H.moment true ∷ sends frames → IsOffered packet granted H told notes new
 
 -- it is told of a group, which counts as told of unless leave was refused
-pub record IsToldOf (packet_for : List IpCidr → IpAddress → Option Packet) (told_of : List Group → IpAddress → List Group) (a : IpAddress) (going : Bool)
+pub record IsReported (packet_for : List IpCidr → IpAddress → Option Packet) (after_report : List Group → IpAddress → List Group) (a : IpAddress) (granted : Bool)
     (H : Host) (told : List Event) (notes : List Note) (new : Host) : Type 0 where
   pub mid : Host
-  pub offered : IsOffered (packet_for H.ip_addrs a) going H told notes mid
-  pub counts : new ≡ (if going then with_groups mid (told_of mid.groups a) else mid)
+  pub offered : IsOffered (packet_for H.ip_addrs a) granted H told notes mid
+  pub counts : new ≡ (if granted then with_groups mid (after_report mid.groups a) else mid)

@@ -2,16 +2,16 @@
 use Rattle.std.specs.Prelude.{◌≡◌, ℕ, Bool, true, false, List, [], ◌∷◌, Option, Some, None}
 use Rattle.net_base.specs.Device.{Event, Asked}
 use Rattle.host_machine.specs.declared.results.Turn.{Turn}
-use Rattle.host_machine.specs.declared.results.Turn.TheVariants.{Idle, Gone, Unsent, Exhausted}
+use Rattle.host_machine.specs.declared.results.Turn.TheVariants.{Idle, Done, Deferred, Exhausted}
 use Rattle.host_machine.specs.Note.{Note}
 use Rattle.fragmentation.specs.Slots.{Slots}
-use Rattle.socket_set.specs.SocketMeta.{IsTold, is_permitted, after_asking}
+use Rattle.socket_set.specs.SocketMeta.{IsAnswerFor, is_permitted, after_asking}
 use Rattle.socket_set.specs.SocketSet.{socket_at, wait_at, with_wait}
 use Rattle.host_machine.specs.Host.{Host, Socket, SocketSet}
 use Rattle.host_machine.specs.Packet.{Packet}
 use Rattle.host_machine.specs.Frame.{sends}
 use Rattle.host_machine.specs.Dispatch.{Outcome, Dispatches, KnowsNextHop}
-use Rattle.host_machine.specs.Egress.{SocketTurn, SendsPiece, turn_of}
+use Rattle.host_machine.specs.Egress.{SocketTurn, Ipv4Egress, turn_of}
 use Rattle.iface_send.specs.declared.context.Context.{Context}
 use Rattle.iface_send.specs.Stands.{host_in}
 
@@ -35,19 +35,19 @@ OfferHasTurn packet turn old told_it notes new =
 
 -- what its socket is told: whether it is gone, if there was one and leave was given
 abbrev pub outcome_of : Turn → Option Bool
-outcome_of Gone = Some true
-outcome_of (Unsent destination) = Some false
+outcome_of Done = Some true
+outcome_of (Deferred destination) = Some false
 outcome_of Idle = None
 outcome_of Exhausted = None
 
 -- the turn of the pieces that are left, whatever the slots and the sockets are
 abbrev pub PieceHasTurn : Context → List Event → List Note → Context → Type 0
-PieceHasTurn old told notes new = (slots : Slots) (sockets : SocketSet) → SendsPiece (host_in old slots sockets) told notes (host_in new slots sockets)
+PieceHasTurn old told notes new = (slots : Slots) (sockets : SocketSet) → Ipv4Egress (host_in old slots sockets) told notes (host_in new slots sockets)
 
 -- whether the socket of a place may be asked, and the sockets after it was decided: a known neighbour ends the wait. Slots don't matter
 pub data IsDecided (c : Context) (sockets : SocketSet) (i : ℕ) (permitted : Bool) (new : SocketSet) : Type 0 where
   NoSocket : socket_at sockets i ≡ None → permitted ≡ false → new ≡ sockets → IsDecided c sockets i permitted new
   OfSocket : (s : Socket) (known : Bool) → socket_at sockets i ≡ Some s →
-      ((slots : Slots) → IsTold (KnowsNextHop (host_in c slots sockets)) (wait_at sockets i) known) →
+      ((slots : Slots) → IsAnswerFor (KnowsNextHop (host_in c slots sockets)) (wait_at sockets i) known) →
       permitted ≡ is_permitted (wait_at sockets i) known c.moment → new ≡ with_wait sockets i (after_asking (wait_at sockets i) known) →
       IsDecided c sockets i permitted new

@@ -4,7 +4,7 @@ ghost use Rattle.std.specs.Option.{option_map};
 ghost use Rattle.host_machine.specs.Host.{no_sockets};
 ghost use Rattle.host_machine.specs.Packet.{IsWritable};
 ghost use Rattle.host_machine.specs.Slaac as spec;
-ghost use Rattle.iface_send.specs.Shown as shown;
+ghost use Rattle.iface_send.specs.PacketValues as value_of;
 ghost use Rattle.iface_send.specs.Stands.{host_of};
 ghost use Rattle.iface_egress.specs.Multicast.{HasPart};
 ghost use Rattle.iface_egress.specs.Told.{Told};
@@ -26,13 +26,13 @@ const ALL_ROUTERS: Ipv6Address = Ipv6Address {
 
 /// Sends the router solicitation that is due, if one is and the device gives leave. It counts as sent,
 /// whatever came of it. Without leave it stays due.
-pub fn rs_egress<D: Device>(context: &mut Context, device: &mut D, out: &mut FrameBuffer)
-    ensures { Told D.tells device.old device.new (HasPart spec.SolicitsRouters context.old) context.new }
+pub fn ndisc_rs_egress<D: Device>(context: &mut Context, device: &mut D, out: &mut FrameBuffer)
+    ensures { Told D.tells device.old device.new (HasPart spec.NdiscRsEgress context.old) context.new }
 {
     if !may_solicit(context) {
         return;
     }
-    solicit(context, device, out);
+    send_router_solicit(context, device, out);
 }
 
 /// Whether a router solicitation may be due, which it mostly isn't: the interface is to take addresses from
@@ -44,10 +44,10 @@ fn may_solicit(context: &Context) -> bool
     context.is_slaac_enabled() && context.slaac().rs_required(context.now())
 }
 
-/// The same as [`rs_egress`], where one may be due.
+/// The same as [`ndisc_rs_egress`], where one may be due.
 #[inline(never)]
-fn solicit<D: Device>(context: &mut Context, device: &mut D, out: &mut FrameBuffer)
-    ensures { Told D.tells device.old device.new (HasPart spec.SolicitsRouters context.old) context.new }
+fn send_router_solicit<D: Device>(context: &mut Context, device: &mut D, out: &mut FrameBuffer)
+    ensures { Told D.tells device.old device.new (HasPart spec.NdiscRsEgress context.old) context.new }
 {
     let Some(packet) = due_solicitation(context) else {
         return;
@@ -68,8 +68,8 @@ pub fn rs_poll_at(context: &Context) -> Option<Instant>
 
 /// The router solicitation that is due at the interface's moment, if one is.
 fn due_solicitation(context: &Context) -> Option<Packet<'static>>
-    ensures value { option_map shown.packet result ≡ spec.due_solicitation (host_of context.now no_sockets) }
-    ensures writable { IfSome result (λ p. IsWritable (shown.packet p)) }
+    ensures value { option_map value_of.packet result ≡ spec.due_solicitation (host_of context.now no_sockets) }
+    ensures writable { IfSome result (λ p. IsWritable (value_of.packet p)) }
 {
     if !context.slaac().rs_required(context.now()) {
         return None;
@@ -80,8 +80,8 @@ fn due_solicitation(context: &Context) -> Option<Packet<'static>>
 /// The solicitation with which the interface asks routers, if it is to take addresses from them, its medium
 /// has hardware addresses, and it has a link-local address to send it from.
 fn router_solicitation(context: &Context) -> Option<Packet<'static>>
-    ensures value { option_map shown.packet result ≡ spec.router_solicitation (host_of context.now no_sockets) }
-    ensures writable { IfSome result (λ p. IsWritable (shown.packet p)) }
+    ensures value { option_map value_of.packet result ≡ spec.router_solicitation (host_of context.now no_sockets) }
+    ensures writable { IfSome result (λ p. IsWritable (value_of.packet p)) }
 {
     if !context.is_slaac_enabled() {
         return None;
@@ -97,8 +97,8 @@ fn router_solicitation(context: &Context) -> Option<Packet<'static>>
 
 /// A solicitation of routers, with the interface's own hardware address (RFC 4861 4.1).
 fn solicitation_from(own: EthernetAddress, source: Ipv6Address) -> Packet<'static>
-    ensures value { shown.packet result ≡ spec.solicitation_from own source }
-    ensures writable { IsWritable (shown.packet result) }
+    ensures value { value_of.packet result ≡ spec.solicitation_from own source }
+    ensures writable { IsWritable (value_of.packet result) }
 {
     let message = RouterRepr::RouterSolicit { lladdr: Some(own) };
     Packet::Ipv6(PacketV6 {

@@ -14,7 +14,7 @@ ghost use Rattle.host_machine.specs.Host.{Socket, SocketSet};
 ghost use Rattle.host_machine.specs.Dispatch.{KnowsNextHop};
 ghost use Rattle.host_machine.specs.Egress as spec;
 ghost use Rattle.host_machine.specs.Packet.{IsWritable, IsWritablePayload};
-ghost use Rattle.iface_send.specs.Shown as shown;
+ghost use Rattle.iface_send.specs.PacketValues as value_of;
 ghost use Rattle.iface_send.specs.Stands.{host_in};
 ghost use Rattle.iface_egress.specs.Told.{Told};
 ghost use Rattle.iface_egress.specs.Turns.{HasTurn, IsDecided, OfferHasTurn, PieceHasTurn, outcome_of};
@@ -39,7 +39,7 @@ use sockets::{SocketContext, icmp, raw, tcp, udp};
 pub fn ipv4_egress<D: Device>(context: &mut Context, device: &mut D, out: &mut FrameBuffer)
     ensures { Told D.tells device.old device.new (PieceHasTurn context.old) context.new }
 {
-    if !context.has_waiting_piece() {
+    if !context.has_pending_fragment() {
         return;
     }
     if !device.transmit(context.now()) {
@@ -58,7 +58,7 @@ pub fn socket_egress<D: Device>(
     out: &mut FrameBuffer,
     sockets: &mut SocketSet<'_>,
 ) -> bool
-    ensures { (slots : Slots) → Told D.tells device.old device.new (spec.SocketsSend (host_in context.old slots sockets.old) result) (host_in context.new slots sockets.new) }
+    ensures { (slots : Slots) → Told D.tells device.old device.new (spec.SocketEgress (host_in context.old slots sockets.old) result) (host_in context.new slots sockets.new) }
 {
     let mut changed = false;
     let mut index = by_index::next_busy(sockets, 0);
@@ -67,7 +67,7 @@ pub fn socket_egress<D: Device>(
         if turn.is_exhausted() {
             return changed;
         }
-        changed |= turn.is_gone();
+        changed |= turn.is_done();
         index = by_index::next_busy(sockets, index + 1);
     }
     changed
@@ -110,7 +110,7 @@ fn serve_busy<D: Device>(
         return Turn::Idle;
     }
     let turn = give_turn(sockets, index, context, device, out);
-    keep_wait(sockets, index, now, turn);
+    wait_for_neighbor(sockets, index, now, turn);
     turn
 }
 
@@ -130,13 +130,13 @@ fn is_permitted(context: &Context, sockets: &mut SocketSet<'_>, index: usize) ->
 }
 
 /// Lets the socket at an index wait for the destination of its packet, if that isn't gone.
-fn keep_wait(sockets: &mut SocketSet<'_>, index: usize, now: Instant, turn: Turn)
+fn wait_for_neighbor(sockets: &mut SocketSet<'_>, index: usize, now: Instant, turn: Turn)
     requires { IsMoment now }
     ensures { sockets.new ≡ with_wait sockets.old index (spec.wait_after turn now (wait_at sockets.old index)) }
 {
     match turn {
-        Turn::Unsent(destination) => by_index::neighbor_missing(sockets, index, now, destination),
-        Turn::Idle | Turn::Gone | Turn::Exhausted => {}
+        Turn::Deferred(destination) => by_index::neighbor_missing(sockets, index, now, destination),
+        Turn::Idle | Turn::Done | Turn::Exhausted => {}
     }
 }
 
@@ -249,8 +249,8 @@ fn outcome(turn: Turn) -> Option<bool>
     ensures { result ≡ outcome_of turn }
 {
     match turn {
-        Turn::Gone => Some(true),
-        Turn::Unsent(_) => Some(false),
+        Turn::Done => Some(true),
+        Turn::Deferred(_) => Some(false),
         Turn::Idle | Turn::Exhausted => None,
     }
 }
@@ -263,8 +263,8 @@ fn send_if<D: Device>(
     out: &mut FrameBuffer,
     packet: Option<Packet<'_>>,
 ) -> Turn
-    requires { IfSome packet (λ p. IsWritable (shown.packet p)) }
-    ensures { Told D.tells device.old device.new (OfferHasTurn (option_map shown.packet packet.entry) result context.old) context.new }
+    requires { IfSome packet (λ p. IsWritable (value_of.packet p)) }
+    ensures { Told D.tells device.old device.new (OfferHasTurn (option_map value_of.packet packet.entry) result context.old) context.new }
 {
     match packet {
         Some(packet) => send(context, device, out, &packet),
@@ -279,7 +279,7 @@ fn send_datagram<D: Device>(
     out: &mut FrameBuffer,
     datagram: &udp::Packet<'_>,
 ) -> Turn
-    ensures { Told D.tells device.old device.new (OfferHasTurn (spec.packet_of (kinds.UdpOffer (udp.shown datagram.now))) result context.old) context.new }
+    ensures { Told D.tells device.old device.new (OfferHasTurn (spec.packet_of (kinds.UdpOffer (udp.value_of datagram.now))) result context.old) context.new }
 {
     let hop_limit = datagram.hop_limit;
     let payload = Datagram {
@@ -329,16 +329,16 @@ fn send<D: Device, Q: AnyPacket>(
     let gone = dispatch(context, packet, out).is_ok();
     send_frame(device, out);
     if gone {
-        Turn::Gone
+        Turn::Done
     } else {
-        Turn::Unsent(packet.dst_addr())
+        Turn::Deferred(packet.dst_addr())
     }
 }
 
 /// A packet of a raw socket, whose header is written anew.
 fn raw_packet<'p>(packet: &raw::Packet<'p>) -> Packet<'p>
-    ensures value { Some (shown.packet result) ≡ spec.packet_of (kinds.RawOffer (raw.shown packet.now)) }
-    ensures writable { IsWritable (shown.packet result) }
+    ensures value { Some (value_of.packet result) ≡ spec.packet_of (kinds.RawOffer (raw.value_of packet.now)) }
+    ensures writable { IsWritable (value_of.packet result) }
 {
     let payload = IpPayload::Raw(packet.header.next_header(), packet.payload);
     Packet::new(packet.header, payload)
@@ -346,8 +346,8 @@ fn raw_packet<'p>(packet: &raw::Packet<'p>) -> Packet<'p>
 
 /// A message of an ICMP socket, which sends echo messages alone.
 fn icmp_packet<'p>(packet: &icmp::Packet<'p>) -> Option<Packet<'p>>
-    ensures value { option_map shown.packet result ≡ spec.packet_of (kinds.IcmpOffer (icmp.shown packet.now)) }
-    ensures writable { IfSome result (λ p. IsWritable (shown.packet p)) }
+    ensures value { option_map value_of.packet result ≡ spec.packet_of (kinds.IcmpOffer (icmp.value_of packet.now)) }
+    ensures writable { IfSome result (λ p. IsWritable (value_of.packet p)) }
 {
     let payload = echo_payload(&packet.repr, packet.payload)?;
     packet_between(
@@ -360,8 +360,8 @@ fn icmp_packet<'p>(packet: &icmp::Packet<'p>) -> Option<Packet<'p>>
 
 /// A message as a payload, if it is an echo message.
 fn echo_payload<'p>(repr: &IcmpRepr, octets: &'p [u8]) -> Option<IpPayload<'p>>
-    ensures value { option_map shown.payload result ≡ spec.if_echo repr.now octets.now }
-    ensures writable { IfSome result (λ p. IsWritablePayload (shown.payload p)) }
+    ensures value { option_map value_of.payload result ≡ spec.if_echo repr.now octets.now }
+    ensures writable { IfSome result (λ p. IsWritablePayload (value_of.payload p)) }
 {
     match repr {
         IcmpRepr::Ipv4(message @ (Icmpv4Repr::EchoRequest { .. } | Icmpv4Repr::EchoReply { .. })) =>
@@ -374,8 +374,8 @@ fn echo_payload<'p>(repr: &IcmpRepr, octets: &'p [u8]) -> Option<IpPayload<'p>>
 
 /// A segment of a TCP socket.
 fn tcp_packet<'p>(segment: &tcp::Packet<'p>) -> Option<Packet<'p>>
-    ensures value { option_map shown.packet result ≡ spec.packet_of (kinds.TcpOffer (tcp.shown segment.now)) }
-    ensures writable { IfSome result (λ p. IsWritable (shown.packet p)) }
+    ensures value { option_map value_of.packet result ≡ spec.packet_of (kinds.TcpOffer (tcp.value_of segment.now)) }
+    ensures writable { IfSome result (λ p. IsWritable (value_of.packet p)) }
 {
     let payload = IpPayload::Tcp(segment.repr, segment.payload);
     packet_between(
@@ -393,9 +393,9 @@ fn packet_between<'p>(
     hop_limit: u8,
     payload: IpPayload<'p>,
 ) -> Option<Packet<'p>>
-    requires { IsWritablePayload (shown.payload payload) }
-    ensures value { option_map shown.packet result ≡ spec.packet_between src_addr.now dst_addr.now hop_limit (shown.payload payload.entry) }
-    ensures writable { IfSome result (λ p. IsWritable (shown.packet p)) }
+    requires { IsWritablePayload (value_of.payload payload) }
+    ensures value { option_map value_of.packet result ≡ spec.packet_between src_addr.now dst_addr.now hop_limit (value_of.payload payload.entry) }
+    ensures writable { IfSome result (λ p. IsWritable (value_of.packet p)) }
 {
     match (src_addr, dst_addr) {
         (IpAddress::Ipv4(src_addr), IpAddress::Ipv4(dst_addr)) => Some(Packet::Ipv4(PacketV4 {

@@ -8,15 +8,15 @@ ghost use Rattle.group_wire.specs.Mld.{record_text};
 ghost use Rattle.group_table.specs.declared.groups.GroupState.TheVariants.{Joining, Leaving};
 ghost use Rattle.group_table.specs.Groups.{count_in, first_in, ipv6_groups, join_reported, leave_reported};
 ghost use Rattle.host_machine.specs.Host.{no_sockets};
-ghost use Rattle.host_machine.specs.Due.{told_at};
+ghost use Rattle.host_machine.specs.Due.{report_due_at};
 ghost use Rattle.host_machine.specs.Multicast as spec;
 ghost use Rattle.host_machine.specs.Packet.{IsWritable};
 ghost use Rattle.host_machine.specs.Packet as value;
 ghost use Rattle.host_machine.specs.Reports as reports;
 ghost use Rattle.iface_send.specs.Multicast.{index_of, interval_of};
-ghost use Rattle.iface_send.specs.Shown as shown;
+ghost use Rattle.iface_send.specs.PacketValues as value_of;
 ghost use Rattle.iface_send.specs.Stands.{host_of};
-ghost use Rattle.iface_egress.specs.Multicast.{HasPart, IsOffered, IsToldOf};
+ghost use Rattle.iface_egress.specs.Multicast.{HasPart, IsOffered, IsReported};
 ghost use Rattle.iface_egress.specs.Told.{Told};
 
 use crate::transmit::send_packet;
@@ -45,10 +45,10 @@ const RECORDS_LEN: usize = 160;
 /// Tells of each group that was joined and of which that isn't told yet, in the order in which they are
 /// walked, until the device refuses leave to send.
 pub fn joins_egress<D: Device>(context: &mut Context, device: &mut D, out: &mut FrameBuffer)
-    ensures { Told D.tells device.old device.new (HasPart spec.TellsJoins context.old) context.new }
+    ensures { Told D.tells device.old device.new (HasPart spec.JoinsEgress context.old) context.new }
 {
     while let Some(group) = context.groups().first_in(GroupState::Joining) {
-        if !tell_join(context, device, out, &group) {
+        if !report_join(context, device, out, &group) {
             return;
         }
     }
@@ -57,10 +57,10 @@ pub fn joins_egress<D: Device>(context: &mut Context, device: &mut D, out: &mut 
 /// Tells of each group that is left and of which that isn't told yet, in the order in which they are
 /// walked, until the device refuses leave to send. Each is taken out then.
 pub fn leaves_egress<D: Device>(context: &mut Context, device: &mut D, out: &mut FrameBuffer)
-    ensures { Told D.tells device.old device.new (HasPart spec.TellsLeaves context.old) context.new }
+    ensures { Told D.tells device.old device.new (HasPart spec.LeavesEgress context.old) context.new }
 {
     while let Some(group) = context.groups().first_in(GroupState::Leaving) {
-        if !tell_leave(context, device, out, &group) {
+        if !report_leave(context, device, out, &group) {
             return;
         }
     }
@@ -70,11 +70,11 @@ pub fn leaves_egress<D: Device>(context: &mut Context, device: &mut D, out: &mut
 /// further group to report the answer to the query ends. Without leave or without an IPv4 address the
 /// report stays due.
 pub fn igmp_egress<D: Device>(context: &mut Context, device: &mut D, out: &mut FrameBuffer)
-    ensures { Told D.tells device.old device.new (HasPart reports.SendsIgmpReport context.old) context.new }
+    ensures { Told D.tells device.old device.new (HasPart reports.IgmpEgress context.old) context.new }
 {
     let now = context.now();
     let report = context.igmp_report();
-    if !has_come(igmp_timeout(&report), now) {
+    if !has_passed(igmp_timeout(&report), now) {
         return;
     }
     let Some((version, group)) = next_group(context, &report) else {
@@ -85,17 +85,17 @@ pub fn igmp_egress<D: Device>(context: &mut Context, device: &mut D, out: &mut F
         return;
     };
     if send_packet(context, device, out, &packet) {
-        set_igmp_report(context, reported(&report, now));
+        set_igmp_report(context, igmp_report_after(&report, now));
     }
 }
 
 /// Sends the report of the IPv6 groups, if it is due and the device gives leave. Without leave it is given
 /// up.
 pub fn mld_egress<D: Device>(context: &mut Context, device: &mut D, out: &mut FrameBuffer)
-    ensures { Told D.tells device.old device.new (HasPart reports.SendsMldReport context.old) context.new }
+    ensures { Told D.tells device.old device.new (HasPart reports.MldEgress context.old) context.new }
 {
     let report = context.mld_report();
-    if !has_come(mld_timeout(&report), context.now()) {
+    if !has_passed(mld_timeout(&report), context.now()) {
         return;
     }
     let mut records = ArrayVec::new();
@@ -107,7 +107,7 @@ pub fn mld_egress<D: Device>(context: &mut Context, device: &mut D, out: &mut Fr
 
 /// The instant at which it is to be told of a group in a state: at once, while there is one.
 pub fn group_poll_at(context: &Context, state: GroupState) -> Option<Instant>
-    ensures { result ≡ told_at state (host_of context.now no_sockets) }
+    ensures { result ≡ report_due_at state (host_of context.now no_sockets) }
 {
     context.groups().first_in(state)?;
     Some(Instant::ZERO)
@@ -132,44 +132,44 @@ pub fn mld_poll_at(context: &Context) -> Option<Instant>
 }
 
 /// Tells that a group is joined. Answers whether leave wasn't refused; then the group counts as told of.
-fn tell_join<D: Device>(
+fn report_join<D: Device>(
     context: &mut Context,
     device: &mut D,
     out: &mut FrameBuffer,
     group: &IpAddress,
 ) -> bool
-    ensures told { Told D.tells device.old device.new (HasPart (IsToldOf spec.join_packet join_reported group.now result) context.old) context.new }
+    ensures told { Told D.tells device.old device.new (HasPart (IsReported spec.join_packet join_reported group.now result) context.old) context.new }
     ensures fewer { result ≡ true → first_in Joining (host_of context.old no_sockets).groups ≡ Some group.now →
         count_in Joining (host_of context.old no_sockets).groups ≡ count_in Joining (host_of context.new no_sockets).groups + 1 }
 {
-    let going = offer_join(context, device, out, group);
-    if going {
+    let granted = send_join(context, device, out, group);
+    if granted {
         join_reported(context, group);
     }
-    going
+    granted
 }
 
 /// Tells that a group is left. Answers whether leave wasn't refused; then the group is taken out.
-fn tell_leave<D: Device>(
+fn report_leave<D: Device>(
     context: &mut Context,
     device: &mut D,
     out: &mut FrameBuffer,
     group: &IpAddress,
 ) -> bool
-    ensures told { Told D.tells device.old device.new (HasPart (IsToldOf spec.leave_packet leave_reported group.now result) context.old) context.new }
+    ensures told { Told D.tells device.old device.new (HasPart (IsReported spec.leave_packet leave_reported group.now result) context.old) context.new }
     ensures fewer { result ≡ true → first_in Leaving (host_of context.old no_sockets).groups ≡ Some group.now →
         count_in Leaving (host_of context.old no_sockets).groups ≡ count_in Leaving (host_of context.new no_sockets).groups + 1 }
 {
-    let going = offer_leave(context, device, out, group);
-    if going {
+    let granted = send_leave(context, device, out, group);
+    if granted {
         leave_reported(context, group);
     }
-    going
+    granted
 }
 
 /// Sends what tells that a group is joined, if there is an address to send it from and the device gives
 /// leave. Answers whether leave wasn't refused.
-fn offer_join<D: Device>(
+fn send_join<D: Device>(
     context: &mut Context,
     device: &mut D,
     out: &mut FrameBuffer,
@@ -190,7 +190,7 @@ fn offer_join<D: Device>(
 }
 
 /// Sends what tells that a group is left, likewise.
-fn offer_leave<D: Device>(
+fn send_leave<D: Device>(
     context: &mut Context,
     device: &mut D,
     out: &mut FrameBuffer,
@@ -238,8 +238,8 @@ fn send_if_some<D: Device>(
     out: &mut FrameBuffer,
     packet: &Option<Packet<'_>>,
 ) -> bool
-    requires { IfSome packet.now (λ p. IsWritable (shown.packet p)) }
-    ensures told { Told D.tells device.old device.new (HasPart (IsOffered (option_map shown.packet packet.now) result) context.old) context.new }
+    requires { IfSome packet.now (λ p. IsWritable (value_of.packet p)) }
+    ensures told { Told D.tells device.old device.new (HasPart (IsOffered (option_map value_of.packet packet.now) result) context.old) context.new }
     ensures groups { (host_of context.new no_sockets).groups ≡ (host_of context.old no_sockets).groups }
 {
     match packet {
@@ -254,8 +254,8 @@ fn igmp_packet(
     dst_addr: Ipv4Address,
     message: IgmpRepr,
 ) -> Option<Packet<'static>>
-    ensures value { option_map shown.packet result ≡ spec.igmp_packet (host_of context.now no_sockets).ip_addrs dst_addr message }
-    ensures writable { IfSome result (λ p. IsWritable (shown.packet p)) }
+    ensures value { option_map value_of.packet result ≡ spec.igmp_packet (host_of context.now no_sockets).ip_addrs dst_addr message }
+    ensures writable { IfSome result (λ p. IsWritable (value_of.packet p)) }
 {
     let src_addr = context.ipv4_addr()?;
     Some(Packet::Ipv4(PacketV4 {
@@ -272,8 +272,8 @@ fn igmp_report(
     version: IgmpVersion,
     group: &Ipv4Address,
 ) -> Option<Packet<'static>>
-    ensures value { option_map shown.packet result ≡ spec.igmp_report (host_of context.now no_sockets).ip_addrs version group.now }
-    ensures writable { IfSome result (λ p. IsWritable (shown.packet p)) }
+    ensures value { option_map value_of.packet result ≡ spec.igmp_report (host_of context.now no_sockets).ip_addrs version group.now }
+    ensures writable { IfSome result (λ p. IsWritable (value_of.packet p)) }
 {
     let message = IgmpRepr::MembershipReport {
         group_addr: *group,
@@ -284,8 +284,8 @@ fn igmp_report(
 
 /// A report of MLD with so many records, to all routers that speak version 2 (RFC 3810 5.2).
 fn mld_packet<'p>(context: &Context, count: u16, records: &'p [u8]) -> Packet<'p>
-    ensures value { shown.packet result ≡ value.Ipv6 (record { src_addr = spec.mld_source (host_of context.now no_sockets).ip_addrs; dst_addr = spec.mld_routers; hop_limit = 1; payload = value.Mld count records.now }) }
-    ensures writable { IsWritable (shown.packet result) }
+    ensures value { value_of.packet result ≡ value.Ipv6 (record { src_addr = spec.mld_source (host_of context.now no_sockets).ip_addrs; dst_addr = spec.mld_routers; hop_limit = 1; payload = value.Mld count records.now }) }
+    ensures writable { IsWritable (value_of.packet result) }
 {
     Packet::Ipv6(PacketV6 {
         src_addr: mld_source(context),
@@ -377,12 +377,12 @@ fn next_group(context: &Context, report: &IgmpReportState) -> Option<(IgmpVersio
 
 /// What is to be reported behind a report: behind one in answer to a general query the next group, an
 /// interval later, but not before now.
-fn reported(report: &IgmpReportState, now: Instant) -> IgmpReportState
+fn igmp_report_after(report: &IgmpReportState, now: Instant) -> IgmpReportState
     requires timely { IsMoment now }
-    requires due { reports.has_come (reports.timeout_of report.now) now ≡ true }
+    requires due { reports.has_passed (reports.igmp_timeout_of report.now) now ≡ true }
     requires paced { interval_of report.now < 3600000000 }
     requires within { index_of report.now < 8 }
-    ensures value { result ≡ reports.reported report.now now }
+    ensures value { result ≡ reports.igmp_report_after report.now now }
     ensures paced { interval_of result < 3600000000 }
 {
     match report {
@@ -393,7 +393,7 @@ fn reported(report: &IgmpReportState, now: Instant) -> IgmpReportState
             next_index,
         } => IgmpReportState::ToGeneralQuery {
             version: *version,
-            timeout: later(*timeout + *interval, now),
+            timeout: later_of(*timeout + *interval, now),
             interval: *interval,
             next_index: *next_index + 1,
         },
@@ -404,15 +404,15 @@ fn reported(report: &IgmpReportState, now: Instant) -> IgmpReportState
 }
 
 /// The later of two moments.
-fn later(a: Instant, b: Instant) -> Instant
-    ensures { result ≡ reports.later a b }
+fn later_of(a: Instant, b: Instant) -> Instant
+    ensures { result ≡ reports.later_of a b }
 {
     if a < b { b } else { a }
 }
 
 /// When the next group is reported.
 fn igmp_timeout(report: &IgmpReportState) -> Option<Instant>
-    ensures { result ≡ reports.timeout_of report.now }
+    ensures { result ≡ reports.igmp_timeout_of report.now }
 {
     match report {
         IgmpReportState::Inactive => None,
@@ -433,8 +433,8 @@ fn mld_timeout(report: &MldReportState) -> Option<Instant>
 }
 
 /// Whether there is a moment that has come.
-fn has_come(timeout: Option<Instant>, now: Instant) -> bool
-    ensures { result ≡ reports.has_come timeout now }
+fn has_passed(timeout: Option<Instant>, now: Instant) -> bool
+    ensures { result ≡ reports.has_passed timeout now }
 {
     match timeout {
         Some(timeout) => now >= timeout,

@@ -3,7 +3,7 @@ ghost use Rattle.std.specs.Prelude.{◌≡◌, Some, true};
 ghost use Rattle.host_machine.specs.Frame.{frames_in, sends};
 ghost use Rattle.host_machine.specs.Host.{no_sockets};
 ghost use Rattle.host_machine.specs.Packet.{IsWritable};
-ghost use Rattle.iface_send.specs.Shown as shown;
+ghost use Rattle.iface_send.specs.PacketValues as value_of;
 ghost use Rattle.iface_send.specs.Stands.{host_of};
 ghost use Rattle.iface_egress.specs.Multicast.{HasPart, IsOffered};
 ghost use Rattle.iface_egress.specs.Told.{Told};
@@ -17,7 +17,7 @@ use sockets::SocketContext;
 /// Sends the frame that a buffer holds, if it isn't empty. Leave to send a frame has to stand.
 #[inline(always)]
 pub fn send_frame<D: Device>(device: &mut D, frame: &FrameBuffer)
-    requires { D.has_leave device.old ≡ true }
+    requires { D.may_transmit device.old ≡ true }
     ensures { D.tells device.old (sends (frames_in frame.now)) device.new }
 {
     if !frame.is_empty() {
@@ -32,8 +32,8 @@ pub(crate) fn send_packet<D: Device>(
     out: &mut FrameBuffer,
     packet: &Packet<'_>,
 ) -> bool
-    requires { IsWritable (shown.packet packet.now) }
-    ensures told { Told D.tells device.old device.new (HasPart (IsOffered (Some (shown.packet packet.now)) result) context.old) context.new }
+    requires { IsWritable (value_of.packet packet.now) }
+    ensures told { Told D.tells device.old device.new (HasPart (IsOffered (Some (value_of.packet packet.now)) result) context.old) context.new }
     ensures groups { (host_of context.new no_sockets).groups ≡ (host_of context.old no_sockets).groups }
 {
     if !device.transmit(context.now()) {

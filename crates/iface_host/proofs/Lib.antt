@@ -1,3 +1,3 @@
-mod Handled
+mod FrameCalls
 pub mod Places
-mod Ruled
+mod RuleCalls

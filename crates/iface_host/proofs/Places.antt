@@ -27,17 +27,17 @@ put_full : {M : Type 0} (q : Queued M) (m : M) (octets : List ℕ) → false ≡
 put_full q m octets full = ap (λ b. record q { packets = cond b (q.packets ++ (m, octets) ∷ []) q.packets }) (sym full)
 
 pub raw_full : (h : Host) (i : ℕ) (s : raws.RawSocket) (packet : List ℕ) → socket_at h.sockets i ≡ Some (Raw s) → false ≡ is_room s.tx (length packet) →
-    with_socket h i (Some (Raw (raws.queued packet s))) ≡ h
+    with_socket h i (Some (Raw (raws.socket_after_send packet s))) ≡ h
 raw_full h i s packet here full =
     ap (λ q. with_socket h i (Some (Raw (record s { tx = q })))) (put_full s.tx tt packet full) ∙ host_same h i (Raw s) here
 
 pub icmp_full : (h : Host) (i : ℕ) (s : icmps.IcmpSocket) (remote : IpAddress) (message : List ℕ) → socket_at h.sockets i ≡ Some (Icmp s) →
-    false ≡ is_room s.tx (length message) → with_socket h i (Some (Icmp (icmps.queued remote message s))) ≡ h
+    false ≡ is_room s.tx (length message) → with_socket h i (Some (Icmp (icmps.socket_after_send remote message s))) ≡ h
 icmp_full h i s remote message here full =
     ap (λ q. with_socket h i (Some (Icmp (record s { tx = q })))) (put_full s.tx remote message full) ∙ host_same h i (Icmp s) here
 
 pub udp_full : (h : Host) (i : ℕ) (s : udps.UdpSocket) (remote : IpEndpoint) (payload : List ℕ) → socket_at h.sockets i ≡ Some (Udp s) →
-    false ≡ is_room s.tx (length payload) → with_socket h i (Some (Udp (udps.queued remote payload s))) ≡ h
+    false ≡ is_room s.tx (length payload) → with_socket h i (Some (Udp (udps.socket_after_send remote payload s))) ≡ h
 udp_full h i s remote payload here full =
     ap (λ q. with_socket h i (Some (Udp (record s { tx = q })))) (put_full s.tx remote payload full) ∙ host_same h i (Udp s) here
 

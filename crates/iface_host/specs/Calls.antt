@@ -39,12 +39,12 @@ abbrev pub LeavesGroup : IpAddress → Machine → Machine → Type 0
 LeavesGroup group = machine.LeavesGroup group (Ok tt)
 
 -- the routes with a default route by a gateway
-abbrev pub defaulted : IpAddress → List Route → List Route
-defaulted (address.Ipv4 gateway) routes = with_default is_ipv4_gateway routes (ipv4_gateway gateway)
-defaulted (address.Ipv6 gateway) routes = with_default is_ipv6_gateway routes (ipv6_gateway gateway)
+abbrev pub with_default_gateway : IpAddress → List Route → List Route
+with_default_gateway (address.Ipv4 gateway) routes = with_default is_ipv4_gateway routes (ipv4_gateway gateway)
+with_default_gateway (address.Ipv6 gateway) routes = with_default is_ipv6_gateway routes (ipv6_gateway gateway)
 
 abbrev pub SetsDefault : IpAddress → Machine → Machine → Type 0
-SetsDefault gateway H H' = H' ≡ record H { routes = defaulted gateway H.routes }
+SetsDefault gateway H H' = H' ≡ record H { routes = with_default_gateway gateway H.routes }
 
 -- a route to a network, for good
 abbrev pub route_to : IpCidr → IpAddress → Route

@@ -4,8 +4,8 @@ use Rattle.std.specs.Option.{option_and_then}
 use Rattle.std.specs.List.{position}
 
 -- the handle of the socket that a number names, if it names one
-abbrev pub named : List (Option ℕ) → ℕ → Option ℕ
-named names n = option_and_then (λ handle. handle) (slice_get names n)
+abbrev pub handle_named : List (Option ℕ) → ℕ → Option ℕ
+handle_named names n = option_and_then (λ handle. handle) (slice_get names n)
 
 -- the least number that names none, if there is one
 abbrev pub first_unused : List (Option ℕ) → Option ℕ

@@ -13,7 +13,7 @@ use Rattle.socket_base.specs.Queue.{first_of, is_room}
 use Rattle.sockets.specs.Kinds.{down_icmp, down_raw, down_udp}
 use Rattle.socket_set.specs.SocketSet.{socket_at}
 use Rattle.transport_sockets.specs.Udp.{UdpSocket}
-use Rattle.iface_host.specs.Names.{named}
+use Rattle.iface_host.specs.Names.{handle_named}
 use Rattle.iface_host.specs.Sockets.{Socket}
 use Rattle.iface_host.specs.declared.host.Host.{Host}
 use Rattle.iface_host.specs.declared.refusal.Refusal.{Refusal}
@@ -21,7 +21,7 @@ use Rattle.iface_host.specs.declared.refusal.Refusal.TheVariants.{BadAddress, Ba
 
 -- the socket of a kind that a number names, if it names one
 abbrev pub kind_at : {S : Type 0} → (Socket → Option S) → Host → ℕ → Option S
-kind_at down host n = option_and_then down (option_and_then (socket_at host.sockets) (named host.names n))
+kind_at down host n = option_and_then down (option_and_then (socket_at host.sockets) (handle_named host.names n))
 
 -- without a socket the number is refused
 abbrev pub of_socket : {S : Type 0} → (S → Option Refusal) → Option S → Option Refusal
@@ -67,8 +67,8 @@ udp_unsent host n remote len =
     else Some TooLong))
 
 -- no socket, of whatever kind, is named
-abbrev pub unclosed : Host → ℕ → Option Refusal
-unclosed host n = if is_some (option_and_then (socket_at host.sockets) (named host.names n)) then None else Some NoSocket
+abbrev pub close_refusal : Host → ℕ → Option Refusal
+close_refusal host n = if is_some (option_and_then (socket_at host.sockets) (handle_named host.names n)) then None else Some NoSocket
 
 -- a socket found no memory for its queues, or no number
 pub data IsForRoom (refusal : Refusal) : Type 0 where

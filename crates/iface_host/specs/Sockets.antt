@@ -13,8 +13,8 @@ use Rattle.network_sockets.specs.Raw as raws
 use Rattle.transport_sockets.specs.Udp as udps
 use Rattle.sockets.specs.declared.socket.SocketOf.{SocketOf}
 use Rattle.sockets.specs.declared.socket.SocketOf.TheVariants.{Raw, Icmp, Udp}
-use Rattle.socket_set.specs.SocketSet.{added, first_free, socket_at, with_place}
-use Rattle.iface_host.specs.Names.{first_unused, named}
+use Rattle.socket_set.specs.SocketSet.{set_after_add, first_free, socket_at, with_place}
+use Rattle.iface_host.specs.Names.{first_unused, handle_named}
 use Rattle.iface_host.specs.declared.host.Host.{Host}
 use Rattle.iface_host.specs.declared.opening.Room.{Room}
 
@@ -39,7 +39,7 @@ icmp endpoint room = Icmp (record { endpoint = endpoint; hop_limit = 64; rx = qu
 -- a socket is added, and the least number that named none names it
 pub record Opens (socket : Socket) (n : ℕ) (old new : Host) : Type 0 where
   pub unused : first_unused old.names ≡ Some n
-  pub after : new ≡ record old { sockets = added old.sockets socket; names = slice_set old.names n (Some (first_free old.sockets.places)) }
+  pub after : new ≡ record old { sockets = set_after_add old.sockets socket; names = slice_set old.names n (Some (first_free old.sockets.places)) }
 
 -- the host with this at a place of its sockets
 abbrev pub with_socket : Host → ℕ → Option Socket → Host
@@ -47,13 +47,13 @@ with_socket host handle socket = record host { sockets = with_place host.sockets
 
 -- a number names this socket
 pub record Names (n : ℕ) (host : Host) (handle : ℕ) (socket : Socket) : Type 0 where
-  pub is_named : named host.names n ≡ Some handle
+  pub is_named : handle_named host.names n ≡ Some handle
   pub is_there : socket_at host.sockets handle ≡ Some socket
 
 -- the socket of a number is dropped, and the number names none
 pub record Closes (n : ℕ) (old new : Host) : Type 0 where
   pub handle : ℕ
-  pub is_named : named old.names n ≡ Some handle
+  pub is_named : handle_named old.names n ≡ Some handle
   pub is_there : IsSome (socket_at old.sockets handle)
   pub after : new ≡ record (with_socket old handle None) { names = slice_set old.names n None }
 
@@ -63,21 +63,21 @@ pub record SendsUdp (n : ℕ) (remote : IpEndpoint) (payload : List ℕ) (old ne
   pub socket : udps.UdpSocket
   pub names : Names n old handle (Udp socket)
   pub room : is_room socket.tx (length payload) ≡ true
-  pub after : new ≡ with_socket old handle (Some (Udp (udps.queued remote payload socket)))
+  pub after : new ≡ with_socket old handle (Some (Udp (udps.socket_after_send remote payload socket)))
 
 pub record SendsIcmp (n : ℕ) (remote : IpAddress) (message : List ℕ) (old new : Host) : Type 0 where
   pub handle : ℕ
   pub socket : icmps.IcmpSocket
   pub names : Names n old handle (Icmp socket)
   pub room : is_room socket.tx (length message) ≡ true
-  pub after : new ≡ with_socket old handle (Some (Icmp (icmps.queued remote message socket)))
+  pub after : new ≡ with_socket old handle (Some (Icmp (icmps.socket_after_send remote message socket)))
 
 pub record SendsRaw (n : ℕ) (packet : List ℕ) (old new : Host) : Type 0 where
   pub handle : ℕ
   pub socket : raws.RawSocket
   pub names : Names n old handle (Raw socket)
   pub room : is_room socket.tx (length packet) ≡ true
-  pub after : new ≡ with_socket old handle (Some (Raw (raws.queued packet socket)))
+  pub after : new ≡ with_socket old handle (Some (Raw (raws.socket_after_send packet socket)))
 
 -- the first packet that came is read: it stands in the front of a buffer
 pub record ReceivesUdp (n : ℕ) (remote : IpEndpoint) (len : ℕ) (out : List ℕ) (old new : Host) : Type 0 where
@@ -85,18 +85,18 @@ pub record ReceivesUdp (n : ℕ) (remote : IpEndpoint) (len : ℕ) (out : List �
   pub socket : udps.UdpSocket
   pub names : Names n old handle (Udp socket)
   pub first : first_of socket.rx.packets ≡ Some (remote, take len out)
-  pub after : new ≡ with_socket old handle (Some (Udp (udps.read socket)))
+  pub after : new ≡ with_socket old handle (Some (Udp (udps.socket_after_done socket)))
 
 pub record ReceivesIcmp (n : ℕ) (remote : IpAddress) (len : ℕ) (out : List ℕ) (old new : Host) : Type 0 where
   pub handle : ℕ
   pub socket : icmps.IcmpSocket
   pub names : Names n old handle (Icmp socket)
   pub first : first_of socket.rx.packets ≡ Some (remote, take len out)
-  pub after : new ≡ with_socket old handle (Some (Icmp (icmps.read socket)))
+  pub after : new ≡ with_socket old handle (Some (Icmp (icmps.socket_after_done socket)))
 
 pub record ReceivesRaw (n : ℕ) (len : ℕ) (out : List ℕ) (old new : Host) : Type 0 where
   pub handle : ℕ
   pub socket : raws.RawSocket
   pub names : Names n old handle (Raw socket)
   pub first : first_of socket.rx.packets ≡ Some (tt, take len out)
-  pub after : new ≡ with_socket old handle (Some (Raw (raws.read socket)))
+  pub after : new ≡ with_socket old handle (Some (Raw (raws.socket_after_done socket)))

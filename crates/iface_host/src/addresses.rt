@@ -41,11 +41,11 @@ impl Host {
         let Some(mut list) = copied(self.interface.ip_addrs()) else {
             return Err(Refusal::NotThere);
         };
-        let place = place_of(list.as_slice(), &cidr);
-        if place >= list.len() {
+        let index = index_of(list.as_slice(), &cidr);
+        if index >= list.len() {
             return Err(Refusal::NotThere);
         }
-        let _ = list.remove(place);
+        let _ = list.remove(index);
         match put_addresses(&mut self.interface, list) {
             Ok(()) => Ok(()),
             Err(_) => Err(Refusal::NotUnicast),
@@ -54,10 +54,10 @@ impl Host {
 
     /// The own address at a place of their list, if there is one: at most four stand there, those that came from
     /// routers too.
-    pub fn address_at(&self, place: usize) -> Option<IpCidr>
-        ensures { result ≡ slice_get (addresses_of self.now) place }
+    pub fn address_at(&self, index: usize) -> Option<IpCidr>
+        ensures { result ≡ slice_get (addresses_of self.now) index }
     {
-        cidr_at(self.interface.ip_addrs(), place)
+        cidr_at(self.interface.ip_addrs(), index)
     }
 
     /// Joins a group. `BadAddress` if it is no group's address, else `TableFull` if the host isn't in
@@ -99,14 +99,14 @@ pub(crate) fn is_same_cidr(a: &IpCidr, b: &IpCidr) -> bool
 }
 
 /// The address at a place, if there is one.
-fn cidr_at(list: &[IpCidr], place: usize) -> Option<IpCidr>
-    ensures { result ≡ slice_get list.now place }
+fn cidr_at(list: &[IpCidr], index: usize) -> Option<IpCidr>
+    ensures { result ≡ slice_get list.now index }
 {
-    list.get(place).copied()
+    list.get(index).copied()
 }
 
 /// Where the first address with this network stands, or the length.
-fn place_of(list: &[IpCidr], cidr: &IpCidr) -> usize
+fn index_of(list: &[IpCidr], cidr: &IpCidr) -> usize
     ensures { result ≡ position_or_len (is_same cidr.now) list.now }
 {
     for (i, other) in list.iter().enumerate() {

@@ -60,7 +60,7 @@ impl Host {
             Err(NewError::NotUnicast) => return Err(Refusal::NotUnicast),
             Err(_) => return Err(Refusal::BadMtu),
         };
-        let Ok(places) = free_places(alloc, settings.sockets) else {
+        let Ok(places) = free_storages(alloc, settings.sockets) else {
             return Err(Refusal::NoMemory);
         };
         let Ok(names) = Names::new(alloc, settings.sockets) else {
@@ -94,7 +94,7 @@ fn capabilities(settings: &Settings) -> DeviceCapabilities
 }
 
 /// So many free places.
-fn free_places(alloc: Global, count: usize) -> Result<Vec<SocketStorage<'static>>, AllocError> {
+fn free_storages(alloc: Global, count: usize) -> Result<Vec<SocketStorage<'static>>, AllocError> {
     let mut places = Vec::with_capacity(alloc, count)?;
     for _ in 0..count {
         places.push(SocketStorageOf::default())?;

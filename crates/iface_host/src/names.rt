@@ -1,6 +1,6 @@
 //! The numbers by which sockets are named.
 ghost use Rattle.std.specs.Prelude.{◌≡◌, ◌<◌, Some, None, IfOk, IfSome, length, replicate, slice_set};
-ghost use Rattle.iface_host.specs.Names.{first_unused, named};
+ghost use Rattle.iface_host.specs.Names.{first_unused, handle_named};
 
 use socket_set::SocketHandle;
 use std::alloc::{AllocError, Global};
@@ -34,7 +34,7 @@ impl Names {
 
     /// What a number names, if it names something.
     pub fn get(&self, number: u32) -> Option<SocketHandle>
-        ensures { result ≡ named self.now number }
+        ensures { result ≡ handle_named self.now number }
     {
         match self.handles.get(number as usize) {
             Some(handle) => *handle,

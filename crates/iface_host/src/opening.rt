@@ -1,7 +1,7 @@
 //! Sockets: how they are opened and closed.
 ghost use Rattle.std.specs.Prelude.{◌≡◌, ◌≢◌, IfOk, IfErr, OnOk, OnErr};
 ghost use Rattle.std.specs.Result.{IsErrOf, result_err};
-ghost use Rattle.iface_host.specs.Refusals.{IsForRoom, unclosed};
+ghost use Rattle.iface_host.specs.Refusals.{IsForRoom, close_refusal};
 ghost use Rattle.iface_host.specs.Sockets.{Closes, Opens, icmp, queue_of, raw, udp};
 
 use crate::host::Host;
@@ -72,7 +72,7 @@ impl Host {
     #[tactic(auto, using(crate::proofs::Places::there_below))]
     pub fn close(&mut self, number: u32) -> Result<(), Refusal>
         ensures closed { OnOk result (Closes number self.old self.new) }
-        ensures why { result_err result ≡ unclosed self.old number }
+        ensures why { result_err result ≡ close_refusal self.old number }
         ensures refused { OnErr result (self.new ≡ self.old) }
     {
         let Some(handle) = self.names.get(number) else {

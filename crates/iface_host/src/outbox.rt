@@ -1,6 +1,6 @@
 //! The frames that were sent and wait to be handed over.
 ghost use Rattle.std.specs.Prelude.{◌≡◌, ◌≤◌, [], ◌∷◌, ◌++◌, true, length, take, drop, MatchOption, OnOk, OnErr, Some};
-ghost use Rattle.iface_host.specs.Outbox.{counted, with_room, HandsFirst};
+ghost use Rattle.iface_host.specs.Outbox.{with_refusal_counted, with_room, HandsFirst};
 
 use net_base::phy::{Device, DeviceCapabilities, FRAME_BUFFER_SIZE, PacketMeta};
 use net_base::time::Instant;
@@ -108,7 +108,7 @@ impl Outbox {
 
     // Counts a refused leave.
     fn count_refusal(&mut self)
-        ensures { self.new ≡ counted self.old }
+        ensures { self.new ≡ with_refusal_counted self.old }
     {
         self.refusals = self.refusals.saturating_add(1);
     }
@@ -132,7 +132,7 @@ impl Device for Outbox {
 
     ghost tells = { Tells };
 
-    ghost has_leave = { λ o. o.has_room };
+    ghost may_transmit = { λ o. o.has_room };
 
     ghost capable = { λ o. o.capabilities };
 

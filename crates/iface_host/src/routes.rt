@@ -59,18 +59,18 @@ impl Host {
         ensures refused { OnErr result (Stays self.old self.new) }
     {
         let mut list = copied(self.interface.routes().as_slice());
-        let place = place_of(list.as_slice(), &cidr);
-        if place >= list.len() {
+        let index = index_of(list.as_slice(), &cidr);
+        if index >= list.len() {
             return Err(Refusal::NotThere);
         }
-        let _ = list.remove(place);
+        let _ = list.remove(index);
         put_routes(&mut self.interface, list);
         Ok(())
     }
 }
 
 /// Where the first route to a network stands, or the length.
-fn place_of(list: &[Route], cidr: &IpCidr) -> usize
+fn index_of(list: &[Route], cidr: &IpCidr) -> usize
     ensures { result ≡ position_or_len (is_to cidr.now) list.now }
 {
     for (i, route) in list.iter().enumerate() {

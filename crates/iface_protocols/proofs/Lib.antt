@@ -1,6 +1,6 @@
 pub mod Processing
-mod Received
-mod Each
-mod Grouping
+mod PayloadRules
+mod SocketIteration
+mod GroupQueries
 mod Messages
-mod Elsewhere
+mod OtherPorts

@@ -21,30 +21,30 @@ use Rattle.wire_base.specs.Octets.{u16_at, u32_at}
 use Rattle.host_machine.specs.Note.{Note}
 use Rattle.host_machine.specs.Host.{Host}
 use Rattle.host_machine.specs.Reply.{Reply, Ip}
-use Rattle.host_machine.specs.Icmpv6.{TakesMessage, message_back}
-use Rattle.host_machine.specs.Reports.{TakesMld}
-use Rattle.host_machine.specs.Slaac.{taught, with_slaac}
-use Rattle.host_machine.specs.Ndisc.{TakesNdisc, HearsNeighbor, FromNeighbor, Learns, Solicited, advertisement_of, asks_for, tells_of_nobody, told_by}
+use Rattle.host_machine.specs.Icmpv6.{ProcessesMessage, message_back}
+use Rattle.host_machine.specs.Reports.{ProcessesMld}
+use Rattle.host_machine.specs.Slaac.{after_advertisement, with_slaac}
+use Rattle.host_machine.specs.Ndisc.{ProcessesNdisc, ProcessesNdiscMessage, FromNeighbor, Learns, Solicited, advertisement_of, is_target, has_no_unicast, usable_lladdr}
 use Rattle.iface_protocols.proofs.Processing.{dropped}
 
 -- an echo request is answered
 pub echoed : (r : Ipv6Repr) (message : Icmpv6Repr) (contents : List ℕ) (ident seq_no : ℕ) (H : Host) (reply : Option Reply) → message ≡ EchoRequest ident seq_no →
-    reply ≡ Some (message_back H.ip_addrs r (EchoReply ident seq_no) contents) → TakesMessage r message contents H reply [] H
+    reply ≡ Some (message_back H.ip_addrs r (EchoReply ident seq_no) contents) → ProcessesMessage r message contents H reply [] H
 echoed r message contents ident seq_no H reply is answers = rw is (answers, refl, refl)
 
 -- one of routers may teach
-pub of_routers : (r : Ipv6Repr) (message : Icmpv6Repr) (contents : List ℕ) (m : RouterRepr) (H K : Host) → message ≡ Router m → K ≡ with_slaac H (taught m H r) →
-    TakesMessage r message contents H None [] K
+pub of_routers : (r : Ipv6Repr) (message : Icmpv6Repr) (contents : List ℕ) (m : RouterRepr) (H K : Host) → message ≡ Router m → K ≡ with_slaac H (after_advertisement m H r) →
+    ProcessesMessage r message contents H None [] K
 of_routers r message contents m H K is teaches = rw is (refl, refl, teaches)
 
 -- and one of groups
 pub of_groups : (r : Ipv6Repr) (message : Icmpv6Repr) (contents : List ℕ) (m : MldRepr) (H K : Host) (reply : Option Reply) (notes : List Note) → message ≡ Mld m →
-    TakesMld r m H reply notes K → TakesMessage r message contents H reply notes K
+    ProcessesMld r m H reply notes K → ProcessesMessage r message contents H reply notes K
 of_groups r message contents m H K reply notes is takes = rw is takes
 
 -- nothing else does anything
 pub unheeded : (r : Ipv6Repr) (message : Icmpv6Repr) (contents : List ℕ) (H : Host) → ((ident seq_no : ℕ) → message ≡ EchoRequest ident seq_no → ⊥) →
-    ((m : NdiscRepr) → message ≡ Ndisc m → ⊥) → ((m : RouterRepr) → message ≡ Router m → ⊥) → ((m : MldRepr) → message ≡ Mld m → ⊥) → TakesMessage r message contents H None [] H
+    ((m : NdiscRepr) → message ≡ Ndisc m → ⊥) → ((m : RouterRepr) → message ≡ Router m → ⊥) → ((m : MldRepr) → message ≡ Mld m → ⊥) → ProcessesMessage r message contents H None [] H
 unheeded r (EchoRequest ident seq_no) contents H no_request no_neighbor no_routers no_groups = absurd (no_request ident seq_no refl)
 unheeded r (Ndisc m) contents H no_request no_neighbor no_routers no_groups = absurd (no_neighbor m refl)
 unheeded r (Router m) contents H no_request no_neighbor no_routers no_groups = absurd (no_routers m refl)
@@ -57,15 +57,15 @@ unheeded r (ParamProblem reason pointer header) contents H no_request no_neighbo
 
 -- it counts on a link with hardware addresses, if no router passed it on
 pub from_neighbor : (own : EthernetAddress) (r : Ipv6Repr) (message m : NdiscRepr) (H K : Host) (reply : Option Reply) (notes : List Note) →
-    H.hardware_addr ≡ hardware.Ethernet own → (r.hop_limit == 255) ≡ true → message ≡ m → HearsNeighbor own r H reply notes K m → TakesNdisc r message H reply notes K
+    H.hardware_addr ≡ hardware.Ethernet own → (r.hop_limit == 255) ≡ true → message ≡ m → ProcessesNdiscMessage own r H reply notes K m → ProcessesNdisc r message H reply notes K
 from_neighbor own r message m H K reply notes addressed near is hears = FromNeighbor own near addressed (rw is hears)
 
 -- a solicitation teaches where its sender is, and is answered if it asks for the host
 pub solicited_by : (own : EthernetAddress) (r : Ipv6Repr) (H K : Host) (target : Ipv6Address) (lladdr address : Option EthernetAddress) (asked : Bool) (reply : Option Reply) →
-    tells_of_nobody lladdr target ≡ false → address ≡ told_by lladdr target → Learns address r.src_addr H K → asked ≡ asks_for H r target →
-    reply ≡ (if asked then Some (Ip (advertisement_of own r target)) else None) → HearsNeighbor own r H reply [] K (NeighborSolicit target lladdr)
-solicited_by own r H K target lladdr address asked reply somebody tells learns asks answers =
-    Solicited target lladdr somebody (rw tells at learns) (rw asks at answers) refl
+    has_no_unicast lladdr target ≡ false → address ≡ usable_lladdr lladdr target → Learns address r.src_addr H K → asked ≡ is_target H r target →
+    reply ≡ (if asked then Some (Ip (advertisement_of own r target)) else None) → ProcessesNdiscMessage own r H reply [] K (NeighborSolicit target lladdr)
+solicited_by own r H K target lladdr address asked reply specified tells learns asks answers =
+    Solicited target lladdr specified (rw tells at learns) (rw asks at answers) refl
 
 -- the values and the data of an echo request
 pub of_request : (octets : List ℕ) → type_in octets ≡ 128 → ◌≡◌ {A = Icmpv6Repr × List ℕ} (echo_request_in octets, drop 8 octets) (icmpv6_in octets)

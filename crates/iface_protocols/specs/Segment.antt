@@ -4,12 +4,12 @@ use Rattle.ip_wire.specs.declared.ip_packet.IpRepr.{IpRepr}
 use Rattle.ip_wire.specs.declared.tcp.TcpRepr.{TcpRepr}
 use Rattle.host_machine.specs.Host.{Storage}
 use Rattle.host_machine.specs.Delivery.{IsFirst}
-use Rattle.host_machine.specs.Tcp.{accepts, delivered, replied}
+use Rattle.host_machine.specs.Tcp.{accepts, storage_after_delivery, socket_reply}
 
 -- the first place that accepts took it, and answered so
 pub record IsTaken (r : IpRepr) (t : TcpRepr) (payload : List ℕ) (old new : List Storage) (answer : Option TcpRepr) : Type 0 where
   pub index : ℕ
   pub place : Storage
   pub first : IsFirst (accepts r t) old index place
-  pub changed : new ≡ slice_set old index (delivered r t payload place)
-  pub answers : answer ≡ replied t payload place
+  pub changed : new ≡ slice_set old index (storage_after_delivery r t payload place)
+  pub answers : answer ≡ socket_reply t payload place

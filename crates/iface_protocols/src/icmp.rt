@@ -1,8 +1,8 @@
 //! What ICMP sockets hear: the messages that are for them, of either family.
 ghost use Rattle.std.specs.Prelude.{◌≡◌, length};
 ghost use Rattle.socket_set.specs.SocketSet.{socket_at, with_place, with_places};
-ghost use Rattle.host_machine.specs.Delivery.{is_somebody, to_each, to_this};
-ghost use Rattle.host_machine.specs.Icmp.{accepts, delivered};
+ghost use Rattle.host_machine.specs.Delivery.{some_accepts, to_each, to_this};
+ghost use Rattle.host_machine.specs.Icmp.{accepts, storage_after_delivery};
 
 use control_wire::IcmpRepr;
 use ip_wire::IpAddress;
@@ -19,38 +19,38 @@ pub(crate) fn deliver(
     contents: &[u8],
     octets: &[u8],
 )
-    ensures { sockets.new ≡ with_places sockets.old (to_each (accepts message.now contents.now) (delivered remote octets.now) sockets.old.places) }
+    ensures { sockets.new ≡ with_places sockets.old (to_each (accepts message.now contents.now) (storage_after_delivery remote octets.now) sockets.old.places) }
 {
     if !by_index::may_have_portless(sockets) {
         return;
     }
     let heard = *message;
-    deliver_to_takers(sockets, remote, &heard, contents, octets);
+    deliver_to_accepting(sockets, remote, &heard, contents, octets);
 }
 
 /// The same, where there may be ICMP sockets.
 #[inline(never)]
-fn deliver_to_takers(
+fn deliver_to_accepting(
     sockets: &mut SocketSet<'_>,
     remote: IpAddress,
     message: &IcmpRepr,
     contents: &[u8],
     octets: &[u8],
 )
-    ensures { sockets.new ≡ with_places sockets.old (to_each (accepts message.now contents.now) (delivered remote octets.now) sockets.old.places) }
+    ensures { sockets.new ≡ with_places sockets.old (to_each (accepts message.now contents.now) (storage_after_delivery remote octets.now) sockets.old.places) }
 {
-    if has_taker(sockets, message, contents) {
+    if is_accepted(sockets, message, contents) {
         deliver_to_each(sockets, remote, message, contents, octets);
     }
 }
 
 /// Whether some ICMP socket takes a message.
-fn has_taker(sockets: &SocketSet<'_>, message: &IcmpRepr, contents: &[u8]) -> bool
-    ensures { result ≡ is_somebody (accepts message.now contents.now) sockets.now.places }
+fn is_accepted(sockets: &SocketSet<'_>, message: &IcmpRepr, contents: &[u8]) -> bool
+    ensures { result ≡ some_accepts (accepts message.now contents.now) sockets.now.places }
 {
     let mut index = by_index::next_at(sockets, 0, None);
     while index < by_index::places(sockets) {
-        if takes_at(sockets, index, message, contents) {
+        if accepts_at(sockets, index, message, contents) {
             return true;
         }
         index = by_index::next_at(sockets, index + 1, None);
@@ -60,7 +60,7 @@ fn has_taker(sockets: &SocketSet<'_>, message: &IcmpRepr, contents: &[u8]) -> bo
 
 /// Whether the socket at an index is one for ICMP that takes a message.
 #[inline(always)]
-fn takes_at(sockets: &SocketSet<'_>, index: usize, message: &IcmpRepr, contents: &[u8]) -> bool
+fn accepts_at(sockets: &SocketSet<'_>, index: usize, message: &IcmpRepr, contents: &[u8]) -> bool
     ensures { result ≡ accepts message.now contents.now (socket_at sockets.now index) }
 {
     match by_index::kind::<icmp::Socket<'_>, _>(sockets, index) {
@@ -77,7 +77,7 @@ fn deliver_to_each(
     contents: &[u8],
     octets: &[u8],
 )
-    ensures { sockets.new ≡ with_places sockets.old (to_each (accepts message.now contents.now) (delivered remote octets.now) sockets.old.places) }
+    ensures { sockets.new ≡ with_places sockets.old (to_each (accepts message.now contents.now) (storage_after_delivery remote octets.now) sockets.old.places) }
 {
     let mut index = by_index::next_at(sockets, 0, None);
     while index < by_index::places(sockets) {
@@ -95,7 +95,7 @@ fn deliver_at(
     contents: &[u8],
     octets: &[u8],
 )
-    ensures heard { sockets.new ≡ with_place sockets.old index (to_this (accepts message.now contents.now) (delivered remote octets.now) (socket_at sockets.old index)) }
+    ensures heard { sockets.new ≡ with_place sockets.old index (to_this (accepts message.now contents.now) (storage_after_delivery remote octets.now) (socket_at sockets.old index)) }
     ensures len { length sockets.new.places ≡ length sockets.old.places }
 {
     let Some(socket) = by_index::kind_mut::<icmp::Socket<'_>, _>(sockets, index) else {

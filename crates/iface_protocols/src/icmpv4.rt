@@ -14,7 +14,7 @@ use control_wire::IcmpRepr;
 use control_wire::icmpv4::{EchoRequest, Icmpv4DstUnreachable, Icmpv4Repr};
 use iface_send::dispatch::dispatch;
 use iface_send::packet::icmp_reply_payload_len;
-use iface_send::payload::{EchoReply, Unreachable};
+use iface_send::payload::{EchoReplyV4, Unreachable};
 use iface_send::{Context, IpPayload, PacketV4, Payload};
 use ip_wire::emit::FrameBuffer;
 use ip_wire::ipv4_packet::HEADER_LEN;
@@ -36,7 +36,7 @@ pub fn process_icmpv4(
 )
     requires empty { out.old ≡ [] }
     requires short { length octets.now < 2 ^ 16 }
-    ensures { Processed out.new (λ H. spec.TakesIcmpv4 header.now H octets.now) (host_of context.old sockets.old) (host_of context.new sockets.new) }
+    ensures { Processed out.new (λ H. spec.ProcessesIcmpv4 header.now H octets.now) (host_of context.old sockets.old) (host_of context.new sockets.new) }
 {
     let checked = context.capabilities().checksum.icmpv4.rx();
     let Some((message, contents)) = Icmpv4Repr::parse(octets, checked) else {
@@ -74,10 +74,10 @@ fn answer(
     };
     if checked {
         let request = EchoRequest { octets };
-        send_back(context, header, reply, EchoReply { request }, out);
+        send_icmpv4_reply(context, header, reply, EchoReplyV4 { request }, out);
     } else {
         let payload = IpPayload::Icmpv4(reply, contents);
-        send_back(context, header, reply, payload, out);
+        send_icmpv4_reply(context, header, reply, payload, out);
     }
 }
 
@@ -85,19 +85,19 @@ fn answer(
 /// 528 octets of its payload, so that it is at most 576 octets long (RFC 1122 3.2.2). None is built if
 /// a raw socket took the packet.
 #[inline(never)]
-pub fn refuse(
+pub fn icmpv4_unreachable(
     context: &mut Context,
     reason: Icmpv4DstUnreachable,
     header: &Ipv4Repr,
     payload: &[u8],
-    by_raw: bool,
+    handled_by_raw_socket: bool,
     out: &mut FrameBuffer,
 )
     requires empty { out.old ≡ [] }
     requires quotable { 20 + header.now.payload_len < 2 ^ 16 }
-    ensures { Built out.new (Responds (spec.unreachable by_raw (host_of context.old no_sockets).ip_addrs reason header.now payload.now)) context.old context.new }
+    ensures { Built out.new (Responds (spec.unreachable handled_by_raw_socket (host_of context.old no_sockets).ip_addrs reason header.now payload.now)) context.old context.new }
 {
-    if by_raw {
+    if handled_by_raw_socket {
         return;
     }
     let message = Icmpv4Repr::DstUnreachable {
@@ -107,21 +107,21 @@ pub fn refuse(
     let error = Unreachable {
         reason,
         header: *header,
-        octets: quoted(payload),
+        octets: quotation_of(payload),
     };
-    send_back(context, header, message, error, out);
+    send_icmpv4_reply(context, header, message, error, out);
 }
 
 /// As much of a payload as an error quotes.
-fn quoted(payload: &[u8]) -> &[u8]
-    ensures { result.now ≡ spec.quoted payload.now }
+fn quotation_of(payload: &[u8]) -> &[u8]
+    ensures { result.now ≡ spec.quotation_of payload.now }
 {
     &payload[..icmp_reply_payload_len(payload.len(), IPV4_MIN_MTU, HEADER_LEN)]
 }
 
 /// Builds a message in reply to a packet, with hop limit 64, if it may go.
 #[inline(always)]
-fn send_back<P: Payload>(
+fn send_icmpv4_reply<P: Payload>(
     context: &mut Context,
     header: &Ipv4Repr,
     message: Icmpv4Repr,
@@ -130,8 +130,8 @@ fn send_back<P: Payload>(
 )
     requires empty { out.old ≡ [] }
     requires quoted { QuotesPacket message }
-    requires carried { P.carried payload ≡ value.Icmpv4 message (P.behind payload) }
-    ensures { Built out.new (Responds (spec.icmpv4_reply (host_of context.old no_sockets).ip_addrs header.now message (P.behind payload))) context.old context.new }
+    requires carried { P.carried payload ≡ value.Icmpv4 message (P.after payload) }
+    ensures { Built out.new (Responds (spec.icmpv4_reply (host_of context.old no_sockets).ip_addrs header.now message (P.after payload))) context.old context.new }
 {
     let Some(src_addr) = reply_source(context, header, &message) else {
         return;

@@ -50,7 +50,7 @@ pub fn process_icmpv6(
     requires empty { out.old ≡ [] }
     requires short { length octets.now < 2 ^ 16 }
     requires from_one { is_unicast header.now.src_addr ≡ true }
-    ensures { Processed out.new (λ H. spec.TakesIcmpv6 header.now H octets.now) (host_of context.old sockets.old) (host_of context.new sockets.new) }
+    ensures { Processed out.new (λ H. spec.ProcessesIcmpv6 header.now H octets.now) (host_of context.old sockets.old) (host_of context.new sockets.new) }
 {
     let src_addr = IpAddress::Ipv6(header.src_addr);
     let dst_addr = IpAddress::Ipv6(header.dst_addr);
@@ -81,7 +81,7 @@ fn process_echo_request(
     requires empty { out.old ≡ [] }
     requires short { length octets.now < 2 ^ 16 }
     requires request { IsEchoRequest (ip.Ipv6 header.now.src_addr) (ip.Ipv6 header.now.dst_addr) octets.now }
-    ensures { Processed out.new (λ H. spec.TakesIcmpv6 header.now H octets.now) (host_of context.old sockets.old) (host_of context.new sockets.new) }
+    ensures { Processed out.new (λ H. spec.ProcessesIcmpv6 header.now H octets.now) (host_of context.old sockets.old) (host_of context.new sockets.new) }
 {
     let src_addr = IpAddress::Ipv6(header.src_addr);
     let dst_addr = IpAddress::Ipv6(header.dst_addr);
@@ -92,7 +92,7 @@ fn process_echo_request(
     let heard = IcmpRepr::Ipv6(message);
     deliver(sockets, src_addr, &heard, &octets[8..], octets);
     let request = EchoRequest::new(octets, &src_addr, &dst_addr);
-    send_back(context, header, EchoReplyV6 { request }, out);
+    send_icmpv6_reply(context, header, EchoReplyV6 { request }, out);
 }
 
 /// The same of octets that are sound and of the type of a neighbour message.
@@ -108,7 +108,7 @@ fn process_neighbor(
     requires sound { MayBeMessage (host_of context.old no_sockets) header.now octets.now }
     requires kind { (type_in octets.now ≡ 135) ⊎ (type_in octets.now ≡ 136) }
     requires from_one { is_unicast header.now.src_addr ≡ true }
-    ensures { Processed out.new (λ H. spec.TakesIcmpv6 header.now H octets.now) (host_of context.old sockets.old) (host_of context.new sockets.new) }
+    ensures { Processed out.new (λ H. spec.ProcessesIcmpv6 header.now H octets.now) (host_of context.old sockets.old) (host_of context.new sockets.new) }
 {
     let Some(message) = NdiscRepr::parse(octets) else {
         return;
@@ -137,7 +137,7 @@ fn process_other(
     requires sound { MayBeMessage (host_of context.old no_sockets) header.now octets.now }
     requires no_solicitation { type_in octets.now ≢ 135 }
     requires no_advertisement { type_in octets.now ≢ 136 }
-    ensures { Processed out.new (λ H. spec.TakesIcmpv6 header.now H octets.now) (host_of context.old sockets.old) (host_of context.new sockets.new) }
+    ensures { Processed out.new (λ H. spec.ProcessesIcmpv6 header.now H octets.now) (host_of context.old sockets.old) (host_of context.new sockets.new) }
 {
     let Some((message, contents)) = parse_sound(octets) else {
         return;
@@ -164,7 +164,7 @@ fn process_message(
 )
     requires empty { out.old ≡ [] }
     requires no_neighbor { (m : NdiscRepr) → message.now ≢ Ndisc m }
-    ensures { (sockets : SocketSet) → Processed out.new (λ H. spec.TakesMessage header.now message.now contents.now H) (host_of context.old sockets) (host_of context.new sockets) }
+    ensures { (sockets : SocketSet) → Processed out.new (λ H. spec.ProcessesMessage header.now message.now contents.now H) (host_of context.old sockets) (host_of context.new sockets) }
 {
     match message {
         Icmpv6Repr::EchoRequest { ident, seq_no } => {
@@ -182,31 +182,31 @@ fn process_message(
 
 /// Builds the error in reply to a datagram to a port at which nobody listens, in an empty buffer. None is
 /// built if a raw socket took the packet.
-pub(crate) fn refuse_port(
+pub(crate) fn icmpv6_unreachable(
     context: &mut Context,
     header: &Ipv6Repr,
     payload: &[u8],
-    by_raw: bool,
+    handled_by_raw_socket: bool,
     out: &mut FrameBuffer,
 )
     requires { out.old ≡ [] }
-    ensures { Built out.new (Responds (spec.port_unreachable by_raw (host_of context.old no_sockets).ip_addrs header.now payload.now)) context.old context.new }
+    ensures { Built out.new (Responds (spec.port_unreachable handled_by_raw_socket (host_of context.old no_sockets).ip_addrs header.now payload.now)) context.old context.new }
 {
-    if by_raw {
+    if handled_by_raw_socket {
         return;
     }
     let error = UnreachableV6 {
         reason: Icmpv6DstUnreachable::PortUnreachable,
         header: *header,
-        octets: quoted(payload),
+        octets: quotation_of(payload),
     };
-    send_back(context, header, error, out);
+    send_icmpv6_reply(context, header, error, out);
 }
 
 /// Builds the error in reply to a packet in which something isn't known, in an empty buffer: behind its
 /// header, at octet 40 (RFC 4443 3.4). It quotes the packet's header and at most 1,192 octets of what is
 /// given of its payload.
-pub fn complain(
+pub fn parameter_problem(
     context: &mut Context,
     reason: Icmpv6ParamProblem,
     header: &Ipv6Repr,
@@ -221,12 +221,12 @@ pub fn complain(
         pointer: 40,
         header: *header,
     };
-    send_message(context, header, message, quoted(payload), out);
+    send_message(context, header, message, quotation_of(payload), out);
 }
 
 /// As much of a payload as an error quotes.
-fn quoted(payload: &[u8]) -> &[u8]
-    ensures { result.now ≡ spec.quoted payload.now }
+fn quotation_of(payload: &[u8]) -> &[u8]
+    ensures { result.now ≡ spec.quotation_of payload.now }
 {
     &payload[..icmp_reply_payload_len(payload.len(), IPV6_MIN_MTU, HEADER_LEN)]
 }
@@ -254,7 +254,7 @@ fn send_message(
 
 /// Builds a message of one kind in reply to a packet, with hop limit 64.
 #[inline(always)]
-fn send_back<P: Payload>(
+fn send_icmpv6_reply<P: Payload>(
     context: &mut Context,
     header: &Ipv6Repr,
     payload: P,

@@ -24,7 +24,7 @@ const ALL_SYSTEMS: Ipv4Address = Ipv4Address { bits: 0xe000_0001 };
 /// interface, or for one, is answered by reports that are due after a while, in place of those that were due
 /// before. Nothing else changes anything, and nothing is sent at once.
 pub fn process_igmp(context: &mut Context, header: &Ipv4Repr, octets: &[u8])
-    ensures { (slots : Slots) (sockets : SocketSet) → spec.TakesIgmp header.now (host_in context.old slots sockets) octets.now None [] (host_in context.new slots sockets) }
+    ensures { (slots : Slots) (sockets : SocketSet) → spec.ProcessesIgmp header.now (host_in context.old slots sockets) octets.now None [] (host_in context.new slots sockets) }
 {
     let Some(message) = IgmpRepr::parse(octets) else {
         return;
@@ -34,14 +34,14 @@ pub fn process_igmp(context: &mut Context, header: &Ipv4Repr, octets: &[u8])
 
 /// Takes a message by its values: only a query does anything.
 fn take_message(context: &mut Context, dst_addr: &Ipv4Address, message: &IgmpRepr)
-    ensures { (slots : Slots) (sockets : SocketSet) → host_in context.new slots sockets ≡ spec.asked_by (host_in context.old slots sockets) dst_addr.now message.now }
+    ensures { (slots : Slots) (sockets : SocketSet) → host_in context.new slots sockets ≡ spec.host_after_igmp (host_in context.old slots sockets) dst_addr.now message.now }
 {
     match message {
         IgmpRepr::MembershipQuery {
             max_resp_code,
             group_addr,
         } => {
-            let report = report_for(context, dst_addr, *max_resp_code, group_addr);
+            let report = igmp_report_for(context, dst_addr, *max_resp_code, group_addr);
             set_igmp_report(context, report);
         }
         IgmpRepr::MembershipReport { .. } | IgmpRepr::LeaveGroup { .. } => {}
@@ -49,19 +49,19 @@ fn take_message(context: &mut Context, dst_addr: &Ipv4Address, message: &IgmpRep
 }
 
 /// What is to be reported behind a query. It takes the place of what was to be reported before.
-fn report_for(
+fn igmp_report_for(
     context: &Context,
     dst_addr: &Ipv4Address,
     max_resp_code: u8,
     group: &Ipv4Address,
 ) -> IgmpReportState
-    ensures value { result ≡ spec.report_for (host_of context.now no_sockets) dst_addr.now max_resp_code group.now }
+    ensures value { result ≡ spec.igmp_report_for (host_of context.now no_sockets) dst_addr.now max_resp_code group.now }
     ensures paced { interval_of result < 3600000000 }
 {
     let version = query_version(max_resp_code);
     let time = max_resp_time(max_resp_code);
-    if is_general(context, dst_addr, group) {
-        let interval = interval_for(version, time, context.groups().ipv4_count());
+    if is_igmp_general(context, dst_addr, group) {
+        let interval = igmp_interval_for(version, time, context.groups().ipv4_count());
         return IgmpReportState::ToGeneralQuery {
             version,
             timeout: context.now() + interval,
@@ -69,7 +69,7 @@ fn report_for(
             next_index: 0,
         };
     }
-    if is_specific(context, dst_addr, group) {
+    if is_igmp_specific(context, dst_addr, group) {
         let quarter = Duration::from_micros(time.total_micros() / 4);
         return IgmpReportState::ToSpecificQuery {
             version,
@@ -81,10 +81,10 @@ fn report_for(
 }
 
 /// How long it is from one group's report to the next, where so many groups are to be reported.
-fn interval_for(version: IgmpVersion, time: Duration, count: usize) -> Duration
+fn igmp_interval_for(version: IgmpVersion, time: Duration, count: usize) -> Duration
     requires within_an_hour { time < 3600000000 }
     requires few { count ≤ 8 }
-    ensures value { result ≡ spec.interval_for version time count }
+    ensures value { result ≡ spec.igmp_interval_for version time count }
     ensures within_an_hour { result < 3600000000 }
 {
     match version {
@@ -95,15 +95,15 @@ fn interval_for(version: IgmpVersion, time: Duration, count: usize) -> Duration
 
 /// Whether a query asks for all groups of the interface: it names none and goes to all hosts, and there is
 /// a group to report.
-fn is_general(context: &Context, dst_addr: &Ipv4Address, group: &Ipv4Address) -> bool
-    ensures { result ≡ spec.is_general (host_of context.now no_sockets) dst_addr.now group.now }
+fn is_igmp_general(context: &Context, dst_addr: &Ipv4Address, group: &Ipv4Address) -> bool
+    ensures { result ≡ spec.is_igmp_general (host_of context.now no_sockets) dst_addr.now group.now }
 {
     group.is_unspecified() && dst_addr.bits == ALL_SYSTEMS.bits && context.groups().ipv4_count() > 0
 }
 
 /// Whether a query asks for one group of the interface: it names it, and goes to it.
-fn is_specific(context: &Context, dst_addr: &Ipv4Address, group: &Ipv4Address) -> bool
-    ensures { result ≡ spec.is_specific (host_of context.now no_sockets) dst_addr.now group.now }
+fn is_igmp_specific(context: &Context, dst_addr: &Ipv4Address, group: &Ipv4Address) -> bool
+    ensures { result ≡ spec.is_igmp_specific (host_of context.now no_sockets) dst_addr.now group.now }
 {
     context.has_multicast_group(&IpAddress::Ipv4(*group)) && dst_addr.bits == group.bits
 }

@@ -19,7 +19,7 @@ use sockets::SocketContext;
 /// a random while, in place of the one that was due before. Nothing else changes anything, and nothing is
 /// sent at once.
 pub fn process_mld(context: &mut Context, header: &Ipv6Repr, message: &MldRepr)
-    ensures { (slots : Slots) (sockets : SocketSet) → spec.TakesMld header.now message.now (host_in context.old slots sockets) None [] (host_in context.new slots sockets) }
+    ensures { (slots : Slots) (sockets : SocketSet) → spec.ProcessesMld header.now message.now (host_in context.old slots sockets) None [] (host_in context.new slots sockets) }
 {
     match message {
         MldRepr::Query {
@@ -32,7 +32,7 @@ pub fn process_mld(context: &mut Context, header: &Ipv6Repr, message: &MldRepr)
 
 /// Takes a query for a group, or for all.
 fn process_query(context: &mut Context, header: &Ipv6Repr, max_resp_code: u16, group: &Ipv6Address)
-    ensures { (slots : Slots) (sockets : SocketSet) → host_in context.new slots sockets ≡ spec.mld_asked (host_in context.old slots sockets) header.now max_resp_code group.now }
+    ensures { (slots : Slots) (sockets : SocketSet) → host_in context.new slots sockets ≡ spec.host_after_mld_query (host_in context.old slots sockets) header.now max_resp_code group.now }
 {
     if !is_near(header) {
         return;
@@ -55,7 +55,7 @@ fn is_near(header: &Ipv6Repr) -> bool
 fn delay(context: &mut Context, max_resp_code: u16) -> Duration
     ensures value { result ≡ spec.delay max_resp_code (host_of context.old no_sockets).random }
     ensures within_two_minutes { result < 120000000 }
-    ensures drawn { (sockets : SocketSet) → host_of context.new sockets ≡ record (host_of context.old sockets) { random = spec.drawn max_resp_code (host_of context.old no_sockets).random } }
+    ensures drawn { (sockets : SocketSet) → host_of context.new sockets ≡ record (host_of context.old sockets) { random = spec.random_after_draw max_resp_code (host_of context.old no_sockets).random } }
 {
     if max_resp_code == 0 {
         return Duration::ZERO;

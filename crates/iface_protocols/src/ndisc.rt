@@ -9,7 +9,7 @@ ghost use Rattle.fragmentation.specs.Slots.{Slots};
 ghost use Rattle.host_machine.specs.Host.{SocketSet, no_sockets};
 ghost use Rattle.host_machine.specs.Ndisc as spec;
 ghost use Rattle.host_machine.specs.Packet as value;
-ghost use Rattle.iface_send.specs.Shown as shown;
+ghost use Rattle.iface_send.specs.PacketValues as value_of;
 ghost use Rattle.iface_send.specs.Stands.{host_in, host_of};
 ghost use Rattle.iface_protocols.specs.Processed.{Processed};
 
@@ -34,7 +34,7 @@ pub fn process_ndisc(
 )
     requires empty { out.old ≡ [] }
     requires from_one { ipv6.is_unicast header.now.src_addr ≡ true }
-    ensures { (sockets : SocketSet) → Processed out.new (λ H. spec.TakesNdisc header.now message.now H) (host_of context.old sockets) (host_of context.new sockets) }
+    ensures { (sockets : SocketSet) → Processed out.new (λ H. spec.ProcessesNdisc header.now message.now H) (host_of context.old sockets) (host_of context.new sockets) }
 {
     let HardwareAddress::Ethernet(own) = context.hardware_addr() else {
         return;
@@ -66,14 +66,14 @@ fn process_advertisement(
 )
     requires from_one { ipv6.is_unicast header.now.src_addr ≡ true }
     requires on_ethernet { medium_of (host_of context.old no_sockets).hardware_addr ≡ medium.Ethernet }
-    ensures { (slots : Slots) (sockets : SocketSet) → spec.Learns (spec.advertised (host_in context.old slots sockets) header.now flags.now target_addr.now lladdr.now) header.now.src_addr (host_in context.old slots sockets) (host_in context.new slots sockets) }
+    ensures { (slots : Slots) (sockets : SocketSet) → spec.Learns (spec.advertised_lladdr (host_in context.old slots sockets) header.now flags.now target_addr.now lladdr.now) header.now.src_addr (host_in context.old slots sockets) (host_in context.new slots sockets) }
 {
-    let address = advertised(context, header, flags, target_addr, lladdr);
+    let address = advertised_lladdr(context, header, flags, target_addr, lladdr);
     learn(context, header.src_addr, address);
 }
 
 /// The hardware address that an advertisement tells, if it overrides what is known, or nobody is.
-fn advertised(
+fn advertised_lladdr(
     context: &Context,
     header: &Ipv6Repr,
     flags: &NdiscNeighborFlags,
@@ -81,12 +81,12 @@ fn advertised(
     lladdr: &Option<EthernetAddress>,
 ) -> Option<EthernetAddress>
     requires from_one { ipv6.is_unicast header.now.src_addr ≡ true }
-    ensures told { result ≡ spec.advertised (host_of context.now no_sockets) header.now flags.now target_addr.now lladdr.now }
+    ensures told { result ≡ spec.advertised_lladdr (host_of context.now no_sockets) header.now flags.now target_addr.now lladdr.now }
     ensures unicast { IfSome result (λ a. ethernet.is_unicast a ≡ true) }
 {
     let overrides = flags.contains(NdiscNeighborFlags::OVERRIDE);
     if overrides || !is_known(context, &IpAddress::Ipv6(header.src_addr)) {
-        return told_by(lladdr, target_addr);
+        return usable_lladdr(lladdr, target_addr);
     }
     None
 }
@@ -104,13 +104,13 @@ fn process_solicitation(
     requires empty { out.old ≡ [] }
     requires from_one { ipv6.is_unicast header.now.src_addr ≡ true }
     requires on_ethernet { medium_of (host_of context.old no_sockets).hardware_addr ≡ medium.Ethernet }
-    ensures { (sockets : SocketSet) → Processed out.new (λ H reply notes new. spec.HearsNeighbor own header.now H reply notes new (NeighborSolicit target_addr.now lladdr.now)) (host_of context.old sockets) (host_of context.new sockets) }
+    ensures { (sockets : SocketSet) → Processed out.new (λ H reply notes new. spec.ProcessesNdiscMessage own header.now H reply notes new (NeighborSolicit target_addr.now lladdr.now)) (host_of context.old sockets) (host_of context.new sockets) }
 {
-    if tells_of_nobody(lladdr, target_addr) {
+    if has_no_unicast(lladdr, target_addr) {
         return;
     }
-    let is_asked = asks_for(context, header, target_addr);
-    learn(context, header.src_addr, told_by(lladdr, target_addr));
+    let is_asked = is_target(context, header, target_addr);
+    learn(context, header.src_addr, usable_lladdr(lladdr, target_addr));
     if is_asked {
         let packet = advertisement_of(own, header, target_addr);
         let _ = dispatch(context, &packet, out);
@@ -135,8 +135,8 @@ fn learn(context: &mut Context, neighbor: Ipv6Address, address: Option<EthernetA
 }
 
 /// The hardware address that a message tells, if it is one host's and so is the target.
-fn told_by(lladdr: &Option<EthernetAddress>, target: &Ipv6Address) -> Option<EthernetAddress>
-    ensures told { result ≡ spec.told_by lladdr.now target.now }
+fn usable_lladdr(lladdr: &Option<EthernetAddress>, target: &Ipv6Address) -> Option<EthernetAddress>
+    ensures told { result ≡ spec.usable_lladdr lladdr.now target.now }
     ensures unicast { IfSome result (λ a. ethernet.is_unicast a ≡ true) }
 {
     let address = (*lladdr)?;
@@ -148,8 +148,8 @@ fn told_by(lladdr: &Option<EthernetAddress>, target: &Ipv6Address) -> Option<Eth
 }
 
 /// Whether a message tells an address that isn't one host's, or for a target that isn't.
-fn tells_of_nobody(lladdr: &Option<EthernetAddress>, target: &Ipv6Address) -> bool
-    ensures { result ≡ spec.tells_of_nobody lladdr.now target.now }
+fn has_no_unicast(lladdr: &Option<EthernetAddress>, target: &Ipv6Address) -> bool
+    ensures { result ≡ spec.has_no_unicast lladdr.now target.now }
 {
     match lladdr {
         Some(address) => !(address.is_unicast() && target.is_unicast()),
@@ -159,8 +159,8 @@ fn tells_of_nobody(lladdr: &Option<EthernetAddress>, target: &Ipv6Address) -> bo
 
 /// Whether a solicitation asks for the interface: at a solicited-node group of its own, or at an address that
 /// was given to it, but ::1, for an own one.
-fn asks_for(context: &Context, header: &Ipv6Repr, target: &Ipv6Address) -> bool
-    ensures { result ≡ spec.asks_for (host_of context.now no_sockets) header.now target.now }
+fn is_target(context: &Context, header: &Ipv6Repr, target: &Ipv6Address) -> bool
+    ensures { result ≡ spec.is_target (host_of context.now no_sockets) header.now target.now }
 {
     let destination = header.dst_addr;
     let is_asked = context.has_solicited_node(&destination)
@@ -175,7 +175,7 @@ fn advertisement_of(
     header: &Ipv6Repr,
     target: &Ipv6Address,
 ) -> PacketV6<NeighborAdvert>
-    ensures { value.Ipv6 (shown.packet_v6 shown.neighbor_advert result) ≡ spec.advertisement_of own header.now target.now }
+    ensures { value.Ipv6 (value_of.packet_v6 value_of.neighbor_advert result) ≡ spec.advertisement_of own header.now target.now }
 {
     PacketV6 {
         src_addr: *target,

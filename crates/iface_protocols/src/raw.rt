@@ -2,8 +2,8 @@
 ghost use Rattle.std.specs.Prelude.{◌≡◌, length};
 ghost use Rattle.ip_wire.specs.IpPacket.{TellsLength};
 ghost use Rattle.socket_set.specs.SocketSet.{socket_at, with_place};
-ghost use Rattle.host_machine.specs.Delivery.{is_somebody, to_this};
-ghost use Rattle.host_machine.specs.Raw.{delivered, heard, is_taken, takes};
+ghost use Rattle.host_machine.specs.Delivery.{some_accepts, to_this};
+ghost use Rattle.host_machine.specs.Raw.{storage_after_delivery, host_after_raw_delivery, is_taken, takes};
 ghost use Rattle.iface_send.specs.Stands.{host_of};
 
 use iface_send::Context;
@@ -22,18 +22,18 @@ pub fn deliver(
 ) -> bool
     requires { TellsLength header.now }
     ensures taken { result ≡ is_taken header.now (host_of context.now sockets.old) }
-    ensures heard { host_of context.now sockets.new ≡ heard header.now payload.now (host_of context.now sockets.old) }
+    ensures heard { host_of context.now sockets.new ≡ host_after_raw_delivery header.now payload.now (host_of context.now sockets.old) }
 {
     if !by_index::may_have_portless(sockets) {
         return false;
     }
     let taken = *header;
-    deliver_to_takers(context, sockets, &taken, payload)
+    deliver_to_accepting(context, sockets, &taken, payload)
 }
 
 /// The same, where there may be raw sockets.
 #[inline(never)]
-fn deliver_to_takers(
+fn deliver_to_accepting(
     context: &Context,
     sockets: &mut SocketSet<'_>,
     header: &IpRepr,
@@ -41,21 +41,21 @@ fn deliver_to_takers(
 ) -> bool
     requires { TellsLength header.now }
     ensures taken { result ≡ is_taken header.now (host_of context.now sockets.old) }
-    ensures heard { host_of context.now sockets.new ≡ heard header.now payload.now (host_of context.now sockets.old) }
+    ensures heard { host_of context.now sockets.new ≡ host_after_raw_delivery header.now payload.now (host_of context.now sockets.old) }
 {
-    if !has_taker(sockets, header) {
+    if !is_accepted(sockets, header) {
         return false;
     }
     deliver_to_each(context, sockets, header, payload)
 }
 
 /// Whether some raw socket takes a packet with this header.
-fn has_taker(sockets: &SocketSet<'_>, header: &IpRepr) -> bool
-    ensures { result ≡ is_somebody (takes header.now) sockets.now.places }
+fn is_accepted(sockets: &SocketSet<'_>, header: &IpRepr) -> bool
+    ensures { result ≡ some_accepts (takes header.now) sockets.now.places }
 {
     let mut index = by_index::next_at(sockets, 0, None);
     while index < by_index::places(sockets) {
-        if takes_at(sockets, index, header) {
+        if accepts_at(sockets, index, header) {
             return true;
         }
         index = by_index::next_at(sockets, index + 1, None);
@@ -65,7 +65,7 @@ fn has_taker(sockets: &SocketSet<'_>, header: &IpRepr) -> bool
 
 /// Whether the socket at an index is a raw one that takes a packet with this header.
 #[inline(always)]
-fn takes_at(sockets: &SocketSet<'_>, index: usize, header: &IpRepr) -> bool
+fn accepts_at(sockets: &SocketSet<'_>, index: usize, header: &IpRepr) -> bool
     ensures { result ≡ takes header.now (socket_at sockets.now index) }
 {
     match by_index::kind::<raw::Socket<'_>, _>(sockets, index) {
@@ -83,7 +83,7 @@ fn deliver_to_each(
 ) -> bool
     requires { TellsLength header.now }
     ensures taken { result ≡ is_taken header.now (host_of context.now sockets.old) }
-    ensures heard { host_of context.now sockets.new ≡ heard header.now payload.now (host_of context.now sockets.old) }
+    ensures heard { host_of context.now sockets.new ≡ host_after_raw_delivery header.now payload.now (host_of context.now sockets.old) }
 {
     let summed = context.capabilities().checksum.ipv4.tx();
     let mut taken = false;
@@ -105,7 +105,7 @@ fn deliver_at(
 ) -> bool
     requires { TellsLength header.now }
     ensures taken { result ≡ takes header.now (socket_at sockets.old index) }
-    ensures heard { sockets.new ≡ with_place sockets.old index (to_this (takes header.now) (delivered summed header.now payload.now) (socket_at sockets.old index)) }
+    ensures heard { sockets.new ≡ with_place sockets.old index (to_this (takes header.now) (storage_after_delivery summed header.now payload.now) (socket_at sockets.old index)) }
     ensures len { length sockets.new.places ≡ length sockets.old.places }
 {
     let Some(socket) = by_index::kind_mut::<raw::Socket<'_>, _>(sockets, index) else {

@@ -21,7 +21,7 @@ use net_base::time::Duration;
 /// Solicitations are for routers.
 pub fn process_router(context: &mut Context, header: &Ipv6Repr, message: &RouterRepr)
     ensures { (slots : Slots) (sockets : SocketSet) → host_in context.new slots sockets
-        ≡ spec.with_slaac (host_in context.old slots sockets) (spec.taught message.now (host_in context.old slots sockets) header.now) }
+        ≡ spec.with_slaac (host_in context.old slots sockets) (spec.after_advertisement message.now (host_in context.old slots sockets) header.now) }
 {
     match message {
         RouterRepr::RouterSolicit { .. } => {}
@@ -30,7 +30,7 @@ pub fn process_router(context: &mut Context, header: &Ipv6Repr, message: &Router
             prefix_info,
             ..
         } => {
-            if counts(context, header) {
+            if is_valid_advertisement(context, header) {
                 let lifetime = Duration::from_secs(u64::from(*router_lifetime));
                 process_advertisement(context, &header.src_addr, lifetime, *prefix_info);
             }
@@ -39,8 +39,8 @@ pub fn process_router(context: &mut Context, header: &Ipv6Repr, message: &Router
 }
 
 /// Whether an advertisement in a packet with this header counts.
-fn counts(context: &Context, header: &Ipv6Repr) -> bool
-    ensures { result ≡ spec.counts (host_of context.now no_sockets) header.now }
+fn is_valid_advertisement(context: &Context, header: &Ipv6Repr) -> bool
+    ensures { result ≡ spec.is_valid_advertisement (host_of context.now no_sockets) header.now }
 {
     context.is_slaac_enabled()
         && is_ethernet(&context.hardware_addr())

@@ -2,7 +2,7 @@
 ghost use Rattle.std.specs.Prelude.{◌≡◌, ◌<◌, ◌≤◌, ◌^◌, ℕ, [], Some, true, false, length, slice_get, slice_set};
 ghost use Rattle.std.specs.Option.{option_map};
 ghost use Rattle.socket_set.specs.SocketSet.{socket_at, with_places};
-ghost use Rattle.host_machine.specs.Delivery.{IsNobody};
+ghost use Rattle.host_machine.specs.Delivery.{NoneAccepts};
 ghost use Rattle.host_machine.specs.Host.{Storage};
 ghost use Rattle.host_machine.specs.Response.{Responds};
 ghost use Rattle.host_machine.specs.Tcp as spec;
@@ -30,14 +30,14 @@ pub fn process_tcp(
     sockets: &mut SocketSet<'_>,
     header: &IpRepr,
     octets: &[u8],
-    by_raw: bool,
+    handled_by_raw_socket: bool,
     out: &mut FrameBuffer,
 )
     requires empty { out.old ≡ [] }
     requires short { length octets.now < 2 ^ 16 }
-    ensures { Processed out.new (λ H. spec.TakesTcp by_raw header.now H octets.now) (host_of context.old sockets.old) (host_of context.new sockets.new) }
+    ensures { Processed out.new (λ H. spec.ProcessesTcp handled_by_raw_socket header.now H octets.now) (host_of context.old sockets.old) (host_of context.new sockets.new) }
 {
-    if is_between_nobody(header) {
+    if is_between_unspecified(header) {
         return;
     }
     let checked = context.capabilities().checksum.tcp.rx();
@@ -48,26 +48,26 @@ pub fn process_tcp(
     };
     let (taken, answer) = deliver(sockets, header, &repr, payload);
     if taken {
-        send_back(context, header, answer, out);
+        send_tcp_reply(context, header, answer, out);
         return;
     }
-    let reset = reset_for(&repr, payload, by_raw);
-    send_back(context, header, reset, out);
+    let reset = reset_for(&repr, payload, handled_by_raw_socket);
+    send_tcp_reply(context, header, reset, out);
 }
 
 /// Whether nobody is meant, or nobody can be answered.
-fn is_between_nobody(header: &IpRepr) -> bool
-    ensures { result ≡ spec.is_between_nobody header.now }
+fn is_between_unspecified(header: &IpRepr) -> bool
+    ensures { result ≡ spec.is_between_unspecified header.now }
 {
     header.src_addr().is_unspecified() || header.dst_addr().is_unspecified()
 }
 
 /// The reset for a segment that nobody takes.
-fn reset_for(repr: &TcpRepr, payload: &[u8], by_raw: bool) -> Option<TcpRepr>
+fn reset_for(repr: &TcpRepr, payload: &[u8], handled_by_raw_socket: bool) -> Option<TcpRepr>
     requires { length payload.now < 2 ^ 16 }
-    ensures { result ≡ spec.reset_for by_raw repr.now payload.now }
+    ensures { result ≡ spec.reset_for handled_by_raw_socket repr.now payload.now }
 {
-    if by_raw {
+    if handled_by_raw_socket {
         return None;
     }
     match repr.control {
@@ -78,7 +78,7 @@ fn reset_for(repr: &TcpRepr, payload: &[u8], by_raw: bool) -> Option<TcpRepr>
 
 /// Builds a segment without payload, if there is one, as a packet back to another's source.
 #[inline(never)]
-fn send_back(context: &mut Context, header: &IpRepr, repr: Option<TcpRepr>, out: &mut FrameBuffer)
+fn send_tcp_reply(context: &mut Context, header: &IpRepr, repr: Option<TcpRepr>, out: &mut FrameBuffer)
     requires { out.old ≡ [] }
     ensures { Built out.new (Responds (option_map (spec.segment_back header.now) repr)) context.old context.new }
 {
@@ -111,17 +111,17 @@ fn deliver(
 ) -> (bool, Option<TcpRepr>)
     requires { length payload.now < 2 ^ 16 }
     ensures taken { result.0 ≡ true → IsTaken header.now repr.now payload.now sockets.old.places sockets.new.places result.1 }
-    ensures nobody { result.0 ≡ false → IsNobody (spec.accepts header.now repr.now) sockets.old.places }
+    ensures nobody { result.0 ≡ false → NoneAccepts (spec.accepts header.now repr.now) sockets.old.places }
     ensures kept { result.0 ≡ false → sockets.new ≡ sockets.old }
     ensures waits { sockets.new ≡ with_places sockets.old sockets.new.places }
 {
-    let index = first_taker(sockets, header, repr);
+    let index = find_socket(sockets, header, repr);
     deliver_at(sockets, index, header, repr, payload)
 }
 
 /// The index of the first socket that accepts a segment, or the number of places.
 #[inline(always)]
-fn first_taker(sockets: &SocketSet<'_>, header: &IpRepr, repr: &TcpRepr) -> usize
+fn find_socket(sockets: &SocketSet<'_>, header: &IpRepr, repr: &TcpRepr) -> usize
     ensures none_before { (k : ℕ) (other : Storage) → k < result → slice_get sockets.now.places k ≡ Some other → spec.accepts header.now repr.now other ≡ false }
     ensures found { result < length sockets.now.places → spec.accepts header.now repr.now (socket_at sockets.now result) ≡ true }
     ensures within { result ≤ length sockets.now.places }
@@ -129,7 +129,7 @@ fn first_taker(sockets: &SocketSet<'_>, header: &IpRepr, repr: &TcpRepr) -> usiz
     let port = Some(repr.dst_port);
     let mut index = by_index::next_at(sockets, 0, port);
     while index < by_index::places(sockets) {
-        if takes_at(sockets, index, header, repr) {
+        if accepts_at(sockets, index, header, repr) {
             return index;
         }
         index = by_index::next_at(sockets, index + 1, port);
@@ -139,7 +139,7 @@ fn first_taker(sockets: &SocketSet<'_>, header: &IpRepr, repr: &TcpRepr) -> usiz
 
 /// Whether the socket at an index accepts a segment.
 #[inline(always)]
-fn takes_at(sockets: &SocketSet<'_>, index: usize, header: &IpRepr, repr: &TcpRepr) -> bool
+fn accepts_at(sockets: &SocketSet<'_>, index: usize, header: &IpRepr, repr: &TcpRepr) -> bool
     ensures { result ≡ spec.accepts header.now repr.now (socket_at sockets.now index) }
 {
     let Some(socket) = by_index::kind::<tcp::Socket<'_>, _>(sockets, index) else {
@@ -167,8 +167,8 @@ fn deliver_at(
 ) -> (bool, Option<TcpRepr>)
     requires { length payload.now < 2 ^ 16 }
     ensures accepted { result.0 ≡ spec.accepts header.now repr.now (socket_at sockets.old index) }
-    ensures delivered { result.0 ≡ true → sockets.new.places ≡ slice_set sockets.old.places index (spec.delivered header.now repr.now payload.now (socket_at sockets.old index)) }
-    ensures replied { result.0 ≡ true → result.1 ≡ spec.replied repr.now payload.now (socket_at sockets.old index) }
+    ensures delivered { result.0 ≡ true → sockets.new.places ≡ slice_set sockets.old.places index (spec.storage_after_delivery header.now repr.now payload.now (socket_at sockets.old index)) }
+    ensures replied { result.0 ≡ true → result.1 ≡ spec.socket_reply repr.now payload.now (socket_at sockets.old index) }
     ensures kept { result.0 ≡ false → sockets.new ≡ sockets.old }
     ensures waits { sockets.new ≡ with_places sockets.old sockets.new.places }
 {

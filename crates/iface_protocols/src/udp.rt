@@ -2,13 +2,13 @@
 ghost use Rattle.std.specs.Prelude.{◌≡◌, ◌<◌, ◌≤◌, ℕ, [], Some, true, false, length, slice_get, slice_set};
 ghost use Rattle.ip_wire.specs.IpPacket.{TellsLength};
 ghost use Rattle.socket_set.specs.SocketSet.{socket_at, with_places};
-ghost use Rattle.host_machine.specs.Delivery.{DeliversFirst, IsNobody};
-ghost use Rattle.host_machine.specs.Udp.{TakesUdp, accepts, delivered};
+ghost use Rattle.host_machine.specs.Delivery.{DeliversFirst, NoneAccepts};
+ghost use Rattle.host_machine.specs.Udp.{ProcessesUdp, accepts, storage_after_delivery};
 ghost use Rattle.host_machine.specs.Host.{Storage, no_sockets};
 ghost use Rattle.iface_send.specs.Stands.{host_of};
 ghost use Rattle.iface_protocols.specs.Processed.{Processed};
 
-use crate::unreachable::refuse_port;
+use crate::unreachable::send_port_unreachable;
 use iface_send::Context;
 use ip_wire::emit::FrameBuffer;
 use ip_wire::{IpRepr, UdpRepr};
@@ -25,12 +25,12 @@ pub fn process_udp(
     sockets: &mut SocketSet<'_>,
     header: &IpRepr,
     octets: &[u8],
-    by_raw: bool,
+    handled_by_raw_socket: bool,
     out: &mut FrameBuffer,
 )
     requires empty { out.old ≡ [] }
     requires quotable { TellsLength header.now }
-    ensures { Processed out.new (λ H. TakesUdp by_raw header.now H octets.now) (host_of context.old sockets.old) (host_of context.new sockets.new) }
+    ensures { Processed out.new (λ H. ProcessesUdp handled_by_raw_socket header.now H octets.now) (host_of context.old sockets.old) (host_of context.new sockets.new) }
 {
     let checked = context.capabilities().checksum.udp.rx();
     let source = header.src_addr();
@@ -40,7 +40,7 @@ pub fn process_udp(
     };
     if !deliver(context, sockets, header, &ports, payload) {
         let refused = *header;
-        refuse_port(context, &refused, octets, by_raw, out);
+        send_port_unreachable(context, &refused, octets, handled_by_raw_socket, out);
     }
 }
 
@@ -53,19 +53,19 @@ fn deliver(
     ports: &UdpRepr,
     payload: &[u8],
 ) -> bool
-    ensures delivered { result ≡ true → DeliversFirst (accepts (host_of context.now no_sockets).ip_addrs header.now ports.now) (delivered header.now ports.now payload.now) sockets.old.places sockets.new.places }
-    ensures nobody { result ≡ false → IsNobody (accepts (host_of context.now no_sockets).ip_addrs header.now ports.now) sockets.old.places }
+    ensures delivered { result ≡ true → DeliversFirst (accepts (host_of context.now no_sockets).ip_addrs header.now ports.now) (storage_after_delivery header.now ports.now payload.now) sockets.old.places sockets.new.places }
+    ensures nobody { result ≡ false → NoneAccepts (accepts (host_of context.now no_sockets).ip_addrs header.now ports.now) sockets.old.places }
     ensures kept { result ≡ false → sockets.new ≡ sockets.old }
     ensures waits { sockets.new ≡ with_places sockets.old sockets.new.places }
 {
-    let index = first_taker(context, sockets, header, ports);
+    let index = find_socket(context, sockets, header, ports);
     deliver_at(context, sockets, index, header, ports, payload)
 }
 
 /// The index of the first socket that accepts a datagram, or the number of places. Where it is the only socket, or
 /// the first, no walk begins.
 #[inline(always)]
-fn first_taker(
+fn find_socket(
     context: &Context,
     sockets: &SocketSet<'_>,
     header: &IpRepr,
@@ -75,19 +75,19 @@ fn first_taker(
     ensures found { result < length sockets.now.places → accepts (host_of context.now no_sockets).ip_addrs header.now ports.now (socket_at sockets.now result) ≡ true }
     ensures within { result ≤ length sockets.now.places }
 {
-    if takes_at(context, sockets, 0, header, ports) {
+    if accepts_at(context, sockets, 0, header, ports) {
         return 0;
     }
     if by_index::places(sockets) <= 1 {
         return by_index::places(sockets);
     }
     let (sought, wanted) = (*header, *ports);
-    first_of_several(context, sockets, &sought, &wanted)
+    find_among_several(context, sockets, &sought, &wanted)
 }
 
 /// The same, where there may be several sockets.
 #[inline(never)]
-fn first_of_several(
+fn find_among_several(
     context: &Context,
     sockets: &SocketSet<'_>,
     header: &IpRepr,
@@ -100,7 +100,7 @@ fn first_of_several(
     let port = Some(ports.dst_port);
     let mut index = by_index::next_at(sockets, 0, port);
     while index < by_index::places(sockets) {
-        if takes_at(context, sockets, index, header, ports) {
+        if accepts_at(context, sockets, index, header, ports) {
             return index;
         }
         index = by_index::next_at(sockets, index + 1, port);
@@ -110,7 +110,7 @@ fn first_of_several(
 
 /// Whether the socket at an index accepts a datagram.
 #[inline(always)]
-fn takes_at(
+fn accepts_at(
     context: &Context,
     sockets: &SocketSet<'_>,
     index: usize,
@@ -136,7 +136,7 @@ fn deliver_at(
     payload: &[u8],
 ) -> bool
     ensures accepted { result ≡ accepts (host_of context.now no_sockets).ip_addrs header.now ports.now (socket_at sockets.old index) }
-    ensures delivered { result ≡ true → sockets.new.places ≡ slice_set sockets.old.places index (delivered header.now ports.now payload.now (socket_at sockets.old index)) }
+    ensures delivered { result ≡ true → sockets.new.places ≡ slice_set sockets.old.places index (storage_after_delivery header.now ports.now payload.now (socket_at sockets.old index)) }
     ensures kept { result ≡ false → sockets.new ≡ sockets.old }
     ensures waits { sockets.new ≡ with_places sockets.old sockets.new.places }
 {

@@ -16,22 +16,22 @@ use ip_wire::emit::FrameBuffer;
 
 /// Builds the error in reply to a datagram to a port at which nobody listens, in an empty buffer. None is
 /// built if a raw socket took the packet.
-pub(crate) fn refuse_port(
+pub(crate) fn send_port_unreachable(
     context: &mut Context,
     header: &IpRepr,
     payload: &[u8],
-    by_raw: bool,
+    handled_by_raw_socket: bool,
     out: &mut FrameBuffer,
 )
     requires empty { out.old ≡ [] }
     requires quotable { TellsLength header.now }
-    ensures { Built out.new (Responds (port_unreachable by_raw (host_of context.old no_sockets).ip_addrs header.now payload.now)) context.old context.new }
+    ensures { Built out.new (Responds (port_unreachable handled_by_raw_socket (host_of context.old no_sockets).ip_addrs header.now payload.now)) context.old context.new }
 {
     match header {
         IpRepr::Ipv4(header) => {
             let reason = Icmpv4DstUnreachable::PortUnreachable;
-            icmpv4::refuse(context, reason, header, payload, by_raw, out);
+            icmpv4::icmpv4_unreachable(context, reason, header, payload, handled_by_raw_socket, out);
         }
-        IpRepr::Ipv6(header) => icmpv6::refuse_port(context, header, payload, by_raw, out),
+        IpRepr::Ipv6(header) => icmpv6::icmpv6_unreachable(context, header, payload, handled_by_raw_socket, out),
     }
 }

@@ -1,3 +1,3 @@
-mod Fragmented
-mod Received
-mod ReceivedV6
+mod FragmentHandling
+mod PacketRules
+mod PacketRulesV6

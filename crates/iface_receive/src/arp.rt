@@ -3,7 +3,7 @@ ghost use Rattle.std.specs.Prelude.{◌≡◌, [], true};
 ghost use Rattle.ip_address.specs.EthernetAddress as ethernet;
 ghost use Rattle.ip_address.specs.Ipv4 as ipv4;
 ghost use Rattle.host_machine.specs.Host.{SocketSet, no_sockets};
-ghost use Rattle.host_machine.specs.Arp.{TakesArp, answer_by, listens, reply_to};
+ghost use Rattle.host_machine.specs.Arp.{ProcessesArp, answer_by, is_for_us, reply_to};
 ghost use Rattle.host_machine.specs.Response.{Responds};
 ghost use Rattle.iface_send.specs.Built.{Built};
 ghost use Rattle.iface_send.specs.Stands.{host_of};
@@ -26,12 +26,12 @@ pub fn process_arp(
 )
     requires empty { out.old ≡ [] }
     requires own { (host_of context.old no_sockets).hardware_addr ≡ HardwareAddress.Ethernet own }
-    ensures { (sockets : SocketSet) → Processed out.new (λ H. TakesArp own H payload.now) (host_of context.old sockets) (host_of context.new sockets) }
+    ensures { (sockets : SocketSet) → Processed out.new (λ H. ProcessesArp own H payload.now) (host_of context.old sockets) (host_of context.new sockets) }
 {
     let Some(packet) = ArpRepr::parse(payload) else {
         return;
     };
-    if !listens(context, &packet) {
+    if !is_for_us(context, &packet) {
         return;
     }
     fill_neighbor(
@@ -44,8 +44,8 @@ pub fn process_arp(
 
 /// Whether a packet is for one of the interface's addresses, by a unicast sender in one of its
 /// networks.
-fn listens(context: &Context, packet: &ArpRepr) -> bool
-    ensures listens { result ≡ listens (host_of context.now no_sockets) packet.now }
+fn is_for_us(context: &Context, packet: &ArpRepr) -> bool
+    ensures is_for_us { result ≡ is_for_us (host_of context.now no_sockets) packet.now }
     ensures protocol { result ≡ true → ipv4.is_unicast packet.now.source_protocol_addr ≡ true }
     ensures link { result ≡ true → ethernet.is_unicast packet.now.source_hardware_addr ≡ true }
 {

@@ -1,6 +1,6 @@
 //! What an interface does with frames, by their link's header (RFC 894, RFC 1122 2.4).
 ghost use Rattle.std.specs.Prelude.{◌≡◌, ◌<◌, [], length};
-ghost use Rattle.host_machine.specs.Ethernet.{TakesFrame, TakesEthernet, TakesIp, TakesPayload, is_for};
+ghost use Rattle.host_machine.specs.Ethernet.{ProcessesFrame, ProcessesEthernet, ProcessesIp, ProcessesEthertype, is_for};
 ghost use Rattle.host_machine.specs.Host.{no_sockets};
 ghost use Rattle.iface_send.specs.Stands.{host_of};
 ghost use Rattle.iface_protocols.specs.Processed.{Answers, StandsFor};
@@ -26,7 +26,7 @@ pub fn process_frame(
 )
     requires empty { out.old ≡ [] }
     requires some { 0 < length frame.now }
-    ensures { Answers out.new (λ H. TakesFrame H.hardware_addr H frame.now) (StandsFor context.old fragments.old sockets.old) (StandsFor context.new fragments.new sockets.new) }
+    ensures { Answers out.new (λ H. ProcessesFrame H.hardware_addr H frame.now) (StandsFor context.old fragments.old sockets.old) (StandsFor context.new fragments.new sockets.new) }
 {
     match context.hardware_addr() {
         HardwareAddress::Ethernet(own) => process_ethernet(
@@ -48,7 +48,7 @@ pub fn process_ip(
 )
     requires empty { out.old ≡ [] }
     requires some { 0 < length packet.now }
-    ensures { Answers out.new (λ H. TakesIp H packet.now) (StandsFor context.old fragments.old sockets.old) (StandsFor context.new fragments.new sockets.new) }
+    ensures { Answers out.new (λ H. ProcessesIp H packet.now) (StandsFor context.old fragments.old sockets.old) (StandsFor context.new fragments.new sockets.new) }
 {
     let source = HardwareAddress::Ip;
     match packet[0] / 16 {
@@ -72,19 +72,19 @@ pub fn process_ethernet(
 )
     requires empty { out.old ≡ [] }
     requires own { (host_of context.old no_sockets).hardware_addr ≡ HardwareAddress.Ethernet own }
-    ensures { Answers out.new (λ H. TakesEthernet own H frame.now) (StandsFor context.old fragments.old sockets.old) (StandsFor context.new fragments.new sockets.new) }
+    ensures { Answers out.new (λ H. ProcessesEthernet own H frame.now) (StandsFor context.old fragments.old sockets.old) (StandsFor context.new fragments.new sockets.new) }
 {
     let Some((header, payload)) = EthernetRepr::parse(frame) else {
         return;
     };
     if is_for(context, &header.dst_addr) {
-        process_payload(context, sockets, fragments, own, &header, payload, out);
+        process_ethertype(context, sockets, fragments, own, &header, payload, out);
     }
 }
 
 /// Takes the payload of a frame by its type.
 #[inline(always)]
-fn process_payload(
+fn process_ethertype(
     context: &mut Context,
     sockets: &mut SocketSet<'_>,
     fragments: &mut PacketAssemblerSet<FragKey>,
@@ -95,7 +95,7 @@ fn process_payload(
 )
     requires empty { out.old ≡ [] }
     requires own { (host_of context.old no_sockets).hardware_addr ≡ HardwareAddress.Ethernet own }
-    ensures { Answers out.new (λ H. TakesPayload own header.now.src_addr H header.now.ethertype payload.now) (StandsFor context.old fragments.old sockets.old) (StandsFor context.new fragments.new sockets.new) }
+    ensures { Answers out.new (λ H. ProcessesEthertype own header.now.src_addr H header.now.ethertype payload.now) (StandsFor context.old fragments.old sockets.old) (StandsFor context.new fragments.new sockets.new) }
 {
     match header.ethertype {
         EthernetProtocol::Arp => {

@@ -7,7 +7,7 @@ ghost use Rattle.iface_send.specs.Built.{Built};
 ghost use Rattle.iface_send.specs.Stands.{host_of};
 
 use icmpv6_wire::Icmpv6ParamProblem;
-use iface_protocols::icmpv6::complain;
+use iface_protocols::icmpv6::parameter_problem;
 use iface_send::Context;
 use ip_wire::Ipv6Repr;
 use ip_wire::emit::FrameBuffer;
@@ -15,7 +15,7 @@ use ipv6_wire::Ipv6OptionFailureType;
 
 /// Builds what is answered to a packet with an option that isn't known, in an empty buffer, by what the
 /// option asks for: a problem where its class is 10, and where it is 11 unless the packet went to a group.
-pub(crate) fn answer_failure(
+pub(crate) fn answer_unknown_option(
     context: &mut Context,
     failure: Ipv6OptionFailureType,
     header: &Ipv6Repr,
@@ -32,6 +32,6 @@ pub(crate) fn answer_failure(
     };
     if is_answered {
         let reason = Icmpv6ParamProblem::UnrecognizedOption;
-        complain(context, reason, header, payload, out);
+        parameter_problem(context, reason, header, payload, out);
     }
 }

@@ -4,7 +4,7 @@ ghost use Rattle.std.specs.Borrow.{sem};
 ghost use Rattle.fragmentation.specs.Reassembled.{RestsReassembled};
 ghost use Rattle.host_machine.specs.Host.{no_sockets};
 ghost use Rattle.host_machine.specs.Addresses as addresses;
-ghost use Rattle.host_machine.specs.Ipv4.{TakesIpv4, TakesProtocol, TakesWhole};
+ghost use Rattle.host_machine.specs.Ipv4.{ProcessesIpv4, ProcessesProtocol, ProcessesDatagram};
 ghost use Rattle.host_machine.specs.Ipv4 as spec;
 ghost use Rattle.iface_send.specs.Stands.{host_of};
 ghost use Rattle.iface_receive.specs.Ipv4.{RestsDatagram, end_of_slots};
@@ -13,7 +13,7 @@ ghost use Rattle.iface_protocols.specs.Processed.{Answers, Processed, StandsFor}
 use crate::renewal::renew_sender;
 use control_wire::icmpv4::Icmpv4DstUnreachable;
 use fragmentation::{FragKey, PacketAssemblerSet, reassemble};
-use iface_protocols::icmpv4::{process_icmpv4, refuse};
+use iface_protocols::icmpv4::{process_icmpv4, icmpv4_unreachable};
 use iface_protocols::igmp::process_igmp;
 use iface_protocols::raw;
 use iface_protocols::tcp::process_tcp;
@@ -40,7 +40,7 @@ pub fn process_ipv4(
     out: &mut FrameBuffer,
 )
     requires { out.old ≡ [] }
-    ensures { Answers out.new (λ H. TakesIpv4 source H octets.now) (StandsFor context.old fragments.old sockets.old) (StandsFor context.new fragments.new sockets.new) }
+    ensures { Answers out.new (λ H. ProcessesIpv4 source H octets.now) (StandsFor context.old fragments.old sockets.old) (StandsFor context.new fragments.new sockets.new) }
 {
     let checked = context.capabilities().checksum.ipv4.rx();
     let Some((header, fragment, payload)) = Ipv4Repr::parse(octets, checked) else {
@@ -53,7 +53,7 @@ pub fn process_ipv4(
         return;
     };
     let header = header_of_datagram(&header, payload);
-    process_whole(context, sockets, source, &header, payload, out);
+    process_datagram(context, sockets, source, &header, payload, out);
 }
 
 /// The payload of the datagram that a packet belongs to, by the packet's header, by which fragment it
@@ -111,7 +111,7 @@ fn header_of_datagram(header: &Ipv4Repr, octets: &[u8]) -> Ipv4Repr
 
 /// Takes a packet that came whole or was put together, by its header and its payload.
 #[inline(always)]
-fn process_whole(
+fn process_datagram(
     context: &mut Context,
     sockets: &mut SocketSet<'_>,
     source: HardwareAddress,
@@ -122,15 +122,15 @@ fn process_whole(
     requires empty { out.old ≡ [] }
     requires short { length payload.now < 2 ^ 16 }
     requires quotable { 20 + header.now.payload_len < 2 ^ 16 }
-    ensures { Processed out.new (λ H. TakesWhole source header.now H payload.now) (host_of context.old sockets.old) (host_of context.new sockets.new) }
+    ensures { Processed out.new (λ H. ProcessesDatagram source header.now H payload.now) (host_of context.old sockets.old) (host_of context.new sockets.new) }
 {
     let packet = IpRepr::Ipv4(*header);
-    let by_raw = raw::deliver(context, sockets, &packet, payload);
+    let handled_by_raw_socket = raw::deliver(context, sockets, &packet, payload);
     if !context.is_for_host(&packet.dst_addr()) {
         return;
     }
     renew_sender(context, source, &packet);
-    process_protocol(context, sockets, header, payload, by_raw, out);
+    process_protocol(context, sockets, header, payload, handled_by_raw_socket, out);
 }
 
 /// Whether a packet may come from this address: that of one host, or of one that has none yet.
@@ -140,35 +140,35 @@ fn may_be_source(context: &Context, address: &Ipv4Address) -> bool
     context.is_unicast_v4(address) || address.is_unspecified()
 }
 
-/// Takes a payload by its protocol, where `by_raw` tells whether a raw socket took the packet. For a
+/// Takes a payload by its protocol, where `handled_by_raw_socket` tells whether a raw socket took the packet. For a
 /// protocol that nobody here speaks an error is sent back.
 fn process_protocol(
     context: &mut Context,
     sockets: &mut SocketSet<'_>,
     header: &Ipv4Repr,
     payload: &[u8],
-    by_raw: bool,
+    handled_by_raw_socket: bool,
     out: &mut FrameBuffer,
 )
     requires empty { out.old ≡ [] }
     requires short { length payload.now < 2 ^ 16 }
     requires quotable { 20 + header.now.payload_len < 2 ^ 16 }
-    ensures { Processed out.new (λ H. TakesProtocol header.now.next_header by_raw header.now H payload.now) (host_of context.old sockets.old) (host_of context.new sockets.new) }
+    ensures { Processed out.new (λ H. ProcessesProtocol header.now.next_header handled_by_raw_socket header.now H payload.now) (host_of context.old sockets.old) (host_of context.new sockets.new) }
 {
     match header.next_header {
         IpProtocol::Icmp => process_icmpv4(context, sockets, header, payload, out),
         IpProtocol::Udp => {
             let packet = IpRepr::Ipv4(*header);
-            process_udp(context, sockets, &packet, payload, by_raw, out);
+            process_udp(context, sockets, &packet, payload, handled_by_raw_socket, out);
         }
         IpProtocol::Tcp => {
             let packet = IpRepr::Ipv4(*header);
-            process_tcp(context, sockets, &packet, payload, by_raw, out);
+            process_tcp(context, sockets, &packet, payload, handled_by_raw_socket, out);
         }
         IpProtocol::Igmp => process_igmp(context, header, payload),
         IpProtocol::HopByHop | IpProtocol::Icmpv6 | IpProtocol::Unknown(_) => {
             let reason = Icmpv4DstUnreachable::ProtoUnreachable;
-            refuse(context, reason, header, payload, by_raw, out);
+            icmpv4_unreachable(context, reason, header, payload, handled_by_raw_socket, out);
         }
     }
 }

@@ -8,10 +8,10 @@ ghost use Rattle.iface_send.specs.Built.{Built};
 ghost use Rattle.iface_send.specs.Stands.{host_of};
 ghost use Rattle.iface_protocols.specs.Processed.{Processed};
 
-use crate::hop_by_hop::answer_failure;
+use crate::hop_by_hop::answer_unknown_option;
 use crate::renewal::renew_sender;
 use icmpv6_wire::Icmpv6ParamProblem;
-use iface_protocols::icmpv6::{complain, process_icmpv6};
+use iface_protocols::icmpv6::{parameter_problem, process_icmpv6};
 use iface_protocols::raw;
 use iface_protocols::tcp::process_tcp;
 use iface_protocols::udp::process_udp;
@@ -36,7 +36,7 @@ pub fn process_ipv6(
     out: &mut FrameBuffer,
 )
     requires { out.old ≡ [] }
-    ensures { Processed out.new (λ H. spec.TakesIpv6 source H octets.now) (host_of context.old sockets.old) (host_of context.new sockets.new) }
+    ensures { Processed out.new (λ H. spec.ProcessesIpv6 source H octets.now) (host_of context.old sockets.old) (host_of context.new sockets.new) }
 {
     let Some((header, payload)) = Ipv6Repr::parse(octets) else {
         return;
@@ -49,7 +49,7 @@ pub fn process_ipv6(
         return;
     }
     let protocol = header.next_header;
-    process_payload(context, sockets, source, &header, protocol, payload, out);
+    process_datagram_v6(context, sockets, source, &header, protocol, payload, out);
 }
 
 /// Takes a payload that begins with hop-by-hop options: the first one that isn't known and isn't to be
@@ -66,7 +66,7 @@ fn process_hop_by_hop(
     requires short { length payload.now < 2 ^ 16 }
     requires tells { header.now.payload_len < 2 ^ 16 }
     requires from_one { is_unicast header.now.src_addr ≡ true }
-    ensures { Processed out.new (λ H. spec.TakesOptions source header.now H payload.now) (host_of context.old sockets.old) (host_of context.new sockets.new) }
+    ensures { Processed out.new (λ H. spec.ProcessesHopByHop source header.now H payload.now) (host_of context.old sockets.old) (host_of context.new sockets.new) }
 {
     let Some((options, rest)) = Ipv6HopByHopRepr::parse(payload) else {
         return;
@@ -74,14 +74,14 @@ fn process_hop_by_hop(
     match options.failure_type() {
         Ipv6OptionFailureType::Skip => {
             let protocol = options.next_header;
-            process_payload(context, sockets, source, header, protocol, rest, out);
+            process_datagram_v6(context, sockets, source, header, protocol, rest, out);
         }
-        failure => answer_failure(context, failure, header, payload, out),
+        failure => answer_unknown_option(context, failure, header, payload, out),
     }
 }
 
 /// Takes a packet by its header, by the protocol of its payload, and by its payload.
-fn process_payload(
+fn process_datagram_v6(
     context: &mut Context,
     sockets: &mut SocketSet<'_>,
     source: HardwareAddress,
@@ -94,18 +94,18 @@ fn process_payload(
     requires short { length payload.now < 2 ^ 16 }
     requires tells { header.now.payload_len < 2 ^ 16 }
     requires from_one { is_unicast header.now.src_addr ≡ true }
-    ensures { Processed out.new (λ H. spec.TakesPayload source header.now protocol H payload.now) (host_of context.old sockets.old) (host_of context.new sockets.new) }
+    ensures { Processed out.new (λ H. spec.ProcessesDatagramV6 source header.now protocol H payload.now) (host_of context.old sockets.old) (host_of context.new sockets.new) }
 {
     let packet = IpRepr::Ipv6(*header);
     if !context.is_for_host(&packet.dst_addr()) {
         return;
     }
-    let by_raw = raw::deliver(context, sockets, &packet, payload);
+    let handled_by_raw_socket = raw::deliver(context, sockets, &packet, payload);
     renew_sender(context, source, &packet);
-    process_protocol(context, sockets, header, protocol, payload, by_raw, out);
+    process_protocol(context, sockets, header, protocol, payload, handled_by_raw_socket, out);
 }
 
-/// Takes a payload by its protocol, where `by_raw` tells whether a raw socket took the packet. For a
+/// Takes a payload by its protocol, where `handled_by_raw_socket` tells whether a raw socket took the packet. For a
 /// protocol that nobody here speaks a problem is sent back.
 fn process_protocol(
     context: &mut Context,
@@ -113,45 +113,45 @@ fn process_protocol(
     header: &Ipv6Repr,
     protocol: IpProtocol,
     payload: &[u8],
-    by_raw: bool,
+    handled_by_raw_socket: bool,
     out: &mut FrameBuffer,
 )
     requires empty { out.old ≡ [] }
     requires short { length payload.now < 2 ^ 16 }
     requires tells { header.now.payload_len < 2 ^ 16 }
     requires from_one { is_unicast header.now.src_addr ≡ true }
-    ensures { Processed out.new (λ H. spec.TakesProtocol protocol by_raw header.now H payload.now) (host_of context.old sockets.old) (host_of context.new sockets.new) }
+    ensures { Processed out.new (λ H. spec.ProcessesProtocol protocol handled_by_raw_socket header.now H payload.now) (host_of context.old sockets.old) (host_of context.new sockets.new) }
 {
     match protocol {
         IpProtocol::Icmpv6 => process_icmpv6(context, sockets, header, payload, out),
         IpProtocol::Udp => {
             let packet = IpRepr::Ipv6(*header);
-            process_udp(context, sockets, &packet, payload, by_raw, out);
+            process_udp(context, sockets, &packet, payload, handled_by_raw_socket, out);
         }
         IpProtocol::Tcp => {
             let packet = IpRepr::Ipv6(*header);
-            process_tcp(context, sockets, &packet, payload, by_raw, out);
+            process_tcp(context, sockets, &packet, payload, handled_by_raw_socket, out);
         }
         IpProtocol::Icmp | IpProtocol::Igmp | IpProtocol::HopByHop | IpProtocol::Unknown(_) => {
-            refuse_protocol(context, header, payload, by_raw, out);
+            unrecognized_next_header(context, header, payload, handled_by_raw_socket, out);
         }
     }
 }
 
 /// Builds the error in reply to a packet of a protocol that nobody here speaks, in an empty buffer, unless a
 /// raw socket took the packet.
-fn refuse_protocol(
+fn unrecognized_next_header(
     context: &mut Context,
     header: &Ipv6Repr,
     payload: &[u8],
-    by_raw: bool,
+    handled_by_raw_socket: bool,
     out: &mut FrameBuffer,
 )
     requires { out.old ≡ [] }
-    ensures { Built out.new (Responds (spec.protocol_unknown by_raw (host_of context.old no_sockets).ip_addrs header.now payload.now)) context.old context.new }
+    ensures { Built out.new (Responds (spec.protocol_unknown handled_by_raw_socket (host_of context.old no_sockets).ip_addrs header.now payload.now)) context.old context.new }
 {
-    if !by_raw {
+    if !handled_by_raw_socket {
         let reason = Icmpv6ParamProblem::UnrecognizedNxtHdr;
-        complain(context, reason, header, payload, out);
+        parameter_problem(context, reason, header, payload, out);
     }
 }

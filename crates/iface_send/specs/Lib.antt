@@ -1,5 +1,5 @@
 pub mod Multicast
 pub mod Stands
-pub mod Shown
+pub mod PacketValues
 pub mod Built
 pub mod Pieces

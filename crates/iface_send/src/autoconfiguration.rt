@@ -1,12 +1,12 @@
 //! Stateless address autoconfiguration over what an interface keeps (RFC 4862 5.5, RFC 4861 6.3).
 ghost use Rattle.std.specs.Prelude.{◌≡◌, ◌≤◌, length};
 ghost use Rattle.host_machine.specs.Host.{SocketSet, no_sockets};
-ghost use Rattle.host_machine.specs.Multicast.{moved};
-ghost use Rattle.host_machine.specs.Slaac.{in_line, synced, with_slaac};
+ghost use Rattle.host_machine.specs.Multicast.{after_address_change};
+ghost use Rattle.host_machine.specs.Slaac.{with_slaac_applied, after_sync, with_slaac};
 ghost use Rattle.fragmentation.specs.Slots.{Slots};
 ghost use Rattle.iface_send.specs.Stands.{host_in, host_of};
 ghost use Rattle.slaac.specs.Slaac as learnt;
-ghost use Rattle.slaac.specs.Slaac.{IsLifetime, advertised, updated};
+ghost use Rattle.slaac.specs.Slaac.{IsLifetime, slaac_after_message, slaac_after_update};
 ghost use Rattle.slaac.specs.Sync.{synced_addrs, synced_routes};
 
 use crate::context::Context;
@@ -56,7 +56,7 @@ pub fn process_advertisement(
 )
     requires { IsLifetime router_lifetime }
     ensures { (sockets : SocketSet) → host_of context.new sockets ≡ with_slaac (host_of context.old sockets)
-        (advertised (host_of context.old no_sockets).slaac router.now router_lifetime prefix (host_of context.old no_sockets).moment) }
+        (slaac_after_message (host_of context.old no_sockets).slaac router.now router_lifetime prefix (host_of context.old no_sockets).moment) }
 {
     let now = context.moment;
     context
@@ -77,16 +77,16 @@ pub fn rs_sent(context: &mut Context)
 /// of it is new, was withdrawn or has ended: as by a change of addresses all neighbours are forgotten then,
 /// and solicited-node groups are left and joined. What has ended is forgotten.
 pub fn sync_slaac(context: &mut Context)
-    ensures { (slots : Slots) (sockets : SocketSet) → host_in context.new slots sockets ≡ synced (host_in context.old slots sockets) }
+    ensures { (slots : Slots) (sockets : SocketSet) → host_in context.new slots sockets ≡ after_sync (host_in context.old slots sockets) }
 {
     if context.slaac.sync_required(context.moment) {
-        bring_in_line(context);
+        apply_slaac(context);
     }
 }
 
 /// Brings the addresses and the routes into line with what was learnt.
-fn bring_in_line(context: &mut Context)
-    ensures { (sockets : SocketSet) → host_of context.new sockets ≡ in_line (host_of context.old sockets) }
+fn apply_slaac(context: &mut Context)
+    ensures { (sockets : SocketSet) → host_of context.new sockets ≡ with_slaac_applied (host_of context.old sockets) }
 {
     let now = context.moment;
     let list = synced_addrs(
@@ -98,13 +98,13 @@ fn bring_in_line(context: &mut Context)
     let routes = synced_routes(context.routes.as_slice(), context.slaac.routes(), now);
     set_ip_addrs(context, list);
     set_routes(context, routes);
-    settle(context);
+    finish_sync(context);
 }
 
 /// Forgets what has ended: addresses and routes are in line.
-fn settle(context: &mut Context)
+fn finish_sync(context: &mut Context)
     ensures { (sockets : SocketSet) → host_of context.new sockets ≡ record (host_of context.old sockets) {
-      slaac = updated (host_of context.old no_sockets).slaac (host_of context.old no_sockets).moment;
+      slaac = slaac_after_update (host_of context.old no_sockets).slaac (host_of context.old no_sockets).moment;
       slaac_updated_at = (host_of context.old no_sockets).moment;
     } }
 {

@@ -120,7 +120,7 @@ impl Context {
 
     /// Whether pieces of a packet that was cut wait to be sent.
     #[inline(always)]
-    pub fn has_waiting_piece(&self) -> bool
+    pub fn has_pending_fragment(&self) -> bool
         ensures { result ≡ not (is_nil (host_of self.now no_sockets).left) }
     {
         !self.fragmenter.is_empty()
@@ -211,12 +211,12 @@ impl Context {
     pub fn is_for_host(&self, address: &IpAddress) -> bool
         ensures { result ≡ addresses.is_for_host (host_of self.now no_sockets) address.now }
     {
-        self.has_ip_addr(address) || self.is_for_many_or_itself(*address)
+        self.has_ip_addr(address) || self.is_for_group_or_itself(*address)
     }
 
     /// Whether an address is one of a group of its own, a broadcast address, or ::1.
     #[inline(never)]
-    fn is_for_many_or_itself(&self, address: IpAddress) -> bool
+    fn is_for_group_or_itself(&self, address: IpAddress) -> bool
         ensures { result ≡ (addresses.has_multicast_group (host_of self.now no_sockets) address || addresses.is_broadcast (host_of self.now no_sockets).ip_addrs address || addresses.is_loopback address) }
     {
         self.has_multicast_group(&address) || self.is_broadcast(&address) || is_loopback(&address)

@@ -12,12 +12,12 @@ ghost use Rattle.host_machine.specs.Frame.{ip_frame};
 ghost use Rattle.host_machine.specs.Packet.{IsFormed, IsWritable};
 ghost use Rattle.host_machine.specs.Packet as value;
 ghost use Rattle.host_machine.specs.Dispatch as spec;
-ghost use Rattle.iface_send.specs.Shown as shown;
+ghost use Rattle.iface_send.specs.PacketValues as value_of;
 ghost use Rattle.iface_send.specs.Built.{Built};
 ghost use Rattle.iface_send.specs.Stands.{host_in, host_of};
 
 use crate::context::Context;
-use crate::fragments::emit_in_pieces;
+use crate::fragments::emit_fragmented;
 use crate::packet::{AnyPacket, Packet, PacketV6, emit_arp, emit_link_header};
 use crate::payload::IpPayload;
 use fragmentation::fragmenter::FRAGMENTATION_BUFFER_SIZE;
@@ -54,7 +54,7 @@ pub fn dispatch<Q: AnyPacket>(
             dispatch_ethernet(context, identification, own, packet, out)
         }
         HardwareAddress::Ip => {
-            emit_to(context, identification, &HardwareAddress::Ip, packet, out);
+            emit_packet(context, identification, &HardwareAddress::Ip, packet, out);
             Ok(())
         }
     }
@@ -70,14 +70,14 @@ fn dispatch_ethernet<Q: AnyPacket>(
     out: &mut FrameBuffer,
 ) -> Result<(), DispatchError>
     requires empty { out.old ≡ [] }
-    requires somebody { is_unspecified (spec.destination_of (Q.stands_for packet.now)) ≡ false }
+    requires specified { is_unspecified (spec.destination_of (Q.stands_for packet.now)) ≡ false }
     requires writable { IsWritable (Q.stands_for packet.now) }
-    ensures { Built out.new (spec.SendsEthernet identification own (Q.stands_for packet.now) result) context.old context.new }
+    ensures { Built out.new (spec.DispatchesEthernet identification own (Q.stands_for packet.now) result) context.old context.new }
 {
     let dst_addr = packet.dst_addr();
-    if let Some(many) = many_address(context, &dst_addr) {
+    if let Some(many) = multicast_hardware_addr(context, &dst_addr) {
         let destination = HardwareAddress::Ethernet(many);
-        emit_to(context, identification, &destination, packet, out);
+        emit_packet(context, identification, &destination, packet, out);
         return Ok(());
     }
     match next_hop(context, &dst_addr) {
@@ -99,25 +99,25 @@ fn dispatch_by_hop<Q: AnyPacket>(
     requires empty { out.old ≡ [] }
     requires hop { is_unicast hop.now ≡ true }
     requires writable { IsWritable (Q.stands_for packet.now) }
-    ensures { Built out.new (spec.SendsByHop identification own (Q.stands_for packet.now) hop.now result) context.old context.new }
+    ensures { Built out.new (spec.DispatchesByHop identification own (Q.stands_for packet.now) hop.now result) context.old context.new }
 {
     match context.neighbor_cache.lookup(hop, context.moment) {
         Answer::Found(destination) => {
-            emit_to(context, identification, &destination, packet, out);
+            emit_packet(context, identification, &destination, packet, out);
             Ok(())
         }
         Answer::RateLimited => Err(DispatchError::NeighborPending),
         Answer::NotFound => {
             // Copies, so that a packet that goes stores neither for this call.
             let (own, hop) = (own, *hop);
-            Err(discover(context, own, &hop, out))
+            Err(discover_neighbor(context, own, &hop, out))
         }
     }
 }
 
 /// Builds the request for the hardware address of a neighbour; for a second nobody's is asked for then.
 /// Answers why the packet for it isn't gone.
-fn discover(
+fn discover_neighbor(
     context: &mut Context,
     own: EthernetAddress,
     hop: &IpAddress,
@@ -127,14 +127,14 @@ fn discover(
     ensures { Built out.new (spec.Discovers own hop.now (Err result)) context.old context.new }
 {
     match hop {
-        IpAddress::Ipv4(target) => request(context, own, target, out),
-        IpAddress::Ipv6(target) => solicit(context, own, target, out),
+        IpAddress::Ipv4(target) => send_arp_request(context, own, target, out),
+        IpAddress::Ipv6(target) => send_neighbor_solicit(context, own, target, out),
     }
 }
 
 /// The same over IPv4, by an ARP request.
 #[inline(always)]
-fn request(
+fn send_arp_request(
     context: &mut Context,
     own: EthernetAddress,
     target: &Ipv4Address,
@@ -153,7 +153,7 @@ fn request(
 
 /// The same over IPv6, by a neighbour solicitation, which takes an identification of its own.
 #[inline(never)]
-fn solicit(
+fn send_neighbor_solicit(
     context: &mut Context,
     own: EthernetAddress,
     target: &Ipv6Address,
@@ -178,7 +178,7 @@ fn solicitation_for(
     source: Ipv6Address,
     target: Ipv6Address,
 ) -> Packet<'static>
-    ensures { shown.packet result ≡ solicitation_for own source target }
+    ensures { value_of.packet result ≡ solicitation_for own source target }
 {
     let message = NdiscRepr::NeighborSolicit {
         target_addr: target,
@@ -209,7 +209,7 @@ fn request_for(own: EthernetAddress, source: Ipv4Address, target: Ipv4Address) -
 /// if it is longer than the device's packets. One of more than 4,096 octets is dropped then, and so is
 /// one of IPv6 (RFC 8200 5).
 #[inline(always)]
-fn emit_to<Q: AnyPacket>(
+fn emit_packet<Q: AnyPacket>(
     context: &mut Context,
     identification: u16,
     destination: &HardwareAddress,
@@ -227,7 +227,7 @@ fn emit_to<Q: AnyPacket>(
     }
     // A copy, so that the address isn't stored for this call where the packet fits.
     let destination = *destination;
-    emit_long(
+    emit_long_packet(
         context,
         identification,
         &destination,
@@ -239,7 +239,7 @@ fn emit_to<Q: AnyPacket>(
 /// Builds the frame of the first piece of a packet that is longer than the device's packets, if it may be
 /// cut; else it is dropped.
 #[inline(never)]
-fn emit_long(
+fn emit_long_packet(
     context: &mut Context,
     identification: u16,
     destination: &HardwareAddress,
@@ -247,14 +247,14 @@ fn emit_long(
     out: &mut FrameBuffer,
 )
     requires empty { out.old ≡ [] }
-    requires writable { IsWritable (shown.packet packet.now) }
-    requires long { ip_mtu_of context.old.capabilities < value.total_len (shown.packet packet.now) }
-    ensures { Built out.new (spec.Emits identification (shown.packet packet.now) destination.now (Ok tt)) context.old context.new }
+    requires writable { IsWritable (value_of.packet packet.now) }
+    requires long { ip_mtu_of context.old.capabilities < value.total_len (value_of.packet packet.now) }
+    ensures { Built out.new (spec.Emits identification (value_of.packet packet.now) destination.now (Ok tt)) context.old context.new }
 {
     let total_len = packet.total_len();
     if let Packet::Ipv4(packet) = packet {
         if total_len <= FRAGMENTATION_BUFFER_SIZE {
-            emit_in_pieces(context, identification, destination, packet, out);
+            emit_fragmented(context, identification, destination, packet, out);
         }
     }
 }
@@ -281,8 +281,8 @@ fn emit_frame<Q: AnyPacket>(
 /// The hardware address for a destination of many hosts: that of all for a broadcast, that of the
 /// group for a group.
 #[inline(always)]
-fn many_address(context: &Context, dst_addr: &IpAddress) -> Option<EthernetAddress>
-    ensures value { result ≡ spec.many_address (host_of context.now no_sockets).ip_addrs dst_addr.now }
+fn multicast_hardware_addr(context: &Context, dst_addr: &IpAddress) -> Option<EthernetAddress>
+    ensures value { result ≡ spec.multicast_hardware_addr (host_of context.now no_sockets).ip_addrs dst_addr.now }
     ensures else_one { result ≡ None → is_unspecified dst_addr.now ≡ false → is_unicast dst_addr.now ≡ true }
 {
     match dst_addr {
@@ -290,7 +290,7 @@ fn many_address(context: &Context, dst_addr: &IpAddress) -> Option<EthernetAddre
             if context.is_broadcast_v4(address) {
                 Some(EthernetAddress::BROADCAST)
             } else if address.is_multicast() {
-                Some(group_address(address))
+                Some(group_address_v4(address))
             } else {
                 None
             }
@@ -306,8 +306,8 @@ fn many_address(context: &Context, dst_addr: &IpAddress) -> Option<EthernetAddre
 }
 
 /// The hardware address of an IPv4 group: 01:00:5e, and its low 23 bits (RFC 1112 6.4).
-fn group_address(group: &Ipv4Address) -> EthernetAddress
-    ensures { result ≡ spec.group_address group.now }
+fn group_address_v4(group: &Ipv4Address) -> EthernetAddress
+    ensures { result ≡ spec.group_address_v4 group.now }
 {
     let bits = group.bits;
     EthernetAddress([

@@ -7,7 +7,7 @@ ghost use Rattle.host_machine.specs.Host.{SocketSet, no_sockets, with_left};
 ghost use Rattle.host_machine.specs.Packet.{HasPorts, IsWritablePayload};
 ghost use Rattle.host_machine.specs.Packet as value;
 ghost use Rattle.host_machine.specs.Dispatch as spec;
-ghost use Rattle.iface_send.specs.Shown as shown;
+ghost use Rattle.iface_send.specs.PacketValues as value_of;
 ghost use Rattle.iface_send.specs.Built.{Built};
 ghost use Rattle.iface_send.specs.Pieces.{NextPieceGoes};
 ghost use Rattle.iface_send.specs.Stands.{host_of};
@@ -23,7 +23,7 @@ use ip_wire::{EthernetProtocol, HardwareAddress, IpRepr};
 /// frame of its first piece, in an empty buffer, and leaves the others to be sent, in place of what was
 /// left before.
 #[inline(never)]
-pub(crate) fn emit_in_pieces(
+pub(crate) fn emit_fragmented(
     context: &mut Context,
     identification: u16,
     destination: &HardwareAddress,
@@ -31,19 +31,19 @@ pub(crate) fn emit_in_pieces(
     out: &mut FrameBuffer,
 )
     requires empty { out.old ≡ [] }
-    requires writable { IsWritablePayload (shown.payload packet.now.payload) }
-    requires long { ip_mtu_of context.old.capabilities < value.total_len (value.Ipv4 (shown.packet_v4 shown.payload packet.now)) }
-    requires fits { value.total_len (value.Ipv4 (shown.packet_v4 shown.payload packet.now)) ≤ 4096 }
-    ensures { Built out.new (spec.Emits identification (value.Ipv4 (shown.packet_v4 shown.payload packet.now)) destination.now (Ok tt)) context.old context.new }
+    requires writable { IsWritablePayload (value_of.payload packet.now.payload) }
+    requires long { ip_mtu_of context.old.capabilities < value.total_len (value.Ipv4 (value_of.packet_v4 value_of.payload packet.now)) }
+    requires fits { value.total_len (value.Ipv4 (value_of.packet_v4 value_of.payload packet.now)) ≤ 4096 }
+    ensures { Built out.new (spec.Emits identification (value.Ipv4 (value_of.packet_v4 value_of.payload packet.now)) destination.now (Ok tt)) context.old context.new }
 {
-    cut(context, identification, destination, packet, out);
+    fragment_packet(context, identification, destination, packet, out);
     out.clear();
     emit_next_piece(context, out);
 }
 
 /// Leaves all pieces of a packet to be sent, in place of what was left before. Its protocol's header is
 /// built in an empty buffer.
-fn cut(
+fn fragment_packet(
     context: &mut Context,
     identification: u16,
     destination: &HardwareAddress,
@@ -51,14 +51,14 @@ fn cut(
     scratch: &mut FrameBuffer,
 )
     requires empty { scratch.old ≡ [] }
-    requires writable { IsWritablePayload (shown.payload packet.now.payload) }
-    requires some { 20 < value.total_len (value.Ipv4 (shown.packet_v4 shown.payload packet.now)) }
-    requires fits { value.total_len (value.Ipv4 (shown.packet_v4 shown.payload packet.now)) ≤ 4096 }
+    requires writable { IsWritablePayload (value_of.payload packet.now.payload) }
+    requires some { 20 < value.total_len (value.Ipv4 (value_of.packet_v4 value_of.payload packet.now)) }
+    requires fits { value.total_len (value.Ipv4 (value_of.packet_v4 value_of.payload packet.now)) ≤ 4096 }
     ensures left { (sockets : SocketSet) → host_of context.new sockets ≡ with_left (host_of context.old sockets)
-        (pieces_of (spec.datagram_of (host_of context.old sockets) destination.now identification (shown.packet_v4 shown.payload packet.now))) }
+        (pieces_of (spec.datagram_of (host_of context.old sockets) destination.now identification (value_of.packet_v4 value_of.payload packet.now))) }
     ensures some { is_nil (host_of context.new no_sockets).left ≡ false }
-    ensures fits { HasForm (spec.datagram_of (host_of context.old no_sockets) destination.now identification (shown.packet_v4 shown.payload packet.now)) }
-    ensures ports { HasPorts (shown.payload packet.now.payload) }
+    ensures fits { HasForm (spec.datagram_of (host_of context.old no_sockets) destination.now identification (value_of.packet_v4 value_of.payload packet.now)) }
+    ensures ports { HasPorts (value_of.payload packet.now.payload) }
 {
     let header = packet.header();
     let link = &context.capabilities;

@@ -93,7 +93,7 @@ fn is_solicited_node(group: &Ipv6Address) -> bool
 
 /// Leaves groups, one after the other.
 fn leave_all(groups: &mut Groups, addresses: &[IpAddress])
-    ensures { groups.new ≡ spec.all_left groups.old addresses.now }
+    ensures { groups.new ≡ spec.groups_after_leaves groups.old addresses.now }
 {
     for address in addresses {
         groups.leave(address);
@@ -102,7 +102,7 @@ fn leave_all(groups: &mut Groups, addresses: &[IpAddress])
 
 /// Joins the solicited-node group of each IPv6 address, as far as there is room.
 fn join_solicited(groups: &mut Groups, own: &[IpCidr])
-    ensures { groups.new ≡ spec.all_joined groups.old own.now }
+    ensures { groups.new ≡ spec.groups_after_joins groups.old own.now }
 {
     for cidr in own {
         match cidr {

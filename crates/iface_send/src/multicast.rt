@@ -1,7 +1,7 @@
 //! What the calls of an interface set in its groups, and in what is to be reported of them.
 ghost use Rattle.std.specs.Prelude.{◌≡◌, ◌+◌, ◌<◌, Some, OnErr};
 ghost use Rattle.group_table.specs.declared.groups.GroupState.TheVariants.{Joining, Leaving};
-ghost use Rattle.group_table.specs.Groups.{count_in, done_or_full, first_in, join_reported, joined, leave_reported, left};
+ghost use Rattle.group_table.specs.Groups.{count_in, done_or_full, first_in, join_reported, groups_after_join, leave_reported, groups_after_leave};
 ghost use Rattle.host_machine.specs.Host.{SocketSet, no_sockets, with_groups};
 ghost use Rattle.host_machine.specs.Reports.{with_igmp_report, with_mld_report};
 ghost use Rattle.iface_send.specs.Multicast.{interval_of};
@@ -44,7 +44,7 @@ impl Context {
 /// others are; then nothing changes.
 pub fn join_group(context: &mut Context, group: IpAddress) -> Result<(), GroupTableFull>
     ensures answer { result ≡ done_or_full (host_of context.old no_sockets).groups group }
-    ensures groups { (sockets : SocketSet) → host_of context.new sockets ≡ with_groups (host_of context.old sockets) (joined (host_of context.old no_sockets).groups group) }
+    ensures groups { (sockets : SocketSet) → host_of context.new sockets ≡ with_groups (host_of context.old sockets) (groups_after_join (host_of context.old no_sockets).groups group) }
     ensures unchanged { OnErr result ((sockets : SocketSet) → host_of context.new sockets ≡ host_of context.old sockets) }
 {
     context.multicast.groups.join(group)
@@ -52,7 +52,7 @@ pub fn join_group(context: &mut Context, group: IpAddress) -> Result<(), GroupTa
 
 /// Leaves a group, as [`Groups::leave`] does.
 pub fn leave_group(context: &mut Context, group: &IpAddress)
-    ensures { (sockets : SocketSet) → host_of context.new sockets ≡ with_groups (host_of context.old sockets) (left (host_of context.old no_sockets).groups group.now) }
+    ensures { (sockets : SocketSet) → host_of context.new sockets ≡ with_groups (host_of context.old sockets) (groups_after_leave (host_of context.old no_sockets).groups group.now) }
 {
     context.multicast.groups.leave(group);
 }

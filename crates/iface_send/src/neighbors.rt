@@ -2,7 +2,7 @@
 ghost use Rattle.std.specs.Prelude.{◌≡◌, List, [], true};
 ghost use Rattle.ip_address.specs.Hardware as hardware;
 ghost use Rattle.ip_address.specs.Ip.{is_unicast};
-ghost use Rattle.iface_tables.specs.Neighbor.{Fills, answer_of, expiry_from, is_found, renewed};
+ghost use Rattle.iface_tables.specs.Neighbor.{Fills, answer_of, expiry_from, is_found, after_renewal};
 ghost use Rattle.host_machine.specs.Host.{SocketSet, with_neighbors, no_sockets};
 ghost use Rattle.iface_send.specs.Stands.{host_of};
 
@@ -45,7 +45,7 @@ pub fn renew_neighbor(
     protocol_addr: IpAddress,
     hardware_addr: HardwareAddress,
 )
-    ensures { (sockets : SocketSet) → host_of context.new sockets ≡ with_neighbors (host_of context.old sockets) (renewed (host_of context.old no_sockets).neighbors protocol_addr hardware_addr (expiry_from (host_of context.old no_sockets).moment)) }
+    ensures { (sockets : SocketSet) → host_of context.new sockets ≡ with_neighbors (host_of context.old sockets) (after_renewal (host_of context.old no_sockets).neighbors protocol_addr hardware_addr (expiry_from (host_of context.old no_sockets).moment)) }
 {
     context
         .neighbor_cache

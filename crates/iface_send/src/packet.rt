@@ -7,7 +7,7 @@ ghost use Rattle.host_machine.specs.Packet as value;
 ghost use Rattle.host_machine.specs.Dispatch.{destination_of};
 ghost use Rattle.ip_wire.specs.IpPacket.{TellsLength};
 ghost use Rattle.ip_wire.specs.declared.ip_packet.IpRepr.TheVariants as repr;
-ghost use Rattle.iface_send.specs.Shown as shown;
+ghost use Rattle.iface_send.specs.PacketValues as value_of;
 
 use crate::payload::{IpPayload, Payload};
 use ip_wire::emit::FrameBuffer;
@@ -48,7 +48,7 @@ pub trait AnyPacket {
 
     /// The packet as one with any payload.
     fn as_packet(&self) -> Packet<'_>
-        ensures { shown.packet result ≡ stands_for self.now };
+        ensures { value_of.packet result ≡ stands_for self.now };
 }
 
 /// An IP packet.
@@ -80,7 +80,7 @@ impl<P: Payload> PacketV4<P> {
     /// A payload in reply to a packet with this header, as [`Packet::back`] makes it.
     #[inline(always)]
     pub fn back(header: &Ipv4Repr, payload: P) -> PacketV4<P>
-        ensures { value.Ipv4 (shown.packet_v4 P.carried result) ≡ value.sent_back (repr.Ipv4 header.now) (P.carried payload) }
+        ensures { value.Ipv4 (value_of.packet_v4 P.carried result) ≡ value.sent_back (repr.Ipv4 header.now) (P.carried payload) }
     {
         PacketV4 {
             src_addr: header.dst_addr,
@@ -94,7 +94,7 @@ impl<P: Payload> PacketV4<P> {
     #[inline(always)]
     pub fn header(&self) -> Ipv4Repr
         requires { 20 + value.payload_len (P.carried self.now.payload) < 2 ^ 16 }
-        ensures { result ≡ value.header_v4 (shown.packet_v4 P.carried self.now) }
+        ensures { result ≡ value.header_v4 (value_of.packet_v4 P.carried self.now) }
     {
         Ipv4Repr {
             src_addr: self.src_addr,
@@ -110,7 +110,7 @@ impl<P: Payload> PacketV6<P> {
     /// A payload in reply to a packet with this header, as [`Packet::back`] makes it.
     #[inline(always)]
     pub fn back(header: &Ipv6Repr, payload: P) -> PacketV6<P>
-        ensures { value.Ipv6 (shown.packet_v6 P.carried result) ≡ value.sent_back (repr.Ipv6 header.now) (P.carried payload) }
+        ensures { value.Ipv6 (value_of.packet_v6 P.carried result) ≡ value.sent_back (repr.Ipv6 header.now) (P.carried payload) }
     {
         PacketV6 {
             src_addr: header.dst_addr,
@@ -124,7 +124,7 @@ impl<P: Payload> PacketV6<P> {
     #[inline(always)]
     pub fn header(&self) -> Ipv6Repr
         requires { value.payload_len (P.carried self.now.payload) < 2 ^ 16 }
-        ensures { result ≡ value.header_v6 (shown.packet_v6 P.carried self.now) }
+        ensures { result ≡ value.header_v6 (value_of.packet_v6 P.carried self.now) }
     {
         Ipv6Repr {
             src_addr: self.src_addr,
@@ -141,7 +141,7 @@ impl<'p> Packet<'p> {
     /// payload's, whatever the header says of them.
     #[inline(always)]
     pub fn new(ip_repr: IpRepr, payload: IpPayload<'p>) -> Packet<'p>
-        ensures { shown.packet result ≡ value.packet_with ip_repr (shown.payload payload.entry) }
+        ensures { value_of.packet result ≡ value.packet_with ip_repr (value_of.payload payload.entry) }
     {
         match ip_repr {
             IpRepr::Ipv4(header) => Packet::new_ipv4(header, payload),
@@ -152,7 +152,7 @@ impl<'p> Packet<'p> {
     /// A packet of IPv4, as [`Packet::new`] makes it.
     #[inline(always)]
     pub fn new_ipv4(header: Ipv4Repr, payload: IpPayload<'p>) -> Packet<'p>
-        ensures { shown.packet result ≡ value.packet_with (repr.Ipv4 header) (shown.payload payload.entry) }
+        ensures { value_of.packet result ≡ value.packet_with (repr.Ipv4 header) (value_of.payload payload.entry) }
     {
         Packet::Ipv4(PacketV4 {
             src_addr: header.src_addr,
@@ -165,7 +165,7 @@ impl<'p> Packet<'p> {
     /// A packet of IPv6, as [`Packet::new`] makes it.
     #[inline(always)]
     pub fn new_ipv6(header: Ipv6Repr, payload: IpPayload<'p>) -> Packet<'p>
-        ensures { shown.packet result ≡ value.packet_with (repr.Ipv6 header) (shown.payload payload.entry) }
+        ensures { value_of.packet result ≡ value.packet_with (repr.Ipv6 header) (value_of.payload payload.entry) }
     {
         Packet::Ipv6(PacketV6 {
             src_addr: header.src_addr,
@@ -178,8 +178,8 @@ impl<'p> Packet<'p> {
     /// The values of its header. Its payload has to fit: with IPv4's header it has at most 65,535 octets,
     /// without IPv6's.
     pub fn ip_repr(&self) -> IpRepr
-        requires { TellsLength (value.header_of (shown.packet self.now)) }
-        ensures { result ≡ value.header_of (shown.packet self.now) }
+        requires { TellsLength (value.header_of (value_of.packet self.now)) }
+        ensures { result ≡ value.header_of (value_of.packet self.now) }
     {
         match self {
             Packet::Ipv4(packet) => IpRepr::Ipv4(packet.header()),
@@ -190,7 +190,7 @@ impl<'p> Packet<'p> {
     /// What it carries.
     #[inline(always)]
     pub fn payload(&self) -> &IpPayload<'p>
-        ensures { shown.payload result.now ≡ value.payload_of (shown.packet self.now) }
+        ensures { value_of.payload result.now ≡ value.payload_of (value_of.packet self.now) }
     {
         match self {
             Packet::Ipv4(packet) => &packet.payload,
@@ -202,7 +202,7 @@ impl<'p> Packet<'p> {
     /// destination, with hop limit 64.
     #[inline(always)]
     pub fn back(header: &IpRepr, payload: IpPayload<'p>) -> Packet<'p>
-        ensures { shown.packet result ≡ value.sent_back header.now (shown.payload payload.entry) }
+        ensures { value_of.packet result ≡ value.sent_back header.now (value_of.payload payload.entry) }
     {
         match header {
             IpRepr::Ipv4(header) => Packet::Ipv4(PacketV4::back(header, payload)),
@@ -212,7 +212,7 @@ impl<'p> Packet<'p> {
 }
 
 impl<P: Payload> AnyPacket for PacketV4<P> {
-    ghost stands_for = { λ p. value.Ipv4 (shown.packet_v4 P.carried p) };
+    ghost stands_for = { λ p. value.Ipv4 (value_of.packet_v4 P.carried p) };
 
     #[inline(always)]
     fn dst_addr(&self) -> IpAddress {
@@ -250,7 +250,7 @@ impl<P: Payload> AnyPacket for PacketV4<P> {
 }
 
 impl<P: Payload> AnyPacket for PacketV6<P> {
-    ghost stands_for = { λ p. value.Ipv6 (shown.packet_v6 P.carried p) };
+    ghost stands_for = { λ p. value.Ipv6 (value_of.packet_v6 P.carried p) };
 
     #[inline(always)]
     fn dst_addr(&self) -> IpAddress {
@@ -288,7 +288,7 @@ impl<P: Payload> AnyPacket for PacketV6<P> {
 }
 
 impl AnyPacket for Packet<'_> {
-    ghost stands_for = { shown.packet };
+    ghost stands_for = { value_of.packet };
 
     #[inline(always)]
     fn dst_addr(&self) -> IpAddress {

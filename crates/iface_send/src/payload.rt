@@ -3,11 +3,11 @@ ghost use Rattle.std.specs.Prelude.{◌≡◌, ◌+◌, ◌<◌, ◌≤◌, ◌^
 ghost use Rattle.control_wire.specs.declared.icmpv4.Icmpv4Repr.TheVariants as icmpv4;
 ghost use Rattle.icmpv6_wire.specs.declared.icmpv6.Icmpv6Repr.TheVariants as icmpv6;
 ghost use Rattle.icmpv6_wire.specs.declared.ndisc.NdiscRepr.TheVariants as ndisc;
-ghost use Rattle.host_machine.specs.Frame.{limited, mld_options, payload_text};
+ghost use Rattle.host_machine.specs.Frame.{with_limited_window, mld_options, payload_text};
 ghost use Rattle.host_machine.specs.Packet.{HasPorts, IsWritablePayload, payload_len, protocol_of};
 ghost use Rattle.host_machine.specs.Packet as value;
 ghost use Rattle.ipv6_wire.specs.HopByHop.{text_len};
-ghost use Rattle.iface_send.specs.Shown as shown;
+ghost use Rattle.iface_send.specs.PacketValues as value_of;
 
 use arrayvec::ArrayVec;
 use control_wire::icmpv4::{EchoRequest, Icmpv4DstUnreachable, Icmpv4Repr};
@@ -32,7 +32,7 @@ pub trait Payload: Copy {
     ghost carried: { Self → IpPayload };
 
     /// The octets behind its protocol's header.
-    ghost behind: { Self → List ℕ };
+    ghost after: { Self → List ℕ };
 
     /// Its protocol.
     fn protocol(&self) -> IpProtocol
@@ -45,21 +45,21 @@ pub trait Payload: Copy {
 
     /// The octets behind its protocol's header.
     fn octets(&self) -> &[u8]
-        ensures { result.now ≡ behind self.now };
+        ensures { result.now ≡ after self.now };
 
     /// Appends it behind a packet's header, up to the octets behind its protocol's header, with its
     /// checksum where that is on.
     fn emit_header(&self, header: &IpRepr, capabilities: &DeviceCapabilities, out: &mut FrameBuffer)
         requires writable { IsWritablePayload (carried self.now) }
         requires short { payload_len (carried self.now) < 2 ^ 16 }
-        requires room { length out.old + payload_len (carried self.now) ≤ 1514 + length (behind self.now) }
-        ensures items { out.new ++ behind self.now ≡ out.old ++ payload_text capabilities.now header.now (carried self.now) }
-        ensures len { length out.new + length (behind self.now) ≡ length out.old + payload_len (carried self.now) }
+        requires room { length out.old + payload_len (carried self.now) ≤ 1514 + length (after self.now) }
+        ensures items { out.new ++ after self.now ≡ out.old ++ payload_text capabilities.now header.now (carried self.now) }
+        ensures len { length out.new + length (after self.now) ≡ length out.old + payload_len (carried self.now) }
         ensures ports { HasPorts (carried self.now) };
 
     /// The payload as one of any kind.
     fn as_ip_payload(&self) -> IpPayload<'_>
-        ensures { shown.payload result ≡ carried self.now };
+        ensures { value_of.payload result ≡ carried self.now };
 }
 
 /// A payload of any kind: by protocol, with the octets behind that header; or as it stands.
@@ -68,7 +68,7 @@ pub enum IpPayload<'p> {
     Icmpv4(Icmpv4Repr, &'p [u8]),
     Icmpv6(Icmpv6Repr, &'p [u8]),
     /// The reply to an echo request.
-    EchoReply(EchoRequest<'p>),
+    EchoReplyV4(EchoRequest<'p>),
     /// The same over IPv6.
     EchoReplyV6(echo::EchoRequest<'p>),
     Udp(UdpRepr, &'p [u8]),
@@ -81,7 +81,7 @@ pub enum IpPayload<'p> {
 
 /// The reply to an echo request.
 #[derive(Clone, Copy)]
-pub struct EchoReply<'p> {
+pub struct EchoReplyV4<'p> {
     pub request: EchoRequest<'p>,
 }
 
@@ -131,14 +131,14 @@ pub struct Segment<'p> {
 }
 
 impl Payload for IpPayload<'_> {
-    ghost carried = { shown.payload };
+    ghost carried = { value_of.payload };
 
-    ghost behind = { shown.octets_behind };
+    ghost after = { value_of.octets_after };
 
     #[inline(always)]
     fn protocol(&self) -> IpProtocol {
         match self {
-            IpPayload::Icmpv4(..) | IpPayload::EchoReply(_) => IpProtocol::Icmp,
+            IpPayload::Icmpv4(..) | IpPayload::EchoReplyV4(_) => IpProtocol::Icmp,
             IpPayload::Icmpv6(..) | IpPayload::EchoReplyV6(_) => IpProtocol::Icmpv6,
             IpPayload::Udp(..) => IpProtocol::Udp,
             IpPayload::Tcp(..) => IpProtocol::Tcp,
@@ -153,7 +153,7 @@ impl Payload for IpPayload<'_> {
         match self {
             IpPayload::Icmpv4(message, octets) => message.header_len() + octets.len(),
             IpPayload::Icmpv6(message, octets) => message.header_len() + octets.len(),
-            IpPayload::EchoReply(request) => request.octets.len(),
+            IpPayload::EchoReplyV4(request) => request.octets.len(),
             IpPayload::EchoReplyV6(request) => request.octets.len(),
             IpPayload::Udp(_, octets) => 8 + octets.len(),
             IpPayload::Tcp(_, octets) => 20 + octets.len(),
@@ -166,7 +166,7 @@ impl Payload for IpPayload<'_> {
     #[inline(always)]
     fn octets(&self) -> &[u8] {
         match self {
-            IpPayload::EchoReply(request) => request.payload(),
+            IpPayload::EchoReplyV4(request) => request.payload(),
             IpPayload::EchoReplyV6(request) => request.payload(),
             IpPayload::Icmpv4(_, octets)
             | IpPayload::Icmpv6(_, octets)
@@ -192,7 +192,7 @@ impl Payload for IpPayload<'_> {
                 capabilities.checksum.ipv4.tx(),
                 out,
             ),
-            IpPayload::EchoReply(request) => {
+            IpPayload::EchoReplyV4(request) => {
                 request.emit_reply_header(capabilities.checksum.icmpv4.tx(), out);
             }
             IpPayload::EchoReplyV6(request) => {
@@ -225,10 +225,10 @@ impl Payload for IpPayload<'_> {
     }
 }
 
-impl Payload for EchoReply<'_> {
-    ghost carried = { shown.echo_reply };
+impl Payload for EchoReplyV4<'_> {
+    ghost carried = { value_of.echo_reply_v4 };
 
-    ghost behind = { λ p. drop 8 p.request.octets.now };
+    ghost after = { λ p. drop 8 p.request.octets.now };
 
     #[inline(always)]
     fn protocol(&self) -> IpProtocol {
@@ -258,14 +258,14 @@ impl Payload for EchoReply<'_> {
 
     #[inline(always)]
     fn as_ip_payload(&self) -> IpPayload<'_> {
-        IpPayload::EchoReply(self.request)
+        IpPayload::EchoReplyV4(self.request)
     }
 }
 
 impl Payload for EchoReplyV6<'_> {
-    ghost carried = { shown.echo_reply_v6 };
+    ghost carried = { value_of.echo_reply_v6 };
 
-    ghost behind = { λ p. drop 8 p.request.octets.now };
+    ghost after = { λ p. drop 8 p.request.octets.now };
 
     #[inline(always)]
     fn protocol(&self) -> IpProtocol {
@@ -301,9 +301,9 @@ impl Payload for EchoReplyV6<'_> {
 }
 
 impl Payload for Unreachable<'_> {
-    ghost carried = { shown.unreachable };
+    ghost carried = { value_of.unreachable };
 
-    ghost behind = { λ p. p.octets.now };
+    ghost after = { λ p. p.octets.now };
 
     #[inline(always)]
     fn protocol(&self) -> IpProtocol {
@@ -340,9 +340,9 @@ impl Payload for Unreachable<'_> {
 }
 
 impl Payload for UnreachableV6<'_> {
-    ghost carried = { shown.unreachable_v6 };
+    ghost carried = { value_of.unreachable_v6 };
 
-    ghost behind = { λ p. p.octets.now };
+    ghost after = { λ p. p.octets.now };
 
     #[inline(always)]
     fn protocol(&self) -> IpProtocol {
@@ -388,9 +388,9 @@ impl Payload for UnreachableV6<'_> {
 }
 
 impl Payload for NeighborAdvert {
-    ghost carried = { shown.neighbor_advert };
+    ghost carried = { value_of.neighbor_advert };
 
-    ghost behind = { λ p. [] };
+    ghost after = { λ p. [] };
 
     #[inline(always)]
     fn protocol(&self) -> IpProtocol {
@@ -437,9 +437,9 @@ impl Payload for NeighborAdvert {
 }
 
 impl Payload for Datagram<'_> {
-    ghost carried = { shown.datagram };
+    ghost carried = { value_of.datagram };
 
-    ghost behind = { λ p. p.octets.now };
+    ghost after = { λ p. p.octets.now };
 
     #[inline(always)]
     fn protocol(&self) -> IpProtocol {
@@ -477,9 +477,9 @@ impl Payload for Datagram<'_> {
 }
 
 impl Payload for Segment<'_> {
-    ghost carried = { shown.segment };
+    ghost carried = { value_of.segment };
 
-    ghost behind = { λ p. p.octets.now };
+    ghost after = { λ p. p.octets.now };
 
     #[inline(always)]
     fn protocol(&self) -> IpProtocol {
@@ -574,7 +574,7 @@ fn emit_tcp_header(
     ensures len { length out.new ≡ length out.old + 20 }
 {
     let (src, dst) = (header.src_addr(), header.dst_addr());
-    let segment = limited(capabilities, header.header_len(), segment);
+    let segment = with_limited_window(capabilities, header.header_len(), segment);
     segment.emit_header(&src, &dst, octets, capabilities.checksum.tcp.tx(), out);
 }
 
@@ -618,9 +618,9 @@ fn router_alert() -> Ipv6HopByHopRepr
 /// A segment's header as it goes behind a packet's header of so many octets: its window is at most
 /// what a device with a limited burst can take, so many segments as long as its packets allow.
 #[inline(always)]
-fn limited(capabilities: &DeviceCapabilities, ip_header_len: usize, header: &TcpRepr) -> TcpRepr
+fn with_limited_window(capabilities: &DeviceCapabilities, ip_header_len: usize, header: &TcpRepr) -> TcpRepr
     requires { ip_header_len ≤ 40 }
-    ensures { result ≡ limited capabilities.now ip_header_len header.now }
+    ensures { result ≡ with_limited_window capabilities.now ip_header_len header.now }
 {
     let Some(burst) = capabilities.max_burst_size else {
         return *header;

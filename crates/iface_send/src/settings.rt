@@ -5,10 +5,10 @@ ghost use Rattle.net_base.specs.Time.{IsMoment};
 ghost use Rattle.net_base.specs.Checksum.{ip_mtu_of};
 ghost use Rattle.ip_address.specs.Hardware.{IsOf, medium_of};
 ghost use Rattle.host_machine.specs.Host.{SocketSet, at, no_sockets};
-ghost use Rattle.host_machine.specs.Multicast.{moved};
+ghost use Rattle.host_machine.specs.Multicast.{after_address_change};
 ghost use Rattle.group_table.specs.declared.report.IgmpReportState.TheVariants as igmp;
 ghost use Rattle.group_table.specs.declared.report.MldReportState.TheVariants as mld;
-ghost use Rattle.slaac.specs.Slaac.{nothing};
+ghost use Rattle.slaac.specs.Slaac.{initial_state};
 ghost use Rattle.iface_send.specs.Stands.{host_of, with_routes};
 ghost use Rattle.std.specs.Borrow.{sem, Lends};
 ghost use Rattle.iface_tables.specs.contracts.route.Routes.{the_row as routes_row};
@@ -57,7 +57,7 @@ pub fn new(
       igmp_report = igmp.Inactive;
       mld_report = mld.Inactive;
       slaac_enabled = slaac;
-      slaac = nothing;
+      slaac = initial_state;
       slaac_updated_at = pos 0;
       random = rand;
       sockets = sockets;
@@ -93,7 +93,7 @@ pub fn set_moment(context: &mut Context, now: Instant)
 /// Replaces the addresses, forgets all neighbours, and leaves and joins solicited-node groups so that
 /// they are those of the addresses.
 pub fn set_ip_addrs(context: &mut Context, list: ArrayVec<IpCidr, IFACE_MAX_ADDR_COUNT>)
-    ensures { (sockets : SocketSet) → host_of context.new sockets ≡ moved (host_of context.old sockets) list.items }
+    ensures { (sockets : SocketSet) → host_of context.new sockets ≡ after_address_change (host_of context.old sockets) list.items }
 {
     context.ip_addrs = list;
     context.neighbor_cache.flush();

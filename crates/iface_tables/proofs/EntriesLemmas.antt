@@ -8,7 +8,7 @@ use Rattle.std.specs.declared.cmp.Ordering.TheVariants.{Less, Equal, Greater}
 use Rattle.std.specs.Cmp.{IsTotalOrder, eq_by_cmp_equiv}
 use Rattle.std.specs.FinMap as map
 use Rattle.std.specs.FinMap.{IsAntisymmetric, find, from_entries, insert, same_map, get-insert, get-remove, get-from_entries, len-insert, len-empty}
-use Rattle.iface_tables.specs.Entries.{place_of, AreKeysDistinct}
+use Rattle.iface_tables.specs.Entries.{index_of, AreKeysDistinct}
 
 is_eq-Equal : (o : Ordering) → is_eq o ≡ true → o ≡ Equal
 is_eq-Equal Less h = cc
@@ -27,28 +27,28 @@ not_true b f t = cc
 
 module _ {K X : Type 0} (R : K → K → Ordering) where
   -- the place of a key is at most the length
-  pub place_of-le : (k : K) (es : List (K × X)) → place_of R k es < length es + 1
-  place_of-le k [] = omega arith
-  place_of-le k (e ∷ es) =
-      elim (eq_by_cmp R k e.0) as (λ b. cond b 0 (place_of R k es + 1) < suc (length es) + 1) [
+  pub index_of-le : (k : K) (es : List (K × X)) → index_of R k es < length es + 1
+  index_of-le k [] = omega arith
+  index_of-le k (e ∷ es) =
+      elim (eq_by_cmp R k e.0) as (λ b. cond b 0 (index_of R k es + 1) < suc (length es) + 1) [
         | true ↦ omega arith
-        | false ↦ let h = place_of-le k es in omega arith
+        | false ↦ let h = index_of-le k es in omega arith
       ]
 
   -- where it is the length, the key is not there
-  pub find-absent : (k : K) (es : List (K × X)) → place_of R k es ≡ length es → find R k es ≡ None
+  pub find-absent : (k : K) (es : List (K × X)) → index_of R k es ≡ length es → find R k es ≡ None
   find-absent k [] h = refl
   find-absent k (e ∷ es) h =
-      elim (eq_by_cmp R k e.0) as (λ b. cond b 0 (place_of R k es + 1) ≡ suc (length es) → cond b (Some e.1) (find R k es) ≡ None) [
+      elim (eq_by_cmp R k e.0) as (λ b. cond b 0 (index_of R k es + 1) ≡ suc (length es) → cond b (Some e.1) (find R k es) ≡ None) [
         | true ↦ λ h. absurd (omega arith)
         | false ↦ λ h. find-absent k es (omega arith)
       ] h
 
   -- where it is below, the value there is found
-  pub find-there : (k : K) (es : List (K × X)) (d : K × X) → place_of R k es < length es → find R k es ≡ Some (get_or es (place_of R k es) d).1
+  pub find-there : (k : K) (es : List (K × X)) (d : K × X) → index_of R k es < length es → find R k es ≡ Some (get_or es (index_of R k es) d).1
   find-there k [] d h = absurd (omega arith)
   find-there k (e ∷ es) d h =
-      elim (eq_by_cmp R k e.0) as (λ b. cond b 0 (place_of R k es + 1) < suc (length es) → cond b (Some e.1) (find R k es) ≡ Some (get_or (e ∷ es) (cond b 0 (place_of R k es + 1)) d).1) [
+      elim (eq_by_cmp R k e.0) as (λ b. cond b 0 (index_of R k es + 1) < suc (length es) → cond b (Some e.1) (find R k es) ≡ Some (get_or (e ∷ es) (cond b 0 (index_of R k es + 1)) d).1) [
         | true ↦ λ h. refl
         | false ↦ λ h. rw add-one (find-there k es d (omega arith))
       ] h
@@ -67,10 +67,10 @@ module _ {K : Type 0} {R : K → K → Ordering} (o : IsTotalOrder R) (same : Is
 
 module _ {K X : Type 0} {R : K → K → Ordering} (o : IsTotalOrder R) (same : IsAntisymmetric R) where
   -- the entry at the place of a key that is there has this key
-  pub key-there : (k : K) (es : List (K × X)) (d : K × X) → place_of R k es < length es → (get_or es (place_of R k es) d).0 ≡ k
+  pub key-there : (k : K) (es : List (K × X)) (d : K × X) → index_of R k es < length es → (get_or es (index_of R k es) d).0 ≡ k
   key-there k [] d h = absurd (omega arith)
   key-there k (e ∷ es) d h =
-      elim (eq_by_cmp R k e.0) as (λ b. eq_by_cmp R k e.0 ≡ b → cond b 0 (place_of R k es + 1) < suc (length es) → (get_or (e ∷ es) (cond b 0 (place_of R k es + 1)) d).0 ≡ k) [
+      elim (eq_by_cmp R k e.0) as (λ b. eq_by_cmp R k e.0 ≡ b → cond b 0 (index_of R k es + 1) < suc (length es) → (get_or (e ∷ es) (cond b 0 (index_of R k es + 1)) d).0 ≡ k) [
         | true ↦ λ t h. sym (tied o same k e.0 t)
         | false ↦ λ t h. rw add-one (key-there k es d (omega arith))
       ] refl h

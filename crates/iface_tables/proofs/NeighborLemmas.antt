@@ -12,13 +12,13 @@ use Rattle.std.proofs.lemmas.Cmp.{on_total, then_total}
 use Rattle.std.proofs.lemmas.Map.Lookups.{exact_pairs, exact_unsigned}
 use Rattle.std.proofs.lemmas.List.{get_or_default, length_push}
 use Rattle.ip_address.specs.Ip.{address_cmp, address_key, address_of_key, address_of_key-address_key}
-use Rattle.iface_tables.specs.Entries.{place_of}
-use Rattle.iface_tables.specs.Neighbor.{AreOf, HasPlace, Neighbors, Puts, IsKept, IsLeastEnd, IsSettled, is_same, renewed, renewed_from}
+use Rattle.iface_tables.specs.Entries.{index_of}
+use Rattle.iface_tables.specs.Neighbor.{AreOf, HasPlace, Neighbors, Puts, IsKept, IsLeastEnd, IsSettled, is_same, after_renewal, renewed_from}
 use Rattle.net_base.specs.declared.phy.Medium.{Medium}
 use Rattle.ip_address.specs.declared.ip.IpAddress.{IpAddress}
 use Rattle.ip_address.specs.declared.hardware.HardwareAddress.{HardwareAddress}
 use Rattle.iface_tables.specs.declared.neighbor.Neighbor.{Neighbor}
-use Rattle.iface_tables.proofs.EntriesLemmas.{place_of-le, find-absent, find-there, key-there, from_entries-remove, from_entries-put, len-from_entries, distinct_after-remove, distinct_after-put, find-at, absent_after-remove, put_over, tied_itself}
+use Rattle.iface_tables.proofs.EntriesLemmas.{index_of-le, find-absent, find-there, key-there, from_entries-remove, from_entries-put, len-from_entries, distinct_after-remove, distinct_after-put, find-at, absent_after-remove, put_over, tied_itself}
 use Rattle.iface_tables.proofs.SettleLemmas.{element_of, taken, remove_last}
 
 pub address_total : IsTotalOrder address_cmp
@@ -40,8 +40,8 @@ pub record PutsIn (es fs : List (IpAddress × Neighbor)) (a : IpAddress) (n : Ne
 not_none : (n : Neighbor) → Some n ≢ None
 not_none n h = cc
 
-none_found : (es : List (IpAddress × Neighbor)) (a : IpAddress) (i : ℕ) → i ≡ place_of address_cmp a es → length es ≤ i → find address_cmp a es ≡ None
-none_found es a i e past = let le = place_of-le address_cmp a es in find-absent address_cmp a es (omega arith)
+none_found : (es : List (IpAddress × Neighbor)) (a : IpAddress) (i : ℕ) → i ≡ index_of address_cmp a es → length es ≤ i → find address_cmp a es ≡ None
+none_found es a i e past = let le = index_of-le address_cmp a es in find-absent address_cmp a es (omega arith)
 
 -- what holds of each entry holds of one that is found
 found_has : (P : Neighbor → Type 0) (es : List (IpAddress × Neighbor)) (b : IpAddress) (n : Neighbor) → ((k : ℕ) (d : IpAddress × Neighbor) → k < length es → P (get_or es k d).1) → find address_cmp b es ≡ Some n → P n
@@ -65,11 +65,11 @@ others_kept : (es : List (IpAddress × Neighbor)) (i : ℕ) → i < length es �
 others_kept es i within kept = record { distinct = distinct_after-remove address_total address_same es i within kept.distinct; by_end = taken es i kept.by_end within }
 
 -- a neighbour at an address that is there goes to its place
-pub place_there : (es : List (IpAddress × Neighbor)) (a : IpAddress) (d : IpAddress × Neighbor) (i : ℕ) → IsKept es → i ≡ place_of address_cmp a es → i < length es → HasPlace es es a i
+pub place_there : (es : List (IpAddress × Neighbor)) (a : IpAddress) (d : IpAddress × Neighbor) (i : ℕ) → IsKept es → i ≡ index_of address_cmp a es → i < length es → HasPlace es es a i
 place_there es a d i kept at within =
-    let here : place_of address_cmp a es < length es = rw at at within in
+    let here : index_of address_cmp a es < length es = rw at at within in
     let key : (get_or es i d).0 ≡ a = rw at (key-there address_total address_same a es d here) in
-    let is : find address_cmp a es ≡ Some (get_or es (place_of address_cmp a es) d).1 = find-there address_cmp a es d here in
+    let is : find address_cmp a es ≡ Some (get_or es (index_of address_cmp a es) d).1 = find-there address_cmp a es d here in
     let rest : from_entries (remove es i) ≡ map.remove (from_entries es) a = from_entries-remove address_total address_same es i d within kept.distinct ∙ ap (map.remove (from_entries es)) key in
     let over : (n : Neighbor) → map.insert (from_entries (remove es i)) a n ≡ map.insert (from_entries es) a n = λ n. ap (λ m. map.insert m a n) rest ∙ put_over address_total address_same (from_entries es) a n in
     record {
@@ -84,7 +84,7 @@ place_there es a d i kept at within =
     }
 
 -- one at a new address goes to the front of a full table
-pub place_front : (es : List (IpAddress × Neighbor)) (a : IpAddress) (d : IpAddress × Neighbor) (i : ℕ) → IsKept es → i ≡ place_of address_cmp a es → length es ≤ i → length es ≡ 4 → HasPlace es es a 0
+pub place_front : (es : List (IpAddress × Neighbor)) (a : IpAddress) (d : IpAddress × Neighbor) (i : ℕ) → IsKept es → i ≡ index_of address_cmp a es → length es ≤ i → length es ≡ 4 → HasPlace es es a 0
 place_front es a d i kept at past four =
     let none = none_found es a i at past in
     let some : 0 < length es = omega arith in
@@ -101,10 +101,10 @@ place_front es a d i kept at past four =
     }
 
 -- or behind all others, where there is room
-pub place_behind : (es : List (IpAddress × Neighbor)) (a : IpAddress) (e : IpAddress × Neighbor) (i : ℕ) → IsKept es → i ≡ place_of address_cmp a es → length es ≤ i → length es < 4 → HasPlace es (es ++ e ∷ []) a i
-place_behind es a e i kept at past room =
+pub place_after : (es : List (IpAddress × Neighbor)) (a : IpAddress) (e : IpAddress × Neighbor) (i : ℕ) → IsKept es → i ≡ index_of address_cmp a es → length es ≤ i → length es < 4 → HasPlace es (es ++ e ∷ []) a i
+place_after es a e i kept at past room =
     let none = none_found es a i at past in
-    let le = place_of-le address_cmp a es in
+    let le = index_of-le address_cmp a es in
     let end : i ≡ length es = omega arith in
     let rest : remove (es ++ e ∷ []) i ≡ es = ap (remove (es ++ e ∷ [])) end ∙ remove_last es e in
     let len = len-from_entries address_total address_same es kept.distinct in
@@ -130,17 +130,17 @@ pub record RenewsIn (es fs : List (IpAddress × Neighbor)) (a : IpAddress) (h : 
   pub renews : from_entries fs ≡ renewed_from (find address_cmp a es) (from_entries es) a h end
 
 -- the entry at an address's place is the one that is found
-found_is : (es : List (IpAddress × Neighbor)) (a : IpAddress) (e : IpAddress × Neighbor) (i : ℕ) → i ≡ place_of address_cmp a es → i < length es → e ≡ get_or es i e → find address_cmp a es ≡ Some e.1
+found_is : (es : List (IpAddress × Neighbor)) (a : IpAddress) (e : IpAddress × Neighbor) (i : ℕ) → i ≡ index_of address_cmp a es → i < length es → e ≡ get_or es i e → find address_cmp a es ≡ Some e.1
 found_is es a e i at within is = find-there address_cmp a es e (rw at at within) ∙ ap (λ (d : IpAddress × Neighbor). Some d.1) (sym (rw at at is))
 
 -- the entry at an address's place has it, and its own hardware address
-pub has_address : (es : List (IpAddress × Neighbor)) (a : IpAddress) (e : IpAddress × Neighbor) (i : ℕ) → i ≡ place_of address_cmp a es → i < length es → e ≡ get_or es i e
+pub has_address : (es : List (IpAddress × Neighbor)) (a : IpAddress) (e : IpAddress × Neighbor) (i : ℕ) → i ≡ index_of address_cmp a es → i < length es → e ≡ get_or es i e
     → IfSome (slice_get es i) (λ x. (x.0 ≡ a) × (x.1.hardware_addr ≡ e.1.hardware_addr))
 has_address es a e i at within is =
     let key : (get_or es i e).0 ≡ a = rw at (key-there address_total address_same a es e (rw at at within)) in
     element_of (λ x. (x.0 ≡ a) × (x.1.hardware_addr ≡ e.1.hardware_addr)) es i e within (key, ap (λ (x : IpAddress × Neighbor). x.1.hardware_addr) (sym is))
 
-pub renewed_there : (es fs : List (IpAddress × Neighbor)) (a : IpAddress) (h : HardwareAddress) (end : ℤ) (e : IpAddress × Neighbor) (i : ℕ) → IsKept es → i ≡ place_of address_cmp a es → i < length es → e ≡ get_or es i e → is_same e.1.hardware_addr h ≡ true → IsSettled (remove es i) (a, record e.1 { expires_at = end }) fs → RenewsIn es fs a h end
+pub renewed_there : (es fs : List (IpAddress × Neighbor)) (a : IpAddress) (h : HardwareAddress) (end : ℤ) (e : IpAddress × Neighbor) (i : ℕ) → IsKept es → i ≡ index_of address_cmp a es → i < length es → e ≡ get_or es i e → is_same e.1.hardware_addr h ≡ true → IsSettled (remove es i) (a, record e.1 { expires_at = end }) fs → RenewsIn es fs a h end
 renewed_there es fs a h end e i kept at within is same settled =
     let n : Neighbor = record e.1 { expires_at = end } in
     let f = found_is es a e i at within is in
@@ -148,10 +148,10 @@ renewed_there es fs a h end e i kept at within is same settled =
     let there : IsTrue (map.contains_key (from_entries {R = address_cmp} es) a) = rw (known_at es a, f) refl in
     record { kept = put.kept; renews = rw (f, same) (put.puts.there there) }
 
-pub renewed_other : (es : List (IpAddress × Neighbor)) (a : IpAddress) (h : HardwareAddress) (end : ℤ) (e : IpAddress × Neighbor) (i : ℕ) → i ≡ place_of address_cmp a es → i < length es → e ≡ get_or es i e → is_same e.1.hardware_addr h ≡ false → from_entries es ≡ renewed_from (find address_cmp a es) (from_entries es) a h end
+pub renewed_other : (es : List (IpAddress × Neighbor)) (a : IpAddress) (h : HardwareAddress) (end : ℤ) (e : IpAddress × Neighbor) (i : ℕ) → i ≡ index_of address_cmp a es → i < length es → e ≡ get_or es i e → is_same e.1.hardware_addr h ≡ false → from_entries es ≡ renewed_from (find address_cmp a es) (from_entries es) a h end
 renewed_other es a h end e i at within is other = rw (found_is es a e i at within is, other) refl
 
-pub renewed_none : (es : List (IpAddress × Neighbor)) (a : IpAddress) (h : HardwareAddress) (end : ℤ) (i : ℕ) → i ≡ place_of address_cmp a es → length es ≤ i → from_entries es ≡ renewed_from (find address_cmp a es) (from_entries es) a h end
+pub renewed_none : (es : List (IpAddress × Neighbor)) (a : IpAddress) (h : HardwareAddress) (end : ℤ) (i : ℕ) → i ≡ index_of address_cmp a es → length es ≤ i → from_entries es ≡ renewed_from (find address_cmp a es) (from_entries es) a h end
 renewed_none es a h end i at past = rw (none_found es a i at past) refl
 
 -- what a test for a full table says
@@ -187,7 +187,7 @@ put_of m old new a n of p all = by (map.get old a) refl where
   by None is = room (map.len old) refl is
   by (Some x) is = let t : IsTrue (is_some (map.get old a)) = rw is refl in rw (p.there t) (inserted_of m old a n of all)
 
-pub renewed_of : (m : Medium) (c : Neighbors) (a : IpAddress) (h : HardwareAddress) (end : ℤ) → AreOf m c → AreOf m (renewed c a h end)
+pub renewed_of : (m : Medium) (c : Neighbors) (a : IpAddress) (h : HardwareAddress) (end : ℤ) → AreOf m c → AreOf m (after_renewal c a h end)
 renewed_of m c a h end all = by (map.get c.known a) refl where
   by : (o : Option Neighbor) → map.get c.known a ≡ o → EachOf m (renewed_from o c.known a h end)
   by None is = all

@@ -11,7 +11,7 @@ use Rattle.iface_tables.specs.declared.route_trie.Node.{Node}
 use Rattle.ip_address.specs.Cidr.{prefix_len_of}
 use Rattle.ip_address.specs.declared.cidr.IpCidr.TheVariants as cidr
 use Rattle.std.specs.List.{position_or_len}
-use Rattle.iface_tables.specs.RouteTrie.{HasNodes, IsNodeOf, begins, has_place, is_marked, is_whole, network_of, number, place_of, start_of}
+use Rattle.iface_tables.specs.RouteTrie.{HasNodes, IsNodeOf, begins, has_place, is_marked, is_whole, network_of, number, index_of, start_of}
 use Rattle.std.proofs.lemmas.Bool.Decides.{nat_tests}
 
 -- the prefix of no bit
@@ -126,11 +126,11 @@ start_is b p h =
     same_start e f = rw (e, f) refl
 
 -- a node of a beginning that has a number is there
-pub number_cases : (cidrs : List IpCidr) (b : Beginning) → ((place_of cidrs b < length cidrs) × (number cidrs b ≡ 1 + 128 * place_of cidrs b + b.len)) ⊎ ((length cidrs ≤ place_of cidrs b) × (number cidrs b ≡ 0))
+pub number_cases : (cidrs : List IpCidr) (b : Beginning) → ((index_of cidrs b < length cidrs) × (number cidrs b ≡ 1 + 128 * index_of cidrs b + b.len)) ⊎ ((length cidrs ≤ index_of cidrs b) × (number cidrs b ≡ 0))
 number_cases cidrs b =
-    elim (cases_lt (place_of cidrs b) (length cidrs)) [
-      | inl lt ↦ inl (lt, ap (λ t. cond t (1 + 128 * place_of cidrs b + b.len) 0) (below _ _ lt))
-      | inr ge ↦ inr (ge, ap (λ t. cond t (1 + 128 * place_of cidrs b + b.len) 0) (not_below _ _ ge))
+    elim (cases_lt (index_of cidrs b) (length cidrs)) [
+      | inl lt ↦ inl (lt, ap (λ t. cond t (1 + 128 * index_of cidrs b + b.len) 0) (below _ _ lt))
+      | inr ge ↦ inr (ge, ap (λ t. cond t (1 + 128 * index_of cidrs b + b.len) 0) (not_below _ _ ge))
     ]
   where
     below : (m n : ℕ) → m < n → nat_lt m n ≡ true
@@ -146,9 +146,9 @@ trie_others cidrs ns filled b d some there =
           let first = first_passes (λ c. begins b (network_of c)) cidrs here.0 in
           let start = start_is b (network_of first.0) first.2 in
           let m : (b.len - 1) + 1 ≡ b.len = omega arith in
-          let at : 2 + 128 * place_of cidrs b + (b.len - 1) ≡ number cidrs b = omega (arith, here.1) in
-          let node : IsNodeOf cidrs (start_of (network_of first.0) ((b.len - 1) + 1)) (get_or ns (2 + 128 * place_of cidrs b + (b.len - 1)) d) = filled (place_of cidrs b) here.0 first.0 (b.len - 1) d first.1 (omega (arith, start.1)) in
+          let at : 2 + 128 * index_of cidrs b + (b.len - 1) ≡ number cidrs b = omega (arith, here.1) in
+          let node : IsNodeOf cidrs (start_of (network_of first.0) ((b.len - 1) + 1)) (get_or ns (2 + 128 * index_of cidrs b + (b.len - 1)) d) = filled (index_of cidrs b) here.0 first.0 (b.len - 1) d first.1 (omega (arith, start.1)) in
           let same : start_of (network_of first.0) ((b.len - 1) + 1) ≡ b = ap (start_of (network_of first.0)) m ∙ sym start.0 in
-          subst (λ (n : ℕ). IsNodeOf cidrs b (get_or ns n d)) at (subst (λ (e : Beginning). IsNodeOf cidrs e (get_or ns (2 + 128 * place_of cidrs b + (b.len - 1)) d)) same node)
+          subst (λ (n : ℕ). IsNodeOf cidrs b (get_or ns n d)) at (subst (λ (e : Beginning). IsNodeOf cidrs e (get_or ns (2 + 128 * index_of cidrs b + (b.len - 1)) d)) same node)
       | inr none ↦ absurd (omega (arith, none.1))
     ]

@@ -19,7 +19,7 @@ use Rattle.ip_address.specs.declared.cidr.IpCidr.TheVariants as cidr
 use Rattle.iface_tables.specs.declared.route_trie.Beginning.{Beginning}
 use Rattle.iface_tables.specs.declared.route_trie.Network.{Network}
 use Rattle.iface_tables.specs.declared.route_trie.Node.{Node}
-use Rattle.iface_tables.specs.RouteTrie.{AreNextBits, IsAt, IsBestBelow, IsBestPlace, IsCandidate, IsLastOf, IsLongest, IsNodeOf, IsTrieOf, begins, has_place, host_of, is_marked, longer, network_of, number, place_of, root_of, shares, start_of}
+use Rattle.iface_tables.specs.RouteTrie.{AreNextBits, IsAt, IsBestBelow, IsBestPlace, IsCandidate, IsLastOf, IsLongest, IsNodeOf, IsTrieOf, begins, has_place, host_of, is_marked, longer_of, network_of, number, index_of, root_of, shares, start_of}
 use Rattle.iface_tables.proofs.RouteMaskLemmas.{both_have, each_has, empty_has, empty_is}
 use Rattle.iface_tables.proofs.RouteTrieLemmas.{both, first_passes, le_of_test, none_passes, number_cases, short, test_of_le}
 
@@ -31,7 +31,7 @@ next_bit x j =
     let h : x / 2 ^ suc j ≡ x / 2 ^ j / 2 = rw (pow-suc, ← div-div-eq-div-mul) refl in
     omega (arith, h)
 
-pub longer_start : (p : Network) (i : ℕ) → i < p.width → longer (start_of p i) (p.bits / 2 ^ (p.width - 1 - i) % 2) ≡ start_of p (i + 1)
+pub longer_start : (p : Network) (i : ℕ) → i < p.width → longer_of (start_of p i) (p.bits / 2 ^ (p.width - 1 - i) % 2) ≡ start_of p (i + 1)
 longer_start p i lt =
     let j : p.width - i ≡ suc (p.width - 1 - i) = omega arith in
     let k : p.width - (i + 1) ≡ p.width - 1 - i = omega arith in
@@ -238,8 +238,8 @@ pub ends_longest : {cidrs : List IpCidr} {a : IpAddress} {live i : ℕ} {node : 
 ends_longest none at = record { shared = at.shared; most = none }
 
 -- at the last bit, and where no node is longer
-pub none_behind : (cidrs : List IpCidr) (a : IpAddress) (i : ℕ) → (host_of a).width ≤ i → NoneShares cidrs a i
-none_behind cidrs a i past k m c there h =
+pub none_after : (cidrs : List IpCidr) (a : IpAddress) (i : ℕ) → (host_of a).width ≤ i → NoneShares cidrs a i
+none_after cidrs a i past k m c there h =
     let p = parts c a m h in
     let s = short c in
     omega (arith, p.len, s.0, p.width)
@@ -258,7 +258,7 @@ none_longer cidrs a i zero_number k m c there h =
 child_is : (cidrs : List IpCidr) (p : Network) (i bit : ℕ) (node : Node) → IsNodeOf cidrs (start_of p i) node → i < p.width
     → bit ≡ bit_at p.bits (p.width - 1 - i) → slice_index node.next bit ≡ number cidrs (start_of p (i + 1))
 child_is cidrs p i bit node is lt at =
-    is.next bit (omega (arith, bit_at-lt p.bits (p.width - 1 - i))) ∙ ap (λ (b : ℕ). number cidrs (longer (start_of p i) b)) at
+    is.next bit (omega (arith, bit_at-lt p.bits (p.width - 1 - i))) ∙ ap (λ (b : ℕ). number cidrs (longer_of (start_of p i) b)) at
     ∙ ap (number cidrs) (longer_start p i lt)
 
 -- the number of a node is one of the pool's
@@ -304,7 +304,7 @@ step cidrs ns a live n child node next mask steps trie at is some read =
       node_is = node_is;
       best_is = best_more cidrs a live (n + 1) next mask node_is at.best_is;
       shared = λ _. elim (number_cases cidrs b) [
-        | inl found ↦ let first = first_passes (λ c. begins b (network_of c)) cidrs found.0 in (place_of cidrs b, first.0, first.1, first.2)
+        | inl found ↦ let first = first_passes (λ c. begins b (network_of c)) cidrs found.0 in (index_of cidrs b, first.0, first.1, first.2)
         | inr none ↦ absurd (omega (arith, none.1))
       ];
       counted = (let c = at.counted in omega arith);
@@ -359,7 +359,7 @@ pub at_end : {cidrs : List IpCidr} {a : IpAddress} {live : ℕ} (i count : ℕ) 
 at_end i count true last w = (w.0, w.1, w.2)
 at_end {cidrs} {a} {live} i count {node} {mask} {steps} false last w =
     let past : (host_of a).width ≤ w.0 = (let e : w.0 ≡ i + count = w.3 in omega arith) in
-    (w.0, w.1, ends_longest (none_behind cidrs a w.0 past) w.1)
+    (w.0, w.1, ends_longest (none_after cidrs a w.0 past) w.1)
 
 -- ---- the numbers that the walks go by
 

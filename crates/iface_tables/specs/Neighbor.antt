@@ -31,13 +31,13 @@ abbrev pub is_before : ℤ → ℤ → Bool
 is_before t end = is_lt (int_cmp t end)
 
 -- what a lookup at t answers where no neighbour is known
-abbrev pub missing : ℤ → ℤ → Answer
-missing silent_until t = if is_before t silent_until then RateLimited else NotFound
+abbrev pub answer_without_entry : ℤ → ℤ → Answer
+answer_without_entry silent_until t = if is_before t silent_until then RateLimited else NotFound
 
 -- what a lookup at t answers where this is the entry: a neighbour is known before its end
 abbrev pub answer_from : Option Neighbor → ℤ → ℤ → Answer
-answer_from None silent_until t = missing silent_until t
-answer_from (Some n) silent_until t = if is_before t n.expires_at then Found n.hardware_addr else missing silent_until t
+answer_from None silent_until t = answer_without_entry silent_until t
+answer_from (Some n) silent_until t = if is_before t n.expires_at then Found n.hardware_addr else answer_without_entry silent_until t
 
 -- what a lookup of a at t answers
 abbrev pub answer_of : Neighbors → IpAddress → ℤ → Answer
@@ -86,8 +86,8 @@ renewed_from None m a h end = m
 renewed_from (Some n) m a h end = if is_same n.hardware_addr h then map.insert m a (record n { expires_at = end }) else m
 
 -- the neighbours where an entry at a with the hardware address h ends then
-abbrev pub renewed : Neighbors → IpAddress → HardwareAddress → ℤ → Neighbors
-renewed c a h end = record c { known = renewed_from (map.get c.known a) c.known a h end }
+abbrev pub after_renewal : Neighbors → IpAddress → HardwareAddress → ℤ → Neighbors
+after_renewal c a h end = record c { known = renewed_from (map.get c.known a) c.known a h end }
 
 -- by rising end: none ends after one behind it
 abbrev pub IsByEnd : List (IpAddress × Neighbor) → Type 0

@@ -51,7 +51,7 @@ IsBest rs a t None = (k : ℕ) (other : Route) → slice_get rs k ≡ Some other
 -- of a route and the best of those behind it the more specific one, of equals the one behind
 abbrev pub more_specific : Route → Option Route → Route
 more_specific r None = r
-more_specific r (Some behind) = if nat_le (prefix_len r) (prefix_len behind) then behind else r
+more_specific r (Some after) = if nat_le (prefix_len r) (prefix_len after) then after else r
 
 -- the same, found from the list's end on
 abbrev pub best : List Route → IpAddress → ℤ → Option Route

@@ -30,8 +30,8 @@ abbrev pub root_of : ℕ → Beginning
 root_of width = record { width = width; len = 0; leading = 0 }
 
 -- one bit more
-abbrev pub longer : Beginning → ℕ → Beginning
-longer b bit = record { width = b.width; len = b.len + 1; leading = 2 * b.leading + bit }
+abbrev pub longer_of : Beginning → ℕ → Beginning
+longer_of b bit = record { width = b.width; len = b.len + 1; leading = 2 * b.leading + bit }
 
 -- whether a prefix begins so
 abbrev pub begins : Beginning → Network → Bool
@@ -46,8 +46,8 @@ is_marked b None = false
 is_marked b (Some c) = is_whole b (network_of c)
 
 -- the first place of a prefix that begins so, or the length
-abbrev pub place_of : List IpCidr → Beginning → ℕ
-place_of cidrs b = position_or_len (λ c. begins b (network_of c)) cidrs
+abbrev pub index_of : List IpCidr → Beginning → ℕ
+index_of cidrs b = position_or_len (λ c. begins b (network_of c)) cidrs
 
 -- the number of the node of a beginning of so many bits, by the first prefix that begins so: there are 128 for each prefix, behind two roots
 abbrev pub number_at : ℕ → ℕ → ℕ → ℕ
@@ -55,7 +55,7 @@ number_at count place len = if nat_lt place count then 1 + 128 * place + len els
 
 -- or 0 where no prefix begins so
 abbrev pub number : List IpCidr → Beginning → ℕ
-number cidrs b = number_at (length cidrs) (place_of cidrs b) b.len
+number cidrs b = number_at (length cidrs) (index_of cidrs b) b.len
 
 -- whether a mask has a place
 abbrev pub has_place : ℕ → ℕ → Bool
@@ -68,7 +68,7 @@ IsLastOf mask (Some place) = (has_place mask place ≡ true) × ((k : ℕ) → h
 
 -- the node of a beginning leads to those that are longer by a bit, and marks the places of the prefixes that it is
 pub record IsNodeOf (cidrs : List IpCidr) (b : Beginning) (node : Node) : Type 0 where
-  pub next : (bit : ℕ) → bit < 2 → slice_index node.next bit ≡ number cidrs (longer b bit)
+  pub next : (bit : ℕ) → bit < 2 → slice_index node.next bit ≡ number cidrs (longer_of b bit)
   pub marks : (k : ℕ) → has_place node.places k ≡ is_marked b (slice_get cidrs k)
 
 -- the trie of these prefixes: its roots, and a node for each beginning of one

@@ -14,7 +14,7 @@ ghost use Rattle.ip_address.specs.Hardware.{medium_of};
 ghost use Rattle.iface_tables.specs.Entries as entry;
 ghost use Rattle.iface_tables.specs.Entries.{AreKeysDistinct};
 ghost use Rattle.iface_tables.specs.Neighbor as spec;
-ghost use Rattle.iface_tables.specs.Neighbor.{AreOf, Puts, Fills, HasPlace, IsByEnd, IsKept, IsSettled, renewed, renewed_from, answer_of, expiry_from};
+ghost use Rattle.iface_tables.specs.Neighbor.{AreOf, Puts, Fills, HasPlace, IsByEnd, IsKept, IsSettled, after_renewal, renewed_from, answer_of, expiry_from};
 
 use arrayvec::ArrayVec;
 use ip_wire::{HardwareAddress, IpAddress};
@@ -167,7 +167,7 @@ impl Cache {
         timestamp: Instant,
     )
         requires moment { IsMoment timestamp }
-        ensures value { self.new ≡ renewed self.old protocol_addr hardware_addr (expiry_from timestamp) }
+        ensures value { self.new ≡ after_renewal self.old protocol_addr hardware_addr (expiry_from timestamp) }
         ensures of { (m : Medium) → AreOf m self.old → AreOf m self.new }
     {
         let expires_at = timestamp + Cache::ENTRY_LIFETIME;
@@ -260,8 +260,8 @@ fn find_in(entries: &[(IpAddress, Neighbor)], address: &IpAddress) -> Option<Nei
 
 // Where an address stands, or the length.
 #[inline(always)]
-fn place_of(entries: &[(IpAddress, Neighbor)], address: &IpAddress) -> usize
-    ensures { result ≡ entry.place_of address_cmp address.now entries.now }
+fn index_of(entries: &[(IpAddress, Neighbor)], address: &IpAddress) -> usize
+    ensures { result ≡ entry.index_of address_cmp address.now entries.now }
 {
     for (i, e) in entries.iter().enumerate() {
         if is_at(address, &e.0) {
@@ -317,7 +317,7 @@ fn settle_renewed(
 
 // Where a neighbour goes: the place of its address, or one behind all, or in a full table the front,
 // so that the entry of least end makes room.
-fn place_for(
+fn index_for(
     entries: &mut ArrayVec<(IpAddress, Neighbor), IFACE_NEIGHBOR_CACHE_COUNT>,
     address: &IpAddress,
     neighbor: &Neighbor,
@@ -325,7 +325,7 @@ fn place_for(
     requires { IsKept entries.old.items }
     ensures { HasPlace entries.old.items entries.new.items address.now result }
 {
-    let place = place_of(entries.as_slice(), address);
+    let place = index_of(entries.as_slice(), address);
     if place < entries.len() {
         return place;
     }
@@ -346,7 +346,7 @@ fn put_in(
     ensures kept { IsKept entries.new.items }
     ensures puts { Puts (map.from_entries entries.old.items) (map.from_entries entries.new.items) address neighbor }
 {
-    let place = place_for(entries, &address, &neighbor);
+    let place = index_for(entries, &address, &neighbor);
     settle(entries.as_mut_slice(), place, address, neighbor);
 }
 
@@ -362,7 +362,7 @@ fn renew_in(
     ensures kept { IsKept entries.new.items }
     ensures renews { map.from_entries entries.new.items ≡ renewed_from (find address_cmp address.now entries.old.items) (map.from_entries entries.old.items) address.now hardware_addr.now expires_at }
 {
-    let place = place_of(entries.as_slice(), address);
+    let place = index_of(entries.as_slice(), address);
     if place >= entries.len() {
         return;
     }

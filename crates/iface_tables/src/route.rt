@@ -179,7 +179,7 @@ impl Routes {
         ensures answer { result ≡ old_or_full spec.is_ipv4_gateway self.old }
         ensures table { self.new ≡ with_default spec.is_ipv4_gateway self.old (spec.ipv4_gateway gateway) }
     {
-        let place = ipv4_place(self.storage.as_slice());
+        let place = default_ipv4_index(self.storage.as_slice());
         let answer = replace(&mut self.storage, place, Route::new_ipv4_gateway(gateway));
         rebuild(&mut self.trie, self.storage.as_slice());
         answer
@@ -193,7 +193,7 @@ impl Routes {
         ensures answer { result ≡ old_or_full spec.is_ipv6_gateway self.old }
         ensures table { self.new ≡ with_default spec.is_ipv6_gateway self.old (spec.ipv6_gateway gateway) }
     {
-        let place = ipv6_place(self.storage.as_slice());
+        let place = default_ipv6_index(self.storage.as_slice());
         let answer = replace(&mut self.storage, place, Route::new_ipv6_gateway(gateway));
         rebuild(&mut self.trie, self.storage.as_slice());
         answer
@@ -204,7 +204,7 @@ impl Routes {
     pub fn get_default_ipv4_route(&self) -> Option<Route>
         ensures { result ≡ first spec.is_ipv4_gateway self.now }
     {
-        let place = ipv4_place(self.storage.as_slice());
+        let place = default_ipv4_index(self.storage.as_slice());
         route_at(self.storage.as_slice(), place)
     }
 
@@ -213,7 +213,7 @@ impl Routes {
     pub fn get_default_ipv6_route(&self) -> Option<Route>
         ensures { result ≡ first spec.is_ipv6_gateway self.now }
     {
-        let place = ipv6_place(self.storage.as_slice());
+        let place = default_ipv6_index(self.storage.as_slice());
         route_at(self.storage.as_slice(), place)
     }
 
@@ -224,7 +224,7 @@ impl Routes {
         ensures answer { result ≡ first spec.is_ipv4_gateway self.old }
         ensures table { self.new ≡ without_first spec.is_ipv4_gateway self.old }
     {
-        let place = ipv4_place(self.storage.as_slice());
+        let place = default_ipv4_index(self.storage.as_slice());
         let answer = take_out(&mut self.storage, place);
         rebuild(&mut self.trie, self.storage.as_slice());
         answer
@@ -236,7 +236,7 @@ impl Routes {
         ensures answer { result ≡ first spec.is_ipv6_gateway self.old }
         ensures table { self.new ≡ without_first spec.is_ipv6_gateway self.old }
     {
-        let place = ipv6_place(self.storage.as_slice());
+        let place = default_ipv6_index(self.storage.as_slice());
         let answer = take_out(&mut self.storage, place);
         rebuild(&mut self.trie, self.storage.as_slice());
         answer
@@ -265,7 +265,7 @@ impl Routes {
         ensures router { IsRouter self.now address.now timestamp result.0 }
         ensures count { (n : ℕ) × IsLongest (cidrs self.now) address.now n × (result.1 ≡ 1 + n) }
     {
-        let live = live_places(self.storage.as_slice(), timestamp);
+        let live = live_routes_mask(self.storage.as_slice(), timestamp);
         let (place, steps) = self.trie.walk(address, live);
         (router_at(self.storage.as_slice(), place), steps)
     }
@@ -284,7 +284,7 @@ fn rebuild(trie: &mut RouteTrie, routes: &[Route])
 }
 
 // Which routes have not expired at a moment, as a mask of their places.
-fn live_places(routes: &[Route], timestamp: Instant) -> u32
+fn live_routes_mask(routes: &[Route], timestamp: Instant) -> u32
     requires { length routes.now ≤ IFACE_MAX_ROUTE_COUNT }
     ensures { AreLive routes.now timestamp result }
 {
@@ -308,7 +308,7 @@ fn router_at(routes: &[Route], place: Option<usize>) -> Option<IpAddress>
 }
 
 // Where the first default route of IPv4 stands, or the length.
-fn ipv4_place(routes: &[Route]) -> usize
+fn default_ipv4_index(routes: &[Route]) -> usize
     ensures { result ≡ position_or_len spec.is_ipv4_gateway routes.now }
 {
     for (i, route) in routes.iter().enumerate() {
@@ -320,7 +320,7 @@ fn ipv4_place(routes: &[Route]) -> usize
 }
 
 // Where the first default route of IPv6 stands, or the length.
-fn ipv6_place(routes: &[Route]) -> usize
+fn default_ipv6_index(routes: &[Route]) -> usize
     ensures { result ≡ position_or_len spec.is_ipv6_gateway routes.now }
 {
     for (i, route) in routes.iter().enumerate() {

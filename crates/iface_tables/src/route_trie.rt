@@ -11,7 +11,7 @@ ghost use Rattle.ip_address.specs.declared.cidr.IpCidr.{IpCidr};
 ghost use Rattle.ip_address.specs.declared.ip.IpAddress.{IpAddress};
 ghost use Rattle.iface_tables.specs.declared.route_trie.Node.{Node};
 ghost use Rattle.iface_tables.specs.RouteTrie as spec;
-ghost use Rattle.iface_tables.specs.RouteTrie.{AreNextBits, HasNodes, IsAt, IsBestPlace, IsLastOf, IsLongest, IsNodeOf, IsTrieOf, begins, has_place, is_marked, is_whole, longer, number, place_of, root_of, start_of};
+ghost use Rattle.iface_tables.specs.RouteTrie.{AreNextBits, HasNodes, IsAt, IsBestPlace, IsLastOf, IsLongest, IsNodeOf, IsTrieOf, begins, has_place, is_marked, is_whole, longer_of, number, index_of, root_of, start_of};
 
 use ip_wire::{IpAddress, IpCidr};
 use std::marker::Model;
@@ -121,7 +121,7 @@ impl RouteTrie {
     {
         let mut steps = Steps { count: 0 };
         let end = self.end_of(address, live, &mut steps);
-        (last_place(end.best), steps)
+        (last_marked(end.best), steps)
     }
 
     // Walks along an address to its last bit, or to where no node goes on.
@@ -303,7 +303,7 @@ fn goes_on(network: &Network, beginning: &Beginning, bit: u128) -> bool
     requires wide { network.now.width ≤ 128 }
     requires within { network.now.len ≤ network.now.width }
     requires bit { bit < 2 }
-    ensures { result ≡ begins (longer beginning.now bit) network.now }
+    ensures { result ≡ begins (longer_of beginning.now bit) network.now }
 {
     if network.width != beginning.width || network.len <= beginning.len {
         return false;
@@ -327,9 +327,9 @@ fn is_whole(network: &Network, beginning: &Beginning) -> bool
 }
 
 // The first place of a prefix that begins so and goes on by a bit, or the length.
-fn place_of(cidrs: &[IpCidr], beginning: &Beginning, bit: u128) -> usize
+fn index_of(cidrs: &[IpCidr], beginning: &Beginning, bit: u128) -> usize
     requires { bit < 2 }
-    ensures { result ≡ place_of cidrs.now (longer beginning.now bit) }
+    ensures { result ≡ index_of cidrs.now (longer_of beginning.now bit) }
 {
     for (place, cidr) in cidrs.iter().enumerate() {
         if goes_on(&network_of(cidr), beginning, bit) {
@@ -344,9 +344,9 @@ fn number_of(cidrs: &[IpCidr], beginning: &Beginning, bit: u128) -> u16
     requires few { length cidrs.now ≤ ROUTE_TRIE_PLACE_COUNT }
     requires short { beginning.now.len ≤ 128 }
     requires bit { bit < 2 }
-    ensures { result ≡ number cidrs.now (longer beginning.now bit) }
+    ensures { result ≡ number cidrs.now (longer_of beginning.now bit) }
 {
-    let place = place_of(cidrs, beginning, bit);
+    let place = index_of(cidrs, beginning, bit);
     if place >= cidrs.len() {
         return 0;
     }
@@ -400,7 +400,7 @@ fn fill(nodes: &mut [Node; ROUTE_TRIE_NODE_COUNT], cidrs: &[IpCidr], place: usiz
 
 // The last place of a mask, if it has one.
 #[inline(always)]
-fn last_place(mask: u32) -> Option<usize>
+fn last_marked(mask: u32) -> Option<usize>
     ensures { IsLastOf mask result }
 {
     if mask == 0 {

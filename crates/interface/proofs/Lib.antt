@@ -1,6 +1,6 @@
-mod Made
-pub mod Setting
-mod Egressed
-mod Passed
-mod Received
-mod Repeated
+mod NewInterface
+pub mod SettingCalls
+mod EgressCall
+mod IdleSockets
+mod IngressCall
+mod PollLoop

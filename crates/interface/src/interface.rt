@@ -17,7 +17,7 @@ use host_machine::{
     AddrError, HardwareError, MulticastError, NewError, PollIngressSingleResult, PollResult,
     TimeoutError,
 };
-use iface_egress::autoconfiguration::rs_egress;
+use iface_egress::autoconfiguration::ndisc_rs_egress;
 use iface_egress::egress::{ipv4_egress, socket_egress};
 use iface_egress::multicast::{igmp_egress, joins_egress, leaves_egress, mld_egress};
 use iface_egress::transmit::send_frame;
@@ -89,10 +89,10 @@ impl Interface {
     ghost use Rattle.net_base.specs.Checksum.{ip_mtu_of};
     ghost use Rattle.socket_set.specs.SocketSet.{Sockets};
     ghost use Rattle.host_machine.specs.Real.{IsReal};
-    ghost use Rattle.host_machine.specs.Host.{Host, at, swept};
+    ghost use Rattle.host_machine.specs.Host.{Host, at, without_expired};
     ghost use Rattle.host_machine.specs.Egress.{Egress};
     ghost use Rattle.host_machine.specs.Multicast.{JoinsGroup, LeavesGroup};
-    ghost use Rattle.host_machine.specs.Polling.{Polls, Receives, Sends, maintained};
+    ghost use Rattle.host_machine.specs.Polling.{Polls, Receives, Sends, after_maintenance};
     ghost use Rattle.host_machine.specs.Due.{Due, IsLeast, IsRest};
     ghost use Rattle.host_machine.specs.Step.{UpdatesIpAddrs, SetsHardwareAddr, SetsReassemblyTimeout};
     ghost use Rattle.iface_send.specs.contracts.context.Context.{the_row as context_row};
@@ -380,7 +380,7 @@ impl Interface {
         requires { IsMoment timestamp }
         ensures { Goes D.tells device.old device.new (Ingress timestamp result) (StandsFor self.old sockets.old) (StandsFor self.new sockets.new) }
     {
-        self.sweep(timestamp);
+        self.expire_slots(timestamp);
         let Some((len, _)) = device.receive(timestamp, &mut self.receive_buffer) else {
             return PollIngressSingleResult::None;
         };
@@ -415,7 +415,7 @@ impl Interface {
         ensures* received { sem 𝓛 (Rests the_row self.entry (λ new. ReceivesFrame timestamp frame.now (option_map (λ f. f.now) result) (StandsFor self.old sockets.old) (StandsFor new sockets.new))) }
         ensures short { IfSome result (λ f. length f.now ≤ 1514) }
     {
-        self.sweep(timestamp);
+        self.expire_slots(timestamp);
         take_frame(
             &mut self.context,
             sockets,
@@ -448,7 +448,7 @@ impl Interface {
         set_moment(&mut self.context, timestamp);
         let buffer = &mut self.transmit_buffer;
         ipv4_egress(&mut self.context, device, buffer);
-        rs_egress(&mut self.context, device, buffer);
+        ndisc_rs_egress(&mut self.context, device, buffer);
         joins_egress(&mut self.context, device, buffer);
         leaves_egress(&mut self.context, device, buffer);
         igmp_egress(&mut self.context, device, buffer);
@@ -482,17 +482,17 @@ impl Interface {
     /// joined (RFC 4862 5.5.3, 5.5.4, RFC 4861 6.3.4).
     pub fn poll_maintenance(&mut self, timestamp: Instant)
         requires { IsMoment timestamp }
-        ensures { Becomes self.old self.new (λ H. maintained (at H timestamp)) }
+        ensures { Becomes self.old self.new (λ H. after_maintenance (at H timestamp)) }
     {
-        self.sweep(timestamp);
+        self.expire_slots(timestamp);
         sync_slaac(&mut self.context);
     }
 
     // Sets the moment, and drops the slots that have ended.
     #[inline(always)]
-    fn sweep(&mut self, timestamp: Instant)
+    fn expire_slots(&mut self, timestamp: Instant)
         requires { IsMoment timestamp }
-        ensures { Becomes self.old self.new (λ H. swept H timestamp) }
+        ensures { Becomes self.old self.new (λ H. without_expired H timestamp) }
     {
         set_moment(&mut self.context, timestamp);
         self.fragments.remove_expired(timestamp);

@@ -16,7 +16,7 @@ use iface_send::Context;
 use iface_send::dispatch::has_neighbor;
 use ip_wire::IpAddress;
 use net_base::time::Instant;
-use slaac::sooner;
+use slaac::earlier_of;
 use socket_set::{SocketSet, by_index};
 use sockets::{PollAt, SocketContext};
 
@@ -39,20 +39,20 @@ pub fn poll_at(context: &Context, sockets: &SocketSet<'_>) -> Option<Instant>
                 ensures { (slots : Slots) (others : SocketSet) → KnowsNextHop (host_in context.exit.now slots others) address result }
             { has_neighbor(context, &address) },
         );
-        least = sooner(least, instant_of(own));
+        least = earlier_of(least, instant_of(own));
         index = by_index::next_busy(sockets, index + 1);
     }
     let of_routers = routers_poll_at(context, groups_poll_at(context, least));
-    sooner(piece_poll_at(context), of_routers)
+    earlier_of(piece_poll_at(context), of_routers)
 }
 
 /// The sooner of an instant and of those at which something is to be told of groups.
 fn groups_poll_at(context: &Context, other: Option<Instant>) -> Option<Instant>
     ensures { result ≡ of_groups (host_of context.now no_sockets) other }
 {
-    let reports = sooner(igmp_poll_at(context), sooner(mld_poll_at(context), other));
-    let leaves = sooner(group_poll_at(context, GroupState::Leaving), reports);
-    sooner(group_poll_at(context, GroupState::Joining), leaves)
+    let reports = earlier_of(igmp_poll_at(context), earlier_of(mld_poll_at(context), other));
+    let leaves = earlier_of(group_poll_at(context, GroupState::Leaving), reports);
+    earlier_of(group_poll_at(context, GroupState::Joining), leaves)
 }
 
 /// The sooner of an instant and of those at which something is due of routers: at once where addresses and
@@ -61,8 +61,8 @@ fn groups_poll_at(context: &Context, other: Option<Instant>) -> Option<Instant>
 fn routers_poll_at(context: &Context, other: Option<Instant>) -> Option<Instant>
     ensures { result ≡ of_routers (host_of context.now no_sockets) other }
 {
-    let ends = sooner(context.slaac().end_at(context.now()), other);
-    sooner(sync_poll_at(context), sooner(rs_poll_at(context), ends))
+    let ends = earlier_of(context.slaac().end_at(context.now()), other);
+    earlier_of(sync_poll_at(context), earlier_of(rs_poll_at(context), ends))
 }
 
 /// The instant at which addresses and routes are to be brought into line with what routers advertised: at
@@ -81,7 +81,7 @@ fn sync_poll_at(context: &Context) -> Option<Instant>
 fn piece_poll_at(context: &Context) -> Option<Instant>
     ensures { result ≡ spec.at_once (host_of context.now no_sockets).left }
 {
-    if context.has_waiting_piece() {
+    if context.has_pending_fragment() {
         Some(Instant::ZERO)
     } else {
         None

@@ -335,7 +335,7 @@ impl Host {
                     Some(word) => count(word)?,
                     None => 0,
                 };
-                self.refuse_behind(given)?;
+                self.refuse_after(given)?;
                 is_ok(outcome)
             }
             "ingress" => self.asks(Command::PollIngressSingle(moment(call.next()?)?), outcome),

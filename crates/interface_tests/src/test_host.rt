@@ -56,7 +56,7 @@ impl Owner for Idle {
 }
 
 // The answers to questions for leave of which the last is refused, behind so many for which it is given.
-fn refusal_behind(alloc: Global, given: usize) -> Option<Vec<bool>> {
+fn refusal_after(alloc: Global, given: usize) -> Option<Vec<bool>> {
     let mut answers = Vec::new(alloc);
     for _ in 0..given {
         answers.push(false).ok()?;
@@ -188,10 +188,10 @@ impl Host {
     }
 
     /// Lets the device refuse one question for leave, behind so many for which it is given.
-    pub fn refuse_behind(&mut self, given: usize) -> Option<()> {
-        let answers = match refusal_behind(self.alloc, given) {
+    pub fn refuse_after(&mut self, given: usize) -> Option<()> {
+        let answers = match refusal_after(self.alloc, given) {
             Some(answers) => answers,
-            None => refusal_behind(self.alloc, given)?,
+            None => refusal_after(self.alloc, given)?,
         };
         self.device.refuse(answers);
         self.refusing = true;

@@ -8,8 +8,8 @@ use Rattle.ip_address.specs.declared.ip.IpAddress.TheVariants.{Ipv4, Ipv6}
 use Rattle.ip_address.specs.Ipv4 as ipv4
 use Rattle.ip_address.specs.Ipv6 as ipv6
 
-abbrev pub unspecified : IpAddress
-unspecified = Ipv4 (record { bits = 0 })
+abbrev pub unspecified_address : IpAddress
+unspecified_address = Ipv4 (record { bits = 0 })
 
 abbrev pub is_unspecified : IpAddress → Bool
 is_unspecified (Ipv4 a) = ipv4.is_unspecified a

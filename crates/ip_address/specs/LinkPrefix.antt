@@ -14,8 +14,8 @@ identifier e =
     bit_xor (slice_index e.0 0) 2 ∷ slice_index e.0 1 ∷ slice_index e.0 2 ∷ 0xff ∷ 0xfe ∷ slice_index e.0 3 ∷ slice_index e.0 4 ∷ slice_index e.0 5 ∷ []
 
 -- the first 64 bits of the prefix, and then the identifier
-abbrev pub joined : Ipv6Cidr → EthernetAddress → Ipv6Cidr
-joined c e = record {
+abbrev pub cidr_with_identifier : Ipv6Cidr → EthernetAddress → Ipv6Cidr
+cidr_with_identifier c e = record {
   address = record { bits = c.address.bits / 2 ^ 64 * 2 ^ 64 + from_be_bytes w64 (identifier e) };
   prefix_len = 64;
   in_range = lit≤ tt;
@@ -23,5 +23,5 @@ joined c e = record {
 
 -- an address is made of a prefix of 64 bits, on a medium that has hardware addresses
 abbrev pub from_link_prefix : Ipv6Cidr → HardwareAddress → Option Ipv6Cidr
-from_link_prefix c (Ethernet e) = if c.prefix_len == 64 then Some (joined c e) else None
+from_link_prefix c (Ethernet e) = if c.prefix_len == 64 then Some (cidr_with_identifier c e) else None
 from_link_prefix c Ip = None

@@ -57,7 +57,7 @@ impl IpAddress {
 
 impl Default for IpAddress {
     fn default() -> IpAddress
-        ensures { result ≡ spec.unspecified }
+        ensures { result ≡ spec.unspecified_address }
     {
         IpAddress::Ipv4(Ipv4Address::UNSPECIFIED)
     }

@@ -20,7 +20,7 @@ impl Ipv6Cidr {
     {
         match hardware_addr {
             HardwareAddress::Ethernet(address) if link_prefix.prefix_len == 64 => {
-                Some(joined(link_prefix, &address))
+                Some(cidr_with_identifier(link_prefix, &address))
             }
             _ => None,
         }
@@ -28,8 +28,8 @@ impl Ipv6Cidr {
 }
 
 // The first 64 bits of a network, and then the identifier of an interface.
-fn joined(link_prefix: &Ipv6Cidr, address: &EthernetAddress) -> Ipv6Cidr
-    ensures { result ≡ spec.joined link_prefix.now address.now }
+fn cidr_with_identifier(link_prefix: &Ipv6Cidr, address: &EthernetAddress) -> Ipv6Cidr
+    ensures { result ≡ spec.cidr_with_identifier link_prefix.now address.now }
 {
     let prefix = link_prefix.address.bits / (1 << 64) * (1 << 64);
     Ipv6Cidr {

@@ -3,7 +3,7 @@ use Rattle.std.proofs.Common.{◌≡◌, ℕ, ◌+◌, ◌-◌, ◌*◌, ◌/◌
 use Rattle.std.specs.Prelude.{slice_range}
 use Rattle.std.proofs.lemmas.Nat.{from_be_bytes-to_be_bytes_4}
 use Rattle.std.proofs.lemmas.List.{take_at}
-use Rattle.wire_base.specs.Checksum.{folded, word_sum}
+use Rattle.wire_base.specs.Checksum.{folded_sum, word_sum}
 use Rattle.ip_address.specs.Protocol.{protocol_of, number_of}
 use Rattle.ip_wire.specs.declared.ipv4_packet.Ipv4Repr.{Ipv4Repr}
 use Rattle.ip_wire.specs.declared.ipv4_packet.Ipv4Fragment.{Ipv4Fragment}
@@ -76,7 +76,7 @@ fragment_again summed r f payload h =
     (total f.identification h.identification)
     (total (fragment_word f) (low_13 f.dont_fragment f.more_fragments f.offset h.offset).1)
 
-header_sums : (summed : Bool) (r : Ipv4Repr) (f : Ipv4Fragment) → IsTrue summed → folded (word_sum (header_text summed r f)) ≡ 65535
+header_sums : (summed : Bool) (r : Ipv4Repr) (f : Ipv4Fragment) → IsTrue summed → folded_sum (word_sum (header_text summed r f)) ≡ 65535
 unfolding front back header_with
 header_sums true r f on = checksum-sums_up (front r f) (back r) refl
 header_sums false r f on = absurd cc

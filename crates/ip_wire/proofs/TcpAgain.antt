@@ -2,7 +2,7 @@
 use Rattle.std.proofs.Common.{◌≡◌, ℕ, ◌+◌, ◌-◌, ◌<◌, ◌^◌, true, cond, eqb, List, ◌++◌, length, refl, sym, ap, ◌∙◌, arith}
 use Rattle.std.specs.Prelude.{Option, Some, None}
 use Rattle.std.proofs.lemmas.Nat.{from_be_bytes-to_be_bytes_4}
-use Rattle.wire_base.specs.Checksum.{folded, word_sum}
+use Rattle.wire_base.specs.Checksum.{folded_sum, word_sum}
 use Rattle.wire_base.specs.Octets.{u16_at}
 use Rattle.wire_base.specs.Pseudo.{pseudo}
 use Rattle.ip_address.specs.declared.ip.IpAddress.{IpAddress}
@@ -20,17 +20,17 @@ place : (c : ℕ) (r : TcpRepr) → c < 2 ^ 16 → word_sum (header_with c r) �
 unfolding header_with word_sum
 place c r lt = omega (arith, total c lt)
 
-sums : (src dst : IpAddress) (r : TcpRepr) (payload : List ℕ) → folded (word_sum (pseudo src dst 6 (20 + length payload) ++ text true src dst r payload)) ≡ 65535
+sums : (src dst : IpAddress) (r : TcpRepr) (payload : List ℕ) → folded_sum (word_sum (pseudo src dst 6 (20 + length payload) ++ text true src dst r payload)) ≡ 65535
 unfolding header_with
 sums src dst r payload =
     let n : ℕ = 20 + length payload in
     let before = word_sum (pseudo src dst 6 n ++ (header_with 0 r ++ payload)) in
-    let c : ℕ = 65535 - folded before in
+    let c : ℕ = 65535 - folded_sum before in
     let one = header_words src dst 6 n 10 (header_with 0 r) payload refl in
     let two = header_words src dst 6 n 10 (header_with c r) payload refl in
     let three = place c r (omega arith) in
     let all : word_sum (pseudo src dst 6 n ++ (header_with c r ++ payload)) ≡ before + c = omega (arith, one, two, three) in
-    ap folded all ∙ summed_up before c refl
+    ap folded_sum all ∙ summed_up before c refl
 
 -- what the flags say, with ACK or without
 control_again : (c : TcpControl) (a : Option TcpSeqNumber) → (control_of (flags_of c + ack_flag a) ≡ c) × IsControl (flags_of c + ack_flag a)
@@ -76,7 +76,7 @@ read_again checked src dst r payload h len =
         source = λ e. h.some_source (sym source ∙ e);
         destination = λ e. h.some_destination (sym destination ∙ e);
         flags = flags.1;
-        sum = λ yes. ap (λ (k : ℕ). folded (word_sum (pseudo src dst 6 k ++ text true src dst r payload))) n ∙ sums src dst r payload;
+        sum = λ yes. ap (λ (k : ℕ). folded_sum (word_sum (pseudo src dst 6 k ++ text true src dst r payload))) n ∙ sums src dst r payload;
       },
       made r _ _ _ _ _ _ payload source destination flags.0
           (from_be_bytes-to_be_bytes_4 r.seq_number.bits h.sequence)

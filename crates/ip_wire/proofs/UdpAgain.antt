@@ -2,7 +2,7 @@
 use Rattle.std.proofs.Common.{◌≡◌, ℕ, ◌+◌, ◌-◌, ◌<◌, ◌^◌, Bool, true, false, cond, eqb, List, ◌++◌, length, refl, sym, ap, ◌∙◌, length-append, arith}
 use Rattle.std.specs.Prelude.{take, slice_range}
 use Rattle.std.proofs.lemmas.List.{take_at}
-use Rattle.wire_base.specs.Checksum.{folded, word_sum}
+use Rattle.wire_base.specs.Checksum.{folded_sum, word_sum}
 use Rattle.wire_base.specs.Octets.{u16_at}
 use Rattle.wire_base.specs.Pseudo.{pseudo}
 use Rattle.ip_address.specs.declared.ip.IpAddress.{IpAddress}
@@ -21,19 +21,19 @@ not_zero_small : (n : ℕ) (t : Bool) → n < 2 ^ 16 → cond t 65535 n < 2 ^ 16
 not_zero_small n true lt = omega arith
 not_zero_small n false lt = lt
 
-sums : (src dst : IpAddress) (r : UdpRepr) (payload : List ℕ) → folded (word_sum (pseudo src dst 17 (8 + length payload) ++ text true src dst r payload)) ≡ 65535
+sums : (src dst : IpAddress) (r : UdpRepr) (payload : List ℕ) → folded_sum (word_sum (pseudo src dst 17 (8 + length payload) ++ text true src dst r payload)) ≡ 65535
 unfolding header_with
 sums src dst r payload =
     let n : ℕ = 8 + length payload in
     let before = word_sum (pseudo src dst 17 n ++ (header_with 0 r (length payload) ++ payload)) in
-    let computed : ℕ = 65535 - folded before in
+    let computed : ℕ = 65535 - folded_sum before in
     let c = not_zero computed in
     let small : c < 2 ^ 16 = not_zero_small computed (eqb computed 0) (omega arith) in
     let one = header_words src dst 17 n 4 (header_with 0 r (length payload)) payload refl in
     let two = header_words src dst 17 n 4 (header_with c r (length payload)) payload refl in
     let three = place c r (length payload) small in
     let all : word_sum (pseudo src dst 17 n ++ (header_with c r (length payload) ++ payload)) ≡ before + c = omega (arith, one, two, three) in
-    ap folded all ∙ summed_up_not_zero before
+    ap folded_sum all ∙ summed_up_not_zero before
 
 made : (r : UdpRepr) (s d : ℕ) (xs ys : List ℕ) → s ≡ r.src_port → d ≡ r.dst_port → xs ≡ ys
     → ◌≡◌ {A = UdpRepr × List ℕ} (record { src_port = s; dst_port = d }, xs) (r, ys)
@@ -53,8 +53,8 @@ read_again checked src dst r payload more h len =
         header_fits = omega (arith, t);
         fits = omega (arith, t, length-append payload more);
         port = λ e. h.port (sym port ∙ e);
-        sum = λ yes some. ap (λ (xs : List ℕ). folded (word_sum (pseudo src dst 17 (udp_len octets) ++ xs))) cut
-            ∙ ap (λ (k : ℕ). folded (word_sum (pseudo src dst 17 k ++ text true src dst r payload))) t ∙ sums src dst r payload;
+        sum = λ yes some. ap (λ (xs : List ℕ). folded_sum (word_sum (pseudo src dst 17 (udp_len octets) ++ xs))) cut
+            ∙ ap (λ (k : ℕ). folded_sum (word_sum (pseudo src dst 17 k ++ text true src dst r payload))) t ∙ sums src dst r payload;
       },
       made r _ _ _ _ (total r.src_port h.source) port part,
     )

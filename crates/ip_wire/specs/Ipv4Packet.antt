@@ -2,7 +2,7 @@
 use Rattle.std.specs.Prelude.{◌≡◌, ℕ, ◌+◌, ◌-◌, ◌*◌, ◌/◌, ◌%◌, ◌<◌, ◌≤◌, ◌^◌, ◌==◌, ◌||◌, not, Bool, true, false, IsTrue, List, [], ◌∷◌, ◌++◌, length, take, drop, slice_index, slice_range, if◌then◌else◌}
 use Rattle.std.specs.Borrow.{Bor}
 use Rattle.std.specs.Int.{w16, w32, to_be_bytes}
-use Rattle.wire_base.specs.Checksum.{folded, word_sum, checksum_of}
+use Rattle.wire_base.specs.Checksum.{folded_sum, word_sum, checksum_of}
 use Rattle.wire_base.specs.Octets.{u16_at, u32_at}
 use Rattle.ip_address.specs.Protocol.{protocol_of, number_of}
 use Rattle.ip_wire.specs.declared.ipv4_packet.Ipv4Repr.{Ipv4Repr}
@@ -22,7 +22,7 @@ pub record IsIpv4 (checked : Bool) (octets : List ℕ) : Type 0 where
   pub header : 20 ≤ header_len octets
   pub header_fits : header_len octets ≤ total_len octets
   pub total_fits : total_len octets ≤ length octets
-  pub sum : IsTrue checked → folded (word_sum (take (header_len octets) octets)) ≡ 65535
+  pub sum : IsTrue checked → folded_sum (word_sum (take (header_len octets) octets)) ≡ 65535
 
 -- the values of its header
 abbrev pub header_in : List ℕ → Ipv4Repr

@@ -2,7 +2,7 @@
 use Rattle.std.specs.Prelude.{◌≡◌, ◌≢◌, ℕ, ◌+◌, ◌*◌, ◌/◌, ◌%◌, ◌<◌, ◌≤◌, ◌^◌, ◌==◌, Bool, true, IsTrue, Option, Some, None, List, [], ◌∷◌, ◌++◌, length, drop, slice_index, if◌then◌else◌}
 use Rattle.std.specs.Borrow.{Bor}
 use Rattle.std.specs.Int.{w16, w32, to_be_bytes}
-use Rattle.wire_base.specs.Checksum.{folded, word_sum, checksum_of}
+use Rattle.wire_base.specs.Checksum.{folded_sum, word_sum, checksum_of}
 use Rattle.wire_base.specs.Octets.{u16_at, u32_at}
 use Rattle.wire_base.specs.Pseudo.{pseudo}
 use Rattle.ip_address.specs.declared.ip.IpAddress.{IpAddress}
@@ -49,7 +49,7 @@ pub record IsTcp (checked : Bool) (src dst : IpAddress) (octets : List ℕ) : Ty
   pub source : u16_at octets 0 ≢ 0
   pub destination : u16_at octets 2 ≢ 0
   pub flags : IsControl (slice_index octets 13)
-  pub sum : IsTrue checked → folded (word_sum (pseudo src dst 6 (length octets) ++ octets)) ≡ 65535
+  pub sum : IsTrue checked → folded_sum (word_sum (pseudo src dst 6 (length octets) ++ octets)) ≡ 65535
 
 -- the values of its header
 abbrev pub header_in : List ℕ → TcpRepr

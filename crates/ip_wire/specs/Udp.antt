@@ -2,7 +2,7 @@
 use Rattle.std.specs.Prelude.{◌≡◌, ◌≢◌, ℕ, ◌+◌, ◌<◌, ◌≤◌, ◌^◌, ◌==◌, ◌&&◌, Bool, true, false, IsTrue, List, ◌++◌, length, take, slice_range, if◌then◌else◌}
 use Rattle.std.specs.Borrow.{Bor}
 use Rattle.std.specs.Int.{w16, to_be_bytes}
-use Rattle.wire_base.specs.Checksum.{folded, word_sum, checksum_of}
+use Rattle.wire_base.specs.Checksum.{folded_sum, word_sum, checksum_of}
 use Rattle.wire_base.specs.Octets.{u16_at}
 use Rattle.ip_address.specs.Protocol.{is_ipv4}
 use Rattle.wire_base.specs.Pseudo.{pseudo}
@@ -23,7 +23,7 @@ pub record IsUdp (checked : Bool) (src dst : IpAddress) (octets : List ℕ) : Ty
   pub header_fits : 8 ≤ udp_len octets
   pub fits : udp_len octets ≤ length octets
   pub port : u16_at octets 2 ≢ 0
-  pub sum : IsTrue checked → is_unsummed dst octets ≡ false → folded (word_sum (pseudo src dst 17 (udp_len octets) ++ take (udp_len octets) octets)) ≡ 65535
+  pub sum : IsTrue checked → is_unsummed dst octets ≡ false → folded_sum (word_sum (pseudo src dst 17 (udp_len octets) ++ take (udp_len octets) octets)) ≡ 65535
 
 -- its ports, and its payload, which ends at its length
 abbrev pub udp_in : List ℕ → UdpRepr × List ℕ

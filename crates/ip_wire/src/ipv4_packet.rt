@@ -1,7 +1,7 @@
 //! IPv4 packets (RFC 791).
 ghost use Rattle.std.specs.Prelude.{◌≡◌, ◌+◌, ◌<◌, ◌≤◌, ◌^◌, ◌++◌, length};
 ghost use Rattle.std.specs.Option.{SomeIff, option_map};
-ghost use Rattle.wire_base.specs.Checksum.{folded, word_sum};
+ghost use Rattle.wire_base.specs.Checksum.{folded_sum, word_sum};
 ghost use Rattle.ip_wire.specs.Ipv4Packet as spec;
 
 use ip_address::{IpProtocol, Ipv4Address};
@@ -190,7 +190,7 @@ fn fragment_of(octets: &[u8]) -> Ipv4Fragment
 fn header_sum(repr: &Ipv4Repr, fragment: &Ipv4Fragment) -> u16
     requires payload_len { 20 + repr.now.payload_len < 2 ^ 16 }
     requires offset { fragment.now.offset < 0x2000 }
-    ensures { result ≡ folded (word_sum (spec.header_with 0 repr.now fragment.now)) }
+    ensures { result ≡ folded_sum (word_sum (spec.header_with 0 repr.now fragment.now)) }
 {
     let addresses = u64::from(repr.src_addr.bits) + u64::from(repr.dst_addr.bits);
     let lengths = 0x4500 + u64::from(20 + repr.payload_len);

@@ -1,7 +1,7 @@
 //! TCP segments (RFC 9293).
 ghost use Rattle.std.specs.Prelude.{◌≡◌, ◌==◌, ◌+◌, ◌<◌, ◌≤◌, ◌^◌, ◌++◌, length, slice_index, true};
 ghost use Rattle.std.specs.Option.{SomeIff, option_map};
-ghost use Rattle.wire_base.specs.Checksum.{folded, word_sum};
+ghost use Rattle.wire_base.specs.Checksum.{folded_sum, word_sum};
 ghost use Rattle.wire_base.specs.Pseudo.{pseudo};
 ghost use Rattle.ip_wire.specs.Tcp as spec;
 
@@ -211,7 +211,7 @@ fn ack_number_of(packet: &[u8]) -> Option<TcpSeqNumber>
 #[tactic(auto, using(crate::proofs::TransportSums::before))]
 fn sums_up(segment: &[u8], src: &IpAddress, dst: &IpAddress) -> bool
     requires { length segment.now < 2 ^ 16 }
-    ensures { result ≡ (folded (word_sum (pseudo src.now dst.now 6 (length segment.now) ++ segment.now)) == 65535) }
+    ensures { result ≡ (folded_sum (word_sum (pseudo src.now dst.now 6 (length segment.now) ++ segment.now)) == 65535) }
 {
     let start = pseudo_sum(src, dst, 6, segment.len() as u16);
     sum_with(start, segment) == 0xffff

@@ -1,7 +1,7 @@
 //! UDP datagrams (RFC 768).
 ghost use Rattle.std.specs.Prelude.{◌≡◌, ◌==◌, ◌+◌, ◌<◌, ◌≤◌, ◌^◌, ◌++◌, length, true};
 ghost use Rattle.std.specs.Option.{SomeIff, option_map};
-ghost use Rattle.wire_base.specs.Checksum.{folded, word_sum};
+ghost use Rattle.wire_base.specs.Checksum.{folded_sum, word_sum};
 ghost use Rattle.wire_base.specs.Pseudo.{pseudo};
 ghost use Rattle.ip_wire.specs.Udp as spec;
 
@@ -117,7 +117,7 @@ fn is_unsummed(packet: &[u8], dst: &IpAddress) -> bool
 #[tactic(auto, using(crate::proofs::TransportSums::before))]
 fn sums_up(datagram: &[u8], src: &IpAddress, dst: &IpAddress) -> bool
     requires { length datagram.now < 2 ^ 16 }
-    ensures { result ≡ (folded (word_sum (pseudo src.now dst.now 17 (length datagram.now) ++ datagram.now)) == 65535) }
+    ensures { result ≡ (folded_sum (word_sum (pseudo src.now dst.now 17 (length datagram.now) ++ datagram.now)) == 65535) }
 {
     let start = pseudo_sum(src, dst, 17, datagram.len() as u16);
     sum_with(start, datagram) == 0xffff

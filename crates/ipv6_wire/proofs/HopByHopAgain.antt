@@ -46,14 +46,14 @@ some_octets (Unknown type len) rest = omega arith
 -- one option, and those behind it
 one_again : (n : ℕ) (o : Ipv6OptionRepr) (options : List Ipv6OptionRepr) (rest : List ℕ) → IsSomeOption o → AreOptions n rest × (options_in n rest ≡ options)
     → AreOptions (suc n) (option_text o ++ rest) × (options_in (suc n) (option_text o ++ rest) ≡ o ∷ options)
-one_again n o options rest some behind =
+one_again n o options rest some after =
     let octets = option_text o ++ rest in
     let len = len_again o rest some in
     let past : drop (option_len octets) octets ≡ rest = drop_at (option_text o) rest (option_len octets) (sym len) in
     let is : IsOption octets = omega (arith, len, length-append (option_text o) rest) in
     let here = option_again o rest some in (
-      one_before n octets is (rw past behind.0),
-      one_more n octets (some_octets o rest) ∙ rw (here, past, behind.1) refl,
+      one_before n octets is (rw past after.0),
+      one_more n octets (some_octets o rest) ∙ rw (here, past, after.1) refl,
     )
 
 all_again : (n : ℕ) (options : List Ipv6OptionRepr) → length options ≤ n → All IsSomeOption options

@@ -3,4 +3,4 @@ pub mod Halves
 pub mod HopByHopAgain
 pub mod Ipv6Again
 pub mod Options
-pub mod Written
+pub mod EmittedOptions

@@ -59,11 +59,11 @@ one octets options left reads some few is =
       values = all ∙ sym (append_assoc options (option_in left ∷ []) (options_in n (drop (option_len left) left)));
     }
 
-pub one_read : (octets : List ℕ) (options : List Ipv6OptionRepr) (left : List ℕ) (option : Ipv6OptionRepr) (behind : List ℕ)
-    → Reads octets options left → 0 < length left → length options < 4 → IsOption left × ((option, behind) ≡ first_option left) → Reads octets (options ++ option ∷ []) behind
-one_read octets options left option behind reads some few is =
+pub one_read : (octets : List ℕ) (options : List Ipv6OptionRepr) (left : List ℕ) (option : Ipv6OptionRepr) (after : List ℕ)
+    → Reads octets options left → 0 < length left → length options < 4 → IsOption left × ((option, after) ≡ first_option left) → Reads octets (options ++ option ∷ []) after
+one_read octets options left option after reads some few is =
     let first : option ≡ option_in left = ap (λ (p : Ipv6OptionRepr × List ℕ). p.0) is.1 in
-    let rest : behind ≡ drop (option_len left) left = ap (λ (p : Ipv6OptionRepr × List ℕ). p.1) is.1 in
+    let rest : after ≡ drop (option_len left) left = ap (λ (p : Ipv6OptionRepr × List ℕ). p.1) is.1 in
     rw (first, rest) (one octets options left reads some few is.0)
 
 -- an option that runs out isn't one of those

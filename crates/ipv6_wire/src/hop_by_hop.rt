@@ -211,9 +211,9 @@ fn options_of(octets: &[u8]) -> Option<ArrayVec<Ipv6OptionRepr, MAX_OPTIONS>>
     let mut options = ArrayVec::new();
     let mut left = octets;
     while !left.is_empty() && !options.is_full() {
-        let (option, behind) = Ipv6OptionRepr::parse(left)?;
+        let (option, after) = Ipv6OptionRepr::parse(left)?;
         options.push(option);
-        left = behind;
+        left = after;
     }
     Some(options)
 }

@@ -4,7 +4,7 @@ use Rattle.std.proofs.lemmas.List.{drop_all, get_or_default}
 use Rattle.std.specs.Prelude.{cond, min, max, nat_lt, nat_le, ◌&&◌, ◌||◌, insert, remove, Result, Ok, Err, IsErr, OnOk, OnErr}
 use Rattle.std.proofs.lemmas.Bool.Decides.{nat_tests}
 use Rattle.net_base.specs.declared.assembler.Range.{Range}
-use Rattle.net_base.specs.Ranges.{AreSeparate, covered, joined, places_before, absorb, put_range, add_range, IsMet, IsApart, IsUnion}
+use Rattle.net_base.specs.Ranges.{AreSeparate, covered, range_union, places_before, absorb, put_range, add_range, IsMet, IsApart, IsUnion}
 
 -- whether a range has a place
 abbrev pub has : Range → ℕ → Bool
@@ -28,8 +28,8 @@ or_assoc false b c = refl
 absorb_covers : (m : Range) (from : ℕ) (rs : List Range) (p : ℕ) → AreSeparate from rs → m.start ≤ from → m.start < m.end → covered (absorb m rs) p ≡ has m p || covered rs p
 absorb_covers m from [] p s h k = refl
 absorb_covers m from (r ∷ rs) p s h k =
-    elim (nat_le r.start m.end) as (λ b. nat_le r.start m.end ≡ b → covered (cond b (absorb (joined m r) rs) (m ∷ r ∷ rs)) p ≡ has m p || (has r p || covered rs p)) [
-      | true ↦ λ t. absorb_covers (joined m r) (r.end + 1) rs p s.2 (omega (arith, s.0, s.1)) (omega (arith, s.1))
+    elim (nat_le r.start m.end) as (λ b. nat_le r.start m.end ≡ b → covered (cond b (absorb (range_union m r) rs) (m ∷ r ∷ rs)) p ≡ has m p || (has r p || covered rs p)) [
+      | true ↦ λ t. absorb_covers (range_union m r) (r.end + 1) rs p s.2 (omega (arith, s.0, s.1)) (omega (arith, s.1))
           ∙ ap (λ b. b || covered rs p) (joined_has m.start m.end r.start r.end p (le_of _ _ t) (omega (arith, s.0, s.1)) k s.1) ∙ or_assoc (has m p) (has r p) (covered rs p)
       | false ↦ λ t. refl
     ] refl
@@ -37,8 +37,8 @@ absorb_covers m from (r ∷ rs) p s h k =
 absorb_separate : (lo : ℕ) (m : Range) (from : ℕ) (rs : List Range) → AreSeparate from rs → lo ≤ m.start → lo ≤ from → m.start ≤ from → m.start < m.end → AreSeparate lo (absorb m rs)
 absorb_separate lo m from [] s l f h k = (l, k, tt)
 absorb_separate lo m from (r ∷ rs) s l f h k =
-    elim (nat_le r.start m.end) as (λ b. nat_le r.start m.end ≡ b → AreSeparate lo (cond b (absorb (joined m r) rs) (m ∷ r ∷ rs))) [
-      | true ↦ λ t. absorb_separate lo (joined m r) (r.end + 1) rs s.2 (omega (arith, s.0)) (omega (arith, s.0, s.1)) (omega (arith, s.0, s.1)) (omega (arith, s.1))
+    elim (nat_le r.start m.end) as (λ b. nat_le r.start m.end ≡ b → AreSeparate lo (cond b (absorb (range_union m r) rs) (m ∷ r ∷ rs))) [
+      | true ↦ λ t. absorb_separate lo (range_union m r) (r.end + 1) rs s.2 (omega (arith, s.0)) (omega (arith, s.0, s.1)) (omega (arith, s.0, s.1)) (omega (arith, s.1))
       | false ↦ λ t. (l, k, ((let g = gt_of _ _ t in omega arith), s.1, s.2))
     ] refl
 
@@ -53,19 +53,19 @@ put_is start end (r ∷ rs) =
 
 -- a range that does not meet the next one stands alone
 pub absorb_apart : (m : Range) (rs : List Range) (i : ℕ) (d : Range) → i < length rs → nat_le (get_or rs i d).start m.end ≡ false → absorb m (drop i rs) ≡ m ∷ drop i rs
-absorb_apart m rs i d h t = rw (drop-cons rs i d h) (ap (λ b. cond b (absorb (joined m (get_or rs i d)) (drop (suc i) rs)) (m ∷ get_or rs i d ∷ drop (suc i) rs)) t)
+absorb_apart m rs i d h t = rw (drop-cons rs i d h) (ap (λ b. cond b (absorb (range_union m (get_or rs i d)) (drop (suc i) rs)) (m ∷ get_or rs i d ∷ drop (suc i) rs)) t)
 
 pub absorb_end : (m : Range) (rs : List Range) → absorb m (drop (length rs) rs) ≡ m ∷ drop (length rs) rs
 absorb_end m rs = rw (drop_all (length rs) rs (omega arith)) refl
 
 -- a range that meets the next one takes it in
-pub absorb_met : (m : Range) (rs : List Range) (i : ℕ) (d : Range) → i < length rs → nat_le (get_or rs i d).start m.end ≡ true → absorb m (drop i rs) ≡ absorb (joined m (get_or rs i d)) (drop (suc i) rs)
-absorb_met m rs i d h t = rw (drop-cons rs i d h) (ap (λ b. cond b (absorb (joined m (get_or rs i d)) (drop (suc i) rs)) (m ∷ get_or rs i d ∷ drop (suc i) rs)) t)
+pub absorb_met : (m : Range) (rs : List Range) (i : ℕ) (d : Range) → i < length rs → nat_le (get_or rs i d).start m.end ≡ true → absorb m (drop i rs) ≡ absorb (range_union m (get_or rs i d)) (drop (suc i) rs)
+absorb_met m rs i d h t = rw (drop-cons rs i d h) (ap (λ b. cond b (absorb (range_union m (get_or rs i d)) (drop (suc i) rs)) (m ∷ get_or rs i d ∷ drop (suc i) rs)) t)
 
 pub length_absorb : (m : Range) (rs : List Range) → length (absorb m rs) ≤ length rs + 1
 length_absorb m [] = omega arith
 length_absorb m (r ∷ rs) =
-    elim (nat_le r.start m.end) as (λ b. length (cond b (absorb (joined m r) rs) (m ∷ r ∷ rs)) ≤ suc (length rs) + 1) [ true ↦ (let h = length_absorb (joined m r) rs in omega arith) | false ↦ omega arith ]
+    elim (nat_le r.start m.end) as (λ b. length (cond b (absorb (range_union m r) rs) (m ∷ r ∷ rs)) ≤ suc (length rs) + 1) [ true ↦ (let h = length_absorb (range_union m r) rs in omega arith) | false ↦ omega arith ]
 
 or_swap : (a b c : Bool) → a || (b || c) ≡ b || (a || c)
 or_swap true true c = refl
@@ -75,15 +75,15 @@ or_swap false b c = refl
 -- the first range that is met may begin below
 first_separate : (lo : ℕ) (m r : Range) (rs : List Range) → AreSeparate lo (r ∷ rs) → lo ≤ m.start → m.start < m.end → m.start ≤ r.end → AreSeparate lo (absorb m (r ∷ rs))
 first_separate lo m r rs s l k t =
-    elim (nat_le r.start m.end) as (λ b. nat_le r.start m.end ≡ b → AreSeparate lo (cond b (absorb (joined m r) rs) (m ∷ r ∷ rs))) [
-      | true ↦ λ e. absorb_separate lo (joined m r) (r.end + 1) rs s.2 (omega (arith, s.0)) (omega (arith, s.0, s.1)) (omega (arith, s.0, s.1)) (omega (arith, s.1))
+    elim (nat_le r.start m.end) as (λ b. nat_le r.start m.end ≡ b → AreSeparate lo (cond b (absorb (range_union m r) rs) (m ∷ r ∷ rs))) [
+      | true ↦ λ e. absorb_separate lo (range_union m r) (r.end + 1) rs s.2 (omega (arith, s.0)) (omega (arith, s.0, s.1)) (omega (arith, s.0, s.1)) (omega (arith, s.1))
       | false ↦ λ e. (l, k, ((let g = gt_of _ _ e in omega arith), s.1, s.2))
     ] refl
 
 first_covers : (m r : Range) (lo : ℕ) (rs : List Range) (p : ℕ) → AreSeparate lo (r ∷ rs) → m.start < m.end → m.start ≤ r.end → covered (absorb m (r ∷ rs)) p ≡ has m p || (has r p || covered rs p)
 first_covers m r lo rs p s k t =
-    elim (nat_le r.start m.end) as (λ b. nat_le r.start m.end ≡ b → covered (cond b (absorb (joined m r) rs) (m ∷ r ∷ rs)) p ≡ has m p || (has r p || covered rs p)) [
-      | true ↦ λ e. absorb_covers (joined m r) (r.end + 1) rs p s.2 (omega (arith, s.0, s.1)) (omega (arith, s.1))
+    elim (nat_le r.start m.end) as (λ b. nat_le r.start m.end ≡ b → covered (cond b (absorb (range_union m r) rs) (m ∷ r ∷ rs)) p ≡ has m p || (has r p || covered rs p)) [
+      | true ↦ λ e. absorb_covers (range_union m r) (r.end + 1) rs p s.2 (omega (arith, s.0, s.1)) (omega (arith, s.1))
           ∙ ap (λ b. b || covered rs p) (joined_has m.start m.end r.start r.end p (le_of _ _ e) t k s.1) ∙ or_assoc (has m p) (has r p) (covered rs p)
       | false ↦ λ e. refl
     ] refl
@@ -136,7 +136,7 @@ put_alone start end k rs e h apart =
     added start end rs h ∙ put_is start end rs ∙ rw (← e) (ap (λ xs. take k rs ++ xs) (apart.alone (record { start = start; end = end }) refl))
 
 -- what is put where the next range is met
-pub put_met : (start end k : ℕ) (rs : List Range) (d : Range) → k ≡ places_before start rs → start < end → IsMet rs k end → add_range start end rs ≡ take k rs ++ absorb (joined (record { start = start; end = end }) (get_or rs k d)) (drop (k + 1) rs)
+pub put_met : (start end k : ℕ) (rs : List Range) (d : Range) → k ≡ places_before start rs → start < end → IsMet rs k end → add_range start end rs ≡ take k rs ++ absorb (range_union (record { start = start; end = end }) (get_or rs k d)) (drop (k + 1) rs)
 put_met start end k rs d e h met =
     added start end rs h ∙ put_is start end rs ∙ rw (← e) (ap (λ xs. take k rs ++ xs) (met.takes (record { start = start; end = end }) d refl))
 

@@ -14,40 +14,40 @@ pub data Event : Type 0 where
   Sent : (id : ℕ) (frame : List ℕ) → Event
 
 -- the frames handed over, in order
-abbrev pub handed : List Event → List (List ℕ)
-handed [] = []
-handed (Received t (Frame f) ∷ es) = f ∷ handed es
-handed (Received t Nothing ∷ es) = handed es
-handed (Received t Withheld ∷ es) = handed es
-handed (Asked t b ∷ es) = handed es
-handed (Sent id f ∷ es) = handed es
+abbrev pub handed_frames : List Event → List (List ℕ)
+handed_frames [] = []
+handed_frames (Received t (Frame f) ∷ es) = f ∷ handed_frames es
+handed_frames (Received t Nothing ∷ es) = handed_frames es
+handed_frames (Received t Withheld ∷ es) = handed_frames es
+handed_frames (Asked t b ∷ es) = handed_frames es
+handed_frames (Sent id f ∷ es) = handed_frames es
 
 -- the frames sent, in order
-abbrev pub sent : List Event → List (List ℕ)
-sent [] = []
-sent (Received t r ∷ es) = sent es
-sent (Asked t b ∷ es) = sent es
-sent (Sent id f ∷ es) = f ∷ sent es
+abbrev pub sent_frames : List Event → List (List ℕ)
+sent_frames [] = []
+sent_frames (Received t r ∷ es) = sent_frames es
+sent_frames (Asked t b ∷ es) = sent_frames es
+sent_frames (Sent id f ∷ es) = f ∷ sent_frames es
 
 -- the answers to the questions for leave, in order
-abbrev pub leaves : List Event → List Bool
-leaves [] = []
-leaves (Received t r ∷ es) = leaves es
-leaves (Asked t b ∷ es) = b ∷ leaves es
-leaves (Sent id f ∷ es) = leaves es
+abbrev pub grants : List Event → List Bool
+grants [] = []
+grants (Received t r ∷ es) = grants es
+grants (Asked t b ∷ es) = b ∷ grants es
+grants (Sent id f ∷ es) = grants es
 
 -- a count of refusals goes up by one and stays at the end of 64 bits
-abbrev pub raised : ℕ → ℕ
-raised n = if n == 2 ^ 64 - 1 then n else n + 1
+abbrev pub count_after_refusal : ℕ → ℕ
+count_after_refusal n = if n == 2 ^ 64 - 1 then n else n + 1
 
 -- the count of refusals after these events: it goes up with each frame withheld and each leave refused
 abbrev pub refusals_after : ℕ → List Event → ℕ
 refusals_after n [] = n
 refusals_after n (Received t (Frame f) ∷ es) = refusals_after n es
 refusals_after n (Received t Nothing ∷ es) = refusals_after n es
-refusals_after n (Received t Withheld ∷ es) = refusals_after (raised n) es
+refusals_after n (Received t Withheld ∷ es) = refusals_after (count_after_refusal n) es
 refusals_after n (Asked t true ∷ es) = refusals_after n es
-refusals_after n (Asked t false ∷ es) = refusals_after (raised n) es
+refusals_after n (Asked t false ∷ es) = refusals_after (count_after_refusal n) es
 refusals_after n (Sent id f ∷ es) = refusals_after n es
 
 -- a question for a frame at a moment that brought none

@@ -1,7 +1,7 @@
 -- A device in memory: what it holds, and what it may do at each event.
 use Rattle.std.specs.Prelude.{ℕ, ◌≡◌, ◌≢◌, Bool, true, false, List, [], ◌∷◌, ◌++◌, drop}
 use Rattle.net_base.specs.declared.phy.DeviceCapabilities.{DeviceCapabilities}
-use Rattle.net_base.specs.Device.{Event, Received, Asked, Sent, Frame, Nothing, Withheld, raised, handed, sent as frames_sent}
+use Rattle.net_base.specs.Device.{Event, Received, Asked, Sent, Frame, Nothing, Withheld, count_after_refusal, handed_frames, sent_frames as frames_sent}
 
 -- what it can do, the frames that wait, the frames sent, the answers to the next questions for leave (true for refused), the count of refusals, and whether room for a frame to be sent is reserved
 pub record Memory : Type 0 where
@@ -18,12 +18,12 @@ is_refused [] = false
 is_refused (answer ∷ answers) = answer
 
 -- the next question has taken its answer
-abbrev pub answered : Memory → Memory
-answered d = record d { refuse = drop 1 d.refuse }
+abbrev pub without_first_answer : Memory → Memory
+without_first_answer d = record d { refuse = drop 1 d.refuse }
 
 -- a refused leave or a withheld frame is counted
-abbrev pub counted : Memory → Memory
-counted d = record d { refusals = raised d.refusals }
+abbrev pub with_refusal_counted : Memory → Memory
+with_refusal_counted d = record d { refusals = count_after_refusal d.refusals }
 
 -- room for a frame to be sent is there, or isn't
 abbrev pub with_room : Bool → Memory → Memory
@@ -48,12 +48,12 @@ pub record HasNothing (old new : Memory) : Type 0 where
 pub record Withholds (old new : Memory) : Type 0 where
   pub waits : old.queued ≢ []
   pub no_room : old.has_room ≡ false
-  pub after : new ≡ counted old
+  pub after : new ≡ with_refusal_counted old
 
 -- leave is given, with room: the list doesn't refuse it
-pub record GivesLeave (old new : Memory) : Type 0 where
+pub record MayTransmit (old new : Memory) : Type 0 where
   pub allowed : is_refused old.refuse ≡ false
-  pub after : new ≡ with_room true (answered old)
+  pub after : new ≡ with_room true (without_first_answer old)
 
 -- why leave is refused: by the list, or since there is no room for a frame to be sent
 pub data MayRefuse (old : Memory) : Type 0 where
@@ -61,9 +61,9 @@ pub data MayRefuse (old : Memory) : Type 0 where
   ForRoom : is_refused old.refuse ≡ false → old.has_room ≡ false → MayRefuse old
 
 -- leave is refused
-pub record RefusesLeave (old new : Memory) : Type 0 where
+pub record MayNotTransmit (old new : Memory) : Type 0 where
   pub cause : MayRefuse old
-  pub after : new ≡ counted (answered old)
+  pub after : new ≡ with_refusal_counted (without_first_answer old)
 
 -- a frame is sent, in the room for it
 pub record Sends (frame : List ℕ) (old new : Memory) : Type 0 where
@@ -75,8 +75,8 @@ abbrev pub Moves : Event → Memory → Memory → Type 0
 Moves (Received t (Frame frame)) old new = HandsOver frame old new
 Moves (Received t Nothing) old new = HasNothing old new
 Moves (Received t Withheld) old new = Withholds old new
-Moves (Asked t true) old new = GivesLeave old new
-Moves (Asked t false) old new = RefusesLeave old new
+Moves (Asked t true) old new = MayTransmit old new
+Moves (Asked t false) old new = MayNotTransmit old new
 Moves (Sent id frame) old new = Sends frame old new
 
 -- what it may do at these events, one after the other
@@ -86,7 +86,7 @@ pub data Tells : Memory → List Event → Memory → Type 0 where
 
 -- the frames that waited are those handed over and those that still wait, in order; those sent come behind those sent before
 pub record KeepsFrames (old : Memory) (events : List Event) (new : Memory) : Type 0 where
-  pub queue : old.queued ≡ handed events ++ new.queued
+  pub queue : old.queued ≡ handed_frames events ++ new.queued
   pub sent : new.sent ≡ old.sent ++ frames_sent events
 
 -- no frame is lost or made up, whatever happens

@@ -12,8 +12,8 @@ abbrev pub covered : List Range → ℕ → Bool
 covered [] p = false
 covered (r ∷ rs) p = (nat_le r.start p && nat_lt p r.end) || covered rs p
 
-abbrev pub joined : Range → Range → Range
-joined a b = record { start = min a.start b.start; end = max a.end b.end }
+abbrev pub range_union : Range → Range → Range
+range_union a b = record { start = min a.start b.start; end = max a.end b.end }
 
 -- how many ranges end below start
 abbrev pub places_before : ℕ → List Range → ℕ
@@ -23,7 +23,7 @@ places_before start (r ∷ rs) = cond (nat_le start r.end) 0 (places_before star
 -- the range m, joined with the ranges that it meets, before the others
 abbrev pub absorb : Range → List Range → List Range
 absorb m [] = m ∷ []
-absorb m (r ∷ rs) = cond (nat_le r.start m.end) (absorb (joined m r) rs) (m ∷ r ∷ rs)
+absorb m (r ∷ rs) = cond (nat_le r.start m.end) (absorb (range_union m r) rs) (m ∷ r ∷ rs)
 
 -- the ranges with the places from start to below end covered too
 abbrev pub put_range : ℕ → ℕ → List Range → List Range
@@ -41,7 +41,7 @@ front (r ∷ rs) = cond (r.start == 0) r.end 0
 -- a range that ends at `end` takes in the one at place i
 pub record IsMet (rs : List Range) (i end : ℕ) : Type 0 where
   pub within : i < length rs
-  pub takes : (m : Range) (d : Range) → m.end ≡ end → absorb m (drop i rs) ≡ absorb (joined m (slice_index_or rs i d)) (drop (i + 1) rs)
+  pub takes : (m : Range) (d : Range) → m.end ≡ end → absorb m (drop i rs) ≡ absorb (range_union m (slice_index_or rs i d)) (drop (i + 1) rs)
 
 -- a range that ends at `end` stands alone before place i
 pub record IsApart (rs : List Range) (i end : ℕ) : Type 0 where

@@ -1,6 +1,6 @@
 //! Sets of covered places, such as those of the octets that were got of a datagram (RFC 791 3.2).
 ghost use Rattle.std.specs.Prelude.{◌≡◌, ◌↔◌, ◌≤◌, ◌<◌, ◌+◌, ℕ, ◌^◌, [], ◌∷◌, ◌++◌, IsTrue, false, IsOk, IsErr, IfOk, OnOk, OnErr, length, List};
-ghost use Rattle.net_base.specs.Ranges.{add_range, front, AreSeparate, joined, places_before, IsMet, IsApart, IsUnion};
+ghost use Rattle.net_base.specs.Ranges.{add_range, front, AreSeparate, range_union, places_before, IsMet, IsApart, IsUnion};
 
 use arrayvec::ArrayVec;
 use std::marker::Model;
@@ -119,10 +119,10 @@ fn put_range(
         return Ok(());
     }
     let met = ranges.remove(first);
-    let mut merged = joined(Range { start, end }, met);
+    let mut merged = range_union(Range { start, end }, met);
     while is_met(ranges.as_slice(), first, merged.end) {
         let met = ranges.remove(first);
-        merged = joined(merged, met);
+        merged = range_union(merged, met);
     }
     ranges.insert(first, merged);
     Ok(())
@@ -138,8 +138,8 @@ fn is_met(ranges: &[Range], i: usize, end: usize) -> bool
 }
 
 // The smallest range that has both.
-fn joined(a: Range, b: Range) -> Range
-    ensures { result ≡ joined a b }
+fn range_union(a: Range, b: Range) -> Range
+    ensures { result ≡ range_union a b }
 {
     Range {
         start: a.start.min(b.start),

@@ -50,7 +50,7 @@ impl Model for MemoryDevice {
 impl MemoryDevice {
     ghost use Rattle.std.specs.Prelude.{◌<◌, ◌↔◌, ◌++◌, false, map, All, OnOk, OnErr, vec_len};
     ghost use Rattle.std.specs.Result.{IsErrOf};
-    ghost use Rattle.net_base.specs.MemoryDevice.{is_refused, answered, counted, Reserves};
+    ghost use Rattle.net_base.specs.MemoryDevice.{is_refused, without_first_answer, with_refusal_counted, Reserves};
 
     /// A device in which nothing is queued, sent or refused. It takes no memory.
     pub fn new(alloc: Global, capabilities: DeviceCapabilities) -> Self
@@ -145,7 +145,7 @@ impl MemoryDevice {
     // Takes the answer to the next question for leave, and says whether it refuses.
     fn take_answer(&mut self) -> bool
         ensures refused { result ≡ is_refused self.old.refuse }
-        ensures after { self.new ≡ answered self.old }
+        ensures after { self.new ≡ without_first_answer self.old }
     {
         self.refuse.pop_front().unwrap_or(false)
     }
@@ -165,7 +165,7 @@ impl MemoryDevice {
 
     // Counts a refused leave or a withheld frame.
     fn count_refusal(&mut self)
-        ensures { self.new ≡ counted self.old }
+        ensures { self.new ≡ with_refusal_counted self.old }
     {
         self.refusals = self.refusals.saturating_add(1);
     }
@@ -189,7 +189,7 @@ impl Device for MemoryDevice {
 
     ghost tells = { Tells };
 
-    ghost has_leave = { λ d. d.has_room };
+    ghost may_transmit = { λ d. d.has_room };
 
     ghost capable = { λ d. d.capabilities };
 
@@ -203,7 +203,7 @@ impl Device for MemoryDevice {
         requires { length buffer.old ≡ 1514 }
         ensures told { MatchOption result (HandsNone Tells now self.old self.new) (λ r. Tells self.old (Received now (Frame (take r.0 buffer.new)) ∷ []) self.new) }
         ensures fits { IfSome result (λ r. r.0 ≤ 1514) }
-        ensures leave { OnSome result (self.new.has_room ≡ true) }
+        ensures permission { OnSome result (self.new.has_room ≡ true) }
         ensures meta { IfSome result (λ r. r.1 ≡ PacketMeta.EMPTY) }
         ensures rest { MatchOption result (buffer.new ≡ buffer.old) (λ r. drop r.0 buffer.new ≡ drop r.0 buffer.old) }
     {

@@ -124,7 +124,7 @@ pub trait Device {
     ghost tells: { Self → List Event → Self → Type 0 };
 
     /// Whether leave to send one frame stands.
-    ghost has_leave: { Self → Bool };
+    ghost may_transmit: { Self → Bool };
 
     /// What the device can do.
     ghost capable: { Self → DeviceCapabilities };
@@ -142,16 +142,16 @@ pub trait Device {
         requires { length buffer.old ≡ 1514 }
         ensures told { MatchOption result (HandsNone tells now self.old self.new) (λ r. tells self.old (Received now (Frame (take r.0 buffer.new)) ∷ []) self.new) }
         ensures fits { IfSome result (λ r. r.0 ≤ 1514) }
-        ensures leave { OnSome result (has_leave self.new ≡ true) };
+        ensures permission { OnSome result (may_transmit self.new ≡ true) };
 
     /// Gives leave to send one frame, or refuses it. `now` is the moment of the call that asks.
     fn transmit(&mut self, now: Instant) -> bool
         ensures told { tells self.old (Asked now result ∷ []) self.new }
-        ensures leave { result ≡ true → has_leave self.new ≡ true };
+        ensures permission { result ≡ true → may_transmit self.new ≡ true };
 
     /// Sends a frame. This uses the leave.
     fn send(&mut self, meta: PacketMeta, frame: &[u8])
-        requires leave { has_leave self.old ≡ true }
+        requires permission { may_transmit self.old ≡ true }
         requires short { length frame.now ≤ 1514 }
         ensures { tells self.old (Sent meta.id frame.now ∷ []) self.new };
 

@@ -21,7 +21,7 @@ use Rattle.ip_address.specs.declared.ip.IpAddress.TheVariants as address
 use Rattle.ip_wire.specs.declared.ip_packet.IpRepr.{IpRepr}
 use Rattle.ip_wire.specs.declared.ip_packet.IpRepr.TheVariants as ip
 use Rattle.ip_wire.specs.IpPacket.{next_header}
-use Rattle.socket_base.specs.Queue.{Queued, first_of, put, popped}
+use Rattle.socket_base.specs.Queue.{Queued, first_of, put, queue_after_pop}
 use Rattle.socket_base.specs.Source.{source_of}
 use Rattle.socket_base.specs.declared.poll_at.PollAt.{PollAt}
 use Rattle.socket_base.specs.declared.poll_at.PollAt.TheVariants.{Now, Ingress}
@@ -45,8 +45,8 @@ pub record Sent : Type 0 where
   pub payload : List ℕ
 
 -- a packet, without where its payload lies
-abbrev pub shown : Packet → Sent
-shown p = record { src_addr = p.src_addr; dst_addr = p.dst_addr; hop_limit = p.hop_limit; repr = p.repr; payload = p.payload.now }
+abbrev pub value_of : Packet → Sent
+value_of p = record { src_addr = p.src_addr; dst_addr = p.dst_addr; hop_limit = p.hop_limit; repr = p.repr; payload = p.payload.now }
 
 -- echo messages with the identifier
 abbrev pub is_echo_of_v4 : ℕ → Icmpv4Repr → Bool
@@ -116,20 +116,20 @@ abbrev pub accepts : IcmpSocket → IcmpRepr → List ℕ → Bool
 accepts s repr payload = is_for s.endpoint repr payload
 
 -- a message has come
-abbrev pub delivered : IpAddress → List ℕ → IcmpSocket → IcmpSocket
-delivered remote message s = record s { rx = put s.rx remote message }
+abbrev pub socket_after_delivery : IpAddress → List ℕ → IcmpSocket → IcmpSocket
+socket_after_delivery remote message s = record s { rx = put s.rx remote message }
 
 -- the first one that came was read
-abbrev pub read : IcmpSocket → IcmpSocket
-read s = record s { rx = popped s.rx }
+abbrev pub socket_after_done : IcmpSocket → IcmpSocket
+socket_after_done s = record s { rx = queue_after_pop s.rx }
 
 -- a message is to be sent
-abbrev pub queued : IpAddress → List ℕ → IcmpSocket → IcmpSocket
-queued remote message s = record s { tx = put s.tx remote message }
+abbrev pub socket_after_send : IpAddress → List ℕ → IcmpSocket → IcmpSocket
+socket_after_send remote message s = record s { tx = put s.tx remote message }
 
 -- the first one to be sent is gone
-abbrev pub gone : IcmpSocket → IcmpSocket
-gone s = record s { tx = popped s.tx }
+abbrev pub without_first_to_send : IcmpSocket → IcmpSocket
+without_first_to_send s = record s { tx = queue_after_pop s.tx }
 
 -- at once, if something is to be sent
 abbrev pub poll_at : IcmpSocket → PollAt
@@ -150,21 +150,21 @@ echo_to (address.Ipv4 a) octets = cond (is_echo 8 0 octets) (Some (icmp.Ipv4 (ic
 echo_to (address.Ipv6 a) octets = cond (is_echo 128 129 octets) (Some (icmp.Ipv6 (icmpv6_in octets).0, (icmpv6_in octets).1)) None
 
 -- a message to be sent to a peer, from a source
-abbrev pub sent : IcmpSocket → IpAddress → IcmpRepr × List ℕ → IpAddress → Sent
-sent s peer m src = record { src_addr = src; dst_addr = peer; hop_limit = s.hop_limit; repr = m.0; payload = m.1 }
+abbrev pub packet_to_send : IcmpSocket → IpAddress → IcmpRepr × List ℕ → IpAddress → Sent
+packet_to_send s peer m src = record { src_addr = src; dst_addr = peer; hop_limit = s.hop_limit; repr = m.0; payload = m.1 }
 
 -- a message that waits to be sent, if it is an echo message and has a source
 abbrev pub sent_if : (IpAddress → Option IpAddress) → IcmpSocket → IpAddress × List ℕ → Option Sent
-sent_if source s p = option_and_then (λ m. option_map (sent s p.0 m) (source_of source None p.0)) (echo_to p.0 p.1)
+sent_if source s p = option_and_then (λ m. option_map (packet_to_send s p.0 m) (source_of source None p.0)) (echo_to p.0 p.1)
 
 -- the first one to be sent, if it is an echo message and has a source
-abbrev pub offered : (IpAddress → Option IpAddress) → IcmpSocket → Option Sent
-offered source s = option_and_then (sent_if source s) (first_of s.tx.packets)
+abbrev pub offered_packet : (IpAddress → Option IpAddress) → IcmpSocket → Option Sent
+offered_packet source s = option_and_then (sent_if source s) (first_of s.tx.packets)
 
 -- what being asked leaves: the first one is gone if it can't go
-abbrev pub settled : (IpAddress → Option IpAddress) → IcmpSocket → IcmpSocket
-settled source s = cond (is_none (offered source s)) (gone s) s
+abbrev pub socket_after_offer : (IpAddress → Option IpAddress) → IcmpSocket → IcmpSocket
+socket_after_offer source s = cond (is_none (offered_packet source s)) (without_first_to_send s) s
 
 -- what being told leaves
-abbrev pub told : Bool → IcmpSocket → IcmpSocket
-told is_gone s = cond is_gone (gone s) s
+abbrev pub socket_after_told : Bool → IcmpSocket → IcmpSocket
+socket_after_told is_done s = cond is_done (without_first_to_send s) s

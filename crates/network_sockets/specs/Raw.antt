@@ -11,7 +11,7 @@ use Rattle.ip_address.specs.Protocol.{number_of}
 use Rattle.ip_address.specs.declared.protocol.IpProtocol.{IpProtocol}
 use Rattle.ip_address.specs.declared.protocol.IpVersion.{IpVersion}
 use Rattle.ip_address.specs.declared.protocol.IpVersion.TheVariants.{Ipv4, Ipv6}
-use Rattle.socket_base.specs.Queue.{Queued, first_of, put, popped}
+use Rattle.socket_base.specs.Queue.{Queued, first_of, put, queue_after_pop}
 use Rattle.socket_base.specs.declared.poll_at.PollAt.{PollAt}
 use Rattle.socket_base.specs.declared.poll_at.PollAt.TheVariants.{Now, Ingress}
 use Rattle.network_sockets.specs.declared.raw.Packet.{Packet}
@@ -29,8 +29,8 @@ pub record Sent : Type 0 where
   pub payload : List ℕ
 
 -- a packet, without where its payload lies
-abbrev pub shown : Packet → Sent
-shown p = record { header = p.header; payload = p.payload.now }
+abbrev pub value_of : Packet → Sent
+value_of p = record { header = p.header; payload = p.payload.now }
 
 -- one version
 abbrev pub is_same_version : IpVersion → IpVersion → Bool
@@ -44,24 +44,24 @@ abbrev pub accepts : RawSocket → IpVersion → IpProtocol → Bool
 accepts s version protocol = is_same_version s.version version && (number_of s.protocol == number_of protocol)
 
 -- a packet as it is kept: its header written anew, without options and for a whole packet, and its payload
-abbrev pub kept : Bool → IpRepr → List ℕ → List ℕ
-kept summed header payload = header_text summed header ++ payload
+abbrev pub stored_packet : Bool → IpRepr → List ℕ → List ℕ
+stored_packet summed header payload = header_text summed header ++ payload
 
 -- a packet has come
-abbrev pub delivered : Bool → IpRepr → List ℕ → RawSocket → RawSocket
-delivered summed header payload s = record s { rx = put s.rx tt (kept summed header payload) }
+abbrev pub socket_after_delivery : Bool → IpRepr → List ℕ → RawSocket → RawSocket
+socket_after_delivery summed header payload s = record s { rx = put s.rx tt (stored_packet summed header payload) }
 
 -- the first one that came was read
-abbrev pub read : RawSocket → RawSocket
-read s = record s { rx = popped s.rx }
+abbrev pub socket_after_done : RawSocket → RawSocket
+socket_after_done s = record s { rx = queue_after_pop s.rx }
 
 -- a packet is to be sent
-abbrev pub queued : List ℕ → RawSocket → RawSocket
-queued packet s = record s { tx = put s.tx tt packet }
+abbrev pub socket_after_send : List ℕ → RawSocket → RawSocket
+socket_after_send packet s = record s { tx = put s.tx tt packet }
 
 -- the first one to be sent is gone
-abbrev pub gone : RawSocket → RawSocket
-gone s = record s { tx = popped s.tx }
+abbrev pub without_first_to_send : RawSocket → RawSocket
+without_first_to_send s = record s { tx = queue_after_pop s.tx }
 
 -- at once, if something is to be sent
 abbrev pub poll_at : RawSocket → PollAt
@@ -93,17 +93,17 @@ abbrev pub if_spoken : RawSocket → Sent → Option Sent
 if_spoken s p = cond (number_of s.protocol == number_of (next_header p.header)) (Some p) None
 
 -- the packet that some octets begin with, if it is one of the socket's
-abbrev pub sent : RawSocket → List ℕ → Option Sent
-sent s octets = option_and_then (if_spoken s) (packet_in s.version octets)
+abbrev pub packet_to_send : RawSocket → List ℕ → Option Sent
+packet_to_send s octets = option_and_then (if_spoken s) (packet_in s.version octets)
 
 -- the first one to be sent, if it is a packet of the socket's
-abbrev pub offered : RawSocket → Option Sent
-offered s = option_and_then (λ p. sent s p.1) (first_of s.tx.packets)
+abbrev pub offered_packet : RawSocket → Option Sent
+offered_packet s = option_and_then (λ p. packet_to_send s p.1) (first_of s.tx.packets)
 
 -- what being asked leaves: the first one is gone if it isn't a packet of the socket's
-abbrev pub settled : RawSocket → RawSocket
-settled s = cond (is_none (offered s)) (gone s) s
+abbrev pub socket_after_offer : RawSocket → RawSocket
+socket_after_offer s = cond (is_none (offered_packet s)) (without_first_to_send s) s
 
 -- what being told leaves
-abbrev pub told : Bool → RawSocket → RawSocket
-told is_gone s = cond is_gone (gone s) s
+abbrev pub socket_after_told : Bool → RawSocket → RawSocket
+socket_after_told is_done s = cond is_done (without_first_to_send s) s

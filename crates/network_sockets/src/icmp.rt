@@ -120,7 +120,7 @@ impl<L: Drop> SocketOf<L> {
 
     /// Takes a message that came from an address, whole. Without room for it, it is dropped.
     pub fn process(&mut self, remote: IpAddress, message: &[u8])
-        ensures { self.new ≡ spec.delivered remote message.now self.old }
+        ensures { self.new ≡ spec.socket_after_delivery remote message.now self.old }
     {
         self.buffers.process(remote, message);
     }
@@ -135,7 +135,7 @@ impl<L: Drop> SocketOf<L> {
 
     /// Drops the message that `recv` gives, if there is one.
     pub fn done(&mut self)
-        ensures { self.new ≡ spec.read self.old }
+        ensures { self.new ≡ spec.socket_after_done self.old }
     {
         self.buffers.done();
     }
@@ -146,7 +146,7 @@ impl<L: Drop> SocketOf<L> {
         requires addr { is_unspecified remote ≡ false }
         requires len { length message.now ≤ 65495 }
         ensures fits { is_ok result ≡ is_room self.old.tx (length message.now) }
-        ensures socket { self.new ≡ spec.queued remote message.now self.old }
+        ensures socket { self.new ≡ spec.socket_after_send remote message.now self.old }
     {
         self.buffers.send(remote, message)
     }
@@ -162,7 +162,7 @@ impl<L: Drop> SocketOf<L> {
     /// The first message to be sent, if it is an echo message and has a source.
     #[inline(always)]
     fn peek<C: SocketContext>(&self, context: &C) -> Option<Packet<'_>>
-        ensures { option_map spec.shown result ≡ spec.offered (C.source_for context.now) self.now }
+        ensures { option_map spec.value_of result ≡ spec.offered_packet (C.source_for context.now) self.now }
     {
         let (remote, message) = self.buffers.first()?;
         let (repr, payload) = parse_echo(remote, message)?;
@@ -178,7 +178,7 @@ impl<L: Drop> SocketOf<L> {
 
     /// Tells the socket whether what it offered is gone: then it is dropped.
     pub fn told(&mut self, gone: bool)
-        ensures { self.new ≡ spec.told gone self.old }
+        ensures { self.new ≡ spec.socket_after_told gone self.old }
     {
         self.buffers.told(gone);
     }
@@ -193,7 +193,7 @@ impl<L: Drop> SocketOf<L> {
     /// so it is if it isn't an echo message of the ICMP of that family. Its checksum isn't tested.
     pub fn offer<C: SocketContext>(&mut self, context: &C) -> Option<Packet<'_>>
         ensures* settles { sem 𝓛 (Settles L.row self.entry (C.source_for context.now)) }
-        ensures value { option_map spec.shown result ≡ spec.offered (C.source_for context.now) self.old }
+        ensures value { option_map spec.value_of result ≡ spec.offered_packet (C.source_for context.now) self.old }
     {
         if self.peek(context).is_none() {
             self.buffers.told(true);

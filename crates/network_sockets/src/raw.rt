@@ -99,7 +99,7 @@ impl<L: Drop> SocketOf<L> {
     /// isn't `summed`. Without room for the packet, it is dropped.
     pub fn process(&mut self, header: &IpRepr, payload: &[u8], summed: bool)
         requires { TellsLength header.now }
-        ensures { self.new ≡ spec.delivered summed header.now payload.now self.old }
+        ensures { self.new ≡ spec.socket_after_delivery summed header.now payload.now self.old }
     {
         match header {
             IpRepr::Ipv4(header) => {
@@ -121,7 +121,7 @@ impl<L: Drop> SocketOf<L> {
 
     /// Drops the packet that `recv` gives, if there is one.
     pub fn done(&mut self)
-        ensures { self.new ≡ spec.read self.old }
+        ensures { self.new ≡ spec.socket_after_done self.old }
     {
         self.buffers.done();
     }
@@ -130,7 +130,7 @@ impl<L: Drop> SocketOf<L> {
     /// as it was.
     pub fn send(&mut self, meta: (), packet: &[u8]) -> Result<(), Full>
         ensures fits { is_ok result ≡ is_room self.old.tx (length packet.now) }
-        ensures socket { self.new ≡ spec.queued packet.now self.old }
+        ensures socket { self.new ≡ spec.socket_after_send packet.now self.old }
     {
         self.buffers.send(meta, packet)
     }
@@ -146,7 +146,7 @@ impl<L: Drop> SocketOf<L> {
     /// The packet that some octets begin with, if it is one of the socket's.
     #[inline(always)]
     fn parse<'p>(&self, octets: &'p [u8]) -> Option<Packet<'p>>
-        ensures { option_map spec.shown result ≡ spec.sent self.now octets.now }
+        ensures { option_map spec.value_of result ≡ spec.packet_to_send self.now octets.now }
     {
         let packet = packet_in(self.version, octets)?;
         if self.protocol.number() == packet.header.next_header().number() {
@@ -159,7 +159,7 @@ impl<L: Drop> SocketOf<L> {
     /// The first packet to be sent, if it is one of the socket's.
     #[inline(always)]
     fn peek(&self) -> Option<Packet<'_>>
-        ensures { option_map spec.shown result ≡ spec.offered self.now }
+        ensures { option_map spec.value_of result ≡ spec.offered_packet self.now }
     {
         let (_, octets) = self.buffers.first()?;
         self.parse(octets)
@@ -167,7 +167,7 @@ impl<L: Drop> SocketOf<L> {
 
     /// Tells the socket whether what it offered is gone: then it is dropped.
     pub fn told(&mut self, gone: bool)
-        ensures { self.new ≡ spec.told gone self.old }
+        ensures { self.new ≡ spec.socket_after_told gone self.old }
     {
         self.buffers.told(gone);
     }
@@ -181,7 +181,7 @@ impl<L: Drop> SocketOf<L> {
     /// version and protocol are dropped, and none is offered; the header's checksum isn't tested.
     pub fn offer(&mut self) -> Option<Packet<'_>>
         ensures* settles { sem 𝓛 (Settles L.row self.entry) }
-        ensures value { option_map spec.shown result ≡ spec.offered self.old }
+        ensures value { option_map spec.value_of result ≡ spec.offered_packet self.old }
     {
         if self.peek().is_none() {
             self.buffers.told(true);
@@ -195,7 +195,7 @@ impl<L: Drop> SocketOf<L> {
 #[inline(always)]
 #[tactic(auto, using(crate::proofs::RawLemmas::is_ipv4_reads, crate::proofs::RawLemmas::reads_is_ipv4, crate::proofs::RawLemmas::is_ipv6_reads, crate::proofs::RawLemmas::reads_is_ipv6))]
 fn packet_in(version: IpVersion, octets: &[u8]) -> Option<Packet<'_>>
-    ensures { option_map spec.shown result ≡ spec.packet_in version octets.now }
+    ensures { option_map spec.value_of result ≡ spec.packet_in version octets.now }
 {
     match version {
         IpVersion::Ipv4 => {

@@ -5,9 +5,9 @@ use Rattle.socket_base.specs.Queue.{Queued}
 use Rattle.transport_sockets.specs.Udp.{UdpSocket}
 
 -- no packet; four fit, with 4096 octets together
-abbrev pub empty : Queued IpEndpoint
-empty = record { packets = []; most = 4; limit = 4096 }
+abbrev pub empty_queue : Queued IpEndpoint
+empty_queue = record { packets = []; most = 4; limit = 4096 }
 
 -- a UDP socket that listens at a port of any address
-abbrev pub listening : ℕ → UdpSocket
-listening port = record { endpoint = record { addr = None; port = port }; hop_limit = 64; rx = empty; tx = empty }
+abbrev pub listening_socket : ℕ → UdpSocket
+listening_socket port = record { endpoint = record { addr = None; port = port }; hop_limit = 64; rx = empty_queue; tx = empty_queue }

@@ -2,9 +2,9 @@
 ghost use Rattle.std.specs.Prelude.{◌≡◌, OnOk, OnErr, Some, IfErr};
 ghost use Rattle.host_machine.specs.Config.{refusal_of};
 ghost use Rattle.net_base.specs.Time.{IsMoment};
-ghost use Rattle.socket_set.specs.SocketSet.{added};
+ghost use Rattle.socket_set.specs.SocketSet.{set_after_add};
 ghost use Rattle.sockets.specs.declared.socket.SocketOf.TheVariants.{Udp};
-ghost use Rattle.script.specs.Sockets.{listening};
+ghost use Rattle.script.specs.Sockets.{listening_socket};
 
 use crate::line::Call;
 use host::drive::{Owner, drive};
@@ -51,7 +51,7 @@ impl Owner for Idle {
 /// Adds a UDP socket that listens at a port of any address. Where memory is refused the set stays as
 /// it was.
 fn add_udp(alloc: Global, sockets: &mut SocketSet<'_>, port: u16) -> Result<(), NoMemory>
-    ensures ok { OnOk result (sockets.new ≡ added sockets.old (Udp (listening port))) }
+    ensures ok { OnOk result (sockets.new ≡ set_after_add sockets.old (Udp (listening_socket port))) }
     ensures err { OnErr result (sockets.new ≡ sockets.old) }
 {
     let endpoint = IpListenEndpoint { addr: None, port };

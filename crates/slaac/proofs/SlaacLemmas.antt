@@ -12,7 +12,7 @@ use Rattle.std.proofs.Math.Bridge.{le_prop}
 use Rattle.std.proofs.lemmas.Bool.{le-leb}
 use Rattle.ip_address.specs.declared.ipv6.Ipv6Address.{Ipv6Address}
 use Rattle.ip_address.specs.declared.cidr.Ipv6Cidr.{Ipv6Cidr}
-use Rattle.slaac.specs.Instants.{sooner}
+use Rattle.slaac.specs.Instants.{earlier_of}
 use Rattle.slaac.specs.Slaac.{cidr_by, cidr_from}
 
 -- a test that came out so, and what it says
@@ -42,11 +42,11 @@ isn_t_before_of x y l = by (is_lt (int_cmp x y)) refl where
   by true e = absurd (let m = before_by x y e in omega (arith, ints))
   by false e = e
 
-sooner_none : (a : Option ℤ) → sooner a None ≡ a
+sooner_none : (a : Option ℤ) → earlier_of a None ≡ a
 sooner_none None = refl
 sooner_none (Some a) = refl
 
-of_three : (a b c : ℤ) (p q : Bool) → is_lt (int_cmp b a) ≡ p → is_lt (int_cmp c b) ≡ q → sooner (Some a) (sooner (Some b) (Some c)) ≡ sooner (sooner (Some a) (Some b)) (Some c)
+of_three : (a b c : ℤ) (p q : Bool) → is_lt (int_cmp b a) ≡ p → is_lt (int_cmp c b) ≡ q → earlier_of (Some a) (earlier_of (Some b) (Some c)) ≡ earlier_of (earlier_of (Some a) (Some b)) (Some c)
 of_three a b c true true p q =
     let r : is_lt (int_cmp c a) ≡ true = is_before_of c a (let m = before_by b a p in let n = before_by c b q in omega (arith, ints)) in rw (p, q, r) refl
 of_three a b c true false p q = rw (p, q, p) refl
@@ -54,10 +54,10 @@ of_three a b c false true p q = rw (p, q) refl
 of_three a b c false false p q =
     let r : is_lt (int_cmp c a) ≡ false = isn_t_before_of c a (let m = not_before b a p in let n = not_before c b q in omega (arith, ints)) in rw (p, q, p, r) refl
 
-pub sooner_assoc : (a b c : Option ℤ) → sooner a (sooner b c) ≡ sooner (sooner a b) c
+pub sooner_assoc : (a b c : Option ℤ) → earlier_of a (earlier_of b c) ≡ earlier_of (earlier_of a b) c
 sooner_assoc None b c = refl
 sooner_assoc (Some a) None c = refl
-sooner_assoc (Some a) (Some b) None = sym (sooner_none (sooner (Some a) (Some b)))
+sooner_assoc (Some a) (Some b) None = sym (sooner_none (earlier_of (Some a) (Some b)))
 sooner_assoc (Some a) (Some b) (Some c) = of_three a b c (is_lt (int_cmp b a)) (is_lt (int_cmp c b)) refl refl
 
 -- a network whose length is in range, whatever shows that

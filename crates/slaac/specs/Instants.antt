@@ -3,12 +3,12 @@ use Rattle.std.specs.Prelude.{ℤ, List, [], ◌∷◌, Option, Some, None, if�
 use Rattle.std.specs.Ordering.{int_cmp, is_lt}
 
 -- the sooner of two instants, where none is later than each
-abbrev pub sooner : Option ℤ → Option ℤ → Option ℤ
-sooner None b = b
-sooner (Some a) None = Some a
-sooner (Some a) (Some b) = if is_lt (int_cmp b a) then Some b else Some a
+abbrev pub earlier_of : Option ℤ → Option ℤ → Option ℤ
+earlier_of None b = b
+earlier_of (Some a) None = Some a
+earlier_of (Some a) (Some b) = if is_lt (int_cmp b a) then Some b else Some a
 
 -- the least of instants, or none where there are none
-abbrev pub least : List ℤ → Option ℤ
-least [] = None
-least (x ∷ xs) = sooner (Some x) (least xs)
+abbrev pub earliest_of : List ℤ → Option ℤ
+earliest_of [] = None
+earliest_of (x ∷ xs) = earlier_of (Some x) (earliest_of xs)

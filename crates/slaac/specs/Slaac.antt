@@ -9,7 +9,7 @@ use Rattle.ip_address.specs.declared.ipv6.Ipv6Address.{Ipv6Address}
 use Rattle.ip_address.specs.declared.cidr.Ipv6Cidr.{Ipv6Cidr}
 use Rattle.icmpv6_wire.specs.declared.prefix_information.NdiscPrefixInformation.{NdiscPrefixInformation}
 use Rattle.icmpv6_wire.specs.PrefixInformation.{is_for_addresses, is_valid_prefix_info}
-use Rattle.slaac.specs.Instants.{sooner, least}
+use Rattle.slaac.specs.Instants.{earlier_of, earliest_of}
 use Rattle.slaac.specs.declared.slaac.Phase.{Phase}
 use Rattle.slaac.specs.declared.slaac.Phase.TheVariants as phase
 use Rattle.slaac.specs.declared.slaac.PrefixInfo.{PrefixInfo}
@@ -17,7 +17,7 @@ use Rattle.slaac.specs.declared.slaac.Prefix.{Prefix}
 use Rattle.slaac.specs.declared.slaac.Route.{Route}
 
 -- the prefixes and the routers that are known, how far the search for routers is, when the next solicitation may go and how many are left, and whether what is known changed
-pub record Learnt : Type 0 where
+pub record SlaacState : Type 0 where
   pub prefixes : List Prefix
   pub routers : List Route
   pub phase : Phase
@@ -26,8 +26,8 @@ pub record Learnt : Type 0 where
   pub changed : Bool
 
 -- at first nothing is known, and three solicitations may go, the first one at once (RFC 4861 6.3.7, 10)
-abbrev pub nothing : Learnt
-nothing = record { prefixes = []; routers = []; phase = phase.Start; retry_at = pos 0; left = 3; changed = false }
+abbrev pub initial_state : SlaacState
+initial_state = record { prefixes = []; routers = []; phase = phase.Start; retry_at = pos 0; left = 3; changed = false }
 
 -- whether what has this end holds at t: at its end it is over (RFC 4862 5.5.4)
 abbrev pub is_before : ℤ → ℤ → Bool
@@ -42,12 +42,12 @@ abbrev pub is_of : Ipv6Cidr → Prefix → Bool
 is_of c p = is_same p.cidr c
 
 -- where a prefix stands, or the length
-abbrev pub prefix_place : List Prefix → Ipv6Cidr → ℕ
-prefix_place ps c = position_or_len (is_of c) ps
+abbrev pub prefix_index : List Prefix → Ipv6Cidr → ℕ
+prefix_index ps c = position_or_len (is_of c) ps
 
 -- whether a prefix is known
 abbrev pub knows_prefix : List Prefix → Ipv6Cidr → Bool
-knows_prefix ps c = nat_lt (prefix_place ps c) (length ps)
+knows_prefix ps c = nat_lt (prefix_index ps c) (length ps)
 
 -- whether there is no room for another prefix: there is for two
 abbrev pub is_prefix_full : List Prefix → Bool
@@ -85,12 +85,12 @@ abbrev pub makes_addresses : NdiscPrefixInformation → Bool
 makes_addresses p = is_valid_prefix_info p && is_for_addresses p.flags && ((p.valid_lifetime == 0) || not (is_link_local p.prefix))
 
 -- the prefix of which something is learnt, if any: one of which addresses may be made, of at most 128 bits
-abbrev pub prefix_learnt : NdiscPrefixInformation → Option Ipv6Cidr
-prefix_learnt p = if makes_addresses p then cidr_from p.prefix p.prefix_len else None
+abbrev pub advertised_prefix : NdiscPrefixInformation → Option Ipv6Cidr
+advertised_prefix p = if makes_addresses p then cidr_from p.prefix p.prefix_len else None
 
 -- the prefixes where the ends of a known one are these
 abbrev pub with_info : List Prefix → Ipv6Cidr → PrefixInfo → List Prefix
-with_info ps c info = slice_set ps (prefix_place ps c) (record { cidr = c; info = info })
+with_info ps c info = slice_set ps (prefix_index ps c) (record { cidr = c; info = info })
 
 -- the prefixes with one that holds: a new one goes behind the others, or is ignored where there is no room
 abbrev pub with_prefix : List Prefix → Ipv6Cidr → PrefixInfo → List Prefix
@@ -98,17 +98,17 @@ with_prefix ps c info =
     if knows_prefix ps c then with_info ps c info else if is_prefix_full ps then ps else ps ++ record { cidr = c; info = info } ∷ []
 
 -- the prefixes where one, if known, is withdrawn
-abbrev pub withdrawn : List Prefix → Ipv6Cidr → List Prefix
-withdrawn ps c = if knows_prefix ps c then with_info ps c info_withdrawn else ps
+abbrev pub prefixes_after_withdrawal : List Prefix → Ipv6Cidr → List Prefix
+prefixes_after_withdrawal ps c = if knows_prefix ps c then with_info ps c info_withdrawn else ps
 
 -- what an advertised prefix leaves of the prefixes: a lifetime of zero withdraws it, another sets its ends (RFC 4862 5.5.3)
 abbrev pub prefixes_by : Option Ipv6Cidr → List Prefix → NdiscPrefixInformation → ℤ → List Prefix
 prefixes_by None ps p t = ps
-prefixes_by (Some c) ps p t = if p.valid_lifetime == 0 then withdrawn ps c else with_prefix ps c (info_from p t)
+prefixes_by (Some c) ps p t = if p.valid_lifetime == 0 then prefixes_after_withdrawal ps c else with_prefix ps c (info_from p t)
 
 abbrev pub prefixes_after : Option NdiscPrefixInformation → List Prefix → ℤ → List Prefix
 prefixes_after None ps t = ps
-prefixes_after (Some p) ps t = prefixes_by (prefix_learnt p) ps p t
+prefixes_after (Some p) ps t = prefixes_by (advertised_prefix p) ps p t
 
 -- whether an advertised prefix is news: a known one is withdrawn, or a new one finds room. A renewal is none
 abbrev pub is_prefix_news_by : Option Ipv6Cidr → List Prefix → NdiscPrefixInformation → Bool
@@ -117,7 +117,7 @@ is_prefix_news_by (Some c) ps p = if p.valid_lifetime == 0 then knows_prefix ps 
 
 abbrev pub is_prefix_news : Option NdiscPrefixInformation → List Prefix → Bool
 is_prefix_news None ps = false
-is_prefix_news (Some p) ps = is_prefix_news_by (prefix_learnt p) ps p
+is_prefix_news (Some p) ps = is_prefix_news_by (advertised_prefix p) ps p
 
 -- ::/0, the network of all addresses
 abbrev pub whole : Ipv6Cidr
@@ -132,12 +132,12 @@ abbrev pub is_same_route : Ipv6Cidr → Ipv6Address → Route → Bool
 is_same_route c router r = is_same r.cidr c && (r.via_router.bits == router.bits)
 
 -- where the default route by a router stands, or the length
-abbrev pub router_place : List Route → Ipv6Address → ℕ
-router_place rs router = position_or_len (is_same_route whole router) rs
+abbrev pub router_index : List Route → Ipv6Address → ℕ
+router_index rs router = position_or_len (is_same_route whole router) rs
 
 -- whether a router is known
 abbrev pub knows_router : List Route → Ipv6Address → Bool
-knows_router rs router = nat_lt (router_place rs router) (length rs)
+knows_router rs router = nat_lt (router_index rs router) (length rs)
 
 -- whether there is no room for another router
 abbrev pub is_router_full : List Route → Bool
@@ -149,7 +149,7 @@ is_route_valid t r = is_before t r.valid_until
 
 -- the routers where the end of a known one is this
 abbrev pub with_end : List Route → Ipv6Address → ℤ → List Route
-with_end rs router end = slice_set rs (router_place rs router) (default_route router end)
+with_end rs router end = slice_set rs (router_index rs router) (default_route router end)
 
 -- the routers with one that may be taken: a new one goes behind the others, if there is room
 abbrev pub with_router : List Route → Ipv6Address → ℤ → List Route
@@ -170,34 +170,34 @@ abbrev pub is_router_news : List Route → Ipv6Address → ℕ → Bool
 is_router_news rs router lifetime = if lifetime == 0 then knows_router rs router else not (knows_router rs router)
 
 -- an answer ends the search for routers (RFC 4861 6.3.7)
-abbrev pub answered : Phase → Phase
-answered phase.Start = phase.Start
-answered phase.Discovering = phase.Maintaining
-answered phase.Maintaining = phase.Maintaining
-answered phase.None = phase.None
+abbrev pub phase_after_answer : Phase → Phase
+phase_after_answer phase.Start = phase.Start
+phase_after_answer phase.Discovering = phase.Maintaining
+phase_after_answer phase.Maintaining = phase.Maintaining
+phase_after_answer phase.None = phase.None
 
 -- what an advertisement leaves that a router sent, with the lifetime of its route and maybe a prefix, at t
-abbrev pub advertised : Learnt → Ipv6Address → ℕ → Option NdiscPrefixInformation → ℤ → Learnt
-advertised s router lifetime prefix t = record {
+abbrev pub slaac_after_message : SlaacState → Ipv6Address → ℕ → Option NdiscPrefixInformation → ℤ → SlaacState
+slaac_after_message s router lifetime prefix t = record {
   prefixes = prefixes_after prefix s.prefixes t;
   routers = routers_after s.routers router lifetime t;
-  phase = answered s.phase;
+  phase = phase_after_answer s.phase;
   retry_at = s.retry_at;
   left = s.left;
   changed = s.changed || is_prefix_news prefix s.prefixes || is_router_news s.routers router lifetime;
 }
 
 -- whether something that is known has ended by t
-abbrev pub has_ended : Learnt → ℤ → Bool
+abbrev pub has_ended : SlaacState → ℤ → Bool
 has_ended s t = list_any (λ p. not (is_prefix_valid t p)) s.prefixes || list_any (λ r. not (is_route_valid t r)) s.routers
 
 -- whether addresses and routes have to be brought into line: what is known changed, or some of it has ended
-abbrev pub sync_required : Learnt → ℤ → Bool
+abbrev pub sync_required : SlaacState → ℤ → Bool
 sync_required s t = s.changed || has_ended s t
 
 -- what is left once they are in line: what holds at t, in its order
-abbrev pub updated : Learnt → ℤ → Learnt
-updated s t = record s { prefixes = filter (is_prefix_valid t) s.prefixes; routers = filter (is_route_valid t) s.routers; changed = false }
+abbrev pub slaac_after_update : SlaacState → ℤ → SlaacState
+slaac_after_update s t = record s { prefixes = filter (is_prefix_valid t) s.prefixes; routers = filter (is_route_valid t) s.routers; changed = false }
 
 -- whether routers are searched for
 abbrev pub is_searching : Phase → Bool
@@ -207,23 +207,23 @@ is_searching phase.Maintaining = false
 is_searching phase.None = false
 
 -- whether routers are searched for, and the time of the next solicitation has come
-abbrev pub is_its_time : Learnt → ℤ → Bool
+abbrev pub is_its_time : SlaacState → ℤ → Bool
 is_its_time s t = is_searching s.phase && is_le (int_cmp s.retry_at t)
 
 -- whether a solicitation is to go at t (RFC 4861 6.3.7)
-abbrev pub rs_required : Learnt → ℤ → Bool
+abbrev pub rs_required : SlaacState → ℤ → Bool
 rs_required s t = is_its_time s t && nat_lt 0 s.left
 
 -- a solicitation went at t: one less is left, and the next may go after 4 s (RFC 4861 6.3.7, 10)
-abbrev pub solicited : Learnt → ℤ → Learnt
-solicited s t = record s { phase = phase.Discovering; retry_at = t +ℤ pos 4000000; left = s.left - 1 }
+abbrev pub slaac_after_sent : SlaacState → ℤ → SlaacState
+slaac_after_sent s t = record s { phase = phase.Discovering; retry_at = t +ℤ pos 4000000; left = s.left - 1 }
 
 -- what is left where a solicitation went at t. Where its time hadn't come nothing changes, and where none was left the search ends
-abbrev pub rs_sent : Learnt → ℤ → Learnt
-rs_sent s t = if is_its_time s t then if s.left == 0 then record s { phase = phase.None } else solicited s t else s
+abbrev pub rs_sent : SlaacState → ℤ → SlaacState
+rs_sent s t = if is_its_time s t then if s.left == 0 then record s { phase = phase.None } else slaac_after_sent s t else s
 
 -- when the next solicitation may go, if one may
-abbrev pub retry_at : Learnt → Option ℤ
+abbrev pub retry_at : SlaacState → Option ℤ
 retry_at s = if is_searching s.phase && nat_lt 0 s.left then Some s.retry_at else None
 
 -- the ends behind t of what is known
@@ -234,9 +234,9 @@ abbrev pub route_ends : List Route → ℤ → List ℤ
 route_ends rs t = filter (is_before t) (map (λ (r : Route). r.valid_until) rs)
 
 -- the least of them, if there are any
-abbrev pub end_at : Learnt → ℤ → Option ℤ
-end_at s t = sooner (least (prefix_ends s.prefixes t)) (least (route_ends s.routers t))
+abbrev pub end_at : SlaacState → ℤ → Option ℤ
+end_at s t = earlier_of (earliest_of (prefix_ends s.prefixes t)) (earliest_of (route_ends s.routers t))
 
 -- when something is to be done next, as it is seen at t
-abbrev pub poll_at : Learnt → ℤ → Option ℤ
-poll_at s t = sooner (retry_at s) (end_at s t)
+abbrev pub poll_at : SlaacState → ℤ → Option ℤ
+poll_at s t = earlier_of (retry_at s) (end_at s t)

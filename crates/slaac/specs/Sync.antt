@@ -55,12 +55,12 @@ abbrev pub is_route : Route → StoredRoute → Bool
 is_route r s = leads_as r s.cidr s.via_router
 
 -- a route as it is stored: for good, until it is taken away
-abbrev pub stored : Route → StoredRoute
-stored r = record { cidr = Ipv6 r.cidr; via_router = address.Ipv6 r.via_router; preferred_until = None; expires_at = None }
+abbrev pub stored_route : Route → StoredRoute
+stored_route r = record { cidr = Ipv6 r.cidr; via_router = address.Ipv6 r.via_router; preferred_until = None; expires_at = None }
 
 -- a route more: one that isn't there yet, while there is room for it
 abbrev pub with_route : Route → List StoredRoute → List StoredRoute
-with_route r routes = if list_any (is_route r) routes then routes else if nat_le 4 (length routes) then routes else routes ++ stored r ∷ []
+with_route r routes = if list_any (is_route r) routes then routes else if nat_le 4 (length routes) then routes else routes ++ stored_route r ∷ []
 
 -- the routes and each that holds at t, behind them and in order
 abbrev pub with_routes : ℤ → List Route → List StoredRoute → List StoredRoute

@@ -5,8 +5,8 @@ ghost use Rattle.slaac.specs.Instants as spec;
 use net_base::time::Instant;
 
 /// The sooner of two instants, where none is later than each.
-pub fn sooner(a: Option<Instant>, b: Option<Instant>) -> Option<Instant>
-    ensures { result ≡ spec.sooner a b }
+pub fn earlier_of(a: Option<Instant>, b: Option<Instant>) -> Option<Instant>
+    ensures { result ≡ spec.earlier_of a b }
 {
     let Some(first) = a else {
         return b;

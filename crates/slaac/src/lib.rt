@@ -6,5 +6,5 @@ pub mod instants;
 pub mod slaac;
 pub mod sync;
 
-pub use instants::sooner;
+pub use instants::earlier_of;
 pub use slaac::{Phase, Slaac};

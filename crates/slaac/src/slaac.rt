@@ -4,13 +4,13 @@ ghost use Rattle.std.specs.Prelude.{◌≡◌, ◌+◌, ◌<◌, ◌≤◌, ◌|
 ghost use Rattle.std.specs.List.{list_any, filter};
 ghost use Rattle.net_base.specs.Time.{IsMoment};
 ghost use Rattle.slaac.specs.Slaac as spec;
-ghost use Rattle.slaac.specs.Slaac.{is_before, is_same, is_prefix_valid, is_route_valid, knows_prefix, knows_router, prefix_learnt};
-ghost use Rattle.slaac.specs.Instants.{least};
-ghost use Rattle.slaac.specs.Slaac.{prefix_ends, route_ends, IsLifetime, default_route, whole, with_prefix, withdrawn};
+ghost use Rattle.slaac.specs.Slaac.{is_before, is_same, is_prefix_valid, is_route_valid, knows_prefix, knows_router, advertised_prefix};
+ghost use Rattle.slaac.specs.Instants.{earliest_of};
+ghost use Rattle.slaac.specs.Slaac.{prefix_ends, route_ends, IsLifetime, default_route, whole, with_prefix, prefixes_after_withdrawal};
 ghost use Rattle.slaac.specs.Slaac.{prefixes_after, is_prefix_news, routers_after, is_router_news, with_router, with_end};
-ghost use Rattle.slaac.specs.Slaac.{prefix_place, router_place, advertised, updated, nothing, info_from, info_withdrawn};
+ghost use Rattle.slaac.specs.Slaac.{prefix_index, router_index, slaac_after_message, slaac_after_update, initial_state, info_from, info_withdrawn};
 
-use crate::instants::sooner;
+use crate::instants::earlier_of;
 use arrayvec::ArrayVec;
 use bitflags::Flags;
 use icmpv6_wire::{NdiscPrefixInfoFlags, NdiscPrefixInformation};
@@ -169,9 +169,9 @@ pub struct Slaac {
 }
 
 impl Model for Slaac {
-    ghost use Rattle.slaac.specs.Slaac.{Learnt};
+    ghost use Rattle.slaac.specs.Slaac.{SlaacState};
 
-    ghost Value = { Learnt };
+    ghost Value = { SlaacState };
 
     ghost view = { λ s. record { prefixes = s.prefix.items; routers = s.routes.items; phase = s.phase; retry_at = s.retry_rs_at; left = s.num_solicitations; changed = s.sync_required } };
 }
@@ -179,7 +179,7 @@ impl Model for Slaac {
 impl Slaac {
     /// Nothing is known, and three solicitations may be sent, the first one from moment 0 on.
     pub fn new() -> Slaac
-        ensures { result ≡ nothing }
+        ensures { result ≡ initial_state }
     {
         Slaac {
             prefix: ArrayVec::new(),
@@ -240,12 +240,12 @@ impl Slaac {
     )
         requires router { IsLifetime router_lifetime }
         requires moment { IsMoment now }
-        ensures { self.new ≡ advertised self.old source.now router_lifetime prefix now }
+        ensures { self.new ≡ slaac_after_message self.old source.now router_lifetime prefix now }
     {
         let is_prefix_news = process_prefix(&mut self.prefix, prefix, now);
         let is_router_news = process_router(&mut self.routes, source, router_lifetime, now);
         self.sync_required = self.sync_required || is_prefix_news || is_router_news;
-        self.phase = answered(self.phase);
+        self.phase = phase_after_answer(self.phase);
     }
 
     /// Whether addresses and routes have to be brought into line with what is known: that changed, or
@@ -260,7 +260,7 @@ impl Slaac {
 
     /// Addresses and routes are in line: forgets what has ended.
     pub fn update_slaac_state(&mut self, now: Instant)
-        ensures { self.new ≡ updated self.old now }
+        ensures { self.new ≡ slaac_after_update self.old now }
     {
         self.prefix = valid_prefixes(self.prefix.as_slice(), now);
         self.routes = valid_routes(self.routes.as_slice(), now);
@@ -304,7 +304,7 @@ impl Slaac {
     pub fn poll_at(&self, now: Instant) -> Option<Instant>
         ensures { result ≡ spec.poll_at self.now now }
     {
-        sooner(self.retry_at(), self.end_at(now))
+        earlier_of(self.retry_at(), self.end_at(now))
     }
 
     /// The least end behind now of what is known, if there is one.
@@ -313,7 +313,7 @@ impl Slaac {
     {
         let prefix_end = least_prefix_end(self.prefix.as_slice(), now);
         let route_end = least_route_end(self.routes.as_slice(), now);
-        sooner(prefix_end, route_end)
+        earlier_of(prefix_end, route_end)
     }
 
     /// When the next solicitation may be sent, if one may. The moment may have passed.
@@ -355,8 +355,8 @@ fn is_searching(phase: Phase) -> bool
 }
 
 // Where the search is after an advertisement.
-fn answered(phase: Phase) -> Phase
-    ensures { result ≡ spec.answered phase }
+fn phase_after_answer(phase: Phase) -> Phase
+    ensures { result ≡ spec.phase_after_answer phase }
 {
     match phase {
         Phase::Start => Phase::Start,
@@ -379,8 +379,8 @@ fn cidr_from(address: Ipv6Address, prefix_len: u8) -> Option<Ipv6Cidr>
 }
 
 // The prefix of which something is learnt, if any.
-fn prefix_learnt(prefix: &NdiscPrefixInformation) -> Option<Ipv6Cidr>
-    ensures { result ≡ prefix_learnt prefix.now }
+fn advertised_prefix(prefix: &NdiscPrefixInformation) -> Option<Ipv6Cidr>
+    ensures { result ≡ advertised_prefix prefix.now }
 {
     if !prefix.is_valid_prefix_info() || !prefix.flags.contains(NdiscPrefixInfoFlags::ADDRCONF) {
         return None;
@@ -392,8 +392,8 @@ fn prefix_learnt(prefix: &NdiscPrefixInformation) -> Option<Ipv6Cidr>
 }
 
 // Where a prefix stands, or the length.
-fn prefix_place(prefixes: &[Prefix], cidr: &Ipv6Cidr) -> usize
-    ensures { result ≡ prefix_place prefixes.now cidr.now }
+fn prefix_index(prefixes: &[Prefix], cidr: &Ipv6Cidr) -> usize
+    ensures { result ≡ prefix_index prefixes.now cidr.now }
 {
     for (i, prefix) in prefixes.iter().enumerate() {
         if is_same(&prefix.cidr, cidr) {
@@ -404,8 +404,8 @@ fn prefix_place(prefixes: &[Prefix], cidr: &Ipv6Cidr) -> usize
 }
 
 // Where the default route by a router stands, or the length.
-fn router_place(routes: &[Route], router: &Ipv6Address) -> usize
-    ensures { result ≡ router_place routes.now router.now }
+fn router_index(routes: &[Route], router: &Ipv6Address) -> usize
+    ensures { result ≡ router_index routes.now router.now }
 {
     for (i, route) in routes.iter().enumerate() {
         if route.is_by(router) {
@@ -424,8 +424,8 @@ fn add_prefix(
     ensures prefixes { prefixes.new.items ≡ with_prefix prefixes.old.items cidr info }
     ensures news { result ≡ not (knows_prefix prefixes.old.items cidr || spec.is_prefix_full prefixes.old.items) }
 {
-    let place = prefix_place(prefixes.as_slice(), &cidr);
-    if let Some(known) = prefixes.get_mut(place) {
+    let index = prefix_index(prefixes.as_slice(), &cidr);
+    if let Some(known) = prefixes.get_mut(index) {
         *known = Prefix { cidr, info };
         return false;
     }
@@ -438,11 +438,11 @@ fn add_prefix(
 
 // A prefix that is withdrawn. Gives whether it was known.
 fn expire_prefix(prefixes: &mut ArrayVec<Prefix, IFACE_MAX_PREFIX_COUNT>, cidr: Ipv6Cidr) -> bool
-    ensures prefixes { prefixes.new.items ≡ withdrawn prefixes.old.items cidr }
+    ensures prefixes { prefixes.new.items ≡ prefixes_after_withdrawal prefixes.old.items cidr }
     ensures news { result ≡ knows_prefix prefixes.old.items cidr }
 {
-    let place = prefix_place(prefixes.as_slice(), &cidr);
-    if let Some(known) = prefixes.get_mut(place) {
+    let index = prefix_index(prefixes.as_slice(), &cidr);
+    if let Some(known) = prefixes.get_mut(index) {
         *known = Prefix {
             cidr,
             info: PrefixInfo::withdrawn(),
@@ -465,7 +465,7 @@ fn process_prefix(
     let Some(prefix) = prefix else {
         return false;
     };
-    let Some(cidr) = prefix_learnt(&prefix) else {
+    let Some(cidr) = advertised_prefix(&prefix) else {
         return false;
     };
     if prefix.valid_lifetime > 0 {
@@ -483,8 +483,8 @@ fn add_route(
     ensures routes { routes.new.items ≡ with_router routes.old.items router.now valid_until }
     ensures news { result ≡ not (knows_router routes.old.items router.now) }
 {
-    let place = router_place(routes.as_slice(), router);
-    if let Some(known) = routes.get_mut(place) {
+    let index = router_index(routes.as_slice(), router);
+    if let Some(known) = routes.get_mut(index) {
         *known = Route::by_default(*router, valid_until);
         return false;
     }
@@ -499,8 +499,8 @@ fn expire_route(routes: &mut ArrayVec<Route, IFACE_MAX_ROUTE_COUNT>, router: &Ip
     ensures routes { routes.new.items ≡ spec.without_router routes.old.items router.now }
     ensures news { result ≡ knows_router routes.old.items router.now }
 {
-    let place = router_place(routes.as_slice(), router);
-    if let Some(known) = routes.get_mut(place) {
+    let index = router_index(routes.as_slice(), router);
+    if let Some(known) = routes.get_mut(index) {
         *known = Route::by_default(*router, Instant::ZERO);
         return true;
     }
@@ -579,12 +579,12 @@ fn valid_routes(routes: &[Route], now: Instant) -> ArrayVec<Route, IFACE_MAX_ROU
 
 // The least end behind now of a prefix, if there is one.
 fn least_prefix_end(prefixes: &[Prefix], now: Instant) -> Option<Instant>
-    ensures { result ≡ least (prefix_ends prefixes.now now) }
+    ensures { result ≡ earliest_of (prefix_ends prefixes.now now) }
 {
     let mut least = None;
     for prefix in prefixes {
         if prefix.info.is_valid(now) {
-            least = sooner(least, Some(prefix.info.valid_until));
+            least = earlier_of(least, Some(prefix.info.valid_until));
         }
     }
     least
@@ -592,12 +592,12 @@ fn least_prefix_end(prefixes: &[Prefix], now: Instant) -> Option<Instant>
 
 // The least end behind now of a route, if there is one.
 fn least_route_end(routes: &[Route], now: Instant) -> Option<Instant>
-    ensures { result ≡ least (route_ends routes.now now) }
+    ensures { result ≡ earliest_of (route_ends routes.now now) }
 {
     let mut least = None;
     for route in routes {
         if route.is_valid(now) {
-            least = sooner(least, Some(route.valid_until));
+            least = earlier_of(least, Some(route.valid_until));
         }
     }
     least

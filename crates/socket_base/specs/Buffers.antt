@@ -1,6 +1,6 @@
 -- What each socket holds: the packets that wait to be read, and those that wait to be sent.
 use Rattle.std.specs.Prelude.{Bool, cond, is_none, List, ℕ}
-use Rattle.socket_base.specs.Queue.{Queued, first_of, put, popped}
+use Rattle.socket_base.specs.Queue.{Queued, first_of, put, queue_after_pop}
 use Rattle.socket_base.specs.declared.poll_at.PollAt.{PollAt}
 use Rattle.socket_base.specs.declared.poll_at.PollAt.TheVariants.{Ingress}
 
@@ -11,20 +11,20 @@ pub record Buffered (M : Type 0) : Type 0 where
 
 module _ {M : Type 0} where
   -- a packet has come
-  abbrev pub delivered : M → List ℕ → Buffered M → Buffered M
-  delivered m octets b = record b { rx = put b.rx m octets }
+  abbrev pub buffers_after_delivery : M → List ℕ → Buffered M → Buffered M
+  buffers_after_delivery m octets b = record b { rx = put b.rx m octets }
 
   -- the first one that came was read
-  abbrev pub read : Buffered M → Buffered M
-  read b = record b { rx = popped b.rx }
+  abbrev pub buffers_after_done : Buffered M → Buffered M
+  buffers_after_done b = record b { rx = queue_after_pop b.rx }
 
   -- a packet is to be sent
-  abbrev pub queued : M → List ℕ → Buffered M → Buffered M
-  queued m octets b = record b { tx = put b.tx m octets }
+  abbrev pub buffers_after_send : M → List ℕ → Buffered M → Buffered M
+  buffers_after_send m octets b = record b { tx = put b.tx m octets }
 
   -- what being told leaves: the first one to be sent is gone, or not
-  abbrev pub told : Bool → Buffered M → Buffered M
-  told is_gone b = cond is_gone (record b { tx = popped b.tx }) b
+  abbrev pub buffers_after_told : Bool → Buffered M → Buffered M
+  buffers_after_told is_done b = cond is_done (record b { tx = queue_after_pop b.tx }) b
 
   -- at the moment that is given, if something is to be sent
   abbrev pub poll_at : PollAt → Buffered M → PollAt

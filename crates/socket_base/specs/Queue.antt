@@ -44,5 +44,5 @@ module _ {M : Type 0} where
   put q m octets = record q { packets = cond (is_room q (length octets)) (q.packets ++ (m, octets) ∷ []) q.packets }
 
   -- the queue without its first packet
-  abbrev pub popped : Queued M → Queued M
-  popped q = record q { packets = drop 1 q.packets }
+  abbrev pub queue_after_pop : Queued M → Queued M
+  queue_after_pop q = record q { packets = drop 1 q.packets }

@@ -50,7 +50,7 @@ impl<M: Drop> Buffers<M> {
     /// Takes a packet that came. Without room for it, it is dropped.
     #[inline(always)]
     pub fn process(&mut self, meta: M, octets: &[u8])
-        ensures { self.new ≡ spec.delivered meta octets.now self.old }
+        ensures { self.new ≡ spec.buffers_after_delivery meta octets.now self.old }
     {
         let _ = self.rx.push(meta, octets);
     }
@@ -59,7 +59,7 @@ impl<M: Drop> Buffers<M> {
     /// dropped.
     #[inline(always)]
     pub fn process_parts(&mut self, meta: M, front: &[u8], back: &[u8])
-        ensures { self.new ≡ spec.delivered meta (front.now ++ back.now) self.old }
+        ensures { self.new ≡ spec.buffers_after_delivery meta (front.now ++ back.now) self.old }
     {
         let _ = self.rx.push_parts(meta, front, back);
     }
@@ -74,7 +74,7 @@ impl<M: Drop> Buffers<M> {
 
     /// Drops the packet that `recv` gives, if there is one.
     pub fn done(&mut self)
-        ensures { self.new ≡ spec.read self.old }
+        ensures { self.new ≡ spec.buffers_after_done self.old }
     {
         self.rx.pop();
     }
@@ -83,7 +83,7 @@ impl<M: Drop> Buffers<M> {
     /// were.
     pub fn send(&mut self, meta: M, octets: &[u8]) -> Result<(), Full>
         ensures fits { is_ok result ≡ is_room self.old.tx (length octets.now) }
-        ensures queues { self.new ≡ spec.queued meta octets.now self.old }
+        ensures queues { self.new ≡ spec.buffers_after_send meta octets.now self.old }
     {
         self.tx.push(meta, octets)
     }
@@ -97,7 +97,7 @@ impl<M: Drop> Buffers<M> {
 
     /// Drops the packet that `first` gives, if it is gone.
     pub fn told(&mut self, gone: bool)
-        ensures { self.new ≡ spec.told gone self.old }
+        ensures { self.new ≡ spec.buffers_after_told gone self.old }
     {
         if gone {
             self.tx.pop();

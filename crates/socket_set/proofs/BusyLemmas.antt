@@ -71,7 +71,7 @@ module _ (words : List ℕ) where
 module _ (words : List ℕ) (from at k rest : ℕ) (is : from ≡ 64 * at + k) (bits : (j : ℕ) → bit_at rest j ≡ bit_at (get_or words at 0) (k + j)) where
   -- no bit is left
   pub none_left : (i : ℕ) → at < 16 → rest ≡ 0 → from ≤ i → i < 64 * (at + 1) → IsClear words i
-  none_left i within none behind before =
+  none_left i within none after before =
       let bit : bit_at (get_or words at 0) (k + (i - from)) ≡ 0 = sym (bits (i - from)) ∙ ap (λ (w : ℕ). bit_at w (i - from)) none ∙ bit_at-zero (i - from) in
       record { marked = omega arith; clear = mark_is words i at (k + (i - from)) (omega arith) (omega arith) ∙ bit }
 
@@ -92,7 +92,7 @@ module _ (words : List ℕ) (from at k rest : ℕ) (is : from ≡ 64 * at + k) (
 
   -- the places before it
   pub below_lowest : (i : ℕ) → at < 16 → get_or words at 0 < 2 ^ 64 → 0 < rest → rest < 2 ^ 64 → from ≤ i → i < from + trailing_zeros w64 rest → IsClear words i
-  below_lowest i within fits some rest_fits behind before =
+  below_lowest i within fits some rest_fits after before =
       let lowest = bit_at-trailing_zeros w64 rest some rest_fits in
       let last = lowest_within fits some rest_fits in
       let bit : bit_at (get_or words at 0) (k + (i - from)) ≡ 0 = sym (bits (i - from)) ∙ lowest.2 (i - from) (omega arith) in

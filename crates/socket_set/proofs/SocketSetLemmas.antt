@@ -11,7 +11,7 @@ use Rattle.socket_set.specs.Busy.{IsClear, IsIdle, AreTrue}
 use Rattle.socket_set.specs.Keys.{AllHavePorts, AreKeysOf, key_at}
 use Rattle.socket_set.proofs.KeyLemmas.{Tells, known_there, unknown_there}
 use Rattle.socket_set.specs.SocketMeta.{Wait, after_asking}
-use Rattle.socket_set.specs.SocketSet.{Storage, Sockets, added, first_free, has_free, over, socket_at, wait_at, with_place, with_wait}
+use Rattle.socket_set.specs.SocketSet.{Storage, Sockets, set_after_add, first_free, has_free, over, socket_at, wait_at, with_place, with_wait}
 
 module _ {S : Type 0} where
   -- a socket that stands at a place, put there again
@@ -58,32 +58,32 @@ module _ {L : Type 0} where
 
 module _ {L : Type 0} (grows : Bool) where
   -- a set with one more place in front
-  abbrev behind : Storage L → Sockets L → Sockets L
-  behind q s = record { places = q.socket ∷ s.places; waits = q.wait ∷ s.waits; grows = s.grows }
+  abbrev after : Storage L → Sockets L → Sockets L
+  after q s = record { places = q.socket ∷ s.places; waits = q.wait ∷ s.waits; grows = s.grows }
 
   -- a place replaced
   pub over_set : (ps : List (Storage L)) (i : ℕ) (p : Storage L) → over (slice_set ps i p) grows ≡ with_wait (with_place (over ps grows) i p.socket) i p.wait
   over_set [] i p = refl
   over_set (q ∷ ps) zero p = refl
-  over_set (q ∷ ps) (suc i) p = ap (behind q) (over_set ps i p)
+  over_set (q ∷ ps) (suc i) p = ap (after q) (over_set ps i p)
 
   -- a place more behind all
   pub over_push : (ps : List (Storage L)) (p : Storage L) →
       over (ps ++ p ∷ []) grows ≡ record (over ps grows) { places = (over ps grows).places ++ p.socket ∷ []; waits = (over ps grows).waits ++ p.wait ∷ [] }
   over_push [] p = refl
-  over_push (q ∷ ps) p = ap (behind q) (over_push ps p)
+  over_push (q ∷ ps) p = ap (after q) (over_push ps p)
 
   -- another wait for the socket of a place
   pub wait_set : (ps : List (Storage L)) (i : ℕ) (p : Storage L) (w : Wait) → p ≡ get_or ps i p → over (slice_set ps i (record { socket = p.socket; wait = w })) grows ≡ with_wait (over ps grows) i w
   wait_set [] i p w is = refl
   wait_set (q ∷ ps) zero p w is = ap (λ (s : Storage L). over (record { socket = s.socket; wait = w } ∷ ps) grows) is
-  wait_set (q ∷ ps) (suc i) p w is = ap (behind q) (wait_set ps i p w is)
+  wait_set (q ∷ ps) (suc i) p w is = ap (after q) (wait_set ps i p w is)
 
   -- another socket at a place, or none
   pub place_set : (ps : List (Storage L)) (i : ℕ) (p : Storage L) (s : Option (SocketOf L)) → p ≡ get_or ps i p → over (slice_set ps i (record { socket = s; wait = p.wait })) grows ≡ with_place (over ps grows) i s
   place_set [] i p s is = refl
   place_set (q ∷ ps) zero p s is = ap (λ (t : Storage L). over (record { socket = s; wait = t.wait } ∷ ps) grows) is
-  place_set (q ∷ ps) (suc i) p s is = ap (behind q) (place_set ps i p s is)
+  place_set (q ∷ ps) (suc i) p s is = ap (after q) (place_set ps i p s is)
 
   -- a place as it was, put there again
   pub put_again : (ps : List (Storage L)) (i : ℕ) (p : Storage L) → p ≡ get_or ps i p → over (slice_set ps i p) grows ≡ over ps grows
@@ -91,15 +91,15 @@ module _ {L : Type 0} (grows : Bool) where
 
   -- a socket at the least free index
   pub added_within : (ps : List (Storage L)) (i : ℕ) (s : SocketOf L) → i ≡ first_free (over ps grows).places → nat_lt i (length ps) ≡ true →
-      over (slice_set ps i (record { socket = Some s; wait = None })) grows ≡ added (over ps grows) s
+      over (slice_set ps i (record { socket = Some s; wait = None })) grows ≡ set_after_add (over ps grows) s
   added_within ps i s is free =
       let same : has_free (over ps grows) ≡ true = rw (← is, length-map) free in
       rw (same, ← is) (over_set ps i (record { socket = Some s; wait = None }))
 
   -- a socket behind all
-  pub added_behind : (ps : List (Storage L)) (i : ℕ) (s : SocketOf L) → i ≡ first_free (over ps grows).places → nat_lt i (length ps) ≡ false →
-      over (ps ++ record { socket = Some s; wait = None } ∷ []) grows ≡ added (over ps grows) s
-  added_behind ps i s is full =
+  pub added_after : (ps : List (Storage L)) (i : ℕ) (s : SocketOf L) → i ≡ first_free (over ps grows).places → nat_lt i (length ps) ≡ false →
+      over (ps ++ record { socket = Some s; wait = None } ∷ []) grows ≡ set_after_add (over ps grows) s
+  added_after ps i s is full =
       let same : has_free (over ps grows) ≡ false = rw (← is, length-map) full in
       rw same (over_push ps (record { socket = Some s; wait = None }))
 
@@ -116,16 +116,16 @@ module _ {L : Type 0} (grows : Bool) where
   wait_is (q ∷ ps) (suc i) p h is = wait_is ps i p (omega arith) is
 
   -- past the places there is no socket
-  pub nobody_past : (ps : List (Storage L)) (i : ℕ) → length ps ≤ i → socket_at (over ps grows) i ≡ None
-  nobody_past [] i h = refl
-  nobody_past (q ∷ ps) zero h = absurd (omega arith)
-  nobody_past (q ∷ ps) (suc i) h = nobody_past ps i (omega arith)
+  pub no_socket_past : (ps : List (Storage L)) (i : ℕ) → length ps ≤ i → socket_at (over ps grows) i ≡ None
+  no_socket_past [] i h = refl
+  no_socket_past (q ∷ ps) zero h = absurd (omega arith)
+  no_socket_past (q ∷ ps) (suc i) h = no_socket_past ps i (omega arith)
 
   -- and no place to write to
   pub wait_past : (ps : List (Storage L)) (i : ℕ) (w : Wait) → length ps ≤ i → with_wait (over ps grows) i w ≡ over ps grows
   wait_past [] i w h = refl
   wait_past (q ∷ ps) zero w h = absurd (omega arith)
-  wait_past (q ∷ ps) (suc i) w h = ap (behind q) (wait_past ps i w (omega arith))
+  wait_past (q ∷ ps) (suc i) w h = ap (after q) (wait_past ps i w (omega arith))
 
   -- a place that wasn't written is as idle as before
   idle_other : (ps : List (Storage L)) (k : ℕ) (p : Storage L) (i : ℕ) → i ≢ k → IsIdle (over ps grows) i → IsIdle (over (slice_set ps k p) grows) i
@@ -224,7 +224,7 @@ module _ {L : Type 0} (grows : Bool) where
   keyed_at_first ps keys unknown i known = by (cases_lt i (length ps)) where
     by : ((i < length ps) ⊎ (length ps ≤ i)) → Tells (key_at keys i) (socket_at (over ps grows) i)
     by (inl within) = absurd (known (unknown i within))
-    by (inr past) = subst (Tells (key_at keys i)) (sym (nobody_past ps i past)) tt
+    by (inr past) = subst (Tells (key_at keys i)) (sym (no_socket_past ps i past)) tt
 
   -- they stay true where a place is written of which nothing is known any more
   pub keyed_written : (ps : List (Storage L)) (keys : List ℕ) (k : ℕ) (p : Storage L) → AreKeysOf keys (over ps grows) → AreKeysOf (slice_set keys k 0) (over (slice_set ps k p) grows)
@@ -306,7 +306,7 @@ module _ {L : Type 0} (grows : Bool) where
   all_ported ps n all before i = by (cases_lt i n) where
     by : ((i < n) ⊎ (n ≤ i)) → HasPort (socket_at (over ps grows) i)
     by (inl within) = before i within
-    by (inr past) = subst HasPort (sym (nobody_past ps i (omega (arith, all, past)))) tt
+    by (inr past) = subst HasPort (sym (no_socket_past ps i (omega (arith, all, past)))) tt
 
 -- a kind that has ports still has them
 pub kept_port : {L : Type 0} (place : Option (SocketOf L)) (new old : SocketOf L) → place ≡ Some old → IfSome place (λ s. is_some (own_port new) ≡ is_some (own_port s)) → HasPort true place → own_port new ≢ None

@@ -12,9 +12,9 @@ abbrev pub Wait : Type 0
 Wait = Option (IpAddress × ℤ)
 
 -- known is what is told of the neighbour that is waited for
-abbrev pub IsTold : (IpAddress → Bool → Type 0) → Wait → Bool → Type 0
-IsTold told None known = Unit {0}
-IsTold told (Some wait) known = told wait.0 known
+abbrev pub IsAnswerFor : (IpAddress → Bool → Type 0) → Wait → Bool → Type 0
+IsAnswerFor told None known = Unit {0}
+IsAnswerFor told (Some wait) known = told wait.0 known
 
 -- whether the socket may send at t: it doesn't wait, the neighbour is known, or the end has come
 abbrev pub is_permitted : Wait → Bool → ℤ → Bool

@@ -53,8 +53,8 @@ module _ {L : Type 0} where
   with_wait s i wait = record s { waits = slice_set s.waits i wait }
 
   -- the set with a socket at the least free index, or at a new one behind all; it does not wait
-  abbrev pub added : Sockets L → SocketOf L → Sockets L
-  added s socket =
+  abbrev pub set_after_add : Sockets L → SocketOf L → Sockets L
+  set_after_add s socket =
       if has_free s
       then with_wait (with_place s (first_free s.places) (Some socket)) (first_free s.places) None
       else record s { places = s.places ++ Some socket ∷ []; waits = s.waits ++ None ∷ [] }

@@ -66,7 +66,7 @@ impl BusyMarks {
     #[inline(always)]
     pub(crate) fn next(&self, from: usize, end: usize) -> usize
         ensures within { result ≤ end }
-        ensures behind { from ≤ end → from ≤ result }
+        ensures after { from ≤ end → from ≤ result }
         ensures busy { result < end → IsClear self.now result → ⊥ }
         ensures passed { (i : ℕ) → from ≤ i → i < result → IsClear self.now i }
     {
@@ -84,7 +84,7 @@ impl BusyMarks {
     fn next_word(&self, from: usize, end: usize) -> usize
         requires { from ≤ 16 }
         ensures within { result ≤ end }
-        ensures behind { min end (64 * from) ≤ result }
+        ensures after { min end (64 * from) ≤ result }
         ensures busy { result < end → IsClear self.now result → ⊥ }
         ensures passed { (i : ℕ) → 64 * from ≤ i → i < result → IsClear self.now i }
     {

@@ -8,7 +8,7 @@ ghost use Rattle.sockets.specs.contracts.socket.SocketOf.{the_row as socket_row}
 ghost use Rattle.socket_base.specs.declared.poll_at.PollAt.TheVariants.{Ingress};
 ghost use Rattle.socket_set.specs.Busy.{IsIdle};
 ghost use Rattle.socket_set.specs.Keys.{AllHavePorts};
-ghost use Rattle.socket_set.specs.SocketMeta.{poll_at as poll_at_of, IsTold, after_asking, is_permitted};
+ghost use Rattle.socket_set.specs.SocketMeta.{poll_at as poll_at_of, IsAnswerFor, after_asking, is_permitted};
 ghost use Rattle.socket_set.specs.SocketSet.{socket_at, wait_at, with_place, with_wait};
 ghost use Rattle.socket_set.specs.contracts.socket_set.SocketSetOf.{the_row as set_row};
 
@@ -65,7 +65,7 @@ pub fn egress_permitted<L: Drop, F: Fn(IpAddress) -> bool>(
     has_neighbor: F,
 ) -> bool
     requires { F.IsAlwaysCallable has_neighbor }
-    ensures socket { IsSome (socket_at sockets.old index) → (known : Bool) × IsTold (F.post has_neighbor) (wait_at sockets.old index) known
+    ensures socket { IsSome (socket_at sockets.old index) → (known : Bool) × IsAnswerFor (F.post has_neighbor) (wait_at sockets.old index) known
         × (result ≡ is_permitted (wait_at sockets.old index) known timestamp) × (sockets.new ≡ with_wait sockets.old index (after_asking (wait_at sockets.old index) known)) }
     ensures nobody { IsNone (socket_at sockets.old index) → (result ≡ false) × (sockets.new ≡ sockets.old) }
 {
@@ -77,7 +77,7 @@ pub fn egress_permitted<L: Drop, F: Fn(IpAddress) -> bool>(
 #[inline(always)]
 pub fn next_busy<L: Drop>(sockets: &SocketSetOf<L>, from: usize) -> usize
     ensures within { result ≤ length sockets.now.places }
-    ensures behind { from ≤ length sockets.now.places → from ≤ result }
+    ensures after { from ≤ length sockets.now.places → from ≤ result }
     ensures idle { (i : ℕ) → from ≤ i → i < result → IsIdle sockets.now i }
 {
     sockets.next_busy(from)
@@ -97,7 +97,7 @@ pub fn may_have_portless<L: Drop>(sockets: &SocketSetOf<L>) -> bool
 #[inline(always)]
 pub fn next_at<L: Drop>(sockets: &SocketSetOf<L>, from: usize, port: Option<u16>) -> usize
     ensures within { result ≤ length sockets.now.places }
-    ensures behind { from ≤ length sockets.now.places → from ≤ result }
+    ensures after { from ≤ length sockets.now.places → from ≤ result }
     ensures passed { (i : ℕ) → from ≤ i → i < result → IfSome (socket_at sockets.now i) (λ s. own_port s ≢ port) }
 {
     sockets.next_at(from, port)
@@ -123,7 +123,7 @@ pub fn poll_at<L: Drop, F: Fn(IpAddress) -> bool>(
     has_neighbor: F,
 ) -> PollAt
     requires { F.IsAlwaysCallable has_neighbor }
-    ensures socket { IfSome (socket_at sockets.now index) (λ s. (known : Bool) × IsTold (F.post has_neighbor) (wait_at sockets.now index) known
+    ensures socket { IfSome (socket_at sockets.now index) (λ s. (known : Bool) × IsAnswerFor (F.post has_neighbor) (wait_at sockets.now index) known
         × (result ≡ poll_at_of (wait_at sockets.now index) known timestamp (own_poll_at s))) }
     ensures nobody { IsNone (socket_at sockets.now index) → result ≡ Ingress }
 {

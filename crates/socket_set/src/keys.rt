@@ -63,7 +63,7 @@ impl Keys {
     #[inline(always)]
     pub(crate) fn next(&self, from: usize, end: usize, key: u16) -> usize
         ensures within { result ≤ end }
-        ensures behind { from ≤ end → from ≤ result }
+        ensures after { from ≤ end → from ≤ result }
         ensures candidate { result < end → is_candidate self.now key result ≡ true }
         ensures passed { (i : ℕ) → from ≤ i → i < result → is_candidate self.now key i ≡ false }
     {
@@ -85,7 +85,7 @@ impl Keys {
     fn search(&self, from: usize, end: usize, key: u16) -> usize
         requires { from ≤ end }
         ensures within { result ≤ end }
-        ensures behind { from ≤ result }
+        ensures after { from ≤ result }
         ensures candidate { result < end → is_candidate self.now key result ≡ true }
         ensures passed { (i : ℕ) → from ≤ i → i < result → is_candidate self.now key i ≡ false }
     {
@@ -100,7 +100,7 @@ impl Keys {
     // Passes over rounds of places without a candidate. Answers where it stopped.
     #[inline(always)]
     fn pass_rounds(&self, from: usize, end: usize, key: u16) -> usize
-        ensures behind { from ≤ result }
+        ensures after { from ≤ result }
         ensures passed { (i : ℕ) → from ≤ i → i < result → is_candidate self.now key i ≡ false }
     {
         let mut index = from;

@@ -3,7 +3,7 @@
 ghost use Rattle.std.specs.Prelude.{◌≡◌, Bool, Some, None, is_some};
 ghost use Rattle.net_base.specs.Time.{IsMoment, silence_from};
 ghost use Rattle.socket_set.specs.SocketMeta as spec;
-ghost use Rattle.socket_set.specs.SocketMeta.{IsTold, after_asking, is_permitted};
+ghost use Rattle.socket_set.specs.SocketMeta.{IsAnswerFor, after_asking, is_permitted};
 
 use ip_wire::IpAddress;
 use net_base::time::{Duration, Instant};
@@ -81,7 +81,7 @@ impl Meta {
         timestamp: Instant,
     ) -> PollAt
         requires { F.IsAlwaysCallable has_neighbor }
-        ensures { (known : Bool) × IsTold (F.post has_neighbor) self.now known × (result ≡ spec.poll_at self.now known timestamp socket_poll_at) }
+        ensures { (known : Bool) × IsAnswerFor (F.post has_neighbor) self.now known × (result ≡ spec.poll_at self.now known timestamp socket_poll_at) }
     {
         match self.neighbor_state {
             NeighborState::Active => socket_poll_at,
@@ -107,7 +107,7 @@ impl Meta {
         has_neighbor: F,
     ) -> bool
         requires { F.IsAlwaysCallable has_neighbor }
-        ensures { (known : Bool) × IsTold (F.post has_neighbor) self.old known × (result ≡ is_permitted self.old known timestamp) × (self.new ≡ after_asking self.old known) }
+        ensures { (known : Bool) × IsAnswerFor (F.post has_neighbor) self.old known × (result ≡ is_permitted self.old known timestamp) × (self.new ≡ after_asking self.old known) }
     {
         let state = self.neighbor_state;
         match state {

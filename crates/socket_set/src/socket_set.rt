@@ -6,8 +6,8 @@ ghost use Rattle.sockets.specs.Kinds.{own_port, poll_at as own_poll_at};
 ghost use Rattle.socket_base.specs.declared.poll_at.PollAt.TheVariants.{Ingress};
 ghost use Rattle.socket_set.specs.Busy.{IsIdle};
 ghost use Rattle.socket_set.specs.Keys.{AllHavePorts, key_of};
-ghost use Rattle.socket_set.specs.SocketMeta.{poll_at as poll_at_of, IsTold, after_asking, is_permitted};
-ghost use Rattle.socket_set.specs.SocketSet.{added, first_free, given_back, handles, has_free, is_full, over, pairs, socket_at, wait_at, with_place, with_wait};
+ghost use Rattle.socket_set.specs.SocketMeta.{poll_at as poll_at_of, IsAnswerFor, after_asking, is_permitted};
+ghost use Rattle.socket_set.specs.SocketSet.{set_after_add, first_free, given_back, handles, has_free, is_full, over, pairs, socket_at, wait_at, with_place, with_wait};
 
 use crate::busy::BusyMarks;
 use crate::iter::{HandlesOf, IterOf};
@@ -130,7 +130,7 @@ impl<L: Drop> SocketStorageOf<L> {
     // When its socket wants to be asked for a packet.
     fn poll_at<F: Fn(IpAddress) -> bool>(&self, timestamp: Instant, has_neighbor: F) -> PollAt
         requires { F.IsAlwaysCallable has_neighbor }
-        ensures socket { IfSome self.now.socket (λ s. (known : Bool) × IsTold (F.post has_neighbor) self.now.wait known
+        ensures socket { IfSome self.now.socket (λ s. (known : Bool) × IsAnswerFor (F.post has_neighbor) self.now.wait known
             × (result ≡ poll_at_of self.now.wait known timestamp (own_poll_at s))) }
         ensures nobody { IsNone self.now.socket → result ≡ Ingress }
     {
@@ -310,7 +310,7 @@ impl<L: Drop> SocketSetOf<L> {
         ensures free { has_free self.old ≡ true → IsOk result }
         ensures full { has_free self.old ≡ false → self.old.grows ≡ false → IsErr result }
         ensures handle { IfOk result (λ h. h ≡ first_free self.old.places) }
-        ensures added { OnOk result (self.new ≡ added self.old (T.up socket)) }
+        ensures added { OnOk result (self.new ≡ set_after_add self.old (T.up socket)) }
         ensures kind { IfErr result (λ e. is_full e ≡ not self.old.grows) }
         ensures given_back { IfErr result (λ e. given_back e ≡ socket) }
         ensures unchanged { OnErr result (self.new ≡ self.old) }
@@ -426,7 +426,7 @@ impl<L: Drop> SocketSetOf<L> {
         has_neighbor: F,
     ) -> bool
         requires { F.IsAlwaysCallable has_neighbor }
-        ensures socket { IsSome (socket_at self.old index) → (known : Bool) × IsTold (F.post has_neighbor) (wait_at self.old index) known
+        ensures socket { IsSome (socket_at self.old index) → (known : Bool) × IsAnswerFor (F.post has_neighbor) (wait_at self.old index) known
             × (result ≡ is_permitted (wait_at self.old index) known timestamp) × (self.new ≡ with_wait self.old index (after_asking (wait_at self.old index) known)) }
         ensures nobody { IsNone (socket_at self.old index) → (result ≡ false) × (self.new ≡ self.old) }
     {
@@ -444,7 +444,7 @@ impl<L: Drop> SocketSetOf<L> {
     #[inline(always)]
     pub(crate) fn next_busy(&self, from: usize) -> usize
         ensures within { result ≤ length self.now.places }
-        ensures behind { from ≤ length self.now.places → from ≤ result }
+        ensures after { from ≤ length self.now.places → from ≤ result }
         ensures idle { (i : ℕ) → from ≤ i → i < result → IsIdle self.now i }
     {
         self.busy.next(from, self.sockets.len())
@@ -463,7 +463,7 @@ impl<L: Drop> SocketSetOf<L> {
     #[inline(always)]
     pub(crate) fn next_at(&self, from: usize, port: Option<u16>) -> usize
         ensures within { result ≤ length self.now.places }
-        ensures behind { from ≤ length self.now.places → from ≤ result }
+        ensures after { from ≤ length self.now.places → from ≤ result }
         ensures passed { (i : ℕ) → from ≤ i → i < result → IfSome (socket_at self.now i) (λ s. own_port s ≢ port) }
     {
         self.keys.next(from, self.sockets.len(), key_of(port))
@@ -498,7 +498,7 @@ impl<L: Drop> SocketSetOf<L> {
         has_neighbor: F,
     ) -> PollAt
         requires { F.IsAlwaysCallable has_neighbor }
-        ensures socket { IfSome (socket_at self.now index) (λ s. (known : Bool) × IsTold (F.post has_neighbor) (wait_at self.now index) known
+        ensures socket { IfSome (socket_at self.now index) (λ s. (known : Bool) × IsAnswerFor (F.post has_neighbor) (wait_at self.now index) known
             × (result ≡ poll_at_of (wait_at self.now index) known timestamp (own_poll_at s))) }
         ensures nobody { IsNone (socket_at self.now index) → result ≡ Ingress }
     {

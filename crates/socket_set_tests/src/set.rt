@@ -279,7 +279,7 @@ fn sockets_are_found_by_their_ports(rt: HostRuntime) -> Result<(), Fail> {
             && by_index::next_at(&set, index + 1, Some(port)) == 41;
         assert!(rt; is_found, "{port}");
     }
-    let is_nobody = by_index::next_at(&set, 0, Some(41)) == 41;
+    let none_accepts = by_index::next_at(&set, 0, Some(41)) == 41;
     // What was lent for writing may be anywhere, but is still a UDP socket.
     let is_anywhere = by_index::kind_mut::<udp::Socket<'_>, _>(&mut set, 20).is_some()
         && by_index::next_at(&set, 0, Some(30)) == 20
@@ -288,7 +288,7 @@ fn sockets_are_found_by_their_ports(rt: HostRuntime) -> Result<(), Fail> {
     // Lent as one of any kind, it may be of another.
     let is_any_kind = by_index::socket_mut(&mut set, 20).is_some()
         && by_index::may_have_portless(&set);
-    assert!(rt; is_nobody && is_anywhere && is_any_kind);
+    assert!(rt; none_accepts && is_anywhere && is_any_kind);
     Ok(())
 }
 
@@ -300,11 +300,11 @@ fn a_raw_socket_is_looked_for_until_it_is_removed(rt: HostRuntime) -> Result<(),
         && first_busy(&mut set) == 21
         && by_index::next_at(&set, 0, None) == 20
         && by_index::next_at(&set, 0, Some(20)) == 19;
-    let is_gone = is_removed(&mut set, handle) && !by_index::may_have_portless(&set);
+    let is_done = is_removed(&mut set, handle) && !by_index::may_have_portless(&set);
     // Nothing is known of a place that has just become free.
     let is_forgotten = by_index::next_at(&set, 0, None) == 20
         && first_busy(&mut set) == 21
         && by_index::next_at(&set, 0, None) == 21;
-    assert!(rt; is_looked_for && is_gone && is_forgotten);
+    assert!(rt; is_looked_for && is_done && is_forgotten);
     Ok(())
 }

@@ -20,11 +20,11 @@ pub data Offered : Type 0 where
   TcpOffer : (segment : tcp.Sent) → Offered
 
 -- a packet, without where its payload lies
-abbrev pub shown : Offer → Offered
-shown (offer.Raw p) = RawOffer (raw.shown p)
-shown (offer.Icmp p) = IcmpOffer (icmp.shown p)
-shown (offer.Udp p) = UdpOffer (udp.shown p)
-shown (offer.Tcp p) = TcpOffer (tcp.shown p)
+abbrev pub value_of : Offer → Offered
+value_of (offer.Raw p) = RawOffer (raw.value_of p)
+value_of (offer.Icmp p) = IcmpOffer (icmp.value_of p)
+value_of (offer.Udp p) = UdpOffer (udp.value_of p)
+value_of (offer.Tcp p) = TcpOffer (tcp.value_of p)
 
 module _ {L : Type 0} where
   -- a socket of a kind as a socket of any kind
@@ -80,22 +80,22 @@ module _ {L : Type 0} where
   poll_at (Tcp s) = tcp.poll_at s
 
   -- what it has to send first, if that can go
-  abbrev pub offered : ℤ → (IpAddress → Option IpAddress) → SocketOf L → Option Offered
-  offered moment source (Raw s) = option_map RawOffer (raw.offered s)
-  offered moment source (Icmp s) = option_map IcmpOffer (icmp.offered source s)
-  offered moment source (Udp s) = option_map UdpOffer (udp.offered source s)
-  offered moment source (Tcp s) = option_map TcpOffer (tcp.offered moment source s)
+  abbrev pub offered_packet : ℤ → (IpAddress → Option IpAddress) → SocketOf L → Option Offered
+  offered_packet moment source (Raw s) = option_map RawOffer (raw.offered_packet s)
+  offered_packet moment source (Icmp s) = option_map IcmpOffer (icmp.offered_packet source s)
+  offered_packet moment source (Udp s) = option_map UdpOffer (udp.offered_packet source s)
+  offered_packet moment source (Tcp s) = option_map TcpOffer (tcp.offered_packet moment source s)
 
   -- what being asked leaves
-  abbrev pub settled : ℤ → (IpAddress → Option IpAddress) → SocketOf L → SocketOf L
-  settled moment source (Raw s) = Raw (raw.settled s)
-  settled moment source (Icmp s) = Icmp (icmp.settled source s)
-  settled moment source (Udp s) = Udp (udp.settled source s)
-  settled moment source (Tcp s) = Tcp (tcp.settled moment source s)
+  abbrev pub socket_after_offer : ℤ → (IpAddress → Option IpAddress) → SocketOf L → SocketOf L
+  socket_after_offer moment source (Raw s) = Raw (raw.socket_after_offer s)
+  socket_after_offer moment source (Icmp s) = Icmp (icmp.socket_after_offer source s)
+  socket_after_offer moment source (Udp s) = Udp (udp.socket_after_offer source s)
+  socket_after_offer moment source (Tcp s) = Tcp (tcp.socket_after_offer moment source s)
 
   -- what being told leaves
-  abbrev pub told : Bool → SocketOf L → SocketOf L
-  told is_gone (Raw s) = Raw (raw.told is_gone s)
-  told is_gone (Icmp s) = Icmp (icmp.told is_gone s)
-  told is_gone (Udp s) = Udp (udp.told is_gone s)
-  told is_gone (Tcp s) = Tcp (tcp.told is_gone s)
+  abbrev pub socket_after_told : Bool → SocketOf L → SocketOf L
+  socket_after_told is_done (Raw s) = Raw (raw.socket_after_told is_done s)
+  socket_after_told is_done (Icmp s) = Icmp (icmp.socket_after_told is_done s)
+  socket_after_told is_done (Udp s) = Udp (udp.socket_after_told is_done s)
+  socket_after_told is_done (Tcp s) = Tcp (tcp.socket_after_told is_done s)

@@ -63,7 +63,7 @@ impl<L: Drop> SocketOf<L> {
     /// offered.
     pub fn offer<C: SocketContext>(&mut self, context: &C) -> Option<Offer<'_>>
         ensures* settles { sem 𝓛 (Settles L.row self.entry (C.moment context.now) (C.source_for context.now)) }
-        ensures value { option_map spec.shown result ≡ spec.offered (C.moment context.now) (C.source_for context.now) self.old }
+        ensures value { option_map spec.value_of result ≡ spec.offered_packet (C.moment context.now) (C.source_for context.now) self.old }
     {
         match self {
             SocketOf::Raw(raw) => match raw.offer() {
@@ -87,7 +87,7 @@ impl<L: Drop> SocketOf<L> {
 
     /// Tells the socket whether what it offered is gone: then it is dropped.
     pub fn told(&mut self, gone: bool)
-        ensures { self.new ≡ spec.told gone self.old }
+        ensures { self.new ≡ spec.socket_after_told gone self.old }
     {
         match self {
             SocketOf::Raw(raw) => raw.told(gone),

@@ -91,12 +91,12 @@ fn udp_at(alloc: Global) -> Result<udp::Socket<'static>, Fail>
 #[test]
 fn a_datagram_is_handed_out(rt: HostRuntime) -> Result<(), Fail> {
     let mut socket = udp_at(rt.alloc())?;
-    let is_heard = socket.accepts(&HOST, &OWN, 6969) && !socket.accepts(&HOST, &OWN, 6970);
+    let is_accepted_at = socket.accepts(&HOST, &OWN, 6969) && !socket.accepts(&HOST, &OWN, 6970);
     let was_empty = socket.recv().is_none();
     socket.process(REMOTE, b"hi");
     let is_read = socket.recv() == Some((&REMOTE, b"hi".as_slice()));
     socket.done();
-    assert!(rt; is_heard && was_empty && is_read && socket.recv().is_none());
+    assert!(rt; is_accepted_at && was_empty && is_read && socket.recv().is_none());
     Ok(())
 }
 
@@ -126,8 +126,8 @@ fn a_datagram_is_offered_until_it_is_gone(rt: HostRuntime) -> Result<(), Fail> {
     socket.told(false);
     let is_offered_again = offers(&mut socket);
     socket.told(true);
-    let is_gone = socket.offer(&HOST).is_none();
-    assert!(rt; was_idle && is_queued && is_offered && is_offered_again && is_gone);
+    let is_done = socket.offer(&HOST).is_none();
+    assert!(rt; was_idle && is_queued && is_offered && is_offered_again && is_done);
     Ok(())
 }
 

@@ -7,7 +7,7 @@ use Rattle.ip_wire.specs.declared.tcp.TcpControl.{TcpControl}
 use Rattle.ip_wire.specs.declared.tcp.TcpControl.TheVariants as control
 use Rattle.ip_wire.specs.declared.tcp.TcpSeqNumber.{TcpSeqNumber}
 use Rattle.ip_wire.specs.declared.tcp.TcpRepr.{TcpRepr}
-use Rattle.socket_base.specs.Queue.{Queued, first_of, put, popped}
+use Rattle.socket_base.specs.Queue.{Queued, first_of, put, queue_after_pop}
 use Rattle.socket_base.specs.Source.{is_same, is_same_end, source_of}
 use Rattle.socket_base.specs.declared.endpoint.IpEndpoint.{IpEndpoint}
 use Rattle.socket_base.specs.declared.endpoint.IpListenEndpoint.{IpListenEndpoint}
@@ -35,8 +35,8 @@ pub record Sent : Type 0 where
   pub payload : List ℕ
 
 -- a packet, without where its payload lies
-abbrev pub shown : Packet → Sent
-shown p = record { src_addr = p.src_addr; dst_addr = p.dst_addr; hop_limit = p.hop_limit; repr = p.repr; payload = p.payload.now }
+abbrev pub value_of : Packet → Sent
+value_of p = record { src_addr = p.src_addr; dst_addr = p.dst_addr; hop_limit = p.hop_limit; repr = p.repr; payload = p.payload.now }
 
 -- the address, if one is given
 abbrev pub is_addr_if_given : Option IpAddress → IpAddress → Bool
@@ -82,24 +82,24 @@ answer_of control.Syn r len = Some (reset_of r len)
 answer_of control.Fin r len = Some (reset_of r len)
 
 -- a segment has come; a connection that was given up doesn't take it
-abbrev pub delivered : IpAddress → TcpRepr → List ℕ → TcpSocket → TcpSocket
-delivered src r payload s = cond s.is_aborted s (record s { rx = put s.rx (segment_of src r) payload })
+abbrev pub socket_after_delivery : IpAddress → TcpRepr → List ℕ → TcpSocket → TcpSocket
+socket_after_delivery src r payload s = cond s.is_aborted s (record s { rx = put s.rx (segment_of src r) payload })
 
 -- but answers it
 abbrev pub reply : TcpRepr → List ℕ → TcpSocket → Option TcpRepr
 reply r payload s = cond s.is_aborted (answer_of r.control r (length payload)) None
 
 -- the first one that came was read
-abbrev pub read : TcpSocket → TcpSocket
-read s = record s { rx = popped s.rx }
+abbrev pub socket_after_done : TcpSocket → TcpSocket
+socket_after_done s = record s { rx = queue_after_pop s.rx }
 
 -- a segment is to be sent
-abbrev pub queued : Segment → List ℕ → TcpSocket → TcpSocket
-queued segment payload s = record s { tx = put s.tx segment payload }
+abbrev pub socket_after_send : Segment → List ℕ → TcpSocket → TcpSocket
+socket_after_send segment payload s = record s { tx = put s.tx segment payload }
 
 -- the first one to be sent is gone
-abbrev pub gone : TcpSocket → TcpSocket
-gone s = record s { tx = popped s.tx }
+abbrev pub without_first_to_send : TcpSocket → TcpSocket
+without_first_to_send s = record s { tx = queue_after_pop s.tx }
 
 -- at the moment before which it sends nothing, if something is to be sent
 abbrev pub poll_at : TcpSocket → PollAt
@@ -114,8 +114,8 @@ abbrev pub repr_of : ℕ → Segment → TcpRepr
 repr_of port segment = record { src_port = port; dst_port = segment.remote.port; control = segment.control; seq_number = segment.seq; ack_number = segment.ack; window_len = segment.window }
 
 -- a segment to be sent, from a source
-abbrev pub sent : TcpSocket → Segment × List ℕ → IpAddress → Sent
-sent s p src = record { src_addr = src; dst_addr = p.0.remote.addr; hop_limit = s.hop_limit; repr = repr_of s.local.port p.0; payload = p.1 }
+abbrev pub packet_to_send : TcpSocket → Segment × List ℕ → IpAddress → Sent
+packet_to_send s p src = record { src_addr = src; dst_addr = p.0.remote.addr; hop_limit = s.hop_limit; repr = repr_of s.local.port p.0; payload = p.1 }
 
 -- the source of the first one to be sent, if there is one
 abbrev pub first_source : (IpAddress → Option IpAddress) → TcpSocket → Option IpAddress
@@ -123,16 +123,16 @@ first_source source s = option_and_then (λ p. source_of source s.local.addr p.0
 
 -- the first one to be sent, if it has a source
 abbrev pub first : (IpAddress → Option IpAddress) → TcpSocket → Option Sent
-first source s = option_and_then (λ p. option_map (sent s p) (source_of source s.local.addr p.0.remote.addr)) (first_of s.tx.packets)
+first source s = option_and_then (λ p. option_map (packet_to_send s p) (source_of source s.local.addr p.0.remote.addr)) (first_of s.tx.packets)
 
 -- the first one to be sent, if its moment has come and it has a source
-abbrev pub offered : ℤ → (IpAddress → Option IpAddress) → TcpSocket → Option Sent
-offered moment source s = cond (is_held moment s) None (first source s)
+abbrev pub offered_packet : ℤ → (IpAddress → Option IpAddress) → TcpSocket → Option Sent
+offered_packet moment source s = cond (is_held moment s) None (first source s)
 
 -- what being asked leaves: the first one is gone if its moment has come and it has no source
-abbrev pub settled : ℤ → (IpAddress → Option IpAddress) → TcpSocket → TcpSocket
-settled moment source s = cond (is_held moment s) s (cond (is_none (first source s)) (gone s) s)
+abbrev pub socket_after_offer : ℤ → (IpAddress → Option IpAddress) → TcpSocket → TcpSocket
+socket_after_offer moment source s = cond (is_held moment s) s (cond (is_none (first source s)) (without_first_to_send s) s)
 
 -- what being told leaves
-abbrev pub told : Bool → TcpSocket → TcpSocket
-told is_gone s = cond is_gone (gone s) s
+abbrev pub socket_after_told : Bool → TcpSocket → TcpSocket
+socket_after_told is_done s = cond is_done (without_first_to_send s) s

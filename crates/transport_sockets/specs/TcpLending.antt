@@ -4,8 +4,8 @@ use Rattle.std.specs.Borrow.{MutBor, Fml, RattleType}
 use Rattle.std.specs.Io.BufRead.{Rests}
 use Rattle.ip_address.specs.declared.ip.IpAddress.{IpAddress}
 use Rattle.transport_sockets.specs.contracts.tcp.SocketOf.{the_row}
-use Rattle.transport_sockets.specs.Tcp.{TcpSocket, settled}
+use Rattle.transport_sockets.specs.Tcp.{TcpSocket, socket_after_offer}
 
 module _ (K : RattleType) (s : MutBor TcpSocket) where
   abbrev pub Settles : ℤ → (IpAddress → Option IpAddress) → Fml
-  Settles moment source = Rests (the_row K) s (λ new. new ≡ settled moment source s.now)
+  Settles moment source = Rests (the_row K) s (λ new. new ≡ socket_after_offer moment source s.now)

@@ -3,7 +3,7 @@ use Rattle.std.specs.Prelude.{ℕ, ◌==◌, ◌&&◌, ◌||◌, Bool, true, con
 use Rattle.std.specs.Option.{option_and_then, option_map}
 use Rattle.ip_address.specs.Ip.{is_multicast}
 use Rattle.ip_address.specs.declared.ip.IpAddress.{IpAddress}
-use Rattle.socket_base.specs.Queue.{Queued, first_of, put, popped}
+use Rattle.socket_base.specs.Queue.{Queued, first_of, put, queue_after_pop}
 use Rattle.socket_base.specs.Source.{is_same, source_of}
 use Rattle.socket_base.specs.declared.endpoint.IpEndpoint.{IpEndpoint}
 use Rattle.socket_base.specs.declared.endpoint.IpListenEndpoint.{IpListenEndpoint}
@@ -26,33 +26,33 @@ pub record Datagram : Type 0 where
   pub payload : List ℕ
 
 -- a packet, without where its payload lies
-abbrev pub shown : Packet → Datagram
-shown p = record { src = p.src; dst = p.dst; hop_limit = p.hop_limit; payload = p.payload.now }
+abbrev pub value_of : Packet → Datagram
+value_of p = record { src = p.src; dst = p.dst; hop_limit = p.hop_limit; payload = p.payload.now }
 
 -- a destination is heard at any address, at that address, or if it is that of many hosts
-abbrev pub is_heard : (IpAddress → Bool) → Option IpAddress → IpAddress → Bool
-is_heard broadcast None dst = true
-is_heard broadcast (Some a) dst = is_same a dst || broadcast dst || is_multicast dst
+abbrev pub is_accepted_at : (IpAddress → Bool) → Option IpAddress → IpAddress → Bool
+is_accepted_at broadcast None dst = true
+is_accepted_at broadcast (Some a) dst = is_same a dst || broadcast dst || is_multicast dst
 
 -- whether a datagram to an address and a port is for the socket
 abbrev pub accepts : (IpAddress → Bool) → UdpSocket → IpAddress → ℕ → Bool
-accepts broadcast s dst port = (s.endpoint.port == port) && is_heard broadcast s.endpoint.addr dst
+accepts broadcast s dst port = (s.endpoint.port == port) && is_accepted_at broadcast s.endpoint.addr dst
 
 -- a datagram has come
-abbrev pub delivered : IpEndpoint → List ℕ → UdpSocket → UdpSocket
-delivered remote payload s = record s { rx = put s.rx remote payload }
+abbrev pub socket_after_delivery : IpEndpoint → List ℕ → UdpSocket → UdpSocket
+socket_after_delivery remote payload s = record s { rx = put s.rx remote payload }
 
 -- the first one that came was read
-abbrev pub read : UdpSocket → UdpSocket
-read s = record s { rx = popped s.rx }
+abbrev pub socket_after_done : UdpSocket → UdpSocket
+socket_after_done s = record s { rx = queue_after_pop s.rx }
 
 -- a datagram is to be sent
-abbrev pub queued : IpEndpoint → List ℕ → UdpSocket → UdpSocket
-queued remote payload s = record s { tx = put s.tx remote payload }
+abbrev pub socket_after_send : IpEndpoint → List ℕ → UdpSocket → UdpSocket
+socket_after_send remote payload s = record s { tx = put s.tx remote payload }
 
 -- the first one to be sent is gone
-abbrev pub gone : UdpSocket → UdpSocket
-gone s = record s { tx = popped s.tx }
+abbrev pub without_first_to_send : UdpSocket → UdpSocket
+without_first_to_send s = record s { tx = queue_after_pop s.tx }
 
 -- at once, if something is to be sent
 abbrev pub poll_at : UdpSocket → PollAt
@@ -67,13 +67,13 @@ abbrev pub first_source : (IpAddress → Option IpAddress) → UdpSocket → Opt
 first_source source s = option_and_then (λ p. source_of source s.endpoint.addr p.0.addr) (first_of s.tx.packets)
 
 -- the first one to be sent, if it has a source
-abbrev pub offered : (IpAddress → Option IpAddress) → UdpSocket → Option Datagram
-offered source s = option_and_then (λ p. option_map (datagram s p) (source_of source s.endpoint.addr p.0.addr)) (first_of s.tx.packets)
+abbrev pub offered_packet : (IpAddress → Option IpAddress) → UdpSocket → Option Datagram
+offered_packet source s = option_and_then (λ p. option_map (datagram s p) (source_of source s.endpoint.addr p.0.addr)) (first_of s.tx.packets)
 
 -- what being asked leaves: the first one is gone if it has no source
-abbrev pub settled : (IpAddress → Option IpAddress) → UdpSocket → UdpSocket
-settled source s = cond (is_none (offered source s)) (gone s) s
+abbrev pub socket_after_offer : (IpAddress → Option IpAddress) → UdpSocket → UdpSocket
+socket_after_offer source s = cond (is_none (offered_packet source s)) (without_first_to_send s) s
 
 -- what being told leaves
-abbrev pub told : Bool → UdpSocket → UdpSocket
-told is_gone s = cond is_gone (gone s) s
+abbrev pub socket_after_told : Bool → UdpSocket → UdpSocket
+socket_after_told is_done s = cond is_done (without_first_to_send s) s

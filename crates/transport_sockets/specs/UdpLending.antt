@@ -4,8 +4,8 @@ use Rattle.std.specs.Borrow.{MutBor, Fml, RattleType}
 use Rattle.std.specs.Io.BufRead.{Rests}
 use Rattle.ip_address.specs.declared.ip.IpAddress.{IpAddress}
 use Rattle.transport_sockets.specs.contracts.udp.SocketOf.{the_row}
-use Rattle.transport_sockets.specs.Udp.{UdpSocket, settled}
+use Rattle.transport_sockets.specs.Udp.{UdpSocket, socket_after_offer}
 
 module _ (K : RattleType) (s : MutBor UdpSocket) where
   abbrev pub Settles : (IpAddress → Option IpAddress) → Fml
-  Settles source = Rests (the_row K) s (λ new. new ≡ settled source s.now)
+  Settles source = Rests (the_row K) s (λ new. new ≡ socket_after_offer source s.now)

@@ -191,7 +191,7 @@ impl<L: Drop> SocketOf<L> {
     ) -> Option<TcpRepr>
         requires { length payload.now < 2 ^ 16 }
         ensures reply { result ≡ spec.reply repr.now payload.now self.old }
-        ensures socket { self.new ≡ spec.delivered src_addr repr.now payload.now self.old }
+        ensures socket { self.new ≡ spec.socket_after_delivery src_addr repr.now payload.now self.old }
     {
         if !self.is_aborted {
             self.buffers.process(segment_of(src_addr, repr), payload);
@@ -212,7 +212,7 @@ impl<L: Drop> SocketOf<L> {
 
     /// Drops the segment that `recv` gives, if there is one.
     pub fn done(&mut self)
-        ensures { self.new ≡ spec.read self.old }
+        ensures { self.new ≡ spec.socket_after_done self.old }
     {
         self.buffers.done();
     }
@@ -226,7 +226,7 @@ impl<L: Drop> SocketOf<L> {
         requires own_port { self.old.local.port ≢ 0 }
         requires len { length payload.now ≤ 65495 }
         ensures fits { is_ok result ≡ is_room self.old.tx (length payload.now) }
-        ensures socket { self.new ≡ spec.queued segment payload.now self.old }
+        ensures socket { self.new ≡ spec.socket_after_send segment payload.now self.old }
     {
         self.buffers.send(segment, payload)
     }
@@ -237,7 +237,7 @@ impl<L: Drop> SocketOf<L> {
     /// the socket stays as it was.
     pub fn try_send(&mut self, segment: Segment, payload: &[u8]) -> Result<(), SendError>
         ensures refused { result_err result ≡ refusal segment.remote self.old.local.port (length payload.now) (is_room self.old.tx (length payload.now)) }
-        ensures ok { OnOk result (self.new ≡ spec.queued segment payload.now self.old) }
+        ensures ok { OnOk result (self.new ≡ spec.socket_after_send segment payload.now self.old) }
         ensures err { OnErr result (self.new ≡ self.old) }
     {
         let (len, own_port) = (payload.len(), self.local.port);
@@ -268,7 +268,7 @@ impl<L: Drop> SocketOf<L> {
     /// The first segment to be sent, from a source.
     #[inline(always)]
     fn packet(&self, src_addr: IpAddress) -> Option<Packet<'_>>
-        ensures { option_map spec.shown result ≡ option_map (λ p. spec.sent self.now p src_addr) (first_of self.now.tx.packets) }
+        ensures { option_map spec.value_of result ≡ option_map (λ p. spec.packet_to_send self.now p src_addr) (first_of self.now.tx.packets) }
     {
         let (segment, payload) = self.buffers.first()?;
         Some(Packet {
@@ -282,7 +282,7 @@ impl<L: Drop> SocketOf<L> {
 
     /// Tells the socket whether what it offered is gone: then it is dropped.
     pub fn told(&mut self, gone: bool)
-        ensures { self.new ≡ spec.told gone self.old }
+        ensures { self.new ≡ spec.socket_after_told gone self.old }
     {
         self.buffers.told(gone);
     }
@@ -298,7 +298,7 @@ impl<L: Drop> SocketOf<L> {
     /// is offered.
     pub fn offer<C: SocketContext>(&mut self, context: &C) -> Option<Packet<'_>>
         ensures* settles { sem 𝓛 (Settles L.row self.entry (C.moment context.now) (C.source_for context.now)) }
-        ensures value { option_map spec.shown result ≡ spec.offered (C.moment context.now) (C.source_for context.now) self.old }
+        ensures value { option_map spec.value_of result ≡ spec.offered_packet (C.moment context.now) (C.source_for context.now) self.old }
     {
         if context.now() < self.hold {
             return None;

@@ -128,7 +128,7 @@ impl<L: Drop> SocketOf<L> {
     /// Takes a datagram that came from an end. Without room for it, it is dropped.
     #[inline(always)]
     pub fn process(&mut self, remote: IpEndpoint, payload: &[u8])
-        ensures { self.new ≡ spec.delivered remote payload.now self.old }
+        ensures { self.new ≡ spec.socket_after_delivery remote payload.now self.old }
     {
         self.buffers.process(remote, payload);
     }
@@ -143,7 +143,7 @@ impl<L: Drop> SocketOf<L> {
 
     /// Drops the datagram that `recv` gives, if there is one.
     pub fn done(&mut self)
-        ensures { self.new ≡ spec.read self.old }
+        ensures { self.new ≡ spec.socket_after_done self.old }
     {
         self.buffers.done();
     }
@@ -157,7 +157,7 @@ impl<L: Drop> SocketOf<L> {
         requires own_port { self.old.endpoint.port ≢ 0 }
         requires len { length payload.now ≤ 65495 }
         ensures fits { is_ok result ≡ is_room self.old.tx (length payload.now) }
-        ensures socket { self.new ≡ spec.queued remote payload.now self.old }
+        ensures socket { self.new ≡ spec.socket_after_send remote payload.now self.old }
     {
         self.buffers.send(remote, payload)
     }
@@ -168,7 +168,7 @@ impl<L: Drop> SocketOf<L> {
     /// holds; then the socket stays as it was.
     pub fn try_send(&mut self, remote: IpEndpoint, payload: &[u8]) -> Result<(), SendError>
         ensures refused { result_err result ≡ refusal remote self.old.endpoint.port (length payload.now) (is_room self.old.tx (length payload.now)) }
-        ensures ok { OnOk result (self.new ≡ spec.queued remote payload.now self.old) }
+        ensures ok { OnOk result (self.new ≡ spec.socket_after_send remote payload.now self.old) }
         ensures err { OnErr result (self.new ≡ self.old) }
     {
         let (len, own_port) = (payload.len(), self.endpoint.port);
@@ -198,7 +198,7 @@ impl<L: Drop> SocketOf<L> {
     /// The first datagram to be sent, from a source.
     #[inline(always)]
     fn packet(&self, addr: IpAddress) -> Option<Packet<'_>>
-        ensures { option_map spec.shown result ≡ option_map (λ p. spec.datagram self.now p addr) (first_of self.now.tx.packets) }
+        ensures { option_map spec.value_of result ≡ option_map (λ p. spec.datagram self.now p addr) (first_of self.now.tx.packets) }
     {
         let (remote, payload) = self.buffers.first()?;
         Some(Packet {
@@ -214,7 +214,7 @@ impl<L: Drop> SocketOf<L> {
 
     /// Tells the socket whether what it offered is gone: then it is dropped.
     pub fn told(&mut self, gone: bool)
-        ensures { self.new ≡ spec.told gone self.old }
+        ensures { self.new ≡ spec.socket_after_told gone self.old }
     {
         self.buffers.told(gone);
     }
@@ -229,7 +229,7 @@ impl<L: Drop> SocketOf<L> {
     /// of the peer's family the datagram is dropped, and none is offered.
     pub fn offer<C: SocketContext>(&mut self, context: &C) -> Option<Packet<'_>>
         ensures* settles { sem 𝓛 (Settles L.row self.entry (C.source_for context.now)) }
-        ensures value { option_map spec.shown result ≡ spec.offered (C.source_for context.now) self.old }
+        ensures value { option_map spec.value_of result ≡ spec.offered_packet (C.source_for context.now) self.old }
     {
         let Some(addr) = self.source(context) else {
             self.buffers.told(true);

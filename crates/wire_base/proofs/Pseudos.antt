@@ -1,6 +1,6 @@
 -- Sums over the pseudo-header.
 use Rattle.std.proofs.Common.{◌≡◌, ℕ, ◌+◌, ◌-◌, ◌*◌, ◌/◌, ◌%◌, ◌<◌, ◌^◌, List, ◌++◌, length, refl, sym, ap, ◌∙◌, append_assoc, zero-add, arith}
-use Rattle.wire_base.specs.Checksum.{folded, word_sum, checksum_of}
+use Rattle.wire_base.specs.Checksum.{folded_sum, word_sum, checksum_of}
 use Rattle.std.specs.Int.{w128, to_be_bytes}
 use Rattle.wire_base.specs.Pseudo.{address_octets, ending, pseudo, quarters}
 use Rattle.ip_address.specs.declared.ipv6.Ipv6Address.{Ipv6Address}
@@ -27,9 +27,9 @@ pseudo_words src dst protocol len =
     ap word_sum grouped ∙ omega (arith, address_words src (d ++ e), address_words dst e)
 
 -- the pseudo-header has whole words
-words_behind : (src dst : IpAddress) (protocol len : ℕ) (xs : List ℕ) → word_sum (pseudo src dst protocol len ++ xs) ≡ word_sum (pseudo src dst protocol len) + word_sum xs
+words_after : (src dst : IpAddress) (protocol len : ℕ) (xs : List ℕ) → word_sum (pseudo src dst protocol len ++ xs) ≡ word_sum (pseudo src dst protocol len) + word_sum xs
 unfolding pseudo
-words_behind src dst protocol len xs =
+words_after src dst protocol len xs =
     let e = ending dst protocol len in
     let d = address_octets dst in
     let s = address_octets src in
@@ -38,13 +38,13 @@ words_behind src dst protocol len xs =
     ap word_sum grouped ∙ omega (arith, all, address_words src (d ++ (e ++ xs)), address_words dst (e ++ xs), ending_words dst protocol len xs)
 
 -- part by part
-pub chained : (src dst : IpAddress) (protocol len : ℕ) → folded (word_sum (pseudo src dst protocol len)) ≡ folded (folded (folded (0 + word_sum (address_octets src)) + word_sum (address_octets dst)) + word_sum (ending dst protocol len))
+pub chained : (src dst : IpAddress) (protocol len : ℕ) → folded_sum (word_sum (pseudo src dst protocol len)) ≡ folded_sum (folded_sum (folded_sum (0 + word_sum (address_octets src)) + word_sum (address_octets dst)) + word_sum (ending dst protocol len))
 chained src dst protocol len =
     let s = word_sum (address_octets src) in
     let d = word_sum (address_octets dst) in
     let e = word_sum (ending dst protocol len) in
-    let two : folded (folded (0 + s) + d) ≡ folded (s + d) = rw zero-add (folded_again s d) in
-    ap folded (pseudo_words src dst protocol len) ∙ sym (ap (λ (t : ℕ). folded (t + e)) two ∙ folded_again (s + d) e)
+    let two : folded_sum (folded_sum (0 + s) + d) ≡ folded_sum (s + d) = rw zero-add (folded_again s d) in
+    ap folded_sum (pseudo_words src dst protocol len) ∙ sym (ap (λ (t : ℕ). folded_sum (t + e)) two ∙ folded_again (s + d) e)
 
 -- an address of IPv4 has two words
 address_words4 : (n : ℕ) → n < 2 ^ 32 → n / 16777216 % 256 * 256 + n / 65536 % 256 + (n / 256 % 256 * 256 + n % 256) ≡ n / 65536 + n % 65536
@@ -52,7 +52,7 @@ address_words4 n lt = omega arith
 
 -- over IPv4 the numbers fold alike
 pub numbers : (src dst : Ipv4Address) (protocol len : ℕ) → src.bits < 2 ^ 32 → dst.bits < 2 ^ 32 → len < 2 ^ 16
-    → folded (word_sum (pseudo (Ipv4 src) (Ipv4 dst) protocol len)) ≡ folded (src.bits + dst.bits + protocol + len)
+    → folded_sum (word_sum (pseudo (Ipv4 src) (Ipv4 dst) protocol len)) ≡ folded_sum (src.bits + dst.bits + protocol + len)
 unfolding pseudo word_sum
 numbers src dst protocol len ls ld ll =
     let k = src.bits / 65536 + dst.bits / 65536 in
@@ -61,7 +61,7 @@ numbers src dst protocol len ls ld ll =
     let d = address_words4 dst.bits ld in
     let l : len / 256 % 256 * 256 + len % 256 ≡ len = omega arith in
     let words : word_sum (pseudo (Ipv4 src) (Ipv4 dst) protocol len) ≡ n + k = omega (arith, s, d, l) in
-    ap folded words ∙ sym (folded_shift (src.bits + dst.bits + protocol + len) n k (omega arith))
+    ap folded_sum words ∙ sym (folded_shift (src.bits + dst.bits + protocol + len) n k (omega arith))
 
 -- the words of a number of 128 bits: each second one, from the last and from the one before it
 abbrev lower_words : ℕ → ℕ
@@ -80,7 +80,7 @@ quarters_words n lt = omega arith
 
 -- and over IPv6
 pub numbers6 : (src dst : Ipv6Address) (protocol len : ℕ) → src.bits < 2 ^ 128 → dst.bits < 2 ^ 128 → len < 2 ^ 16
-    → folded (word_sum (pseudo (Ipv6 src) (Ipv6 dst) protocol len)) ≡ folded (quarters src.bits + quarters dst.bits + protocol + len)
+    → folded_sum (word_sum (pseudo (Ipv6 src) (Ipv6 dst) protocol len)) ≡ folded_sum (quarters src.bits + quarters dst.bits + protocol + len)
 unfolding word_sum
 numbers6 src dst protocol len ls ld ll =
     let k = upper_words src.bits + upper_words dst.bits in
@@ -91,50 +91,50 @@ numbers6 src dst protocol len ls ld ll =
     let words : word_sum (pseudo (Ipv6 src) (Ipv6 dst) protocol len) ≡ n + k = omega (arith, pseudo_words (Ipv6 src) (Ipv6 dst) protocol len, s, d, l) in
     let qs = quarters_words src.bits ls in
     let qd = quarters_words dst.bits ld in
-    ap folded words ∙ sym (folded_shift (quarters src.bits + quarters dst.bits + protocol + len) n k (omega (arith, qs, qd)))
+    ap folded_sum words ∙ sym (folded_shift (quarters src.bits + quarters dst.bits + protocol + len) n k (omega (arith, qs, qd)))
 
 -- in whichever sum it is
 pub in_sums4 : (sum : ℕ) (src dst : Ipv4Address) (protocol len : ℕ) → src.bits < 2 ^ 32 → dst.bits < 2 ^ 32 → len < 2 ^ 16
-    → folded (sum + (src.bits + dst.bits + protocol + len)) ≡ folded (sum + word_sum (pseudo (Ipv4 src) (Ipv4 dst) protocol len))
+    → folded_sum (sum + (src.bits + dst.bits + protocol + len)) ≡ folded_sum (sum + word_sum (pseudo (Ipv4 src) (Ipv4 dst) protocol len))
 in_sums4 sum src dst protocol len ls ld ll =
     folds_in (src.bits + dst.bits + protocol + len) (word_sum (pseudo (Ipv4 src) (Ipv4 dst) protocol len)) (sym (numbers src dst protocol len ls ld ll)) sum
 
 pub in_sums6 : (sum : ℕ) (src dst : Ipv6Address) (protocol len : ℕ) → src.bits < 2 ^ 128 → dst.bits < 2 ^ 128 → len < 2 ^ 16
-    → folded (sum + (quarters src.bits + quarters dst.bits + protocol + len)) ≡ folded (sum + word_sum (pseudo (Ipv6 src) (Ipv6 dst) protocol len))
+    → folded_sum (sum + (quarters src.bits + quarters dst.bits + protocol + len)) ≡ folded_sum (sum + word_sum (pseudo (Ipv6 src) (Ipv6 dst) protocol len))
 in_sums6 sum src dst protocol len ls ld ll =
     folds_in (quarters src.bits + quarters dst.bits + protocol + len) (word_sum (pseudo (Ipv6 src) (Ipv6 dst) protocol len)) (sym (numbers6 src dst protocol len ls ld ll)) sum
 
 pub in_sums : (sum : ℕ) (src dst : IpAddress) (protocol len : ℕ)
-    → folded (sum + folded (folded (folded (0 + word_sum (address_octets src)) + word_sum (address_octets dst)) + word_sum (ending dst protocol len))) ≡ folded (sum + word_sum (pseudo src dst protocol len))
+    → folded_sum (sum + folded_sum (folded_sum (folded_sum (0 + word_sum (address_octets src)) + word_sum (address_octets dst)) + word_sum (ending dst protocol len))) ≡ folded_sum (sum + word_sum (pseudo src dst protocol len))
 in_sums sum src dst protocol len =
     let p = word_sum (pseudo src dst protocol len) in
-    let f = folded (folded (folded (0 + word_sum (address_octets src)) + word_sum (address_octets dst)) + word_sum (ending dst protocol len)) in
+    let f = folded_sum (folded_sum (folded_sum (0 + word_sum (address_octets src)) + word_sum (address_octets dst)) + word_sum (ending dst protocol len)) in
     let turned : sum + p ≡ p + sum = omega arith in
     let back : f + sum ≡ sum + f = omega arith in
-    sym (ap folded turned ∙ sym (folded_again p sum) ∙ ap (λ (t : ℕ). folded (t + sum)) (chained src dst protocol len) ∙ ap folded back)
+    sym (ap folded_sum turned ∙ sym (folded_again p sum) ∙ ap (λ (t : ℕ). folded_sum (t + sum)) (chained src dst protocol len) ∙ ap folded_sum back)
 
 pub ruleset sums = (in_sums4, in_sums6, in_sums)
 
 -- what stands behind it
-pub behind : (src dst : IpAddress) (protocol len start : ℕ) (xs : List ℕ) → ((sum : ℕ) → folded (sum + start) ≡ folded (sum + word_sum (pseudo src dst protocol len)))
-    → folded (word_sum (pseudo src dst protocol len ++ xs)) ≡ folded (start + word_sum xs)
-behind src dst protocol len start xs folds =
+pub after : (src dst : IpAddress) (protocol len start : ℕ) (xs : List ℕ) → ((sum : ℕ) → folded_sum (sum + start) ≡ folded_sum (sum + word_sum (pseudo src dst protocol len)))
+    → folded_sum (word_sum (pseudo src dst protocol len ++ xs)) ≡ folded_sum (start + word_sum xs)
+after src dst protocol len start xs folds =
     let p = word_sum (pseudo src dst protocol len) in
     let turned : p + word_sum xs ≡ word_sum xs + p = omega arith in
     let back : word_sum xs + start ≡ start + word_sum xs = omega arith in
-    ap folded (words_behind src dst protocol len xs ∙ turned) ∙ sym (folds (word_sum xs)) ∙ ap folded back
+    ap folded_sum (words_after src dst protocol len xs ∙ turned) ∙ sym (folds (word_sum xs)) ∙ ap folded_sum back
 
 -- behind it a header of whole words, and a payload
 pub header_words : (src dst : IpAddress) (protocol len k : ℕ) (header payload : List ℕ) → length header ≡ 2 * k
     → word_sum (pseudo src dst protocol len ++ (header ++ payload)) ≡ word_sum (pseudo src dst protocol len) + word_sum header + word_sum payload
 header_words src dst protocol len k header payload even =
-    let one = words_behind src dst protocol len (header ++ payload) in
+    let one = words_after src dst protocol len (header ++ payload) in
     let two = word_sum-append header payload k even in
     omega (arith, one, two)
 
 pub parts : (src dst : IpAddress) (protocol len k start head : ℕ) (header payload : List ℕ) → length header ≡ 2 * k
-    → ((sum : ℕ) → folded (sum + start) ≡ folded (sum + word_sum (pseudo src dst protocol len))) → ((sum : ℕ) → folded (sum + head) ≡ folded (sum + word_sum header))
-    → checksum_of (pseudo src dst protocol len ++ (header ++ payload)) ≡ 65535 - folded (start + head + word_sum payload)
+    → ((sum : ℕ) → folded_sum (sum + start) ≡ folded_sum (sum + word_sum (pseudo src dst protocol len))) → ((sum : ℕ) → folded_sum (sum + head) ≡ folded_sum (sum + word_sum header))
+    → checksum_of (pseudo src dst protocol len ++ (header ++ payload)) ≡ 65535 - folded_sum (start + head + word_sum payload)
 parts src dst protocol len k start head header payload even starts heads =
     let p = word_sum (pseudo src dst protocol len) in
     let h = word_sum header in
@@ -142,4 +142,4 @@ parts src dst protocol len k start head header payload even starts heads =
     let first : p + h + d ≡ p + d + h = omega arith in
     let second : p + d + head ≡ head + d + p = omega arith in
     let third : head + d + start ≡ start + head + d = omega arith in
-    ap (λ (t : ℕ). 65535 - t) (ap folded (header_words src dst protocol len k header payload even ∙ first) ∙ sym (heads (p + d)) ∙ ap folded second ∙ sym (starts (head + d)) ∙ ap folded third)
+    ap (λ (t : ℕ). 65535 - t) (ap folded_sum (header_words src dst protocol len k header payload even ∙ first) ∙ sym (heads (p + d)) ∙ ap folded_sum second ∙ sym (starts (head + d)) ∙ ap folded_sum third)

@@ -8,14 +8,14 @@ word_sum (a ∷ []) = a * 256
 word_sum (a ∷ b ∷ rest) = a * 256 + b + word_sum rest
 
 -- a sum with its carries folded in: 0 for 0, else what it leaves on division by 65535, from 1 to 65535
-abbrev pub folded : ℕ → ℕ
-folded zero = 0
-folded (suc n) = n % 65535 + 1
+abbrev pub folded_sum : ℕ → ℕ
+folded_sum zero = 0
+folded_sum (suc n) = n % 65535 + 1
 
 -- the ones' complement of the folded sum
 abbrev pub checksum_of : List ℕ → ℕ
-checksum_of octets = 65535 - folded (word_sum octets)
+checksum_of octets = 65535 - folded_sum (word_sum octets)
 
 -- folding is to add the carries to the lower 16 bits, until there are none
 abbrev pub FoldsCarries : Type 0
-FoldsCarries = (n : ℕ) → (n < 2 ^ 16 → folded n ≡ n) × (folded n ≡ folded (n / 2 ^ 16 + n % 2 ^ 16))
+FoldsCarries = (n : ℕ) → (n < 2 ^ 16 → folded_sum n ≡ n) × (folded_sum n ≡ folded_sum (n / 2 ^ 16 + n % 2 ^ 16))

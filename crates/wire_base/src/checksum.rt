@@ -12,7 +12,7 @@ use crate::octets::{u32_le_at, u64_le_at};
 pub fn sum_with(start: u64, octets: &[u8]) -> u16
     requires short { length octets.now < 2 ^ 16 }
     requires small { start < 2 ^ 48 }
-    ensures { result ≡ spec.folded (start + spec.word_sum octets.now) }
+    ensures { result ≡ spec.folded_sum (start + spec.word_sum octets.now) }
 {
     if octets.len() < 32 {
         return fold(start + short_sum(octets));
@@ -26,7 +26,7 @@ pub fn sum_with(start: u64, octets: &[u8]) -> u16
 fn long_sum_with(start: u64, octets: &[u8]) -> u16
     requires short { length octets.now < 2 ^ 16 }
     requires small { start < 2 ^ 48 }
-    ensures { result ≡ spec.folded (start + spec.word_sum octets.now) }
+    ensures { result ≡ spec.folded_sum (start + spec.word_sum octets.now) }
 {
     let mut swapped = 0u128;
     let count = octets.len() / 32;
@@ -44,7 +44,7 @@ fn long_sum_with(start: u64, octets: &[u8]) -> u16
 fn with_odd_block(swapped: u128, octets: &[u8], count: usize) -> u128
     requires within { 32 * count ≤ length octets.now }
     requires small { swapped < 2 ^ 95 }
-    ensures folds { (sum : ℕ) → spec.folded (sum + 256 * result + spec.word_sum (drop (32 * count) octets.now)) ≡ spec.folded (sum + 256 * swapped + spec.word_sum (drop (64 * (count / 2)) octets.now)) }
+    ensures folds { (sum : ℕ) → spec.folded_sum (sum + 256 * result + spec.word_sum (drop (32 * count) octets.now)) ≡ spec.folded_sum (sum + 256 * swapped + spec.word_sum (drop (64 * (count / 2)) octets.now)) }
     ensures small { result < 2 ^ 96 }
 {
     if count % 2 == 0 {
@@ -82,7 +82,7 @@ fn block_sum(octets: &[u8], at: usize) -> u128
 #[inline(always)]
 pub fn part_sum(octets: &[u8]) -> u64
     requires { length octets.now < 2 ^ 16 }
-    ensures folds { (sum : ℕ) → spec.folded (sum + result) ≡ spec.folded (sum + spec.word_sum octets.now) }
+    ensures folds { (sum : ℕ) → spec.folded_sum (sum + result) ≡ spec.folded_sum (sum + spec.word_sum octets.now) }
     ensures small { result < 2 ^ 44 }
 {
     if octets.len() < 32 {
@@ -96,7 +96,7 @@ pub fn part_sum(octets: &[u8]) -> u64
 #[inline(always)]
 fn short_sum(octets: &[u8]) -> u64
     requires { length octets.now < 32 }
-    ensures folds { (sum : ℕ) → spec.folded (sum + result) ≡ spec.folded (sum + spec.word_sum octets.now) }
+    ensures folds { (sum : ℕ) → spec.folded_sum (sum + result) ≡ spec.folded_sum (sum + spec.word_sum octets.now) }
     ensures small { result < 2 ^ 44 }
 {
     let mut swapped = 0u64;
@@ -138,7 +138,7 @@ fn tail_sum(tail: &[u8]) -> u64
 /// A sum with its carries folded in.
 #[inline(always)]
 pub fn fold(sum: u64) -> u16
-    ensures { result ≡ spec.folded sum }
+    ensures { result ≡ spec.folded_sum sum }
 {
     if sum == 0 {
         0

@@ -1,6 +1,6 @@
 //! The pseudo-header that the checksums of UDP and TCP cover (RFC 768, RFC 9293 3.1, RFC 8200 8.1).
 ghost use Rattle.std.specs.Prelude.{◌≡◌, ◌+◌, ◌<◌, ◌^◌, ℕ};
-ghost use Rattle.wire_base.specs.Checksum.{folded, word_sum};
+ghost use Rattle.wire_base.specs.Checksum.{folded_sum, word_sum};
 ghost use Rattle.wire_base.specs.Pseudo as spec;
 
 use crate::checksum::sum_with;
@@ -11,7 +11,7 @@ use ip_address::IpAddress;
 #[inline(always)]
 #[tactic(auto, using(crate::proofs::Pseudos::sums))]
 pub fn pseudo_sum(src: &IpAddress, dst: &IpAddress, protocol: u8, len: u16) -> u64
-    ensures folds { (sum : ℕ) → folded (sum + result) ≡ folded (sum + word_sum (spec.pseudo src.now dst.now protocol len)) }
+    ensures folds { (sum : ℕ) → folded_sum (sum + result) ≡ folded_sum (sum + word_sum (spec.pseudo src.now dst.now protocol len)) }
     ensures small { result < 2 ^ 40 }
 {
     if let (IpAddress::Ipv4(src), IpAddress::Ipv4(dst)) = (src, dst) {
@@ -39,7 +39,7 @@ fn quarters(bits: u128) -> u64
 
 /// A sum with the words of an address added.
 fn address_sum(start: u16, address: &IpAddress) -> u16
-    ensures { result ≡ folded (start + word_sum (spec.address_octets address.now)) }
+    ensures { result ≡ folded_sum (start + word_sum (spec.address_octets address.now)) }
 {
     match address {
         IpAddress::Ipv4(address) => sum_with(u64::from(start), &address.octets()),
@@ -49,7 +49,7 @@ fn address_sum(start: u16, address: &IpAddress) -> u16
 
 /// A sum with the words of protocol and length added.
 fn ending_sum(start: u16, dst: &IpAddress, protocol: u8, len: u16) -> u16
-    ensures { result ≡ folded (start + word_sum (spec.ending dst.now protocol len)) }
+    ensures { result ≡ folded_sum (start + word_sum (spec.ending dst.now protocol len)) }
 {
     match dst {
         IpAddress::Ipv4(_) => {

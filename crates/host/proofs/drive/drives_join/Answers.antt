@@ -1,6 +1,6 @@
-use Rattle.host_machine.proofs.Joined.{ran_on}
+use Rattle.host_machine.proofs.RunConcatenation.{ran_on}
 use Rattle.interface.specs.Stands.{StandsFor}
-use Rattle.host.proofs.Driven.{driven}
+use Rattle.host.proofs.DriveSteps.{driven}
 use Rattle.host.proofs.drive.drives_join.Goals as goal
 
 pub returns : goal.returns

@@ -2,7 +2,7 @@ use Rattle.std.proofs.Common.{◌≡◌, List, refl, ap, rules}
 use Rattle.iface_tables.specs.declared.route.Route.{Route}
 use Rattle.iface_send.specs.Stands.{host_of}
 use Rattle.interface.specs.Stands.{with_routes}
-use Rattle.interface.proofs.Setting.{becomes}
+use Rattle.interface.proofs.SettingCalls.{becomes}
 use Rattle.host.proofs.drive.put_routes.Goals as goal
 
 pub returns : goal.returns

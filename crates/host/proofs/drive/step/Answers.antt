@@ -4,9 +4,9 @@ use Rattle.host_machine.specs.declared.command.Answer.TheVariants as answer
 use Rattle.iface_tables.specs.Route.{first, ipv4_gateway, ipv6_gateway, is_ipv4_gateway, is_ipv6_gateway, old_or_full, with_default, without_first}
 use Rattle.host_machine.specs.Step.{UpdatedIpAddrs, JoinedGroup, LeftGroup, TookHardwareAddr, TookReassemblyTimeout, TookAnyIp, UpdatedRoutes, AddedDefaultIpv4Route, RemovedDefaultIpv4Route, AddedDefaultIpv6Route, RemovedDefaultIpv6Route, PolledMaintenance, PolledAt, PolledDelay}
 use Rattle.host_machine.specs.Host.{Host, at}
-use Rattle.host_machine.specs.Polling.{maintained}
+use Rattle.host_machine.specs.Polling.{after_maintenance}
 use Rattle.interface.specs.Stands.{StandsFor}
-use Rattle.host.proofs.Driven.{was_led, polled, polled_egress, polled_all, untold, acted}
+use Rattle.host.proofs.DriveSteps.{was_led, polled, polled_egress, polled_all, untold, acted}
 use Rattle.host.proofs.drive.step.Goals as goal
 
 pub returns-in-UpdateIpAddrs : goal.returns-in-UpdateIpAddrs
@@ -28,7 +28,7 @@ returns-in-Poll g c = λ H h.
 
 pub returns-in-PollMaintenance : goal.returns-in-PollMaintenance
 returns-in-PollMaintenance g c = λ H h.
-    rw c.in-PollMaintenance.is (untold g.D.Device.tells g.O.Owner.did c.args.device.now c.args.owner.now (command.PollMaintenance c.in-PollMaintenance.timestamp) answer.PollMaintenance H (maintained (at H c.in-PollMaintenance.timestamp))
+    rw c.in-PollMaintenance.is (untold g.D.Device.tells g.O.Owner.did c.args.device.now c.args.owner.now (command.PollMaintenance c.in-PollMaintenance.timestamp) answer.PollMaintenance H (after_maintenance (at H c.in-PollMaintenance.timestamp))
     (StandsFor c.poll_maintenance.new.self c.args.sockets.now) (g.met.D.Device.tells_nothing c.args.device.now) PolledMaintenance (c.poll_maintenance.ensures c.args.sockets.now H h))
 
 pub returns-in-PollAt : goal.returns-in-PollAt

@@ -4,7 +4,7 @@ use Rattle.std.proofs.lemmas.List.{take_more, take_all}
 use Rattle.std.proofs.lemmas.Option.{slice_get-get_or}
 use Rattle.host.specs.declared.link.LinkError.TheVariants.{NoMemory}
 use Rattle.host.specs.Link.{Goes, Copies, All, Before}
-use Rattle.host.proofs.Linked.{fit, goes_none, goes_on, link_went, no_error, an_error}
+use Rattle.host.proofs.LinkSteps.{fit, goes_none, goes_on, link_went, no_error, an_error}
 use Rattle.host.proofs.link.link.Goals as goal
 
 pub loop-i-init : goal.loop-i-init

@@ -1,6 +1,6 @@
 use Rattle.host.specs.Link.{HandsOver, Goes}
 use Rattle.std.specs.Prelude.{[], ◌∷◌}
-use Rattle.host.proofs.Linked.{if_done, on_a, on_b, to_a, to_b}
+use Rattle.host.proofs.LinkSteps.{if_done, on_a, on_b, to_a, to_b}
 use Rattle.host.proofs.link.link_step.Goals as goal
 
 pub returns-in-A-clause-done : goal.returns-in-A-clause-done

@@ -1,4 +1,4 @@
-use Rattle.host_laws.proofs.Traced.{runs_get_what_was_sent}
+use Rattle.host_laws.proofs.DatagramOrigin.{runs_get_what_was_sent}
 use Rattle.host_laws.proofs.datagrams.runs_get_what_was_sent.Goals as goal
 
 pub returns : goal.returns

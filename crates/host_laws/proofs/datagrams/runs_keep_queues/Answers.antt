@@ -1,4 +1,4 @@
-use Rattle.host_laws.proofs.Ran.{runs_keep_queues}
+use Rattle.host_laws.proofs.RunTraffic.{runs_keep_queues}
 use Rattle.host_laws.proofs.datagrams.runs_keep_queues.Goals as goal
 
 pub returns : goal.returns

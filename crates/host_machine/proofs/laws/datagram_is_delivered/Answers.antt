@@ -7,8 +7,8 @@ use Rattle.host_machine.specs.Udp as udp
 use Rattle.host_machine.specs.Ipv4 as ipv4
 use Rattle.host_machine.specs.Ethernet as ethernet
 use Rattle.host_machine.specs.Example as example
-use Rattle.host_machine.specs.ExampleSockets.{datagram, listening, reached, with_socket}
-use Rattle.host_machine.proofs.Listening.{first_is_free}
+use Rattle.host_machine.specs.ExampleSockets.{datagram, listening_socket, socket_with_datagram, with_socket}
+use Rattle.host_machine.proofs.ExampleListeners.{first_is_free}
 use Rattle.host_machine.proofs.Exchange.{no_slots}
 use Rattle.std.specs.Prelude.{pos}
 use Rattle.host_machine.proofs.laws.datagram_is_delivered.Goals as goal
@@ -20,14 +20,14 @@ returns c = record {
   frames = [];
   response = record {
     reply = None;
-    taken = with_socket reached (example.host 0x1405 example.heard);
+    taken = with_socket socket_with_datagram (example.host 0x1405 example.neighbors_after_renewal);
     notes_taking = [];
     notes_responding = [];
     takes = rw (no_slots (pos 0)) (ethernet.Accepted (lit≤ tt) refl (ipv4.Read
         (record { whole = lit≤ tt; version = refl; header = lit≤ tt; header_fits = lit≤ tt; total_fits = lit≤ tt; sum = λ on. refl })
-        (ipv4.Whole refl refl (ipv4.Accepted refl (udp.Delivered (None ∷ Some (kind.Udp reached) ∷ [])
+        (ipv4.Whole refl refl (ipv4.Accepted refl (udp.Delivered (None ∷ Some (kind.Udp socket_with_datagram) ∷ [])
         (record { whole = lit≤ tt; header_fits = lit≤ tt; fits = lit≤ tt; port = λ e. absurd (omega (arith, e)); sum = λ on summed. refl })
-        (record { index = 1; place = Some (kind.Udp listening); first = record { is_there = refl; accepts = refl; none_before = first_is_free _ (Some (kind.Udp listening) ∷ []) refl }; changed = refl })
+        (record { index = 1; place = Some (kind.Udp listening_socket); first = record { is_there = refl; accepts = refl; none_before = first_is_free _ (Some (kind.Udp listening_socket) ∷ []) refl }; changed = refl })
         refl refl refl)))));
     responds = (refl, refl, refl);
     all_notes = refl;

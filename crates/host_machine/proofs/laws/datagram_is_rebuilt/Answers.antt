@@ -4,8 +4,8 @@ use Rattle.std.specs.Prelude.{pos}
 use Rattle.wire_base.specs.Checksum.{word_sum}
 use Rattle.net_base.specs.Device.{Frame}
 use Rattle.iface_tables.specs.Neighbor.{Neighbors}
-use Rattle.fragmentation.specs.Slots.{left_at}
-use Rattle.fragmentation.specs.Reassembly.{Came, Rebuild, Rebuilt, Stood}
+use Rattle.fragmentation.specs.Slots.{live_at}
+use Rattle.fragmentation.specs.Reassembly.{Arrival, Rebuild, Rebuilt, Stood}
 use Rattle.host_machine.specs.Note.{OfSlots}
 use Rattle.host_machine.specs.Host.{with_neighbors, with_slots}
 use Rattle.host_machine.specs.Ipv4 as ipv4
@@ -14,7 +14,7 @@ use Rattle.host_machine.specs.Reports as reports
 use Rattle.group_wire.specs.Igmp.{IsType}
 use Rattle.host_machine.specs.ExampleFragments as example
 use Rattle.host_machine.proofs.Exchange.{none_renewed}
-use Rattle.host_machine.proofs.Fragmented.{still_there, ten_rebuilt}
+use Rattle.host_machine.proofs.ExamplePair.{still_there, ten_rebuilt}
 use Rattle.host_machine.proofs.laws.datagram_is_rebuilt.Goals as goal
 
 -- the type of the message is none of IGMP's
@@ -27,9 +27,9 @@ none_of (inr (inr (inr e))) = absurd cc
 pub returns : goal.returns
 unfolding word_sum
 returns c =
-    let slots = map.remove (left_at (pos 0) example.waiting.slots) example.key in
-    let without = with_slots example.waiting slots in
-    let notes = OfSlots (Came example.key example.two) ∷ OfSlots (Rebuild example.key example.ten) ∷ [] in
+    let slots = map.remove (live_at (pos 0) example.waiting_host.slots) example.key in
+    let without = with_slots example.waiting_host slots in
+    let notes = OfSlots (Arrival example.key example.two) ∷ OfSlots (Rebuild example.key example.ten) ∷ [] in
     record {
       reception = Frame example.last_fragment;
       frames = [];
@@ -42,7 +42,7 @@ returns c =
             (record { whole = lit≤ tt; version = refl; header = lit≤ tt; header_fits = lit≤ tt; total_fits = lit≤ tt; sum = λ on. refl })
             (ipv4.Completed example.ten without notes [] refl refl (record {
               slots = slots;
-              slot_notes = Came example.key example.two ∷ Rebuild example.key example.ten ∷ [];
+              slot_notes = Arrival example.key example.two ∷ Rebuild example.key example.ten ∷ [];
               reassembles = Rebuilt example.waiting_slot [] example.ten (Stood still_there refl) refl ten_rebuilt refl refl refl;
               noted = refl;
               changed = refl;

@@ -8,14 +8,14 @@ use Rattle.control_wire.specs.declared.icmpv4.Icmpv4Repr.TheVariants.{DstUnreach
 use Rattle.control_wire.specs.declared.icmpv4.Icmpv4DstUnreachable.TheVariants.{PortUnreachable}
 use Rattle.host_machine.specs.Udp as udp
 use Rattle.host_machine.specs.ExampleSockets.{datagram, port_unreachable}
-use Rattle.host_machine.proofs.Listening.{nobody}
+use Rattle.host_machine.proofs.ExampleListeners.{nobody}
 use Rattle.net_base.specs.Device.{Frame}
 use Rattle.host_machine.specs.Reply.{Ip}
 use Rattle.host_machine.specs.Packet.{Ipv4}
 use Rattle.host_machine.specs.Packet as packet
 use Rattle.host_machine.specs.Ipv4 as ipv4
 use Rattle.host_machine.specs.Ethernet as ethernet
-use Rattle.host_machine.specs.Dispatch.{ToSomebody, ByHop, OnLink, Known, Whole}
+use Rattle.host_machine.specs.Dispatch.{ToSpecified, ByHop, OnLink, Known, Whole}
 use Rattle.host_machine.specs.Example as example
 use Rattle.host_machine.proofs.Exchange.{is_known, no_slots}
 use Rattle.std.specs.Prelude.{pos}
@@ -28,17 +28,17 @@ returns c = record {
   frames = port_unreachable ∷ [];
   response = record {
     reply = Some (Ip (Ipv4 (record { src_addr = record { bits = 0xc0a84501 }; dst_addr = record { bits = 0xc0a84564 }; hop_limit = 64; payload = packet.Icmpv4 (DstUnreachable PortUnreachable (record { src_addr = record { bits = 0xc0a84564 }; dst_addr = record { bits = 0xc0a84501 }; next_header = protocol.Udp; payload_len = 10; hop_limit = 64 })) (0x13 ∷ 0x88 ∷ 0x1b ∷ 0x39 ∷ 0 ∷ 0x0a ∷ 0x5c ∷ 0xf9 ∷ 0x68 ∷ 0x69 ∷ []) })));
-    taken = example.host 0x1405 example.heard;
+    taken = example.host 0x1405 example.neighbors_after_renewal;
     notes_taking = [];
     notes_responding = example.identify ∷ [];
     takes = rw (no_slots (pos 0)) (ethernet.Accepted (lit≤ tt) refl (ipv4.Read
         (record { whole = lit≤ tt; version = refl; header = lit≤ tt; header_fits = lit≤ tt; total_fits = lit≤ tt; sum = λ on. refl })
-        (ipv4.Whole refl refl (ipv4.Accepted refl (udp.Unheard
+        (ipv4.Whole refl refl (ipv4.Accepted refl (udp.NotAccepted
         (record { whole = lit≤ tt; header_fits = lit≤ tt; fits = lit≤ tt; port = λ e. absurd (omega (arith, e)); sum = λ on summed. refl })
         (nobody _) refl refl refl)))));
     responds = (
       Ok tt,
-      ToSomebody [] refl (ByHop example.sender refl (OnLink refl refl)
+      ToSpecified [] refl (ByHop example.sender refl (OnLink refl refl)
           (Known example.sender_hardware is_known (Whole (lit≤ tt) (record { source = lit≤ tt; destination = lit≤ tt; len = lit≤ tt; ports = tt }) refl refl refl refl))) refl,
     );
     all_notes = refl;

@@ -9,7 +9,7 @@ use Rattle.host_machine.specs.Packet.{Ipv4}
 use Rattle.host_machine.specs.Icmpv4 as icmpv4
 use Rattle.host_machine.specs.Ipv4 as ipv4
 use Rattle.host_machine.specs.Ethernet as ethernet
-use Rattle.host_machine.specs.Dispatch.{ToSomebody, ByHop, OnLink, Known, Whole}
+use Rattle.host_machine.specs.Dispatch.{ToSpecified, ByHop, OnLink, Known, Whole}
 use Rattle.host_machine.specs.Packet as packet
 use Rattle.host_machine.specs.Example as example
 use Rattle.host_machine.proofs.Exchange.{is_known, no_slots}
@@ -23,7 +23,7 @@ returns c = record {
   frames = example.echo_reply ∷ [];
   response = record {
     reply = Some (Ip (Ipv4 (record { src_addr = record { bits = 0xc0a84501 }; dst_addr = record { bits = 0xc0a84564 }; hop_limit = 64; payload = packet.Icmpv4 (EchoReply 0x1234 1) (0x61 ∷ 0x62 ∷ 0x63 ∷ 0x64 ∷ []) })));
-    taken = example.host 0x1405 example.heard;
+    taken = example.host 0x1405 example.neighbors_after_renewal;
     notes_taking = [];
     notes_responding = example.identify ∷ [];
     takes = rw (no_slots (pos 0)) (ethernet.Accepted (lit≤ tt) refl (ipv4.Read
@@ -31,7 +31,7 @@ returns c = record {
         (ipv4.Whole refl refl (ipv4.Accepted refl (icmpv4.Taken (record { whole_header = lit≤ tt; sum = λ on. refl; body = Request refl refl }) refl refl refl)))));
     responds = (
       Ok tt,
-      ToSomebody [] refl (ByHop example.sender refl (OnLink refl refl)
+      ToSpecified [] refl (ByHop example.sender refl (OnLink refl refl)
           (Known example.sender_hardware is_known (Whole (lit≤ tt) (record { source = lit≤ tt; destination = lit≤ tt; len = lit≤ tt; ports = tt }) refl refl refl refl))) refl,
     );
     all_notes = refl;

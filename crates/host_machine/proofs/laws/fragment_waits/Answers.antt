@@ -3,14 +3,14 @@ use Rattle.std.specs.FinMap as map
 use Rattle.std.specs.Prelude.{pos}
 use Rattle.wire_base.specs.Checksum.{word_sum}
 use Rattle.net_base.specs.Device.{Frame}
-use Rattle.fragmentation.specs.Fragments.{Got, nothing}
-use Rattle.fragmentation.specs.Reassembly.{Take, Came, Waits, Taken}
+use Rattle.fragmentation.specs.Fragments.{Got, no_fragments}
+use Rattle.fragmentation.specs.Reassembly.{Take, Arrival, Waits, Taken}
 use Rattle.host_machine.specs.Note.{OfSlots}
 use Rattle.host_machine.specs.Ipv4 as ipv4
 use Rattle.host_machine.specs.Ethernet as ethernet
 use Rattle.host_machine.specs.ExampleFragments as example
 use Rattle.host_machine.proofs.Exchange.{no_slots}
-use Rattle.host_machine.proofs.Fragmented.{none_yet, has_room, first_got, first_waits}
+use Rattle.host_machine.proofs.ExamplePair.{none_yet, has_room, first_got, first_waits}
 use Rattle.host_machine.proofs.laws.fragment_waits.Goals as goal
 
 pub returns : goal.returns
@@ -20,15 +20,15 @@ returns c = record {
   frames = [];
   response = record {
     reply = None;
-    taken = example.waiting;
-    notes_taking = OfSlots (Take example.key) ∷ OfSlots (Came example.key example.one) ∷ [];
+    taken = example.waiting_host;
+    notes_taking = OfSlots (Take example.key) ∷ OfSlots (Arrival example.key example.one) ∷ [];
     notes_responding = [];
     takes = rw (no_slots (pos 0)) (ethernet.Accepted (lit≤ tt) refl (ipv4.Read
         (record { whole = lit≤ tt; version = refl; header = lit≤ tt; header_fits = lit≤ tt; total_fits = lit≤ tt; sum = λ on. refl })
         (ipv4.Part refl refl (record {
-          slots = example.waiting.slots;
-          slot_notes = Take example.key ∷ Came example.key example.one ∷ [];
-          reassembles = Waits (record { got = nothing; ends = pos 60000000 }) (Take example.key ∷ []) (Taken none_yet has_room refl refl) refl first_waits refl refl
+          slots = example.waiting_host.slots;
+          slot_notes = Take example.key ∷ Arrival example.key example.one ∷ [];
+          reassembles = Waits (record { got = no_fragments; ends = pos 60000000 }) (Take example.key ∷ []) (Taken none_yet has_room refl refl) refl first_waits refl refl
               (ap (λ (g : Got). map.insert map.empty example.key (record { got = g; ends = pos 60000000 })) (sym first_got));
           noted = refl;
           changed = refl;

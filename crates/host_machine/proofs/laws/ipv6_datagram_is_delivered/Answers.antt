@@ -10,9 +10,9 @@ use Rattle.host_machine.specs.Udp as udp
 use Rattle.host_machine.specs.Ipv6 as ipv6
 use Rattle.host_machine.specs.Ethernet as ethernet
 use Rattle.host_machine.specs.ExampleDiscovery.{host}
-use Rattle.host_machine.specs.ExampleSockets.{listening, with_socket}
-use Rattle.host_machine.specs.ExampleIpv6.{datagram, heard, reached}
-use Rattle.host_machine.proofs.Listening.{first_is_free}
+use Rattle.host_machine.specs.ExampleSockets.{listening_socket, with_socket}
+use Rattle.host_machine.specs.ExampleIpv6.{datagram, neighbors_after_renewal, socket_with_datagram}
+use Rattle.host_machine.proofs.ExampleListeners.{first_is_free}
 use Rattle.host_machine.proofs.Exchange.{no_slots}
 use Rattle.host_machine.proofs.laws.ipv6_datagram_is_delivered.Goals as goal
 
@@ -23,13 +23,13 @@ returns c = record {
   frames = [];
   response = record {
     reply = None;
-    taken = with_socket reached (host 0x1405 heard);
+    taken = with_socket socket_with_datagram (host 0x1405 neighbors_after_renewal);
     notes_taking = [];
     notes_responding = [];
     takes = rw (no_slots (pos 0)) (ethernet.Accepted (lit≤ tt) refl (ipv6.Read (record { whole = lit≤ tt; version = refl; fits = lit≤ tt })
-        (ipv6.Bare refl (λ e. absurd cc) (ipv6.Accepted refl (udp.Delivered (None ∷ Some (kind.Udp reached) ∷ [])
+        (ipv6.Bare refl (λ e. absurd cc) (ipv6.Accepted refl (udp.Delivered (None ∷ Some (kind.Udp socket_with_datagram) ∷ [])
         (record { whole = lit≤ tt; header_fits = lit≤ tt; fits = lit≤ tt; port = λ e. absurd (omega (arith, e)); sum = λ on summed. refl })
-        (record { index = 1; place = Some (kind.Udp listening); first = record { is_there = refl; accepts = refl; none_before = first_is_free _ (Some (kind.Udp listening) ∷ []) refl }; changed = refl })
+        (record { index = 1; place = Some (kind.Udp listening_socket); first = record { is_there = refl; accepts = refl; none_before = first_is_free _ (Some (kind.Udp listening_socket) ∷ []) refl }; changed = refl })
         refl refl refl)))));
     responds = (refl, refl, refl);
     all_notes = refl;

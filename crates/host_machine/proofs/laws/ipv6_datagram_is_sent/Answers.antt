@@ -4,7 +4,7 @@ use Rattle.wire_base.specs.Checksum.{word_sum}
 use Rattle.wire_base.specs.Pseudo.{pseudo}
 use Rattle.ip_wire.specs.Udp.{header_with}
 use Rattle.ipv6_wire.specs.Ipv6Packet.{header_text, address_text}
-use Rattle.host_machine.specs.Dispatch.{ToSomebody, ByHop, OnLink, Known, Whole}
+use Rattle.host_machine.specs.Dispatch.{ToSpecified, ByHop, OnLink, Known, Whole}
 use Rattle.host_machine.specs.Example as example
 use Rattle.host_machine.specs.ExampleIpv6.{sender}
 use Rattle.host_machine.proofs.Exchange.{is_learnt_v6}
@@ -12,4 +12,4 @@ use Rattle.host_machine.proofs.laws.ipv6_datagram_is_sent.Goals as goal
 
 pub returns : goal.returns
 unfolding word_sum pseudo header_text address_text bits header_with
-returns c = ToSomebody [] refl (ByHop sender refl (OnLink refl refl) (Known example.sender_hardware is_learnt_v6 (Whole (lit≤ tt) (record { source = lit≤ tt; destination = lit≤ tt; len = lit≤ tt; ports = (lit≤ tt, lit≤ tt) }) refl refl refl refl))) refl
+returns c = ToSpecified [] refl (ByHop sender refl (OnLink refl refl) (Known example.sender_hardware is_learnt_v6 (Whole (lit≤ tt) (record { source = lit≤ tt; destination = lit≤ tt; len = lit≤ tt; ports = (lit≤ tt, lit≤ tt) }) refl refl refl refl))) refl

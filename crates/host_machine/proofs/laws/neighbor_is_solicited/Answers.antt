@@ -11,15 +11,15 @@ use Rattle.ipv6_wire.specs.Ipv6Packet.{header_text, address_text}
 use Rattle.icmpv6_wire.specs.Icmpv6.{head_with}
 use Rattle.icmpv6_wire.specs.NdiscOption.{lladdr_text}
 use Rattle.host_machine.specs.Note.{OfDiscovery, OfIdentification, Ask, Identify}
-use Rattle.host_machine.specs.Dispatch.{ToSomebody, ByHop, OnLink, Unknown, Solicited}
-use Rattle.host_machine.specs.Example.{nobody}
+use Rattle.host_machine.specs.Dispatch.{ToSpecified, ByHop, OnLink, Unknown, Solicited}
+use Rattle.host_machine.specs.Example.{no_neighbors}
 use Rattle.host_machine.specs.ExampleDiscovery as example
 use Rattle.host_machine.proofs.laws.neighbor_is_solicited.Goals as goal
 
-is_unknown : answer_of (nobody (pos 0)) (Ipv6 example.neighbor) (pos 0) ≡ NotFound
+is_unknown : answer_of (no_neighbors (pos 0)) (Ipv6 example.neighbor) (pos 0) ≡ NotFound
 is_unknown = rw get-empty refl
 
 pub returns : goal.returns
 unfolding word_sum pseudo header_text address_text head_with lladdr_text bits
-returns c = ToSomebody (OfIdentification (Identify 0x1406) ∷ OfDiscovery (Ask (pos 0)) ∷ []) refl (ByHop (Ipv6 example.neighbor) refl (OnLink refl refl)
+returns c = ToSpecified (OfIdentification (Identify 0x1406) ∷ OfDiscovery (Ask (pos 0)) ∷ []) refl (ByHop (Ipv6 example.neighbor) refl (OnLink refl refl)
     (Unknown is_unknown (Solicited example.neighbor refl refl refl refl refl))) refl

@@ -3,18 +3,18 @@ use Rattle.wire_base.specs.Checksum.{word_sum}
 use Rattle.ip_wire.specs.Ipv4Packet.{header_with, front, back}
 use Rattle.fragmentation.specs.Cuts.{piece_of}
 use Rattle.host_machine.specs.Note.{OfCuts, Cut, PieceSent}
-use Rattle.host_machine.specs.Dispatch.{ToSomebody, ByHop, OnLink, Known, InPieces}
-use Rattle.host_machine.specs.Egress.{NoLeave, PieceGoes, Begins, Whole}
+use Rattle.host_machine.specs.Dispatch.{ToSpecified, ByHop, OnLink, Known, InPieces}
+use Rattle.host_machine.specs.Egress.{NotGranted, PieceGoes, Begins, Whole}
 use Rattle.host_machine.specs.Example as host
 use Rattle.host_machine.specs.ExampleFragments as example
-use Rattle.host_machine.proofs.Begun.{no_groups}
+use Rattle.host_machine.proofs.RoundWithoutPieces.{no_groups}
 use Rattle.host_machine.proofs.Exchange.{is_known}
 use Rattle.host_machine.proofs.laws.packet_goes_in_pieces.Goals as goal
 
 pub returns : goal.returns
 unfolding word_sum header_with front back
 returns c = record {
-  first = ToSomebody (OfCuts (Cut example.datagram) ∷ OfCuts (PieceSent (piece_of example.datagram example.one)) ∷ []) refl (ByHop host.sender refl (OnLink refl refl)
+  first = ToSpecified (OfCuts (Cut example.datagram) ∷ OfCuts (PieceSent (piece_of example.datagram example.one)) ∷ []) refl (ByHop host.sender refl (OnLink refl refl)
       (Known host.sender_hardware is_known (InPieces example.ten_to_another (piece_of example.datagram example.one) (piece_of example.datagram example.two ∷ []) refl (lit≤ tt) refl refl
       (record { source_addr = lit≤ tt; destination_addr = lit≤ tt; identification = lit≤ tt; payload = lit≤ tt }) (record { source = lit≤ tt; destination = lit≤ tt; len = lit≤ tt; ports = tt }) refl refl refl refl))) refl;
   waits = record {
@@ -25,7 +25,7 @@ returns c = record {
       told_two = [];
       notes_one = [];
       notes_two = [];
-      begins = NoLeave (piece_of example.datagram example.two) [] refl refl refl refl;
+      begins = NotGranted (piece_of example.datagram example.two) [] refl refl refl refl;
       ends = no_groups refl refl refl refl refl (Whole Begins);
       events = refl;
       all_notes = refl;
@@ -35,7 +35,7 @@ returns c = record {
   last = record {
     changed = false;
     round = record {
-      mid = example.narrow 8;
+      mid = example.narrow_host 8;
       told_one = _;
       told_two = [];
       notes_one = OfCuts (PieceSent (piece_of example.datagram example.two)) ∷ [];

@@ -3,45 +3,45 @@ use Rattle.host_machine.specs.Egress.{NoPiece, Begins, Whole}
 use Rattle.host_machine.specs.Multicast as groups
 use Rattle.host_machine.specs.Reports as reports
 use Rattle.host_machine.specs.Slaac as slaac
-use Rattle.host_machine.specs.ExampleGroups.{busy}
+use Rattle.host_machine.specs.ExampleGroups.{busy_host}
 use Rattle.host_machine.proofs.laws.refusals_are_apart.Goals as goal
 
 pub returns : goal.returns
 returns c = record {
-  mid = busy;
+  mid = busy_host;
   told_one = _;
   told_two = _;
   notes_one = _;
   notes_two = _;
   begins = NoPiece refl refl refl refl;
   ends = record {
-    mid = busy;
+    mid = busy_host;
     told_one = _;
     told_two = _;
     notes_one = _;
     notes_two = _;
-    begins = slaac.NoLeave _ refl refl refl refl;
+    begins = slaac.NotGranted _ refl refl refl refl;
     ends = record {
-      mid = busy;
+      mid = busy_host;
       told_one = _;
       told_two = _;
       notes_one = _;
       notes_two = _;
       begins = groups.UpToRefusal (groups.Refused _ _ groups.Begins refl refl);
       ends = record {
-        mid = busy;
+        mid = busy_host;
         told_one = _;
         told_two = _;
         notes_one = _;
         notes_two = _;
         begins = groups.UpToRefusal (groups.Refused _ _ groups.Begins refl refl);
         ends = record {
-          mid = busy;
+          mid = busy_host;
           told_one = _;
           told_two = _;
           notes_one = _;
           notes_two = _;
-          begins = reports.NoLeave _ refl refl refl refl refl;
+          begins = reports.NotGranted _ refl refl refl refl refl;
           ends = record {
             mid = _;
             told_one = _;

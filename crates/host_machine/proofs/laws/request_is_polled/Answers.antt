@@ -6,13 +6,13 @@ use Rattle.host_machine.specs.Host.{at}
 use Rattle.host_machine.specs.Polling as polling
 use Rattle.host_machine.specs.Example as example
 use Rattle.host_machine.proofs.Exchange.{no_slots}
-use Rattle.host_machine.proofs.Answered.{request_answered, nothing_taken, nothing_sent}
+use Rattle.host_machine.proofs.ArpExchange.{request_answered, nothing_taken, nothing_sent}
 use Rattle.host_machine.proofs.laws.request_is_polled.Goals as goal
 
 pub returns : goal.returns
 returns c = record {
   not_asked_for = record {
-    mid = at (example.host 0x1405 (example.nobody (pos 0))) (pos 5);
+    mid = at (example.host 0x1405 (example.no_neighbors (pos 0))) (pos 5);
     received = false;
     went = false;
     told_receiving = [];
@@ -26,7 +26,7 @@ returns c = record {
     answers = refl;
   };
   taken = record {
-    mid = example.host 0x1405 example.learnt;
+    mid = example.host 0x1405 example.neighbors_with_sender;
     received = true;
     went = false;
     told_receiving = Received (pos 0) (Frame example.request) ∷ Sent 0 example.reply ∷ [];
@@ -40,14 +40,14 @@ returns c = record {
     answers = refl;
   };
   taken_alone = record {
-    mid = example.host 0x1405 example.learnt;
+    mid = example.host 0x1405 example.neighbors_with_sender;
     received = true;
     went = false;
     told_receiving = Received (pos 0) (Frame example.request) ∷ Sent 0 example.reply ∷ Received (pos 0) Nothing ∷ [];
     told_sending = [];
     notes_receiving = [];
     notes_sending = [];
-    receives = rw (no_slots (pos 0)) (polling.Done 1 (Received (pos 0) (Frame example.request) ∷ Sent 0 example.reply ∷ []) (Received (pos 0) Nothing ∷ []) [] [] (example.host 0x1405 example.learnt) (omega arith)
+    receives = rw (no_slots (pos 0)) (polling.Done 1 (Received (pos 0) (Frame example.request) ∷ Sent 0 example.reply ∷ []) (Received (pos 0) Nothing ∷ []) [] [] (example.host 0x1405 example.neighbors_with_sender) (omega arith)
         (polling.Again ingress.SocketStateChanged _ _ _ polling.Begins request_answered (λ same. absurd cc)) nothing_taken refl refl);
     sends = polling.Done 0 [] [] [] [] _ (omega arith) polling.Begins nothing_sent refl refl;
     events = refl;

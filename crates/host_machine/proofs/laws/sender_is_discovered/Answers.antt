@@ -12,7 +12,7 @@ use Rattle.host_machine.specs.Packet.{Ipv4}
 use Rattle.host_machine.specs.Icmpv4 as icmpv4
 use Rattle.host_machine.specs.Ipv4 as ipv4
 use Rattle.host_machine.specs.Ethernet as ethernet
-use Rattle.host_machine.specs.Dispatch.{ToSomebody, ByHop, OnLink, Unknown, Asked}
+use Rattle.host_machine.specs.Dispatch.{ToSpecified, ByHop, OnLink, Unknown, Asked}
 use Rattle.host_machine.specs.Packet as packet
 use Rattle.host_machine.specs.Example as example
 use Rattle.host_machine.proofs.Exchange.{is_unknown, none_renewed, no_slots}
@@ -25,7 +25,7 @@ returns c = record {
   frames = example.discovery ∷ [];
   response = record {
     reply = Some (Ip (Ipv4 (record { src_addr = record { bits = 0xc0a84501 }; dst_addr = record { bits = 0xc0a84564 }; hop_limit = 64; payload = packet.Icmpv4 (EchoReply 0x1234 1) (0x61 ∷ 0x62 ∷ 0x63 ∷ 0x64 ∷ []) })));
-    taken = example.host 0x1405 (example.nobody (pos 0));
+    taken = example.host 0x1405 (example.no_neighbors (pos 0));
     notes_taking = [];
     notes_responding = example.identify ∷ OfDiscovery (Ask (pos 0)) ∷ [];
     takes = rw (no_slots (pos 0)) (ethernet.Accepted (lit≤ tt) refl (ipv4.Read
@@ -33,7 +33,7 @@ returns c = record {
         (ipv4.Whole refl refl (ipv4.Accepted refl (icmpv4.Taken (record { whole_header = lit≤ tt; sum = λ on. refl; body = Request refl refl }) refl refl (ap (example.host 0x1405) (sym none_renewed)))))));
     responds = (
       Err NeighborPending,
-      ToSomebody (OfDiscovery (Ask (pos 0)) ∷ []) refl (ByHop example.sender refl (OnLink refl refl)
+      ToSpecified (OfDiscovery (Ask (pos 0)) ∷ []) refl (ByHop example.sender refl (OnLink refl refl)
           (Unknown is_unknown (Asked (record { bits = 0xc0a84564 }) (record { bits = 0xc0a84501 }) refl refl refl refl refl refl))) refl,
     );
     all_notes = refl;

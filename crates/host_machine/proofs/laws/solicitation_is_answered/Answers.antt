@@ -17,10 +17,10 @@ use Rattle.host_machine.specs.Ndisc as ndisc
 use Rattle.host_machine.specs.Icmpv6 as icmpv6
 use Rattle.host_machine.specs.Ipv6 as ipv6
 use Rattle.host_machine.specs.Ethernet as ethernet
-use Rattle.host_machine.specs.Dispatch.{ToSomebody, ByHop, OnLink, Known, Whole}
+use Rattle.host_machine.specs.Dispatch.{ToSpecified, ByHop, OnLink, Known, Whole}
 use Rattle.host_machine.specs.Example as example
 use Rattle.host_machine.specs.ExampleDiscovery.{host, own, neighbor}
-use Rattle.host_machine.specs.ExampleIpv6.{advertisement, learnt, sender, solicitation}
+use Rattle.host_machine.specs.ExampleIpv6.{advertisement, neighbors_with_sender, sender, solicitation}
 use Rattle.host_machine.proofs.Exchange.{is_learnt_v6, no_slots}
 use Rattle.host_machine.proofs.laws.solicitation_is_answered.Goals as goal
 
@@ -31,7 +31,7 @@ returns c = record {
   frames = advertisement ∷ [];
   response = record {
     reply = Some (Ip (ndisc.advertisement_of (record { 0 = 2 ∷ 0 ∷ 0 ∷ 0 ∷ 0 ∷ 1 ∷ [] }) (record { src_addr = neighbor; dst_addr = record { bits = 0xff02_0000_0000_0000_0000_0001_ff00_0001 }; next_header = protocol.Icmpv6; payload_len = 32; hop_limit = 255 }) own));
-    taken = host 0x1405 learnt;
+    taken = host 0x1405 neighbors_with_sender;
     notes_taking = [];
     notes_responding = example.identify ∷ [];
     takes = rw (no_slots (pos 0)) (ethernet.Accepted (lit≤ tt) refl (ipv6.Read (record { whole = lit≤ tt; version = refl; fits = lit≤ tt })
@@ -47,9 +47,9 @@ returns c = record {
           });
         })
         (ndisc.FromNeighbor (record { 0 = 2 ∷ 0 ∷ 0 ∷ 0 ∷ 0 ∷ 1 ∷ [] }) refl refl (ndisc.Solicited own (Some (record { 0 = 2 ∷ 0 ∷ 0 ∷ 0 ∷ 0 ∷ 2 ∷ [] })) refl
-        (record { neighbors = learnt; filled = record { puts = record { there = λ h. refl; room = λ h. refl; full = λ none four. absurd (omega (arith, len-empty address_cmp Neighbor)) }; silence = refl }; same = refl })
+        (record { neighbors = neighbors_with_sender; filled = record { puts = record { there = λ h. refl; room = λ h. refl; full = λ none four. absurd (omega (arith, len-empty address_cmp Neighbor)) }; silence = refl }; same = refl })
         refl refl)))))));
-    responds = (Ok tt, ToSomebody [] refl (ByHop sender refl (OnLink refl refl) (Known example.sender_hardware is_learnt_v6 (Whole (lit≤ tt) (record { source = lit≤ tt; destination = lit≤ tt; len = lit≤ tt; ports = tt }) refl refl refl refl))) refl);
+    responds = (Ok tt, ToSpecified [] refl (ByHop sender refl (OnLink refl refl) (Known example.sender_hardware is_learnt_v6 (Whole (lit≤ tt) (record { source = lit≤ tt; destination = lit≤ tt; len = lit≤ tt; ports = tt }) refl refl refl refl))) refl);
     all_notes = refl;
   };
   events = refl;

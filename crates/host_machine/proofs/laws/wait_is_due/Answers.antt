@@ -7,7 +7,7 @@ use Rattle.host_machine.specs.Due.{Passed, Left}
 use Rattle.host_machine.specs.Example as example
 use Rattle.host_machine.specs.ExampleSockets.{sending, with_sending}
 use Rattle.host_machine.proofs.Exchange.{is_silent, is_unknown_later}
-use Rattle.host_machine.proofs.Least.{below_none, below_more, due_least, socket_least}
+use Rattle.host_machine.proofs.EarliestInstant.{below_none, below_more, due_least, socket_least}
 use Rattle.host_machine.proofs.laws.wait_is_due.Goals as goal
 
 pub returns : goal.returns
@@ -22,5 +22,5 @@ returns c = record {
       due_least H (Some (pos 0)) (below_more H 0 None (Some (pos 0)) (below_none H)
       (socket_least H 0 (kind.Udp sending) false refl (OfHost (Some example.sender) refl (OnLink refl refl) (rw is_unknown_later refl))));
   without_rest = Passed (omega (arith, ints));
-  never = due_least (example.host 0x1405 example.learnt) None (below_none (example.host 0x1405 example.learnt));
+  never = due_least (example.host 0x1405 example.neighbors_with_sender) None (below_none (example.host 0x1405 example.neighbors_with_sender));
 }

@@ -1,4 +1,4 @@
-use Rattle.iface_egress.proofs.Turned.{decided}
+use Rattle.iface_egress.proofs.SocketTurns.{decided}
 use Rattle.iface_egress.proofs.egress.is_permitted.Goals as goal
 
 pub returns : goal.returns

@@ -1,4 +1,4 @@
-use Rattle.iface_egress.proofs.Turned.{given_gone, given_kept, not_given}
+use Rattle.iface_egress.proofs.SocketTurns.{given_gone, given_kept, not_given}
 use Rattle.iface_egress.proofs.egress.send.Goals as goal
 
 pub returns-then-not-transmit : goal.returns-then-not-transmit

@@ -1,5 +1,5 @@
 use Rattle.std.proofs.Common.{refl}
-use Rattle.iface_egress.proofs.Turned.{no_packet}
+use Rattle.iface_egress.proofs.SocketTurns.{no_packet}
 use Rattle.iface_egress.proofs.egress.send_datagram.Goals as goal
 
 pub returns-in_default : goal.returns-in_default

@@ -1,4 +1,4 @@
-use Rattle.iface_egress.proofs.Turned.{idle_served}
+use Rattle.iface_egress.proofs.SocketTurns.{idle_served}
 use Rattle.iface_egress.proofs.egress.serve.Goals as goal
 
 pub returns-then-rest-clause-told : goal.returns-then-rest-clause-told

@@ -1,7 +1,7 @@
 use Rattle.std.proofs.Common.{◌∙◌, ◌+◌, ◌≡◌, arith, length, refl, sym}
 use Rattle.fragmentation.specs.Slots.{Slots}
 use Rattle.iface_send.specs.Stands.{host_in}
-use Rattle.iface_egress.proofs.Turned.{none_served, one_served, all_served, idle_passed, one_refused}
+use Rattle.iface_egress.proofs.SocketTurns.{none_served, one_served, all_served, idle_passed, one_refused}
 use Rattle.iface_egress.proofs.egress.socket_egress.Goals as goal
 
 pub loop-index-init : goal.loop-index-init
@@ -28,9 +28,9 @@ loop-index-preserved g c =
     let idle = c.next_busy-index-in-loop-index.ensures in
     let next = c.loop-index.index + 1 in
     let served = λ (slots : Slots). one_served g.met.D.Device.tells_on c.serve-turn.result (c.loop-index.invariant.0 slots) (c.serve-turn.ensures.told slots) (sym c.is_exhausted.ensures ∙ c.if-is_exhausted.false) in (
-      λ slots. rw c.is_gone-changed.ensures
+      λ slots. rw c.is_done-changed.ensures
           (idle_passed g.met.D.Device.tells_on (g.met.D.Device.tells_nothing c.serve-turn.new.device) c.serve-turn.new.context slots c.serve-turn.new.sockets next c.next_busy-index-in-loop-index.result
-          (idle.behind (omega (arith, c.serve-turn.ensures.places))) idle.within idle.idle (served slots)),
+          (idle.after (omega (arith, c.serve-turn.ensures.places))) idle.within idle.idle (served slots)),
       c.serve-turn.ensures.places ∙ c.loop-index.invariant.1,
       idle.within,
     )

@@ -4,11 +4,11 @@ use Rattle.group_table.specs.Groups.{count_in, join_reported}
 use Rattle.host_machine.specs.Multicast.{join_packet}
 use Rattle.iface_egress.specs.Multicast.{HasPart}
 use Rattle.iface_egress.specs.Told.{Told}
-use Rattle.iface_egress.proofs.Groups.{TellsSo}
+use Rattle.iface_egress.proofs.Groups.{ReportsSo}
 use Rattle.iface_egress.proofs.multicast.joins_egress.Given as goal
 
 abbrev pub invariant-loop-group : goal.invariant-loop-group
-invariant-loop-group g l = Told g.D.Device.tells l.fn.device l.device (HasPart (TellsSo Joining join_packet join_reported true) l.fn.context) l.context
+invariant-loop-group g l = Told g.D.Device.tells l.fn.device l.device (HasPart (ReportsSo Joining join_packet join_reported true) l.fn.context) l.context
 
 abbrev pub decreases-loop-group : goal.decreases-loop-group
 decreases-loop-group g l = count_in Joining l.context.multicast.groups

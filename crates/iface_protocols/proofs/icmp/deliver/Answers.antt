@@ -1,11 +1,11 @@
 use Rattle.socket_set.specs.SocketSet.{socket_at}
 use Rattle.host_machine.specs.Icmp.{accepts}
-use Rattle.iface_protocols.proofs.Each.{set_kept}
-use Rattle.iface_protocols.proofs.Elsewhere.{nobody_at_all, not_icmp}
+use Rattle.iface_protocols.proofs.SocketIteration.{set_kept}
+use Rattle.iface_protocols.proofs.OtherPorts.{none_accepts_at_all, not_icmp}
 use Rattle.iface_protocols.proofs.icmp.deliver.Goals as goal
 
 pub returns-then-not-may_have_portless : goal.returns-then-not-may_have_portless
 returns-then-not-may_have_portless c =
     let ported = c.may_have_portless.ensures c.if-not-may_have_portless.true in
     let test = accepts c.args.message.now c.args.contents.now in
-    set_kept _ _ c.args.sockets.now (nobody_at_all test c.args.sockets.now (λ k. not_icmp c.args.message.now c.args.contents.now (socket_at c.args.sockets.now k) (ported k)))
+    set_kept _ _ c.args.sockets.now (none_accepts_at_all test c.args.sockets.now (λ k. not_icmp c.args.message.now c.args.contents.now (socket_at c.args.sockets.now k) (ported k)))

@@ -1,8 +1,8 @@
 use Rattle.std.proofs.Common.{◌≡◌, ◌<◌, ◌+◌, None, ap, arith, length, refl, ◌∙◌}
 use Rattle.socket_set.specs.SocketSet.{with_places}
-use Rattle.host_machine.specs.Icmp.{accepts, delivered}
-use Rattle.iface_protocols.proofs.Each.{one_heard, all_mapped}
-use Rattle.iface_protocols.proofs.Elsewhere.{not_icmp, walk_passed}
+use Rattle.host_machine.specs.Icmp.{accepts, storage_after_delivery}
+use Rattle.iface_protocols.proofs.SocketIteration.{one_heard, all_mapped}
+use Rattle.iface_protocols.proofs.OtherPorts.{not_icmp, walk_passed}
 use Rattle.iface_protocols.proofs.icmp.deliver_to_each.Goals as goal
 
 pub loop-index-init : goal.loop-index-init
@@ -11,7 +11,7 @@ loop-index-init c =
     let next = c.next_at-index.ensures in (
       next.within,
       refl,
-      walk_passed None (accepts c.args.message.now c.args.contents.now) (delivered c.args.remote c.args.octets.now) (not_icmp c.args.message.now c.args.contents.now) set set 0 c.next_at-index.result (omega arith) refl next.passed,
+      walk_passed None (accepts c.args.message.now c.args.contents.now) (storage_after_delivery c.args.remote c.args.octets.now) (not_icmp c.args.message.now c.args.contents.now) set set 0 c.next_at-index.result (omega arith) refl next.passed,
     )
 
 pub loop-index-preserved : goal.loop-index-preserved
@@ -25,7 +25,7 @@ loop-index-preserved c =
     let heard = one_heard _ set c.loop-index.sockets now i within c.loop-index.invariant.2 c.deliver_at.ensures.heard in (
       omega (arith, next.within, same),
       same,
-      walk_passed None (accepts c.args.message.now c.args.contents.now) (delivered c.args.remote c.args.octets.now) (not_icmp c.args.message.now c.args.contents.now) set now (i + 1) c.next_at-index-in-loop-index.result (next.behind (omega (arith, same, within))) heard next.passed,
+      walk_passed None (accepts c.args.message.now c.args.contents.now) (storage_after_delivery c.args.remote c.args.octets.now) (not_icmp c.args.message.now c.args.contents.now) set now (i + 1) c.next_at-index-in-loop-index.result (next.after (omega (arith, same, within))) heard next.passed,
     )
 
 pub returns : goal.returns

@@ -2,7 +2,7 @@ use Rattle.std.proofs.Common.{ap, ◌∙◌, refl}
 use Rattle.net_base.specs.Checksum.{is_rx}
 use Rattle.iface_send.specs.Stands.{host_in}
 use Rattle.iface_protocols.proofs.Processing.{answered, unanswered}
-use Rattle.iface_protocols.proofs.Received.{icmpv4_malformed, icmpv4_taken}
+use Rattle.iface_protocols.proofs.PayloadRules.{icmpv4_malformed, icmpv4_taken}
 use Rattle.iface_protocols.proofs.icmpv4.process_icmpv4.Goals as goal
 
 pub returns-in_default : goal.returns-in_default

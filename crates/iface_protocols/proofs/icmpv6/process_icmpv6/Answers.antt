@@ -2,7 +2,7 @@ use Rattle.std.proofs.Common.{ap, ◌∙◌}
 use Rattle.net_base.specs.Checksum.{is_rx}
 use Rattle.iface_send.specs.Stands.{host_in}
 use Rattle.iface_protocols.proofs.Processing.{unanswered}
-use Rattle.iface_protocols.proofs.Received.{icmpv6_malformed}
+use Rattle.iface_protocols.proofs.PayloadRules.{icmpv6_malformed}
 use Rattle.iface_protocols.proofs.icmpv6.process_icmpv6.Goals as goal
 
 pub returns-then-not-is_sound : goal.returns-then-not-is_sound

@@ -4,7 +4,7 @@ use Rattle.icmpv6_wire.specs.Icmpv6.{Neighbor}
 use Rattle.iface_send.specs.Stands.{host_in}
 use Rattle.iface_protocols.proofs.Processing.{by_rule, unanswered}
 use Rattle.iface_protocols.proofs.Messages.{a_neighbor, of_neighbors}
-use Rattle.iface_protocols.proofs.Received.{icmpv6_malformed, icmpv6_taken}
+use Rattle.iface_protocols.proofs.PayloadRules.{icmpv6_malformed, icmpv6_taken}
 use Rattle.iface_protocols.proofs.icmpv6.process_neighbor.Goals as goal
 
 pub returns-in_default : goal.returns-in_default

@@ -3,7 +3,7 @@ use Rattle.icmpv6_wire.specs.declared.icmpv6.Icmpv6Repr.{Icmpv6Repr}
 use Rattle.iface_send.specs.Stands.{host_in}
 use Rattle.iface_protocols.proofs.Processing.{by_rule, unanswered}
 use Rattle.iface_protocols.proofs.Messages.{no_neighbor}
-use Rattle.iface_protocols.proofs.Received.{icmpv6_malformed, icmpv6_taken}
+use Rattle.iface_protocols.proofs.PayloadRules.{icmpv6_malformed, icmpv6_taken}
 use Rattle.iface_protocols.proofs.icmpv6.process_other.Goals as goal
 
 pub returns-in_default : goal.returns-in_default

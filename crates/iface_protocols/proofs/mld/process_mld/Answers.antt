@@ -1,5 +1,5 @@
 use Rattle.iface_send.specs.Stands.{host_in}
-use Rattle.iface_protocols.proofs.Grouping.{mld_taken}
+use Rattle.iface_protocols.proofs.GroupQueries.{mld_taken}
 use Rattle.iface_protocols.proofs.mld.process_mld.Goals as goal
 
 pub returns-in-Query : goal.returns-in-Query

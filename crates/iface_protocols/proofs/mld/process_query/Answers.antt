@@ -2,9 +2,9 @@ use Rattle.std.proofs.Common.{◌≡◌, ap, sym, ◌∙◌}
 use Rattle.std.specs.Prelude.{ℤ, pos, ◌+ℤ◌}
 use Rattle.group_table.specs.declared.report.MldReportState.{MldReportState}
 use Rattle.host_machine.specs.Host.{Host, no_sockets, with_slots}
-use Rattle.host_machine.specs.Reports.{delay, drawn, mld_report_for, with_mld_report}
+use Rattle.host_machine.specs.Reports.{delay, random_after_draw, mld_report_for, with_mld_report}
 use Rattle.iface_send.specs.Stands.{host_in, host_of}
-use Rattle.iface_protocols.proofs.Grouping.{from_near}
+use Rattle.iface_protocols.proofs.GroupQueries.{from_near}
 use Rattle.iface_protocols.proofs.mld.process_query.Goals as goal
 
 pub returns : goal.returns
@@ -21,4 +21,4 @@ returns c = λ slots sockets.
     from_near c.args.header.now code group (host_in old slots sockets) (host_in c.set_mld_report.new.context slots sockets)
     (sym c.is_near.ensures ∙ c.if-not-is_near.false)
     (ap (λ H. with_slots H slots) (c.set_mld_report.ensures sockets) ∙ ap (λ (H : Host). with_slots (with_mld_report H c.report_for-report.result) slots) (c.delay-delay.ensures.drawn sockets)
-    ∙ ap (λ (r : MldReportState). with_slots (with_mld_report (record (host_of old sockets) { random = drawn code old.rand }) r) slots) report)
+    ∙ ap (λ (r : MldReportState). with_slots (with_mld_report (record (host_of old sockets) { random = random_after_draw code old.rand }) r) slots) report)

@@ -1,5 +1,5 @@
 use Rattle.std.proofs.Common.{sym}
-use Rattle.iface_protocols.proofs.Received.{put_back}
+use Rattle.iface_protocols.proofs.PayloadRules.{put_back}
 use Rattle.iface_protocols.proofs.udp.deliver_at.Goals as goal
 
 pub returns-then-not-accepts-clause-kept : goal.returns-then-not-accepts-clause-kept

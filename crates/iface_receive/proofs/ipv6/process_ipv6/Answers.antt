@@ -2,7 +2,7 @@ use Rattle.std.proofs.Common.{sym, ◌∙◌}
 use Rattle.host_machine.specs.Ipv6.{Bare, FromNoHost, WithOptions}
 use Rattle.iface_send.specs.Stands.{host_in}
 use Rattle.iface_protocols.proofs.Processing.{by_rule, dropped, unanswered}
-use Rattle.iface_receive.proofs.ReceivedV6.{ipv6_malformed, ipv6_read}
+use Rattle.iface_receive.proofs.PacketRulesV6.{ipv6_malformed, ipv6_read}
 use Rattle.iface_receive.proofs.ipv6.process_ipv6.Goals as goal
 
 pub returns-in_default : goal.returns-in_default
@@ -18,6 +18,6 @@ returns-then-number c = by_rule c.process_hop_by_hop.ensures (λ slots reply not
     (WithOptions (sym c.is_unicast.ensures ∙ c.if-not-is_unicast.false) (sym c.number.ensures ∙ c.if-number.true ∙ c.number-2.ensures) takes))
 
 pub returns : goal.returns
-returns c = by_rule c.process_payload.ensures (λ slots reply notes taken takes.
+returns c = by_rule c.process_datagram_v6.ensures (λ slots reply notes taken takes.
     ipv6_read c.args.source (host_in c.args.context.now slots c.args.sockets.now) taken c.args.octets.now c.in-Some.payload.now c.in-Some.header reply notes c.in-Some.ensures
     (Bare (sym c.is_unicast.ensures ∙ c.if-not-is_unicast.false) (λ e. c.if-number.false (c.number.ensures ∙ e ∙ sym c.number-2.ensures)) takes))

@@ -1,20 +1,20 @@
 use Rattle.std.proofs.Common.{length, sym, ap, ◌∙◌, arith}
 use Rattle.std.specs.List.{refill}
 use Rattle.ip_address.specs.Ip.{address_cmp}
-use Rattle.iface_tables.specs.Entries.{place_of}
+use Rattle.iface_tables.specs.Entries.{index_of}
 use Rattle.iface_tables.proofs.NeighborLemmas.{RenewsIn, has_address, renewed_there, renewed_other, renewed_none}
 use Rattle.iface_tables.proofs.SettleLemmas.{refilled}
 use Rattle.iface_tables.proofs.neighbor.renew_in.Goals as goal
 
 pub returns-then-place-len-clause-renews : goal.returns-then-place-len-clause-renews
 returns-then-place-len-clause-renews c =
-    renewed_none c.args.entries.now.items c.args.address.now c.args.hardware_addr.now c.args.expires_at c.place_of-place.result
-    (c.place_of-place.ensures ∙ ap (place_of address_cmp c.args.address.now) c.as_slice.ensures.value) (omega (arith, c.len.ensures.value))
+    renewed_none c.args.entries.now.items c.args.address.now c.args.hardware_addr.now c.args.expires_at c.index_of-place.result
+    (c.index_of-place.ensures ∙ ap (index_of address_cmp c.args.address.now) c.as_slice.ensures.value) (omega (arith, c.len.ensures.value))
 
 pub returns-then-not-is_same-clause-renews : goal.returns-then-not-is_same-clause-renews
 returns-then-not-is_same-clause-renews c =
-    renewed_other c.args.entries.now.items c.args.address.now c.args.hardware_addr.now c.args.expires_at c.index-as_slice-place.result c.place_of-place.result
-    (c.place_of-place.ensures ∙ ap (place_of address_cmp c.args.address.now) c.as_slice.ensures.value) (omega (arith, c.len.ensures.value))
+    renewed_other c.args.entries.now.items c.args.address.now c.args.hardware_addr.now c.args.expires_at c.index-as_slice-place.result c.index_of-place.result
+    (c.index_of-place.ensures ∙ ap (index_of address_cmp c.args.address.now) c.as_slice.ensures.value) (omega (arith, c.len.ensures.value))
     (rw c.as_slice-2.ensures.value at c.index-as_slice-place.is) (sym c.is_same.ensures ∙ c.if-not-is_same.true)
 
 pub settle_renewed-requires-clause-order : goal.settle_renewed-requires-clause-order
@@ -22,15 +22,15 @@ settle_renewed-requires-clause-order c = rw c.as_mut_slice.ensures.value c.requi
 
 pub settle_renewed-requires-clause-same : goal.settle_renewed-requires-clause-same
 settle_renewed-requires-clause-same c = rw c.as_mut_slice.ensures.value (
-    has_address c.args.entries.now.items c.args.address.now c.index-as_slice-place.result c.place_of-place.result
-    (c.place_of-place.ensures ∙ ap (place_of address_cmp c.args.address.now) c.as_slice.ensures.value) (omega (arith, c.len.ensures.value))
+    has_address c.args.entries.now.items c.args.address.now c.index-as_slice-place.result c.index_of-place.result
+    (c.index_of-place.ensures ∙ ap (index_of address_cmp c.args.address.now) c.as_slice.ensures.value) (omega (arith, c.len.ensures.value))
     (rw c.as_slice-2.ensures.value at c.index-as_slice-place.is))
 
 renewed : (c : goal.After-entries-1) → RenewsIn c.args.entries.now.items (refill (length c.args.entries.now.items) c.args.entries.now.items c.settle_renewed.new.entries) c.args.address.now c.args.hardware_addr.now c.args.expires_at
 renewed c =
     rw (refilled c.args.entries.now.items c.settle_renewed.new.entries (c.settle_renewed.auto.entries ∙ ap length c.as_mut_slice.ensures.value))
-    (renewed_there c.args.entries.now.items c.settle_renewed.new.entries c.args.address.now c.args.hardware_addr.now c.args.expires_at c.index-as_slice-place.result c.place_of-place.result c.requires
-    (c.place_of-place.ensures ∙ ap (place_of address_cmp c.args.address.now) c.as_slice.ensures.value) (omega (arith, c.len.ensures.value))
+    (renewed_there c.args.entries.now.items c.settle_renewed.new.entries c.args.address.now c.args.hardware_addr.now c.args.expires_at c.index-as_slice-place.result c.index_of-place.result c.requires
+    (c.index_of-place.ensures ∙ ap (index_of address_cmp c.args.address.now) c.as_slice.ensures.value) (omega (arith, c.len.ensures.value))
     (rw c.as_slice-2.ensures.value at c.index-as_slice-place.is) (sym c.is_same.ensures ∙ c.if-not-is_same.false) (rw c.as_mut_slice.ensures.value at c.settle_renewed.ensures))
 
 pub returns-clause-kept : goal.returns-clause-kept

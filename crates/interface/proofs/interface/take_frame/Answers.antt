@@ -1,5 +1,5 @@
 use Rattle.std.proofs.Common.{rules}
-use Rattle.interface.proofs.Received.{took_none, took_some}
+use Rattle.interface.proofs.IngressCall.{took_none, took_some}
 use Rattle.interface.proofs.interface.take_frame.Goals as goal
 
 pub returns-then-not-is_empty : goal.returns-then-not-is_empty

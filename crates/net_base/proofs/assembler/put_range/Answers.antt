@@ -2,7 +2,7 @@ use Rattle.std.proofs.Common.{◌≡◌, ℕ, Bool, true, false, take, drop, get
 use Rattle.std.proofs.lemmas.List.Edits.{length-insert}
 use Rattle.std.proofs.lemmas.Bool.Decides.{nat_tests}
 use Rattle.std.specs.Prelude.{◌==◌}
-use Rattle.net_base.specs.Ranges.{places_before, joined, absorb}
+use Rattle.net_base.specs.Ranges.{places_before, range_union, absorb}
 use Rattle.net_base.proofs.RangesLemmas.{put_alone, put_met, after_loop, length_met}
 use Rattle.net_base.proofs.assembler.put_range.Goals as goal
 
@@ -43,13 +43,13 @@ returns-clause-ok c =
     let e = c.places_before-first.ensures.value ∙ ap (places_before c.args.start) c.as_slice.ensures.value in
     let on : c.is_met.result ≡ true = search rules in
     let met = rw c.as_slice-2.ensures.value at (c.is_met.ensures.met on) in
-    let was = c.joined-merged.ensures ∙ ap (joined (record { start = c.args.start; end = c.args.end })) c.remove-met.ensures.value in
+    let was = c.range_union-merged.ensures ∙ ap (range_union (record { start = c.args.start; end = c.args.end })) c.remove-met.ensures.value in
     let done : c.is_met-in-loop-ranges.result ≡ false = search rules in
     let apart = rw c.as_slice-in-loop-ranges.ensures.value at (c.is_met-in-loop-ranges.ensures.apart done) in
     c.insert-2.ensures.items
-    ∙ after_loop c.args.ranges.now.items c.loop-ranges.ranges.items c.places_before-first.result (joined (record { start = c.args.start; end = c.args.end }) (get_or c.args.ranges.now.items c.places_before-first.result c.remove-met.result)) c.loop-ranges.merged met.within
+    ∙ after_loop c.args.ranges.now.items c.loop-ranges.ranges.items c.places_before-first.result (range_union (record { start = c.args.start; end = c.args.end }) (get_or c.args.ranges.now.items c.places_before-first.result c.remove-met.result)) c.loop-ranges.merged met.within
     (c.loop-ranges.invariant.2 ∙ ap (take c.places_before-first.result) c.remove-met.ensures.items)
-    (c.loop-ranges.invariant.3 ∙ ap (λ m. absorb m (drop c.places_before-first.result c.remove-met.new.self.items)) was ∙ ap (λ xs. absorb (joined (record { start = c.args.start; end = c.args.end }) (get_or c.args.ranges.now.items c.places_before-first.result c.remove-met.result)) (drop c.places_before-first.result xs)) c.remove-met.ensures.items)
+    (c.loop-ranges.invariant.3 ∙ ap (λ m. absorb m (drop c.places_before-first.result c.remove-met.new.self.items)) was ∙ ap (λ xs. absorb (range_union (record { start = c.args.start; end = c.args.end }) (get_or c.args.ranges.now.items c.places_before-first.result c.remove-met.result)) (drop c.places_before-first.result xs)) c.remove-met.ensures.items)
     apart
     ∙ sym (put_met c.args.start c.args.end c.places_before-first.result c.args.ranges.now.items c.remove-met.result e c.requires.order met)
 
@@ -59,4 +59,4 @@ returns-clause-refused c =
     let on : c.is_met.result ≡ true = search rules in
     let met = rw c.as_slice-2.ensures.value at (c.is_met.ensures.met on) in
     let few = c.requires.few in
-    (λ f. cc, λ h. absurd (omega (arith, rw (put_met c.args.start c.args.end c.places_before-first.result c.args.ranges.now.items c.remove-met.result e c.requires.order met) at h, length_met c.args.ranges.now.items c.places_before-first.result (joined (record { start = c.args.start; end = c.args.end }) (get_or c.args.ranges.now.items c.places_before-first.result c.remove-met.result)) met.within)))
+    (λ f. cc, λ h. absurd (omega (arith, rw (put_met c.args.start c.args.end c.places_before-first.result c.args.ranges.now.items c.remove-met.result e c.requires.order met) at h, length_met c.args.ranges.now.items c.places_before-first.result (range_union (record { start = c.args.start; end = c.args.end }) (get_or c.args.ranges.now.items c.places_before-first.result c.remove-met.result)) met.within)))

@@ -1,7 +1,7 @@
 use Rattle.std.proofs.Common.{◌≡◌, drop}
-use Rattle.slaac.specs.Instants.{sooner, least}
+use Rattle.slaac.specs.Instants.{earlier_of, earliest_of}
 use Rattle.slaac.specs.Slaac.{prefix_ends}
 use Rattle.slaac.proofs.slaac.least_prefix_end.Given as goal
 
 abbrev pub invariant-loop-prefix : goal.invariant-loop-prefix
-invariant-loop-prefix l = sooner l.least (least (prefix_ends (drop l.prefix-index l.prefixes) l.now)) ≡ least (prefix_ends l.prefixes l.now)
+invariant-loop-prefix l = earlier_of l.least (earliest_of (prefix_ends (drop l.prefix-index l.prefixes) l.now)) ≡ earliest_of (prefix_ends l.prefixes l.now)

@@ -1,7 +1,7 @@
 use Rattle.std.proofs.Common.{◌≡◌, drop}
-use Rattle.slaac.specs.Instants.{sooner, least}
+use Rattle.slaac.specs.Instants.{earlier_of, earliest_of}
 use Rattle.slaac.specs.Slaac.{route_ends}
 use Rattle.slaac.proofs.slaac.least_route_end.Given as goal
 
 abbrev pub invariant-loop-route : goal.invariant-loop-route
-invariant-loop-route l = sooner l.least (least (route_ends (drop l.route-index l.routes) l.now)) ≡ least (route_ends l.routes l.now)
+invariant-loop-route l = earlier_of l.least (earliest_of (route_ends (drop l.route-index l.routes) l.now)) ≡ earliest_of (route_ends l.routes l.now)

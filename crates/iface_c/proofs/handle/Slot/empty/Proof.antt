@@ -34,7 +34,7 @@ use Rattle.std.proofs.ResultValues.{and_tt}
 use Rattle.std.proofs.alloc.Calls.{handle_tells, α}
 use Rattle.std.proofs.BoxSteps.Form.{P}
 use Rattle.iface_c.proofs.AsBox.{E}
-use Rattle.iface_c.specs.contracts.handle.Slot as Place
+use Rattle.iface_c.specs.contracts.handle.Slot as Transition
 use Rattle.iface_c.specs.contracts.handle.Slot.empty as F
 use Rattle.iface_c.specs.contracts.handle.Slot.empty.Key.{name as #self}
 use Rattle.iface_c.proofs.handle.Slot.empty.Statement as stated
@@ -63,7 +63,7 @@ module _ {M : Type 1} {𝓤 : Ura M} (𝓛 : Logic 𝓤) (at_mem : Memory → SP
       sets ! (agg ! (and_then ! (lit ! tt) (and_then ! (get ! refl) (no_more !)))) refl typed $ returns ! (look_at ! 0 refl) $ free_all ! refl $
       nothing ! $ move ! (1 ∷ 0 ∷ []) $ fjoin ! $ feq_i ! (List Val) (vint w64 0 ∷ []) (vint w64 0 ∷ []) refl $ fjoin ! $
       feq_i ! (List Val) (w ∷ []) (w ∷ []) refl $ fjoin ! $
-      fpack ! (Valss (RawPtr ∷ P E ∷ [])) (within (shape Place.the_type) (to Place.the_type made) (w ∷ [])) (vint w64 0 ∷ [], (hv ∷ [], tt)) $
+      fpack ! (Valss (RawPtr ∷ P E ∷ [])) (within (shape Transition.the_type) (to Transition.the_type made) (w ∷ [])) (vint w64 0 ∷ [], (hv ∷ [], tt)) $
       nothing ! $ move ! (1 ∷ 0 ∷ []) $ fjoin ! $
       use1 𝓛 (‵ (To.own_val made (w ∷ []))) (id⊢ 𝓤 _) $
       suffices ! _ (ends_at 𝓛 F.ended stayed (F.clauses 𝓛 at_mem run) z w made (tt, tt) (tt, tt)) $ says ! refl $

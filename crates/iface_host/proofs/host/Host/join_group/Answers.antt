@@ -1,4 +1,4 @@
-use Rattle.iface_host.proofs.Ruled.{followed, join_refused, stayed}
+use Rattle.iface_host.proofs.RuleCalls.{followed, join_refused, stayed}
 use Rattle.iface_host.proofs.host.Host.join_group.Goals as goal
 
 pub returns-in-Ok-clause-joined : goal.returns-in-Ok-clause-joined

@@ -1,4 +1,4 @@
-use Rattle.iface_host.proofs.Ruled.{followed, leave_refused, stayed}
+use Rattle.iface_host.proofs.RuleCalls.{followed, leave_refused, stayed}
 use Rattle.iface_host.proofs.host.Host.leave_group.Goals as goal
 
 pub returns-in-Ok-clause-left : goal.returns-in-Ok-clause-left

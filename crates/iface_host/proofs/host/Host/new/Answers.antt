@@ -1,5 +1,5 @@
 use Rattle.std.proofs.Common.{ap, ◌∙◌}
-use Rattle.iface_host.proofs.Handled.{empty, first}
+use Rattle.iface_host.proofs.FrameCalls.{empty, first}
 use Rattle.iface_host.proofs.host.Host.new.Goals as goal
 
 pub returns : goal.returns

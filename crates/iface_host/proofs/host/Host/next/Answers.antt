@@ -1,5 +1,5 @@
 use Rattle.std.proofs.Common.{◌≡◌, sym, ◌∙◌, rules}
-use Rattle.iface_host.proofs.Handled.{made, none_waits}
+use Rattle.iface_host.proofs.FrameCalls.{made, none_waits}
 use Rattle.iface_host.proofs.host.Host.next.Goals as goal
 
 pub returns-clause-next : goal.returns-clause-next

@@ -1,5 +1,5 @@
 use Rattle.std.proofs.Common.{◌≡◌, sym, ◌∙◌, rules}
-use Rattle.iface_host.proofs.Handled.{due, due_at_once, none_waits}
+use Rattle.iface_host.proofs.FrameCalls.{due, due_at_once, none_waits}
 use Rattle.iface_host.proofs.host.Host.poll_at.Goals as goal
 
 pub returns-then-len-eq0-clause-due : goal.returns-then-len-eq0-clause-due

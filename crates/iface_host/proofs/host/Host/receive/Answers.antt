@@ -1,6 +1,6 @@
 use Rattle.std.proofs.Common.{◌≡◌, Some, None, ap, refl, rules}
 use Rattle.std.specs.Option.{option_map}
-use Rattle.iface_host.proofs.Handled.{received}
+use Rattle.iface_host.proofs.FrameCalls.{received}
 use Rattle.iface_host.proofs.host.Host.receive.Goals as goal
 
 pub returns-in-Some-clause-received : goal.returns-in-Some-clause-received

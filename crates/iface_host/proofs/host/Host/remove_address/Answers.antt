@@ -1,7 +1,7 @@
 use Rattle.std.proofs.Common.{◌≡◌, List, ap, rules, ◌∙◌}
 use Rattle.std.specs.List.{position_or_len, remove}
 use Rattle.ip_address.specs.declared.cidr.IpCidr.{IpCidr}
-use Rattle.iface_host.proofs.Ruled.{addresses_refused, stayed, updated}
+use Rattle.iface_host.proofs.RuleCalls.{addresses_refused, stayed, updated}
 use Rattle.iface_host.specs.Calls.{is_same}
 use Rattle.iface_host.proofs.host.Host.remove_address.Goals as goal
 

@@ -1,7 +1,7 @@
 use Rattle.std.proofs.Common.{◌≡◌, List, ap, rules, ◌∙◌}
 use Rattle.std.specs.List.{position_or_len, remove}
 use Rattle.iface_tables.specs.declared.route.Route.{Route}
-use Rattle.iface_host.proofs.Ruled.{routed}
+use Rattle.iface_host.proofs.RuleCalls.{routed}
 use Rattle.iface_host.specs.Calls.{is_to}
 use Rattle.iface_host.proofs.host.Host.remove_route.Goals as goal
 

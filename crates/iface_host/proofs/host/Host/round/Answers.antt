@@ -1,6 +1,6 @@
 use Rattle.std.proofs.Common.{◌≡◌, true, rules}
 use Rattle.iface_host.specs.Outbox.{with_room}
-use Rattle.iface_host.proofs.Handled.{rounded}
+use Rattle.iface_host.proofs.FrameCalls.{rounded}
 use Rattle.iface_host.proofs.host.Host.round.Goals as goal
 
 pub returns-clause-went : goal.returns-clause-went

@@ -1,8 +1,8 @@
 use Rattle.std.proofs.Common.{refl, sym, ◌∙◌, ap}
-use Rattle.group_table.specs.Groups.{is_refused, joined}
+use Rattle.group_table.specs.Groups.{is_refused, groups_after_join}
 use Rattle.host_machine.specs.Host.{Host, with_groups}
 use Rattle.host_machine.specs.Multicast.{JoinTaken, NoGroup, NoPlace}
-use Rattle.interface.proofs.Setting.{has_none, has_place, kept, led}
+use Rattle.interface.proofs.SettingCalls.{has_none, has_place, kept, led}
 use Rattle.interface.proofs.interface.Interface.join_multicast_group.Goals as goal
 
 pub returns-then-not-is_multicast : goal.returns-then-not-is_multicast
@@ -10,7 +10,7 @@ returns-then-not-is_multicast c = λ sockets H h. kept H h (NoGroup (sym c.is_mu
 
 pub returns-in-Ok : goal.returns-in-Ok
 returns-in-Ok c = λ sockets H h.
-    led c.args.self.now.context c.join_group.new.context c.args.self.now.fragments sockets H h (λ K. with_groups K (joined K.groups c.args.group)) (c.join_group.ensures.groups sockets) (λ K slots. refl)
+    led c.args.self.now.context c.join_group.new.context c.args.self.now.fragments sockets H h (λ K. with_groups K (groups_after_join K.groups c.args.group)) (c.join_group.ensures.groups sockets) (λ K slots. refl)
     (JoinTaken (sym c.is_multicast.ensures ∙ c.if-not-is_multicast.false)
     (ap (λ (K : Host). is_refused K.groups c.args.group) h.same ∙ has_place c.args.self.now.context.multicast.groups c.args.group c.join_group.result c.join_group.ensures.answer c.in-Ok.is) refl refl)
 

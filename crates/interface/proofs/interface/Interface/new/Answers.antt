@@ -1,5 +1,5 @@
 use Rattle.std.proofs.Common.{sym, ◌∙◌}
-use Rattle.interface.proofs.Made.{not_refused, made}
+use Rattle.interface.proofs.NewInterface.{not_refused, made}
 use Rattle.interface.proofs.interface.Interface.new.Goals as goal
 
 pub returns-clause-made : goal.returns-clause-made

@@ -1,18 +1,18 @@
 use Rattle.std.proofs.Common.{ℕ, List, [], ◌∷◌, take, arith}
 use Rattle.std.proofs.lemmas.Grind.{common_steps}
 use Rattle.net_base.specs.Device.{Received, Frame}
-use Rattle.host_machine.specs.Host.{swept}
+use Rattle.host_machine.specs.Host.{without_expired}
 use Rattle.host_machine.specs.Frame.{frames_in, sends}
-use Rattle.interface.proofs.Received.{nothing_came, frame_came, answers_none, answers_some}
+use Rattle.interface.proofs.IngressCall.{nothing_came, frame_came, answers_none, answers_some}
 use Rattle.interface.proofs.interface.Interface.poll_ingress_single.Goals as goal
 
 pub returns-in_default : goal.returns-in_default
-returns-in_default g c = λ H h. nothing_came c.args.timestamp H _ c.in_default.ensures.told (c.sweep.ensures c.args.sockets.now H h)
+returns-in_default g c = λ H h. nothing_came c.args.timestamp H _ c.in_default.ensures.told (c.expire_slots.ensures c.args.sockets.now H h)
 
 pub returns-then-len-eq0 : goal.returns-then-len-eq0
 returns-then-len-eq0 g c = λ H h.
     let frame : List ℕ = take c.in-Some.len c.receive.new.buffer in
-    let taken = c.take_frame.ensures (swept H c.args.timestamp) (c.sweep.ensures c.args.sockets.now H h) in record {
+    let taken = c.take_frame.ensures (without_expired H c.args.timestamp) (c.expire_slots.ensures c.args.sockets.now H h) in record {
       told = Received c.args.timestamp (Frame frame) ∷ sends (frames_in c.take_frame.new.out);
       notes = taken.notes;
       host = taken.host;
@@ -25,7 +25,7 @@ returns-then-len-eq0 g c = λ H h.
 pub returns-else-len-eq0 : goal.returns-else-len-eq0
 returns-else-len-eq0 g c = λ H h.
     let frame : List ℕ = take c.in-Some.len c.receive.new.buffer in
-    let taken = c.take_frame.ensures (swept H c.args.timestamp) (c.sweep.ensures c.args.sockets.now H h) in record {
+    let taken = c.take_frame.ensures (without_expired H c.args.timestamp) (c.expire_slots.ensures c.args.sockets.now H h) in record {
       told = Received c.args.timestamp (Frame frame) ∷ sends (frames_in c.take_frame.new.out);
       notes = taken.notes;
       host = taken.host;

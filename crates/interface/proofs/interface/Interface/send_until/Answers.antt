@@ -3,7 +3,7 @@ use Rattle.host_machine.specs.Egress.{Egress}
 use Rattle.host_machine.specs.declared.results.PollResult.TheVariants.{None as Nothing}
 use Rattle.host_machine.specs.Polling.{is_changed}
 use Rattle.interface.specs.Stands.{StandsFor}
-use Rattle.interface.proofs.Repeated.{begins, again, spent, done, or_true}
+use Rattle.interface.proofs.PollLoop.{begins, again, spent, done, or_true}
 use Rattle.interface.proofs.interface.Interface.send_until.Goals as goal
 
 pub loop-init : goal.loop-init

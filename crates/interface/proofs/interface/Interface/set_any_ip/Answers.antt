@@ -1,5 +1,5 @@
 use Rattle.std.proofs.Common.{refl}
-use Rattle.interface.proofs.Setting.{becomes}
+use Rattle.interface.proofs.SettingCalls.{becomes}
 use Rattle.interface.proofs.interface.Interface.set_any_ip.Goals as goal
 
 pub returns : goal.returns

@@ -1,6 +1,6 @@
 use Rattle.std.proofs.Common.{◌<◌, ◌≤◌, refl, rules}
 use Rattle.host_machine.specs.Step.{WithinDay, OverDay}
-use Rattle.interface.proofs.Setting.{kept, led}
+use Rattle.interface.proofs.SettingCalls.{kept, led}
 use Rattle.interface.proofs.interface.Interface.set_reassembly_timeout.Goals as goal
 
 pub returns-then-total_micros-gt86400000000 : goal.returns-then-total_micros-gt86400000000

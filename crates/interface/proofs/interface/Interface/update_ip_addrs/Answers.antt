@@ -1,7 +1,7 @@
 use Rattle.std.proofs.Common.{refl, sym, ◌∙◌}
-use Rattle.host_machine.specs.Multicast.{moved}
+use Rattle.host_machine.specs.Multicast.{after_address_change}
 use Rattle.host_machine.specs.Step.{Accepted, Refused}
-use Rattle.interface.proofs.Setting.{kept, led}
+use Rattle.interface.proofs.SettingCalls.{kept, led}
 use Rattle.interface.proofs.interface.Interface.update_ip_addrs.Goals as goal
 
 pub returns-then-not-are_assignable : goal.returns-then-not-are_assignable
@@ -19,6 +19,6 @@ returns g c = (
   c.f-list.result,
   c.f-list.ensures,
   λ sockets. c.copied.ensures ∙ c.ip_addrs.ensures.value,
-  λ sockets H h. led c.args.self.now.context c.set_ip_addrs.new.context c.args.self.now.fragments sockets H h (λ K. moved K c.f-list.result.items) (c.set_ip_addrs.ensures sockets) (λ K slots. refl)
+  λ sockets H h. led c.args.self.now.context c.set_ip_addrs.new.context c.args.self.now.fragments sockets H h (λ K. after_address_change K c.f-list.result.items) (c.set_ip_addrs.ensures sockets) (λ K slots. refl)
       (Accepted (rw (← c.as_slice.ensures.value) (sym c.are_assignable.ensures ∙ c.if-not-are_assignable.false)) refl refl),
 )

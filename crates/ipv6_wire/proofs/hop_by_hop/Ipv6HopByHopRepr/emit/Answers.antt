@@ -1,7 +1,7 @@
 use Rattle.std.proofs.Common.{◌<◌, ◌≤◌, ◌+◌, length, sym, arith}
 use Rattle.ipv6_wire.specs.HopByHop.{text}
 use Rattle.ipv6_wire.specs.declared.hop_by_hop.Ipv6OptionRepr.TheVariants.{Pad1}
-use Rattle.ipv6_wire.proofs.Written.{room}
+use Rattle.ipv6_wire.proofs.EmittedOptions.{room}
 use Rattle.ipv6_wire.proofs.hop_by_hop.Ipv6HopByHopRepr.emit.Goals as goal
 
 pub emit-requires : goal.emit-requires

@@ -1,5 +1,5 @@
 use Rattle.std.proofs.Common.{sym, ◌∙◌}
-use Rattle.net_base.proofs.MemoryMoves.{tells_leave, tells_refused, tells_no_room}
+use Rattle.net_base.proofs.MemoryMoves.{tells_grant, tells_refused, tells_no_room}
 use Rattle.net_base.proofs.memory_device.MemoryDeviceDevice.transmit.Goals as goal
 use Rattle.net_base.proofs.memory_device.MemoryDeviceDevice.transmit.Goals.{then-take_answer-via-then-take_answer, then-take_answer-via-else-take_answer+then-not-reserve}
 
@@ -22,7 +22,7 @@ returns-then-take_answer-clause-told c =
 
 pub returns-clause-told : goal.returns-clause-told
 returns-clause-told c =
-    tells_leave c.args.now
+    tells_grant c.args.now
     (sym c.take_answer.ensures.refused ∙ c.if-take_answer.false)
     c.take_answer.ensures.after
     c.reserve.ensures

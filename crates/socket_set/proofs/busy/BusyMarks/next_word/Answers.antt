@@ -11,10 +11,10 @@ returns-then-word-ne0-clause-busy c = λ before.
     rw (← c.self.view_is) (lowest_set words (64 * at) at 0 word (omega arith) (all_of_it word) c.min.result (omega arith) fits (omega arith) fits)
 
 pub returns-then-word-ne0-clause-passed : goal.returns-then-word-ne0-clause-passed
-returns-then-word-ne0-clause-passed c = λ i behind before.
+returns-then-word-ne0-clause-passed c = λ i after before.
     let words = c.self.inside.words in
     let at = c.loop-at.at in
     let word = get_or words at 0 in
     let fits : word < 2 ^ 64 = omega arith in
     let some : 0 < word = omega arith in
-    rw (← c.self.view_is) (before_or_from i (64 * at) (c.loop-at.invariant i behind) (λ from. below_lowest words (64 * at) at 0 word (omega arith) (all_of_it word) i (omega arith) fits some fits from (omega arith)))
+    rw (← c.self.view_is) (before_or_from i (64 * at) (c.loop-at.invariant i after) (λ from. below_lowest words (64 * at) at 0 word (omega arith) (all_of_it word) i (omega arith) fits some fits from (omega arith)))

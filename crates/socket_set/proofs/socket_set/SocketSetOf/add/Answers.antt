@@ -4,7 +4,7 @@ use Rattle.std.proofs.lemmas.Grind.{common_steps}
 use Rattle.std.proofs.lemmas.List.{length-map}
 use Rattle.sockets.specs.declared.socket.SocketOf.{SocketOf}
 use Rattle.socket_set.specs.SocketSet.{Storage, over}
-use Rattle.socket_set.proofs.SocketSetLemmas.{keyed_pushed, keyed_written, has_port, neither_true, added_within, added_behind, first_free_le, ported_pushed, ported_written, true_pushed, true_written}
+use Rattle.socket_set.proofs.SocketSetLemmas.{keyed_pushed, keyed_written, has_port, neither_true, added_within, added_after, first_free_le, ported_pushed, ported_written, true_pushed, true_written}
 use Rattle.socket_set.proofs.socket_set.SocketSetOf.add.Goals as goal
 
 pub returns-then-index-len-clause-added : goal.returns-then-index-len-clause-added
@@ -18,7 +18,7 @@ returns-clause-added g c =
     let pushed : c.push_reserved.new.self.items ≡ c.self.inside.sockets.items ++ p ∷ [] = grind (arith, common_steps) in
     rw (← c.self.view_is, ← c.upcast-socket-2.ensures)
     (ap (λ ps. over ps c.self.inside.grows) pushed
-    ∙ added_behind c.self.inside.grows c.self.inside.sockets.items c.first_free-index.result c.upcast-socket-2.result (rw c.as_slice.ensures.value at c.first_free-index.ensures) (grind (arith, common_steps)))
+    ∙ added_after c.self.inside.grows c.self.inside.sockets.items c.first_free-index.result c.upcast-socket-2.result (rw c.as_slice.ensures.value at c.first_free-index.ensures) (grind (arith, common_steps)))
 
 pub invariant_of-self : goal.invariant_of-self
 invariant_of-self g c =

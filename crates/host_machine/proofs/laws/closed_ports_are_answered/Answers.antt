@@ -1,0 +1,5 @@
+use Rattle.host_machine.proofs.DatagramDelivery.{ports_told}
+use Rattle.host_machine.proofs.laws.closed_ports_are_answered.Goals as goal
+
+pub returns : goal.returns
+returns c = ports_told

@@ -1,7 +1,0 @@
-use Rattle.iface_send.proofs.dispatch.discover.Goals as goal
-
-pub returns-in-Ipv4 : goal.returns-in-Ipv4
-returns-in-Ipv4 c = rw c.in-Ipv4.is c.request.ensures
-
-pub returns-in-Ipv6 : goal.returns-in-Ipv6
-returns-in-Ipv6 c = rw c.in-Ipv6.is c.solicit.ensures

@@ -1,0 +1,43 @@
+use Rattle.std.proofs.Common.{◌≡◌, [], ◌∷◌, refl, ◌∙◌, ap, arith}
+use Rattle.ip_address.specs.declared.ethernet_address.EthernetAddress.{EthernetAddress}
+use Rattle.ip_address.specs.declared.ipv6.Ipv6Address.{Ipv6Address}
+use Rattle.host_machine.specs.Packet.{Packet}
+use Rattle.iface_send.specs.PacketValues as value_of
+use Rattle.ip_address.specs.declared.hardware.HardwareAddress.TheVariants as hardware
+use Rattle.ip_address.specs.Ipv6.{solicited_node}
+use Rattle.address_selection.specs.Ipv6.{source_v6}
+use Rattle.host_machine.specs.Note.{OfDiscovery, OfIdentification, Ask, Identify}
+use Rattle.host_machine.specs.Host.{no_sockets}
+use Rattle.host_machine.specs.Ndisc.{solicitation_for}
+use Rattle.host_machine.specs.Frame.{ip_frame}
+use Rattle.host_machine.specs.Dispatch.{Solicited, group_address_v6}
+use Rattle.iface_send.specs.Stands.{host_of}
+use Rattle.iface_send.proofs.Building.{one}
+use Rattle.iface_send.proofs.dispatch.send_neighbor_solicit.Goals as goal
+
+pub returns : goal.returns
+returns c =
+    let H = host_of c.args.context.now no_sockets in
+    let asked = solicitation_for c.args.own (source_v6 c.args.context.now.ip_addrs.items c.args.target.now) c.args.target.now in
+    let packet : value_of.packet c.solicitation_for-packet.result ≡ asked = c.solicitation_for-packet.ensures ∙ ap (λ (source : Ipv6Address). solicitation_for c.args.own source c.args.target.now) c.get_source_address_ipv6-source.ensures in
+    let group : c.group_address_v6-group.result ≡ group_address_v6 (solicited_node c.args.target.now) = c.group_address_v6-group.ensures ∙ ap group_address_v6 c.solicited_node.ensures in
+    one (ip_frame H (hardware.Ethernet (group_address_v6 (solicited_node c.args.target.now))) asked)
+    (OfIdentification (Identify c.args.context.now.ipv4_id) ∷ OfDiscovery (Ask c.args.context.now.moment) ∷ [])
+    (c.emit_frame.ensures.items ∙ ap (λ (to : EthernetAddress). ip_frame H (hardware.Ethernet to) (value_of.packet c.solicitation_for-packet.result)) group
+    ∙ ap (λ (p : Packet). ip_frame H (hardware.Ethernet (group_address_v6 (solicited_node c.args.target.now))) p) packet)
+    (omega (arith, c.emit_frame.ensures.some))
+    (λ slots sockets. Solicited c.args.target.now refl refl refl refl (rw c.limit_rate.ensures refl))
+
+pub invariant_of-context : goal.invariant_of-context
+invariant_of-context c =
+    let k = c.args.context.now in
+    record {
+      timely = k.timely;
+      short = k.short;
+      long = k.long;
+      within_a_day = k.within_a_day;
+      cut_to_fit = k.cut_to_fit;
+      of_medium = k.of_medium;
+      own = k.own;
+      neighbors = rw c.limit_rate.ensures k.neighbors;
+    }
