@@ -78,7 +78,12 @@ fn reset_for(repr: &TcpRepr, payload: &[u8], handled_by_raw_socket: bool) -> Opt
 
 /// Builds a segment without payload, if there is one, as a packet back to another's source.
 #[inline(never)]
-fn send_tcp_reply(context: &mut Context, header: &IpRepr, repr: Option<TcpRepr>, out: &mut FrameBuffer)
+fn send_tcp_reply(
+    context: &mut Context,
+    header: &IpRepr,
+    repr: Option<TcpRepr>,
+    out: &mut FrameBuffer,
+)
     requires { out.old ≡ [] }
     ensures { Built out.new (Responds (option_map (spec.segment_back header.now) repr)) context.old context.new }
 {

@@ -30,8 +30,21 @@ pub(crate) fn send_port_unreachable(
     match header {
         IpRepr::Ipv4(header) => {
             let reason = Icmpv4DstUnreachable::PortUnreachable;
-            icmpv4::icmpv4_unreachable(context, reason, header, payload, handled_by_raw_socket, out);
+            icmpv4::icmpv4_unreachable(
+                context,
+                reason,
+                header,
+                payload,
+                handled_by_raw_socket,
+                out,
+            );
         }
-        IpRepr::Ipv6(header) => icmpv6::icmpv6_unreachable(context, header, payload, handled_by_raw_socket, out),
+        IpRepr::Ipv6(header) => icmpv6::icmpv6_unreachable(
+            context,
+            header,
+            payload,
+            handled_by_raw_socket,
+            out,
+        ),
     }
 }

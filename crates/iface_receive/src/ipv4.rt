@@ -13,7 +13,7 @@ ghost use Rattle.iface_protocols.specs.Processed.{Answers, Processed, StandsFor}
 use crate::renewal::renew_sender;
 use control_wire::icmpv4::Icmpv4DstUnreachable;
 use fragmentation::{FragKey, PacketAssemblerSet, reassemble};
-use iface_protocols::icmpv4::{process_icmpv4, icmpv4_unreachable};
+use iface_protocols::icmpv4::{icmpv4_unreachable, process_icmpv4};
 use iface_protocols::igmp::process_igmp;
 use iface_protocols::raw;
 use iface_protocols::tcp::process_tcp;
@@ -130,7 +130,14 @@ fn process_datagram(
         return;
     }
     renew_sender(context, source, &packet);
-    process_protocol(context, sockets, header, payload, handled_by_raw_socket, out);
+    process_protocol(
+        context,
+        sockets,
+        header,
+        payload,
+        handled_by_raw_socket,
+        out,
+    );
 }
 
 /// Whether a packet may come from this address: that of one host, or of one that has none yet.
@@ -159,11 +166,25 @@ fn process_protocol(
         IpProtocol::Icmp => process_icmpv4(context, sockets, header, payload, out),
         IpProtocol::Udp => {
             let packet = IpRepr::Ipv4(*header);
-            process_udp(context, sockets, &packet, payload, handled_by_raw_socket, out);
+            process_udp(
+                context,
+                sockets,
+                &packet,
+                payload,
+                handled_by_raw_socket,
+                out,
+            );
         }
         IpProtocol::Tcp => {
             let packet = IpRepr::Ipv4(*header);
-            process_tcp(context, sockets, &packet, payload, handled_by_raw_socket, out);
+            process_tcp(
+                context,
+                sockets,
+                &packet,
+                payload,
+                handled_by_raw_socket,
+                out,
+            );
         }
         IpProtocol::Igmp => process_igmp(context, header, payload),
         IpProtocol::HopByHop | IpProtocol::Icmpv6 | IpProtocol::Unknown(_) => {

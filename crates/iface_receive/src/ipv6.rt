@@ -102,7 +102,15 @@ fn process_datagram_v6(
     }
     let handled_by_raw_socket = raw::deliver(context, sockets, &packet, payload);
     renew_sender(context, source, &packet);
-    process_protocol(context, sockets, header, protocol, payload, handled_by_raw_socket, out);
+    process_protocol(
+        context,
+        sockets,
+        header,
+        protocol,
+        payload,
+        handled_by_raw_socket,
+        out,
+    );
 }
 
 /// Takes a payload by its protocol, where `handled_by_raw_socket` tells whether a raw socket took the packet. For a
@@ -126,11 +134,25 @@ fn process_protocol(
         IpProtocol::Icmpv6 => process_icmpv6(context, sockets, header, payload, out),
         IpProtocol::Udp => {
             let packet = IpRepr::Ipv6(*header);
-            process_udp(context, sockets, &packet, payload, handled_by_raw_socket, out);
+            process_udp(
+                context,
+                sockets,
+                &packet,
+                payload,
+                handled_by_raw_socket,
+                out,
+            );
         }
         IpProtocol::Tcp => {
             let packet = IpRepr::Ipv6(*header);
-            process_tcp(context, sockets, &packet, payload, handled_by_raw_socket, out);
+            process_tcp(
+                context,
+                sockets,
+                &packet,
+                payload,
+                handled_by_raw_socket,
+                out,
+            );
         }
         IpProtocol::Icmp | IpProtocol::Igmp | IpProtocol::HopByHop | IpProtocol::Unknown(_) => {
             unrecognized_next_header(context, header, payload, handled_by_raw_socket, out);

@@ -618,7 +618,11 @@ fn router_alert() -> Ipv6HopByHopRepr
 /// A segment's header as it goes behind a packet's header of so many octets: its window is at most
 /// what a device with a limited burst can take, so many segments as long as its packets allow.
 #[inline(always)]
-fn with_limited_window(capabilities: &DeviceCapabilities, ip_header_len: usize, header: &TcpRepr) -> TcpRepr
+fn with_limited_window(
+    capabilities: &DeviceCapabilities,
+    ip_header_len: usize,
+    header: &TcpRepr,
+) -> TcpRepr
     requires { ip_header_len ≤ 40 }
     ensures { result ≡ with_limited_window capabilities.now ip_header_len header.now }
 {

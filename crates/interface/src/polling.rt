@@ -50,7 +50,10 @@ pub fn poll_at(context: &Context, sockets: &SocketSet<'_>) -> Option<Instant>
 fn groups_poll_at(context: &Context, other: Option<Instant>) -> Option<Instant>
     ensures { result ≡ of_groups (host_of context.now no_sockets) other }
 {
-    let reports = earlier_of(igmp_poll_at(context), earlier_of(mld_poll_at(context), other));
+    let reports = earlier_of(
+        igmp_poll_at(context),
+        earlier_of(mld_poll_at(context), other),
+    );
     let leaves = earlier_of(group_poll_at(context, GroupState::Leaving), reports);
     earlier_of(group_poll_at(context, GroupState::Joining), leaves)
 }
