@@ -1,4 +1,4 @@
-//! The source of a packet to an IPv6 destination (RFC 6724 5).
+//! The source address of a packet to an IPv6 destination (RFC 6724 5).
 ghost use Rattle.std.specs.Prelude.{◌≡◌, List, IsTrue, IsSome};
 ghost use Rattle.ip_address.specs.declared.cidr.IpCidr.{IpCidr};
 ghost use Rattle.ip_address.specs.declared.ipv6.Ipv6Address.{Ipv6Address};
@@ -8,12 +8,11 @@ ghost use Rattle.address_selection.specs.Ipv6.{is_candidate_of};
 
 use ip_address::{IpCidr, Ipv6Address, Ipv6Cidr};
 
-/// The source for a destination, from a host's own addresses: ::1 to the host itself, else the first
-/// of the best ones. Of two addresses that is better which is the destination, then that of the
-/// smallest scope that reaches the destination's, then that which shares more leading bits with the
-/// destination, at most as many as its prefix has (RFC 6724 5, rules 1, 2 and 8). For a destination
-/// on the link alone only such addresses are candidates. Without a candidate it is the first own
-/// IPv6 address, and ::1 without any.
+/// The source address for a destination, chosen from a host's own addresses: ::1 for the host itself, otherwise the
+/// first of the best addresses. Of two addresses, the better one equals the destination; then has the smallest scope
+/// that reaches the destination's; then shares more leading bits with the destination, at most its prefix length (RFC
+/// 6724 5, rules 1, 2 and 8). For a link-local destination only link-local addresses are candidates. Without a
+/// candidate it is the host's first IPv6 address, and ::1 if there is none.
 pub fn get_source_address_ipv6(own: &[IpCidr], dst_addr: &Ipv6Address) -> Ipv6Address
     ensures { result ≡ spec.source_v6 own.now dst_addr.now }
 {
@@ -29,13 +28,13 @@ pub fn get_source_address_ipv6(own: &[IpCidr], dst_addr: &Ipv6Address) -> Ipv6Ad
     }
 }
 
-/// States, for those who prove something of sources, that where one of a host's own addresses is a candidate for a
-/// destination, one of them is best: no candidate is preferred to it. It does nothing.
+/// A lemma for proofs about sources: if one of a host's own addresses is a candidate for a destination, one of them is
+/// best, that is, no candidate is preferred to it. It does nothing.
 pub fn a_best_source_is_there()
     ensures { (own : List IpCidr) (d : Ipv6Address) → IsTrue (list_any (is_candidate_of d) own) → IsSome (spec.first_best own d own) }
 {}
 
-/// The first IPv6 address of some networks.
+/// The first IPv6 address in a list.
 pub fn ipv6_addr(own: &[IpCidr]) -> Option<Ipv6Address>
     ensures { result ≡ spec.ipv6_addr own.now }
 {
@@ -85,14 +84,14 @@ fn beats(other: &IpCidr, cidr: &Ipv6Cidr, dst_addr: &Ipv6Address) -> bool
     }
 }
 
-/// Whether an own address may be the source.
+/// Whether an address of the host may be the source.
 fn is_candidate(cidr: &Ipv6Cidr, dst_addr: &Ipv6Address) -> bool
     ensures { result ≡ spec.is_candidate dst_addr.now cidr.now }
 {
     !cidr.address.is_unspecified() && (!dst_addr.is_link_local() || cidr.address.is_link_local())
 }
 
-/// Whether an own address is preferred to another one.
+/// Whether an address of the host is preferred to another one.
 fn is_preferred(a: &Ipv6Cidr, b: &Ipv6Cidr, dst_addr: &Ipv6Address) -> bool
     ensures { result ≡ spec.is_preferred a.now b.now dst_addr.now }
 {
@@ -112,7 +111,7 @@ fn is_preferred(a: &Ipv6Cidr, b: &Ipv6Cidr, dst_addr: &Ipv6Address) -> bool
     common_prefix_len(b, dst_addr) < common_prefix_len(a, dst_addr)
 }
 
-/// How many leading bits an own address shares with a destination, at most as many as its prefix has.
+/// The number of leading bits that an address of the host shares with a destination, at most its prefix length.
 fn common_prefix_len(cidr: &Ipv6Cidr, dst_addr: &Ipv6Address) -> u8
     ensures { result ≡ spec.common_prefix_len cidr.now dst_addr.now }
 {

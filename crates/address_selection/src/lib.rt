@@ -1,4 +1,4 @@
-//! Which of its own addresses a host sends from (RFC 6724).
+//! Source address selection: from which of its own addresses a host sends (RFC 6724).
 #![tactic(auto)]
 
 pub mod ipv6;

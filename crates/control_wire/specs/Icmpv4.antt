@@ -19,7 +19,7 @@ code_of (Unknown n) = n
 abbrev pub reason_of : ℕ → Icmpv4DstUnreachable
 reason_of n = if n == 2 then ProtoUnreachable else if n == 3 then PortUnreachable else Unknown n
 
--- reasons are the same if their codes are
+-- reasons are equal if their codes are
 abbrev pub is_same : Icmpv4DstUnreachable → Icmpv4DstUnreachable → Bool
 is_same p q = code_of p == code_of q
 
@@ -29,7 +29,7 @@ type_in octets = slice_index octets 0
 abbrev pub code_in : List ℕ → ℕ
 code_in octets = slice_index octets 1
 
--- by the type: an echo message has code 0, an error quotes an IPv4 header behind its eight octets
+-- by the type: an echo message has code 0, an error quotes an IPv4 header after its eight octets
 pub data IsBody (octets : List ℕ) : Type 0 where
   Request : type_in octets ≡ 8 → code_in octets ≡ 0 → IsBody octets
   Reply : type_in octets ≡ 0 → code_in octets ≡ 0 → IsBody octets
@@ -50,11 +50,11 @@ icmpv4_in octets =
     if type_in octets == 3 then (DstUnreachable (reason_of (code_in octets)) (quoted_in (drop 8 octets)).0, (quoted_in (drop 8 octets)).1) else
     (TimeExceeded (code_in octets) (quoted_in (drop 8 octets)).0, (quoted_in (drop 8 octets)).1)
 
--- values and data, without where that lies in memory
+-- values and data, apart from where that is in memory
 abbrev pub parts : Icmpv4Repr × Bor (List ℕ) → Icmpv4Repr × List ℕ
 parts p = (p.0, p.1.now)
 
--- how long a message is without its data
+-- the length of a message without its data
 abbrev pub header_len : Icmpv4Repr → ℕ
 header_len (EchoRequest ident seq_no) = 8
 header_len (EchoReply ident seq_no) = 8
@@ -74,7 +74,7 @@ message_code (EchoReply ident seq_no) = 0
 message_code (DstUnreachable reason header) = code_of reason
 message_code (TimeExceeded code header) = code
 
--- what stands behind the checksum: an identifier and a sequence number, or four zeros
+-- what follows the checksum: an identifier and a sequence number, or four zeros
 abbrev pub rest_of : Icmpv4Repr → List ℕ
 rest_of (EchoRequest ident seq_no) = to_be_bytes w16 ident ++ to_be_bytes w16 seq_no
 rest_of (EchoReply ident seq_no) = to_be_bytes w16 ident ++ to_be_bytes w16 seq_no
@@ -85,14 +85,14 @@ rest_of (TimeExceeded code header) = 0 ∷ 0 ∷ 0 ∷ 0 ∷ []
 unfoldable pub head_with : ℕ → Icmpv4Repr → List ℕ
 head_with sum r = type_of r ∷ message_code r ∷ (to_be_bytes w16 sum ++ rest_of r)
 
--- a quoted header is emitted anew from its values, as that of a whole packet, with its checksum or with 0 in its place
+-- a quoted header is written anew from its values, as that of a whole packet, with its checksum or with 0 in its place
 abbrev pub quoted_text : Bool → Icmpv4Repr → List ℕ
 quoted_text quoted_summed (EchoRequest ident seq_no) = []
 quoted_text quoted_summed (EchoReply ident seq_no) = []
 quoted_text quoted_summed (DstUnreachable reason header) = header_text quoted_summed header whole
 quoted_text quoted_summed (TimeExceeded code header) = header_text quoted_summed header whole
 
--- its checksum, or 0 where that is off: that of the message with 0 in its place
+-- its checksum, or 0 if that is off: that of the message with 0 in its place
 abbrev pub sum_of : Bool → Bool → Icmpv4Repr → List ℕ → ℕ
 sum_of summed quoted_summed r octets = if summed then checksum_of (head_with 0 r ++ quoted_text quoted_summed r ++ octets) else 0
 
@@ -100,21 +100,22 @@ sum_of summed quoted_summed r octets = if summed then checksum_of (head_with 0 r
 abbrev pub text : Bool → Bool → Icmpv4Repr → List ℕ → List ℕ
 text summed quoted_summed r octets = head_with (sum_of summed quoted_summed r octets) r ++ quoted_text quoted_summed r ++ octets
 
--- a quoted header is one of a packet of at most 65,535 octets
+-- a quoted header is that of a packet of at most 65,535 octets
 abbrev pub QuotesPacket : Icmpv4Repr → Type 0
 QuotesPacket (EchoRequest ident seq_no) = Unit {0}
 QuotesPacket (EchoReply ident seq_no) = Unit {0}
 QuotesPacket (DstUnreachable reason header) = 20 + header.payload_len < 2 ^ 16
 QuotesPacket (TimeExceeded code header) = 20 + header.payload_len < 2 ^ 16
 
--- some octets are a message of these values
+-- values that a message can have
 abbrev pub IsMessage : Icmpv4Repr → Type 0
 IsMessage (EchoRequest ident seq_no) = (ident < 2 ^ 16) × (seq_no < 2 ^ 16)
 IsMessage (EchoReply ident seq_no) = (ident < 2 ^ 16) × (seq_no < 2 ^ 16)
 IsMessage (DstUnreachable reason header) = (reason_of (code_of reason) ≡ reason) × IsHeader header whole
 IsMessage (TimeExceeded code header) = IsHeader header whole
 
--- a text is read as its values and its data, if its checksum is there or isn't asked for; that of a quoted header is never asked for
+-- a text is parsed back as its values and its data, if its checksum is there or isn't verified; that of a quoted header is never
+-- verified
 abbrev pub ReadAgain : Type 0
 ReadAgain = (checked summed quoted_summed : Bool) (r : Icmpv4Repr) (octets : List ℕ) → IsMessage r → (IsTrue checked → IsTrue summed)
     → IsIcmpv4 checked (text summed quoted_summed r octets) × (icmpv4_in (text summed quoted_summed r octets) ≡ (r, octets))
@@ -126,6 +127,6 @@ pub record IsEchoRequest (octets : List ℕ) : Type 0 where
   pub code : code_in octets ≡ 0
   pub sum : folded_sum (word_sum octets) ≡ 65535
 
--- the reply to it gives its identifier and its number back, and its data
+-- the reply to it has its identifier, its sequence number and its data
 abbrev pub echo_reply_to : List ℕ → Icmpv4Repr
 echo_reply_to octets = EchoReply (u16_at octets 4) (u16_at octets 6)

@@ -14,7 +14,7 @@ pub enum IcmpRepr {
 }
 
 impl IcmpRepr {
-    /// The version of IP that carries it.
+    /// The IP version that carries the message.
     pub const fn version(&self) -> IpVersion
         ensures { result ≡ spec.version_of self.now }
     {

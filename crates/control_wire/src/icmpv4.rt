@@ -20,9 +20,9 @@ pub const HEADER_LEN: usize = 8;
 /// [`Icmpv4DstUnreachable::Unknown`] of 3 is [`Icmpv4DstUnreachable::PortUnreachable`].
 #[derive(Clone, Copy, Debug)]
 pub enum Icmpv4DstUnreachable {
-    /// Nobody there takes packets of this protocol.
+    /// The destination doesn't support the protocol.
     ProtoUnreachable,
-    /// Nobody there listens at this port.
+    /// No socket listens at the port.
     PortUnreachable,
     /// Another reason, by its code.
     Unknown(u8),
@@ -68,8 +68,8 @@ impl Eq for Icmpv4DstUnreachable {
     ghost laws = { Prim.search (comparing, rules) };
 }
 
-/// The values of a message, but its data: what an echo message carries, or what is quoted behind
-/// the header of the packet that brought an error.
+/// The values of a message without its data: the data of an echo message, or the octets that an error quotes after the
+/// packet's header.
 #[derive(Clone, Copy, Debug, PartialEq, Eq)]
 pub enum Icmpv4Repr {
     EchoRequest {
@@ -82,7 +82,7 @@ pub enum Icmpv4Repr {
     },
     DstUnreachable {
         reason: Icmpv4DstUnreachable,
-        /// The header of the packet that didn't reach its destination.
+        /// The header of the packet that couldn't be delivered.
         header: Ipv4Repr,
     },
     TimeExceeded {
@@ -94,12 +94,14 @@ pub enum Icmpv4Repr {
 }
 
 impl Icmpv4Repr {
-    /// The message that the octets are, and its data as a part of them. The octets have to be
-    /// fewer than 65,536.
+    /// Parses fewer than 65,536 octets as a message. Returns it and its data.
     ///
-    /// `None` exactly if they are fewer than 8, if they are an echo message with a code other than
-    /// 0, an error that quotes no IPv4 header or a message of another type, or if, where `checked`,
-    /// the checksum over all of them is wrong.
+    /// `None` exactly in these cases:
+    ///
+    /// - there are fewer than 8 octets;
+    /// - they are an echo message with a code other than 0, an error that quotes no IPv4 header, or a message of
+    ///   another type;
+    /// - with `checked`, the checksum over all of them is wrong.
     #[inline(always)]
     pub fn parse(octets: &[u8], checked: bool) -> Option<(Icmpv4Repr, &[u8])>
         requires { length octets.now < 2 ^ 16 }
@@ -114,10 +116,9 @@ impl Icmpv4Repr {
         parse_body(octets)
     }
 
-    /// Appends the message with its data, of fewer than 65,536 octets. Its checksum is 0 where it
-    /// isn't `summed`. A quoted header has to be one of a packet of at most 65,535 octets; it is
-    /// emitted anew, as that of a whole packet. Its own checksum is 0 where it isn't
-    /// `quoted_summed`.
+    /// Appends the message with its data of fewer than 65,536 octets. Its checksum is 0 unless `summed`. A quoted
+    /// header must be that of a packet of at most 65,535 octets. It is written anew, as that of a whole packet, with
+    /// checksum 0 unless `quoted_summed`.
     pub fn emit(&self, payload: &[u8], summed: bool, quoted_summed: bool, out: &mut FrameBuffer)
         requires quoted { spec.QuotesPacket self.now }
         requires short { length payload.now < 2 ^ 16 }
@@ -129,7 +130,7 @@ impl Icmpv4Repr {
         out.append(payload);
     }
 
-    /// Appends the message up to its data, as [`Icmpv4Repr::emit`] does, and not the data.
+    /// Appends the message up to its data, as [`Icmpv4Repr::emit`] does, without the data.
     #[inline(always)]
     pub fn emit_header(
         &self,
@@ -167,18 +168,18 @@ impl Icmpv4Repr {
     }
 }
 
-/// An echo request whose checksum was tested, so that the reply's comes from it.
+/// An echo request whose checksum was verified, so that the reply's can be derived from it.
 #[derive(Clone, Copy)]
 pub struct EchoRequest<'p> {
-    /// All of its octets, fewer than 65,536.
+    /// All octets of the message, fewer than 65,536.
     pub octets: &'p [u8],
     pub ghost sound: { IsEchoRequest octets.now },
     pub ghost short: { length octets.now < 2 ^ 16 },
 }
 
 impl EchoRequest<'_> {
-    /// Appends the reply: the request's identifier, number and data. The reply's checksum, 0 where it
-    /// isn't `summed`, comes from the request's (RFC 1624).
+    /// Appends the reply: the request's identifier, sequence number and data. The reply's checksum, 0 unless `summed`,
+    /// is derived from the request's (RFC 1624).
     #[inline(always)]
     pub fn emit_reply(&self, summed: bool, out: &mut FrameBuffer)
         requires room { length out.old + length self.now.octets.now ≤ 1514 }
@@ -189,7 +190,7 @@ impl EchoRequest<'_> {
         out.append(self.payload());
     }
 
-    /// Its data, which the reply has, too.
+    /// The data, which is also the reply's.
     #[inline(always)]
     pub fn payload(&self) -> &[u8]
         ensures { result.now ≡ drop 8 self.now.octets.now }
@@ -197,7 +198,7 @@ impl EchoRequest<'_> {
         &self.octets[HEADER_LEN..]
     }
 
-    /// Appends the reply up to its data, as [`EchoRequest::emit_reply`] does, and not the data.
+    /// Appends the reply up to its data, as [`EchoRequest::emit_reply`] does, without the data.
     #[inline(always)]
     pub fn emit_reply_header(&self, summed: bool, out: &mut FrameBuffer)
         requires room { length out.old + 8 ≤ 1514 }
@@ -218,8 +219,8 @@ impl EchoRequest<'_> {
     }
 }
 
-/// The checksum of the reply to an echo request: the request's with the word of the type taken out
-/// (RFC 1624). Where that leaves 0, which stands for two sums, the reply is summed.
+/// The checksum of the reply to an echo request: the request's with the word of the type taken out (RFC 1624). If that
+/// leaves 0, which stands for two sums, the reply is summed anew.
 #[inline(always)]
 fn reply_sum(request: &[u8], reply: &Icmpv4Repr) -> u16
     requires request { spec.IsEchoRequest request.now }
@@ -236,7 +237,7 @@ fn reply_sum(request: &[u8], reply: &Icmpv4Repr) -> u16
     sum as u16
 }
 
-/// A message that is emitted is read again.
+/// A message that is emitted is parsed back.
 pub fn read_again()
     ensures { spec.ReadAgain }
 {}
@@ -264,7 +265,7 @@ fn head_with(sum: u16, repr: &Icmpv4Repr) -> [u8; HEADER_LEN]
     }
 }
 
-/// Appends a message up to its data: its first eight octets, and what it quotes.
+/// Appends a message up to its data: its first eight octets, and the header that it quotes.
 #[inline(always)]
 fn emit_parts(
     message: &Icmpv4Repr,
@@ -292,7 +293,7 @@ fn emit_parts(
     out.append(quoted);
 }
 
-/// The checksum of a message of these parts.
+/// The checksum of a message with these parts.
 #[inline(always)]
 fn sum_for(head: &[u8], quoted: &[u8], payload: &[u8]) -> u16
     requires head_even { length head.now % 2 ≡ 0 }
@@ -305,7 +306,7 @@ fn sum_for(head: &[u8], quoted: &[u8], payload: &[u8]) -> u16
     0xffff - sum_with(part_sum(head) + part_sum(quoted), payload)
 }
 
-/// The message by its type, and its data.
+/// Parses a message by its type. Returns it and its data.
 #[inline(always)]
 fn parse_body(octets: &[u8]) -> Option<(Icmpv4Repr, &[u8])>
     requires { 8 ≤ length octets.now }

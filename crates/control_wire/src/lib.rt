@@ -1,4 +1,4 @@
-//! The control messages on the wire: ICMP of either family.
+//! The wire formats of control messages: ICMP of either family.
 #![tactic(auto)]
 
 pub mod icmp;

@@ -1,12 +1,12 @@
-//! Compares what scripts of a host print with what they have to print.
+//! Compares what scripts of a host print with the expected output.
 //!
-//! Each argument names a case, which is two files of the folder that the program runs in: `NAME.txt`,
-//! a script as `hostrun` reads it, and `NAME.out`, what it has to print, on standard output and then
-//! on the error stream. `NAME.txt` may have several scripts, parted by lines `---`, each of which gets a
-//! host of its own; what they have to print is parted by such lines too.
+//! Each argument names a case, which is two files of the folder that the program runs in. `NAME.txt` is a script as
+//! `hostrun` reads it; `NAME.out` is what it must print, on standard output and then on the error stream. `NAME.txt`
+//! may have several scripts, separated by lines `---`, each of which gets a host of its own; their expected output is
+//! separated by such lines too.
 //!
-//! Each case gets a line; where it came otherwise, the first line that differs follows, as it came and as
-//! it had to come. The exit status is 0 if all came as they had to, and else 1.
+//! Each case gets a line; if the output differs, the first line that differs follows, as printed and as expected. The
+//! exit status is 0 if all cases match, otherwise 1.
 #![tactic(auto)]
 
 use anyhow::{Context, Result};
@@ -16,10 +16,10 @@ use std::fmt::{self, Display, Formatter, Write};
 use std::process::ExitCode;
 use std::{env, fs};
 
-/// What stands between two scripts. The first line feed belongs to it, so that a script can end without.
+/// The separator between two scripts. The first line feed belongs to it, so that a script can end without.
 const PARTING: &str = "\n---\n";
 
-/// The first line that came otherwise. Behind the end of a text stand empty lines.
+/// The first line that differs. After the end of a text there are empty lines.
 #[derive(Clone, Copy)]
 struct Difference<'a> {
     /// Its number, counted from 1.
@@ -54,12 +54,12 @@ fn main(rt: HostRuntime) -> Result<ExitCode> {
     Ok(status)
 }
 
-/// What a file holds. An error names the file.
+/// The contents of a file. An error names the file.
 fn text_of(rt: &HostRuntime, path: String) -> Result<String> {
     fs::read_to_string(rt, path.as_str()).context(path)
 }
 
-/// What scripts print, each on standard output and then on the error stream.
+/// The output of scripts, each on standard output and then on the error stream.
 fn printed(alloc: Global, scripts: &str) -> Result<String> {
     let mut output = Vec::new(alloc);
     for (number, script) in scripts.split(PARTING).enumerate() {
@@ -73,7 +73,7 @@ fn printed(alloc: Global, scripts: &str) -> Result<String> {
     Ok(String::from_utf8(output)?)
 }
 
-/// The first line in which a text that came differs from the one that had to come.
+/// The first line in which a text differs from the expected one.
 fn first_difference<'a>(came: &'a str, had_to_come: &'a str) -> Option<Difference<'a>> {
     let mut came = came.split('\n');
     let mut had_to_come = had_to_come.split('\n');

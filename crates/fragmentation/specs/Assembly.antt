@@ -1,10 +1,10 @@
--- What a place for a datagram in fragments is seen as.
+-- The value of a slot for a datagram in fragments.
 use Rattle.std.specs.Prelude.{◌≡◌, ◌+◌, ◌<◌, [], ◌∷◌, ◌++◌, is_none, length, slice_get, take, drop, ℕ, zero, suc, ℤ, pos, ◌&&◌, ◌||◌, List, Option, None, Some, Bool, true, false, ◌==◌, not, nat_lt, nat_le, int_lt, if◌then◌else◌}
 use Rattle.net_base.specs.declared.assembler.Range.{Range}
 use Rattle.net_base.specs.Ranges.{front, covered, add_range, AreSeparate}
 
--- whose fragments it takes, none where it is free; its end; the total length, once it is fixed; the places that were got, as ranges; and
--- the octets
+-- the key of its fragments, none if it is free; its expiry; the total length, once it is set; the offsets received, as ranges;
+-- and the octets
 pub record Assembly (K : Type 0) : Type 0 where
   pub key : Option K
   pub expires_at : ℤ
@@ -12,7 +12,7 @@ pub record Assembly (K : Type 0) : Type 0 where
   pub ranges : List Range
   pub octets : List ℕ
 
--- the ranges are apart and within the buffer
+-- the ranges are separate and within the buffer
 pub record AreSound (rs : List Range) : Type 0 where
   pub separate : AreSeparate 0 rs
   pub within : (p : ℕ) → covered rs p ≡ true → p < 4096
@@ -27,27 +27,27 @@ abbrev pub is_refused : Option ℕ → ℕ → Bool
 is_refused None n = nat_lt 4096 n
 is_refused (Some t) n = not (t == n) || nat_lt 4096 n
 
--- whether this is the key
+-- whether an assembler's key, if it has one, equals this one
 abbrev pub has_key : {K : Type 0} → (K → K → Bool) → K → Option K → Bool
 has_key eq k None = false
 has_key eq k (Some j) = eq j k
 
--- the octets of xs with these from a place on
+-- the octets of xs after these are written at an offset
 abbrev pub octets_after_write : List ℕ → ℕ → List ℕ → List ℕ
 octets_after_write xs offset bytes = take offset xs ++ (bytes ++ drop (offset + length bytes) xs)
 
 module _ {K : Type 0} where
-  -- a total was fixed, and it is the first place that wasn't got
+  -- the total is set, and it is the first offset that wasn't received
   abbrev pub is_complete : Assembly K → Bool
   is_complete s = is_total s.total (front s.ranges)
 
-  -- with octets from a place on, where that makes at most four ranges
+  -- the assembler after octets are written at an offset, if that makes at most four ranges
   abbrev pub with_octets : ℕ → List ℕ → Assembly K → Assembly K
   with_octets offset bytes s =
       let rs = add_range offset (offset + length bytes) s.ranges in
       if nat_le (length rs) 4 then record s { ranges = rs; octets = octets_after_write s.octets offset bytes } else s
 
-  -- free
+  -- the assembler after it is freed
   abbrev pub slot_after_free : Assembly K → Assembly K
   slot_after_free s = record { key = None; expires_at = pos 0; total = None; ranges = []; octets = s.octets }
 
@@ -58,40 +58,40 @@ module _ {K : Type 0} where
   AreFree [] = Unit {0}
   AreFree (s ∷ ss) = IsFree s × AreFree ss
 
-  -- whether it is taken and its end lies below t
+  -- whether it is taken and its expiry is before t
   abbrev pub is_expired : ℤ → Assembly K → Bool
   is_expired t s = not (is_none s.key) && int_lt s.expires_at t
 
-  -- what is left of it at t
+  -- the assembler at t, which is freed if it has expired
   abbrev pub live_at : ℤ → Assembly K → Assembly K
   live_at t s = if is_expired t s then slot_after_free s else s
 
-  -- where it is free, it is taken for a key until an end
+  -- if it is free, it is taken for a key with an expiry
   abbrev pub taken : K → ℤ → Assembly K → Assembly K
   taken k end s = if is_none s.key then record { key = Some k; expires_at = end; total = None; ranges = []; octets = s.octets } else s
 
-  -- where it is taken, it is taken for this key, if there is one, and else free
+  -- if it is taken, it gets this key, or is free without one
   abbrev pub with_key : Option K → Assembly K → Assembly K
   with_key o s = record s { key = if is_none s.key then None else o }
 
-  -- each place with its key
+  -- each slot with its key
   abbrev pub with_keys : List (Option K) → List (Assembly K) → List (Assembly K)
   with_keys [] ss = []
   with_keys (o ∷ os) [] = []
   with_keys (o ∷ os) (s ∷ ss) = with_key o s ∷ with_keys os ss
 
-  -- for which key each place is taken
+  -- the key of each slot
   abbrev pub keys_of : List (Assembly K) → List (Option K)
   keys_of [] = []
   keys_of (s ∷ ss) = s.key ∷ keys_of ss
 
-  -- the place at i is taken for a key until an end, where it is free
+  -- the slot at index i is taken for a key with an expiry, if it is free
   abbrev pub taken_at : ℕ → K → ℤ → List (Assembly K) → List (Assembly K)
   taken_at i k end [] = []
   taken_at zero k end (s ∷ ss) = taken k end s ∷ ss
   taken_at (suc i) k end (s ∷ ss) = s ∷ taken_at i k end ss
 
-  -- its ranges are apart and within its octets
+  -- its ranges are separate and within its octets
   pub record IsSound (s : Assembly K) : Type 0 where
     pub ranges : AreSound s.ranges
     pub octets : length s.octets ≡ 4096
@@ -100,26 +100,26 @@ module _ {K : Type 0} where
   AllSound [] = Unit {0}
   AllSound (s ∷ ss) = IsSound s × AllSound ss
 
-  -- no key has two places
+  -- no key has two slots
   abbrev pub AreApart : List (Option K) → Type 0
   AreApart os = (i j : ℕ) (k : K) → slice_get os i ≡ Some (Some k) → slice_get os j ≡ Some (Some k) → i ≡ j
 
-  -- two keys for two places, and no key for both
+  -- two keys for two slots, and no key for both
   pub record AreKept (os : List (Option K)) (ss : List (Assembly K)) : Type 0 where
     pub keys : length os ≡ 2
     pub places : length ss ≡ 2
     pub apart : AreApart os
 
-  -- the place of the key, or the length
+  -- the index of the slot with the key, or the length
   abbrev pub index_of_key : (K → K → Bool) → K → List (Assembly K) → ℕ
   index_of_key eq k [] = 0
   index_of_key eq k (s ∷ ss) = if has_key eq k s.key then 0 else index_of_key eq k ss + 1
 
-  -- the first free place, or the length
+  -- the index of the first free slot, or the length
   abbrev pub free_slot : List (Assembly K) → ℕ
   free_slot [] = 0
   free_slot (s ∷ ss) = if is_none s.key then 0 else free_slot ss + 1
 
-  -- the place that serves a key: its own, or else the first free one
+  -- the index of the slot that serves a key: its own, otherwise the first free one
   abbrev pub slot_for : (K → K → Bool) → K → List (Assembly K) → ℕ
   slot_for eq k ss = if index_of_key eq k ss == length ss then free_slot ss else index_of_key eq k ss

@@ -1,28 +1,30 @@
--- Packets that are cut into pieces (RFC 791 3.2), and the octets of a piece.
+-- The fragments of packets that are sent (RFC 791 3.2), and the octets of a fragment.
 use Rattle.std.specs.Prelude.{ℕ, zero, suc, ◌+◌, ◌-◌, ◌*◌, ◌/◌, ◌^◌, ◌<◌, ◌≤◌, nat_le, false, not, List, [], ◌∷◌, length, take, drop, map}
 use Rattle.ip_address.specs.declared.hardware.HardwareAddress.{HardwareAddress}
 use Rattle.ip_wire.specs.declared.ipv4_packet.Ipv4Repr.{Ipv4Repr}
 use Rattle.ip_wire.specs.declared.ipv4_packet.Ipv4Fragment.{Ipv4Fragment}
 use Rattle.fragmentation.specs.Fragments.{Fragment}
 
--- piece k of a payload, where each but the last has m octets: it begins at k times m, and is the last one if the payload ends with it
+-- fragment k of a payload, where each but the last has m octets: its offset is k times m, and it is the last one if the payload
+-- ends with it
 abbrev pub piece_at : ℕ → List ℕ → ℕ → Fragment
 piece_at m payload k = record { offset = k * m; octets = take m (drop (k * m) payload); is_last = nat_le (length payload) (k * m + m) }
 
--- how many pieces there are
+-- the number of fragments
 abbrev pub count : ℕ → ℕ → ℕ
 count m n = (n + (m - 1)) / m
 
--- n pieces, from piece k on
+-- n fragments, from fragment k on
 abbrev pub pieces_from : ℕ → List ℕ → ℕ → ℕ → List Fragment
 pieces_from m payload k zero = []
 pieces_from m payload k (suc n) = piece_at m payload k ∷ pieces_from m payload (k + 1) n
 
--- the pieces in order
+-- the fragments in order
 abbrev pub cut : ℕ → List ℕ → List Fragment
 cut m payload = pieces_from m payload 0 (count m (length payload))
 
--- a packet that was cut: where it goes, its header with an identification, its payload, and how long each piece but the last is
+-- a packet that is fragmented: its hardware destination, its header with an identification, its payload, and the length of each
+-- fragment but the last
 pub record Datagram : Type 0 where
   pub destination : HardwareAddress
   pub header : Ipv4Repr
@@ -30,7 +32,7 @@ pub record Datagram : Type 0 where
   pub payload : List ℕ
   pub size : ℕ
 
--- a piece to be sent: where it goes, the header of its packet with the identification, and the fragment
+-- a fragment to send: its hardware destination, the header of its packet with the identification, and the fragment
 pub record Piece : Type 0 where
   pub destination : HardwareAddress
   pub header : Ipv4Repr
@@ -40,15 +42,15 @@ pub record Piece : Type 0 where
 abbrev pub piece_of : Datagram → Fragment → Piece
 piece_of d f = record { destination = d.destination; header = d.header; identification = d.identification; fragment = f }
 
--- its pieces: all go to one hardware address, with one header and one identification
+-- its fragments: all have one hardware destination, one header and one identification
 abbrev pub pieces_of : Datagram → List Piece
 pieces_of d = map (piece_of d) (cut d.size d.payload)
 
--- the header of a piece: that of the packet, with the piece's own length
+-- the header of a fragment: that of the packet, with the fragment's own length
 abbrev pub piece_header : Piece → Ipv4Repr
 piece_header p = record p.header { payload_len = length p.fragment.octets }
 
--- which fragment it is; its place is told in units of eight octets
+-- its fragmentation fields; the offset is in units of eight octets
 abbrev pub piece_fragment : Piece → Ipv4Fragment
 piece_fragment p = record { identification = p.identification; dont_fragment = false; more_fragments = not p.fragment.is_last; offset = p.fragment.offset / 8 }
 

@@ -1,4 +1,4 @@
--- What the fragments of one datagram share (RFC 791 3.2).
+-- The key that the fragments of one datagram share (RFC 791 3.2).
 use Rattle.std.specs.Prelude.{ℕ, Bool}
 use Rattle.std.specs.Ordering.{nat_cmp, ordering_then, eq_by_cmp}
 use Rattle.std.specs.declared.cmp.Ordering.{Ordering}
@@ -10,7 +10,7 @@ use Rattle.fragmentation.specs.declared.key.FragKey.{FragKey}
 abbrev pub key_of : Ipv4Repr → ℕ → FragKey
 key_of r identification = record { identification = identification; src_addr = r.src_addr; dst_addr = r.dst_addr; protocol = number_of r.next_header }
 
--- keys in an order, so that slots can be a map from them
+-- an order of keys, so that slots can be a map from them
 abbrev pub key_cmp : FragKey → FragKey → Ordering
 key_cmp a b =
     ordering_then (nat_cmp a.identification b.identification) (ordering_then (nat_cmp a.src_addr.bits b.src_addr.bits)

@@ -1,9 +1,9 @@
--- The pieces of a cut packet that wait to be sent.
+-- The pending fragments of a packet.
 use Rattle.std.specs.Prelude.{◌≡◌, ℕ, Bool, true, false, List, [], ◌∷◌, Option, Some, None}
 use Rattle.fragmentation.specs.Cuts.{Piece, piece_header, piece_fragment}
 use Rattle.fragmentation.specs.declared.fragmenter.NextPiece.{NextPiece}
 
--- the pieces that wait, in order, none of which has more octets than this
+-- the pending fragments, in order, none of which has more octets than this
 pub record Pending : Type 0 where
   pub pieces : List Piece
   pub size : ℕ
@@ -23,14 +23,14 @@ rest_of (piece ∷ pieces) = pieces
 abbrev pub without_first : Pending → Pending
 without_first p = record p { pieces = rest_of p.pieces }
 
--- the values of a piece, and its octets
+-- the values of a fragment, and its octets
 pub record Shows (next : NextPiece) (piece : Piece) : Type 0 where
   pub destination : next.destination ≡ piece.destination
   pub header : next.header ≡ piece_header piece
   pub fragment : next.fragment ≡ piece_fragment piece
   pub octets : next.octets.now ≡ piece.fragment.octets
 
--- the first piece that waits, if one does
+-- the first pending fragment, if any
 pub data IsNext (pieces : List Piece) (next : Option NextPiece) : Type 0 where
   NoPiece : pieces ≡ [] → next ≡ None → IsNext pieces next
   First : (shown : NextPiece) (piece : Piece) (rest : List Piece) → pieces ≡ piece ∷ rest → next ≡ Some shown → Shows shown piece → IsNext pieces next

@@ -1,4 +1,4 @@
--- What a fragment does to a set of places, told by the slots that it stands for.
+-- What a fragment does to a set of assemblers, by the slots that they stand for.
 use Rattle.std.specs.Prelude.{ℕ, ℤ, List, Option, option_map}
 use Rattle.std.specs.Borrow.{Bor, MutBor, Fml}
 use Rattle.std.specs.Io.BufRead.{Rests}
@@ -11,13 +11,13 @@ use Rattle.fragmentation.specs.Reassembly.{SlotNote, Reassembles}
 use Rattle.fragmentation.specs.Assembly.{Assembly}
 use Rattle.fragmentation.specs.Stands.{StandForSlots}
 
--- the places stand for slots that the fragment leads to
+-- the assemblers stand for slots to which the fragment leads
 pub record Reassembled (ends : ℤ) (key : FragKey) (f : Fragment) (result : Option (List ℕ)) (slots : Slots) (places : List (Assembly FragKey)) : Type 0 where
   pub notes : List SlotNote
   pub new : Slots
   pub rule : Reassembles ends key f result slots notes new
   pub stands : StandForSlots places new
 
--- so they do once the octets are given back, whichever slots they stood for
+-- that, once the borrow of the octets has ended, whichever slots they stood for
 abbrev pub RestsReassembled : MutBor (List (Assembly FragKey)) → ℤ → FragKey → Fragment → Option (Bor (List ℕ)) → Fml
 RestsReassembled s ends k f r = Rests (set.the_row key.the_row) s (λ places. (slots : Slots) → StandForSlots s.now slots → Reassembled ends k f (option_map (λ b. b.now) r) slots places)

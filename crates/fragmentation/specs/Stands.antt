@@ -1,4 +1,4 @@
--- Which slots the places of a set stand for.
+-- Which slots the assemblers of a set stand for.
 use Rattle.std.specs.Prelude.{◌≡◌, ℕ, Bool, true, List, [], ◌∷◌, ◌++◌, Option, Some, None, slice_index, if◌then◌else◌}
 use Rattle.std.specs.FinMap as map
 use Rattle.net_base.specs.Ranges.{covered}
@@ -7,18 +7,19 @@ use Rattle.fragmentation.specs.Fragments.{Fragment, Got, is_covered, octet_at, k
 use Rattle.fragmentation.specs.Slots.{Slot, Slots}
 use Rattle.fragmentation.specs.Assembly.{Assembly}
 
--- the fragment with these octets from a place on
+-- the fragment with these octets at an offset
 abbrev pub fragment : ℕ → List ℕ → Bool → Fragment
 fragment offset octets is_last = record { offset = offset; octets = octets; is_last = is_last }
 
--- a fragment is kept where it makes at most four ranges; no total is fixed by it
+-- a fragment is kept if it makes at most four ranges; it sets no total
 abbrev pub with_kept : Got → Fragment → Got
 with_kept g f = record g { fragments = if keeps_few g.fragments f then g.fragments ++ f ∷ [] else g.fragments }
 
 abbrev pub with_total : Got → ℕ → Got
 with_total g n = record g { total = Some n }
 
--- the total is the one that was fixed, the places are those of the fragments, and at each is the octet of the last of them that has one
+-- the total is the one that was set, the offsets are those of the fragments, and at each is the octet of the last of them that
+-- has one
 pub record Gathers {K : Type 0} (s : Assembly K) (g : Got) : Type 0 where
   pub total : s.total ≡ g.total
   pub places : (p : ℕ) → covered s.ranges p ≡ is_covered g.fragments p
@@ -36,16 +37,16 @@ module _ {K : Type 0} where
     pub stands : StandsFor s slot
 
 module _ {K : Type 0} (key_of : K → FragKey) where
-  -- a taken place stands for the slot of its key, and the others for the rest of the slots; a free one stands for none
+  -- a taken assembler stands for the slot of its key, and the others for the rest of the slots; a free one stands for none
   abbrev pub StandsBefore : Assembly K → Option K → (Slots → Type 0) → Slots → Type 0
   StandsBefore s None Others slots = Others slots
   StandsBefore s (Some k) Others slots = StandsAt s (key_of k) slots × Others (map.remove slots (key_of k))
 
-  -- each taken place stands for the slot of its key, no two of them for one, and there are no other slots
+  -- each taken assembler stands for the slot of its key, no two of them for the same, and there are no other slots
   abbrev pub StandForSlotsOf : List (Assembly K) → Slots → Type 0
   StandForSlotsOf [] slots = slots ≡ map.empty
   StandForSlotsOf (s ∷ ss) slots = StandsBefore s s.key (StandForSlotsOf ss) slots
 
--- where the keys are those of the slots
+-- if the keys are those of the slots
 abbrev pub StandForSlots : List (Assembly FragKey) → Slots → Type 0
 StandForSlots = StandForSlotsOf (λ k. k)

@@ -1,4 +1,4 @@
-//! What waits to be sent of a packet that was cut (RFC 791 3.2).
+//! Pending fragments of a packet to send (RFC 791 3.2).
 ghost use Rattle.std.specs.Prelude.{◌≡◌, ◌<◌, ◌≤◌, ◌+◌, ◌%◌, ◌++◌, length, take, IfSome};
 ghost use Rattle.fragmentation.specs.Cuts.{pieces_of};
 ghost use Rattle.fragmentation.specs.Pending.{none_pending, without_first, is_nil, IsNext};
@@ -6,23 +6,23 @@ ghost use Rattle.fragmentation.specs.Pending.{none_pending, without_first, is_ni
 use ip_wire::{HardwareAddress, IpProtocol, Ipv4Address, Ipv4Fragment, Ipv4Repr};
 use std::marker::Model;
 
-/// How many octets of payload a packet that is cut has at most.
+/// The maximum payload length of a packet that is fragmented, in octets.
 pub const FRAGMENTATION_BUFFER_SIZE: usize = 4096;
 
-/// The piece that is to be sent next.
+/// The fragment to send next.
 #[derive(Clone, Copy)]
 pub struct NextPiece<'p> {
-    /// Where it goes on the link: where the first piece went.
+    /// The hardware address it is sent to: that of the first fragment.
     pub destination: HardwareAddress,
-    /// Its header: that of the packet that was cut, with the piece's own length.
+    /// Its header: that of the fragmented packet, with the fragment's own length.
     pub header: Ipv4Repr,
     pub fragment: Ipv4Fragment,
     pub octets: &'p [u8],
 }
 
-/// The pieces of one packet that wait to be sent, with the octets of its payload.
+/// The pending fragments of one packet, with the octets of its payload.
 ///
-/// In contracts it is the list of these pieces, with the number of octets that none of them exceeds.
+/// In contracts it is the list of these fragments, with the number of octets that none of them exceeds.
 #[derive(Drop)]
 pub struct Fragmenter {
     buffer: [u8; FRAGMENTATION_BUFFER_SIZE],
@@ -52,7 +52,7 @@ impl Model for Fragmenter {
 }
 
 impl Fragmenter {
-    /// Nothing waits.
+    /// No pending fragments.
     pub fn new() -> Fragmenter
         ensures { result ≡ none_pending }
     {
@@ -74,7 +74,7 @@ impl Fragmenter {
         }
     }
 
-    /// Whether nothing waits.
+    /// Whether no fragment is pending.
     #[inline(always)]
     pub fn is_empty(&self) -> bool
         ensures { result ≡ is_nil self.now.pieces }
@@ -82,9 +82,9 @@ impl Fragmenter {
         self.left == 0
     }
 
-    /// Cuts a packet that goes to a hardware address, by its header, its identification, and its payload
-    /// in two parts, into pieces of so many octets: a multiple of eight. They take the place of what
-    /// waited. The payload has at most 4,096 octets.
+    /// Fragments a packet to a hardware address, given by its header, its identification, and its payload in two parts.
+    /// Each fragment but the last has `size` octets, a multiple of eight. The fragments replace those that were
+    /// pending. The payload has at most 4,096 octets.
     pub fn fill(
         &mut self,
         destination: HardwareAddress,
@@ -114,7 +114,7 @@ impl Fragmenter {
         self.left = (len + (size - 1)) / size;
     }
 
-    /// The piece that is to be sent next, if one waits.
+    /// The fragment to send next, if any.
     pub fn peek(&self) -> Option<NextPiece<'_>>
         ensures value { IsNext self.now.pieces result }
         ensures short { IfSome result (λ piece. length piece.octets.now ≤ self.now.size) }
@@ -141,7 +141,7 @@ impl Fragmenter {
         })
     }
 
-    /// Takes the first piece from those that wait, if one does.
+    /// Removes the first pending fragment, if any.
     pub fn advance(&mut self)
         ensures { self.new ≡ without_first self.old }
     {
@@ -152,7 +152,7 @@ impl Fragmenter {
     }
 }
 
-/// Writes two parts, one behind the other, to the front of a buffer.
+/// Writes two parts, one after the other, to the front of a buffer.
 fn put(buffer: &mut [u8], head: &[u8], octets: &[u8])
     requires { length head.now + length octets.now ≤ length buffer.old }
     ensures front { take (length head.now + length octets.now) buffer.new ≡ head.now ++ octets.now }

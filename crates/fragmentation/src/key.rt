@@ -1,22 +1,22 @@
-//! What the fragments of one datagram share (RFC 791 3.2).
+//! The key that the fragments of one datagram share (RFC 791 3.2).
 ghost use Rattle.std.specs.Prelude.{◌≡◌};
 ghost use Rattle.fragmentation.specs.Keys.{key_of};
 
 use ip_wire::{Ipv4Address, Ipv4Repr};
 
-/// What the fragments of one datagram share: its identification, source, destination and protocol (RFC
-/// 791 3.2).
+/// The key that the fragments of one datagram share: its identification, source, destination and protocol (RFC 791
+/// 3.2).
 #[derive(Clone, Copy, Debug, PartialEq, Eq)]
 pub struct FragKey {
     pub identification: u16,
     pub src_addr: Ipv4Address,
     pub dst_addr: Ipv4Address,
-    /// By its number.
+    /// The protocol's number.
     pub protocol: u8,
 }
 
 impl FragKey {
-    /// The key of a packet's fragments, by its header and its identification.
+    /// The key of a packet's fragments, from its header and its identification.
     pub fn new(header: &Ipv4Repr, identification: u16) -> FragKey
         ensures { result ≡ key_of header.now identification }
     {

@@ -1,4 +1,4 @@
-//! Datagrams in fragments (RFC 791 3.2): put together from what comes, and cut into what is sent.
+//! Fragmentation and reassembly of datagrams (RFC 791 3.2).
 #![tactic(auto)]
 
 pub mod fragmenter;

@@ -1,7 +1,7 @@
-//! Datagrams that are put together from their fragments (RFC 791 3.2, RFC 815).
+//! Reassembly of datagrams from their fragments (RFC 791 3.2, RFC 815).
 //!
-//! A [`PacketAssembler`] is a place for one datagram, and a [`PacketAssemblerSet`] has two, each for
-//! the datagram of one key. What came last decides where fragments overlap.
+//! A [`PacketAssembler`] is a slot for one datagram, and a [`PacketAssemblerSet`] has two of them, each for the
+//! datagram of one key. Where fragments overlap, the one received last counts.
 ghost use Rattle.std.specs.Prelude.{◌≡◌, List, ◌↔◌, ◌≤◌, ◌<◌, ◌+◌, ◌-◌, ℕ, Bool, nat_le, nat_lt, ◌&&◌, IsTrue, is_none, IsSome, false, IsOk, IsErr, slice_index, slice_index_or, if◌then◌else◌, IfOk, OnOk, OnErr, IfSome, map as each, length, None, Some};
 ghost use Rattle.std.specs.Borrow.{sem};
 ghost use Rattle.fragmentation.specs.Assembly as spec;
@@ -16,26 +16,26 @@ use net_base::time::Instant;
 use std::marker::Model;
 use thiserror::Error;
 
-/// How many octets a datagram in fragments may have.
+/// The maximum length of a reassembled payload, in octets.
 pub const REASSEMBLY_BUFFER_SIZE: usize = 4096;
 
-/// How many datagrams are put together at one time.
+/// How many datagrams are reassembled at a time.
 pub const REASSEMBLY_BUFFER_COUNT: usize = 2;
 
-/// There is no free place for a datagram.
+/// There is no free slot for a datagram.
 #[derive(Clone, Copy, Debug, PartialEq, Eq, Error)]
 #[error("AssemblerFullError")]
 pub struct AssemblerFullError;
 
-/// Octets that end beyond the 4096th, or another total length.
+/// The octets end after the 4,096th, or another total length is set.
 #[derive(Clone, Copy, Debug, PartialEq, Eq, Error)]
 #[error("AssemblerError")]
 pub struct AssemblerError;
 
-/// A place for one datagram of at most 4096 octets.
+/// A slot for one datagram of at most 4,096 octets.
 ///
-/// In contracts it is its key (none where it is free), its end, the total length once that is fixed,
-/// the places that were got as a list of ranges, and the octets.
+/// In contracts it is its key (none if it is free), its expiry, the total length once that is set, the offsets received
+/// as a list of ranges, and the octets.
 #[derive(Drop)]
 pub struct PacketAssembler<K> {
     buffer: [u8; REASSEMBLY_BUFFER_SIZE],
@@ -58,7 +58,7 @@ impl<K> Model for PacketAssembler<K> {
 impl<K> PacketAssembler<K> {
     ghost use Rattle.fragmentation.specs.Assembly.{IsFree, IsSound};
 
-    /// A free place.
+    /// Creates a free slot.
     pub fn new() -> PacketAssembler<K>
         ensures { IsFree result }
     {
@@ -71,7 +71,7 @@ impl<K> PacketAssembler<K> {
         }
     }
 
-    /// Until when its fragments are kept.
+    /// When its fragments expire.
     pub fn expires_at(&self) -> Instant
         ensures { result ≡ self.now.expires_at }
     {
@@ -84,7 +84,7 @@ impl<K> PacketAssembler<K> {
         self.key.is_none()
     }
 
-    // States what is so of a place by its type.
+    // A lemma: what holds of a slot by its type.
     fn is_sound(&self)
         ensures { IsSound self.now }
     {
@@ -95,7 +95,7 @@ impl<K> PacketAssembler<K> {
 impl<K> Default for PacketAssembler<K> {
     ghost use Rattle.fragmentation.specs.Assembly.{IsFree};
 
-    /// A free place.
+    /// Creates a free slot.
     fn default() -> PacketAssembler<K>
         ensures { IsFree result }
     {
@@ -109,9 +109,9 @@ impl<K: Drop> PacketAssembler<K> {
     ghost use Rattle.fragmentation.specs.Stands.{fragment, Gathers, with_kept, with_total};
     ghost use Rattle.fragmentation.specs.Lending.{Frees};
 
-    /// Fixes the datagram's total length, in octets.
+    /// Sets the datagram's total length, in octets.
     ///
-    /// `Err` where another total length stands, or it is over 4096; then nothing changes.
+    /// Fails if another total length is set, or it is over 4,096; then nothing changes.
     pub fn set_total_size(&mut self, size: usize) -> Result<(), AssemblerError>
         ensures refused { IsErr result ↔ IsTrue (is_refused self.old.total size) }
         ensures ok { OnOk result (self.new ≡ record self.old { total = Some size }) }
@@ -130,10 +130,10 @@ impl<K: Drop> PacketAssembler<K> {
         Ok(())
     }
 
-    /// Puts octets at a place of the datagram. Where others stood there, these count from now on.
+    /// Writes octets at an offset of the datagram, over any that were received there before.
     ///
-    /// `Err` where they end beyond the 4096th; then nothing changes. Nor does it where they would
-    /// make a fifth separate range, which is `Ok`.
+    /// Fails if they end after the 4,096th octet; then nothing changes. Nothing changes either if they would make a
+    /// fifth separate range, but that is `Ok`.
     pub fn add(&mut self, octets: &[u8], offset: usize) -> Result<(), AssemblerError>
         ensures refused { IsErr result ↔ (4096 < offset + length octets.now) }
         ensures ok { OnOk result (self.new ≡ with_octets offset octets.now self.old) }
@@ -149,7 +149,7 @@ impl<K: Drop> PacketAssembler<K> {
         Ok(())
     }
 
-    /// Whether a total length was fixed, each octet below it was got, and the one behind it wasn't.
+    /// Whether the total length is set, each octet below it was received, and the octet after it wasn't.
     pub fn is_complete(&self) -> bool
         ensures value { result ≡ is_complete self.now }
         ensures whole { (g : Got) → Gathers self.now g → IsTrue result ↔ ((n : ℕ) × IsWhole g n) }
@@ -157,8 +157,8 @@ impl<K: Drop> PacketAssembler<K> {
         self.total_size == Some(self.assembler.peek_front())
     }
 
-    /// The octets of the datagram where it is complete, and `None` where it isn't. The place is free
-    /// then, and ready for another datagram.
+    /// The octets of the datagram if it is complete, otherwise `None`. A completed slot is freed, and ready for another
+    /// datagram.
     pub fn assemble(&mut self) -> Option<&[u8]>
         ensures* frees { sem 𝓛 (Frees K.row self.entry result) }
         ensures found { (g : Got) → Gathers self.old g → IsSome result ↔ ((n : ℕ) × IsWhole g n) }
@@ -175,7 +175,7 @@ impl<K: Drop> PacketAssembler<K> {
         Some(&self.buffer[..len])
     }
 
-    // Takes a fragment, and tells whether it is fit.
+    // Adds a fragment, and returns whether it is fit.
     fn accept(&mut self, octets: &[u8], offset: usize, is_last: bool) -> bool
         ensures fit { result ≡ is_fit self.old.total (fragment offset octets.now is_last) }
         ensures unfit { result ≡ false → self.new ≡ self.old }
@@ -201,7 +201,7 @@ impl<K: Drop> PacketAssembler<K> {
         self.expires_at = Instant::ZERO;
     }
 
-    // Frees the place if its end lies before a moment.
+    // Frees the slot if its expiry is before a moment.
     #[inline(always)]
     fn leave_at(&mut self, timestamp: Instant)
         ensures { self.new ≡ live_at timestamp self.old }
@@ -215,7 +215,7 @@ impl<K: Drop> PacketAssembler<K> {
 impl<K: Copy> PacketAssembler<K> {
     ghost use Rattle.fragmentation.specs.Assembly.{with_key};
 
-    // Where the place is taken, it is taken for this key from now on, and free without one. Tells its key.
+    // If the slot is taken, it gets this key, or is freed without one. Returns its key.
     fn keep_key(&mut self, key: Option<K>) -> Option<K>
         ensures kept { self.new ≡ with_key key self.old }
         ensures value { result ≡ self.new.key }
@@ -230,7 +230,7 @@ impl<K: Copy> PacketAssembler<K> {
 impl<K: Eq> PacketAssembler<K> {
     ghost use Rattle.fragmentation.specs.Assembly.{has_key, taken};
 
-    // Takes the place for the key, where it is free, and tells its key.
+    // Takes the slot for the key, if it is free, and returns its key.
     fn take_for(&mut self, key: &K, end: Instant) -> Option<K>
     where
         K: Copy,
@@ -255,19 +255,19 @@ impl<K: Eq> PacketAssembler<K> {
     }
 }
 
-// States that a buffer has as many octets as its type says.
+// A lemma: a buffer has as many octets as its type says.
 fn has_its_octets(buffer: &[u8; REASSEMBLY_BUFFER_SIZE])
     ensures { length buffer.now ≡ 4096 }
 {}
 
-// Whether octets from a place on end beyond the buffer.
+// Whether octets from an offset on end beyond the buffer.
 fn ends_beyond(octets: &[u8], offset: usize) -> bool
     ensures { result ≡ nat_lt 4096 (offset + length octets.now) }
 {
     offset > REASSEMBLY_BUFFER_SIZE || octets.len() > REASSEMBLY_BUFFER_SIZE - offset
 }
 
-// Writes octets from a place on.
+// Writes octets from an offset on.
 fn write(buffer: &mut [u8], offset: usize, octets: &[u8])
     requires { offset + length octets.now ≤ length buffer.old }
     ensures { buffer.new ≡ octets_after_write buffer.old offset octets.now }
@@ -275,10 +275,10 @@ fn write(buffer: &mut [u8], offset: usize, octets: &[u8])
     buffer[offset..offset + octets.len()].copy_from_slice(octets);
 }
 
-/// Two places for datagrams, each for the fragments of one key, and no two for one key.
+/// Two slots for datagrams, each for the fragments of one key, and no two for the same key.
 ///
-/// In contracts it is the list of the places. Since the set keeps the keys itself, a place that was lent
-/// stays of the key for which it was lent, or is free, whatever is left in it.
+/// In contracts it is the list of the slots. Since the set keeps the keys itself, a slot that was borrowed keeps the
+/// key for which it was borrowed, or is free, whatever was written to it.
 #[derive(Drop)]
 pub struct PacketAssemblerSet<K> {
     keys: ArrayVec<Option<K>, REASSEMBLY_BUFFER_COUNT>,
@@ -300,10 +300,10 @@ impl<K: Eq + Copy> PacketAssemblerSet<K> {
     ghost use Rattle.fragmentation.specs.Assembly.{slot_for, taken};
     ghost use Rattle.fragmentation.specs.Lending.{LendsPlace};
 
-    /// The place of a key, whose end stays. Where it has none, a free one is taken for it, until the
-    /// moment `end`.
+    /// The slot of a key, whose expiry stays the same. If the key has none, a free slot is taken for it, with the
+    /// expiry `end`.
     ///
-    /// `Err` where the key has no place and none is free; then nothing changes.
+    /// Fails if the key has no slot and none is free; then nothing changes.
     pub fn get(
         &mut self,
         key: &K,
@@ -336,7 +336,7 @@ impl<K: Drop> PacketAssemblerSet<K> {
     ghost use Rattle.fragmentation.specs.Assembly.{AreFree};
     ghost use Rattle.fragmentation.specs.Stands.{StandForSlotsOf};
 
-    /// Two free places.
+    /// Creates two free slots.
     pub fn new() -> PacketAssemblerSet<K>
         ensures two { length result ≡ 2 }
         ensures free { AreFree result }
@@ -351,7 +351,7 @@ impl<K: Drop> PacketAssemblerSet<K> {
         PacketAssemblerSet { keys, assemblers }
     }
 
-    /// Frees the places whose end lies before a moment.
+    /// Frees the slots whose expiry is before a moment.
     #[inline(always)]
     pub fn remove_expired(&mut self, timestamp: Instant)
         ensures places { self.new ≡ each (live_at timestamp) self.old }
@@ -369,8 +369,8 @@ impl PacketAssemblerSet<FragKey> {
     ghost use Rattle.fragmentation.specs.Slots.{Slots};
     ghost use Rattle.fragmentation.specs.Stands.{StandForSlots};
 
-    /// States, for those who prove something of a set, that there are slots for which its places stand: no two
-    /// of them for the slot of one key. It does nothing.
+    /// A lemma for proofs about a set: there are slots of the host machine that it stands for, no two of its slots for
+    /// the slot of one key. It does nothing.
     pub fn stands_for_slots(&self)
         ensures { (slots : Slots) × StandForSlots self.now slots }
     {
@@ -378,13 +378,12 @@ impl PacketAssemblerSet<FragKey> {
     }
 }
 
-/// Takes a fragment of the datagram of a key: `payload` from the octet `offset` on, the last one or
-/// not. A key without a place gets a free one, until the moment `end`; where none is free, the
-/// fragment is dropped (RFC 791 3.2).
+/// Adds a fragment to the datagram of a key: `payload` from the octet `offset` on, the last one or not. A key without a
+/// slot takes a free one, with the expiry `end`; if none is free, the fragment is dropped (RFC 791 3.2).
 ///
-/// `Some` are the datagram's octets where the fragment completes it; its place is free then. A
-/// fragment that ends beyond the 4096th octet, or is the last one while another total length stands,
-/// changes nothing in the place, and completes nothing.
+/// Returns the datagram's octets if the fragment completes it; its slot is then free. A fragment that ends after the
+/// 4,096th octet, or is the last one while another total length is set, changes nothing in the slot, and completes
+/// nothing.
 pub fn reassemble<'s>(
     slots: &'s mut PacketAssemblerSet<FragKey>,
     key: &FragKey,
@@ -407,7 +406,7 @@ pub fn reassemble<'s>(
     }
 }
 
-// Frees the places whose end lies before a moment.
+// Frees the slots whose expiry is before a moment.
 #[inline(always)]
 fn drop_expired<K: Drop>(
     keys: &[Option<K>],
@@ -427,7 +426,7 @@ fn drop_expired<K: Drop>(
     }
 }
 
-// States what is so of two places by their type.
+// A lemma: what holds of two slots by their type.
 fn are_sound<K>(assemblers: &[PacketAssembler<K>])
     requires { length assemblers.now ≡ 2 }
     ensures { AllSound assemblers.now }
@@ -436,8 +435,8 @@ fn are_sound<K>(assemblers: &[PacketAssembler<K>])
     assemblers[1].is_sound();
 }
 
-// Takes a free place for the key, if it has none, and tells which place serves it. The keys are those of the places
-// then.
+// Takes a free slot for the key, if it has none, and returns the index of the slot that serves it. The keys are those
+// of the slots then.
 fn take<K: Eq + Copy>(
     keys: &mut [Option<K>],
     assemblers: &mut [PacketAssembler<K>],
@@ -458,7 +457,7 @@ fn take<K: Eq + Copy>(
     slot
 }
 
-// Each place that is taken is taken for its key among these, and each free one has none from now on.
+// Each taken slot gets its key among these, and each free one has none from now on.
 fn keep_keys<K: Copy>(keys: &mut [Option<K>], assemblers: &mut [PacketAssembler<K>])
     requires keys { length keys.old ≡ 2 }
     requires places { length assemblers.old ≡ 2 }
@@ -469,7 +468,7 @@ fn keep_keys<K: Copy>(keys: &mut [Option<K>], assemblers: &mut [PacketAssembler<
     keys[1] = assemblers[1].keep_key(keys[1]);
 }
 
-// The place of the key, or else the first free one, or else the length.
+// The index of the slot of the key, otherwise of the first free one, otherwise the length.
 fn slot_for<K: Eq>(assemblers: &[PacketAssembler<K>], key: &K) -> usize
     ensures { result ≡ spec.slot_for K.eq key.now assemblers.now }
 {
@@ -481,7 +480,7 @@ fn slot_for<K: Eq>(assemblers: &[PacketAssembler<K>], key: &K) -> usize
     }
 }
 
-// The place of the key, or the length.
+// The index of the slot of the key, or the length.
 fn index_of_key<K: Eq>(assemblers: &[PacketAssembler<K>], key: &K) -> usize
     ensures { result ≡ spec.index_of_key K.eq key.now assemblers.now }
 {
@@ -493,7 +492,7 @@ fn index_of_key<K: Eq>(assemblers: &[PacketAssembler<K>], key: &K) -> usize
     assemblers.len()
 }
 
-// The first free place, or the length.
+// The index of the first free slot, or the length.
 fn free_slot<K>(assemblers: &[PacketAssembler<K>]) -> usize
     ensures { result ≡ spec.free_slot assemblers.now }
 {

@@ -1,5 +1,5 @@
-//! The multicast groups of an interface (RFC 1112 7.1, RFC 2236 6, RFC 3810 4.2): each with what is
-//! still to be reported of it, in the order in which they are walked.
+//! The multicast groups of an interface (RFC 1112 7.1, RFC 2236 6, RFC 3810 4.2): each with what is still to be
+//! reported of it, in the order in which they are walked.
 ghost use Rattle.std.specs.Prelude.{◌≡◌, ◌+◌, ◌<◌, ◌≤◌, [], length, slice_get, option_map, Some, None, IsSome, OnErr};
 ghost use Rattle.ip_address.specs.Ip as ip;
 ghost use Rattle.group_table.specs.declared.groups.Group.{Group};
@@ -15,7 +15,7 @@ use ip_address::{IpAddress, Ipv4Address, Ipv6Address};
 use std::marker::Model;
 use thiserror::Error;
 
-/// How many groups a table holds.
+/// The maximum number of groups in a table.
 pub const IFACE_MAX_MULTICAST_GROUP_COUNT: usize = 8;
 
 /// The table is full, and the group isn't in it.
@@ -26,11 +26,11 @@ pub struct GroupTableFull;
 /// What is still to be reported of a group.
 #[derive(Clone, Copy, Debug, PartialEq, Eq)]
 pub enum GroupState {
-    /// It was joined, and that isn't reported yet.
+    /// The group was joined, and that isn't reported yet.
     Joining,
-    /// It was joined, and that is reported.
+    /// The group was joined, and that is reported.
     Joined,
-    /// It was left, and that isn't reported yet.
+    /// The group was left, and that isn't reported yet.
     Leaving,
 }
 
@@ -42,7 +42,7 @@ pub struct Group {
 }
 
 impl Group {
-    // A group that was joined just now.
+    // A group that was just joined.
     fn new(addr: IpAddress) -> Group
         ensures { result ≡ new_group addr }
     {
@@ -61,9 +61,9 @@ impl Default for Group {
     }
 }
 
-/// A table of at most eight groups, in which no address stands twice.
+/// A table of at most eight groups, in which no address occurs twice.
 ///
-/// In contracts it is their list, in the order in which they are walked.
+/// In contracts it is the list of groups, in the order in which they are walked.
 #[derive(Drop)]
 pub struct Groups {
     entries: ArrayVec<Group, IFACE_MAX_MULTICAST_GROUP_COUNT>,
@@ -82,7 +82,7 @@ impl Model for Groups {
 }
 
 impl Groups {
-    /// A table without a group.
+    /// An empty table.
     pub fn new() -> Groups
         ensures { result ≡ [] }
     {
@@ -91,7 +91,7 @@ impl Groups {
         }
     }
 
-    /// How many groups there are, in whatever state.
+    /// The number of groups, in any state.
     pub fn len(&self) -> usize
         ensures value { result ≡ length self.now }
         ensures fits { result ≤ IFACE_MAX_MULTICAST_GROUP_COUNT }
@@ -106,7 +106,7 @@ impl Groups {
         self.entries.is_empty()
     }
 
-    /// Whether the interface is in a group: it is there, and isn't being left.
+    /// Whether the interface is a member of a group: it is in the table, and isn't being left.
     pub fn is_member(&self, group: &IpAddress) -> bool
         ensures { result ≡ spec.is_member self.now group.now }
     {
@@ -125,16 +125,16 @@ impl Groups {
         self.entries.as_slice()
     }
 
-    /// No address stands twice.
+    /// A lemma: no address occurs twice.
     pub fn are_distinct(&self)
         ensures { AreDistinct self.now }
     {
         let _ = &self.entries;
     }
 
-    /// Joins a group. A new one is put behind all others, and its join is to be reported; one that was
-    /// being left is joined again, and nothing is to be reported of it. `GroupTableFull` exactly if the
-    /// group isn't there and eight others are; then nothing changes.
+    /// Joins a group. A new group is appended, with its join still to be reported. A group that was being left is
+    /// joined again, with nothing to report. Fails with `GroupTableFull` exactly if the group isn't in the table and
+    /// eight others are; then nothing changes.
     pub fn join(&mut self, group: IpAddress) -> Result<(), GroupTableFull>
         ensures answer { result ≡ done_or_full self.old group }
         ensures groups { self.new ≡ groups_after_join self.old group }
@@ -143,16 +143,16 @@ impl Groups {
         join_in(&mut self.entries, group)
     }
 
-    /// Leaves a group. One whose join isn't reported yet is taken out, and the last group moves into
-    /// the gap; of one whose join is, the leave is to be reported. Else nothing changes.
+    /// Leaves a group. If its join isn't reported yet, the group is removed, and the last group moves into the gap; if
+    /// the join is reported, the leave is to be reported. Otherwise nothing changes.
     pub fn leave(&mut self, group: &IpAddress)
         ensures { self.new ≡ groups_after_leave self.old group.now }
     {
         leave_in(&mut self.entries, group);
     }
 
-    /// The join of a group was reported. Nothing changes unless that was still to be done. If it is the
-    /// first group whose join is to be reported, then one less is to be afterwards.
+    /// Records that the join of a group was reported. Nothing changes unless that was pending. If it was the first
+    /// group with a pending join report, one less is pending afterwards.
     #[tactic(auto, using(crate::proofs::GroupsCounts::join_reports_end))]
     pub fn join_reported(&mut self, group: &IpAddress)
         ensures groups { self.new ≡ join_reported self.old group.now }
@@ -161,9 +161,9 @@ impl Groups {
         join_reported_in(&mut self.entries, group);
     }
 
-    /// The leave of a group was reported: it is taken out, and the last group moves into the gap.
-    /// Nothing changes unless that was still to be done. If it is the first group whose leave is to be
-    /// reported, then one less is to be afterwards.
+    /// Records that the leave of a group was reported: the group is removed, and the last group moves into the gap.
+    /// Nothing changes unless that was pending. If it was the first group with a pending leave report, one less is
+    /// pending afterwards.
     #[tactic(auto, using(crate::proofs::GroupsCounts::leave_reports_end))]
     pub fn leave_reported(&mut self, group: &IpAddress)
         ensures groups { self.new ≡ leave_reported self.old group.now }
@@ -172,7 +172,7 @@ impl Groups {
         leave_reported_in(&mut self.entries, group);
     }
 
-    /// The first group in a state, if there is one.
+    /// The first group in a state, if any.
     #[tactic(auto, using(crate::proofs::GroupsCounts::none_counted))]
     pub fn first_in(&self, state: GroupState) -> Option<IpAddress>
         ensures first { result ≡ spec.first_in state self.now }
@@ -181,7 +181,7 @@ impl Groups {
         first_in(self.entries.as_slice(), state)
     }
 
-    /// How many groups are in a state. Where none is, there is no first one.
+    /// The number of groups in a state. If it is 0, there is no first one.
     #[tactic(auto, using(crate::proofs::GroupsCounts::none_left))]
     pub fn count_in(&self, state: GroupState) -> usize
         ensures value { result ≡ spec.count_in state self.now }
@@ -191,7 +191,7 @@ impl Groups {
         count_in(self.entries.as_slice(), state)
     }
 
-    /// How many IPv4 groups there are, in whatever state.
+    /// The number of IPv4 groups, in any state.
     pub fn ipv4_count(&self) -> usize
         ensures value { result ≡ length (ipv4_groups self.now) }
         ensures fits { result ≤ IFACE_MAX_MULTICAST_GROUP_COUNT }
@@ -199,7 +199,7 @@ impl Groups {
         ipv4_count(self.entries.as_slice())
     }
 
-    /// The IPv4 group of a place among the IPv4 groups, in whatever state. The first place is 0.
+    /// The IPv4 group of an index among the IPv4 groups, in any state, counted from 0.
     pub fn nth_ipv4(&self, n: usize) -> Option<Ipv4Address>
         ensures value { result ≡ slice_get (ipv4_groups self.now) n }
         ensures within { IsSome result → n < IFACE_MAX_MULTICAST_GROUP_COUNT }
@@ -207,14 +207,14 @@ impl Groups {
         nth_ipv4(self.entries.as_slice(), n)
     }
 
-    /// How many IPv6 groups there are, in whatever state.
+    /// The number of IPv6 groups, in any state.
     pub fn ipv6_count(&self) -> usize
         ensures { result ≡ length (ipv6_groups self.now) }
     {
         ipv6_count(self.entries.as_slice())
     }
 
-    /// The IPv6 group of a place among the IPv6 groups, in whatever state. The first place is 0.
+    /// The IPv6 group of an index among the IPv6 groups, in any state, counted from 0.
     pub fn nth_ipv6(&self, n: usize) -> Option<Ipv6Address>
         ensures { result ≡ slice_get (ipv6_groups self.now) n }
     {
@@ -222,7 +222,7 @@ impl Groups {
     }
 }
 
-// Where a group stands, or the length.
+// The index of a group, or the length.
 fn index_of(groups: &[Group], group: &IpAddress) -> usize
     ensures { result ≡ index_of groups.now group.now }
 {
@@ -234,7 +234,7 @@ fn index_of(groups: &[Group], group: &IpAddress) -> usize
     groups.len()
 }
 
-// The state of the group at a place, if there is one.
+// The state of the group at an index, if there is one.
 #[inline(always)]
 fn state_at(groups: &[Group], index: usize) -> Option<GroupState>
     ensures { result ≡ option_map (λ (g : Group). g.state) (slice_get groups.now index) }
@@ -242,7 +242,7 @@ fn state_at(groups: &[Group], index: usize) -> Option<GroupState>
     Some(groups.get(index)?.state)
 }
 
-// Where a group stands, or the length, and its state, if it is there.
+// The index of a group, or the length, and its state, if it is there.
 #[tactic(auto, using(crate::proofs::GroupsLemmas::state_at_index, crate::proofs::GroupsLemmas::place_within))]
 fn find(groups: &[Group], group: &IpAddress) -> (usize, Option<GroupState>)
     ensures index { result.0 ≡ index_of groups.now group.now }
@@ -253,7 +253,7 @@ fn find(groups: &[Group], group: &IpAddress) -> (usize, Option<GroupState>)
     (index, state_at(groups, index))
 }
 
-// Gives the group at a place another state.
+// Changes the state of the group at an index.
 fn set_state(
     entries: &mut ArrayVec<Group, IFACE_MAX_MULTICAST_GROUP_COUNT>,
     group: &IpAddress,
@@ -274,7 +274,7 @@ fn set_state(
     }
 }
 
-// Takes out the group at a place. The last one moves into the gap.
+// Removes the group at an index. The last one moves into the gap.
 fn take_out(
     entries: &mut ArrayVec<Group, IFACE_MAX_MULTICAST_GROUP_COUNT>,
     group: &IpAddress,
@@ -289,7 +289,7 @@ fn take_out(
     entries.swap_remove(index);
 }
 
-// Puts a group that isn't there behind all others, if there is room.
+// Appends a group that isn't there, if there is room.
 fn append(
     entries: &mut ArrayVec<Group, IFACE_MAX_MULTICAST_GROUP_COUNT>,
     group: IpAddress,
@@ -342,7 +342,7 @@ fn leave_in(entries: &mut ArrayVec<Group, IFACE_MAX_MULTICAST_GROUP_COUNT>, grou
     }
 }
 
-// The join of a group was reported.
+// Records that the join of a group was reported.
 fn join_reported_in(
     entries: &mut ArrayVec<Group, IFACE_MAX_MULTICAST_GROUP_COUNT>,
     group: &IpAddress,
@@ -358,7 +358,7 @@ fn join_reported_in(
     }
 }
 
-// The leave of a group was reported.
+// Records that the leave of a group was reported.
 fn leave_reported_in(
     entries: &mut ArrayVec<Group, IFACE_MAX_MULTICAST_GROUP_COUNT>,
     group: &IpAddress,
@@ -374,7 +374,7 @@ fn leave_reported_in(
     }
 }
 
-// The first group in a state, if there is one.
+// The first group in a state, if any.
 fn first_in(groups: &[Group], state: GroupState) -> Option<IpAddress>
     ensures { result ≡ spec.first_in state groups.now }
 {
@@ -386,7 +386,7 @@ fn first_in(groups: &[Group], state: GroupState) -> Option<IpAddress>
     None
 }
 
-// How many groups are in a state.
+// The number of groups in a state.
 fn count_in(groups: &[Group], state: GroupState) -> usize
     ensures value { result ≡ spec.count_in state groups.now }
     ensures within { result ≤ length groups.now }
@@ -400,7 +400,7 @@ fn count_in(groups: &[Group], state: GroupState) -> usize
     count
 }
 
-// How many IPv4 groups there are.
+// The number of IPv4 groups.
 fn ipv4_count(groups: &[Group]) -> usize
     ensures value { result ≡ length (ipv4_groups groups.now) }
     ensures within { result ≤ length groups.now }
@@ -415,7 +415,7 @@ fn ipv4_count(groups: &[Group]) -> usize
     count
 }
 
-// The IPv4 group of a place among the IPv4 groups.
+// The IPv4 group of an index among the IPv4 groups.
 fn nth_ipv4(groups: &[Group], n: usize) -> Option<Ipv4Address>
     ensures value { result ≡ slice_get (ipv4_groups groups.now) n }
     ensures within { IsSome result → n < length groups.now }
@@ -431,7 +431,7 @@ fn nth_ipv4(groups: &[Group], n: usize) -> Option<Ipv4Address>
     None
 }
 
-// How many IPv6 groups there are.
+// The number of IPv6 groups.
 fn ipv6_count(groups: &[Group]) -> usize
     ensures { result ≡ length (ipv6_groups groups.now) }
 {
@@ -445,7 +445,7 @@ fn ipv6_count(groups: &[Group]) -> usize
     count
 }
 
-// The IPv6 group of a place among the IPv6 groups.
+// The IPv6 group of an index among the IPv6 groups.
 fn nth_ipv6(groups: &[Group], n: usize) -> Option<Ipv6Address>
     ensures { result ≡ slice_get (ipv6_groups groups.now) n }
 {
@@ -460,18 +460,18 @@ fn nth_ipv6(groups: &[Group], n: usize) -> Option<Ipv6Address>
     None
 }
 
-/// No call lets an address stand twice.
+/// No call makes an address occur twice.
 pub fn groups_stay_distinct()
     ensures { StayDistinct }
 {}
 
-/// Where a group is taken out, the last one moves into its place, and the others keep their order.
+/// If a group is removed, the last one moves into its index, and the others keep their order.
 pub fn last_moves_into_gap()
     ensures moves { LastMovesIntoGap }
     ensures alone { LastGoesAlone }
 {}
 
-/// Who joins is a member then, unless it was refused, and who leaves is none.
+/// After a join that wasn't refused the interface is a member; after a leave it isn't.
 pub fn membership_follows()
     ensures join { JoinsMember }
     ensures leave { LeavesNoMember }
@@ -482,8 +482,8 @@ pub fn others_stay()
     ensures { OthersStay }
 {}
 
-/// A loop that tells of the first group whose join or leave is to be reported, and then reports it,
-/// comes to an end: each time one less is to be reported, and where none is, there is no first one.
+/// A loop that reports the first group with a pending join or leave, and then records that, ends: each time one less is
+/// pending, and where none is, there is no first one.
 pub fn reports_end()
     ensures joins { JoinReportsEnd }
     ensures leaves { LeaveReportsEnd }

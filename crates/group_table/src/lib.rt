@@ -1,4 +1,4 @@
-//! The multicast groups of an interface: which it is in, and what is still to be reported of each.
+//! The multicast groups of an interface: its memberships, and what is still to be reported of each.
 #![tactic(auto)]
 
 pub mod groups;

@@ -1,5 +1,4 @@
-//! What waits to be reported of the groups to a router that asked: when, and of which groups
-//! (RFC 2236 3, RFC 3810 6.2).
+//! Pending reports of groups that answer the queries of routers: when, and of which groups (RFC 2236 3, RFC 3810 6.2).
 ghost use Rattle.std.specs.Prelude.{◌≡◌};
 ghost use Rattle.group_table.specs.declared.report.IgmpReportState.TheVariants as igmp;
 ghost use Rattle.group_table.specs.declared.report.MldReportState.TheVariants as mld;
@@ -8,25 +7,25 @@ use group_wire::IgmpVersion;
 use ip_address::{Ipv4Address, Ipv6Address};
 use net_base::time::{Duration, Instant};
 
-/// What waits to be reported of the IPv4 groups (IGMP).
+/// The pending report of IPv4 groups (IGMP).
 #[derive(Clone, Copy, Debug)]
 pub enum IgmpReportState {
-    /// Nothing waits.
+    /// No report is pending.
     Inactive,
-    /// Each group is to be reported, one after the other.
+    /// Each group is to be reported, one after another.
     ToGeneralQuery {
-        /// The version of IGMP in which it was asked.
+        /// The IGMP version of the query.
         version: IgmpVersion,
         /// When the next group is to be reported.
         timeout: Instant,
-        /// How long after it the one behind it is.
+        /// The interval to the report after it.
         interval: Duration,
-        /// The place of the next group among the IPv4 groups.
+        /// The index of the next group among the IPv4 groups.
         next_index: usize,
     },
     /// One group is to be reported.
     ToSpecificQuery {
-        /// The version of IGMP in which it was asked.
+        /// The IGMP version of the query.
         version: IgmpVersion,
         /// When the group is to be reported.
         timeout: Instant,
@@ -43,14 +42,14 @@ impl Default for IgmpReportState {
     }
 }
 
-/// What waits to be reported of the IPv6 groups (MLD).
+/// The pending report of IPv6 groups (MLD).
 #[derive(Clone, Copy, Debug)]
 pub enum MldReportState {
-    /// Nothing waits.
+    /// No report is pending.
     Inactive,
     /// All groups are to be reported.
     ToGeneralQuery {
-        /// When they are.
+        /// When they are to be reported.
         timeout: Instant,
     },
     /// One group is to be reported.

@@ -1,4 +1,4 @@
--- IGMP (RFC 2236 2; version 1 by RFC 1112 appendix I): type, code, checksum, the group.
+-- IGMP (RFC 2236 2; version 1 in RFC 1112 appendix I): type, code, checksum, the group.
 use Rattle.std.specs.Prelude.{◌≡◌, ℕ, ◌+◌, ◌*◌, ◌/◌, ◌%◌, ◌≤◌, ◌^◌, ◌⊎◌, ◌==◌, ◌||◌, nat_lt, Bool, IsTrue, List, ◌∷◌, ◌++◌, length, slice_index, if◌then◌else◌}
 use Rattle.std.specs.Int.{w16, w32, to_be_bytes}
 use Rattle.wire_base.specs.Checksum.{checksum_of}
@@ -17,7 +17,7 @@ type_in octets = slice_index octets 0
 abbrev pub group_in : List ℕ → Ipv4Address
 group_in octets = record { bits = u32_at octets 4 }
 
--- a message may name it: 0.0.0.0, which a general query has, or a multicast address (RFC 2236 2.4)
+-- a message may carry the group: 0.0.0.0, as a general query does, or a multicast address (RFC 2236 2.4)
 abbrev pub is_group : Ipv4Address → Bool
 is_group a = is_unspecified a || is_multicast a
 
@@ -25,13 +25,13 @@ is_group a = is_unspecified a || is_multicast a
 abbrev pub IsType : ℕ → Type 0
 IsType n = (n ≡ 0x11) ⊎ (n ≡ 0x12) ⊎ (n ≡ 0x16) ⊎ (n ≡ 0x17)
 
--- the octets begin with a message, perhaps with more behind it (RFC 2236 2.5); the checksum isn't tested
+-- the octets begin with a message, perhaps with more after it (RFC 2236 2.5); the checksum isn't verified
 pub record IsIgmp (octets : List ℕ) : Type 0 where
   pub whole : 8 ≤ length octets
   pub type : IsType (type_in octets)
   pub group : IsTrue (is_group (group_in octets))
 
--- its values; the code is a query's alone (RFC 2236 2.2)
+-- its values; only a query has a code (RFC 2236 2.2)
 abbrev pub igmp_in : List ℕ → IgmpRepr
 igmp_in octets =
     if type_in octets == 0x11 then MembershipQuery (slice_index octets 1) (group_in octets) else
@@ -71,10 +71,10 @@ text r = text_with (checksum_of (text_with 0 r)) r
 abbrev pub query_version : ℕ → IgmpVersion
 query_version code = if code == 0 then Version1 else Version2
 
--- the time of a code, in tenths of a second: from 128 on of a mantissa of four bits and an exponent of three (RFC 3376 4.1.1)
+-- the time of a code, in tenths of a second: from 128 on it has a mantissa of four bits and an exponent of three (RFC 3376 4.1.1)
 abbrev pub tenths_of : ℕ → ℕ
 tenths_of code = if nat_lt code 128 then code else (code % 16 + 16) * 2 ^ (code / 16 % 8 + 3)
 
--- a text is read as its values, whatever stands behind it, if a message may name the group
+-- a text is parsed back as its values, whatever follows it, if a message may carry the group
 abbrev pub ReadAgain : Type 0
 ReadAgain = (r : IgmpRepr) (more : List ℕ) → IsTrue (is_group (group_of r)) → IsIgmp (text r ++ more) × (igmp_in (text r ++ more) ≡ r)

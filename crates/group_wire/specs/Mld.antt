@@ -1,4 +1,4 @@
--- MLD (RFC 3810 5.1, 5.2): type, code, checksum, 4 octets; of a query the group and 4 octets; the data.
+-- MLD (RFC 3810 5.1, 5.2): type, code, checksum, 4 octets; in a query the group and 4 octets; the data.
 use Rattle.std.specs.Prelude.{◌≡◌, ℕ, ◌≤◌, ◌<◌, ◌^◌, ◌==◌, List, [], ◌∷◌, ◌++◌, length, drop, slice_index, Option, Some, None, if◌then◌else◌}
 use Rattle.std.specs.Borrow.{Bor}
 use Rattle.std.specs.Int.{w16, to_be_bytes}
@@ -14,7 +14,7 @@ use Rattle.group_wire.specs.declared.mld.MldAddressRecordRepr.{MldAddressRecordR
 abbrev pub type_in : List ℕ → ℕ
 type_in octets = slice_index octets 0
 
--- the octets are a query (RFC 3810 5.1) or a report (5.2), of code 0
+-- the octets are a query (RFC 3810 5.1) or a report (5.2), with code 0
 pub data IsMld (octets : List ℕ) : Type 0 where
   IsQuery : type_in octets ≡ 130 → slice_index octets 1 ≡ 0 → 28 ≤ length octets → IsMld octets
   IsReport : type_in octets ≡ 143 → slice_index octets 1 ≡ 0 → 8 ≤ length octets → IsMld octets
@@ -25,7 +25,7 @@ mld_in octets =
     if type_in octets == 130 then (Query (u16_at octets 4) (address_at octets 8), drop 28 octets) else
     (Report (u16_at octets 6), drop 8 octets)
 
--- values and data, without where that lies in memory
+-- values and data, apart from where that is in memory
 abbrev pub parts : MldRepr × Bor (List ℕ) → MldRepr × List ℕ
 parts p = (p.0, p.1.now)
 
@@ -33,12 +33,13 @@ abbrev pub type_of : MldRepr → ℕ
 type_of (Query code group) = 130
 type_of (Report count) = 143
 
--- how long a message is without its data, in octets
+-- the length of a message without its data, in octets
 abbrev pub message_len : MldRepr → ℕ
 message_len (Query code group) = 28
 message_len (Report count) = 8
 
--- the four octets behind the checksum: maximum response code and reserved (5.1.3, 5.1.4), or reserved and how many records (5.2.1, 5.2.3)
+-- the four octets after the checksum: maximum response code and reserved (5.1.3, 5.1.4), or reserved and the number of records
+-- (5.2.1, 5.2.3)
 abbrev pub rest_of : MldRepr → List ℕ
 rest_of (Query code group) = to_be_bytes w16 code ++ 0 ∷ 0 ∷ []
 rest_of (Report count) = 0 ∷ 0 ∷ to_be_bytes w16 count
@@ -47,7 +48,7 @@ rest_of (Report count) = 0 ∷ 0 ∷ to_be_bytes w16 count
 unfoldable pub query_body : Ipv6Address → List ℕ
 query_body group = address_text group ++ 0 ∷ 0 ∷ 0 ∷ 0 ∷ []
 
--- what stands between the first eight octets and the data
+-- the octets between the first eight and the data
 abbrev pub body : MldRepr → List ℕ
 body (Query code group) = query_body group
 body (Report count) = []
@@ -67,7 +68,7 @@ number_of ChangeToExclude = 4
 unfoldable pub record_text : MldAddressRecordRepr → List ℕ
 record_text r = number_of r.record_type ∷ 0 ∷ 0 ∷ 0 ∷ address_text r.mcast_addr
 
--- some octets are a message of these values
+-- values that a message can have
 abbrev pub IsMessage : MldRepr → Type 0
 IsMessage (Query code group) = (code < 2 ^ 16) × (group.bits < 2 ^ 128)
 IsMessage (Report count) = count < 2 ^ 16
@@ -76,7 +77,7 @@ IsMessage (Report count) = count < 2 ^ 16
 abbrev pub text_with : ℕ → ℕ → MldRepr → List ℕ → List ℕ
 text_with c0 c1 m octets = type_of m ∷ 0 ∷ c0 ∷ c1 ∷ (rest_of m ++ body m ++ octets)
 
--- they are read as its values and its data, whatever the checksum
+-- they are parsed back as its values and its data, whatever the checksum
 abbrev pub ReadAgain : Type 0
 ReadAgain = (c0 c1 : ℕ) (m : MldRepr) (octets : List ℕ) → IsMessage m
     → IsMld (text_with c0 c1 m octets) × (mld_in (text_with c0 c1 m octets) ≡ (m, octets))

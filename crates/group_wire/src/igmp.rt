@@ -1,4 +1,4 @@
-//! IGMP (RFC 2236; version 1 by RFC 1112 appendix I): queries, reports and leaves of groups.
+//! IGMP (RFC 2236; version 1 in RFC 1112 appendix I): queries, reports and leaves of groups.
 ghost use Rattle.std.specs.Prelude.{◌≡◌, ◌*◌, ◌<◌, ◌≤◌, ◌^◌, length};
 ghost use Rattle.std.specs.Option.{SomeIff};
 ghost use Rattle.group_wire.specs.Igmp as spec;
@@ -11,34 +11,34 @@ use wire_base::octets::u32_at;
 /// The length of a message, in octets (RFC 2236 2).
 pub const HEADER_LEN: usize = 8;
 
-/// Which IGMP a message is of.
+/// The IGMP version of a message.
 #[derive(Clone, Copy, Debug, PartialEq, Eq)]
 pub enum IgmpVersion {
-    /// That of RFC 1112 appendix I.
+    /// Version 1 (RFC 1112 appendix I).
     Version1,
-    /// That of RFC 2236.
+    /// Version 2 (RFC 2236).
     Version2,
 }
 
 /// The values of a message.
 #[derive(Clone, Copy, Debug, PartialEq, Eq)]
 pub enum IgmpRepr {
-    /// Who is a member? (RFC 2236 2.1)
+    /// A membership query (RFC 2236 2.1).
     MembershipQuery {
-        /// How long an answer may take at most, as [`max_resp_time`] reads it. 0 tells a query of
-        /// version 1 ([`query_version`]).
+        /// The maximum response time, as [`max_resp_time`] decodes it. 0 marks a query of version 1
+        /// ([`query_version`]).
         max_resp_code: u8,
-        /// The group that is asked about, or 0.0.0.0 for each group.
+        /// The group that is asked about, or 0.0.0.0 for all groups.
         group_addr: Ipv4Address,
     },
-    /// The sender is a member.
+    /// A report: the sender is a member.
     MembershipReport {
-        /// The group of which it is one.
+        /// The group reported.
         group_addr: Ipv4Address,
-        /// Of which IGMP the report is.
+        /// The IGMP version of the report.
         version: IgmpVersion,
     },
-    /// The sender is a member no more.
+    /// The sender is no longer a member.
     LeaveGroup {
         /// The group that it left.
         group_addr: Ipv4Address,
@@ -46,11 +46,11 @@ pub enum IgmpRepr {
 }
 
 impl IgmpRepr {
-    /// The message that the octets begin with (RFC 2236 2). What stands behind its 8 octets isn't
-    /// read, and its checksum isn't tested. The code of a report or a leave isn't read.
+    /// Parses the message that the octets begin with (RFC 2236 2). Octets after its 8 are ignored, and its checksum
+    /// isn't verified. The code of a report or a leave is ignored.
     ///
-    /// `None` exactly if the octets are fewer than 8, if the type is none of 0x11, 0x12, 0x16 and
-    /// 0x17, or if the group is neither 0.0.0.0 nor multicast.
+    /// `None` exactly if there are fewer than 8 octets, if the type is none of 0x11, 0x12, 0x16 and 0x17, or if the
+    /// group is neither 0.0.0.0 nor multicast.
     pub fn parse(octets: &[u8]) -> Option<IgmpRepr>
         ensures { SomeIff result (spec.IsIgmp octets.now) (spec.igmp_in octets.now) }
     {
@@ -81,8 +81,7 @@ impl IgmpRepr {
         }
     }
 
-    /// The message's 8 octets, with their checksum (RFC 2236 2.3). The code of a report and of a
-    /// leave is 0.
+    /// The message's 8 octets, including the checksum (RFC 2236 2.3). The code of a report or a leave is 0.
     pub fn octets(&self) -> [u8; HEADER_LEN]
         ensures { result ≡ spec.text self.now }
     {
@@ -108,7 +107,7 @@ impl IgmpRepr {
         }
     }
 
-    /// The code of the message: that of a query, and else 0 (RFC 2236 2.2).
+    /// The code of the message: that of a query, otherwise 0 (RFC 2236 2.2).
     const fn code(&self) -> u8
         ensures { result ≡ spec.code_of self.now }
     {
@@ -130,7 +129,7 @@ impl IgmpRepr {
     }
 }
 
-/// Of which IGMP a query is: of version 1 exactly if its code is 0 (RFC 2236 4).
+/// The IGMP version of a query: version 1 exactly if its code is 0 (RFC 2236 4).
 pub fn query_version(max_resp_code: u8) -> IgmpVersion
     ensures { result ≡ spec.query_version max_resp_code }
 {
@@ -141,9 +140,9 @@ pub fn query_version(max_resp_code: u8) -> IgmpVersion
     }
 }
 
-/// The time of a query's code, from 0 to 3,174.4 seconds: of a code below 128 as many tenths of a
-/// second (RFC 2236 2.2), of another one those that its mantissa and its exponent tell (RFC 3376
-/// 4.1.1). Of code 0, which a query of version 1 has, it is no time.
+/// The maximum response time of a query's code, from 0 to 3,174.4 seconds. A code below 128 is a number of tenths of a
+/// second (RFC 2236 2.2); any other has a mantissa and an exponent (RFC 3376 4.1.1). Code 0, which marks version 1, is
+/// no time.
 pub fn max_resp_time(max_resp_code: u8) -> Duration
     ensures value { result ≡ spec.tenths_of max_resp_code * 100000 }
     ensures within_an_hour { result < 3600000000 }
@@ -163,7 +162,7 @@ fn tenths_of(max_resp_code: u8) -> u64
     (mantissa + 16) << (max_resp_code / 16 % 8 + 3)
 }
 
-/// Whether a message may name the group: 0.0.0.0 or a multicast address.
+/// Whether a message may carry the group: 0.0.0.0 or a multicast address.
 fn is_group(group_addr: &Ipv4Address) -> bool
     ensures { result ≡ spec.is_group group_addr.now }
 {
@@ -180,7 +179,7 @@ fn octets_with(sum: u16, repr: &IgmpRepr) -> [u8; HEADER_LEN]
     [repr.message_type(), repr.code(), c0, c1, g0, g1, g2, g3]
 }
 
-/// A message that is emitted is read again, whatever stands behind it.
+/// A message that is emitted is parsed back, whatever follows it.
 pub fn read_again()
     ensures { spec.ReadAgain }
 {}

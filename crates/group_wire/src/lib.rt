@@ -1,4 +1,4 @@
-//! The messages about groups on the wire: IGMP of IPv4, and MLD of IPv6.
+//! The wire formats of group messages: IGMP for IPv4, and MLD for IPv6.
 #![tactic(auto)]
 
 pub mod igmp;

@@ -10,31 +10,30 @@ use wire_base::octets::u16_at;
 /// The length of a report's address record without sources, in octets (RFC 3810 5.2.4).
 pub const RECORD_LEN: usize = 20;
 
-/// The values of a message, but its data: a query's sources, or a report's address records.
+/// The values of a message without its data: a query's sources, or a report's address records.
 #[derive(Clone, Copy, Debug, PartialEq, Eq)]
 pub enum MldRepr {
-    /// Who listens? (RFC 3810 5.1)
+    /// A listener query (RFC 3810 5.1).
     Query {
-        /// The code of how long an answer may take at most (RFC 3810 5.1.3).
+        /// The code of the maximum response time (RFC 3810 5.1.3).
         max_resp_code: u16,
-        /// The group that is asked about, or :: for each group.
+        /// The group that is asked about, or :: for all groups.
         mcast_addr: Ipv6Address,
     },
-    /// To which groups the sender listens (RFC 3810 5.2).
+    /// A report of the groups to which the sender listens (RFC 3810 5.2).
     Report {
-        /// How many address records the message has.
+        /// The number of address records in the message.
         nr_mcast_addr_rcrds: u16,
     },
 }
 
 impl MldRepr {
-    /// The message that the octets of an ICMPv6 message are, and its data as a part of them: what
-    /// stands behind the first 28 octets of a query, or the first 8 of a report. The data isn't
-    /// read, nor are the reserved octets and the last four of a query before its data. The
-    /// checksum isn't tested.
+    /// Parses the octets of an ICMPv6 message. Returns the message and its data: what follows the first 28 octets of a
+    /// query, or the first 8 of a report. The data isn't parsed, nor are the reserved octets and the last four of a
+    /// query before its data. The checksum isn't verified.
     ///
-    /// `None` exactly if they are neither a query (type 130) of at least 28 octets nor a report
-    /// (type 143) of at least 8, or if the code isn't 0.
+    /// `None` exactly if they are neither a query (type 130) of at least 28 octets nor a report (type 143) of at least
+    /// 8, or if the code isn't 0.
     pub fn parse(message: &[u8]) -> Option<(MldRepr, &[u8])>
         ensures { SomeIff (option_map spec.parts result) (spec.IsMld message.now) (spec.mld_in message.now) }
     {
@@ -72,7 +71,7 @@ impl MldRepr {
         }
     }
 
-    /// The length of the message without its data, in octets: 28 of a query, 8 of a report.
+    /// The length of the message without its data, in octets: 28 for a query, 8 for a report.
     pub const fn message_len(&self) -> usize
         ensures value { result ≡ spec.message_len self.now }
         ensures small { result ≤ 28 }
@@ -83,8 +82,8 @@ impl MldRepr {
         }
     }
 
-    /// The four octets behind the checksum: the code of a query and two zeros (RFC 3810 5.1), or
-    /// two zeros and the number of a report's records (RFC 3810 5.2).
+    /// The four octets after the checksum: the code of a query and two zeros (RFC 3810 5.1), or two zeros and the
+    /// number of a report's records (RFC 3810 5.2).
     pub const fn rest_of(&self) -> [u8; 4]
         ensures { result ≡ spec.rest_of self.now }
     {
@@ -102,8 +101,8 @@ impl MldRepr {
         }
     }
 
-    /// The octets between the first eight and the data: the group of a query and four zeros (no
-    /// flags, no robustness, no interval and no sources: RFC 3810 5.1), and none of a report.
+    /// The octets between the first eight and the data. For a query the group and four zeros (no flags, no robustness,
+    /// no interval and no sources: RFC 3810 5.1); none for a report.
     pub fn body_octets(&self) -> Option<[u8; 20]>
         ensures value { spec.body_octets result ≡ spec.body self.now }
         ensures len { 8 + length (spec.body_octets result) ≡ spec.message_len self.now }
@@ -115,14 +114,14 @@ impl MldRepr {
     }
 }
 
-/// What an address record says of a group (RFC 3810 5.2.12).
+/// The type of an address record (RFC 3810 5.2.12).
 #[derive(Clone, Copy, Debug, PartialEq, Eq)]
 pub enum MldRecordType {
-    /// The sender listens to all sources but those that are listed.
+    /// The sender listens to all sources except those listed.
     ModeIsExclude,
-    /// From now on it listens to no sources but those that are listed.
+    /// From now on the sender listens only to the sources listed.
     ChangeToInclude,
-    /// From now on it listens to all sources but those that are listed.
+    /// From now on the sender listens to all sources except those listed.
     ChangeToExclude,
 }
 
@@ -142,7 +141,7 @@ impl MldRecordType {
 /// The values of an address record without sources (RFC 3810 5.2).
 #[derive(Clone, Copy, Debug, PartialEq, Eq)]
 pub struct MldAddressRecordRepr {
-    /// What it says of the group.
+    /// The type of the record.
     pub record_type: MldRecordType,
     /// The group.
     pub mcast_addr: Ipv6Address,
@@ -161,7 +160,7 @@ impl MldAddressRecordRepr {
     }
 }
 
-/// The octets of a query behind the first eight.
+/// The octets of a query after the first eight.
 #[tactic(auto, unfolding(crate::specs::Mld::query_body, ipv6_wire::specs::Ipv6Packet::address_text))]
 fn query_body(mcast_addr: &Ipv6Address) -> [u8; 20]
     ensures { result ≡ spec.query_body mcast_addr.now }
@@ -171,7 +170,7 @@ fn query_body(mcast_addr: &Ipv6Address) -> [u8; 20]
     octets
 }
 
-/// A message of such octets is read again, with whatever checksum and data.
+/// A message made of these octets is parsed back, with any checksum and data.
 pub fn read_again()
     ensures { spec.ReadAgain }
 {}

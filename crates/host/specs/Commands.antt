@@ -8,7 +8,7 @@ use Rattle.host_machine.specs.Note.{Note}
 use Rattle.host_machine.specs.Step.{Act, Step}
 use Rattle.host_machine.specs.Run.{Did}
 
--- what a command did: the device told this, the owner did this, these are its notes, and the host is this one after
+-- what a command did: these are the device's events, the owner's actions and the notes, and this is the host afterwards
 pub record CommandWent {D O : Type 0} (tells : D → List Event → D → Type 0) (did : O → ℕ → SocketSet → SocketSet → O → Type 0)
     (device device' : D) (owner owner' : O) (command : Command) (answer : Answer) (H : Host) (after : Host → Type 0) : Type 0 where
   pub told : List Event
@@ -20,7 +20,7 @@ pub record CommandWent {D O : Type 0} (tells : D → List Event → D → Type 0
   pub steps : Step command answer H told acts notes host
   pub stands : after host
 
--- from each host that stood before, one step leads to a host that stands after
+-- from each host before, one step leads to a host afterwards
 abbrev pub CommandGoes : {D O : Type 0} → (D → List Event → D → Type 0) → (O → ℕ → SocketSet → SocketSet → O → Type 0) →
     D → D → O → O → Command → Answer → (Host → Type 0) → (Host → Type 0) → Type 0
 CommandGoes tells did device device' owner owner' command answer before after =

@@ -1,4 +1,4 @@
--- Calls of `drive` one after the other.
+-- Calls of `drive` one after another.
 use Rattle.std.specs.Prelude.{ℕ, List, ◌++◌}
 use Rattle.net_base.specs.Device.{Event}
 use Rattle.host_machine.specs.declared.command.Command.{Command}
@@ -10,7 +10,7 @@ use Rattle.interface.specs.declared.interface.Interface.{Interface}
 use Rattle.interface.specs.Stands.{StandsFor}
 use Rattle.host.specs.Driven.{Driven}
 
--- what two calls did one after the other is what one call over both lists of commands may do
+-- what two calls did one after another is what one call over both lists of commands may do
 abbrev pub DrivesJoin : {D O : Type 0} → (D → List Event → D → Type 0) → (O → ℕ → SocketSet → SocketSet → O → Type 0) → Type 0
 DrivesJoin {D} {O} tells did =
     (d e f : D) (o p q : O) (commands more_commands : List Command) (answers more_answers : List Answer) (H : Host)

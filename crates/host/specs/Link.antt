@@ -1,4 +1,4 @@
--- Two hosts on a link that loses, repeats and reorders frames, and changes none.
+-- Two hosts on a link that loses, repeats and reorders frames, but never changes one.
 use Rattle.std.specs.Prelude.{◌≡◌, ℕ, ◌<◌, ◌^◌, ℤ, List, [], ◌∷◌, ◌++◌, length, take, drop, slice_get, Option, Some, None, Result, Ok, Err}
 use Rattle.std.specs.List.{AllByRecursion}
 use Rattle.std.specs.FinMap as map
@@ -37,12 +37,12 @@ pub record End (O : Type 0) : Type 0 where
   pub device : Memory
   pub owner : O
 
--- what an owner may do at a turn
+-- what an owner may do in a turn
 abbrev pub Owns : Type 0 → Type 1
 Owns O = O → ℕ → SocketSet → SocketSet → O → Type 0
 
--- one place of an end's run: its device told what the place says, and its owner did it. A hardware address that its command gives has
--- six octets, if it is one of Ethernet, as each has that a program holds
+-- one transition of an end's run: its device has these events, and its owner did these actions. A hardware address that its
+-- command sets has six octets if it is an Ethernet address, as each has that a program holds
 pub record Acts {O : Type 0} (did : Owns O) (p : Transition) (old new : End O) : Type 0 where
   pub step : Step p.command p.answer old.host p.told p.acts p.notes new.host
   pub before : p.before ≡ old.host
@@ -51,20 +51,20 @@ pub record Acts {O : Type 0} (did : Owns O) (p : Transition) (old new : End O) :
   pub owner_did : Did did old.owner p.acts new.owner
   pub six : GivesSix p.command
 
--- a device with a copy of a frame behind those that are queued
+-- a device with a copy of a frame appended to its queue
 abbrev pub with_frame : Memory → List ℕ → Memory
 with_frame d frame = record d { queued = d.queued ++ frame ∷ [] }
 
 abbrev pub end_with_frame : {O : Type 0} → End O → List ℕ → End O
 end_with_frame e frame = record e { device = with_frame e.device frame }
 
--- frame k, from 0, of those that a device has sent since the link began, where it had sent so many before
+-- frame k, from 0, of those that a device has sent since the link began, if it had sent `before` frames by then
 abbrev pub sent_since : ℕ → Memory → ℕ → Option (List ℕ)
 sent_since before d k = slice_get (drop before d.sent) k
 
--- Steps on a link between two ends, which had sent m and n frames before it began, and the places of their runs: a command on one end;
--- or a copy of a frame that the one has sent is queued for the other, which is then polled for a frame. Where there is no such frame,
--- nothing is done.
+-- Steps on a link between two ends, which had sent m and n frames before it began, and the transitions of their runs: a command
+-- on one end; or a copy of a frame that one end has sent is queued for the other, which is then polled for a frame. If there is
+-- no such frame, nothing is done.
 pub data Links {O P : Type 0} (did_a : Owns O) (did_b : Owns P) (m n : ℕ) :
     List LinkStep → End O → End P → List Transition → List Transition → End O → End P → Type 0 where
   Stops : {a : End O} {b : End P} → Links did_a did_b m n [] a b [] [] a b
@@ -83,7 +83,7 @@ pub data Links {O P : Type 0} (did_a : Owns O) (did_b : Owns P) (m n : ℕ) :
   NoneToB : {steps : List LinkStep} {a a' : End O} {b b' : End P} {ps qs : List Transition} (k : ℕ) (t : ℤ) →
       sent_since m a.device k ≡ None → Links did_a did_b m n steps a b ps qs a' b' → Links did_a did_b m n (step.ToB k t ∷ steps) a b ps qs a' b'
 
--- there is a frame so numbered
+-- there is a frame of this number
 abbrev pub IsThere : ℕ → Memory → ℕ → Type 0
 IsThere before d k = (frame : List ℕ) × (sent_since before d k ≡ Some frame)
 
@@ -93,16 +93,17 @@ Copies m n (step.ToA k t) a b = IsThere n b k
 Copies m n (step.ToB k t) a b = IsThere m a k
 Copies m n other a b = ⊥
 
--- which steps were done: all; or those before the one whose copy was refused, which alone may be
+-- which steps were done: all; or those before the one whose copy was refused, the only reason to stop
 pub data IsDone (steps : List LinkStep) (m n : ℕ) (a b : Memory) : Result (Unit {0}) LinkError → List LinkStep → Type 0 where
   All : IsDone steps m n a b (Ok tt) steps
   Before : (k : ℕ) (refused : LinkStep) → slice_get steps k ≡ Some refused → Copies m n refused a b → IsDone steps m n a b (Err (NoMemory k)) (take k steps)
 
--- the end of a link that a host of a program is, where its interface and sockets stand for a host of the machine
+-- the end of a link that a program's host is, if its interface and sockets stand for a host of the machine
 abbrev pub end_of : {O : Type 0} → Linked O → Host → End O
 end_of h H = record { host = H; device = h.device; owner = h.owner }
 
--- what these steps did, from hosts that both stood for: the places of both runs, and the hosts that they stand for after
+-- what these steps did, from hosts that both ends stood for: the transitions of both runs, and the hosts that they stand for
+-- afterwards
 pub record Went {O P : Type 0} (did_a : Owns O) (did_b : Owns P) (m n : ℕ) (steps : List LinkStep) (a a' : Linked O) (b b' : Linked P)
     (H K : Host) : Type 0 where
   pub ps : List Transition
@@ -113,8 +114,8 @@ pub record Went {O P : Type 0} (did_a : Owns O) (did_b : Owns P) (m n : ℕ) (st
   pub stands_a : StandsFor a'.interface a'.sockets last_a
   pub stands_b : StandsFor b'.interface b'.sockets last_b
 
--- what is done with a number of a frame: where a device has sent none so numbered, nothing; else a copy is queued for an end, which is
--- then polled
+-- what is done with the number of a frame: if a device has sent no frame of this number, nothing; otherwise a copy is queued for
+-- an end, which is then polled
 pub data HandsOver {O : Type 0} (did : Owns O) (before : ℕ) (from : Memory) (k : ℕ) (t : ℤ) (old new : Linked O) : Type 0 where
   NoFrame : sent_since before from k ≡ None → new ≡ old → HandsOver did before from k t old new
   OneFrame : (frame : List ℕ) (answer : Answer) → sent_since before from k ≡ Some frame →
@@ -122,34 +123,37 @@ pub data HandsOver {O : Type 0} (did : Owns O) (before : ℕ) (from : Memory) (k
       (StandsFor old.interface old.sockets) (StandsFor new.interface new.sockets) →
       HandsOver did before from k t old new
 
--- so it went from all hosts that both stood for
+-- that, from all hosts that both ends stood for
 abbrev pub Goes : {O P : Type 0} → Owns O → Owns P → ℕ → ℕ → List LinkStep → Linked O → Linked O → Linked P → Linked P → Type 0
 Goes did_a did_b m n steps a a' b b' =
     (H K : Host) → StandsFor a.interface a.sockets H → StandsFor b.interface b.sockets K → Went did_a did_b m n steps a a' b b' H K
 
--- Whatever an end rebuilds under the key of a packet that the other cut is that packet's payload. Both are on one medium; the other had
--- no piece left when the link began, and cuts no two packets under one key; and the one had no slot with such a key.
+-- Whatever an end reassembles under the key of a packet that the other end fragmented is that packet's payload. Both are on one
+-- medium; the other end had no pending fragment when the link began, and fragments no two packets under one key; and the
+-- receiving end had no slot with such a key.
 abbrev pub RebuildsCuts : Host → Host → List Transition → List Transition → Type 0
 RebuildsCuts H K ps qs =
     K.capabilities.medium ≡ H.capabilities.medium → H.left ≡ [] → HaveOwnKeys (cuts_in ps) →
     AllByRecursion (λ d. map.get K.slots (key_of_cut d) ≡ None) (cuts_in ps) → RebuildsThese (cuts_in ps) qs
 
--- Where the other makes fewer than 65,536 dispatches, it cuts no two packets under one key, and the same holds without that premise.
+-- If the other end makes fewer than 65,536 dispatches, it fragments no two packets under one key, and the law holds without that
+-- premise.
 abbrev pub RebuildsFew : Host → Host → List Transition → List Transition → Type 0
 RebuildsFew H K ps qs =
     K.capabilities.medium ≡ H.capabilities.medium → H.left ≡ [] → length (identifications (notes_in ps)) < 2 ^ 16 →
     AllByRecursion (λ d. map.get K.slots (key_of_cut d) ≡ None) (cuts_in ps) → RebuildsThese (cuts_in ps) qs
 
--- Each datagram that a UDP socket of an end gets was sent by a UDP socket of the other, whole or, under the premises above, in fragments. Both
--- are on one medium; what the other had left of a packet that was cut before are parts of it, as where nothing was left; and no raw socket of
--- the other writes UDP.
+-- Each datagram that a UDP socket of an end gets was sent by a UDP socket of the other end, whole or, under the premises above,
+-- in fragments. Both are on one medium; the fragments pending at the other end when the link began are parts of packets, if there
+-- are any; and no raw socket of the other end sends UDP.
 abbrev pub GetsDatagrams : Host → Host → List Transition → List Transition → Type 0
 GetsDatagrams H K ps qs =
     K.capabilities.medium ≡ H.capabilities.medium → AllByRecursion (IsPart H.capabilities.medium) H.left → AllByRecursion (λ p. NoSocketWritesUdp p.before) ps →
     GetWhatWasSent H K ps qs
 
--- what `link` did: some of its steps, which ones by its answer; so the ends went along runs, of which the laws hold, what was handed
--- over in each was sent in the other, what one end rebuilds is what the other cut, and what UDP sockets of the one get those of the other sent
+-- what `link` did: some of its steps, which ones by its answer. So the ends made runs that satisfy the laws; what was received in
+-- each was sent in the other; what one end reassembles is what the other fragmented; and what UDP sockets of one get those of the
+-- other sent
 pub record LinkWent {O P : Type 0} (did_a : Owns O) (did_b : Owns P) (steps : List LinkStep) (answer : Result (Unit {0}) LinkError)
     (a a' : Linked O) (b b' : Linked P) (H K : Host) : Type 0 where
   pub done : List LinkStep
@@ -170,7 +174,7 @@ pub record LinkWent {O P : Type 0} (did_a : Owns O) (did_b : Owns P) (steps : Li
   pub gets_b : GetsDatagrams H K went.ps went.qs
   pub gets_a : GetsDatagrams K H went.qs went.ps
 
--- so it goes from all hosts that both stood for
+-- that, from all hosts that both ends stood for
 abbrev pub LinkGoes : {O P : Type 0} → Owns O → Owns P → List LinkStep → Result (Unit {0}) LinkError → Linked O → Linked O → Linked P → Linked P → Type 0
 LinkGoes did_a did_b steps answer a a' b b' =
     (H K : Host) → StandsFor a.interface a.sockets H → StandsFor b.interface b.sockets K → LinkWent did_a did_b steps answer a a' b b' H K

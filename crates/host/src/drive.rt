@@ -1,4 +1,4 @@
-//! Lists of calls, and that they are runs of the host machine.
+//! Runs lists of calls, and proves that they are runs of the host machine.
 ghost use Rattle.std.specs.Prelude.{◌≡◌, List, length, All};
 ghost use Rattle.host_machine.specs.Host.{Host, SocketSet};
 ghost use Rattle.host_machine.specs.Step.{IsTimely, UpdatesIpAddrs};
@@ -17,13 +17,13 @@ use net_base::phy::Device;
 pub use net_base::{MemoryDevice, PushError};
 use socket_set::SocketSet;
 
-/// Who uses the sockets of a host: it acts on them where a list of commands gives it a turn.
+/// The user of a host's sockets: it acts on them where a list of commands gives it a turn.
 pub trait Owner {
     ghost use Rattle.std.specs.Prelude.{ℕ};
     ghost use Rattle.host_machine.specs.Host.{SocketSet};
 
-    /// What it may do at a turn: from one state of its own to another, by the number of the turn,
-    /// with the sockets before and after.
+    /// What it may do in a turn: from one state of its own to another, by the number of the turn, with the sockets
+    /// before and after.
     ghost did: { Self → ℕ → SocketSet → SocketSet → Self → Type 0 };
 
     /// Acts on the sockets.
@@ -31,7 +31,7 @@ pub trait Owner {
         ensures { did self.old number sockets.old sockets.new self.new };
 }
 
-/// Replaces the addresses by a list.
+/// Replaces the addresses with a list.
 fn put_ip_addrs(interface: &mut Interface, list: &ArrayVec<IpCidr, 4>) -> Result<(), AddrError>
     ensures { Follows interface.old interface.new (UpdatesIpAddrs list.now.items result) }
 {
@@ -40,7 +40,7 @@ fn put_ip_addrs(interface: &mut Interface, list: &ArrayVec<IpCidr, 4>) -> Result
     interface.update_ip_addrs(move |_| addrs)
 }
 
-/// Replaces the routes by a list.
+/// Replaces the routes with a list.
 fn put_routes(interface: &mut Interface, list: &ArrayVec<Route, 4>)
     ensures { Becomes interface.old interface.new (λ H. record H { routes = list.now.items }) }
 {
@@ -49,7 +49,7 @@ fn put_routes(interface: &mut Interface, list: &ArrayVec<Route, 4>)
     interface.routes_mut().update(move |_| routes);
 }
 
-/// Adds a default route of IPv4.
+/// Adds an IPv4 default route.
 fn add_default_ipv4_route(
     interface: &mut Interface,
     gateway: Ipv4Address,
@@ -60,7 +60,7 @@ fn add_default_ipv4_route(
     interface.routes_mut().add_default_ipv4_route(gateway)
 }
 
-/// Takes out the default route of IPv4.
+/// Removes the IPv4 default route.
 fn remove_default_ipv4_route(interface: &mut Interface) -> Option<Route>
     ensures answer { (sockets : SocketSet) → result ≡ first is_ipv4_gateway (host_with interface.old sockets).routes }
     ensures table { Becomes interface.old interface.new (λ H. record H { routes = without_first is_ipv4_gateway H.routes }) }
@@ -68,7 +68,7 @@ fn remove_default_ipv4_route(interface: &mut Interface) -> Option<Route>
     interface.routes_mut().remove_default_ipv4_route()
 }
 
-/// Adds a default route of IPv6.
+/// Adds an IPv6 default route.
 fn add_default_ipv6_route(
     interface: &mut Interface,
     gateway: Ipv6Address,
@@ -79,7 +79,7 @@ fn add_default_ipv6_route(
     interface.routes_mut().add_default_ipv6_route(gateway)
 }
 
-/// Takes out the default route of IPv6.
+/// Removes the IPv6 default route.
 fn remove_default_ipv6_route(interface: &mut Interface) -> Option<Route>
     ensures answer { (sockets : SocketSet) → result ≡ first is_ipv6_gateway (host_with interface.old sockets).routes }
     ensures table { Becomes interface.old interface.new (λ H. record H { routes = without_first is_ipv6_gateway H.routes }) }
@@ -156,9 +156,9 @@ pub(crate) fn step<D: Device, O: Owner>(
     }
 }
 
-/// Runs the commands in order, and writes each answer to its place. That is a run of the host
-/// machine, from each state that the interface and its sockets stand for. There have to be as many
-/// places as commands. It takes no memory, apart from what its device and its owner take.
+/// Runs the commands in order, and writes each answer to its index. That is a run of the host machine, from each state
+/// that the interface and its sockets stand for. There must be as many answers as commands. It allocates nothing, apart
+/// from what its device and its owner allocate.
 pub fn drive<D: Device, O: Owner>(
     interface: &mut Interface,
     device: &mut D,
@@ -177,7 +177,7 @@ pub fn drive<D: Device, O: Owner>(
     }
 }
 
-/// Calls of [`drive`] one after the other are one run.
+/// Calls of [`drive`] one after another are one run.
 pub fn drives_join<D: Device, O: Owner>()
     ensures { DrivesJoin D.tells O.did }
 {}

@@ -1,4 +1,4 @@
-//! Two hosts on a link that loses, repeats and reorders frames, and changes none.
+//! Two hosts on a link that loses, repeats and reorders frames, but never changes one.
 ghost use Rattle.std.specs.Prelude.{◌≡◌, [], ◌∷◌, Some, None, length, All, OnOk, OnErr, MatchOption};
 ghost use Rattle.net_base.specs.Time.{IsMoment};
 ghost use Rattle.host_machine.specs.Step.{IsTimely};
@@ -21,33 +21,33 @@ use thiserror::Error;
 pub struct Host<'a, O> {
     /// The host's interface.
     pub interface: Interface,
-    /// The device whose frames it takes and sends.
+    /// The device through which it receives and sends frames.
     pub device: MemoryDevice,
     /// The sockets that it serves.
     pub sockets: SocketSet<'a>,
-    /// Who uses them.
+    /// The user of these sockets.
     pub owner: O,
 }
 
 /// One step on a link between two hosts, A and B.
 #[derive(Drop)]
 pub enum LinkStep {
-    /// A runs a command.
+    /// Host A runs a command.
     A(Command),
-    /// B runs a command.
+    /// Host B runs a command.
     B(Command),
-    /// A copy of a frame that B has sent since the link began is queued for A, by its number from 0,
-    /// and A is polled for one frame at this moment. A number for which there is no frame does nothing.
+    /// A copy of a frame that B has sent since the link began is queued for A, by its number from 0, and A is polled
+    /// for one frame at this moment. A number without a frame does nothing.
     ToA(usize, Instant),
-    /// A copy of a frame that A has sent since the link began is queued for B, by its number from 0,
-    /// and B is polled for one frame at this moment. A number for which there is no frame does nothing.
+    /// A copy of a frame that A has sent since the link began is queued for B, by its number from 0, and B is polled
+    /// for one frame at this moment. A number without a frame does nothing.
     ToB(usize, Instant),
 }
 
-/// Why not all steps were done. It prints as its name.
+/// Why not all steps were done. It is displayed as its name.
 #[derive(Clone, Copy, Debug, PartialEq, Eq, Error)]
 pub enum LinkError {
-    /// There was no memory for the copy that this step, counted from 0, was to queue.
+    /// There was no memory for the copy that this step, counted from 0, had to queue.
     #[error("NoMemory")]
     NoMemory {
         /// The number of the step, from 0.
@@ -62,7 +62,7 @@ fn frames_sent(device: &MemoryDevice) -> usize
     device.sent().len()
 }
 
-/// A frame, by its number from 0, of those that a device has sent since it had sent so many.
+/// A frame, by its number from 0, among those that a device has sent after its first `before` frames.
 fn sent_since(device: &MemoryDevice, before: usize, k: usize) -> Option<&[u8]>
     ensures { MatchOption result (sent_since before device.now k ≡ None) (λ frame. sent_since before device.now k ≡ Some frame.now) }
 {
@@ -71,7 +71,7 @@ fn sent_since(device: &MemoryDevice, before: usize, k: usize) -> Option<&[u8]>
     Some(frame.as_slice())
 }
 
-/// States that a hardware address which a command gives has as many octets as its medium's have.
+/// A lemma: a hardware address that a command gives has as many octets as its medium's addresses.
 fn gives_six(command: &Command)
     ensures { GivesSix command.now }
 {
@@ -96,9 +96,9 @@ fn run<O: Owner>(host: &mut Host<'_, O>, command: &Command) -> Answer
     )
 }
 
-/// Queues a copy of a frame, by its number from 0 among those that a device has sent since it had sent
-/// so many, for a host, and polls that for one frame. Without such a frame nothing is done. Where there
-/// is no memory for the copy, nothing has changed.
+/// Queues a copy of a frame for a host, and polls that host for one frame. The frame is given by its number from 0
+/// among those that a device has sent after its first `before` frames. Without such a frame nothing is done. If there
+/// is no memory for the copy, nothing changes.
 fn hand_over<O: Owner>(
     from: &MemoryDevice,
     before: usize,
@@ -119,8 +119,8 @@ fn hand_over<O: Owner>(
     Ok(())
 }
 
-/// Does one step, where A and B had sent so many frames when the link began. Where there is no memory
-/// for a copy, nothing has changed.
+/// Does one step; `sent_by_a` and `sent_by_b` are the numbers of frames that A and B had sent when the link began. If
+/// there is no memory for a copy, nothing changes.
 fn link_step<OA: Owner, OB: Owner>(
     a: &mut Host<'_, OA>,
     b: &mut Host<'_, OB>,
@@ -148,16 +148,17 @@ fn link_step<OA: Owner, OB: Owner>(
     }
 }
 
-/// Does the steps in order, on a link that loses what no step hands over, and repeats and reorders
-/// frames as the steps say. No frame may wait in either device when it begins. Each end goes along a run
-/// of the host machine, from each state that its interface and sockets stand for, and takes nothing but
-/// frames that the other sent meanwhile: copies are handed over in the order in which they were queued,
-/// each at most once, the first that waits at each poll for a frame, unless the device had no room,
-/// which its count of refusals tells; what was not handed over still waits.
+/// Does the steps in order, on a link that loses the frames that no step delivers, and repeats and reorders frames as
+/// the steps say. No frame may be queued in either device at the start. Each end performs a run of the host machine,
+/// from each state that its interface and sockets stand for.
 ///
-/// `NoMemory` comes where memory for the copy of a step was refused: the steps before it are done, and
-/// it and those behind it aren't. Nothing else takes memory, apart from what the devices take for the
-/// frames that are sent, and what the owners take.
+/// Each end receives only frames that the other sent meanwhile. Copies are delivered in the order in which they were
+/// queued, each at most once. Each poll for a frame delivers the first in the queue, unless the device had no room,
+/// which its refusal count shows. Frames not delivered stay queued.
+///
+/// Fails with `NoMemory` if memory for the copy of a step was refused: the steps before it are done, but not it and
+/// those after it. Nothing else allocates, apart from what the devices allocate for frames they send, and what the
+/// owners allocate.
 pub fn link<OA: Owner, OB: Owner>(
     a: &mut Host<'_, OA>,
     b: &mut Host<'_, OB>,

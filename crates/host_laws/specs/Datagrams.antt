@@ -1,4 +1,4 @@
--- What UDP sockets get and send over runs: nothing invented, nothing twice, nothing changed.
+-- What UDP sockets receive and send over runs: nothing invented, nothing twice, nothing changed.
 use Rattle.std.specs.Prelude.{◌≡◌, ℕ, List, [], ◌∷◌, ◌++◌, Some}
 use Rattle.std.specs.Option.{option_map}
 use Rattle.std.specs.List.{AllByRecursion}
@@ -16,16 +16,17 @@ use Rattle.host_laws.specs.Deliveries.{Delivery, Deliver, IsAccepted, to_index, 
 use Rattle.host_laws.specs.Senders.{IsRegular, NoSocketWritesUdp, CarryOnly}
 use Rattle.host_laws.specs.Departures.{Departure, HasDeparted, cuts_of, entries, frames_of, from_index, without}
 
--- the host when a command takes its first frame, or sends its first: at the command's moment, and maintained if it is a poll
+-- the host when a command receives or sends its first frame: at the command's moment, and maintained if it is a poll
 abbrev pub host_at_command : Command → Host → Host
 host_at_command (PollIngressSingle t) H = without_expired H t
 host_at_command (PollEgress t) H = at H t
 host_at_command (Poll t budget) H = after_maintenance (at H t)
 host_at_command other H = H
 
--- What moves at a place of a run: each datagram that a socket gets came in a frame that was handed over there, at most one in each, or was
--- rebuilt there when a fragment came, and the socket hears it; what left a socket's queue went in a frame that was sent there, or was
--- cut there, in this order, or was dropped; and nothing else that was sent there carries UDP, unless a raw socket writes it.
+-- What moves in a transition of a run. Each datagram that a socket gets arrived in a frame received there, at most one in each,
+-- or was reassembled there when a fragment arrived, and the socket accepts it. What left a socket's queue was sent there in a
+-- frame, or was fragmented there, in this order, or was dropped. Nothing else sent there carries UDP, unless a raw socket sends
+-- it.
 pub record MovesAt (p : Transition) (deliveries : List Delivery) (departures : List Departure) : Type 0 where
   pub came : Deliver (host_at_command p.command p.before) (handed_frames p.told) (slot_notes p.notes) deliveries
   pub heard : AllByRecursion (IsAccepted (host_at_command p.command p.before)) deliveries
@@ -35,19 +36,20 @@ pub record MovesAt (p : Transition) (deliveries : List Delivery) (departures : L
   pub only : IsRegular p.before → NoSocketWritesUdp p.before →
       CarryOnly p.before.capabilities.medium departures (sent_frames p.told) (cuts (cut_notes p.notes))  -- and no other frame carries UDP
 
--- and at several, one after the other
+-- what moves in several transitions, one after another
 pub data Move : List Transition → List Delivery → List Departure → Type 0 where
   Still : Move [] [] []
   OneTransition : {transitions : List Transition} {more_deliveries : List Delivery} {more_departures : List Departure}
       (p : Transition) (deliveries : List Delivery) (departures : List Departure) → MovesAt p deliveries departures →
       Move transitions more_deliveries more_departures → Move (p ∷ transitions) (deliveries ++ more_deliveries) (departures ++ more_departures)
 
--- the socket with what it got behind its receive queue, as far as there was room, and without what left its transmit queue
+-- the socket with what it got appended to its receive queue, as far as there was room, and without what left its transmit queue
 abbrev pub socket_after_run : List Delivery → List Departure → UdpSocket → UdpSocket
 socket_after_run deliveries departures s = without departures (with_deliveries deliveries s)
 
--- What the UDP sockets of a host hold after these places is what they held, followed by what they were handed, each as far as there was room,
--- in this order; and less what left the front of their transmit queues, in this order. No socket comes or goes.
+-- What the UDP sockets of a host hold after these transitions is what they held, followed by what was delivered to them, each as
+-- far as there was room, in this order; less what left the front of their transmit queues, in this order. No socket is added or
+-- removed.
 pub record KeepsQueues (first last : Host) (transitions : List Transition) : Type 0 where
   pub deliveries : List Delivery
   pub departures : List Departure
@@ -59,7 +61,7 @@ pub record KeepsQueues (first last : Host) (transitions : List Transition) : Typ
 abbrev pub RunsKeepQueues : Type 0
 RunsKeepQueues = (first last : Host) (transitions : List Transition) → Run first transitions last → acts_in transitions ≡ [] → KeepsQueues first last transitions
 
--- a stretch of a run: the run up to it, the stretch itself, and the run behind it
+-- a part of a run: the run up to it, the part itself, and the run after it
 pub record Stretch (first last : Host) (before between after : List Transition) : Type 0 where
   pub from : Host
   pub to : Host
@@ -68,10 +70,10 @@ pub record Stretch (first last : Host) (before between after : List Transition) 
   pub run_after : Run to after last
   pub keeps : acts_in between ≡ [] → KeepsQueues from to between
 
--- and so at each stretch of a run
+-- that, in each part of a run
 abbrev pub KeepsDatagrams : Host → Host → List Transition → Type 0
 KeepsDatagrams first last transitions = (before between after : List Transition) → transitions ≡ before ++ (between ++ after) → Stretch first last before between after
 
--- of every run
+-- that, for every run
 abbrev pub RunsKeepDatagrams : Type 0
 RunsKeepDatagrams = (first last : Host) (transitions : List Transition) → Run first transitions last → KeepsDatagrams first last transitions

@@ -1,4 +1,4 @@
--- What UDP sockets get, and in which frames it comes (RFC 768, RFC 1122 4.1.3).
+-- What UDP sockets receive, and in which frames it arrives (RFC 768, RFC 1122 4.1.3).
 use Rattle.std.specs.Prelude.{◌≡◌, ℕ, ◌==◌, ◌≤◌, true, false, List, [], ◌∷◌, ◌++◌, length, drop, Option, Some, if◌then◌else◌}
 use Rattle.std.specs.Option.{option_and_then}
 use Rattle.net_base.specs.Checksum.{is_rx}
@@ -29,7 +29,7 @@ use Rattle.host_machine.specs.Ethernet.{is_for, version_in}
 use Rattle.host_machine.specs.Frames.{Carries}
 use Rattle.host_machine.specs.Ipv4.{key_in, rebuilt_header}
 
--- a datagram that a socket was handed: the index of the socket's place, both ends, and the payload
+-- a datagram that was delivered to a socket: the socket's index, both endpoints, and the payload
 pub record Delivery : Type 0 where
   pub index : ℕ
   pub source : IpEndpoint
@@ -40,16 +40,15 @@ pub record Delivery : Type 0 where
 abbrev pub udp_at : SocketSet → ℕ → Option UdpSocket
 udp_at sockets i = option_and_then down_udp (socket_at sockets i)
 
--- a frame that a host takes has an IPv6 packet in it: over Ethernet behind the header, if the frame is for the host (RFC 2464); on a medium
--- without hardware addresses it is the packet
+-- a frame that a host accepts carries an IPv6 packet: over Ethernet after the header, if the frame is for the host (RFC 2464); on
+-- a medium without hardware addresses it is the packet
 pub data CarriesIpv6 (h : HardwareAddress) (frame packet : List ℕ) : Type 0 where
   OverEthernet : (own : EthernetAddress) → h ≡ hardware.Ethernet own → 14 ≤ length frame → is_for own (header_in frame).dst_addr ≡ true →
       (header_in frame).ethertype ≡ ethertype.Ipv6 → packet ≡ drop 14 frame → CarriesIpv6 h frame packet
   AsItStands : h ≡ hardware.Ip → version_in frame ≡ 6 → packet ≡ frame → CarriesIpv6 h frame packet
 
--- A frame brings octets for UDP in one packet, by that one's header: as the payload of an IPv4 packet that came whole; as the payload of an IPv6
--- packet; or as what stands there behind hop-by-hop options that are known or to be skipped. The header is right, and the packet may come from
--- where it says.
+-- A frame carries octets for UDP in one packet, with that packet's header: as the payload of a whole IPv4 packet; as the payload
+-- of an IPv6 packet; or after hop-by-hop options that are known or to be skipped. The header is right, and its source is valid.
 pub data BringsPacket (H : Host) (frame : List ℕ) (r : IpRepr) (octets : List ℕ) : Type 0 where
   OverIpv4 : (packet : List ℕ) → Carries H.hardware_addr frame packet → IsIpv4 (is_rx H.capabilities.checksum.ipv4) packet →
       may_be_source H.ip_addrs (ipv4_in packet).0.src_addr ≡ true → is_fragment (ipv4_in packet).1 ≡ false →
@@ -61,8 +60,8 @@ pub data BringsPacket (H : Host) (frame : List ℕ) (r : IpRepr) (octets : List 
       first_failure (hop_by_hop_in (ipv6_in packet).1).0.options.items ≡ Skip → (hop_by_hop_in (ipv6_in packet).1).0.next_header ≡ protocol.Udp →
       r ≡ repr.Ipv6 (ipv6_in packet).0 → octets ≡ (hop_by_hop_in (ipv6_in packet).1).1 → BringsPacket H frame r octets
 
--- A frame brings octets for UDP: in one packet; or as what was rebuilt when the frame brought a fragment, which is the last that is noted then,
--- with that one's header.
+-- A frame brings octets for UDP: in one packet; or as what was reassembled when the frame's fragment arrived, which is the last
+-- note then, with that fragment's header.
 pub data BringsUdp (H : Host) (frame : List ℕ) (noted : List SlotNote) (r : IpRepr) (octets : List ℕ) : Type 0 where
   AtOnce : BringsPacket H frame r octets → BringsUdp H frame noted r octets
   InFragments : (packet : List ℕ) (earlier : List SlotNote) → Carries H.hardware_addr frame packet → IsIpv4 (is_rx H.capabilities.checksum.ipv4) packet →
@@ -70,7 +69,7 @@ pub data BringsUdp (H : Host) (frame : List ℕ) (noted : List SlotNote) (r : Ip
       (ipv4_in packet).0.next_header ≡ protocol.Udp → noted ≡ earlier ++ Rebuild (key_in (ipv4_in packet).0 (ipv4_in packet).1) octets ∷ [] →
       r ≡ repr.Ipv4 (rebuilt_header (ipv4_in packet).0 octets) → BringsUdp H frame noted r octets
 
--- a frame brings what a socket gets: a datagram with its lengths right, and with its checksum right where that is tested and there is one,
+-- a frame brings what a socket gets: a datagram with right lengths, and a right checksum if that is verified and there is one,
 -- for an address of the host
 pub record Gets (H : Host) (frame : List ℕ) (noted : List SlotNote) (d : Delivery) : Type 0 where
   pub header : IpRepr
@@ -82,7 +81,7 @@ pub record Gets (H : Host) (frame : List ℕ) (noted : List SlotNote) (d : Deliv
   pub destination_is : d.destination ≡ record { addr = dst_addr header; port = (udp_in octets).0.dst_port }
   pub payload_is : d.payload ≡ (udp_in octets).1
 
--- what sockets get of frames that are taken one after the other, with what each notes of slots: at most one datagram of each
+-- what sockets get from frames received one after another, with the notes about slots of each: at most one datagram from each
 pub data Deliver (H : Host) : List (List ℕ) → List SlotNote → List Delivery → Type 0 where
   NoFrame : Deliver H [] [] []
   OneGets : {frames : List (List ℕ)} {noted : List SlotNote} {ds : List Delivery} (frame : List ℕ) (own : List SlotNote) (d : Delivery) →
@@ -90,18 +89,18 @@ pub data Deliver (H : Host) : List (List ℕ) → List SlotNote → List Deliver
   NoSocketGets : {frames : List (List ℕ)} {noted : List SlotNote} {ds : List Delivery} (frame : List ℕ) (own : List SlotNote) →
       Deliver H frames noted ds → Deliver H (frame ∷ frames) (own ++ noted) ds
 
--- the socket that was handed a datagram is one that hears its destination: at its port, and at its address or at one of many hosts
+-- the socket that got a datagram accepts its destination: its port, and its address or a broadcast or multicast one
 pub record IsAccepted (H : Host) (d : Delivery) : Type 0 where
   pub socket : UdpSocket
   pub there : udp_at H.sockets d.index ≡ Some socket
   pub hears : accepts (is_broadcast H.ip_addrs) socket d.destination.addr d.destination.port ≡ true
 
--- those to the socket at an index, in order
+-- the deliveries to the socket at an index, in order
 abbrev pub to_index : ℕ → List Delivery → List Delivery
 to_index i [] = []
 to_index i (d ∷ ds) = if d.index == i then d ∷ to_index i ds else to_index i ds
 
--- the socket with these behind what its receive queue has, each as far as there is room for it
+-- the socket with these appended to its receive queue, each as far as there is room for it
 abbrev pub with_deliveries : List Delivery → UdpSocket → UdpSocket
 with_deliveries [] s = s
 with_deliveries (d ∷ ds) s = with_deliveries ds (socket_after_delivery d.source d.payload s)

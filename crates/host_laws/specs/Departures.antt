@@ -1,4 +1,4 @@
--- What leaves the transmit queues of UDP sockets, and in which frames it goes (RFC 768, RFC 791 3.2).
+-- What leaves the transmit queues of UDP sockets, and in which frames it is sent (RFC 768, RFC 791 3.2).
 use Rattle.std.specs.Prelude.{◌≡◌, ℕ, ◌==◌, ◌<◌, ◌≤◌, true, false, List, [], ◌∷◌, Option, Some, None, if◌then◌else◌}
 use Rattle.net_base.specs.Checksum.{ip_mtu_of}
 use Rattle.ip_address.specs.declared.ip.IpAddress.{IpAddress}
@@ -17,30 +17,31 @@ use Rattle.host_machine.specs.Dispatch.{datagram_of, may_be_cut}
 use Rattle.host_machine.specs.Egress.{packet_between}
 use Rattle.host_laws.specs.Deliveries.{udp_at}
 
--- how a datagram left: it was dropped; it went to a hardware address in a frame; or it was cut, and its first piece went in a frame
+-- how a datagram left: it was dropped; it was sent to a hardware address in a frame; or it was fragmented, and its first fragment
+-- sent in a frame
 pub data Way : Type 0 where
   Dropped : Way
   InOneFrame : (to : HardwareAddress) (frame : List ℕ) → Way
   InPieces : (cut : Datagram) → (first : List ℕ) → Way
 
--- a datagram that left a socket's transmit queue: the index of the socket's place, where it was to go, its payload, and how it left
+-- a datagram that left a socket's transmit queue: the socket's index, its destination, its payload, and how it left
 pub record Departure : Type 0 where
   pub index : ℕ
   pub destination : IpEndpoint
   pub payload : List ℕ
   pub way : Way
 
--- its packet, from a source: with the socket's port and hop limit, and its own destination and payload
+-- its packet, from a source address: with the socket's port and hop limit, and its own destination and payload
 abbrev pub packet_of : UdpSocket → Departure → IpAddress → Option Packet
 packet_of s d src = packet_between src d.destination.addr s.hop_limit (Udp (record { src_port = s.endpoint.port; dst_port = d.destination.port }) d.payload)
 
--- the address from which it goes: the socket's own, or that which the host has for its destination
+-- the source address with which it is sent: the socket's own, or the one that the host has for its destination
 abbrev pub departs_from : Host → UdpSocket → Departure → Option IpAddress
 departs_from H s d = source_of (source_for H.ip_addrs) s.endpoint.addr d.destination.addr
 
--- How a datagram leaves its socket's queue. It goes in one packet, whose values fit the fields of its forms: whole, if the device's packets may
--- be so long, or else cut, by its first piece. Or it is dropped: since there is no source for it; since it is to nobody, 0.0.0.0 or ::; or since it
--- is longer and may not be cut.
+-- How a datagram leaves its socket's queue. It is sent in one packet, whose values fit the fields of its forms: whole, if it fits
+-- the device's IP MTU, or else fragmented, by its first fragment. Or it is dropped: because there is no source for it; because
+-- its destination is unspecified (0.0.0.0 or ::); or because it is longer and may not be fragmented.
 pub data Departs (H : Host) (s : UdpSocket) (d : Departure) : Type 0 where
   GoesWhole : (src : IpAddress) (p : Packet) (h : HardwareAddress) → departs_from H s d ≡ Some src → packet_of s d src ≡ Some p →
       total_len p ≤ ip_mtu_of H.capabilities → IsFormed p → d.way ≡ InOneFrame h (ip_frame H h p) → Departs H s d
@@ -53,13 +54,13 @@ pub data Departs (H : Host) (s : UdpSocket) (d : Departure) : Type 0 where
   TooLong : (src : IpAddress) (p : Packet) → departs_from H s d ≡ Some src → packet_of s d src ≡ Some p → ip_mtu_of H.capabilities < total_len p →
       may_be_cut p ≡ false → d.way ≡ Dropped → Departs H s d
 
--- the socket that it left is there, and it left it so
+-- the socket that it left is there, and it left the socket in this way
 pub record HasDeparted (H : Host) (d : Departure) : Type 0 where
   pub socket : UdpSocket
   pub there : udp_at H.sockets d.index ≡ Some socket
   pub leaves : Departs H socket d
 
--- the frames that went of them at once, and the packets that were cut, in order
+-- the frames of them that were sent immediately, and the packets that were fragmented, in order
 abbrev pub frames_by : Way → List (List ℕ) → List (List ℕ)
 frames_by Dropped frames = frames
 frames_by (InOneFrame to frame) frames = frame ∷ frames
@@ -78,17 +79,17 @@ abbrev pub cuts_of : List Departure → List Datagram
 cuts_of [] = []
 cuts_of (d ∷ ds) = cuts_by d.way (cuts_of ds)
 
--- those that left the socket at an index, in order
+-- the departures from the socket at an index, in order
 abbrev pub from_index : ℕ → List Departure → List Departure
 from_index i [] = []
 from_index i (d ∷ ds) = if d.index == i then d ∷ from_index i ds else from_index i ds
 
--- as they stood in the queue
+-- the departures as entries of the queue
 abbrev pub entries : List Departure → List (IpEndpoint × List ℕ)
 entries [] = []
 entries (d ∷ ds) = (d.destination, d.payload) ∷ entries ds
 
--- the socket without so many at the front of its transmit queue
+-- the socket without this many at the front of its transmit queue
 abbrev pub without : List Departure → UdpSocket → UdpSocket
 without [] s = s
 without (d ∷ ds) s = without ds (without_first_to_send s)

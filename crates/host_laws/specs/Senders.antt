@@ -1,4 +1,4 @@
--- Who sends UDP: a host sends no frame that carries a datagram but those of its UDP sockets, unless a raw socket writes one (RFC 768).
+-- Who sends UDP: no frame of a host carries a datagram except those of its UDP sockets, unless a raw socket sends one (RFC 768).
 use Rattle.std.specs.Prelude.{◌≡◌, ◌⊎◌, ℕ, ◌==◌, ◌≤◌, ◌||◌, Bool, true, false, List, [], ◌∷◌}
 use Rattle.std.specs.List.{AllByRecursion, Contains}
 use Rattle.net_base.specs.declared.phy.Medium.{Medium}
@@ -17,45 +17,46 @@ use Rattle.host_machine.specs.Real.{IsReal}
 use Rattle.host_laws.specs.Deliveries.{BringsPacket}
 use Rattle.host_laws.specs.Departures.{Way, InOneFrame, Departure, cuts_of}
 
--- a raw socket whose owner may write datagrams: one for UDP, or for hop-by-hop options, behind which UDP may stand
+-- a raw socket whose owner may send datagrams: one for UDP, or for hop-by-hop options, after which UDP may follow
 abbrev pub may_be_udp : ℕ → Bool
 may_be_udp number = number == 17 || number == 0
 
 abbrev pub writes_udp : Storage → Bool
 writes_udp place = holds down_raw (λ s. may_be_udp (number_of s.protocol)) place
 
--- a host has none
+-- a host has no such socket
 abbrev pub NoSocketWritesUdp : Host → Type 0
 NoSocketWritesUdp H = AllByRecursion (λ place. writes_udp place ≡ false) H.sockets.places
 
--- a piece goes to an address of the medium; and if it is one of UDP, more pieces follow or some precede, and its values fit the fields of a header
+-- a fragment is for an address of the medium; and if it is of UDP, more fragments follow or some precede, and its values fit the
+-- fields of a header
 pub record IsPart (m : Medium) (p : Piece) : Type 0 where
   pub destination : IsOf m p.destination
   pub part : number_of p.header.next_header ≡ 17 → is_fragment (piece_fragment p) ≡ true
   pub header : number_of p.header.next_header ≡ 17 → IsHeader (record (piece_header p) { next_header = protocol.Udp }) (piece_fragment p)
 
--- a host that sends as its medium has it: its hardware addresses are of the medium, its packets may have 576 octets, and what is left of a packet
--- that was cut are parts of it, as where nothing is left
+-- a host that sends as its medium requires: its hardware addresses are of the medium, its packets may have 576 octets, and its
+-- pending fragments are parts of packets, if there are any
 pub record IsRegular (H : Host) : Type 0 where
   pub real : IsReal H
   pub mtu : 576 ≤ ip_mtu_of H.capabilities
   pub left : AllByRecursion (IsPart H.capabilities.medium) H.left
 
--- no host on the medium reads a packet for UDP in a frame; it may read a fragment of one
+-- no host on the medium reads a frame as a packet for UDP; it may read a fragment of one
 abbrev pub CarriesNoUdp : Medium → List ℕ → Type 0
 CarriesNoUdp m frame = (K : Host) (r : IpRepr) (octets : List ℕ) → IsOf m K.hardware_addr → BringsPacket K frame r octets → ⊥
 
--- how these departures went
+-- the ways in which these departures left
 abbrev pub ways : List Departure → List Way
 ways [] = []
 ways (d ∷ ds) = d.way ∷ ways ds
 
--- a departure went in a frame, to a hardware address of the medium
+-- a departure was sent in a frame, to a hardware address of the medium
 abbrev pub WentIn : Medium → List Departure → List ℕ → Type 0
 WentIn m departures frame = (h : HardwareAddress) × IsOf m h × Contains (ways departures) (InOneFrame h frame)
 
--- of these frames and cuts no other carries UDP: each frame in which a host on the medium reads a packet for UDP is that of a departure, and each
--- packet for UDP that was cut is a departure's
+-- no other of these frames and fragmented packets carries UDP. Each frame that a host on the medium reads as a packet for UDP is
+-- that of a departure, and so is each fragmented packet for UDP
 pub record CarryOnly (m : Medium) (departures : List Departure) (frames : List (List ℕ)) (cut : List Datagram) : Type 0 where
   pub frames_are : AllByRecursion (λ frame. CarriesNoUdp m frame ⊎ WentIn m departures frame) frames
   pub cuts_are : AllByRecursion (λ c. number_of c.header.next_header ≡ 17 → Contains (cuts_of departures) c) cut

@@ -1,4 +1,4 @@
-//! Laws that follow of runs of the host machine, each as the contract of an empty function.
+//! Laws that follow from runs of the host machine, each as the contract of an empty function.
 #![tactic(auto)]
 
 pub mod datagrams;

@@ -1,4 +1,4 @@
--- What comes under one key in a run, and what is rebuilt of a payload's pieces.
+-- The fragments that arrive under one key in a run, and what is reassembled from a payload's fragments.
 use Rattle.std.specs.Prelude.{◌≡◌, ◌⊎◌, ℕ, ◌<◌, ◌≤◌, ℤ, pos, ◌+ℤ◌, ◌≤ℤ◌, true, List, [], ◌∷◌, ◌++◌, length, Option, Some, None, if◌then◌else◌}
 use Rattle.std.specs.List.{AllByRecursion, Contains}
 use Rattle.std.specs.FinMap as map
@@ -16,25 +16,25 @@ use Rattle.host_machine.specs.Run.{Transition, Run, notes_in}
 use Rattle.host_machine.specs.Frames.{all_arrivals}
 use Rattle.host_machine.specs.Unfolded.{IsSingle}
 
--- the fragments that came under a key, in order
+-- the fragments that arrived under a key, in order
 abbrev pub arrivals_under : FragKey → List SlotNote → List Fragment
 arrivals_under key [] = []
 arrivals_under key (Take k ∷ notes) = arrivals_under key notes
 arrivals_under key (Arrival k f ∷ notes) = if same_key key k then f ∷ arrivals_under key notes else arrivals_under key notes
 arrivals_under key (Rebuild k octets ∷ notes) = arrivals_under key notes
 
--- what was rebuilt under a key, in order
+-- the payloads reassembled under a key, in order
 abbrev pub rebuilt : FragKey → List SlotNote → List (List ℕ)
 rebuilt key [] = []
 rebuilt key (Take k ∷ notes) = rebuilt key notes
 rebuilt key (Arrival k f ∷ notes) = rebuilt key notes
 rebuilt key (Rebuild k octets ∷ notes) = if same_key key k then octets ∷ rebuilt key notes else rebuilt key notes
 
--- what is noted of slots in all, in order
+-- all notes about slots, in order
 abbrev pub slot_notes_in : List Transition → List SlotNote
 slot_notes_in transitions = slot_notes (notes_in transitions)
 
--- the moment at which a command drops the slots that have ended, if it does: those that poll for frames do, and maintenance
+-- the moment at which a command drops expired slots, if it does: commands that poll for frames do, and maintenance
 abbrev pub expiry_time_of : Command → Option ℤ
 expiry_time_of (PollIngressSingle t) = Some t
 expiry_time_of (Poll t budget) = Some t
@@ -45,24 +45,25 @@ abbrev pub live_by : Option ℤ → Slots → Slots
 live_by None slots = slots
 live_by (Some t) slots = live_at t slots
 
--- the slots that are there when a command takes its first frame
+-- the slots when a command receives its first frame
 abbrev pub slots_then : Command → Slots → Slots
 slots_then c slots = live_by (expiry_time_of c) slots
 
--- a single call: the slot of a key isn't dropped there, and where a fragment comes under the key and no slot has it, one is free
+-- a single call that doesn't drop the slot of a key; if a fragment arrives under the key without a slot, a slot is free
 pub record IsServed (key : FragKey) (p : Transition) : Type 0 where
   pub single : IsSingle p.command
   pub kept : map.get (slots_then p.command p.before.slots) key ≡ map.get p.before.slots key
   pub room : 0 < length (arrivals_under key (slot_notes p.notes)) → map.get p.before.slots key ≡ None → map.len (slots_then p.command p.before.slots) < 2
 
--- each fragment that comes behind these leaves at most four separate ranges
+-- each fragment after these leaves at most four separate ranges
 abbrev pub KeepFew : List Fragment → List Fragment → Type 0
 KeepFew so_far [] = Unit {0}
 KeepFew so_far (f ∷ fs) = (keeps_few so_far f ≡ true) × KeepFew (so_far ++ f ∷ []) fs
 
--- Where all pieces of one payload come under a key, in any order and with repeats before the last missing one, the payload is rebuilt
--- at that one and not before. No slot has the key at first, one is free at the first piece, the slot isn't dropped, no other fragment
--- comes under the key, and each piece leaves at most four separate ranges when it comes. A poll is taken as its single calls.
+-- If all fragments of one payload arrive under a key, in any order and with repeats before the last missing one, the payload is
+-- reassembled at that one and not before. At first no slot has the key; one is free at the first fragment; the slot isn't
+-- dropped; no other fragment arrives under the key; and each fragment leaves at most four separate ranges. A poll is taken as its
+-- single calls.
 abbrev pub PiecesAreRebuilt : Type 0
 PiecesAreRebuilt =
     (first last : Host) (transitions : List Transition) (p : Transition) (key : FragKey) (m : ℕ) (payload : List ℕ) (f : Fragment) →
@@ -75,13 +76,14 @@ PiecesAreRebuilt =
     AllByRecursion (IsServed key) (transitions ++ p ∷ []) →
     (rebuilt key (slot_notes_in transitions) ≡ []) × (rebuilt key (slot_notes p.notes) ≡ payload ∷ [])
 
--- a command within a time from t0 to the end, which no timeout that it sets is shorter than
+-- a command within a time from t0 to the end, which is no longer than any timeout that the command sets
 pub record IsInTime (t0 end : ℤ) (c : Command) : Type 0 where
   pub polls : (t : ℤ) → expiry_time_of c ≡ Some t → (t0 ≤ℤ t) × (t ≤ℤ end)
   pub timeouts : (timeout : ℕ) → c ≡ SetReassemblyTimeout timeout → end ≤ℤ (t0 +ℤ pos timeout)
 
--- The same by moments, and of polls too: within a time that no timeout is shorter than, beside fragments of at most one other datagram,
--- the payload is rebuilt where the last missing piece comes: that it is rebuilt is the next that is noted of slots. Not before.
+-- All fragments of a payload arrive within a time that is no longer than any timeout, beside fragments of at most one other
+-- datagram. Then the payload is reassembled when the last missing fragment arrives, which is the next note about slots. Not
+-- before. This law goes by moments, and holds for polls too.
 abbrev pub PiecesArriveInTime : Type 0
 PiecesArriveInTime =
     (first last : Host) (transitions : List Transition) (before after : List SlotNote) (key other : FragKey) (t0 end : ℤ) (m : ℕ) (payload : List ℕ) (f : Fragment) →

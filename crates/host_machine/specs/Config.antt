@@ -25,8 +25,8 @@ same_medium medium.Ip medium.Ip = true
 same_medium medium.Ethernet medium.Ip = false
 same_medium medium.Ip medium.Ethernet = false
 
--- why no interface is made, the first reason that holds: the address isn't one of the medium, or isn't one interface's; the packets
--- are shorter than the 576 octets that every host must take (RFC 791), or the frames longer than the buffer of 1514 octets
+-- why no interface is created, the first reason that applies: the address doesn't match the medium, or isn't unicast; the packets
+-- are shorter than the 576 octets that every host must accept (RFC 791), or the frames longer than the buffer of 1,514 octets
 abbrev pub refusal_of : DeviceCapabilities → HardwareAddress → Option NewError
 refusal_of c h =
     if not (same_medium (medium_of h) c.medium) then Some MediumMismatch else
@@ -34,12 +34,12 @@ refusal_of c h =
     if nat_lt (ip_mtu_of c) 576 then Some MtuTooSmall else
     if nat_lt 1514 c.max_transmission_unit then Some MtuTooLarge else None
 
--- the first identification: one draw from the seed, and 1 in place of 0
+-- the first identification: one draw from the seed, with 1 in place of 0
 abbrev pub first_id : ℕ → ℕ
 first_id seed = if next seed / 2 ^ 48 == 0 then 1 else next seed / 2 ^ 48
 
--- a host at first, that is to take addresses from routers or isn't: no address, no route, no neighbour, no silence, no fragment, nothing left to
--- send, no group, nothing learnt of routers; slots stand for 60 s (RFC 1122 3.3.2), and one word was drawn from its source of random words
+-- a host at first, with SLAAC or without: no address, route, neighbour, silence, fragment, pending fragment or group, and nothing
+-- learnt from routers; the reassembly timeout is 60 s (RFC 1122 3.3.2), and one word was drawn from its source of random words
 abbrev pub first_host : DeviceCapabilities → HardwareAddress → ℕ → Bool → ℤ → SocketSet → Host
 first_host c h seed slaac t sockets = record {
   capabilities = c;
@@ -63,18 +63,18 @@ first_host c h seed slaac t sockets = record {
   sockets = sockets;
 }
 
--- an address of a medium that has addresses
+-- an address of a medium with hardware addresses
 abbrev pub is_ethernet : HardwareAddress → Bool
 is_ethernet (hardware.Ethernet e) = true
 is_ethernet hardware.Ip = false
 
--- a hardware address, on a medium that has such
+-- a hardware address, on a medium with such addresses
 abbrev pub if_ethernet : HardwareAddress → Option HardwareAddress
 if_ethernet (hardware.Ethernet e) = Some (hardware.Ethernet e)
 if_ethernet hardware.Ip = None
 
--- why a hardware address isn't taken, the first reason that holds: it is no Ethernet address, or the medium has none; or it isn't one
--- interface's
+-- why a hardware address is refused, the first reason that applies: it isn't an Ethernet address, or the medium has none; or it
+-- isn't unicast
 abbrev pub hardware_refusal_of : DeviceCapabilities → HardwareAddress → Option HardwareError
 hardware_refusal_of c h =
     if not (is_ethernet h && same_medium (medium_of h) c.medium) then Some WrongMedium else

@@ -1,4 +1,5 @@
--- Laws that the rules say what is done, and leave one thing open: of several neighbours of least end, which makes room for a new one.
+-- Laws: the rules determine what is done, except for which of several neighbours with the earliest expiry makes room for a new
+-- one.
 use Rattle.std.specs.Prelude.{◌≡◌, ◌≢◌, ◌⊎◌, ℕ, ◌≤◌, ℤ, Bool, List, [], ◌∷◌, ◌++◌, map, Option, None}
 use Rattle.std.specs.FinMap as finite
 use Rattle.net_base.specs.Device.{Event, Received, Asked, Sent, Reception, grants}
@@ -24,14 +25,14 @@ use Rattle.host_machine.specs.Run.{Transition, Run, events_in, acts_in}
 
 -- A dispatch
 
--- two dispatches that do the same: what becomes of the packet, what is sent and noted, and the host after it
+-- two equal dispatches: the outcome of the packet, the frames sent, the notes, and the host after it
 pub record IsOneDispatch (one two : Outcome) (frames frames' : List (List ℕ)) (notes notes' : List Note) (new new' : Host) : Type 0 where
   pub outcome_is : one ≡ two
   pub frames_are : frames ≡ frames'
   pub notes_are : notes ≡ notes'
   pub host_is : new ≡ new'
 
--- what a dispatch does is determined by its packet and the host: the rules say what may be, and nothing else may
+-- a dispatch is determined by its packet and the host: the rules allow only one
 abbrev pub DispatchIsDetermined : Type 0
 DispatchIsDetermined =
     (p : Packet) (one two : Outcome) (H new new' : Host) (frames frames' : List (List ℕ)) (notes notes' : List Note) →
@@ -39,12 +40,12 @@ DispatchIsDetermined =
 
 -- A reception
 
--- the host with a neighbour at an address, in the place of another
+-- the host with a neighbour at an address, in place of another neighbour
 abbrev pub in_place_of : IpAddress → IpAddress → Neighbor → Host → Host
 in_place_of other a n H = with_neighbors H (record H.neighbors { known = finite.insert (finite.remove H.neighbors.known other) a n })
 
--- two hosts that learnt a neighbour for which there was no room: of two others that ended first, one made room in the one host, and the other in
--- the other
+-- two hosts that learnt a neighbour without room: of two other neighbours with the earliest expiry, one made room in the first
+-- host, and the other one in the second
 pub record OtherMadeRoom (new new' : Host) : Type 0 where
   pub before : Host
   pub address : IpAddress
@@ -59,13 +60,14 @@ pub record OtherMadeRoom (new new' : Host) : Type 0 where
   pub by_one : new ≡ in_place_of one address neighbor before
   pub by_other : new' ≡ in_place_of other address neighbor before
 
--- two receptions that do the same: what is answered and noted, and the host after it, unless another neighbour made room
+-- two equal receptions: the reply, the notes, and the host after it, unless another neighbour made room
 pub record IsOneReception (reply reply' : Option Reply) (notes notes' : List Note) (new new' : Host) : Type 0 where
   pub reply_is : reply ≡ reply'
   pub noted_is : notes ≡ notes'
   pub taken_is : (new ≡ new') ⊎ OtherMadeRoom new new'
 
--- what is done with what the device gave is determined by it and by the host, but for which of several neighbours of least end makes room
+-- reception is determined by what the device delivered and by the host, except for which of several neighbours with the earliest
+-- expiry makes room
 abbrev pub ReceptionIsDetermined : Type 0
 ReceptionIsDetermined =
     (r : Reception) (H new new' : Host) (reply reply' : Option Reply) (notes notes' : List Note) →
@@ -73,31 +75,31 @@ ReceptionIsDetermined =
 
 -- A call
 
--- two calls that do the same: what is answered, what the device tells, what is noted, and the host after it
+-- two equal calls: the answer, the device's events, the notes, and the host after it
 pub record IsOneCall {A : Type 0} (answer answer' : A) (told told' : List Event) (notes notes' : List Note) (new new' : Host) : Type 0 where
   pub answer_is : answer ≡ answer'
   pub told_is : told ≡ told'
   pub notes_are : notes ≡ notes'
   pub host_is : new ≡ new'
 
--- what a call that sends does is determined by the host and by the leaves that the device gives
+-- a call that sends is determined by the host and by which transmit tokens the device grants
 abbrev pub EgressIsDetermined : Type 0
 EgressIsDetermined =
     (t : ℤ) (answer answer' : PollResult) (old new new' : Host) (told told' : List Event) (notes notes' : List Note) →
     Egress t answer old told notes new → Egress t answer' old told' notes' new' → grants told ≡ grants told' →
     IsOneCall answer answer' told told' notes notes' new new'
 
--- A call that takes a frame
+-- A call that receives
 
--- what a device gave when it was asked for frames, in order
+-- what a device delivered when it was asked for frames, in order
 abbrev pub receptions : List Event → List Reception
 receptions [] = []
 receptions (Received t r ∷ es) = r ∷ receptions es
 receptions (Asked t b ∷ es) = receptions es
 receptions (Sent id f ∷ es) = receptions es
 
--- two calls that took the same and learnt one neighbour, for which another made room in each; the same is noted until then, and the same reply
--- goes, from the neighbours that each has then
+-- two calls that received the same and learnt one neighbour, for which a different one made room; until then the notes are the
+-- same, and the same reply is sent, from the neighbours that each has then
 pub record IngressDiffers (t : ℤ) (old : Host) (told told' : List Event) (notes notes' : List Note) (new new' : Host) : Type 0 where
   pub answer : PollIngressSingleResult
   pub one : Ingress t answer old told notes new
@@ -107,7 +109,7 @@ pub record IngressDiffers (t : ℤ) (old : Host) (told told' : List Event) (note
   pub same_notes : one.response.notes_taking ≡ other.response.notes_taking
   pub room : OtherMadeRoom one.response.taken other.response.taken
 
--- what a call that takes a frame does is determined by the host and by what the device gives, but for that
+-- a call that receives is determined by the host and by what the device delivers, except for that
 abbrev pub IngressIsDetermined : Type 0
 IngressIsDetermined =
     (t : ℤ) (answer answer' : PollIngressSingleResult) (old new new' : Host) (told told' : List Event) (notes notes' : List Note) →
@@ -116,7 +118,7 @@ IngressIsDetermined =
 
 -- A poll
 
--- two polls that came to one host by the same calls, and whose next calls differ
+-- two polls that came from one host by the same calls, and whose next calls differ
 pub record PollsDiffer (t : ℤ) (old : Host) (told told' : List Event) : Type 0 where
   pub calls : ℕ
   pub changed : Bool
@@ -136,7 +138,7 @@ pub record PollsDiffer (t : ℤ) (old : Host) (told told' : List Event) : Type 0
   pub told_is : told ≡ told_so ++ (next ++ more)
   pub told_is' : told' ≡ told_so ++ (next' ++ more')
 
--- what a poll does is determined by the host and by what the device gives and which leaves, but for that
+-- a poll is determined by the host and by what the device delivers and grants, except for that
 abbrev pub PollIsDetermined : Type 0
 PollIsDetermined =
     (t : ℤ) (budget : ℕ) (answer answer' : PollResult) (old new new' : Host) (told told' : List Event) (notes notes' : List Note) →
@@ -145,12 +147,13 @@ PollIsDetermined =
 
 -- A step
 
--- two steps of a command that differ in that
+-- two steps of a command that differ in this way
 pub data StepsDiffer (old new new' : Host) (told told' : List Event) (notes notes' : List Note) : Command → Type 0 where
   InIngress : {t : ℤ} → IngressDiffers t old told told' notes notes' new new' → StepsDiffer old new new' told told' notes notes' (PollIngressSingle t)
   InPoll : {t : ℤ} {budget : ℕ} → PollsDiffer t old told told' → StepsDiffer old new new' told told' notes notes' (Poll t budget)
 
--- what a step does is determined by the host, the command, what the device gives and which leaves, and what the owner of the sockets does, but for that
+-- a step is determined by the host, the command, what the device delivers and grants, and what the owner of the sockets does,
+-- except for that
 abbrev pub StepIsDetermined : Type 0
 StepIsDetermined =
     (command : Command) (answer answer' : Answer) (old new new' : Host) (told told' : List Event) (acts acts' : List Act) (notes notes' : List Note) →
@@ -160,13 +163,14 @@ StepIsDetermined =
 
 -- A run
 
--- places of two runs that are one up to some, at which the steps differ
+-- the transitions of two runs that are equal up to one at which the steps differ
 pub data TransitionsDiffer : List Transition → List Transition → Type 0 where
   Here : {p q : Transition} {ps qs : List Transition} → p.command ≡ q.command → p.before ≡ q.before →
       StepsDiffer p.before p.after q.after p.told q.told p.notes q.notes p.command → TransitionsDiffer (p ∷ ps) (q ∷ qs)
   Behind : {p q : Transition} {ps qs : List Transition} → p ≡ q → TransitionsDiffer ps qs → TransitionsDiffer (p ∷ ps) (q ∷ qs)
 
--- what a run does is determined by the host, the commands, all that the device gives and all its leaves, and all that the owner does, but for that
+-- a run is determined by the host, the commands, all that the device delivers and grants, and all that the owner does, except for
+-- that
 abbrev pub RunIsDetermined : Type 0
 RunIsDetermined =
     (first last last' : Host) (transitions transitions' : List Transition) → Run first transitions last → Run first transitions' last' →

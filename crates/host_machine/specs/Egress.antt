@@ -1,5 +1,5 @@
--- One call that sends: the next piece that is left goes, then what is due to routers, and then each socket that needn't wait is asked in order, and
--- what it has goes, each if the device gives leave.
+-- One call that sends: the next pending fragment is sent, then what is due to routers; then each socket that isn't waiting is
+-- asked in order, and its packet sent. Each part asks the device for a transmit token.
 use Rattle.std.specs.Prelude.{◌≡◌, ℕ, ◌+◌, ℤ, Bool, true, false, ◌||◌, is_ok, List, [], ◌∷◌, ◌++◌, length, slice_get, Option, Some, None, Ok, Err, if◌then◌else◌}
 use Rattle.std.specs.Option.{option_and_then}
 use Rattle.net_base.specs.Device.{Event, Asked}
@@ -32,7 +32,7 @@ use Rattle.host_machine.specs.Packet.{IpPayload, Icmpv4, Icmpv6, Udp, Tcp, Raw, 
 use Rattle.host_machine.specs.Frame.{sends, piece_frame}
 use Rattle.host_machine.specs.Dispatch.{Outcome, Dispatches, KnowsNextHop, destination_of}
 
--- a packet from one address to another of its family
+-- a packet between two addresses of the same family
 abbrev pub packet_between : IpAddress → IpAddress → ℕ → IpPayload → Option Packet
 packet_between (address.Ipv4 src) (address.Ipv4 dst) hop_limit payload =
     Some (Ipv4 (record { src_addr = src; dst_addr = dst; hop_limit = hop_limit; payload = payload }))
@@ -41,7 +41,7 @@ packet_between (address.Ipv6 src) (address.Ipv4 dst) hop_limit payload = None
 packet_between (address.Ipv6 src) (address.Ipv6 dst) hop_limit payload =
     Some (Ipv6 (record { src_addr = src; dst_addr = dst; hop_limit = hop_limit; payload = payload }))
 
--- an ICMP socket sends echo messages alone
+-- an ICMP socket sends only echo messages
 abbrev pub if_echo_v4 : Icmpv4Repr → List ℕ → Option IpPayload
 if_echo_v4 (v4.EchoRequest ident seq_no) octets = Some (Icmpv4 (v4.EchoRequest ident seq_no) octets)
 if_echo_v4 (v4.EchoReply ident seq_no) octets = Some (Icmpv4 (v4.EchoReply ident seq_no) octets)
@@ -63,14 +63,14 @@ abbrev pub if_echo : IcmpRepr → List ℕ → Option IpPayload
 if_echo (icmp.Ipv4 message) octets = if_echo_v4 message octets
 if_echo (icmp.Ipv6 message) octets = if_echo_v6 message octets
 
--- what a socket offers as a packet; a raw socket's header is written anew from its addresses, its protocol and its hop limit
+-- the packet that a socket offers; a raw socket's header is written anew from its addresses, its protocol and its hop limit
 abbrev pub packet_of : Offered → Option Packet
 packet_of (RawOffer s) = Some (packet_with s.header (Raw (next_header s.header) s.payload))
 packet_of (IcmpOffer m) = option_and_then (packet_between m.src_addr m.dst_addr m.hop_limit) (if_echo m.repr m.payload)
 packet_of (UdpOffer d) = packet_between d.src.addr d.dst.addr d.hop_limit (Udp (record { src_port = d.src.port; dst_port = d.dst.port }) d.payload)
 packet_of (TcpOffer s) = packet_between s.src_addr s.dst_addr s.hop_limit (Tcp s.repr s.payload)
 
--- the packet that a socket has to send first, and the socket that was asked for it
+-- the first packet that a socket has to send, and the socket after it was asked for it
 abbrev pub packet_from : Host → Socket → Option Packet
 packet_from H s = option_and_then packet_of (offered_packet H.moment (source_for H.ip_addrs) s)
 
@@ -81,20 +81,20 @@ socket_after_asking H s = socket_after_offer H.moment (source_for H.ip_addrs) s
 abbrev pub with_socket : Host → ℕ → Socket → Wait → Host
 with_socket H i s wait = record H { sockets = with_wait (with_place H.sockets i (Some s)) i wait }
 
--- what became of a packet: it counts as gone, or it isn't
+-- the turn of a packet by its outcome: sent or dropped, or deferred
 abbrev pub turn_of : Packet → Outcome → Turn
 turn_of p (Ok done) = Done
 turn_of p (Err error) = Deferred (destination_of p)
 
--- the wait of a socket after its turn at t: one whose packet isn't gone waits for its destination, until 1 s later
+-- the wait of a socket after its turn at t: if its packet was deferred, it waits for the destination until 1 s later
 abbrev pub wait_after : Turn → ℤ → Wait → Wait
 wait_after Idle t wait = wait
 wait_after Done t wait = wait
 wait_after (Deferred destination) t wait = Some (destination, silence_from t)
 wait_after Exhausted t wait = wait
 
--- a socket's turn: without a packet it is only asked; for a packet the device is asked for leave, once, and then the packet is dispatched
--- and the socket told whether it is gone
+-- a socket's turn: without a packet it is only asked; for a packet the device is asked for a transmit token, once, and then the
+-- packet is dispatched and its outcome reported to the socket
 pub data SocketTurn (s : Socket) (turn : Turn) (s' : Socket) (H : Host) (told_it : List Event) (notes : List Note) (new : Host) : Type 0 where
   Silent : packet_from H s ≡ None → turn ≡ Idle → told_it ≡ [] → notes ≡ [] → new ≡ H → s' ≡ socket_after_asking H s → SocketTurn s turn s' H told_it notes new
   Refused : (p : Packet) → packet_from H s ≡ Some p → turn ≡ Exhausted → told_it ≡ Asked H.moment false ∷ [] → notes ≡ [] → new ≡ H → s' ≡ socket_after_asking H s →
@@ -102,8 +102,8 @@ pub data SocketTurn (s : Socket) (turn : Turn) (s' : Socket) (H : Host) (told_it
   Sent : (p : Packet) (outcome : Outcome) (frames : List (List ℕ)) → packet_from H s ≡ Some p → Dispatches p outcome H frames notes new →
       turn ≡ turn_of p outcome → told_it ≡ Asked H.moment true ∷ sends frames → s' ≡ socket_after_told (is_ok outcome) (socket_after_asking H s) → SocketTurn s turn s' H told_it notes new
 
--- the place of an index has its turn: nobody if it is free; a socket that waits is not asked until the next hop to the destination
--- that it waits for is a known neighbour, which ends the wait, or the end of the wait has come
+-- one socket's turn: a free index does nothing; a socket waiting for a neighbour is skipped until the next hop to its destination
+-- is a known neighbour (which ends the wait) or the wait has timed out
 pub data Serves (i : ℕ) (turn : Turn) (H : Host) (told_it : List Event) (notes : List Note) (new : Host) : Type 0 where
   Free : slice_get H.sockets.places i ≡ Some None → turn ≡ Idle → told_it ≡ [] → notes ≡ [] → new ≡ H → Serves i turn H told_it notes new
   Waits : (s : Socket) (known : Bool) → slice_get H.sockets.places i ≡ Some (Some s) → IsAnswerFor (KnowsNextHop H) (wait_at H.sockets i) known →
@@ -118,14 +118,14 @@ is_done Idle = false
 is_done (Deferred destination) = false
 is_done Exhausted = false
 
--- leave was refused
+-- no transmit token was granted
 abbrev pub is_exhausted : Turn → Bool
 is_exhausted Exhausted = true
 is_exhausted Idle = false
 is_exhausted Done = false
 is_exhausted (Deferred destination) = false
 
--- the turns of the first n places in order, and whether leave was never refused: a refused leave ends them
+-- the turns of the first n sockets in order, and whether each transmit token was granted: a refused one ends them
 pub data Walks (old : Host) : (n : ℕ) → (granted changed : Bool) → List Event → List Note → Host → Type 0 where
   Begins : Walks old 0 true false [] [] old
   Goes : {n : ℕ} {changed : Bool} {told_so : List Event} {notes_so : List Note} {mid : Host}
@@ -137,16 +137,17 @@ pub data Walks (old : Host) : (n : ℕ) → (granted changed : Bool) → List Ev
       Walks old n true changed told_so notes_so mid → Serves n turn mid told_it notes new → is_exhausted turn ≡ true →
       Walks old (n + 1) false changed (told_so ++ told_it) (notes_so ++ notes) new
 
--- all places, or those up to a refused leave
+-- all sockets, or those up to a refused transmit token
 pub data SocketEgress (old : Host) (changed : Bool) (told_it : List Event) (notes : List Note) (new : Host) : Type 0 where
   Whole : Walks old (length old.sockets.places) true changed told_it notes new → SocketEgress old changed told_it notes new
   Stopped : (n : ℕ) → Walks old n false changed told_it notes new → SocketEgress old changed told_it notes new
 
--- the answer tells whether a socket's packet counts as gone
+-- the answer says whether a packet of a socket was sent or dropped
 abbrev pub answer_of : Bool → PollResult
 answer_of changed = if changed then result.SocketStateChanged else result.None
 
--- the next of the pieces that are left goes, if the device gives leave, and goes where the first one went; the others stay left
+-- the next pending fragment is sent, if the device grants a transmit token, to the hardware address of the first one; the others
+-- stay pending
 pub data Ipv4Egress (H : Host) (told_it : List Event) (notes : List Note) (new : Host) : Type 0 where
   NoPiece : H.left ≡ [] → told_it ≡ [] → notes ≡ [] → new ≡ H → Ipv4Egress H told_it notes new
   NotGranted : (piece : Piece) (rest : List Piece) → H.left ≡ piece ∷ rest → told_it ≡ Asked H.moment false ∷ [] → notes ≡ [] → new ≡ H →
@@ -154,7 +155,7 @@ pub data Ipv4Egress (H : Host) (told_it : List Event) (notes : List Note) (new :
   PieceGoes : (piece : Piece) (rest : List Piece) → H.left ≡ piece ∷ rest → told_it ≡ Asked H.moment true ∷ sends (piece_frame H piece ∷ []) →
       notes ≡ OfCuts (PieceSent piece) ∷ [] → new ≡ with_left H rest → Ipv4Egress H told_it notes new
 
--- the parts of a round, in order; whether a socket's packet counts as gone
+-- the parts of a round, in order; whether a packet of a socket was sent or dropped
 abbrev pub Round : Bool → Part
 Round changed =
     Both Ipv4Egress (Both NdiscRsEgress (Both JoinsEgress (Both LeavesEgress (Both IgmpEgress (Both MldEgress

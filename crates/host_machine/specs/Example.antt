@@ -1,5 +1,5 @@
--- Worked examples: an ARP request and an echo request as they stand on the wire, and what the host of 192.168.69.1/24 at
--- 02:00:00:00:00:01 does with them.
+-- Worked examples: the frames of an ARP request and an echo request, and how the host of 192.168.69.1/24 at 02:00:00:00:00:01
+-- processes them.
 use Rattle.std.specs.Prelude.{ℕ, ℤ, pos, false, List, [], ◌∷◌, drop, None}
 use Rattle.std.specs.FinMap as map
 use Rattle.std.proofs.Common.{lit≤}
@@ -46,7 +46,7 @@ reply =
     ∷ 0x02 ∷ 0 ∷ 0 ∷ 0 ∷ 0 ∷ 0x01 ∷ 192 ∷ 168 ∷ 69 ∷ 1
     ∷ 0x02 ∷ 0 ∷ 0 ∷ 0 ∷ 0 ∷ 0x02 ∷ 192 ∷ 168 ∷ 69 ∷ 100 ∷ []
 
--- the neighbour that the request tells of
+-- the sender of the request, as a neighbour
 abbrev pub sender : IpAddress
 sender = ip.Ipv4 (record { bits = 0xc0a84564 })
 
@@ -56,11 +56,11 @@ sender_hardware = hardware.Ethernet (record { 0 = 2 ∷ 0 ∷ 0 ∷ 0 ∷ 0 ∷ 
 abbrev pub neighbors_with_sender : Neighbors
 neighbors_with_sender = record { known = map.insert map.empty sender (record { hardware_addr = sender_hardware; expires_at = pos 60000000 }); silent_until = pos 0 }
 
--- the same neighbour, heard from again
+-- the same neighbour after another packet from it
 abbrev pub neighbors_after_renewal : Neighbors
 neighbors_after_renewal = after_renewal neighbors_with_sender sender sender_hardware (pos 60000000)
 
--- nobody is known, and there is no silence; or none is sent before a second has passed
+-- no neighbour is known, and discovery is silent until a moment
 abbrev pub no_neighbors : ℤ → Neighbors
 no_neighbors silent_until = record { known = map.empty; silent_until = silent_until }
 
@@ -87,18 +87,18 @@ host ipv4_id neighbors = record {
   sockets = no_sockets;
 }
 
--- its next dispatch takes this identification
+-- the next dispatch uses this identification
 abbrev pub identify : Note
 identify = OfIdentification (Identify 0x1405)
 
--- 192.168.69.100 asks 192.168.69.1 for an echo of `abcd`
+-- 192.168.69.100 sends an echo request with `abcd` to 192.168.69.1
 abbrev pub echo_request : List ℕ
 echo_request =
     0x02 ∷ 0 ∷ 0 ∷ 0 ∷ 0 ∷ 0x01 ∷ 0x02 ∷ 0 ∷ 0 ∷ 0 ∷ 0 ∷ 0x02 ∷ 0x08 ∷ 0
     ∷ 0x45 ∷ 0 ∷ 0 ∷ 0x20 ∷ 0 ∷ 0 ∷ 0x40 ∷ 0 ∷ 0x40 ∷ 0x01 ∷ 0x2f ∷ 0x27 ∷ 192 ∷ 168 ∷ 69 ∷ 100 ∷ 192 ∷ 168 ∷ 69 ∷ 1
     ∷ 0x08 ∷ 0 ∷ 0x21 ∷ 0x04 ∷ 0x12 ∷ 0x34 ∷ 0 ∷ 0x01 ∷ 0x61 ∷ 0x62 ∷ 0x63 ∷ 0x64 ∷ []
 
--- 192.168.69.1 sends it back
+-- the reply of 192.168.69.1
 abbrev pub echo_reply : List ℕ
 echo_reply =
     0x02 ∷ 0 ∷ 0 ∷ 0 ∷ 0 ∷ 0x02 ∷ 0x02 ∷ 0 ∷ 0 ∷ 0 ∷ 0 ∷ 0x01 ∷ 0x08 ∷ 0
@@ -119,26 +119,26 @@ RequestIsAnswered =
     Ingress (pos 0) result.SocketStateChanged (host 0x1405 (no_neighbors (pos 0)))
     (Received (pos 0) (Frame request) ∷ Sent 0 reply ∷ []) [] (host 0x1405 neighbors_with_sender)
 
--- an echo request of a known sender is answered, and takes an identification
+-- an echo request of a known sender is answered, and uses an identification
 abbrev pub EchoIsAnswered : Type 0
 EchoIsAnswered =
     Ingress (pos 0) result.SocketStateChanged (host 0x1405 neighbors_with_sender)
     (Received (pos 0) (Frame echo_request) ∷ Sent 0 echo_reply ∷ []) (identify ∷ []) (host 0x1406 neighbors_after_renewal)
 
--- for the reply to an unknown sender a discovery request goes, and the silence begins
+-- in place of the reply to an unknown sender a discovery request is sent, and the silence begins
 abbrev pub SenderIsDiscovered : Type 0
 SenderIsDiscovered =
     Ingress (pos 0) result.SocketStateChanged (host 0x1405 (no_neighbors (pos 0)))
     (Received (pos 0) (Frame echo_request) ∷ Sent 0 discovery ∷ []) (identify ∷ OfDiscovery (Ask (pos 0)) ∷ []) (host 0x1406 (no_neighbors (pos 1000000)))
 
--- the same host on a medium without hardware addresses
+-- the host on a medium without hardware addresses
 abbrev pub without_hardware : ℕ → Host
 without_hardware ipv4_id = record (host ipv4_id (no_neighbors (pos 0))) {
   capabilities = record device { medium = medium.Ip; max_transmission_unit = 1500 };
   hardware_addr = hardware.Ip;
 }
 
--- there the packet of the request is answered by that of the reply, and nobody need be known
+-- there the packet of the request is answered by that of the reply, and no neighbour need be known
 abbrev pub PacketIsAnswered : Type 0
 PacketIsAnswered =
     Ingress (pos 0) result.SocketStateChanged (without_hardware 0x1405)

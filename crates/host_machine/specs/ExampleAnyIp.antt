@@ -1,4 +1,4 @@
--- A worked example, computed from the definitions: the addresses that 192.168.69.1/24 takes for its own with AnyIP.
+-- A worked example, computed from the definitions: which addresses 192.168.69.1/24 counts as its own with AnyIP.
 use Rattle.std.specs.Prelude.{◌≡◌, ℕ, ℤ, pos, Bool, true, false, List, [], ◌∷◌, Option, Some, None}
 use Rattle.std.proofs.Common.{lit≤}
 use Rattle.ip_address.specs.declared.cidr.IpCidr.{IpCidr}
@@ -19,7 +19,7 @@ abbrev pub route : IpCidr → ℕ → Option ℤ → Route
 route destination router expires_at =
     record { cidr = destination; via_router = Ipv4 (record { bits = router }); preferred_until = None; expires_at = expires_at }
 
--- the first network by 192.168.69.1 itself until ten seconds, the part of it by 192.168.69.9
+-- the first network via 192.168.69.1 itself until ten seconds, the part of it via 192.168.69.9
 abbrev pub routes : List Route
 routes = route network 0xc0a84501 (Some (pos 10000000)) ∷ route part 0xc0a84509 None ∷ []
 
@@ -27,7 +27,8 @@ routes = route network 0xc0a84501 (Some (pos 10000000)) ∷ route part 0xc0a8450
 abbrev pub is_own_at : Bool → ℤ → ℕ → Bool
 is_own_at any_ip t a = has_ip_addr (record (example.host 0x1405 (example.no_neighbors (pos 0))) { any_ip = any_ip; moment = t; routes = routes }) (Ipv4 (record { bits = a }))
 
--- 10.5.1.1 is its own until the route ends, and only with AnyIP; 10.5.2.1 is reached by another host; to 10.6.0.1, and to a group, no such route goes
+-- 10.5.1.1 is its own until the route expires, and only with AnyIP; 10.5.2.1 is reached via another host; 10.6.0.1 and a group
+-- have no such route
 pub record AddressesAreRoutedHere : Type 0 where
   pub given : is_own_at false (pos 0) 0xc0a84501 ≡ true
   pub without : is_own_at false (pos 0) 0x0a050101 ≡ false

@@ -1,4 +1,4 @@
--- A worked exchange of IPv6, computed from the definitions: a host asks for a neighbour (RFC 4861 7.2.2).
+-- A worked exchange over IPv6, computed from the definitions: a host solicits a neighbour (RFC 4861 7.2.2).
 use Rattle.std.specs.Prelude.{ℕ, pos, List, [], ◌∷◌, Err}
 use Rattle.std.proofs.Common.{lit≤}
 use Rattle.ip_address.specs.declared.ipv6.Ipv6Address.{Ipv6Address}
@@ -28,7 +28,7 @@ host ipv4_id neighbors = record (example.host ipv4_id neighbors) {
 abbrev pub packet : Packet
 packet = Ipv6 (record { src_addr = own; dst_addr = neighbor; hop_limit = 64; payload = Udp (record { src_port = 6969; dst_port = 5000 }) [] })
 
--- fe80::1 at 02:00:00:00:00:01 asks the solicited-node group of fe80::2 for its hardware address
+-- fe80::1 at 02:00:00:00:00:01 solicits fe80::2 at its solicited-node group
 abbrev pub solicitation : List ℕ
 solicitation =
     0x33 ∷ 0x33 ∷ 0xff ∷ 0 ∷ 0 ∷ 0x02 ∷ 0x02 ∷ 0 ∷ 0 ∷ 0 ∷ 0 ∷ 0x01 ∷ 0x86 ∷ 0xdd
@@ -39,7 +39,7 @@ solicitation =
     ∷ 0xfe ∷ 0x80 ∷ 0 ∷ 0 ∷ 0 ∷ 0 ∷ 0 ∷ 0 ∷ 0 ∷ 0 ∷ 0 ∷ 0 ∷ 0 ∷ 0 ∷ 0 ∷ 0x02
     ∷ 0x01 ∷ 0x01 ∷ 0x02 ∷ 0 ∷ 0 ∷ 0 ∷ 0 ∷ 0x01 ∷ []
 
--- its dispatch and that of the solicitation take an identification each, and the silence begins
+-- its dispatch and that of the solicitation use an identification each, and the silence begins
 abbrev pub NeighborIsSolicited : Type 0
 NeighborIsSolicited =
     Dispatches packet (Err NeighborPending) (host 0x1405 (example.no_neighbors (pos 0))) (solicitation ∷ [])

@@ -1,5 +1,5 @@
--- Worked examples of fragments: a datagram in two as they stand on the wire, and what the host of 192.168.69.1/24 does with them; and the
--- same datagram the other way.
+-- Worked examples of fragments: the frames of a datagram in two fragments, and how the host of 192.168.69.1/24 processes them;
+-- and the same datagram sent by the host.
 use Rattle.std.specs.Prelude.{◌≡◌, ℕ, pos, true, false, List, [], ◌∷◌, None, Result, Ok, Err}
 use Rattle.std.specs.FinMap as map
 use Rattle.net_base.specs.Device.{Received, Frame, Asked, Sent}
@@ -47,11 +47,11 @@ one = record { offset = 0; octets = 1 ∷ 2 ∷ 3 ∷ 4 ∷ 5 ∷ 6 ∷ 7 ∷ 8 
 abbrev pub two : Fragment
 two = record { offset = 8; octets = 9 ∷ 10 ∷ []; is_last = true }
 
--- they are the pieces of these ten octets, where each but the last has eight
+-- they are the fragments of these ten octets, where each but the last has eight
 abbrev pub TenAreCut : Type 0
 TenAreCut = cut 8 ten ≡ one ∷ two ∷ []
 
--- what came, in a slot that ends after 60 seconds, and a host with it
+-- what was received, in a slot that expires after 60 seconds, and a host with it
 abbrev pub waiting_slot : Slot
 waiting_slot = record { got = record { total = None; fragments = one ∷ [] }; ends = pos 60000000 }
 
@@ -71,7 +71,7 @@ DatagramIsRebuilt =
     (Received (pos 0) (Frame last_fragment) ∷ []) (OfSlots (Arrival key two) ∷ OfSlots (Rebuild key ten) ∷ [])
     (with_slots waiting_host (map.remove (live_at (pos 0) waiting_host.slots) key))
 
--- a host whose device carries packets of 28 octets, so that eight octets go in a piece
+-- a host whose device carries packets of 28 octets, so that a fragment has eight octets
 abbrev pub narrow_host : ℕ → Host
 narrow_host ipv4_id = record (example.host ipv4_id example.neighbors_after_renewal) { capabilities = record example.device { max_transmission_unit = 42 } }
 
@@ -114,18 +114,19 @@ last_sent =
     ∷ 0x45 ∷ 0 ∷ 0 ∷ 0x16 ∷ 0 ∷ 0x07 ∷ 0 ∷ 0x01 ∷ 0x40 ∷ 0x02 ∷ 0x6f ∷ 0x28 ∷ 192 ∷ 168 ∷ 69 ∷ 1 ∷ 192 ∷ 168 ∷ 69 ∷ 100
     ∷ 9 ∷ 10 ∷ []
 
--- that host with the second piece left to send
+-- that host with the second fragment pending
 abbrev pub half_sent : Host
 half_sent = with_left (narrow_host 8) (piece_of datagram two ∷ [])
 
--- the first piece goes and the second is left; it stays left while the device gives no leave, and then goes
+-- the first fragment is sent and the second is pending; it stays pending while the device grants no transmit token, and is then
+-- sent
 pub record PacketGoesInPieces : Type 0 where
   pub first : Dispatches packet (Ok tt) (narrow_host 7) (first_sent ∷ [])
       (OfIdentification (Identify 7) ∷ OfCuts (Cut datagram) ∷ OfCuts (PieceSent (piece_of datagram one)) ∷ []) half_sent
   pub waits : Egress (pos 0) poll.None half_sent (Asked (pos 0) false ∷ []) [] half_sent
   pub last : Egress (pos 0) poll.None half_sent (Asked (pos 0) true ∷ Sent 0 last_sent ∷ []) (OfCuts (PieceSent (piece_of datagram two)) ∷ []) (narrow_host 8)
 
--- a reassembly timeout of a day is taken; one of a microsecond more is refused, and nothing changes
+-- a reassembly timeout of a day is accepted; one of a microsecond more is refused, and nothing changes
 pub record TimeoutsAreTested : Type 0 where
   pub of_a_day : (answer : Result (Unit {0}) TimeoutError) (old new : Host) → SetsReassemblyTimeout 86_400_000_000 answer old new →
       (answer ≡ Ok tt) × (new ≡ record old { reassembly_timeout = 86_400_000_000 })

@@ -1,5 +1,5 @@
--- Worked examples of groups, computed from the definitions: what tells routers of a join and of a leave, octet by octet; when groups are
--- reported in answer to a query; and what a refused leave to send does.
+-- Worked examples of groups, computed from the definitions: the reports of a join and of a leave, octet by octet; when groups are
+-- reported in answer to a query; and what happens without a transmit token.
 use Rattle.std.specs.Prelude.{◌≡◌, ℕ, pos, true, false, List, [], ◌∷◌, ◌++◌}
 use Rattle.std.proofs.Common.{lit≤}
 use Rattle.net_base.specs.Device.{Asked, Sent}
@@ -47,7 +47,7 @@ report =
     ∷ 0x45 ∷ 0 ∷ 0 ∷ 0x1c ∷ 0 ∷ 0 ∷ 0x40 ∷ 0 ∷ 0x01 ∷ 0x02 ∷ 0x83 ∷ 0x32 ∷ 192 ∷ 168 ∷ 69 ∷ 1 ∷ 239 ∷ 1 ∷ 2 ∷ 3
     ∷ 0x16 ∷ 0 ∷ 0xf8 ∷ 0xfa ∷ 239 ∷ 1 ∷ 2 ∷ 3 ∷ []
 
--- it is in 239.1.2.3 no more
+-- it has left 239.1.2.3
 abbrev pub leave : List ℕ
 leave =
     0x01 ∷ 0 ∷ 0x5e ∷ 0 ∷ 0 ∷ 0x02 ∷ 0x02 ∷ 0 ∷ 0 ∷ 0 ∷ 0 ∷ 0x01 ∷ 0x08 ∷ 0
@@ -65,18 +65,18 @@ report_v6 =
     ∷ 0x8f ∷ 0 ∷ 0x71 ∷ 0x07 ∷ 0 ∷ 0 ∷ 0 ∷ 0x01
     ∷ 0x04 ∷ 0 ∷ 0 ∷ 0 ∷ 0xff ∷ 0x02 ∷ 0 ∷ 0 ∷ 0 ∷ 0 ∷ 0 ∷ 0 ∷ 0 ∷ 0 ∷ 0 ∷ 0x01 ∷ 0xff ∷ 0 ∷ 0 ∷ 0x01 ∷ []
 
--- a join is told by its report
+-- a join is reported
 pub record JoinsAreReported : Type 0 where
   pub ipv4 : JoinsEgress (host 0x1405 (in_state group Joining)) (Asked (pos 0) true ∷ Sent 0 report ∷ []) (example.identify ∷ []) (host 0x1406 (in_state group Joined))
   pub ipv6 : JoinsEgress (host_v6 0x1405 (in_state group_v6 Joining)) (Asked (pos 0) true ∷ Sent 0 report_v6 ∷ []) (example.identify ∷ [])
       (host_v6 0x1406 (in_state group_v6 Joined))
 
--- a leave, too, and the group is taken out
+-- a leave is reported, too, and the group is removed
 abbrev pub LeaveIsReported : Type 0
 LeaveIsReported = LeavesEgress (host 0x1405 (in_state group Leaving)) (Asked (pos 0) true ∷ Sent 0 leave ∷ []) (example.identify ∷ []) (host 0x1406 [])
 
--- three groups, and a query for all of them that gives ten seconds: they are reported two and a half seconds apart; by a query of version 1
--- a tenth of a second. A query for one group is answered after a quarter of the time
+-- three groups, and a general query with a response time of ten seconds: they are reported two and a half seconds apart; for a
+-- query of version 1 a tenth of a second. A query for one group is answered after a quarter of the time
 abbrev pub three : List Group
 three =
     record { addr = group; state = Joined } ∷ record { addr = Ipv4 (record { bits = 0xef010204 }); state = Joined }
@@ -89,8 +89,8 @@ pub record QueriesAreAnswered : Type 0 where
   pub of_another : igmp_report_for (host 0x1405 three) (record { bits = 0xef010205 }) 100 (record { bits = 0xef010205 }) ≡ igmp.Inactive
   pub without_groups : igmp_report_for (host 0x1405 []) (record { bits = 0xe0000001 }) 100 (record { bits = 0 }) ≡ igmp.Inactive
 
--- with another address the group of the old one is left, and that of the new one joined; that of ::1 is left and joined again, so that
--- nothing is told of it; and a medium without hardware addresses has none
+-- with another address the group of the old one is left, and that of the new one joined; that of ::1 is left and joined again, so
+-- that nothing is reported of it; and on a medium without hardware addresses there is none
 abbrev pub network : ℕ → IpCidr
 network bits = cidr.Ipv6 (record { address = record { bits = bits }; prefix_len = 64; in_range = lit≤ tt })
 
@@ -100,7 +100,7 @@ pub record GroupsFollowAddresses : Type 0 where
   pub loopback : groups_for (host 0x1405 []).hardware_addr (network 1 ∷ []) (in_state group_v6 Joined) ≡ in_state group_v6 Joined
   pub without_hardware : groups_for hardware.Ip (network 0xfe80_0000_0000_0000_0000_0000_0000_0002 ∷ []) [] ≡ []
 
--- a host that is to ask routers, has to tell of a join and of a leave, and has reports of both families due
+-- a host that has to solicit routers, to report a join and a leave, and has reports of both families due
 abbrev pub busy_host : Host
 busy_host = record (with_mld_report (with_igmp_report (host 0x1405 (record { addr = Ipv4 (record { bits = 0xef010204 }); state = Joining } ∷ in_state group Leaving))
     (igmp.ToSpecificQuery Version2 (pos 0) (record { bits = 0xef010204 }))) (mld.ToGeneralQuery (pos 0))) {
@@ -108,8 +108,8 @@ busy_host = record (with_mld_report (with_igmp_report (host 0x1405 (record { add
       slaac_enabled = true;
     }
 
--- where leave to send is refused, each part asks for itself: the solicitation, the join, the leave and the report of IGMP stay, and that of
--- MLD is given up
+-- without transmit tokens, each part asks for its own: the solicitation, the join, the leave and the IGMP report stay pending,
+-- and the MLD report is dropped
 abbrev pub RefusalsAreApart : Type 0
 RefusalsAreApart =
     Round false busy_host (Asked (pos 0) false ∷ Asked (pos 0) false ∷ Asked (pos 0) false ∷ Asked (pos 0) false ∷ Asked (pos 0) false ∷ []) [] (with_mld_report busy_host mld.Inactive)

@@ -1,4 +1,4 @@
--- Worked examples of polls, and of the time to come back.
+-- Worked examples of polls, and of when to poll again.
 use Rattle.std.specs.Prelude.{pos, [], ◌∷◌, Some, None}
 use Rattle.net_base.specs.Device.{Received, Frame, Nothing, Sent}
 use Rattle.host_machine.specs.declared.results.PollResult.TheVariants as poll
@@ -8,9 +8,8 @@ use Rattle.host_machine.specs.Due.{Due, IsLeast, IsRest}
 use Rattle.host_machine.specs.Example as example
 use Rattle.host_machine.specs.ExampleSockets.{with_sending}
 
--- an ARP request waits at the device: without a budget nothing is asked for, and the moment is that of the poll; with a budget of one call it
--- is taken and answered; with
--- more calls the device is asked once more, and has nothing
+-- an ARP request waits at the device: without a budget the device isn't asked, and the moment is that of the poll; with a budget
+-- of one call the request is received and answered; with more calls the device is asked once more, and has nothing
 pub record RequestIsPolled : Type 0 where
   pub not_asked_for : Polls (pos 5) 0 poll.None (example.host 0x1405 (example.no_neighbors (pos 0))) [] [] (at (example.host 0x1405 (example.no_neighbors (pos 0))) (pos 5))
   pub taken : Polls (pos 0) 1 poll.SocketStateChanged (example.host 0x1405 (example.no_neighbors (pos 0)))
@@ -18,7 +17,8 @@ pub record RequestIsPolled : Type 0 where
   pub taken_alone : Polls (pos 0) 2 poll.SocketStateChanged (example.host 0x1405 (example.no_neighbors (pos 0)))
       (Received (pos 0) (Frame example.request) ∷ Sent 0 example.reply ∷ Received (pos 0) Nothing ∷ []) [] (example.host 0x1405 example.neighbors_with_sender)
 
--- a socket that waits until 1 s is due then, seen a microsecond before, and from then on at once; a host without sockets is never due
+-- a socket that waits until 1 s is due then, seen a microsecond before, and from then on immediately; a host without sockets is
+-- never due
 pub record WaitIsDue : Type 0 where
   pub waiting : IsLeast (Due (with_sending (Some (example.sender, pos 1000000)) (pos 999999) 0x1406 (pos 1000000))) (Some (pos 1000000))
   pub rest : IsRest (pos 999999) (Some (pos 1000000)) (Some 1)

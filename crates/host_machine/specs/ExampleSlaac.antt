@@ -1,5 +1,5 @@
--- Worked examples of autoconfiguration, computed from the definitions: how routers are asked, octet by octet; what an advertisement teaches; and how
--- addresses and routes follow.
+-- Worked examples of autoconfiguration, computed from the definitions: how routers are solicited, octet by octet; what is learnt
+-- from an advertisement; and how addresses and routes follow.
 use Rattle.std.specs.Prelude.{◌≡◌, ℕ, pos, true, false, List, [], ◌∷◌}
 use Rattle.std.proofs.Common.{lit≤}
 use Rattle.net_base.specs.Device.{Asked, Sent}
@@ -17,11 +17,11 @@ use Rattle.host_machine.specs.Slaac.{NdiscRsEgress, after_sync, after_advertisem
 use Rattle.host_machine.specs.Example as example
 use Rattle.host_machine.specs.ExampleGroups.{host_v6}
 
--- the host of fe80::1/64 at 02:00:00:00:00:01, which takes addresses from routers
+-- the host of fe80::1/64 at 02:00:00:00:00:01, with SLAAC
 abbrev pub host : ℕ → SlaacState → Host
 host ipv4_id learnt = record (host_v6 ipv4_id []) { slaac_enabled = true; slaac = learnt }
 
--- fe80::1 asks all routers for an advertisement
+-- fe80::1 solicits all routers
 abbrev pub solicitation : List ℕ
 solicitation =
     0x33 ∷ 0x33 ∷ 0 ∷ 0 ∷ 0 ∷ 0x02 ∷ 0x02 ∷ 0 ∷ 0 ∷ 0 ∷ 0 ∷ 0x01 ∷ 0x86 ∷ 0xdd
@@ -31,14 +31,15 @@ solicitation =
     ∷ 0x85 ∷ 0 ∷ 0x7a ∷ 0x2c ∷ 0 ∷ 0 ∷ 0 ∷ 0
     ∷ 0x01 ∷ 0x01 ∷ 0x02 ∷ 0 ∷ 0 ∷ 0 ∷ 0 ∷ 0x01 ∷ []
 
--- it asked once
+-- it sent one solicitation
 abbrev pub slaac_after_solicitation : SlaacState
 slaac_after_solicitation = record initial_state { phase = Discovering; retry_at = pos 4000000; left = 2 }
 
 abbrev pub RoutersAreAsked : Type 0
 RoutersAreAsked = NdiscRsEgress (host 0x1405 initial_state) (Asked (pos 0) true ∷ Sent 0 solicitation ∷ []) (example.identify ∷ []) (host 0x1406 slaac_after_solicitation)
 
--- the message of an advertisement: a router for 600 s, and 2001:db8::/64 to make addresses of, valid for 700 s and preferred for 300 s
+-- the message of an advertisement: a router for 600 s, and 2001:db8::/64 for autoconfiguration, valid for 700 s and preferred for
+-- 300 s
 abbrev pub advertisement : List ℕ
 advertisement =
     0x86 ∷ 0 ∷ 0xc4 ∷ 0xd0 ∷ 0x40 ∷ 0 ∷ 0x02 ∷ 0x58 ∷ 0 ∷ 0 ∷ 0 ∷ 0 ∷ 0 ∷ 0 ∷ 0 ∷ 0
@@ -61,7 +62,7 @@ header source hop_limit = record {
 abbrev pub network : ℕ → Ipv6Cidr
 network bits = record { address = record { bits = bits }; prefix_len = 64; in_range = lit≤ tt }
 
--- what it teaches, where it comes after a second
+-- what is learnt from it, if it arrives after a second
 abbrev pub slaac_after_advertisement : SlaacState
 slaac_after_advertisement = record {
   prefixes = record { cidr = network 0x2001_0db8_0000_0000_0000_0000_0000_0000; info = record { preferred_until = pos 301000000; valid_until = pos 701000000 } } ∷ [];
@@ -81,7 +82,7 @@ pub record AdvertisementsAreApplied : Type 0 where
   pub from_elsewhere : after_advertisement (router_in advertisement) (later (host 0x1406 slaac_after_solicitation)) (header (record { bits = 0x2001_0db8_0000_0000_0000_0000_0000_0002 }) 255) ≡ slaac_after_solicitation
   pub unasked_for : after_advertisement (router_in advertisement) (later (record (host 0x1406 initial_state) { slaac_enabled = false })) (header router 255) ≡ initial_state
 
--- a host that learnt this and knows a neighbour; its own address, and that of the prefix
+-- a host that learnt this and knows a neighbour; its own address, and the one formed from the prefix
 abbrev pub follower : Host
 follower = later (with_neighbors (host 0x1406 slaac_after_advertisement) example.neighbors_with_sender)
 
@@ -91,8 +92,8 @@ own = network 0xfe80_0000_0000_0000_0000_0000_0000_0001
 abbrev pub assigned_cidr : Ipv6Cidr
 assigned_cidr = network 0x2001_0db8_0000_0000_0000_00ff_fe00_0001
 
--- it gets an address and a route, forgets its neighbours, and keeps what it learnt; the router's route goes when 600 s have passed, and the address
--- when 700 s have
+-- it gets an address and a route, forgets its neighbours, and keeps what it learnt; the router's route is removed after 600 s,
+-- and the address after 700 s
 pub record AddressesFollowPrefixes : Type 0 where
   pub addresses : (after_sync follower).ip_addrs ≡ cidr.Ipv6 own ∷ cidr.Ipv6 assigned_cidr ∷ []
   pub routes : (after_sync follower).routes ≡ ipv6_gateway router ∷ []

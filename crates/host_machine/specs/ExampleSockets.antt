@@ -1,5 +1,5 @@
--- Worked examples with sockets: a datagram, a segment and a packet of an unknown protocol as they stand on the wire, and what the host of
--- 192.168.69.1/24 does with them.
+-- Worked examples with sockets: the frames of a datagram, a segment and a packet of an unknown protocol, and how the host of
+-- 192.168.69.1/24 processes them.
 use Rattle.std.specs.Prelude.{◌≡◌, ℕ, ℤ, pos, true, false, List, [], ◌∷◌, drop, Some, None}
 use Rattle.net_base.specs.Device.{Received, Frame, Asked, Sent}
 use Rattle.net_base.specs.declared.phy.Medium.TheVariants as medium
@@ -33,7 +33,7 @@ datagram =
     ∷ 0x45 ∷ 0 ∷ 0 ∷ 0x1e ∷ 0 ∷ 0 ∷ 0x40 ∷ 0 ∷ 0x40 ∷ 0x11 ∷ 0x2f ∷ 0x19 ∷ 192 ∷ 168 ∷ 69 ∷ 100 ∷ 192 ∷ 168 ∷ 69 ∷ 1
     ∷ 0x13 ∷ 0x88 ∷ 0x1b ∷ 0x39 ∷ 0 ∷ 0x0a ∷ 0x5c ∷ 0xf9 ∷ 0x68 ∷ 0x69 ∷ []
 
--- the port is unreachable, and the datagram quoted
+-- the port is unreachable; the datagram is quoted
 abbrev pub port_unreachable : List ℕ
 port_unreachable =
     0x02 ∷ 0 ∷ 0 ∷ 0 ∷ 0 ∷ 0x02 ∷ 0x02 ∷ 0 ∷ 0 ∷ 0 ∷ 0 ∷ 0x01 ∷ 0x08 ∷ 0
@@ -42,14 +42,15 @@ port_unreachable =
     ∷ 0x45 ∷ 0 ∷ 0 ∷ 0x1e ∷ 0 ∷ 0 ∷ 0x40 ∷ 0 ∷ 0x40 ∷ 0x11 ∷ 0x2f ∷ 0x19 ∷ 192 ∷ 168 ∷ 69 ∷ 100 ∷ 192 ∷ 168 ∷ 69 ∷ 1
     ∷ 0x13 ∷ 0x88 ∷ 0x1b ∷ 0x39 ∷ 0 ∷ 0x0a ∷ 0x5c ∷ 0xf9 ∷ 0x68 ∷ 0x69 ∷ []
 
--- a segment that opens a connection from 192.168.69.100, port 5000, to port 80; its number is 0x01020304, its window 1000
+-- a segment that opens a connection from 192.168.69.100, port 5000, to port 80; its sequence number is 0x01020304, its window
+-- 1000
 abbrev pub opening : List ℕ
 opening =
     0x02 ∷ 0 ∷ 0 ∷ 0 ∷ 0 ∷ 0x01 ∷ 0x02 ∷ 0 ∷ 0 ∷ 0 ∷ 0 ∷ 0x02 ∷ 0x08 ∷ 0
     ∷ 0x45 ∷ 0 ∷ 0 ∷ 0x28 ∷ 0 ∷ 0 ∷ 0x40 ∷ 0 ∷ 0x40 ∷ 0x06 ∷ 0x2f ∷ 0x1a ∷ 192 ∷ 168 ∷ 69 ∷ 100 ∷ 192 ∷ 168 ∷ 69 ∷ 1
     ∷ 0x13 ∷ 0x88 ∷ 0 ∷ 0x50 ∷ 0x01 ∷ 0x02 ∷ 0x03 ∷ 0x04 ∷ 0 ∷ 0 ∷ 0 ∷ 0 ∷ 0x50 ∷ 0x02 ∷ 0x03 ∷ 0xe8 ∷ 0x88 ∷ 0x66 ∷ 0 ∷ 0 ∷ []
 
--- the reset, which acknowledges the octet behind it
+-- the reset, which acknowledges the sequence number after it
 abbrev pub reset : List ℕ
 reset =
     0x02 ∷ 0 ∷ 0 ∷ 0 ∷ 0 ∷ 0x02 ∷ 0x02 ∷ 0 ∷ 0 ∷ 0 ∷ 0 ∷ 0x01 ∷ 0x08 ∷ 0
@@ -63,7 +64,7 @@ unknown_protocol_frame =
     ∷ 0x45 ∷ 0 ∷ 0 ∷ 0x18 ∷ 0 ∷ 0 ∷ 0x40 ∷ 0 ∷ 0x40 ∷ 0x63 ∷ 0x2e ∷ 0xcd ∷ 192 ∷ 168 ∷ 69 ∷ 100 ∷ 192 ∷ 168 ∷ 69 ∷ 1
     ∷ 0x61 ∷ 0x62 ∷ 0x63 ∷ 0x64 ∷ []
 
--- the protocol is unreachable, and the packet quoted
+-- the protocol is unreachable; the packet is quoted
 abbrev pub protocol_unreachable : List ℕ
 protocol_unreachable =
     0x02 ∷ 0 ∷ 0 ∷ 0 ∷ 0 ∷ 0x02 ∷ 0x02 ∷ 0 ∷ 0 ∷ 0 ∷ 0 ∷ 0x01 ∷ 0x08 ∷ 0
@@ -83,17 +84,17 @@ listening_socket = record { endpoint = record { addr = None; port = 6969 }; hop_
 abbrev pub socket_with_datagram : UdpSocket
 socket_with_datagram = record listening_socket { rx = record empty_queue { packets = (record { addr = example.sender; port = 5000 }, 0x68 ∷ 0x69 ∷ []) ∷ [] } }
 
--- a host with that socket at the second place; the first one is free
+-- a host with that socket at the second index; the first one is free
 abbrev pub with_socket : UdpSocket → Host → Host
 with_socket s H = record H { sockets = record { places = None ∷ Some (kind.Udp s) ∷ []; waits = None ∷ None ∷ []; grows = false } }
 
--- the datagram reaches the socket, and nothing is sent
+-- the datagram is delivered to the socket, and nothing is sent
 abbrev pub DatagramIsDelivered : Type 0
 DatagramIsDelivered =
     Ingress (pos 0) result.SocketStateChanged (with_socket listening_socket (example.host 0x1405 example.neighbors_with_sender))
     (Received (pos 0) (Frame datagram) ∷ []) [] (with_socket socket_with_datagram (example.host 0x1405 example.neighbors_after_renewal))
 
--- where no socket listens the error goes back
+-- if no socket listens, the error is sent
 abbrev pub DatagramIsRefused : Type 0
 DatagramIsRefused =
     Ingress (pos 0) result.SocketStateChanged (example.host 0x1405 example.neighbors_with_sender)
@@ -114,19 +115,19 @@ having_heard = record listening_raw_socket { rx = record { packets = (tt, drop 1
 abbrev pub with_raw : RawSocket → Host → Host
 with_raw s H = record H { sockets = record { places = Some (kind.Raw s) ∷ []; waits = None ∷ []; grows = false } }
 
--- a raw socket hears the whole packet, and then no error goes back
+-- a raw socket receives the whole packet, and then no error is sent
 abbrev pub RawSocketReceives : Type 0
 RawSocketReceives =
     Ingress (pos 0) result.SocketStateChanged (with_raw listening_raw_socket (example.host 0x1405 example.neighbors_with_sender))
     (Received (pos 0) (Frame datagram) ∷ []) [] (with_raw having_heard (example.host 0x1405 example.neighbors_after_renewal))
 
--- where no socket takes a connection it is reset; a UDP socket takes none
+-- if no socket accepts a connection, it is reset; a UDP socket accepts none
 abbrev pub ConnectionIsReset : Type 0
 ConnectionIsReset =
     Ingress (pos 0) result.SocketStateChanged (with_socket listening_socket (example.host 0x1405 example.neighbors_with_sender))
     (Received (pos 0) (Frame opening) ∷ Sent 0 reset ∷ []) (example.identify ∷ []) (with_socket listening_socket (example.host 0x1406 example.neighbors_after_renewal))
 
--- for a protocol that nobody speaks the error goes back
+-- for an unknown protocol the error is sent
 abbrev pub ProtocolIsRefused : Type 0
 ProtocolIsRefused =
     Ingress (pos 0) result.SocketStateChanged (example.host 0x1405 example.neighbors_with_sender)
@@ -136,14 +137,14 @@ ProtocolIsRefused =
 abbrev pub sending : UdpSocket
 sending = record listening_socket { tx = record empty_queue { packets = (record { addr = example.sender; port = 5000 }, 0x68 ∷ 0x69 ∷ []) ∷ [] } }
 
--- a host at a moment that knows nobody, with that socket alone, which waits or not
+-- a host at a moment that knows no neighbour, with that socket alone, which waits or not
 abbrev pub with_sending : Wait → ℤ → ℕ → ℤ → Host
 with_sending wait t ipv4_id silent_until = record (example.host ipv4_id (example.no_neighbors silent_until)) {
   moment = t;
   sockets = record { places = Some (kind.Udp sending) ∷ []; waits = wait ∷ []; grows = false };
 }
 
--- a socket whose destination isn't known waits for a second; then it is asked again, and another discovery request goes
+-- a socket whose destination is unknown waits for a second; then it is asked again, and another discovery request is sent
 pub record SocketWaits : Type 0 where
   pub asked : Egress (pos 0) poll.None (with_sending None (pos 0) 0x1405 (pos 0))
       (Asked (pos 0) true ∷ Sent 0 example.discovery ∷ []) (example.identify ∷ OfDiscovery (Ask (pos 0)) ∷ [])
@@ -154,7 +155,8 @@ pub record SocketWaits : Type 0 where
       (Asked (pos 1000000) true ∷ Sent 0 example.discovery ∷ []) (OfIdentification (Identify 0x1406) ∷ OfDiscovery (Ask (pos 1000000)) ∷ [])
       (with_sending (Some (example.sender, pos 2000000)) (pos 1000000) 0x1407 (pos 2000000))
 
--- a segment with the largest window goes with that of two segments of 1,474 octets, where the device takes bursts of two frames of 1,514
+-- a segment with the largest window is sent with that of two segments of 1,474 octets, if the device takes bursts of two frames
+-- of 1,514
 abbrev pub WindowFitsBurst : Type 0
 WindowFitsBurst = (r : TcpRepr) → r.window_len ≡ 65535 → with_limited_window (record example.device { max_burst_size = Some 2 }) 20 r ≡ record r { window_len = 2948 }
 

@@ -30,25 +30,25 @@ use Rattle.ip_wire.specs.IpPacket.{src_addr, dst_addr, header_len}
 use Rattle.ip_wire.specs.IpPacket as ip
 use Rattle.host_machine.specs.Packet.{IpPayload, Icmpv4, Icmpv6, Udp, Tcp, Raw, Igmp, Mld, Packet, Ipv4, Ipv6, header_of, payload_of}
 
--- an ARP packet goes from its sender's hardware address to its target's
+-- an ARP packet is sent from its sender's hardware address to its target's
 abbrev pub arp_frame : ArpRepr → List ℕ
 arp_frame r = header_text (record { src_addr = r.source_hardware_addr; dst_addr = r.target_hardware_addr; ethertype = protocol.Arp }) ++ text r
 
--- a window that a device with a limited burst can take: at most so many segments, each as long as its packets allow
+-- a window within the bursts that a device can take: at most that many segments, each as long as its packets allow
 abbrev pub window_within : Option ℕ → ℕ → ℕ → ℕ
 window_within None segment window = window
 window_within (Some burst) segment window = if nat_le window (burst * segment) then window else burst * segment
 
--- a segment's header as it goes behind a packet's header of so many octets: its window is within the device's
+-- a segment's header after an IP header of this many octets: its window is within the device's bursts
 abbrev pub with_limited_window : DeviceCapabilities → ℕ → TcpRepr → TcpRepr
 with_limited_window c ip_header_len r = record r { window_len = window_within c.max_burst_size (c.max_transmission_unit - (ip_header_len + 20)) r.window_len }
 
--- options that tell routers to look at a packet (RFC 2711), padded to eight octets
+-- options that ask routers to examine a packet (RFC 2711), padded to eight octets
 abbrev pub mld_options : Ipv6HopByHopRepr
 mld_options = record { next_header = ip_protocol.Icmpv6; options = record { items = RouterAlert 0 ∷ PadN 0 ∷ [] } }
 
--- a payload, each form with its checksum where the device leaves that to the stack. A checksum covers the pseudo-header, where it has
--- one, and the payload, and no octet behind it
+-- a payload, each form with its checksum if the device leaves that to the stack. A checksum covers the pseudo-header, if there is
+-- one, and the payload, and no octet after it
 abbrev pub payload_text : DeviceCapabilities → IpRepr → IpPayload → List ℕ
 payload_text c r (Icmpv4 message octets) = icmpv4.text (is_tx c.checksum.icmpv4) (is_tx c.checksum.ipv4) message octets
 payload_text c r (Icmpv6 message octets) = icmpv6.text (is_tx c.checksum.icmpv6) (src_addr r) (dst_addr r) message octets
@@ -67,7 +67,7 @@ abbrev pub ethertype_of : Packet → EthernetProtocol
 ethertype_of (Ipv4 p) = protocol.Ipv4
 ethertype_of (Ipv6 p) = protocol.Ipv6
 
--- what stands before a packet on a link that has hardware addresses
+-- the link-layer header of a packet, on a link with hardware addresses
 abbrev pub link_header : HardwareAddress → HardwareAddress → EthernetProtocol → List ℕ
 link_header (hardware.Ethernet source) (hardware.Ethernet destination) type =
     header_text (record { src_addr = source; dst_addr = destination; ethertype = type })
@@ -75,15 +75,15 @@ link_header (hardware.Ethernet source) hardware.Ip type = []
 link_header hardware.Ip (hardware.Ethernet destination) type = []
 link_header hardware.Ip hardware.Ip type = []
 
--- a packet goes from the host's hardware address to another
+-- the frame of a packet from the host's hardware address to another
 abbrev pub ip_frame : Host → HardwareAddress → Packet → List ℕ
 ip_frame H destination p = link_header H.hardware_addr destination (ethertype_of p) ++ packet_text H.capabilities p
 
--- a piece: the header of its packet, and its octets (RFC 791 3.2)
+-- a fragment: the header of its packet, and its octets (RFC 791 3.2)
 abbrev pub piece_text : DeviceCapabilities → Piece → List ℕ
 piece_text c p = ipv4.header_text (is_tx c.checksum.ipv4) (piece_header p) (piece_fragment p) ++ p.fragment.octets
 
--- a piece goes from the host's hardware address to that of its packet
+-- the frame of a fragment from the host's hardware address to that of its packet
 abbrev pub piece_frame : Host → Piece → List ℕ
 piece_frame H p = link_header H.hardware_addr p.destination protocol.Ipv4 ++ piece_text H.capabilities p
 
@@ -91,7 +91,7 @@ piece_frame H p = link_header H.hardware_addr p.destination protocol.Ipv4 ++ pie
 abbrev pub sends : List (List ℕ) → List Event
 sends frames = map (Sent 0) frames
 
--- the frame that a buffer holds, if it isn't empty
+-- the frame in a buffer, unless it is empty
 abbrev pub frames_in : List ℕ → List (List ℕ)
 frames_in [] = []
 frames_in (octet ∷ octets) = (octet ∷ octets) ∷ []

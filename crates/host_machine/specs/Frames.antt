@@ -1,4 +1,4 @@
--- Which fragments come in a run, and in which frames.
+-- Which fragments arrive in a run, and in which frames.
 use Rattle.std.specs.Prelude.{◌≡◌, ℕ, ◌≤◌, true, List, [], ◌∷◌, length, drop}
 use Rattle.net_base.specs.Checksum.{is_rx}
 use Rattle.net_base.specs.Device.{handed_frames}
@@ -21,14 +21,15 @@ use Rattle.host_machine.specs.Ethernet.{is_for, version_in}
 use Rattle.host_machine.specs.Ipv4.{key_in, fragment_in}
 use Rattle.host_machine.specs.Run.{Transition}
 
--- a frame that a host takes has an IPv4 packet in it: over Ethernet behind the header, if the frame is for the host (RFC 894); on a medium
--- without hardware addresses it is the packet
+-- a frame that a host accepts carries an IPv4 packet: over Ethernet after the header, if the frame is for the host (RFC 894); on
+-- a medium without hardware addresses it is the packet
 pub data Carries (h : HardwareAddress) (frame packet : List ℕ) : Type 0 where
   OverEthernet : (own : EthernetAddress) → h ≡ hardware.Ethernet own → 14 ≤ length frame → is_for own (header_in frame).dst_addr ≡ true →
       (header_in frame).ethertype ≡ protocol.Ipv4 → packet ≡ drop 14 frame → Carries h frame packet
   AsItStands : h ≡ hardware.Ip → version_in frame ≡ 4 → packet ≡ frame → Carries h frame packet
 
--- a frame brings a fragment under a key: the header of its packet is right, the source may be one, and it is a part of a datagram
+-- a frame carries a fragment under a key: the header of its packet is right, the source is valid, and it is a fragment of a
+-- datagram
 pub record Brings (H : Host) (frame : List ℕ) (key : FragKey) (f : Fragment) : Type 0 where
   pub packet : List ℕ
   pub carried : Carries H.hardware_addr frame packet
@@ -38,14 +39,14 @@ pub record Brings (H : Host) (frame : List ℕ) (key : FragKey) (f : Fragment) :
   pub key_is : key ≡ key_in (ipv4_in packet).0 (ipv4_in packet).1
   pub fragment_is : f ≡ fragment_in (ipv4_in packet).1 (ipv4_in packet).2
 
--- all fragments that came, each with its key
+-- all fragments that arrived, each with its key
 abbrev pub all_arrivals : List SlotNote → List (FragKey × Fragment)
 all_arrivals [] = []
 all_arrivals (Take k ∷ notes) = all_arrivals notes
 all_arrivals (Arrival k f ∷ notes) = (k, f) ∷ all_arrivals notes
 all_arrivals (Rebuild k octets ∷ notes) = all_arrivals notes
 
--- what frames bring that are taken one after the other: each fragment that one brings, and no other
+-- what frames carry that are received one after another: each fragment that one carries, and no other
 pub data Bring (H : Host) : List (List ℕ) → List (FragKey × Fragment) → Type 0 where
   NoFrame : Bring H [] []
   OneBrings : {frames : List (List ℕ)} {came : List (FragKey × Fragment)} (frame : List ℕ) (key : FragKey) (f : Fragment) →
@@ -53,11 +54,11 @@ pub data Bring (H : Host) : List (List ℕ) → List (FragKey × Fragment) → T
   NoneBrings : {frames : List (List ℕ)} {came : List (FragKey × Fragment)} (frame : List ℕ) →
       ((key : FragKey) (f : Fragment) → Brings H frame key f → ⊥) → Bring H frames came → Bring H (frame ∷ frames) came
 
--- the host to which a command hands frames over: a poll maintains it first
+-- the host that receives frames in a command: a poll maintains it first
 abbrev pub receiving_host : Command → Host → Host
 receiving_host (Poll t budget) H = after_maintenance (at H t)
 receiving_host other H = H
 
--- at one place: what the frames bring that were handed over comes, in order, and nothing else
+-- in one transition: the fragments in the frames received arrive, in order, and nothing else
 abbrev pub ArrivesInFrames : Transition → Type 0
 ArrivesInFrames p = Bring (receiving_host p.command p.before) (handed_frames p.told) (all_arrivals (slot_notes p.notes))

@@ -26,7 +26,7 @@ use Rattle.sockets.specs.declared.socket.SocketOf.{SocketOf}
 abbrev pub Socket : Type 0
 Socket = SocketOf (Bor (Unit {0}))
 
--- a place of a socket set: it holds a socket, or it is free
+-- an entry of a socket set: it holds a socket, or it is free
 abbrev pub Storage : Type 0
 Storage = Option Socket
 
@@ -38,23 +38,23 @@ abbrev pub no_sockets : SocketSet
 no_sockets = record { places = []; waits = []; grows = false }
 
 pub record Host : Type 0 where
-  pub capabilities : DeviceCapabilities  -- of its device, when the interface was made
+  pub capabilities : DeviceCapabilities  -- of its device, when the interface was created
   pub hardware_addr : HardwareAddress
   pub moment : ℤ  -- of the last call that gave one
-  pub ip_addrs : List IpCidr  -- its addresses with their networks, in the order given
-  pub any_ip : Bool  -- whether it takes addresses for its own that are routed to it
+  pub ip_addrs : List IpCidr  -- its addresses with their prefix lengths, in the order given
+  pub any_ip : Bool  -- whether addresses that are routed to it count as its own (AnyIP)
   pub routes : List Route  -- its routes, in the order in which they are stored
-  pub neighbors : Neighbors  -- which neighbours it knows, and until when it sends no discovery
-  pub ipv4_id : ℕ  -- the next identification of a packet, of 16 bits
-  pub reassembly_timeout : ℕ  -- for how many microseconds a slot stands that is taken from now on
-  pub slots : Slots  -- the datagrams of which fragments have come and others are missing
-  pub left : List Piece  -- the pieces that are left to send of the packet that was cut last, in order
-  pub groups : List Group  -- the multicast groups that it is in, is to be in or leaves, in the order in which they are walked
-  pub igmp_report : IgmpReportState  -- what is to be reported of its IPv4 groups, and when
-  pub mld_report : MldReportState  -- the same of its IPv6 groups
-  pub slaac_enabled : Bool  -- whether it takes IPv6 addresses from routers that advertise their prefixes
-  pub slaac : SlaacState  -- the prefixes and routers that it learnt of, and how far its search for routers is
-  pub slaac_updated_at : ℤ  -- when its addresses and routes were last brought into line with those
+  pub neighbors : Neighbors  -- the neighbours it knows, and until when it sends no discovery
+  pub ipv4_id : ℕ  -- the next identification of a packet, 16 bits
+  pub reassembly_timeout : ℕ  -- of slots that are taken from now on, in microseconds
+  pub slots : Slots  -- the datagrams in reassembly: some fragments were received, others are missing
+  pub left : List Piece  -- the pending fragments of the packet that was fragmented last, in order
+  pub groups : List Group  -- the multicast groups that it is in or is leaving, in the order in which they are walked
+  pub igmp_report : IgmpReportState  -- the pending IGMP report, and when it is due
+  pub mld_report : MldReportState  -- the pending MLD report, and when it is due
+  pub slaac_enabled : Bool  -- whether it takes IPv6 addresses from router advertisements
+  pub slaac : SlaacState  -- the prefixes and routers that it learnt, and the state of router discovery
+  pub slaac_updated_at : ℤ  -- when its addresses and routes were last synchronized with those
   pub random : ℕ  -- the state of its source of random words
   pub sockets : SocketSet
 
@@ -66,11 +66,11 @@ at H t = record H { moment = t }
 abbrev pub with_slots : Host → Slots → Host
 with_slots H slots = record H { slots = slots }
 
--- the host at another moment, without the slots that have ended then
+-- the host at another moment, without the slots that have expired then
 abbrev pub without_expired : Host → ℤ → Host
 without_expired H t = record H { moment = t; slots = live_at t H.slots }
 
--- the host with other pieces left to send
+-- the host with other pending fragments
 abbrev pub with_left : Host → List Piece → Host
 with_left H left = record H { left = left }
 
@@ -82,31 +82,31 @@ with_neighbors H n = record H { neighbors = n }
 abbrev pub with_groups : Host → List Group → Host
 with_groups H groups = record H { groups = groups }
 
--- the host with other sockets at its places; their waits stay
+-- the host with other sockets at its indices; their waits stay unchanged
 abbrev pub with_places : Host → List Storage → Host
 with_places H places = record H { sockets = table.with_places H.sockets places }
 
--- an address that was given to it
+-- an address that was assigned to the host
 abbrev pub is_assigned : List IpCidr → IpAddress → Bool
 is_assigned own a = list_any (λ c. is_same (address_of c) a) own
 
--- whether this was given to it, if there is one
+-- whether an address was assigned to the host, if there is one
 abbrev pub is_one_assigned : List IpCidr → Option IpAddress → Bool
 is_one_assigned own None = false
 is_one_assigned own (Some a) = is_assigned own a
 
--- an address that is reached by the host itself: one host's, and the router of its best route is an address that was given to the host
+-- an address that is routed to the host: it is unicast, and the gateway of its best route is an address assigned to the host
 abbrev pub is_routed_here : Host → IpAddress → Bool
 is_routed_here H a = is_unicast a && is_one_assigned H.ip_addrs (router_of (best H.routes a H.moment))
 
--- an address of its own: one that was given to it, or with AnyIP one that is reached by the host itself
+-- an own address of the host: one assigned to it or, with AnyIP, one routed to it
 abbrev pub has_ip_addr : Host → IpAddress → Bool
 has_ip_addr H a = is_assigned H.ip_addrs a || H.any_ip && is_routed_here H a
 
--- an address in a network of its own
+-- an address in a network of the host
 abbrev pub in_same_network : List IpCidr → IpAddress → Bool
 in_same_network own a = list_any (λ c. contains c a) own
 
--- addresses that an interface may have: each is one host's, or unspecified
+-- addresses that an interface may have: each is unicast or unspecified
 abbrev pub are_assignable : List IpCidr → Bool
 are_assignable list = list_all (λ c. is_unicast (address_of c) || is_unspecified (address_of c)) list

@@ -1,4 +1,4 @@
--- ICMP for IPv6, reception of messages, and the errors that a host sends (RFC 4443).
+-- ICMPv6, reception of messages, and the errors that a host sends (RFC 4443).
 use Rattle.std.specs.Prelude.{◌≡◌, ℕ, Bool, List, [], take, Option, Some, None, if◌then◌else◌, ◌+◌, ◌-◌, ◌*◌}
 use Rattle.net_base.specs.Checksum.{is_rx}
 use Rattle.ip_address.specs.declared.ipv6.Ipv6Address.{Ipv6Address}
@@ -22,12 +22,12 @@ use Rattle.host_machine.specs.Ndisc.{ProcessesNdisc}
 use Rattle.host_machine.specs.Reports.{ProcessesMld}
 use Rattle.host_machine.specs.Slaac.{after_advertisement, with_slaac}
 
--- the address from which a message goes in reply to a packet: the packet's destination, if that is one host's, else the source for its
--- sender (RFC 4443 2.2)
+-- the source address of a message in reply to a packet: the packet's destination, if that is unicast, otherwise the source
+-- address for its sender (RFC 4443 2.2)
 abbrev pub reply_source : List IpCidr → Ipv6Repr → Ipv6Address
 reply_source own r = if is_unicast r.dst_addr then r.dst_addr else source_v6 own r.src_addr
 
--- a message goes back to a packet's source, with hop limit 64
+-- a message to a packet's source, with hop limit 64
 abbrev pub message_back : List IpCidr → Ipv6Repr → Icmpv6Repr → List ℕ → Reply
 message_back own r message octets = Ip (Ipv6 (record {
   src_addr = reply_source own r;
@@ -36,25 +36,26 @@ message_back own r message octets = Ip (Ipv6 (record {
   payload = Icmpv6 message octets;
 }))
 
--- how much of a packet's payload an error quotes: so much that with two headers and the message's 8 octets it has at most 1280 octets
--- (RFC 4443 2.4)
+-- the part of a packet's payload that an error quotes, so that with two headers and the message's 8 octets it is at most 1,280
+-- octets long (RFC 4443 2.4)
 abbrev pub quotation_of : List ℕ → List ℕ
 quotation_of payload = take (1280 - (40 * 2 + 8)) payload
 
--- nobody listens at the port, unless a raw socket took the packet (RFC 4443 3.1)
+-- the error for a port without a listening socket, unless a raw socket accepted the packet (RFC 4443 3.1)
 abbrev pub port_unreachable : Bool → List IpCidr → Ipv6Repr → List ℕ → Option Reply
 port_unreachable handled_by_raw_socket own r payload = if handled_by_raw_socket then None else Some (message_back own r (DstUnreachable PortUnreachable r) (quotation_of payload))
 
--- something in the packet isn't known: behind its header, at octet 40 (RFC 4443 3.4)
+-- a parameter problem for something unrecognized in the packet, with pointer 40, the octet after its header (RFC 4443 3.4)
 abbrev pub problem : List IpCidr → Icmpv6ParamProblem → Ipv6Repr → List ℕ → Reply
 problem own reason r payload = message_back own r (ParamProblem reason 40 r) (quotation_of payload)
 
--- each ICMP socket that takes the message got it
+-- each ICMP socket that accepts the message gets it
 abbrev pub host_after_delivery : Ipv6Repr → List ℕ → Host → Host
 host_after_delivery r octets H = icmp.host_after_delivery (Ipv6Message (icmpv6_in octets).0) (icmpv6_in octets).1 (address.Ipv6 r.src_addr) octets H
 
--- what a message brings about: an echo request is answered with its identifier, its number and its data; one to a neighbour tells of a
--- neighbour, or asks for the host; one of routers may teach prefixes and routers; a query asks for groups; nothing else does anything
+-- the effect of a message: an echo request is answered with its identifier, sequence number and data; a neighbour message
+-- announces a neighbour, or solicits the host; prefixes and routers may be learnt from a router message; a query asks for groups;
+-- nothing else has an effect
 abbrev pub ProcessesMessage : Ipv6Repr → Icmpv6Repr → List ℕ → Host → Option Reply → List Note → Host → Type 0
 ProcessesMessage r (EchoRequest ident seq_no) octets H reply notes new =
     (reply ≡ Some (message_back H.ip_addrs r (EchoReply ident seq_no) octets)) × (notes ≡ []) × (new ≡ H)
@@ -71,7 +72,7 @@ ProcessesMessage r (ParamProblem reason pointer header) octets H reply notes new
 abbrev pub IsMessage : Host → Ipv6Repr → List ℕ → Type 0
 IsMessage H r octets = IsIcmpv6 (is_rx H.capabilities.checksum.icmpv6) (address.Ipv6 r.src_addr) (address.Ipv6 r.dst_addr) octets
 
--- what is done with the payload of an IPv6 packet with this header
+-- how the payload of an IPv6 packet with this header is processed
 pub data ProcessesIcmpv6 (r : Ipv6Repr) (H : Host) (octets : List ℕ) (reply : Option Reply) (notes : List Note) (new : Host) : Type 0 where
   Malformed : (IsMessage H r octets → ⊥) → IsDropped H reply notes new → ProcessesIcmpv6 r H octets reply notes new
   Taken : IsMessage H r octets → ProcessesMessage r (icmpv6_in octets).0 (icmpv6_in octets).1 (host_after_delivery r octets H) reply notes new →

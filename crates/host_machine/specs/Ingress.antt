@@ -1,4 +1,4 @@
--- One call that takes at most one frame: slots that have ended are dropped, the device is asked once, and the reply is sent.
+-- One call that receives at most one frame: expired slots are dropped, the device is asked once, and the reply is sent.
 use Rattle.std.specs.Prelude.{◌≡◌, ℕ, ℤ, List, [], ◌∷◌, Option}
 use Rattle.net_base.specs.Device.{Event, Received, Reception, Frame, Nothing, Withheld}
 use Rattle.host_machine.specs.declared.results.PollIngressSingleResult.{PollIngressSingleResult}
@@ -10,14 +10,14 @@ use Rattle.host_machine.specs.Frame.{sends}
 use Rattle.host_machine.specs.Response.{Response}
 use Rattle.host_machine.specs.Ethernet.{ProcessesFrame}
 
--- what is done with what the device gave; an empty frame, and none, change nothing
+-- how what the device delivered is processed; an empty frame, and none, change nothing
 abbrev pub Takes : Host → Reception → Option Reply → List Note → Host → Type 0
 Takes H Nothing reply notes new = IsDropped H reply notes new
 Takes H Withheld reply notes new = IsDropped H reply notes new
 Takes H (Frame []) reply notes new = IsDropped H reply notes new
 Takes H (Frame (octet ∷ octets)) reply notes new = ProcessesFrame H.hardware_addr H (octet ∷ octets) reply notes new
 
--- the answer tells whether there was a frame, and whether it was empty
+-- the answer says whether there was a frame, and whether it was empty
 abbrev pub answer_to : Reception → PollIngressSingleResult
 answer_to Nothing = result.None
 answer_to Withheld = result.None

@@ -1,5 +1,5 @@
--- IPv6, reception of packets (RFC 8200 3, 4): whose packets are taken, what their options ask for, for whom they are, and by which
--- protocol.
+-- IPv6, reception of packets (RFC 8200 3, 4): which packets are accepted, what their options ask for, and by which protocol they
+-- are processed.
 use Rattle.std.specs.Prelude.{◌≡◌, ◌≢◌, ℕ, Bool, true, false, List, [], Option, Some, None, if◌then◌else◌}
 use Rattle.ip_address.specs.declared.hardware.HardwareAddress.{HardwareAddress}
 use Rattle.ip_address.specs.declared.ip.IpAddress.TheVariants as address
@@ -25,18 +25,18 @@ use Rattle.host_machine.specs.Tcp.{ProcessesTcp}
 use Rattle.host_machine.specs.Raw.{host_after_raw_delivery, is_taken}
 use Rattle.host_machine.specs.Renewal.{sender_renewed}
 
--- what is answered to a packet of a protocol that nobody here speaks: a problem, unless a raw socket took the packet (RFC 4443 3.4)
+-- the answer to a packet of an unknown protocol: a parameter problem, unless a raw socket accepted the packet (RFC 4443 3.4)
 abbrev pub protocol_unknown : Bool → List IpCidr → Ipv6Repr → List ℕ → Option Reply
 protocol_unknown handled_by_raw_socket own r payload = if handled_by_raw_socket then None else Some (problem own UnrecognizedNxtHdr r payload)
 
--- a payload of such a protocol
+-- a payload of an unknown protocol
 pub record IsRefused (handled_by_raw_socket : Bool) (r : Ipv6Repr) (H : Host) (octets : List ℕ) (reply : Option Reply) (notes : List Note) (new : Host) : Type 0 where
   pub replied : reply ≡ protocol_unknown handled_by_raw_socket H.ip_addrs r octets
   pub unnoted : notes ≡ []
   pub unchanged : new ≡ H
 
--- by the protocol of the payload, which stands in the header or behind options, and whether a raw socket took the packet; options that
--- don't stand first, and what belongs to IPv4 alone, are such a protocol
+-- by the protocol of the payload, from the header or the options, and whether a raw socket accepted the packet; options that
+-- don't come first, and protocols of IPv4 alone, count as unknown
 abbrev pub ProcessesProtocol : IpProtocol → Bool → Ipv6Repr → Host → List ℕ → Option Reply → List Note → Host → Type 0
 ProcessesProtocol protocol.Icmpv6 handled_by_raw_socket r H octets reply notes new = ProcessesIcmpv6 r H octets reply notes new
 ProcessesProtocol protocol.Udp handled_by_raw_socket r H octets reply notes new = ProcessesUdp handled_by_raw_socket (repr.Ipv6 r) H octets reply notes new
@@ -46,7 +46,7 @@ ProcessesProtocol protocol.Igmp handled_by_raw_socket r H octets reply notes new
 ProcessesProtocol protocol.HopByHop handled_by_raw_socket r H octets reply notes new = IsRefused handled_by_raw_socket r H octets reply notes new
 ProcessesProtocol (protocol.Unknown number) handled_by_raw_socket r H octets reply notes new = IsRefused handled_by_raw_socket r H octets reply notes new
 
--- a packet by its header, by the protocol of its payload, and by its payload: raw sockets hear those for the host
+-- a packet by its header, by the protocol of its payload, and by its payload: raw sockets get those for the host
 pub data ProcessesDatagramV6 (source : HardwareAddress) (r : Ipv6Repr) (p : IpProtocol) (H : Host) (payload : List ℕ) (reply : Option Reply)
     (notes : List Note) (new : Host) : Type 0 where
   NotForUs : is_for_host H (address.Ipv6 r.dst_addr) ≡ false → IsDropped H reply notes new → ProcessesDatagramV6 source r p H payload reply notes new
@@ -54,14 +54,16 @@ pub data ProcessesDatagramV6 (source : HardwareAddress) (r : Ipv6Repr) (p : IpPr
       ProcessesProtocol p (is_taken (repr.Ipv6 r) H) r (sender_renewed source (repr.Ipv6 r) (host_after_raw_delivery (repr.Ipv6 r) payload H)) payload
       reply notes new → ProcessesDatagramV6 source r p H payload reply notes new
 
--- what is answered for an option that isn't known: a problem, quoting from the options on; by its class to a group, too, or not
+-- the answer to an unrecognized option: a parameter problem, quoting from the options on; by its class also to a multicast
+-- packet, or not
 abbrev pub complaint : Ipv6OptionFailureType → List IpCidr → Ipv6Repr → List ℕ → Option Reply
 complaint Skip own r payload = None
 complaint Discard own r payload = None
 complaint DiscardSendAll own r payload = Some (problem own UnrecognizedOption r payload)
 complaint DiscardSendUnicast own r payload = if is_multicast r.dst_addr then None else Some (problem own UnrecognizedOption r payload)
 
--- a payload behind hop-by-hop options: the first one that isn't known and isn't to be skipped ends it, before the destination is looked at
+-- a payload with hop-by-hop options: the first one that is unrecognized and not to be skipped ends it, before the destination is
+-- tested
 pub data ProcessesHopByHop (source : HardwareAddress) (r : Ipv6Repr) (H : Host) (payload : List ℕ) (reply : Option Reply) (notes : List Note)
     (new : Host) : Type 0 where
   MalformedOptions : (IsHopByHop payload → ⊥) → IsDropped H reply notes new → ProcessesHopByHop source r H payload reply notes new
@@ -71,7 +73,7 @@ pub data ProcessesHopByHop (source : HardwareAddress) (r : Ipv6Repr) (H : Host) 
   Discarded : (failure : Ipv6OptionFailureType) → IsHopByHop payload → first_failure (hop_by_hop_in payload).0.options.items ≡ failure →
       failure ≢ Skip → reply ≡ complaint failure H.ip_addrs r payload → notes ≡ [] → new ≡ H → ProcessesHopByHop source r H payload reply notes new
 
--- a packet by its header and its payload: it comes from one host
+-- a packet by its header and its payload: its source must be unicast
 pub data ProcessesPacket (source : HardwareAddress) (r : Ipv6Repr) (H : Host) (payload : List ℕ) (reply : Option Reply) (notes : List Note)
     (new : Host) : Type 0 where
   FromNoHost : is_unicast r.src_addr ≡ false → IsDropped H reply notes new → ProcessesPacket source r H payload reply notes new
@@ -80,7 +82,7 @@ pub data ProcessesPacket (source : HardwareAddress) (r : Ipv6Repr) (H : Host) (p
   Bare : is_unicast r.src_addr ≡ true → number_of r.next_header ≢ 0 → ProcessesDatagramV6 source r r.next_header H payload reply notes new →
       ProcessesPacket source r H payload reply notes new
 
--- what is done with the octets behind a frame's header, which came from this hardware address
+-- how the octets after a frame's header are processed, received from this hardware address
 pub data ProcessesIpv6 (source : HardwareAddress) (H : Host) (octets : List ℕ) (reply : Option Reply) (notes : List Note) (new : Host) : Type 0 where
   Malformed : (IsIpv6 octets → ⊥) → IsDropped H reply notes new → ProcessesIpv6 source H octets reply notes new
   Read : IsIpv6 octets → ProcessesPacket source (ipv6_in octets).0 H (ipv6_in octets).1 reply notes new → ProcessesIpv6 source H octets reply notes new

@@ -1,4 +1,5 @@
--- What a step notes beside what the device tells, so that laws over runs can speak of it; the notes on slots stand with their rule.
+-- What a step notes besides the device's events, so that laws over runs can refer to it; the notes about slots are beside their
+-- rule.
 use Rattle.std.specs.Prelude.{ℕ, ℤ, List, [], ◌∷◌}
 use Rattle.fragmentation.specs.Reassembly.{SlotNote}
 use Rattle.fragmentation.specs.Cuts.{Datagram, Piece}
@@ -7,11 +8,11 @@ use Rattle.fragmentation.specs.Cuts.{Datagram, Piece}
 pub data DiscoveryNote : Type 0 where
   Ask : (moment : ℤ) → DiscoveryNote
 
--- a dispatch took this identification (RFC 791 3.2)
+-- a dispatch used this identification (RFC 791 3.2)
 pub data IdentificationNote : Type 0 where
   Identify : (identification : ℕ) → IdentificationNote
 
--- a packet was cut; and a piece was sent (RFC 791 3.2)
+-- a packet was fragmented; a fragment was sent (RFC 791 3.2)
 pub data CutNote : Type 0 where
   Cut : (datagram : Datagram) → CutNote
   PieceSent : (piece : Piece) → CutNote
@@ -31,7 +32,7 @@ asks (OfIdentification n ∷ notes) = asks notes
 asks (OfSlots n ∷ notes) = asks notes
 asks (OfCuts n ∷ notes) = asks notes
 
--- the identifications that dispatches took, in order
+-- the identifications that dispatches used, in order
 abbrev pub identifications : List Note → List ℕ
 identifications [] = []
 identifications (OfDiscovery n ∷ notes) = identifications notes
@@ -39,7 +40,7 @@ identifications (OfIdentification (Identify id) ∷ notes) = id ∷ identificati
 identifications (OfSlots n ∷ notes) = identifications notes
 identifications (OfCuts n ∷ notes) = identifications notes
 
--- the notes on slots, in order
+-- the notes about slots, in order
 abbrev pub slot_notes : List Note → List SlotNote
 slot_notes [] = []
 slot_notes (OfDiscovery n ∷ notes) = slot_notes notes
@@ -47,7 +48,7 @@ slot_notes (OfIdentification n ∷ notes) = slot_notes notes
 slot_notes (OfSlots n ∷ notes) = n ∷ slot_notes notes
 slot_notes (OfCuts n ∷ notes) = slot_notes notes
 
--- the notes on packets that are cut, in order
+-- the notes about fragmented packets, in order
 abbrev pub cut_notes : List Note → List CutNote
 cut_notes [] = []
 cut_notes (OfDiscovery n ∷ notes) = cut_notes notes

@@ -4,11 +4,11 @@ use Rattle.net_base.specs.Device.{Event}
 use Rattle.host_machine.specs.Note.{Note}
 use Rattle.host_machine.specs.Host.{Host}
 
--- what a part of a call does: from a host, what the device tells and what is noted, to a host
+-- what a part of a call does: from a host, with the device's events and notes, to a host
 abbrev pub Part : Type 1
 Part = Host → List Event → List Note → Host → Type 0
 
--- the one, and then the other
+-- first one part, then the other
 pub record Both (one two : Part) (old : Host) (told : List Event) (notes : List Note) (new : Host) : Type 0 where
   pub mid : Host
   pub told_one : List Event

@@ -1,5 +1,5 @@
--- One poll: what has to be maintained, then the calls that receive, then those that send, all at one moment, each kind until one has
--- nothing more to do or the budget is spent.
+-- One poll: maintenance, then the calls that receive, then those that send, all at one moment, each kind until one has nothing
+-- more to do or the budget is spent.
 use Rattle.std.specs.Prelude.{◌≡◌, ◌≢◌, ℕ, ◌<◌, ◌+◌, ℤ, Bool, true, false, ◌||◌, List, [], ◌++◌}
 use Rattle.net_base.specs.Device.{Event}
 use Rattle.host_machine.specs.declared.results.PollIngressSingleResult.{PollIngressSingleResult}
@@ -13,7 +13,7 @@ use Rattle.host_machine.specs.Parts.{Part}
 use Rattle.host_machine.specs.Ingress.{Ingress}
 use Rattle.host_machine.specs.Egress.{Egress, answer_of}
 
--- so many calls one after the other, each of which had something to do, and whether some socket may have changed
+-- this many calls one after another, each of which had something to do, and whether some socket may have changed
 pub data Repeats {A : Type 0} (call : A → Part) (nothing : A) (changes : A → Bool) (old : Host) :
     (n : ℕ) → List Event → List Note → Host → (changed : Bool) → Type 0 where
   Begins : Repeats call nothing changes old 0 [] [] old false
@@ -39,7 +39,7 @@ abbrev pub is_changed : PollResult → Bool
 is_changed result.None = false
 is_changed result.SocketStateChanged = true
 
--- the host after maintenance: slots that have ended are dropped, and addresses and routes are in line with what was learnt of routers
+-- the host after maintenance: expired slots are dropped, and addresses and routes are in sync with what was learnt from routers
 abbrev pub after_maintenance : Host → Host
 after_maintenance H = after_sync (without_expired H H.moment)
 
@@ -52,7 +52,7 @@ abbrev pub Sends : ℤ → ℕ → Bool → Part
 Sends t budget = Until (Egress t) result.None is_changed budget
 
 pub record Polls (t : ℤ) (budget : ℕ) (answer : PollResult) (old : Host) (told : List Event) (notes : List Note) (new : Host) : Type 0 where
-  pub mid : Host  -- after the frames were taken
+  pub mid : Host  -- after the frames were received
   pub received : Bool
   pub went : Bool
   pub told_receiving : List Event

@@ -1,4 +1,4 @@
--- Between an answer of `poll_at` and its instant nothing is due: polls that nothing disturbs send nothing and change no socket.
+-- Between an answer of `poll_at` and its instant there is no work: polls that nothing disturbs send nothing and change no socket.
 use Rattle.std.specs.Prelude.{◌≡◌, ℕ, ℤ, pos, ◌≤ℤ◌, ◌<ℤ◌, List, [], ◌∷◌, slice_get, Option, Some, None}
 use Rattle.net_base.specs.Device.{handed_frames, sent_frames}
 use Rattle.ip_address.specs.declared.ip.IpAddress.{IpAddress}
@@ -20,11 +20,11 @@ abbrev pub IsBefore : ℤ → Option ℤ → Type 0
 IsBefore s None = Unit {0}
 IsBefore s (Some end) = s <ℤ end
 
--- from t0 until the end a socket that is asked offers nothing and stays as it is
+-- from t0 until the end a socket that is asked offers nothing and stays unchanged
 abbrev pub IsQuietUntil : (IpAddress → Option IpAddress) → Socket → (t0 : ℤ) → (end : Option ℤ) → Type 0
 IsQuietUntil source s t0 end = (t : ℤ) → t0 ≤ℤ t → IsBefore t end → (offered_packet t source s ≡ None) × (socket_after_offer t source s ≡ s)
 
--- each socket is so until the instant that it names itself
+-- each socket is quiet until the instant that it names itself
 abbrev pub SocketsAreQuiet : Type 0
 SocketsAreQuiet = (source : IpAddress → Option IpAddress) (s : Socket) (t0 : ℤ) → pos 0 ≤ℤ t0 → IsQuietUntil source s t0 (instant_of (socket.poll_at s))
 
@@ -38,7 +38,7 @@ pub record IsWithin (t0 : ℤ) (end : Option ℤ) (routes : List Route) (s : ℤ
   pub before : IsBefore s end
   pub routes_last : RoutesLast routes t0 s
 
--- a poll within that time, a question when to poll, a reassembly timeout, or a call that changes nothing
+-- a poll within that time, a query for when to poll, a new reassembly timeout, or a call that changes nothing
 abbrev pub IsCalm : ℤ → Option ℤ → Command → Transition → Type 0
 IsCalm t0 end (PollIngressSingle s) p = IsWithin t0 end p.before.routes s
 IsCalm t0 end (PollEgress s) p = IsWithin t0 end p.before.routes s
@@ -49,25 +49,25 @@ IsCalm t0 end (PollDelay s) p = Unit {0}
 IsCalm t0 end (SetReassemblyTimeout timeout) p = Unit {0}
 IsCalm t0 end other p = p.after ≡ p.before
 
--- nothing disturbs a place: such a call, and no frame handed over
+-- nothing disturbs a transition: it is such a call, and no frame is received
 pub record IsUndisturbed (t0 : ℤ) (end : Option ℤ) (p : Transition) : Type 0 where
   pub calm : IsCalm t0 end p.command p
   pub no_frame : handed_frames p.told ≡ []
 
--- a poll answers that nothing was done
+-- a poll returns that nothing was done
 abbrev pub AnswersNone : Answer → Type 0
 AnswersNone (answer.PollIngressSingle r) = r ≡ ingress.None
 AnswersNone (answer.PollEgress r) = r ≡ result.None
 AnswersNone (answer.Poll r) = r ≡ result.None
 AnswersNone other = Unit {0}
 
--- nothing is sent, a poll answers so, and each socket is as it was; its wait may end
+-- nothing is sent, a poll returns so, and each socket is unchanged; its wait may end
 pub record IsQuiet (p : Transition) : Type 0 where
   pub sends_nothing : sent_frames p.told ≡ []
   pub answers : AnswersNone p.answer
   pub sockets : p.after.sockets.places ≡ p.before.sockets.places
 
--- the places of a run that nothing disturbs, up to the first one that something does, are quiet
+-- the transitions of a run that nothing disturbs, up to the first one that something does, are quiet
 abbrev pub QuietWhile : ℤ → Option ℤ → List Transition → Type 0
 QuietWhile t0 end [] = Unit {0}
 QuietWhile t0 end (p ∷ ps) = IsUndisturbed t0 end p → IsQuiet p × QuietWhile t0 end ps
@@ -77,7 +77,7 @@ abbrev pub QuietAfter : Command → Answer → List Transition → Type 0
 QuietAfter (PollAt t0) (answer.PollAt end) ps = pos 0 ≤ℤ t0 → QuietWhile t0 end ps
 QuietAfter command given ps = Unit {0}
 
--- at each place of a run
+-- in each transition of a run
 abbrev pub AreQuiet : List Transition → Type 0
 AreQuiet [] = Unit {0}
 AreQuiet (p ∷ ps) = QuietAfter p.command p.answer ps × AreQuiet ps

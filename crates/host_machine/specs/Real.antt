@@ -1,4 +1,4 @@
--- Hardware addresses as a medium has them: of six octets on Ethernet (RFC 894), and none elsewhere.
+-- The hardware addresses of a medium: six octets on Ethernet (RFC 894), and none on an IP medium.
 use Rattle.std.specs.Prelude.{◌≡◌, length}
 use Rattle.ip_address.specs.declared.hardware.HardwareAddress.{HardwareAddress}
 use Rattle.ip_address.specs.declared.hardware.HardwareAddress.TheVariants as hardware
@@ -8,7 +8,7 @@ use Rattle.host_machine.specs.declared.command.Command.{Command}
 use Rattle.host_machine.specs.declared.command.Command.TheVariants.{SetHardwareAddr}
 use Rattle.host_machine.specs.Host.{Host}
 
--- an address of six octets, if it is one of Ethernet, as each is that a program holds
+-- an address of six octets, if it is an Ethernet address, as each is that a program holds
 abbrev pub IsSix : HardwareAddress → Type 0
 IsSix (hardware.Ethernet a) = length a.0 ≡ 6
 IsSix hardware.Ip = Unit {0}

@@ -7,11 +7,11 @@ use Rattle.fragmentation.specs.Reassembly.{SlotNote, Reassembles}
 use Rattle.host_machine.specs.Note.{Note, OfSlots}
 use Rattle.host_machine.specs.Host.{Host, with_slots}
 
--- the end of a slot that is taken at a moment: when the timeout has passed
+-- the expiry of a slot that is taken at a moment: when the timeout has passed
 abbrev pub slot_end : ℤ → ℕ → ℤ
 slot_end t timeout = t +ℤ pos timeout
 
--- a fragment under a key, and the datagram that it completes, if it does; a slot that is taken now stands until the timeout has passed
+-- a fragment under a key, and the datagram that it completes, if it does; a slot that is taken now expires after the timeout
 pub record TakesFragment (key : FragKey) (f : Fragment) (result : Option (List ℕ)) (H : Host) (notes : List Note) (new : Host) : Type 0 where
   pub slots : Slots
   pub slot_notes : List SlotNote

@@ -1,4 +1,4 @@
--- What a run rebuilds: each datagram is put together from what came under its key since its slot was taken (RFC 791 3.2).
+-- What a run reassembles: each datagram consists of what arrived under its key since its slot was taken (RFC 791 3.2).
 use Rattle.std.specs.Prelude.{List, [], ◌∷◌, Option, Some, None, if◌then◌else◌}
 use Rattle.std.specs.FinMap as map
 use Rattle.fragmentation.specs.declared.key.FragKey.{FragKey}
@@ -8,7 +8,7 @@ use Rattle.fragmentation.specs.Slots.{Slot}
 use Rattle.fragmentation.specs.Reassembly.{SlotNote, Take, Arrival, Rebuild}
 use Rattle.host_machine.specs.Host.{Host}
 
--- what was got under each key
+-- what was received under each key
 abbrev pub History : Type 0
 History = FragKey → Got
 
@@ -16,21 +16,21 @@ abbrev pub got_in : Option Slot → Got
 got_in None = no_fragments
 got_in (Some s) = s.got
 
--- where a run begins: what the slots have
+-- where a run begins: what the slots hold
 abbrev pub first_history : Host → History
 first_history H = λ k. got_in (map.get H.slots k)
 
 abbrev pub put : History → FragKey → Got → History
 put h k g = λ j. if same_key j k then g else h j
 
--- what was got under each key since its slot was taken: the fragments that came, as far as they are accepted
+-- what was received under each key since its slot was taken: the fragments that arrived, as far as they are accepted
 abbrev pub history : History → List SlotNote → History
 history h [] = h
 history h (Take k ∷ notes) = history (put h k no_fragments) notes
 history h (Arrival k f ∷ notes) = history (put h k (with_one (h k) f)) notes
 history h (Rebuild k octets ∷ notes) = history h notes
 
--- each datagram that is rebuilt is what was got under its key since its slot was taken
+-- each reassembled datagram is what was received under its key since its slot was taken
 abbrev pub AreRebuilt : History → List SlotNote → Type 0
 AreRebuilt h [] = Unit {0}
 AreRebuilt h (Take k ∷ notes) = AreRebuilt (put h k no_fragments) notes

@@ -1,4 +1,4 @@
--- What a host answers to a frame, before that is sent.
+-- The reply of a host to a frame, before it is sent.
 use Rattle.std.specs.Prelude.{◌≡◌, List, [], Option, None}
 use Rattle.ip_wire.specs.declared.arp.ArpRepr.{ArpRepr}
 use Rattle.host_machine.specs.Note.{Note}
@@ -10,7 +10,7 @@ pub data Reply : Type 0 where
   Arp : (packet : ArpRepr) → Reply
   Ip : (packet : Packet) → Reply
 
--- a packet is not taken: no reply, and nothing changes
+-- a packet is dropped: no reply, and nothing changes
 pub record IsDropped (H : Host) (reply : Option Reply) (notes : List Note) (new : Host) : Type 0 where
   pub silent : reply ≡ None
   pub unnoted : notes ≡ []

@@ -1,4 +1,4 @@
--- Which of the frames that a run sends ask for hardware addresses, and when they go.
+-- Which of the frames that a run sends request hardware addresses, and when they are sent.
 use Rattle.std.specs.Prelude.{◌≡◌, ℕ, ℤ, pos, ◌==◌, ◌&&◌, ◌||◌, Bool, true, false, List, [], ◌∷◌, slice_index, if◌then◌else◌}
 use Rattle.std.specs.List.{AllByRecursion}
 use Rattle.net_base.specs.declared.phy.Medium.{Medium}
@@ -18,32 +18,32 @@ use Rattle.host_machine.specs.Packet.{IpPayload, Icmpv4, Icmpv6, Udp, Tcp, Raw, 
 use Rattle.host_machine.specs.Real.{IsReal, GivesSix}
 use Rattle.host_machine.specs.Run.{Transition, events_in}
 
--- a frame of Ethernet that asks for a hardware address: its type is that of ARP, the operation behind it a request (RFC 826)
+-- an Ethernet frame that requests a hardware address: its type is ARP, and the operation a request (RFC 826)
 abbrev pub is_arp_request : List ℕ → Bool
 is_arp_request frame = u16_at frame 12 == 0x0806 && u16_at frame 20 == 1
 
--- or by IPv6: its next header is ICMPv6, and the message a neighbour solicitation (RFC 4861 4.3)
+-- or over IPv6: its next header is ICMPv6, and the message a neighbour solicitation (RFC 4861 4.3)
 abbrev pub is_solicitation : List ℕ → Bool
 is_solicitation frame = u16_at frame 12 == 0x86dd && slice_index frame 20 == 58 && slice_index frame 54 == 135
 
--- by the medium: where there are no hardware addresses nobody asks for one
+-- by the medium: on one without hardware addresses there are no requests
 abbrev pub is_request : Medium → List ℕ → Bool
 is_request medium.Ethernet frame = is_arp_request frame || is_solicitation frame
 is_request medium.Ip frame = false
 
--- the frames that were sent, each with the moment at which the device was asked last, for a frame or for leave to send
+-- the frames that were sent, each with the moment at which the device was last asked, for a frame or for a transmit token
 abbrev pub sent_at : ℤ → List Event → List (ℤ × List ℕ)
 sent_at t [] = []
 sent_at t (Received now reception ∷ es) = sent_at now es
 sent_at t (Asked now given ∷ es) = sent_at now es
 sent_at t (Sent id frame ∷ es) = (t, frame) ∷ sent_at t es
 
--- the moments of those that ask, in order
+-- the moments of those that are requests, in order
 abbrev pub requests_at : Medium → List (ℤ × List ℕ) → List ℤ
 requests_at m [] = []
 requests_at m (f ∷ fs) = if is_request m f.1 then f.0 ∷ requests_at m fs else requests_at m fs
 
--- of a whole run
+-- the moments of the requests of a whole run
 abbrev pub requests_in : Medium → List Transition → List ℤ
 requests_in m transitions = requests_at m (sent_at (pos 0) (events_in transitions))
 
@@ -72,23 +72,23 @@ may_ask (Raw protocol octets) = number_of protocol == 58
 may_ask (Igmp message) = false
 may_ask (Mld count records) = false
 
--- a raw socket for ICMPv6, whose owner may write solicitations of his own
+-- a raw socket for ICMPv6, whose owner may send solicitations
 abbrev pub speaks_icmpv6 : Storage → Bool
 speaks_icmpv6 place = holds down_raw (λ s. number_of s.protocol == 58) place
 
--- a host has none
+-- a host has no such socket
 abbrev pub NoSocketSpeaks : Host → Type 0
 NoSocketSpeaks H = AllByRecursion (λ place. speaks_icmpv6 place ≡ false) H.sockets.places
 
--- at a place of a run there is none, and a hardware address that is given has six octets
+-- in a transition of a run there is no such socket, and a hardware address that is set has six octets
 abbrev pub IsOrdinary : Transition → Type 0
 IsOrdinary p = GivesSix p.command × NoSocketSpeaks p.before
 
--- what is left to send of a packet that was cut goes to an address of the medium, as it does where nothing is left
+-- the pending fragments are for a hardware address of the medium, if there are any
 abbrev pub IsLeftWell : Host → Type 0
 IsLeftWell H = AllByRecursion (λ p. IsOf H.capabilities.medium p.destination) H.left
 
--- a host from which a run begins that reads as its medium has it
+-- a host for the start of a run, whose hardware addresses are those of its medium
 pub record IsSound (H : Host) : Type 0 where
   pub real : IsReal H
   pub left : IsLeftWell H

@@ -1,4 +1,4 @@
--- A rule that takes something and says which reply follows, and then the rule by which that is sent.
+-- A rule that processes something and says which reply follows, and then the rule by which that is sent.
 use Rattle.std.specs.Prelude.{◌≡◌, ℕ, List, [], ◌∷◌, ◌++◌, Option, Some, None}
 use Rattle.host_machine.specs.Note.{Note}
 use Rattle.host_machine.specs.Host.{Host}
@@ -6,18 +6,17 @@ use Rattle.host_machine.specs.Reply.{Reply, Arp, Ip}
 use Rattle.host_machine.specs.Frame.{arp_frame}
 use Rattle.host_machine.specs.Dispatch.{Outcome, Dispatches}
 
--- how a reply is sent: an ARP reply goes straight to the hardware address that asked; a packet is dispatched, and what becomes of it is
--- not asked for
+-- how a reply is sent: an ARP reply directly to the hardware address that asked; a packet is dispatched, whatever the outcome
 abbrev pub Responds : Option Reply → Host → List (List ℕ) → List Note → Host → Type 0
 Responds None H frames notes new = (frames ≡ []) × (notes ≡ []) × (new ≡ H)
 Responds (Some (Arp packet)) H frames notes new = (frames ≡ arp_frame packet ∷ []) × (notes ≡ []) × (new ≡ H)
 Responds (Some (Ip packet)) H frames notes new = (outcome : Outcome) × Dispatches packet outcome H frames notes new
 
--- what is taken by a rule, and then responded to
+-- a rule is applied, and its reply is sent
 pub record Response (Takes : Host → Option Reply → List Note → Host → Type 0) (H : Host) (frames : List (List ℕ)) (notes : List Note)
     (new : Host) : Type 0 where
   pub reply : Option Reply
-  pub taken : Host  -- after the rule, before the reply goes
+  pub taken : Host  -- after the rule, before the reply is sent
   pub notes_taking : List Note
   pub notes_responding : List Note
   pub takes : Takes H reply notes_taking taken

@@ -1,5 +1,5 @@
--- What a host must do: frames that ask for something are answered in the call that takes them, what comes for a socket is in its queue, and what
--- may go goes.
+-- What a host must do: requests are answered in the call that receives them, packets for a socket are in its queue, and what may
+-- be sent is sent.
 use Rattle.std.specs.Prelude.{◌≡◌, ◌≢◌, ℕ, ◌+◌, ◌<◌, ◌≤◌, ℤ, pos, ◌≤ℤ◌, ◌<ℤ◌, ◌⊎◌, ◌||◌, ◌&&◌, not, is_some, Bool, true, false, List, [], ◌∷◌, ◌++◌, length, drop, take, slice_get, Option, Some, None}
 use Rattle.std.specs.List.{list_all}
 use Rattle.net_base.specs.Checksum.{is_rx, ip_mtu_of}
@@ -71,15 +71,15 @@ use Rattle.host_machine.specs.Reports.{igmp_instant, mld_timeout_of}
 use Rattle.host_machine.specs.Due.{Due, SocketDue, sync_instant, report_due_at}
 use Rattle.host_machine.specs.Polling.{Polls}
 
--- Frames that come
+-- Frames received
 
--- a frame that a host at this hardware address takes, with a payload of a type behind its header
+-- a frame that a host with this hardware address accepts, with a payload of a type after its header
 pub record IsTaken (own : EthernetAddress) (type : EthernetProtocol) (frame : List ℕ) : Type 0 where
   pub whole : 14 ≤ length frame
   pub to_host : is_for own (header_in frame).dst_addr ≡ true
   pub of_type : (header_in frame).ethertype ≡ type
 
--- a call at t that took this frame, on Ethernet
+-- a call at t that received this frame, on Ethernet
 pub record Takes (own : EthernetAddress) (t : ℤ) (frame : List ℕ) (old : Host) (told : List Event) (new : Host) : Type 0 where
   pub answer : PollIngressSingleResult
   pub notes : List Note
@@ -89,7 +89,7 @@ pub record Takes (own : EthernetAddress) (t : ℤ) (frame : List ℕ) (old : Hos
 
 -- ARP
 
--- the frame is a request of this packet: one host in a network of the host's asks for an address that was given to the host
+-- the frame is a request with these values: a unicast sender in a network of the host asks for an address assigned to the host
 pub record AsksByArp (own : EthernetAddress) (addrs : List IpCidr) (frame : List ℕ) (r : ArpRepr) : Type 0 where
   pub taken : IsTaken own protocol.Arp frame
   pub is_packet : IsArp (drop 14 frame)
@@ -100,7 +100,8 @@ pub record AsksByArp (own : EthernetAddress) (addrs : List IpCidr) (frame : List
   pub sender_hardware : ethernet.is_unicast r.source_hardware_addr ≡ true
   pub near : in_same_network addrs (Ipv4 r.source_protocol_addr) ≡ true
 
--- what it has to be answered: who asked is told, at its own hardware address, that the address that it asked for is at the host's
+-- the required answer: the sender, at its own hardware address, gets the host's hardware address for the address that it asked
+-- for
 abbrev pub arp_answer : EthernetAddress → ArpRepr → ArpRepr
 arp_answer own r = record {
   operation = operation.Reply;
@@ -110,7 +111,7 @@ arp_answer own r = record {
   target_protocol_addr = r.source_protocol_addr;
 }
 
--- the call that takes such a request sends that answer and nothing else, and who asked is a known neighbour then
+-- the call that receives such a request sends that answer and nothing else, and its sender is a known neighbour afterwards
 abbrev pub ArpRequestsAreAnswered : Type 0
 ArpRequestsAreAnswered =
     (own : EthernetAddress) (t : ℤ) (frame : List ℕ) (r : ArpRepr) (old new : Host) (told : List Event) →
@@ -120,13 +121,13 @@ ArpRequestsAreAnswered =
 
 -- Echo
 
--- the way to an address is known: its next hop, itself or a router, is a neighbour at this hardware address
+-- the way to an address is known: its next hop, itself or a gateway, is a neighbour with this hardware address
 pub record IsReached (H : Host) (a : IpAddress) (h : HardwareAddress) : Type 0 where
   pub hop : IpAddress
   pub next : IsNextHop H a (Some hop)
   pub known : answer_of H.neighbors hop H.moment ≡ Found h
 
--- the frame has a whole packet of IPv4 with this header and this payload, from one host, to an address that was given to the host
+-- the frame carries a whole IPv4 packet with this header and this payload, from a unicast address, to one assigned to the host
 pub record HasPacketV4 (own : EthernetAddress) (H : Host) (frame : List ℕ) (r : Ipv4Repr) (payload : List ℕ) : Type 0 where
   pub taken : IsTaken own protocol.Ipv4 frame
   pub is_packet : IsIpv4 (is_rx H.capabilities.checksum.ipv4) (drop 14 frame)
@@ -137,7 +138,7 @@ pub record HasPacketV4 (own : EthernetAddress) (H : Host) (frame : List ℕ) (r 
   pub receiver : is_unicast_v4 H.ip_addrs r.dst_addr ≡ true
   pub given : is_assigned H.ip_addrs (Ipv4 r.dst_addr) ≡ true
 
--- an echo request with this identifier, this number and these data (RFC 792)
+-- an echo request with this identifier, sequence number and data (RFC 792)
 pub record Pings (own : EthernetAddress) (H : Host) (frame : List ℕ) (r : Ipv4Repr) (ident seq_no : ℕ) (octets : List ℕ) : Type 0 where
   pub payload : List ℕ
   pub in_packet : HasPacketV4 own H frame r payload
@@ -145,7 +146,7 @@ pub record Pings (own : EthernetAddress) (H : Host) (frame : List ℕ) (r : Ipv4
   pub is_message : IsIcmpv4 (is_rx H.capabilities.checksum.icmpv4) payload
   pub values : icmpv4_in payload ≡ (EchoRequest ident seq_no, octets)
 
--- the call that takes it sends the echo reply and nothing else, if the way back is known and the device takes packets so long
+-- the call that receives it sends the echo reply and nothing else, if the way back is known and the device takes packets so long
 abbrev pub PingsAreAnswered : Type 0
 PingsAreAnswered =
     (own : EthernetAddress) (t : ℤ) (frame : List ℕ) (r : Ipv4Repr) (ident seq_no : ℕ) (octets : List ℕ) (h : HardwareAddress) (old new : Host) (told : List Event) →
@@ -155,7 +156,7 @@ PingsAreAnswered =
 
 -- Datagrams
 
--- the frame has a datagram (RFC 768) with these ports and this payload
+-- the frame carries a datagram (RFC 768) with these ports and this payload
 pub record HasDatagram (own : EthernetAddress) (H : Host) (frame : List ℕ) (r : Ipv4Repr) (ports : UdpRepr) (octets : List ℕ) : Type 0 where
   pub payload : List ℕ
   pub in_packet : HasPacketV4 own H frame r payload
@@ -163,7 +164,8 @@ pub record HasDatagram (own : EthernetAddress) (H : Host) (frame : List ℕ) (r 
   pub is_datagram : IsDatagram H (repr.Ipv4 r) payload
   pub values : udp_in payload ≡ (ports, octets)
 
--- the socket at an index listens at the datagram's port, of any address or of its destination, and has room for it; and no UDP socket before it listens at that port
+-- the socket at an index listens at the datagram's port, of any address or of its destination, and has room for it; and no UDP
+-- socket before it listens at that port
 pub record IsAcceptedBy (H : Host) (r : Ipv4Repr) (ports : UdpRepr) (octets : List ℕ) (i : ℕ) (s : UdpSocket) : Type 0 where
   pub here : slice_get H.sockets.places i ≡ Some (Some (Udp s))
   pub port : s.endpoint.port ≡ ports.dst_port
@@ -171,21 +173,21 @@ pub record IsAcceptedBy (H : Host) (r : Ipv4Repr) (ports : UdpRepr) (octets : Li
   pub first : (k : ℕ) (other : UdpSocket) → k < i → slice_get H.sockets.places k ≡ Some (Some (Udp other)) → other.endpoint.port ≢ ports.dst_port
   pub room : is_room s.rx (length octets) ≡ true
 
--- then it stands behind what the socket's queue had, with its sender; and no other UDP socket changes
+-- then the datagram is appended to the socket's queue, with its sender; and no other UDP socket changes
 pub record IsQueued (r : Ipv4Repr) (ports : UdpRepr) (octets : List ℕ) (i : ℕ) (s : UdpSocket) (old new : Host) : Type 0 where
   pub got : slice_get new.sockets.places i
       ≡ Some (Some (Udp (record s { rx = record s.rx { packets = s.rx.packets ++ (record { addr = Ipv4 r.src_addr; port = ports.src_port }, octets) ∷ [] } })))
   pub others : (j : ℕ) (other : UdpSocket) → j ≢ i → slice_get old.sockets.places j ≡ Some (Some (Udp other)) → slice_get new.sockets.places j ≡ Some (Some (Udp other))
 
--- the call that takes it does that, and sends nothing
+-- the call that receives it does that, and sends nothing
 abbrev pub DatagramsAreQueued : Type 0
 DatagramsAreQueued =
     (own : EthernetAddress) (t : ℤ) (frame : List ℕ) (r : Ipv4Repr) (ports : UdpRepr) (octets : List ℕ) (i : ℕ) (s : UdpSocket) (old new : Host) (told : List Event) →
     Takes own t frame old told new → HasDatagram own old frame r ports octets → IsAcceptedBy old r ports octets i s →
     IsQueued r ports octets i s old new × (sent_frames told ≡ [])
 
--- where no socket listens at its port, and no raw socket takes the packet, the call sends the error that says so and nothing else, which quotes the
--- packet's header and the first octets of its payload (RFC 1122 3.2.2.1, 4.1.3.1)
+-- if no socket listens at its port, and no raw socket accepts the packet, the call sends the port unreachable error and nothing
+-- else. The error quotes the packet's header and the first octets of its payload (RFC 1122 3.2.2.1, 4.1.3.1)
 abbrev pub ClosedPortsAreAnswered : Type 0
 ClosedPortsAreAnswered =
     (own : EthernetAddress) (t : ℤ) (frame : List ℕ) (r : Ipv4Repr) (ports : UdpRepr) (octets : List ℕ) (h : HardwareAddress) (old new : Host) (told : List Event) →
@@ -199,19 +201,20 @@ ClosedPortsAreAnswered =
       payload = Icmpv4 (DstUnreachable PortUnreachable r) (take 528 d.payload);
     })) ∷ []
 
--- Datagrams that go
+-- Datagrams sent
 
--- each leave to send that was asked for was given
+-- each transmit token that was asked for was granted
 abbrev pub all_granted : List Event → Bool
 all_granted told = list_all (λ given. given) (grants told)
 
--- the socket at an index may be asked: it doesn't wait, its wait is over, or the way to whom it waits for is known by now
+-- the socket at an index may be asked: it isn't waiting, its wait has timed out, or the way to the destination that it waits for
+-- is known
 pub data MayBeAsked (H : Host) (i : ℕ) : Type 0 where
   NoWait : wait_at H.sockets i ≡ None → MayBeAsked H i
   Over : (a : IpAddress) (end : ℤ) → wait_at H.sockets i ≡ Some (a, end) → end ≤ℤ H.moment → MayBeAsked H i
   IsKnown : (a : IpAddress) (end : ℤ) (h : HardwareAddress) → wait_at H.sockets i ≡ Some (a, end) → is_one a ≡ true → IsReached H a h → MayBeAsked H i
 
--- a packet carries a datagram between two ends of one family
+-- a packet carries a datagram between two endpoints of one family
 pub data IsBetween (source remote : IpEndpoint) (hop_limit : ℕ) (octets : List ℕ) (p : Packet) : Type 0 where
   OverIpv4 : (a b : Ipv4Address) → source.addr ≡ Ipv4 a → remote.addr ≡ Ipv4 b →
       p ≡ packet.Ipv4 (record { src_addr = a; dst_addr = b; hop_limit = hop_limit; payload = packet.Udp (record { src_port = source.port; dst_port = remote.port }) octets }) →
@@ -220,7 +223,7 @@ pub data IsBetween (source remote : IpEndpoint) (hop_limit : ℕ) (octets : List
       p ≡ packet.Ipv6 (record { src_addr = a; dst_addr = b; hop_limit = hop_limit; payload = packet.Udp (record { src_port = source.port; dst_port = remote.port }) octets }) →
       IsBetween source remote hop_limit octets p
 
--- the first datagram that the UDP socket at an index has to send, with a source for it, as a packet; and those behind it
+-- the first datagram that the UDP socket at an index has to send, as a packet with a source address; and those after it
 pub record HasFirst (H : Host) (i : ℕ) (s : UdpSocket) (p : Packet) (rest : List (IpEndpoint × List ℕ)) : Type 0 where
   pub here : slice_get H.sockets.places i ≡ Some (Some (Udp s))
   pub remote : IpEndpoint
@@ -230,15 +233,15 @@ pub record HasFirst (H : Host) (i : ℕ) (s : UdpSocket) (p : Packet) (rest : Li
   pub source_is : source_of (source_for H.ip_addrs) s.endpoint.addr remote.addr ≡ Some source
   pub packet_is : IsBetween (record { addr = source; port = s.endpoint.port }) remote s.hop_limit octets p
 
--- it went: its frame is among those that were sent, and those behind it are left in the queue
+-- it was sent: its frame is among those that were sent, and those after it are still in the queue
 pub record Went (H : Host) (i : ℕ) (s : UdpSocket) (p : Packet) (h : HardwareAddress) (rest : List (IpEndpoint × List ℕ)) (told : List Event) (new : Host) : Type 0 where
   pub front : List (List ℕ)
   pub back : List (List ℕ)
   pub frames : sent_frames told ≡ front ++ (ip_frame H h p ∷ back)
   pub left : slice_get new.sockets.places i ≡ Some (Some (Udp (record s { tx = record s.tx { packets = rest } })))
 
--- a call that sends and is given each leave sends the first datagram of each UDP socket that may be asked, if it is for one host, the way to it is known
--- and the device takes packets so long
+-- a call that sends, and is granted every transmit token, sends the first datagram of each UDP socket that may be asked. Its
+-- destination must be unicast, the way to it known, and the device must take packets so long
 abbrev pub FirstDatagramsGo : Type 0
 FirstDatagramsGo =
     (own : EthernetAddress) (t : ℤ) (answer : PollResult) (old new : Host) (told : List Event) (notes : List Note) (i : ℕ) (s : UdpSocket) (p : Packet) (h : HardwareAddress)
@@ -249,20 +252,21 @@ FirstDatagramsGo =
 
 -- Discovery
 
--- the next hop to an address isn't known, no silence stands, and there is an own address to ask from
+-- the next hop to an address is unknown, discovery is not silent, and there is an address of the host to ask from
 pub record IsToBeAskedFor (H : Host) (a hop : IpAddress) : Type 0 where
   pub next : IsNextHop H a (Some hop)
   pub unknown : answer_of H.neighbors hop H.moment ≡ NotFound
   pub asker : is_some (source_for H.ip_addrs hop) ≡ true
 
--- a request for a hardware address went at t, and is noted; the silence of a second stands behind it
+-- a request for a hardware address was sent at t, and is noted; after it the silence lasts a second
 pub record WasAsked (t : ℤ) (notes : List Note) (new : Host) : Type 0 where
   pub front : List ℤ
   pub back : List ℤ
   pub noted : asks notes ≡ front ++ (t ∷ back)
   pub silence : new.neighbors.silent_until ≡ silence_from t
 
--- as long as a datagram waits for its next hop, each call that sends behind the silence, and is given each leave, asks for some next hop
+-- as long as a datagram waits for its next hop, each call that sends after the silence, and is granted every transmit token,
+-- requests the hardware address of some next hop
 abbrev pub RequestsGo : Type 0
 RequestsGo =
     (own : EthernetAddress) (t : ℤ) (answer : PollResult) (old new : Host) (told : List Event) (notes : List Note) (i : ℕ) (s : UdpSocket) (p : Packet) (hop : IpAddress)
@@ -273,14 +277,14 @@ RequestsGo =
 
 -- IPv6
 
--- the frame has a packet of IPv6 with this header and this payload, without options, from one host, to an address of one host that was given to the host
+-- the frame carries an IPv6 packet with this header and this payload, from a unicast address
 pub record HasPacketV6 (own : EthernetAddress) (H : Host) (frame : List ℕ) (r : Ipv6Repr) (payload : List ℕ) : Type 0 where
   pub taken : IsTaken own protocol.Ipv6 frame
   pub is_packet : IsIpv6 (drop 14 frame)
   pub values : ipv6_in (drop 14 frame) ≡ (r, payload)
   pub sender : ipv6.is_unicast r.src_addr ≡ true
 
--- an echo request with this identifier, this number and these data (RFC 4443 4.1), to an address of one host that was given to the host
+-- an echo request with this identifier, sequence number and data (RFC 4443 4.1), to a unicast address assigned to the host
 pub record PingsV6 (own : EthernetAddress) (H : Host) (frame : List ℕ) (r : Ipv6Repr) (ident seq_no : ℕ) (octets : List ℕ) : Type 0 where
   pub payload : List ℕ
   pub in_packet : HasPacketV6 own H frame r payload
@@ -297,8 +301,8 @@ PingsV6AreAnswered =
     48 + length octets ≤ ip_mtu_of old.capabilities →
     sent_frames told ≡ ip_frame old h (packet.Ipv6 (record { src_addr = r.dst_addr; dst_addr = r.src_addr; hop_limit = 64; payload = Icmpv6 (icmpv6.EchoReply ident seq_no) octets })) ∷ []
 
--- a neighbour in a network of the host's asks for an own address by a solicitation, to the solicited-node group of an own address or to an own address, with its
--- own hardware address (RFC 4861 7.2.2)
+-- a neighbour in a network of the host solicits an address assigned to it, and gives its own hardware address. The destination is
+-- a solicited-node group of the host or an address assigned to it other than ::1 (RFC 4861 7.2.2)
 pub record Solicits (own : EthernetAddress) (H : Host) (frame : List ℕ) (r : Ipv6Repr) (target : Ipv6Address) (h : EthernetAddress) : Type 0 where
   pub payload : List ℕ
   pub in_packet : HasPacketV6 own H frame r payload
@@ -312,7 +316,7 @@ pub record Solicits (own : EthernetAddress) (H : Host) (frame : List ℕ) (r : I
   pub for_host : (has_solicited_node H.ip_addrs r.dst_addr || (is_assigned H.ip_addrs (Ipv6 r.dst_addr) && not (ipv6.is_loopback r.dst_addr))) ≡ true
   pub target_is_own : is_assigned H.ip_addrs (Ipv6 target) ≡ true
 
--- it is answered by an advertisement, and known from then on
+-- it is answered by an advertisement, and its sender is known from then on
 abbrev pub SolicitationsAreAnswered : Type 0
 SolicitationsAreAnswered =
     (own : EthernetAddress) (t : ℤ) (frame : List ℕ) (r : Ipv6Repr) (target : Ipv6Address) (h : EthernetAddress) (old new : Host) (told : List Event) →
@@ -327,19 +331,19 @@ SolicitationsAreAnswered =
 
 -- Nothing stays due
 
--- behind a moment, if there is an instant
+-- after a moment, if there is an instant
 abbrev pub IsLater : ℤ → Option ℤ → Type 0
 IsLater t None = Unit {0}
 IsLater t (Some x) = t <ℤ x
 
--- how many packets a socket has to send
+-- the number of packets that a socket has to send
 abbrev pub waiting_in : Socket → ℕ
 waiting_in (Raw s) = length s.tx.packets
 waiting_in (Icmp s) = length s.tx.packets
 waiting_in (Udp s) = length s.tx.packets
 waiting_in (Tcp s) = length s.tx.packets
 
--- the socket that stands at an index has one packet less to send than the one that stood there before
+-- the socket at an index has one packet less to send than the one that was there before
 pub record HasOneLess (i : ℕ) (old new : Host) : Type 0 where
   pub before : Socket
   pub after : Socket
@@ -347,14 +351,15 @@ pub record HasOneLess (i : ℕ) (old new : Host) : Type 0 where
   pub is : slice_get new.sockets.places i ≡ Some (Some after)
   pub less : waiting_in after + 1 ≡ waiting_in before
 
--- behind a report of IGMP the next group is to be reported, or nothing more
+-- after an IGMP report the next group is to be reported, or nothing more
 pub data IsFurther : (old new : IgmpReportState) → Type 0 where
   NextGroup : (version : IgmpVersion) (then_at next_at : ℤ) (interval place : ℕ) →
       IsFurther (igmp.ToGeneralQuery version then_at interval place) (igmp.ToGeneralQuery version next_at interval (place + 1))
   NoMore : {old : IgmpReportState} → IsFurther old igmp.Inactive
 
--- what was due at a host's moment is done behind a call that sends: nothing to be told of groups, no solicitation and no report of MLD is due any more; a report of IGMP
--- that was due went, and if another one is due that is the next; and a socket that is due still has one packet less to send
+-- what was due at a host's moment is done after a call that sends: no report of a join or a leave, no solicitation and no MLD
+-- report is due any more; an IGMP report that was due was sent, and if another one is due that is the next; and a socket that is
+-- still due has one packet less to send
 pub record IsDone (H new : Host) : Type 0 where
   pub joins : report_due_at Joining new ≡ None
   pub leaves_reported : report_due_at Leaving new ≡ None
@@ -363,20 +368,21 @@ pub record IsDone (H new : Host) : Type 0 where
   pub igmp : (x : ℤ) → igmp_instant H ≡ Some x → x ≤ℤ H.moment → IsFurther H.igmp_report new.igmp_report
   pub sockets : (i : ℕ) (x : ℤ) → SocketDue new i x → x ≤ℤ H.moment → HasOneLess i H new
 
--- and so it is, if each leave is given; each place of the host's sockets has a wait, as it has in every set
+-- so it is, if every transmit token is granted; each index of the host's socket set has a wait, as in every set
 abbrev pub DueIsDone : Type 0
 DueIsDone =
     (t : ℤ) (answer : PollResult) (old new : Host) (told : List Event) (notes : List Note) →
     Egress t answer old told notes new → all_granted told ≡ true → length old.sockets.waits ≡ length old.sockets.places → IsDone (at old t) new
 
--- the first piece that was left is the first frame that goes
+-- the first pending fragment is the first frame that is sent
 
 abbrev pub PiecesGo : Type 0
 PiecesGo =
     (t : ℤ) (answer : PollResult) (old new : Host) (told : List Event) (notes : List Note) (piece : Piece) (rest : List Piece) →
     Egress t answer old told notes new → all_granted told ≡ true → old.left ≡ piece ∷ rest → (others : List (List ℕ)) × (sent_frames told ≡ piece_frame old piece ∷ others)
 
--- a poll to which no frame is handed over leaves addresses and routes in line with what was learnt of routers: nothing of that is due any more
+-- after a poll without frames received, addresses and routes are in sync with what was learnt from routers: no sync is due any
+-- more
 abbrev pub PollsSyncSlaac : Type 0
 PollsSyncSlaac =
     (t : ℤ) (budget : ℕ) (answer : PollResult) (old new : Host) (told : List Event) (notes : List Note) →
@@ -398,23 +404,24 @@ PollsEndInCalls =
     (t : ℤ) (budget : ℕ) (answer : PollResult) (old new : Host) (told : List Event) (notes : List Note) →
     Polls t budget answer old told notes new → 1 ≤ budget → EndsIn t told new
 
--- what may still be due at a moment behind a call that sends: what has to be brought into line, which a poll does, a piece that is left, the next report of IGMP, and
--- a socket that has one packet less to send
+-- what may still be due at a moment after a call that sends: a sync of addresses and routes, which a poll does; a pending
+-- fragment; the next IGMP report; and a socket that has one packet less to send
 pub data IsStillDue (H new : Host) : Type 0 where
   StillLine : sync_instant new ≡ Some (pos 0) → IsStillDue H new
   StillPiece : (piece : Piece) (rest : List Piece) → new.left ≡ piece ∷ rest → IsStillDue H new
   StillReport : (x : ℤ) → igmp_instant new ≡ Some x → IsStillDue H new
   StillSocket : (i : ℕ) → HasOneLess i H new → IsStillDue H new
 
--- so whatever `poll_at` names behind it, at a moment that has come, is one of these; and nothing is where none of them is
+-- so whatever `poll_at` names after it, at a moment that has passed, is one of these; and if there is none of them, nothing is
+-- due
 abbrev pub LittleStaysDue : Type 0
 LittleStaysDue =
     (t : ℤ) (answer : PollResult) (old new : Host) (told : List Event) (notes : List Note) (x : ℤ) →
     Egress t answer old told notes new → all_granted told ≡ true → length old.sockets.waits ≡ length old.sockets.places → Due (at new t) x → x ≤ℤ t → IsStillDue (at old t) (at new t)
 
--- Frames as others send them
+-- Frames from other hosts
 
--- the frame of a request as it goes to a host, or to all, whatever pads it
+-- the frame of a request to a host, or broadcast, whatever its padding
 abbrev pub request_frame : EthernetAddress → EthernetAddress → ArpRepr → List ℕ → List ℕ
 request_frame source destination r padding = header_text (record { src_addr = source; dst_addr = destination; ethertype = protocol.Arp }) ++ (text r ++ padding)
 
@@ -426,8 +433,8 @@ RequestFramesAreRead =
     is_assigned addrs (Ipv4 r.target_protocol_addr) ≡ true → ipv4.is_unicast r.source_protocol_addr ≡ true → ethernet.is_unicast r.source_hardware_addr ≡ true →
     in_same_network addrs (Ipv4 r.source_protocol_addr) ≡ true → AsksByArp own addrs (request_frame source destination r padding) r
 
--- so of a poll to which no frame is handed over, and which is given each leave: where something is due behind it, one of these is there, where packets are counted
--- from some host
+-- after a poll with a budget, without frames received and with every transmit token granted: if something is still due, it is one
+-- of these, where packets are counted from some host
 abbrev pub PollsLeaveLittle : Type 0
 PollsLeaveLittle =
     (t : ℤ) (budget : ℕ) (answer : PollResult) (old new : Host) (told : List Event) (notes : List Note) (x : ℤ) →

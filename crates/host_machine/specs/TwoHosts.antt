@@ -1,4 +1,5 @@
--- What one host rebuilds of what another cut, over a link that loses, repeats and reorders frames, and changes none.
+-- What one host reassembles of what another fragmented, over a link that loses, repeats and reorders frames, but never changes
+-- one.
 use Rattle.std.specs.Prelude.{◌≡◌, ℕ, ◌*◌, ◌<◌, ◌≤◌, Bool, true, false, IsTrue, List, [], ◌∷◌, length, None}
 use Rattle.std.specs.List.{AllByRecursion, Contains}
 use Rattle.std.specs.FinMap as map
@@ -22,7 +23,7 @@ use Rattle.host_machine.specs.Real.{IsReal, GivesSix}
 use Rattle.host_machine.specs.Run.{Transition, Run, events_in, notes_in}
 use Rattle.host_machine.specs.Arrivals.{rebuilt, slot_notes_in}
 
--- the packets that were cut, in order
+-- the packets that were fragmented, in order
 abbrev pub cuts : List CutNote → List Datagram
 cuts [] = []
 cuts (Cut d ∷ notes) = d ∷ cuts notes
@@ -31,16 +32,16 @@ cuts (PieceSent p ∷ notes) = cuts notes
 abbrev pub cuts_in : List Transition → List Datagram
 cuts_in transitions = cuts (cut_notes (notes_in transitions))
 
--- what its fragments share
+-- the key that its fragments share
 abbrev pub key_of_cut : Datagram → FragKey
 key_of_cut d = key_of d.header d.identification
 
--- no two have one key
+-- no two have the same key
 abbrev pub HaveOwnKeys : List Datagram → Type 0
 HaveOwnKeys [] = Unit {0}
 HaveOwnKeys (d ∷ ds) = AllByRecursion (λ e. same_key (key_of_cut d) (key_of_cut e) ≡ false) ds × HaveOwnKeys ds
 
--- what one end of a link and the other were when it began: both on one medium, the one with no piece left that was cut before
+-- the two ends of a link when it began: both on one medium, and no fragment of an earlier packet pending at the first
 pub record MayExchange (a b : Host) : Type 0 where
   pub one_medium : b.capabilities.medium ≡ a.capabilities.medium
   pub a_real : IsReal a
@@ -48,31 +49,32 @@ pub record MayExchange (a b : Host) : Type 0 where
   pub mtu : 576 ≤ ip_mtu_of a.capabilities
   pub left : a.left ≡ []
 
--- each frame that is handed over in the one run was sent in the other
+-- each frame that is received in one run was sent in the other
 abbrev pub WereSent : List Transition → List Transition → Type 0
 WereSent ps qs = AllByRecursion (Contains (sent_frames (events_in ps))) (handed_frames (events_in qs))
 
--- whatever is rebuilt in a run under the key of one of these packets is that packet's payload
+-- whatever is reassembled in a run under the key of one of these packets is that packet's payload
 abbrev pub RebuildsThese : List Datagram → List Transition → Type 0
 RebuildsThese ds qs = AllByRecursion (λ d. AllByRecursion (λ octets. octets ≡ d.payload) (rebuilt (key_of_cut d) (slot_notes_in qs))) ds
 
--- Where one host takes nothing but frames that another sent, whatever it rebuilds under the key of a packet that the other cut is that
--- packet's payload. The other cuts no two packets under one key, and the one has no slot with such a key at first.
+-- If a host receives only frames that another host sent, whatever it reassembles under the key of a packet that the other host
+-- fragmented is that packet's payload. The other host fragments no two packets under one key, and the receiving host has no slot
+-- with such a key at first.
 abbrev pub RebuildsWhatWasCut : Type 0
 RebuildsWhatWasCut =
     (a a' b b' : Host) (ps qs : List Transition) → Run a ps a' → Run b qs b' → MayExchange a b →
     AllByRecursion (λ p. GivesSix p.command) ps → AllByRecursion (λ q. GivesSix q.command) qs → WereSent ps qs →
     HaveOwnKeys (cuts_in ps) → AllByRecursion (λ d. map.get b.slots (key_of_cut d) ≡ None) (cuts_in ps) → RebuildsThese (cuts_in ps) qs
 
--- whether a frame to a hardware address is for a host with another: where there are no such addresses, each frame is
+-- whether a frame to a hardware address is for a host with another one: on a medium without hardware addresses each frame is
 abbrev pub reaches : HardwareAddress → HardwareAddress → Bool
 reaches (hardware.Ethernet destination) (hardware.Ethernet own) = is_for own destination
 reaches (hardware.Ethernet destination) hardware.Ip = false
 reaches hardware.Ip (hardware.Ethernet own) = false
 reaches hardware.Ip hardware.Ip = true
 
--- What a host sends of a packet that it cut into two pieces or more comes to another host on its medium as the pieces of its payload, if
--- it is for that host and comes from one host, and if its checksum is there where the other tests it.
+-- The fragments of a packet that a host fragmented into two or more are read by another host on its medium as the fragments of
+-- its payload. They must be for that host, with a source that is valid there, and have a checksum if the other host verifies it.
 abbrev pub PiecesAreRead : Type 0
 PiecesAreRead =
     (m : Medium) (a b : Host) (d : Datagram) (y : ℕ) (f : Fragment) → IsOf m a.hardware_addr → IsOf m b.hardware_addr → IsOf m d.destination →

@@ -1,5 +1,4 @@
--- Errors for a port at which nobody listens, by the family of the packet (RFC 1122 3.2.2.1, RFC 4443 3.1), unless a raw socket took the
--- packet.
+-- Port unreachable errors, by the family of the packet (RFC 1122 3.2.2.1, RFC 4443 3.1), unless a raw socket accepted the packet.
 use Rattle.std.specs.Prelude.{ℕ, Bool, List, Option}
 use Rattle.ip_address.specs.declared.cidr.IpCidr.{IpCidr}
 use Rattle.ip_wire.specs.declared.ip_packet.IpRepr.{IpRepr}

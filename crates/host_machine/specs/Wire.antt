@@ -1,4 +1,4 @@
--- Which frames of a run are pieces of packets that were cut.
+-- Which frames of a run are fragments of packets.
 use Rattle.std.specs.Prelude.{◌≡◌, ℕ, List, [], ◌∷◌}
 use Rattle.std.specs.List.{AllByRecursion}
 use Rattle.net_base.specs.declared.phy.Medium.{Medium}
@@ -14,12 +14,12 @@ use Rattle.ip_address.specs.Hardware.{IsOf}
 use Rattle.host_machine.specs.Real.{IsReal, GivesSix}
 use Rattle.host_machine.specs.Run.{Transition, Run, events_in, notes_in}
 
--- no host on the medium reads a fragment in a frame
+-- no host on the medium reads a frame as a fragment
 abbrev pub BringsNone : Medium → List ℕ → Type 0
 BringsNone m frame = (H : Host) (key : FragKey) (f : Fragment) → IsOf m H.hardware_addr → Brings H frame key f → ⊥
 
--- frames that were sent on a medium, and what was noted of packets that are cut: each piece that is noted is one frame, in order, from an
--- address of the medium; each packet that is cut goes to one; and no host on the medium reads a fragment in any other frame
+-- frames sent on a medium, and the notes about fragmented packets: each fragment noted is one frame, in order, from an address of
+-- the medium; each fragmented packet is for one; and no host on the medium reads any other frame as a fragment
 pub data Shows (m : Medium) : List (List ℕ) → List CutNote → Type 0 where
   Nothing : Shows m [] []
   OnePiece : {frames : List (List ℕ)} {notes : List CutNote} (H : Host) (p : Piece) → IsOf m H.hardware_addr → Shows m frames notes →
@@ -27,13 +27,14 @@ pub data Shows (m : Medium) : List (List ℕ) → List CutNote → Type 0 where
   OneCut : {frames : List (List ℕ)} {notes : List CutNote} (d : Datagram) → IsOf m d.destination → Shows m frames notes → Shows m frames (Cut d ∷ notes)
   OtherFrame : {frames : List (List ℕ)} {notes : List CutNote} (frame : List ℕ) → BringsNone m frame → Shows m frames notes → Shows m (frame ∷ frames) notes
 
--- the frames of a run that a host on the same medium reads as fragments are the pieces that are noted, in order
+-- the frames of a run that a host on the same medium reads as fragments are the noted fragments, in order
 abbrev pub FragmentsArePieces : Type 0
 FragmentsArePieces =
     (first last : Host) (transitions : List Transition) → Run first transitions last → IsReal first → AllByRecursion (λ p. GivesSix p.command) transitions →
     Shows first.capabilities.medium (sent_frames (events_in transitions)) (cut_notes (notes_in transitions))
 
--- what a device can do stays, and so does that hardware addresses are of its medium, so that a run that goes on meets the same premises
+-- the device's capabilities stay the same, and hardware addresses stay those of its medium, so that a continued run meets the
+-- same premises
 abbrev pub StaysReal : Type 0
 StaysReal =
     (first last : Host) (transitions : List Transition) → Run first transitions last → IsReal first → AllByRecursion (λ p. GivesSix p.command) transitions →

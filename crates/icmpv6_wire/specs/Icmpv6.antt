@@ -1,4 +1,5 @@
--- ICMP for IPv6 (RFC 4443): echo messages, errors with their quotations, and the messages of neighbours, routers and listeners.
+-- ICMPv6 (RFC 4443): echo messages, errors with their quotations, and the messages of neighbour discovery, router discovery and
+-- MLD.
 use Rattle.std.specs.Prelude.{◌≡◌, ℕ, ◌+◌, ◌<◌, ◌≤◌, ◌^◌, ◌==◌, Bool, IsTrue, List, [], ◌∷◌, ◌++◌, length, drop, slice_index, if◌then◌else◌}
 use Rattle.std.specs.Borrow.{Bor}
 use Rattle.std.specs.Int.{w16, w32, to_be_bytes}
@@ -28,7 +29,7 @@ unreachable_code (OtherReason n) = n
 abbrev pub unreachable_of : ℕ → Icmpv6DstUnreachable
 unreachable_of n = if n == 4 then PortUnreachable else OtherReason n
 
--- reasons are the same if their codes are
+-- reasons are equal if their codes are
 abbrev pub is_same_unreachable : Icmpv6DstUnreachable → Icmpv6DstUnreachable → Bool
 is_same_unreachable p q = unreachable_code p == unreachable_code q
 
@@ -41,7 +42,7 @@ problem_code (OtherProblem n) = n
 abbrev pub problem_of : ℕ → Icmpv6ParamProblem
 problem_of n = if n == 1 then UnrecognizedNxtHdr else if n == 2 then UnrecognizedOption else OtherProblem n
 
--- problems are the same if their codes are
+-- problems are equal if their codes are
 abbrev pub is_same_problem : Icmpv6ParamProblem → Icmpv6ParamProblem → Bool
 is_same_problem p q = problem_code p == problem_code q
 
@@ -51,7 +52,7 @@ type_in octets = slice_index octets 0
 abbrev pub code_in : List ℕ → ℕ
 code_in octets = slice_index octets 1
 
--- an error (types 1 to 4) quotes an IPv6 header behind its eight octets
+-- an error (types 1 to 4) quotes an IPv6 header after its eight octets
 pub record IsError (octets : List ℕ) : Type 0 where
   pub least : 1 ≤ type_in octets
   pub most : type_in octets ≤ 4
@@ -74,7 +75,7 @@ pseudo_header src dst len = pseudo src dst 58 len
 abbrev pub IsSound : Bool → IpAddress → IpAddress → List ℕ → Type 0
 IsSound checked src dst octets = (8 ≤ length octets) × (IsTrue checked → folded_sum (word_sum (pseudo_header src dst (length octets) ++ octets)) ≡ 65535)
 
--- they are one
+-- the octets are a message
 pub record IsIcmpv6 (checked : Bool) (src dst : IpAddress) (octets : List ℕ) : Type 0 where
   pub whole_header : 8 ≤ length octets
   pub sum : IsTrue checked → folded_sum (word_sum (pseudo_header src dst (length octets) ++ octets)) ≡ 65535
@@ -87,14 +88,14 @@ pub record IsEchoRequest (src dst : IpAddress) (octets : List ℕ) : Type 0 wher
   pub code : code_in octets ≡ 0
   pub sum : folded_sum (word_sum (pseudo_header src dst (length octets) ++ octets)) ≡ 65535
 
--- its values, and the reply to it, which gives its identifier and its number back, and its data
+-- its values, and the reply to it, which has its identifier, its sequence number and its data
 abbrev pub echo_request_in : List ℕ → Icmpv6Repr
 echo_request_in octets = EchoRequest (u16_at octets 4) (u16_at octets 6)
 
 abbrev pub echo_reply_to : List ℕ → Icmpv6Repr
 echo_reply_to octets = EchoReply (u16_at octets 4) (u16_at octets 6)
 
--- an error's values, and what is quoted behind the quoted header
+-- an error's values, and what is quoted after the quoted header
 abbrev pub error_of : List ℕ → Icmpv6Repr
 error_of octets =
     if type_in octets == 1 then DstUnreachable (unreachable_of (code_in octets)) (quoted_in (drop 8 octets)).0 else
@@ -105,7 +106,7 @@ error_of octets =
 abbrev pub error_in : List ℕ → Icmpv6Repr × List ℕ
 error_in octets = (error_of octets, (quoted_in (drop 8 octets)).1)
 
--- a message's values and its data; a message of neighbours or routers has none
+-- a message's values and its data; a message of neighbour or router discovery has no data
 abbrev pub icmpv6_in : List ℕ → Icmpv6Repr × List ℕ
 icmpv6_in octets =
     if type_in octets == 128 then (EchoRequest (u16_at octets 4) (u16_at octets 6), drop 8 octets) else
@@ -118,11 +119,11 @@ icmpv6_in octets =
     if type_in octets == 143 then (Mld (mld_in octets).0, (mld_in octets).1) else
     error_in octets
 
--- values and data, without where that lies in memory
+-- values and data, apart from where that is in memory
 abbrev pub parts : Icmpv6Repr × Bor (List ℕ) → Icmpv6Repr × List ℕ
 parts p = (p.0, p.1.now)
 
--- how long a message is without its data
+-- the length of a message without its data
 abbrev pub header_len : Icmpv6Repr → ℕ
 header_len (EchoRequest ident seq_no) = 8
 header_len (EchoReply ident seq_no) = 8
@@ -157,7 +158,7 @@ message_code (Ndisc message) = 0
 message_code (Router message) = 0
 message_code (Mld message) = 0
 
--- the four octets behind the checksum
+-- the four octets after the checksum
 abbrev pub rest_of : Icmpv6Repr → List ℕ
 rest_of (EchoRequest ident seq_no) = to_be_bytes w16 ident ++ to_be_bytes w16 seq_no
 rest_of (EchoReply ident seq_no) = to_be_bytes w16 ident ++ to_be_bytes w16 seq_no
@@ -173,7 +174,7 @@ rest_of (Mld message) = mld.rest_of message
 unfoldable pub head_with : ℕ → Icmpv6Repr → List ℕ
 head_with sum r = type_of r ∷ message_code r ∷ (to_be_bytes w16 sum ++ rest_of r)
 
--- what stands between them and the data: a quoted header, emitted anew from its values, or what the message has of addresses and options
+-- the octets between them and the data: a quoted header, written anew from its values, or the message's addresses and options
 abbrev pub body : Icmpv6Repr → List ℕ
 body (EchoRequest ident seq_no) = []
 body (EchoReply ident seq_no) = []
@@ -185,7 +186,7 @@ body (Ndisc message) = address_text (target_of message) ++ option_text message
 body (Router message) = router.body message
 body (Mld message) = mld.body message
 
--- its checksum, or 0 where that is off: that of pseudo-header and message, with 0 in its place
+-- its checksum, or 0 if that is off: that of pseudo-header and message, with 0 in its place
 abbrev pub sum_of : Bool → IpAddress → IpAddress → Icmpv6Repr → List ℕ → ℕ
 sum_of summed src dst r octets =
     if summed then checksum_of (pseudo_header src dst (header_len r + length octets) ++ (head_with 0 r ++ body r ++ octets)) else 0
@@ -194,7 +195,7 @@ sum_of summed src dst r octets =
 abbrev pub text : Bool → IpAddress → IpAddress → Icmpv6Repr → List ℕ → List ℕ
 text summed src dst r octets = head_with (sum_of summed src dst r octets) r ++ body r ++ octets
 
--- some octets are a message of these values and this data
+-- values and data that a message can have
 abbrev pub IsMessage : Icmpv6Repr → List ℕ → Type 0
 IsMessage (EchoRequest ident seq_no) octets = (ident < 2 ^ 16) × (seq_no < 2 ^ 16)
 IsMessage (EchoReply ident seq_no) octets = (ident < 2 ^ 16) × (seq_no < 2 ^ 16)
@@ -206,7 +207,7 @@ IsMessage (Ndisc message) octets = IsNeighbor message × (octets ≡ [])
 IsMessage (Router message) octets = router.IsMessage message × (octets ≡ [])
 IsMessage (Mld message) octets = mld.IsMessage message
 
--- a text is read as its values and its data, if its checksum is there or isn't asked for
+-- a text is parsed back as its values and its data, if its checksum is there or isn't verified
 abbrev pub ReadAgain : Type 0
 ReadAgain = (checked summed : Bool) (src dst : IpAddress) (r : Icmpv6Repr) (octets : List ℕ) → IsMessage r octets → (IsTrue checked → IsTrue summed)
     → IsIcmpv6 checked src dst (text summed src dst r octets) × (icmpv6_in (text summed src dst r octets) ≡ (r, octets))

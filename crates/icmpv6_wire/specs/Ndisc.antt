@@ -16,14 +16,14 @@ flags_of octet = bit_and octet 0xe0
 abbrev pub flags_in : List ℕ → NdiscNeighborFlags
 flags_in octets = record { 0 = flags_of (slice_index octets 4) }
 
--- the octets are a neighbour message: a solicitation (type 135) or an advertisement (136) of code 0
+-- the octets are a neighbour message: a solicitation (type 135) or an advertisement (136) with code 0
 pub record IsNdisc (octets : List ℕ) : Type 0 where
   pub whole : 24 ≤ length octets
   pub type : (slice_index octets 0 ≡ 135) ⊎ (slice_index octets 0 ≡ 136)
   pub code : slice_index octets 1 ≡ 0
   pub options : AreOptions (drop 24 octets)
 
--- its values: a solicitation's link-layer address is that of the source (type 1), an advertisement's that of the target (type 2)
+-- its values: a solicitation carries the source's link-layer address (type 1), an advertisement the target's (type 2)
 abbrev pub ndisc_in : List ℕ → NdiscRepr
 ndisc_in octets =
     if slice_index octets 0 == 135 then NeighborSolicit (address_at octets 8) (lladdr_in 1 (drop 24 octets)) else
@@ -37,12 +37,12 @@ abbrev pub target_of : NdiscRepr → Ipv6Address
 target_of (NeighborSolicit target lladdr) = target
 target_of (NeighborAdvert flags target lladdr) = target
 
--- the octet behind the checksum: the flags of an advertisement
+-- the octet after the checksum: the flags of an advertisement
 abbrev pub flag_octet : NdiscRepr → ℕ
 flag_octet (NeighborSolicit target lladdr) = 0
 flag_octet (NeighborAdvert flags target lladdr) = flags_of flags.0
 
--- the option with the link-layer address, where there is one
+-- the option with the link-layer address, if there is one
 abbrev pub lladdr_option : ℕ → Option EthernetAddress → List ℕ
 lladdr_option type None = []
 lladdr_option type (Some address) = lladdr_text type address
@@ -70,16 +70,16 @@ abbrev pub IsLinkLayerAddr : Option EthernetAddress → Type 0
 IsLinkLayerAddr None = ⊤
 IsLinkLayerAddr (Some address) = length address.0 ≡ 6
 
--- some octets are a message of these values
+-- values that a message can have
 abbrev pub IsNeighbor : NdiscRepr → Type 0
 IsNeighbor (NeighborSolicit target lladdr) = (target.bits < 2 ^ 128) × IsLinkLayerAddr lladdr
 IsNeighbor (NeighborAdvert flags target lladdr) = (flags_of flags.0 ≡ flags.0) × (target.bits < 2 ^ 128) × IsLinkLayerAddr lladdr
 
--- the link-layer address that a message tells, if it tells one
+-- the link-layer address of a message, if it has one
 abbrev pub lladdr_of : NdiscRepr → Option EthernetAddress
 lladdr_of (NeighborSolicit target lladdr) = lladdr
 lladdr_of (NeighborAdvert flags target lladdr) = lladdr
 
--- that of each message that is read has six octets
+-- the link-layer address of each message that is parsed has six octets
 abbrev pub LinkLayerAddrsAreSix : Type 0
 LinkLayerAddrsAreSix = (octets : List ℕ) → IsNdisc octets → IsLinkLayerAddr (lladdr_of (ndisc_in octets))

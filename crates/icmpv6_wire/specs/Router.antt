@@ -1,4 +1,4 @@
--- Router solicitation and advertisement (RFC 4861 4.1, 4.2): type, code, checksum, 4 octets, of an advertisement 8 more, options.
+-- Router solicitation and advertisement (RFC 4861 4.1, 4.2): type, code, checksum, 4 octets, in an advertisement 8 more, options.
 use Rattle.std.specs.Prelude.{◌≡◌, ℕ, ◌+◌, ◌≤◌, ◌<◌, ◌^◌, ◌==◌, List, [], ◌∷◌, ◌++◌, length, drop, slice_index, Option, Some, None, if◌then◌else◌}
 use Rattle.std.specs.Int.{w16, to_be_bytes}
 use Rattle.std.specs.Int.RustNames.{bit_and}
@@ -18,14 +18,14 @@ flags_of octet = bit_and octet 0xc0
 abbrev pub flags_in : List ℕ → NdiscRouterFlags
 flags_in octets = record { 0 = flags_of (slice_index octets 5) }
 
--- the octets are a solicitation of routers (type 133) of code 0
+-- the octets are a router solicitation (type 133) with code 0
 pub record IsSolicitation (octets : List ℕ) : Type 0 where
   pub whole : 8 ≤ length octets
   pub type : slice_index octets 0 ≡ 133
   pub code : slice_index octets 1 ≡ 0
   pub options : AreOptions (drop 8 octets)
 
--- the octets are an advertisement of a router (type 134) of code 0
+-- the octets are a router advertisement (type 134) with code 0
 pub record IsAdvertisement (octets : List ℕ) : Type 0 where
   pub whole : 16 ≤ length octets
   pub type : slice_index octets 0 ≡ 134
@@ -40,8 +40,8 @@ pub data IsRouter (octets : List ℕ) : Type 0 where
 abbrev pub solicit_in : List ℕ → RouterRepr
 solicit_in octets = RouterSolicit (lladdr_in 1 (drop 8 octets))
 
--- an advertisement's values: hop limit, flags, lifetime in seconds, the link-layer address of its source, a prefix (type 3). The times of 4
--- octets each that follow the lifetime aren't read
+-- an advertisement's values: hop limit, flags, lifetime in seconds, the link-layer address of its source, a prefix (type 3). The
+-- two times of 4 octets each that follow the lifetime are ignored
 abbrev pub advert_in : List ℕ → RouterRepr
 advert_in octets =
     RouterAdvert (slice_index octets 4) (flags_in octets) (u16_at octets 6) (lladdr_in 1 (drop 16 octets)) (prefix_in (drop 16 octets))
@@ -53,21 +53,21 @@ abbrev pub type_of : RouterRepr → ℕ
 type_of (RouterSolicit lladdr) = 133
 type_of (RouterAdvert hop_limit flags lifetime lladdr prefix) = 134
 
--- the four octets behind the checksum: reserved, or hop limit, flags and lifetime
+-- the four octets after the checksum: reserved, or hop limit, flags and lifetime
 abbrev pub rest_of : RouterRepr → List ℕ
 rest_of (RouterSolicit lladdr) = 0 ∷ 0 ∷ 0 ∷ 0 ∷ []
 rest_of (RouterAdvert hop_limit flags lifetime lladdr prefix) = hop_limit ∷ flags_of flags.0 ∷ to_be_bytes w16 lifetime
 
--- reachable time and retransmission timer of an advertisement, of which it says nothing
+-- reachable time and retransmission timer of an advertisement, which are unspecified
 abbrev pub timers : List ℕ
 timers = 0 ∷ 0 ∷ 0 ∷ 0 ∷ 0 ∷ 0 ∷ 0 ∷ 0 ∷ []
 
--- what stands behind the first eight octets
+-- the octets after the first eight
 abbrev pub body : RouterRepr → List ℕ
 body (RouterSolicit lladdr) = lladdr_option 1 lladdr
 body (RouterAdvert hop_limit flags lifetime lladdr prefix) = timers ++ lladdr_option 1 lladdr ++ prefix_option prefix
 
--- the length of the option of a link-layer address, if there is one
+-- the length of the option with a link-layer address, 0 if there is none
 abbrev pub lladdr_len : Option EthernetAddress → ℕ
 lladdr_len None = 0
 lladdr_len (Some address) = 8
@@ -77,7 +77,7 @@ abbrev pub message_len : RouterRepr → ℕ
 message_len (RouterSolicit lladdr) = 8 + lladdr_len lladdr
 message_len (RouterAdvert hop_limit flags lifetime lladdr prefix) = 16 + lladdr_len lladdr + prefix_len prefix
 
--- some octets are a message of these values
+-- values that a message can have
 abbrev pub IsMessage : RouterRepr → Type 0
 IsMessage (RouterSolicit lladdr) = IsLinkLayerAddr lladdr
 IsMessage (RouterAdvert hop_limit flags lifetime lladdr prefix) =

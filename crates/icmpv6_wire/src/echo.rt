@@ -1,4 +1,4 @@
-//! Echo requests over IPv6 whose checksum was tested: the checksums of their replies come from it.
+//! ICMPv6 echo requests whose checksum was verified: the checksums of their replies are derived from it.
 ghost use Rattle.std.specs.Prelude.{◌≡◌, ◌+◌, ◌≤◌, ◌<◌, ◌%◌, ◌^◌, ◌++◌, drop, length, true};
 ghost use Rattle.wire_base.specs.Checksum.{word_sum};
 ghost use Rattle.wire_base.specs.Octets.{u16_at};
@@ -11,12 +11,12 @@ use wire_base::checksum::fold;
 use wire_base::emit::FrameBuffer;
 use wire_base::octets::u16_at;
 
-/// An echo request whose checksum was tested, so that the reply's comes from it, wherever that goes.
+/// An echo request whose checksum was verified, so that the reply's can be derived from it, wherever the reply is sent.
 #[derive(Clone, Copy)]
 pub struct EchoRequest<'p> {
-    /// All of its octets.
+    /// All octets of the message.
     pub octets: &'p [u8],
-    /// What the words behind the checksum leave, divided by 65,535.
+    /// A number congruent modulo 65,535 to the sum of the words after the checksum.
     pub rest: u16,
     pub ghost whole_header: { 8 ≤ length octets.now },
     pub ghost short: { length octets.now < 2 ^ 16 },
@@ -24,7 +24,7 @@ pub struct EchoRequest<'p> {
 }
 
 impl<'p> EchoRequest<'p> {
-    /// The request that the octets are, which came between these addresses.
+    /// The echo request in these octets, received between these addresses.
     #[inline(always)]
     pub fn new(octets: &'p [u8], src: &IpAddress, dst: &IpAddress) -> EchoRequest<'p>
         requires request { IsEchoRequest src.now dst.now octets.now }
@@ -39,7 +39,7 @@ impl<'p> EchoRequest<'p> {
 }
 
 impl EchoRequest<'_> {
-    /// Its data, which the reply has, too.
+    /// The data, which is also the reply's.
     #[inline(always)]
     pub fn payload(&self) -> &[u8]
         ensures { result.now ≡ drop 8 self.now.octets.now }
@@ -47,9 +47,8 @@ impl EchoRequest<'_> {
         &self.octets[HEADER_LEN..]
     }
 
-    /// Appends the reply up to its data: the request's identifier and number. `src` and `dst` are the
-    /// addresses of the packet that carries it. The checksum, 0 where it isn't `summed`, comes from the
-    /// request's.
+    /// Appends the reply up to its data: the request's identifier and sequence number. `src` and `dst` are the
+    /// addresses of the packet that carries it. The checksum, 0 unless `summed`, is derived from the request's.
     #[inline(always)]
     pub fn emit_reply_header(
         &self,
@@ -71,7 +70,7 @@ impl EchoRequest<'_> {
     }
 }
 
-/// The checksum of the reply, whose type's word is another than the request's.
+/// The checksum of the reply, which differs from the request in the word of the type.
 #[inline(always)]
 fn reply_sum(request: &EchoRequest<'_>, src: &IpAddress, dst: &IpAddress) -> u16
     requires whole_header { 8 ≤ length request.now.octets.now }

@@ -1,5 +1,5 @@
-//! ICMP for IPv6 (RFC 4443): echo messages, errors with their quotations, and the messages of neighbours,
-//! routers and listeners.
+//! ICMPv6 (RFC 4443): echo messages, errors with their quotations, and the messages of neighbour discovery, router
+//! discovery and MLD.
 ghost use Rattle.std.specs.Prelude.{◌≡◌, ◌==◌, ◌+◌, ◌%◌, ◌<◌, ◌≤◌, ◌^◌, ◌++◌, ℕ, length, true, false};
 ghost use Rattle.std.specs.Option.{SomeIff, option_map};
 ghost use Rattle.std.specs.Cmp.Rules.{comparing};
@@ -24,7 +24,7 @@ pub const HEADER_LEN: usize = 8;
 /// [`Icmpv6DstUnreachable::Unknown`] of 4 is [`Icmpv6DstUnreachable::PortUnreachable`].
 #[derive(Clone, Copy, Debug)]
 pub enum Icmpv6DstUnreachable {
-    /// Nobody there listens at this port.
+    /// No socket listens at the port.
     PortUnreachable,
     /// Another reason, by its code.
     Unknown(u8),
@@ -68,13 +68,13 @@ impl Eq for Icmpv6DstUnreachable {
     ghost laws = { Prim.search (comparing, rules) };
 }
 
-/// What is wrong with a packet. Problems are equal if their codes are, so that
-/// [`Icmpv6ParamProblem::Unknown`] of 1 is [`Icmpv6ParamProblem::UnrecognizedNxtHdr`].
+/// The kind of a parameter problem. Kinds are equal if their codes are, so that [`Icmpv6ParamProblem::Unknown`] of 1 is
+/// [`Icmpv6ParamProblem::UnrecognizedNxtHdr`].
 #[derive(Clone, Copy, Debug)]
 pub enum Icmpv6ParamProblem {
-    /// Nobody there knows this next header.
+    /// The next header is unrecognized.
     UnrecognizedNxtHdr,
-    /// Nobody there knows this option.
+    /// The option is unrecognized.
     UnrecognizedOption,
     /// Another problem, by its code.
     Unknown(u8),
@@ -120,8 +120,8 @@ impl Eq for Icmpv6ParamProblem {
     ghost laws = { Prim.search (comparing, rules) };
 }
 
-/// The values of a message, but its data: what an echo message carries, or what is quoted behind
-/// the header of the packet that brought an error. A message of neighbours or routers has none.
+/// The values of a message without its data: the data of an echo message, or the octets that an error quotes after the
+/// packet's header. A message of neighbour or router discovery has no data.
 #[derive(Clone, Copy, Debug, PartialEq, Eq)]
 pub enum Icmpv6Repr {
     EchoRequest {
@@ -134,13 +134,13 @@ pub enum Icmpv6Repr {
     },
     DstUnreachable {
         reason: Icmpv6DstUnreachable,
-        /// The header of the packet that didn't reach its destination.
+        /// The header of the packet that couldn't be delivered.
         header: Ipv6Repr,
     },
     PktTooBig {
-        /// How long a packet may be on the next link, in octets.
+        /// The MTU of the next link, in octets.
         mtu: u32,
-        /// The header of the packet that was longer.
+        /// The header of the packet that exceeded it.
         header: Ipv6Repr,
     },
     TimeExceeded {
@@ -151,28 +151,31 @@ pub enum Icmpv6Repr {
     },
     ParamProblem {
         reason: Icmpv6ParamProblem,
-        /// Where in the packet the problem is, in octets.
+        /// The offset of the problem in the packet, in octets.
         pointer: u32,
-        /// The header of the packet that has it.
+        /// The header of the packet with the problem.
         header: Ipv6Repr,
     },
-    /// A solicitation or an advertisement of a neighbour (RFC 4861).
+    /// A neighbour solicitation or advertisement (RFC 4861).
     Ndisc(NdiscRepr),
-    /// A solicitation of routers, or a router's advertisement (RFC 4861).
+    /// A router solicitation or advertisement (RFC 4861).
     Router(RouterRepr),
-    /// A query or a report of groups (RFC 3810).
+    /// An MLD query or report (RFC 3810).
     Mld(MldRepr),
 }
 
 impl Icmpv6Repr {
-    /// The message that the octets are, and its data as a part of them. The octets have to be
-    /// fewer than 65,536. `src` and `dst` are the packet's addresses.
+    /// Parses fewer than 65,536 octets as a message. Returns it and its data. `src` and `dst` are the packet's
+    /// addresses.
     ///
-    /// `None` exactly if they are fewer than 8, if they are a message other than an error with a
-    /// code other than 0, an error that quotes no IPv6 header, a message of neighbours or routers
-    /// that is cut off or has wrong options (RFC 4861 6.1, 7.1), or a message of another type, or
-    /// if, where `checked`, the checksum over the pseudo-header and all of them is wrong (RFC 4443
-    /// 2.3).
+    /// `None` exactly in these cases:
+    ///
+    /// - there are fewer than 8 octets;
+    /// - they are a message other than an error with a code other than 0, an error that quotes no IPv6 header, or a
+    ///   message of another type;
+    /// - they are a message of neighbour or router discovery that is cut off or has invalid options (RFC 4861 6.1,
+    ///   7.1);
+    /// - with `checked`, the checksum over the pseudo-header and all of them is wrong (RFC 4443 2.3).
     #[inline(always)]
     pub fn parse<'a>(
         octets: &'a [u8],
@@ -189,9 +192,9 @@ impl Icmpv6Repr {
         parse_sound(octets)
     }
 
-    /// Appends the message with its data; one of neighbours or routers is to have none. The message has to
-    /// have at most 65,535 octets. `src` and `dst` are the packet's addresses. Its checksum is 0
-    /// where it isn't `summed`. A quoted header is emitted anew.
+    /// Appends the message with its data; one of neighbour or router discovery must have none. The message must have at
+    /// most 65,535 octets. `src` and `dst` are the packet's addresses. Its checksum is 0 unless `summed`. A quoted
+    /// header is written anew.
     pub fn emit(
         &self,
         src: &IpAddress,
@@ -209,7 +212,7 @@ impl Icmpv6Repr {
         out.append(payload);
     }
 
-    /// Appends the message up to its data, as [`Icmpv6Repr::emit`] does, and not the data.
+    /// Appends the message up to its data, as [`Icmpv6Repr::emit`] does, without the data.
     #[inline(always)]
     pub fn emit_header(
         &self,
@@ -273,9 +276,8 @@ impl Icmpv6Repr {
     }
 }
 
-/// Whether octets, which have to be fewer than 65,536, may be a message that came between two addresses: there are as
-/// many as a header has, and, where `checked`, the checksum over the pseudo-header and all of them is right (RFC 4443
-/// 2.3).
+/// Whether octets may be a message between two addresses: there are as many as a header has and, if `checked`, the
+/// checksum over the pseudo-header and all of them is right (RFC 4443 2.3). There must be fewer than 65,536 octets.
 #[inline(always)]
 pub fn is_sound(octets: &[u8], src: &IpAddress, dst: &IpAddress, checked: bool) -> bool
     requires { length octets.now < 2 ^ 16 }
@@ -285,7 +287,7 @@ pub fn is_sound(octets: &[u8], src: &IpAddress, dst: &IpAddress, checked: bool) 
     octets.len() >= HEADER_LEN && (!checked || sums_up(octets, src, dst))
 }
 
-/// Whether a message and its pseudo-header sum up to all ones.
+/// Whether the sum of a message and its pseudo-header is all ones.
 #[tactic(auto, using(crate::proofs::Icmpv6Sums::before))]
 fn sums_up(octets: &[u8], src: &IpAddress, dst: &IpAddress) -> bool
     requires { length octets.now < 2 ^ 16 }
@@ -295,7 +297,7 @@ fn sums_up(octets: &[u8], src: &IpAddress, dst: &IpAddress) -> bool
     sum_with(start, octets) == 0xffff
 }
 
-/// What folds as the sum of the pseudo-header of a message of this length, in octets, in whichever sum it is.
+/// A number that folds as the sum of the words of a pseudo-header does, in any sum, for a message of `len` octets.
 #[inline(always)]
 pub(crate) fn pseudo_header_sum(src: &IpAddress, dst: &IpAddress, len: u16) -> u64
     ensures folds { (sum : ℕ) → folded_sum (sum + result) ≡ folded_sum (sum + word_sum (spec.pseudo_header src.now dst.now len)) }
@@ -351,8 +353,8 @@ pub(crate) fn head_with(sum: u16, repr: &Icmpv6Repr) -> [u8; HEADER_LEN]
     }
 }
 
-/// Appends a message up to its data, as [`Icmpv6Repr::emit_header`] does, by its first eight octets and its body in two
-/// parts of even length. Where the kind of a message is known, what appends it is compiled for that kind alone.
+/// Appends a message up to its data, as [`Icmpv6Repr::emit_header`] does. Its body, after the first eight octets, is
+/// given in two parts of even length. Where the kind of a message is known, this is compiled for that kind alone.
 #[inline(always)]
 pub fn emit_parts(
     message: &Icmpv6Repr,
@@ -407,8 +409,8 @@ fn sum_of(
     0xffff - sum_with(start + head + body, payload)
 }
 
-/// The message by its type, and its data, of octets that are [sound](is_sound). `None` exactly where
-/// [`Icmpv6Repr::parse`] gives none for them.
+/// Parses octets that are [sound](is_sound) as a message, by its type. Returns it and its data. `None` exactly if
+/// [`Icmpv6Repr::parse`] returns none for them.
 #[inline(always)]
 pub fn parse_sound(octets: &[u8]) -> Option<(Icmpv6Repr, &[u8])>
     requires { 8 ≤ length octets.now }
@@ -436,7 +438,7 @@ pub fn parse_sound(octets: &[u8]) -> Option<(Icmpv6Repr, &[u8])>
     }
 }
 
-/// An error by its type, and its data.
+/// Parses an error by its type. Returns it and its data.
 #[inline(always)]
 fn parse_error(octets: &[u8]) -> Option<(Icmpv6Repr, &[u8])>
     requires long { 8 ≤ length octets.now }
@@ -464,7 +466,7 @@ fn parse_error(octets: &[u8]) -> Option<(Icmpv6Repr, &[u8])>
     Some((repr, data))
 }
 
-/// A message that is emitted is read again.
+/// A message that is emitted is parsed back.
 pub fn read_again()
     ensures { spec.ReadAgain }
 {}

@@ -1,4 +1,4 @@
-//! The control messages of IPv6 on the wire: ICMPv6, with the messages of neighbours and routers.
+//! The wire formats of ICMPv6, including the messages of neighbour and router discovery.
 #![tactic(auto)]
 
 pub mod echo;

@@ -9,17 +9,17 @@ use bitflags::{Flag, Flags, bitflag_items};
 use ip_address::{EthernetAddress, Ipv6Address};
 use ipv6_wire::ipv6_packet::{address_at, address_octets};
 
-/// What an advertisement says of its sender.
+/// The flags of a neighbour advertisement.
 #[derive(Clone, Copy, Debug, PartialEq, Eq)]
 pub struct NdiscNeighborFlags(u8);
 
 bitflag_items! {
     impl NdiscNeighborFlags: u8 {
-        /// It is a router.
+        /// The sender is a router.
         const ROUTER = 0x80;
-        /// It was asked by a solicitation.
+        /// The advertisement answers a solicitation.
         const SOLICITED = 0x40;
-        /// What is told takes the place of what was known.
+        /// The link-layer address overrides a known one.
         const OVERRIDE = 0x20;
     }
 }
@@ -50,14 +50,14 @@ impl Flags for NdiscNeighborFlags {
 #[derive(Clone, Copy, Debug, PartialEq, Eq)]
 pub enum NdiscRepr {
     NeighborSolicit {
-        /// Whose link-layer address is asked for.
+        /// The address whose link-layer address is asked for.
         target_addr: Ipv6Address,
         /// The sender's link-layer address.
         lladdr: Option<EthernetAddress>,
     },
     NeighborAdvert {
         flags: NdiscNeighborFlags,
-        /// Whose link-layer address is told.
+        /// The address whose link-layer address is advertised.
         target_addr: Ipv6Address,
         /// The target's link-layer address.
         lladdr: Option<EthernetAddress>,
@@ -65,11 +65,11 @@ pub enum NdiscRepr {
 }
 
 impl NdiscRepr {
-    /// The neighbour message that the octets of an ICMPv6 message are. Its checksum isn't tested.
+    /// Parses the octets of an ICMPv6 message as a neighbour message. Its checksum isn't verified.
     ///
-    /// `None` exactly if they are fewer than 24, if they are neither a solicitation nor an
-    /// advertisement, if the code isn't 0, or if what stands behind the target isn't options
-    /// ([`parse_lladdr`]). Bits of an advertisement that are no flags aren't read.
+    /// `None` exactly if there are fewer than 24 octets, if they are neither a solicitation nor an advertisement, if
+    /// the code isn't 0, or if what follows the target isn't options ([`parse_lladdr`]). Bits of an advertisement that
+    /// aren't flags are ignored.
     pub fn parse(message: &[u8]) -> Option<NdiscRepr>
         ensures { SomeIff result (spec.IsNdisc message.now) (spec.ndisc_in message.now) }
     {
@@ -122,7 +122,7 @@ impl NdiscRepr {
         }
     }
 
-    /// The octet behind the checksum: the flags of an advertisement, and else 0.
+    /// The octet after the checksum: the flags of an advertisement, otherwise 0.
     #[inline(always)]
     pub(crate) fn flag_octet(&self) -> u8
         ensures { result ≡ spec.flag_octet self.now }
@@ -165,7 +165,7 @@ impl NdiscRepr {
     }
 }
 
-/// The flags in an octet, without the bits that are none.
+/// The flags in an octet, without its other bits.
 #[inline(always)]
 #[tactic(auto, unfolding(bitflags::specs::Sets::known_from))]
 fn flags_of(octet: u8) -> NdiscNeighborFlags
@@ -174,7 +174,7 @@ fn flags_of(octet: u8) -> NdiscNeighborFlags
     NdiscNeighborFlags::from_bits_truncate(octet)
 }
 
-/// The link-layer address that a message tells, if it tells one, has six octets.
+/// The link-layer address of a message, if there is one, has six octets.
 pub fn link_layer_addrs_are_six()
     ensures { spec.LinkLayerAddrsAreSix }
 {}

@@ -1,16 +1,16 @@
-//! The options of the messages of neighbours and routers (RFC 4861 4.6).
+//! The options of neighbour and router discovery messages (RFC 4861 4.6).
 ghost use Rattle.std.specs.Prelude.{◌≡◌, ◌≤◌, length};
 ghost use Rattle.std.specs.Option.{SomeIff, option_map};
 ghost use Rattle.icmpv6_wire.specs.NdiscOption as spec;
 
 use ip_address::EthernetAddress;
 
-/// Which link-layer address an option tells.
+/// Whose link-layer address an option carries.
 #[derive(Clone, Copy, Debug, PartialEq, Eq)]
 pub enum NdiscOptionType {
-    /// That of the message's sender.
+    /// The link-layer address of the message's sender.
     SourceLinkLayerAddr,
-    /// That of the message's target.
+    /// The link-layer address of the message's target.
     TargetLinkLayerAddr,
 }
 
@@ -26,11 +26,10 @@ impl NdiscOptionType {
     }
 }
 
-/// The link-layer address in the last option of a type, if there is one of it. The octets are all
-/// options of a message.
+/// The link-layer address in the last option of a type, if there is one. The octets are all options of a message.
 ///
-/// `None` exactly if one of the options, of whatever type, has no length or runs out, or if one of
-/// a link-layer address (types 1 and 2) isn't 8 octets long or one of a prefix (type 3) isn't 32.
+/// `None` exactly if one of the options, of any type, has no length, is cut off, or has a wrong length. An option with
+/// a link-layer address (types 1 and 2) must be 8 octets long, and one with a prefix (type 3) 32.
 pub fn parse_lladdr(octets: &[u8], option_type: NdiscOptionType) -> Option<Option<EthernetAddress>>
     ensures { SomeIff result (spec.AreOptions octets.now) (spec.lladdr_in (spec.number_of option_type) octets.now) }
 {
@@ -46,7 +45,7 @@ pub fn parse_lladdr(octets: &[u8], option_type: NdiscOptionType) -> Option<Optio
     Some(found)
 }
 
-/// What stands behind the option that the octets begin with.
+/// The octets after the option that they begin with.
 #[inline(always)]
 #[tactic(auto, using(std::proofs::lemmas::List::take_rest))]
 pub(crate) fn after_option(octets: &[u8]) -> Option<&[u8]>
@@ -85,7 +84,7 @@ fn address_in(octets: &[u8]) -> EthernetAddress
     EthernetAddress(address)
 }
 
-/// The option of a link-layer address: its eight octets.
+/// The eight octets of an option with a link-layer address.
 #[inline(always)]
 #[tactic(auto, unfolding(crate::specs::NdiscOption::lladdr_text))]
 pub fn lladdr_option(option_type: NdiscOptionType, address: &EthernetAddress) -> [u8; 8]

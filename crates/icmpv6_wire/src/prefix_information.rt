@@ -1,4 +1,4 @@
-//! What a router advertises of a prefix (RFC 4861 4.6.2).
+//! The Prefix Information option of router advertisements (RFC 4861 4.6.2).
 ghost use Rattle.std.specs.Prelude.{⊤, ◌≡◌, ◌≤◌, [], ◌∷◌, length, codes};
 ghost use Rattle.std.specs.Option.{SomeIff};
 ghost use Rattle.icmpv6_wire.specs.NdiscOption.{AreOptions};
@@ -10,15 +10,15 @@ use ip_address::Ipv6Address;
 use ipv6_wire::ipv6_packet::address_at;
 use wire_base::octets::u32_at;
 
-/// What a prefix is good for.
+/// The flags of a prefix.
 #[derive(Clone, Copy, Debug, PartialEq, Eq)]
 pub struct NdiscPrefixInfoFlags(u8);
 
 bitflag_items! {
     impl NdiscPrefixInfoFlags: u8 {
-        /// Its addresses are on the link.
+        /// The addresses of the prefix are on the link.
         const ON_LINK = 0x80;
-        /// Hosts may make addresses of it.
+        /// Hosts may form addresses from the prefix.
         const ADDRCONF = 0x40;
     }
 }
@@ -45,21 +45,21 @@ impl Flags for NdiscPrefixInfoFlags {
     }
 }
 
-/// A prefix, what it is good for, and how long it holds.
+/// A prefix, with its flags and its lifetimes.
 #[derive(Clone, Copy, Debug, PartialEq, Eq)]
 pub struct NdiscPrefixInformation {
-    /// In bits, as received: it may be above 128.
+    /// The prefix length in bits, as received: it may be above 128.
     pub prefix_len: u8,
     pub flags: NdiscPrefixInfoFlags,
-    /// For how many seconds addresses of the prefix are valid. Zero withdraws it.
+    /// The valid lifetime, in seconds. Zero withdraws the prefix.
     pub valid_lifetime: u32,
-    /// For how many seconds they are preferred.
+    /// The preferred lifetime, in seconds.
     pub preferred_lifetime: u32,
     pub prefix: Ipv6Address,
 }
 
 impl NdiscPrefixInformation {
-    /// Whether it isn't preferred for longer than it is valid (RFC 4862 5.5.3).
+    /// Whether the preferred lifetime is at most the valid lifetime (RFC 4862 5.5.3).
     pub fn is_valid_prefix_info(&self) -> bool
         ensures { result ≡ spec.is_valid_prefix_info self.now }
     {
@@ -67,10 +67,9 @@ impl NdiscPrefixInformation {
     }
 }
 
-/// The prefix in the last option that has one, if there is such an option. The octets are all options of a
-/// message.
+/// The prefix in the last option that carries one, if there is such an option. The octets are all options of a message.
 ///
-/// `None` exactly where [`parse_lladdr`](crate::ndisc_option::parse_lladdr) refuses them.
+/// `None` exactly if [`parse_lladdr`](crate::ndisc_option::parse_lladdr) returns it for them.
 pub fn parse_prefix(octets: &[u8]) -> Option<Option<NdiscPrefixInformation>>
     ensures { SomeIff result (AreOptions octets.now) (spec.prefix_in octets.now) }
 {
@@ -101,7 +100,7 @@ fn prefix_at(octets: &[u8]) -> NdiscPrefixInformation
     }
 }
 
-/// The option of a prefix: its 32 octets.
+/// The 32 octets of an option with a prefix.
 #[tactic(auto, unfolding(crate::specs::PrefixInformation::prefix_text, ipv6_wire::specs::Ipv6Packet::address_text))]
 pub fn prefix_option(prefix: &NdiscPrefixInformation) -> [u8; 32]
     ensures { result ≡ spec.prefix_text prefix.now }
@@ -117,7 +116,7 @@ pub fn prefix_option(prefix: &NdiscPrefixInformation) -> [u8; 32]
     octets
 }
 
-/// The flags in an octet, without the bits that are none.
+/// The flags in an octet, without its other bits.
 #[inline(always)]
 #[tactic(auto, unfolding(bitflags::specs::Sets::known_from))]
 fn flags_of(octet: u8) -> NdiscPrefixInfoFlags

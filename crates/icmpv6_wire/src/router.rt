@@ -1,4 +1,4 @@
-//! The messages between routers and hosts: router solicitation and advertisement (RFC 4861 4.1, 4.2).
+//! Router discovery messages: router solicitation and advertisement (RFC 4861 4.1, 4.2).
 ghost use Rattle.std.specs.Prelude.{⊤, ◌≡◌, ◌+◌, ◌%◌, ◌≤◌, [], ◌∷◌, ◌++◌, length, slice_index, codes};
 ghost use Rattle.std.specs.Option.{SomeIff};
 ghost use Rattle.icmpv6_wire.specs.Ndisc.{lladdr_option};
@@ -12,10 +12,10 @@ use bitflags::{Flag, Flags, bitflag_items};
 use ip_address::EthernetAddress;
 use wire_base::octets::u16_at;
 
-/// How many octets stand at most behind the first eight of a message.
+/// The maximum number of octets after the first eight of a message.
 const BODY_LEN: usize = 48;
 
-/// What hosts are to ask servers of DHCPv6 for.
+/// What hosts may get by DHCPv6.
 #[derive(Clone, Copy, Debug, PartialEq, Eq)]
 pub struct NdiscRouterFlags(u8);
 
@@ -50,7 +50,7 @@ impl Flags for NdiscRouterFlags {
     }
 }
 
-/// The values of a message between routers and hosts.
+/// The values of a router discovery message.
 #[derive(Clone, Copy, Debug, PartialEq, Eq)]
 pub enum RouterRepr {
     RouterSolicit {
@@ -58,10 +58,10 @@ pub enum RouterRepr {
         lladdr: Option<EthernetAddress>,
     },
     RouterAdvert {
-        /// The hop limit that hosts are to use; 0 where the router says nothing of it.
+        /// The hop limit that hosts should use; 0 if the router doesn't specify it.
         hop_limit: u8,
         flags: NdiscRouterFlags,
-        /// For how many seconds the router may be taken as a default router; 0: no longer.
+        /// The router's lifetime as a default router, in seconds; 0 withdraws it.
         router_lifetime: u16,
         /// The router's link-layer address.
         lladdr: Option<EthernetAddress>,
@@ -71,11 +71,11 @@ pub enum RouterRepr {
 }
 
 impl RouterRepr {
-    /// The router message that the octets of an ICMPv6 message are. Its checksum isn't tested.
+    /// Parses the octets of an ICMPv6 message as a router discovery message. Its checksum isn't verified.
     ///
-    /// `None` exactly if they are neither a solicitation, of 8 octets at least, nor an advertisement, of
-    /// 16, if the code isn't 0, or if what stands behind isn't options ([`parse_lladdr`]). An
-    /// advertisement's reachable time and retransmission timer aren't read, nor bits that are no flags.
+    /// `None` exactly if they are neither a solicitation, of at least 8 octets, nor an advertisement, of at least 16,
+    /// if the code isn't 0, or if what follows isn't options ([`parse_lladdr`]). An advertisement's reachable time and
+    /// retransmission timer are ignored, and so are bits that aren't flags.
     pub fn parse(message: &[u8]) -> Option<RouterRepr>
         ensures { SomeIff result (spec.IsRouter message.now) (spec.router_in message.now) }
     {
@@ -117,7 +117,7 @@ impl RouterRepr {
         }
     }
 
-    /// The four octets behind the checksum.
+    /// The four octets after the checksum.
     pub(crate) fn rest_of(&self) -> [u8; 4]
         ensures { result ≡ spec.rest_of self.now }
     {
@@ -135,7 +135,7 @@ impl RouterRepr {
         }
     }
 
-    /// What stands behind the first eight octets. An advertisement says nothing of its two times.
+    /// The octets after the first eight. The two times of an advertisement are unspecified.
     pub(crate) fn body_octets(&self) -> ArrayVec<u8, BODY_LEN>
         ensures value { result.items ≡ spec.body self.now }
         ensures len { 8 + length result.items ≡ spec.message_len self.now }
@@ -158,7 +158,7 @@ impl RouterRepr {
     }
 }
 
-/// An advertisement, if the octets are one.
+/// Parses an advertisement, if the octets are one.
 fn parse_advert(message: &[u8]) -> Option<RouterRepr>
     requires kind { slice_index message.now 0 ≡ 134 }
     requires code { slice_index message.now 1 ≡ 0 }
@@ -179,7 +179,7 @@ fn parse_advert(message: &[u8]) -> Option<RouterRepr>
     })
 }
 
-/// Appends the option of the sender's link-layer address, if there is one.
+/// Appends the option with the sender's link-layer address, if there is one.
 fn append_lladdr(body: &mut ArrayVec<u8, BODY_LEN>, lladdr: &Option<EthernetAddress>)
     requires { length body.old.items ≤ 8 }
     ensures items { body.new.items ≡ body.old.items ++ lladdr_option 1 lladdr.now }
@@ -191,7 +191,7 @@ fn append_lladdr(body: &mut ArrayVec<u8, BODY_LEN>, lladdr: &Option<EthernetAddr
     }
 }
 
-/// Appends the option of a prefix, if there is one.
+/// Appends the option with a prefix, if there is one.
 fn append_prefix(body: &mut ArrayVec<u8, BODY_LEN>, prefix: &Option<NdiscPrefixInformation>)
     requires { length body.old.items ≤ 16 }
     ensures items { body.new.items ≡ body.old.items ++ prefixes.prefix_option prefix.now }
@@ -202,7 +202,7 @@ fn append_prefix(body: &mut ArrayVec<u8, BODY_LEN>, prefix: &Option<NdiscPrefixI
     }
 }
 
-/// The length of the option of a link-layer address, if there is one.
+/// The length of the option with a link-layer address; 0 if there is none.
 const fn lladdr_len(lladdr: &Option<EthernetAddress>) -> usize
     ensures { result ≡ spec.lladdr_len lladdr.now }
 {
@@ -212,7 +212,7 @@ const fn lladdr_len(lladdr: &Option<EthernetAddress>) -> usize
     }
 }
 
-/// The length of the option of a prefix, if there is one.
+/// The length of the option with a prefix; 0 if there is none.
 const fn prefix_len(prefix: &Option<NdiscPrefixInformation>) -> usize
     ensures { result ≡ prefixes.prefix_len prefix.now }
 {
@@ -222,7 +222,7 @@ const fn prefix_len(prefix: &Option<NdiscPrefixInformation>) -> usize
     }
 }
 
-/// The flags in an octet, without the bits that are none.
+/// The flags in an octet, without its other bits.
 #[inline(always)]
 #[tactic(auto, unfolding(bitflags::specs::Sets::known_from))]
 fn flags_of(octet: u8) -> NdiscRouterFlags

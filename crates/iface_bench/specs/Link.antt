@@ -19,7 +19,7 @@ capabilities_of m = record {
   checksum = record { ipv4 = checksum.Both; udp = checksum.Both; tcp = checksum.Both; icmpv4 = checksum.Both; icmpv6 = checksum.Both };
 }
 
--- nothing is withheld and no leave refused
+-- nothing is withheld and no transmit token refused
 abbrev pub TellsNoRefusal : List Event → Type 0
 TellsNoRefusal [] = Unit {0}
 TellsNoRefusal (Received t (Frame f) ∷ es) = TellsNoRefusal es

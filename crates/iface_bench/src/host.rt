@@ -17,27 +17,27 @@ use socket_set::{SocketHandle, SocketSet};
 use sockets::{IpEndpoint, IpListenEndpoint, Queue, udp};
 use std::alloc::Global;
 
-/// Where its socket listens.
+/// The port at which its socket listens.
 const PORT: u16 = 4000;
 
-/// Where it sends to: a port of 192.168.69.100.
+/// Its remote endpoint: a port of 192.168.69.100.
 const REMOTE: IpEndpoint = IpEndpoint {
     addr: IpAddress::Ipv4(Ipv4Address { bits: 0xc0a8_4564 }),
     port: 5000,
 };
 
-/// Its address where it speaks IPv6: fe80::1.
+/// Its IPv6 address: fe80::1.
 const LINK_LOCAL: Ipv6Address = Ipv6Address {
     bits: 0xfe80_0000_0000_0000_0000_0000_0000_0001,
 };
 
-/// Where it sends to by a router: the same port of 10.1.2.3.
+/// Its remote endpoint via a gateway: the same port of 10.1.2.3.
 const FAR: IpEndpoint = IpEndpoint {
     addr: IpAddress::Ipv4(Ipv4Address { bits: 0x0a01_0203 }),
     port: 5000,
 };
 
-/// Its routes, all by 192.168.69.100: an address and the length of its prefix.
+/// Its routes, all via 192.168.69.100: an address and the prefix length.
 const ROUTES: [(u32, u8); 4] = [
     (0, 0),
     (0x0a00_0000, 8),
@@ -58,8 +58,8 @@ pub struct Host {
 }
 
 impl Host {
-    /// A host at 192.168.69.1/24, or fe80::1/64 where it speaks IPv6, with so many sockets at least, of
-    /// which the last is used: it has room for four datagrams each way.
+    /// A host at 192.168.69.1/24, or fe80::1/64 over IPv6, with at least `count` sockets, of which the last is used: it
+    /// has room for four datagrams each way.
     pub fn new(alloc: Global, count: u64, medium: Medium, version: IpVersion) -> Result<Host> {
         let hardware_addr = match medium {
             Medium::Ethernet => HardwareAddress::Ethernet(EthernetAddress([2, 0, 0, 0, 0, 1])),
@@ -109,14 +109,14 @@ impl Host {
         })
     }
 
-    /// Takes the link's frame, and answers it.
+    /// Receives the link's frame, and answers it.
     pub fn receive(&mut self) {
         let _ = self
             .interface
             .poll_ingress_single(Instant::ZERO, &mut self.link, &mut self.sockets);
     }
 
-    /// Takes the link's frames, if it has any, and sends what the sockets have to send.
+    /// Receives the link's frames, if it has any, and sends what the sockets have queued.
     pub fn poll(&mut self) {
         let _ = self.interface.poll(Instant::ZERO, &mut self.link, &mut self.sockets, usize::MAX);
     }
@@ -128,14 +128,13 @@ impl Host {
             .is_some()
     }
 
-    /// Takes the link's frame, and reads the datagram that it brings. Answers how many octets that
-    /// has.
+    /// Receives the link's frame, and reads the datagram in it. Returns the length of the datagram in octets.
     pub fn deliver(&mut self) -> usize {
         self.receive();
         self.read()
     }
 
-    /// Reads a datagram. Answers how many octets it has.
+    /// Reads a datagram. Returns its length in octets.
     pub fn read(&mut self) -> usize {
         let Some(socket) = self.sockets.get_mut::<udp::Socket<'static>>(self.handle) else {
             return 0;
@@ -148,7 +147,7 @@ impl Host {
         len
     }
 
-    /// Takes three frames of IPv4 packets over Ethernet, which stand one behind the other.
+    /// Receives three Ethernet frames of IPv4 packets, given one after another.
     pub fn receive_three(&mut self, mut frames: &[u8]) {
         for _ in 0..3 {
             let Some((frame, rest)) = next_frame(frames) else {
@@ -161,28 +160,28 @@ impl Host {
         }
     }
 
-    /// Takes the last frame that another host has sent.
+    /// Receives the last frame that another host has sent.
     pub fn receive_last(&mut self, link: &Link) {
         let _ = self
             .interface
             .receive_frame(Instant::ZERO, link.last(), &mut self.sockets);
     }
 
-    /// Sends a piece that waits.
+    /// Sends a pending fragment.
     pub fn send_piece(&mut self) {
         let _ = self
             .interface
             .poll_egress(Instant::ZERO, &mut self.link, &mut self.sockets);
     }
 
-    /// Sends two pieces that wait.
+    /// Sends two pending fragments.
     pub fn send_two_pieces(&mut self) {
         for _ in 0..2 {
             self.send_piece();
         }
     }
 
-    /// Gives the host four routes.
+    /// Adds four routes.
     pub fn add_routes(&mut self) -> Result<()> {
         let mut routes = ArrayVec::new();
         for (bits, prefix_len) in ROUTES {
@@ -203,12 +202,12 @@ impl Host {
         self.send_to(REMOTE, payload);
     }
 
-    /// Sends a datagram with this payload by a router.
+    /// Sends a datagram with this payload via a gateway.
     pub fn send_far(&mut self, payload: &[u8]) {
         self.send_to(FAR, payload);
     }
 
-    /// Sends a datagram with this payload. One that is too long is left out.
+    /// Sends a datagram with this payload. One that is too long is skipped.
     #[inline(always)]
     fn send_to(&mut self, remote: IpEndpoint, payload: &[u8])
         requires addr { is_unspecified remote.addr ≡ false }
@@ -235,14 +234,14 @@ fn own(version: IpVersion) -> IpCidr {
     }
 }
 
-/// The first of frames that stand one behind the other, and the others. It ends with its packet.
+/// The first of several frames in a row, and the others. It ends with its packet.
 fn next_frame(frames: &[u8]) -> Option<(&[u8], &[u8])> {
     let high = *frames.get(16)?;
     let low = *frames.get(17)?;
     frames.split_at_checked(14 + usize::from(high) * 256 + usize::from(low))
 }
 
-/// Adds a socket at port 1, which hears and sends nothing.
+/// Adds a socket at port 1, which receives and sends nothing.
 fn add_idle(alloc: Global, sockets: &mut SocketSet<'static>) -> Result<()> {
     let endpoint = IpListenEndpoint {
         addr: None,

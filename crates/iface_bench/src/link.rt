@@ -1,4 +1,4 @@
-//! A link that hands over one frame over and over, and counts what is sent.
+//! A link that delivers one frame over and over, and counts what is sent.
 ghost use Rattle.std.specs.Prelude.{◌≡◌};
 ghost use Rattle.iface_bench.specs.Link as spec;
 
@@ -8,7 +8,7 @@ use net_base::phy::{
 use net_base::time::Instant;
 use std::alloc::Global;
 
-/// What a link can do: packets of 1,500 octets.
+/// The capabilities of a link: packets of 1,500 octets.
 const fn capabilities_of(medium: Medium) -> DeviceCapabilities
     ensures { result ≡ spec.capabilities_of medium }
 {
@@ -35,7 +35,7 @@ pub struct Link {
 }
 
 impl Link {
-    /// A link with no frame to hand over.
+    /// A link with no frame to deliver.
     pub fn new(alloc: Global, medium: Medium) -> Link {
         Link {
             medium,
@@ -47,7 +47,7 @@ impl Link {
         }
     }
 
-    /// Hands over this frame from now on, or none if it has no octets. One of more than 1514 octets is cut.
+    /// Delivers this frame from now on, or none if it is empty. A frame of more than 1,514 octets is truncated.
     pub fn load(&mut self, mut frame: Vec<u8>) {
         frame.truncate(FRAME_BUFFER_SIZE);
         self.frame = frame;
@@ -58,12 +58,12 @@ impl Link {
         &self.last[..self.last_len.min(FRAME_BUFFER_SIZE)]
     }
 
-    /// How many frames were sent.
+    /// The number of frames sent.
     pub fn frames_sent(&self) -> u64 {
         self.frames_sent
     }
 
-    /// How many octets were sent.
+    /// The number of octets sent.
     pub fn octets_sent(&self) -> u64 {
         self.octets_sent
     }

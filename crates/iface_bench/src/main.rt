@@ -1,15 +1,14 @@
 //! Measures a host: has it do one thing over and over, and prints what it sent and read.
 //!
-//! The first argument says what: `receive` a frame, `deliver` one to a socket, the same to a queue that
-//! is nearly `full`, `send` a datagram, or send it by a `route`; receive a `packet` on a medium without
-//! hardware addresses; `poll` where there is nothing to do, or ask when to poll again (`at`). Three frames
-//! one behind the other in one line are `fragments` that bring a datagram to the socket, or a request that is
-//! answered in three pieces (`pieces`); what is sent may be `cut` into three, and each of them taken by
-//! another host, whose socket gets the datagram (`link`). The second says how many times; a third, if there
-//! is one, how many sockets the host has, and with any fourth it speaks IPv6. The host is polled once before all,
-//! as any program polls. The first line of standard input is a frame in hex that is taken
-//! once before, and the second the frame that is taken or the payload that is sent over and over.
-//! `docs/PERFORMANCE.md` says how to count instructions with it.
+//! The first argument says what: `receive` a frame, `deliver` one to a socket, deliver one to a queue that is nearly
+//! `full`, `send` a datagram, or send it by a `route`; receive a `packet` on a medium without hardware addresses;
+//! `poll` with nothing to do, or ask when to poll again (`at`). Three frames in a row on one line are `fragments` of a
+//! datagram for the socket, or of a request that is answered in three fragments (`pieces`). What is sent may be
+//! fragmented into three (`cut`), and each fragment received by another host, whose socket gets the datagram (`link`).
+//! The second argument says how many times; a third, if given, how many sockets the host has, and with any fourth it
+//! uses IPv6. The host is polled once before all, as any program polls. The first line of standard input is a frame in
+//! hex that is received once before, and the second the frame that is received or the payload that is sent over and
+//! over. `docs/PERFORMANCE.md` says how to count instructions with it.
 #![tactic(auto)]
 
 mod host;
@@ -22,7 +21,7 @@ use net_base::phy::Medium;
 use std::alloc::Global;
 use std::env;
 
-/// Does it so many times. Answers how many octets were read from the host's socket, or the peer's.
+/// Does it `rounds` times. Returns how many octets were read from the host's socket, or the peer's.
 fn run(host: &mut Host, peer: &mut Host, work: &str, rounds: u64, octets: Vec<u8>) -> Result<u64> {
     let mut read = 0u64;
     match work {

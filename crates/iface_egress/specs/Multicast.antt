@@ -1,4 +1,4 @@
--- What is told of groups, over what an interface keeps.
+-- Reports of groups, over a context.
 use Rattle.std.specs.Prelude.{◌≡◌, ℕ, Bool, true, false, List, [], ◌∷◌, Option, Some, None, if◌then◌else◌}
 use Rattle.net_base.specs.Device.{Event, Asked}
 use Rattle.ip_address.specs.declared.cidr.IpCidr.{IpCidr}
@@ -18,14 +18,14 @@ use Rattle.iface_send.specs.Stands.{host_in}
 abbrev pub HasPart : Part → Context → List Event → List Note → Context → Type 0
 HasPart part old told notes new = (slots : Slots) (sockets : SocketSet) → part (host_in old slots sockets) told notes (host_in new slots sockets)
 
--- a packet goes, if there is one and the device gives leave; and whether that wasn't refused
+-- a packet is sent, if there is one and the device grants a transmit token; `granted` unless one was refused
 pub data IsOffered (packet : Option Packet) (granted : Bool) (H : Host) (told : List Event) (notes : List Note) (new : Host) : Type 0 where
   NoPacket : packet ≡ None → granted ≡ true → told ≡ [] → notes ≡ [] → new ≡ H → IsOffered packet granted H told notes new
   NotGranted : (p : Packet) → packet ≡ Some p → granted ≡ false → told ≡ Asked H.moment false ∷ [] → notes ≡ [] → new ≡ H → IsOffered packet granted H told notes new
   Goes : (p : Packet) (outcome : Outcome) (frames : List (List ℕ)) → packet ≡ Some p → granted ≡ true → Dispatches p outcome H frames notes new →
       told ≡ Asked H.moment true ∷ sends frames → IsOffered packet granted H told notes new
 
--- it is told of a group, which counts as told of unless leave was refused
+-- a group is reported; it counts as reported unless a transmit token was refused
 pub record IsReported (packet_for : List IpCidr → IpAddress → Option Packet) (after_report : List Group → IpAddress → List Group) (a : IpAddress) (granted : Bool)
     (H : Host) (told : List Event) (notes : List Note) (new : Host) : Type 0 where
   pub mid : Host

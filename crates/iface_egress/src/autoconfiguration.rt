@@ -1,4 +1,4 @@
-//! What an interface asks of routers: an advertisement of their prefixes (RFC 4861 6.3.7).
+//! Router solicitations: how an interface asks routers to advertise their prefixes (RFC 4861 6.3.7).
 ghost use Rattle.std.specs.Prelude.{◌≡◌, None, IfSome, false};
 ghost use Rattle.std.specs.Option.{option_map};
 ghost use Rattle.host_machine.specs.Host.{no_sockets};
@@ -19,13 +19,13 @@ use net_base::phy::Device;
 use net_base::time::Instant;
 use sockets::SocketContext;
 
-/// All routers on the link, ff02::2 (RFC 4291 2.7.1).
+/// The all-routers address of the link, ff02::2 (RFC 4291 2.7.1).
 const ALL_ROUTERS: Ipv6Address = Ipv6Address {
     bits: 0xff02_0000_0000_0000_0000_0000_0000_0002,
 };
 
-/// Sends the router solicitation that is due, if one is and the device gives leave. It counts as sent,
-/// whatever came of it. Without leave it stays due.
+/// Sends the router solicitation that is due, if any, if the device grants a transmit token. With a token it counts as
+/// sent, whatever came of it; without a token it stays due.
 pub fn ndisc_rs_egress<D: Device>(context: &mut Context, device: &mut D, out: &mut FrameBuffer)
     ensures { Told D.tells device.old device.new (HasPart spec.NdiscRsEgress context.old) context.new }
 {
@@ -35,8 +35,7 @@ pub fn ndisc_rs_egress<D: Device>(context: &mut Context, device: &mut D, out: &m
     send_router_solicit(context, device, out);
 }
 
-/// Whether a router solicitation may be due, which it mostly isn't: the interface is to take addresses from
-/// routers, and it is time for one.
+/// Whether a router solicitation may be due, which is rare: SLAAC is enabled, and it is time for one.
 #[inline(always)]
 fn may_solicit(context: &Context) -> bool
     ensures { result ≡ false → spec.due_solicitation (host_of context.now no_sockets) ≡ None }
@@ -44,7 +43,7 @@ fn may_solicit(context: &Context) -> bool
     context.is_slaac_enabled() && context.slaac().rs_required(context.now())
 }
 
-/// The same as [`ndisc_rs_egress`], where one may be due.
+/// Sends the router solicitation as [`ndisc_rs_egress`] does, where one may be due.
 #[inline(never)]
 fn send_router_solicit<D: Device>(context: &mut Context, device: &mut D, out: &mut FrameBuffer)
     ensures { Told D.tells device.old device.new (HasPart spec.NdiscRsEgress context.old) context.new }
@@ -57,8 +56,8 @@ fn send_router_solicit<D: Device>(context: &mut Context, device: &mut D, out: &m
     }
 }
 
-/// The instant at which the next router solicitation is due, if one may be sent and there is an address to
-/// send it from. It may have passed.
+/// When the next router solicitation is due, if one may be sent and there is an address to send it from. The instant
+/// may have passed.
 pub fn rs_poll_at(context: &Context) -> Option<Instant>
     ensures { result ≡ spec.solicitation_instant (host_of context.now no_sockets) }
 {
@@ -66,7 +65,7 @@ pub fn rs_poll_at(context: &Context) -> Option<Instant>
     context.slaac().retry_at()
 }
 
-/// The router solicitation that is due at the interface's moment, if one is.
+/// The router solicitation that is due at the interface's moment, if any.
 fn due_solicitation(context: &Context) -> Option<Packet<'static>>
     ensures value { option_map value_of.packet result ≡ spec.due_solicitation (host_of context.now no_sockets) }
     ensures writable { IfSome result (λ p. IsWritable (value_of.packet p)) }
@@ -77,8 +76,8 @@ fn due_solicitation(context: &Context) -> Option<Packet<'static>>
     router_solicitation(context)
 }
 
-/// The solicitation with which the interface asks routers, if it is to take addresses from them, its medium
-/// has hardware addresses, and it has a link-local address to send it from.
+/// The router solicitation of the interface. `None` if SLAAC is disabled, the medium has no hardware addresses, or
+/// there is no link-local source address.
 fn router_solicitation(context: &Context) -> Option<Packet<'static>>
     ensures value { option_map value_of.packet result ≡ spec.router_solicitation (host_of context.now no_sockets) }
     ensures writable { IfSome result (λ p. IsWritable (value_of.packet p)) }
@@ -95,7 +94,7 @@ fn router_solicitation(context: &Context) -> Option<Packet<'static>>
     }
 }
 
-/// A solicitation of routers, with the interface's own hardware address (RFC 4861 4.1).
+/// A router solicitation that carries the interface's hardware address (RFC 4861 4.1).
 fn solicitation_from(own: EthernetAddress, source: Ipv6Address) -> Packet<'static>
     ensures value { value_of.packet result ≡ spec.solicitation_from own source }
     ensures writable { IsWritable (value_of.packet result) }

@@ -1,5 +1,5 @@
-//! What a call sends: the next of the pieces that wait, and then what sockets have to send, where each that
-//! needn't wait is asked in order, until the device refuses leave.
+//! What `poll_egress` sends for packets: the next pending fragment, then what the sockets have queued. Each socket that
+//! isn't waiting is asked in order, until the device grants no transmit token.
 ghost use Rattle.std.specs.Prelude.{◌≡◌, ◌<◌, length, Some, IfSome};
 ghost use Rattle.std.specs.Option.{option_map};
 ghost use Rattle.sockets.specs.Kinds as kinds;
@@ -34,8 +34,7 @@ use net_base::time::Instant;
 use socket_set::{SocketSet, by_index};
 use sockets::{SocketContext, icmp, raw, tcp, udp};
 
-/// Sends the next of the pieces that are left of a packet that was cut, if one is left and the device
-/// gives leave. The others stay left.
+/// Sends the next pending fragment, if there is one and the device grants a transmit token. The others stay pending.
 pub fn ipv4_egress<D: Device>(context: &mut Context, device: &mut D, out: &mut FrameBuffer)
     ensures { Told D.tells device.old device.new (PieceHasTurn context.old) context.new }
 {
@@ -50,8 +49,8 @@ pub fn ipv4_egress<D: Device>(context: &mut Context, device: &mut D, out: &mut F
     send_frame(device, out);
 }
 
-/// Gives each socket that needn't wait its turn in order, until the device refuses leave to send, and passes over idle
-/// ones. Answers whether a packet of some socket counts as gone.
+/// Gives each socket that isn't waiting its turn in order, until the device grants no transmit token. Idle sockets are
+/// skipped. Returns whether a packet of some socket was sent or dropped.
 pub fn socket_egress<D: Device>(
     context: &mut Context,
     device: &mut D,
@@ -73,8 +72,8 @@ pub fn socket_egress<D: Device>(
     changed
 }
 
-/// Gives the place of an index its turn. A socket whose packet isn't gone waits for its destination
-/// from then on; one that is idle rests until it is lent again.
+/// Gives the socket at an index its turn. A socket whose packet could not be sent waits for its destination from then
+/// on. An idle socket is skipped until it is borrowed again.
 fn serve<D: Device>(
     context: &mut Context,
     device: &mut D,
@@ -92,7 +91,7 @@ fn serve<D: Device>(
     serve_busy(context, device, out, sockets, index)
 }
 
-/// The same of a place that may be busy.
+/// Gives the socket at an index its turn, where it may be busy.
 #[inline(never)]
 fn serve_busy<D: Device>(
     context: &mut Context,
@@ -114,8 +113,8 @@ fn serve_busy<D: Device>(
     turn
 }
 
-/// Whether the socket at an index may be asked for a packet: there is one, and it needn't wait. A known
-/// next hop to the destination that it waits for ends the wait.
+/// Whether the socket at an index may be asked for a packet: there is one, and it isn't waiting. The wait ends when the
+/// next hop to the destination becomes known.
 fn is_permitted(context: &Context, sockets: &mut SocketSet<'_>, index: usize) -> bool
     ensures { IsDecided context.now sockets.old index result sockets.new }
 {
@@ -129,7 +128,7 @@ fn is_permitted(context: &Context, sockets: &mut SocketSet<'_>, index: usize) ->
     )
 }
 
-/// Lets the socket at an index wait for the destination of its packet, if that isn't gone.
+/// Makes the socket at an index wait for the destination of its packet, if the packet could not be sent.
 fn wait_for_neighbor(sockets: &mut SocketSet<'_>, index: usize, now: Instant, turn: Turn)
     requires { IsMoment now }
     ensures { sockets.new ≡ with_wait sockets.old index (spec.wait_after turn now (wait_at sockets.old index)) }
@@ -140,7 +139,7 @@ fn wait_for_neighbor(sockets: &mut SocketSet<'_>, index: usize, now: Instant, tu
     }
 }
 
-/// Gives the socket at an index its turn, by its kind, which it keeps.
+/// Gives the socket at an index its turn, by its kind, which stays the same.
 #[inline(always)]
 fn give_turn<D: Device>(
     sockets: &mut SocketSet<'_>,
@@ -166,8 +165,8 @@ fn give_turn<D: Device>(
     Turn::Idle
 }
 
-/// Gives a raw socket its turn: what it offers is dispatched, if the device gives leave, and the socket
-/// told whether it is gone.
+/// Gives a raw socket its turn: dispatches the packet it offers, if the device grants a transmit token, and reports the
+/// outcome to the socket.
 fn give_raw_turn<D: Device>(
     socket: &mut raw::Socket<'_>,
     context: &mut Context,
@@ -186,7 +185,8 @@ fn give_raw_turn<D: Device>(
     turn
 }
 
-/// The same of an ICMP socket.
+/// Gives an ICMP socket its turn: dispatches the message it offers, if the device grants a transmit token, and reports
+/// the outcome to the socket.
 fn give_icmp_turn<D: Device>(
     socket: &mut icmp::Socket<'_>,
     context: &mut Context,
@@ -205,7 +205,8 @@ fn give_icmp_turn<D: Device>(
     turn
 }
 
-/// The same of a UDP socket.
+/// Gives a UDP socket its turn: dispatches the datagram it offers, if the device grants a transmit token, and reports
+/// the outcome to the socket.
 fn give_udp_turn<D: Device>(
     socket: &mut udp::Socket<'_>,
     context: &mut Context,
@@ -224,7 +225,8 @@ fn give_udp_turn<D: Device>(
     turn
 }
 
-/// The same of a TCP socket.
+/// Gives a TCP socket its turn: dispatches the segment it offers, if the device grants a transmit token, and reports
+/// the outcome to the socket.
 fn give_tcp_turn<D: Device>(
     socket: &mut tcp::Socket<'_>,
     context: &mut Context,
@@ -243,7 +245,7 @@ fn give_tcp_turn<D: Device>(
     turn
 }
 
-/// Whether the packet of a turn is gone, if there was one and the device gave leave.
+/// Whether the packet of a turn was sent or dropped; `None` if there was no packet or no transmit token.
 #[inline(always)]
 fn outcome(turn: Turn) -> Option<bool>
     ensures { result ≡ outcome_of turn }
@@ -272,7 +274,7 @@ fn send_if<D: Device>(
     }
 }
 
-/// Sends a datagram of a UDP socket in a packet of the family of its ends.
+/// Sends a UDP socket's datagram in a packet of its addresses' family.
 fn send_datagram<D: Device>(
     context: &mut Context,
     device: &mut D,
@@ -312,7 +314,8 @@ fn send_datagram<D: Device>(
     }
 }
 
-/// Sends a packet, if the device gives leave. It waits for its destination where it isn't gone.
+/// Sends a packet, if the device grants a transmit token. If it could not be sent, the turn says for which destination
+/// to wait.
 fn send<D: Device, Q: AnyPacket>(
     context: &mut Context,
     device: &mut D,
@@ -335,7 +338,7 @@ fn send<D: Device, Q: AnyPacket>(
     }
 }
 
-/// A packet of a raw socket, whose header is written anew.
+/// The packet of a raw socket, with its IP header written anew.
 fn raw_packet<'p>(packet: &raw::Packet<'p>) -> Packet<'p>
     ensures value { Some (value_of.packet result) ≡ spec.packet_of (kinds.RawOffer (raw.value_of packet.now)) }
     ensures writable { IsWritable (value_of.packet result) }
@@ -344,7 +347,7 @@ fn raw_packet<'p>(packet: &raw::Packet<'p>) -> Packet<'p>
     Packet::new(packet.header, payload)
 }
 
-/// A message of an ICMP socket, which sends echo messages alone.
+/// The packet of an ICMP socket's message; `None` unless it is an echo message.
 fn icmp_packet<'p>(packet: &icmp::Packet<'p>) -> Option<Packet<'p>>
     ensures value { option_map value_of.packet result ≡ spec.packet_of (kinds.IcmpOffer (icmp.value_of packet.now)) }
     ensures writable { IfSome result (λ p. IsWritable (value_of.packet p)) }
@@ -358,7 +361,7 @@ fn icmp_packet<'p>(packet: &icmp::Packet<'p>) -> Option<Packet<'p>>
     )
 }
 
-/// A message as a payload, if it is an echo message.
+/// A message as a payload; `None` unless it is an echo message.
 fn echo_payload<'p>(repr: &IcmpRepr, octets: &'p [u8]) -> Option<IpPayload<'p>>
     ensures value { option_map value_of.payload result ≡ spec.if_echo repr.now octets.now }
     ensures writable { IfSome result (λ p. IsWritablePayload (value_of.payload p)) }
@@ -372,7 +375,7 @@ fn echo_payload<'p>(repr: &IcmpRepr, octets: &'p [u8]) -> Option<IpPayload<'p>>
     }
 }
 
-/// A segment of a TCP socket.
+/// The packet of a TCP socket's segment; `None` if the families of its addresses differ.
 fn tcp_packet<'p>(segment: &tcp::Packet<'p>) -> Option<Packet<'p>>
     ensures value { option_map value_of.packet result ≡ spec.packet_of (kinds.TcpOffer (tcp.value_of segment.now)) }
     ensures writable { IfSome result (λ p. IsWritable (value_of.packet p)) }
@@ -386,7 +389,7 @@ fn tcp_packet<'p>(segment: &tcp::Packet<'p>) -> Option<Packet<'p>>
     )
 }
 
-/// A packet from one address to another of its family.
+/// A packet between two addresses; `None` if their families differ.
 fn packet_between<'p>(
     src_addr: &IpAddress,
     dst_addr: &IpAddress,

@@ -1,5 +1,5 @@
-//! What an interface sends: the frame that its buffer holds, what it asks of routers and tells them of its
-//! groups, and what its sockets have to send.
+//! What an interface sends: the frame in its buffer, router solicitations, reports of its groups, and the packets of
+//! its sockets.
 #![tactic(auto)]
 
 pub mod autoconfiguration;

@@ -1,5 +1,5 @@
-//! What an interface tells routers of its groups: joins and leaves, and reports in answer to their queries
-//! (RFC 2236 3, RFC 3810 6).
+//! What an interface reports to routers about its groups: joins and leaves, and reports in answer to queries (RFC 2236
+//! 3, RFC 3810 6).
 ghost use Rattle.std.specs.Prelude.{◌≡◌, ◌+◌, ◌<◌, ◌≤◌, ◌++◌, [], ◌∷◌, length, Some, IfSome, IsSome, true};
 ghost use Rattle.std.specs.Option.{option_map};
 ghost use Rattle.net_base.specs.Time.{IsMoment};
@@ -31,19 +31,18 @@ use net_base::phy::Device;
 use net_base::time::Instant;
 use sockets::SocketContext;
 
-/// All routers on the link, 224.0.0.2 (RFC 1112).
+/// The all-routers group, 224.0.0.2 (RFC 1112).
 const ALL_ROUTERS: Ipv4Address = Ipv4Address { bits: 0xe000_0002 };
 
-/// All routers that speak version 2 of MLD, ff02::16 (RFC 3810 5.2.14).
+/// The group of all MLDv2 routers, ff02::16 (RFC 3810 5.2.14).
 const MLD_ROUTERS: Ipv6Address = Ipv6Address {
     bits: 0xff02_0000_0000_0000_0000_0000_0000_0016,
 };
 
-/// The length of the records of a report of all groups, in octets.
+/// The length of the records of a report of eight groups, in octets.
 const RECORDS_LEN: usize = 160;
 
-/// Tells of each group that was joined and of which that isn't told yet, in the order in which they are
-/// walked, until the device refuses leave to send.
+/// Reports each join that isn't reported yet, in the order of the table, until the device grants no transmit token.
 pub fn joins_egress<D: Device>(context: &mut Context, device: &mut D, out: &mut FrameBuffer)
     ensures { Told D.tells device.old device.new (HasPart spec.JoinsEgress context.old) context.new }
 {
@@ -54,8 +53,8 @@ pub fn joins_egress<D: Device>(context: &mut Context, device: &mut D, out: &mut 
     }
 }
 
-/// Tells of each group that is left and of which that isn't told yet, in the order in which they are
-/// walked, until the device refuses leave to send. Each is taken out then.
+/// Reports each leave that isn't reported yet, in the order of the table, until the device grants no transmit token.
+/// Each reported group is removed.
 pub fn leaves_egress<D: Device>(context: &mut Context, device: &mut D, out: &mut FrameBuffer)
     ensures { Told D.tells device.old device.new (HasPart spec.LeavesEgress context.old) context.new }
 {
@@ -66,9 +65,8 @@ pub fn leaves_egress<D: Device>(context: &mut Context, device: &mut D, out: &mut
     }
 }
 
-/// Sends the next report of an IPv4 group, if it is due and the device gives leave. Where there is no
-/// further group to report the answer to the query ends. Without leave or without an IPv4 address the
-/// report stays due.
+/// Sends the next report of an IPv4 group, if it is due and the device grants a transmit token. If no further group is
+/// left to report, the answer to the query ends. Without a token or an IPv4 address the report stays due.
 pub fn igmp_egress<D: Device>(context: &mut Context, device: &mut D, out: &mut FrameBuffer)
     ensures { Told D.tells device.old device.new (HasPart reports.IgmpEgress context.old) context.new }
 {
@@ -89,8 +87,8 @@ pub fn igmp_egress<D: Device>(context: &mut Context, device: &mut D, out: &mut F
     }
 }
 
-/// Sends the report of the IPv6 groups, if it is due and the device gives leave. Without leave it is given
-/// up.
+/// Sends the report of the IPv6 groups, if it is due and the device grants a transmit token. Without a token the report
+/// is dropped.
 pub fn mld_egress<D: Device>(context: &mut Context, device: &mut D, out: &mut FrameBuffer)
     ensures { Told D.tells device.old device.new (HasPart reports.MldEgress context.old) context.new }
 {
@@ -105,7 +103,7 @@ pub fn mld_egress<D: Device>(context: &mut Context, device: &mut D, out: &mut Fr
     set_mld_report(context, MldReportState::Inactive);
 }
 
-/// The instant at which it is to be told of a group in a state: at once, while there is one.
+/// When a group in this state has to be reported: immediately, if there is one.
 pub fn group_poll_at(context: &Context, state: GroupState) -> Option<Instant>
     ensures { result ≡ report_due_at state (host_of context.now no_sockets) }
 {
@@ -113,8 +111,7 @@ pub fn group_poll_at(context: &Context, state: GroupState) -> Option<Instant>
     Some(Instant::ZERO)
 }
 
-/// The instant at which the next report of an IPv4 group is due, if there is one, and an address to send
-/// it from.
+/// When the next report of an IPv4 group is due, if there is one and an address to send it from.
 pub fn igmp_poll_at(context: &Context) -> Option<Instant>
     ensures { result ≡ reports.igmp_instant (host_of context.now no_sockets) }
 {
@@ -124,14 +121,15 @@ pub fn igmp_poll_at(context: &Context) -> Option<Instant>
     igmp_timeout(&report)
 }
 
-/// The instant at which the report of the IPv6 groups is due, if there is one.
+/// When the report of the IPv6 groups is due, if there is one.
 pub fn mld_poll_at(context: &Context) -> Option<Instant>
     ensures { result ≡ reports.mld_timeout_of (host_of context.now no_sockets).mld_report }
 {
     mld_timeout(&context.mld_report())
 }
 
-/// Tells that a group is joined. Answers whether leave wasn't refused; then the group counts as told of.
+/// Reports that a group was joined. Returns `false` if the device granted no transmit token; otherwise the join counts
+/// as reported.
 fn report_join<D: Device>(
     context: &mut Context,
     device: &mut D,
@@ -149,7 +147,8 @@ fn report_join<D: Device>(
     granted
 }
 
-/// Tells that a group is left. Answers whether leave wasn't refused; then the group is taken out.
+/// Reports that a group was left. Returns `false` if the device granted no transmit token; otherwise the group is
+/// removed.
 fn report_leave<D: Device>(
     context: &mut Context,
     device: &mut D,
@@ -167,8 +166,8 @@ fn report_leave<D: Device>(
     granted
 }
 
-/// Sends what tells that a group is joined, if there is an address to send it from and the device gives
-/// leave. Answers whether leave wasn't refused.
+/// Sends the report of a join, if there is an address to send it from and the device grants a transmit token. Returns
+/// `false` if a token was refused.
 fn send_join<D: Device>(
     context: &mut Context,
     device: &mut D,
@@ -189,7 +188,8 @@ fn send_join<D: Device>(
     }
 }
 
-/// Sends what tells that a group is left, likewise.
+/// Sends the report of a leave, if there is an address to send it from and the device grants a transmit token. Returns
+/// `false` if a token was refused.
 fn send_leave<D: Device>(
     context: &mut Context,
     device: &mut D,
@@ -211,7 +211,7 @@ fn send_leave<D: Device>(
     }
 }
 
-/// Sends a report of MLD with one record, if the device gives leave. Answers whether it did.
+/// Sends an MLD report with one record, if the device grants a transmit token. Returns whether it did.
 fn send_record<D: Device>(
     context: &mut Context,
     device: &mut D,
@@ -231,7 +231,7 @@ fn send_record<D: Device>(
     send_packet(context, device, out, &packet)
 }
 
-/// Sends a packet, if there is one and the device gives leave. Answers whether leave wasn't refused.
+/// Sends a packet, if there is one and the device grants a transmit token. Returns `false` if a token was refused.
 fn send_if_some<D: Device>(
     context: &mut Context,
     device: &mut D,
@@ -248,7 +248,7 @@ fn send_if_some<D: Device>(
     }
 }
 
-/// A message of IGMP from the first own IPv4 address, if there is one. No router passes it on (RFC 2236 2).
+/// An IGMP message from the first IPv4 address of the interface, if there is one. No router forwards it (RFC 2236 2).
 fn igmp_packet(
     context: &Context,
     dst_addr: Ipv4Address,
@@ -266,7 +266,7 @@ fn igmp_packet(
     }))
 }
 
-/// The report of an IPv4 group, to that group (RFC 2236 9), if there is an address to send it from.
+/// The report of an IPv4 group, sent to that group (RFC 2236 9), if there is an address to send it from.
 fn igmp_report(
     context: &Context,
     version: IgmpVersion,
@@ -282,7 +282,7 @@ fn igmp_report(
     igmp_packet(context, *group, message)
 }
 
-/// A report of MLD with so many records, to all routers that speak version 2 (RFC 3810 5.2).
+/// An MLD report with `count` records, to all MLDv2 routers (RFC 3810 5.2).
 fn mld_packet<'p>(context: &Context, count: u16, records: &'p [u8]) -> Packet<'p>
     ensures value { value_of.packet result ≡ value.Ipv6 (record { src_addr = spec.mld_source (host_of context.now no_sockets).ip_addrs; dst_addr = spec.mld_routers; hop_limit = 1; payload = value.Mld count records.now }) }
     ensures writable { IsWritable (value_of.packet result) }
@@ -295,7 +295,7 @@ fn mld_packet<'p>(context: &Context, count: u16, records: &'p [u8]) -> Packet<'p
     })
 }
 
-/// The first link-local address, else the unspecified one (RFC 3810 5.2.13).
+/// The source of MLD reports: the first link-local address, otherwise the unspecified address (RFC 3810 5.2.13).
 fn mld_source(context: &Context) -> Ipv6Address
     ensures { result ≡ spec.mld_source (host_of context.now no_sockets).ip_addrs }
 {
@@ -305,8 +305,8 @@ fn mld_source(context: &Context) -> Ipv6Address
     }
 }
 
-/// Pushes the records of a report in answer to a query: of all IPv6 groups, or of the one that was asked
-/// for. Answers how many they are.
+/// Appends the records of a report that answers a query: of all IPv6 groups, or of the one that was asked for. Returns
+/// their number.
 fn push_records(
     context: &Context,
     report: &MldReportState,
@@ -326,7 +326,7 @@ fn push_records(
     }
 }
 
-/// Pushes a record of each IPv6 group. Answers how many they are.
+/// Appends a record of each IPv6 group. Returns their number.
 fn push_all(groups: &[Group], records: &mut ArrayVec<u8, RECORDS_LEN>) -> u16
     requires few { length groups.now ≤ 8 }
     requires empty { records.old.items ≡ [] }
@@ -343,7 +343,7 @@ fn push_all(groups: &[Group], records: &mut ArrayVec<u8, RECORDS_LEN>) -> u16
     count
 }
 
-/// Pushes the record of a group that is reported in answer to a query.
+/// Appends the record of a group that is reported in answer to a query.
 fn push_record(records: &mut ArrayVec<u8, RECORDS_LEN>, group: Ipv6Address)
     requires { length records.old.items + 20 ≤ 160 }
     ensures items { records.new.items ≡ records.old.items ++ record_text (record { record_type = ModeIsExclude; mcast_addr = group }) }
@@ -356,7 +356,7 @@ fn push_record(records: &mut ArrayVec<u8, RECORDS_LEN>, group: Ipv6Address)
     let _ = records.try_extend_from_slice(&record.octets());
 }
 
-/// What is reported next in answer to a query, and in which version of IGMP.
+/// The group to report next in answer to a query, and the IGMP version to use.
 fn next_group(context: &Context, report: &IgmpReportState) -> Option<(IgmpVersion, Ipv4Address)>
     ensures value { result ≡ reports.next_group (host_of context.now no_sockets) report.now }
     ensures within { IsSome result → index_of report.now < 8 }
@@ -375,8 +375,8 @@ fn next_group(context: &Context, report: &IgmpReportState) -> Option<(IgmpVersio
     }
 }
 
-/// What is to be reported behind a report: behind one in answer to a general query the next group, an
-/// interval later, but not before now.
+/// The report state after a report was sent. A general query goes on with the next group, one interval later but never
+/// in the past; anything else ends.
 fn igmp_report_after(report: &IgmpReportState, now: Instant) -> IgmpReportState
     requires timely { IsMoment now }
     requires due { reports.has_passed (reports.igmp_timeout_of report.now) now ≡ true }
@@ -410,7 +410,7 @@ fn later_of(a: Instant, b: Instant) -> Instant
     if a < b { b } else { a }
 }
 
-/// When the next group is reported.
+/// When the next IPv4 group is reported.
 fn igmp_timeout(report: &IgmpReportState) -> Option<Instant>
     ensures { result ≡ reports.igmp_timeout_of report.now }
 {
@@ -421,7 +421,7 @@ fn igmp_timeout(report: &IgmpReportState) -> Option<Instant>
     }
 }
 
-/// When the groups are reported.
+/// When the IPv6 groups are reported.
 fn mld_timeout(report: &MldReportState) -> Option<Instant>
     ensures { result ≡ reports.mld_timeout_of report.now }
 {
@@ -432,7 +432,7 @@ fn mld_timeout(report: &MldReportState) -> Option<Instant>
     }
 }
 
-/// Whether there is a moment that has come.
+/// Whether there is a timeout and it has passed.
 fn has_passed(timeout: Option<Instant>, now: Instant) -> bool
     ensures { result ≡ reports.has_passed timeout now }
 {

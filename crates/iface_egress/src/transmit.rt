@@ -1,4 +1,4 @@
-//! Handing frames to a device, and packets where it gives leave.
+//! Hands frames to a device, and packets where the device grants a transmit token.
 ghost use Rattle.std.specs.Prelude.{◌≡◌, Some, true};
 ghost use Rattle.host_machine.specs.Frame.{frames_in, sends};
 ghost use Rattle.host_machine.specs.Host.{no_sockets};
@@ -14,7 +14,7 @@ use ip_wire::emit::FrameBuffer;
 use net_base::phy::{Device, PacketMeta};
 use sockets::SocketContext;
 
-/// Sends the frame that a buffer holds, if it isn't empty. Leave to send a frame has to stand.
+/// Sends the frame in a buffer, unless it is empty. The device must have granted the transmit token.
 #[inline(always)]
 pub fn send_frame<D: Device>(device: &mut D, frame: &FrameBuffer)
     requires { D.may_transmit device.old ≡ true }
@@ -25,7 +25,7 @@ pub fn send_frame<D: Device>(device: &mut D, frame: &FrameBuffer)
     }
 }
 
-/// Sends a packet, if the device gives leave. Answers whether it did.
+/// Sends a packet, if the device grants a transmit token. Returns whether it did.
 pub(crate) fn send_packet<D: Device>(
     context: &mut Context,
     device: &mut D,

@@ -1,4 +1,4 @@
--- What goes back to the source of a packet.
+-- Replies to the source of a packet.
 use Rattle.std.specs.Prelude.{List}
 use Rattle.ip_address.specs.declared.cidr.IpCidr.{IpCidr}
 use Rattle.ipv6_wire.specs.declared.ipv6_packet.Ipv6Repr.{Ipv6Repr}
@@ -6,7 +6,7 @@ use Rattle.host_machine.specs.Icmpv6.{reply_source}
 use Rattle.host_machine.specs.Packet.{IpPayload, Ipv6}
 use Rattle.host_machine.specs.Reply.{Reply, Ip}
 
--- a payload over IPv6, with hop limit 64
+-- a payload in reply to a packet over IPv6, with hop limit 64
 abbrev pub payload_back : List IpCidr → Ipv6Repr → IpPayload → Reply
 payload_back own r payload = Ip (Ipv6 (record {
   src_addr = reply_source own r;

@@ -1,4 +1,4 @@
--- What was taken, and built in the transmit buffer.
+-- What was processed, and what was built in the transmit buffer.
 use Rattle.std.specs.Prelude.{◌≡◌, ℕ, List, Option}
 use Rattle.fragmentation.specs.declared.key.FragKey.{FragKey}
 use Rattle.fragmentation.specs.Slots.{Slots}
@@ -12,25 +12,25 @@ use Rattle.host_machine.specs.Response.{Response}
 use Rattle.iface_send.specs.declared.context.Context.{Context}
 use Rattle.iface_send.specs.Stands.{host_in}
 
--- whatever the slots are, which stay: a rule took something, and the frame that the buffer holds goes in response, if there is one; that
--- leads from one host to the other
+-- whatever the slots are, which stay the same: a rule is applied, and the frame in the buffer, if there is one, is sent in
+-- response; that leads from one host to the other
 pub record Processed (buffer : List ℕ) (Takes : Host → Option Reply → List Note → Host → Type 0) (old new : Host) : Type 0 where
   pub notes : List Note
   pub response : (slots : Slots) → Response Takes (with_slots old slots) (frames_in buffer) notes (with_slots new slots)
 
--- a host that a context, the places for fragments and sockets stand for
+-- a host that a context, the assemblers for fragments and the sockets stand for
 pub record StandsFor (c : Context) (places : List (Assembly FragKey)) (sockets : SocketSet) (H : Host) : Type 0 where
   pub slots : Slots
   pub stand : StandForSlots places slots
   pub same : H ≡ host_in c slots sockets
 
--- a rule took something, and the frame that the buffer holds goes in response: that leads to a host that stands after
+-- a rule is applied, and the frame in the buffer is sent in response: that leads to a host that satisfies `after`
 pub record Responded (buffer : List ℕ) (Takes : Host → Option Reply → List Note → Host → Type 0) (H : Host) (after : Host → Type 0) : Type 0 where
   pub notes : List Note
   pub host : Host
   pub response : Response Takes H (frames_in buffer) notes host
   pub stands : after host
 
--- from each host that stood before
+-- that, from each host before
 abbrev pub Answers : List ℕ → (Host → Option Reply → List Note → Host → Type 0) → (Host → Type 0) → (Host → Type 0) → Type 0
 Answers buffer Takes before after = (H : Host) → before H → Responded buffer Takes H after

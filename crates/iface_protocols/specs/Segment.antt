@@ -1,4 +1,4 @@
--- A segment, and the socket that took it.
+-- A segment, and the socket that accepted it.
 use Rattle.std.specs.Prelude.{◌≡◌, ℕ, List, slice_set, Option}
 use Rattle.ip_wire.specs.declared.ip_packet.IpRepr.{IpRepr}
 use Rattle.ip_wire.specs.declared.tcp.TcpRepr.{TcpRepr}
@@ -6,7 +6,7 @@ use Rattle.host_machine.specs.Host.{Storage}
 use Rattle.host_machine.specs.Delivery.{IsFirst}
 use Rattle.host_machine.specs.Tcp.{accepts, storage_after_delivery, socket_reply}
 
--- the first place that accepts took it, and answered so
+-- the first socket that accepts it got it, and gave this answer
 pub record IsTaken (r : IpRepr) (t : TcpRepr) (payload : List ℕ) (old new : List Storage) (answer : Option TcpRepr) : Type 0 where
   pub index : ℕ
   pub place : Storage

@@ -1,4 +1,4 @@
-//! What ICMP sockets hear: the messages that are for them, of either family.
+//! Delivery to ICMP sockets: the messages that are for them, of either family.
 ghost use Rattle.std.specs.Prelude.{◌≡◌, length};
 ghost use Rattle.socket_set.specs.SocketSet.{socket_at, with_place, with_places};
 ghost use Rattle.host_machine.specs.Delivery.{some_accepts, to_each, to_this};
@@ -9,8 +9,8 @@ use ip_wire::IpAddress;
 use socket_set::{SocketSet, by_index};
 use sockets::icmp;
 
-/// Hands a message, whole, with its sender, to each ICMP socket that takes it. `contents` are the octets
-/// behind the message's values.
+/// Delivers a whole message, with its sender, to each ICMP socket that accepts it. `contents` is the message's data,
+/// and `octets` the whole message.
 #[inline(always)]
 pub(crate) fn deliver(
     sockets: &mut SocketSet<'_>,
@@ -28,7 +28,7 @@ pub(crate) fn deliver(
     deliver_to_accepting(sockets, remote, &heard, contents, octets);
 }
 
-/// The same, where there may be ICMP sockets.
+/// Delivers a message as [`deliver`] does, where there may be ICMP sockets.
 #[inline(never)]
 fn deliver_to_accepting(
     sockets: &mut SocketSet<'_>,
@@ -44,7 +44,7 @@ fn deliver_to_accepting(
     }
 }
 
-/// Whether some ICMP socket takes a message.
+/// Whether some ICMP socket accepts a message.
 fn is_accepted(sockets: &SocketSet<'_>, message: &IcmpRepr, contents: &[u8]) -> bool
     ensures { result ≡ some_accepts (accepts message.now contents.now) sockets.now.places }
 {
@@ -58,7 +58,7 @@ fn is_accepted(sockets: &SocketSet<'_>, message: &IcmpRepr, contents: &[u8]) -> 
     false
 }
 
-/// Whether the socket at an index is one for ICMP that takes a message.
+/// Whether the socket at an index is an ICMP socket that accepts a message.
 #[inline(always)]
 fn accepts_at(sockets: &SocketSet<'_>, index: usize, message: &IcmpRepr, contents: &[u8]) -> bool
     ensures { result ≡ accepts message.now contents.now (socket_at sockets.now index) }
@@ -69,7 +69,7 @@ fn accepts_at(sockets: &SocketSet<'_>, index: usize, message: &IcmpRepr, content
     }
 }
 
-/// The same as [`deliver`], where some socket may take it.
+/// Delivers a message as [`deliver`] does, where some socket may accept it.
 fn deliver_to_each(
     sockets: &mut SocketSet<'_>,
     remote: IpAddress,
@@ -86,7 +86,7 @@ fn deliver_to_each(
     }
 }
 
-/// Hands a message to the socket at an index, if that takes it.
+/// Delivers a message to the socket at an index, if it accepts it.
 fn deliver_at(
     sockets: &mut SocketSet<'_>,
     index: usize,

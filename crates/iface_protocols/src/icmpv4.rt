@@ -1,4 +1,4 @@
-//! What an interface does with ICMP messages (RFC 792, RFC 1122 3.2.2), and which it sends in reply.
+//! How an interface processes ICMPv4 messages, and which it sends in reply (RFC 792, RFC 1122 3.2.2).
 ghost use Rattle.std.specs.Prelude.{◌≡◌, ◌+◌, ◌<◌, ◌^◌, [], length};
 ghost use Rattle.control_wire.specs.Icmpv4.{IsIcmpv4, QuotesPacket, icmpv4_in};
 ghost use Rattle.host_machine.specs.Host.{no_sockets};
@@ -21,12 +21,12 @@ use ip_wire::ipv4_packet::HEADER_LEN;
 use ip_wire::{IpAddress, Ipv4Address, Ipv4Repr};
 use socket_set::SocketSet;
 
-/// How long a packet is that each host takes, in octets (RFC 791 3.1).
+/// The length of a packet that every host accepts, in octets (RFC 791 3.1).
 const IPV4_MIN_MTU: usize = 576;
 
-/// Takes the payload of a packet with this header as an ICMP message, of fewer than 65,536 octets
-/// (RFC 792). Each ICMP socket that takes it gets it, whole. The reply to an echo request is built, in
-/// an empty buffer: its identifier, its number and its data. Nothing else is answered.
+/// Processes the payload of a packet with this header as an ICMPv4 message (RFC 792). The payload must have fewer than
+/// 65,536 octets. Each ICMP socket that accepts the message gets it whole. For an echo request, the reply with its
+/// identifier, sequence number and data is built in an empty buffer. No other message is answered.
 pub fn process_icmpv4(
     context: &mut Context,
     sockets: &mut SocketSet<'_>,
@@ -48,8 +48,8 @@ pub fn process_icmpv4(
     answer(context, header, &message, contents, octets, checked, out);
 }
 
-/// Builds the reply to a message, of which these are all octets: to an echo request, and to nothing
-/// else. Where its checksum was tested, the reply's comes from it.
+/// Builds the reply to a message, given with all its octets: to an echo request, and to nothing else. If the request's
+/// checksum was verified, the reply's is derived from it.
 #[inline(always)]
 fn answer(
     context: &mut Context,
@@ -81,9 +81,9 @@ fn answer(
     }
 }
 
-/// Builds an error in reply to a packet, in an empty buffer. It quotes the packet's header and at most
-/// 528 octets of its payload, so that it is at most 576 octets long (RFC 1122 3.2.2). None is built if
-/// a raw socket took the packet.
+/// Builds an ICMPv4 error in reply to a packet, in an empty buffer. It quotes the packet's header and at most 528
+/// octets of its payload, so that it is at most 576 octets long (RFC 1122 3.2.2). None is built if a raw socket
+/// accepted the packet.
 #[inline(never)]
 pub fn icmpv4_unreachable(
     context: &mut Context,
@@ -112,14 +112,14 @@ pub fn icmpv4_unreachable(
     send_icmpv4_reply(context, header, message, error, out);
 }
 
-/// As much of a payload as an error quotes.
+/// The part of a payload that an error quotes.
 fn quotation_of(payload: &[u8]) -> &[u8]
     ensures { result.now ≡ spec.quotation_of payload.now }
 {
     &payload[..icmp_reply_payload_len(payload.len(), IPV4_MIN_MTU, HEADER_LEN)]
 }
 
-/// Builds a message in reply to a packet, with hop limit 64, if it may go.
+/// Builds a message in reply to a packet, with hop limit 64, if it may be sent.
 #[inline(always)]
 fn send_icmpv4_reply<P: Payload>(
     context: &mut Context,
@@ -145,9 +145,9 @@ fn send_icmpv4_reply<P: Payload>(
     let _ = dispatch(context, &packet, out);
 }
 
-/// The address from which a message goes in reply to a packet: the packet's destination, if that is
-/// one host, and for a broadcast the first own address, where the message may answer one (RFC 1122
-/// 3.2.2, 3.2.2.6). None goes to what isn't one host.
+/// The source address of a message in reply to a packet: the packet's destination if that is unicast; for a broadcast
+/// the first IPv4 address of the interface, where the message may answer one. `None` if the message may not be sent, as
+/// to an address that isn't unicast (RFC 1122 3.2.2, 3.2.2.6).
 #[inline(always)]
 fn reply_source(context: &Context, header: &Ipv4Repr, message: &Icmpv4Repr) -> Option<Ipv4Address>
     ensures { result ≡ spec.reply_source (host_of context.now no_sockets).ip_addrs header.now message.now }
@@ -164,7 +164,7 @@ fn reply_source(context: &Context, header: &Ipv4Repr, message: &Icmpv4Repr) -> O
     None
 }
 
-/// Whether a message may answer a broadcast: an echo reply alone.
+/// Whether a message may answer a broadcast: only an echo reply may.
 fn may_answer_broadcast(message: &Icmpv4Repr) -> bool
     ensures { result ≡ spec.may_answer_broadcast message.now }
 {

@@ -1,4 +1,4 @@
-//! What an interface does with ICMP messages of IPv6 (RFC 4443), and which it sends in reply.
+//! How an interface processes ICMPv6 messages, and which it sends in reply (RFC 4443).
 ghost use Rattle.std.specs.Prelude.{◌≡◌, ◌≢◌, ◌<◌, ◌^◌, ◌⊎◌, [], Some, true, length};
 ghost use Rattle.ip_address.specs.declared.ip.IpAddress.TheVariants as ip;
 ghost use Rattle.icmpv6_wire.specs.declared.icmpv6.Icmpv6Repr.TheVariants.{Ndisc};
@@ -33,13 +33,13 @@ use ip_wire::octets::u16_at;
 use ip_wire::{IpAddress, Ipv6Address, Ipv6Repr};
 use socket_set::SocketSet;
 
-/// How long a packet is that each link carries, in octets (RFC 8200 5).
+/// The length of a packet that every link carries, in octets (RFC 8200 5).
 const IPV6_MIN_MTU: usize = 1280;
 
-/// Takes the payload of a packet with this header, from one host, as an ICMP message (RFC 4443). Each ICMP
-/// socket that takes it gets it, whole. The reply to an echo request is built, in an empty buffer: its
-/// identifier, its number and its data. A message to a neighbour is taken as such (RFC 4861), and a query for
-/// groups (RFC 3810). Nothing else is answered.
+/// Processes the payload of a packet with this header and a unicast source as an ICMPv6 message (RFC 4443). Each ICMP
+/// socket that accepts the message gets it whole. For an echo request, the reply with its identifier, sequence number
+/// and data is built in an empty buffer. Messages of neighbour and router discovery (RFC 4861) and MLD queries (RFC
+/// 3810) are processed as such. Nothing else is answered.
 pub fn process_icmpv6(
     context: &mut Context,
     sockets: &mut SocketSet<'_>,
@@ -62,14 +62,15 @@ pub fn process_icmpv6(
         (128, 0) if checked => process_echo_request(context, sockets, header, octets, out),
         (135 | 136, _) => process_neighbor(context, sockets, header, octets, out),
         _ => {
-            // A copy, so that the header isn't stored for this call where it isn't made.
+            // A copy, so that the header isn't stored for this call if the call isn't made.
             let header = *header;
             process_other(context, sockets, &header, octets, out);
         }
     }
 }
 
-/// The same of an echo request whose checksum was tested: that of the reply comes from it.
+/// Processes an echo request, as [`process_icmpv6`] does, after its checksum was verified; the reply's checksum is
+/// derived from it.
 #[inline(always)]
 fn process_echo_request(
     context: &mut Context,
@@ -95,7 +96,7 @@ fn process_echo_request(
     send_icmpv6_reply(context, header, EchoReplyV6 { request }, out);
 }
 
-/// The same of octets that are sound and of the type of a neighbour message.
+/// Processes a neighbour message, as [`process_icmpv6`] does, from octets that are sound and of its type.
 #[inline(always)]
 fn process_neighbor(
     context: &mut Context,
@@ -124,7 +125,7 @@ fn process_neighbor(
     process_ndisc(context, header, &message, out);
 }
 
-/// The same of octets that are sound, of any type but that of a neighbour message.
+/// Processes a message of any other type, as [`process_icmpv6`] does, from octets that are sound.
 #[inline(never)]
 fn process_other(
     context: &mut Context,
@@ -153,7 +154,7 @@ fn process_other(
     process_message(context, header, &message, contents, out);
 }
 
-/// Takes a message other than one of neighbours, by its values and its data.
+/// Processes a message other than a neighbour message, by its values and its data.
 #[inline(always)]
 fn process_message(
     context: &mut Context,
@@ -180,8 +181,8 @@ fn process_message(
     }
 }
 
-/// Builds the error in reply to a datagram to a port at which nobody listens, in an empty buffer. None is
-/// built if a raw socket took the packet.
+/// Builds the error in reply to a datagram for a port without a listening socket, in an empty buffer. None is built if
+/// a raw socket accepted the packet.
 pub(crate) fn icmpv6_unreachable(
     context: &mut Context,
     header: &Ipv6Repr,
@@ -203,9 +204,9 @@ pub(crate) fn icmpv6_unreachable(
     send_icmpv6_reply(context, header, error, out);
 }
 
-/// Builds the error in reply to a packet in which something isn't known, in an empty buffer: behind its
-/// header, at octet 40 (RFC 4443 3.4). It quotes the packet's header and at most 1,192 octets of what is
-/// given of its payload.
+/// Builds the parameter problem in reply to a packet with an unrecognized next header or option, in an empty buffer.
+/// The pointer is 40, the octet after the packet's header (RFC 4443 3.4). The error quotes the packet's header and at
+/// most 1,192 octets of the given payload.
 pub fn parameter_problem(
     context: &mut Context,
     reason: Icmpv6ParamProblem,
@@ -224,7 +225,7 @@ pub fn parameter_problem(
     send_message(context, header, message, quotation_of(payload), out);
 }
 
-/// As much of a payload as an error quotes.
+/// The part of a payload that an error quotes.
 fn quotation_of(payload: &[u8]) -> &[u8]
     ensures { result.now ≡ spec.quotation_of payload.now }
 {
@@ -252,7 +253,7 @@ fn send_message(
     let _ = dispatch(context, &packet, out);
 }
 
-/// Builds a message of one kind in reply to a packet, with hop limit 64.
+/// Builds a payload of one kind in reply to a packet, with hop limit 64.
 #[inline(always)]
 fn send_icmpv6_reply<P: Payload>(
     context: &mut Context,
@@ -273,8 +274,8 @@ fn send_icmpv6_reply<P: Payload>(
     let _ = dispatch(context, &packet, out);
 }
 
-/// The address from which a message goes in reply to a packet: the packet's destination, if that is one
-/// host's, else the source for its sender (RFC 4443 2.2).
+/// The source address of a message in reply to a packet: the packet's destination if that is unicast, otherwise the
+/// source address for its sender (RFC 4443 2.2).
 fn reply_source(context: &Context, header: &Ipv6Repr) -> Ipv6Address
     ensures { result ≡ spec.reply_source (host_of context.now no_sockets).ip_addrs header.now }
 {

@@ -1,5 +1,5 @@
-//! What an interface does with messages of IGMP (RFC 2236 3, RFC 1112 appendix I): routers ask for groups, and
-//! are answered after a while.
+//! How an interface processes IGMP messages (RFC 2236 3, RFC 1112 appendix I): queries of routers are answered by
+//! delayed reports.
 ghost use Rattle.std.specs.Prelude.{◌≡◌, ◌*◌, ◌<◌, ◌≤◌, [], None};
 ghost use Rattle.fragmentation.specs.Slots.{Slots};
 ghost use Rattle.group_wire.specs.Igmp.{query_version};
@@ -17,12 +17,12 @@ use ip_wire::{IpAddress, Ipv4Address, Ipv4Repr};
 use net_base::time::Duration;
 use sockets::SocketContext;
 
-/// The address of all hosts, 224.0.0.1 (RFC 1112 4).
+/// The all-hosts group, 224.0.0.1 (RFC 1112 4).
 const ALL_SYSTEMS: Ipv4Address = Ipv4Address { bits: 0xe000_0001 };
 
-/// Takes the payload of a packet with this header as a message of IGMP. A query for all groups of the
-/// interface, or for one, is answered by reports that are due after a while, in place of those that were due
-/// before. Nothing else changes anything, and nothing is sent at once.
+/// Processes the payload of a packet with this header as an IGMP message. A query for all groups of the interface or
+/// for one of them schedules delayed reports, which replace those scheduled before. Nothing else has an effect, and
+/// nothing is sent immediately.
 pub fn process_igmp(context: &mut Context, header: &Ipv4Repr, octets: &[u8])
     ensures { (slots : Slots) (sockets : SocketSet) → spec.ProcessesIgmp header.now (host_in context.old slots sockets) octets.now None [] (host_in context.new slots sockets) }
 {
@@ -32,7 +32,7 @@ pub fn process_igmp(context: &mut Context, header: &Ipv4Repr, octets: &[u8])
     take_message(context, &header.dst_addr, &message);
 }
 
-/// Takes a message by its values: only a query does anything.
+/// Processes a message by its values: only a query has an effect.
 fn take_message(context: &mut Context, dst_addr: &Ipv4Address, message: &IgmpRepr)
     ensures { (slots : Slots) (sockets : SocketSet) → host_in context.new slots sockets ≡ spec.host_after_igmp (host_in context.old slots sockets) dst_addr.now message.now }
 {
@@ -48,7 +48,7 @@ fn take_message(context: &mut Context, dst_addr: &Ipv4Address, message: &IgmpRep
     }
 }
 
-/// What is to be reported behind a query. It takes the place of what was to be reported before.
+/// The IGMP report state after a query; unchanged if the query is for no group of the interface.
 fn igmp_report_for(
     context: &Context,
     dst_addr: &Ipv4Address,
@@ -80,7 +80,7 @@ fn igmp_report_for(
     context.igmp_report()
 }
 
-/// How long it is from one group's report to the next, where so many groups are to be reported.
+/// The interval between two reports of a general query, by the number of groups to report.
 fn igmp_interval_for(version: IgmpVersion, time: Duration, count: usize) -> Duration
     requires within_an_hour { time < 3600000000 }
     requires few { count ≤ 8 }
@@ -93,7 +93,7 @@ fn igmp_interval_for(version: IgmpVersion, time: Duration, count: usize) -> Dura
     }
 }
 
-/// Whether a query asks for all groups of the interface: it names none and goes to all hosts, and there is
+/// Whether a query is a general query for the interface: it names no group, its destination is all-hosts, and there is
 /// a group to report.
 fn is_igmp_general(context: &Context, dst_addr: &Ipv4Address, group: &Ipv4Address) -> bool
     ensures { result ≡ spec.is_igmp_general (host_of context.now no_sockets) dst_addr.now group.now }
@@ -101,7 +101,7 @@ fn is_igmp_general(context: &Context, dst_addr: &Ipv4Address, group: &Ipv4Addres
     group.is_unspecified() && dst_addr.bits == ALL_SYSTEMS.bits && context.groups().ipv4_count() > 0
 }
 
-/// Whether a query asks for one group of the interface: it names it, and goes to it.
+/// Whether a query is for one group of the interface: it names the group, which is also its destination.
 fn is_igmp_specific(context: &Context, dst_addr: &Ipv4Address, group: &Ipv4Address) -> bool
     ensures { result ≡ spec.is_igmp_specific (host_of context.now no_sockets) dst_addr.now group.now }
 {

@@ -1,5 +1,5 @@
-//! What an interface does with what packets carry: the protocols over IP, and the errors that it sends for
-//! what nobody takes.
+//! How an interface processes the payloads of packets: the protocols over IP, and the errors for packets that no socket
+//! accepts.
 #![tactic(auto)]
 
 mod icmp;

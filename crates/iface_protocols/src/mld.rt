@@ -1,5 +1,4 @@
-//! What an interface does with messages of MLD (RFC 3810 6.2): routers ask for groups, and are answered after
-//! a while.
+//! How an interface processes MLD messages (RFC 3810 6.2): queries of routers are answered by a delayed report.
 ghost use Rattle.std.specs.Prelude.{◌≡◌, ◌<◌, [], None};
 ghost use Rattle.fragmentation.specs.Slots.{Slots};
 ghost use Rattle.host_machine.specs.Host.{SocketSet, no_sockets};
@@ -14,10 +13,9 @@ use ip_wire::{IpAddress, Ipv6Address, Ipv6Repr};
 use net_base::time::{Duration, Instant};
 use sockets::SocketContext;
 
-/// Takes a message of MLD that came in a packet with this header. A query that no router passed on, from a
-/// link-local source, for all groups of the interface or for one, is answered by a report that is due after
-/// a random while, in place of the one that was due before. Nothing else changes anything, and nothing is
-/// sent at once.
+/// Processes an MLD message from a packet with this header. A query that no router forwarded, from a link-local source,
+/// for all groups of the interface or for one of them, schedules a report after a random delay. It replaces the one
+/// scheduled before. Nothing else has an effect, and nothing is sent immediately.
 pub fn process_mld(context: &mut Context, header: &Ipv6Repr, message: &MldRepr)
     ensures { (slots : Slots) (sockets : SocketSet) → spec.ProcessesMld header.now message.now (host_in context.old slots sockets) None [] (host_in context.new slots sockets) }
 {
@@ -30,7 +28,7 @@ pub fn process_mld(context: &mut Context, header: &Ipv6Repr, message: &MldRepr)
     }
 }
 
-/// Takes a query for a group, or for all.
+/// Processes a query for a group, or for all.
 fn process_query(context: &mut Context, header: &Ipv6Repr, max_resp_code: u16, group: &Ipv6Address)
     ensures { (slots : Slots) (sockets : SocketSet) → host_in context.new slots sockets ≡ spec.host_after_mld_query (host_in context.old slots sockets) header.now max_resp_code group.now }
 {
@@ -43,15 +41,14 @@ fn process_query(context: &mut Context, header: &Ipv6Repr, max_resp_code: u16, g
     set_mld_report(context, report);
 }
 
-/// Whether no router passed a packet on, and it comes from a link-local source (RFC 3810 5.1.14).
+/// Whether no router forwarded a packet, and its source is link-local (RFC 3810 5.1.14).
 fn is_near(header: &Ipv6Repr) -> bool
     ensures { result ≡ spec.is_near header.now }
 {
     header.hop_limit == 1 && header.src_addr.is_link_local()
 }
 
-/// For how long an answer is delayed: a random number of milliseconds below the code. The source of random
-/// words is drawn from unless the code is 0.
+/// The delay of an answer: a random number of milliseconds below the code. It draws a random word unless the code is 0.
 fn delay(context: &mut Context, max_resp_code: u16) -> Duration
     ensures value { result ≡ spec.delay max_resp_code (host_of context.old no_sockets).random }
     ensures within_two_minutes { result < 120000000 }
@@ -64,7 +61,8 @@ fn delay(context: &mut Context, max_resp_code: u16) -> Duration
     Duration::from_millis(u64::from(word % max_resp_code))
 }
 
-/// What is to be reported at a moment behind a query. It takes the place of what was to be reported before.
+/// The MLD report state after a query, with a report due at `timeout`; unchanged if the query is for no group of the
+/// interface.
 fn report_for(
     context: &Context,
     dst_addr: &Ipv6Address,
@@ -85,8 +83,8 @@ fn report_for(
     context.mld_report()
 }
 
-/// Whether a query asks for all groups of the interface: it names none and goes to all hosts or to an own
-/// address, and there is a group to report.
+/// Whether a query is a general query for the interface: it names no group, its destination is all-nodes or one of the
+/// interface's own addresses, and there is a group to report.
 fn is_general(context: &Context, dst_addr: &Ipv6Address, group: &Ipv6Address) -> bool
     ensures { result ≡ spec.is_mld_general (host_of context.now no_sockets) dst_addr.now group.now }
 {
@@ -95,7 +93,7 @@ fn is_general(context: &Context, dst_addr: &Ipv6Address, group: &Ipv6Address) ->
     group.is_unspecified() && is_to_us && context.groups().ipv6_count() > 0
 }
 
-/// Whether a query asks for one group of the interface: it names it, and goes to it.
+/// Whether a query is for one group of the interface: it names the group, which is also its destination.
 fn is_specific(context: &Context, dst_addr: &Ipv6Address, group: &Ipv6Address) -> bool
     ensures { result ≡ spec.is_mld_specific (host_of context.now no_sockets) dst_addr.now group.now }
 {

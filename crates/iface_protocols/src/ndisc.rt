@@ -1,4 +1,4 @@
-//! What an interface does with messages of neighbour discovery (RFC 4861 7.2).
+//! How an interface processes neighbour discovery messages (RFC 4861 7.2).
 ghost use Rattle.std.specs.Prelude.{◌≡◌, [], IfSome, true};
 ghost use Rattle.net_base.specs.declared.phy.Medium.TheVariants as medium;
 ghost use Rattle.ip_address.specs.EthernetAddress as ethernet;
@@ -22,10 +22,10 @@ use iface_send::{Context, PacketV6};
 use ip_wire::emit::FrameBuffer;
 use ip_wire::{EthernetAddress, HardwareAddress, IpAddress, Ipv6Address, Ipv6Repr};
 
-/// Takes a message to a neighbour that came in a packet with this header, from one host, if no router passed
-/// it on and the medium has hardware addresses (RFC 4861 7.1). An advertisement tells where its sender is,
-/// who is then known for 60 s, if it overrides or nobody is known there. A solicitation tells the same, and
-/// is answered if it asks for the interface; the answer is built in an empty buffer.
+/// Processes a neighbour message from a packet with this header and a unicast source. It is dropped if a router
+/// forwarded it or the medium has no hardware addresses (RFC 4861 7.1). From an advertisement the sender's hardware
+/// address is learnt for 60 s, if it has the Override flag or the sender is unknown. From a solicitation the sender is
+/// learnt, too, and it is answered if it is for the interface; the answer is built in an empty buffer.
 pub fn process_ndisc(
     context: &mut Context,
     header: &Ipv6Repr,
@@ -55,8 +55,8 @@ pub fn process_ndisc(
     }
 }
 
-/// Learns where the sender of an advertisement is, if it overrides what is known, or nobody is (RFC 4861
-/// 7.2.5).
+/// Learns the hardware address of an advertisement's sender, if the advertisement has the Override flag or the sender
+/// is unknown (RFC 4861 7.2.5).
 fn process_advertisement(
     context: &mut Context,
     header: &Ipv6Repr,
@@ -72,7 +72,7 @@ fn process_advertisement(
     learn(context, header.src_addr, address);
 }
 
-/// The hardware address that an advertisement tells, if it overrides what is known, or nobody is.
+/// The hardware address to learn from an advertisement, if it has the Override flag or the sender is unknown.
 fn advertised_lladdr(
     context: &Context,
     header: &Ipv6Repr,
@@ -91,8 +91,9 @@ fn advertised_lladdr(
     None
 }
 
-/// Learns where the sender of a solicitation is, and builds the advertisement that answers it, if it asks
-/// for the interface (RFC 4861 7.2.3, 7.2.4). One that tells an address of nobody is dropped.
+/// Learns the hardware address of a solicitation's sender. Builds the advertisement that answers it, if it is for the
+/// interface (RFC 4861 7.2.3, 7.2.4). A solicitation with a link-layer address is dropped if that address or the target
+/// is not unicast.
 fn process_solicitation(
     context: &mut Context,
     own: EthernetAddress,
@@ -117,7 +118,7 @@ fn process_solicitation(
     }
 }
 
-/// Puts a neighbour at a hardware address for 60 s, if there is one.
+/// Stores a neighbour's hardware address for 60 s, if there is one.
 fn learn(context: &mut Context, neighbor: Ipv6Address, address: Option<EthernetAddress>)
     requires one { ipv6.is_unicast neighbor ≡ true }
     requires on_ethernet { medium_of (host_of context.old no_sockets).hardware_addr ≡ medium.Ethernet }
@@ -134,7 +135,7 @@ fn learn(context: &mut Context, neighbor: Ipv6Address, address: Option<EthernetA
     );
 }
 
-/// The hardware address that a message tells, if it is one host's and so is the target.
+/// The link-layer address of a message, if it and the target are unicast.
 fn usable_lladdr(lladdr: &Option<EthernetAddress>, target: &Ipv6Address) -> Option<EthernetAddress>
     ensures told { result ≡ spec.usable_lladdr lladdr.now target.now }
     ensures unicast { IfSome result (λ a. ethernet.is_unicast a ≡ true) }
@@ -147,7 +148,7 @@ fn usable_lladdr(lladdr: &Option<EthernetAddress>, target: &Ipv6Address) -> Opti
     }
 }
 
-/// Whether a message tells an address that isn't one host's, or for a target that isn't.
+/// Whether a message has a link-layer address, and that address or the target is not unicast.
 fn has_no_unicast(lladdr: &Option<EthernetAddress>, target: &Ipv6Address) -> bool
     ensures { result ≡ spec.has_no_unicast lladdr.now target.now }
 {
@@ -157,8 +158,8 @@ fn has_no_unicast(lladdr: &Option<EthernetAddress>, target: &Ipv6Address) -> boo
     }
 }
 
-/// Whether a solicitation asks for the interface: at a solicited-node group of its own, or at an address that
-/// was given to it, but ::1, for an own one.
+/// Whether a solicitation is for the interface. Its destination must be one of the interface's solicited-node groups,
+/// or an address assigned to it other than ::1; its target must be an own address.
 fn is_target(context: &Context, header: &Ipv6Repr, target: &Ipv6Address) -> bool
     ensures { result ≡ spec.is_target (host_of context.now no_sockets) header.now target.now }
 {

@@ -1,4 +1,4 @@
-//! What raw sockets hear: every packet of their version and protocol.
+//! Delivery to raw sockets: they get every packet of their IP version and protocol.
 ghost use Rattle.std.specs.Prelude.{◌≡◌, length};
 ghost use Rattle.ip_wire.specs.IpPacket.{TellsLength};
 ghost use Rattle.socket_set.specs.SocketSet.{socket_at, with_place};
@@ -11,8 +11,8 @@ use ip_wire::IpRepr;
 use socket_set::{SocketSet, by_index};
 use sockets::raw;
 
-/// Hands a packet, with its header as it is emitted, to each raw socket that takes it, and says
-/// whether there was one.
+/// Delivers a packet, with its header as it is emitted, to each raw socket that accepts it. Returns whether there was
+/// one.
 #[inline(always)]
 pub fn deliver(
     context: &Context,
@@ -31,7 +31,7 @@ pub fn deliver(
     deliver_to_accepting(context, sockets, &taken, payload)
 }
 
-/// The same, where there may be raw sockets.
+/// Delivers a packet as [`deliver`] does, where there may be raw sockets.
 #[inline(never)]
 fn deliver_to_accepting(
     context: &Context,
@@ -49,7 +49,7 @@ fn deliver_to_accepting(
     deliver_to_each(context, sockets, header, payload)
 }
 
-/// Whether some raw socket takes a packet with this header.
+/// Whether some raw socket accepts a packet with this header.
 fn is_accepted(sockets: &SocketSet<'_>, header: &IpRepr) -> bool
     ensures { result ≡ some_accepts (takes header.now) sockets.now.places }
 {
@@ -63,7 +63,7 @@ fn is_accepted(sockets: &SocketSet<'_>, header: &IpRepr) -> bool
     false
 }
 
-/// Whether the socket at an index is a raw one that takes a packet with this header.
+/// Whether the socket at an index is a raw socket that accepts a packet with this header.
 #[inline(always)]
 fn accepts_at(sockets: &SocketSet<'_>, index: usize, header: &IpRepr) -> bool
     ensures { result ≡ takes header.now (socket_at sockets.now index) }
@@ -74,7 +74,7 @@ fn accepts_at(sockets: &SocketSet<'_>, index: usize, header: &IpRepr) -> bool
     }
 }
 
-/// The same as [`deliver`], where some socket may take it.
+/// Delivers a packet as [`deliver`] does, where some socket may accept it.
 fn deliver_to_each(
     context: &Context,
     sockets: &mut SocketSet<'_>,
@@ -95,7 +95,7 @@ fn deliver_to_each(
     taken
 }
 
-/// Hands a packet to the socket at an index, if that takes it, and says whether it does.
+/// Delivers a packet to the socket at an index, if it accepts it. Returns whether it does.
 fn deliver_at(
     sockets: &mut SocketSet<'_>,
     index: usize,

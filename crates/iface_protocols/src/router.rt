@@ -1,5 +1,4 @@
-//! Router advertisements, from which an interface learns of prefixes and routers (RFC 4861 6.3.4, RFC 4862
-//! 5.5.3).
+//! How an interface processes router advertisements: it learns prefixes and routers (RFC 4861 6.3.4, RFC 4862 5.5.3).
 ghost use Rattle.std.specs.Prelude.{◌≡◌, ◌||◌, ◌==◌};
 ghost use Rattle.fragmentation.specs.Slots.{Slots};
 ghost use Rattle.host_machine.specs.Config.{is_ethernet};
@@ -15,10 +14,9 @@ use ip_wire::ipv6_packet::Ipv6Repr;
 use ip_wire::{HardwareAddress, Ipv6Address};
 use net_base::time::Duration;
 
-/// Learns from an advertisement the router that sent it and the prefix that it names, where the interface
-/// takes addresses from routers. It counts on a link with hardware addresses, if no router passed it on, and
-/// if it goes from a link-local address to all nodes or to a link-local address (RFC 4861 6.1.2).
-/// Solicitations are for routers.
+/// Learns the router that sent an advertisement and the prefix it carries, if SLAAC is enabled and the advertisement is
+/// valid. It is valid on a link with hardware addresses, if no router forwarded it, and it is from a link-local address
+/// to all-nodes or to a link-local address (RFC 4861 6.1.2). Solicitations are for routers and are ignored.
 pub fn process_router(context: &mut Context, header: &Ipv6Repr, message: &RouterRepr)
     ensures { (slots : Slots) (sockets : SocketSet) → host_in context.new slots sockets
         ≡ spec.with_slaac (host_in context.old slots sockets) (spec.after_advertisement message.now (host_in context.old slots sockets) header.now) }
@@ -38,7 +36,7 @@ pub fn process_router(context: &mut Context, header: &Ipv6Repr, message: &Router
     }
 }
 
-/// Whether an advertisement in a packet with this header counts.
+/// Whether an advertisement in a packet with this header is valid.
 fn is_valid_advertisement(context: &Context, header: &Ipv6Repr) -> bool
     ensures { result ≡ spec.is_valid_advertisement (host_of context.now no_sockets) header.now }
 {
@@ -59,7 +57,7 @@ const fn is_ethernet(hardware_addr: &HardwareAddress) -> bool
     }
 }
 
-/// Whether it is the address of all nodes on the link, or a link-local one.
+/// Whether an address is all-nodes on the link, or link-local.
 fn is_to_neighbors(address: &Ipv6Address) -> bool
     ensures { result ≡ ((address.now.bits == all_nodes.bits) || is_link_local address.now) }
 {

@@ -1,4 +1,4 @@
-//! What an interface does with TCP segments (RFC 9293 3.10.7).
+//! How an interface processes TCP segments (RFC 9293 3.10.7).
 ghost use Rattle.std.specs.Prelude.{◌≡◌, ◌<◌, ◌≤◌, ◌^◌, ℕ, [], Some, true, false, length, slice_get, slice_set};
 ghost use Rattle.std.specs.Option.{option_map};
 ghost use Rattle.socket_set.specs.SocketSet.{socket_at, with_places};
@@ -20,11 +20,10 @@ use socket_set::{SocketSet, by_index};
 use sockets::IpEndpoint;
 use sockets::tcp::{self, rst_reply};
 
-/// Takes the payload of a packet with this header as a TCP segment, of fewer than 65,536 octets: the
-/// first socket that accepts it gets it, or drops it for want of room, and may answer; no other
-/// socket changes. One that nobody accepts is answered by a reset, unless it is a reset itself or a
-/// raw socket took the packet. What is no segment, or between nobody, is dropped. The answer is built in
-/// an empty buffer.
+/// Processes the payload of a packet with this header as a TCP segment of fewer than 65,536 octets. The first socket
+/// that accepts it gets it, or drops it for lack of room, and may answer; no other socket changes. A segment that no
+/// socket accepts is answered by a reset, unless it is a reset itself or a raw socket accepted the packet. It is
+/// dropped if it is malformed or if its source or destination is unspecified. The answer is built in an empty buffer.
 pub fn process_tcp(
     context: &mut Context,
     sockets: &mut SocketSet<'_>,
@@ -55,14 +54,14 @@ pub fn process_tcp(
     send_tcp_reply(context, header, reset, out);
 }
 
-/// Whether nobody is meant, or nobody can be answered.
+/// Whether the source or the destination of a packet is unspecified.
 fn is_between_unspecified(header: &IpRepr) -> bool
     ensures { result ≡ spec.is_between_unspecified header.now }
 {
     header.src_addr().is_unspecified() || header.dst_addr().is_unspecified()
 }
 
-/// The reset for a segment that nobody takes.
+/// The reset that answers a segment which no socket accepts.
 fn reset_for(repr: &TcpRepr, payload: &[u8], handled_by_raw_socket: bool) -> Option<TcpRepr>
     requires { length payload.now < 2 ^ 16 }
     ensures { result ≡ spec.reset_for handled_by_raw_socket repr.now payload.now }
@@ -76,7 +75,7 @@ fn reset_for(repr: &TcpRepr, payload: &[u8], handled_by_raw_socket: bool) -> Opt
     }
 }
 
-/// Builds a segment without payload, if there is one, as a packet back to another's source.
+/// Builds a packet with a segment without payload, if there is one, as the reply to a packet.
 #[inline(never)]
 fn send_tcp_reply(
     context: &mut Context,
@@ -106,8 +105,7 @@ fn send_tcp_reply(
     }
 }
 
-/// Gives a segment to the first socket that accepts it, and says whether there was one, and what it
-/// answers.
+/// Delivers a segment to the first socket that accepts it. Returns whether there was one, and its answer.
 fn deliver(
     sockets: &mut SocketSet<'_>,
     header: &IpRepr,
@@ -124,7 +122,7 @@ fn deliver(
     deliver_at(sockets, index, header, repr, payload)
 }
 
-/// The index of the first socket that accepts a segment, or the number of places.
+/// The index of the first socket that accepts a segment, or the number of indices if there is none.
 #[inline(always)]
 fn find_socket(sockets: &SocketSet<'_>, header: &IpRepr, repr: &TcpRepr) -> usize
     ensures none_before { (k : ℕ) (other : Storage) → k < result → slice_get sockets.now.places k ≡ Some other → spec.accepts header.now repr.now other ≡ false }
@@ -161,8 +159,7 @@ fn accepts_at(sockets: &SocketSet<'_>, index: usize, header: &IpRepr, repr: &Tcp
     socket.accepts(&source, &destination)
 }
 
-/// Gives a segment to the socket at an index, if it accepts it, and says whether it did, and what it
-/// answers.
+/// Delivers a segment to the socket at an index, if it accepts it. Returns whether it did, and its answer.
 fn deliver_at(
     sockets: &mut SocketSet<'_>,
     index: usize,

@@ -1,4 +1,4 @@
-//! What an interface does with UDP datagrams (RFC 768, RFC 1122 4.1.3).
+//! How an interface processes UDP datagrams (RFC 768, RFC 1122 4.1.3).
 ghost use Rattle.std.specs.Prelude.{◌≡◌, ◌<◌, ◌≤◌, ℕ, [], Some, true, false, length, slice_get, slice_set};
 ghost use Rattle.ip_wire.specs.IpPacket.{TellsLength};
 ghost use Rattle.socket_set.specs.SocketSet.{socket_at, with_places};
@@ -15,10 +15,10 @@ use ip_wire::{IpRepr, UdpRepr};
 use socket_set::{SocketSet, by_index};
 use sockets::{IpEndpoint, udp};
 
-/// Takes the payload of a packet with this header as a UDP datagram (RFC 768): the first socket that
-/// accepts it gets its payload, with its sender, or drops it for want of room; no other socket
-/// changes. For one that nobody accepts an error is sent back, unless a raw socket took the packet.
-/// What is no datagram is dropped. The error is built in an empty buffer.
+/// Processes the payload of a packet with this header as a UDP datagram (RFC 768). The first socket that accepts it
+/// gets its payload, with its sender, or drops it for lack of room; no other socket changes. If no socket accepts it,
+/// an error is sent in reply, unless a raw socket accepted the packet. A malformed datagram is dropped. The error is
+/// built in an empty buffer.
 #[inline(always)]
 pub fn process_udp(
     context: &mut Context,
@@ -44,7 +44,7 @@ pub fn process_udp(
     }
 }
 
-/// Gives a datagram to the first socket that accepts it, and says whether there was one.
+/// Delivers a datagram to the first socket that accepts it. Returns whether there was one.
 #[inline(always)]
 fn deliver(
     context: &Context,
@@ -62,8 +62,8 @@ fn deliver(
     deliver_at(context, sockets, index, header, ports, payload)
 }
 
-/// The index of the first socket that accepts a datagram, or the number of places. Where it is the only socket, or
-/// the first, no walk begins.
+/// The index of the first socket that accepts a datagram, or the number of indices if there is none. If it is the only
+/// socket, or the first, no loop is needed.
 #[inline(always)]
 fn find_socket(
     context: &Context,
@@ -85,7 +85,8 @@ fn find_socket(
     find_among_several(context, sockets, &sought, &wanted)
 }
 
-/// The same, where there may be several sockets.
+/// The index of the first socket that accepts a datagram, as [`find_socket`] returns it, where there may be several
+/// sockets.
 #[inline(never)]
 fn find_among_several(
     context: &Context,
@@ -125,7 +126,7 @@ fn accepts_at(
     }
 }
 
-/// Gives a datagram to the socket at an index, if it accepts it, and says whether it did.
+/// Delivers a datagram to the socket at an index, if it accepts it. Returns whether it did.
 #[inline(always)]
 fn deliver_at(
     context: &Context,

@@ -1,5 +1,4 @@
-//! Errors that an interface sends for a port at which nobody listens, by the family of the packet (RFC 1122
-//! 3.2.2.1, RFC 4443 3.1).
+//! Port unreachable errors, by the family of the packet (RFC 1122 3.2.2.1, RFC 4443 3.1).
 ghost use Rattle.std.specs.Prelude.{◌≡◌, []};
 ghost use Rattle.ip_wire.specs.IpPacket.{TellsLength};
 ghost use Rattle.host_machine.specs.Host.{no_sockets};
@@ -14,8 +13,8 @@ use iface_send::Context;
 use ip_wire::IpRepr;
 use ip_wire::emit::FrameBuffer;
 
-/// Builds the error in reply to a datagram to a port at which nobody listens, in an empty buffer. None is
-/// built if a raw socket took the packet.
+/// Builds the error in reply to a datagram for a port without a listening socket, in an empty buffer. None is built if
+/// a raw socket accepted the packet.
 pub(crate) fn send_port_unreachable(
     context: &mut Context,
     header: &IpRepr,

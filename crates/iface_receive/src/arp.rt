@@ -1,4 +1,4 @@
-//! What an interface does with ARP packets (RFC 826).
+//! How an interface processes ARP packets (RFC 826).
 ghost use Rattle.std.specs.Prelude.{◌≡◌, [], true};
 ghost use Rattle.ip_address.specs.EthernetAddress as ethernet;
 ghost use Rattle.ip_address.specs.Ipv4 as ipv4;
@@ -15,9 +15,9 @@ use iface_send::packet::emit_arp;
 use ip_wire::emit::FrameBuffer;
 use ip_wire::{ArpOperation, ArpRepr, EthernetAddress, HardwareAddress, IpAddress};
 
-/// Takes the payload of an ARP frame (RFC 826). From a packet for one of the interface's addresses, by
-/// a unicast sender in one of its networks, the sender is learnt for 60 s, and the reply to a request
-/// is built, in an empty buffer. Any other packet changes nothing.
+/// Processes the payload of an ARP frame (RFC 826). If the target is one of the interface's addresses, and the sender
+/// is unicast and in one of its networks, the sender is learnt for 60 s. Then the reply to a request is built in an
+/// empty buffer. Any other packet changes nothing.
 pub fn process_arp(
     context: &mut Context,
     own: EthernetAddress,
@@ -42,8 +42,7 @@ pub fn process_arp(
     answer(context, own, &packet, out);
 }
 
-/// Whether a packet is for one of the interface's addresses, by a unicast sender in one of its
-/// networks.
+/// Whether a packet's target is one of the interface's addresses, and its sender is unicast and in one of its networks.
 fn is_for_us(context: &Context, packet: &ArpRepr) -> bool
     ensures is_for_us { result ≡ is_for_us (host_of context.now no_sockets) packet.now }
     ensures protocol { result ≡ true → ipv4.is_unicast packet.now.source_protocol_addr ≡ true }
@@ -55,7 +54,7 @@ fn is_for_us(context: &Context, packet: &ArpRepr) -> bool
         && context.in_same_network(&IpAddress::Ipv4(packet.source_protocol_addr))
 }
 
-/// Builds the reply to a request, and none to a reply.
+/// Builds the reply to a request; a reply is not answered.
 fn answer(context: &Context, own: EthernetAddress, packet: &ArpRepr, out: &mut FrameBuffer)
     requires { out.old ≡ [] }
     ensures { Built out.new (Responds (answer_by packet.now.operation own packet.now)) context.now context.now }
@@ -66,8 +65,7 @@ fn answer(context: &Context, own: EthernetAddress, packet: &ArpRepr, out: &mut F
     }
 }
 
-/// The reply to a request: sender and target change places, and the interface gives its own hardware
-/// address.
+/// The reply to a request: sender and target are swapped, and the interface gives its own hardware address.
 fn reply_to(own: EthernetAddress, packet: &ArpRepr) -> ArpRepr
     ensures { result ≡ reply_to own packet.now }
 {

@@ -1,4 +1,4 @@
-//! What an interface does with frames, by their link's header (RFC 894, RFC 1122 2.4).
+//! How an interface processes frames, by their link-layer header (RFC 894, RFC 1122 2.4).
 ghost use Rattle.std.specs.Prelude.{◌≡◌, ◌<◌, [], length};
 ghost use Rattle.host_machine.specs.Ethernet.{ProcessesFrame, ProcessesEthernet, ProcessesIp, ProcessesEthertype, is_for};
 ghost use Rattle.host_machine.specs.Host.{no_sockets};
@@ -14,8 +14,8 @@ use ip_wire::emit::FrameBuffer;
 use ip_wire::{EthernetAddress, EthernetProtocol, EthernetRepr, HardwareAddress};
 use socket_set::SocketSet;
 
-/// Takes a frame by the medium, and builds the frame that goes in response, if there is one, in an
-/// empty buffer. It has to have an octet. A frame that is dropped changes nothing.
+/// Processes a frame by the medium, and builds the frame in response, if any, in an empty buffer. The frame must not be
+/// empty. A frame that is dropped changes nothing.
 #[inline(always)]
 pub fn process_frame(
     context: &mut Context,
@@ -36,8 +36,8 @@ pub fn process_frame(
     }
 }
 
-/// Takes a packet on a medium without hardware addresses, by its version, and builds the response, if
-/// there is one, in an empty buffer. It has to have an octet.
+/// Processes a packet on a medium without hardware addresses, by its IP version, and builds the response, if any, in an
+/// empty buffer. The packet must not be empty.
 #[inline(always)]
 pub fn process_ip(
     context: &mut Context,
@@ -58,9 +58,9 @@ pub fn process_ip(
     }
 }
 
-/// Takes an Ethernet frame that is for all, for a group or for the interface's own address (RFC 1122
-/// 2.4), and builds the response, if there is one, in an empty buffer. It is dropped if it is shorter
-/// than its header of 14 octets, or for another interface.
+/// Processes an Ethernet frame for the interface: broadcast, multicast, or sent to its own hardware address (RFC 1122
+/// 2.4). Builds the response, if any, in an empty buffer. The frame is dropped if it is shorter than its 14-octet
+/// header, or for another interface.
 #[inline(always)]
 pub fn process_ethernet(
     context: &mut Context,
@@ -82,7 +82,7 @@ pub fn process_ethernet(
     }
 }
 
-/// Takes the payload of a frame by its type.
+/// Processes the payload of a frame by its EtherType.
 #[inline(always)]
 fn process_ethertype(
     context: &mut Context,
@@ -115,7 +115,7 @@ fn process_ethertype(
     }
 }
 
-/// Whether a frame to this address is for the interface: for all, for a group, or for its own address.
+/// Whether a frame to this address is for the interface: broadcast, multicast, or its own hardware address.
 #[inline(always)]
 fn is_for(context: &Context, destination: &EthernetAddress) -> bool
     ensures { (own : EthernetAddress) → (host_of context.now no_sockets).hardware_addr ≡ HardwareAddress.Ethernet own → result ≡ is_for own destination.now }

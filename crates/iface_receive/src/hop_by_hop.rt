@@ -1,4 +1,4 @@
-//! What an interface does with the hop-by-hop options of IPv6 (RFC 8200 4.2, 4.3).
+//! How an interface processes IPv6 hop-by-hop options (RFC 8200 4.2, 4.3).
 ghost use Rattle.std.specs.Prelude.{◌≡◌, [], None, if◌then◌else◌};
 ghost use Rattle.host_machine.specs.Host.{no_sockets};
 ghost use Rattle.host_machine.specs.Ipv6.{complaint};
@@ -13,8 +13,8 @@ use ip_wire::Ipv6Repr;
 use ip_wire::emit::FrameBuffer;
 use ipv6_wire::Ipv6OptionFailureType;
 
-/// Builds what is answered to a packet with an option that isn't known, in an empty buffer, by what the
-/// option asks for: a problem where its class is 10, and where it is 11 unless the packet went to a group.
+/// Builds the answer to a packet with an unrecognized option, in an empty buffer, by the two high bits of the option's
+/// type. That is a parameter problem for 10, and for 11 unless the packet's destination is multicast.
 pub(crate) fn answer_unknown_option(
     context: &mut Context,
     failure: Ipv6OptionFailureType,

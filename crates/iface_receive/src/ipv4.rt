@@ -1,4 +1,4 @@
-//! What an interface does with IPv4 packets (RFC 791, RFC 1122 3.2.1).
+//! How an interface processes IPv4 packets (RFC 791, RFC 1122 3.2.1).
 ghost use Rattle.std.specs.Prelude.{◌≡◌, ◌+◌, ◌<◌, ◌≤◌, ◌^◌, [], length, IfSome};
 ghost use Rattle.std.specs.Borrow.{sem};
 ghost use Rattle.fragmentation.specs.Reassembled.{RestsReassembled};
@@ -24,13 +24,12 @@ use ip_wire::{HardwareAddress, IpProtocol, IpRepr, Ipv4Address, Ipv4Fragment, Ip
 use socket_set::SocketSet;
 use sockets::SocketContext;
 
-/// Takes an IPv4 packet that came from a hardware address, and builds the response, if there is one, in
-/// an empty buffer. A sender that is known at that address, and sends to the interface alone, is known
-/// for another 60 s (RFC 1122 2.3.2.1).
+/// Processes an IPv4 packet received from a hardware address, and builds the response, if any, in an empty buffer. A
+/// sender that is known at that address, and sends to the interface alone, is kept for another 60 s (RFC 1122 2.3.2.1).
 ///
-/// Dropped are octets that begin with no packet, and packets that come from no host or are for
-/// another one (RFC 1122 3.2.1.3). A fragment is put together with those that came before, and its
-/// datagram taken once that is complete (RFC 791 3.2).
+/// Dropped are octets that don't begin with a packet, and packets with an invalid source or a destination that is not
+/// the interface's (RFC 1122 3.2.1.3). A fragment is reassembled with those received before, and its datagram is
+/// processed once it is complete (RFC 791 3.2).
 pub fn process_ipv4(
     context: &mut Context,
     sockets: &mut SocketSet<'_>,
@@ -56,9 +55,9 @@ pub fn process_ipv4(
     process_datagram(context, sockets, source, &header, payload, out);
 }
 
-/// The payload of the datagram that a packet belongs to, by the packet's header, by which fragment it
-/// is and by its payload: that payload where the packet is whole, and what is rebuilt from slots where
-/// it is a fragment (RFC 791 3.2). `None` while other fragments are missing, and where it is dropped.
+/// The payload of the datagram that a packet belongs to, given the packet's header, its fragment fields and its
+/// payload. That is the packet's payload if it is whole, and the reassembled payload if it is a fragment (RFC 791 3.2).
+/// `None` while other fragments are missing, and if the fragment is dropped.
 #[inline(always)]
 fn datagram<'p>(
     fragments: &'p mut PacketAssemblerSet<FragKey>,
@@ -77,8 +76,7 @@ fn datagram<'p>(
     rebuilt(fragments, context, *header, *fragment, payload)
 }
 
-/// Puts a fragment together with those that came before, and gives the payload of its datagram if that
-/// is complete now.
+/// Adds a fragment to those received before. Returns the payload of its datagram if it is complete now.
 #[inline(never)]
 fn rebuilt<'s>(
     fragments: &'s mut PacketAssemblerSet<FragKey>,
@@ -97,8 +95,7 @@ fn rebuilt<'s>(
     reassemble(fragments, &key, end, payload, offset, is_last)
 }
 
-/// The header of a datagram: that of the packet which brought or completed it, with the length of the
-/// whole payload.
+/// The header of a datagram: that of the packet which brought or completed it, with the length of the whole payload.
 fn header_of_datagram(header: &Ipv4Repr, octets: &[u8]) -> Ipv4Repr
     requires { length octets.now < 2 ^ 16 }
     ensures { result ≡ spec.rebuilt_header header.now octets.now }
@@ -109,7 +106,7 @@ fn header_of_datagram(header: &Ipv4Repr, octets: &[u8]) -> Ipv4Repr
     }
 }
 
-/// Takes a packet that came whole or was put together, by its header and its payload.
+/// Processes a packet that was received whole or reassembled, by its header and its payload.
 #[inline(always)]
 fn process_datagram(
     context: &mut Context,
@@ -140,15 +137,15 @@ fn process_datagram(
     );
 }
 
-/// Whether a packet may come from this address: that of one host, or of one that has none yet.
+/// Whether a packet may come from this address: a unicast address, or the unspecified one of a host without an address.
 fn may_be_source(context: &Context, address: &Ipv4Address) -> bool
     ensures { result ≡ addresses.may_be_source (host_of context.now no_sockets).ip_addrs address.now }
 {
     context.is_unicast_v4(address) || address.is_unspecified()
 }
 
-/// Takes a payload by its protocol, where `handled_by_raw_socket` tells whether a raw socket took the packet. For a
-/// protocol that nobody here speaks an error is sent back.
+/// Processes a payload by its protocol; `handled_by_raw_socket` says whether a raw socket accepted the packet. An
+/// unknown protocol is answered by an error.
 fn process_protocol(
     context: &mut Context,
     sockets: &mut SocketSet<'_>,

@@ -1,4 +1,4 @@
-//! What an interface does with IPv6 packets (RFC 8200).
+//! How an interface processes IPv6 packets (RFC 8200).
 ghost use Rattle.std.specs.Prelude.{◌≡◌, ◌<◌, ◌^◌, [], length, true};
 ghost use Rattle.ip_address.specs.Ipv6.{is_unicast};
 ghost use Rattle.host_machine.specs.Host.{no_sockets};
@@ -22,12 +22,12 @@ use ipv6_wire::{Ipv6HopByHopRepr, Ipv6OptionFailureType};
 use socket_set::SocketSet;
 use sockets::SocketContext;
 
-/// Takes an IPv6 packet that came from a hardware address, and builds the response, if there is one, in an
-/// empty buffer. A sender that is known at that address, and sends to the interface alone, is known for
-/// another 60 s.
+/// Processes an IPv6 packet received from a hardware address, and builds the response, if any, in an empty buffer. A
+/// sender that is known at that address, and sends to the interface alone, is kept for another 60 s.
 ///
-/// Dropped are octets that begin with no packet, packets that come from no host, and packets for another
-/// one. Before that the hop-by-hop options are read, which may end it (RFC 8200 4.2).
+/// Dropped are octets that don't begin with a packet, packets whose source is not unicast, and packets whose
+/// destination is not the interface's. Before the destination is tested, the hop-by-hop options are processed, which
+/// may end it (RFC 8200 4.2).
 pub fn process_ipv6(
     context: &mut Context,
     sockets: &mut SocketSet<'_>,
@@ -52,8 +52,8 @@ pub fn process_ipv6(
     process_datagram_v6(context, sockets, source, &header, protocol, payload, out);
 }
 
-/// Takes a payload that begins with hop-by-hop options: the first one that isn't known and isn't to be
-/// skipped ends it.
+/// Processes a payload that begins with hop-by-hop options. The first option that is unrecognized and not to be skipped
+/// ends it.
 fn process_hop_by_hop(
     context: &mut Context,
     sockets: &mut SocketSet<'_>,
@@ -80,7 +80,7 @@ fn process_hop_by_hop(
     }
 }
 
-/// Takes a packet by its header, by the protocol of its payload, and by its payload.
+/// Processes a packet by its header, by the protocol of its payload, and by its payload.
 fn process_datagram_v6(
     context: &mut Context,
     sockets: &mut SocketSet<'_>,
@@ -113,8 +113,8 @@ fn process_datagram_v6(
     );
 }
 
-/// Takes a payload by its protocol, where `handled_by_raw_socket` tells whether a raw socket took the packet. For a
-/// protocol that nobody here speaks a problem is sent back.
+/// Processes a payload by its protocol; `handled_by_raw_socket` says whether a raw socket accepted the packet. An
+/// unknown protocol is answered by a parameter problem.
 fn process_protocol(
     context: &mut Context,
     sockets: &mut SocketSet<'_>,
@@ -160,8 +160,8 @@ fn process_protocol(
     }
 }
 
-/// Builds the error in reply to a packet of a protocol that nobody here speaks, in an empty buffer, unless a
-/// raw socket took the packet.
+/// Builds the error in reply to a packet of an unknown protocol, in an empty buffer, unless a raw socket accepted the
+/// packet.
 fn unrecognized_next_header(
     context: &mut Context,
     header: &Ipv6Repr,

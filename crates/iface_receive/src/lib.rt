@@ -1,4 +1,4 @@
-//! What an interface takes: one frame in, by its link and its network, and at most one frame built in
+//! The receive path of an interface: one frame in, by its link and network headers, and at most one frame built in
 //! response.
 //!
 //! Begin with [`ethernet::process_frame`].

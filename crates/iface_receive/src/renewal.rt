@@ -1,4 +1,4 @@
-//! Keeping the neighbours that are heard (RFC 1122 2.3.2.1).
+//! Keeps neighbours that packets are received from (RFC 1122 2.3.2.1).
 ghost use Rattle.std.specs.Prelude.{◌≡◌};
 ghost use Rattle.fragmentation.specs.Slots.{Slots};
 ghost use Rattle.host_machine.specs.Host.{SocketSet};
@@ -9,7 +9,8 @@ use iface_send::Context;
 use iface_send::neighbors::renew_neighbor;
 use ip_wire::{HardwareAddress, IpRepr};
 
-/// Keeps the sender of a packet to the interface alone for another 60 s.
+/// Keeps the sender of a packet for another 60 s, if it is known at this hardware address and the packet's destination
+/// is unicast.
 #[inline(always)]
 pub(crate) fn renew_sender(context: &mut Context, source: HardwareAddress, header: &IpRepr)
     ensures { (slots : Slots) (sockets : SocketSet) → host_in context.new slots sockets ≡ sender_renewed source header.now (host_in context.old slots sockets) }

@@ -1,15 +1,15 @@
--- How far reports of groups lie apart, and which comes next.
+-- The interval between reports of groups, and which report is next.
 use Rattle.std.specs.Prelude.{ℕ}
 use Rattle.group_table.specs.declared.report.IgmpReportState.{IgmpReportState}
 use Rattle.group_table.specs.declared.report.IgmpReportState.TheVariants.{Inactive, ToGeneralQuery, ToSpecificQuery}
 
--- from one group's report to the next, in microseconds; behind the report of one group comes none
+-- the interval between two reports, in microseconds; after the report of a specific query there is none
 abbrev pub interval_of : IgmpReportState → ℕ
 interval_of Inactive = 0
 interval_of (ToGeneralQuery version timeout interval next_index) = interval
 interval_of (ToSpecificQuery version timeout group) = 0
 
--- the place of the next group to be reported among the IPv4 groups
+-- the index of the next group to be reported among the IPv4 groups
 abbrev pub index_of : IgmpReportState → ℕ
 index_of Inactive = 0
 index_of (ToGeneralQuery version timeout interval next_index) = next_index

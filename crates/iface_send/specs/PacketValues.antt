@@ -1,4 +1,4 @@
--- Packets as values, without where their octets lie in memory.
+-- Packets as values, apart from where their octets are in memory.
 use Rattle.std.specs.Prelude.{ℕ, List, [], Some, drop}
 use Rattle.control_wire.specs.declared.icmpv4.Icmpv4Repr.TheVariants as icmpv4
 use Rattle.icmpv6_wire.specs.declared.icmpv6.Icmpv6Repr.TheVariants as icmpv6
@@ -54,7 +54,7 @@ datagram p = value.Udp p.header p.octets.now
 abbrev pub segment : Segment → value.IpPayload
 segment p = value.Tcp p.header p.octets.now
 
--- the octets behind its protocol's header
+-- the octets after its protocol's header
 abbrev pub octets_after : IpPayload → List ℕ
 octets_after (Icmpv4 message octets) = octets.now
 octets_after (Icmpv6 message octets) = octets.now
@@ -66,7 +66,7 @@ octets_after (Raw number octets) = octets.now
 octets_after (Igmp message) = []
 octets_after (Mld count records) = records.now
 
--- packets, by what the payloads of their kind are as values
+-- packets, given the values of their payloads
 abbrev pub packet_v4 : {P : Type 0} → (P → value.IpPayload) → PacketV4 P → value.PacketV4
 packet_v4 carried p = record { src_addr = p.src_addr; dst_addr = p.dst_addr; hop_limit = p.hop_limit; payload = carried p.payload }
 

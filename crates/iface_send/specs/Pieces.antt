@@ -1,11 +1,11 @@
--- A piece that goes.
+-- The fragment that is sent next.
 use Rattle.std.specs.Prelude.{◌≡◌, ℕ, List, [], ◌∷◌}
 use Rattle.fragmentation.specs.Cuts.{Piece}
 use Rattle.host_machine.specs.Note.{Note, OfCuts, PieceSent}
 use Rattle.host_machine.specs.Host.{Host, with_left}
 use Rattle.host_machine.specs.Frame.{piece_frame}
 
--- the first of the pieces that are left goes, and the others stay left
+-- the first pending fragment is sent, and the others stay pending
 pub record NextPieceGoes (H : Host) (frames : List (List ℕ)) (notes : List Note) (new : Host) : Type 0 where
   pub piece : Piece
   pub rest : List Piece

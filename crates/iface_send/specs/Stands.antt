@@ -16,7 +16,7 @@ Addresses = ArrayVec IpCidr
 abbrev pub with_routes : Context → List Route → Context
 with_routes c routes = record c { routes = routes }
 
--- the host of what a context knows, and of these sockets; its slots for fragments stand beside the context, so here they are empty
+-- the host of a context with these sockets; the slots for fragments are kept beside the context, so here they are empty
 abbrev pub host_of : Context → SocketSet → Host
 host_of c sockets = record {
   capabilities = c.capabilities;
@@ -40,6 +40,6 @@ host_of c sockets = record {
   sockets = sockets;
 }
 
--- the host of what a context knows, of these slots, and of these sockets
+-- the host of a context with these slots and these sockets
 abbrev pub host_in : Context → Slots → SocketSet → Host
 host_in c slots sockets = with_slots (host_of c sockets) slots

@@ -1,4 +1,4 @@
-//! Stateless address autoconfiguration over what an interface keeps (RFC 4862 5.5, RFC 4861 6.3).
+//! Stateless address autoconfiguration (SLAAC) on the state of an interface (RFC 4862 5.5, RFC 4861 6.3).
 ghost use Rattle.std.specs.Prelude.{◌≡◌, ◌≤◌, length};
 ghost use Rattle.host_machine.specs.Host.{SocketSet, no_sockets};
 ghost use Rattle.host_machine.specs.Multicast.{after_address_change};
@@ -24,21 +24,21 @@ impl Context {
     ghost use Rattle.host_machine.specs.Host.{no_sockets};
     ghost use Rattle.iface_send.specs.Stands.{host_of};
 
-    /// Whether the interface takes IPv6 addresses from routers that advertise their prefixes.
+    /// Whether the interface takes IPv6 addresses from router advertisements.
     pub fn is_slaac_enabled(&self) -> bool
         ensures { result ≡ (host_of self.now no_sockets).slaac_enabled }
     {
         self.slaac_enabled
     }
 
-    /// The prefixes and the routers that it learnt of, and how far its search for routers is.
+    /// The prefixes and routers learnt from advertisements, and the state of router discovery.
     pub fn slaac(&self) -> &Slaac
         ensures { result.now ≡ (host_of self.now no_sockets).slaac }
     {
         &self.slaac
     }
 
-    /// When its addresses and routes were last brought into line with those: at first the origin.
+    /// When addresses and routes were last synchronized with them; [`Instant::ZERO`] before the first time.
     pub fn slaac_updated_at(&self) -> Instant
         ensures { result ≡ (host_of self.now no_sockets).slaac_updated_at }
     {
@@ -46,8 +46,8 @@ impl Context {
     }
 }
 
-/// Takes in an advertisement: the router that sent it, for how long that may be taken as default router,
-/// and a prefix, if it names one. The lifetime has to be below 2^32 s.
+/// Processes a router advertisement: the router that sent it, its lifetime as a default router, and a prefix, if it
+/// carries one. The lifetime must be below 2^32 s.
 pub fn process_advertisement(
     context: &mut Context,
     router: &Ipv6Address,
@@ -64,7 +64,7 @@ pub fn process_advertisement(
         .process_advertisement(router, router_lifetime, prefix, now);
 }
 
-/// A router solicitation was sent at the interface's moment.
+/// Records that a router solicitation was sent at the interface's moment.
 pub fn rs_sent(context: &mut Context)
     ensures { (sockets : SocketSet) → host_of context.new sockets ≡ with_slaac (host_of context.old sockets)
         (learnt.rs_sent (host_of context.old no_sockets).slaac (host_of context.old no_sockets).moment) }
@@ -73,9 +73,9 @@ pub fn rs_sent(context: &mut Context)
     context.slaac.rs_sent(now);
 }
 
-/// Brings the addresses and the routes into line with what was learnt of prefixes and routers, if something
-/// of it is new, was withdrawn or has ended: as by a change of addresses all neighbours are forgotten then,
-/// and solicited-node groups are left and joined. What has ended is forgotten.
+/// Synchronizes addresses and routes with the prefixes and routers learnt, if one of these is new, was withdrawn or has
+/// expired. Then, as with any change of addresses, all neighbours are forgotten, and solicited-node groups are left and
+/// joined. What has expired is forgotten.
 pub fn sync_slaac(context: &mut Context)
     ensures { (slots : Slots) (sockets : SocketSet) → host_in context.new slots sockets ≡ after_sync (host_in context.old slots sockets) }
 {
@@ -84,7 +84,7 @@ pub fn sync_slaac(context: &mut Context)
     }
 }
 
-/// Brings the addresses and the routes into line with what was learnt.
+/// Synchronizes addresses and routes with the prefixes and routers learnt.
 fn apply_slaac(context: &mut Context)
     ensures { (sockets : SocketSet) → host_of context.new sockets ≡ with_slaac_applied (host_of context.old sockets) }
 {
@@ -101,7 +101,7 @@ fn apply_slaac(context: &mut Context)
     finish_sync(context);
 }
 
-/// Forgets what has ended: addresses and routes are in line.
+/// Ends a sync: forgets what has expired, and records the moment.
 fn finish_sync(context: &mut Context)
     ensures { (sockets : SocketSet) → host_of context.new sockets ≡ record (host_of context.old sockets) {
       slaac = slaac_after_update (host_of context.old no_sockets).slaac (host_of context.old no_sockets).moment;

@@ -1,4 +1,4 @@
-//! What an interface knows, beside its buffers.
+//! What an interface knows, besides its buffers.
 ghost use Rattle.std.specs.Prelude.{◌≡◌, ◌≤◌, ◌+◌};
 ghost use Rattle.std.specs.List.{list_any};
 ghost use Rattle.net_base.specs.Time.{IsMoment};
@@ -22,11 +22,11 @@ use slaac::Slaac;
 use sockets::SocketContext;
 use sockets::endpoint::is_same_addr;
 
-/// How many addresses an interface has at most.
+/// The maximum number of addresses of an interface.
 pub const IFACE_MAX_ADDR_COUNT: usize = 4;
 
-/// What an interface knows: its device, its addresses, its routes, its neighbours, its groups, what routers
-/// advertised, the moment, and what waits to be sent of a packet that was cut.
+/// The state of an interface besides its buffers: device capabilities, addresses, routes, neighbours, groups, what
+/// routers advertised, the moment, and the pending fragments of a packet.
 #[derive(Drop)]
 pub struct Context {
     pub(crate) capabilities: DeviceCapabilities,
@@ -60,7 +60,7 @@ impl Context {
     ghost use Rattle.host_machine.specs.Host as host;
     ghost use Rattle.iface_send.specs.Stands.{host_of};
 
-    /// The capabilities of the device, when the interface was made.
+    /// The capabilities of the device when the interface was created.
     #[inline(always)]
     pub fn capabilities(&self) -> DeviceCapabilities
         ensures { result ≡ (host_of self.now no_sockets).capabilities }
@@ -68,7 +68,7 @@ impl Context {
         self.capabilities
     }
 
-    /// The address of the interface on its link.
+    /// The hardware address of the interface.
     #[inline(always)]
     pub fn hardware_addr(&self) -> HardwareAddress
         ensures { result ≡ (host_of self.now no_sockets).hardware_addr }
@@ -76,7 +76,7 @@ impl Context {
         self.hardware_addr
     }
 
-    /// The interface's own addresses with their networks, in the order given.
+    /// The addresses assigned to the interface, each with its prefix length, in the order given.
     #[inline(always)]
     pub fn ip_addrs(&self) -> &[IpCidr]
         ensures value { result.now ≡ (host_of self.now no_sockets).ip_addrs }
@@ -85,7 +85,7 @@ impl Context {
         self.ip_addrs.as_slice()
     }
 
-    /// Whether addresses that are routed to the interface are taken for own ones.
+    /// Whether the interface accepts addresses that are routed to it as its own (AnyIP).
     #[inline(always)]
     pub fn any_ip(&self) -> bool
         ensures { result ≡ (host_of self.now no_sockets).any_ip }
@@ -93,7 +93,7 @@ impl Context {
         self.any_ip
     }
 
-    /// For how long a slot stands that is taken for fragments from now on.
+    /// The reassembly timeout of slots that are taken from now on.
     #[inline(always)]
     pub fn reassembly_timeout(&self) -> Duration
         ensures value { result ≡ (host_of self.now no_sockets).reassembly_timeout }
@@ -102,7 +102,7 @@ impl Context {
         self.reassembly_timeout
     }
 
-    /// Which checksums the device leaves to the stack.
+    /// Which checksums the device leaves to the stack to compute and verify.
     #[inline(always)]
     pub fn checksum_caps(&self) -> ChecksumCapabilities
         ensures { result ≡ (host_of self.now no_sockets).capabilities.checksum }
@@ -110,7 +110,7 @@ impl Context {
         self.capabilities.checksum
     }
 
-    /// How long the IP packets are that the device takes, in octets.
+    /// The greatest length of an IP packet that the device takes, in octets.
     #[inline(always)]
     pub fn ip_mtu(&self) -> usize
         ensures { result ≡ ip_mtu_of (host_of self.now no_sockets).capabilities }
@@ -118,7 +118,7 @@ impl Context {
         self.capabilities.ip_mtu()
     }
 
-    /// Whether pieces of a packet that was cut wait to be sent.
+    /// Whether fragments of a packet are waiting to be sent.
     #[inline(always)]
     pub fn has_pending_fragment(&self) -> bool
         ensures { result ≡ not (is_nil (host_of self.now no_sockets).left) }
@@ -142,8 +142,8 @@ impl Context {
         &self.neighbor_cache
     }
 
-    /// Whether an address is one of the interface's own: one that was given to it, or with AnyIP one
-    /// host's whose best route has such an address as router.
+    /// Whether an address is one of the interface's own: assigned to it or, with AnyIP, unicast with an assigned
+    /// address as the gateway of its best route.
     #[inline(always)]
     pub fn has_ip_addr(&self, address: &IpAddress) -> bool
         ensures { result ≡ host.has_ip_addr (host_of self.now no_sockets) address.now }
@@ -152,8 +152,7 @@ impl Context {
             || self.any_ip && self.is_routed_here(*address)
     }
 
-    /// Whether an address is one host's, and its best route has an address as router that was given to
-    /// the interface.
+    /// Whether an address is unicast and the gateway of its best route is an address assigned to the interface (AnyIP).
     #[inline(never)]
     fn is_routed_here(&self, address: IpAddress) -> bool
         ensures { result ≡ host.is_routed_here (host_of self.now no_sockets) address }
@@ -167,23 +166,23 @@ impl Context {
         }
     }
 
-    /// Whether an address is one that was given to the interface.
+    /// Whether an address is assigned to the interface.
     pub fn is_assigned(&self, address: &IpAddress) -> bool
         ensures { result ≡ host.is_assigned (host_of self.now no_sockets).ip_addrs address.now }
     {
         is_assigned(self.ip_addrs.as_slice(), address)
     }
 
-    /// Whether an address is in a network of the interface's own.
+    /// Whether an address is in the network of one of the interface's addresses.
     pub fn in_same_network(&self, address: &IpAddress) -> bool
         ensures { result ≡ host.in_same_network (host_of self.now no_sockets).ip_addrs address.now }
     {
         self.ip_addrs.iter().any(|cidr| cidr.contains_addr(address))
     }
 
-    /// Whether the interface is a member of a group: of that of all hosts, 224.0.0.1 or ff02::1 (RFC
-    /// 1112, RFC 4291 2.8), of the solicited-node group of an address of its own, or of one that it
-    /// joined and hasn't left since.
+    /// Whether the interface is a member of a multicast group. It is always a member of all-hosts (224.0.0.1, RFC
+    /// 1112), of all-nodes (ff02::1, RFC 4291 2.8), and of the solicited-node groups of its addresses other than ::1.
+    /// Besides, it is a member of the groups that it joined and hasn't left since.
     pub fn has_multicast_group(&self, address: &IpAddress) -> bool
         ensures { result ≡ addresses.has_multicast_group (host_of self.now no_sockets) address.now }
     {
@@ -197,16 +196,16 @@ impl Context {
         is_member_always || self.multicast.groups.is_member(address)
     }
 
-    /// Whether an address is the solicited-node group of one of the interface's own, other than ::1
-    /// (RFC 4291 2.7.1).
+    /// Whether an address is the solicited-node group of one of the interface's addresses other than ::1 (RFC 4291
+    /// 2.7.1).
     pub fn has_solicited_node(&self, address: &Ipv6Address) -> bool
         ensures { result ≡ addresses.has_solicited_node (host_of self.now no_sockets).ip_addrs address.now }
     {
         is_solicited(self.ip_addrs.as_slice(), address)
     }
 
-    /// Whether a packet to this address is for the interface: to an own one, to a group of its own,
-    /// to a broadcast address, or to ::1.
+    /// Whether a packet to this address is for the interface: one of its own addresses, one of its groups, a broadcast
+    /// address, or ::1.
     #[inline(always)]
     pub fn is_for_host(&self, address: &IpAddress) -> bool
         ensures { result ≡ addresses.is_for_host (host_of self.now no_sockets) address.now }
@@ -214,7 +213,7 @@ impl Context {
         self.has_ip_addr(address) || self.is_for_group_or_itself(*address)
     }
 
-    /// Whether an address is one of a group of its own, a broadcast address, or ::1.
+    /// Whether an address is one of the interface's groups, a broadcast address, or ::1.
     #[inline(never)]
     fn is_for_group_or_itself(&self, address: IpAddress) -> bool
         ensures { result ≡ (addresses.has_multicast_group (host_of self.now no_sockets) address || addresses.is_broadcast (host_of self.now no_sockets).ip_addrs address || addresses.is_loopback address) }
@@ -222,8 +221,8 @@ impl Context {
         self.has_multicast_group(&address) || self.is_broadcast(&address) || is_loopback(&address)
     }
 
-    /// Whether it is the broadcast address of all networks, or of one of the interface's own (RFC
-    /// 922). Such an address ends in two ones at least, so most are told apart by that.
+    /// Whether an address is the limited broadcast address, or the broadcast address of one of the interface's networks
+    /// (RFC 922). Such an address ends in two ones at least, so most addresses are ruled out by that test.
     #[inline(always)]
     #[tactic(auto, using(crate::proofs::Broadcasts::broadcasts))]
     pub fn is_broadcast_v4(&self, address: &Ipv4Address) -> bool
@@ -235,7 +234,7 @@ impl Context {
         address.is_broadcast() || ends_a_network(self.ip_addrs.as_slice(), address)
     }
 
-    /// Whether it is the address of one host, as far as the interface can know.
+    /// Whether an IPv4 address is unicast, as far as the interface can know.
     #[inline(always)]
     pub fn is_unicast_v4(&self, address: &Ipv4Address) -> bool
         ensures { result ≡ addresses.is_unicast_v4 (host_of self.now no_sockets).ip_addrs address.now }
@@ -243,7 +242,7 @@ impl Context {
         address.is_unicast() && !self.is_broadcast_v4(address)
     }
 
-    /// The same of either family.
+    /// Whether an address of either family is unicast, as far as the interface can know.
     #[inline(always)]
     pub fn is_unicast(&self, address: &IpAddress) -> bool
         ensures { result ≡ addresses.is_unicast (host_of self.now no_sockets).ip_addrs address.now }
@@ -254,22 +253,22 @@ impl Context {
         }
     }
 
-    /// The first own IPv4 address.
+    /// The first IPv4 address of the interface, if any.
     pub fn ipv4_addr(&self) -> Option<Ipv4Address>
         ensures { result ≡ addresses.ipv4_addr (host_of self.now no_sockets).ip_addrs }
     {
         first_ipv4(self.ip_addrs.as_slice())
     }
 
-    /// The first own link-local address (RFC 4291 2.5.6).
+    /// The first link-local address of the interface, if any (RFC 4291 2.5.6).
     pub fn link_local_addr(&self) -> Option<Ipv6Address>
         ensures { result ≡ addresses.link_local_addr (host_of self.now no_sockets).ip_addrs }
     {
         first_link_local(self.ip_addrs.as_slice())
     }
 
-    /// The source for an IPv4 destination: the first own address whose network contains it, else
-    /// the first own IPv4 address.
+    /// The source address for an IPv4 destination: the first address of the interface whose network contains the
+    /// destination, otherwise the first IPv4 address.
     pub fn get_source_address_ipv4(&self, dst_addr: &Ipv4Address) -> Option<Ipv4Address>
         ensures { result ≡ addresses.source_v4 (host_of self.now no_sockets).ip_addrs dst_addr.now }
     {
@@ -285,15 +284,15 @@ impl Context {
     ghost use Rattle.address_selection.specs.Ipv6 as selection;
     ghost use Rattle.iface_send.specs.Stands.{host_of};
 
-    /// The first own IPv6 address.
+    /// The first IPv6 address of the interface, if any.
     pub fn ipv6_addr(&self) -> Option<Ipv6Address>
         ensures { result ≡ selection.ipv6_addr (host_of self.now no_sockets).ip_addrs }
     {
         ipv6_addr(self.ip_addrs.as_slice())
     }
 
-    /// The source for an IPv6 destination (RFC 6724 5): as [`get_source_address_ipv6`] chooses it of
-    /// the own addresses.
+    /// The source address for an IPv6 destination (RFC 6724 5), chosen from the interface's addresses by
+    /// [`get_source_address_ipv6`].
     pub fn get_source_address_ipv6(&self, dst_addr: &Ipv6Address) -> Ipv6Address
         ensures { result ≡ selection.source_v6 (host_of self.now no_sockets).ip_addrs dst_addr.now }
     {
@@ -307,7 +306,7 @@ impl Context {
     ghost use Rattle.host_machine.specs.Host.{SocketSet};
     ghost use Rattle.iface_send.specs.Stands.{host_of};
 
-    /// The next random word of 16 bits, for what need not be secret.
+    /// Draws the next random 16-bit word, for values that need not be secret.
     pub fn rand_u16(&mut self) -> u16
         ensures word { result ≡ next (host_of self.old no_sockets).random / 2 ^ 48 }
         ensures drawn { (sockets : SocketSet) → host_of self.new sockets ≡ record (host_of self.old sockets) { random = next (host_of self.old no_sockets).random } }
@@ -315,7 +314,7 @@ impl Context {
         self.rand.rand_u16()
     }
 
-    /// The next random word of 32 bits, for what need not be secret.
+    /// Draws the next random 32-bit word, for values that need not be secret.
     pub fn rand_u32(&mut self) -> u32
         ensures word { result ≡ next (host_of self.old no_sockets).random / 2 ^ 32 }
         ensures drawn { (sockets : SocketSet) → host_of self.new sockets ≡ record (host_of self.old sockets) { random = next (host_of self.old no_sockets).random } }
@@ -357,7 +356,7 @@ impl SocketContext for Context {
     }
 }
 
-/// Whether it is the host itself, ::1.
+/// Whether an address is ::1.
 fn is_loopback(address: &IpAddress) -> bool
     ensures { result ≡ addresses.is_loopback address.now }
 {
@@ -367,14 +366,14 @@ fn is_loopback(address: &IpAddress) -> bool
     }
 }
 
-/// Whether an address is the solicited-node group of one of a list.
+/// Whether an address is the solicited-node group of an address of the list other than ::1.
 pub(crate) fn is_solicited(own: &[IpCidr], address: &Ipv6Address) -> bool
     ensures { result ≡ addresses.has_solicited_node own.now address.now }
 {
     own.iter().any(|cidr| is_asked_by(cidr, address))
 }
 
-/// Whether an address is the solicited-node group of another, unless that is ::1.
+/// Whether an address is the solicited-node group of another address, which is not ::1.
 #[inline(always)]
 fn is_asked_by(cidr: &IpCidr, address: &Ipv6Address) -> bool
     ensures { result ≡ addresses.is_asked_by address.now cidr.now }
@@ -387,7 +386,7 @@ fn is_asked_by(cidr: &IpCidr, address: &Ipv6Address) -> bool
     }
 }
 
-/// Whether an address is one of a list.
+/// Whether an address is in a list.
 #[inline(always)]
 fn is_assigned(own: &[IpCidr], address: &IpAddress) -> bool
     ensures { result ≡ is_assigned own.now address.now }
@@ -396,14 +395,14 @@ fn is_assigned(own: &[IpCidr], address: &IpAddress) -> bool
         .any(|cidr| is_same_addr(&cidr.address(), address))
 }
 
-/// Whether an address is the broadcast address of a network of a list.
+/// Whether an address is the broadcast address of a network in a list.
 fn ends_a_network(own: &[IpCidr], address: &Ipv4Address) -> bool
     ensures { result ≡ list_any (λ c. addresses.is_broadcast_of c address.now) own.now }
 {
     own.iter().any(|cidr| is_broadcast_of(cidr, address))
 }
 
-/// Whether it is the broadcast address of a network.
+/// Whether an address is the broadcast address of a network.
 #[inline(always)]
 fn is_broadcast_of(cidr: &IpCidr, address: &Ipv4Address) -> bool
     ensures { result ≡ addresses.is_broadcast_of cidr.now address.now }

@@ -1,5 +1,5 @@
-//! Where one IP packet goes: the next hop, its hardware address, and the frame that is built for it (RFC
-//! 1122 3.3.1, RFC 826).
+//! Where an IP packet is sent: the next hop, its hardware address, and the frame that is built for it (RFC 1122 3.3.1,
+//! RFC 826).
 ghost use Rattle.std.specs.Prelude.{◌≡◌, ◌≤◌, ◌<◌, true, false, [], length, None, Ok, Err, IfSome};
 ghost use Rattle.net_base.specs.Checksum.{ip_mtu_of};
 ghost use Rattle.ip_address.specs.Ip.{is_unicast, is_unspecified};
@@ -29,12 +29,16 @@ use ip_wire::{
     ArpOperation, ArpRepr, EthernetAddress, HardwareAddress, IpAddress, Ipv4Address, Ipv6Address,
 };
 
-/// Builds the frame of an IP packet for the next hop towards its destination, in an empty buffer. `Ok`
-/// if the packet counts as gone: its frame is built, or that of its first piece, or it is dropped since
-/// it goes to nobody or has to be cut and has more than 4,096 octets. `NoRoute` if there is no next hop, or no own address from which to
-/// ask for it. `NeighborPending` if its hardware address isn't known; then the request for that is
-/// built, unless another one went less than a second ago. An empty buffer means that nothing is to be
-/// sent. A header that the packet quotes has to be that of a packet of at most 65,535 octets.
+/// Builds the frame of an IP packet for the next hop towards its destination, in an empty buffer. If the buffer stays
+/// empty, there is nothing to send. A header that the packet quotes must describe a packet of at most 65,535 octets.
+/// Returns
+///
+/// - `Ok` if the caller is done with the packet: its frame (or its first fragment's) is in `out`, or it was dropped. It
+///   is dropped if its destination is unspecified, or if it needs fragmentation and is longer than 4,096 octets or
+///   IPv6.
+/// - `NoRoute` if there is no next hop, or no address of the interface to ask for it from.
+/// - `NeighborPending` if the hardware address of the next hop is unknown. Then the request for it is built, unless a
+///   request was sent less than a second ago.
 pub fn dispatch<Q: AnyPacket>(
     context: &mut Context,
     packet: &Q,
@@ -60,7 +64,8 @@ pub fn dispatch<Q: AnyPacket>(
     }
 }
 
-/// Builds a packet's frame over Ethernet: to many hosts straight, else by the next hop.
+/// Builds a packet's frame over Ethernet: directly for a multicast or broadcast destination, otherwise for the next
+/// hop.
 #[inline(always)]
 fn dispatch_ethernet<Q: AnyPacket>(
     context: &mut Context,
@@ -86,7 +91,7 @@ fn dispatch_ethernet<Q: AnyPacket>(
     }
 }
 
-/// Builds a packet's frame for a next hop, or the request for that one's hardware address.
+/// Builds a packet's frame for a next hop, or the request for the next hop's hardware address.
 #[inline(always)]
 fn dispatch_by_hop<Q: AnyPacket>(
     context: &mut Context,
@@ -108,15 +113,16 @@ fn dispatch_by_hop<Q: AnyPacket>(
         }
         Answer::RateLimited => Err(DispatchError::NeighborPending),
         Answer::NotFound => {
-            // Copies, so that a packet that goes stores neither for this call.
+            // Copies, so that a packet that is sent stores neither for this call.
             let (own, hop) = (own, *hop);
             Err(discover_neighbor(context, own, &hop, out))
         }
     }
 }
 
-/// Builds the request for the hardware address of a neighbour; for a second nobody's is asked for then.
-/// Answers why the packet for it isn't gone.
+/// Builds the request for the hardware address of a neighbour, and silences discovery for a second. Without an address
+/// to ask from, nothing is built and discovery isn't silenced. Returns why the packet for the neighbour can't be sent
+/// yet.
 fn discover_neighbor(
     context: &mut Context,
     own: EthernetAddress,
@@ -132,7 +138,9 @@ fn discover_neighbor(
     }
 }
 
-/// The same over IPv4, by an ARP request.
+/// Builds the ARP request for the hardware address of an IPv4 neighbour, and silences discovery for a second. Without
+/// an IPv4 address to ask from, nothing is built and discovery isn't silenced. Returns why the packet for the neighbour
+/// can't be sent yet.
 #[inline(always)]
 fn send_arp_request(
     context: &mut Context,
@@ -151,7 +159,9 @@ fn send_arp_request(
     DispatchError::NeighborPending
 }
 
-/// The same over IPv6, by a neighbour solicitation, which takes an identification of its own.
+/// Builds the neighbour solicitation for the hardware address of an IPv6 neighbour, and silences discovery for a
+/// second. The solicitation takes an identification of its own. Returns why the packet for the neighbour can't be sent
+/// yet.
 #[inline(never)]
 fn send_neighbor_solicit(
     context: &mut Context,
@@ -172,7 +182,7 @@ fn send_neighbor_solicit(
     DispatchError::NeighborPending
 }
 
-/// The solicitation for the hardware address of a target (RFC 4861 7.2.2).
+/// The neighbour solicitation for the hardware address of a target (RFC 4861 7.2.2).
 fn solicitation_for(
     own: EthernetAddress,
     source: Ipv6Address,
@@ -192,7 +202,7 @@ fn solicitation_for(
     })
 }
 
-/// The request for the hardware address of a target.
+/// The ARP request for the hardware address of a target.
 fn request_for(own: EthernetAddress, source: Ipv4Address, target: Ipv4Address) -> ArpRepr
     ensures { result ≡ request_for own source target }
 {
@@ -205,9 +215,8 @@ fn request_for(own: EthernetAddress, source: Ipv4Address, target: Ipv4Address) -
     }
 }
 
-/// Builds the frame of a packet for a hardware address: that of the whole packet, or of its first piece
-/// if it is longer than the device's packets. One of more than 4,096 octets is dropped then, and so is
-/// one of IPv6 (RFC 8200 5).
+/// Builds the frame of a packet for a hardware address: of the whole packet, or of its first fragment if it exceeds the
+/// device's IP MTU. A packet that exceeds the MTU is dropped if it is longer than 4,096 octets, or IPv6 (RFC 8200 5).
 #[inline(always)]
 fn emit_packet<Q: AnyPacket>(
     context: &mut Context,
@@ -225,7 +234,7 @@ fn emit_packet<Q: AnyPacket>(
         emit_frame(context, destination, packet, out);
         return;
     }
-    // A copy, so that the address isn't stored for this call where the packet fits.
+    // A copy, so that the address isn't stored for this call if the packet fits.
     let destination = *destination;
     emit_long_packet(
         context,
@@ -236,8 +245,8 @@ fn emit_packet<Q: AnyPacket>(
     );
 }
 
-/// Builds the frame of the first piece of a packet that is longer than the device's packets, if it may be
-/// cut; else it is dropped.
+/// Builds the frame of the first fragment of a packet that exceeds the device's IP MTU, if it may be fragmented;
+/// otherwise drops the packet.
 #[inline(never)]
 fn emit_long_packet(
     context: &mut Context,
@@ -259,7 +268,7 @@ fn emit_long_packet(
     }
 }
 
-/// Builds the frame of a packet that fits.
+/// Builds the frame of a packet that fits the device's IP MTU.
 #[inline(always)]
 fn emit_frame<Q: AnyPacket>(
     context: &Context,
@@ -278,8 +287,7 @@ fn emit_frame<Q: AnyPacket>(
     packet.emit(&context.capabilities, out);
 }
 
-/// The hardware address for a destination of many hosts: that of all for a broadcast, that of the
-/// group for a group.
+/// The hardware address for a multicast or broadcast destination: the broadcast address, or that of the group.
 #[inline(always)]
 fn multicast_hardware_addr(context: &Context, dst_addr: &IpAddress) -> Option<EthernetAddress>
     ensures value { result ≡ spec.multicast_hardware_addr (host_of context.now no_sockets).ip_addrs dst_addr.now }
@@ -305,7 +313,7 @@ fn multicast_hardware_addr(context: &Context, dst_addr: &IpAddress) -> Option<Et
     }
 }
 
-/// The hardware address of an IPv4 group: 01:00:5e, and its low 23 bits (RFC 1112 6.4).
+/// The hardware address of an IPv4 group: 01:00:5e and the group's low 23 bits (RFC 1112 6.4).
 fn group_address_v4(group: &Ipv4Address) -> EthernetAddress
     ensures { result ≡ spec.group_address_v4 group.now }
 {
@@ -320,7 +328,7 @@ fn group_address_v4(group: &Ipv4Address) -> EthernetAddress
     ])
 }
 
-/// The hardware address of an IPv6 group: 33:33, and its last four octets (RFC 2464 7).
+/// The hardware address of an IPv6 group: 33:33 and the group's last four octets (RFC 2464 7).
 fn group_address_v6(group: &Ipv6Address) -> EthernetAddress
     ensures { result ≡ spec.group_address_v6 group.now }
 {
@@ -335,8 +343,8 @@ fn group_address_v6(group: &Ipv6Address) -> EthernetAddress
     ])
 }
 
-/// Whether the next hop to an address is a neighbour whose hardware address is known, so that a packet
-/// goes there without being asked for. An address that isn't one host's has no next hop.
+/// Whether the next hop to an address is a neighbour with a known hardware address, so that a packet needs no
+/// discovery. An address that isn't unicast has no next hop.
 pub fn has_neighbor(context: &Context, address: &IpAddress) -> bool
     ensures { (slots : Slots) (sockets : SocketSet) → spec.KnowsNextHop (host_in context.now slots sockets) address.now result }
 {
@@ -349,8 +357,8 @@ pub fn has_neighbor(context: &Context, address: &IpAddress) -> bool
     }
 }
 
-/// The next hop to an address: itself in an own network, else the router of the best route, if that
-/// is one host.
+/// The next hop to a unicast address: the address itself if it is in a network of the interface, otherwise the gateway
+/// of the best route, if that is unicast.
 #[inline(always)]
 fn next_hop(context: &Context, address: &IpAddress) -> Option<IpAddress>
     requires { is_unicast address.now ≡ true }
@@ -360,7 +368,7 @@ fn next_hop(context: &Context, address: &IpAddress) -> Option<IpAddress>
     if context.in_same_network(address) {
         return Some(*address);
     }
-    // A copy, so that the address isn't stored for this call where it is near.
+    // A copy, so that the address isn't stored for this call if it is in a network of the interface.
     let far = *address;
     let router = context.routes.lookup(&far, context.moment)?;
     if router.is_unicast() {

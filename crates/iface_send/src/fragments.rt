@@ -1,4 +1,4 @@
-//! Packets that are longer than the device's, and go in pieces (RFC 791 3.2).
+//! Fragmentation of packets that exceed the device's IP MTU (RFC 791 3.2).
 ghost use Rattle.std.specs.Prelude.{◌≡◌, ◌<◌, ◌≤◌, ◌+◌, false, [], length, Ok};
 ghost use Rattle.net_base.specs.Checksum.{ip_mtu_of};
 ghost use Rattle.fragmentation.specs.Cuts.{HasForm, pieces_of};
@@ -19,9 +19,8 @@ use ip_wire::emit::FrameBuffer;
 use ip_wire::ipv4_packet::HEADER_LEN;
 use ip_wire::{EthernetProtocol, HardwareAddress, IpRepr};
 
-/// Cuts a packet that is longer than the device's packets, and has at most 4,096 octets: builds the
-/// frame of its first piece, in an empty buffer, and leaves the others to be sent, in place of what was
-/// left before.
+/// Fragments a packet that exceeds the device's IP MTU and has at most 4,096 octets. Builds the frame of the first
+/// fragment in an empty buffer, and keeps the others pending in place of any that were.
 #[inline(never)]
 pub(crate) fn emit_fragmented(
     context: &mut Context,
@@ -41,8 +40,8 @@ pub(crate) fn emit_fragmented(
     emit_next_piece(context, out);
 }
 
-/// Leaves all pieces of a packet to be sent, in place of what was left before. Its protocol's header is
-/// built in an empty buffer.
+/// Makes all fragments of a packet pending, in place of any that were. The header of its protocol is built in an empty
+/// buffer.
 fn fragment_packet(
     context: &mut Context,
     identification: u16,
@@ -76,8 +75,7 @@ fn fragment_packet(
     );
 }
 
-/// Builds the frame of the next piece that is left to be sent, in an empty buffer; the others stay left.
-/// There has to be one.
+/// Builds the frame of the next pending fragment in an empty buffer; the others stay pending. There must be one.
 pub fn emit_next_piece(context: &mut Context, out: &mut FrameBuffer)
     requires empty { out.old ≡ [] }
     requires some { is_nil (host_of context.old no_sockets).left ≡ false }

@@ -1,5 +1,5 @@
-//! What an interface knows, and how it sends: the context with its tests of addresses and its choice
-//! of sources, packets as values, and their dispatch to the next hop.
+//! What an interface knows, and how it sends: the context with its address tests and source address selection, packets
+//! as values, and their dispatch to the next hop.
 #![tactic(auto)]
 
 pub mod autoconfiguration;

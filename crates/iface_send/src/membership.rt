@@ -1,4 +1,4 @@
-//! Of which groups an interface is a member, and the solicited-node groups of its addresses (RFC 4861 7.2.1).
+//! Multicast membership of an interface, and the solicited-node groups of its addresses (RFC 4861 7.2.1).
 ghost use Rattle.std.specs.Prelude.{◌≡◌, ◌<◌, ◌≤◌, [], filter, length, map};
 ghost use Rattle.group_table.specs.declared.groups.Group.{Group};
 ghost use Rattle.group_table.specs.declared.report.IgmpReportState.TheVariants as igmp;
@@ -13,7 +13,7 @@ use group_table::{
 };
 use ip_wire::{HardwareAddress, IpAddress, IpCidr, Ipv6Address};
 
-/// The groups of an interface, and what is to be reported of them to routers that asked.
+/// The groups of an interface, and the reports that answer queries of routers.
 #[derive(Drop)]
 pub struct Membership {
     pub(crate) groups: Groups,
@@ -23,7 +23,7 @@ pub struct Membership {
 }
 
 impl Membership {
-    /// No group, and nothing to report.
+    /// No group, and no report pending.
     pub(crate) fn new() -> Membership
         ensures groups { result.groups ≡ [] }
         ensures igmp { result.igmp_report ≡ igmp.Inactive }
@@ -37,9 +37,8 @@ impl Membership {
     }
 }
 
-/// Leaves the solicited-node groups that no own address has, in the order in which the groups stood, and
-/// then joins those of the own addresses, as far as there is room; on a medium with hardware addresses
-/// alone.
+/// Leaves the solicited-node groups that match no address of the interface, in the order of the table. Then joins those
+/// of its addresses, while there is room. Only on a medium with hardware addresses.
 pub(crate) fn update_solicited_node_groups(
     hardware_addr: &HardwareAddress,
     own: &[IpCidr],
@@ -57,7 +56,7 @@ pub(crate) fn update_solicited_node_groups(
     }
 }
 
-/// The solicited-node groups among these that no own address has.
+/// The solicited-node groups in the table that match no address of the interface.
 fn idle_groups(
     own: &[IpCidr],
     groups: &[Group],
@@ -74,7 +73,7 @@ fn idle_groups(
     idle
 }
 
-/// Whether it is a solicited-node group of no own address.
+/// Whether an address is a solicited-node group that matches no address of the interface.
 fn is_idle(own: &[IpCidr], group: &IpAddress) -> bool
     ensures { result ≡ spec.is_idle own.now group.now }
 {
@@ -84,14 +83,14 @@ fn is_idle(own: &[IpCidr], group: &IpAddress) -> bool
     }
 }
 
-/// Whether it is a solicited-node group, of whatever address: one of ff02::1:ff00:0/104 (RFC 4291 2.7.1).
+/// Whether an address is a solicited-node group, of whatever address: in ff02::1:ff00:0/104 (RFC 4291 2.7.1).
 fn is_solicited_node(group: &Ipv6Address) -> bool
     ensures { result ≡ spec.is_solicited_node_v6 group.now }
 {
     group.bits / (1 << 24) == 0xff02_0000_0000_0000_0000_0001_ff
 }
 
-/// Leaves groups, one after the other.
+/// Leaves groups, one after another.
 fn leave_all(groups: &mut Groups, addresses: &[IpAddress])
     ensures { groups.new ≡ spec.groups_after_leaves groups.old addresses.now }
 {
@@ -100,7 +99,7 @@ fn leave_all(groups: &mut Groups, addresses: &[IpAddress])
     }
 }
 
-/// Joins the solicited-node group of each IPv6 address, as far as there is room.
+/// Joins the solicited-node group of each IPv6 address, while there is room.
 fn join_solicited(groups: &mut Groups, own: &[IpCidr])
     ensures { groups.new ≡ spec.groups_after_joins groups.old own.now }
 {

@@ -1,4 +1,4 @@
-//! What the calls of an interface set in its groups, and in what is to be reported of them.
+//! What calls of an interface change in its groups, and in the reports about them.
 ghost use Rattle.std.specs.Prelude.{◌≡◌, ◌+◌, ◌<◌, Some, OnErr};
 ghost use Rattle.group_table.specs.declared.groups.GroupState.TheVariants.{Joining, Leaving};
 ghost use Rattle.group_table.specs.Groups.{count_in, done_or_full, first_in, join_reported, groups_after_join, leave_reported, groups_after_leave};
@@ -17,14 +17,14 @@ impl Context {
     ghost use Rattle.iface_send.specs.Multicast.{interval_of};
     ghost use Rattle.iface_send.specs.Stands.{host_of};
 
-    /// The groups, each with what is still to be told of it, in the order in which they are walked.
+    /// The groups, each with what is still to be reported of it, in the order in which they are walked.
     pub fn groups(&self) -> &Groups
         ensures { result.now ≡ (host_of self.now no_sockets).groups }
     {
         &self.multicast.groups
     }
 
-    /// What is to be reported of the IPv4 groups, and when.
+    /// The pending IGMP report, and when it is due.
     pub fn igmp_report(&self) -> IgmpReportState
         ensures value { result ≡ (host_of self.now no_sockets).igmp_report }
         ensures paced { interval_of result < 3600000000 }
@@ -32,7 +32,7 @@ impl Context {
         self.multicast.igmp_report
     }
 
-    /// What is to be reported of the IPv6 groups, and when.
+    /// The pending MLD report, and when it is due.
     pub fn mld_report(&self) -> MldReportState
         ensures { result ≡ (host_of self.now no_sockets).mld_report }
     {
@@ -40,8 +40,8 @@ impl Context {
     }
 }
 
-/// Joins a group, as [`Groups::join`] does. `GroupTableFull` exactly if the group isn't there and eight
-/// others are; then nothing changes.
+/// Joins a group, as [`Groups::join`] does. Fails with `GroupTableFull` exactly if the group isn't in the table and
+/// eight others are; then nothing changes.
 pub fn join_group(context: &mut Context, group: IpAddress) -> Result<(), GroupTableFull>
     ensures answer { result ≡ done_or_full (host_of context.old no_sockets).groups group }
     ensures groups { (sockets : SocketSet) → host_of context.new sockets ≡ with_groups (host_of context.old sockets) (groups_after_join (host_of context.old no_sockets).groups group) }
@@ -57,7 +57,7 @@ pub fn leave_group(context: &mut Context, group: &IpAddress)
     context.multicast.groups.leave(group);
 }
 
-/// It was told that a group is joined.
+/// Records that the join of a group was reported.
 pub fn join_reported(context: &mut Context, group: &IpAddress)
     ensures groups { (sockets : SocketSet) → host_of context.new sockets ≡ with_groups (host_of context.old sockets) (join_reported (host_of context.old no_sockets).groups group.now) }
     ensures fewer { first_in Joining (host_of context.old no_sockets).groups ≡ Some group.now →
@@ -66,7 +66,7 @@ pub fn join_reported(context: &mut Context, group: &IpAddress)
     context.multicast.groups.join_reported(group);
 }
 
-/// It was told that a group is left, which is taken out.
+/// Records that the leave of a group was reported, and removes the group.
 pub fn leave_reported(context: &mut Context, group: &IpAddress)
     ensures groups { (sockets : SocketSet) → host_of context.new sockets ≡ with_groups (host_of context.old sockets) (leave_reported (host_of context.old no_sockets).groups group.now) }
     ensures fewer { first_in Leaving (host_of context.old no_sockets).groups ≡ Some group.now →
@@ -75,7 +75,7 @@ pub fn leave_reported(context: &mut Context, group: &IpAddress)
     context.multicast.groups.leave_reported(group);
 }
 
-/// Sets what is to be reported of the IPv4 groups. Reports go less than an hour apart.
+/// Sets the pending IGMP report. Its reports must be less than an hour apart.
 pub fn set_igmp_report(context: &mut Context, report: IgmpReportState)
     requires { interval_of report < 3600000000 }
     ensures { (sockets : SocketSet) → host_of context.new sockets ≡ with_igmp_report (host_of context.old sockets) report }
@@ -83,7 +83,7 @@ pub fn set_igmp_report(context: &mut Context, report: IgmpReportState)
     context.multicast.igmp_report = report;
 }
 
-/// Sets what is to be reported of the IPv6 groups.
+/// Sets the pending MLD report.
 pub fn set_mld_report(context: &mut Context, report: MldReportState)
     ensures { (sockets : SocketSet) → host_of context.new sockets ≡ with_mld_report (host_of context.old sockets) report }
 {

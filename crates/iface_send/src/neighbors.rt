@@ -1,4 +1,4 @@
-//! What an interface learns of its neighbours from what it takes.
+//! What an interface learns of its neighbours from what it receives.
 ghost use Rattle.std.specs.Prelude.{◌≡◌, List, [], true};
 ghost use Rattle.ip_address.specs.Hardware as hardware;
 ghost use Rattle.ip_address.specs.Ip.{is_unicast};
@@ -9,7 +9,7 @@ ghost use Rattle.iface_send.specs.Stands.{host_of};
 use crate::context::Context;
 use ip_wire::{HardwareAddress, IpAddress};
 
-/// Whether a neighbour is known now. Its address has to be unicast.
+/// Whether a neighbour is known at the interface's moment. Its address must be unicast.
 pub fn is_known(context: &Context, protocol_addr: &IpAddress) -> bool
     requires { is_unicast protocol_addr.now ≡ true }
     ensures { result ≡ is_found (answer_of (host_of context.now no_sockets).neighbors protocol_addr.now (host_of context.now no_sockets).moment) }
@@ -20,7 +20,7 @@ pub fn is_known(context: &Context, protocol_addr: &IpAddress) -> bool
         .found()
 }
 
-/// Puts a neighbour at its address for 60 s from the moment on. Both addresses have to be unicast.
+/// Stores a neighbour's hardware address for 60 s from the interface's moment. Both addresses must be unicast.
 pub fn fill_neighbor(
     context: &mut Context,
     protocol_addr: IpAddress,
@@ -37,8 +37,8 @@ pub fn fill_neighbor(
         .fill(protocol_addr, hardware_addr, context.moment);
 }
 
-/// Keeps a neighbour for another 60 s, if the one at this address has this hardware address. Else
-/// nothing changes.
+/// Extends a neighbour's entry to 60 s from the interface's moment, if it has this hardware address. Otherwise nothing
+/// changes.
 #[inline(always)]
 pub fn renew_neighbor(
     context: &mut Context,

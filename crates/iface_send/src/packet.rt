@@ -1,5 +1,5 @@
-//! Packets to be sent: their values, with their octets as a slice of where they came from; and their
-//! frames, which are appended to a buffer.
+//! Packets to send: their values, with their octets borrowed from where they came from, and their frames, which are
+//! appended to a buffer.
 ghost use Rattle.std.specs.Prelude.{◌≡◌, ◌+◌, ◌-◌, ◌*◌, ◌<◌, ◌≤◌, ◌^◌, ◌++◌, [], length, min};
 ghost use Rattle.host_machine.specs.Frame.{arp_frame, ethertype_of, link_header, packet_text};
 ghost use Rattle.host_machine.specs.Packet.{IsFormed, IsWritable, total_len};
@@ -18,27 +18,27 @@ use ip_wire::{
 };
 use net_base::phy::DeviceCapabilities;
 
-/// An IP packet of either family. Where its family and the kind of its payload are types, what builds its
-/// frame is compiled for these.
+/// An IP packet of either family. Where family and kind of payload are types, the code that builds the frame is
+/// compiled for them.
 pub trait AnyPacket {
     ghost use Rattle.host_machine.specs.Packet.{Packet};
 
     /// The packet as a value.
     ghost stands_for: { Self → Packet };
 
-    /// Where it goes to.
+    /// The destination address.
     fn dst_addr(&self) -> IpAddress
         ensures { result ≡ destination_of (stands_for self.now) };
 
-    /// The type of the frame that carries it.
+    /// The EtherType of the frame that carries it.
     fn ethertype(&self) -> EthernetProtocol
         ensures { result ≡ ethertype_of (stands_for self.now) };
 
-    /// Its length with its header, in octets.
+    /// The length including the IP header, in octets.
     fn total_len(&self) -> usize
         ensures { result ≡ total_len (stands_for self.now) };
 
-    /// Appends the packet, each of its forms with its checksum where that is on.
+    /// Appends the packet. Each checksum is computed if the device's capabilities ask for it.
     fn emit(&self, capabilities: &DeviceCapabilities, out: &mut FrameBuffer)
         requires writable { IsWritable (stands_for self.now) }
         requires room { length out.old + total_len (stands_for self.now) ≤ 1514 }
@@ -46,7 +46,7 @@ pub trait AnyPacket {
         ensures len { length out.new ≡ length out.old + total_len (stands_for self.now) }
         ensures formed { IsFormed (stands_for self.now) };
 
-    /// The packet as one with any payload.
+    /// The packet with a payload of any kind.
     fn as_packet(&self) -> Packet<'_>
         ensures { value_of.packet result ≡ stands_for self.now };
 }
@@ -58,7 +58,7 @@ pub enum Packet<'p> {
     Ipv6(PacketV6<IpPayload<'p>>),
 }
 
-/// An IPv4 packet; its header's other values follow from these.
+/// An IPv4 packet; the other header fields follow from these.
 #[derive(Clone, Copy)]
 pub struct PacketV4<P> {
     pub src_addr: Ipv4Address,
@@ -67,7 +67,7 @@ pub struct PacketV4<P> {
     pub payload: P,
 }
 
-/// An IPv6 packet; its header's other values follow from these.
+/// An IPv6 packet; the other header fields follow from these.
 #[derive(Clone, Copy)]
 pub struct PacketV6<P> {
     pub src_addr: Ipv6Address,
@@ -77,7 +77,7 @@ pub struct PacketV6<P> {
 }
 
 impl<P: Payload> PacketV4<P> {
-    /// A payload in reply to a packet with this header, as [`Packet::back`] makes it.
+    /// A reply with this payload to a packet with this header, as [`Packet::back`] makes it.
     #[inline(always)]
     pub fn back(header: &Ipv4Repr, payload: P) -> PacketV4<P>
         ensures { value.Ipv4 (value_of.packet_v4 P.carried result) ≡ value.sent_back (repr.Ipv4 header.now) (P.carried payload) }
@@ -90,7 +90,7 @@ impl<P: Payload> PacketV4<P> {
         }
     }
 
-    /// The values of its header. It has to have at most 65,535 octets.
+    /// The header's values. The packet must have at most 65,535 octets.
     #[inline(always)]
     pub fn header(&self) -> Ipv4Repr
         requires { 20 + value.payload_len (P.carried self.now.payload) < 2 ^ 16 }
@@ -107,7 +107,7 @@ impl<P: Payload> PacketV4<P> {
 }
 
 impl<P: Payload> PacketV6<P> {
-    /// A payload in reply to a packet with this header, as [`Packet::back`] makes it.
+    /// A reply with this payload to a packet with this header, as [`Packet::back`] makes it.
     #[inline(always)]
     pub fn back(header: &Ipv6Repr, payload: P) -> PacketV6<P>
         ensures { value.Ipv6 (value_of.packet_v6 P.carried result) ≡ value.sent_back (repr.Ipv6 header.now) (P.carried payload) }
@@ -120,7 +120,7 @@ impl<P: Payload> PacketV6<P> {
         }
     }
 
-    /// The values of its header. Its payload has to have at most 65,535 octets.
+    /// The header's values. The payload must have at most 65,535 octets.
     #[inline(always)]
     pub fn header(&self) -> Ipv6Repr
         requires { value.payload_len (P.carried self.now.payload) < 2 ^ 16 }
@@ -137,8 +137,8 @@ impl<P: Payload> PacketV6<P> {
 }
 
 impl<'p> Packet<'p> {
-    /// A packet with the addresses and the hop limit of a header. Its protocol and its length are the
-    /// payload's, whatever the header says of them.
+    /// A packet with the addresses and the hop limit of a header. Protocol and length are the payload's, whatever the
+    /// header says.
     #[inline(always)]
     pub fn new(ip_repr: IpRepr, payload: IpPayload<'p>) -> Packet<'p>
         ensures { value_of.packet result ≡ value.packet_with ip_repr (value_of.payload payload.entry) }
@@ -149,7 +149,7 @@ impl<'p> Packet<'p> {
         }
     }
 
-    /// A packet of IPv4, as [`Packet::new`] makes it.
+    /// An IPv4 packet, as [`Packet::new`] makes it.
     #[inline(always)]
     pub fn new_ipv4(header: Ipv4Repr, payload: IpPayload<'p>) -> Packet<'p>
         ensures { value_of.packet result ≡ value.packet_with (repr.Ipv4 header) (value_of.payload payload.entry) }
@@ -162,7 +162,7 @@ impl<'p> Packet<'p> {
         })
     }
 
-    /// A packet of IPv6, as [`Packet::new`] makes it.
+    /// An IPv6 packet, as [`Packet::new`] makes it.
     #[inline(always)]
     pub fn new_ipv6(header: Ipv6Repr, payload: IpPayload<'p>) -> Packet<'p>
         ensures { value_of.packet result ≡ value.packet_with (repr.Ipv6 header) (value_of.payload payload.entry) }
@@ -175,8 +175,7 @@ impl<'p> Packet<'p> {
         })
     }
 
-    /// The values of its header. Its payload has to fit: with IPv4's header it has at most 65,535 octets,
-    /// without IPv6's.
+    /// The header's values. At most 65,535 octets are allowed: for IPv4 with the header, for IPv6 without it.
     pub fn ip_repr(&self) -> IpRepr
         requires { TellsLength (value.header_of (value_of.packet self.now)) }
         ensures { result ≡ value.header_of (value_of.packet self.now) }
@@ -187,7 +186,7 @@ impl<'p> Packet<'p> {
         }
     }
 
-    /// What it carries.
+    /// The payload.
     #[inline(always)]
     pub fn payload(&self) -> &IpPayload<'p>
         ensures { value_of.payload result.now ≡ value.payload_of (value_of.packet self.now) }
@@ -198,8 +197,7 @@ impl<'p> Packet<'p> {
         }
     }
 
-    /// A payload in reply to a packet with this header: it goes back to where that came from, from its
-    /// destination, with hop limit 64.
+    /// A reply with this payload to a packet with this header: to its source, from its destination, with hop limit 64.
     #[inline(always)]
     pub fn back(header: &IpRepr, payload: IpPayload<'p>) -> Packet<'p>
         ensures { value_of.packet result ≡ value.sent_back header.now (value_of.payload payload.entry) }
@@ -328,9 +326,9 @@ impl AnyPacket for Packet<'_> {
     }
 }
 
-/// How many octets an ICMP error quotes of a payload of `len`: so many that the error is at most `mtu`
-/// octets long, with a header of `header_len`, the 8 octets of the message and the quoted header, which
-/// have to fit (RFC 1122 3.2.2, RFC 4443 2.4).
+/// How many octets of a payload of `len` octets an ICMP error quotes, so that the error is at most `mtu` octets long.
+/// The error also has an IP header of `header_len` octets, the 8 octets of the message, and the quoted header; these
+/// must fit (RFC 1122 3.2.2, RFC 4443 2.4).
 pub fn icmp_reply_payload_len(len: usize, mtu: usize, header_len: usize) -> usize
     requires { header_len * 2 + 8 ≤ mtu }
     ensures { result ≡ min (mtu - (header_len * 2 + 8)) len }
@@ -339,8 +337,8 @@ pub fn icmp_reply_payload_len(len: usize, mtu: usize, header_len: usize) -> usiz
     if len < most { len } else { most }
 }
 
-/// Appends what stands before a packet on the link from one hardware address to another: an
-/// Ethernet header, or nothing on a medium without hardware addresses.
+/// Appends the link-layer header of a packet between two hardware addresses: an Ethernet header, or nothing on a medium
+/// without hardware addresses.
 #[inline(always)]
 pub fn emit_link_header(
     source: &HardwareAddress,

@@ -1,4 +1,4 @@
-//! What IP packets carry: of one kind, or of any; with their octets as a slice of where they came from.
+//! Payloads of IP packets, of one kind or of any, with their octets borrowed from where they came from.
 ghost use Rattle.std.specs.Prelude.{◌≡◌, ◌+◌, ◌<◌, ◌≤◌, ◌^◌, ◌++◌, ℕ, List, [], Some, drop, length};
 ghost use Rattle.control_wire.specs.declared.icmpv4.Icmpv4Repr.TheVariants as icmpv4;
 ghost use Rattle.icmpv6_wire.specs.declared.icmpv6.Icmpv6Repr.TheVariants as icmpv6;
@@ -23,32 +23,32 @@ use ipv6_wire::ipv6_packet::address_octets;
 use ipv6_wire::{Ipv6HopByHopRepr, Ipv6OptionRepr};
 use net_base::phy::DeviceCapabilities;
 
-/// What an IP packet carries. Where its kind is a type, what builds the packet's frame is compiled for
-/// that kind.
+/// The payload of an IP packet. Where its kind is a type, the code that builds the packet's frame is compiled for that
+/// kind.
 pub trait Payload: Copy {
     ghost use Rattle.host_machine.specs.Packet.{IpPayload};
 
     /// The payload as a value.
     ghost carried: { Self → IpPayload };
 
-    /// The octets behind its protocol's header.
+    /// The octets after its protocol's header.
     ghost after: { Self → List ℕ };
 
     /// Its protocol.
     fn protocol(&self) -> IpProtocol
         ensures { result ≡ protocol_of (carried self.now) };
 
-    /// Its length with the protocol's header, in octets.
+    /// The length including the protocol's header, in octets.
     fn len(&self) -> usize
         ensures value { result ≡ payload_len (carried self.now) }
         ensures short { result < 2 ^ 63 + 56 };
 
-    /// The octets behind its protocol's header.
+    /// The octets after its protocol's header.
     fn octets(&self) -> &[u8]
         ensures { result.now ≡ after self.now };
 
-    /// Appends it behind a packet's header, up to the octets behind its protocol's header, with its
-    /// checksum where that is on.
+    /// Appends the payload to an IP header, up to the octets after the protocol's header. The checksum is computed if
+    /// the device's capabilities ask for it.
     fn emit_header(&self, header: &IpRepr, capabilities: &DeviceCapabilities, out: &mut FrameBuffer)
         requires writable { IsWritablePayload (carried self.now) }
         requires short { payload_len (carried self.now) < 2 ^ 16 }
@@ -62,37 +62,37 @@ pub trait Payload: Copy {
         ensures { value_of.payload result ≡ carried self.now };
 }
 
-/// A payload of any kind: by protocol, with the octets behind that header; or as it stands.
+/// A payload of any kind: a protocol's header with the octets after it, or raw octets.
 #[derive(Clone, Copy)]
 pub enum IpPayload<'p> {
     Icmpv4(Icmpv4Repr, &'p [u8]),
     Icmpv6(Icmpv6Repr, &'p [u8]),
-    /// The reply to an echo request.
+    /// The reply to an ICMPv4 echo request.
     EchoReplyV4(EchoRequest<'p>),
-    /// The same over IPv6.
+    /// The reply to an ICMPv6 echo request.
     EchoReplyV6(echo::EchoRequest<'p>),
     Udp(UdpRepr, &'p [u8]),
     Tcp(TcpRepr, &'p [u8]),
     Raw(IpProtocol, &'p [u8]),
     Igmp(IgmpRepr),
-    /// A report of MLD: how many records it has, and their octets.
+    /// An MLD report: the number of its records, and their octets.
     Mld(u16, &'p [u8]),
 }
 
-/// The reply to an echo request.
+/// The reply to an ICMPv4 echo request.
 #[derive(Clone, Copy)]
 pub struct EchoReplyV4<'p> {
     pub request: EchoRequest<'p>,
 }
 
-/// The reply to an echo request over IPv6.
+/// The reply to an ICMPv6 echo request.
 #[derive(Clone, Copy)]
 pub struct EchoReplyV6<'p> {
     pub request: echo::EchoRequest<'p>,
 }
 
-/// An error for a packet that didn't reach its destination: why, the packet's header, and as much of its
-/// payload as is quoted.
+/// An ICMPv4 error for a packet that couldn't be delivered: the reason, the packet's header, and the octets of its
+/// payload to quote.
 #[derive(Clone, Copy)]
 pub struct Unreachable<'p> {
     pub reason: Icmpv4DstUnreachable,
@@ -100,7 +100,8 @@ pub struct Unreachable<'p> {
     pub octets: &'p [u8],
 }
 
-/// The same over IPv6.
+/// An ICMPv6 error for a packet that couldn't be delivered: the reason, the packet's header, and the octets of its
+/// payload to quote.
 #[derive(Clone, Copy)]
 pub struct UnreachableV6<'p> {
     pub reason: Icmpv6DstUnreachable,
@@ -108,7 +109,7 @@ pub struct UnreachableV6<'p> {
     pub octets: &'p [u8],
 }
 
-/// An advertisement of a neighbour (RFC 4861 4.4), with its hardware address.
+/// A neighbour advertisement (RFC 4861 4.4), with the hardware address.
 #[derive(Clone, Copy)]
 pub struct NeighborAdvert {
     pub flags: NdiscNeighborFlags,
@@ -513,7 +514,7 @@ impl Payload for Segment<'_> {
 }
 
 impl Unreachable<'_> {
-    /// The error's message.
+    /// The ICMPv4 message of the error.
     #[inline(always)]
     fn message(&self) -> Icmpv4Repr
         ensures { result ≡ icmpv4.DstUnreachable self.now.reason self.now.header }
@@ -526,7 +527,7 @@ impl Unreachable<'_> {
 }
 
 impl UnreachableV6<'_> {
-    /// The error's message.
+    /// The ICMPv6 message of the error.
     #[inline(always)]
     fn message(&self) -> Icmpv6Repr
         ensures { result ≡ icmpv6.DstUnreachable self.now.reason self.now.header }
@@ -539,7 +540,7 @@ impl UnreachableV6<'_> {
 }
 
 impl NeighborAdvert {
-    /// The message of the advertisement.
+    /// The ICMPv6 message of the advertisement.
     #[inline(always)]
     fn message(&self) -> Icmpv6Repr
         ensures { result ≡ icmpv6.Ndisc (ndisc.NeighborAdvert self.now.flags self.now.target_addr (Some self.now.lladdr)) }
@@ -552,14 +553,14 @@ impl NeighborAdvert {
     }
 }
 
-/// States that ports have 16 bits.
+/// A lemma: ports have 16 bits.
 #[inline(always)]
 fn have_bits(ports: UdpRepr)
     ensures { (ports.src_port < 2 ^ 16) × (ports.dst_port < 2 ^ 16) }
 {}
 
-/// Appends a segment's header behind a packet's, with its window within the device's, and with its
-/// checksum where that is on.
+/// Appends a TCP header, with its window limited by the device's burst size. The checksum is computed if the device's
+/// capabilities ask for it.
 #[inline(always)]
 fn emit_tcp_header(
     segment: &TcpRepr,
@@ -578,8 +579,8 @@ fn emit_tcp_header(
     segment.emit_header(&src, &dst, octets, capabilities.checksum.tcp.tx(), out);
 }
 
-/// Appends a report of MLD up to its records: the options by which routers look at it, and its header
-/// with its checksum where that is on (RFC 3810 5.2).
+/// Appends an MLD report up to its records: the Router Alert option, and the header (RFC 3810 5.2). The checksum is
+/// computed if the device's capabilities ask for it.
 #[inline(never)]
 fn emit_mld_header(
     header: &IpRepr,
@@ -601,7 +602,7 @@ fn emit_mld_header(
     report.emit_header(&src, &dst, records, capabilities.checksum.icmpv6.tx(), out);
 }
 
-/// The options of a report of MLD: routers look at it (RFC 2711), and they are padded to eight octets.
+/// The hop-by-hop options of an MLD report: Router Alert (RFC 2711), padded to eight octets.
 fn router_alert() -> Ipv6HopByHopRepr
     ensures value { result ≡ mld_options }
     ensures len { text_len result ≡ 8 }
@@ -615,8 +616,8 @@ fn router_alert() -> Ipv6HopByHopRepr
     }
 }
 
-/// A segment's header as it goes behind a packet's header of so many octets: its window is at most
-/// what a device with a limited burst can take, so many segments as long as its packets allow.
+/// A TCP header for use after an IP header of `ip_header_len` octets. Its window is at most what a device with a
+/// limited burst can take: that many segments, each as long as the device's packets allow.
 #[inline(always)]
 fn with_limited_window(
     capabilities: &DeviceCapabilities,

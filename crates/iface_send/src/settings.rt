@@ -1,4 +1,4 @@
-//! What an interface's calls set in its context.
+//! The settings that calls of an interface change in its context.
 ghost use Rattle.std.specs.Prelude.{◌≡◌, ◌≤◌, List, [], false, pos};
 ghost use Rattle.std.specs.FinMap as map;
 ghost use Rattle.net_base.specs.Time.{IsMoment};
@@ -26,8 +26,8 @@ use net_base::rand::Rand;
 use net_base::time::{Duration, Instant};
 use slaac::Slaac;
 
-/// The context of an interface over a device with these capabilities: no address, no route, no
-/// neighbour, no group, and nothing learnt of routers, from which it takes addresses or doesn't.
+/// The context of a new interface over a device with these capabilities: no address, route, neighbour or group, and
+/// nothing learnt from routers. `slaac` says whether it takes addresses from routers.
 pub fn new(
     capabilities: DeviceCapabilities,
     hardware_addr: HardwareAddress,
@@ -90,8 +90,7 @@ pub fn set_moment(context: &mut Context, now: Instant)
     context.moment = now;
 }
 
-/// Replaces the addresses, forgets all neighbours, and leaves and joins solicited-node groups so that
-/// they are those of the addresses.
+/// Replaces the addresses, forgets all neighbours, and leaves and joins solicited-node groups to match the addresses.
 pub fn set_ip_addrs(context: &mut Context, list: ArrayVec<IpCidr, IFACE_MAX_ADDR_COUNT>)
     ensures { (sockets : SocketSet) → host_of context.new sockets ≡ after_address_change (host_of context.old sockets) list.items }
 {
@@ -104,14 +103,14 @@ pub fn set_ip_addrs(context: &mut Context, list: ArrayVec<IpCidr, IFACE_MAX_ADDR
     );
 }
 
-/// Takes addresses that are routed to the interface for own ones, or no longer.
+/// Turns AnyIP on or off: whether addresses that are routed to the interface count as its own.
 pub fn set_any_ip(context: &mut Context, any_ip: bool)
     ensures { (sockets : SocketSet) → host_of context.new sockets ≡ record (host_of context.old sockets) { any_ip = any_ip } }
 {
     context.any_ip = any_ip;
 }
 
-/// Lets slots for fragments that are taken from now on stand for so long, at most a day.
+/// Sets the reassembly timeout of slots that are taken from now on, at most a day.
 pub fn set_reassembly_timeout(context: &mut Context, timeout: Duration)
     requires { timeout ≤ 86400000000 }
     ensures { (sockets : SocketSet) → host_of context.new sockets ≡ record (host_of context.old sockets) { reassembly_timeout = timeout } }
@@ -119,7 +118,7 @@ pub fn set_reassembly_timeout(context: &mut Context, timeout: Duration)
     context.reassembly_timeout = timeout;
 }
 
-/// Gives the interface another address of its medium.
+/// Sets the hardware address, which must be of the interface's medium.
 pub fn set_hardware_addr(context: &mut Context, hardware_addr: HardwareAddress)
     requires of_medium { medium_of hardware_addr ≡ (host_of context.old no_sockets).capabilities.medium }
     requires own { IsOf (host_of context.old no_sockets).capabilities.medium hardware_addr }
@@ -128,7 +127,7 @@ pub fn set_hardware_addr(context: &mut Context, hardware_addr: HardwareAddress)
     context.hardware_addr = hardware_addr;
 }
 
-/// The routes, for writing.
+/// Mutable access to the routes.
 pub fn routes_mut(context: &mut Context) -> &mut Routes
     ensures* lends { sem 𝓛 (Lends context_row routes_row context.entry result (λ w. with_routes context.old w)) }
     ensures value { result.now ≡ (host_of context.old no_sockets).routes }

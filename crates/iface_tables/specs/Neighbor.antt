@@ -1,4 +1,4 @@
--- Neighbours (RFC 826, RFC 4861): a finite map from their addresses, and one silence.
+-- Neighbours (RFC 826, RFC 4861): a finite map from their addresses, and one silence for all discoveries.
 use Rattle.std.specs.Prelude.{◌≡◌, ℕ, ◌<◌, ◌≤◌, ℤ, pos, ◌+ℤ◌, ◌≤ℤ◌, Bool, true, false, IsTrue, List, length, slice_index_or, Option, Some, None, if◌then◌else◌, refl}
 use Rattle.std.specs.List.{insert, remove}
 use Rattle.std.specs.Ordering.{int_cmp, is_lt}
@@ -17,45 +17,45 @@ use Rattle.iface_tables.specs.declared.neighbor.Neighbor.{Neighbor}
 use Rattle.iface_tables.specs.declared.neighbor.Answer.{Answer}
 use Rattle.iface_tables.specs.declared.neighbor.Answer.TheVariants.{Found, NotFound, RateLimited}
 
--- the neighbours by address, each until its end, and the moment until which no discovery is sent
+-- the neighbours by address, each with its expiry, and the moment until which no discovery is sent
 pub record Neighbors : Type 0 where
   pub known : FinMap address_cmp Neighbor
   pub silent_until : ℤ
 
--- the end of an entry that is made or renewed at t: 60 s later
+-- the expiry of an entry that is stored or renewed at t: 60 s later
 abbrev pub expiry_from : ℤ → ℤ
 expiry_from t = t +ℤ pos 60000000
 
--- whether t lies before the end
+-- whether t is before the end
 abbrev pub is_before : ℤ → ℤ → Bool
 is_before t end = is_lt (int_cmp t end)
 
--- what a lookup at t answers where no neighbour is known
+-- the answer of a lookup at t if no neighbour is known
 abbrev pub answer_without_entry : ℤ → ℤ → Answer
 answer_without_entry silent_until t = if is_before t silent_until then RateLimited else NotFound
 
--- what a lookup at t answers where this is the entry: a neighbour is known before its end
+-- the answer of a lookup at t with this entry: a neighbour is known before its expiry
 abbrev pub answer_from : Option Neighbor → ℤ → ℤ → Answer
 answer_from None silent_until t = answer_without_entry silent_until t
 answer_from (Some n) silent_until t = if is_before t n.expires_at then Found n.hardware_addr else answer_without_entry silent_until t
 
--- what a lookup of a at t answers
+-- the answer of a lookup of a at t
 abbrev pub answer_of : Neighbors → IpAddress → ℤ → Answer
 answer_of c a t = answer_from (map.get c.known a) c.silent_until t
 
--- whether an answer has an address
+-- whether an answer is `Found`
 abbrev pub is_found : Answer → Bool
 is_found (Found h) = true
 is_found NotFound = false
 is_found RateLimited = false
 
--- v has an entry, and none ends before it
+-- v has an entry, and none expires before it
 pub record IsLeastEnd (m : FinMap address_cmp Neighbor) (v : IpAddress) : Type 0 where
   pub entry : Neighbor
   pub is_there : map.get m v ≡ Some entry
   pub least : (b : IpAddress) (n : Neighbor) → map.get m b ≡ Some n → entry.expires_at ≤ℤ n.expires_at
 
--- new is old with n at a. Where a is not there and four entries are, any one of least end goes first
+-- new is old with n at a. If a is not there and four entries are, any one with the earliest expiry is removed first
 pub record Puts (old new : FinMap address_cmp Neighbor) (a : IpAddress) (n : Neighbor) : Type 0 where
   pub there : IsTrue (map.contains_key old a) → new ≡ map.insert old a n
   pub room : map.len old < 4 → new ≡ map.insert old a n
@@ -68,44 +68,45 @@ AreOf m c = (a : IpAddress) (n : Neighbor) → map.get c.known a ≡ Some n → 
 pub AreOf-prop : (m : Medium) (c : Neighbors) → IsProp (AreOf m c)
 AreOf-prop m c p q = λ i a n is. IsOf-prop m n.hardware_addr (p a n is) (q a n is) i
 
--- filling puts n at a, and keeps the silence
+-- filling stores n at a, and keeps the silence
 pub record Fills (old new : Neighbors) (a : IpAddress) (n : Neighbor) : Type 0 where
   pub puts : Puts old.known new.known a n
   pub silence : new.silent_until ≡ old.silent_until
 
--- whether two hardware addresses are one
+-- whether two hardware addresses are equal
 abbrev pub is_same : HardwareAddress → HardwareAddress → Bool
 is_same Ip Ip = true
 is_same Ip (Ethernet y) = false
 is_same (Ethernet x) Ip = false
 is_same (Ethernet x) (Ethernet y) = bytes_eq x.0 y.0
 
--- the entries where this one, at a, ends then if it has the hardware address h
+-- the entries after the entry at a gets this expiry, if it has the hardware address h
 abbrev pub renewed_from : Option Neighbor → FinMap address_cmp Neighbor → IpAddress → HardwareAddress → ℤ → FinMap address_cmp Neighbor
 renewed_from None m a h end = m
 renewed_from (Some n) m a h end = if is_same n.hardware_addr h then map.insert m a (record n { expires_at = end }) else m
 
--- the neighbours where an entry at a with the hardware address h ends then
+-- the neighbours after the entry at a gets this expiry, if it has the hardware address h
 abbrev pub after_renewal : Neighbors → IpAddress → HardwareAddress → ℤ → Neighbors
 after_renewal c a h end = record c { known = renewed_from (map.get c.known a) c.known a h end }
 
--- by rising end: none ends after one behind it
+-- by rising expiry: none expires after a later one in the list
 abbrev pub IsByEnd : List (IpAddress × Neighbor) → Type 0
 IsByEnd es = (i j : ℕ) (d : IpAddress × Neighbor) → i ≤ j → j < length es → (slice_index_or es i d).1.expires_at ≤ℤ (slice_index_or es j d).1.expires_at
 
--- as entries are kept: no address twice, and by rising end
+-- the order of stored entries: no address twice, and by rising expiry
 pub record IsKept (es : List (IpAddress × Neighbor)) : Type 0 where
   pub distinct : AreKeysDistinct address_cmp es
   pub by_end : IsByEnd es
 
--- an entry was put among others, and all are by rising end
+-- an entry was inserted among others, and all are by rising expiry
 pub record IsSettled (others : List (IpAddress × Neighbor)) (entry : IpAddress × Neighbor) (new : List (IpAddress × Neighbor)) : Type 0 where
   pub place : ℕ
   pub within : place ≤ length others
   pub is : new ≡ insert others place entry
   pub by_end : IsByEnd new
 
--- the entry at a place of new may be written over by a neighbour at a: the others are those of old without a, or without one of least end
+-- the entry at an index of new may be overwritten by a neighbour at a: the others are those of old without a, or without one with
+-- the earliest expiry
 pub record HasPlace (old new : List (IpAddress × Neighbor)) (a : IpAddress) (place : ℕ) : Type 0 where
   pub within : place < length new
   pub kept : IsKept (remove new place)

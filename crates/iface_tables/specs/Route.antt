@@ -1,4 +1,4 @@
--- Routes (RFC 1122 3.3.1, RFC 4632 5.1): of those that match an address, the one of longest prefix is taken.
+-- Routes (RFC 1122 3.3.1, RFC 4632 5.1): of those that match an address, the one with the longest prefix is used.
 use Rattle.std.specs.Prelude.{◌≡◌, ℕ, ◌<◌, ◌≤◌, ◌==◌, ◌&&◌, nat_le, ℤ, Bool, true, false, is_none, if◌then◌else◌, List, [], ◌∷◌, ◌++◌, length, map, slice_get, Option, Some, None, Result, Ok, Err}
 use Rattle.std.specs.List.{find, position_or_len, remove}
 use Rattle.std.specs.Ordering.{int_cmp, is_le}
@@ -15,11 +15,11 @@ use Rattle.iface_tables.specs.declared.route.Route.{Route}
 use Rattle.iface_tables.specs.declared.route.RouteTableFull.{RouteTableFull}
 use Rattle.iface_tables.specs.RouteTrie.{has_place}
 
--- a list of at most four routes, as it is handed over
+-- a list of at most four routes, as it is passed to a call
 abbrev pub Storage : Type 0
 Storage = ArrayVec Route
 
--- whether a time with this end has not passed at t: it lasts to its very end, or for good
+-- whether a lifetime has not ended at t: it includes its end, or lasts forever
 abbrev pub is_until : Option ℤ → ℤ → Bool
 is_until None t = true
 is_until (Some end) t = is_le (int_cmp t end)
@@ -28,7 +28,7 @@ is_until (Some end) t = is_le (int_cmp t end)
 abbrev pub is_live : Route → ℤ → Bool
 is_live r t = is_until r.expires_at t
 
--- whether a route may be taken to an address at t
+-- whether a route may be used for an address at t
 abbrev pub matches : Route → IpAddress → ℤ → Bool
 matches r a t = contains r.cidr a && is_live r t
 
@@ -36,54 +36,54 @@ matches r a t = contains r.cidr a && is_live r t
 abbrev pub prefix_len : Route → ℕ
 prefix_len r = prefix_len_of r.cidr
 
--- the route at a place matches, no matching route is more specific, and none behind it is as specific
+-- the route at an index matches, no matching route is more specific, and none after it is as specific
 pub record IsBestAt (rs : List Route) (a : IpAddress) (t : ℤ) (place : ℕ) (r : Route) : Type 0 where
   pub is_there : slice_get rs place ≡ Some r
   pub is_match : matches r a t ≡ true
   pub longest : (k : ℕ) (other : Route) → slice_get rs k ≡ Some other → matches other a t ≡ true → prefix_len other ≤ prefix_len r
   pub last : (k : ℕ) (other : Route) → place < k → slice_get rs k ≡ Some other → matches other a t ≡ true → prefix_len other < prefix_len r
 
--- the best route to an address at t, or none where none matches
+-- the best route to an address at t, or none if none matches
 abbrev pub IsBest : List Route → IpAddress → ℤ → Option Route → Type 0
 IsBest rs a t (Some r) = (place : ℕ) × IsBestAt rs a t place r
 IsBest rs a t None = (k : ℕ) (other : Route) → slice_get rs k ≡ Some other → matches other a t ≡ false
 
--- of a route and the best of those behind it the more specific one, of equals the one behind
+-- of a route and the best of those after it the more specific one; of equally specific ones, the latter
 abbrev pub more_specific : Route → Option Route → Route
 more_specific r None = r
 more_specific r (Some after) = if nat_le (prefix_len r) (prefix_len after) then after else r
 
--- the same, found from the list's end on
+-- the best route, found from the end of the list
 abbrev pub best : List Route → IpAddress → ℤ → Option Route
 best [] a t = None
 best (r ∷ rs) a t = if matches r a t then Some (more_specific r (best rs a t)) else best rs a t
 
--- the router of a route, if there is one
+-- the gateway of a route, if there is one
 abbrev pub router_of : Option Route → Option IpAddress
 router_of (Some r) = Some r.via_router
 router_of None = None
 
--- what goes to an address at t goes to this router, or nowhere
+-- the gateway for an address at t, or none
 abbrev pub IsRouter : List Route → IpAddress → ℤ → Option IpAddress → Type 0
 IsRouter rs a t router = (best : Option Route) × IsBest rs a t best × (router ≡ router_of best)
 
--- the best route is the one that is found so
+-- the best route is what is found from the end of the list
 abbrev pub BestIsFound : Type 0
 BestIsFound = (rs : List Route) (a : IpAddress) (t : ℤ) → IsBest rs a t (best rs a t)
 
--- two best routes are one, and so are their routers
+-- the best route has only one gateway
 abbrev pub RouterIsOne : Type 0
 RouterIsOne = (rs : List Route) (a : IpAddress) (t : ℤ) (x y : Option IpAddress) → IsRouter rs a t x → IsRouter rs a t y → x ≡ y
 
--- their prefixes, in the same order
+-- the prefixes of routes, in the same order
 abbrev pub cidrs : List Route → List IpCidr
 cidrs rs = map (λ r. r.cidr) rs
 
--- which of them have not expired at t, as a mask of their places
+-- the mask of the indices of routes that have not expired at t
 abbrev pub AreLive : List Route → ℤ → ℕ → Type 0
 AreLive rs t live = (k : ℕ) (r : Route) → slice_get rs k ≡ Some r → has_place live k ≡ is_live r t
 
--- the route at a place, if one is meant
+-- the route at an index, if there is one
 abbrev pub route_at : List Route → Option ℕ → Option Route
 route_at rs None = None
 route_at rs (Some place) = slice_get rs place
@@ -95,7 +95,7 @@ whole_ipv4 = Ipv4 (record { address = record { bits = 0 }; prefix_len = 0; in_ra
 abbrev pub whole_ipv6 : IpCidr
 whole_ipv6 = Ipv6 (record { address = record { bits = 0 }; prefix_len = 0; in_range = lit≤ tt })
 
--- the default route by a gateway, for good (RFC 1122 3.3.1.1)
+-- the default route via a gateway, without expiry (RFC 1122 3.3.1.1)
 abbrev pub ipv4_gateway : Ipv4Address → Route
 ipv4_gateway gateway = record { cidr = whole_ipv4; via_router = address.Ipv4 gateway; preferred_until = None; expires_at = None }
 
@@ -107,11 +107,11 @@ abbrev pub is_whole_ipv6 : IpCidr → Bool
 is_whole_ipv6 (Ipv4 n) = false
 is_whole_ipv6 (Ipv6 n) = (n.address.bits == 0) && (n.prefix_len == 0)
 
--- whether a route is a default route of IPv4
+-- whether a route is an IPv4 default route
 abbrev pub is_ipv4_gateway : Route → Bool
 is_ipv4_gateway r = is_whole_ipv4 r.cidr
 
--- whether a route is a default route of IPv6
+-- whether a route is an IPv6 default route
 abbrev pub is_ipv6_gateway : Route → Bool
 is_ipv6_gateway r = is_whole_ipv6 r.cidr
 
@@ -123,19 +123,19 @@ first is_kind rs = find is_kind rs
 abbrev pub without_first : (Route → Bool) → List Route → List Route
 without_first is_kind rs = remove rs (position_or_len is_kind rs)
 
--- whether a route finds no place: the table is full, and none of its kind makes room
+-- whether a route is refused: the table is full, and there is none of its kind to replace
 abbrev pub is_refused : (Route → Bool) → List Route → Bool
 is_refused is_kind rs = is_none (first is_kind rs) && nat_le 4 (length rs)
 
--- what a call answers that puts a route in place of the first of its kind
+-- the answer of a call that replaces the first route of a kind
 abbrev pub old_or_full : (Route → Bool) → List Route → Result (Option Route) RouteTableFull
 old_or_full is_kind rs = if is_refused is_kind rs then Err (record {}) else Ok (first is_kind rs)
 
--- the table with a route behind all, in place of the first of its kind
+-- the table with a route appended, in place of the first of its kind
 abbrev pub with_default : (Route → Bool) → List Route → Route → List Route
 with_default is_kind rs r = if is_refused is_kind rs then rs else without_first is_kind rs ++ r ∷ []
 
--- a route was put in place of the first of its kind
+-- a route replaces the first of its kind
 pub record Replaces (is_kind : Route → Bool) (old : List Route) (r : Route) (answer : Result (Option Route) RouteTableFull) (new : List Route) : Type 0 where
   pub answers : answer ≡ old_or_full is_kind old
   pub leaves : new ≡ with_default is_kind old r

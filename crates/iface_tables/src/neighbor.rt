@@ -1,4 +1,4 @@
-//! The neighbour cache (RFC 826, RFC 4861): which hardware address an IP address has, and until when
+//! The neighbour cache (RFC 826, RFC 4861): the hardware address of each known IP address, and the moment until which
 //! no discovery is sent.
 ghost use Rattle.std.specs.Prelude.{◌≡◌, ◌<◌, IfSome, true, pos, length, slice_get};
 ghost use Rattle.std.specs.List.{remove};
@@ -21,7 +21,7 @@ use ip_wire::{HardwareAddress, IpAddress};
 use net_base::time::{Duration, Instant};
 use std::marker::Model;
 
-/// How many neighbours a cache holds.
+/// The maximum number of neighbours in a cache.
 pub const IFACE_NEIGHBOR_CACHE_COUNT: usize = 4;
 
 /// A neighbour: its hardware address, and the moment from which that is no longer known.
@@ -51,19 +51,19 @@ impl Default for Neighbor {
     }
 }
 
-/// What a lookup answers.
+/// The answer of a lookup.
 #[derive(Clone, Copy, Debug, PartialEq, Eq)]
 pub enum Answer {
     /// The neighbour's hardware address.
     Found(HardwareAddress),
-    /// No such neighbour is known; it may be asked for.
+    /// The neighbour is unknown; a discovery may be sent.
     NotFound,
-    /// No such neighbour is known, and a discovery was sent less than a second ago.
+    /// The neighbour is unknown, and a discovery was sent less than a second ago.
     RateLimited,
 }
 
 impl Answer {
-    /// Whether it is `Found`.
+    /// Whether the answer is `Found`.
     pub const fn found(&self) -> bool
         ensures { result ≡ spec.is_found self.now }
     {
@@ -74,13 +74,12 @@ impl Answer {
     }
 }
 
-/// A cache of at most four neighbours, and one silence for all discoveries.
+/// A cache of at most four neighbours, with one silence for all discoveries.
 ///
-/// In contracts it is a finite map from addresses to neighbours, and the moment until which no
-/// discovery is sent.
+/// In contracts it is a finite map from addresses to neighbours, and the moment until which no discovery is sent.
 #[derive(Drop)]
 pub struct Cache {
-    // By rising end.
+    // By rising expiry.
     entries: ArrayVec<(IpAddress, Neighbor), IFACE_NEIGHBOR_CACHE_COUNT>,
     silent_until: Instant,
 }
@@ -99,13 +98,13 @@ impl Model for Cache {
 }
 
 impl Cache {
-    /// How long no other discovery is sent after one.
+    /// How long after a discovery no other one is sent.
     pub const SILENT_TIME: Duration = Duration { micros: 1_000_000 };
 
     /// How long a neighbour is known.
     pub const ENTRY_LIFETIME: Duration = Duration { micros: 60_000_000 };
 
-    /// A cache that knows nobody and isn't silent.
+    /// An empty cache that isn't silent.
     pub fn new() -> Cache
         ensures value { result ≡ record { known = map.empty; silent_until = pos 0 } }
         ensures of { (m : Medium) → AreOf m result }
@@ -116,8 +115,8 @@ impl Cache {
         }
     }
 
-    /// Puts a neighbour at its address for 60 s. Where that address is new and four others are
-    /// there, one of least end goes. Both addresses have to be unicast.
+    /// Stores a neighbour's hardware address for 60 s. If the neighbour is new and four others are stored, one with the
+    /// earliest expiry is removed. Both addresses must be unicast.
     pub fn fill(
         &mut self,
         protocol_addr: IpAddress,
@@ -134,8 +133,8 @@ impl Cache {
         self.fill_with_expiration(protocol_addr, hardware_addr, expires_at);
     }
 
-    /// Puts a neighbour at its address until an end, which may be any instant. Where that address
-    /// is new and four others are there, one of least end goes. Both addresses have to be unicast.
+    /// Stores a neighbour's hardware address until an expiry, which may be any instant. If the neighbour is new and
+    /// four others are stored, one with the earliest expiry is removed. Both addresses must be unicast.
     pub fn fill_with_expiration(
         &mut self,
         protocol_addr: IpAddress,
@@ -147,7 +146,7 @@ impl Cache {
         ensures fills { Fills self.old self.new protocol_addr (record { hardware_addr = hardware_addr; expires_at = expires_at }) }
         ensures of { AreOf (medium_of hardware_addr) self.old → AreOf (medium_of hardware_addr) self.new }
     {
-        // It has as many octets as those of its medium have.
+        // It has as many octets as the addresses of its medium.
         let _ = hardware_addr.medium();
         let neighbor = Neighbor {
             hardware_addr,
@@ -156,8 +155,8 @@ impl Cache {
         put_in(&mut self.entries, protocol_addr, neighbor);
     }
 
-    /// Keeps a neighbour for another 60 s, if the one at this address has this hardware address.
-    /// Else nothing changes.
+    /// Extends a neighbour's entry to 60 s from `timestamp`, if it has this hardware address. Otherwise nothing
+    /// changes.
     #[inline(always)]
     #[tactic(auto, using(crate::proofs::NeighborLemmas::known_at))]
     pub fn reset_expiry_if_existing(
@@ -179,8 +178,7 @@ impl Cache {
         );
     }
 
-    /// Looks up the hardware address of a neighbour, which is known until its end. The address has
-    /// to be unicast.
+    /// Looks up the hardware address of a neighbour, which is known until its expiry. The address must be unicast.
     #[tactic(auto, using(crate::proofs::NeighborLemmas::known_at))]
     pub fn lookup(&self, protocol_addr: &IpAddress, timestamp: Instant) -> Answer
         requires { ip.is_unicast protocol_addr.now ≡ true }
@@ -195,8 +193,8 @@ impl Cache {
         }
     }
 
-    /// All neighbours that are kept, each once, those too whose end has passed, by rising end. Those
-    /// of equal end stand in any order.
+    /// All stored neighbours, including expired ones, each once, by rising expiry. Those of equal expiry are in any
+    /// order.
     pub fn by_expiry(&self) -> &[(IpAddress, Neighbor)]
         ensures pairs { map.from_entries result.now ≡ self.now.known }
         ensures once { AreKeysDistinct address_cmp result.now }
@@ -205,7 +203,7 @@ impl Cache {
         self.entries.as_slice()
     }
 
-    /// Begins a silence of 1 s, in which lookups of all unknown neighbours answer `RateLimited`.
+    /// Begins a silence of 1 s, in which lookups of all unknown neighbours return `RateLimited`.
     pub fn limit_rate(&mut self, timestamp: Instant)
         requires moment { IsMoment timestamp }
         ensures { self.new ≡ record self.old { silent_until = silence_from timestamp } }
@@ -213,7 +211,7 @@ impl Cache {
         self.silent_until = timestamp + Cache::SILENT_TIME;
     }
 
-    /// Forgets all neighbours. A silence stays.
+    /// Forgets all neighbours. The silence stays unchanged.
     pub fn flush(&mut self)
         ensures value { self.new ≡ record self.old { known = map.empty } }
         ensures of { (m : Medium) → AreOf m self.new }
@@ -222,7 +220,7 @@ impl Cache {
     }
 }
 
-// Whether the two are one address, by family and number.
+// Whether two addresses are equal, by family and number.
 #[inline(always)]
 fn is_at(a: &IpAddress, b: &IpAddress) -> bool
     ensures { result ≡ eq_by_cmp address_cmp a.now b.now }
@@ -234,7 +232,7 @@ fn is_at(a: &IpAddress, b: &IpAddress) -> bool
     }
 }
 
-// Whether the two are one hardware address.
+// Whether two hardware addresses are equal.
 #[inline(always)]
 fn is_same(a: &HardwareAddress, b: &HardwareAddress) -> bool
     ensures { result ≡ spec.is_same a.now b.now }
@@ -246,7 +244,7 @@ fn is_same(a: &HardwareAddress, b: &HardwareAddress) -> bool
     }
 }
 
-// The neighbour at an address, if there is one.
+// The neighbour at an address, if any.
 fn find_in(entries: &[(IpAddress, Neighbor)], address: &IpAddress) -> Option<Neighbor>
     ensures { result ≡ find address_cmp address.now entries.now }
 {
@@ -258,7 +256,7 @@ fn find_in(entries: &[(IpAddress, Neighbor)], address: &IpAddress) -> Option<Nei
     None
 }
 
-// Where an address stands, or the length.
+// The index of an address, or the length.
 #[inline(always)]
 fn index_of(entries: &[(IpAddress, Neighbor)], address: &IpAddress) -> usize
     ensures { result ≡ entry.index_of address_cmp address.now entries.now }
@@ -271,7 +269,7 @@ fn index_of(entries: &[(IpAddress, Neighbor)], address: &IpAddress) -> usize
     entries.len()
 }
 
-// Puts an entry in place of the one at a place, and moves it to where it stands by its end.
+// Replaces the entry at an index, and moves it to its index by expiry.
 fn settle(
     entries: &mut [(IpAddress, Neighbor)],
     place: usize,
@@ -294,8 +292,8 @@ fn settle(
     entries[hole] = (address, neighbor);
 }
 
-// The same of an entry of which only the end is another, that most often stands last already, and ends no sooner than
-// it did.
+// Moves an entry to its index by expiry after only its expiry has changed. Most often it is the last already and
+// expires no sooner than before.
 #[inline(always)]
 fn settle_renewed(
     entries: &mut [(IpAddress, Neighbor)],
@@ -315,8 +313,8 @@ fn settle_renewed(
     settle(entries, place, address, neighbor);
 }
 
-// Where a neighbour goes: the place of its address, or one behind all, or in a full table the front,
-// so that the entry of least end makes room.
+// The index for a neighbour: that of its address, or one after all, or in a full table the first, so that the entry
+// with the earliest expiry makes room.
 fn index_for(
     entries: &mut ArrayVec<(IpAddress, Neighbor), IFACE_NEIGHBOR_CACHE_COUNT>,
     address: &IpAddress,
@@ -336,7 +334,7 @@ fn index_for(
     place
 }
 
-// Puts a neighbour at its address. In a full table an entry of least end makes room.
+// Stores a neighbour at its address. In a full table an entry with the earliest expiry makes room.
 fn put_in(
     entries: &mut ArrayVec<(IpAddress, Neighbor), IFACE_NEIGHBOR_CACHE_COUNT>,
     address: IpAddress,
@@ -350,7 +348,7 @@ fn put_in(
     settle(entries.as_mut_slice(), place, address, neighbor);
 }
 
-// Moves the end of the entry at an address, if it has this hardware address.
+// Changes the expiry of the entry at an address, if it has this hardware address.
 #[inline(always)]
 fn renew_in(
     entries: &mut ArrayVec<(IpAddress, Neighbor), IFACE_NEIGHBOR_CACHE_COUNT>,

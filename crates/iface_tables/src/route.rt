@@ -1,4 +1,4 @@
-//! Routes: by which router a packet leaves its network (RFC 1122 3.3.1, RFC 4632 5.1).
+//! Routes: the gateway by which a packet leaves its network (RFC 1122 3.3.1, RFC 4632 5.1).
 ghost use Rattle.std.specs.Prelude.{◌≡◌, ℕ, ◌+◌, ◌≤◌, ◌<◌, Bool, true, [], length, slice_get, OnSome};
 ghost use Rattle.std.specs.List.{position_or_len, remove};
 ghost use Rattle.ip_address.specs.Ip as ip;
@@ -15,27 +15,27 @@ use std::fmt;
 use std::marker::Model;
 use thiserror::Error;
 
-/// How many routes a table holds.
+/// The maximum number of routes in a table.
 pub const IFACE_MAX_ROUTE_COUNT: usize = 4;
 
-/// The table is full, and holds no default route of the family that could make room.
+/// The table is full, and holds no default route of the family to replace.
 #[derive(Clone, Copy, Debug, PartialEq, Eq, Error)]
 #[error("Route table full")]
 pub struct RouteTableFull;
 
-/// A network that is reached by a router.
+/// A network that is reached via a gateway.
 #[derive(Clone, Copy, Debug, PartialEq, Eq)]
 pub struct Route {
     pub cidr: IpCidr,
     pub via_router: IpAddress,
-    /// Until when it is preferred, or for good. A lookup doesn't ask.
+    /// Until when it is preferred; `None` means forever. A lookup ignores it.
     pub preferred_until: Option<Instant>,
-    /// Until when it may be taken, that moment included, or for good.
+    /// Until when it may be used, that moment included; `None` means forever.
     pub expires_at: Option<Instant>,
 }
 
 impl Route {
-    /// The default route of IPv4, 0.0.0.0/0, for good.
+    /// The IPv4 default route, 0.0.0.0/0, without expiry.
     pub fn new_ipv4_gateway(gateway: Ipv4Address) -> Route
         ensures { result ≡ spec.ipv4_gateway gateway }
     {
@@ -50,7 +50,7 @@ impl Route {
         }
     }
 
-    /// The default route of IPv6, ::/0, for good.
+    /// The IPv6 default route, ::/0, without expiry.
     pub fn new_ipv6_gateway(gateway: Ipv6Address) -> Route
         ensures { result ≡ spec.ipv6_gateway gateway }
     {
@@ -65,7 +65,7 @@ impl Route {
         }
     }
 
-    /// Whether it is a default route of IPv4: exactly one for 0.0.0.0/0.
+    /// Whether the route is an IPv4 default route: exactly if it is for 0.0.0.0/0.
     pub fn is_ipv4_gateway(&self) -> bool
         ensures { result ≡ spec.is_ipv4_gateway self.now }
     {
@@ -75,7 +75,7 @@ impl Route {
         }
     }
 
-    /// Whether it is a default route of IPv6: exactly one for ::/0.
+    /// Whether the route is an IPv6 default route: exactly if it is for ::/0.
     pub fn is_ipv6_gateway(&self) -> bool
         ensures { result ≡ spec.is_ipv6_gateway self.now }
     {
@@ -85,7 +85,7 @@ impl Route {
         }
     }
 
-    // Whether it has not expired at a moment.
+    // Whether the route has not expired at a moment.
     #[inline(always)]
     fn is_live(&self, timestamp: Instant) -> bool
         ensures { result ≡ is_live self.now timestamp }
@@ -100,7 +100,7 @@ impl Route {
 }
 
 impl fmt::Display for Route {
-    /// As its network and its router: 0.0.0.0/0 via 192.168.69.100.
+    /// The network and the gateway: 0.0.0.0/0 via 192.168.69.100.
     fn fmt<W: fmt::Write>(&self, f: &mut fmt::Formatter<W>) -> fmt::Result {
         write!(f, "{} via {}", self.cidr, self.via_router)
     }
@@ -120,7 +120,7 @@ impl Default for Route {
 #[derive(Drop)]
 pub struct Routes {
     storage: ArrayVec<Route, IFACE_MAX_ROUTE_COUNT>,
-    // That of their prefixes, in the same order.
+    // The trie of their prefixes, in the same order.
     trie: RouteTrie,
 }
 
@@ -139,7 +139,7 @@ impl Model for Routes {
 }
 
 impl Routes {
-    /// A table without a route.
+    /// An empty table.
     pub fn new() -> Routes
         ensures { result ≡ [] }
     {
@@ -169,9 +169,9 @@ impl Routes {
         rebuild(&mut self.trie, self.storage.as_slice());
     }
 
-    /// Puts a default route of IPv4 behind all others, and gives the first one that was there, which
-    /// it replaces. `RouteTableFull` exactly if the table is full and holds no default route of IPv4;
-    /// then nothing changes.
+    /// Removes the first IPv4 default route, if any, adds a new one after all other routes, and returns the removed
+    /// one. Fails with `RouteTableFull` exactly if the table is full and holds no IPv4 default route; then nothing
+    /// changes.
     pub fn add_default_ipv4_route(
         &mut self,
         gateway: Ipv4Address,
@@ -185,7 +185,9 @@ impl Routes {
         answer
     }
 
-    /// The same for IPv6.
+    /// Removes the first IPv6 default route, if any, adds a new one after all other routes, and returns the removed
+    /// one. Fails with `RouteTableFull` exactly if the table is full and holds no IPv6 default route; then nothing
+    /// changes.
     pub fn add_default_ipv6_route(
         &mut self,
         gateway: Ipv6Address,
@@ -199,7 +201,7 @@ impl Routes {
         answer
     }
 
-    /// The first default route of IPv4, if there is one.
+    /// The first IPv4 default route, if any.
     #[tactic(auto, using(crate::proofs::RouteLemmas::first_is))]
     pub fn get_default_ipv4_route(&self) -> Option<Route>
         ensures { result ≡ first spec.is_ipv4_gateway self.now }
@@ -208,7 +210,7 @@ impl Routes {
         route_at(self.storage.as_slice(), place)
     }
 
-    /// The first default route of IPv6, if there is one.
+    /// The first IPv6 default route, if any.
     #[tactic(auto, using(crate::proofs::RouteLemmas::first_is))]
     pub fn get_default_ipv6_route(&self) -> Option<Route>
         ensures { result ≡ first spec.is_ipv6_gateway self.now }
@@ -217,8 +219,7 @@ impl Routes {
         route_at(self.storage.as_slice(), place)
     }
 
-    /// Takes the first default route of IPv4 out and gives it, if there is one. The others keep
-    /// their order.
+    /// Removes the first IPv4 default route and returns it, if any. The others keep their order.
     #[tactic(auto, using(crate::proofs::RouteLemmas::first_is))]
     pub fn remove_default_ipv4_route(&mut self) -> Option<Route>
         ensures answer { result ≡ first spec.is_ipv4_gateway self.old }
@@ -230,7 +231,7 @@ impl Routes {
         answer
     }
 
-    /// The same for IPv6.
+    /// Removes the first IPv6 default route and returns it, if any. The others keep their order.
     #[tactic(auto, using(crate::proofs::RouteLemmas::first_is))]
     pub fn remove_default_ipv6_route(&mut self) -> Option<Route>
         ensures answer { result ≡ first spec.is_ipv6_gateway self.old }
@@ -242,9 +243,8 @@ impl Routes {
         answer
     }
 
-    /// The router by which a packet goes to an address at a moment: that of the route of longest
-    /// prefix, of equals the last stored, of those that contain the address and haven't expired.
-    /// `None` exactly if there is no such route. The address has to be unicast.
+    /// The gateway for a unicast address at a moment. Among the routes that contain the address and haven't expired, it
+    /// is that of the longest prefix, and of equal ones the last stored. `None` exactly if there is no such route.
     pub fn lookup(&self, address: &IpAddress, timestamp: Instant) -> Option<IpAddress>
         requires { ip.is_unicast address.now ≡ true }
         ensures { IsRouter self.now address.now timestamp result }
@@ -252,10 +252,9 @@ impl Routes {
         self.lookup_steps(address, timestamp).0
     }
 
-    /// What [`Routes::lookup`] gives, and how many nodes of the trie were read for it: 1, and one for
-    /// each leading bit that the address has in common with a route of its family, up to that route's
-    /// length, for the route with which it has most. So at most 33 for IPv4, and 129 for IPv6. The
-    /// address has to be unicast.
+    /// What [`Routes::lookup`] returns, and how many nodes of the trie were read for it. That is 1 and the number of
+    /// leading bits that the address shares with a route of its family, up to the route's prefix length, for the route
+    /// with which it shares most. So it is at most 33 for IPv4, and 129 for IPv6. The address must be unicast.
     pub fn lookup_steps(
         &self,
         address: &IpAddress,
@@ -271,7 +270,7 @@ impl Routes {
     }
 }
 
-// The trie becomes that of these routes.
+// Rebuilds the trie for these routes.
 fn rebuild(trie: &mut RouteTrie, routes: &[Route])
     requires { length routes.now ≤ IFACE_MAX_ROUTE_COUNT }
     ensures { IsTrieOf trie.new.nodes (cidrs routes.now) }
@@ -283,7 +282,7 @@ fn rebuild(trie: &mut RouteTrie, routes: &[Route])
     trie.build(prefixes.as_slice());
 }
 
-// Which routes have not expired at a moment, as a mask of their places.
+// The routes that have not expired at a moment, as a mask of their indices.
 fn live_routes_mask(routes: &[Route], timestamp: Instant) -> u32
     requires { length routes.now ≤ IFACE_MAX_ROUTE_COUNT }
     ensures { AreLive routes.now timestamp result }
@@ -297,7 +296,7 @@ fn live_routes_mask(routes: &[Route], timestamp: Instant) -> u32
     live
 }
 
-// The router of the route at a place, if there is one.
+// The gateway of the route at an index, if there is one.
 fn router_at(routes: &[Route], place: Option<usize>) -> Option<IpAddress>
     ensures { result ≡ router_of (route_at routes.now place) }
 {
@@ -307,7 +306,7 @@ fn router_at(routes: &[Route], place: Option<usize>) -> Option<IpAddress>
     }
 }
 
-// Where the first default route of IPv4 stands, or the length.
+// The index of the first IPv4 default route, or the length.
 fn default_ipv4_index(routes: &[Route]) -> usize
     ensures { result ≡ position_or_len spec.is_ipv4_gateway routes.now }
 {
@@ -319,7 +318,7 @@ fn default_ipv4_index(routes: &[Route]) -> usize
     routes.len()
 }
 
-// Where the first default route of IPv6 stands, or the length.
+// The index of the first IPv6 default route, or the length.
 fn default_ipv6_index(routes: &[Route]) -> usize
     ensures { result ≡ position_or_len spec.is_ipv6_gateway routes.now }
 {
@@ -331,14 +330,14 @@ fn default_ipv6_index(routes: &[Route]) -> usize
     routes.len()
 }
 
-// The route at a place, if there is one.
+// The route at an index, if there is one.
 fn route_at(routes: &[Route], place: usize) -> Option<Route>
     ensures { result ≡ slice_get routes.now place }
 {
     routes.get(place).copied()
 }
 
-// Takes out the route at a place, if there is one.
+// Removes the route at an index, if there is one.
 #[tactic(auto, using(crate::proofs::RouteLemmas::remove_past))]
 fn take_out(routes: &mut ArrayVec<Route, IFACE_MAX_ROUTE_COUNT>, place: usize) -> Option<Route>
     ensures answer { result ≡ slice_get routes.old.items place }
@@ -351,7 +350,7 @@ fn take_out(routes: &mut ArrayVec<Route, IFACE_MAX_ROUTE_COUNT>, place: usize) -
     Some(routes.remove(place))
 }
 
-// Puts a route behind all others, and takes out the one at a place, if there is one.
+// Appends a route, and removes the one at an index, if there is one.
 fn replace(
     routes: &mut ArrayVec<Route, IFACE_MAX_ROUTE_COUNT>,
     place: usize,
@@ -370,13 +369,13 @@ fn replace(
     Ok(None)
 }
 
-/// Two best routes are one: what [`Routes::lookup`] gives is the only router that a packet may take.
+/// The best route is unique in its gateway: what [`Routes::lookup`] returns is the only gateway that a packet may take.
 pub fn router_is_one()
     ensures { RouterIsOne }
 {}
 
-/// The best route is found from the list's end on: of a route that matches and the best of those behind it
-/// the more specific one, of equals the one behind.
+/// The best route is found from the end of the list. Of a route that matches and the best of those after it, it is the
+/// more specific one; of equally specific ones, the latter.
 pub fn best_is_found()
     ensures { BestIsFound }
 {}

@@ -1,9 +1,8 @@
-//! A binary trie of prefixes (RFC 4632 5.1): which of them an address has is found bit by bit, the
-//! longest last.
+//! A binary trie of prefixes (RFC 4632 5.1): the prefixes of an address are found bit by bit, the longest last.
 //!
-//! It has a root for each family and, for each stored prefix, a node for each of its beginnings that
-//! no earlier one has. A node names those of the two beginnings that are longer by a bit, and has the
-//! places of the prefixes that it is itself, as a mask: its lowest bit is the first place.
+//! It has a root for each family and, for each stored prefix, a node for each of its beginnings that no earlier prefix
+//! has. A node links to the two beginnings that are one bit longer. It has a mask of the indices of the prefixes that
+//! equal it; the lowest bit is index 0.
 ghost use Rattle.std.specs.Prelude.{◌≡◌, ℕ, ◌+◌, ◌-◌, ◌*◌, ◌/◌, ◌%◌, ◌^◌, ◌<◌, ◌≤◌, ◌==◌, cond, List, [], length, slice_get, slice_index, slice_index_or};
 ghost use Rattle.std.specs.Int.RustNames.{bit_and};
 ghost use Rattle.std.specs.Bool.{OnFalse, OnTrue};
@@ -16,13 +15,13 @@ ghost use Rattle.iface_tables.specs.RouteTrie.{AreNextBits, HasNodes, IsAt, IsBe
 use ip_wire::{IpAddress, IpCidr};
 use std::marker::Model;
 
-/// How many prefixes a trie has at most.
+/// The maximum number of prefixes in a trie.
 pub const ROUTE_TRIE_PLACE_COUNT: usize = 4;
 
-/// How many nodes there are: two roots, and one for each bit of each prefix.
+/// The number of nodes: two roots, and one for each bit of each prefix.
 pub const ROUTE_TRIE_NODE_COUNT: usize = 514;
 
-/// How many nodes a walk has read.
+/// How many nodes a walk read.
 #[derive(Clone, Copy, Debug, PartialEq, Eq)]
 pub struct Steps {
     count: usize,
@@ -47,16 +46,16 @@ impl Steps {
     }
 }
 
-// A node: those that are longer by a bit, by number, first the one by a 0, where number 0 is none, and
-// which prefixes it is.
+// A node: the numbers of the two nodes that are one bit longer, first the one for bit 0, where number 0 means none; and
+// the mask of the prefixes that equal it.
 #[derive(Clone, Copy)]
 struct Node {
     next: [u16; 2],
     places: u32,
 }
 
-// Where a walk is: the node that it read last, the live places of the longest prefix so far, and
-// whether no node goes on.
+// The state of a walk: the node that it read last, the live indices of the longest prefix so far, and whether no node
+// follows.
 #[derive(Clone, Copy)]
 struct Walk {
     node: Node,
@@ -64,7 +63,7 @@ struct Walk {
     is_over: bool,
 }
 
-// The leading bits of an address of so many bits, as a number.
+// The leading bits of an address of `width` bits, as a number.
 #[derive(Clone, Copy)]
 struct Beginning {
     width: u8,
@@ -87,7 +86,7 @@ pub struct RouteTrie {
 }
 
 impl RouteTrie {
-    /// A trie without a prefix.
+    /// An empty trie.
     pub fn new() -> RouteTrie
         ensures { IsTrieOf result.nodes [] }
     {
@@ -99,7 +98,7 @@ impl RouteTrie {
         }
     }
 
-    /// Becomes the trie of these prefixes, of which there are at most four.
+    /// Rebuilds the trie for these prefixes, of which there are at most four.
     pub fn build(&mut self, cidrs: &[IpCidr])
         requires { length cidrs.now ≤ ROUTE_TRIE_PLACE_COUNT }
         ensures { IsTrieOf self.new.nodes cidrs.now }
@@ -111,9 +110,9 @@ impl RouteTrie {
         }
     }
 
-    /// The best place for an address, and how many nodes were read: of the prefixes that the address
-    /// has and whose places are in the mask of live ones, the longest, of equals the last. It reads the
-    /// root, and a node for each further bit that a prefix shares with the address.
+    /// Looks up the best prefix for an address. Returns its index, and how many nodes were read. Among the prefixes
+    /// that contain the address and are in the mask of live ones, it is the longest, and of equal ones the last. The
+    /// walk reads the root, and a node for each further bit that a prefix shares with the address.
     pub fn walk(&self, address: &IpAddress, live: u32) -> (Option<usize>, Steps)
         requires { (cidrs : List IpCidr) × IsTrieOf self.now.nodes cidrs }
         ensures best { (cidrs : List IpCidr) → IsTrieOf self.now.nodes cidrs → IsBestPlace cidrs address.now live result.0 }
@@ -124,7 +123,7 @@ impl RouteTrie {
         (last_marked(end.best), steps)
     }
 
-    // Walks along an address to its last bit, or to where no node goes on.
+    // Follows an address to its last bit, or to where no node follows.
     #[inline(always)]
     fn end_of(&self, address: &IpAddress, live: u32, steps: &mut Steps) -> Walk
         requires trie { (cidrs : List IpCidr) × IsTrieOf self.now.nodes cidrs }
@@ -148,7 +147,7 @@ impl RouteTrie {
         }
     }
 
-    // Reads a root, and starts there.
+    // Reads a root, where the walk starts.
     #[inline(always)]
     fn start(&self, root: u16, live: u32, steps: &mut Steps) -> Walk
         requires within { root < ROUTE_TRIE_NODE_COUNT }
@@ -165,7 +164,7 @@ impl RouteTrie {
         }
     }
 
-    // Goes on by so many bits, the top ones of a number, or to where no node does.
+    // Follows `count` bits, the top ones of a number, or to where no node follows.
     #[inline(always)]
     fn walk_on(&self, from: &Walk, leading: u64, count: u8, live: u32, steps: &mut Steps) -> Walk
         requires at { (cidrs : List IpCidr) × (a : IpAddress) × (i : ℕ) × IsTrieOf self.now.nodes cidrs
@@ -198,7 +197,7 @@ impl RouteTrie {
         }
     }
 
-    // Reads a node, and counts that.
+    // Reads a node, and counts it.
     #[inline(always)]
     fn visit(&self, number: u16, steps: &mut Steps) -> Node
         requires within { number < ROUTE_TRIE_NODE_COUNT }
@@ -219,7 +218,7 @@ fn first_half(bits: u128) -> u64
     (bits >> 64) as u64
 }
 
-// Its last 64 bits.
+// The last 64 bits of an address.
 #[inline(always)]
 fn second_half(bits: u128) -> u64
     ensures { result ≡ bits % 2 ^ 64 }
@@ -227,7 +226,7 @@ fn second_half(bits: u128) -> u64
     (bits % 0x1_0000_0000_0000_0000) as u64
 }
 
-// The number of the node behind this one by the top bit of a number of 64, or 0.
+// The number of the node after this one by the top bit of a 64-bit number, or 0.
 #[inline(always)]
 fn child_of(node: &Node, bits: u64) -> u16
     ensures { result ≡ slice_index node.now.next (bits / 2 ^ 63) }
@@ -235,7 +234,7 @@ fn child_of(node: &Node, bits: u64) -> u16
     node.next[(bits >> 63) as usize]
 }
 
-// The places of a longer prefix, or, if there is none, those of a shorter one.
+// The indices of a longer prefix, or, if there is none, those of a shorter one.
 #[inline(always)]
 fn better(longer: u32, shorter: u32) -> u32
     ensures { result ≡ cond (longer == 0) shorter longer }
@@ -243,7 +242,7 @@ fn better(longer: u32, shorter: u32) -> u32
     if longer == 0 { shorter } else { longer }
 }
 
-// The beginning of no bit.
+// The beginning without bits.
 fn root_of(width: u8) -> Beginning
     ensures { result ≡ root_of width }
 {
@@ -271,7 +270,7 @@ fn network_of(cidr: &IpCidr) -> Network
     }
 }
 
-// One of IPv6.
+// An IPv6 network by its numbers.
 #[inline(always)]
 fn wide_network(bits: u128, len: u8) -> Network
     ensures value { result ≡ record { width = 128; bits = bits; len = len } }
@@ -298,7 +297,7 @@ fn start_of(network: &Network, len: u8) -> Beginning
     }
 }
 
-// Whether a network's prefix begins so, and goes on by a bit.
+// Whether a network's prefix has this beginning, followed by a bit.
 fn goes_on(network: &Network, beginning: &Beginning, bit: u128) -> bool
     requires wide { network.now.width ≤ 128 }
     requires within { network.now.len ≤ network.now.width }
@@ -312,7 +311,7 @@ fn goes_on(network: &Network, beginning: &Beginning, bit: u128) -> bool
     next / 2 == beginning.leading && next % 2 == bit
 }
 
-// Whether a network's prefix is this, and no longer.
+// Whether a network's prefix equals this beginning.
 fn is_whole(network: &Network, beginning: &Beginning) -> bool
     requires wide { network.now.width ≤ 128 }
     requires within { network.now.len ≤ network.now.width }
@@ -326,7 +325,7 @@ fn is_whole(network: &Network, beginning: &Beginning) -> bool
     network.len == 0 || network.bits >> (network.width - network.len) == beginning.leading
 }
 
-// The first place of a prefix that begins so and goes on by a bit, or the length.
+// The first index of a prefix with this beginning, followed by a bit, or the length.
 fn index_of(cidrs: &[IpCidr], beginning: &Beginning, bit: u128) -> usize
     requires { bit < 2 }
     ensures { result ≡ index_of cidrs.now (longer_of beginning.now bit) }
@@ -339,7 +338,7 @@ fn index_of(cidrs: &[IpCidr], beginning: &Beginning, bit: u128) -> usize
     cidrs.len()
 }
 
-// The number of the node that is longer by a bit, or 0 where there is none.
+// The number of the node that is one bit longer, or 0 if there is none.
 fn number_of(cidrs: &[IpCidr], beginning: &Beginning, bit: u128) -> u16
     requires few { length cidrs.now ≤ ROUTE_TRIE_PLACE_COUNT }
     requires short { beginning.now.len ≤ 128 }
@@ -353,7 +352,7 @@ fn number_of(cidrs: &[IpCidr], beginning: &Beginning, bit: u128) -> u16
     2 + 128 * (place as u16) + u16::from(beginning.len)
 }
 
-// Which prefixes are this one.
+// The mask of the prefixes that equal this beginning.
 fn marks_of(cidrs: &[IpCidr], beginning: &Beginning) -> u32
     requires few { length cidrs.now ≤ ROUTE_TRIE_PLACE_COUNT }
     requires root { beginning.now.len ≡ 0 → beginning.now.leading ≡ 0 }
@@ -398,7 +397,7 @@ fn fill(nodes: &mut [Node; ROUTE_TRIE_NODE_COUNT], cidrs: &[IpCidr], place: usiz
     }
 }
 
-// The last place of a mask, if it has one.
+// The last index in a mask, if there is one.
 #[inline(always)]
 fn last_marked(mask: u32) -> Option<usize>
     ensures { IsLastOf mask result }

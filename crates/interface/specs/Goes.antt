@@ -4,7 +4,7 @@ use Rattle.net_base.specs.Device.{Event}
 use Rattle.host_machine.specs.Host.{Host}
 use Rattle.host_machine.specs.Note.{Note}
 
--- what a call did: the device told this, these are its notes, and the host is this one after
+-- what a call did: these are the device's events and the notes, and this is the host afterwards
 pub record Went {D : Type 0} (tells : D → List Event → D → Type 0) (device device' : D) (step : List Event → List Note → Host → Type 0)
     (after : Host → Type 0) : Type 0 where
   pub told : List Event
@@ -14,7 +14,7 @@ pub record Went {D : Type 0} (tells : D → List Event → D → Type 0) (device
   pub steps : step told notes host
   pub stands : after host
 
--- from each host that stood before, one step leads to a host that stands after
+-- from each host before, one step leads to a host afterwards
 abbrev pub Goes : {D : Type 0} → (D → List Event → D → Type 0) → D → D → (Host → List Event → List Note → Host → Type 0) →
     (Host → Type 0) → (Host → Type 0) → Type 0
 Goes tells device device' step before after = (H : Host) → before H → Went tells device device' (step H) after

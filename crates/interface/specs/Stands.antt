@@ -10,7 +10,7 @@ use Rattle.iface_send.specs.Stands as context
 use Rattle.iface_protocols.specs.Processed as processed
 use Rattle.interface.specs.declared.interface.Interface.{Interface}
 
--- the host of what an interface knows, and of these sockets, without what its slots have: its buffers are no part of its meaning
+-- the host of an interface's context with these sockets, without the contents of its slots: its buffers have no meaning
 abbrev pub host_with : Interface → SocketSet → Host
 host_with i sockets = host_of i.context sockets
 
@@ -22,11 +22,11 @@ with_context i c = record i { context = c }
 abbrev pub with_routes : Interface → List Route → Interface
 with_routes i routes = record i { context = context.with_routes i.context routes }
 
--- a host that an interface with its sockets stands for: its places stand for that host's slots
+-- a host that an interface with its sockets stands for: its assemblers stand for that host's slots
 abbrev pub StandsFor : Interface → Sockets (Bor (Unit {0})) → Host → Type 0
 StandsFor i s H = processed.StandsFor i.context i.fragments s H
 
--- each host that an interface stood for is changed so
+-- each host that an interface stood for changes in this way
 abbrev pub Becomes : Interface → Interface → (Host → Host) → Type 0
 Becomes old new change = (sockets : SocketSet) (H : Host) → StandsFor old sockets H → StandsFor new sockets (change H)
 

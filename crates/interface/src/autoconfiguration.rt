@@ -1,3 +1,3 @@
-//! What a host learns of its routers' advertisements (RFC 4862 5.5.3): prefixes and default routes, each with its end.
+//! What a host learns from router advertisements (RFC 4862 5.5.3): prefixes and default routes, each with its expiry.
 
 pub use slaac::slaac::{Phase, Prefix, PrefixInfo, Route, Slaac};

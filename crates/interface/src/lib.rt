@@ -1,10 +1,10 @@
-//! The interface: it takes frames from a device and sends others, and each of its calls is one step
-//! of the host machine (crate `host_machine`).
+//! The interface: it receives frames from a device and sends others. Each of its calls is one step of the host machine
+//! (crate `host_machine`).
 //!
-//! Begin with [`Interface::new`] over a device, give it addresses by `update_ip_addrs`, and call `poll`:
-//! it takes frames and sends what the sockets have to send. `poll_at` tells when to call it again, if no
-//! frame comes before. `poll_ingress_single` and `poll_egress` are its parts; who has buffers of its own
-//! hands frames over by `receive_frame`. The crate `host` runs lists of such calls.
+//! Create one with [`Interface::new`] over a device, give it addresses by `update_ip_addrs`, and call `poll`: it
+//! receives frames and sends what the sockets have queued. `poll_at` returns when to call it again if no frame arrives
+//! before. `poll_ingress_single` and `poll_egress` are its parts. With buffers of your own, hand frames over by
+//! `receive_frame`. The crate `host` runs lists of such calls.
 #![tactic(auto)]
 
 pub mod autoconfiguration;

@@ -20,10 +20,9 @@ use slaac::earlier_of;
 use socket_set::{SocketSet, by_index};
 use sockets::{PollAt, SocketContext};
 
-/// The least instant at which something is due, if anything is: at once a piece that waits, a group of which
-/// it is to be told, and addresses and routes that are to be brought into line; a router solicitation and a
-/// report at its time, and the end of what routers advertised; and a socket at its own instant or at the end of its wait.
-/// Idle sockets, which have no instant, are passed over.
+/// The earliest instant at which `poll` has work, if any. Immediately: a pending fragment, an unreported join or leave,
+/// and a SLAAC sync. Later: a router solicitation, a group report, the expiry of what routers advertised, and each
+/// socket's own instant or the end of its wait. Idle sockets, which have no instant, are skipped.
 pub fn poll_at(context: &Context, sockets: &SocketSet<'_>) -> Option<Instant>
     ensures { (slots : Slots) → IsLeast (Due (host_in context.now slots sockets.now)) result }
 {
@@ -46,7 +45,7 @@ pub fn poll_at(context: &Context, sockets: &SocketSet<'_>) -> Option<Instant>
     earlier_of(piece_poll_at(context), of_routers)
 }
 
-/// The sooner of an instant and of those at which something is to be told of groups.
+/// The earlier of an instant and of the instants at which groups have something to report.
 fn groups_poll_at(context: &Context, other: Option<Instant>) -> Option<Instant>
     ensures { result ≡ of_groups (host_of context.now no_sockets) other }
 {
@@ -58,9 +57,8 @@ fn groups_poll_at(context: &Context, other: Option<Instant>) -> Option<Instant>
     earlier_of(group_poll_at(context, GroupState::Joining), leaves)
 }
 
-/// The sooner of an instant and of those at which something is due of routers: at once where addresses and
-/// routes aren't in line with what they advertised; the next solicitation; and the ends of what they
-/// advertised.
+/// The earliest of an instant and of those at which router discovery has work: immediately for a pending sync of
+/// addresses and routes; the next router solicitation; and the expiry of what routers advertised.
 fn routers_poll_at(context: &Context, other: Option<Instant>) -> Option<Instant>
     ensures { result ≡ of_routers (host_of context.now no_sockets) other }
 {
@@ -68,8 +66,7 @@ fn routers_poll_at(context: &Context, other: Option<Instant>) -> Option<Instant>
     earlier_of(sync_poll_at(context), earlier_of(rs_poll_at(context), ends))
 }
 
-/// The instant at which addresses and routes are to be brought into line with what routers advertised: at
-/// once, where they aren't.
+/// When addresses and routes have to be synchronized with router advertisements: immediately, if they are out of date.
 fn sync_poll_at(context: &Context) -> Option<Instant>
     ensures { result ≡ spec.sync_instant (host_of context.now no_sockets) }
 {
@@ -80,7 +77,7 @@ fn sync_poll_at(context: &Context) -> Option<Instant>
     }
 }
 
-/// The instant at which a piece that waits is due, if one waits: at once.
+/// When the pending fragment is due: immediately, if there is one.
 fn piece_poll_at(context: &Context) -> Option<Instant>
     ensures { result ≡ spec.at_once (host_of context.now no_sockets).left }
 {
@@ -91,7 +88,7 @@ fn piece_poll_at(context: &Context) -> Option<Instant>
     }
 }
 
-/// The instant that an answer names: the origin for what is due at once.
+/// The instant of a socket's answer; 0 for what is due immediately.
 const fn instant_of(own: PollAt) -> Option<Instant>
     ensures { result ≡ spec.instant_of own }
 {
@@ -102,7 +99,7 @@ const fn instant_of(own: PollAt) -> Option<Instant>
     }
 }
 
-/// What a poll answers.
+/// The result of a poll: `SocketStateChanged` if something changed, otherwise `None`.
 pub const fn poll_result(changed: bool) -> PollResult
     ensures { result ≡ answer_of changed }
 {

@@ -1,8 +1,8 @@
-//! What a client concludes of an interface that is lent to it, whichever it is.
+//! What a client can conclude about an interface that it borrows, whichever it is.
 //!
-//! What the calls of an [`Interface`] do is said of each host that the interface stands for. That there is
-//! one, with any sockets, is the law [`Interface::stands_for_a_host`], which a client calls where it wants to
-//! conclude what its interface is after a call.
+//! The contracts of an [`Interface`] speak of each host that the interface stands for. That there is one, with any
+//! sockets, is the law [`Interface::stands_for_a_host`], which a client calls to conclude what its interface is after a
+//! call.
 #![tactic(auto)]
 
 ghost use Rattle.std.specs.Prelude.{◌≡◌, false, true, Err};
@@ -17,7 +17,7 @@ use arrayvec::ArrayVec;
 use interface::{AddrError, Interface, MulticastError};
 use ip_address::{IpAddress, IpCidr};
 
-/// Takes addresses that are routed to the interface for own ones, and tells whether it does.
+/// Turns AnyIP on, and returns whether it is on.
 pub fn takes_any(interface: &mut Interface) -> bool
     ensures told { result ≡ true }
     ensures any { (sockets : SocketSet) → (host_with interface.new sockets).any_ip ≡ true }
@@ -27,7 +27,7 @@ pub fn takes_any(interface: &mut Interface) -> bool
     interface.any_ip()
 }
 
-/// Gives the interface addresses one of which it can't have: it refuses them, and its addresses are as before.
+/// Gives the interface a list of addresses that it can't have: it refuses them, and keeps its addresses.
 pub fn keeps_its_addresses(
     interface: &mut Interface,
     list: &ArrayVec<IpCidr, 4>,
@@ -40,7 +40,7 @@ pub fn keeps_its_addresses(
     put_ip_addrs(interface, list)
 }
 
-/// Joins what is no group: the interface refuses it, and is in the groups in which it was before.
+/// Joins an address that is not multicast: the interface refuses it, and its groups stay unchanged.
 pub fn joins_no_other_address(
     interface: &mut Interface,
     address: IpAddress,

@@ -23,17 +23,17 @@ contains (cidr.Ipv6 n) (Ipv6 a) = contains6 n a
 contains (cidr.Ipv4 n) (Ipv6 a) = false
 contains (cidr.Ipv6 n) (Ipv4 a) = false
 
--- the address that was given for the network
+-- the address that was given with the network
 abbrev pub address_of : IpCidr → IpAddress
 address_of (cidr.Ipv4 n) = Ipv4 n.address
 address_of (cidr.Ipv6 n) = Ipv6 n.address
 
--- how many bits all its addresses share
+-- the number of bits that all its addresses share
 abbrev pub prefix_len_of : IpCidr → ℕ
 prefix_len_of (cidr.Ipv4 n) = n.prefix_len
 prefix_len_of (cidr.Ipv6 n) = n.prefix_len
 
--- the last address of the network (RFC 922); none for 31 or 32 bits, where that is a host (RFC 3021)
+-- the broadcast address of the network, its last one (RFC 922); none for 31 or 32 bits, where that is a host (RFC 3021)
 abbrev pub broadcast_of : Ipv4Cidr → Option Ipv4Address
 broadcast_of n = if nat_lt n.prefix_len 31 then Some (record { bits = last_of 32 n.prefix_len n.address.bits }) else None
 

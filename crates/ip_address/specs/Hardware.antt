@@ -8,12 +8,12 @@ use Rattle.ip_address.specs.declared.hardware.HardwareAddress.{HardwareAddress}
 use Rattle.ip_address.specs.declared.hardware.HardwareAddress.TheVariants.{Ip, Ethernet}
 use Rattle.ip_address.specs.EthernetAddress as ethernet
 
--- the medium that has such addresses
+-- the medium of this kind of address
 abbrev pub medium_of : HardwareAddress → Medium
 medium_of Ip = medium.Ip
 medium_of (Ethernet e) = medium.Ethernet
 
--- an address of a medium, as a program holds it: of six octets on Ethernet (RFC 894), and none elsewhere
+-- an address of a medium, as a program holds it: six octets on Ethernet (RFC 894), and none on an IP medium
 abbrev pub IsOf : Medium → HardwareAddress → Type 0
 IsOf medium.Ethernet (Ethernet e) = length e.0 ≡ 6
 IsOf medium.Ethernet Ip = ⊥
@@ -26,7 +26,7 @@ IsOf-prop medium.Ethernet Ip p q = absurd p
 IsOf-prop medium.Ip (Ethernet e) p q = absurd p
 IsOf-prop medium.Ip Ip p q = refl
 
--- that of one interface
+-- a unicast address; `Ip`, on a medium without hardware addresses, counts as one
 abbrev pub is_unicast : HardwareAddress → Bool
 is_unicast Ip = true
 is_unicast (Ethernet e) = ethernet.is_unicast e

@@ -23,12 +23,12 @@ abbrev pub is_multicast : IpAddress → Bool
 is_multicast (Ipv4 a) = ipv4.is_multicast a
 is_multicast (Ipv6 a) = ipv6.is_multicast a
 
--- that of one host: neither multicast, broadcast nor unspecified
+-- a unicast address: neither multicast, broadcast nor unspecified
 abbrev pub is_unicast : IpAddress → Bool
 is_unicast (Ipv4 a) = ipv4.is_unicast a
 is_unicast (Ipv6 a) = ipv6.is_unicast a
 
--- the family and the number, by which addresses are told apart and ordered
+-- the family and the number, by which addresses are compared and ordered
 abbrev pub address_key : IpAddress → ℕ × ℕ
 address_key (Ipv4 a) = (0, a.bits)
 address_key (Ipv6 a) = (1, a.bits)

@@ -17,6 +17,6 @@ is_broadcast a = a.bits == 0xffff_ffff
 abbrev pub is_multicast : Ipv4Address → Bool
 is_multicast a = a.bits / 2 ^ 28 == 14
 
--- that of one host
+-- a unicast address: neither broadcast, multicast nor unspecified
 abbrev pub is_unicast : Ipv4Address → Bool
 is_unicast a = not (is_broadcast a || is_multicast a || is_unspecified a)

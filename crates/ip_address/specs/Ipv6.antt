@@ -24,11 +24,11 @@ is_multicast a = a.bits / 2 ^ 120 == 0xff
 abbrev pub is_link_local : Ipv6Address → Bool
 is_link_local a = a.bits / 2 ^ 118 == 0x3fa
 
--- that of one host
+-- a unicast address: neither multicast nor unspecified
 abbrev pub is_unicast : Ipv6Address → Bool
 is_unicast a = not (is_multicast a || is_unspecified a)
 
--- of a group the low four bits of its second octet; 2 is the link, 14 the world (RFC 6724 3.1)
+-- the scope; for multicast the low four bits of its second octet; 2 is link-local, 14 global (RFC 6724 3.1)
 abbrev pub scope_of : Ipv6Address → ℕ
 scope_of a = if is_multicast a then a.bits / 2 ^ 112 % 16 else if is_loopback a || is_link_local a then 2 else 14
 
@@ -36,6 +36,6 @@ scope_of a = if is_multicast a then a.bits / 2 ^ 112 % 16 else if is_loopback a 
 abbrev pub all_nodes : Ipv6Address
 all_nodes = record { bits = 0xff02_0000_0000_0000_0000_0000_0000_0001 }
 
--- of ff02::1:ff00:0/104 the group with the last 24 bits of an address (RFC 4291 2.7.1)
+-- the solicited-node group of an address: in ff02::1:ff00:0/104, with the address's last 24 bits (RFC 4291 2.7.1)
 abbrev pub solicited_node : Ipv6Address → Ipv6Address
 solicited_node a = record { bits = 0xff02_0000_0000_0000_0000_0001_ff00_0000 + a.bits % 2 ^ 24 }

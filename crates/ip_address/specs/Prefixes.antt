@@ -1,4 +1,4 @@
--- Prefixes of numbers of so many bits.
+-- Prefixes of numbers with a fixed number of bits.
 use Rattle.std.specs.Prelude.{◌≡◌, ◌↔◌, ℕ, zero, suc, ◌+◌, ◌*◌, ◌-◌, ◌/◌, ◌%◌, ◌^◌, ◌<◌, ◌≤◌, ◌==◌, nat_eq, min, Bool, true, List, [], ◌∷◌, take}
 use Rattle.std.specs.List.{common_prefix_len}
 
@@ -7,11 +7,11 @@ unfoldable pub bits : ℕ → ℕ → List ℕ
 bits zero a = []
 bits (suc w) a = a / 2 ^ w % 2 ∷ bits w a
 
--- the first n of w bits agree: the two numbers are the same without their other bits
+-- the first n of w bits agree: the two numbers are equal without their other bits
 abbrev pub agrees : ℕ → ℕ → ℕ → ℕ → Bool
 agrees w n a b = a / 2 ^ (w - n) == b / 2 ^ (w - n)
 
--- how many leading bits of w agree, at most n
+-- the number of leading bits of w that agree, at most n
 abbrev pub common_bits : ℕ → ℕ → ℕ → ℕ → ℕ
 common_bits w a b n = min (common_prefix_len nat_eq (bits w a) (bits w b)) n
 

@@ -21,11 +21,11 @@ protocol_of n =
     if n == 0 then HopByHop else if n == 1 then Icmp else if n == 2 then Igmp else if n == 6 then Tcp
     else if n == 17 then Udp else if n == 58 then Icmpv6 else Unknown n
 
--- protocols are the same if their numbers are
+-- protocols are equal if their numbers are
 abbrev pub is_same : IpProtocol → IpProtocol → Bool
 is_same p q = number_of p == number_of q
 
--- the version whose addresses are such
+-- the version of IP with such addresses
 abbrev pub version_of : IpAddress → IpVersion
 version_of (address.Ipv4 a) = version.Ipv4
 version_of (address.Ipv6 a) = version.Ipv6

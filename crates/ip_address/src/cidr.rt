@@ -7,11 +7,11 @@ use crate::ipv4::Ipv4Address;
 use crate::ipv6::Ipv6Address;
 use std::fmt;
 
-/// An IPv4 network, by an address of it and the length of the prefix that all its addresses share.
+/// An IPv4 network, given by one of its addresses and the length of the prefix that all its addresses share.
 #[derive(Clone, Copy, Debug, PartialEq, Eq)]
 pub struct Ipv4Cidr {
     pub address: Ipv4Address,
-    /// In bits, at most 32.
+    /// The prefix length in bits, at most 32.
     pub prefix_len: u8,
     pub ghost in_range: { prefix_len ≤ 32 },
 }
@@ -39,8 +39,8 @@ impl Ipv4Cidr {
         agrees32(self.address.bits, address.bits, self.prefix_len)
     }
 
-    /// The address of all its hosts, its last one. `None` exactly for a prefix of 31 or 32 bits, since
-    /// such a network has no address to spare (RFC 3021).
+    /// The broadcast address of the network, its last one. `None` exactly for a prefix of 31 or 32 bits, since such a
+    /// network has no address to spare (RFC 3021).
     #[tactic(auto, using(crate::proofs::LastAddress::last_address))]
     pub fn broadcast(&self) -> Option<Ipv4Address>
         ensures { result ≡ broadcast_of self.now }
@@ -65,11 +65,11 @@ impl Default for Ipv4Cidr {
     }
 }
 
-/// An IPv6 network, by an address of it and the length of the prefix that all its addresses share.
+/// An IPv6 network, given by one of its addresses and the length of the prefix that all its addresses share.
 #[derive(Clone, Copy, Debug, PartialEq, Eq)]
 pub struct Ipv6Cidr {
     pub address: Ipv6Address,
-    /// In bits, at most 128.
+    /// The prefix length in bits, at most 128.
     pub prefix_len: u8,
     pub ghost in_range: { prefix_len ≤ 128 },
 }
@@ -129,7 +129,7 @@ impl IpCidr {
         }
     }
 
-    /// Whether an address is of the network's family and in it.
+    /// Whether an address is of the network's family and in the network.
     pub fn contains_addr(&self, address: &IpAddress) -> bool
         ensures { result ≡ contains self.now address.now }
     {
@@ -176,21 +176,21 @@ impl From<Ipv6Cidr> for IpCidr {
 }
 
 impl fmt::Display for Ipv4Cidr {
-    /// As its address, and behind a slash the length of its prefix: 192.168.69.1/24.
+    /// The address, a slash and the prefix length: 192.168.69.1/24.
     fn fmt<W: fmt::Write>(&self, f: &mut fmt::Formatter<W>) -> fmt::Result {
         write!(f, "{}/{}", self.address, self.prefix_len)
     }
 }
 
 impl fmt::Display for Ipv6Cidr {
-    /// As its address, and behind a slash the length of its prefix: fe80::1/64.
+    /// The address, a slash and the prefix length: fe80::1/64.
     fn fmt<W: fmt::Write>(&self, f: &mut fmt::Formatter<W>) -> fmt::Result {
         write!(f, "{}/{}", self.address, self.prefix_len)
     }
 }
 
 impl fmt::Display for IpCidr {
-    /// As the network of its family.
+    /// The network, displayed as its family is.
     fn fmt<W: fmt::Write>(&self, f: &mut fmt::Formatter<W>) -> fmt::Result {
         match self {
             IpCidr::Ipv4(cidr) => write!(f, "{cidr}"),
@@ -199,7 +199,7 @@ impl fmt::Display for IpCidr {
     }
 }
 
-// Whether the first bits of two numbers of 32 bits agree.
+// Whether the first bits of two 32-bit numbers agree.
 fn agrees32(a: u32, b: u32, prefix_len: u8) -> bool
     requires { prefix_len ≤ 32 }
     ensures { result ≡ agrees 32 prefix_len a b }
@@ -207,7 +207,7 @@ fn agrees32(a: u32, b: u32, prefix_len: u8) -> bool
     prefix_len == 0 || a >> (32 - prefix_len) == b >> (32 - prefix_len)
 }
 
-// Whether the first bits of two numbers of 128 bits agree.
+// Whether the first bits of two 128-bit numbers agree.
 fn agrees128(a: u128, b: u128, prefix_len: u8) -> bool
     requires { prefix_len ≤ 128 }
     ensures { result ≡ agrees 128 prefix_len a b }
@@ -215,8 +215,8 @@ fn agrees128(a: u128, b: u128, prefix_len: u8) -> bool
     prefix_len == 0 || a >> (128 - prefix_len) == b >> (128 - prefix_len)
 }
 
-/// The first bits of two numbers agree, as `contains_addr` tests it by their quotients, exactly if
-/// their lists of bits begin alike.
+/// The first bits of two numbers agree, as `contains_addr` tests by their quotients, exactly if their lists of bits
+/// begin alike.
 pub fn agrees_by_bits()
     ensures { AgreesByBits }
 {}

@@ -9,7 +9,7 @@ use std::fmt;
 #[derive(Clone, Copy, Debug, PartialEq, Eq, PartialOrd, Ord, Hash)]
 pub struct EthernetAddress(pub [u8; 6]);
 
-// Whether all octets are the same. They are compared as two numbers, of four octets and of two.
+// Whether all octets are equal. They are compared as two numbers, of four octets and of two.
 #[inline(always)]
 const fn are_same(a: &[u8; 6], b: &[u8; 6]) -> bool
     ensures { result ≡ bytes_eq a.now b.now }
@@ -21,10 +21,10 @@ const fn are_same(a: &[u8; 6], b: &[u8; 6]) -> bool
 }
 
 impl EthernetAddress {
-    /// The address of all interfaces.
+    /// The broadcast address.
     pub const BROADCAST: EthernetAddress = EthernetAddress([0xff, 0xff, 0xff, 0xff, 0xff, 0xff]);
 
-    /// Whether the two are one address.
+    /// Whether two addresses are equal.
     #[inline(always)]
     pub const fn is_same(&self, other: &EthernetAddress) -> bool
         ensures { result ≡ spec.is_same self.now other.now }
@@ -32,7 +32,7 @@ impl EthernetAddress {
         are_same(&self.0, &other.0)
     }
 
-    /// Whether it is that of all interfaces: all ones.
+    /// Whether the address is broadcast: all ones.
     #[inline(always)]
     pub fn is_broadcast(&self) -> bool
         ensures { result ≡ spec.is_broadcast self.now }
@@ -40,7 +40,7 @@ impl EthernetAddress {
         are_same(&self.0, &EthernetAddress::BROADCAST.0)
     }
 
-    /// Whether it is that of a group: its first octet is odd. That of all interfaces is one, too.
+    /// Whether the address is multicast (lowest bit of the first octet set). Broadcast is included.
     #[inline(always)]
     pub const fn is_multicast(&self) -> bool
         ensures { result ≡ spec.is_multicast self.now }
@@ -48,7 +48,7 @@ impl EthernetAddress {
         self.0[0] % 2 == 1
     }
 
-    /// Whether it is that of one interface, neither a group's nor that of all.
+    /// Whether the address is unicast: neither multicast nor broadcast.
     pub fn is_unicast(&self) -> bool
         ensures { result ≡ spec.is_unicast self.now }
     {
@@ -57,7 +57,7 @@ impl EthernetAddress {
 }
 
 impl fmt::Display for EthernetAddress {
-    /// As its six octets in hexadecimal, with dashes between them: 02-00-00-00-00-01.
+    /// Its six octets in hexadecimal, with dashes between them: 02-00-00-00-00-01.
     fn fmt<W: fmt::Write>(&self, f: &mut fmt::Formatter<W>) -> fmt::Result {
         let [a0, a1, a2, a3, a4, a5] = self.0;
         write!(f, "{a0:02x}-{a1:02x}-{a2:02x}-{a3:02x}-{a4:02x}-{a5:02x}")

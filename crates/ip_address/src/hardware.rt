@@ -7,10 +7,10 @@ use crate::ethernet_address::EthernetAddress;
 use net_base::phy::Medium;
 use std::fmt;
 
-/// The address of an interface on its link.
+/// The hardware address of an interface.
 #[derive(Clone, Copy, Debug, PartialEq, Eq)]
 pub enum HardwareAddress {
-    /// A medium without hardware addresses.
+    /// The medium has no hardware addresses.
     Ip,
     Ethernet(EthernetAddress),
 }
@@ -25,7 +25,7 @@ const fn medium_with(octets: &[u8; 6]) -> Medium
 }
 
 impl HardwareAddress {
-    /// The medium that has such addresses.
+    /// The medium of this kind of address.
     pub const fn medium(&self) -> Medium
         ensures value { result ≡ spec.medium_of self.now }
         ensures of { spec.IsOf result self.now }
@@ -36,7 +36,7 @@ impl HardwareAddress {
         }
     }
 
-    /// Whether it is that of one interface. Where there are no hardware addresses it is.
+    /// Whether the address is unicast. On a medium without hardware addresses it always is.
     pub fn is_unicast(&self) -> bool
         ensures { result ≡ spec.is_unicast self.now }
     {
@@ -67,7 +67,7 @@ impl From<EthernetAddress> for HardwareAddress {
 }
 
 impl fmt::Display for HardwareAddress {
-    /// As the Ethernet address, if it has one.
+    /// The Ethernet address, if it has one.
     fn fmt<W: fmt::Write>(&self, f: &mut fmt::Formatter<W>) -> fmt::Result {
         match self {
             HardwareAddress::Ip => write!(f, "no hardware addr"),

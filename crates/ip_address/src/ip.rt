@@ -14,7 +14,7 @@ pub enum IpAddress {
 }
 
 impl IpAddress {
-    /// Whether it is 0.0.0.0 or ::.
+    /// Whether the address is 0.0.0.0 or ::.
     pub const fn is_unspecified(&self) -> bool
         ensures { result ≡ spec.is_unspecified self.now }
     {
@@ -24,7 +24,7 @@ impl IpAddress {
         }
     }
 
-    /// Whether it is 255.255.255.255.
+    /// Whether the address is 255.255.255.255.
     pub const fn is_broadcast(&self) -> bool
         ensures { result ≡ spec.is_broadcast self.now }
     {
@@ -34,7 +34,7 @@ impl IpAddress {
         }
     }
 
-    /// Whether it is a group's.
+    /// Whether the address is multicast.
     pub const fn is_multicast(&self) -> bool
         ensures { result ≡ spec.is_multicast self.now }
     {
@@ -44,7 +44,7 @@ impl IpAddress {
         }
     }
 
-    /// Whether it is one host's: neither multicast, broadcast nor unspecified.
+    /// Whether the address is unicast: neither multicast, broadcast nor unspecified.
     pub const fn is_unicast(&self) -> bool
         ensures { result ≡ spec.is_unicast self.now }
     {
@@ -86,7 +86,7 @@ impl From<Ipv6Address> for IpAddress {
 }
 
 impl fmt::Display for IpAddress {
-    /// As the address of its family.
+    /// The address, displayed as its family is.
     fn fmt<W: fmt::Write>(&self, f: &mut fmt::Formatter<W>) -> fmt::Result {
         match self {
             IpAddress::Ipv4(address) => write!(f, "{address}"),

@@ -6,7 +6,7 @@ ghost use Rattle.ip_address.specs.Prefixes.{common_bits};
 
 use std::fmt;
 
-/// An IPv4 address, as the number of its four octets, the first one highest.
+/// An IPv4 address, as the big-endian number of its four octets.
 #[derive(Clone, Copy, Debug, PartialEq, Eq, PartialOrd, Ord, Hash)]
 pub struct Ipv4Address {
     /// The number.
@@ -14,13 +14,13 @@ pub struct Ipv4Address {
 }
 
 impl Ipv4Address {
-    /// The address of a host that doesn't know its own, 0.0.0.0.
+    /// The unspecified address, 0.0.0.0.
     pub const UNSPECIFIED: Ipv4Address = Ipv4Address { bits: 0 };
 
-    /// The address of all hosts on the link, 255.255.255.255.
+    /// The limited broadcast address, 255.255.255.255.
     pub const BROADCAST: Ipv4Address = Ipv4Address { bits: 0xffff_ffff };
 
-    /// The address of four octets.
+    /// The address with these four octets.
     pub const fn new(a: u8, b: u8, c: u8, d: u8) -> Ipv4Address
         ensures { result ≡ spec.address_of a b c d }
     {
@@ -36,35 +36,35 @@ impl Ipv4Address {
         self.bits.to_be_bytes()
     }
 
-    /// Whether it is 0.0.0.0.
+    /// Whether the address is 0.0.0.0.
     pub const fn is_unspecified(&self) -> bool
         ensures { result ≡ spec.is_unspecified self.now }
     {
         self.bits == 0
     }
 
-    /// Whether it is 255.255.255.255.
+    /// Whether the address is 255.255.255.255.
     pub const fn is_broadcast(&self) -> bool
         ensures { result ≡ spec.is_broadcast self.now }
     {
         self.bits == Ipv4Address::BROADCAST.bits
     }
 
-    /// Whether it is that of a group: in 224.0.0.0/4.
+    /// Whether the address is multicast: in 224.0.0.0/4.
     pub const fn is_multicast(&self) -> bool
         ensures { result ≡ spec.is_multicast self.now }
     {
         self.bits >> 28 == 14
     }
 
-    /// Whether it is that of one host: not a group's, not 255.255.255.255, not 0.0.0.0.
+    /// Whether the address is unicast: not multicast, not 255.255.255.255, not 0.0.0.0.
     pub const fn is_unicast(&self) -> bool
         ensures { result ≡ spec.is_unicast self.now }
     {
         !(self.is_broadcast() || self.is_multicast() || self.is_unspecified())
     }
 
-    /// How many leading bits agree with those of another address, at most `most` of the 32.
+    /// The number of leading bits that two addresses share, at most `most` of the 32.
     #[tactic(auto, using(crate::proofs::CommonBits::common))]
     pub fn common_prefix_len(&self, other: &Ipv4Address, most: u8) -> u8
         requires { most ≤ 32 }
@@ -83,7 +83,7 @@ impl Default for Ipv4Address {
 }
 
 impl fmt::Display for Ipv4Address {
-    /// As its four octets in decimals, with dots between them: 192.168.69.1.
+    /// Its four octets in decimal, with dots between them: 192.168.69.1.
     fn fmt<W: fmt::Write>(&self, f: &mut fmt::Formatter<W>) -> fmt::Result {
         let [a, b, c, d] = self.octets();
         write!(f, "{a}.{b}.{c}.{d}")

@@ -7,7 +7,7 @@ ghost use Rattle.ip_address.specs.Prefixes.{common_bits};
 use crate::ipv4::Ipv4Address;
 use std::fmt;
 
-/// An IPv6 address, as the number of its sixteen octets, the first one highest.
+/// An IPv6 address, as the big-endian number of its sixteen octets.
 #[derive(Clone, Copy, Debug, PartialEq, Eq, PartialOrd, Ord, Hash)]
 pub struct Ipv6Address {
     /// The number.
@@ -15,13 +15,13 @@ pub struct Ipv6Address {
 }
 
 impl Ipv6Address {
-    /// The address of a host that doesn't know its own, ::.
+    /// The unspecified address, ::.
     pub const UNSPECIFIED: Ipv6Address = Ipv6Address { bits: 0 };
 
-    /// The host itself, ::1.
+    /// The loopback address, ::1.
     pub const LOCALHOST: Ipv6Address = Ipv6Address { bits: 1 };
 
-    /// The group of all hosts on a link, ff02::1.
+    /// The all-nodes group of a link, ff02::1.
     pub const LINK_LOCAL_ALL_NODES: Ipv6Address = Ipv6Address {
         bits: 0xff02_0000_0000_0000_0000_0000_0000_0001,
     };
@@ -44,43 +44,43 @@ impl Ipv6Address {
         self.bits.to_be_bytes()
     }
 
-    /// Whether it is ::.
+    /// Whether the address is ::.
     pub const fn is_unspecified(&self) -> bool
         ensures { result ≡ spec.is_unspecified self.now }
     {
         self.bits == 0
     }
 
-    /// Whether it is the host itself, ::1.
+    /// Whether the address is the loopback address, ::1.
     pub const fn is_loopback(&self) -> bool
         ensures { result ≡ spec.is_loopback self.now }
     {
         self.bits == Ipv6Address::LOCALHOST.bits
     }
 
-    /// Whether it is that of a group: in ff00::/8.
+    /// Whether the address is multicast: in ff00::/8.
     pub const fn is_multicast(&self) -> bool
         ensures { result ≡ spec.is_multicast self.now }
     {
         self.bits >> 120 == 255
     }
 
-    /// Whether it is valid on its link alone: in fe80::/10.
+    /// Whether the address is link-local: in fe80::/10.
     pub const fn is_link_local(&self) -> bool
         ensures { result ≡ spec.is_link_local self.now }
     {
         self.bits >> 118 == 0x3fa
     }
 
-    /// Whether it is that of one host: neither a group's nor ::.
+    /// Whether the address is unicast: neither multicast nor ::.
     pub const fn is_unicast(&self) -> bool
         ensures { result ≡ spec.is_unicast self.now }
     {
         !(self.is_multicast() || self.is_unspecified())
     }
 
-    /// The group in which its host is asked for its hardware address: ff02::1:ff00:0 with the last
-    /// 24 bits of the address (RFC 4291 2.7.1).
+    /// The solicited-node group of the address, in which its host is asked for its hardware address: ff02::1:ff00:0
+    /// with the last 24 bits of the address (RFC 4291 2.7.1).
     pub fn solicited_node(&self) -> Ipv6Address
         ensures { result ≡ spec.solicited_node self.now }
     {
@@ -89,8 +89,8 @@ impl Ipv6Address {
         }
     }
 
-    /// How far it reaches: of a group the low four bits of its second octet, 2 for ::1 and for what
-    /// is valid on its link alone, else 14 (RFC 6724 3.1).
+    /// The scope of the address: for multicast the low four bits of its second octet, 2 for ::1 and for link-local
+    /// addresses, otherwise 14 (RFC 6724 3.1).
     pub fn scope(&self) -> u8
         ensures { result ≡ spec.scope_of self.now }
     {
@@ -103,7 +103,7 @@ impl Ipv6Address {
         }
     }
 
-    /// How many leading bits agree with those of another address, at most `most` of the 128.
+    /// The number of leading bits that two addresses share, at most `most` of the 128.
     #[tactic(auto, using(crate::proofs::CommonBits::common))]
     pub fn common_prefix_len(&self, other: &Ipv6Address, most: u8) -> u8
         requires { most ≤ 128 }
@@ -160,7 +160,7 @@ fn groups_of(address: &Ipv6Address) -> [u16; 8] {
     ]
 }
 
-// Where the longest run of groups that are 0 begins, the first one of several, and how many groups it has.
+// The start of the longest run of groups that are 0, the first one of several, and its number of groups.
 fn longest_run(groups: &[u16; 8]) -> (usize, usize)
     ensures { result.0 + result.1 ≤ 8 }
 {
@@ -188,8 +188,8 @@ fn write_groups<W: fmt::Write>(f: &mut fmt::Formatter<W>, groups: &[u16]) -> fmt
 }
 
 impl fmt::Display for Ipv6Address {
-    /// As RFC 5952 asks for: groups in lower case without leading zeros, the longest run of at least two
-    /// groups that are 0 as two colons, and the last 32 bits of ::ffff:0:0/96 as an IPv4 address.
+    /// The form of RFC 5952: groups in lower case without leading zeros, with the longest run of at least two groups
+    /// that are 0 as two colons. The last 32 bits of ::ffff:0:0/96 are written as an IPv4 address.
     fn fmt<W: fmt::Write>(&self, f: &mut fmt::Formatter<W>) -> fmt::Result {
         if self.bits >> 32 == 0xffff {
             let bits = (self.bits & 0xffff_ffff) as u32;

@@ -1,5 +1,4 @@
-//! Addresses and networks of both families of IP, hardware addresses, and the numbers of the
-//! protocols over IP.
+//! IP addresses and networks of both families, hardware addresses, and the protocol numbers of IP.
 #![tactic(auto)]
 
 pub mod cidr;

@@ -1,4 +1,4 @@
-//! The address that an interface makes of a prefix of its link (RFC 4862 5.5.3).
+//! The address that an interface forms from a prefix of its link (RFC 4862 5.5.3).
 ghost use Rattle.std.specs.Prelude.{◌≡◌, ◌<◌, ◌^◌};
 ghost use Rattle.std.specs.Int.{from_be_bytes, w64};
 ghost use Rattle.ip_address.specs.LinkPrefix as spec;
@@ -9,9 +9,9 @@ use crate::hardware::HardwareAddress;
 use crate::ipv6::Ipv6Address;
 
 impl Ipv6Cidr {
-    /// The address of an interface in a network of its link: the network's first 64 bits, and behind them
-    /// the identifier that the interface's hardware address makes (RFC 2464 4). `None` exactly if the
-    /// network's prefix isn't 64 bits long, or the medium has no hardware addresses.
+    /// The address of an interface in a network of its link: the network's first 64 bits, followed by the interface
+    /// identifier that the hardware address makes (RFC 2464 4). `None` exactly if the network's prefix isn't 64 bits
+    /// long, or the medium has no hardware addresses.
     pub fn from_link_prefix(
         link_prefix: &Ipv6Cidr,
         hardware_addr: HardwareAddress,
@@ -27,7 +27,7 @@ impl Ipv6Cidr {
     }
 }
 
-// The first 64 bits of a network, and then the identifier of an interface.
+// The first 64 bits of a network, followed by an interface identifier.
 fn cidr_with_identifier(link_prefix: &Ipv6Cidr, address: &EthernetAddress) -> Ipv6Cidr
     ensures { result ≡ spec.cidr_with_identifier link_prefix.now address.now }
 {
@@ -40,7 +40,7 @@ fn cidr_with_identifier(link_prefix: &Ipv6Cidr, address: &EthernetAddress) -> Ip
     }
 }
 
-// The identifier of an interface by its Ethernet address.
+// The interface identifier from an Ethernet address.
 #[tactic(auto, unfolding(crate::specs::LinkPrefix::identifier))]
 fn identifier(address: &EthernetAddress) -> u64
     ensures { result ≡ from_be_bytes w64 (spec.identifier address.now) }

@@ -1,4 +1,4 @@
-//! The protocols over IP, by their numbers, and IP's versions.
+//! The protocols over IP, by their numbers, and the versions of IP.
 ghost use Rattle.std.specs.Prelude.{◌≡◌};
 ghost use Rattle.std.specs.Cmp.Rules.{comparing};
 ghost use Rattle.std.proofs.Common.{rules};
@@ -7,11 +7,11 @@ ghost use Rattle.ip_address.specs.Protocol as spec;
 use crate::ip::IpAddress;
 use std::fmt;
 
-/// What a packet's payload is. Protocols are equal if their numbers are, so that
-/// [`IpProtocol::Unknown`] of 17 is [`IpProtocol::Udp`].
+/// The protocol of a packet's payload. Protocols are equal if their numbers are, so that [`IpProtocol::Unknown`] of 17
+/// is [`IpProtocol::Udp`].
 #[derive(Clone, Copy, Debug)]
 pub enum IpProtocol {
-    /// The hop-by-hop options of IPv6.
+    /// The IPv6 hop-by-hop options.
     HopByHop,
     Icmp,
     Igmp,
@@ -71,7 +71,7 @@ impl Eq for IpProtocol {
 }
 
 impl fmt::Display for IpProtocol {
-    /// As its name, or where it has none here its number in hexadecimal: UDP, 0x2e.
+    /// Its name, or its number in hexadecimal if it has none here: UDP, 0x2e.
     fn fmt<W: fmt::Write>(&self, f: &mut fmt::Formatter<W>) -> fmt::Result {
         match self {
             IpProtocol::HopByHop => f.write_str("Hop-by-Hop"),
@@ -93,7 +93,7 @@ pub enum IpVersion {
 }
 
 impl fmt::Display for IpVersion {
-    /// As its name: IPv4, IPv6.
+    /// Its name: IPv4, IPv6.
     fn fmt<W: fmt::Write>(&self, f: &mut fmt::Formatter<W>) -> fmt::Result {
         match self {
             IpVersion::Ipv4 => f.write_str("IPv4"),
@@ -103,7 +103,7 @@ impl fmt::Display for IpVersion {
 }
 
 impl IpAddress {
-    /// The version of IP that has such addresses.
+    /// The version of IP with such addresses.
     pub const fn version(&self) -> IpVersion
         ensures { result ≡ spec.version_of self.now }
     {

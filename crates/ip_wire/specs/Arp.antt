@@ -11,7 +11,8 @@ abbrev pub number_of : ArpOperation → ℕ
 number_of Request = 1
 number_of Reply = 2
 
--- the octets begin with a packet: hardware type 1 (Ethernet), protocol 0x0800 (IPv4), addresses of 6 and 4 octets, a request or a reply
+-- the octets begin with a packet: hardware type 1 (Ethernet), protocol 0x0800 (IPv4), addresses of 6 and 4 octets, a request or a
+-- reply
 pub record IsArp (octets : List ℕ) : Type 0 where
   pub whole : 28 ≤ length octets
   pub hardware : u16_at octets 0 ≡ 1
@@ -40,14 +41,14 @@ text r =
     ++ r.source_hardware_addr.0 ++ to_be_bytes w32 r.source_protocol_addr.bits
     ++ r.target_hardware_addr.0 ++ to_be_bytes w32 r.target_protocol_addr.bits
 
--- some octets are a packet of these values
+-- values that a packet can have
 pub record IsPacket (r : ArpRepr) : Type 0 where
   pub source_hardware : length r.source_hardware_addr.0 ≡ 6
   pub source_protocol : r.source_protocol_addr.bits < 2 ^ 32
   pub target_hardware : length r.target_hardware_addr.0 ≡ 6
   pub target_protocol : r.target_protocol_addr.bits < 2 ^ 32
 
--- a text is read as its values, whatever stands behind it
+-- a text is parsed back as its values, whatever follows it
 abbrev pub ReadAgain : Type 0
 ReadAgain = (r : ArpRepr) (more : List ℕ) → IsPacket r → IsArp (text r ++ more) × (arp_in (text r ++ more) ≡ r)
 

@@ -8,7 +8,7 @@ use Rattle.ip_wire.specs.declared.ethernet.EthernetProtocol.{EthernetProtocol}
 use Rattle.ip_wire.specs.declared.ethernet.EthernetProtocol.TheVariants.{Ipv4, Arp, Ipv6, Unknown}
 use Rattle.ip_wire.specs.declared.ethernet.EthernetRepr.{EthernetRepr}
 
--- the address of six octets at a place
+-- the address in six octets at an offset
 abbrev pub address_at : List ℕ → ℕ → EthernetAddress
 address_at octets at = record { 0 = slice_range octets at (at + 6) }
 
@@ -22,11 +22,11 @@ number_of (Unknown n) = n
 abbrev pub protocol_of : ℕ → EthernetProtocol
 protocol_of n = if n == 0x0800 then Ipv4 else if n == 0x0806 then Arp else if n == 0x86dd then Ipv6 else Unknown n
 
--- protocols are the same if their type numbers are
+-- protocols are equal if their type numbers are
 abbrev pub is_same : EthernetProtocol → EthernetProtocol → Bool
 is_same p q = number_of p == number_of q
 
--- a header and a payload, without where that lies in memory
+-- a header and a payload, apart from where that is in memory
 abbrev pub parts : EthernetRepr × Bor (List ℕ) → EthernetRepr × List ℕ
 parts p = (p.0, p.1.now)
 
@@ -38,7 +38,7 @@ header_in frame = record {
   ethertype = protocol_of (u16_at frame 12);
 }
 
--- its header, and what stands behind it
+-- its header, and what follows it
 abbrev pub ethernet_in : List ℕ → EthernetRepr × List ℕ
 ethernet_in frame = (header_in frame, drop 14 frame)
 
@@ -46,17 +46,17 @@ ethernet_in frame = (header_in frame, drop 14 frame)
 abbrev pub header_text : EthernetRepr → List ℕ
 header_text r = r.dst_addr.0 ++ r.src_addr.0 ++ to_be_bytes w16 (number_of r.ethertype)
 
--- some frame has this header
+-- values that the header of a frame can have
 pub record IsHeader (r : EthernetRepr) : Type 0 where
   pub destination : length r.dst_addr.0 ≡ 6
   pub source : length r.src_addr.0 ≡ 6
   pub number : number_of r.ethertype < 2 ^ 16
   pub protocol : protocol_of (number_of r.ethertype) ≡ r.ethertype
 
--- a text is read as its values, whatever stands behind it
+-- a text is parsed back as its values, whatever follows it
 abbrev pub ReadAgain : Type 0
 ReadAgain = (r : EthernetRepr) (payload : List ℕ) → IsHeader r → ethernet_in (header_text r ++ payload) ≡ (r, payload)
 
--- a frame is the text of its header, and what stands behind it
+-- a frame is the text of its header, and what follows it
 abbrev pub WrittenAgain : Type 0
 WrittenAgain = (frame : List ℕ) → AreOctets frame → 14 ≤ length frame → header_text (header_in frame) ++ drop 14 frame ≡ frame

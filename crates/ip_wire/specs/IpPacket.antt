@@ -22,12 +22,12 @@ abbrev pub dst_addr : IpRepr → IpAddress
 dst_addr (Ipv4 r) = address.Ipv4 r.dst_addr
 dst_addr (Ipv6 r) = address.Ipv6 r.dst_addr
 
--- what stands behind the header, as the header says it
+-- the protocol of what follows the header, as the header says
 abbrev pub next_header : IpRepr → IpProtocol
 next_header (Ipv4 r) = r.next_header
 next_header (Ipv6 r) = r.next_header
 
--- in octets
+-- the payload length, in octets
 abbrev pub payload_len : IpRepr → ℕ
 payload_len (Ipv4 r) = r.payload_len
 payload_len (Ipv6 r) = r.payload_len
@@ -36,17 +36,17 @@ abbrev pub hop_limit : IpRepr → ℕ
 hop_limit (Ipv4 r) = r.hop_limit
 hop_limit (Ipv6 r) = r.hop_limit
 
--- how long a header is that is written, in octets
+-- the length of a header that is emitted, in octets
 abbrev pub header_len : IpRepr → ℕ
 header_len (Ipv4 r) = 20
 header_len (Ipv6 r) = 40
 
--- its text, of IPv4 for a whole packet; IPv6 has no checksum of the header
+-- its text; for IPv4 that of a whole packet; IPv6 has no header checksum
 abbrev pub header_text : Bool → IpRepr → List ℕ
 header_text summed (Ipv4 r) = ipv4.header_text summed r ipv4.whole
 header_text summed (Ipv6 r) = ipv6.header_text r
 
--- the header has room for the packet's length: of IPv4 that of the whole packet, of IPv6 that of the payload
+-- the header's length field is wide enough: for IPv4 it counts the whole packet, for IPv6 the payload
 abbrev pub TellsLength : IpRepr → Type 0
 TellsLength (Ipv4 r) = 20 + r.payload_len < 2 ^ 16
 TellsLength (Ipv6 r) = r.payload_len < 2 ^ 16

@@ -31,11 +31,11 @@ psh flags = flags / 8 % 2
 abbrev pub ack : ℕ → ℕ
 ack flags = flags / 16 % 2
 
--- not two of FIN, SYN and RST
+-- at most one of FIN, SYN and RST
 abbrev pub IsControl : ℕ → Type 0
 IsControl flags = fin flags + syn flags + rst flags ≤ 1
 
--- what they say; PSH doesn't matter beside FIN, SYN or RST
+-- the meaning of flags; PSH is ignored beside FIN, SYN or RST
 unfoldable pub control_of : ℕ → TcpControl
 control_of flags =
     if fin flags == 1 then control.Fin else if syn flags == 1 then control.Syn else if rst flags == 1 then control.Rst
@@ -62,15 +62,15 @@ header_in octets = record {
   window_len = u16_at octets 14;
 }
 
--- its values, and its payload, all that stands behind the header
+-- its values, and its payload, all octets after the header
 abbrev pub tcp_in : List ℕ → TcpRepr × List ℕ
 tcp_in octets = (header_in octets, drop (header_len octets) octets)
 
--- values and a payload, without where that lies in memory
+-- values and a payload, apart from where that is in memory
 abbrev pub parts : TcpRepr × Bor (List ℕ) → TcpRepr × List ℕ
 parts p = (p.0, p.1.now)
 
--- the flags of what a segment says
+-- the flags of a segment's meaning
 abbrev pub flags_of : TcpControl → ℕ
 flags_of control.Fin = 0x01
 flags_of control.Syn = 0x02
@@ -78,7 +78,7 @@ flags_of control.Rst = 0x04
 flags_of control.Psh = 0x08
 flags_of control.None = 0
 
--- ACK says that there is an acknowledgement number; without it 0 stands in its place
+-- ACK says that there is an acknowledgement number; without it the field is 0
 abbrev pub ack_flag : Option TcpSeqNumber → ℕ
 ack_flag None = 0
 ack_flag (Some n) = 0x10
@@ -87,13 +87,13 @@ abbrev pub ack_bits : Option TcpSeqNumber → ℕ
 ack_bits None = 0
 ack_bits (Some n) = n.bits
 
--- the text of a header of five words, with a checksum; nothing is urgent
+-- the text of a header of five words, with a checksum; the urgent pointer is 0
 unfoldable pub header_with : ℕ → TcpRepr → List ℕ
 header_with sum r =
     to_be_bytes w16 r.src_port ++ to_be_bytes w16 r.dst_port ++ to_be_bytes w32 r.seq_number.bits ++ to_be_bytes w32 (ack_bits r.ack_number)
     ++ 0x50 ∷ (flags_of r.control + ack_flag r.ack_number) ∷ (to_be_bytes w16 r.window_len ++ to_be_bytes w16 sum ++ 0 ∷ 0 ∷ [])
 
--- its checksum, or 0 where that is off: that of pseudo-header and segment, with 0 in its place
+-- its checksum, or 0 if that is off: that of pseudo-header and segment, with 0 in its place
 abbrev pub sum_of : Bool → IpAddress → IpAddress → TcpRepr → List ℕ → ℕ
 sum_of summed src dst r payload = if summed then checksum_of (pseudo src dst 6 (20 + length payload) ++ (header_with 0 r ++ payload)) else 0
 
@@ -101,7 +101,7 @@ sum_of summed src dst r payload = if summed then checksum_of (pseudo src dst 6 (
 abbrev pub text : Bool → IpAddress → IpAddress → TcpRepr → List ℕ → List ℕ
 text summed src dst r payload = header_with (sum_of summed src dst r payload) r ++ payload
 
--- some octets are a segment of these values
+-- values that the header of a segment can have
 pub record IsHeader (r : TcpRepr) : Type 0 where
   pub source : r.src_port < 2 ^ 16
   pub some_source : r.src_port ≢ 0
@@ -111,7 +111,7 @@ pub record IsHeader (r : TcpRepr) : Type 0 where
   pub acknowledgement : ack_bits r.ack_number < 2 ^ 32
   pub window : r.window_len < 2 ^ 16
 
--- a text with its checksum is read as its values
+-- a text with its checksum is parsed back as its values
 abbrev pub ReadAgain : Type 0
 ReadAgain = (checked : Bool) (src dst : IpAddress) (r : TcpRepr) (payload : List ℕ) → IsHeader r → 20 + length payload < 2 ^ 16
     → IsTcp checked src dst (text true src dst r payload) × (tcp_in (text true src dst r payload) ≡ (r, payload))

@@ -9,11 +9,11 @@ use Rattle.wire_base.specs.Pseudo.{pseudo}
 use Rattle.ip_address.specs.declared.ip.IpAddress.{IpAddress}
 use Rattle.ip_wire.specs.declared.udp.UdpRepr.{UdpRepr}
 
--- the length of header and payload
+-- the length of header and payload, in octets
 abbrev pub udp_len : List ℕ → ℕ
 udp_len octets = u16_at octets 4
 
--- over IPv4 a checksum of 0 says that there is none
+-- over IPv4 a checksum of 0 means that there is none
 abbrev pub is_unsummed : IpAddress → List ℕ → Bool
 is_unsummed dst octets = is_ipv4 dst && (u16_at octets 6 == 0)
 
@@ -29,19 +29,19 @@ pub record IsUdp (checked : Bool) (src dst : IpAddress) (octets : List ℕ) : Ty
 abbrev pub udp_in : List ℕ → UdpRepr × List ℕ
 udp_in octets = (record { src_port = u16_at octets 0; dst_port = u16_at octets 2 }, slice_range octets 8 (udp_len octets))
 
--- ports and a payload, without where that lies in memory
+-- ports and a payload, apart from where that is in memory
 abbrev pub parts : UdpRepr × Bor (List ℕ) → UdpRepr × List ℕ
 parts p = (p.0, p.1.now)
 
--- the text of a header with a checksum, before so many octets of payload
+-- the text of a header with a checksum, before this many octets of payload
 unfoldable pub header_with : ℕ → UdpRepr → ℕ → List ℕ
 header_with sum r payload_len = to_be_bytes w16 r.src_port ++ to_be_bytes w16 r.dst_port ++ to_be_bytes w16 (8 + payload_len) ++ to_be_bytes w16 sum
 
--- a computed 0 goes as all ones
+-- a computed 0 is sent as all ones
 abbrev pub not_zero : ℕ → ℕ
 not_zero n = if n == 0 then 65535 else n
 
--- its checksum, or 0 where that is off: that of pseudo-header and datagram, with 0 in its place
+-- its checksum, or 0 if that is off: that of pseudo-header and datagram, with 0 in its place
 abbrev pub sum_of : Bool → IpAddress → IpAddress → UdpRepr → List ℕ → ℕ
 sum_of summed src dst r payload =
     if summed then not_zero (checksum_of (pseudo src dst 17 (8 + length payload) ++ (header_with 0 r (length payload) ++ payload))) else 0
@@ -50,13 +50,13 @@ sum_of summed src dst r payload =
 abbrev pub text : Bool → IpAddress → IpAddress → UdpRepr → List ℕ → List ℕ
 text summed src dst r payload = header_with (sum_of summed src dst r payload) r (length payload) ++ payload
 
--- some octets are a datagram with these ports
+-- ports that a datagram can have
 pub record IsHeader (r : UdpRepr) : Type 0 where
   pub source : r.src_port < 2 ^ 16
   pub destination : r.dst_port < 2 ^ 16
   pub port : r.dst_port ≢ 0
 
--- a text with its checksum is read as its values, whatever stands behind it
+-- a text with its checksum is parsed back as its values, whatever follows it
 abbrev pub ReadAgain : Type 0
 ReadAgain = (checked : Bool) (src dst : IpAddress) (r : UdpRepr) (payload more : List ℕ) → IsHeader r → 8 + length payload < 2 ^ 16
     → IsUdp checked src dst (text true src dst r payload ++ more) × (udp_in (text true src dst r payload ++ more) ≡ (r, payload))

@@ -8,7 +8,7 @@ use ip_address::{EthernetAddress, Ipv4Address};
 use wire_base::emit::FrameBuffer;
 use wire_base::octets::{u16_at, u32_at};
 
-/// What a packet asks or says.
+/// The operation of an ARP packet.
 #[derive(Clone, Copy, Debug, PartialEq, Eq)]
 pub enum ArpOperation {
     Request,
@@ -27,7 +27,7 @@ impl ArpOperation {
     }
 }
 
-/// The values of a packet.
+/// The values of an ARP packet.
 #[derive(Clone, Copy, Debug, PartialEq, Eq)]
 pub struct ArpRepr {
     pub operation: ArpOperation,
@@ -38,9 +38,8 @@ pub struct ArpRepr {
 }
 
 impl ArpRepr {
-    /// The packet that the octets begin with. What stands behind its 28 octets isn't read. `None`
-    /// exactly if they are fewer, if the packet isn't for IPv4 over Ethernet, or if it is neither a
-    /// request nor a reply.
+    /// Parses the packet that the octets begin with; octets after its 28 are ignored. `None` exactly if there are fewer
+    /// octets, if the packet isn't for IPv4 over Ethernet, or if it is neither a request nor a reply.
     pub fn parse(packet: &[u8]) -> Option<ArpRepr>
         ensures { SomeIff result (spec.IsArp packet.now) (spec.arp_in packet.now) }
     {
@@ -88,12 +87,12 @@ impl ArpRepr {
     }
 }
 
-/// A packet that is emitted is read again, whatever stands behind it.
+/// A packet that is emitted is parsed back, whatever follows it.
 pub fn read_again()
     ensures { spec.ReadAgain }
 {}
 
-/// A packet that is read is written again, in the same 28 octets.
+/// A packet that is parsed is emitted again as the same 28 octets.
 pub fn written_again()
     ensures { spec.WrittenAgain }
 {}

@@ -12,7 +12,7 @@ use wire_base::octets::u16_at;
 /// The length of a frame's header, in octets.
 pub const HEADER_LEN: usize = 14;
 
-/// The address of six octets at a place.
+/// The address in six octets at an offset.
 #[inline(always)]
 pub(crate) fn address_at(octets: &[u8], at: usize) -> EthernetAddress
     requires { at + 6 ≤ length octets.now }
@@ -23,8 +23,8 @@ pub(crate) fn address_at(octets: &[u8], at: usize) -> EthernetAddress
     EthernetAddress(address)
 }
 
-/// What a frame's payload is. Protocols are equal if their type numbers are, so that
-/// [`EthernetProtocol::Unknown`] of 0x0800 is [`EthernetProtocol::Ipv4`].
+/// The type of a frame's payload. Types are equal if their numbers are, so that [`EthernetProtocol::Unknown`] of 0x0800
+/// is [`EthernetProtocol::Ipv4`].
 #[derive(Clone, Copy, Debug)]
 pub enum EthernetProtocol {
     Ipv4,
@@ -86,8 +86,8 @@ pub struct EthernetRepr {
 }
 
 impl EthernetRepr {
-    /// The header of a frame, and its payload as a part of the frame. `None` exactly if the frame
-    /// is shorter than a header of 14 octets.
+    /// Parses a frame into its header and its payload. `None` exactly if the frame is shorter than its header of 14
+    /// octets.
     pub fn parse(frame: &[u8]) -> Option<(EthernetRepr, &[u8])>
         ensures { SomeIff (option_map spec.parts result) (14 ≤ length frame.now) (spec.ethernet_in frame.now) }
     {
@@ -115,12 +115,12 @@ impl EthernetRepr {
     }
 }
 
-/// A header that is emitted is read again, whatever stands behind it.
+/// A header that is emitted is parsed back, whatever follows it.
 pub fn read_again()
     ensures { spec.ReadAgain }
 {}
 
-/// A frame that is read is written again: its header's text, then its payload.
+/// A frame that is parsed is emitted again: its header, then its payload.
 pub fn written_again()
     ensures { spec.WrittenAgain }
 {}

@@ -25,7 +25,7 @@ impl IpRepr {
         }
     }
 
-    /// Where the packet comes from.
+    /// The source address.
     #[inline(always)]
     pub const fn src_addr(&self) -> IpAddress
         ensures { result ≡ spec.src_addr self.now }
@@ -36,7 +36,7 @@ impl IpRepr {
         }
     }
 
-    /// Where it goes to.
+    /// The destination address.
     #[inline(always)]
     pub const fn dst_addr(&self) -> IpAddress
         ensures { result ≡ spec.dst_addr self.now }
@@ -47,7 +47,7 @@ impl IpRepr {
         }
     }
 
-    /// What stands behind the header.
+    /// The protocol of the payload.
     #[inline(always)]
     pub const fn next_header(&self) -> IpProtocol
         ensures { result ≡ spec.next_header self.now }
@@ -58,7 +58,7 @@ impl IpRepr {
         }
     }
 
-    /// The length of what stands behind it, in octets.
+    /// The length of the payload, in octets.
     #[inline(always)]
     pub const fn payload_len(&self) -> u16
         ensures { result ≡ spec.payload_len self.now }
@@ -69,7 +69,7 @@ impl IpRepr {
         }
     }
 
-    /// How many more routers the packet may pass.
+    /// How many more routers may forward the packet.
     #[inline(always)]
     pub const fn hop_limit(&self) -> u8
         ensures { result ≡ spec.hop_limit self.now }
@@ -80,7 +80,7 @@ impl IpRepr {
         }
     }
 
-    /// The length of the header as it is written, in octets: 20, or 40 for IPv6.
+    /// The length of the header as it is emitted, in octets: 20, or 40 for IPv6.
     #[inline(always)]
     pub const fn header_len(&self) -> usize
         ensures { result ≡ spec.header_len self.now }

@@ -12,32 +12,32 @@ use wire_base::octets::{u16_at, u32_at};
 /// The length of a header without options, in octets.
 pub const HEADER_LEN: usize = 20;
 
-/// The values of a packet's header, but those that tell which fragment it is.
+/// The values of a packet's header, except those of fragmentation.
 #[derive(Clone, Copy, Debug, PartialEq, Eq)]
 pub struct Ipv4Repr {
     pub src_addr: Ipv4Address,
     pub dst_addr: Ipv4Address,
     pub next_header: IpProtocol,
-    /// In octets.
+    /// The payload length, in octets.
     pub payload_len: u16,
     pub hop_limit: u8,
 }
 
-/// Which fragment of a packet this is.
+/// The fragmentation fields of a packet's header.
 #[derive(Clone, Copy, Debug, PartialEq, Eq)]
 pub struct Ipv4Fragment {
-    /// What the fragments of one packet share.
+    /// The identification that the fragments of one packet share.
     pub identification: u16,
-    /// Whether it is forbidden to fragment it.
+    /// Whether fragmentation is forbidden.
     pub dont_fragment: bool,
-    /// Whether fragments follow.
+    /// Whether more fragments follow.
     pub more_fragments: bool,
-    /// Where it begins in the packet's payload, in units of eight octets: below 8,192.
+    /// The offset in the packet's payload, in units of eight octets: below 8,192.
     pub offset: u16,
 }
 
 impl Ipv4Fragment {
-    /// A whole packet, which isn't to be fragmented.
+    /// A whole packet, which must not be fragmented.
     pub const WHOLE: Ipv4Fragment = Ipv4Fragment {
         identification: 0,
         dont_fragment: true,
@@ -45,7 +45,7 @@ impl Ipv4Fragment {
         offset: 0,
     };
 
-    /// Whether it is a part of a packet, and not the whole.
+    /// Whether it is a fragment of a packet, not the whole packet.
     pub const fn is_fragment(&self) -> bool
         ensures { result ≡ spec.is_fragment self.now }
     {
@@ -74,12 +74,15 @@ impl Default for Ipv4Fragment {
 }
 
 impl Ipv4Repr {
-    /// The header of the packet that the octets begin with, which fragment that is, and its
-    /// payload as a part of the octets, which ends at the total length. Options are skipped.
+    /// Parses the packet that the octets begin with into its header, its fragmentation fields, and its payload, which
+    /// ends at the total length. Options are skipped.
     ///
-    /// `None` exactly if the octets are fewer than 20, the version isn't 4, the header is shorter
-    /// than 20 octets or longer than the total length, that is longer than the octets are, or,
-    /// where `checked`, the header's checksum is wrong.
+    /// `None` exactly in these cases:
+    ///
+    /// - there are fewer than 20 octets, or the version isn't 4;
+    /// - the header is shorter than 20 octets or longer than the total length;
+    /// - the total length exceeds the octets;
+    /// - with `checked`, the header's checksum is wrong.
     #[inline(always)]
     pub fn parse(packet: &[u8], checked: bool) -> Option<(Ipv4Repr, Ipv4Fragment, &[u8])>
         ensures { SomeIff (option_map spec.parts result) (spec.IsIpv4 checked packet.now) (spec.ipv4_in packet.now) }
@@ -102,12 +105,11 @@ impl Ipv4Repr {
         ))
     }
 
-    /// A header that is quoted in a message, and all that stands behind it. The payload's length
-    /// is the total length without the header, or 0 where that is longer.
+    /// Parses a header that is quoted in a message. Returns it and all octets after it. Its payload length is the total
+    /// length less the header, or 0 if that is negative.
     ///
-    /// `None` exactly if the octets are fewer than 20, the version isn't 4, or the header is
-    /// shorter than 20 octets or longer than the octets are. Neither its checksum nor its total
-    /// length is tested.
+    /// `None` exactly if there are fewer than 20 octets, the version isn't 4, or the header is shorter than 20 octets
+    /// or longer than the octets are. Neither its checksum nor its total length is verified.
     pub fn parse_quoted(octets: &[u8]) -> Option<(Ipv4Repr, &[u8])>
         ensures { SomeIff (option_map spec.quoted_parts result) (spec.IsQuoted octets.now) (spec.quoted_in octets.now) }
     {
@@ -121,8 +123,8 @@ impl Ipv4Repr {
         Some((header_of(octets), &octets[header_len..]))
     }
 
-    /// The header's 20 octets, for the given fragment. Its checksum is 0 where it isn't `summed`. The
-    /// packet has to have at most 65,535 octets.
+    /// The header's 20 octets, for the given fragment. Its checksum is 0 unless `summed`. The packet must have at most
+    /// 65,535 octets.
     #[inline(always)]
     pub fn octets(&self, fragment: &Ipv4Fragment, summed: bool) -> [u8; HEADER_LEN]
         requires payload_len { 20 + self.now.payload_len < 2 ^ 16 }
@@ -137,7 +139,7 @@ impl Ipv4Repr {
         header_with(sum, self, fragment)
     }
 
-    /// Appends the header, whose octets [`Ipv4Repr::octets`] gives.
+    /// Appends the header, whose octets [`Ipv4Repr::octets`] returns.
     #[inline(always)]
     pub fn emit(&self, fragment: &Ipv4Fragment, summed: bool, out: &mut FrameBuffer)
         requires payload_len { 20 + self.now.payload_len < 2 ^ 16 }
@@ -170,7 +172,7 @@ fn header_of(octets: &[u8]) -> Ipv4Repr
     }
 }
 
-/// Which fragment a header tells of.
+/// The fragmentation fields of a header.
 #[inline(always)]
 fn fragment_of(octets: &[u8]) -> Ipv4Fragment
     requires { 20 ≤ length octets.now }
@@ -230,7 +232,7 @@ fn header_with(sum: u16, repr: &Ipv4Repr, fragment: &Ipv4Fragment) -> [u8; HEADE
     ]
 }
 
-/// A packet that is emitted is read again, whatever stands behind it.
+/// A packet that is emitted is parsed back, whatever follows it.
 pub fn read_again()
     ensures { spec.ReadAgain }
 {}

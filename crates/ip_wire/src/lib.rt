@@ -1,4 +1,4 @@
-//! The forms on the wire: Ethernet, ARP, IPv4, UDP and TCP.
+//! The wire formats of Ethernet, ARP, IPv4, UDP and TCP.
 #![tactic(auto)]
 
 pub mod arp;

@@ -15,7 +15,7 @@ use wire_base::pseudo::pseudo_sum;
 /// The length of a header without options, in octets.
 pub const HEADER_LEN: usize = 20;
 
-/// What a segment says by its flags, but ACK.
+/// The meaning of a segment's flags, except ACK.
 #[derive(Clone, Copy, Debug, PartialEq, Eq)]
 pub enum TcpControl {
     None,
@@ -26,7 +26,7 @@ pub enum TcpControl {
 }
 
 impl TcpControl {
-    /// What flags say, or `None` if two of FIN, SYN and RST are set.
+    /// The meaning of flags, or `None` if two of FIN, SYN and RST are set.
     #[inline(always)]
     #[tactic(auto, unfolding(crate::specs::Tcp::control_of))]
     const fn from_flags(flags: u8) -> Option<TcpControl>
@@ -42,7 +42,7 @@ impl TcpControl {
         }
     }
 
-    /// The flags that say it.
+    /// The flags of this meaning.
     #[inline(always)]
     const fn flags(self) -> u8
         ensures value { result ≡ spec.flags_of self }
@@ -75,7 +75,7 @@ impl From<u32> for TcpSeqNumber {
 }
 
 impl fmt::Display for TcpSeqNumber {
-    /// As its number.
+    /// The number in decimal.
     fn fmt<W: fmt::Write>(&self, f: &mut fmt::Formatter<W>) -> fmt::Result {
         write!(f, "{}", self.bits)
     }
@@ -88,20 +88,22 @@ pub struct TcpRepr {
     pub dst_port: u16,
     pub control: TcpControl,
     pub seq_number: TcpSeqNumber,
-    /// Where the segment acknowledges something, the number of the next octet.
+    /// If the segment acknowledges something, the number of the next octet expected.
     pub ack_number: Option<TcpSeqNumber>,
-    /// As it stands in the header, not scaled.
+    /// The window as in the header, not scaled.
     pub window_len: u16,
 }
 
 impl TcpRepr {
-    /// The header of the segment that the octets are, of which there are fewer than 65,536, and
-    /// its payload as a part of them. Options are skipped. `src` and `dst` are the packet's
-    /// addresses.
+    /// Parses a segment of fewer than 65,536 octets into its header and its payload. Options are skipped. `src` and
+    /// `dst` are the packet's addresses.
     ///
-    /// `None` exactly if the octets are fewer than 20, the header is shorter than 20 octets or
-    /// longer than the octets are, a port is 0, two of FIN, SYN and RST are set, or, where
-    /// `checked`, the checksum is wrong.
+    /// `None` exactly in these cases:
+    ///
+    /// - there are fewer than 20 octets;
+    /// - the header is shorter than 20 octets or longer than the octets are;
+    /// - a port is 0, or two of FIN, SYN and RST are set;
+    /// - with `checked`, the checksum is wrong.
     pub fn parse<'a>(
         packet: &'a [u8],
         src: &IpAddress,
@@ -128,9 +130,8 @@ impl TcpRepr {
         Some((header_of(packet, control), &packet[header_len..]))
     }
 
-    /// Appends a segment: the header, of 20 octets, and the payload. `src` and `dst` are the
-    /// packet's addresses. The checksum is 0 where it isn't `summed`. The segment has to have at
-    /// most 65,535 octets.
+    /// Appends a segment: the header of 20 octets, and the payload. `src` and `dst` are the packet's addresses. The
+    /// checksum is 0 unless `summed`. The segment must have at most 65,535 octets.
     pub fn emit(
         &self,
         src: &IpAddress,
@@ -148,8 +149,7 @@ impl TcpRepr {
         out.append(payload);
     }
 
-    /// Appends the header of a segment with this payload, as [`TcpRepr::emit`] does, and not the
-    /// payload.
+    /// Appends the header of a segment with this payload, as [`TcpRepr::emit`] does, without the payload.
     #[inline(always)]
     pub fn emit_header(
         &self,
@@ -173,7 +173,7 @@ impl TcpRepr {
     }
 }
 
-/// The values of a header that says so much by its flags.
+/// The values of a header whose flags have this meaning.
 #[inline(always)]
 fn header_of(packet: &[u8], control: TcpControl) -> TcpRepr
     requires whole { 20 ≤ length packet.now }
@@ -207,7 +207,7 @@ fn ack_number_of(packet: &[u8]) -> Option<TcpSeqNumber>
     }
 }
 
-/// Whether a segment and its pseudo-header sum up to all ones.
+/// Whether the sum of a segment and its pseudo-header is all ones.
 #[tactic(auto, using(crate::proofs::TransportSums::before))]
 fn sums_up(segment: &[u8], src: &IpAddress, dst: &IpAddress) -> bool
     requires { length segment.now < 2 ^ 16 }
@@ -217,7 +217,7 @@ fn sums_up(segment: &[u8], src: &IpAddress, dst: &IpAddress) -> bool
     sum_with(start, segment) == 0xffff
 }
 
-/// ACK where there is an acknowledgement number, and that number or 0.
+/// The ACK flag and the acknowledgement number; both 0 if there is none.
 #[inline(always)]
 const fn ack_of(ack_number: Option<TcpSeqNumber>) -> (u8, u32)
     ensures flag { result.0 ≡ spec.ack_flag ack_number }
@@ -261,7 +261,7 @@ fn sum_for(repr: &TcpRepr, src: &IpAddress, dst: &IpAddress, payload: &[u8]) -> 
     0xffff - sum_with(start, payload)
 }
 
-/// A segment that is emitted with its checksum is read again.
+/// A segment that is emitted with its checksum is parsed back.
 pub fn read_again()
     ensures { spec.ReadAgain }
 {}

@@ -22,12 +22,15 @@ pub struct UdpRepr {
 }
 
 impl UdpRepr {
-    /// The header of the datagram that the octets begin with, and its payload as a part of them,
-    /// which ends at the datagram's length. `src` and `dst` are the packet's addresses.
+    /// Parses the datagram that the octets begin with into its header and its payload, which ends at the datagram's
+    /// length. `src` and `dst` are the packet's addresses.
     ///
-    /// `None` exactly if the octets are fewer than 8, the datagram's length is below 8 or longer
-    /// than the octets are, the destination port is 0, or, where `checked`, its checksum is wrong.
-    /// A checksum of 0 over IPv4 isn't tested.
+    /// `None` exactly in these cases:
+    ///
+    /// - there are fewer than 8 octets;
+    /// - the datagram's length is below 8 or exceeds the octets;
+    /// - the destination port is 0;
+    /// - with `checked`, its checksum is wrong; a checksum of 0 over IPv4 isn't verified.
     #[inline(always)]
     pub fn parse<'a>(
         packet: &'a [u8],
@@ -55,9 +58,8 @@ impl UdpRepr {
         Some((repr, &packet[HEADER_LEN..len]))
     }
 
-    /// Appends a datagram: the header, of 8 octets, and the payload. `src` and `dst` are the
-    /// packet's addresses. The checksum is 0 where it isn't `summed`, and else never 0. The
-    /// datagram has to have at most 65,535 octets.
+    /// Appends a datagram: the header of 8 octets, and the payload. `src` and `dst` are the packet's addresses. The
+    /// checksum is 0 unless `summed`, and then never 0. The datagram must have at most 65,535 octets.
     pub fn emit(
         &self,
         src: &IpAddress,
@@ -75,8 +77,7 @@ impl UdpRepr {
         out.append(payload);
     }
 
-    /// Appends the header of a datagram with this payload, as [`UdpRepr::emit`] does, and not the
-    /// payload.
+    /// Appends the header of a datagram with this payload, as [`UdpRepr::emit`] does, without the payload.
     #[inline(always)]
     pub fn emit_header(
         &self,
@@ -112,7 +113,7 @@ fn is_unsummed(packet: &[u8], dst: &IpAddress) -> bool
     }
 }
 
-/// Whether a datagram and its pseudo-header sum up to all ones.
+/// Whether the sum of a datagram and its pseudo-header is all ones.
 #[inline(always)]
 #[tactic(auto, using(crate::proofs::TransportSums::before))]
 fn sums_up(datagram: &[u8], src: &IpAddress, dst: &IpAddress) -> bool
@@ -123,7 +124,7 @@ fn sums_up(datagram: &[u8], src: &IpAddress, dst: &IpAddress) -> bool
     sum_with(start, datagram) == 0xffff
 }
 
-/// A header with the given checksum, before so many octets of payload.
+/// A header with the given checksum, before `payload_len` octets of payload.
 #[inline(always)]
 #[tactic(auto, unfolding(crate::specs::Udp::header_with))]
 fn header_with(sum: u16, repr: &UdpRepr, payload_len: u16) -> [u8; HEADER_LEN]
@@ -151,7 +152,7 @@ fn sum_for(repr: &UdpRepr, src: &IpAddress, dst: &IpAddress, payload: &[u8]) -> 
     if sum == 0 { 0xffff } else { sum }
 }
 
-/// A datagram that is emitted with its checksum is read again, whatever stands behind it.
+/// A datagram that is emitted with its checksum is parsed back, whatever follows it.
 pub fn read_again()
     ensures { spec.ReadAgain }
 {}

@@ -1,4 +1,4 @@
-//! The hop-by-hop options of IPv6 (RFC 8200 4.2, 4.3), and the router alert (RFC 2711).
+//! The hop-by-hop options of IPv6 (RFC 8200 4.2, 4.3), and the Router Alert option (RFC 2711).
 ghost use Rattle.std.specs.Prelude.{◌≡◌, ◌+◌, ◌%◌, ◌≤◌, ◌∷◌, ◌++◌, length, replicate};
 ghost use Rattle.std.specs.Option.{SomeIff, option_map};
 ghost use Rattle.ipv6_wire.specs.HopByHop as spec;
@@ -8,20 +8,19 @@ use ip_address::IpProtocol;
 use wire_base::emit::FrameBuffer;
 use wire_base::octets::u16_at;
 
-/// How many options of a header are read. What stands behind them isn't.
+/// How many options of a header are parsed. Those after them are ignored.
 pub const MAX_OPTIONS: usize = 4;
 
-/// What becomes of a packet with an option that isn't known, by the two highest bits of its type
-/// (RFC 8200 4.2).
+/// How a packet with an unrecognized option is treated, by the two highest bits of the option's type (RFC 8200 4.2).
 #[derive(Clone, Copy, Debug, PartialEq, Eq)]
 pub enum Ipv6OptionFailureType {
     /// The option is skipped: 00.
     Skip,
     /// The packet is discarded: 01.
     Discard,
-    /// The packet is discarded, and its source is told: 10.
+    /// The packet is discarded, and an error sent to its source: 10.
     DiscardSendAll,
-    /// The packet is discarded, and its source is told unless it went to a group: 11.
+    /// The packet is discarded, and an error sent to its source unless its destination is multicast: 11.
     DiscardSendUnicast,
 }
 
@@ -31,24 +30,23 @@ pub enum Ipv6OptionRepr {
     /// A single octet of padding.
     #[default]
     Pad1,
-    /// Padding, with so many octets behind its length.
+    /// Padding, with this many octets after its length.
     PadN(u8),
-    /// Routers on the way look at the packet; the value tells why (RFC 2711 2.1).
+    /// Asks routers on the way to examine the packet; the value says why (RFC 2711 2.1).
     RouterAlert(u16),
     /// Another option, whose data isn't kept.
     Unknown {
         option_type: u8,
-        /// Of its data, in octets.
+        /// The length of its data, in octets.
         length: u8,
     },
 }
 
 impl Ipv6OptionRepr {
-    /// The option that the octets begin with, and what stands behind it. A router alert of a
-    /// length other than 2 is an unknown option.
+    /// Parses the option that the octets begin with. Returns it and the octets after it. A Router Alert of a length
+    /// other than 2 is an unknown option.
     ///
-    /// `None` exactly if it runs out: there is no octet, or its length or its data passes their
-    /// end.
+    /// `None` exactly if the option is cut off: there are no octets, or its length or its data exceeds them.
     fn parse(octets: &[u8]) -> Option<(Ipv6OptionRepr, &[u8])>
         ensures { SomeIff (option_map spec.option_parts result) (spec.IsOption octets.now) (spec.first_option octets.now) }
     {
@@ -72,7 +70,7 @@ impl Ipv6OptionRepr {
         Some((option, &octets[end..]))
     }
 
-    /// What becomes of a packet with this option: known ones are skipped.
+    /// How a packet with this option is treated: known options are skipped.
     pub const fn failure_type(&self) -> Ipv6OptionFailureType
         ensures { result ≡ spec.failure_of self.now }
     {
@@ -87,7 +85,7 @@ impl Ipv6OptionRepr {
         }
     }
 
-    /// How many octets it takes.
+    /// The length of the option, in octets.
     #[tactic(auto, unfolding(crate::specs::HopByHop::option_text))]
     const fn len(&self) -> usize
         ensures value { result ≡ length (spec.option_text self.now) }
@@ -102,7 +100,7 @@ impl Ipv6OptionRepr {
         }
     }
 
-    /// Appends the option. Data that isn't kept is emitted as zeros.
+    /// Appends the option. Data that wasn't kept is emitted as zeros.
     #[tactic(auto, unfolding(crate::specs::HopByHop::option_text))]
     fn emit(&self, out: &mut FrameBuffer)
         requires { length out.old + length (spec.option_text self.now) ≤ 1514 }
@@ -123,7 +121,7 @@ impl Ipv6OptionRepr {
     }
 }
 
-/// Appends an option whose data are zeros.
+/// Appends an option whose data is zeros.
 fn emit_zeros(option_type: u8, len: u8, out: &mut FrameBuffer)
     requires { length out.old + 2 + len ≤ 1514 }
     ensures { out.new ≡ out.old ++ option_type ∷ len ∷ replicate len 0 }
@@ -135,18 +133,18 @@ fn emit_zeros(option_type: u8, len: u8, out: &mut FrameBuffer)
 /// The values of a header.
 #[derive(Debug, Drop, PartialEq, Eq)]
 pub struct Ipv6HopByHopRepr {
-    /// What stands behind the header.
+    /// The protocol of what follows the header.
     pub next_header: IpProtocol,
     /// The first options, at most four.
     pub options: ArrayVec<Ipv6OptionRepr, MAX_OPTIONS>,
 }
 
 impl Ipv6HopByHopRepr {
-    /// The header that the octets begin with, and what stands behind it. Of its options only the
-    /// first four are read: what stands behind them refuses nothing.
+    /// Parses the header that the octets begin with. Returns it and the octets after it. Only its first four options
+    /// are parsed; those after them are never a reason to fail.
     ///
-    /// `None` exactly if the octets are fewer than 8, the header passes their end, or one of its
-    /// first four options passes the header's.
+    /// `None` exactly if there are fewer than 8 octets, the header exceeds them, or one of its first four options
+    /// exceeds the header.
     pub fn parse(octets: &[u8]) -> Option<(Ipv6HopByHopRepr, &[u8])>
         ensures { SomeIff (option_map spec.parts result) (spec.IsHopByHop octets.now) (spec.hop_by_hop_in octets.now) }
     {
@@ -164,7 +162,7 @@ impl Ipv6HopByHopRepr {
         Some((header, &octets[header_len..]))
     }
 
-    /// What becomes of the packet: what the first option asks for that isn't skipped.
+    /// How the packet is treated: as its first option asks that isn't skipped.
     pub fn failure_type(&self) -> Ipv6OptionFailureType
         ensures { result ≡ spec.first_failure self.now.options.items }
     {
@@ -177,7 +175,7 @@ impl Ipv6HopByHopRepr {
         Ipv6OptionFailureType::Skip
     }
 
-    /// How many octets the header takes.
+    /// The length of the header, in octets.
     pub fn header_len(&self) -> usize
         ensures { result ≡ spec.text_len self.now }
     {
@@ -188,8 +186,8 @@ impl Ipv6HopByHopRepr {
         len
     }
 
-    /// Appends the header. It has to take whole eights of octets: its options are padded by whoever
-    /// makes it. The data of an unknown option are emitted as zeros.
+    /// Appends the header. Its length must be a multiple of eight octets: whoever makes it pads the options. The data
+    /// of an unknown option is emitted as zeros.
     pub fn emit(&self, out: &mut FrameBuffer)
         requires padded { spec.text_len self.now % 8 ≡ 0 }
         requires room { length out.old + spec.text_len self.now ≤ 1514 }
@@ -204,7 +202,7 @@ impl Ipv6HopByHopRepr {
     }
 }
 
-/// The first options of some octets, at most four. `None` exactly if one of them runs out.
+/// Parses the first options of a header, at most four. `None` exactly if one of them is cut off.
 fn options_of(octets: &[u8]) -> Option<ArrayVec<Ipv6OptionRepr, MAX_OPTIONS>>
     ensures { SomeIff result (spec.AreOptions 4 octets.now) (record { items = spec.options_in 4 octets.now }) }
 {
@@ -218,7 +216,7 @@ fn options_of(octets: &[u8]) -> Option<ArrayVec<Ipv6OptionRepr, MAX_OPTIONS>>
     Some(options)
 }
 
-/// A header that is emitted is read again, whatever stands behind it.
+/// A header that is emitted is parsed back, whatever follows it.
 pub fn read_again()
     ensures { spec.ReadAgain }
 {}

@@ -11,7 +11,7 @@ use wire_base::octets::u16_at;
 /// The length of a header, in octets.
 pub const HEADER_LEN: usize = 40;
 
-/// The address of sixteen octets at a place.
+/// The address in sixteen octets at an offset.
 #[inline(always)]
 #[tactic(auto, unfolding(crate::specs::Ipv6Packet::address_at))]
 pub fn address_at(octets: &[u8], at: usize) -> Ipv6Address
@@ -25,7 +25,7 @@ pub fn address_at(octets: &[u8], at: usize) -> Ipv6Address
     }
 }
 
-/// The sixteen octets of an address, by its halves: each of them is swapped at once.
+/// The sixteen octets of an address, by its halves: each of them is byte-swapped as a whole.
 #[inline(always)]
 #[tactic(auto, using(crate::proofs::Halves::halves), unfolding(crate::specs::Ipv6Packet::address_text))]
 pub fn address_octets(address: &Ipv6Address) -> [u8; 16]
@@ -39,7 +39,7 @@ pub fn address_octets(address: &Ipv6Address) -> [u8; 16]
     octets
 }
 
-/// The eight octets of a number, which is swapped at once.
+/// The eight octets of a number, which is byte-swapped as a whole.
 #[inline(always)]
 #[tactic(auto, using(crate::proofs::Halves::swapped))]
 fn octets_of(number: u64) -> [u8; 8]
@@ -48,25 +48,23 @@ fn octets_of(number: u64) -> [u8; 8]
     number.swap_bytes().to_le_bytes()
 }
 
-/// The values of a packet's header, but its traffic class and its flow label.
+/// The values of a packet's header, except its traffic class and its flow label.
 #[derive(Clone, Copy, Debug, PartialEq, Eq)]
 pub struct Ipv6Repr {
     pub src_addr: Ipv6Address,
     pub dst_addr: Ipv6Address,
-    /// What the payload is, or the extension header that it begins with.
+    /// The protocol of the payload, or the extension header that it begins with.
     pub next_header: IpProtocol,
-    /// In octets, extension headers included.
+    /// The payload length in octets, including extension headers.
     pub payload_len: u16,
     pub hop_limit: u8,
 }
 
 impl Ipv6Repr {
-    /// The header of the packet that the octets begin with, and its payload as a part of the
-    /// octets, which ends at the length field (RFC 8200 3). Traffic class and flow label are
-    /// skipped.
+    /// Parses the packet that the octets begin with into its header and its payload, which ends at the length field
+    /// (RFC 8200 3). Traffic class and flow label are ignored.
     ///
-    /// `None` exactly if the octets are fewer than 40, the version isn't 6, or the length field
-    /// passes their end.
+    /// `None` exactly if there are fewer than 40 octets, the version isn't 6, or the length field exceeds them.
     #[inline(always)]
     pub fn parse(packet: &[u8]) -> Option<(Ipv6Repr, &[u8])>
         ensures { SomeIff (option_map spec.parts result) (spec.IsIpv6 packet.now) (spec.ipv6_in packet.now) }
@@ -81,10 +79,9 @@ impl Ipv6Repr {
         Some((header_of(packet), &packet[HEADER_LEN..end]))
     }
 
-    /// A header that is quoted in a message, and all that stands behind it.
+    /// Parses a header that is quoted in a message. Returns it and all octets after it.
     ///
-    /// `None` exactly if the octets are fewer than 40 or the version isn't 6. The length field
-    /// isn't tested.
+    /// `None` exactly if there are fewer than 40 octets or the version isn't 6. The length field isn't tested.
     pub fn parse_quoted(octets: &[u8]) -> Option<(Ipv6Repr, &[u8])>
         ensures { SomeIff (option_map spec.quoted_parts result) (spec.IsQuoted octets.now) (spec.quoted_in octets.now) }
     {
@@ -110,7 +107,7 @@ impl Ipv6Repr {
         octets
     }
 
-    /// Appends the header, whose octets [`Ipv6Repr::octets`] gives.
+    /// Appends the header, whose octets [`Ipv6Repr::octets`] returns.
     #[inline(always)]
     pub fn emit(&self, out: &mut FrameBuffer)
         requires { length out.old + 40 ≤ 1514 }
@@ -136,12 +133,12 @@ fn header_of(octets: &[u8]) -> Ipv6Repr
     }
 }
 
-/// A packet that is emitted is read again, whatever stands behind it.
+/// A packet that is emitted is parsed back, whatever follows it.
 pub fn read_again()
     ensures { spec.ReadAgain }
 {}
 
-/// A header that is quoted is read again, whatever stands behind it.
+/// A header that is quoted is parsed back, whatever follows it.
 pub fn quoted_again()
     ensures { spec.QuotedAgain }
 {}

@@ -1,4 +1,4 @@
-//! The headers of IPv6 on the wire: that of a packet, and that of its hop-by-hop options.
+//! The wire formats of IPv6 headers: that of a packet, and that of its hop-by-hop options.
 #![tactic(auto)]
 
 pub mod hop_by_hop;

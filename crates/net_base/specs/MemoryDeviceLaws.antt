@@ -1,4 +1,4 @@
--- What a device in memory tells is told of one event after the other, and its count of refusals follows it.
+-- The events of a device in memory follow one after another, and its refusal count follows them.
 use Rattle.std.specs.Prelude.{ℕ, ◌≡◌, true, false, List, [], ◌∷◌, ◌++◌, refl}
 use Rattle.std.proofs.Common.{sym, ap, ◌∙◌}
 use Rattle.net_base.specs.Device.{Event, Received, Asked, Sent, Frame, Nothing, Withheld, refusals_after}
@@ -9,7 +9,7 @@ pub told_on : {a b c : Memory} {xs ys : List Event} → Tells a xs b → Tells b
 told_on Stays second = second
 told_on (Goes move rest) second = Goes move (told_on rest second)
 
--- the count after one event
+-- the refusal count after one event
 refusals_move : (event : Event) (a b : Memory) → Moves event a b → b.refusals ≡ refusals_after a.refusals (event ∷ [])
 refusals_move (Received t (Frame frame)) a b move = ap (λ (d : Memory). d.refusals) move.after
 refusals_move (Received t Nothing) a b move = ap (λ (d : Memory). d.refusals) move.after
@@ -18,7 +18,7 @@ refusals_move (Asked t true) a b move = ap (λ (d : Memory). d.refusals) move.af
 refusals_move (Asked t false) a b move = ap (λ (d : Memory). d.refusals) move.after
 refusals_move (Sent id frame) a b move = ap (λ (d : Memory). d.refusals) move.after
 
--- the count after one event and more
+-- the refusal count after one event and more
 refusals_first : (n : ℕ) (event : Event) (events : List Event) → refusals_after n (event ∷ events) ≡ refusals_after (refusals_after n (event ∷ [])) events
 refusals_first n (Received t (Frame frame)) events = refl
 refusals_first n (Received t Nothing) events = refl

@@ -1,4 +1,4 @@
-//! Sets of covered places, such as those of the octets that were got of a datagram (RFC 791 3.2).
+//! Sets of covered offsets, such as those of the octets received of a datagram (RFC 791 3.2).
 ghost use Rattle.std.specs.Prelude.{◌≡◌, ◌↔◌, ◌≤◌, ◌<◌, ◌+◌, ℕ, ◌^◌, [], ◌∷◌, ◌++◌, IsTrue, false, IsOk, IsErr, IfOk, OnOk, OnErr, length, List};
 ghost use Rattle.net_base.specs.Ranges.{add_range, front, AreSeparate, range_union, places_before, IsMet, IsApart, IsUnion};
 
@@ -6,15 +6,15 @@ use arrayvec::ArrayVec;
 use std::marker::Model;
 use thiserror::Error;
 
-/// How many separate ranges an [`Assembler`] holds.
+/// The maximum number of separate ranges in an [`Assembler`].
 pub const ASSEMBLER_MAX_SEGMENT_COUNT: usize = 4;
 
-/// There would be a fifth range.
+/// The set would need a fifth range.
 #[derive(Clone, Copy, Debug, PartialEq, Eq, Error)]
 #[error("TooManyHolesError")]
 pub struct TooManyHolesError;
 
-/// The places from `start` to below `end`.
+/// The offsets from `start` up to, but not including, `end`.
 #[derive(Clone, Copy, Debug, PartialEq, Eq)]
 pub struct Range {
     pub start: usize,
@@ -29,10 +29,10 @@ impl Default for Range {
     }
 }
 
-/// A set of covered places that falls into at most four separate ranges.
+/// A set of covered offsets that consists of at most four separate ranges.
 ///
-/// In contracts it is the list of these ranges in their order. None is empty, and between two of
-/// them there is a place that is not covered.
+/// In contracts it is the list of these ranges in order. None is empty, and between two of them there is an offset that
+/// is not covered.
 #[derive(Drop)]
 pub struct Assembler {
     ranges: ArrayVec<Range, ASSEMBLER_MAX_SEGMENT_COUNT>,
@@ -51,7 +51,7 @@ impl Model for Assembler {
 }
 
 impl Assembler {
-    /// No place is covered.
+    /// The empty set.
     pub fn new() -> Assembler
         ensures { result ≡ [] }
     {
@@ -60,14 +60,14 @@ impl Assembler {
         }
     }
 
-    /// Uncovers all places.
+    /// Uncovers all offsets.
     pub fn clear(&mut self)
         ensures { self.new ≡ [] }
     {
         self.ranges.clear();
     }
 
-    /// How many places are covered from 0 on, up to the first that isn't.
+    /// The number of offsets covered from 0 on, up to the first that isn't.
     pub fn peek_front(&self) -> usize
         ensures { result ≡ front self.now }
     {
@@ -78,10 +78,10 @@ impl Assembler {
         }
     }
 
-    /// Covers `len` places from `offset` on. Their end has to be below 2^64.
+    /// Covers `len` offsets from `offset` on. Their end must be below 2^64.
     ///
-    /// `Err` where there are four ranges and this one neither overlaps nor touches any of them;
-    /// then nothing changes. No places are never refused, and change nothing.
+    /// Fails if there are four ranges and this one neither overlaps nor touches any of them; then nothing changes. A
+    /// `len` of 0 never fails, and changes nothing.
     pub fn add(&mut self, offset: usize, len: usize) -> Result<(), TooManyHolesError>
         requires { offset + len < 2 ^ 64 }
         ensures refused { IsErr result ↔ (4 < length (add_range offset (offset + len) self.old)) }
@@ -98,7 +98,7 @@ impl Assembler {
     }
 }
 
-// Puts a range that is not empty among separate ranges.
+// Adds a range that is not empty to separate ranges.
 fn put_range(
     ranges: &mut ArrayVec<Range, ASSEMBLER_MAX_SEGMENT_COUNT>,
     start: usize,
@@ -128,7 +128,7 @@ fn put_range(
     Ok(())
 }
 
-// Whether a range that ends at `end` meets the one at place `i`.
+// Whether a range that ends at `end` meets the one at index `i`.
 fn is_met(ranges: &[Range], i: usize, end: usize) -> bool
     requires { i ≤ length ranges.now }
     ensures met { IsTrue result → IsMet ranges.now i end }
@@ -137,7 +137,7 @@ fn is_met(ranges: &[Range], i: usize, end: usize) -> bool
     i < ranges.len() && ranges[i].start <= end
 }
 
-// The smallest range that has both.
+// The smallest range that contains both.
 fn range_union(a: Range, b: Range) -> Range
     ensures { result ≡ range_union a b }
 {

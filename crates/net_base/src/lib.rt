@@ -1,4 +1,4 @@
-//! What every layer stands on: moments, random words, network devices and sets of covered places.
+//! The base of every layer: moments, random words, network devices and sets of covered offsets.
 #![tactic(auto)]
 
 pub mod assembler;

@@ -11,10 +11,10 @@ use std::marker::Model;
 use std::mem;
 use thiserror::Error;
 
-/// Why a frame was not queued. It prints as its name.
+/// Why a frame was not queued. It is displayed as its name.
 #[derive(Clone, Copy, Debug, PartialEq, Eq, Error)]
 pub enum PushError {
-    /// The frame has more than 1514 octets.
+    /// The frame has more than 1,514 octets.
     #[error("TooLong")]
     TooLong,
     /// There was no memory for the frame.
@@ -22,8 +22,8 @@ pub enum PushError {
     NoMemory,
 }
 
-/// A network device in memory. It hands over the frames that were queued in it, and keeps those
-/// that were sent. It reserves room for a frame to be sent before it gives leave.
+/// A network device in memory. It delivers the frames that were queued in it, and keeps those that were sent. It
+/// reserves room for a frame before it grants a transmit token.
 #[derive(Drop)]
 pub struct MemoryDevice {
     alloc: Global,
@@ -52,7 +52,7 @@ impl MemoryDevice {
     ghost use Rattle.std.specs.Result.{IsErrOf};
     ghost use Rattle.net_base.specs.MemoryDevice.{is_refused, without_first_answer, with_refusal_counted, Reserves};
 
-    /// A device in which nothing is queued, sent or refused. It takes no memory.
+    /// A device in which nothing is queued, sent or refused. It allocates nothing.
     pub fn new(alloc: Global, capabilities: DeviceCapabilities) -> Self
         ensures { result ≡ record { capabilities = capabilities; queued = []; sent = []; refuse = []; refusals = 0; has_room = false } }
     {
@@ -67,15 +67,15 @@ impl MemoryDevice {
         }
     }
 
-    /// How many frames wait to be handed over.
+    /// The number of frames queued for delivery.
     pub fn queued(&self) -> usize
         ensures { result ≡ length self.now.queued }
     {
         self.queue.len()
     }
 
-    /// Queues a frame behind those that wait. `TooLong` comes exactly where it has more than 1514
-    /// octets, `NoMemory` where memory for it was refused; both leave everything as it was.
+    /// Appends a frame to the queue. Fails with `TooLong` exactly if it has more than 1,514 octets, and with `NoMemory`
+    /// if memory for it was refused. Both errors leave everything unchanged.
     pub fn push(&mut self, frame: &[u8]) -> Result<(), PushError>
         ensures too_long { IsErrOf result PushError.TooLong ↔ 1514 < length frame.now }
         ensures ok { OnOk result (self.new ≡ record self.old { queued = self.old.queued ++ frame.now ∷ [] }) }
@@ -88,15 +88,15 @@ impl MemoryDevice {
         self.queue.push_back(copy).map_err(|_| PushError::NoMemory)
     }
 
-    /// Sets the answers to the next questions for leave, true for refused, in place of an earlier
-    /// list. Once the list has ended, leave is given. It takes no memory.
+    /// Sets the answers to the next requests for a transmit token, where `true` refuses, in place of an earlier list.
+    /// After the end of the list tokens are granted. It allocates nothing.
     pub fn refuse(&mut self, answers: Vec<bool>)
         ensures { self.new ≡ record self.old { refuse = answers.items } }
     {
         self.refuse = VecDeque::from_vec(answers);
     }
 
-    /// The frames that were sent, in order. Each has at most 1514 octets.
+    /// The frames that were sent, in order. Each has at most 1,514 octets.
     pub fn sent(&self) -> &[Vec<u8>]
         ensures value { map (λ v. v.items) result.now ≡ self.now.sent }
         ensures short { All (λ v. vec_len v ≤ 1514) result.now }
@@ -104,9 +104,8 @@ impl MemoryDevice {
         &self.sent
     }
 
-    /// Hands over the frames that were sent, in order, and keeps none of them, so that a long run
-    /// needn't hold all. Each has at most 1514 octets. A leave that was given and not used has to be
-    /// asked for again. It takes no memory.
+    /// Takes the frames that were sent, in order, so that a long run needn't keep them all. Each has at most 1,514
+    /// octets. A transmit token that was granted and not used must be requested again. It allocates nothing.
     pub fn take_sent(&mut self) -> Vec<Vec<u8>>
         ensures value { map (λ v. v.items) result.items ≡ self.old.sent }
         ensures short { All (λ v. vec_len v ≤ 1514) result.items }
@@ -116,7 +115,7 @@ impl MemoryDevice {
         mem::replace(&mut self.sent, Vec::new(self.alloc))
     }
 
-    // Reserves room for a frame to be sent, and says whether it is there.
+    // Reserves room for a frame to send, and returns whether there is room.
     fn reserve(&mut self) -> bool
         ensures { Reserves self.old self.new result }
     {
@@ -135,14 +134,14 @@ impl MemoryDevice {
         }
     }
 
-    // Takes the first frame that waits.
+    // Takes the first frame in the queue.
     fn take_frame(&mut self) -> Option<Vec<u8>>
         ensures { MatchOption result ((self.old.queued ≡ []) × (self.new ≡ self.old)) (λ frame. (vec_len frame ≤ 1514) × (self.old.queued ≡ frame.items ∷ self.new.queued) × (self.new ≡ record self.old { queued = self.new.queued })) }
     {
         self.queue.pop_front()
     }
 
-    // Takes the answer to the next question for leave, and says whether it refuses.
+    // Takes the answer to the next request for a transmit token, and returns whether it refuses.
     fn take_answer(&mut self) -> bool
         ensures refused { result ≡ is_refused self.old.refuse }
         ensures after { self.new ≡ without_first_answer self.old }
@@ -150,7 +149,7 @@ impl MemoryDevice {
         self.refuse.pop_front().unwrap_or(false)
     }
 
-    // Keeps a frame that is sent, in the room for it.
+    // Keeps a frame that is sent, in the room reserved for it.
     fn keep(&mut self, frame: &[u8])
         requires room { self.old.has_room ≡ true }
         requires short { length frame.now ≤ 1514 }
@@ -163,7 +162,7 @@ impl MemoryDevice {
         }
     }
 
-    // Counts a refused leave or a withheld frame.
+    // Counts a refused transmit token or a withheld frame.
     fn count_refusal(&mut self)
         ensures { self.new ≡ with_refusal_counted self.old }
     {
@@ -241,8 +240,8 @@ impl Device for MemoryDevice {
     ghost tells_refusals = { λ a b xs told. told_refusals told };
 }
 
-/// However a device in memory was used, the frames that waited are those that it handed over and
-/// those that still wait, in order, and those that it sent are listed behind the earlier ones.
+/// However a device in memory was used, the frames that were queued are those that it delivered and those that are
+/// still queued, in order. Those that it sent are listed after the earlier ones.
 pub fn frames_are_kept()
     ensures { FramesAreKept }
 {}

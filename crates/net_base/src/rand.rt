@@ -1,10 +1,10 @@
-//! Random words, for what need not be secret: the first identification and delays.
+//! Random words, for values that need not be secret: the first identification and delays.
 ghost use Rattle.std.specs.Prelude.{◌≡◌, ◌/◌, ◌^◌};
 ghost use Rattle.net_base.specs.Rand.{next};
 
 use std::marker::Model;
 
-/// A source of random words, seen in contracts as its state.
+/// A source of random words; in contracts it is its state.
 #[derive(Clone, Copy, Debug, PartialEq, Eq)]
 pub struct Rand {
     state: u64,
@@ -28,7 +28,7 @@ impl Rand {
         Rand { state: seed }
     }
 
-    /// The next word of 32 bits: the top bits of the state after one step.
+    /// Draws the next 32-bit word: the top bits of the state after one step.
     pub fn rand_u32(&mut self) -> u32
         ensures state { self.new ≡ next self.old }
         ensures word { result ≡ next self.old / 2 ^ 32 }
@@ -37,7 +37,7 @@ impl Rand {
         (self.state >> 32) as u32
     }
 
-    /// The next word of 16 bits: the top bits of the state after one step.
+    /// Draws the next 16-bit word: the top bits of the state after one step.
     pub fn rand_u16(&mut self) -> u16
         ensures state { self.new ≡ next self.old }
         ensures word { result ≡ next self.old / 2 ^ 48 }

@@ -1,7 +1,7 @@
 //! Moments and spans of time, in whole microseconds.
 //!
-//! An [`Instant`] is a signed number of microseconds since an origin of the caller's choice, a
-//! [`Duration`] an unsigned one. In contracts both are their numbers.
+//! An [`Instant`] is a signed number of microseconds since an origin of the caller's choice, a [`Duration`] an unsigned
+//! number. In contracts both are their numbers.
 ghost use Rattle.std.specs.Prelude.{◌≡◌, ◌*◌, ◌<◌, ◌^◌, ℤ, pos, neg_ℤ, ◌*ℤ◌, ◌<ℤ◌, ◌≤ℤ◌};
 
 use std::fmt;
@@ -11,7 +11,7 @@ use std::ops::{Add, Sub};
 /// A span of time, in microseconds.
 #[derive(Clone, Copy, Debug, PartialEq, Eq, PartialOrd, Ord)]
 pub struct Duration {
-    /// The whole microseconds.
+    /// The number of microseconds.
     pub micros: u64,
 }
 
@@ -26,17 +26,17 @@ impl Model for Duration {
 }
 
 impl Duration {
-    /// No time.
+    /// The empty span.
     pub const ZERO: Duration = Duration { micros: 0 };
 
-    /// A span of so many microseconds.
+    /// A span of this many microseconds.
     pub const fn from_micros(micros: u64) -> Duration
         ensures { result ≡ micros }
     {
         Duration { micros }
     }
 
-    /// A span of so many milliseconds. The span has to be shorter than 2^64 microseconds.
+    /// A span of this many milliseconds. It must be shorter than 2^64 microseconds.
     pub const fn from_millis(millis: u64) -> Duration
         requires { millis * 1000 < 2 ^ 64 }
         ensures { result ≡ millis * 1000 }
@@ -44,7 +44,7 @@ impl Duration {
         Duration::from_micros(millis * 1000)
     }
 
-    /// A span of so many seconds. The span has to be shorter than 2^64 microseconds.
+    /// A span of this many seconds. It must be shorter than 2^64 microseconds.
     pub const fn from_secs(secs: u64) -> Duration
         requires { secs * 1000000 < 2 ^ 64 }
         ensures { result ≡ secs * 1000000 }
@@ -52,7 +52,7 @@ impl Duration {
         Duration::from_micros(secs * 1_000_000)
     }
 
-    /// The whole microseconds of the span.
+    /// The number of microseconds of the span.
     pub const fn total_micros(&self) -> u64
         ensures { result ≡ self.now }
     {
@@ -68,7 +68,7 @@ impl Default for Duration {
     }
 }
 
-/// The sum of two spans. It has to be shorter than 2^64 microseconds.
+/// The sum of two spans. It must be shorter than 2^64 microseconds.
 impl Add<Duration> for Duration {
     type Output = Duration;
 
@@ -85,7 +85,7 @@ impl Add<Duration> for Duration {
     }
 }
 
-/// What a span is longer than another. The other may be as long as it, and no longer.
+/// The difference of two spans. The second must not be longer than the first.
 impl Sub<Duration> for Duration {
     type Output = Duration;
 
@@ -103,7 +103,7 @@ impl Sub<Duration> for Duration {
 }
 
 impl fmt::Display for Duration {
-    /// As its seconds with three decimals, what is behind them cut off: 1.500s.
+    /// The seconds with three decimals, truncated: 1.500s.
     fn fmt<W: fmt::Write>(&self, f: &mut fmt::Formatter<W>) -> fmt::Result {
         let (secs, millis) = (self.micros / 1_000_000, self.micros / 1000 % 1000);
         write!(f, "{secs}.{millis:03}s")
@@ -113,7 +113,7 @@ impl fmt::Display for Duration {
 /// A moment, in microseconds since an origin of the caller's choice.
 #[derive(Clone, Copy, Debug, PartialEq, Eq, PartialOrd, Ord)]
 pub struct Instant {
-    /// The whole microseconds.
+    /// The number of microseconds.
     pub micros: i64,
 }
 
@@ -131,15 +131,15 @@ impl Instant {
     /// The origin.
     pub const ZERO: Instant = Instant { micros: 0 };
 
-    /// The moment so many microseconds after the origin.
+    /// The moment this many microseconds after the origin.
     pub const fn from_micros(micros: i64) -> Instant
         ensures { result ≡ micros }
     {
         Instant { micros }
     }
 
-    /// The moment so many milliseconds after the origin, or before it where they are negative. The
-    /// moment has to lie from -2^63 microseconds up to before 2^63.
+    /// The moment this many milliseconds after the origin, or before it if negative. It must be at least -2^63
+    /// microseconds and before 2^63.
     pub const fn from_millis(millis: i64) -> Instant
         requires low { neg_ℤ (pos (2 ^ 63)) ≤ℤ (millis *ℤ pos 1000) }
         requires high { (millis *ℤ pos 1000) <ℤ pos (2 ^ 63) }
@@ -148,8 +148,8 @@ impl Instant {
         Instant::from_micros(millis * 1000)
     }
 
-    /// The moment so many seconds after the origin, or before it where they are negative. The
-    /// moment has to lie from -2^63 microseconds up to before 2^63.
+    /// The moment this many seconds after the origin, or before it if negative. It must be at least -2^63 microseconds
+    /// and before 2^63.
     pub const fn from_secs(secs: i64) -> Instant
         requires low { neg_ℤ (pos (2 ^ 63)) ≤ℤ (secs *ℤ pos 1000000) }
         requires high { (secs *ℤ pos 1000000) <ℤ pos (2 ^ 63) }
@@ -158,7 +158,7 @@ impl Instant {
         Instant::from_micros(secs * 1_000_000)
     }
 
-    /// The whole microseconds since the origin.
+    /// The number of microseconds since the origin.
     pub const fn total_micros(&self) -> i64
         ensures { result ≡ self.now }
     {
@@ -174,7 +174,7 @@ impl Default for Instant {
     }
 }
 
-/// The moment so long after another. It has to lie before 2^63 microseconds.
+/// The moment a span after another. It must be before 2^63 microseconds.
 impl Add<Duration> for Instant {
     type Output = Instant;
 
@@ -191,7 +191,7 @@ impl Add<Duration> for Instant {
     }
 }
 
-/// The span since another moment. That one may not be the later of the two.
+/// The span since another moment, which must not be the later of the two.
 impl Sub<Instant> for Instant {
     type Output = Duration;
 
@@ -209,8 +209,8 @@ impl Sub<Instant> for Instant {
 }
 
 impl fmt::Display for Instant {
-    /// As the seconds since the origin with three decimals, what is behind them cut off: 1.500s. A
-    /// moment before the origin has a sign: -0.250s.
+    /// The seconds since the origin with three decimals, truncated: 1.500s. A moment before the origin has a sign:
+    /// -0.250s.
     fn fmt<W: fmt::Write>(&self, f: &mut fmt::Formatter<W>) -> fmt::Result {
         let sign = if self.micros < 0 { "-" } else { "" };
         let distance = Duration::from_micros(self.micros.unsigned_abs());

@@ -29,14 +29,14 @@ use Rattle.network_sockets.specs.declared.icmp.Endpoint.{Endpoint}
 use Rattle.network_sockets.specs.declared.icmp.Endpoint.TheVariants as endpoint
 use Rattle.network_sockets.specs.declared.icmp.Packet.{Packet}
 
--- whose messages it takes, the hop limit of what it sends, and the messages that wait to be read and to be sent, each with the other end's address
+-- which messages it accepts, the hop limit of packets sent, and the messages received and to send, each with the remote address
 pub record IcmpSocket : Type 0 where
   pub endpoint : Endpoint
   pub hop_limit : ℕ
   pub rx : Queued IpAddress
   pub tx : Queued IpAddress
 
--- a message with the addresses between which it goes
+-- a message with its source and destination
 pub record Sent : Type 0 where
   pub src_addr : IpAddress
   pub dst_addr : IpAddress
@@ -44,7 +44,7 @@ pub record Sent : Type 0 where
   pub repr : IcmpRepr
   pub payload : List ℕ
 
--- a packet, without where its payload lies
+-- a packet, apart from where its payload is in memory
 abbrev pub value_of : Packet → Sent
 value_of p = record { src_addr = p.src_addr; dst_addr = p.dst_addr; hop_limit = p.hop_limit; repr = p.repr; payload = p.payload.now }
 
@@ -70,11 +70,11 @@ abbrev pub is_echo_of : ℕ → IcmpRepr → Bool
 is_echo_of n (icmp.Ipv4 r) = is_echo_of_v4 n r
 is_echo_of n (icmp.Ipv6 r) = is_echo_of_v6 n r
 
--- a quoted datagram of UDP, of which eight octets are there, from the port
+-- a quoted UDP datagram from the port, of which at least eight octets are there
 abbrev pub is_datagram_from : ℕ → IpRepr → List ℕ → Bool
 is_datagram_from port header quoted = (number_of (next_header header) == 17) && nat_le 8 (length quoted) && (port == u16_at quoted 0)
 
--- nobody listens at the port
+-- the reason is an unreachable port
 abbrev pub is_port_unreachable_v4 : Icmpv4DstUnreachable → Bool
 is_port_unreachable_v4 v4_reason.PortUnreachable = true
 is_port_unreachable_v4 v4_reason.ProtoUnreachable = false
@@ -84,7 +84,7 @@ abbrev pub is_port_unreachable_v6 : Icmpv6DstUnreachable → Bool
 is_port_unreachable_v6 v6_reason.PortUnreachable = true
 is_port_unreachable_v6 (v6_reason.Unknown n) = false
 
--- port unreachables that quote UDP from the port
+-- port unreachable errors that quote UDP from the port
 abbrev pub is_unreachable_from_v4 : ℕ → Icmpv4Repr → List ℕ → Bool
 is_unreachable_from_v4 port (v4.DstUnreachable reason header) quoted = is_port_unreachable_v4 reason && is_datagram_from port (ip.Ipv4 header) quoted
 is_unreachable_from_v4 port (v4.EchoRequest ident seq_no) quoted = false
@@ -111,60 +111,60 @@ abbrev pub is_for : Endpoint → IcmpRepr → List ℕ → Bool
 is_for (endpoint.Ident n) repr payload = is_echo_of n repr
 is_for (endpoint.Udp port) repr payload = is_unreachable_from port repr payload
 
--- whether a message, by its values and its data, is for the socket
+-- whether the socket accepts a message, by its values and its data
 abbrev pub accepts : IcmpSocket → IcmpRepr → List ℕ → Bool
 accepts s repr payload = is_for s.endpoint repr payload
 
--- a message has come
+-- a message is received
 abbrev pub socket_after_delivery : IpAddress → List ℕ → IcmpSocket → IcmpSocket
 socket_after_delivery remote message s = record s { rx = put s.rx remote message }
 
--- the first one that came was read
+-- the first message received is read
 abbrev pub socket_after_done : IcmpSocket → IcmpSocket
 socket_after_done s = record s { rx = queue_after_pop s.rx }
 
--- a message is to be sent
+-- a message is queued for sending
 abbrev pub socket_after_send : IpAddress → List ℕ → IcmpSocket → IcmpSocket
 socket_after_send remote message s = record s { tx = put s.tx remote message }
 
--- the first one to be sent is gone
+-- the first message to send is removed
 abbrev pub without_first_to_send : IcmpSocket → IcmpSocket
 without_first_to_send s = record s { tx = queue_after_pop s.tx }
 
--- at once, if something is to be sent
+-- immediately, if there is something to send
 abbrev pub poll_at : IcmpSocket → PollAt
 poll_at s = cond (is_none (first_of s.tx.packets)) Ingress Now
 
--- some octets are an echo message, request or reply, whose checksum isn't tested: by these types, with code 0
+-- octets are an echo message, request or reply, by these types, with code 0; the checksum isn't verified
 abbrev pub is_echo : ℕ → ℕ → List ℕ → Bool
 is_echo request reply octets =
     nat_le 8 (length octets) && nat_lt (length octets) 65536 && ((type_in octets == request) || (type_in octets == reply)) && (code_in octets == 0)
 
--- values and octets, without where those lie in memory
+-- values and octets, apart from where those are in memory
 abbrev pub parts : IcmpRepr × Bor (List ℕ) → IcmpRepr × List ℕ
 parts p = (p.0, p.1.now)
 
--- the echo message to a peer that some octets are, and what it carries: ICMP by the peer's family
+-- octets as an echo message to a peer, by the ICMP of the peer's family, and its data
 abbrev pub echo_to : IpAddress → List ℕ → Option (IcmpRepr × List ℕ)
 echo_to (address.Ipv4 a) octets = cond (is_echo 8 0 octets) (Some (icmp.Ipv4 (icmpv4_in octets).0, (icmpv4_in octets).1)) None
 echo_to (address.Ipv6 a) octets = cond (is_echo 128 129 octets) (Some (icmp.Ipv6 (icmpv6_in octets).0, (icmpv6_in octets).1)) None
 
--- a message to be sent to a peer, from a source
+-- a message to send to a peer, with this source address
 abbrev pub packet_to_send : IcmpSocket → IpAddress → IcmpRepr × List ℕ → IpAddress → Sent
 packet_to_send s peer m src = record { src_addr = src; dst_addr = peer; hop_limit = s.hop_limit; repr = m.0; payload = m.1 }
 
--- a message that waits to be sent, if it is an echo message and has a source
+-- a message to send, if it is an echo message and has a source address
 abbrev pub sent_if : (IpAddress → Option IpAddress) → IcmpSocket → IpAddress × List ℕ → Option Sent
 sent_if source s p = option_and_then (λ m. option_map (packet_to_send s p.0 m) (source_of source None p.0)) (echo_to p.0 p.1)
 
--- the first one to be sent, if it is an echo message and has a source
+-- the first message to send, if it is an echo message and has a source address
 abbrev pub offered_packet : (IpAddress → Option IpAddress) → IcmpSocket → Option Sent
 offered_packet source s = option_and_then (sent_if source s) (first_of s.tx.packets)
 
--- what being asked leaves: the first one is gone if it can't go
+-- the socket after it was asked: the first message is removed if it can't be sent
 abbrev pub socket_after_offer : (IpAddress → Option IpAddress) → IcmpSocket → IcmpSocket
 socket_after_offer source s = cond (is_none (offered_packet source s)) (without_first_to_send s) s
 
--- what being told leaves
+-- the socket after the acknowledgement
 abbrev pub socket_after_told : Bool → IcmpSocket → IcmpSocket
 socket_after_told is_done s = cond is_done (without_first_to_send s) s

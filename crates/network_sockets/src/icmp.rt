@@ -1,4 +1,4 @@
-//! ICMP sockets (RFC 792, RFC 4443): echo messages, and what comes back for datagrams that found no port.
+//! ICMP sockets (RFC 792, RFC 4443): echo messages, and port unreachable errors for the datagrams of a port.
 ghost use Rattle.std.specs.Prelude.{◌≡◌, ◌≢◌, ◌≤◌, length, is_ok, false};
 ghost use Rattle.std.specs.Option.{option_map};
 ghost use Rattle.ip_address.specs.Ip.{is_unspecified};
@@ -15,16 +15,16 @@ use socket_base::poll_at::PollAt;
 use socket_base::queue::{Full, Queue};
 use std::marker::{Model, PhantomData};
 
-/// Whose messages a socket takes.
+/// Which messages a socket accepts.
 #[derive(Clone, Copy, Debug, PartialEq, Eq)]
 pub enum Endpoint {
     /// Echo messages with this identifier.
     Ident(u16),
-    /// Port unreachables for datagrams of UDP from this port.
+    /// Port unreachable errors for UDP datagrams from this port.
     Udp(u16),
 }
 
-/// An echo message to be sent; what it carries stays in the socket.
+/// An echo message to send; its data stays in the socket.
 #[derive(Clone, Copy)]
 pub struct Packet<'p> {
     pub src_addr: IpAddress,
@@ -57,8 +57,7 @@ impl<L> Model for SocketOf<L> {
 }
 
 impl<L: Drop> SocketOf<L> {
-    /// A socket for an endpoint, with a queue for what comes and one for what goes. Its hop limit is
-    /// 64.
+    /// Creates a socket for an endpoint from a receive queue and a transmit queue. Its hop limit is 64.
     pub fn new(endpoint: Endpoint, rx: Queue<IpAddress>, tx: Queue<IpAddress>) -> SocketOf<L>
         ensures { result ≡ record { endpoint = endpoint; hop_limit = 64; rx = rx; tx = tx } }
     {
@@ -70,21 +69,21 @@ impl<L: Drop> SocketOf<L> {
         }
     }
 
-    /// Whose messages it takes.
+    /// Which messages the socket accepts.
     pub fn endpoint(&self) -> Endpoint
         ensures { result ≡ self.now.endpoint }
     {
         self.endpoint
     }
 
-    /// The hop limit of what is sent.
+    /// The hop limit of packets sent.
     pub fn hop_limit(&self) -> u8
         ensures { result ≡ self.now.hop_limit }
     {
         self.hop_limit
     }
 
-    /// Sets the hop limit of what is sent, which isn't 0.
+    /// Sets the hop limit of packets sent, which must not be 0.
     pub fn set_hop_limit(&mut self, hop_limit: u8)
         requires { hop_limit ≢ 0 }
         ensures { self.new ≡ record self.old { hop_limit = hop_limit } }
@@ -92,23 +91,23 @@ impl<L: Drop> SocketOf<L> {
         self.hop_limit = hop_limit;
     }
 
-    /// The messages that came and weren't read.
+    /// The messages received but not read yet.
     pub fn rx(&self) -> &Queue<IpAddress>
         ensures { result.now ≡ self.now.rx }
     {
         self.buffers.rx()
     }
 
-    /// The messages that are to be sent.
+    /// The messages to send.
     pub fn tx(&self) -> &Queue<IpAddress>
         ensures { result.now ≡ self.now.tx }
     {
         self.buffers.tx()
     }
 
-    /// Whether a message is for the socket, by its values and what stands behind its header: an
-    /// echo message with the socket's identifier, or a port unreachable that quotes at least eight
-    /// octets of a datagram of UDP from the socket's port.
+    /// Whether the socket accepts a message, given its values and the octets after its header. It accepts an echo
+    /// message with its identifier, or a port unreachable error that quotes at least eight octets of a UDP datagram
+    /// from its port, by its endpoint.
     pub fn accepts(&self, repr: &IcmpRepr, payload: &[u8]) -> bool
         ensures { result ≡ spec.accepts self.now repr.now payload.now }
     {
@@ -118,30 +117,29 @@ impl<L: Drop> SocketOf<L> {
         }
     }
 
-    /// Takes a message that came from an address, whole. Without room for it, it is dropped.
+    /// Queues a whole message received from an address. It is dropped if there is no room for it.
     pub fn process(&mut self, remote: IpAddress, message: &[u8])
         ensures { self.new ≡ spec.socket_after_delivery remote message.now self.old }
     {
         self.buffers.process(remote, message);
     }
 
-    /// The first message that came and wasn't read, if there is one: where it came from, and its
-    /// octets.
+    /// The first message received but not read yet, if any: its source address and its octets.
     pub fn recv(&self) -> Option<(&IpAddress, &[u8])>
         ensures { option_map (λ p. (p.0.now, p.1.now)) result ≡ first_of self.now.rx.packets }
     {
         self.buffers.recv()
     }
 
-    /// Drops the message that `recv` gives, if there is one.
+    /// Drops the message that `recv` returns, if any.
     pub fn done(&mut self)
         ensures { self.new ≡ spec.socket_after_done self.old }
     {
         self.buffers.done();
     }
 
-    /// Queues a message to an address, of at most 65,495 octets. `Full` exactly if it doesn't fit;
-    /// then the socket stays as it was.
+    /// Queues a message of at most 65,495 octets for an address, which must not be unspecified. Fails with `Full`
+    /// exactly if it doesn't fit; then the socket stays unchanged.
     pub fn send(&mut self, remote: IpAddress, message: &[u8]) -> Result<(), Full>
         requires addr { is_unspecified remote ≡ false }
         requires len { length message.now ≤ 65495 }
@@ -151,7 +149,7 @@ impl<L: Drop> SocketOf<L> {
         self.buffers.send(remote, message)
     }
 
-    /// When it has to be polled again: at once, if something is to be sent.
+    /// When the socket has to be polled again: immediately, if there is something to send.
     #[inline(always)]
     pub fn poll_at(&self) -> PollAt
         ensures { result ≡ spec.poll_at self.now }
@@ -159,7 +157,7 @@ impl<L: Drop> SocketOf<L> {
         self.buffers.poll_at(PollAt::Now)
     }
 
-    /// The first message to be sent, if it is an echo message and has a source.
+    /// The first message to send, if it is an echo message and has a source address.
     #[inline(always)]
     fn peek<C: SocketContext>(&self, context: &C) -> Option<Packet<'_>>
         ensures { option_map spec.value_of result ≡ spec.offered_packet (C.source_for context.now) self.now }
@@ -176,7 +174,7 @@ impl<L: Drop> SocketOf<L> {
         })
     }
 
-    /// Tells the socket whether what it offered is gone: then it is dropped.
+    /// Acknowledges what the socket offered: if it is `gone` (sent or dropped), the socket drops it.
     pub fn told(&mut self, gone: bool)
         ensures { self.new ≡ spec.socket_after_told gone self.old }
     {
@@ -188,9 +186,9 @@ impl<L: Drop> SocketOf<L> {
     ghost use Rattle.std.specs.Borrow.{sem};
     ghost use Rattle.network_sockets.specs.IcmpLending.{Settles};
 
-    /// The first message to be sent, if there is one. Its source is the address that the context
-    /// chooses. Without a source of the peer's family the message is dropped, and none is offered;
-    /// so it is if it isn't an echo message of the ICMP of that family. Its checksum isn't tested.
+    /// The first message to send, if any. Its source is the address that the context chooses. The message is dropped,
+    /// and `None` returned, if there is no source of the peer's family, or if it isn't an echo message of that family's
+    /// ICMP. Its checksum isn't verified.
     pub fn offer<C: SocketContext>(&mut self, context: &C) -> Option<Packet<'_>>
         ensures* settles { sem 𝓛 (Settles L.row self.entry (C.source_for context.now)) }
         ensures value { option_map spec.value_of result ≡ spec.offered_packet (C.source_for context.now) self.old }
@@ -203,7 +201,7 @@ impl<L: Drop> SocketOf<L> {
     }
 }
 
-/// Whether it is an echo message with this identifier.
+/// Whether a message is an echo message with this identifier.
 fn is_echo_of(own: u16, repr: &IcmpRepr) -> bool
     ensures { result ≡ spec.is_echo_of own repr.now }
 {
@@ -216,7 +214,7 @@ fn is_echo_of(own: u16, repr: &IcmpRepr) -> bool
     }
 }
 
-/// Whether it is a port unreachable that quotes a datagram of UDP from a port.
+/// Whether a message is a port unreachable error that quotes a UDP datagram from a port.
 fn is_unreachable_from(port: u16, repr: &IcmpRepr, quoted: &[u8]) -> bool
     ensures { result ≡ spec.is_unreachable_from port repr.now quoted.now }
 {
@@ -237,7 +235,7 @@ fn is_unreachable_from(port: u16, repr: &IcmpRepr, quoted: &[u8]) -> bool
     }
 }
 
-/// Whether a quotation is that of a datagram of UDP from a port, of which eight octets are there.
+/// Whether a quotation is at least eight octets of a UDP datagram from a port.
 fn is_datagram_from(port: u16, header: &IpRepr, quoted: &[u8]) -> bool
     ensures { result ≡ spec.is_datagram_from port header.now quoted.now }
 {
@@ -247,8 +245,8 @@ fn is_datagram_from(port: u16, header: &IpRepr, quoted: &[u8]) -> bool
     port == u16_at(quoted, 0)
 }
 
-/// The echo message to a peer that some octets are, fewer than 65,536, and what it carries: ICMP
-/// by the peer's family.
+/// Parses fewer than 65,536 octets as an echo message to a peer, by the ICMP of the peer's family. Returns the message
+/// and its data.
 #[inline(always)]
 #[tactic(auto, using(crate::proofs::IcmpLemmas::is_echo_reads_v4, crate::proofs::IcmpLemmas::is_echo_reads_v6))]
 fn parse_echo<'m>(remote: &IpAddress, message: &'m [u8]) -> Option<(IcmpRepr, &'m [u8])>
@@ -264,7 +262,7 @@ fn parse_echo<'m>(remote: &IpAddress, message: &'m [u8]) -> Option<(IcmpRepr, &'
             }
             _ => None,
         },
-        // The addresses are for the checksum, which isn't tested.
+        // The addresses are for the checksum, which isn't verified.
         IpAddress::Ipv6(_) => match Icmpv6Repr::parse(message, remote, remote, false)? {
             (repr @ (Icmpv6Repr::EchoRequest { .. } | Icmpv6Repr::EchoReply { .. }), payload) => {
                 Some((IcmpRepr::Ipv6(repr), payload))

@@ -1,4 +1,4 @@
-//! Sockets of the network layer: raw and ICMP.
+//! Sockets of the network layer: raw and ICMP sockets.
 #![tactic(auto)]
 
 pub mod icmp;

@@ -11,7 +11,7 @@ use socket_base::poll_at::PollAt;
 use socket_base::queue::{Full, Queue};
 use std::marker::{Model, PhantomData};
 
-/// A packet to be sent, of either family; its payload stays in the socket.
+/// A packet to send, of either family; its payload stays in the socket.
 #[derive(Clone, Copy)]
 pub struct Packet<'p> {
     pub header: IpRepr,
@@ -41,8 +41,7 @@ impl<L> Model for SocketOf<L> {
 }
 
 impl<L: Drop> SocketOf<L> {
-    /// A socket for the packets of a version of IP and a protocol, with a queue for what comes and
-    /// one for what goes.
+    /// Creates a socket for packets of an IP version and a protocol from a receive queue and a transmit queue.
     pub fn new(
         version: IpVersion,
         protocol: IpProtocol,
@@ -59,7 +58,7 @@ impl<L: Drop> SocketOf<L> {
         }
     }
 
-    /// The version of IP of its packets.
+    /// The IP version of its packets.
     pub fn version(&self) -> IpVersion
         ensures { result ≡ self.now.version }
     {
@@ -73,30 +72,30 @@ impl<L: Drop> SocketOf<L> {
         self.protocol
     }
 
-    /// The packets that came and weren't read.
+    /// The packets received but not read yet.
     pub fn rx(&self) -> &Queue<()>
         ensures { result.now ≡ self.now.rx }
     {
         self.buffers.rx()
     }
 
-    /// The packets that are to be sent.
+    /// The packets to send.
     pub fn tx(&self) -> &Queue<()>
         ensures { result.now ≡ self.now.tx }
     {
         self.buffers.tx()
     }
 
-    /// Whether packets of a version and a protocol are for the socket: both are its own.
+    /// Whether the socket accepts packets of a version and a protocol: both are its own.
     pub fn accepts(&self, version: IpVersion, protocol: IpProtocol) -> bool
         ensures { result ≡ spec.accepts self.now version protocol }
     {
         self.version == version && self.protocol.number() == protocol.number()
     }
 
-    /// Takes a packet, of at most 65,535 octets: with a header of 20 octets over IPv4, behind its header
-    /// over IPv6. The header is written anew, for a whole packet; the checksum of IPv4's is 0 where it
-    /// isn't `summed`. Without room for the packet, it is dropped.
+    /// Queues a received packet of at most 65,535 octets; for IPv4 the header of 20 octets counts, for IPv6 only what
+    /// follows the header. The header is written anew, as that of a whole packet. An IPv4 checksum is 0 unless
+    /// `summed`. The packet is dropped if there is no room for it.
     pub fn process(&mut self, header: &IpRepr, payload: &[u8], summed: bool)
         requires { TellsLength header.now }
         ensures { self.new ≡ spec.socket_after_delivery summed header.now payload.now self.old }
@@ -112,22 +111,22 @@ impl<L: Drop> SocketOf<L> {
         }
     }
 
-    /// The first packet that came and wasn't read, if there is one.
+    /// The first packet received but not read yet, if any.
     pub fn recv(&self) -> Option<(&(), &[u8])>
         ensures { option_map (λ p. (p.0.now, p.1.now)) result ≡ first_of self.now.rx.packets }
     {
         self.buffers.recv()
     }
 
-    /// Drops the packet that `recv` gives, if there is one.
+    /// Drops the packet that `recv` returns, if any.
     pub fn done(&mut self)
         ensures { self.new ≡ spec.socket_after_done self.old }
     {
         self.buffers.done();
     }
 
-    /// Queues a packet, header and payload, of which nothing else is told. `Full` exactly if it doesn't fit; then the socket stays
-    /// as it was.
+    /// Queues a packet for sending, header and payload, without metadata. Fails with `Full` exactly if it doesn't fit;
+    /// then the socket stays unchanged.
     pub fn send(&mut self, meta: (), packet: &[u8]) -> Result<(), Full>
         ensures fits { is_ok result ≡ is_room self.old.tx (length packet.now) }
         ensures socket { self.new ≡ spec.socket_after_send packet.now self.old }
@@ -135,7 +134,7 @@ impl<L: Drop> SocketOf<L> {
         self.buffers.send(meta, packet)
     }
 
-    /// When it has to be polled again: at once, if something is to be sent.
+    /// When the socket has to be polled again: immediately, if there is something to send.
     #[inline(always)]
     pub fn poll_at(&self) -> PollAt
         ensures { result ≡ spec.poll_at self.now }
@@ -143,7 +142,7 @@ impl<L: Drop> SocketOf<L> {
         self.buffers.poll_at(PollAt::Now)
     }
 
-    /// The packet that some octets begin with, if it is one of the socket's.
+    /// The packet that the octets begin with, if it is of the socket's version and protocol.
     #[inline(always)]
     fn parse<'p>(&self, octets: &'p [u8]) -> Option<Packet<'p>>
         ensures { option_map spec.value_of result ≡ spec.packet_to_send self.now octets.now }
@@ -156,7 +155,7 @@ impl<L: Drop> SocketOf<L> {
         }
     }
 
-    /// The first packet to be sent, if it is one of the socket's.
+    /// The first packet to send, if it is of the socket's version and protocol.
     #[inline(always)]
     fn peek(&self) -> Option<Packet<'_>>
         ensures { option_map spec.value_of result ≡ spec.offered_packet self.now }
@@ -165,7 +164,7 @@ impl<L: Drop> SocketOf<L> {
         self.parse(octets)
     }
 
-    /// Tells the socket whether what it offered is gone: then it is dropped.
+    /// Acknowledges what the socket offered: if it is `gone` (sent or dropped), the socket drops it.
     pub fn told(&mut self, gone: bool)
         ensures { self.new ≡ spec.socket_after_told gone self.old }
     {
@@ -177,8 +176,8 @@ impl<L: Drop> SocketOf<L> {
     ghost use Rattle.std.specs.Borrow.{sem};
     ghost use Rattle.network_sockets.specs.RawLending.{Settles};
 
-    /// The first packet to be sent, if there is one. Octets that aren't a packet of the socket's
-    /// version and protocol are dropped, and none is offered; the header's checksum isn't tested.
+    /// The first packet to send, if any. Octets that aren't a packet of the socket's version and protocol are dropped,
+    /// and `None` returned. The header's checksum isn't verified.
     pub fn offer(&mut self) -> Option<Packet<'_>>
         ensures* settles { sem 𝓛 (Settles L.row self.entry) }
         ensures value { option_map spec.value_of result ≡ spec.offered_packet self.old }
@@ -191,7 +190,7 @@ impl<L: Drop> SocketOf<L> {
     }
 }
 
-/// The packet of a version that some octets begin with. The checksum of IPv4's header isn't tested.
+/// The packet of an IP version that the octets begin with. The IPv4 header's checksum isn't verified.
 #[inline(always)]
 #[tactic(auto, using(crate::proofs::RawLemmas::is_ipv4_reads, crate::proofs::RawLemmas::reads_is_ipv4, crate::proofs::RawLemmas::is_ipv6_reads, crate::proofs::RawLemmas::reads_is_ipv6))]
 fn packet_in(version: IpVersion, octets: &[u8]) -> Option<Packet<'_>>

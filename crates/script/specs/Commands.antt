@@ -10,18 +10,18 @@ use Rattle.script.specs.declared.line.Line.TheVariants.{Asks}
 use Rattle.script.specs.declared.line.Call.{Call}
 use Rattle.script.specs.declared.line.Call.TheVariants.{Addr, Gw, Join, Leave, Ingress, Egress, Poll, At}
 
--- the moment last given, once a call is made
+-- the moment last given, after a call
 abbrev pub moment_after : ℤ → Call → ℤ
 moment_after last (Poll t budget) = t
 moment_after last (At t) = t
 moment_after last other = last
 
--- the router of the default route of its family
+-- the command that sets the gateway of the default route of its family
 abbrev pub default_route_by : IpAddress → Command
 default_route_by (ip.Ipv4 router) = command.AddDefaultIpv4Route router
 default_route_by (ip.Ipv6 router) = command.AddDefaultIpv6Route router
 
--- the command of each call, where that moment was last given
+-- the command of each call, where `last` is the moment last given
 abbrev pub command_of : ℤ → Call → Command
 command_of last (Addr networks) = command.UpdateIpAddrs networks
 command_of last (Gw router) = default_route_by router
@@ -32,7 +32,7 @@ command_of last Egress = command.PollEgress last
 command_of last (Poll t budget) = command.Poll t budget
 command_of last (At t) = command.PollAt t
 
--- the moment that a call gives, if it does, is one that may be given
+-- the moment that a call gives, if any, is in range
 abbrev pub IsTimelyCall : Call → Type 0
 IsTimelyCall (Poll t budget) = IsMoment t
 IsTimelyCall (At t) = IsMoment t

@@ -1,9 +1,9 @@
--- Hex digits that fit.
+-- Hex digits that fit into a buffer.
 use Rattle.std.specs.Prelude.{◌≡◌, ◌≤◌, ◌<◌, ◌*◌, ◌%◌, ℕ, List, length}
 use Rattle.std.specs.List.{AllPass}
 use Rattle.hex.specs.Hex.{is_hex_digit}
 
--- an even number of hex digits, two or more, for at most so many octets
+-- an even number of hex digits, at least two, for at most this many octets
 pub record IsHexUpTo (room : ℕ) (digits : List ℕ) : Type 0 where
   pub some : 0 < length digits
   pub even : length digits % 2 ≡ 0

@@ -52,13 +52,13 @@ text_of (answer.SetHardwareAddr (Err e)) = hardware_text e
 text_of (answer.SetReassemblyTimeout (Err e)) = codes "TimeoutTooLong"
 text_of other = codes "ok"
 
--- a frame that arrived or was too long; nothing where memory was refused
+-- a frame that arrived or was too long; nothing if memory was refused
 abbrev pub push_text : Result (Unit {0}) PushError → Option (List ℕ)
 push_text (Ok done) = Some (codes "ok")
 push_text (Err TooLong) = Some (codes "TooLong")
 push_text (Err NoMemory) = None
 
--- a text, and the end of its line
+-- a text, and a line feed
 abbrev pub text_line : List ℕ → List ℕ
 text_line text = text ++ 10 ∷ []
 

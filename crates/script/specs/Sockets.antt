@@ -4,7 +4,7 @@ use Rattle.socket_base.specs.declared.endpoint.IpEndpoint.{IpEndpoint}
 use Rattle.socket_base.specs.Queue.{Queued}
 use Rattle.transport_sockets.specs.Udp.{UdpSocket}
 
--- no packet; four fit, with 4096 octets together
+-- an empty queue for four packets with 4,096 octets in total
 abbrev pub empty_queue : Queued IpEndpoint
 empty_queue = record { packets = []; most = 4; limit = 4096 }
 

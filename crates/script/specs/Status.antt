@@ -11,6 +11,6 @@ status_of (Err NoMemory) = 3
 status_of (Err (NoHost e)) = 4
 status_of (Err Failed) = 4
 
--- and 4 where the output wasn't flushed or the reason wasn't told
+-- and 4 if the output wasn't flushed or the reason wasn't written
 abbrev pub exit_status : {E : Type 0} → Result (Unit {0}) Stop → Result (Unit {0}) E → Result (Unit {0}) E → ℕ
 exit_status ended flushed told = if is_ok flushed && is_ok told then status_of ended else 4

@@ -1,4 +1,4 @@
--- What the words of a line say.
+-- The meaning of the words of a line.
 use Rattle.std.specs.Prelude.{◌≡◌, ◌≤◌, ℕ, ℤ, pos, ◌^◌, ◌==◌, ◌&&◌, nat_lt, nat_le, Bool, if◌then◌else◌, List, codes, length, map, take, slice_index, Option, Some, None, Result, Ok, Err}
 use Rattle.std.specs.List.{list_all, slice_split, before_first, after_first}
 use Rattle.std.specs.Option.{option_map, option_and_then}
@@ -71,16 +71,16 @@ ipv6_in digits = of_sixteen (decode_sized digits 16)
 abbrev pub address_in : List ℕ → Option IpAddress
 address_in digits = if length digits == 8 then option_map ip.Ipv4 (ipv4_in digits) else option_map ip.Ipv6 (ipv6_in digits)
 
--- how long a prefix of an address's family is at most
+-- the maximum prefix length of an address's family
 abbrev pub address_len : IpAddress → ℕ
 address_len (ip.Ipv4 address) = 32
 address_len (ip.Ipv6 address) = 128
 
--- an address with the length of its prefix, which these digits spell
+-- an address with the prefix length that these digits spell
 abbrev pub with_len : List ℕ → IpAddress → Option (IpAddress × ℕ)
 with_len digits address = option_map (λ len. (address, len)) (number_up_to (address_len address) digits)
 
--- the address and the prefix length that are parted by a slash
+-- the address and the prefix length that are separated by a slash
 abbrev pub network_in : List ℕ → Option (IpAddress × ℕ)
 network_in word = option_and_then (with_len (after_first is_slash word)) (address_in (before_first is_slash word))
 
@@ -88,7 +88,7 @@ network_in word = option_and_then (with_len (after_first is_slash word)) (addres
 abbrev pub parts_of : IpCidr → Option (IpAddress × ℕ)
 parts_of network = Some (cidr.address_of network, cidr.prefix_len_of network)
 
--- the words, parted by one space, spell these networks in this order
+-- the words, separated by one space, spell these networks in this order
 abbrev pub SpellNetworks : List ℕ → List IpCidr → Type 0
 SpellNetworks words networks = map network_in (slice_split is_space words) ≡ map parts_of networks
 
@@ -96,14 +96,14 @@ SpellNetworks words networks = map network_in (slice_split is_space words) ≡ m
 abbrev pub SpellNoNetworks : List ℕ → Type 0
 SpellNoNetworks words = (networks : List IpCidr) → length networks ≤ 4 → SpellNetworks words networks → ⊥
 
--- a moment and a budget, parted by one space
+-- a moment and a budget, separated by one space
 abbrev pub SpellPoll : List ℕ → ℤ → ℕ → Type 0
 SpellPoll words t budget = (moment_in (before_first is_space words) ≡ Some t) × (budget_in (after_first is_space words) ≡ Some budget)
 
 abbrev pub SpellNoPoll : List ℕ → Type 0
 SpellNoPoll words = (t : ℤ) (budget : ℕ) → SpellPoll words t budget → ⊥
 
--- the word and its values ask for this call
+-- the word and its values mean this call
 abbrev pub SayCall : List ℕ → List ℕ → Call → Type 0
 SayCall word values (Addr networks) = (word ≡ codes "addr") × SpellNetworks values networks.items
 SayCall word values (Gw router) = (word ≡ codes "gw") × (address_in values ≡ Some router)
@@ -114,7 +114,7 @@ SayCall word values Egress = word ≡ codes "egress"
 SayCall word values (Poll t budget) = (word ≡ codes "poll") × SpellPoll values t budget
 SayCall word values (At t) = (word ≡ codes "at") × (moment_in values ≡ Some t)
 
--- the word and its values, with the frame in the front of the buffer, say this
+-- the word and its values, with the frame in the front of the buffer, mean this line
 abbrev pub Say : List ℕ → List ℕ → List ℕ → Line → Type 0
 Say word values buffer (Rx len) = (word ≡ codes "rx") × (decode_of values ≡ Ok (take len buffer))
 Say word values buffer (Udp port) = (word ≡ codes "udp") × (port_in values ≡ Some port)

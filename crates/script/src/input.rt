@@ -4,24 +4,24 @@ ghost use Rattle.std.specs.Prelude.{◌≤◌};
 use arrayvec::ArrayVec;
 use std::io::{self, Read};
 
-/// The longest line, in octets, without its line feed.
+/// The maximum length of a line, in octets, without its line feed.
 pub const MAX_LINE: usize = 4096;
 
-/// A line, its line feed left out.
+/// A line without its line feed.
 pub type LineBuffer = ArrayVec<u8, MAX_LINE>;
 
-/// What came of reading a line.
+/// The result of reading a line.
 #[derive(Clone, Copy, Debug, PartialEq, Eq)]
 pub enum LineRead {
     /// A line, which may be empty.
     Line,
-    /// A line of more than 4096 octets, of which the rest isn't read.
+    /// A line of more than 4,096 octets; the rest of it isn't read.
     TooLong,
     /// There was no further line.
     End,
 }
 
-/// A reader with what was read ahead.
+/// A reader with the octets that were read ahead.
 #[derive(Drop)]
 pub struct Input<R> {
     reader: R,
@@ -33,7 +33,7 @@ pub struct Input<R> {
 }
 
 impl<R: Read + Drop> Input<R> {
-    /// Nothing read ahead.
+    /// Creates an input with nothing read ahead.
     pub fn new(reader: R) -> Input<R> {
         Input {
             reader,
@@ -43,7 +43,7 @@ impl<R: Read + Drop> Input<R> {
         }
     }
 
-    /// The next octet, or none at the end.
+    /// Reads the next octet; `None` at the end.
     fn next_octet(&mut self) -> io::Result<Option<u8>> {
         if self.start == self.end {
             let count = self.reader.read(&mut self.ahead)?;
@@ -58,7 +58,7 @@ impl<R: Read + Drop> Input<R> {
         Ok(Some(octet))
     }
 
-    /// Reads a line in place of what the buffer held. The last one may lack its line feed.
+    /// Reads a line, which replaces what the buffer held. The last line may lack its line feed.
     pub fn read_line(&mut self, line: &mut LineBuffer) -> io::Result<LineRead> {
         line.clear();
         for _ in 0..=MAX_LINE {

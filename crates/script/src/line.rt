@@ -1,4 +1,4 @@
-//! What a line says.
+//! The meaning of a line.
 ghost use Rattle.std.specs.Prelude.{◌≡◌, ◌<◌, ◌≤◌, ◌*◌, ◌==◌, ◌↔◌, length, take, None, Ok, Some, IfNone, IfSome, IsSome, MatchOption};
 ghost use Rattle.std.specs.List.{before_first, after_first, position_or_len};
 ghost use Rattle.hex.specs.Hex.{decode_of};
@@ -18,35 +18,35 @@ use net_base::time::Instant;
 /// Room for the longest frame that fits in a line.
 pub const FRAME_ROOM: usize = 2048;
 
-/// A line's word with its values.
+/// A command with its values.
 #[derive(Drop)]
 pub enum Line {
     /// A frame of this many octets, in the front of the buffer, arrives.
     Rx(usize),
     /// A UDP socket listens at this port.
     Udp(u16),
-    /// The host's interface is called.
+    /// A call of the host's interface.
     Asks(Call),
 }
 
-/// A call of the host's interface. Moments are microseconds from 0 to 2^62.
+/// A call of the host's interface. Moments are in microseconds, from 0 to 2^62.
 #[derive(Drop)]
 pub enum Call {
     /// The host's addresses.
     Addr(ArrayVec<IpCidr, 4>),
-    /// The router of the host's default route of its family.
+    /// The gateway of the host's default route of its family.
     Gw(IpAddress),
     /// The host joins this group.
     Join(IpAddress),
     /// The host leaves this group.
     Leave(IpAddress),
-    /// The host takes one frame, at the moment last given.
+    /// The host receives one frame, at the moment last given.
     Ingress,
-    /// The host sends what its sockets have to send, at the moment last given.
+    /// The host sends what its sockets have queued, at the moment last given.
     Egress,
-    /// The host is polled at this moment, by at most so many calls of each kind.
+    /// The host is polled at this moment, with this budget.
     Poll(Instant, usize),
-    /// The host is asked at this moment when to poll again.
+    /// The host returns when to poll again, as of this moment.
     At(Instant),
 }
 
@@ -56,7 +56,7 @@ impl Call {
     ghost use Rattle.host_machine.specs.Step.{IsTimely};
     ghost use Rattle.script.specs.Commands.{IsTimelyCall, command_of, moment_after};
 
-    /// The moment last given once the call is made: its own, if it gives one, or the one before.
+    /// The moment last given after the call: its own, if it gives one, otherwise the one before.
     pub fn moment(&self, last: Instant) -> Instant
         requires call { IsTimelyCall self.now }
         requires last { IsMoment last }
@@ -74,7 +74,7 @@ impl Call {
         }
     }
 
-    /// The call as a command of the host machine, where that moment was last given.
+    /// The call as a command of the host machine, where `last` is the moment last given.
     pub fn command(self, last: Instant) -> Command
         requires call { IsTimelyCall self }
         requires last { IsMoment last }
@@ -94,7 +94,7 @@ impl Call {
     }
 }
 
-/// The router becomes that of the default route of its family.
+/// The command that sets the gateway of the default route of its family.
 fn default_route_by(router: IpAddress) -> Command
     ensures command { result ≡ commands.default_route_by router }
     ensures timely { IsTimely result }
@@ -105,7 +105,7 @@ fn default_route_by(router: IpAddress) -> Command
     }
 }
 
-/// The line that the text is, if it is one. The frame of `rx` goes into the front of the buffer.
+/// Parses a line; `None` if it isn't a command. The frame of `rx` is written to the front of the buffer.
 pub fn parse(text: &[u8], buffer: &mut [u8; FRAME_ROOM]) -> Option<Line>
     ensures said { IfSome result (Say (before_first is_space text.now) (after_first is_space text.now) buffer.new) }
     ensures timely { IfSome result IsTimelyLine }
@@ -128,7 +128,7 @@ pub fn parse(text: &[u8], buffer: &mut [u8; FRAME_ROOM]) -> Option<Line>
     }
 }
 
-/// The text before the first separator, and what stands behind that, if it is there.
+/// The text before the first separator, and the text after it, if there is one.
 fn split_at(text: &[u8], separator: u8) -> (&[u8], Option<&[u8]>)
     ensures before { result.0.now ≡ before_first (λ octet. octet == separator) text.now }
     ensures after { MatchOption result.1 (position_or_len (λ octet. octet == separator) text.now ≡ length text.now)
@@ -140,8 +140,8 @@ fn split_at(text: &[u8], separator: u8) -> (&[u8], Option<&[u8]>)
     }
 }
 
-/// Writes the octets of hex digits, and says how many they are. `None` exactly if it isn't an even
-/// number of hex digits, two or more, or the buffer holds fewer octets.
+/// Decodes hex digits into octets, and returns the number of octets. `None` exactly if it isn't an even number of hex
+/// digits, at least two, or the buffer is too short.
 fn parse_hex(digits: &[u8], octets: &mut [u8]) -> Option<usize>
     ensures count { IfSome result (λ n. length digits.now ≡ 2 * n) }
     ensures octets { IfSome result (λ n. decode_of digits.now ≡ Ok (take n octets.new)) }
@@ -155,7 +155,7 @@ fn parse_hex(digits: &[u8], octets: &mut [u8]) -> Option<usize>
     Some(count)
 }
 
-/// One to four networks, parted by one space.
+/// Parses one to four networks, separated by one space.
 fn parse_addrs(words: &[u8]) -> Option<ArrayVec<IpCidr, 4>>
     ensures said { IfSome result (λ list. SpellNetworks words.now list.items) }
     ensures none { IfNone result (SpellNoNetworks words.now) }
@@ -173,7 +173,7 @@ fn parse_addrs(words: &[u8]) -> Option<ArrayVec<IpCidr, 4>>
     None
 }
 
-/// An address: of IPv4 by eight hex digits, or of IPv6 by thirty-two.
+/// Parses an address: IPv4 in eight hex digits, or IPv6 in thirty-two.
 fn parse_address(digits: &[u8]) -> Option<IpAddress>
     ensures { result ≡ address_in digits.now }
 {
@@ -184,7 +184,7 @@ fn parse_address(digits: &[u8]) -> Option<IpAddress>
     }
 }
 
-/// An address of eight hex digits.
+/// Parses an IPv4 address in eight hex digits.
 fn parse_ipv4(digits: &[u8]) -> Option<Ipv4Address>
     ensures { result ≡ ipv4_in digits.now }
 {
@@ -194,7 +194,7 @@ fn parse_ipv4(digits: &[u8]) -> Option<Ipv4Address>
     Some(Ipv4Address::new(a, b, c, d))
 }
 
-/// An address of thirty-two hex digits.
+/// Parses an IPv6 address in thirty-two hex digits.
 fn parse_ipv6(digits: &[u8]) -> Option<Ipv6Address>
     ensures { result ≡ ipv6_in digits.now }
 {
@@ -203,7 +203,7 @@ fn parse_ipv6(digits: &[u8]) -> Option<Ipv6Address>
     Some(address_at(&octets, 0))
 }
 
-/// A network: an address, `/` and the length of the prefix, at most 32, or 128 for IPv6.
+/// Parses a network: an address, `/` and the prefix length, at most 32, or 128 for IPv6.
 fn parse_cidr(word: &[u8]) -> Option<IpCidr>
     ensures network { IfSome result (λ network. network_in word.now ≡ parts_of network) }
     ensures none { IfNone result (network_in word.now ≡ None) }
@@ -221,7 +221,7 @@ fn parse_cidr(word: &[u8]) -> Option<IpCidr>
     }
 }
 
-/// A moment and a budget, parted by one space.
+/// Parses a moment and a budget, separated by one space.
 fn parse_poll(words: &[u8]) -> Option<(Instant, usize)>
     ensures said { IfSome result (λ poll. SpellPoll words.now poll.0 poll.1) }
     ensures none { IfNone result (SpellNoPoll words.now) }
@@ -231,7 +231,7 @@ fn parse_poll(words: &[u8]) -> Option<(Instant, usize)>
     Some((parse_moment(moment)?, parse_budget(budget?)?))
 }
 
-/// A moment: at most 2^62 microseconds.
+/// Parses a moment: at most 2^62 microseconds.
 fn parse_moment(digits: &[u8]) -> Option<Instant>
     ensures moment { result ≡ moment_in digits.now }
     ensures timely { IfSome result IsMoment }
@@ -240,14 +240,14 @@ fn parse_moment(digits: &[u8]) -> Option<Instant>
     Some(Instant::from_micros(micros as i64))
 }
 
-/// A budget: at most 2^32 - 1 calls.
+/// Parses a budget: at most 2^32 - 1 calls.
 fn parse_budget(digits: &[u8]) -> Option<usize>
     ensures { result ≡ budget_in digits.now }
 {
     Some(parse_number(digits, u64::from(u32::MAX))? as usize)
 }
 
-/// A port other than 0.
+/// Parses a port other than 0.
 fn parse_port(digits: &[u8]) -> Option<u16>
     ensures { result ≡ port_in digits.now }
 {
@@ -258,7 +258,7 @@ fn parse_port(digits: &[u8]) -> Option<u16>
     Some(port as u16)
 }
 
-/// A number of one or more decimal digits, at most `most`.
+/// Parses a number of one or more decimal digits, at most `most`.
 fn parse_number(digits: &[u8], most: u64) -> Option<u64>
     ensures number { result ≡ number_up_to most digits.now }
     ensures bound { IfSome result (λ number. number ≤ most) }

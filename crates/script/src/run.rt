@@ -25,11 +25,11 @@ use std::io::{self, Read, Write};
 /// Why a script ended early.
 #[derive(Clone, Copy, Debug, PartialEq, Eq)]
 pub enum Stop {
-    /// The line of this number, counted from 1, isn't one.
+    /// The line of this number, counted from 1, is not a command.
     BadLine(u64),
     /// Memory was refused.
     NoMemory,
-    /// The host's interface can't be made.
+    /// The host's interface can't be created.
     NoHost(NewError),
     /// A standard stream failed.
     Failed,
@@ -65,10 +65,14 @@ impl From<io::Error> for Stop {
     }
 }
 
-/// Runs the script that is read, writes what the host sends and answers, and answers the exit
-/// status: 0 at the end of the script, 2 at a bad line, which is named on the error stream, 3 where
-/// memory is refused, and 4 where the host can't be made, each said there, or where a stream fails.
-/// What was written is flushed at each end.
+/// Runs the script from the input, writes what the host sends and answers, and returns the exit status:
+///
+/// - 0 at the end of the script;
+/// - 2 at a bad line, whose number is written to the error stream;
+/// - 3 if memory is refused, which is written there;
+/// - 4 if the host can't be created, with the reason written there, or if a stream fails.
+///
+/// The output is flushed at each end.
 pub fn run<R: Read, W: Write, E: Write>(
     alloc: Global,
     input: &mut R,
@@ -81,8 +85,7 @@ pub fn run<R: Read, W: Write, E: Write>(
     exit_status(ended, flushed, told)
 }
 
-/// The exit status, by how the lines ended, whether the output was flushed, and whether the reason
-/// was told.
+/// The exit status, from how the lines ended, whether the output was flushed, and whether the reason was written.
 fn exit_status(ended: Result<(), Stop>, flushed: io::Result<()>, told: io::Result<()>) -> u8
     ensures { result ≡ spec.exit_status ended flushed told }
 {
@@ -97,7 +100,7 @@ fn exit_status(ended: Result<(), Stop>, flushed: io::Result<()>, told: io::Resul
     }
 }
 
-/// Says on the error stream why the lines ended early, unless a stream failed.
+/// Writes to the error stream why the lines ended early, unless a stream failed.
 pub fn tell<E: Write>(ended: Result<(), Stop>, errors: &mut E) -> io::Result<()> {
     match ended {
         Ok(()) | Err(Stop::Failed) => return Ok(()),
@@ -156,7 +159,7 @@ fn run_line<W: Write>(
     write_line(&answer, output)
 }
 
-/// What is written where a frame arrived, or was too long.
+/// The text for a frame that arrived, or was too long.
 fn pushed(outcome: Result<(), PushError>) -> Result<&'static str, Stop>
     ensures { MatchResult result (λ text. push_text outcome ≡ Some text.now) (λ stop. (stop ≡ why.NoMemory) × (push_text outcome ≡ None)) }
 {
@@ -170,13 +173,13 @@ fn pushed(outcome: Result<(), PushError>) -> Result<&'static str, Stop>
 /// Room for the longest text that an answer is written as.
 const TEXT_ROOM: usize = 32;
 
-/// Room for its line.
+/// Room for that text with its line feed.
 const LINE_ROOM: usize = TEXT_ROOM + 1;
 
-/// What is written for a line, without the end of its line.
+/// The text of a line, without its line feed.
 type Text = ArrayVec<u8, TEXT_ROOM>;
 
-/// A name of at most [`TEXT_ROOM`] octets.
+/// The text of a name of at most [`TEXT_ROOM`] octets.
 fn text(name: &str) -> Text
     ensures { length name.now ≤ TEXT_ROOM → result.items ≡ name.now }
 {
@@ -185,7 +188,7 @@ fn text(name: &str) -> Text
     text
 }
 
-/// What is written for an answer.
+/// The text for an answer.
 fn answer_text(answer: Answer) -> Text
     ensures { result.items ≡ text_of answer }
 {
@@ -220,7 +223,7 @@ fn answer_text(answer: Answer) -> Text
     }
 }
 
-/// The name of why a group isn't joined or left.
+/// The name of a reason for which a group isn't joined or left.
 fn multicast_name(error: MulticastError) -> &'static str
     ensures { result.now ≡ multicast_text error }
 {
@@ -230,7 +233,7 @@ fn multicast_name(error: MulticastError) -> &'static str
     }
 }
 
-/// The name of what an ingress call answers.
+/// The name of the result of an ingress call.
 fn ingress_name(answer: PollIngressSingleResult) -> &'static str
     ensures { result.now ≡ ingress_text answer }
 {
@@ -241,7 +244,7 @@ fn ingress_name(answer: PollIngressSingleResult) -> &'static str
     }
 }
 
-/// The name of what a poll or an egress call answers.
+/// The name of the result of a poll or an egress call.
 fn poll_name(answer: PollResult) -> &'static str
     ensures { result.now ≡ poll_text answer }
 {
@@ -251,7 +254,7 @@ fn poll_name(answer: PollResult) -> &'static str
     }
 }
 
-/// What is written for the instant of the next poll: `at`, and its microseconds.
+/// The text for the instant of the next poll: `at`, and its microseconds.
 fn at_text(instant: Instant) -> Text
     ensures { result.items ≡ next_text (Some instant) }
 {
@@ -262,7 +265,7 @@ fn at_text(instant: Instant) -> Text
     text
 }
 
-/// Writes a text and the end of its line.
+/// Writes a text and a line feed.
 fn write_line<W: Write>(text: &Text, output: &mut W) -> Result<(), Stop>
     ensures { OnOk result (Appends (W.contents output.old) (W.contents output.new) (text_line text.now.items)) }
 {
@@ -273,11 +276,10 @@ fn write_line<W: Write>(text: &Text, output: &mut W) -> Result<(), Stop>
     Ok(())
 }
 
-/// The longest line that a frame is written as.
+/// The length of the longest line for a frame.
 const FRAME_LINE: usize = 2 * FRAME_BUFFER_SIZE + 4;
 
-/// Writes a frame of at most [`FRAME_BUFFER_SIZE`] octets, as every frame sent is: `tx`, and the
-/// octets in hex.
+/// Writes a frame of at most [`FRAME_BUFFER_SIZE`] octets, as every frame sent is: `tx`, and the octets in hex.
 fn write_frame<W: Write>(frame: &[u8], output: &mut W) -> Result<(), Stop>
     ensures { length frame.now ≤ FRAME_BUFFER_SIZE → OnOk result (Appends (W.contents output.old) (W.contents output.new) (frame_line frame.now)) }
 {
@@ -286,7 +288,7 @@ fn write_frame<W: Write>(frame: &[u8], output: &mut W) -> Result<(), Stop>
     Ok(())
 }
 
-/// The line that a frame of at most [`FRAME_BUFFER_SIZE`] octets is written as.
+/// The line for a frame of at most [`FRAME_BUFFER_SIZE`] octets.
 fn line_of(frame: &[u8]) -> ArrayVec<u8, FRAME_LINE>
     ensures { length frame.now ≤ FRAME_BUFFER_SIZE → result.items ≡ frame_line frame.now }
 {

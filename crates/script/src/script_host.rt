@@ -30,13 +30,13 @@ const CAPABILITIES: DeviceCapabilities = DeviceCapabilities {
     checksum: ChecksumCapabilities::ALL,
 };
 
-/// How many packets fit into a queue of a socket.
+/// The maximum number of packets in a queue of a socket.
 const QUEUE_PACKETS: usize = 4;
 
-/// How many octets fit into a queue of a socket.
+/// The maximum number of octets in a queue of a socket.
 const QUEUE_OCTETS: usize = 4096;
 
-/// An owner that leaves the sockets alone.
+/// An owner that does nothing with the sockets.
 #[derive(Drop)]
 pub struct Idle;
 
@@ -48,8 +48,7 @@ impl Owner for Idle {
     fn act(&mut self, _number: usize, _sockets: &mut SocketSet<'_>) {}
 }
 
-/// Adds a UDP socket that listens at a port of any address. Where memory is refused the set stays as
-/// it was.
+/// Adds a UDP socket that listens at a port of any address. If memory is refused, the set stays unchanged.
 fn add_udp(alloc: Global, sockets: &mut SocketSet<'_>, port: u16) -> Result<(), NoMemory>
     ensures ok { OnOk result (sockets.new ≡ set_after_add sockets.old (Udp (listening_socket port))) }
     ensures err { OnErr result (sockets.new ≡ sockets.old) }
@@ -81,7 +80,7 @@ impl<'a> Host<'a> {
     ghost use Rattle.std.specs.Prelude.{◌≡◌};
     ghost use Rattle.script.specs.Commands.{IsTimelyCall, moment_after};
 
-    /// A host without addresses and sockets, unless its device and its address don't go together.
+    /// Creates a host without addresses and sockets, unless its device and its hardware address don't match.
     pub fn new(alloc: Global) -> Result<Host<'a>, NewError>
         ensures { IfErr result (λ error. refusal_of CAPABILITIES HARDWARE_ADDR ≡ Some error) }
     {
@@ -98,7 +97,7 @@ impl<'a> Host<'a> {
         })
     }
 
-    /// Adds a UDP socket that listens at a port of any address. It fails if memory is refused.
+    /// Adds a UDP socket that listens at a port of any address. Fails if memory is refused.
     pub fn add_udp(&mut self, port: u16) -> Result<(), NoMemory> {
         add_udp(self.alloc, &mut self.sockets, port)
     }

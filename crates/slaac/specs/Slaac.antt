@@ -1,4 +1,4 @@
--- What is learnt from router advertisements, and when routers are asked for one (RFC 4861 6.3, RFC 4862 5.5).
+-- What is learnt from router advertisements, and when routers are solicited (RFC 4861 6.3, RFC 4862 5.5).
 use Rattle.std.specs.Prelude.{ℕ, ◌-◌, ◌*◌, ◌<◌, ◌^◌, ◌≤◌, ◌==◌, nat_le, nat_lt, ℤ, pos, ◌+ℤ◌, Bool, true, false, not, ◌&&◌, ◌||◌, if◌then◌else◌}
 use Rattle.std.specs.Prelude.{T, List, [], ◌∷◌, ◌++◌, length, map, filter, Option, Some, None, slice_set}
 use Rattle.std.specs.List.{list_any, position_or_len}
@@ -16,7 +16,8 @@ use Rattle.slaac.specs.declared.slaac.PrefixInfo.{PrefixInfo}
 use Rattle.slaac.specs.declared.slaac.Prefix.{Prefix}
 use Rattle.slaac.specs.declared.slaac.Route.{Route}
 
--- the prefixes and the routers that are known, how far the search for routers is, when the next solicitation may go and how many are left, and whether what is known changed
+-- the known prefixes and routers, the phase of router discovery, when the next solicitation may be sent and how many are left,
+-- and whether what is known changed
 pub record SlaacState : Type 0 where
   pub prefixes : List Prefix
   pub routers : List Route
@@ -25,23 +26,23 @@ pub record SlaacState : Type 0 where
   pub left : ℕ
   pub changed : Bool
 
--- at first nothing is known, and three solicitations may go, the first one at once (RFC 4861 6.3.7, 10)
+-- at first nothing is known, and three solicitations may be sent, the first one immediately (RFC 4861 6.3.7, 10)
 abbrev pub initial_state : SlaacState
 initial_state = record { prefixes = []; routers = []; phase = phase.Start; retry_at = pos 0; left = 3; changed = false }
 
--- whether what has this end holds at t: at its end it is over (RFC 4862 5.5.4)
+-- whether a lifetime with this end includes t; it doesn't include its end (RFC 4862 5.5.4)
 abbrev pub is_before : ℤ → ℤ → Bool
 is_before t end = is_lt (int_cmp t end)
 
--- whether two networks are one, by address and length
+-- whether two networks are equal, by address and length
 abbrev pub is_same : Ipv6Cidr → Ipv6Cidr → Bool
 is_same c d = (c.address.bits == d.address.bits) && (c.prefix_len == d.prefix_len)
 
--- whether an entry is of this prefix
+-- whether an entry is for this prefix
 abbrev pub is_of : Ipv6Cidr → Prefix → Bool
 is_of c p = is_same p.cidr c
 
--- where a prefix stands, or the length
+-- the index of a prefix, or the length
 abbrev pub prefix_index : List Prefix → Ipv6Cidr → ℕ
 prefix_index ps c = position_or_len (is_of c) ps
 
@@ -49,30 +50,30 @@ prefix_index ps c = position_or_len (is_of c) ps
 abbrev pub knows_prefix : List Prefix → Ipv6Cidr → Bool
 knows_prefix ps c = nat_lt (prefix_index ps c) (length ps)
 
--- whether there is no room for another prefix: there is for two
+-- whether there is no room for another prefix: the list holds two
 abbrev pub is_prefix_full : List Prefix → Bool
 is_prefix_full ps = nat_le 2 (length ps)
 
--- whether a prefix holds at t
+-- whether a prefix is valid at t
 abbrev pub is_prefix_valid : ℤ → Prefix → Bool
 is_prefix_valid t p = is_before t p.info.valid_until
 
--- a lifetime of so many seconds, in microseconds; and one that a field of 32 bits holds (RFC 4861 4.6.2)
+-- a lifetime of this many seconds, in microseconds; and one that a field of 32 bits can hold (RFC 4861 4.6.2)
 abbrev pub seconds : ℕ → ℕ
 seconds n = n * 1000000
 
 abbrev pub IsLifetime : ℕ → Type 0
 IsLifetime d = d < seconds (2 ^ 32)
 
--- the ends of a prefix that is advertised at t (RFC 4862 5.5.3)
+-- the ends of the lifetimes of a prefix that is advertised at t (RFC 4862 5.5.3)
 abbrev pub info_from : NdiscPrefixInformation → ℤ → PrefixInfo
 info_from p t = record { preferred_until = t +ℤ pos (seconds p.preferred_lifetime); valid_until = t +ℤ pos (seconds p.valid_lifetime) }
 
--- the ends of a prefix that is withdrawn: it holds no longer
+-- the ends of the lifetimes of a prefix that is withdrawn: it is no longer valid
 abbrev pub info_withdrawn : PrefixInfo
 info_withdrawn = record { preferred_until = pos 0; valid_until = pos 0 }
 
--- the network of an address and a length, where the length is at most 128
+-- the network of an address and a length, if the length is at most 128
 abbrev pub cidr_by : (a : Ipv6Address) (n : ℕ) (b : Bool) → (T b → n ≤ 128) → Option Ipv6Cidr
 cidr_by a n true h = Some (record { address = a; prefix_len = n; in_range = h tt })
 cidr_by a n false h = None
@@ -80,28 +81,30 @@ cidr_by a n false h = None
 abbrev pub cidr_from : Ipv6Address → ℕ → Option Ipv6Cidr
 cidr_from a n = cidr_by a n (nat_le n 128) lit≤
 
--- whether addresses may be made of a prefix: it is for that, its lifetimes are in order, and unless it is withdrawn it isn't link-local (RFC 4862 5.5.3)
+-- whether addresses may be formed from a prefix: its flag says so, its lifetimes are in order, and unless it is withdrawn it
+-- isn't link-local (RFC 4862 5.5.3)
 abbrev pub makes_addresses : NdiscPrefixInformation → Bool
 makes_addresses p = is_valid_prefix_info p && is_for_addresses p.flags && ((p.valid_lifetime == 0) || not (is_link_local p.prefix))
 
--- the prefix of which something is learnt, if any: one of which addresses may be made, of at most 128 bits
+-- the prefix that is learnt, if any: one from which addresses may be formed, of at most 128 bits
 abbrev pub advertised_prefix : NdiscPrefixInformation → Option Ipv6Cidr
 advertised_prefix p = if makes_addresses p then cidr_from p.prefix p.prefix_len else None
 
--- the prefixes where the ends of a known one are these
+-- the prefixes with these lifetimes of a known one
 abbrev pub with_info : List Prefix → Ipv6Cidr → PrefixInfo → List Prefix
 with_info ps c info = slice_set ps (prefix_index ps c) (record { cidr = c; info = info })
 
--- the prefixes with one that holds: a new one goes behind the others, or is ignored where there is no room
+-- the prefixes with a valid one: a new one is appended, or ignored if there is no room
 abbrev pub with_prefix : List Prefix → Ipv6Cidr → PrefixInfo → List Prefix
 with_prefix ps c info =
     if knows_prefix ps c then with_info ps c info else if is_prefix_full ps then ps else ps ++ record { cidr = c; info = info } ∷ []
 
--- the prefixes where one, if known, is withdrawn
+-- the prefixes after one, if known, is withdrawn
 abbrev pub prefixes_after_withdrawal : List Prefix → Ipv6Cidr → List Prefix
 prefixes_after_withdrawal ps c = if knows_prefix ps c then with_info ps c info_withdrawn else ps
 
--- what an advertised prefix leaves of the prefixes: a lifetime of zero withdraws it, another sets its ends (RFC 4862 5.5.3)
+-- the prefixes after an advertisement: a valid lifetime of zero withdraws the prefix, any other sets its lifetimes (RFC 4862
+-- 5.5.3)
 abbrev pub prefixes_by : Option Ipv6Cidr → List Prefix → NdiscPrefixInformation → ℤ → List Prefix
 prefixes_by None ps p t = ps
 prefixes_by (Some c) ps p t = if p.valid_lifetime == 0 then prefixes_after_withdrawal ps c else with_prefix ps c (info_from p t)
@@ -110,7 +113,7 @@ abbrev pub prefixes_after : Option NdiscPrefixInformation → List Prefix → �
 prefixes_after None ps t = ps
 prefixes_after (Some p) ps t = prefixes_by (advertised_prefix p) ps p t
 
--- whether an advertised prefix is news: a known one is withdrawn, or a new one finds room. A renewal is none
+-- whether an advertised prefix is news: a known one is withdrawn, or a new one has room. A renewal is not
 abbrev pub is_prefix_news_by : Option Ipv6Cidr → List Prefix → NdiscPrefixInformation → Bool
 is_prefix_news_by None ps p = false
 is_prefix_news_by (Some c) ps p = if p.valid_lifetime == 0 then knows_prefix ps c else not (knows_prefix ps c || is_prefix_full ps)
@@ -123,15 +126,15 @@ is_prefix_news (Some p) ps = is_prefix_news_by (advertised_prefix p) ps p
 abbrev pub whole : Ipv6Cidr
 whole = record { address = record { bits = 0 }; prefix_len = 0; in_range = lit≤ tt }
 
--- the default route by a router, until its end (RFC 4861 6.3.4)
+-- the default route via a router, until the end of its lifetime (RFC 4861 6.3.4)
 abbrev pub default_route : Ipv6Address → ℤ → Route
 default_route router end = record { cidr = whole; via_router = router; valid_until = end }
 
--- whether a route is the one to a network by a router
+-- whether a route is the one to a network via a router
 abbrev pub is_same_route : Ipv6Cidr → Ipv6Address → Route → Bool
 is_same_route c router r = is_same r.cidr c && (r.via_router.bits == router.bits)
 
--- where the default route by a router stands, or the length
+-- the index of the default route via a router, or the length
 abbrev pub router_index : List Route → Ipv6Address → ℕ
 router_index rs router = position_or_len (is_same_route whole router) rs
 
@@ -143,40 +146,41 @@ knows_router rs router = nat_lt (router_index rs router) (length rs)
 abbrev pub is_router_full : List Route → Bool
 is_router_full rs = nat_le 4 (length rs)
 
--- whether a router may be taken at t
+-- whether a router is valid at t
 abbrev pub is_route_valid : ℤ → Route → Bool
 is_route_valid t r = is_before t r.valid_until
 
--- the routers where the end of a known one is this
+-- the routers with this end of a known one's lifetime
 abbrev pub with_end : List Route → Ipv6Address → ℤ → List Route
 with_end rs router end = slice_set rs (router_index rs router) (default_route router end)
 
--- the routers with one that may be taken: a new one goes behind the others, if there is room
+-- the routers with a valid one: a new one is appended, if there is room
 abbrev pub with_router : List Route → Ipv6Address → ℤ → List Route
 with_router rs router end =
     if knows_router rs router then with_end rs router end else if is_router_full rs then rs else rs ++ default_route router end ∷ []
 
--- the routers where one, if known, may not be taken any longer
+-- the routers after one, if known, is withdrawn
 abbrev pub without_router : List Route → Ipv6Address → List Route
 without_router rs router = if knows_router rs router then with_end rs router (pos 0) else rs
 
--- what an advertisement leaves of the routers: its router may be taken for this lifetime, and with a lifetime of zero no longer (RFC 4861 6.3.4)
+-- the routers after an advertisement: its router is valid for this lifetime; a lifetime of zero withdraws it (RFC 4861 6.3.4)
 abbrev pub routers_after : List Route → Ipv6Address → ℕ → ℤ → List Route
 routers_after rs router lifetime t =
     if lifetime == 0 then without_router rs router else with_router rs router (t +ℤ pos lifetime)
 
--- whether the router of an advertisement is news: a known one gives up, or a new one is there, be there room or not
+-- whether the router of an advertisement is news: a known one is withdrawn, or a new one is there, whether there is room for it
+-- or not
 abbrev pub is_router_news : List Route → Ipv6Address → ℕ → Bool
 is_router_news rs router lifetime = if lifetime == 0 then knows_router rs router else not (knows_router rs router)
 
--- an answer ends the search for routers (RFC 4861 6.3.7)
+-- an answer ends router discovery (RFC 4861 6.3.7)
 abbrev pub phase_after_answer : Phase → Phase
 phase_after_answer phase.Start = phase.Start
 phase_after_answer phase.Discovering = phase.Maintaining
 phase_after_answer phase.Maintaining = phase.Maintaining
 phase_after_answer phase.None = phase.None
 
--- what an advertisement leaves that a router sent, with the lifetime of its route and maybe a prefix, at t
+-- the state after an advertisement from a router, with the lifetime of its route and perhaps a prefix, at t
 abbrev pub slaac_after_message : SlaacState → Ipv6Address → ℕ → Option NdiscPrefixInformation → ℤ → SlaacState
 slaac_after_message s router lifetime prefix t = record {
   prefixes = prefixes_after prefix s.prefixes t;
@@ -187,56 +191,56 @@ slaac_after_message s router lifetime prefix t = record {
   changed = s.changed || is_prefix_news prefix s.prefixes || is_router_news s.routers router lifetime;
 }
 
--- whether something that is known has ended by t
+-- whether something that is known has expired by t
 abbrev pub has_ended : SlaacState → ℤ → Bool
 has_ended s t = list_any (λ p. not (is_prefix_valid t p)) s.prefixes || list_any (λ r. not (is_route_valid t r)) s.routers
 
--- whether addresses and routes have to be brought into line: what is known changed, or some of it has ended
+-- whether a sync of addresses and routes is required: what is known changed, or some of it has expired
 abbrev pub sync_required : SlaacState → ℤ → Bool
 sync_required s t = s.changed || has_ended s t
 
--- what is left once they are in line: what holds at t, in its order
+-- the state after a sync: what is valid at t, in its order
 abbrev pub slaac_after_update : SlaacState → ℤ → SlaacState
 slaac_after_update s t = record s { prefixes = filter (is_prefix_valid t) s.prefixes; routers = filter (is_route_valid t) s.routers; changed = false }
 
--- whether routers are searched for
+-- whether router discovery goes on
 abbrev pub is_searching : Phase → Bool
 is_searching phase.Start = true
 is_searching phase.Discovering = true
 is_searching phase.Maintaining = false
 is_searching phase.None = false
 
--- whether routers are searched for, and the time of the next solicitation has come
+-- whether router discovery goes on, and the time of the next solicitation has come
 abbrev pub is_its_time : SlaacState → ℤ → Bool
 is_its_time s t = is_searching s.phase && is_le (int_cmp s.retry_at t)
 
--- whether a solicitation is to go at t (RFC 4861 6.3.7)
+-- whether a solicitation has to be sent at t (RFC 4861 6.3.7)
 abbrev pub rs_required : SlaacState → ℤ → Bool
 rs_required s t = is_its_time s t && nat_lt 0 s.left
 
--- a solicitation went at t: one less is left, and the next may go after 4 s (RFC 4861 6.3.7, 10)
+-- a solicitation was sent at t: one less is left, and the next may be sent 4 s later (RFC 4861 6.3.7, 10)
 abbrev pub slaac_after_sent : SlaacState → ℤ → SlaacState
 slaac_after_sent s t = record s { phase = phase.Discovering; retry_at = t +ℤ pos 4000000; left = s.left - 1 }
 
--- what is left where a solicitation went at t. Where its time hadn't come nothing changes, and where none was left the search ends
+-- the state after a solicitation at t. If it wasn't due yet nothing changes; if none was left, discovery ends
 abbrev pub rs_sent : SlaacState → ℤ → SlaacState
 rs_sent s t = if is_its_time s t then if s.left == 0 then record s { phase = phase.None } else slaac_after_sent s t else s
 
--- when the next solicitation may go, if one may
+-- when the next solicitation may be sent, if one may
 abbrev pub retry_at : SlaacState → Option ℤ
 retry_at s = if is_searching s.phase && nat_lt 0 s.left then Some s.retry_at else None
 
--- the ends behind t of what is known
+-- the expiries after t of what is known
 abbrev pub prefix_ends : List Prefix → ℤ → List ℤ
 prefix_ends ps t = filter (is_before t) (map (λ (p : Prefix). p.info.valid_until) ps)
 
 abbrev pub route_ends : List Route → ℤ → List ℤ
 route_ends rs t = filter (is_before t) (map (λ (r : Route). r.valid_until) rs)
 
--- the least of them, if there are any
+-- the earliest of them, if there are any
 abbrev pub end_at : SlaacState → ℤ → Option ℤ
 end_at s t = earlier_of (earliest_of (prefix_ends s.prefixes t)) (earliest_of (route_ends s.routers t))
 
--- when something is to be done next, as it is seen at t
+-- when there is work next, as seen at t
 abbrev pub poll_at : SlaacState → ℤ → Option ℤ
 poll_at s t = earlier_of (retry_at s) (end_at s t)

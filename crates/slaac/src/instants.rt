@@ -1,10 +1,10 @@
-//! The sooner of instants.
+//! The earlier of instants.
 ghost use Rattle.std.specs.Prelude.{◌≡◌};
 ghost use Rattle.slaac.specs.Instants as spec;
 
 use net_base::time::Instant;
 
-/// The sooner of two instants, where none is later than each.
+/// The earlier of two instants; `None` means never.
 pub fn earlier_of(a: Option<Instant>, b: Option<Instant>) -> Option<Instant>
     ensures { result ≡ spec.earlier_of a b }
 {

@@ -1,5 +1,5 @@
-//! What a host learnt from router advertisements (RFC 4861 6.3, RFC 4862 5.5), when it asks routers for
-//! one, and how its addresses and routes follow what it learnt.
+//! What a host learns from router advertisements (RFC 4861 6.3, RFC 4862 5.5), when it solicits routers, and how its
+//! addresses and routes follow what it learnt.
 #![tactic(auto)]
 
 pub mod instants;

@@ -1,5 +1,5 @@
-//! What a host learnt from router advertisements (RFC 4861 6.3.4, RFC 4862 5.5.3), until when it
-//! holds, and when the host asks routers for an advertisement (RFC 4861 6.3.7).
+//! What a host learns from router advertisements (RFC 4861 6.3.4, RFC 4862 5.5.3), until when that is valid, and when
+//! the host solicits routers (RFC 4861 6.3.7).
 ghost use Rattle.std.specs.Prelude.{◌≡◌, ◌+◌, ◌<◌, ◌≤◌, ◌||◌, Bool, pos, true, false, not, length};
 ghost use Rattle.std.specs.List.{list_any, filter};
 ghost use Rattle.net_base.specs.Time.{IsMoment};
@@ -18,42 +18,42 @@ use ip_address::{Ipv6Address, Ipv6Cidr};
 use net_base::time::{Duration, Instant};
 use std::marker::Model;
 
-/// How many prefixes are kept.
+/// The maximum number of prefixes kept.
 pub const IFACE_MAX_PREFIX_COUNT: usize = 2;
 
-/// How many routers are kept.
+/// The maximum number of routers kept.
 pub const IFACE_MAX_ROUTE_COUNT: usize = 4;
 
-/// How many solicitations are sent (RFC 4861 10).
+/// The maximum number of router solicitations sent (RFC 4861 10).
 pub const MAX_RTR_SOLICITATIONS: u8 = 3;
 
-/// How long after one solicitation the next may go: 4 s (RFC 4861 10).
+/// The time between two router solicitations: 4 s (RFC 4861 10).
 pub const RTR_SOLICITATION_INTERVAL: Duration = Duration { micros: 4_000_000 };
 
-/// How far the search for routers is.
+/// The phase of router discovery.
 #[derive(Clone, Copy, Debug, PartialEq, Eq)]
 pub enum Phase {
     /// No solicitation was sent yet.
     Start,
-    /// One was sent, and no advertisement came since.
+    /// A solicitation was sent, and no advertisement received since.
     Discovering,
-    /// An advertisement came after one.
+    /// An advertisement was received after a solicitation.
     Maintaining,
-    /// All were sent, and none was answered.
+    /// All solicitations were sent, and none was answered.
     None,
 }
 
-/// Until when a prefix may be used.
+/// The lifetimes of a prefix, as instants.
 #[derive(Clone, Copy, Debug, PartialEq, Eq)]
 pub struct PrefixInfo {
-    /// From then on its addresses aren't used for what is new.
+    /// From then on its addresses aren't used for new communication.
     pub preferred_until: Instant,
-    /// From then on its addresses aren't used.
+    /// From then on its addresses aren't used at all.
     pub valid_until: Instant,
 }
 
 impl PrefixInfo {
-    /// The ends of a prefix that is advertised now.
+    /// The instants at which the lifetimes of a prefix end that is advertised now.
     pub fn from_prefix(prefix: &NdiscPrefixInformation, now: Instant) -> PrefixInfo
         requires moment { IsMoment now }
         ensures { result ≡ info_from prefix.now now }
@@ -64,7 +64,7 @@ impl PrefixInfo {
         }
     }
 
-    // The ends of a prefix that is withdrawn.
+    // The lifetimes of a prefix that is withdrawn.
     fn withdrawn() -> PrefixInfo
         ensures { result ≡ info_withdrawn }
     {
@@ -74,7 +74,7 @@ impl PrefixInfo {
         }
     }
 
-    /// Whether the prefix is valid: its end is still to come.
+    /// Whether the prefix is valid: its valid lifetime has not ended.
     pub fn is_valid(&self, now: Instant) -> bool
         ensures { result ≡ is_before now self.now.valid_until }
     {
@@ -82,7 +82,7 @@ impl PrefixInfo {
     }
 }
 
-/// A prefix of which the host makes addresses, and until when.
+/// A prefix from which the host forms addresses, and its lifetimes.
 #[derive(Clone, Copy, Debug, PartialEq, Eq)]
 pub struct Prefix {
     /// The prefix as it was received, with its length.
@@ -101,19 +101,19 @@ impl Default for Prefix {
     }
 }
 
-/// A route by a router that advertised itself.
+/// A route via a router that advertised itself.
 #[derive(Clone, Copy, Debug, PartialEq, Eq)]
 pub struct Route {
-    /// The network that it leads to: ::/0.
+    /// The network of the route: ::/0.
     pub cidr: Ipv6Cidr,
     /// The router, by the source of its advertisement.
     pub via_router: Ipv6Address,
-    /// From then on it isn't taken.
+    /// From then on the route isn't used.
     pub valid_until: Instant,
 }
 
 impl Route {
-    // The default route by a router, until an end.
+    // The default route via a router, until the end of its lifetime.
     fn by_default(via_router: Ipv6Address, valid_until: Instant) -> Route
         ensures { result ≡ default_route via_router valid_until }
     {
@@ -124,21 +124,21 @@ impl Route {
         }
     }
 
-    /// Whether it is the route to a network by a router.
+    /// Whether this is the route to a network via a router.
     pub fn same_route(&self, cidr: &Ipv6Cidr, via_router: &Ipv6Address) -> bool
         ensures { result ≡ spec.is_same_route cidr.now via_router.now self.now }
     {
         is_same(&self.cidr, cidr) && self.via_router.bits == via_router.bits
     }
 
-    // Whether it is the default route by a router.
+    // Whether it is the default route via a router.
     fn is_by(&self, via_router: &Ipv6Address) -> bool
         ensures { result ≡ spec.is_same_route whole via_router.now self.now }
     {
         self.same_route(&whole(), via_router)
     }
 
-    /// Whether the route is valid: its end is still to come.
+    /// Whether the route is valid: its lifetime has not ended.
     pub fn is_valid(&self, now: Instant) -> bool
         ensures { result ≡ is_route_valid now self.now }
     {
@@ -154,8 +154,8 @@ impl Default for Route {
     }
 }
 
-/// What was learnt from router advertisements: at most two prefixes and four routers, each until its
-/// end, and how far the search for routers is.
+/// What was learnt from router advertisements: at most two prefixes and four routers with their lifetimes, and the
+/// phase of router discovery.
 ///
 /// In contracts it is the record of these.
 #[derive(Drop)]
@@ -177,7 +177,7 @@ impl Model for Slaac {
 }
 
 impl Slaac {
-    /// Nothing is known, and three solicitations may be sent, the first one from moment 0 on.
+    /// The initial state: nothing is known, and three solicitations may be sent, the first from moment 0 on.
     pub fn new() -> Slaac
         ensures { result ≡ initial_state }
     {
@@ -191,15 +191,15 @@ impl Slaac {
         }
     }
 
-    /// Whether what is known changed since the last [`Slaac::update_slaac_state`]: a prefix or router
-    /// came or was withdrawn. A renewal is no change, and neither is an end that came.
+    /// Whether what is known changed since the last [`Slaac::update_slaac_state`]: a prefix was added, a new router was
+    /// advertised, or one of them was withdrawn. A renewal is no change, and neither is an expiry.
     pub fn has_ra_update(&self) -> bool
         ensures { result ≡ self.now.changed }
     {
         self.sync_required
     }
 
-    /// The prefixes that are known, the ended ones among them.
+    /// The known prefixes, including expired ones.
     pub fn prefix(&self) -> &[Prefix]
         ensures value { result.now ≡ self.now.prefixes }
         ensures fits { length result.now ≤ IFACE_MAX_PREFIX_COUNT }
@@ -207,7 +207,7 @@ impl Slaac {
         self.prefix.as_slice()
     }
 
-    /// The routes that are known, the ended ones among them, in the order in which they came.
+    /// The known routes, including expired ones, in the order in which they were learnt.
     pub fn routes(&self) -> &[Route]
         ensures value { result.now ≡ self.now.routers }
         ensures fits { length result.now ≤ IFACE_MAX_ROUTE_COUNT }
@@ -215,7 +215,7 @@ impl Slaac {
         self.routes.as_slice()
     }
 
-    /// How far the search for routers is.
+    /// The phase of router discovery.
     pub fn phase(&self) -> Phase
         ensures { result ≡ self.now.phase }
     {
@@ -229,8 +229,8 @@ impl Slaac {
         self.num_solicitations
     }
 
-    /// Takes in an advertisement: the router that sent it, for how long that may be taken as default
-    /// router, and a prefix, if it names one. The lifetime has to be below 2^32 s.
+    /// Processes a router advertisement: the router that sent it, its lifetime as a default router, and a prefix, if it
+    /// carries one. The lifetime must be below 2^32 s.
     pub fn process_advertisement(
         &mut self,
         source: &Ipv6Address,
@@ -248,8 +248,8 @@ impl Slaac {
         self.phase = phase_after_answer(self.phase);
     }
 
-    /// Whether addresses and routes have to be brought into line with what is known: that changed, or
-    /// some of it has ended.
+    /// Whether addresses and routes have to be synchronized with what is known: that changed, or some of it has
+    /// expired.
     pub fn sync_required(&self, now: Instant) -> bool
         ensures { result ≡ spec.sync_required self.now now }
     {
@@ -258,7 +258,7 @@ impl Slaac {
             || has_ended_route(self.routes.as_slice(), now)
     }
 
-    /// Addresses and routes are in line: forgets what has ended.
+    /// Ends a sync of addresses and routes: forgets what has expired.
     pub fn update_slaac_state(&mut self, now: Instant)
         ensures { self.new ≡ slaac_after_update self.old now }
     {
@@ -267,22 +267,22 @@ impl Slaac {
         self.sync_required = false;
     }
 
-    // Whether routers are searched for, and the time of the next solicitation has come.
+    // Whether router discovery goes on, and the time of the next solicitation has come.
     fn is_its_time(&self, now: Instant) -> bool
         ensures { result ≡ spec.is_its_time self.now now }
     {
         is_searching(self.phase) && self.retry_rs_at <= now
     }
 
-    /// Whether a solicitation is to be sent.
+    /// Whether a router solicitation has to be sent.
     pub fn rs_required(&self, now: Instant) -> bool
         ensures { result ≡ spec.rs_required self.now now }
     {
         self.is_its_time(now) && self.num_solicitations > 0
     }
 
-    /// A solicitation was sent: one less is left, and the next may go 4 s later. Where its time hadn't
-    /// come nothing changes, and where none was left the search ends.
+    /// Records that a router solicitation was sent: one less is left, and the next may be sent 4 s later. Nothing
+    /// changes if it wasn't due yet; if none was left, discovery ends.
     pub fn rs_sent(&mut self, now: Instant)
         requires moment { IsMoment now }
         ensures { self.new ≡ spec.rs_sent self.old now }
@@ -299,15 +299,15 @@ impl Slaac {
         self.retry_rs_at = now + RTR_SOLICITATION_INTERVAL;
     }
 
-    /// When something is to be done next: the least of the time of the next solicitation, where one
-    /// may be sent, and of the ends behind now. `None` exactly if there is none of these.
+    /// When there is work next: the earliest of the time of the next solicitation, if one may be sent, and of the
+    /// expiries after now. `None` exactly if there is none of these.
     pub fn poll_at(&self, now: Instant) -> Option<Instant>
         ensures { result ≡ spec.poll_at self.now now }
     {
         earlier_of(self.retry_at(), self.end_at(now))
     }
 
-    /// The least end behind now of what is known, if there is one.
+    /// The earliest expiry after now of what is known, if any.
     pub fn end_at(&self, now: Instant) -> Option<Instant>
         ensures { result ≡ spec.end_at self.now now }
     {
@@ -337,14 +337,14 @@ fn whole() -> Ipv6Cidr
     }
 }
 
-// Whether two networks are one, by address and length.
+// Whether two networks are equal, by address and length.
 pub(crate) fn is_same(a: &Ipv6Cidr, b: &Ipv6Cidr) -> bool
     ensures { result ≡ is_same a.now b.now }
 {
     a.address.bits == b.address.bits && a.prefix_len == b.prefix_len
 }
 
-// Whether routers are searched for.
+// Whether router discovery goes on.
 fn is_searching(phase: Phase) -> bool
     ensures { result ≡ spec.is_searching phase }
 {
@@ -354,7 +354,7 @@ fn is_searching(phase: Phase) -> bool
     }
 }
 
-// Where the search is after an advertisement.
+// The phase of router discovery after an advertisement.
 fn phase_after_answer(phase: Phase) -> Phase
     ensures { result ≡ spec.phase_after_answer phase }
 {
@@ -365,7 +365,7 @@ fn phase_after_answer(phase: Phase) -> Phase
     }
 }
 
-// The network of an address and a length, where the length is at most 128.
+// The network of an address and a length, if the length is at most 128.
 fn cidr_from(address: Ipv6Address, prefix_len: u8) -> Option<Ipv6Cidr>
     ensures { result ≡ spec.cidr_from address prefix_len }
 {
@@ -378,7 +378,7 @@ fn cidr_from(address: Ipv6Address, prefix_len: u8) -> Option<Ipv6Cidr>
     })
 }
 
-// The prefix of which something is learnt, if any.
+// The prefix that is learnt, if any.
 fn advertised_prefix(prefix: &NdiscPrefixInformation) -> Option<Ipv6Cidr>
     ensures { result ≡ advertised_prefix prefix.now }
 {
@@ -391,7 +391,7 @@ fn advertised_prefix(prefix: &NdiscPrefixInformation) -> Option<Ipv6Cidr>
     cidr_from(prefix.prefix, prefix.prefix_len)
 }
 
-// Where a prefix stands, or the length.
+// The index of a prefix, or the length.
 fn prefix_index(prefixes: &[Prefix], cidr: &Ipv6Cidr) -> usize
     ensures { result ≡ prefix_index prefixes.now cidr.now }
 {
@@ -403,7 +403,7 @@ fn prefix_index(prefixes: &[Prefix], cidr: &Ipv6Cidr) -> usize
     prefixes.len()
 }
 
-// Where the default route by a router stands, or the length.
+// The index of the default route via a router, or the length.
 fn router_index(routes: &[Route], router: &Ipv6Address) -> usize
     ensures { result ≡ router_index routes.now router.now }
 {
@@ -415,7 +415,7 @@ fn router_index(routes: &[Route], router: &Ipv6Address) -> usize
     routes.len()
 }
 
-// A prefix that holds: sets its ends. Gives whether it is new and found room.
+// Sets the lifetimes of a valid prefix. Returns whether it is new and had room.
 fn add_prefix(
     prefixes: &mut ArrayVec<Prefix, IFACE_MAX_PREFIX_COUNT>,
     cidr: Ipv6Cidr,
@@ -436,7 +436,7 @@ fn add_prefix(
     true
 }
 
-// A prefix that is withdrawn. Gives whether it was known.
+// Withdraws a prefix. Returns whether it was known.
 fn expire_prefix(prefixes: &mut ArrayVec<Prefix, IFACE_MAX_PREFIX_COUNT>, cidr: Ipv6Cidr) -> bool
     ensures prefixes { prefixes.new.items ≡ prefixes_after_withdrawal prefixes.old.items cidr }
     ensures news { result ≡ knows_prefix prefixes.old.items cidr }
@@ -452,7 +452,7 @@ fn expire_prefix(prefixes: &mut ArrayVec<Prefix, IFACE_MAX_PREFIX_COUNT>, cidr: 
     false
 }
 
-// What an advertisement says of a prefix, if it does. Gives whether that is news.
+// Processes the prefix of an advertisement, if any. Returns whether that is news.
 fn process_prefix(
     prefixes: &mut ArrayVec<Prefix, IFACE_MAX_PREFIX_COUNT>,
     prefix: Option<NdiscPrefixInformation>,
@@ -474,7 +474,7 @@ fn process_prefix(
     expire_prefix(prefixes, cidr)
 }
 
-// A router that may be taken: sets its end. Gives whether it is new, be there room or not.
+// Sets the lifetime of a valid router. Returns whether it is new, whether there is room for it or not.
 fn add_route(
     routes: &mut ArrayVec<Route, IFACE_MAX_ROUTE_COUNT>,
     router: &Ipv6Address,
@@ -494,7 +494,7 @@ fn add_route(
     true
 }
 
-// A router that isn't to be taken any longer. Gives whether it was known.
+// Withdraws a router. Returns whether it was known.
 fn expire_route(routes: &mut ArrayVec<Route, IFACE_MAX_ROUTE_COUNT>, router: &Ipv6Address) -> bool
     ensures routes { routes.new.items ≡ spec.without_router routes.old.items router.now }
     ensures news { result ≡ knows_router routes.old.items router.now }
@@ -507,7 +507,7 @@ fn expire_route(routes: &mut ArrayVec<Route, IFACE_MAX_ROUTE_COUNT>, router: &Ip
     false
 }
 
-// What an advertisement says of its router. Gives whether that is news.
+// Processes the router of an advertisement. Returns whether that is news.
 fn process_router(
     routes: &mut ArrayVec<Route, IFACE_MAX_ROUTE_COUNT>,
     router: &Ipv6Address,
@@ -525,7 +525,7 @@ fn process_router(
     expire_route(routes, router)
 }
 
-// Whether a prefix has ended.
+// Whether a prefix has expired.
 fn has_ended_prefix(prefixes: &[Prefix], now: Instant) -> bool
     ensures { result ≡ list_any (λ p. not (is_prefix_valid now p)) prefixes.now }
 {
@@ -537,7 +537,7 @@ fn has_ended_prefix(prefixes: &[Prefix], now: Instant) -> bool
     false
 }
 
-// Whether a route has ended.
+// Whether a route has expired.
 fn has_ended_route(routes: &[Route], now: Instant) -> bool
     ensures { result ≡ list_any (λ r. not (is_route_valid now r)) routes.now }
 {
@@ -549,7 +549,7 @@ fn has_ended_route(routes: &[Route], now: Instant) -> bool
     false
 }
 
-// The prefixes that are valid. Of two the one behind the other moves up.
+// The prefixes that are valid. If the first of two is removed, the second moves up.
 fn valid_prefixes(prefixes: &[Prefix], now: Instant) -> ArrayVec<Prefix, IFACE_MAX_PREFIX_COUNT>
     requires { length prefixes.now ≤ IFACE_MAX_PREFIX_COUNT }
     ensures { result.items ≡ filter (is_prefix_valid now) prefixes.now }
@@ -577,7 +577,7 @@ fn valid_routes(routes: &[Route], now: Instant) -> ArrayVec<Route, IFACE_MAX_ROU
     valid
 }
 
-// The least end behind now of a prefix, if there is one.
+// The earliest expiry after now of a prefix, if any.
 fn least_prefix_end(prefixes: &[Prefix], now: Instant) -> Option<Instant>
     ensures { result ≡ earliest_of (prefix_ends prefixes.now now) }
 {
@@ -590,7 +590,7 @@ fn least_prefix_end(prefixes: &[Prefix], now: Instant) -> Option<Instant>
     least
 }
 
-// The least end behind now of a route, if there is one.
+// The earliest expiry after now of a route, if any.
 fn least_route_end(routes: &[Route], now: Instant) -> Option<Instant>
     ensures { result ≡ earliest_of (route_ends routes.now now) }
 {

@@ -1,5 +1,4 @@
-//! How the addresses and the routes of an interface follow what was learnt of prefixes and routers (RFC
-//! 4862 5.5.3, RFC 4861 6.3.4).
+//! How addresses and routes of an interface follow the prefixes and routers learnt (RFC 4862 5.5.3, RFC 4861 6.3.4).
 ghost use Rattle.std.specs.Prelude.{◌≡◌, ◌≤◌, ◌&&◌, length, not, filter};
 ghost use Rattle.std.specs.List.{list_any};
 ghost use Rattle.iface_tables.specs.declared.route.Route.{Route as StoredRoute};
@@ -13,12 +12,12 @@ use iface_tables::route as table;
 use ip_address::{HardwareAddress, IpAddress, IpCidr, Ipv6Cidr};
 use net_base::time::Instant;
 
-/// How many addresses an interface has at most.
+/// The maximum number of addresses of an interface.
 const IFACE_MAX_ADDR_COUNT: usize = 4;
 
-/// The addresses of an interface in line with the prefixes that are known: behind the others, in order,
-/// that of each prefix that is valid, where it is one host's, isn't there and there is room; and without
-/// those of the prefixes that have ended. Addresses are told apart by their lengths too.
+/// The addresses of an interface after a sync with the known prefixes. The address formed from each valid prefix is
+/// appended in order, if it is unicast, isn't there yet and there is room. Those of expired prefixes are removed.
+/// Addresses with different prefix lengths are different.
 pub fn synced_addrs(
     own: &[IpCidr],
     hardware_addr: &HardwareAddress,
@@ -32,9 +31,8 @@ pub fn synced_addrs(
     without_ended(all.as_slice(), hardware_addr, prefixes, now)
 }
 
-/// The routes of an interface in line with the routers that are known: without those of routers that have
-/// ended; and behind the others, in order, that by each router that may be taken, where it isn't there and
-/// there is room. Such a route has no end of its own.
+/// The routes of an interface after a sync with the known routers. Those of expired routers are removed. That via each
+/// valid router is appended in order, if it isn't there yet and there is room. Such a route has no expiry of its own.
 pub fn synced_routes(
     stored: &[table::Route],
     routes: &[Route],
@@ -48,7 +46,7 @@ pub fn synced_routes(
     all
 }
 
-// The addresses, and that of each valid prefix.
+// The addresses, and the one formed from each valid prefix.
 fn with_addrs(
     own: &[IpCidr],
     hardware_addr: &HardwareAddress,
@@ -64,7 +62,7 @@ fn with_addrs(
     all
 }
 
-// Adds the address of each valid prefix.
+// Adds the address formed from each valid prefix.
 fn add_addrs(
     own: &mut ArrayVec<IpCidr, IFACE_MAX_ADDR_COUNT>,
     hardware_addr: &HardwareAddress,
@@ -83,7 +81,7 @@ fn add_addrs(
     }
 }
 
-// Adds an address, if it is one host's, isn't there and there is room.
+// Adds an address, if it is unicast, isn't there and there is room.
 fn add_addr(own: &mut ArrayVec<IpCidr, IFACE_MAX_ADDR_COUNT>, address: Option<Ipv6Cidr>)
     ensures { own.new.items ≡ spec.with_addr address own.old.items }
 {
@@ -101,7 +99,7 @@ fn has_cidr(own: &[IpCidr], cidr: &Ipv6Cidr) -> bool
     own.iter().any(|other| is_cidr(other, cidr))
 }
 
-// Whether it is this network of IPv6, by address and length.
+// Whether a network equals this IPv6 one, by address and length.
 fn is_cidr(other: &IpCidr, cidr: &Ipv6Cidr) -> bool
     ensures { result ≡ spec.is_cidr cidr.now other.now }
 {
@@ -111,7 +109,7 @@ fn is_cidr(other: &IpCidr, cidr: &Ipv6Cidr) -> bool
     }
 }
 
-// The addresses that aren't those of prefixes that have ended.
+// The addresses without those formed from prefixes that have expired.
 fn without_ended(
     own: &[IpCidr],
     hardware_addr: &HardwareAddress,
@@ -130,7 +128,7 @@ fn without_ended(
     left
 }
 
-// Whether an address is that of a prefix that has ended.
+// Whether an address is one formed from a prefix that has expired.
 fn has_ended(
     cidr: &IpCidr,
     hardware_addr: &HardwareAddress,
@@ -145,7 +143,7 @@ fn has_ended(
     }
 }
 
-// The same of an address of IPv6.
+// Whether an IPv6 address is one formed from a prefix that has expired.
 fn is_of_ended(
     cidr: &Ipv6Cidr,
     hardware_addr: &HardwareAddress,
@@ -167,7 +165,7 @@ fn is_of_ended(
     false
 }
 
-// Whether an address is the one that was made.
+// Whether an address is the one that was formed.
 fn is_made(made: Option<Ipv6Cidr>, cidr: &Ipv6Cidr) -> bool
     ensures { result ≡ spec.is_made made cidr.now }
 {
@@ -177,7 +175,7 @@ fn is_made(made: Option<Ipv6Cidr>, cidr: &Ipv6Cidr) -> bool
     }
 }
 
-// The stored routes that haven't ended.
+// The stored routes that haven't expired.
 fn unended_routes(
     stored: &[table::Route],
     routes: &[Route],
@@ -195,7 +193,7 @@ fn unended_routes(
     left
 }
 
-// Whether a stored route is one that has ended.
+// Whether a stored route is one that has expired.
 fn is_ended_route(stored: &table::Route, routes: &[Route], now: Instant) -> bool
     ensures { result ≡ spec.is_ended_route now routes.now stored.now }
 {
@@ -207,7 +205,7 @@ fn is_ended_route(stored: &table::Route, routes: &[Route], now: Instant) -> bool
     false
 }
 
-// Whether a stored route goes to the same network by the same router.
+// Whether a stored route is to the same network via the same router.
 fn is_route(route: &Route, stored: &table::Route) -> bool
     ensures { result ≡ spec.is_route route.now stored.now }
 {
@@ -217,7 +215,7 @@ fn is_route(route: &Route, stored: &table::Route) -> bool
     }
 }
 
-// Adds the route by each router that may be taken.
+// Adds the route via each valid router.
 fn add_routes(stored: &mut ArrayVec<table::Route, 4>, routes: &[Route], now: Instant)
     ensures { stored.new.items ≡ spec.with_routes now routes.now stored.old.items }
 {
@@ -243,7 +241,7 @@ fn add_route(stored: &mut ArrayVec<table::Route, 4>, route: &Route)
     });
 }
 
-// Whether a route to the same network by the same router is stored.
+// Whether a route to the same network via the same router is stored.
 fn has_route(stored: &[table::Route], route: &Route) -> bool
     ensures { result ≡ list_any (spec.is_route route.now) stored.now }
 {

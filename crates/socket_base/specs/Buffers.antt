@@ -1,31 +1,31 @@
--- What each socket holds: the packets that wait to be read, and those that wait to be sent.
+-- The packets that each socket holds: those received but not read, and those to send.
 use Rattle.std.specs.Prelude.{Bool, cond, is_none, List, ℕ}
 use Rattle.socket_base.specs.Queue.{Queued, first_of, put, queue_after_pop}
 use Rattle.socket_base.specs.declared.poll_at.PollAt.{PollAt}
 use Rattle.socket_base.specs.declared.poll_at.PollAt.TheVariants.{Ingress}
 
--- what came and wasn't read, and what is to be sent
+-- the packets received but not read, and the packets to send
 pub record Buffered (M : Type 0) : Type 0 where
   pub rx : Queued M
   pub tx : Queued M
 
 module _ {M : Type 0} where
-  -- a packet has come
+  -- a packet is received
   abbrev pub buffers_after_delivery : M → List ℕ → Buffered M → Buffered M
   buffers_after_delivery m octets b = record b { rx = put b.rx m octets }
 
-  -- the first one that came was read
+  -- the first packet received is read
   abbrev pub buffers_after_done : Buffered M → Buffered M
   buffers_after_done b = record b { rx = queue_after_pop b.rx }
 
-  -- a packet is to be sent
+  -- a packet is queued for sending
   abbrev pub buffers_after_send : M → List ℕ → Buffered M → Buffered M
   buffers_after_send m octets b = record b { tx = put b.tx m octets }
 
-  -- what being told leaves: the first one to be sent is gone, or not
+  -- the acknowledgement of the first packet to send: if it was sent or dropped, it is removed
   abbrev pub buffers_after_told : Bool → Buffered M → Buffered M
   buffers_after_told is_done b = cond is_done (record b { tx = queue_after_pop b.tx }) b
 
-  -- at the moment that is given, if something is to be sent
+  -- at the given moment, if there is something to send
   abbrev pub poll_at : PollAt → Buffered M → PollAt
   poll_at due b = cond (is_none (first_of b.tx.packets)) Ingress due

@@ -8,7 +8,7 @@ use crate::poll_at::PollAt;
 use crate::queue::{Full, Queue};
 use std::marker::Model;
 
-/// The packets that came and weren't read, and those that are to be sent.
+/// The packets received but not read yet, and the packets to send.
 ///
 /// In contracts they are two queues.
 #[derive(Drop)]
@@ -26,28 +26,28 @@ impl<M> Model for Buffers<M> {
 }
 
 impl<M: Drop> Buffers<M> {
-    /// A queue for what comes, and one for what goes.
+    /// Creates the buffers from a receive queue and a transmit queue.
     pub fn new(rx: Queue<M>, tx: Queue<M>) -> Buffers<M>
         ensures { result ≡ record { rx = rx; tx = tx } }
     {
         Buffers { rx, tx }
     }
 
-    /// The packets that came and weren't read.
+    /// The packets received but not read yet.
     pub fn rx(&self) -> &Queue<M>
         ensures { result.now ≡ self.now.rx }
     {
         &self.rx
     }
 
-    /// The packets that are to be sent.
+    /// The packets to send.
     pub fn tx(&self) -> &Queue<M>
         ensures { result.now ≡ self.now.tx }
     {
         &self.tx
     }
 
-    /// Takes a packet that came. Without room for it, it is dropped.
+    /// Queues a packet that was received. It is dropped if there is no room for it.
     #[inline(always)]
     pub fn process(&mut self, meta: M, octets: &[u8])
         ensures { self.new ≡ spec.buffers_after_delivery meta octets.now self.old }
@@ -55,8 +55,7 @@ impl<M: Drop> Buffers<M> {
         let _ = self.rx.push(meta, octets);
     }
 
-    /// Takes a packet that came in two parts, one behind the other. Without room for it, it is
-    /// dropped.
+    /// Queues a packet that was received in two parts, one after the other. It is dropped if there is no room for it.
     #[inline(always)]
     pub fn process_parts(&mut self, meta: M, front: &[u8], back: &[u8])
         ensures { self.new ≡ spec.buffers_after_delivery meta (front.now ++ back.now) self.old }
@@ -64,23 +63,21 @@ impl<M: Drop> Buffers<M> {
         let _ = self.rx.push_parts(meta, front, back);
     }
 
-    /// The first packet that came and wasn't read, if there is one: what is told of it, and its
-    /// octets.
+    /// The first packet received but not read yet, if any: its metadata and its octets.
     pub fn recv(&self) -> Option<(&M, &[u8])>
         ensures { option_map (λ p. (p.0.now, p.1.now)) result ≡ first_of self.now.rx.packets }
     {
         self.rx.front()
     }
 
-    /// Drops the packet that `recv` gives, if there is one.
+    /// Drops the packet that `recv` returns, if any.
     pub fn done(&mut self)
         ensures { self.new ≡ spec.buffers_after_done self.old }
     {
         self.rx.pop();
     }
 
-    /// Queues a packet to be sent. `Full` exactly if it doesn't fit; then the queues stay as they
-    /// were.
+    /// Queues a packet for sending. Fails with `Full` exactly if it doesn't fit; then the queues stay unchanged.
     pub fn send(&mut self, meta: M, octets: &[u8]) -> Result<(), Full>
         ensures fits { is_ok result ≡ is_room self.old.tx (length octets.now) }
         ensures queues { self.new ≡ spec.buffers_after_send meta octets.now self.old }
@@ -88,14 +85,14 @@ impl<M: Drop> Buffers<M> {
         self.tx.push(meta, octets)
     }
 
-    /// The first packet to be sent, if there is one: what is told of it, and its octets.
+    /// The first packet to send, if any: its metadata and its octets.
     pub fn first(&self) -> Option<(&M, &[u8])>
         ensures { option_map (λ p. (p.0.now, p.1.now)) result ≡ first_of self.now.tx.packets }
     {
         self.tx.front()
     }
 
-    /// Drops the packet that `first` gives, if it is gone.
+    /// Drops the packet that `first` returns, if it is `gone` (sent or dropped).
     pub fn told(&mut self, gone: bool)
         ensures { self.new ≡ spec.buffers_after_told gone self.old }
     {
@@ -104,7 +101,7 @@ impl<M: Drop> Buffers<M> {
         }
     }
 
-    /// When the socket has to be polled again, if what is to be sent may go at `due`.
+    /// When the socket has to be polled again, if packets may be sent at `due`.
     #[inline(always)]
     pub fn poll_at(&self, due: PollAt) -> PollAt
         ensures { result ≡ spec.poll_at due self.now }

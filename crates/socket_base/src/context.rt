@@ -1,4 +1,4 @@
-//! What sockets ask of their surroundings.
+//! What sockets need from their surroundings.
 ghost use Rattle.std.specs.Prelude.{◌≡◌};
 ghost use Rattle.socket_base.specs.Source as spec;
 
@@ -13,27 +13,27 @@ pub trait SocketContext {
     /// The moment at which the socket is asked, in microseconds since the origin of its clock.
     ghost moment: { Self → ℤ };
 
-    /// The source address for what goes to a destination, `None` if there is none.
+    /// The source address for a destination, `None` if there is none.
     ghost source_for: { Self → IpAddress → Option IpAddress };
 
-    /// Whether an address is the broadcast address of all networks, or of one of the host's.
+    /// Whether an address is the limited broadcast address, or the broadcast address of one of the host's networks.
     ghost is_broadcast_in: { Self → IpAddress → Bool };
 
     /// The moment at which the socket is asked.
     fn now(&self) -> Instant
         ensures { result ≡ moment self.now };
 
-    /// The source address for what goes to a destination, if there is one.
+    /// The source address for a destination, if there is one.
     fn get_source_address(&self, dst_addr: &IpAddress) -> Option<IpAddress>
         ensures { result ≡ source_for self.now dst_addr.now };
 
-    /// Whether it is the broadcast address of all networks, or of one of the host's.
+    /// Whether an address is the limited broadcast address, or the broadcast address of one of the host's networks.
     fn is_broadcast(&self, address: &IpAddress) -> bool
         ensures { result ≡ is_broadcast_in self.now address.now };
 }
 
-/// The source of what goes to a peer: the given address, else the one that the context chooses, if
-/// that is of the peer's family.
+/// The source address for a peer: the given address, otherwise the one that the context chooses. `None` unless it is of
+/// the peer's family.
 pub fn source_address<C: SocketContext>(
     context: &C,
     given: Option<IpAddress>,

@@ -1,26 +1,26 @@
-//! The ends between which datagrams and segments go.
+//! The endpoints between which datagrams and segments are sent.
 ghost use Rattle.std.specs.Prelude.{◌≡◌};
 ghost use Rattle.socket_base.specs.Source as spec;
 
 use ip_wire::IpAddress;
 use std::fmt;
 
-/// One end: an address and a port of it.
+/// An endpoint: an address and a port.
 #[derive(Clone, Copy, Debug, PartialEq, Eq)]
 pub struct IpEndpoint {
     pub addr: IpAddress,
     pub port: u16,
 }
 
-/// The end at which a socket listens: a port, of one address or of any.
+/// The endpoint at which a socket listens: a port, of one address or of any.
 #[derive(Clone, Copy, Debug, PartialEq, Eq)]
 pub struct IpListenEndpoint {
-    /// The address, if it is only one.
+    /// The address; `None` for any.
     pub addr: Option<IpAddress>,
     pub port: u16,
 }
 
-/// Whether two addresses are one: of one family, and the same number.
+/// Whether two addresses are equal: of the same family, with the same bits.
 #[inline(always)]
 pub fn is_same_addr(a: &IpAddress, b: &IpAddress) -> bool
     ensures { result ≡ spec.is_same a.now b.now }
@@ -33,7 +33,7 @@ pub fn is_same_addr(a: &IpAddress, b: &IpAddress) -> bool
 }
 
 impl IpEndpoint {
-    /// Whether it is the same end as another one.
+    /// Whether two endpoints are equal.
     #[inline(always)]
     pub fn is_same(&self, other: &IpEndpoint) -> bool
         ensures { result ≡ spec.is_same_end self.now other.now }
@@ -52,7 +52,7 @@ impl From<(IpAddress, u16)> for IpEndpoint {
     }
 }
 
-/// A port, of any address.
+/// A port of any address.
 impl From<u16> for IpListenEndpoint {
     ghost use Rattle.std.specs.Prelude.{◌≡◌, None};
 
@@ -63,7 +63,7 @@ impl From<u16> for IpListenEndpoint {
     }
 }
 
-/// A port, of one address.
+/// A port of one address.
 impl From<IpEndpoint> for IpListenEndpoint {
     ghost use Rattle.std.specs.Prelude.{◌≡◌, Some};
 
@@ -78,14 +78,14 @@ impl From<IpEndpoint> for IpListenEndpoint {
 }
 
 impl fmt::Display for IpEndpoint {
-    /// As its address, and behind a colon its port: 192.168.69.1:7.
+    /// The address, a colon and the port: 192.168.69.1:7.
     fn fmt<W: fmt::Write>(&self, f: &mut fmt::Formatter<W>) -> fmt::Result {
         write!(f, "{}:{}", self.addr, self.port)
     }
 }
 
 impl fmt::Display for IpListenEndpoint {
-    /// As its address, or a star for any, and behind a colon its port: *:7.
+    /// The address, or a star for any, a colon and the port: *:7.
     fn fmt<W: fmt::Write>(&self, f: &mut fmt::Formatter<W>) -> fmt::Result {
         match &self.addr {
             Some(addr) => write!(f, "{addr}:{}", self.port),

@@ -1,4 +1,4 @@
-//! What all sockets stand on: packets that wait in order, and what is asked of the surroundings.
+//! The base of all sockets: packet queues, and what sockets need from their surroundings.
 #![tactic(auto)]
 
 pub mod buffers;

@@ -1,19 +1,17 @@
-//! Octets that wait in order, in room that was reserved once.
+//! A buffer of octets in order, with capacity reserved once.
 ghost use Rattle.std.specs.Prelude.{◌≡◌, ◌+◌, ◌-◌, ◌≤◌, [], ◌++◌, length, take, drop, vec_len, vec_capacity, IfOk};
 
 use std::alloc::{AllocError, Global};
 use std::marker::Model;
 
-/// Octets in order; the first ones are one slice. In contracts they are the list of the octets and
-/// how many fit.
+/// Octets in order, with the first ones in one slice. In contracts they are the list of the octets and the limit.
 ///
-/// The room has places for twice as many as fit, and its length never changes. Octets are written
-/// behind those that are there; these move to the front only where the places behind them don't
-/// suffice, so at most once for `limit` octets that are appended.
+/// The capacity is twice the limit, and never changes. Octets are appended after the present ones. The present ones
+/// move to the front only if the capacity after them doesn't suffice, so at most once for `limit` octets appended.
 #[derive(Drop)]
 pub struct Octets {
     items: Vec<u8>,
-    // The octets stand from `start` to `end`.
+    // The octets are at `start` up to `end`.
     start: usize,
     end: usize,
     limit: usize,
@@ -31,8 +29,8 @@ impl Model for Octets {
 }
 
 impl Octets {
-    /// No octets, of which `limit` fit. It reserves room for twice as many, and fails exactly if
-    /// that room is refused or is none that a `usize` can count.
+    /// Creates an empty buffer for `limit` octets. It reserves twice as many, and fails exactly if that memory is
+    /// refused or its size exceeds `usize`.
     pub fn new(alloc: Global, limit: usize) -> Result<Octets, AllocError>
         ensures { IfOk result (λ o. o ≡ record { octets = []; limit = limit }) }
     {
@@ -47,7 +45,7 @@ impl Octets {
         })
     }
 
-    /// How many octets fit, those that are there counted in.
+    /// The maximum number of octets, including those present.
     pub fn limit(&self) -> usize
         ensures { result ≡ self.now.limit }
     {
@@ -61,7 +59,7 @@ impl Octets {
         self.limit - (self.end - self.start)
     }
 
-    /// Appends octets, which have to fit. It takes no memory.
+    /// Appends octets, which must fit. It allocates nothing.
     #[inline(always)]
     #[tactic(auto, using(crate::proofs::OctetsLemmas::appended))]
     pub fn append(&mut self, octets: &[u8])
@@ -77,8 +75,7 @@ impl Octets {
         self.end += octets.len();
     }
 
-    /// Appends octets that lie in two parts, one behind the other, which have to fit. It takes no
-    /// memory.
+    /// Appends octets in two parts, one after the other, which must fit. It allocates nothing.
     #[inline(always)]
     pub fn append_parts(&mut self, front: &[u8], back: &[u8])
         requires { length self.old.octets + (length front.now + length back.now) ≤ self.old.limit }
@@ -88,7 +85,7 @@ impl Octets {
         self.append(back);
     }
 
-    /// The first octets, as many as are asked for. There have to be so many.
+    /// The first `count` octets. There must be so many.
     #[tactic(auto, using(crate::proofs::OctetsLemmas::first_of_part))]
     pub fn first(&self, count: usize) -> &[u8]
         requires { count ≤ length self.now.octets }
@@ -97,7 +94,7 @@ impl Octets {
         &self.items[self.start..self.start + count]
     }
 
-    /// Drops the first octets, as many as are asked for. There have to be so many.
+    /// Drops the first `count` octets. There must be so many.
     pub fn skip(&mut self, count: usize)
         requires { count ≤ length self.old.octets }
         ensures { self.new ≡ record self.old { octets = drop count self.old.octets } }
@@ -110,7 +107,7 @@ impl Octets {
     }
 }
 
-// So many zeros, in a room for just them.
+// `count` zeros, with no more capacity than that.
 fn zeros(alloc: Global, count: usize) -> Result<Vec<u8>, AllocError>
     ensures len { IfOk result (λ v. vec_len v ≡ count) }
     ensures capacity { IfOk result (λ v. vec_capacity v ≡ count) }
@@ -122,7 +119,7 @@ fn zeros(alloc: Global, count: usize) -> Result<Vec<u8>, AllocError>
     Ok(items)
 }
 
-// Writes octets from a place on.
+// Writes octets from an offset on.
 #[inline(always)]
 fn write_at(items: &mut Vec<u8>, at: usize, octets: &[u8])
     requires { at + length octets.now ≤ vec_len items.old }
@@ -133,7 +130,7 @@ fn write_at(items: &mut Vec<u8>, at: usize, octets: &[u8])
     items[at..at + octets.len()].copy_from_slice(octets);
 }
 
-// Moves the items from one place to another to the front.
+// Moves the items between two offsets to the front.
 #[tactic(auto, using(crate::proofs::OctetsLemmas::moved_to_front))]
 fn move_to_front(items: &mut Vec<u8>, start: usize, end: usize)
     requires order { start ≤ end }

@@ -5,10 +5,10 @@ use net_base::time::Instant;
 /// When a socket has to be polled again.
 #[derive(Clone, Copy, Debug, PartialEq, Eq)]
 pub enum PollAt {
-    /// At once.
+    /// Immediately.
     Now,
-    /// At a moment.
+    /// At an instant.
     Time(Instant),
-    /// Not before something comes.
+    /// Not before a packet arrives.
     Ingress,
 }

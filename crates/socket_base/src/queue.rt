@@ -1,4 +1,4 @@
-//! Packets that wait in order.
+//! Queues of packets.
 ghost use Rattle.std.specs.Prelude.{◌≡◌, ◌==◌, ◌+◌, ◌≤◌, ◌<◌, ◌↔◌, [], ◌∷◌, ◌++◌, length, drop, IfOk, IsOk, OnOk, OnErr};
 ghost use Rattle.std.specs.VecDeque.{deque_len, deque_capacity};
 ghost use Rattle.socket_base.specs.Queue.{octets_in, first_of, is_room};
@@ -9,20 +9,20 @@ use std::collections::VecDeque;
 use std::marker::Model;
 use thiserror::Error;
 
-/// What stands in a queue's order for one packet.
+/// The entry of a packet in a queue.
 #[derive(Drop)]
 pub struct Entry<M> {
     pub(crate) meta: M,
-    // How many octets the packet has.
+    // The packet's length in octets.
     pub(crate) len: usize,
 }
 
-/// There is no room for the packet, or none for its octets.
+/// There is no room for the packet, or for its octets.
 #[derive(Clone, Copy, Debug, PartialEq, Eq, Error)]
 #[error("Full")]
 pub struct Full;
 
-/// The room could not be reserved.
+/// The memory could not be reserved.
 #[derive(Clone, Copy, Debug, PartialEq, Eq, Error)]
 #[error("NoMemory")]
 pub struct NoMemory;
@@ -33,10 +33,9 @@ impl From<AllocError> for NoMemory {
     }
 }
 
-/// Packets in order, each with its octets and with what is told of it, in room that was reserved
-/// once.
+/// Packets in order, each with its octets and its metadata, with capacity reserved once.
 ///
-/// In contracts a queue is the list of its packets, how many of them fit, and how many octets fit.
+/// In contracts a queue is the list of its packets, the maximum number of packets, and the maximum number of octets.
 #[derive(Drop)]
 pub struct Queue<M> {
     entries: VecDeque<Entry<M>>,
@@ -59,9 +58,8 @@ impl<M> Model for Queue<M> {
 impl<M: Drop> Queue<M> {
     ghost use Rattle.std.specs.Option.{option_map};
 
-    /// An empty queue with room for so many packets, which have so many octets together. It
-    /// reserves twice the octets, and fails with `NoMemory` exactly if that room is refused. No
-    /// other call takes memory.
+    /// Creates an empty queue for this many packets, with this many octets in total. It reserves twice the octets, and
+    /// fails with `NoMemory` exactly if that memory is refused. No other call allocates.
     pub fn new(alloc: Global, packets: usize, octets: usize) -> Result<Queue<M>, NoMemory>
         ensures { IfOk result (λ q. q ≡ record { packets = []; most = packets; limit = octets }) }
     {
@@ -72,8 +70,8 @@ impl<M: Drop> Queue<M> {
         })
     }
 
-    /// Appends a packet. `Full` exactly if as many packets as fit are there, or fewer octets than
-    /// it has are free; then the queue stays as it was.
+    /// Appends a packet. Fails with `Full` exactly if the maximum number of packets is reached, or fewer octets are
+    /// free than it has; then the queue stays unchanged.
     #[inline(always)]
     pub fn push(&mut self, meta: M, octets: &[u8]) -> Result<(), Full>
         ensures ok { OnOk result (self.new ≡ record self.old { packets = self.old.packets ++ (meta, octets.now) ∷ [] }) }
@@ -83,8 +81,7 @@ impl<M: Drop> Queue<M> {
         self.push_parts(meta, octets, &[])
     }
 
-    /// Appends a packet that lies in two parts, one behind the other. It is refused as by
-    /// [`push`](Queue::push).
+    /// Appends a packet in two parts, one after the other. Fails as [`push`](Queue::push) does.
     #[inline(always)]
     #[tactic(auto, using(crate::proofs::QueueLemmas::cut_append_parts, crate::proofs::QueueLemmas::total_append, crate::proofs::QueueLemmas::length_cut, crate::proofs::QueueLemmas::octets_in_cut))]
     pub fn push_parts(&mut self, meta: M, front: &[u8], back: &[u8]) -> Result<(), Full>
@@ -101,7 +98,7 @@ impl<M: Drop> Queue<M> {
         Ok(())
     }
 
-    /// How many packets wait.
+    /// The number of packets in the queue.
     #[tactic(auto, using(crate::proofs::QueueLemmas::length_cut))]
     pub fn len(&self) -> usize
         ensures { result ≡ length self.now.packets }
@@ -109,14 +106,14 @@ impl<M: Drop> Queue<M> {
         self.entries.len()
     }
 
-    /// Whether no packet waits.
+    /// Whether the queue is empty.
     pub fn is_empty(&self) -> bool
         ensures { result ≡ (length self.now.packets == 0) }
     {
         self.len() == 0
     }
 
-    /// Whether a packet of so many octets fits now.
+    /// Whether a packet of `len` octets fits now.
     #[tactic(auto, using(crate::proofs::QueueLemmas::octets_in_cut))]
     pub fn has_room(&self, len: usize) -> bool
         ensures { result ≡ is_room self.now len }
@@ -124,21 +121,21 @@ impl<M: Drop> Queue<M> {
         self.len() < self.most && len <= self.octets.room()
     }
 
-    /// How many packets fit, those that wait counted in.
+    /// The maximum number of packets, including those in the queue.
     pub fn packet_capacity(&self) -> usize
         ensures { result ≡ self.now.most }
     {
         self.most
     }
 
-    /// How many octets fit, those of the packets that wait counted in.
+    /// The maximum number of octets, including those of the packets in the queue.
     pub fn payload_capacity(&self) -> usize
         ensures { result ≡ self.now.limit }
     {
         self.octets.limit()
     }
 
-    /// The first packet, if there is one: what is told of it, and its octets.
+    /// The first packet, if any: its metadata and its octets.
     #[inline(always)]
     #[tactic(auto, using(crate::proofs::QueueLemmas::first_cut))]
     pub fn front(&self) -> Option<(&M, &[u8])>
@@ -150,7 +147,7 @@ impl<M: Drop> Queue<M> {
         }
     }
 
-    /// Drops the first packet, if there is one.
+    /// Drops the first packet, if any.
     pub fn pop(&mut self)
         ensures { self.new ≡ record self.old { packets = drop 1 self.old.packets } }
     {

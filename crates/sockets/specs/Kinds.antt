@@ -1,4 +1,4 @@
--- The kinds of sockets as one.
+-- The kinds of sockets as one type.
 use Rattle.std.specs.Prelude.{ℕ, ℤ, Bool, Option, Some, None}
 use Rattle.std.specs.Option.{option_map}
 use Rattle.ip_address.specs.declared.ip.IpAddress.{IpAddress}
@@ -19,7 +19,7 @@ pub data Offered : Type 0 where
   UdpOffer : (datagram : udp.Datagram) → Offered
   TcpOffer : (segment : tcp.Sent) → Offered
 
--- a packet, without where its payload lies
+-- a packet, apart from where its payload is in memory
 abbrev pub value_of : Offer → Offered
 value_of (offer.Raw p) = RawOffer (raw.value_of p)
 value_of (offer.Icmp p) = IcmpOffer (icmp.value_of p)
@@ -65,7 +65,7 @@ module _ {L : Type 0} where
   down_tcp (Udp s) = None
   down_tcp (Tcp s) = Some s
 
-  -- the port of its own end; raw and ICMP sockets have none
+  -- the socket's own port; raw and ICMP sockets have none
   abbrev pub own_port : SocketOf L → Option ℕ
   own_port (Raw s) = None
   own_port (Icmp s) = None
@@ -79,21 +79,21 @@ module _ {L : Type 0} where
   poll_at (Udp s) = udp.poll_at s
   poll_at (Tcp s) = tcp.poll_at s
 
-  -- what it has to send first, if that can go
+  -- the first packet that it has to send, if that can be sent now
   abbrev pub offered_packet : ℤ → (IpAddress → Option IpAddress) → SocketOf L → Option Offered
   offered_packet moment source (Raw s) = option_map RawOffer (raw.offered_packet s)
   offered_packet moment source (Icmp s) = option_map IcmpOffer (icmp.offered_packet source s)
   offered_packet moment source (Udp s) = option_map UdpOffer (udp.offered_packet source s)
   offered_packet moment source (Tcp s) = option_map TcpOffer (tcp.offered_packet moment source s)
 
-  -- what being asked leaves
+  -- the socket after it was asked for a packet
   abbrev pub socket_after_offer : ℤ → (IpAddress → Option IpAddress) → SocketOf L → SocketOf L
   socket_after_offer moment source (Raw s) = Raw (raw.socket_after_offer s)
   socket_after_offer moment source (Icmp s) = Icmp (icmp.socket_after_offer source s)
   socket_after_offer moment source (Udp s) = Udp (udp.socket_after_offer source s)
   socket_after_offer moment source (Tcp s) = Tcp (tcp.socket_after_offer moment source s)
 
-  -- what being told leaves
+  -- the socket after the acknowledgement of what it offered
   abbrev pub socket_after_told : Bool → SocketOf L → SocketOf L
   socket_after_told is_done (Raw s) = Raw (raw.socket_after_told is_done s)
   socket_after_told is_done (Icmp s) = Icmp (icmp.socket_after_told is_done s)

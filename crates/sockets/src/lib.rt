@@ -1,4 +1,4 @@
-//! Sockets: what waits to be read and what waits to be sent, packet by packet.
+//! Sockets: packets that wait to be read and packets that wait to be sent.
 #![tactic(auto)]
 
 pub mod socket;

@@ -20,7 +20,7 @@ pub enum SocketOf<L> {
 /// A socket of any kind.
 pub type Socket<'a> = SocketOf<&'a ()>;
 
-/// What a socket offers to be sent; its payload stays in the socket.
+/// A packet that a socket offers for sending; its payload stays in the socket.
 #[derive(Clone, Copy)]
 pub enum Offer<'p> {
     Raw(raw::Packet<'p>),
@@ -34,7 +34,7 @@ impl<L: Drop> SocketOf<L> {
     ghost use Rattle.sockets.specs.Kinds as spec;
     ghost use Rattle.sockets.specs.KindsLending.{Settles};
 
-    /// The port of its own end, 0 where it is bound to none; raw and ICMP sockets have no such port.
+    /// The socket's own port, 0 if it is not bound. `None` for raw and ICMP sockets, which have no port.
     #[inline(always)]
     pub fn own_port(&self) -> Option<u16>
         ensures { result ≡ spec.own_port self.now }
@@ -59,8 +59,8 @@ impl<L: Drop> SocketOf<L> {
         }
     }
 
-    /// What the socket has to send first, if it can go. What can't go is dropped, and none is
-    /// offered.
+    /// The first packet to send, if it can be sent now. A packet that can't be sent at all is dropped, and `None`
+    /// returned.
     pub fn offer<C: SocketContext>(&mut self, context: &C) -> Option<Offer<'_>>
         ensures* settles { sem 𝓛 (Settles L.row self.entry (C.moment context.now) (C.source_for context.now)) }
         ensures value { option_map spec.value_of result ≡ spec.offered_packet (C.moment context.now) (C.source_for context.now) self.old }
@@ -85,7 +85,7 @@ impl<L: Drop> SocketOf<L> {
         }
     }
 
-    /// Tells the socket whether what it offered is gone: then it is dropped.
+    /// Acknowledges what the socket offered: if it is `gone` (sent or dropped), the socket drops it.
     pub fn told(&mut self, gone: bool)
         ensures { self.new ≡ spec.socket_after_told gone self.old }
     {
@@ -110,15 +110,16 @@ pub trait AnySocketOf<L>: Sized + Drop {
     /// The socket of this kind that a socket of any kind is, `None` if it is of another kind.
     ghost down: { SocketOf L → Option Self };
 
-    /// It as a socket of any kind.
+    /// Converts into a socket of any kind.
     fn upcast(self) -> SocketOf<L>
         ensures { result ≡ up self };
 
-    /// The socket of this kind, if it is one.
+    /// The socket as one of this kind, if it is one.
     fn downcast(socket: &SocketOf<L>) -> Option<&Self>
         ensures { option_copied result ≡ down socket.now };
 
-    /// The same, for writing. Whatever stands there then, the kind still has ports, or still has none.
+    /// Mutable access to the socket as one of this kind, if it is one. Whatever is written there, a kind with ports
+    /// still has ports, and one without still has none.
     fn downcast_mut(socket: &mut SocketOf<L>) -> Option<&mut Self>
         ensures* lends { sem 𝓛 (LendsIf (socket_row L.row) Self.row socket.entry result up socket.old) }
         ensures value { option_copied_mut result ≡ down socket.old }

@@ -1,12 +1,12 @@
--- Why a socket takes no datagram or segment from its client.
+-- Why a socket refuses a datagram or a segment for sending.
 use Rattle.std.specs.Prelude.{ℕ, ◌==◌, nat_lt, Bool, if◌then◌else◌, Option, Some, None}
 use Rattle.ip_address.specs.Ip.{is_unspecified}
 use Rattle.socket_base.specs.declared.endpoint.IpEndpoint.{IpEndpoint}
 use Rattle.transport_sockets.specs.declared.send_error.SendError.{SendError}
 use Rattle.transport_sockets.specs.declared.send_error.SendError.TheVariants.{UnspecifiedAddress, UnspecifiedPort, Unbound, TooLong, Full}
 
--- the first reason, if there is one: nothing goes to an unspecified address, to port 0 or from it, nor what is longer than a packet of IPv4
--- with a header of TCP carries, nor what doesn't fit
+-- the first reason to refuse, if there is one: an unspecified remote address; remote port 0; own port 0; a payload longer than an
+-- IPv4 packet with a TCP header carries; lack of room
 abbrev pub refusal : IpEndpoint → ℕ → ℕ → Bool → Option SendError
 refusal remote own_port len fits =
     if is_unspecified remote.addr then Some UnspecifiedAddress else if remote.port == 0 then Some UnspecifiedPort

@@ -1,4 +1,4 @@
--- What a TCP socket ends as when what it offered is used.
+-- The value of a TCP socket after the use of what it offered.
 use Rattle.std.specs.Prelude.{◌≡◌, ℤ, Option}
 use Rattle.std.specs.Borrow.{MutBor, Fml, RattleType}
 use Rattle.std.specs.Io.BufRead.{Rests}

@@ -11,69 +11,70 @@ use Rattle.socket_base.specs.declared.poll_at.PollAt.{PollAt}
 use Rattle.socket_base.specs.declared.poll_at.PollAt.TheVariants.{Now, Ingress}
 use Rattle.transport_sockets.specs.declared.udp.Packet.{Packet}
 
--- where a socket listens, the hop limit of what it sends, and the datagrams that wait to be read and to be sent, each with its other end
+-- the endpoint at which a socket listens, the hop limit of packets sent, and the datagrams received and to send, each with its
+-- remote endpoint
 pub record UdpSocket : Type 0 where
   pub endpoint : IpListenEndpoint
   pub hop_limit : ℕ
   pub rx : Queued IpEndpoint
   pub tx : Queued IpEndpoint
 
--- a datagram with its ends
+-- a datagram with its endpoints
 pub record Datagram : Type 0 where
   pub src : IpEndpoint
   pub dst : IpEndpoint
   pub hop_limit : ℕ
   pub payload : List ℕ
 
--- a packet, without where its payload lies
+-- a packet, apart from where its payload is in memory
 abbrev pub value_of : Packet → Datagram
 value_of p = record { src = p.src; dst = p.dst; hop_limit = p.hop_limit; payload = p.payload.now }
 
--- a destination is heard at any address, at that address, or if it is that of many hosts
+-- a destination is accepted by a socket for any address, for that address, or if it is broadcast or multicast
 abbrev pub is_accepted_at : (IpAddress → Bool) → Option IpAddress → IpAddress → Bool
 is_accepted_at broadcast None dst = true
 is_accepted_at broadcast (Some a) dst = is_same a dst || broadcast dst || is_multicast dst
 
--- whether a datagram to an address and a port is for the socket
+-- whether the socket accepts a datagram for an address and a port
 abbrev pub accepts : (IpAddress → Bool) → UdpSocket → IpAddress → ℕ → Bool
 accepts broadcast s dst port = (s.endpoint.port == port) && is_accepted_at broadcast s.endpoint.addr dst
 
--- a datagram has come
+-- a datagram is received
 abbrev pub socket_after_delivery : IpEndpoint → List ℕ → UdpSocket → UdpSocket
 socket_after_delivery remote payload s = record s { rx = put s.rx remote payload }
 
--- the first one that came was read
+-- the first datagram received is read
 abbrev pub socket_after_done : UdpSocket → UdpSocket
 socket_after_done s = record s { rx = queue_after_pop s.rx }
 
--- a datagram is to be sent
+-- a datagram is queued for sending
 abbrev pub socket_after_send : IpEndpoint → List ℕ → UdpSocket → UdpSocket
 socket_after_send remote payload s = record s { tx = put s.tx remote payload }
 
--- the first one to be sent is gone
+-- the first datagram to send is removed
 abbrev pub without_first_to_send : UdpSocket → UdpSocket
 without_first_to_send s = record s { tx = queue_after_pop s.tx }
 
--- at once, if something is to be sent
+-- immediately, if there is something to send
 abbrev pub poll_at : UdpSocket → PollAt
 poll_at s = cond (is_none (first_of s.tx.packets)) Ingress Now
 
--- a datagram to be sent, from a source
+-- a datagram to send, with this source address
 abbrev pub datagram : UdpSocket → IpEndpoint × List ℕ → IpAddress → Datagram
 datagram s p src = record { src = record { addr = src; port = s.endpoint.port }; dst = p.0; hop_limit = s.hop_limit; payload = p.1 }
 
--- the source of the first one to be sent, if there is one
+-- the source address of the first datagram to send, if any
 abbrev pub first_source : (IpAddress → Option IpAddress) → UdpSocket → Option IpAddress
 first_source source s = option_and_then (λ p. source_of source s.endpoint.addr p.0.addr) (first_of s.tx.packets)
 
--- the first one to be sent, if it has a source
+-- the first datagram to send, if it has a source address
 abbrev pub offered_packet : (IpAddress → Option IpAddress) → UdpSocket → Option Datagram
 offered_packet source s = option_and_then (λ p. option_map (datagram s p) (source_of source s.endpoint.addr p.0.addr)) (first_of s.tx.packets)
 
--- what being asked leaves: the first one is gone if it has no source
+-- the socket after it was asked: the first datagram is removed if it has no source address
 abbrev pub socket_after_offer : (IpAddress → Option IpAddress) → UdpSocket → UdpSocket
 socket_after_offer source s = cond (is_none (offered_packet source s)) (without_first_to_send s) s
 
--- what being told leaves
+-- the socket after the acknowledgement
 abbrev pub socket_after_told : Bool → UdpSocket → UdpSocket
 socket_after_told is_done s = cond is_done (without_first_to_send s) s

@@ -1,4 +1,4 @@
-//! Sockets of the transport layer: UDP and TCP.
+//! Sockets of the transport layer: UDP and TCP sockets.
 #![tactic(auto)]
 
 pub mod send_error;

@@ -1,17 +1,17 @@
-//! Why a socket takes no datagram or segment from its client.
+//! Why a socket refuses a datagram or a segment for sending.
 ghost use Rattle.std.specs.Prelude.{◌≡◌};
 ghost use Rattle.transport_sockets.specs.SendError as spec;
 
 use socket_base::endpoint::IpEndpoint;
 use thiserror::Error;
 
-/// Why a datagram or a segment was not queued. It prints as its name.
+/// Why a datagram or a segment was not queued. It is displayed as its name.
 #[derive(Clone, Copy, Debug, PartialEq, Eq, Error)]
 pub enum SendError {
-    /// The other end's address is 0.0.0.0 or ::.
+    /// The remote address is 0.0.0.0 or ::.
     #[error("UnspecifiedAddress")]
     UnspecifiedAddress,
-    /// The other end's port is 0.
+    /// The remote port is 0.
     #[error("UnspecifiedPort")]
     UnspecifiedPort,
     /// The socket's own port is 0.
@@ -25,11 +25,11 @@ pub enum SendError {
     Full,
 }
 
-/// How many octets of payload a datagram or a segment has at most: with the longer of the two headers
-/// that may stand before it, IPv4's and TCP's, it has 65,535.
+/// The maximum payload length of a datagram or a segment, in octets. With the longer ones of the headers before it,
+/// IPv4's and TCP's, that makes 65,535.
 pub const MAX_PAYLOAD_LEN: usize = 65495;
 
-// Why what goes to an end, from a port, with so many octets of payload isn't queued, if there is a reason.
+// Why a payload of `len` octets to an endpoint, from a port, isn't queued, if there is a reason.
 pub(crate) fn refusal(
     remote: &IpEndpoint,
     own_port: u16,

@@ -1,5 +1,4 @@
-//! TCP sockets (RFC 9293), which hand segments in and out: what the segments mean is up to the
-//! caller.
+//! TCP sockets (RFC 9293), which hand segments in and out: their interpretation is up to the caller.
 ghost use Rattle.std.specs.Prelude.{◌≡◌, ◌≢◌, ◌<◌, ◌≤◌, ◌^◌, pos, length, is_ok, OnOk, OnErr, true, false};
 ghost use Rattle.std.specs.Option.{option_map};
 ghost use Rattle.std.specs.Result.{result_err};
@@ -21,16 +20,16 @@ use std::marker::{Model, PhantomData};
 /// A segment without its payload.
 #[derive(Clone, Copy, Debug, PartialEq, Eq)]
 pub struct Segment {
-    /// Where it came from, or where it goes.
+    /// The remote endpoint: its source if received, its destination if sent.
     pub remote: IpEndpoint,
     pub control: TcpControl,
     pub seq: TcpSeqNumber,
     pub ack: Option<TcpSeqNumber>,
-    /// As it stands in the header, not scaled.
+    /// The window as in the header, not scaled.
     pub window: u16,
 }
 
-/// A segment to be sent; its payload stays in the socket.
+/// A segment to send; its payload stays in the socket.
 #[derive(Clone, Copy)]
 pub struct Packet<'p> {
     pub src_addr: IpAddress,
@@ -42,8 +41,8 @@ pub struct Packet<'p> {
 
 /// A TCP socket, with its lifetime as a type parameter.
 ///
-/// In contracts it is its own end, the other end if it is only one, its hop limit, the moment
-/// before which it sends nothing, whether the connection was given up, and its two queues.
+/// In contracts it is its local endpoint, its remote endpoint if that is fixed, its hop limit, the moment before which
+/// it sends nothing, whether the connection was aborted, and its two queues.
 #[derive(Drop)]
 pub struct SocketOf<L> {
     local: IpListenEndpoint,
@@ -67,8 +66,8 @@ impl<L> Model for SocketOf<L> {
 }
 
 impl<L: Drop> SocketOf<L> {
-    /// A socket between its own end and, if it is given, another one, with a queue for what comes
-    /// and one for what goes. Its hop limit is 64, and it holds nothing back.
+    /// Creates a socket for a local endpoint and, if given, a remote one, from a receive queue and a transmit queue.
+    /// Its hop limit is 64, and it holds nothing back.
     pub fn new(
         local: IpListenEndpoint,
         remote: Option<IpEndpoint>,
@@ -88,28 +87,28 @@ impl<L: Drop> SocketOf<L> {
         }
     }
 
-    /// Its own end.
+    /// The local endpoint.
     pub fn local(&self) -> IpListenEndpoint
         ensures { result ≡ self.now.local }
     {
         self.local
     }
 
-    /// The other end, if it is only one.
+    /// The remote endpoint, if it is fixed.
     pub fn remote(&self) -> Option<IpEndpoint>
         ensures { result ≡ self.now.remote }
     {
         self.remote
     }
 
-    /// The hop limit of what is sent.
+    /// The hop limit of packets sent.
     pub fn hop_limit(&self) -> u8
         ensures { result ≡ self.now.hop_limit }
     {
         self.hop_limit
     }
 
-    /// Sets the hop limit of what is sent, which isn't 0.
+    /// Sets the hop limit of packets sent, which must not be 0.
     pub fn set_hop_limit(&mut self, hop_limit: u8)
         requires { hop_limit ≢ 0 }
         ensures { self.new ≡ record self.old { hop_limit = hop_limit } }
@@ -117,50 +116,50 @@ impl<L: Drop> SocketOf<L> {
         self.hop_limit = hop_limit;
     }
 
-    /// The moment before which it sends nothing.
+    /// The moment before which the socket sends nothing.
     pub fn hold(&self) -> Instant
         ensures { result ≡ self.now.hold }
     {
         self.hold
     }
 
-    /// Sends nothing before a moment.
+    /// Sends nothing before this moment.
     pub fn hold_until(&mut self, moment: Instant)
         ensures { self.new ≡ record self.old { hold = moment } }
     {
         self.hold = moment;
     }
 
-    /// Whether the connection was given up.
+    /// Whether the connection was aborted.
     pub fn is_aborted(&self) -> bool
         ensures { result ≡ self.now.is_aborted }
     {
         self.is_aborted
     }
 
-    /// Gives the connection up: from now on what comes is answered by a reset.
+    /// Aborts the connection: from now on received segments are answered by a reset.
     pub fn abort(&mut self)
         ensures { self.new ≡ record self.old { is_aborted = true } }
     {
         self.is_aborted = true;
     }
 
-    /// The segments that came and weren't read.
+    /// The segments received but not read yet.
     pub fn rx(&self) -> &Queue<Segment>
         ensures { result.now ≡ self.now.rx }
     {
         self.buffers.rx()
     }
 
-    /// The segments that are to be sent.
+    /// The segments to send.
     pub fn tx(&self) -> &Queue<Segment>
         ensures { result.now ≡ self.now.tx }
     {
         self.buffers.tx()
     }
 
-    /// Whether a segment from one end to another is for the socket: its own port is the
-    /// segment's, and so are its own address and its other end, where they are given.
+    /// Whether the socket accepts a segment from one endpoint to another: its local port matches, and so do its local
+    /// address and its remote endpoint, where they are given.
     pub fn accepts(&self, src: &IpEndpoint, dst: &IpEndpoint) -> bool
         ensures { result ≡ spec.accepts self.now src.now dst.now }
     {
@@ -178,11 +177,11 @@ impl<L: Drop> SocketOf<L> {
         }
     }
 
-    /// Takes a segment that came from an address, of fewer than 65,536 octets of payload, and
-    /// gives what answers it.
+    /// Processes a segment received from an address, with fewer than 65,536 octets of payload. Returns the segment that
+    /// answers it, if any.
     ///
-    /// The socket gets it, and nothing answers it. Without room for it, it is dropped. After
-    /// [`abort`](SocketOf::abort) the socket doesn't get it, and a reset answers all but resets.
+    /// The socket queues the segment, without an answer; it is dropped if there is no room for it. After
+    /// [`abort`](SocketOf::abort) the socket doesn't get it, and every segment but a reset is answered by a reset.
     pub fn process(
         &mut self,
         src_addr: IpAddress,
@@ -203,23 +202,23 @@ impl<L: Drop> SocketOf<L> {
         }
     }
 
-    /// The first segment that came and wasn't read, if there is one, and its payload.
+    /// The first segment received but not read yet, if any, and its payload.
     pub fn recv(&self) -> Option<(&Segment, &[u8])>
         ensures { option_map (λ p. (p.0.now, p.1.now)) result ≡ first_of self.now.rx.packets }
     {
         self.buffers.recv()
     }
 
-    /// Drops the segment that `recv` gives, if there is one.
+    /// Drops the segment that `recv` returns, if any.
     pub fn done(&mut self)
         ensures { self.new ≡ spec.socket_after_done self.old }
     {
         self.buffers.done();
     }
 
-    /// Queues a segment with at most 65,495 octets of payload to its end, whose address is specified.
-    /// Neither that end's port nor the socket's own may be 0. `Full` exactly if it doesn't fit; then
-    /// the socket stays as it was.
+    /// Queues a segment with at most 65,495 octets of payload for its remote endpoint. That address must not be
+    /// unspecified, and neither the remote port nor the local port may be 0. Fails with `Full` exactly if it doesn't
+    /// fit; then the socket stays unchanged.
     pub fn send(&mut self, segment: Segment, payload: &[u8]) -> Result<(), Full>
         requires addr { is_unspecified segment.remote.addr ≡ false }
         requires port { segment.remote.port ≢ 0 }
@@ -231,10 +230,9 @@ impl<L: Drop> SocketOf<L> {
         self.buffers.send(segment, payload)
     }
 
-    /// Queues a segment as [`send`](SocketOf::send) does, for ends and payloads of any kind: an error
-    /// comes exactly where the end's address is unspecified, its port or the socket's own is 0, the
-    /// payload has more than 65,495 octets, or it doesn't fit, the first of these that holds; then
-    /// the socket stays as it was.
+    /// Queues a segment as [`send`](SocketOf::send) does, for any endpoint and payload. Fails exactly if the remote
+    /// address is unspecified, the remote port is 0, the local port is 0, the payload has more than 65,495 octets, or
+    /// it doesn't fit; the first of these is returned. Then the socket stays unchanged.
     pub fn try_send(&mut self, segment: Segment, payload: &[u8]) -> Result<(), SendError>
         ensures refused { result_err result ≡ refusal segment.remote self.old.local.port (length payload.now) (is_room self.old.tx (length payload.now)) }
         ensures ok { OnOk result (self.new ≡ spec.socket_after_send segment payload.now self.old) }
@@ -247,8 +245,7 @@ impl<L: Drop> SocketOf<L> {
         self.send(segment, payload).map_err(|_| SendError::Full)
     }
 
-    /// When it has to be polled again: at the moment until which it holds back, if something is to
-    /// be sent.
+    /// When the socket has to be polled again: at the moment until which it holds back, if there is something to send.
     #[inline(always)]
     pub fn poll_at(&self) -> PollAt
         ensures { result ≡ spec.poll_at self.now }
@@ -256,7 +253,7 @@ impl<L: Drop> SocketOf<L> {
         self.buffers.poll_at(PollAt::Time(self.hold))
     }
 
-    /// The source of the first segment to be sent, if there is one.
+    /// The source address of the first segment to send, if any.
     #[inline(always)]
     fn source<C: SocketContext>(&self, context: &C) -> Option<IpAddress>
         ensures { result ≡ spec.first_source (C.source_for context.now) self.now }
@@ -265,7 +262,7 @@ impl<L: Drop> SocketOf<L> {
         source_address(context, self.local.addr, &segment.remote.addr)
     }
 
-    /// The first segment to be sent, from a source.
+    /// The first segment to send, if any, with this source address.
     #[inline(always)]
     fn packet(&self, src_addr: IpAddress) -> Option<Packet<'_>>
         ensures { option_map spec.value_of result ≡ option_map (λ p. spec.packet_to_send self.now p src_addr) (first_of self.now.tx.packets) }
@@ -280,7 +277,7 @@ impl<L: Drop> SocketOf<L> {
         })
     }
 
-    /// Tells the socket whether what it offered is gone: then it is dropped.
+    /// Acknowledges what the socket offered: if it is `gone` (sent or dropped), the socket drops it.
     pub fn told(&mut self, gone: bool)
         ensures { self.new ≡ spec.socket_after_told gone self.old }
     {
@@ -292,10 +289,9 @@ impl<L: Drop> SocketOf<L> {
     ghost use Rattle.std.specs.Borrow.{sem};
     ghost use Rattle.transport_sockets.specs.TcpLending.{Settles};
 
-    /// The first segment to be sent, if there is one and the moment until which the socket holds
-    /// back has come. Its source is the socket's own address, if that is given, else the one that
-    /// the context chooses. Without a source of the peer's family the segment is dropped, and none
-    /// is offered.
+    /// The first segment to send, if any, once the moment until which the socket holds back has passed. Its source is
+    /// the socket's local address if that is given, otherwise the one that the context chooses. Without a source of the
+    /// peer's family the segment is dropped, and `None` returned.
     pub fn offer<C: SocketContext>(&mut self, context: &C) -> Option<Packet<'_>>
         ensures* settles { sem 𝓛 (Settles L.row self.entry (C.moment context.now) (C.source_for context.now)) }
         ensures value { option_map spec.value_of result ≡ spec.offered_packet (C.moment context.now) (C.source_for context.now) self.old }
@@ -311,7 +307,7 @@ impl<L: Drop> SocketOf<L> {
     }
 }
 
-/// What is kept of a segment that came from an address.
+/// What is kept of a segment received from an address.
 fn segment_of(src_addr: IpAddress, repr: &TcpRepr) -> Segment
     ensures { result ≡ spec.segment_of src_addr repr.now }
 {
@@ -327,7 +323,7 @@ fn segment_of(src_addr: IpAddress, repr: &TcpRepr) -> Segment
     }
 }
 
-/// The header of a segment that goes out from a port.
+/// The header of a segment that is sent from a port.
 fn repr_of(src_port: u16, segment: &Segment) -> TcpRepr
     ensures { result ≡ spec.repr_of src_port segment.now }
 {
@@ -341,11 +337,10 @@ fn repr_of(src_port: u16, segment: &Segment) -> TcpRepr
     }
 }
 
-/// The reset that answers a segment with so many octets of payload, fewer than 65,536 (RFC 9293
-/// 3.5.2).
+/// The reset that answers a segment with fewer than 65,536 octets of payload (RFC 9293 3.5.2).
 ///
-/// Its sequence number is the segment's acknowledgement number, or 0. It acknowledges only a SYN
-/// that has none: the number behind the SYN and the payload.
+/// Its sequence number is the segment's acknowledgement number, or 0. It acknowledges only a SYN without an
+/// acknowledgement number: the number after the SYN and the payload.
 pub fn rst_reply(repr: &TcpRepr, payload_len: usize) -> TcpRepr
     requires { payload_len < 2 ^ 16 }
     ensures { result ≡ spec.reset_of repr.now payload_len }

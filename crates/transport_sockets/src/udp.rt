@@ -16,7 +16,7 @@ use socket_base::poll_at::PollAt;
 use socket_base::queue::{Full, Queue};
 use std::marker::{Model, PhantomData};
 
-/// A datagram to be sent; its payload stays in the socket.
+/// A datagram to send; its payload stays in the socket.
 #[derive(Clone, Copy)]
 pub struct Packet<'p> {
     pub src: IpEndpoint,
@@ -27,7 +27,7 @@ pub struct Packet<'p> {
 
 /// A UDP socket, with its lifetime as a type parameter.
 ///
-/// In contracts it is the end at which it listens, its hop limit, and its two queues.
+/// In contracts it is the endpoint at which it listens, its hop limit, and its two queues.
 #[derive(Drop)]
 pub struct SocketOf<L> {
     endpoint: IpListenEndpoint,
@@ -48,8 +48,7 @@ impl<L> Model for SocketOf<L> {
 }
 
 impl<L: Drop> SocketOf<L> {
-    /// A socket that listens at an end, with a queue for what comes and one for what goes. Its hop
-    /// limit is 64.
+    /// Creates a socket that listens at an endpoint from a receive queue and a transmit queue. Its hop limit is 64.
     pub fn new(
         endpoint: IpListenEndpoint,
         rx: Queue<IpEndpoint>,
@@ -65,21 +64,21 @@ impl<L: Drop> SocketOf<L> {
         }
     }
 
-    /// The end at which it listens.
+    /// The endpoint at which the socket listens.
     pub fn endpoint(&self) -> IpListenEndpoint
         ensures { result ≡ self.now.endpoint }
     {
         self.endpoint
     }
 
-    /// The hop limit of what is sent.
+    /// The hop limit of packets sent.
     pub fn hop_limit(&self) -> u8
         ensures { result ≡ self.now.hop_limit }
     {
         self.hop_limit
     }
 
-    /// Sets the hop limit of what is sent, which isn't 0.
+    /// Sets the hop limit of packets sent, which must not be 0.
     pub fn set_hop_limit(&mut self, hop_limit: u8)
         requires { hop_limit ≢ 0 }
         ensures { self.new ≡ record self.old { hop_limit = hop_limit } }
@@ -87,22 +86,22 @@ impl<L: Drop> SocketOf<L> {
         self.hop_limit = hop_limit;
     }
 
-    /// The datagrams that came and weren't read.
+    /// The datagrams received but not read yet.
     pub fn rx(&self) -> &Queue<IpEndpoint>
         ensures { result.now ≡ self.now.rx }
     {
         self.buffers.rx()
     }
 
-    /// The datagrams that are to be sent.
+    /// The datagrams to send.
     pub fn tx(&self) -> &Queue<IpEndpoint>
         ensures { result.now ≡ self.now.tx }
     {
         self.buffers.tx()
     }
 
-    /// Whether a datagram to an address and a port is for the socket: the port is its own, and it
-    /// listens at any address or at that one, or the address is a broadcast or a multicast one.
+    /// Whether the socket accepts a datagram for an address and a port: the port is its own, and it listens at any
+    /// address or at this one, or the address is broadcast or multicast.
     #[inline(always)]
     pub fn accepts<C: SocketContext>(
         &self,
@@ -125,7 +124,7 @@ impl<L: Drop> SocketOf<L> {
         }
     }
 
-    /// Takes a datagram that came from an end. Without room for it, it is dropped.
+    /// Queues a datagram received from an endpoint. It is dropped if there is no room for it.
     #[inline(always)]
     pub fn process(&mut self, remote: IpEndpoint, payload: &[u8])
         ensures { self.new ≡ spec.socket_after_delivery remote payload.now self.old }
@@ -133,24 +132,23 @@ impl<L: Drop> SocketOf<L> {
         self.buffers.process(remote, payload);
     }
 
-    /// The first datagram that came and wasn't read, if there is one: where it came from, and its
-    /// payload.
+    /// The first datagram received but not read yet, if any: its source endpoint and its payload.
     pub fn recv(&self) -> Option<(&IpEndpoint, &[u8])>
         ensures { option_map (λ p. (p.0.now, p.1.now)) result ≡ first_of self.now.rx.packets }
     {
         self.buffers.recv()
     }
 
-    /// Drops the datagram that `recv` gives, if there is one.
+    /// Drops the datagram that `recv` returns, if any.
     pub fn done(&mut self)
         ensures { self.new ≡ spec.socket_after_done self.old }
     {
         self.buffers.done();
     }
 
-    /// Queues a datagram of at most 65,495 octets to an end whose address is specified. Neither its
-    /// port nor the socket's own may be 0. `Full` exactly if it doesn't fit; then the socket stays as
-    /// it was.
+    /// Queues a datagram of at most 65,495 octets for an endpoint. Its address must not be unspecified, and neither its
+    /// port nor the socket's own may be 0. Fails with `Full` exactly if it doesn't fit; then the socket stays
+    /// unchanged.
     pub fn send(&mut self, remote: IpEndpoint, payload: &[u8]) -> Result<(), Full>
         requires addr { is_unspecified remote.addr ≡ false }
         requires port { remote.port ≢ 0 }
@@ -162,10 +160,9 @@ impl<L: Drop> SocketOf<L> {
         self.buffers.send(remote, payload)
     }
 
-    /// Queues a datagram to an end as [`send`](SocketOf::send) does, for ends and payloads of any
-    /// kind: an error comes exactly where the end's address is unspecified, its port or the socket's
-    /// own is 0, the payload has more than 65,495 octets, or it doesn't fit, the first of these that
-    /// holds; then the socket stays as it was.
+    /// Queues a datagram as [`send`](SocketOf::send) does, for any endpoint and payload. Fails exactly if the remote
+    /// address is unspecified, the remote port is 0, the socket's own port is 0, the payload has more than 65,495
+    /// octets, or it doesn't fit; the first of these is returned. Then the socket stays unchanged.
     pub fn try_send(&mut self, remote: IpEndpoint, payload: &[u8]) -> Result<(), SendError>
         ensures refused { result_err result ≡ refusal remote self.old.endpoint.port (length payload.now) (is_room self.old.tx (length payload.now)) }
         ensures ok { OnOk result (self.new ≡ spec.socket_after_send remote payload.now self.old) }
@@ -178,7 +175,7 @@ impl<L: Drop> SocketOf<L> {
         self.send(remote, payload).map_err(|_| SendError::Full)
     }
 
-    /// When it has to be polled again: at once, if something is to be sent.
+    /// When the socket has to be polled again: immediately, if there is something to send.
     #[inline(always)]
     pub fn poll_at(&self) -> PollAt
         ensures { result ≡ spec.poll_at self.now }
@@ -186,7 +183,7 @@ impl<L: Drop> SocketOf<L> {
         self.buffers.poll_at(PollAt::Now)
     }
 
-    /// The source of the first datagram to be sent, if there is one.
+    /// The source address of the first datagram to send, if any.
     #[inline(always)]
     fn source<C: SocketContext>(&self, context: &C) -> Option<IpAddress>
         ensures { result ≡ spec.first_source (C.source_for context.now) self.now }
@@ -195,7 +192,7 @@ impl<L: Drop> SocketOf<L> {
         source_address(context, self.endpoint.addr, &remote.addr)
     }
 
-    /// The first datagram to be sent, from a source.
+    /// The first datagram to send, if any, with this source address.
     #[inline(always)]
     fn packet(&self, addr: IpAddress) -> Option<Packet<'_>>
         ensures { option_map spec.value_of result ≡ option_map (λ p. spec.datagram self.now p addr) (first_of self.now.tx.packets) }
@@ -212,7 +209,7 @@ impl<L: Drop> SocketOf<L> {
         })
     }
 
-    /// Tells the socket whether what it offered is gone: then it is dropped.
+    /// Acknowledges what the socket offered: if it is `gone` (sent or dropped), the socket drops it.
     pub fn told(&mut self, gone: bool)
         ensures { self.new ≡ spec.socket_after_told gone self.old }
     {
@@ -224,9 +221,9 @@ impl<L: Drop> SocketOf<L> {
     ghost use Rattle.std.specs.Borrow.{sem};
     ghost use Rattle.transport_sockets.specs.UdpLending.{Settles};
 
-    /// The first datagram to be sent, if there is one. Its source is the address at which the
-    /// socket listens, if that is given, else the one that the context chooses. Without a source
-    /// of the peer's family the datagram is dropped, and none is offered.
+    /// The first datagram to send, if any. Its source is the address at which the socket listens if that is given,
+    /// otherwise the one that the context chooses. Without a source of the peer's family the datagram is dropped, and
+    /// `None` returned.
     pub fn offer<C: SocketContext>(&mut self, context: &C) -> Option<Packet<'_>>
         ensures* settles { sem 𝓛 (Settles L.row self.entry (C.source_for context.now)) }
         ensures value { option_map spec.value_of result ≡ spec.offered_packet (C.source_for context.now) self.old }

@@ -1,5 +1,5 @@
-//! `udp_echo` is a host at 192.168.69.1 that sends back each datagram that comes to its port 7 (RFC 862).
-//! It reads frames in hexadecimal from standard input, one a line, and prints those that it sends.
+//! `udp_echo` is a host at 192.168.69.1 that sends back each datagram that it receives at port 7 (RFC 862). It reads
+//! frames in hexadecimal from standard input, one a line, and prints those that it sends.
 #![tactic(auto)]
 
 use anyhow::Result;
@@ -13,7 +13,7 @@ use sockets::{Queue, udp};
 use std::alloc::Global;
 use std::io::Eprint;
 
-/// Its link: Ethernet, with frames of at most 1514 octets.
+/// Its link: Ethernet, with frames of at most 1,514 octets.
 const CAPABILITIES: DeviceCapabilities = DeviceCapabilities {
     medium: Medium::Ethernet,
     max_transmission_unit: 1514,
@@ -21,7 +21,7 @@ const CAPABILITIES: DeviceCapabilities = DeviceCapabilities {
     checksum: ChecksumCapabilities::ALL,
 };
 
-/// How many frames a poll takes and how many rounds of sending it makes at most.
+/// The maximum number of frames that a poll receives, and of its rounds of sending.
 const BUDGET: usize = 16;
 
 fn main(rt: HostRuntime) -> Result<()> {
@@ -59,8 +59,8 @@ fn interface_over(device: &mut MemoryDevice) -> Result<Interface> {
     Ok(interface)
 }
 
-/// Queues each datagram that came to a socket for where it came from. Tells of those that can't go back:
-/// there is no room, or they came from port 0.
+/// Queues each datagram that a socket received for its sender. Reports those that can't be sent back: there is no room,
+/// or they came from port 0.
 fn echo(
     rt: &impl Eprint,
     alloc: Global,

@@ -1,4 +1,4 @@
--- Numbers at a place of some octets, big-endian where nothing else is said.
+-- Numbers at an offset, big-endian unless stated otherwise.
 use Rattle.std.specs.Prelude.{ℕ, ◌+◌, ◌*◌, ◌^◌, ◌<◌, List, slice_index}
 
 abbrev pub u16_at : List ℕ → ℕ → ℕ

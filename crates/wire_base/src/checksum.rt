@@ -5,9 +5,8 @@ ghost use Rattle.wire_base.specs.Octets.{u64_le_at};
 
 use crate::octets::{u32_le_at, u64_le_at};
 
-/// A sum of less than 2^48 with the 16-bit words of some octets, of which there are fewer than 65,536, added
-/// to it, folded. A last odd octet is the high half of a word, so parts are summed one after
-/// the other as long as all but the last are of even length.
+/// The folded sum of `start`, which is below 2^48, and the 16-bit words of fewer than 65,536 octets. A last odd octet
+/// is the high half of a word, so parts can be summed one after another if all but the last are of even length.
 #[inline(always)]
 pub fn sum_with(start: u64, octets: &[u8]) -> u16
     requires short { length octets.now < 2 ^ 16 }
@@ -20,8 +19,8 @@ pub fn sum_with(start: u64, octets: &[u8]) -> u16
     long_sum_with(start, octets)
 }
 
-/// The same, in blocks of 64 octets, and one of 32 where that is left. Read little-endian, eight octets need no swap: times 256 they
-/// fold as their four words do (RFC 1071 2).
+/// Computes [`sum_with`] in blocks of 64 octets, and one of 32 if that is left. Read little-endian, eight octets need
+/// no swap: times 256 they fold as their four words do (RFC 1071 2).
 #[inline(never)]
 fn long_sum_with(start: u64, octets: &[u8]) -> u16
     requires short { length octets.now < 2 ^ 16 }
@@ -38,8 +37,8 @@ fn long_sum_with(start: u64, octets: &[u8]) -> u16
     fold(sum + short_sum(&octets[32 * count..]))
 }
 
-/// A sum of the little-endian numbers in the pairs of so many blocks of 32 octets, with those of the last
-/// block, if that is in no pair.
+/// A sum of the little-endian numbers in the pairs among `count` blocks of 32 octets, with those of the last block
+/// added if that is in no pair.
 #[inline(always)]
 fn with_odd_block(swapped: u128, octets: &[u8], count: usize) -> u128
     requires within { 32 * count ≤ length octets.now }
@@ -77,8 +76,8 @@ fn block_sum(octets: &[u8], at: usize) -> u128
         + u128::from(u64_le_at(octets, at + 24))
 }
 
-/// What folds as the sum of the words of some octets, of which there are fewer than 65,536, in whichever sum it is:
-/// so several parts, all but the last of even length, are folded once.
+/// A number that folds as the sum of the words of fewer than 65,536 octets does, in any sum. So several parts, all but
+/// the last of even length, are folded once.
 #[inline(always)]
 pub fn part_sum(octets: &[u8]) -> u64
     requires { length octets.now < 2 ^ 16 }
@@ -92,7 +91,7 @@ pub fn part_sum(octets: &[u8]) -> u64
     }
 }
 
-/// The same of fewer than 32 octets, which are read four at a time.
+/// Computes [`part_sum`] of fewer than 32 octets, four at a time.
 #[inline(always)]
 fn short_sum(octets: &[u8]) -> u64
     requires { length octets.now < 32 }
@@ -107,7 +106,7 @@ fn short_sum(octets: &[u8]) -> u64
     256 * swapped + tail_sum(&octets[4 * count..])
 }
 
-/// The sum of a number's parts of 32 bits. Times 256 it folds as the number does.
+/// The sum of the 32-bit parts of a number. Times 256 it folds as the number does.
 #[inline(always)]
 fn parts_sum(number: u128) -> u64
     requires { number < 2 ^ 96 }
@@ -147,8 +146,7 @@ pub fn fold(sum: u64) -> u16
     }
 }
 
-/// The checksum of some octets, of which there are fewer than 65,536: the ones' complement of the
-/// folded sum of their words.
+/// The Internet checksum of fewer than 65,536 octets: the ones' complement of the folded sum of their words.
 pub fn checksum(octets: &[u8]) -> u16
     requires { length octets.now < 2 ^ 16 }
     ensures { result ≡ spec.checksum_of octets.now }
@@ -156,7 +154,7 @@ pub fn checksum(octets: &[u8]) -> u16
     0xffff - sum_with(0, octets)
 }
 
-/// To fold is to add the carries to the lower 16 bits, until there are none.
+/// Folding is adding the carries to the lower 16 bits, until there are none.
 pub fn folds_carries()
     ensures { spec.FoldsCarries }
 {}

@@ -1,13 +1,13 @@
-//! Frames are built by appending to one bounded buffer.
+//! The buffer to which frames are appended.
 ghost use Rattle.std.specs.Prelude.{◌≡◌, ◌+◌, ◌≤◌, ◌++◌, ◌==◌, [], length};
 
 use net_base::phy::FRAME_BUFFER_SIZE;
 use std::marker::Model;
 
-/// A buffer in which a frame is built: room for the octets of the longest one, and how many of them
-/// are there. Nothing is cleared where a new frame begins.
+/// A buffer in which a frame is built: room for the longest frame, and the number of octets in use. The octets aren't
+/// cleared when a new frame begins.
 ///
-/// In contracts it is the list of the octets that are there, at most 1,514.
+/// In contracts it is the list of the octets in use, at most 1,514.
 #[derive(Drop)]
 pub struct FrameBuffer {
     octets: [u8; FRAME_BUFFER_SIZE],
@@ -25,7 +25,7 @@ impl Model for FrameBuffer {
 }
 
 impl FrameBuffer {
-    /// A buffer with no octets.
+    /// Creates an empty buffer.
     pub fn new() -> FrameBuffer
         ensures { result ≡ [] }
     {
@@ -35,7 +35,7 @@ impl FrameBuffer {
         }
     }
 
-    /// How many octets are there.
+    /// The number of octets in the buffer.
     #[inline(always)]
     pub fn len(&self) -> usize
         ensures value { result ≡ length self.now }
@@ -44,7 +44,7 @@ impl FrameBuffer {
         self.len
     }
 
-    /// Whether no octets are there.
+    /// Whether the buffer is empty.
     #[inline(always)]
     pub fn is_empty(&self) -> bool
         ensures { result ≡ (length self.now == 0) }
@@ -52,7 +52,7 @@ impl FrameBuffer {
         self.len == 0
     }
 
-    /// The octets that are there, at most 1,514.
+    /// The octets in the buffer, at most 1,514.
     #[inline(always)]
     pub fn as_slice(&self) -> &[u8]
         ensures value { result.now ≡ self.now }
@@ -61,7 +61,7 @@ impl FrameBuffer {
         &self.octets[..self.len]
     }
 
-    /// Begins anew, with no octets.
+    /// Empties the buffer.
     #[inline(always)]
     pub fn clear(&mut self)
         ensures { self.new ≡ [] }
@@ -69,7 +69,7 @@ impl FrameBuffer {
         self.len = 0;
     }
 
-    /// Appends octets, for which there has to be room.
+    /// Appends octets, for which there must be room.
     #[inline(always)]
     pub fn append(&mut self, octets: &[u8])
         requires { length self.old + length octets.now ≤ 1514 }

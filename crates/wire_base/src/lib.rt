@@ -1,5 +1,5 @@
-//! What all forms on the wire are made with: numbers at a place, the Internet checksum with its
-//! pseudo-header, and the buffer in which a frame is built.
+//! The base of all wire formats: numbers at an offset, the Internet checksum with its pseudo-header, and the buffer in
+//! which a frame is built.
 #![tactic(auto)]
 
 pub mod checksum;

@@ -1,8 +1,8 @@
-//! Numbers at a place of some octets, big-endian where nothing else is said.
+//! Numbers at an offset of a slice, big-endian unless stated otherwise.
 ghost use Rattle.std.specs.Prelude.{◌≡◌, ◌+◌, ◌≤◌, length};
 ghost use Rattle.wire_base.specs.Octets as spec;
 
-/// The number of two octets at a place.
+/// The number in two octets at an offset.
 #[inline(always)]
 pub fn u16_at(octets: &[u8], at: usize) -> u16
     requires { at + 2 ≤ length octets.now }
@@ -11,7 +11,7 @@ pub fn u16_at(octets: &[u8], at: usize) -> u16
     u16::from_be_bytes([octets[at], octets[at + 1]])
 }
 
-/// The number of four octets at a place.
+/// The number in four octets at an offset.
 #[inline(always)]
 pub fn u32_at(octets: &[u8], at: usize) -> u32
     requires { at + 4 ≤ length octets.now }
@@ -20,7 +20,7 @@ pub fn u32_at(octets: &[u8], at: usize) -> u32
     u32::from_be_bytes([octets[at], octets[at + 1], octets[at + 2], octets[at + 3]])
 }
 
-/// The number of four octets at a place, little-endian.
+/// The number in four octets at an offset, little-endian.
 #[inline(always)]
 pub fn u32_le_at(octets: &[u8], at: usize) -> u32
     requires { at + 4 ≤ length octets.now }
@@ -29,7 +29,7 @@ pub fn u32_le_at(octets: &[u8], at: usize) -> u32
     u32::from_le_bytes([octets[at], octets[at + 1], octets[at + 2], octets[at + 3]])
 }
 
-/// The number of eight octets at a place, little-endian.
+/// The number in eight octets at an offset, little-endian.
 #[inline(always)]
 pub fn u64_le_at(octets: &[u8], at: usize) -> u64
     requires { at + 8 ≤ length octets.now }

@@ -6,8 +6,8 @@ ghost use Rattle.wire_base.specs.Pseudo as spec;
 use crate::checksum::sum_with;
 use ip_address::IpAddress;
 
-/// What folds as the sum of the words of a pseudo-header, in whichever sum it is: source, destination, the
-/// protocol's number, and the length of what follows, in octets.
+/// A number that folds as the sum of the words of a pseudo-header does, in any sum: source, destination, the protocol's
+/// number, and the length of what follows, in octets.
 #[inline(always)]
 #[tactic(auto, using(crate::proofs::Pseudos::sums))]
 pub fn pseudo_sum(src: &IpAddress, dst: &IpAddress, protocol: u8, len: u16) -> u64
@@ -24,7 +24,7 @@ pub fn pseudo_sum(src: &IpAddress, dst: &IpAddress, protocol: u8, len: u16) -> u
     u64::from(ending_sum(addresses, dst, protocol, len))
 }
 
-/// The sum of the four quarters of an IPv6 address, of 32 bits each. It folds as the sum of its words.
+/// The sum of the four 32-bit quarters of an IPv6 address. It folds as the sum of its words does.
 #[inline(always)]
 fn quarters(bits: u128) -> u64
     ensures value { result ≡ spec.quarters bits }
@@ -37,7 +37,7 @@ fn quarters(bits: u128) -> u64
     first + second + third + fourth
 }
 
-/// A sum with the words of an address added.
+/// The folded sum of `start` and the words of an address.
 fn address_sum(start: u16, address: &IpAddress) -> u16
     ensures { result ≡ folded_sum (start + word_sum (spec.address_octets address.now)) }
 {
@@ -47,7 +47,7 @@ fn address_sum(start: u16, address: &IpAddress) -> u16
     }
 }
 
-/// A sum with the words of protocol and length added.
+/// The folded sum of `start` and the words of protocol and length.
 fn ending_sum(start: u16, dst: &IpAddress, protocol: u8, len: u16) -> u16
     ensures { result ≡ folded_sum (start + word_sum (spec.ending dst.now protocol len)) }
 {
