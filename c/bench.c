@@ -71,7 +71,9 @@ int main(int argc, char **argv) {
     if (argc != 3) return 2;
     long rounds = atol(argv[2]), octets = 0;
     iface host = IFACE_NONE;
-    struct iface_config config = {.seed = 1, .frame_len = 1514, .sockets = 1, .hardware_address = {2, 0, 0, 0, 0, 1}};
+    struct iface_config config;
+    iface_config_init(&config);
+    config.seed = 1, config.sockets = 1, config.hardware_address[0] = 2, config.hardware_address[5] = 1;
     struct iface_address own = {4, {192, 168, 69, 1}};
     struct iface_endpoint local = {{0, {0}}, 4000}, remote = {{4, {192, 168, 69, 100}}, 5000}, from;
     uint32_t socket;

@@ -42,8 +42,9 @@ enum iface_code {
     IFACE_BAD_PORT = 12,     /* a port that is 0 */
     IFACE_TOO_LONG = 13,     /* a packet longer than is ever sent */
     IFACE_QUEUE_FULL = 14,   /* the socket's queue has no room for the packet: iface_next makes some */
-    IFACE_EMPTY = 15,        /* no packet came */
-    IFACE_NO_ROOM = 16       /* the room for a frame is shorter than IFACE_FRAME_ROOM, that for a packet than the packet */
+    IFACE_EMPTY = 15,        /* no packet came; the socket doesn't wait; no packet was given up */
+    IFACE_NO_ROOM = 16,      /* the room for a frame is shorter than IFACE_FRAME_ROOM, that for a packet than the packet */
+    IFACE_BAD_TIMEOUT = 17   /* reassembly_timeout: 0, or longer than a day */
 };
 
 /* The room that iface_receive and iface_next need for a frame, in octets. */
@@ -74,9 +75,14 @@ struct iface_endpoint {
     uint16_t port; /* in the order of the machine */
 };
 
-/* How a host is to be made. */
+/* How a host is to be made: iface_config_init fills it in. */
 struct iface_config {
     uint64_t seed;               /* of its random words, which need not be secret: another for each host and each start */
+    uint64_t patience;           /* how long a packet waits for a neighbour that doesn't answer, in microseconds, before it
+                                    is given up; 0 is for ever, and then one such packet stops its socket */
+    uint64_t reassembly_timeout; /* how long fragments of a packet wait for the others, in microseconds: not 0, at most a
+                                    day. Two packets at a time are put together, so strangers' fragments block the
+                                    others for so long */
     uint32_t frame_len;          /* the longest frame of the link in octets, with a header of Ethernet and without its
                                     checksum: 1514 on usual Ethernet */
     uint32_t sockets;            /* how many may be open at once; memory for their places is taken at once */
@@ -89,8 +95,13 @@ enum iface_medium { IFACE_ETHERNET = 0, IFACE_IP = 1 };
 
 /* ---- hosts ---- */
 
+/* Writes what most programs want: frames of 1514 octets on Ethernet, 8 sockets, no addresses from routers, a patience of
+ * 3 s (three requests, a second apart: RFC 4861, 10), and 10 s for fragments. The seed is 0, and the hardware address
+ * all zeros: set both. */
+void iface_config_init(struct iface_config *config);
+
 /* Makes a host, which the handle owns from then on.
- * HAS_HOST, BAD_ARGUMENT (the medium), NOT_UNICAST (the hardware address), BAD_MTU, NO_MEMORY. */
+ * HAS_HOST, BAD_ARGUMENT (the medium), NOT_UNICAST (the hardware address), BAD_MTU, BAD_TIMEOUT, NO_MEMORY. */
 uint32_t iface_new(iface *host, const struct iface_config *config);
 
 /* Frees a host, with its sockets and the frames that wait. The handle owns none from then on. NO_HOST. */
@@ -185,6 +196,21 @@ uint32_t iface_icmp_receive(iface *host, uint32_t socket, struct iface_address *
 /* A packet with its header. */
 uint32_t iface_raw_receive(iface *host, uint32_t socket, uint8_t *out, size_t room, size_t *length);
 
+/* ---- packets that wait for a neighbour ----
+ *
+ * The first packet of a socket waits until the hardware address of its next hop is known, and those behind it with it.
+ * One request goes in a second, for all sockets, in turn. After config.patience the packet is given up, and so are
+ * those behind it to the same address. */
+
+/* Writes for whom the first packet of a socket waits, and since when, as of the last round. NO_SOCKET, EMPTY. */
+uint32_t iface_waiting(iface *host, uint32_t socket, struct iface_address *remote, int64_t *since);
+
+/* Writes the destination of the packet that a socket gave up last, once. NO_SOCKET, EMPTY. */
+uint32_t iface_given_up(iface *host, uint32_t socket, struct iface_address *remote);
+
+/* Writes how many packets were given up, of all sockets. */
+uint32_t iface_given_up_count(iface *host, uint64_t *count);
+
 /* ---- frames ----
  *
  * `now` is a moment in microseconds since an origin of the caller's choice, from 0 to IFACE_LAST_MOMENT. It may go
@@ -198,7 +224,8 @@ uint32_t iface_receive(iface *host, int64_t now, const uint8_t *frame, size_t fr
 /* Writes the next frame that is to be sent, of *length octets; 0 says that the round sent nothing.
  *
  * Frames are sent in rounds: in a round what has ended is dropped, routers are told of groups, and each socket that has
- * something to send sends one packet, in the order of their numbers. The frames of a round wait in the library until
+ * something to send sends one packet, in the order of their numbers. A packet that goes in pieces is begun when no piece
+ * of another one is left, so sockets take turns with such packets. The frames of a round wait in the library until
  * they are asked for, one a call; a call that finds none makes the next round. So no socket is passed over, however
  * seldom frames are asked for. Call it until *length is 0, and then ask iface_poll_at.
  * NO_MEMORY (before a round, if memory for a frame is refused). */
@@ -214,7 +241,7 @@ uint32_t iface_poll_at(iface *host, int64_t now, int64_t *at);
 
 #if defined(__STDC_VERSION__) && __STDC_VERSION__ >= 201112L
 _Static_assert(sizeof(struct iface_address) == 17 && sizeof(struct iface_endpoint) == 20, "as the library lays them out");
-_Static_assert(sizeof(struct iface_config) == 24 && sizeof(iface) == 16, "as the library lays them out");
+_Static_assert(sizeof(struct iface_config) == 40 && sizeof(iface) == 16, "as the library lays them out");
 #endif
 
 #endif

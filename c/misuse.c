@@ -31,7 +31,15 @@ static uint64_t word(uint64_t *state) { /* xorshift */
 
 static uint8_t big[70000], out[IFACE_FRAME_ROOM];
 
-static const struct iface_config good = {.seed = 1, .frame_len = 1514, .sockets = 8, .hardware_address = {2, 0, 0, 0, 0, 1}};
+static struct iface_config good;
+
+static void fill_in_good(void) {
+    iface_config_init(&good);
+    wants("usual frames", good.frame_len == 1514 && good.medium == IFACE_ETHERNET && good.sockets == 8 && good.slaac == 0, 1);
+    wants("usual patience", good.patience, 3000000);
+    wants("usual timeout", good.reassembly_timeout, 10000000);
+    good.seed = 1, good.hardware_address[0] = 2, good.hardware_address[5] = 1;
+}
 
 static void refuses_configurations(void) {
     iface host = IFACE_NONE;
@@ -41,6 +49,9 @@ static void refuses_configurations(void) {
     c.frame_len = 0xffffffff, wants("frames of 2^32-1", iface_new(&host, &c), IFACE_BAD_MTU);
     c = good, c.medium = 2, wants("medium 2", iface_new(&host, &c), IFACE_BAD_ARGUMENT);
     c = good, c.hardware_address[0] = 1, wants("hardware address of a group", iface_new(&host, &c), IFACE_NOT_UNICAST);
+    c = good, c.reassembly_timeout = 0, wants("no time for fragments", iface_new(&host, &c), IFACE_BAD_TIMEOUT);
+    c.reassembly_timeout = 86400000001, wants("more than a day", iface_new(&host, &c), IFACE_BAD_TIMEOUT);
+    c.reassembly_timeout = UINT64_MAX, wants("more than a day", iface_new(&host, &c), IFACE_BAD_TIMEOUT);
     wants("handle", host.tag, 0);
     wants("free of none", iface_free(&host), IFACE_NO_HOST);
     c = good, c.medium = IFACE_IP, c.frame_len = 576, wants("packets of 576", iface_new(&host, &c), IFACE_OK);
@@ -59,6 +70,7 @@ static void refuses_without_host(void) {
     uint8_t prefix;
     size_t n = 77;
     int64_t at = 77;
+    uint64_t count = 77;
     wants("address", iface_add_address(&host, &a, 8), IFACE_NO_HOST);
     wants("address at", iface_address_at(&host, 0, &a, &prefix), IFACE_NO_HOST);
     wants("route", iface_set_default_route(&host, &a), IFACE_NO_HOST);
@@ -68,7 +80,10 @@ static void refuses_without_host(void) {
     wants("frame", iface_receive(&host, 0, big, 60, out, sizeof out, &n), IFACE_NO_HOST);
     wants("next", iface_next(&host, 0, out, sizeof out, &n), IFACE_NO_HOST);
     wants("poll_at", iface_poll_at(&host, 0, &at), IFACE_NO_HOST);
-    wants("what was not written", socket == 77 && n == 77 && at == 77, 1);
+    wants("waiting", iface_waiting(&host, 0, &a, &at), IFACE_NO_HOST);
+    wants("given up", iface_given_up(&host, 0, &a), IFACE_NO_HOST);
+    wants("given up, of all", iface_given_up_count(&host, &count), IFACE_NO_HOST);
+    wants("what was not written", socket == 77 && n == 77 && at == 77 && count == 77, 1);
 }
 
 static void refuses_addresses(iface *host) {
@@ -156,6 +171,15 @@ static void refuses_sockets(iface *host) {
     wants("close again", iface_close(host, 5), IFACE_NO_SOCKET);
     wants("open", iface_icmp_open_port(host, 6969, 2, 256, &other), IFACE_OK);
     wants("the least number", other, 5);
+    int64_t since = 77;
+    uint64_t count = 77;
+    wants("waits for nobody", iface_waiting(host, 0, &a, &since), IFACE_EMPTY);
+    wants("unopened socket", iface_waiting(host, 8, &a, &since), IFACE_NO_SOCKET);
+    wants("nothing given up", iface_given_up(host, 0, &a), IFACE_EMPTY);
+    wants("unopened socket", iface_given_up(host, 0xffffffff, &a), IFACE_NO_SOCKET);
+    wants("nothing written", since, 77);
+    wants("given up, of all", iface_given_up_count(host, &count), IFACE_OK);
+    wants("their number", count, 0);
 }
 
 static void refuses_frames(iface *host) {
@@ -214,6 +238,7 @@ static void takes_noise(iface *host, int frames) {
 int main(int argc, char **argv) {
     int frames = argc > 1 && strcmp(argv[1], "--short") == 0 ? 20000 : 300000;
     iface host = IFACE_NONE;
+    fill_in_good();
     refuses_configurations();
     refuses_without_host();
     wants("host", iface_new(&host, &good), IFACE_OK);

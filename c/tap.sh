@@ -39,6 +39,13 @@ try() {
     echo "== $*"
     "$@" || status=1
 }
+# Three pings at once, none of which may lose a reply.
+three_at_a_time() {
+    local told
+    told=$(for _ in 1 2 3; do ping -q "$@" & done; wait)
+    grep 'packet loss' <<<"$told"
+    [ "$(grep -c ' 0% packet loss' <<<"$told")" = 3 ]
+}
 try ping -c 3 -i 0.2 192.168.69.1
 try ping -c 3 -i 0.2 fd69::1
 try ping -c 3 -i 0.2 fe80::1%tap0
@@ -46,6 +53,7 @@ try ping -f -q -c 10000 192.168.69.1
 try ping -f -q -c 10000 fd69::1
 try ping -f -q -c 10000 -s 1472 192.168.69.1
 try ping -c 3 -i 0.2 -s 3000 192.168.69.1
+try three_at_a_time -c 20 -i 0.2 -s 3000 192.168.69.1
 try "$peer"
 echo "== neighbours"
 ip neigh show dev tap0

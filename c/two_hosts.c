@@ -20,9 +20,11 @@ static void must(const char *what, uint32_t code) {
 }
 
 static void make(iface *host, uint8_t last, uint16_t port, uint32_t *socket) {
-    struct iface_config config = {.seed = last, .frame_len = 1514, .sockets = 4, .hardware_address = {2, 0, 0, 0, 0, last}};
+    struct iface_config config;
     struct iface_address v4 = {4, {192, 168, 69, last}}, v6 = {6, {[0] = 0xfe, [1] = 0x80, [15] = last}};
     struct iface_endpoint local = {{0, {0}}, port};
+    iface_config_init(&config);
+    config.seed = last, config.sockets = 4, config.hardware_address[0] = 2, config.hardware_address[5] = last;
     must("host", iface_new(host, &config));
     must("address", iface_add_address(host, &v4, 24));
     must("address", iface_add_address(host, &v6, 64));

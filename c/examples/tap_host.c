@@ -71,9 +71,10 @@ static int open_tap(const char *name) {
 static void make_host(iface *host, uint32_t *socket) {
     static const char *const own[] = {"192.168.69.1", "fd69::1", "fe80::1"};
     static const char *const groups[] = {"239.69.69.69", "ff15::69"};
-    struct iface_config config = {.seed = (uint64_t)now_micros(), .frame_len = 1514, .sockets = 4,
-                                  .hardware_address = {2, 0, 0, 0, 0, 1}, .medium = IFACE_ETHERNET};
+    struct iface_config config;
     struct iface_endpoint any = {.address = {.version = 0}, .port = ECHO_PORT};
+    iface_config_init(&config);
+    config.seed = (uint64_t)now_micros(), config.hardware_address[0] = 2, config.hardware_address[5] = 1;
     must("host", iface_new(host, &config));
     for (size_t i = 0; i < 3; i++) {
         struct iface_address a = address(own[i]);

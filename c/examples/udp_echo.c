@@ -1,6 +1,6 @@
 /* A host that sends back each datagram that comes to its port 7, over a link of standard input and output: a frame is a
  * line of hex. It is at 192.168.69.1/24, answers ARP and ping, sleeps until a frame comes or something is due, and ends
- * with its input.
+ * with its input. A datagram to a neighbour that doesn't answer is given up after three seconds, and told of.
  *
  *   udp_echo < ../crates/udp_echo/stdin
  */
@@ -58,10 +58,18 @@ static void echo(iface *host, uint32_t socket) {
     }
 }
 
+/* Tells of a datagram whose neighbour didn't answer. */
+static void tell_given_up(iface *host, uint32_t socket) {
+    struct iface_address a;
+    if (iface_given_up(host, socket, &a) == IFACE_OK && a.version == 4)
+        fprintf(stderr, "udp_echo: %u.%u.%u.%u doesn't answer\n", a.octets[0], a.octets[1], a.octets[2], a.octets[3]);
+}
+
 int main(void) {
     iface host = IFACE_NONE;
-    struct iface_config config = {.seed = (uint64_t)now_micros(), .frame_len = 1514, .sockets = 4,
-                                  .hardware_address = {2, 0, 0, 0, 0, 1}};
+    struct iface_config config;
+    iface_config_init(&config);
+    config.seed = (uint64_t)now_micros(), config.hardware_address[0] = 2, config.hardware_address[5] = 1;
     struct iface_address own = {4, {192, 168, 69, 1}};
     struct iface_endpoint any = {.port = PORT};
     uint32_t socket;
@@ -75,6 +83,7 @@ int main(void) {
             if (iface_next(&host, now, out, sizeof out, &n) != IFACE_OK) break;
             send_on_the_link(out, n);
         } while (n > 0);
+        tell_given_up(&host, socket);
         iface_poll_at(&host, now, &at);  /* sleep until something is due, or a frame comes */
         int got = wait_for_a_frame(at);
         if (got < 0) return iface_free(&host) != IFACE_OK;

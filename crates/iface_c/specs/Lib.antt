@@ -6,3 +6,4 @@ pub mod Hosts
 pub mod Owned
 pub mod Packets
 pub mod Status
+pub mod Waits

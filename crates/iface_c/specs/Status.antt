@@ -1,7 +1,7 @@
 -- The code of each refusal.
 use Rattle.std.specs.Prelude.{ℕ}
 use Rattle.iface_host.specs.declared.refusal.Refusal.{Refusal}
-use Rattle.iface_host.specs.declared.refusal.Refusal.TheVariants.{NoMemory, BadMtu, NotUnicast, BadMoment, BadAddress, NotThere, TableFull, NoSocket, BadPort, TooLong, QueueFull, Empty, NoRoom}
+use Rattle.iface_host.specs.declared.refusal.Refusal.TheVariants.{NoMemory, BadMtu, NotUnicast, BadMoment, BadAddress, NotThere, TableFull, NoSocket, BadPort, TooLong, QueueFull, Empty, NoRoom, BadTimeout}
 
 abbrev pub code_of : Refusal → ℕ
 code_of NoMemory = 4
@@ -17,3 +17,4 @@ code_of TooLong = 13
 code_of QueueFull = 14
 code_of Empty = 15
 code_of NoRoom = 16
+code_of BadTimeout = 17

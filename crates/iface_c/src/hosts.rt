@@ -2,7 +2,7 @@
 ghost use Rattle.std.specs.Prelude.{◌≡◌, ◌≢◌, ◌==◌, None, IsSomeAnd, is_some};
 ghost use Rattle.iface_c.specs.Addresses.{address_in, cidr_in};
 ghost use Rattle.iface_c.specs.Calls.{Did, Made, Ruled};
-ghost use Rattle.iface_c.specs.Config.{settings_in};
+ghost use Rattle.iface_c.specs.Config.{settings_in, usual};
 ghost use Rattle.iface_c.specs.Handle.{host_in};
 ghost use Rattle.iface_c.specs.Hosts.{ShowsAddress};
 ghost use Rattle.iface_host.specs.Calls.{AddsAddress, AddsRoute, JoinsGroup, LeavesGroup, RemovesAddress, RemovesRoute, SetsDefault};
@@ -13,6 +13,7 @@ use crate::handle::Iface;
 use crate::status::{BAD_ARGUMENT, HAS_HOST, NO_HOST, NO_MEMORY, NOT_THERE, OK, code};
 use iface_host::{Host, Settings};
 use ip_wire::{EthernetAddress, HardwareAddress};
+use net_base::time::Duration;
 use std::alloc::Global;
 
 /// How a host is to be made.
@@ -21,6 +22,10 @@ use std::alloc::Global;
 pub struct IfaceConfig {
     /// The seed of its random words.
     pub seed: u64,
+    /// How long a packet waits for its neighbour before it is given up, in microseconds; 0 is for ever.
+    pub patience: u64,
+    /// How long fragments of a packet wait for the others, in microseconds.
+    pub reassembly_timeout: u64,
     /// The longest frame, in octets.
     pub frame_len: u32,
     /// How many sockets may be open at once.
@@ -49,8 +54,27 @@ impl IfaceConfig {
             frame_len: self.frame_len as usize,
             slaac: self.slaac != 0,
             sockets: self.sockets as usize,
+            patience: Duration::from_micros(self.patience),
+            reassembly_timeout: Duration::from_micros(self.reassembly_timeout),
         })
     }
+}
+
+/// Writes the configuration that most programs want.
+#[unsafe(no_mangle)]
+pub extern "C" fn iface_config_init(config: &mut IfaceConfig)
+    ensures { config.new ≡ usual }
+{
+    *config = IfaceConfig {
+        seed: 0,
+        patience: 3_000_000,
+        reassembly_timeout: 10_000_000,
+        frame_len: 1514,
+        sockets: 8,
+        hardware_address: [0; 6],
+        medium: 0,
+        slaac: 0,
+    };
 }
 
 /// Makes a host, which its handle owns from then on.

@@ -12,6 +12,7 @@ pub mod loose;
 pub mod opening;
 pub mod packets;
 pub mod status;
+pub mod waiting;
 
 pub use addresses::{IfaceAddress, IfaceEndpoint};
 pub use handle::Iface;

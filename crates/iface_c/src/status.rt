@@ -41,5 +41,6 @@ pub fn code(refusal: Refusal) -> u32
         Refusal::QueueFull => 14,
         Refusal::Empty => 15,
         Refusal::NoRoom => 16,
+        Refusal::BadTimeout => 17,
     }
 }

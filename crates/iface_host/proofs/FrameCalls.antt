@@ -1,21 +1,23 @@
 -- Frames that are taken and handed over, over plain variables.
-use Rattle.std.proofs.Common.{◌≡◌, ℕ, true, false, List, [], ◌∷◌, Option, Some, refl, ap, ◌∙◌, subst, length, arith}
+use Rattle.egress_schedule.specs.Plan.{Planned}
+use Rattle.egress_schedule.specs.Rounds.{after_round, before_round}
+use Rattle.std.proofs.Common.{◌≡◌, ℕ, Bool, true, List, [], ◌∷◌, Option, Some, Ok, refl, ap, ◌∙◌, subst, length, arith}
 use Rattle.std.specs.Prelude.{ℤ, pos}
 use Rattle.std.specs.Borrow.{Bor}
-use Rattle.net_base.specs.declared.phy.DeviceCapabilities.{DeviceCapabilities}
 use Rattle.socket_set.specs.SocketSet.{Sockets}
 use Rattle.host_machine.specs.declared.results.PollResult.{PollResult}
 use Rattle.host_machine.specs.Config.{first_host}
 use Rattle.host_machine.specs.Due.{Due, IsLeast}
 use Rattle.host_machine.specs.Host.{Host as Machine, SocketSet, at}
 use Rattle.host_machine.specs.Polling.{Polls}
+use Rattle.host_machine.specs.Step.{SetsReassemblyTimeout, WithinDay, OverDay}
 use Rattle.interface.specs.Goes.{Goes}
 use Rattle.interface.specs.Receives.{ReceivesFrame}
 use Rattle.interface.specs.Stands as interface
 use Rattle.interface.specs.declared.interface.Interface.{Interface}
-use Rattle.iface_host.specs.Frames.{IsDue, IsWritten, Made, NextIs, Receives, Round}
-use Rattle.iface_host.specs.Outbox.{HandsFirst, Tells, Waiting, with_room}
-use Rattle.iface_host.specs.Stands.{IsFirst, capabilities_of}
+use Rattle.iface_host.specs.Frames.{IsDue, IsWritten, Made, NextIs, Receives, Round, is_piece_left, planned}
+use Rattle.iface_host.specs.Outbox.{HandsFirst, Tells, Waiting, empty, with_room}
+use Rattle.iface_host.specs.Stands.{capabilities_of}
 use Rattle.iface_host.specs.declared.host.Host.{Host}
 use Rattle.iface_host.specs.declared.host.Settings.{Settings}
 
@@ -23,16 +25,19 @@ pub none_waits : (frames : List (List ℕ)) → length frames ≡ 0 → frames �
 none_waits [] e = refl
 none_waits (f ∷ fs) e = absurd (omega arith)
 
-abbrev pub empty : DeviceCapabilities → Waiting
-empty capabilities = record { capabilities = capabilities; frames = []; refusals = 0; has_room = false }
-
 -- what an interface stands for that was just made, over an empty outbox
-pub first : (s : Settings) (host : Host) (o : Waiting) → o ≡ empty (capabilities_of s) → host.outbox ≡ o →
-    ((sockets : SocketSet) → interface.StandsFor host.interface sockets (first_host o.capabilities s.hardware_addr s.random_seed s.slaac (pos 0) sockets)) → IsFirst s host
-first s host o is kept stands = record {
-  stands = subst (λ (w : Waiting). interface.StandsFor host.interface host.sockets (first_host w.capabilities s.hardware_addr s.random_seed s.slaac (pos 0) host.sockets)) is (stands host.sockets);
-  frames = ap (λ (w : Waiting). w.frames) (kept ∙ is);
-}
+pub stood : (s : Settings) (i : Interface) (o : Waiting) → o ≡ empty (capabilities_of s) →
+    ((sockets : SocketSet) → interface.StandsFor i sockets (first_host o.capabilities s.hardware_addr s.random_seed s.slaac (pos 0) sockets)) →
+    (sockets : SocketSet) → interface.StandsFor i sockets (first_host (capabilities_of s) s.hardware_addr s.random_seed s.slaac (pos 0) sockets)
+stood s i o is stands sockets = subst (λ (w : Waiting). interface.StandsFor i sockets (first_host w.capabilities s.hardware_addr s.random_seed s.slaac (pos 0) sockets)) is (stands sockets)
+
+-- fragments wait as long as they are to, from each host that an interface stood for
+pub timed : (i i' : Interface) (timeout : ℕ) (sockets : SocketSet) (H : Machine) → interface.StandsFor i sockets H → interface.Led (SetsReassemblyTimeout timeout (Ok tt)) H (interface.StandsFor i' sockets) →
+    interface.StandsFor i' sockets (record H { reassembly_timeout = timeout })
+timed i i' timeout sockets H stands led = by led.follows where
+  by : SetsReassemblyTimeout timeout (Ok tt) H led.host → interface.StandsFor i' sockets (record H { reassembly_timeout = timeout })
+  by (WithinDay within answers is) = subst (interface.StandsFor i' sockets) is led.stands
+  by (OverDay over answers is) = absurd cc
 
 -- a frame was taken at the moment that was tested
 pub received : (t t' : ℤ) → t' ≡ t → (frame : List ℕ) (n : ℕ) (before after : List ℕ) (old : Host) (i : Interface) (s : Sockets (Bor (Unit {0}))) (shown result : Option (List ℕ)) → result ≡ shown →
@@ -48,11 +53,17 @@ received t t' same frame n before after old i s shown result is w r = record {
 }
 
 -- a poll with the room that was reserved
-pub rounded : (t : ℤ) (old : Host) (room : Waiting) → room ≡ with_room true old.outbox → (answer : PollResult) (i : Interface) (s : Sockets (Bor (Unit {0}))) (o : Waiting) →
-    Goes Tells room o (Polls t 1 answer) (interface.StandsFor old.interface old.sockets) (interface.StandsFor i s) → Round t old (record old { interface = i; sockets = s; outbox = o })
-rounded t old room is answer i s o went = record {
+pub rounded : (t : ℤ) (old : Host) (room : Waiting) → room ≡ with_room true old.outbox → (left : Bool) → left ≡ is_piece_left old → (before after : Planned (Bor (Unit {0}))) → before ≡ before_round t old.ip_mtu left (planned old) →
+    (answer : PollResult) (i : Interface) (polled : Sockets (Bor (Unit {0}))) (o : Waiting) →
+    Goes Tells room o (Polls t 1 answer) (interface.StandsFor old.interface before.sockets) (interface.StandsFor i polled) → after ≡ after_round t (record { plan = before.plan; sockets = polled }) →
+    Round t old (record old { interface = i; sockets = after.sockets; outbox = o; schedule = after.plan })
+rounded t old room is left left_is before after prepared answer i polled o went ended = record {
+  before = before;
+  polled = polled;
   answer = answer;
-  went = subst (λ (w : Waiting). Goes Tells w o (Polls t 1 answer) (interface.StandsFor old.interface old.sockets) (interface.StandsFor i s)) is went;
+  prepared = prepared ∙ ap (λ (b : Bool). before_round t old.ip_mtu b (planned old)) left_is;
+  went = subst (λ (w : Waiting). Goes Tells w o (Polls t 1 answer) (interface.StandsFor old.interface before.sockets) (interface.StandsFor i polled)) is went;
+  ended = ended;
   rest = refl;
 }
 

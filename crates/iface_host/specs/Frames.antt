@@ -1,8 +1,15 @@
 -- Frames that are taken and handed over, and the instant of the next poll.
-use Rattle.std.specs.Prelude.{ℕ, ℤ, ◌≡◌, ◌≢◌, pos, true, List, [], length, take, drop, Option, Some, None}
+use Rattle.std.specs.Prelude.{ℕ, ℤ, ◌≡◌, ◌≢◌, pos, Bool, true, not, List, [], length, take, drop, Option, Some, None}
+use Rattle.std.specs.Borrow.{Bor}
+use Rattle.fragmentation.specs.Pending.{is_nil}
+use Rattle.egress_schedule.specs.Plan.{Planned}
+use Rattle.egress_schedule.specs.Rounds.{after_round, before_round}
+use Rattle.socket_set.specs.SocketSet.{Sockets}
+use Rattle.interface.specs.Stands as interface
+use Rattle.interface.specs.Stands.{host_with}
 use Rattle.host_machine.specs.declared.results.PollResult.{PollResult}
 use Rattle.host_machine.specs.Due.{Due, IsLeast}
-use Rattle.host_machine.specs.Host.{Host as Machine, at}
+use Rattle.host_machine.specs.Host.{Host as Machine, at, no_sockets}
 use Rattle.host_machine.specs.Polling.{Polls}
 use Rattle.interface.specs.Goes.{Goes}
 use Rattle.interface.specs.Receives.{ReceivesFrame}
@@ -22,11 +29,23 @@ pub record Receives (t : ℤ) (frame : List ℕ) (n : ℕ) (before after : List 
   pub received : ReceivesFrame t frame shown (StandsFor old) (StandsFor new)
   pub rest : new ≡ record old { interface = new.interface; sockets = new.sockets }
 
--- the machine polls, by one call of each kind, with room for one frame reserved: what it sends waits behind what waited
+-- what is kept of the sockets, and these
+abbrev pub planned : Host → Planned (Bor (Unit {0}))
+planned host = record { plan = host.schedule; sockets = host.sockets }
+
+-- whether a piece of a packet that was cut is left
+abbrev pub is_piece_left : Host → Bool
+is_piece_left host = not (is_nil (host_with host.interface no_sockets).left)
+
+-- the machine polls, by one call of each kind, with room for one frame reserved, over the sockets as they are before the round: what it sends waits behind what waited
 pub record Round (t : ℤ) (old new : Host) : Type 0 where
+  pub before : Planned (Bor (Unit {0}))
+  pub polled : Sockets (Bor (Unit {0}))
   pub answer : PollResult
-  pub went : Goes Tells (with_room true old.outbox) new.outbox (Polls t 1 answer) (StandsFor old) (StandsFor new)
-  pub rest : new ≡ record old { interface = new.interface; sockets = new.sockets; outbox = new.outbox }
+  pub prepared : before ≡ before_round t old.ip_mtu (is_piece_left old) (planned old)
+  pub went : Goes Tells (with_room true old.outbox) new.outbox (Polls t 1 answer) (interface.StandsFor old.interface before.sockets) (interface.StandsFor new.interface polled)
+  pub ended : planned new ≡ after_round t (record { plan = before.plan; sockets = polled })
+  pub rest : new ≡ record old { interface = new.interface; sockets = new.sockets; outbox = new.outbox; schedule = new.schedule }
 
 -- the first frame that waits is handed over; where none waits, a round is made before
 pub data NextIs (t : ℤ) (n : ℕ) (before after : List ℕ) (old new : Host) : Type 0 where

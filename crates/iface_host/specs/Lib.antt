@@ -6,3 +6,4 @@ pub mod Calls
 pub mod Sockets
 pub mod Refusals
 pub mod Frames
+pub mod Waits

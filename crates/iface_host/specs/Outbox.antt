@@ -1,5 +1,5 @@
 -- The frames that were sent and wait to be handed over.
-use Rattle.std.specs.Prelude.{ℕ, ◌≡◌, Bool, true, List, [], ◌∷◌, ◌++◌, length, take, drop}
+use Rattle.std.specs.Prelude.{ℕ, ◌≡◌, Bool, true, false, List, [], ◌∷◌, ◌++◌, length, take, drop}
 use Rattle.net_base.specs.declared.phy.DeviceCapabilities.{DeviceCapabilities}
 use Rattle.net_base.specs.Device.{Event, count_after_refusal, refusals_after, sent_frames}
 
@@ -9,6 +9,10 @@ pub record Waiting : Type 0 where
   pub frames : List (List ℕ)
   pub refusals : ℕ
   pub has_room : Bool
+
+-- no frame waits in it, and no room is reserved
+abbrev pub empty : DeviceCapabilities → Waiting
+empty capabilities = record { capabilities = capabilities; frames = []; refusals = 0; has_room = false }
 
 abbrev pub with_room : Bool → Waiting → Waiting
 with_room room o = record o { has_room = room }

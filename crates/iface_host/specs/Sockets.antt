@@ -1,5 +1,6 @@
 -- Sockets by their numbers: how they are opened and closed, and what they send and receive.
-use Rattle.std.specs.Prelude.{ℕ, ◌≡◌, true, List, [], length, take, slice_set, Option, Some, None, IsSome}
+use Rattle.std.specs.Prelude.{ℕ, ◌+◌, nat_lt, ◌≡◌, ◌≤◌, true, List, [], length, take, slice_set, Option, Some, None, IsSome, if◌then◌else◌}
+use Rattle.egress_schedule.specs.Plan.{idle, with_watch}
 use Rattle.std.specs.Borrow.{Bor}
 use Rattle.ip_address.specs.declared.ip.IpAddress.{IpAddress}
 use Rattle.ip_address.specs.declared.protocol.IpProtocol.{IpProtocol}
@@ -36,10 +37,14 @@ raw version protocol room = Raw (record { version = version; protocol = protocol
 abbrev pub icmp : Endpoint → Room → Socket
 icmp endpoint room = Icmp (record { endpoint = endpoint; hop_limit = 64; rx = queue_of room; tx = queue_of room })
 
--- a socket is added, and the least number that named none names it
+-- a socket is added, the least number that named none names it, and what was kept of its place is forgotten
 pub record Opens (socket : Socket) (n : ℕ) (old new : Host) : Type 0 where
   pub unused : first_unused old.names ≡ Some n
-  pub after : new ≡ record old { sockets = set_after_add old.sockets socket; names = slice_set old.names n (Some (first_free old.sockets.places)) }
+  pub after : new ≡ record old {
+    sockets = set_after_add old.sockets socket;
+    names = slice_set old.names n (Some (first_free old.sockets.places));
+    schedule = with_watch (first_free old.sockets.places) idle old.schedule;
+  }
 
 -- the host with this at a place of its sockets
 abbrev pub with_socket : Host → ℕ → Option Socket → Host
@@ -57,34 +62,39 @@ pub record Closes (n : ℕ) (old new : Host) : Type 0 where
   pub is_there : IsSome (socket_at old.sockets handle)
   pub after : new ≡ record (with_socket old handle None) { names = slice_set old.names n None }
 
+-- a packet of so many octets may have to be cut, if it is longer than the link's packets
+abbrev pub with_packet : ℕ → Host → Host
+with_packet len host = if nat_lt host.ip_mtu len then record host { schedule = record host.schedule { may_have_long = true } } else host
+
 -- a packet is queued, for which there is room
 pub record SendsUdp (n : ℕ) (remote : IpEndpoint) (payload : List ℕ) (old new : Host) : Type 0 where
   pub handle : ℕ
   pub socket : udps.UdpSocket
   pub names : Names n old handle (Udp socket)
   pub room : is_room socket.tx (length payload) ≡ true
-  pub after : new ≡ with_socket old handle (Some (Udp (udps.socket_after_send remote payload socket)))
+  pub after : new ≡ with_packet (28 + length payload) (with_socket old handle (Some (Udp (udps.socket_after_send remote payload socket))))
 
 pub record SendsIcmp (n : ℕ) (remote : IpAddress) (message : List ℕ) (old new : Host) : Type 0 where
   pub handle : ℕ
   pub socket : icmps.IcmpSocket
   pub names : Names n old handle (Icmp socket)
   pub room : is_room socket.tx (length message) ≡ true
-  pub after : new ≡ with_socket old handle (Some (Icmp (icmps.socket_after_send remote message socket)))
+  pub after : new ≡ with_packet (20 + length message) (with_socket old handle (Some (Icmp (icmps.socket_after_send remote message socket))))
 
 pub record SendsRaw (n : ℕ) (packet : List ℕ) (old new : Host) : Type 0 where
   pub handle : ℕ
   pub socket : raws.RawSocket
   pub names : Names n old handle (Raw socket)
   pub room : is_room socket.tx (length packet) ≡ true
-  pub after : new ≡ with_socket old handle (Some (Raw (raws.socket_after_send packet socket)))
+  pub after : new ≡ with_packet (length packet) (with_socket old handle (Some (Raw (raws.socket_after_send packet socket))))
 
--- the first packet that came is read: it stands in the front of a buffer
+-- the first packet that came is read: it stands in the front of a buffer, which it fits
 pub record ReceivesUdp (n : ℕ) (remote : IpEndpoint) (len : ℕ) (out : List ℕ) (old new : Host) : Type 0 where
   pub handle : ℕ
   pub socket : udps.UdpSocket
   pub names : Names n old handle (Udp socket)
   pub first : first_of socket.rx.packets ≡ Some (remote, take len out)
+  pub within : len ≤ length out
   pub after : new ≡ with_socket old handle (Some (Udp (udps.socket_after_done socket)))
 
 pub record ReceivesIcmp (n : ℕ) (remote : IpAddress) (len : ℕ) (out : List ℕ) (old new : Host) : Type 0 where
@@ -92,6 +102,7 @@ pub record ReceivesIcmp (n : ℕ) (remote : IpAddress) (len : ℕ) (out : List �
   pub socket : icmps.IcmpSocket
   pub names : Names n old handle (Icmp socket)
   pub first : first_of socket.rx.packets ≡ Some (remote, take len out)
+  pub within : len ≤ length out
   pub after : new ≡ with_socket old handle (Some (Icmp (icmps.socket_after_done socket)))
 
 pub record ReceivesRaw (n : ℕ) (len : ℕ) (out : List ℕ) (old new : Host) : Type 0 where
@@ -99,4 +110,5 @@ pub record ReceivesRaw (n : ℕ) (len : ℕ) (out : List ℕ) (old new : Host) :
   pub socket : raws.RawSocket
   pub names : Names n old handle (Raw socket)
   pub first : first_of socket.rx.packets ≡ Some (tt, take len out)
+  pub within : len ≤ length out
   pub after : new ≡ with_socket old handle (Some (Raw (raws.socket_after_done socket)))

@@ -1,5 +1,10 @@
 -- Which host of the machine a host stands for.
-use Rattle.std.specs.Prelude.{◌≡◌, [], None, pos}
+use Rattle.std.specs.Prelude.{◌≡◌, ◌≤◌, ◌<◌, false, replicate, None, pos}
+use Rattle.std.specs.Borrow.{Bor}
+use Rattle.egress_schedule.specs.Plan.{first_plan}
+use Rattle.net_base.specs.Checksum.{ip_mtu_of}
+use Rattle.socket_set.specs.SocketSet.{Storage, over}
+use Rattle.iface_host.specs.Outbox.{empty}
 use Rattle.host_machine.specs.Config.{first_host}
 use Rattle.host_machine.specs.Host.{Host as Machine}
 use Rattle.ip_address.specs.Hardware.{medium_of}
@@ -23,10 +28,20 @@ capabilities_of s = record {
   checksum = record { ipv4 = Both; udp = Both; tcp = Both; icmpv4 = Both; icmpv6 = Both };
 }
 
--- it was just made: no frame waits, and it stands for the machine's first host at moment 0, with its sockets
+-- a place without a socket
+abbrev pub free_storage : Storage (Bor (Unit {0}))
+free_storage = record { socket = None; wait = None }
+
+-- it was just made: it stands for the machine's first host at moment 0, whose fragments wait as long as they are to; its places are free, its numbers name none, no frame waits, and no socket does
 pub record IsFirst (s : Settings) (host : Host) : Type 0 where
-  pub stands : StandsFor host (first_host (capabilities_of s) s.hardware_addr s.random_seed s.slaac (pos 0) host.sockets)
-  pub frames : host.outbox.frames ≡ []
+  pub stands : StandsFor host (record (first_host (capabilities_of s) s.hardware_addr s.random_seed s.slaac (pos 0) host.sockets) { reassembly_timeout = s.reassembly_timeout })
+  pub some_time : 0 < s.reassembly_timeout
+  pub within_day : s.reassembly_timeout ≤ 86_400_000_000
+  pub ip_mtu : host.ip_mtu ≡ ip_mtu_of (capabilities_of s)
+  pub sockets : host.sockets ≡ over (replicate s.sockets free_storage) false
+  pub names : host.names ≡ replicate s.sockets None
+  pub outbox : host.outbox ≡ empty (capabilities_of s)
+  pub schedule : host.schedule ≡ first_plan s.patience s.sockets
 
 -- nothing but the interface changed, and by a rule: from each host that it stood for, the rule leads to one that it stands for
 pub record Follows (Rule : Machine → Machine → Type 0) (old new : Host) : Type 0 where

@@ -1,14 +1,16 @@
 //! The host, and how it is made.
-ghost use Rattle.std.specs.Prelude.{◌≡◌, IfOk};
-ghost use Rattle.iface_host.specs.Stands.{IsFirst, capabilities_of};
+ghost use Rattle.std.specs.Prelude.{◌≡◌, ◌<◌, ◌≤◌, IfOk, OnOk, replicate};
+ghost use Rattle.interface.specs.Stands.{Becomes};
+ghost use Rattle.iface_host.specs.Stands.{IsFirst, capabilities_of, free_storage};
 
 use crate::names::Names;
 use crate::outbox::Outbox;
 use crate::refusal::Refusal;
+use egress_schedule::Schedule;
 use interface::{Config, Interface, NewError};
 use ip_wire::HardwareAddress;
 use net_base::phy::{ChecksumCapabilities, DeviceCapabilities, Medium};
-use net_base::time::Instant;
+use net_base::time::{Duration, Instant};
 use socket_set::{SocketSet, SocketStorage, SocketStorageOf};
 use std::alloc::{AllocError, Global};
 
@@ -29,6 +31,10 @@ pub struct Settings {
     pub slaac: bool,
     /// How many sockets may be open at once.
     pub sockets: usize,
+    /// How long a packet waits for its neighbour before it is given up; no time is for ever.
+    pub patience: Duration,
+    /// How long fragments of a packet wait for the others: some time, at most a day.
+    pub reassembly_timeout: Duration,
 }
 
 /// A host: an interface, its sockets, the numbers that name these, and the frames that wait to be handed over.
@@ -40,11 +46,13 @@ pub struct Host {
     pub(crate) sockets: SocketSet<'static>,
     pub(crate) names: Names,
     pub(crate) outbox: Outbox,
+    pub(crate) schedule: Schedule,
 }
 
 impl Host {
     /// A host with no address, no route and no socket, at moment 0. `NotUnicast` and `BadMtu` come as
-    /// [`NewError`] says, `NoMemory` if the memory for the places of its sockets is refused.
+    /// [`NewError`] says, `BadTimeout` if fragments are to wait no time, or longer than a day, `NoMemory` if the memory for the
+    /// places of its sockets is refused.
     pub fn new(alloc: Global, settings: &Settings) -> Result<Host, Refusal>
         ensures { IfOk result (λ host. IsFirst settings.now host) }
     {
@@ -55,17 +63,15 @@ impl Host {
             hardware_addr: settings.hardware_addr,
             slaac: settings.slaac,
         };
-        let interface = match Interface::new(config, &mut outbox, Instant::ZERO) {
+        let mut interface = match Interface::new(config, &mut outbox, Instant::ZERO) {
             Ok(interface) => interface,
             Err(NewError::NotUnicast) => return Err(Refusal::NotUnicast),
             Err(_) => return Err(Refusal::BadMtu),
         };
-        let Ok(places) = free_storages(alloc, settings.sockets) else {
-            return Err(Refusal::NoMemory);
-        };
-        let Ok(names) = Names::new(alloc, settings.sockets) else {
-            return Err(Refusal::NoMemory);
-        };
+        let_fragments_wait(&mut interface, settings.reassembly_timeout)?;
+        let places = free_storages(alloc, settings.sockets)?;
+        let names = Names::new(alloc, settings.sockets)?;
+        let schedule = Schedule::new(alloc, settings.sockets, settings.patience)?;
         Ok(Host {
             alloc,
             ip_mtu: capabilities.ip_mtu(),
@@ -73,6 +79,7 @@ impl Host {
             sockets: SocketSet::fixed(places),
             names,
             outbox,
+            schedule,
         })
     }
 }
@@ -93,8 +100,25 @@ fn capabilities(settings: &Settings) -> DeviceCapabilities
     }
 }
 
+/// Lets fragments of a packet wait so long for the others. `BadTimeout` if that is no time, or longer than a day.
+fn let_fragments_wait(interface: &mut Interface, timeout: Duration) -> Result<(), Refusal>
+    ensures within { OnOk result ((0 < timeout) × (timeout ≤ 86_400_000_000)) }
+    ensures waits { OnOk result (Becomes interface.old interface.new (λ H. record H { reassembly_timeout = timeout })) }
+{
+    let micros = timeout.total_micros();
+    if micros == 0 || micros > 86_400_000_000 {
+        return Err(Refusal::BadTimeout);
+    }
+    match interface.set_reassembly_timeout(timeout) {
+        Ok(()) => Ok(()),
+        Err(_) => Err(Refusal::BadTimeout),
+    }
+}
+
 /// So many free places.
-fn free_storages(alloc: Global, count: usize) -> Result<Vec<SocketStorage<'static>>, AllocError> {
+fn free_storages(alloc: Global, count: usize) -> Result<Vec<SocketStorage<'static>>, AllocError>
+    ensures { IfOk result (λ places. places.items ≡ replicate count free_storage) }
+{
     let mut places = Vec::with_capacity(alloc, count)?;
     for _ in 0..count {
         places.push(SocketStorageOf::default())?;

@@ -14,6 +14,7 @@ pub mod outbox;
 pub mod packets;
 pub mod refusal;
 pub mod routes;
+pub mod waiting;
 
 pub use host::{Host, Settings};
 pub use opening::Room;

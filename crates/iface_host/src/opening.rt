@@ -100,6 +100,7 @@ impl Host {
         }
         match self.sockets.add(socket) {
             Ok(handle) => {
+                self.schedule.forget(handle);
                 self.names.set(number, Some(handle));
                 Ok(number as u32)
             }

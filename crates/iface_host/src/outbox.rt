@@ -1,6 +1,6 @@
 //! The frames that were sent and wait to be handed over.
-ghost use Rattle.std.specs.Prelude.{◌≡◌, ◌≤◌, [], ◌∷◌, ◌++◌, true, length, take, drop, MatchOption, OnOk, OnErr, Some};
-ghost use Rattle.iface_host.specs.Outbox.{with_refusal_counted, with_room, HandsFirst};
+ghost use Rattle.std.specs.Prelude.{◌≡◌, ◌≤◌, [], ◌∷◌, ◌++◌, true, false, length, take, drop, MatchOption, OnOk, OnErr, Some};
+ghost use Rattle.iface_host.specs.Outbox.{with_refusal_counted, empty, with_room, HandsFirst};
 
 use net_base::phy::{Device, DeviceCapabilities, FRAME_BUFFER_SIZE, PacketMeta};
 use net_base::time::Instant;
@@ -37,11 +37,9 @@ impl Model for Outbox {
 }
 
 impl Outbox {
-    ghost use Rattle.std.specs.Prelude.{false};
-
     /// An outbox in which no frame waits. It takes no memory.
     pub fn new(alloc: Global, capabilities: DeviceCapabilities) -> Outbox
-        ensures { result ≡ record { capabilities = capabilities; frames = []; refusals = 0; has_room = false } }
+        ensures { result ≡ empty capabilities }
     {
         Outbox {
             alloc,

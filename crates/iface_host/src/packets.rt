@@ -2,7 +2,7 @@
 ghost use Rattle.std.specs.Prelude.{◌≡◌, ◌≤◌, true, IfOk, OnOk, OnErr, length};
 ghost use Rattle.std.specs.Result.{result_err};
 ghost use Rattle.iface_host.specs.Refusals as refusals;
-ghost use Rattle.iface_host.specs.Sockets.{ReceivesIcmp, ReceivesRaw, ReceivesUdp, SendsIcmp, SendsRaw, SendsUdp};
+ghost use Rattle.iface_host.specs.Sockets.{ReceivesIcmp, ReceivesRaw, ReceivesUdp, SendsIcmp, SendsRaw, SendsUdp, with_packet};
 
 use crate::host::Host;
 use crate::outbox::write_front;
@@ -48,10 +48,11 @@ impl Host {
         if socket.endpoint().port == 0 {
             return Err(Refusal::BadPort);
         }
-        match socket.send(remote, payload) {
-            Ok(()) => Ok(()),
-            Err(_) => Err(Refusal::QueueFull),
+        if socket.send(remote, payload).is_err() {
+            return Err(Refusal::QueueFull);
         }
+        self.expect_packet(28 + payload.len());
+        Ok(())
     }
 
     /// Queues a message of ICMP to an address. It fails as [`Host::send_udp`], where it has no port.
@@ -78,10 +79,11 @@ impl Host {
         let Some(socket) = self.sockets.get_mut::<icmp::Socket<'static>>(handle) else {
             return Err(Refusal::NoSocket);
         };
-        match socket.send(remote, message) {
-            Ok(()) => Ok(()),
-            Err(_) => Err(Refusal::QueueFull),
+        if socket.send(remote, message).is_err() {
+            return Err(Refusal::QueueFull);
         }
+        self.expect_packet(20 + message.len());
+        Ok(())
     }
 
     /// Queues a packet with its header. `NoSocket` if no raw socket has this number, else `QueueFull`.
@@ -97,10 +99,11 @@ impl Host {
         let Some(socket) = self.sockets.get_mut::<raw::Socket<'static>>(handle) else {
             return Err(Refusal::NoSocket);
         };
-        match socket.send((), packet) {
-            Ok(()) => Ok(()),
-            Err(_) => Err(Refusal::QueueFull),
+        if socket.send((), packet).is_err() {
+            return Err(Refusal::QueueFull);
         }
+        self.expect_packet(packet.len());
+        Ok(())
     }
 
     /// Takes the first datagram that came: writes its payload to the front of a buffer, and tells where it came from
@@ -188,6 +191,15 @@ impl Host {
         let len = write_front(out, packet);
         socket.done();
         Ok(len)
+    }
+
+    /// Tells the schedule of a packet of so many octets that is queued, if it may have to be cut.
+    fn expect_packet(&mut self, len: usize)
+        ensures { self.new ≡ with_packet len self.old }
+    {
+        if self.ip_mtu < len {
+            self.schedule.expect_long_packet();
+        }
     }
 
     /// Whether a payload behind a header of so many octets, in a packet of this version, isn't too long to be sent.

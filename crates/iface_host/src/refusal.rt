@@ -1,5 +1,7 @@
 //! Why a call is refused.
 
+use std::alloc::AllocError;
+
 /// Why a call is refused. A refused call changes nothing.
 #[derive(Clone, Copy, Debug, PartialEq, Eq)]
 pub enum Refusal {
@@ -29,4 +31,12 @@ pub enum Refusal {
     Empty,
     /// The caller's room is too short.
     NoRoom,
+    /// Fragments are to wait no time, or longer than a day.
+    BadTimeout,
+}
+
+impl From<AllocError> for Refusal {
+    fn from(_: AllocError) -> Refusal {
+        Refusal::NoMemory
+    }
 }

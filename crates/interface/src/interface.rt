@@ -1,5 +1,6 @@
 //! An interface over a device.
-ghost use Rattle.std.specs.Prelude.{◌≡◌, ◌≤◌, None, false, true, length};
+ghost use Rattle.std.specs.Prelude.{◌≡◌, ◌≤◌, None, false, true, not, length};
+ghost use Rattle.fragmentation.specs.Pending.{is_nil};
 ghost use Rattle.ip_address.specs.Hardware.{IsOf};
 ghost use Rattle.host_machine.specs.Config as config;
 ghost use Rattle.host_machine.specs.Config.{same_medium, hardware_refusal_of};
@@ -38,15 +39,15 @@ use net_base::time::{Duration, Instant};
 use socket_set::SocketSet;
 use sockets::SocketContext;
 
-/// How an interface is to be made.
+/// The settings an interface is created with.
 #[derive(Clone, Copy, Debug, PartialEq, Eq)]
 pub struct Config {
-    /// The seed of the interface's random words, which need not be secret. The first of them is the
-    /// first identification of a packet.
+    /// The seed of the interface's random words, which need not be secret. The first word gives the first
+    /// identification of a packet.
     pub random_seed: u64,
-    /// The address of the interface on its link. On Ethernet it has to be unicast.
+    /// The hardware address of the interface. On Ethernet it must be unicast.
     pub hardware_addr: HardwareAddress,
-    /// Whether the interface takes IPv6 addresses from routers that advertise their prefixes.
+    /// Whether the interface takes IPv6 addresses from router advertisements (SLAAC).
     pub slaac: bool,
 }
 
@@ -63,7 +64,7 @@ impl Config {
     }
 }
 
-/// An interface of a host, over a device.
+/// A network interface over a device.
 #[derive(Drop)]
 pub struct Interface {
     context: Context,
@@ -103,9 +104,9 @@ impl Interface {
     ghost use Rattle.interface.specs.Stands.{host_with, with_context, with_routes, StandsFor, Becomes, Follows};
     ghost use Rattle.interface.specs.Goes.{Goes};
 
-    /// Makes an interface over a device, of which only the capabilities are read. The errors are
-    /// tested in the order in which [`NewError`] lists them, and come exactly as it says. The
-    /// interface has no address and no route, and knows no neighbour.
+    /// Creates an interface over a device, of which only the capabilities are read. The errors are tested in the order
+    /// in which [`NewError`] lists them, each under exactly the condition stated there. The interface starts without
+    /// addresses, routes and neighbours.
     pub fn new<D: Device>(
         config: Config,
         device: &mut D,
@@ -148,7 +149,7 @@ impl Interface {
         })
     }
 
-    /// What the interface knows, for sockets that ask for it.
+    /// What the interface knows, for sockets that need it.
     pub fn context(&mut self) -> &mut Context
         ensures* lends { sem 𝓛 (Lends the_row context_row self.entry result (λ w. with_context self.old w)) }
         ensures value { (sockets : SocketSet) → host_of result.now sockets ≡ host_with self.old sockets }
@@ -156,7 +157,7 @@ impl Interface {
         &mut self.context
     }
 
-    /// The interface's hardware address, if its medium has such.
+    /// The hardware address on Ethernet; `None` on an IP medium.
     pub fn hardware_addr(&self) -> Option<HardwareAddress>
         ensures { (sockets : SocketSet) → result ≡ config.if_ethernet (host_with self.now sockets).hardware_addr }
     {
@@ -166,25 +167,23 @@ impl Interface {
         }
     }
 
-    /// States, for those who prove something of an interface, that whatever host it stands for has the
-    /// hardware addresses of its medium, of six octets on Ethernet (RFC 894), and carries IP packets of
-    /// 576 octets (RFC 791). It does nothing.
+    /// A lemma for proofs about an interface. Every host it stands for has the hardware addresses of its medium, of six
+    /// octets on Ethernet (RFC 894), and carries IP packets of 576 octets (RFC 791). It does nothing.
     pub fn is_on_its_medium(&self)
         ensures real { (sockets : Sockets (Bor (Unit {0}))) (H : Host) → StandsFor self.now sockets H → IsReal H }
         ensures mtu { (sockets : Sockets (Bor (Unit {0}))) (H : Host) → StandsFor self.now sockets H → 576 ≤ ip_mtu_of H.capabilities }
     {}
 
-    /// States, for those who prove something of an interface, that with any sockets there is a host that it
-    /// stands for. So what a call's clause says of each host that the interface stands for, it says of one at
-    /// least. It does nothing.
+    /// A lemma for proofs about an interface: with any sockets there is a host that it stands for. So a clause about
+    /// every host that the interface stands for holds of at least one. It does nothing.
     pub fn stands_for_a_host(&self)
         ensures { (sockets : Sockets (Bor (Unit {0}))) → (H : Host) × StandsFor self.now sockets H }
     {
         self.fragments.stands_for_slots();
     }
 
-    /// Gives the interface another address on its link. The errors are tested in the order in which
-    /// [`HardwareError`] lists them, and come exactly as it says; then nothing changes.
+    /// Changes the hardware address. The errors are tested in the order in which [`HardwareError`] lists them, each
+    /// under exactly the condition stated there; on an error nothing changes.
     pub fn set_hardware_addr(&mut self, hardware_addr: HardwareAddress) -> Result<(), HardwareError>
         ensures { Follows self.old self.new (SetsHardwareAddr hardware_addr result) }
     {
@@ -195,77 +194,76 @@ impl Interface {
         Ok(())
     }
 
-    /// The interface's own addresses with their networks, in the order given.
+    /// The addresses assigned to the interface, each with its prefix length, in the order given.
     pub fn ip_addrs(&self) -> &[IpCidr]
         ensures { (sockets : SocketSet) → result.now ≡ (host_with self.now sockets).ip_addrs }
     {
         self.context.ip_addrs()
     }
 
-    /// The first of its IPv4 addresses.
+    /// The first IPv4 address of the interface, if any.
     pub fn ipv4_addr(&self) -> Option<Ipv4Address>
         ensures { (sockets : SocketSet) → result ≡ addresses.ipv4_addr (host_with self.now sockets).ip_addrs }
     {
         self.context.ipv4_addr()
     }
 
-    /// The source for an IPv4 destination: the first own address whose network contains it, else
-    /// the first own IPv4 address.
+    /// The source address for an IPv4 destination: the first address of the interface whose network contains the
+    /// destination, otherwise the first IPv4 address.
     pub fn get_source_address_ipv4(&self, dst_addr: &Ipv4Address) -> Option<Ipv4Address>
         ensures { (sockets : SocketSet) → result ≡ addresses.source_v4 (host_with self.now sockets).ip_addrs dst_addr.now }
     {
         self.context.get_source_address_ipv4(dst_addr)
     }
 
-    /// The first of its IPv6 addresses.
+    /// The first IPv6 address of the interface, if any.
     pub fn ipv6_addr(&self) -> Option<Ipv6Address>
         ensures { (sockets : SocketSet) → result ≡ selection.ipv6_addr (host_with self.now sockets).ip_addrs }
     {
         self.context.ipv6_addr()
     }
 
-    /// The source for an IPv6 destination: ::1 to the interface itself, else the first of the best own
-    /// addresses. Of two addresses that is better which is the destination, then that of the smallest
-    /// scope that reaches the destination's, then that which shares more leading bits with the
-    /// destination, at most as many as its prefix has (RFC 6724 5, rules 1, 2 and 8). For a
-    /// destination on the link alone only such addresses are candidates. Without a candidate it is
-    /// the first own IPv6 address, and ::1 without any.
+    /// The source address for an IPv6 destination: ::1 for the interface itself, otherwise the first of the best
+    /// addresses of the interface. Of two addresses, the better one equals the destination; then has the smallest scope
+    /// that reaches the destination's; then shares more leading bits with the destination, at most its prefix length
+    /// (RFC 6724 5, rules 1, 2 and 8). For a link-local destination only link-local addresses are candidates. Without a
+    /// candidate it is the first IPv6 address of the interface, and ::1 if there is none.
     pub fn get_source_address_ipv6(&self, dst_addr: &Ipv6Address) -> Ipv6Address
         ensures { (sockets : SocketSet) → result ≡ selection.source_v6 (host_with self.now sockets).ip_addrs dst_addr.now }
     {
         self.context.get_source_address_ipv6(dst_addr)
     }
 
-    /// Whether an address is one of the interface's own: one that was given to it, or with AnyIP
-    /// ([`Interface::set_any_ip`]) one that is routed to it.
+    /// Whether an address is one of the interface's own: assigned to it or, with AnyIP ([`Interface::set_any_ip`]),
+    /// routed to it.
     pub fn has_ip_addr(&self, address: &IpAddress) -> bool
         ensures { (sockets : SocketSet) → result ≡ host.has_ip_addr (host_with self.now sockets) address.now }
     {
         self.context.has_ip_addr(address)
     }
 
-    /// The source for a destination, by its family: as [`Interface::get_source_address_ipv4`] or
-    /// [`Interface::get_source_address_ipv6`] says.
+    /// The source address for a destination: [`Interface::get_source_address_ipv4`] or
+    /// [`Interface::get_source_address_ipv6`], by its family.
     pub fn get_source_address(&self, dst_addr: &IpAddress) -> Option<IpAddress>
         ensures { (sockets : SocketSet) → result ≡ addresses.source_for (host_with self.now sockets).ip_addrs dst_addr.now }
     {
         self.context.get_source_address(dst_addr)
     }
 
-    /// Whether the interface is a member of a group: of that of all hosts, 224.0.0.1 or ff02::1 (RFC
-    /// 1112, RFC 4291 2.8), of the solicited-node group of an address of its own, or of one that it
-    /// joined and hasn't left since.
+    /// Whether the interface is a member of a multicast group. It is always a member of all-hosts (224.0.0.1, RFC
+    /// 1112), of all-nodes (ff02::1, RFC 4291 2.8), and of the solicited-node groups of its addresses other than ::1.
+    /// Besides, it is a member of the groups that it joined and hasn't left since.
     pub fn has_multicast_group(&self, address: &IpAddress) -> bool
         ensures { (sockets : SocketSet) → result ≡ addresses.has_multicast_group (host_with self.now sockets) address.now }
     {
         self.context.has_multicast_group(address)
     }
 
-    /// Joins a group: from now on packets to it are taken, and the next call that sends tells routers of it
-    /// (RFC 2236 3, RFC 3810 6.1), unless they count the interface as a member already. `Unaddressable`
-    /// exactly if it is no group's address, and else `GroupTableFull` exactly if the interface isn't in
-    /// the group and eight other groups are there, those counted whose leave isn't told yet; then
-    /// nothing changes.
+    /// Joins a multicast group. Packets to it are accepted from now on. The next call that sends reports the join to
+    /// routers (RFC 2236 3, RFC 3810 6.1), unless they count the interface as a member already. Fails with
+    /// `Unaddressable` exactly if the address is not multicast. Otherwise fails with `GroupTableFull` exactly if the
+    /// interface is not in the group and eight other groups are in the table; groups whose leave is not reported yet
+    /// count. On an error nothing changes.
     pub fn join_multicast_group(&mut self, group: IpAddress) -> Result<(), MulticastError>
         ensures { Follows self.old self.new (JoinsGroup group result) }
     {
@@ -278,9 +276,9 @@ impl Interface {
         }
     }
 
-    /// Leaves a group: from now on packets to it aren't taken, and the next call that sends tells routers of
-    /// it, if they were told of the join. Nothing changes if the interface isn't in the group.
-    /// `Unaddressable` exactly if it is no group's address; then nothing changes.
+    /// Leaves a multicast group. Packets to it are no longer accepted. The next call that sends reports the leave to
+    /// routers, if the join was reported. Nothing changes if the interface isn't in the group. Fails with
+    /// `Unaddressable` exactly if the address is not multicast; then nothing changes.
     pub fn leave_multicast_group(&mut self, group: IpAddress) -> Result<(), MulticastError>
         ensures { Follows self.old self.new (LeavesGroup group result) }
     {
@@ -291,40 +289,46 @@ impl Interface {
         Ok(())
     }
 
-    /// Whether the interface takes addresses for own ones that are routed to it.
+    /// Whether the interface accepts addresses that are routed to it as its own (AnyIP).
     pub fn any_ip(&self) -> bool
         ensures { (sockets : SocketSet) → result ≡ (host_with self.now sockets).any_ip }
     {
         self.context.any_ip()
     }
 
-    /// Takes from now on, or no longer, an address for an own one, beside those that were given to the
-    /// interface, if it is one host's and the best route to it (longest prefix, not expired) has an address
-    /// as router that was given to the interface (AnyIP). So a service may stand at all addresses of a
-    /// network: add a route for the network by an own address.
+    /// Turns AnyIP on or off. With AnyIP the interface also counts a unicast address as its own if the gateway of the
+    /// best route to it (longest prefix, not expired) is an address assigned to the interface. To serve all addresses
+    /// of a network, add a route to it via an assigned address.
     pub fn set_any_ip(&mut self, any_ip: bool)
         ensures { Becomes self.old self.new (λ H. record H { any_ip = any_ip }) }
     {
         set_any_ip(&mut self.context, any_ip);
     }
 
-    /// When the addresses and the routes were last brought into line with what routers advertised: at first
-    /// the origin.
+    /// When the addresses and routes were last synchronized with router advertisements; [`Instant::ZERO`] before the
+    /// first time.
     pub fn slaac_updated_at(&self) -> Instant
         ensures { (sockets : SocketSet) → result ≡ (host_with self.now sockets).slaac_updated_at }
     {
         self.context.slaac_updated_at()
     }
 
-    /// For how long a slot for fragments stands that is taken from now on: at first 60 s (RFC 1122 3.3.2).
+    /// Whether fragments of a packet are waiting to be sent. The next packet that needs fragmentation replaces them.
+    pub fn has_pending_fragment(&self) -> bool
+        ensures { (sockets : SocketSet) → result ≡ not (is_nil (host_with self.now sockets).left) }
+    {
+        self.context.has_pending_fragment()
+    }
+
+    /// The reassembly timeout of slots that are taken from now on; 60 s by default (RFC 1122 3.3.2).
     pub fn reassembly_timeout(&self) -> Duration
         ensures { (sockets : SocketSet) → result ≡ (host_with self.now sockets).reassembly_timeout }
     {
         self.context.reassembly_timeout()
     }
 
-    /// Lets slots for fragments that are taken from now on stand for so long. A slot that stands keeps its
-    /// end. `TimeoutTooLong` exactly if it is longer than a day, 86,400 s; then nothing changes.
+    /// Sets the reassembly timeout of slots that are taken from now on. A slot in use keeps its expiry. Fails with
+    /// `TimeoutTooLong` exactly if the timeout is longer than a day (86,400 s); then nothing changes.
     pub fn set_reassembly_timeout(&mut self, timeout: Duration) -> Result<(), TimeoutError>
         ensures { Follows self.old self.new (SetsReassemblyTimeout timeout result) }
     {
@@ -342,7 +346,7 @@ impl Interface {
         self.context.routes()
     }
 
-    /// The routes, for writing.
+    /// Mutable access to the routes.
     pub fn routes_mut(&mut self) -> &mut Routes
         ensures* lends { sem 𝓛 (Lends the_row routes_row self.entry result (λ w. with_routes self.old w)) }
         ensures value { (sockets : SocketSet) → result.now ≡ (host_with self.old sockets).routes }
@@ -350,10 +354,10 @@ impl Interface {
         routes_mut(&mut self.context)
     }
 
-    /// Replaces the addresses by what a function makes of them, and forgets all neighbours. On Ethernet it
-    /// leaves the solicited-node groups of no own address, and joins those of the new addresses as far as
-    /// there is room (RFC 4861 7.2.1). `NotUnicast` exactly if some address of the new list is neither unicast
-    /// nor unspecified; then nothing changes, and no neighbour is forgotten.
+    /// Replaces the addresses by what a function makes of them, and forgets all neighbours. On Ethernet it leaves the
+    /// solicited-node groups that no longer match an address, and joins those of the new addresses while there is room
+    /// (RFC 4861 7.2.1). Fails with `NotUnicast` exactly if an address of the new list is neither unicast nor
+    /// unspecified; then nothing changes, and no neighbour is forgotten.
     pub fn update_ip_addrs<F>(&mut self, f: F) -> Result<(), AddrError>
     where
         F: FnOnce(ArrayVec<IpCidr, IFACE_MAX_ADDR_COUNT>) -> ArrayVec<IpCidr, IFACE_MAX_ADDR_COUNT>,
@@ -369,8 +373,8 @@ impl Interface {
         Ok(())
     }
 
-    /// Sets the moment, takes at most one frame from the device, and sends at most one: the reply, or
-    /// in place of a reply to an unknown neighbour the request for its address.
+    /// Sets the moment, receives at most one frame from the device, and sends at most one frame: the reply or, if the
+    /// reply's next hop is unknown, the request for its hardware address.
     pub fn poll_ingress_single<D: Device>(
         &mut self,
         timestamp: Instant,
@@ -400,11 +404,10 @@ impl Interface {
         }
     }
 
-    /// Sets the moment, takes a frame of any octets, and shows the frame that is to be sent, if there
-    /// is one: the reply, or in place of a reply to an unknown neighbour the request for its address.
-    /// It does what [`Interface::poll_ingress_single`] does over a device that hands over just this
-    /// frame, for users who own their buffers. The frame that is shown, of at most 1,514 octets, stays in
-    /// the interface until the next call that sends.
+    /// Sets the moment, processes a frame of any octets, and returns the frame to send, if any: the reply or, if the
+    /// reply's next hop is unknown, the request for its hardware address. It does what
+    /// [`Interface::poll_ingress_single`] does over a device that delivers just this frame, for users who own their
+    /// buffers. The returned frame has at most 1,514 octets and stays in the interface until the next call that sends.
     pub fn receive_frame(
         &mut self,
         timestamp: Instant,
@@ -430,12 +433,17 @@ impl Interface {
         }
     }
 
-    /// Sets the moment, and sends in this order: the next piece of a packet that was cut, if one waits; the
-    /// router solicitation that is due, if one is; what tells routers of groups that were joined, and of those that are left; the next report that answers a
-    /// query of IGMP, and that which answers one of MLD, if they are due; and then what the sockets have to
-    /// send, one packet of each in order. A refused leave to send ends the joins, the leaves or the sockets,
-    /// each by itself; it keeps a report of IGMP, and gives up one of MLD. Answers whether a packet of a
-    /// socket counts as gone.
+    /// Sets the moment, then sends in this order:
+    ///
+    /// - the next fragment of a packet, if one is waiting;
+    /// - the router solicitation that is due, if any;
+    /// - the reports of groups joined, then those of groups left;
+    /// - the next report that answers an IGMP query, then the one that answers an MLD query, if they are due;
+    /// - at most one packet of each socket, in order.
+    ///
+    /// If the device grants no transmit token, that ends the joins, the leaves or the sockets, each list by itself. An
+    /// IGMP report then stays pending, and an MLD report is dropped. Returns whether a packet of a socket was sent or
+    /// dropped.
     pub fn poll_egress<D: Device>(
         &mut self,
         timestamp: Instant,
@@ -457,9 +465,9 @@ impl Interface {
     }
 
     /// Maintains what has to be, takes frames, and sends what the sockets have to send, all at one moment:
-    /// [`Interface::poll_maintenance`], then calls of [`Interface::poll_ingress_single`] until one has no
-    /// frame, then of [`Interface::poll_egress`] until one has nothing to send, and at most `budget` of
-    /// each. Answers whether some socket may have changed.
+    /// [`Interface::poll_maintenance`], then [`Interface::poll_ingress_single`] until there is no frame, then
+    /// [`Interface::poll_egress`] until there is nothing to send; each of the two at most `budget` times. Returns
+    /// whether a socket may have changed.
     pub fn poll<D: Device>(
         &mut self,
         timestamp: Instant,
@@ -476,10 +484,10 @@ impl Interface {
         poll_result(received | went)
     }
 
-    /// Sets the moment, drops the fragments whose reassembly timeout has passed, and brings the addresses and
-    /// the routes into line with what routers advertised, if something of that is new, was withdrawn or has
-    /// ended. That is a change of addresses: all neighbours are forgotten, and solicited-node groups left and
-    /// joined (RFC 4862 5.5.3, 5.5.4, RFC 4861 6.3.4).
+    /// Sets the moment, and drops the fragments whose reassembly timeout has passed. If something learnt from router
+    /// advertisements is new, was withdrawn or has expired, it synchronizes the addresses and routes. Such a sync is a
+    /// change of addresses: all neighbours are forgotten, and solicited-node groups are left and joined (RFC 4862
+    /// 5.5.3, 5.5.4, RFC 4861 6.3.4).
     pub fn poll_maintenance(&mut self, timestamp: Instant)
         requires { IsMoment timestamp }
         ensures { Becomes self.old self.new (λ H. after_maintenance (at H timestamp)) }
@@ -488,7 +496,7 @@ impl Interface {
         sync_slaac(&mut self.context);
     }
 
-    // Sets the moment, and drops the slots that have ended.
+    // Sets the moment, and drops the slots that have expired.
     #[inline(always)]
     fn expire_slots(&mut self, timestamp: Instant)
         requires { IsMoment timestamp }
@@ -498,7 +506,7 @@ impl Interface {
         self.fragments.remove_expired(timestamp);
     }
 
-    // Takes frames until there is none or the budget is spent. Whether some socket may have changed.
+    // Receives frames until there is none or the budget is spent. Returns whether some socket may have changed.
     fn receive_until<D: Device>(
         &mut self,
         timestamp: Instant,
@@ -520,7 +528,7 @@ impl Interface {
         changed
     }
 
-    // Sends until nothing goes or the budget is spent. Whether a socket changed.
+    // Sends until there is nothing to send or the budget is spent. Returns whether a socket changed.
     fn send_until<D: Device>(
         &mut self,
         timestamp: Instant,
@@ -541,9 +549,9 @@ impl Interface {
         changed
     }
 
-    /// Sets the moment, and tells the instant at which to poll again: the least at which something is due,
-    /// if anything is. What is due at once has instant 0. Until then polls send nothing and change no
-    /// socket, unless a frame comes, a route expires or something is changed.
+    /// Sets the moment, and returns the earliest instant at which there is work, if any; work due immediately has
+    /// instant 0. Until then polls send nothing and change no socket, unless a frame arrives, a route expires or
+    /// something is changed.
     pub fn poll_at(&mut self, timestamp: Instant, sockets: &SocketSet<'_>) -> Option<Instant>
         requires { IsMoment timestamp }
         ensures least { (H : Host) → StandsFor self.old sockets.now H → IsLeast (Due (at H timestamp)) result }
@@ -553,8 +561,7 @@ impl Interface {
         poll_at(&self.context, sockets)
     }
 
-    /// Sets the moment, and tells how long it is until the instant of [`Interface::poll_at`]: no time if it
-    /// has passed.
+    /// Sets the moment, and returns the time left until the instant of [`Interface::poll_at`]; zero if it has passed.
     pub fn poll_delay(&mut self, timestamp: Instant, sockets: &SocketSet<'_>) -> Option<Duration>
         requires { IsMoment timestamp }
         ensures rest { (H : Host) → StandsFor self.old sockets.now H → (end : Option ℤ) × IsLeast (Due (at H timestamp)) end × IsRest timestamp end result }
@@ -568,8 +575,8 @@ impl Interface {
     }
 }
 
-/// Takes a frame, and builds the one that goes in response, if there is one, in place of what the buffer
-/// held. An empty frame changes nothing.
+/// Processes a frame, and builds the frame that answers it, if any. The buffer is cleared first. An empty frame changes
+/// nothing.
 #[inline(always)]
 fn take_frame(
     context: &mut Context,
@@ -586,7 +593,7 @@ fn take_frame(
     }
 }
 
-/// The same list.
+/// Returns a copy of the list.
 fn copied(list: &[IpCidr]) -> ArrayVec<IpCidr, IFACE_MAX_ADDR_COUNT>
     requires { length list.now ≤ 4 }
     ensures { result.items ≡ list.now }
@@ -596,7 +603,7 @@ fn copied(list: &[IpCidr]) -> ArrayVec<IpCidr, IFACE_MAX_ADDR_COUNT>
     copy
 }
 
-/// Whether an interface may have these addresses: each is unicast or unspecified.
+/// Whether an interface may have these addresses: each must be unicast or unspecified.
 fn are_assignable(list: &[IpCidr]) -> bool
     ensures { result ≡ are_assignable list.now }
 {
@@ -606,7 +613,7 @@ fn are_assignable(list: &[IpCidr]) -> bool
     })
 }
 
-/// The first identification: a random word, and 1 in place of 0.
+/// The first identification of a packet: a random word, with 1 in place of 0.
 fn first_id(rand: &mut Rand) -> u16
     ensures value { result ≡ config.first_id rand.old }
     ensures drawn { rand.new ≡ next rand.old }
@@ -615,7 +622,7 @@ fn first_id(rand: &mut Rand) -> u16
     if word == 0 { 1 } else { word }
 }
 
-/// Why a hardware address isn't taken, if it isn't.
+/// Why a hardware address is refused, if it is.
 fn hardware_refusal(
     capabilities: &DeviceCapabilities,
     hardware_addr: &HardwareAddress,
@@ -637,7 +644,7 @@ fn hardware_refusal(
     }
 }
 
-/// Whether the two are one medium.
+/// Whether two media are the same.
 fn is_same_medium(a: Medium, b: Medium) -> bool
     ensures value { result ≡ same_medium a b }
     ensures same { result ≡ true → a ≡ b }

@@ -48,6 +48,10 @@ module _ {L : Type 0} where
   abbrev pub wait_at : Sockets L → ℕ → Wait
   wait_at s i = get_or s.waits i None
 
+  -- the wait of the socket at an index, if there is one
+  abbrev pub wait_of : Sockets L → ℕ → Wait
+  wait_of s i = option_and_then (λ socket. wait_at s i) (socket_at s i)
+
   -- the set with another wait for the socket at an index
   abbrev pub with_wait : Sockets L → ℕ → Wait → Sockets L
   with_wait s i wait = record s { waits = slice_set s.waits i wait }

@@ -9,10 +9,10 @@ ghost use Rattle.socket_base.specs.declared.poll_at.PollAt.TheVariants.{Ingress}
 ghost use Rattle.socket_set.specs.Busy.{IsIdle};
 ghost use Rattle.socket_set.specs.Keys.{AllHavePorts};
 ghost use Rattle.socket_set.specs.SocketMeta.{poll_at as poll_at_of, IsAnswerFor, after_asking, is_permitted};
-ghost use Rattle.socket_set.specs.SocketSet.{socket_at, wait_at, with_place, with_wait};
+ghost use Rattle.socket_set.specs.SocketSet.{socket_at, wait_at, wait_of, with_place, with_wait};
 ghost use Rattle.socket_set.specs.contracts.socket_set.SocketSetOf.{the_row as set_row};
 
-use crate::socket_set::SocketSetOf;
+use crate::socket_set::{SocketHandle, SocketSetOf};
 use ip_wire::IpAddress;
 use net_base::time::Instant;
 use sockets::PollAt;
@@ -25,6 +25,13 @@ pub fn places<L: Drop>(sockets: &SocketSetOf<L>) -> usize
     sockets.places()
 }
 
+/// The index of the place that a handle names.
+pub fn index_of(handle: SocketHandle) -> usize
+    ensures { result ≡ handle }
+{
+    handle.index()
+}
+
 /// The socket at an index, if it is of a kind. `None` exactly for a free place, a socket of another
 /// kind, or an index out of range.
 #[inline(always)]
@@ -32,6 +39,14 @@ pub fn kind<T: AnySocketOf<L>, L: Drop>(sockets: &SocketSetOf<L>, index: usize) 
     ensures { option_copied result ≡ option_and_then T.down (socket_at sockets.now index) }
 {
     sockets.kind(index)
+}
+
+/// The socket at an index, of whatever kind. `None` exactly for a free place or an index out of
+/// range.
+pub fn socket<L: Drop>(sockets: &SocketSetOf<L>, index: usize) -> Option<&SocketOf<L>>
+    ensures { option_copied result ≡ socket_at sockets.now index }
+{
+    sockets.socket(index)
 }
 
 /// The same, for writing. At `None` the set stays as it was.
@@ -53,6 +68,26 @@ pub fn socket_mut<L: Drop>(sockets: &mut SocketSetOf<L>, index: usize) -> Option
     ensures value { option_copied_mut result ≡ socket_at sockets.old index }
 {
     sockets.socket_mut(index)
+}
+
+/// The neighbour that the socket at an index waits for, and when it may be asked again. `None` exactly where it doesn't
+/// wait, for a free place, or an index out of range. A wait whose end has passed stands until its neighbour is known or
+/// another one begins.
+pub fn wait<L: Drop>(sockets: &SocketSetOf<L>, index: usize) -> Option<(IpAddress, Instant)>
+    ensures { result ≡ wait_of sockets.now index }
+{
+    sockets.wait_at(index)
+}
+
+/// Lets the socket at an index wait for a neighbour until an instant, or not wait.
+pub fn set_wait<L: Drop>(
+    sockets: &mut SocketSetOf<L>,
+    index: usize,
+    wait: Option<(IpAddress, Instant)>,
+)
+    ensures { sockets.new ≡ with_wait sockets.old index wait }
+{
+    sockets.set_wait(index, wait);
 }
 
 /// Whether the socket at an index may be asked for packets at a moment: it doesn't wait, or the

@@ -71,6 +71,34 @@ impl Meta {
         }
     }
 
+    /// That of a socket that waits for a neighbour until an instant, or doesn't wait.
+    pub(crate) fn of(wait: Option<(IpAddress, Instant)>) -> Meta
+        ensures { result ≡ wait }
+    {
+        let neighbor_state = match wait {
+            None => NeighborState::Active,
+            Some((neighbor, silent_until)) => NeighborState::Waiting {
+                neighbor,
+                silent_until,
+            },
+        };
+        Meta { neighbor_state }
+    }
+
+    /// The neighbour that the socket waits for, and when it may be asked again; `None` if it doesn't wait. A
+    /// wait whose end has passed stands until its neighbour is known or another one begins.
+    pub fn wait(&self) -> Option<(IpAddress, Instant)>
+        ensures { result ≡ self.now }
+    {
+        match self.neighbor_state {
+            NeighborState::Active => None,
+            NeighborState::Waiting {
+                neighbor,
+                silent_until,
+            } => Some((neighbor, silent_until)),
+        }
+    }
+
     /// When the socket wants to be asked for a packet, where `socket_poll_at` is its own answer: that,
     /// unless it has to wait, and then the end of the wait. `has_neighbor` tells whether a neighbour
     /// is known.

@@ -7,7 +7,7 @@ ghost use Rattle.socket_base.specs.declared.poll_at.PollAt.TheVariants.{Ingress}
 ghost use Rattle.socket_set.specs.Busy.{IsIdle};
 ghost use Rattle.socket_set.specs.Keys.{AllHavePorts, key_of};
 ghost use Rattle.socket_set.specs.SocketMeta.{poll_at as poll_at_of, IsAnswerFor, after_asking, is_permitted};
-ghost use Rattle.socket_set.specs.SocketSet.{set_after_add, first_free, given_back, handles, has_free, is_full, over, pairs, socket_at, wait_at, with_place, with_wait};
+ghost use Rattle.socket_set.specs.SocketSet.{set_after_add, first_free, given_back, handles, has_free, is_full, over, pairs, socket_at, wait_at, wait_of, with_place, with_wait};
 
 use crate::busy::BusyMarks;
 use crate::iter::{HandlesOf, IterOf};
@@ -62,6 +62,16 @@ impl<L> SocketStorageOf<L> {
             inner: Some(socket),
             meta: Meta::default(),
         }
+    }
+
+    // The wait of its socket, if there is one and it waits.
+    pub(crate) fn wait(&self) -> Option<(IpAddress, Instant)>
+        ensures { result ≡ option_and_then (λ socket. self.now.wait) self.now.socket }
+    {
+        if self.inner.is_none() {
+            return None;
+        }
+        self.meta.wait()
     }
 
     // The socket, if there is one.
@@ -177,7 +187,7 @@ impl SocketHandle {
 
     // The index of its place.
     #[inline(always)]
-    fn index(self) -> usize
+    pub(crate) fn index(self) -> usize
         ensures { result ≡ self }
     {
         self.0
@@ -345,6 +355,22 @@ impl<L: Drop> SocketSetOf<L> {
         T::downcast(socket)
     }
 
+    /// Whether a socket, of whatever kind, stands at the place of a handle.
+    pub fn is_open(&self, handle: SocketHandle) -> bool
+        ensures { result ≡ is_some (socket_at self.now handle) }
+    {
+        self.socket(handle.index()).is_some()
+    }
+
+    /// The neighbour that the socket of a handle waits for, and when it may be asked again. `None` exactly where it
+    /// doesn't wait, for a free place, or an index out of range. A wait whose end has passed stands until its neighbour
+    /// is known or another one begins.
+    pub fn wait(&self, handle: SocketHandle) -> Option<(IpAddress, Instant)>
+        ensures { result ≡ wait_of self.now handle }
+    {
+        self.wait_at(handle.index())
+    }
+
     /// The same, for writing. At `None` the set stays as it was. Who only reads takes [`SocketSetOf::get`]: a
     /// socket that was lent for writing is looked at again by the next frame and the next round of sending.
     pub fn get_mut<T: AnySocketOf<L>>(&mut self, handle: SocketHandle) -> Option<&mut T>
@@ -363,6 +389,24 @@ impl<L: Drop> SocketSetOf<L> {
     {
         let socket = self.sockets.get(index)?.socket()?;
         T::downcast(socket)
+    }
+
+    /// The socket at an index, of whatever kind. `None` exactly for a free place or an index out of
+    /// range.
+    pub(crate) fn socket(&self, index: usize) -> Option<&SocketOf<L>>
+        ensures { option_copied result ≡ socket_at self.now index }
+    {
+        self.sockets.get(index)?.socket()
+    }
+
+    /// The neighbour that the socket at an index waits for, and until when, if it waits.
+    pub(crate) fn wait_at(&self, index: usize) -> Option<(IpAddress, Instant)>
+        ensures { result ≡ wait_of self.now index }
+    {
+        match self.sockets.get(index) {
+            Some(storage) => storage.wait(),
+            None => None,
+        }
     }
 
     /// The same, for writing. At `None` the set stays as it was.
@@ -518,6 +562,17 @@ impl<L: Drop> SocketSetOf<L> {
             return;
         };
         storage.meta.neighbor_missing(timestamp, neighbor);
+    }
+
+    /// Lets the socket at an index wait for a neighbour until an instant, or not wait.
+    pub(crate) fn set_wait(&mut self, index: usize, wait: Option<(IpAddress, Instant)>)
+        ensures { self.new ≡ with_wait self.old index wait }
+    {
+        self.busy.set(index);
+        let Some(storage) = self.sockets.get_mut(index) else {
+            return;
+        };
+        storage.meta = Meta::of(wait);
     }
 
     /// Takes out the socket of a handle, and frees its place. `None` exactly for a free place or an

@@ -1,6 +1,22 @@
-use Rattle.std.proofs.Common.{ap, ◌∙◌}
-use Rattle.iface_host.proofs.FrameCalls.{empty, first}
+use Rattle.std.proofs.Common.{◌≡◌, ap, false, ◌∙◌}
+use Rattle.net_base.specs.Checksum.{ip_mtu_of}
+use Rattle.socket_set.specs.SocketSet.{over}
+use Rattle.iface_host.specs.Outbox.{empty}
+use Rattle.iface_host.specs.Stands.{capabilities_of}
+use Rattle.iface_host.proofs.FrameCalls.{stood}
 use Rattle.iface_host.proofs.host.Host.new.Goals as goal
 
 pub returns : goal.returns
-returns c = first c.args.settings.now _ c.new-outbox.result (c.new-outbox.ensures ∙ ap empty c.capabilities-capabilities.ensures) c.new.ensures.device c.in-Ok.ensures.made.1
+returns c =
+    let outbox_is : c.new-outbox.result ≡ empty (capabilities_of c.args.settings.now) = c.new-outbox.ensures ∙ ap empty c.capabilities-capabilities.ensures in
+    record {
+      stands = c.in_ok-let_fragments_wait.ensures.waits c.fixed.result _
+          (stood c.args.settings.now c.in-Ok.interface c.new-outbox.result outbox_is c.in-Ok.ensures.made.1 c.fixed.result);
+      some_time = c.in_ok-let_fragments_wait.ensures.within.0;
+      within_day = c.in_ok-let_fragments_wait.ensures.within.1;
+      ip_mtu = c.ip_mtu.ensures ∙ ap ip_mtu_of c.capabilities-capabilities.ensures;
+      sockets = c.fixed.ensures ∙ ap (λ places. over places false) c.in_ok-places.ensures;
+      names = c.in_ok-names.ensures;
+      outbox = c.new.ensures.device ∙ outbox_is;
+      schedule = c.in_ok-schedule.ensures;
+    }

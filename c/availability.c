@@ -1,0 +1,304 @@
+/* What a stranger on the link may stop, and for how long: hosts in one process, and frames that a stranger writes.
+ *
+ *  - A datagram from an absent neighbour: a service that answers it answers others again after its patience.
+ *  - An absent neighbour of the first socket: the neighbour of the second one is asked for in turn.
+ *  - Bursts of eight datagrams in three and four pieces, of two sockets at once: all arrive, in order, beside small ones.
+ *  - Pings of 3,000 octets, three at a time, and under half a percent of loss.
+ *  - Stray fragments: packets in fragments are put together again after the time that fragments wait.
+ */
+#include "iface.h"
+
+#include <stdio.h>
+#include <string.h>
+
+enum { SECOND = 1000000, ECHO_PORT = 7 };
+
+static int failures;
+
+static void must(const char *what, uint32_t code) {
+    if (code == IFACE_OK) return;
+    printf("WRONG: %s: code %u\n", what, code);
+    failures++;
+}
+
+static void wants(const char *what, int is_right) {
+    if (is_right) return;
+    printf("WRONG: %s\n", what);
+    failures++;
+}
+
+static int64_t now;
+
+static struct iface_address v4(uint8_t last) {
+    return (struct iface_address){4, {192, 168, 69, last}};
+}
+
+/* ---- hosts, and the link between them ---- */
+
+/* How often in 10,000 the link loses a frame. */
+static unsigned loss;
+
+static int is_lost(void) {
+    static uint64_t state = 42;
+    state ^= state << 13, state ^= state >> 7, state ^= state << 17; /* xorshift */
+    return state % 10000 < loss;
+}
+
+/* A host at 192.168.69.`last`, whose frames have at most so many octets. */
+static void make(iface *host, uint8_t last, uint32_t frame_len) {
+    struct iface_config config;
+    struct iface_address own = v4(last);
+    iface_config_init(&config);
+    config.seed = last, config.frame_len = frame_len, config.hardware_address[0] = 2, config.hardware_address[5] = last;
+    must("host", iface_new(host, &config));
+    must("address", iface_add_address(host, &own, 24));
+}
+
+static uint32_t udp_at(iface *host, uint16_t port, uint32_t packets, uint32_t octets) {
+    struct iface_endpoint any = {.port = port};
+    uint32_t socket = 0;
+    must("socket", iface_udp_open(host, &any, packets, octets, &socket));
+    return socket;
+}
+
+/* Who hears what a host sends: frames to absent hosts are heard by nobody. */
+static void hear(iface *host, iface *from, const uint8_t *frame, size_t length);
+
+/* All that a host has to send, to another. */
+static unsigned drain(iface *one, iface *other) {
+    static uint8_t frame[IFACE_FRAME_ROOM];
+    unsigned frames = 0;
+    for (size_t n = 1; n > 0; frames += n > 0) {
+        must("next", iface_next(one, now, frame, sizeof frame, &n));
+        if (n > 0) hear(other, one, frame, n);
+    }
+    return frames;
+}
+
+static void hear(iface *host, iface *from, const uint8_t *frame, size_t length) {
+    static uint8_t reply[IFACE_FRAME_ROOM], copy[IFACE_FRAME_ROOM];
+    static int depth;
+    size_t n = 0;
+    if (is_lost()) return;
+    must("receive", iface_receive(host, now, frame, length, reply, sizeof reply, &n));
+    if (n == 0 || depth > 8) return;
+    depth++;
+    memcpy(copy, reply, n);
+    uint8_t sent[IFACE_FRAME_ROOM];
+    memcpy(sent, copy, n);
+    hear(from, host, sent, n);
+    depth--;
+    drain(host, from); /* what the host sends behind the response, before the next frame */
+}
+
+/* The earlier of the instants at which two hosts are to be asked again. */
+static int64_t due(iface *a, iface *b) {
+    int64_t at_a = IFACE_NEVER, at_b = IFACE_NEVER;
+    must("poll_at", iface_poll_at(a, now, &at_a));
+    must("poll_at", iface_poll_at(b, now, &at_b));
+    return at_a < at_b ? at_a : at_b;
+}
+
+/* ---- frames that a stranger writes ---- */
+
+static uint16_t sum_of(const uint8_t *octets, size_t length) {
+    uint32_t sum = 0;
+    for (size_t i = 0; i + 1 < length; i += 2) sum += (uint32_t)(octets[i] << 8 | octets[i + 1]);
+    if (length % 2) sum += (uint32_t)octets[length - 1] << 8;
+    while (sum >> 16) sum = (sum & 0xffff) + (sum >> 16);
+    return (uint16_t)~sum;
+}
+
+/* A packet of IPv4 from 192.168.69.`from` to .`to` in a frame; how many octets that has. `fragment` is the field of
+ * flags and offset. */
+static size_t packet(uint8_t *frame, uint8_t from, uint8_t to, uint8_t protocol, uint16_t id, uint16_t fragment, const uint8_t *payload,
+                     size_t length) {
+    uint8_t header[34] = {2, 0, 0, 0, 0, to, 2, 0, 0, 0, 0, from, 8, 0, 0x45, 0};
+    uint8_t *ip = header + 14;
+    size_t total = 20 + length;
+    ip[2] = (uint8_t)(total >> 8), ip[3] = (uint8_t)total, ip[4] = (uint8_t)(id >> 8), ip[5] = (uint8_t)id;
+    ip[6] = (uint8_t)(fragment >> 8), ip[7] = (uint8_t)fragment, ip[8] = 64, ip[9] = protocol;
+    memcpy(ip + 12, (uint8_t[]){192, 168, 69, from, 192, 168, 69, to}, 8);
+    uint16_t sum = sum_of(ip, 20);
+    ip[10] = (uint8_t)(sum >> 8), ip[11] = (uint8_t)sum;
+    memcpy(frame, header, 34);
+    memcpy(frame + 34, payload, length);
+    return 34 + length;
+}
+
+/* A datagram of one octet to the echo port. Its checksum is 0: none. */
+static void send_datagram(iface *host, uint8_t from, uint8_t to) {
+    static uint8_t frame[IFACE_FRAME_ROOM], out[IFACE_FRAME_ROOM];
+    const uint8_t datagram[9] = {0x27, 0x0f, 0, ECHO_PORT, 0, 9, 0, 0, 'x'};
+    size_t n, length = packet(frame, from, to, 17, 1, 0, datagram, sizeof datagram);
+    must("receive", iface_receive(host, now, frame, length, out, sizeof out, &n));
+}
+
+/* ---- the programs ---- */
+
+/* Sends back each datagram that came. */
+static void echo(iface *host, uint32_t socket) {
+    static uint8_t payload[4096];
+    struct iface_endpoint from;
+    size_t n;
+    while (iface_udp_receive(host, socket, &from, payload, sizeof payload, &n) == IFACE_OK)
+        must("echo", iface_udp_send(host, socket, &from, payload, n));
+}
+
+/* One datagram from an absent neighbour, and a client that asks once a second: when it is answered again. */
+static void spoofed_datagram(void) {
+    iface service = IFACE_NONE, client = IFACE_NONE;
+    make(&service, 1, 1514), make(&client, 2, 1514);
+    uint32_t at = udp_at(&service, ECHO_PORT, 8, 4096), mine = udp_at(&client, 9000, 8, 4096);
+    struct iface_endpoint to = {v4(1), ECHO_PORT}, from;
+    struct iface_address told;
+    int64_t begun = now += 10 * SECOND, since, answered = 0;
+    uint64_t count;
+    uint8_t got[16];
+    size_t n;
+    send_datagram(&service, 77, 1), echo(&service, at);
+    drain(&service, &client);
+    must("waiting", iface_waiting(&service, at, &told, &since));
+    wants("it waits for 192.168.69.77, since then", told.octets[3] == 77 && since == begun);
+    for (int i = 0; i < 8 && answered == 0; i++, now += SECOND) {
+        must("send", iface_udp_send(&client, mine, &to, (const uint8_t *)"?", 1));
+        for (int turn = 0; turn < 4; turn++) {
+            drain(&client, &service), echo(&service, at), drain(&service, &client);
+            if (iface_udp_receive(&client, mine, &from, got, sizeof got, &n) == IFACE_OK && answered == 0) answered = now;
+        }
+    }
+    printf("a datagram from an absent neighbour: others are answered after %lld ms\n", (long long)(answered - begun) / 1000);
+    wants("others are answered within the patience and a second", answered > 0 && answered - begun <= 4 * SECOND);
+    must("given up", iface_given_up(&service, at, &told));
+    wants("192.168.69.77 was given up", told.octets[3] == 77);
+    wants("it is told once", iface_given_up(&service, at, &told) == IFACE_EMPTY);
+    must("count", iface_given_up_count(&service, &count));
+    wants("one was given up", count == 1);
+    must("free", iface_free(&service)), must("free", iface_free(&client));
+}
+
+/* The first socket sends to an absent neighbour again and again, the second to one that is there. Time goes from one
+ * instant of poll_at to the next. */
+static void absent_neighbor_first(void) {
+    iface host = IFACE_NONE, peer = IFACE_NONE;
+    make(&host, 1, 1514), make(&peer, 2, 1514);
+    uint32_t first = udp_at(&host, 1001, 8, 4096), second = udp_at(&host, 1002, 8, 4096), at = udp_at(&peer, 9, 8, 4096);
+    struct iface_endpoint absent = {v4(77), 9}, other = {v4(78), 9}, there = {v4(2), 9}, from;
+    int64_t begun = now += 10 * SECOND;
+    uint8_t got[16];
+    size_t n;
+    for (int i = 0; i < 4; i++) {
+        must("send", iface_udp_send(&host, first, &absent, (const uint8_t *)"a", 1));
+        must("send", iface_udp_send(&host, first, &other, (const uint8_t *)"b", 1));
+    }
+    must("send", iface_udp_send(&host, second, &there, (const uint8_t *)"c", 1));
+    int has_come = 0;
+    for (int i = 0; i < 100 && !has_come; i++) {
+        drain(&host, &peer), drain(&peer, &host), drain(&host, &peer);
+        has_come = iface_udp_receive(&peer, at, &from, got, sizeof got, &n) == IFACE_OK;
+        int64_t next = due(&host, &peer);
+        if (!has_come && next != IFACE_NEVER && next > now) now = next;
+    }
+    printf("an absent neighbour of the first socket: the second one's datagram arrives after %lld ms\n", (long long)(now - begun) / 1000);
+    wants("it arrives within two seconds", has_come && now - begun <= 2 * SECOND);
+    must("free", iface_free(&host)), must("free", iface_free(&peer));
+}
+
+/* Two sockets with eight long datagrams each, and one with eight short ones: all arrive, each socket's in order. */
+static void bursts(uint32_t frame_len, size_t length) {
+    static uint8_t payload[4068], got[4096];
+    iface host = IFACE_NONE, peer = IFACE_NONE;
+    make(&host, 1, frame_len), make(&peer, 2, frame_len);
+    uint32_t sockets[3], at[3];
+    unsigned arrived[3] = {0, 0, 0}, frames = 0;
+    struct iface_endpoint from;
+    size_t n;
+    now += 10 * SECOND;
+    for (uint16_t i = 0; i < 3; i++) {
+        sockets[i] = udp_at(&host, (uint16_t)(1000 + i), 8, 40000), at[i] = udp_at(&peer, (uint16_t)(2000 + i), 8, 40000);
+        struct iface_endpoint to = {v4(2), (uint16_t)(2000 + i)};
+        for (uint8_t k = 0; k < 8; k++) {
+            memset(payload, 8 * i + k, sizeof payload);
+            must("send", iface_udp_send(&host, sockets[i], &to, payload, i == 1 ? 10 : length));
+        }
+    }
+    for (int turn = 0; turn < 4; turn++, now += SECOND) frames += drain(&host, &peer) + drain(&peer, &host);
+    for (unsigned i = 0; i < 3; i++)
+        while (iface_udp_receive(&peer, at[i], &from, got, sizeof got, &n) == IFACE_OK) {
+            memset(payload, (int)(8 * i + arrived[i]), sizeof payload);
+            wants("each arrives as it was, in order", n == (i == 1 ? 10 : length) && memcmp(got, payload, n) == 0);
+            arrived[i]++;
+        }
+    printf("bursts of %zu octets over frames of %u: %u, %u and %u of 8 arrive, by %u frames\n", length, frame_len, arrived[0], arrived[1],
+           arrived[2], frames);
+    wants("all arrive", arrived[0] == 8 && arrived[1] == 8 && arrived[2] == 8);
+    must("free", iface_free(&host)), must("free", iface_free(&peer));
+}
+
+/* Pings of 3,000 octets, so many at a time, once a second: how many of them are answered. */
+static unsigned pings(unsigned at_a_time, unsigned seconds) {
+    static uint8_t message[3008], got[4096];
+    iface host = IFACE_NONE, peer = IFACE_NONE;
+    make(&host, 1, 1514), make(&peer, 2, 1514);
+    uint32_t socket = 0;
+    unsigned answered = 0;
+    struct iface_address to = v4(2), from;
+    size_t n;
+    now += 10 * SECOND;
+    must("socket", iface_icmp_open_ident(&host, 42, 8, 32768, &socket));
+    for (unsigned i = 0; i < seconds; i++, now += SECOND) {
+        for (unsigned k = 0; k < at_a_time; k++) {
+            memcpy(message, (uint8_t[]){8, 0, 0, 0, 0, 42, (uint8_t)i, (uint8_t)k}, 8);
+            memset(message + 8, (int)(i + k), sizeof message - 8);
+            must("send", iface_icmp_send(&host, socket, &to, message, sizeof message));
+        }
+        for (int turn = 0; turn < 3; turn++) drain(&host, &peer), drain(&peer, &host);
+        while (iface_icmp_receive(&host, socket, &from, got, sizeof got, &n) == IFACE_OK)
+            answered += n == sizeof message && got[0] == 0 && got[8] == (uint8_t)(got[6] + got[7]);
+    }
+    must("free", iface_free(&host)), must("free", iface_free(&peer));
+    return answered;
+}
+
+static void long_pings(void) {
+    unsigned all = pings(3, 100);
+    printf("pings of 3,000 octets, three at a time: %u of 300 answered\n", all);
+    wants("all are answered", all == 300);
+    loss = 50;
+    unsigned some = pings(1, 1000);
+    loss = 0;
+    printf("the same, one at a time, with 0.5 %% of frames lost: %u of 1000 answered\n", some);
+    wants("most are answered", some >= 930);
+}
+
+/* Eight fragments of packets that never end: how long datagrams in pieces don't arrive. */
+static void stray_fragments(void) {
+    static uint8_t frame[IFACE_FRAME_ROOM], out[IFACE_FRAME_ROOM], payload[3000], got[4096];
+    iface host = IFACE_NONE, peer = IFACE_NONE;
+    make(&host, 1, 1514), make(&peer, 2, 1514);
+    uint32_t socket = udp_at(&host, 1000, 8, 32768), at = udp_at(&peer, 2000, 8, 32768);
+    struct iface_endpoint to = {v4(2), 2000}, from;
+    int64_t begun = now += 10 * SECOND, arrived = 0;
+    size_t n;
+    for (uint16_t id = 1; id <= 8; id++) {
+        size_t length = packet(frame, 77, 2, 17, id, 0x2000, payload, 8);
+        must("receive", iface_receive(&peer, now, frame, length, out, sizeof out, &n));
+    }
+    for (int i = 0; i < 100 && arrived == 0; i++, now += SECOND) {
+        must("send", iface_udp_send(&host, socket, &to, payload, sizeof payload));
+        for (int turn = 0; turn < 3; turn++) drain(&host, &peer), drain(&peer, &host);
+        if (iface_udp_receive(&peer, at, &from, got, sizeof got, &n) == IFACE_OK) arrived = now;
+    }
+    printf("eight stray fragments: datagrams in pieces arrive after %lld ms\n", (long long)(arrived - begun) / 1000);
+    wants("they arrive within a second after ten", arrived > 0 && arrived - begun <= 11 * SECOND);
+    must("free", iface_free(&host)), must("free", iface_free(&peer));
+}
+
+int main(void) {
+    spoofed_datagram();
+    absent_neighbor_first();
+    bursts(1514, 3000), bursts(1514, 4000), bursts(1114, 4000);
+    long_pings();
+    stray_fragments();
+    return failures != 0;
+}

@@ -1,0 +1,4 @@
+mod First
+mod Comes
+mod Ends
+mod Unchanged

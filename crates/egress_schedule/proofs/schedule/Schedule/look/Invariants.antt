@@ -1,0 +1,7 @@
+use Rattle.std.proofs.Common.{◌≡◌, false}
+use Rattle.egress_schedule.specs.Patience.{after_look_at}
+use Rattle.egress_schedule.specs.Plan.{each_of}
+use Rattle.egress_schedule.proofs.schedule.Schedule.look.Given as goal
+
+abbrev pub invariant-loop-index : goal.invariant-loop-index
+invariant-loop-index g l = record { plan = l.self; sockets = l.sockets } ≡ each_of (after_look_at l.now) l.index (record { plan = record l.fn.self { is_waiting = false }; sockets = l.sockets })

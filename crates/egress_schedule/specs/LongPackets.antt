@@ -1,0 +1,86 @@
+-- Packets that have to be cut: a cut takes the place of pieces that are left of the one before, so one socket at a time sends such a
+-- packet, and none while a piece is left.
+use Rattle.std.specs.Prelude.{ℕ, ◌+◌, ◌==◌, ◌&&◌, not, nat_lt, Bool, false, List, length, ℤ, Option, Some, None, if◌then◌else◌}
+use Rattle.net_base.specs.Time.{silence_from}
+use Rattle.ip_address.specs.declared.ip.IpAddress.{IpAddress}
+use Rattle.ip_address.specs.declared.ip.IpAddress.TheVariants as address
+use Rattle.socket_base.specs.Queue.{first_of}
+use Rattle.sockets.specs.declared.socket.SocketOf.{SocketOf}
+use Rattle.sockets.specs.declared.socket.SocketOf.TheVariants.{Raw, Icmp, Udp, Tcp}
+use Rattle.socket_set.specs.SocketMeta.{Wait}
+use Rattle.socket_set.specs.SocketSet.{Sockets, socket_at, wait_of, with_wait}
+use Rattle.egress_schedule.specs.Plan.{Plan, Planned, each_of, first_from, watch_at, with_watch}
+use Rattle.egress_schedule.specs.Turns.{next_in_turn, turn_after}
+
+-- the octets of a queue's first packet behind so many of headers; 0 where there is none
+abbrev pub len_behind : {M : Type 0} → ℕ → Option (M × List ℕ) → ℕ
+len_behind headers None = 0
+len_behind headers (Some p) = headers + length p.1
+
+-- the length of the first packet that a socket has to send, over IPv4 (RFC 791 3.1, 768, 9293 3.1): TCP's and UDP's with their
+-- headers, a raw one as it stands
+abbrev pub first_len : {L : Type 0} → SocketOf L → ℕ
+first_len (Raw s) = len_behind 0 (first_of s.tx.packets)
+first_len (Icmp s) = len_behind 20 (first_of s.tx.packets)
+first_len (Udp s) = len_behind 28 (first_of s.tx.packets)
+first_len (Tcp s) = len_behind 40 (first_of s.tx.packets)
+
+-- it is longer than the link's packets
+abbrev pub is_long : {L : Type 0} → ℕ → Option (SocketOf L) → Bool
+is_long mtu None = false
+is_long mtu (Some socket) = nat_lt mtu (first_len socket)
+
+-- nobody has this address, so who waits for it isn't asked before the end of the wait
+abbrev pub nobody : IpAddress
+nobody = address.Ipv4 (record { bits = 0 })
+
+-- the turn to send a long packet, after the one that had it; it stays while a piece is left
+abbrev pub fragment_turn_after : Bool → ℕ → Plan → ℕ
+fragment_turn_after is_piece_left next plan =
+    if is_piece_left then plan.fragment_turn else turn_after (length plan.watches) plan.fragment_turn next
+
+module _ {L : Type 0} where
+  abbrev pub has_long : ℕ → Sockets L → ℕ → Bool
+  has_long mtu s i = is_long mtu (socket_at s i)
+
+  -- a socket with a long packet isn't asked in this round, and its own wait is set aside
+  abbrev pub after_setting_aside_at : ℕ → ℤ → ℕ → ℕ → Planned L → Planned L
+  after_setting_aside_at mtu now next i r =
+      if has_long mtu r.sockets i && not (i == next)
+      then record {
+        plan = with_watch i (record (watch_at i r) { set_aside = Some (wait_of r.sockets i) }) r.plan;
+        sockets = with_wait r.sockets i (Some (nobody, silence_from now));
+      }
+      else r
+
+  -- the socket that may send a long packet: the one whose turn it is, and none while a piece is left
+  abbrev pub next_long : ℕ → Bool → Planned L → ℕ
+  next_long mtu is_piece_left r =
+      if is_piece_left then length r.plan.watches else next_in_turn (has_long mtu r.sockets) r.plan.fragment_turn (length r.plan.watches)
+
+  -- all others whose first packet is long aren't asked
+  abbrev pub after_setting_aside : ℕ → ℤ → Bool → Planned L → Planned L
+  after_setting_aside mtu now is_piece_left r =
+      let n = length r.plan.watches in
+      let next = next_long mtu is_piece_left r in
+      let rest = each_of (after_setting_aside_at mtu now next) n r in
+      record rest {
+        plan = record rest.plan {
+          fragment_turn = fragment_turn_after is_piece_left next r.plan;
+          may_have_long = nat_lt (first_from (has_long mtu r.sockets) 0 n) n;
+        };
+      }
+
+  abbrev pub if_set_aside : ℕ → Planned L → Option Wait → Planned L
+  if_set_aside i r None = r
+  if_set_aside i r (Some wait) = record {
+    plan = with_watch i (record (watch_at i r) { set_aside = None }) r.plan;
+    sockets = with_wait r.sockets i wait;
+  }
+
+  -- after the round each has its own wait again
+  abbrev pub after_putting_back_at : ℕ → Planned L → Planned L
+  after_putting_back_at i r = if_set_aside i r (watch_at i r).set_aside
+
+  abbrev pub after_putting_all_back : Planned L → Planned L
+  after_putting_all_back r = each_of after_putting_back_at (length r.plan.watches) r

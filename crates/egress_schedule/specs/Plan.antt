@@ -1,0 +1,60 @@
+-- What is kept from one round to the next beside a set of sockets: for each socket whom it waits for, and whose turn it is.
+use Rattle.std.specs.Prelude.{ℕ, zero, suc, Bool, false, is_some, List, get_or, slice_set, replicate, Option, None, if◌then◌else◌}
+use Rattle.socket_set.specs.SocketSet.{Sockets, wait_of}
+use Rattle.egress_schedule.specs.declared.watch.Waiting.{Waiting}
+use Rattle.egress_schedule.specs.declared.watch.Watch.{Watch}
+
+-- how long a packet waits for a neighbour, in microseconds, 0 for ever; a watch for each socket; from which index on the next socket
+-- may ask for its neighbour, and the next long packet may go; how many packets were given up; whether some socket waits; and whether
+-- some packet may be long
+pub record Plan : Type 0 where
+  pub patience : ℕ
+  pub watches : List Watch
+  pub discovery_turn : ℕ
+  pub fragment_turn : ℕ
+  pub given_up : ℕ
+  pub is_waiting : Bool
+  pub may_have_long : Bool
+
+-- of a socket that doesn't wait nothing is written down
+abbrev pub idle : Watch
+idle = record { waiting = None; unreachable = None; given_up = None; set_aside = None }
+
+-- that of so many sockets, none of which waits
+abbrev pub first_plan : ℕ → ℕ → Plan
+first_plan patience sockets = record {
+  patience = patience;
+  watches = replicate sockets idle;
+  discovery_turn = 0;
+  fragment_turn = 0;
+  given_up = 0;
+  is_waiting = false;
+  may_have_long = false;
+}
+
+-- the plan with another watch at an index
+abbrev pub with_watch : ℕ → Watch → Plan → Plan
+with_watch i w plan = record plan { watches = slice_set plan.watches i w }
+
+-- a plan with its sockets
+pub record Planned (L : Type 0) : Type 0 where
+  pub plan : Plan
+  pub sockets : Sockets L
+
+module _ {L : Type 0} where
+  abbrev pub watch_at : ℕ → Planned L → Watch
+  watch_at i r = get_or r.plan.watches i idle
+
+  -- for whom the socket at an index waits, as far as it still does
+  abbrev pub waiting_at : ℕ → Planned L → Option Waiting
+  waiting_at i r = if is_some (wait_of r.sockets i) then (watch_at i r).waiting else None
+
+-- the same for each of the first n indices, one after the other
+abbrev pub each_of : {A : Type 0} → (ℕ → A → A) → ℕ → A → A
+each_of step zero a = a
+each_of step (suc n) a = step n (each_of step n a)
+
+-- the first of so many indices from one on that has a property, or the index behind them
+abbrev pub first_from : (ℕ → Bool) → ℕ → ℕ → ℕ
+first_from p from zero = from
+first_from p from (suc n) = if p from then from else first_from p (suc from) n

@@ -1,0 +1,58 @@
+-- Turns among sockets that wait for neighbours: one request goes in a second, for all of them, so the sockets whose waits are over
+-- ask in turn.
+use Rattle.std.specs.Prelude.{ℕ, ◌+◌, ◌-◌, ◌||◌, ◌&&◌, not, nat_lt, Bool, false, length, ℤ, Option, Some, None, if◌then◌else◌}
+use Rattle.std.specs.Ordering.{int_cmp, is_le}
+use Rattle.net_base.specs.Time.{silence_from}
+use Rattle.socket_set.specs.SocketSet.{with_wait}
+use Rattle.egress_schedule.specs.declared.watch.Waiting.{Waiting}
+use Rattle.egress_schedule.specs.Patience.{is_at_end}
+use Rattle.egress_schedule.specs.Plan.{Planned, each_of, first_from, waiting_at, watch_at, with_watch}
+
+-- the first of n indices from the turn on that has a property, else the first of all; n where none has it
+abbrev pub next_in_turn : (ℕ → Bool) → ℕ → ℕ → ℕ
+next_in_turn p turn n =
+    let next = first_from p turn (n - turn) in
+    if nat_lt next n then next else first_from p 0 n
+
+-- the turn after the one of n that had it; where none had it, it stays
+abbrev pub turn_after : ℕ → ℕ → ℕ → ℕ
+turn_after n turn had = if nat_lt had n then had + 1 else turn
+
+-- a wait is over
+abbrev pub is_over : ℤ → Waiting → Bool
+is_over now w = is_le (int_cmp w.until now)
+
+-- a socket asks again: its wait is over, and the patience with it has not ended
+abbrev pub asks_again : ℕ → ℤ → Option Waiting → Bool
+asks_again patience now None = false
+asks_again patience now (Some w) = is_over now w && not (is_at_end patience now w)
+
+-- a socket isn't to ask in this round: its wait is over, and it isn't its turn, or the patience with it has ended
+abbrev pub is_held : ℕ → ℤ → Bool → Waiting → Bool
+is_held patience now is_before w = is_over now w && (is_before || is_at_end patience now w)
+
+module _ {L : Type 0} where
+  abbrev pub asks_at : ℤ → Planned L → ℕ → Bool
+  asks_at now r i = asks_again r.plan.patience now (waiting_at i r)
+
+  -- the socket at an index waits a second more, unless its neighbour is known
+  abbrev pub with_wait_longer : ℤ → ℕ → Waiting → Planned L → Planned L
+  with_wait_longer now i w r = record {
+    plan = with_watch i (record (watch_at i r) { waiting = Some (record w { until = silence_from now }) }) r.plan;
+    sockets = with_wait r.sockets i (Some (w.neighbor, silence_from now));
+  }
+
+  abbrev pub if_held : ℤ → ℕ → ℕ → Planned L → Option Waiting → Planned L
+  if_held now next i r None = r
+  if_held now next i r (Some w) = if is_held r.plan.patience now (nat_lt i next) w then with_wait_longer now i w r else r
+
+  abbrev pub after_hold_at : ℤ → ℕ → ℕ → Planned L → Planned L
+  after_hold_at now next i r = if_held now next i r (waiting_at i r)
+
+  -- those before the one whose turn it is, which would ask before it, wait a second more; those after it find the silence that it begins
+  abbrev pub after_taking_turns : ℤ → Planned L → Planned L
+  after_taking_turns now r =
+      let n = length r.plan.watches in
+      let next = next_in_turn (asks_at now r) r.plan.discovery_turn n in
+      let held = each_of (after_hold_at now next) n r in
+      record held { plan = record held.plan { discovery_turn = turn_after n r.plan.discovery_turn next } }

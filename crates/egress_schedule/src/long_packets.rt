@@ -1,0 +1,197 @@
+//! Packets that have to be cut, of which one goes at a time.
+ghost use Rattle.std.specs.Prelude.{◌≡◌, ◌-◌, ◌≤◌, nat_lt, length};
+ghost use Rattle.net_base.specs.Time.{IsMoment};
+ghost use Rattle.socket_base.specs.Queue.{first_of};
+ghost use Rattle.egress_schedule.specs.LongPackets as spec;
+ghost use Rattle.egress_schedule.specs.LongPackets.{after_putting_back_at, after_setting_aside_at, has_long, len_behind};
+ghost use Rattle.egress_schedule.specs.Plan.{each_of, first_from};
+ghost use Rattle.egress_schedule.specs.Turns.{next_in_turn};
+
+use crate::schedule::Schedule;
+use crate::turns::turn_after;
+use crate::watch::Watch;
+use ip_wire::{IpAddress, Ipv4Address};
+use net_base::time::Instant;
+use socket_set::{Meta, SocketSetOf, by_index};
+use sockets::Queue;
+use sockets::socket::SocketOf;
+
+/// Nobody has this address, so who waits for it isn't asked before the end of the wait.
+const NOBODY: IpAddress = IpAddress::Ipv4(Ipv4Address { bits: 0 });
+
+impl Schedule {
+    /// Lets the sockets whose first packet is long not be asked, but for the one whose turn it is; that one too, while a piece
+    /// is left.
+    pub(crate) fn set_aside<L: Drop>(
+        &mut self,
+        now: Instant,
+        ip_mtu: usize,
+        is_piece_left: bool,
+        sockets: &mut SocketSetOf<L>,
+    )
+        requires { IsMoment now }
+        ensures { record { plan = self.new; sockets = sockets.new } ≡ spec.after_setting_aside ip_mtu now is_piece_left (record { plan = self.old; sockets = sockets.old }) }
+    {
+        let next = self.next_of_long(ip_mtu, is_piece_left, sockets);
+        let turn = self.fragment_turn_after(is_piece_left, next);
+        let may_have_long = self.may_have_long_of(ip_mtu, sockets);
+        self.set_all_aside(next, now, ip_mtu, sockets);
+        self.fragment_turn = turn;
+        self.may_have_long = may_have_long;
+    }
+
+    /// The index of the socket that may send a long packet; their number, where none may.
+    fn next_of_long<L: Drop>(
+        &self,
+        ip_mtu: usize,
+        is_piece_left: bool,
+        sockets: &SocketSetOf<L>,
+    ) -> usize
+        ensures { result ≡ spec.next_long ip_mtu is_piece_left (record { plan = self.now; sockets = sockets.now }) }
+    {
+        let count = self.watches.len();
+        if is_piece_left {
+            count
+        } else {
+            next_long(self.fragment_turn, count, ip_mtu, sockets)
+        }
+    }
+
+    /// The turn after the socket at an index had it. While a piece is left it stays.
+    fn fragment_turn_after(&self, is_piece_left: bool, next: usize) -> usize
+        ensures { result ≡ spec.fragment_turn_after is_piece_left next self.now }
+    {
+        if is_piece_left {
+            self.fragment_turn
+        } else {
+            turn_after(self.watches.len(), self.fragment_turn, next)
+        }
+    }
+
+    /// Whether some socket has a long packet to send first.
+    fn may_have_long_of<L: Drop>(&self, ip_mtu: usize, sockets: &SocketSetOf<L>) -> bool
+        ensures { result ≡ nat_lt (first_from (has_long ip_mtu sockets.now) 0 (length self.now.watches)) (length self.now.watches) }
+    {
+        let count = self.watches.len();
+        first_long(0, count, ip_mtu, sockets) < count
+    }
+
+    /// Lets all sockets whose first packet is long not be asked, but for one.
+    fn set_all_aside<L: Drop>(
+        &mut self,
+        next: usize,
+        now: Instant,
+        ip_mtu: usize,
+        sockets: &mut SocketSetOf<L>,
+    )
+        requires { IsMoment now }
+        ensures { record { plan = self.new; sockets = sockets.new } ≡ each_of (after_setting_aside_at ip_mtu now next) (length self.old.watches) (record { plan = self.old; sockets = sockets.old }) }
+    {
+        for index in 0..self.watches.len() {
+            self.set_aside_at(index, next, now, ip_mtu, sockets);
+        }
+    }
+
+    /// Lets the socket at an index not be asked, if its first packet is long and it isn't its turn.
+    fn set_aside_at<L: Drop>(
+        &mut self,
+        index: usize,
+        next: usize,
+        now: Instant,
+        ip_mtu: usize,
+        sockets: &mut SocketSetOf<L>,
+    )
+        requires { IsMoment now }
+        ensures { record { plan = self.new; sockets = sockets.new } ≡ after_setting_aside_at ip_mtu now next index (record { plan = self.old; sockets = sockets.old }) }
+    {
+        if has_long(index, ip_mtu, sockets) && index != next {
+            let watch = Watch {
+                set_aside: Some(by_index::wait(sockets, index)),
+                ..self.watch(index)
+            };
+            self.set_watch(index, watch);
+            by_index::neighbor_missing(sockets, index, now, NOBODY);
+        }
+    }
+
+    /// Gives the sockets that weren't to be asked their own waits again.
+    pub(crate) fn put_all_back<L: Drop>(&mut self, sockets: &mut SocketSetOf<L>)
+        ensures { record { plan = self.new; sockets = sockets.new } ≡ spec.after_putting_all_back (record { plan = self.old; sockets = sockets.old }) }
+    {
+        for index in 0..self.watches.len() {
+            self.put_back_at(index, sockets);
+        }
+    }
+
+    /// Gives the socket at an index its own wait again, if that was set aside.
+    fn put_back_at<L: Drop>(&mut self, index: usize, sockets: &mut SocketSetOf<L>)
+        ensures { record { plan = self.new; sockets = sockets.new } ≡ after_putting_back_at index (record { plan = self.old; sockets = sockets.old }) }
+    {
+        let own_wait = self.watch(index).set_aside;
+        if let Some(wait) = own_wait {
+            let watch = Watch {
+                set_aside: None,
+                ..self.watch(index)
+            };
+            self.set_watch(index, watch);
+            by_index::set_wait(sockets, index, wait);
+        }
+    }
+}
+
+/// The index of the socket whose turn it is to send a long packet; their number, where none has one.
+fn next_long<L: Drop>(turn: usize, count: usize, ip_mtu: usize, sockets: &SocketSetOf<L>) -> usize
+    ensures { result ≡ next_in_turn (has_long ip_mtu sockets.now) turn count }
+{
+    let next = first_long(turn, count, ip_mtu, sockets);
+    if next < count {
+        next
+    } else {
+        first_long(0, count, ip_mtu, sockets)
+    }
+}
+
+/// The first index from one on whose socket's first packet is long; the index behind all, where none is.
+fn first_long<L: Drop>(from: usize, count: usize, ip_mtu: usize, sockets: &SocketSetOf<L>) -> usize
+    ensures { result ≡ first_from (has_long ip_mtu sockets.now) from (count - from) }
+{
+    for index in from..count {
+        if has_long(index, ip_mtu, sockets) {
+            return index;
+        }
+    }
+    from.max(count)
+}
+
+/// Whether the first packet of the socket at an index is longer than the link's packets.
+fn has_long<L: Drop>(index: usize, ip_mtu: usize, sockets: &SocketSetOf<L>) -> bool
+    ensures { result ≡ has_long ip_mtu sockets.now index }
+{
+    match by_index::socket(sockets, index) {
+        None => false,
+        Some(socket) => ip_mtu < first_len(socket),
+    }
+}
+
+/// The length of the first packet that a socket has to send, over IPv4; 0 where it has none.
+fn first_len<L: Drop>(socket: &SocketOf<L>) -> usize
+    ensures { result ≡ spec.first_len socket.now }
+{
+    match socket {
+        SocketOf::Raw(raw) => len_behind(0, raw.tx()),
+        SocketOf::Icmp(icmp) => len_behind(20, icmp.tx()),
+        SocketOf::Udp(udp) => len_behind(28, udp.tx()),
+        SocketOf::Tcp(tcp) => len_behind(40, tcp.tx()),
+    }
+}
+
+/// The octets of a queue's first packet behind so many of headers, at most 40; 0 where there is none.
+fn len_behind<M: Drop>(headers: usize, queue: &Queue<M>) -> usize
+    requires { headers ≤ 40 }
+    ensures { result ≡ len_behind headers (first_of queue.now.packets) }
+{
+    match queue.front() {
+        None => 0,
+        Some((_, octets)) => headers + octets.len(),
+    }
+}

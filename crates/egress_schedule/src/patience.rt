@@ -1,0 +1,179 @@
+//! Giving up a neighbour that doesn't answer.
+ghost use Rattle.std.specs.Prelude.{◌≡◌, false, None, get_or, length};
+ghost use Rattle.egress_schedule.specs.Plan.{idle};
+ghost use Rattle.egress_schedule.specs.Patience as spec;
+ghost use Rattle.egress_schedule.specs.Patience.{after_alignment_at, after_giving_up, after_look_at, after_patience_at, earliest_end, earliest_with, plan_after_look, without_first};
+ghost use Rattle.socket_set.specs.SocketSet.{socket_at};
+
+use crate::schedule::Schedule;
+use crate::watch::{Waiting, Watch, is_given_up, waiting_after};
+use ip_wire::IpAddress;
+use net_base::time::Instant;
+use socket_set::{SocketSetOf, by_index};
+
+impl Schedule {
+    /// Writes down which sockets wait after a round.
+    pub(crate) fn look<L: Drop>(&mut self, now: Instant, sockets: &SocketSetOf<L>)
+        ensures { record { plan = self.new; sockets = sockets.now } ≡ spec.after_look now (record { plan = self.old; sockets = sockets.now }) }
+    {
+        self.is_waiting = false;
+        for index in 0..self.watches.len() {
+            self.look_at(index, now, sockets);
+        }
+    }
+
+    /// Writes down whether the socket at an index waits.
+    fn look_at<L: Drop>(&mut self, index: usize, now: Instant, sockets: &SocketSetOf<L>)
+        ensures { record { plan = self.new; sockets = sockets.now } ≡ after_look_at now index (record { plan = self.old; sockets = sockets.now }) }
+    {
+        let wait = by_index::wait(sockets, index);
+        // Nothing is written, where nothing changes.
+        if wait.is_some() || self.is_noted(index) {
+            self.write_down(index, now, wait);
+        }
+    }
+
+    /// Whether it is written down of the socket at an index that it waits, or whom it just gave up.
+    fn is_noted(&self, index: usize) -> bool
+        ensures { result ≡ false → ((get_or self.now.watches index idle).waiting ≡ None) × ((get_or self.now.watches index idle).unreachable ≡ None) }
+    {
+        match self.watches.get(index) {
+            Some(watch) => watch.waiting.is_some() || watch.unreachable.is_some(),
+            None => false,
+        }
+    }
+
+    /// Writes down whether the socket at an index waits, whose wait is this.
+    fn write_down(&mut self, index: usize, now: Instant, wait: Option<(IpAddress, Instant)>)
+        ensures { self.new ≡ plan_after_look now index wait self.old }
+    {
+        let watch = self.watch(index);
+        let waiting = waiting_after(now, wait, watch.waiting);
+        let unreachable = match waiting {
+            None => None,
+            Some(_) => watch.unreachable,
+        };
+        self.set_watch(
+            index,
+            Watch {
+                waiting,
+                unreachable,
+                ..watch
+            },
+        );
+        self.is_waiting |= waiting.is_some();
+    }
+
+    /// Lets all sockets that wait ask again at one instant, the earliest.
+    pub(crate) fn align<L: Drop>(&mut self, sockets: &mut SocketSetOf<L>)
+        ensures { record { plan = self.new; sockets = sockets.new } ≡ spec.after_alignment (record { plan = self.old; sockets = sockets.old }) }
+    {
+        let Some(end) = self.earliest_end() else {
+            return;
+        };
+        for index in 0..self.watches.len() {
+            self.align_at(index, end, sockets);
+        }
+    }
+
+    /// The earliest end of a wait, if some socket waits.
+    fn earliest_end(&self) -> Option<Instant>
+        ensures { result ≡ earliest_end (length self.now.watches) self.now.watches }
+    {
+        let mut end = None;
+        for index in 0..self.watches.len() {
+            end = earlier_end(self.watch(index).waiting, end);
+        }
+        end
+    }
+
+    /// Lets the socket at an index ask again at an instant, if it waits.
+    fn align_at<L: Drop>(&mut self, index: usize, end: Instant, sockets: &mut SocketSetOf<L>)
+        ensures { record { plan = self.new; sockets = sockets.new } ≡ after_alignment_at end index (record { plan = self.old; sockets = sockets.old }) }
+    {
+        let waiting = self.watch(index).waiting;
+        if let Some(waiting) = waiting {
+            let aligned = Watch {
+                waiting: Some(Waiting {
+                    until: end,
+                    ..waiting
+                }),
+                ..self.watch(index)
+            };
+            self.set_watch(index, aligned);
+            by_index::set_wait(sockets, index, Some((waiting.neighbor, end)));
+        }
+    }
+
+    /// Each socket whose patience has ended, or whose neighbour was just given up, gives up its first packet.
+    pub(crate) fn give_up<L: Drop>(&mut self, now: Instant, sockets: &mut SocketSetOf<L>)
+        ensures { record { plan = self.new; sockets = sockets.new } ≡ spec.after_patience now (record { plan = self.old; sockets = sockets.old }) }
+    {
+        for index in 0..self.watches.len() {
+            self.give_up_at(index, now, sockets);
+        }
+    }
+
+    /// The socket at an index gives up its first packet, if its patience has ended or its neighbour was just given up.
+    fn give_up_at<L: Drop>(&mut self, index: usize, now: Instant, sockets: &mut SocketSetOf<L>)
+        ensures { record { plan = self.new; sockets = sockets.new } ≡ after_patience_at now index (record { plan = self.old; sockets = sockets.old }) }
+    {
+        let Some(waiting) = self.waiting_at(sockets, index) else {
+            return;
+        };
+        let unreachable = self.watch(index).unreachable;
+        if is_given_up(self.patience, now, unreachable, &waiting) {
+            self.drop_first(index, waiting.neighbor, sockets);
+        }
+    }
+
+    /// Gives up the first packet of the socket at an index.
+    fn drop_first<L: Drop>(
+        &mut self,
+        index: usize,
+        neighbor: IpAddress,
+        sockets: &mut SocketSetOf<L>,
+    )
+        ensures { record { plan = self.new; sockets = sockets.new } ≡ after_giving_up index neighbor (record { plan = self.old; sockets = sockets.old }) }
+    {
+        let watch = Watch {
+            waiting: None,
+            unreachable: Some(neighbor),
+            given_up: Some(neighbor),
+            ..self.watch(index)
+        };
+        self.set_watch(index, watch);
+        self.given_up = self.given_up.saturating_add(1);
+        drop_front(index, sockets);
+        by_index::set_wait(sockets, index, None);
+    }
+}
+
+/// The earliest end of a wait with that of another socket, if that waits.
+fn earlier_end(waiting: Option<Waiting>, end: Option<Instant>) -> Option<Instant>
+    ensures { result ≡ earliest_with waiting end }
+{
+    match waiting {
+        None => end,
+        Some(waiting) => Some(earlier_of(end, waiting.until)),
+    }
+}
+
+/// The earlier of two instants, if there are two.
+fn earlier_of(other: Option<Instant>, at: Instant) -> Instant
+    ensures { result ≡ spec.earlier_of other at }
+{
+    match other {
+        None => at,
+        Some(other) => { if other <= at { other } else { at } }
+    }
+}
+
+/// Drops the first packet that the socket at an index has to send, if there is one.
+fn drop_front<L: Drop>(index: usize, sockets: &mut SocketSetOf<L>)
+    ensures { sockets.new ≡ without_first index sockets.old (socket_at sockets.old index) }
+{
+    if let Some(socket) = by_index::socket_mut(sockets, index) {
+        socket.told(true);
+    }
+}

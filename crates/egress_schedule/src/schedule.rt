@@ -1,0 +1,202 @@
+//! A schedule of a set of sockets.
+ghost use Rattle.std.specs.Prelude.{◌≡◌, true, IfOk, IsSome, IsNone, None, get_or};
+ghost use Rattle.net_base.specs.Time.{IsMoment};
+ghost use Rattle.egress_schedule.specs.Plan.{first_plan, idle, with_watch, waiting_at};
+ghost use Rattle.egress_schedule.specs.Rounds.{after_round, before_round, with_long_set_aside, with_turns_taken};
+
+use crate::watch::{Waiting, Watch};
+use ip_wire::IpAddress;
+use net_base::time::{Duration, Instant};
+use socket_set::{SocketHandle, SocketSetOf, by_index};
+use std::alloc::{AllocError, Global};
+use std::marker::Model;
+
+/// A schedule of a set of sockets.
+///
+/// In contracts it is the patience, what is written down of each socket, whose turn it is, and what was given up.
+#[derive(Drop)]
+pub struct Schedule {
+    pub(crate) patience: Duration,
+    pub(crate) watches: Vec<Watch>,
+    pub(crate) discovery_turn: usize,
+    pub(crate) fragment_turn: usize,
+    pub(crate) given_up: u64,
+    pub(crate) is_waiting: bool,
+    pub(crate) may_have_long: bool,
+}
+
+impl Model for Schedule {
+    ghost use Rattle.egress_schedule.specs.Plan.{Plan};
+
+    ghost Value = { Plan };
+
+    ghost view = { λ s. record { patience = s.patience; watches = s.watches.items; discovery_turn = s.discovery_turn; fragment_turn = s.fragment_turn; given_up = s.given_up; is_waiting = s.is_waiting; may_have_long = s.may_have_long } };
+}
+
+impl Schedule {
+    /// A schedule of so many sockets, none of which waits. A packet is given up that waited so long for its
+    /// neighbour; a patience of no time is one for ever. It fails if memory is refused.
+    pub fn new(alloc: Global, sockets: usize, patience: Duration) -> Result<Schedule, AllocError>
+        ensures { IfOk result (λ schedule. schedule ≡ first_plan patience sockets) }
+    {
+        Ok(Schedule {
+            patience,
+            watches: Vec::from_elem(alloc, Watch::IDLE, sockets)?,
+            discovery_turn: 0,
+            fragment_turn: 0,
+            given_up: 0,
+            is_waiting: false,
+            may_have_long: false,
+        })
+    }
+
+    /// How long a packet waits for its neighbour before it is given up; no time is for ever.
+    pub fn patience(&self) -> Duration
+        ensures { result ≡ self.now.patience }
+    {
+        self.patience
+    }
+
+    /// How many packets were given up.
+    pub fn given_up(&self) -> u64
+        ensures { result ≡ self.now.given_up }
+    {
+        self.given_up
+    }
+
+    /// The destination of the packet that the socket of a handle gave up last, if one was given up since this was
+    /// asked. At `None` nothing changes.
+    pub fn take_given_up(&mut self, handle: SocketHandle) -> Option<IpAddress>
+        ensures told { result ≡ (get_or self.old.watches handle idle).given_up }
+        ensures once { IsSome result → self.new ≡ with_watch handle (record (get_or self.old.watches handle idle) { given_up = None }) self.old }
+        ensures unchanged { IsNone result → self.new ≡ self.old }
+    {
+        let index = by_index::index_of(handle);
+        let watch = self.watch(index);
+        let given_up = watch.given_up?;
+        let told = Watch {
+            given_up: None,
+            ..watch
+        };
+        self.set_watch(index, told);
+        Some(given_up)
+    }
+
+    /// For whom the socket of a handle waits, since when, and until when it doesn't ask again. `None` if it doesn't wait.
+    pub fn waiting<L: Drop>(
+        &self,
+        sockets: &SocketSetOf<L>,
+        handle: SocketHandle,
+    ) -> Option<Waiting>
+        ensures { result ≡ waiting_at handle (record { plan = self.now; sockets = sockets.now }) }
+    {
+        self.waiting_at(sockets, by_index::index_of(handle))
+    }
+
+    /// For whom the socket at an index waits.
+    pub(crate) fn waiting_at<L: Drop>(
+        &self,
+        sockets: &SocketSetOf<L>,
+        index: usize,
+    ) -> Option<Waiting>
+        ensures { result ≡ waiting_at index (record { plan = self.now; sockets = sockets.now }) }
+    {
+        if by_index::wait(sockets, index).is_some() {
+            self.watch(index).waiting
+        } else {
+            None
+        }
+    }
+
+    /// Forgets what is written down of the socket of a handle, as where another one is opened in its place.
+    pub fn forget(&mut self, handle: SocketHandle)
+        ensures { self.new ≡ with_watch handle idle self.old }
+    {
+        self.set_watch(by_index::index_of(handle), Watch::IDLE);
+    }
+
+    /// Tells that a packet may be longer than the link's packets, which is queued now.
+    pub fn expect_long_packet(&mut self)
+        ensures { self.new ≡ record self.old { may_have_long = true } }
+    {
+        self.may_have_long = true;
+    }
+
+    /// Prepares a round of an interface, which polls at a moment. Of the sockets whose waits are over, those before the
+    /// one whose turn it is wait a second more. Of the sockets whose first packet is longer than the link's packets, only
+    /// the one whose turn it is will be asked, and none while a piece of a packet is left.
+    pub fn before_round<L: Drop>(
+        &mut self,
+        now: Instant,
+        ip_mtu: usize,
+        is_piece_left: bool,
+        sockets: &mut SocketSetOf<L>,
+    )
+        requires { IsMoment now }
+        ensures { record { plan = self.new; sockets = sockets.new } ≡ before_round now ip_mtu is_piece_left (record { plan = self.old; sockets = sockets.old }) }
+    {
+        self.prepare_waiting(now, sockets);
+        self.prepare_long(now, ip_mtu, is_piece_left, sockets);
+    }
+
+    /// Lets the sockets that wait ask in turn, if some wait.
+    fn prepare_waiting<L: Drop>(&mut self, now: Instant, sockets: &mut SocketSetOf<L>)
+        requires { IsMoment now }
+        ensures { record { plan = self.new; sockets = sockets.new } ≡ with_turns_taken now (record { plan = self.old; sockets = sockets.old }) }
+    {
+        if self.is_waiting {
+            self.take_turns(now, sockets);
+        }
+    }
+
+    /// Lets one long packet go, if there may be some.
+    fn prepare_long<L: Drop>(
+        &mut self,
+        now: Instant,
+        ip_mtu: usize,
+        is_piece_left: bool,
+        sockets: &mut SocketSetOf<L>,
+    )
+        requires { IsMoment now }
+        ensures { record { plan = self.new; sockets = sockets.new } ≡ with_long_set_aside ip_mtu now is_piece_left (record { plan = self.old; sockets = sockets.old }) }
+    {
+        if self.may_have_long {
+            self.set_aside(now, ip_mtu, is_piece_left, sockets);
+        }
+    }
+
+    /// Ends a round. Sockets that weren't to be asked may be asked again, and it is written down which sockets wait.
+    /// They may all ask again at one instant. A packet that waited as long as the patience is dropped and counted; so is
+    /// one to the neighbour that its socket gave up in the round before.
+    pub fn after_round<L: Drop>(&mut self, now: Instant, sockets: &mut SocketSetOf<L>)
+        ensures { record { plan = self.new; sockets = sockets.new } ≡ after_round now (record { plan = self.old; sockets = sockets.old }) }
+    {
+        if self.may_have_long {
+            self.put_all_back(sockets);
+        }
+        self.look(now, sockets);
+        if self.is_waiting {
+            self.align(sockets);
+            self.give_up(now, sockets);
+        }
+    }
+
+    /// What is written down of the socket at an index.
+    pub(crate) fn watch(&self, index: usize) -> Watch
+        ensures { result ≡ get_or self.now.watches index idle }
+    {
+        match self.watches.get(index) {
+            Some(watch) => *watch,
+            None => Watch::IDLE,
+        }
+    }
+
+    /// Writes down something else of the socket at an index.
+    pub(crate) fn set_watch(&mut self, index: usize, watch: Watch)
+        ensures { self.new ≡ with_watch index watch self.old }
+    {
+        if let Some(place) = self.watches.get_mut(index) {
+            *place = watch;
+        }
+    }
+}

@@ -1,0 +1,107 @@
+//! Turns among sockets that wait for neighbours.
+ghost use Rattle.std.specs.Prelude.{◌≡◌, ◌-◌, length};
+ghost use Rattle.net_base.specs.Time.{IsMoment};
+ghost use Rattle.egress_schedule.specs.Plan.{each_of, first_from};
+ghost use Rattle.egress_schedule.specs.Turns as spec;
+ghost use Rattle.egress_schedule.specs.Turns.{after_hold_at, asks_at, next_in_turn, with_wait_longer};
+
+use crate::schedule::Schedule;
+use crate::watch::{Waiting, Watch, asks_again};
+use net_base::time::Instant;
+use socket_set::{Meta, SocketSetOf, by_index};
+
+impl Schedule {
+    /// Lets the sockets before the one whose turn it is to ask for its neighbour wait a second more.
+    pub(crate) fn take_turns<L: Drop>(&mut self, now: Instant, sockets: &mut SocketSetOf<L>)
+        requires { IsMoment now }
+        ensures { record { plan = self.new; sockets = sockets.new } ≡ spec.after_taking_turns now (record { plan = self.old; sockets = sockets.old }) }
+    {
+        let next = self.next_to_ask(now, sockets);
+        let turn = turn_after(self.watches.len(), self.discovery_turn, next);
+        self.hold_all(next, now, sockets);
+        self.discovery_turn = turn;
+    }
+
+    /// Lets the sockets that aren't to ask, as it isn't their turn or their packets are given up, wait a second more.
+    fn hold_all<L: Drop>(&mut self, next: usize, now: Instant, sockets: &mut SocketSetOf<L>)
+        requires { IsMoment now }
+        ensures { record { plan = self.new; sockets = sockets.new } ≡ each_of (after_hold_at now next) (length self.old.watches) (record { plan = self.old; sockets = sockets.old }) }
+    {
+        for index in 0..self.watches.len() {
+            self.hold_at(index, next, now, sockets);
+        }
+    }
+
+    /// The index of the socket whose turn it is to ask; their number, where none asks.
+    fn next_to_ask<L: Drop>(&self, now: Instant, sockets: &SocketSetOf<L>) -> usize
+        ensures { result ≡ next_in_turn (asks_at now (record { plan = self.now; sockets = sockets.now })) self.now.discovery_turn (length self.now.watches) }
+    {
+        let next = self.first_to_ask(self.discovery_turn, now, sockets);
+        if next < self.watches.len() {
+            next
+        } else {
+            self.first_to_ask(0, now, sockets)
+        }
+    }
+
+    /// The first index from one on whose socket asks for its neighbour again; the index after all, where none does.
+    fn first_to_ask<L: Drop>(&self, from: usize, now: Instant, sockets: &SocketSetOf<L>) -> usize
+        ensures { result ≡ first_from (asks_at now (record { plan = self.now; sockets = sockets.now })) from (length self.now.watches - from) }
+    {
+        let count = self.watches.len();
+        for index in from..count {
+            if asks_again(self.patience, now, self.waiting_at(sockets, index)) {
+                return index;
+            }
+        }
+        from.max(count)
+    }
+
+    /// The socket at an index waits a second more, if its wait is over and it isn't to ask.
+    fn hold_at<L: Drop>(
+        &mut self,
+        index: usize,
+        next: usize,
+        now: Instant,
+        sockets: &mut SocketSetOf<L>,
+    )
+        requires { IsMoment now }
+        ensures { record { plan = self.new; sockets = sockets.new } ≡ after_hold_at now next index (record { plan = self.old; sockets = sockets.old }) }
+    {
+        let Some(waiting) = self.waiting_at(sockets, index) else {
+            return;
+        };
+        if waiting.is_held(self.patience, now, index < next) {
+            self.wait_longer(index, now, waiting, sockets);
+        }
+    }
+
+    /// The socket at an index waits a second more, unless its neighbour is known.
+    fn wait_longer<L: Drop>(
+        &mut self,
+        index: usize,
+        now: Instant,
+        waiting: Waiting,
+        sockets: &mut SocketSetOf<L>,
+    )
+        requires { IsMoment now }
+        ensures { record { plan = self.new; sockets = sockets.new } ≡ with_wait_longer now index waiting (record { plan = self.old; sockets = sockets.old }) }
+    {
+        let watch = Watch {
+            waiting: Some(Waiting {
+                until: now + Meta::DISCOVERY_SILENT_TIME,
+                ..waiting
+            }),
+            ..self.watch(index)
+        };
+        self.set_watch(index, watch);
+        by_index::neighbor_missing(sockets, index, now, waiting.neighbor);
+    }
+}
+
+/// The turn after the one of so many that had it; where none had it, it stays.
+pub(crate) fn turn_after(count: usize, turn: usize, had: usize) -> usize
+    ensures { result ≡ spec.turn_after count turn had }
+{
+    if had < count { had + 1 } else { turn }
+}
