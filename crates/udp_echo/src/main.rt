@@ -43,9 +43,21 @@ fn main(rt: HostRuntime) -> Result<()> {
     let now = Instant::ZERO;
     for line in rt.lines(alloc) {
         device.push(&hex::decode(alloc, line?.as_str())?)?;
-        round(now, &mut interface, &mut device, &mut sockets, &mut schedule);
+        round(
+            now,
+            &mut interface,
+            &mut device,
+            &mut sockets,
+            &mut schedule,
+        );
         echo(&rt, alloc, &mut sockets, handle)?;
-        round(now, &mut interface, &mut device, &mut sockets, &mut schedule);
+        round(
+            now,
+            &mut interface,
+            &mut device,
+            &mut sockets,
+            &mut schedule,
+        );
         if let Some(neighbor) = schedule.take_given_up(handle) {
             eprintln!(rt; "{neighbor} doesn't answer")?;
         }
