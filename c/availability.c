@@ -61,34 +61,28 @@ static uint32_t udp_at(iface *host, uint16_t port, uint32_t packets, uint32_t oc
     return socket;
 }
 
-/* Who hears what a host sends: frames to absent hosts are heard by nobody. */
 static void hear(iface *host, iface *from, const uint8_t *frame, size_t length);
 
-/* All that a host has to send, to another. */
+/* All that a host has to send, to another. How many frames that is. */
 static unsigned drain(iface *one, iface *other) {
-    static uint8_t frame[IFACE_FRAME_ROOM];
+    uint8_t frame[IFACE_FRAME_ROOM];
     unsigned frames = 0;
-    for (size_t n = 1; n > 0; frames += n > 0) {
-        must("next", iface_next(one, now, frame, sizeof frame, &n));
-        if (n > 0) hear(other, one, frame, n);
+    size_t n;
+    for (must("next", iface_next(one, now, frame, sizeof frame, &n)); n > 0; must("next", iface_next(one, now, frame, sizeof frame, &n))) {
+        frames++;
+        hear(other, one, frame, n);
     }
     return frames;
 }
 
+/* Hands a frame over, unless the link loses it; then what is sent in response, and all else that is sent behind it. */
 static void hear(iface *host, iface *from, const uint8_t *frame, size_t length) {
-    static uint8_t reply[IFACE_FRAME_ROOM], copy[IFACE_FRAME_ROOM];
-    static int depth;
+    uint8_t reply[IFACE_FRAME_ROOM];
     size_t n = 0;
     if (is_lost()) return;
     must("receive", iface_receive(host, now, frame, length, reply, sizeof reply, &n));
-    if (n == 0 || depth > 8) return;
-    depth++;
-    memcpy(copy, reply, n);
-    uint8_t sent[IFACE_FRAME_ROOM];
-    memcpy(sent, copy, n);
-    hear(from, host, sent, n);
-    depth--;
-    drain(host, from); /* what the host sends behind the response, before the next frame */
+    if (n > 0) hear(from, host, reply, n);
+    drain(host, from);
 }
 
 /* The earlier of the instants at which two hosts are to be asked again. */

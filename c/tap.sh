@@ -39,6 +39,7 @@ try() {
     echo "== $*"
     "$@" || status=1
 }
+
 # Three pings at once, none of which may lose a reply.
 three_at_a_time() {
     local told
@@ -46,6 +47,7 @@ three_at_a_time() {
     grep 'packet loss' <<<"$told"
     [ "$(grep -c ' 0% packet loss' <<<"$told")" = 3 ]
 }
+
 try ping -c 3 -i 0.2 192.168.69.1
 try ping -c 3 -i 0.2 fd69::1
 try ping -c 3 -i 0.2 fe80::1%tap0

@@ -1,5 +1,6 @@
 -- Patience ends.
-use Rattle.std.specs.Prelude.{ℕ, zero, suc, ◌≡◌, ◌≢◌, ◌<◌, ◌≤◌, ◌⊎◌, Bool, true, false, is_some, ℤ, pos, List, [], ◌∷◌, length, get_or, slice_get, slice_set, Option, Some, None, IfSome, refl, if◌then◌else◌}
+use Rattle.std.specs.Prelude.{ℕ, zero, suc, ◌≡◌, ◌≢◌, ◌<◌, ◌≤◌, ◌⊎◌, Bool, true, false, is_some, ℤ, pos}
+use Rattle.std.specs.Prelude.{List, [], ◌∷◌, length, get_or, slice_get, slice_set, Option, Some, None, IfSome, refl, if◌then◌else◌}
 use Rattle.std.specs.Option.{option_and_then}
 use Rattle.std.proofs.Common.{inl, inr, sym, ap, ◌∙◌, subst, arith}
 use Rattle.socket_base.specs.Source.{is_same}
@@ -12,8 +13,9 @@ use Rattle.socket_set.specs.SocketSet.{Sockets, socket_at, wait_of, with_wait}
 use Rattle.egress_schedule.specs.declared.watch.Waiting.{Waiting}
 use Rattle.egress_schedule.specs.declared.watch.Watch.{Watch}
 use Rattle.egress_schedule.specs.Plan.{Planned, each_of, idle, waiting_at, watch_at}
-use Rattle.egress_schedule.specs.Patience.{after_alignment, after_alignment_at, after_alignment_to, after_giving_up, after_look, after_look_at, after_patience, after_patience_at, earliest_end, earliest_with}
-use Rattle.egress_schedule.specs.Patience.{if_given_up, if_waiting, is_at_end, is_given_up, unreachable_after, waiting_after, watch_after_giving_up, without_first}
+use Rattle.egress_schedule.specs.Patience.{after_alignment, after_alignment_at, after_alignment_to, after_giving_up, after_look, after_look_at}
+use Rattle.egress_schedule.specs.Patience.{after_patience, after_patience_at, earliest_end, earliest_with, if_given_up, if_waiting}
+use Rattle.egress_schedule.specs.Patience.{is_at_end, is_given_up, unreachable_after, waiting_after, watch_after_giving_up, without_first}
 use Rattle.egress_schedule.specs.LongPackets.{after_putting_all_back, after_putting_back_at, if_set_aside}
 use Rattle.egress_schedule.specs.Rounds.{after_round, with_long_put_back}
 use Rattle.egress_schedule.specs.Laws.{PatienceEnds, WaitsEndTogether}
@@ -57,7 +59,8 @@ none_is None is = refl
 none_is (Some w) is = absurd cc
 
 -- what is kept has not waited so long
-fresh : (patience : ℕ) (now : ℤ) (unreachable : Option IpAddress) (w : Waiting) → is_given_up patience now unreachable w ≡ false → is_at_end patience now w ≡ false
+fresh : (patience : ℕ) (now : ℤ) (unreachable : Option IpAddress) (w : Waiting) → is_given_up patience now unreachable w ≡ false →
+    is_at_end patience now w ≡ false
 fresh patience now None w kept = kept
 fresh patience now (Some unreachable) w kept = (or_parts (is_at_end patience now w) (is_same unreachable w.neighbor) kept).0
 
@@ -71,6 +74,10 @@ together None b end one two = tt
 together (Some w) None end one two = tt
 together (Some w) (Some x) end one two = one ∙ sym two
 
+-- a wait that hasn't lasted that long
+abbrev IsFresh : ℤ → ℕ → Waiting → Type 0
+IsFresh now patience w = is_at_end patience now w ≡ false
+
 module _ {L : Type 0} where
   -- what a wait for another socket's index leaves
   other_socket : (s : Sockets L) (j i : ℕ) (place : Option (SocketOf L)) → i ≢ j → socket_at (without_first j s place) i ≡ socket_at s i
@@ -81,16 +88,22 @@ module _ {L : Type 0} where
   same_waits s j None = refl
   same_waits s j (Some socket) = refl
 
-  other_wait : (s : Sockets L) (j i : ℕ) (place : Option (SocketOf L)) (wait : Wait) → i ≢ j → wait_of (with_wait (without_first j s place) j wait) i ≡ wait_of s i
+  other_wait : (s : Sockets L) (j i : ℕ) (place : Option (SocketOf L)) (wait : Wait) → i ≢ j →
+      wait_of (with_wait (without_first j s place) j wait) i ≡ wait_of s i
   other_wait s j i place wait other =
       let waits : get_or (slice_set (without_first j s place).waits j wait) i None ≡ get_or s.waits i None =
       other_set (without_first j s place).waits j i wait None other ∙ ap (λ ws. get_or ws i None) (same_waits s j place) in
       rw (waits, other_socket s j i place other) refl
 
   -- a property of a plan that each step keeps
-  kept : {A : Type 0} (of : Planned L → A) (step : ℕ → Planned L → Planned L) → ((i : ℕ) (r : Planned L) → of (step i r) ≡ of r) → (n : ℕ) (r : Planned L) → of (each_of step n r) ≡ of r
+  kept : {A : Type 0} (of : Planned L → A) (step : ℕ → Planned L → Planned L) → ((i : ℕ) (r : Planned L) → of (step i r) ≡ of r) →
+      (n : ℕ) (r : Planned L) → of (each_of step n r) ≡ of r
   kept of step same zero r = refl
   kept of step same (suc n) r = same n (each_of step n r) ∙ kept of step same n r
+
+  -- what is written down of a socket says for whom it waits, as far as it still does
+  of_watch : (i : ℕ) (r : Planned L) (P : Waiting → Type 0) → IfSome (watch_at i r).waiting P → IfSome (waiting_at i r) P
+  of_watch i r P holds = if_waits (is_some (wait_of r.sockets i)) (watch_at i r).waiting P holds
 
   abbrev patience_of : Planned L → ℕ
   patience_of r = r.plan.patience
@@ -118,7 +131,7 @@ module _ {L : Type 0} where
         two false = refl
 
     abbrev Holds : ℕ → ℕ → Planned L → Type 0
-    Holds patience i r = IfSome (waiting_at i r) (λ w. is_at_end patience now w ≡ false)
+    Holds patience i r = IfSome (waiting_at i r) (IsFresh now patience)
 
     -- it holds of an index once that had its step
     step_here : (i : ℕ) (r : Planned L) → i < count_of r → Holds (patience_of r) i (after_patience_at now i r)
@@ -126,10 +139,14 @@ module _ {L : Type 0} where
       by : (w : Option Waiting) → waiting_at i r ≡ w → Holds (patience_of r) i (if_given_up i now r w)
       by None is = rw is tt
       by (Some w) is = two (is_given_up r.plan.patience now (watch_at i r).unreachable w) refl where
-        two : (b : Bool) → is_given_up r.plan.patience now (watch_at i r).unreachable w ≡ b → Holds (patience_of r) i (if b then after_giving_up i w.neighbor r else r)
+        new : Watch
+        new = watch_after_giving_up w.neighbor (watch_at i r)
+
+        two : (b : Bool) → is_given_up r.plan.patience now (watch_at i r).unreachable w ≡ b →
+            Holds (patience_of r) i (if b then after_giving_up i w.neighbor r else r)
         two false stays = rw is (fresh r.plan.patience now (watch_at i r).unreachable w stays)
-        two true given = if_waits (is_some (wait_of (after_giving_up i w.neighbor r).sockets i)) (watch_at i (after_giving_up i w.neighbor r)).waiting (λ x. is_at_end (patience_of r) now x ≡ false)
-            (subst (λ (x : Watch). IfSome x.waiting (λ y. is_at_end (patience_of r) now y ≡ false)) (sym (here_set r.plan.watches i (watch_after_giving_up w.neighbor (watch_at i r)) idle within)) tt)
+        two true given = of_watch i (after_giving_up i w.neighbor r) (IsFresh now (patience_of r))
+            (subst (λ (x : Watch). IfSome x.waiting (IsFresh now (patience_of r))) (sym (here_set r.plan.watches i new idle within)) tt)
 
     -- and stays so in the steps of others
     step_other : (patience j i : ℕ) (r : Planned L) → i ≢ j → Holds patience i r → Holds patience i (after_patience_at now j r)
@@ -139,9 +156,12 @@ module _ {L : Type 0} where
       by (Some w) = two (is_given_up r.plan.patience now (watch_at j r).unreachable w) where
         two : (b : Bool) → Holds patience i (if b then after_giving_up j w.neighbor r else r)
         two false = holds
-        two true = subst (λ (x : Option Waiting). IfSome x (λ y. is_at_end patience now y ≡ false)) (sym same) holds where
+        two true = subst (λ (x : Option Waiting). IfSome x (IsFresh now patience)) (sym same) holds where
+          new : Watch
+          new = watch_after_giving_up w.neighbor (watch_at j r)
+
           same : waiting_at i (after_giving_up j w.neighbor r) ≡ waiting_at i r
-          same = rw (other_wait r.sockets j i (socket_at r.sockets j) None other, other_set r.plan.watches j i (watch_after_giving_up w.neighbor (watch_at j r)) idle other) refl
+          same = rw (other_wait r.sockets j i (socket_at r.sockets j) None other, other_set r.plan.watches j i new idle other) refl
 
     step_all : (r : Planned L) (n i : ℕ) → n ≤ count_of r → i < n → Holds (patience_of r) i (each_of (after_patience_at now) n r)
     step_all r zero i all within = absurd (omega (arith, within))
@@ -170,14 +190,15 @@ module _ {L : Type 0} where
 
       by : ((i < count_of r) ⊎ (count_of r ≤ i)) → Holds (patience_of r) i given
       by (inl within) = step_all r (count_of r) i (omega arith) within
-      by (inr past) = if_waits (is_some (wait_of given.sockets i)) (watch_at i given).waiting (λ w. is_at_end (patience_of r) now w ≡ false)
+      by (inr past) = of_watch i given (IsFresh now (patience_of r))
           (rw (none_past i given (rw (kept count_of (after_patience_at now) giving_keeps_count (count_of r) r) past)) tt)
 
     looking_keeps_count : (i : ℕ) (r : Planned L) → count_of (after_look_at now i r) ≡ count_of r
     looking_keeps_count i r = len_set r.plan.watches i _
 
     -- where it is written down that no socket waits, none does
-    none_waits : (r : Planned L) (n i : ℕ) → n ≤ count_of r → i < n → (each_of (after_look_at now) n r).plan.is_waiting ≡ false → (watch_at i (each_of (after_look_at now) n r)).waiting ≡ None
+    none_waits : (r : Planned L) (n i : ℕ) → n ≤ count_of r → i < n → (each_of (after_look_at now) n r).plan.is_waiting ≡ false →
+        (watch_at i (each_of (after_look_at now) n r)).waiting ≡ None
     none_waits r zero i all within is = absurd (omega (arith, within))
     none_waits r (suc m) i all within is = by (cases_eq i m) (λ less. none_waits r m i (omega (arith, all)) less) where
       mid : Planned L
@@ -195,7 +216,8 @@ module _ {L : Type 0} where
       there : m < count_of mid
       there = rw (kept count_of (after_look_at now) looking_keeps_count m r) (omega (arith, all))
 
-      by : ((i ≡ m) ⊎ (i ≡ m → ⊥)) → (i < m → mid.plan.is_waiting ≡ false → (watch_at i mid).waiting ≡ None) → (get_or (slice_set mid.plan.watches m new) i idle).waiting ≡ None
+      by : ((i ≡ m) ⊎ (i ≡ m → ⊥)) → (i < m → mid.plan.is_waiting ≡ false → (watch_at i mid).waiting ≡ None) →
+          (get_or (slice_set mid.plan.watches m new) i idle).waiting ≡ None
       by (inl same) before = rw (same, here_set mid.plan.watches m new idle there) (none_is this parts.1)
       by (inr other) before = rw (other_set mid.plan.watches m i new idle other) (before (omega (arith, within, other)) parts.0)
 
@@ -290,7 +312,8 @@ module _ {L : Type 0} where
           new : Watch
           new = watch_after_giving_up w.neighbor (watch_at j r)
 
-          three : ((i ≡ j) ⊎ (i ≡ j → ⊥)) → ((j < count_of r) ⊎ (count_of r ≤ j)) → IfSome (get_or (slice_set r.plan.watches j new) i idle).waiting (λ x. x.until ≡ end)
+          three : ((i ≡ j) ⊎ (i ≡ j → ⊥)) → ((j < count_of r) ⊎ (count_of r ≤ j)) →
+              IfSome (get_or (slice_set r.plan.watches j new) i idle).waiting (λ x. x.until ≡ end)
           three (inl same) (inl within) = rw (same, here_set r.plan.watches j new idle within) tt
           three (inl same) (inr past) = rw (same, past_get (slice_set r.plan.watches j new) j idle (rw (len_set r.plan.watches j new) past)) tt
           three (inr other) place = rw (other_set r.plan.watches j i new idle other) ends
@@ -324,12 +347,15 @@ module _ {L : Type 0} where
 
       by : (b : Bool) → (seen r).plan.is_waiting ≡ b → Holds (patience_of r) i (if b then after_patience now (after_alignment (seen r)) else seen r)
       by true is = subst (λ (p : ℕ). Holds p i (after_patience now (after_alignment (seen r)))) patience (gives_up (after_alignment (seen r)) i)
-      by false is = if_waits (is_some (wait_of (seen r).sockets i)) (watch_at i (seen r)).waiting (λ w. is_at_end (patience_of r) now w ≡ false) (rw (looked_over (with_long_put_back r) i is) tt)
+      by false is = of_watch i (seen r) (IsFresh now (patience_of r)) (rw (looked_over (with_long_put_back r) i is) tt)
 
-    ends_together : (r : Planned L) (i j : ℕ) → IfSome (waiting_at i (after_round now r)) (λ w. IfSome (waiting_at j (after_round now r)) (λ x. w.until ≡ x.until))
+    -- two sockets that wait may ask again at one instant
+    abbrev Together : ℕ → ℕ → Planned L → Type 0
+    Together i j r = IfSome (waiting_at i r) (λ w. IfSome (waiting_at j r) (λ x. w.until ≡ x.until))
+
+    ends_together : (r : Planned L) (i j : ℕ) → Together i j (after_round now r)
     ends_together r i j = by (seen r).plan.is_waiting refl where
-      by : (b : Bool) → (seen r).plan.is_waiting ≡ b →
-          IfSome (waiting_at i (if b then after_patience now (after_alignment (seen r)) else seen r)) (λ w. IfSome (waiting_at j (if b then after_patience now (after_alignment (seen r)) else seen r)) (λ x. w.until ≡ x.until))
+      by : (b : Bool) → (seen r).plan.is_waiting ≡ b → Together i j (if b then after_patience now (after_alignment (seen r)) else seen r)
       by true is = together (waiting_at i given) (waiting_at j given) at.0 (at_end i) (at_end j) where
         start : Planned L
         start = after_alignment (seen r)
@@ -341,10 +367,10 @@ module _ {L : Type 0} where
         at = aligned (seen r)
 
         at_end : (k : ℕ) → IfSome (waiting_at k given) (λ w. w.until ≡ at.0)
-        at_end k = if_waits (is_some (wait_of given.sockets k)) (watch_at k given).waiting (λ w. w.until ≡ at.0) (end_kept at.0 (count_of start) k start (at.1 k))
+        at_end k = of_watch k given (λ w. w.until ≡ at.0) (end_kept at.0 (count_of start) k start (at.1 k))
       by false is = together (waiting_at i (seen r)) (waiting_at j (seen r)) (pos 0) (none i) (none j) where
         none : (k : ℕ) → IfSome (waiting_at k (seen r)) (λ w. w.until ≡ pos 0)
-        none k = if_waits (is_some (wait_of (seen r).sockets k)) (watch_at k (seen r)).waiting (λ w. w.until ≡ pos 0) (rw (looked_over (with_long_put_back r) k is) tt)
+        none k = of_watch k (seen r) (λ w. w.until ≡ pos 0) (rw (looked_over (with_long_put_back r) k is) tt)
 
 pub patience_ends : PatienceEnds
 patience_ends now r i = ends now r i

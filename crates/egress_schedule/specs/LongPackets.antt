@@ -1,5 +1,5 @@
--- Packets that have to be cut: a cut takes the place of pieces that are left of the one before, so one socket at a time sends such a
--- packet, and none while a piece is left.
+-- Packets that have to be cut. The pieces of one replace those that are left of the one before. So one socket at a time sends
+-- such a packet, and none while a piece is left.
 use Rattle.std.specs.Prelude.{ℕ, ◌+◌, ◌==◌, ◌&&◌, not, nat_lt, Bool, false, List, length, ℤ, Option, Some, None, if◌then◌else◌}
 use Rattle.net_base.specs.Time.{silence_from}
 use Rattle.ip_address.specs.declared.ip.IpAddress.{IpAddress}
@@ -56,7 +56,13 @@ module _ {L : Type 0} where
   -- the socket that may send a long packet: the one whose turn it is, and none while a piece is left
   abbrev pub next_long : ℕ → Bool → Planned L → ℕ
   next_long mtu is_piece_left r =
-      if is_piece_left then length r.plan.watches else next_in_turn (has_long mtu r.sockets) r.plan.fragment_turn (length r.plan.watches)
+      if is_piece_left
+      then length r.plan.watches
+      else next_in_turn (has_long mtu r.sockets) r.plan.fragment_turn (length r.plan.watches)
+
+  -- some socket has one
+  abbrev pub some_has_long : ℕ → Planned L → Bool
+  some_has_long mtu r = nat_lt (first_from (has_long mtu r.sockets) 0 (length r.plan.watches)) (length r.plan.watches)
 
   -- all others whose first packet is long aren't asked
   abbrev pub after_setting_aside : ℕ → ℤ → Bool → Planned L → Planned L
@@ -67,7 +73,7 @@ module _ {L : Type 0} where
       record rest {
         plan = record rest.plan {
           fragment_turn = fragment_turn_after is_piece_left next r.plan;
-          may_have_long = nat_lt (first_from (has_long mtu r.sockets) 0 n) n;
+          may_have_long = some_has_long mtu r;
         };
       }
 

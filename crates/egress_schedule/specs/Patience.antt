@@ -1,6 +1,7 @@
--- Giving up a neighbour that doesn't answer. After three solicitations, a second apart, resolution has failed, and the packets that wait
--- for it are dropped (RFC 4861 7.2.2, 10).
-use Rattle.std.specs.Prelude.{ℕ, zero, suc, ◌+◌, ◌==◌, not, min, ◌&&◌, Bool, false, true, ◌||◌, is_some, List, length, get_or}
+-- Giving up a neighbour that doesn't answer. After three solicitations, a second apart, resolution has failed, and the packets
+-- that wait for it are dropped (RFC 4861 7.2.2, 10).
+use Rattle.std.specs.Prelude.{ℕ, ◌≡◌, zero, suc, ◌+◌, ◌==◌, not, min, ◌&&◌, ◌||◌, Bool, false, true, is_some}
+use Rattle.std.specs.Prelude.{List, length, get_or}
 use Rattle.std.specs.Prelude.{ℤ, pos, ◌+ℤ◌, Option, Some, None, if◌then◌else◌}
 use Rattle.std.specs.Ordering.{int_cmp, is_gt, is_le}
 use Rattle.ip_address.specs.declared.ip.IpAddress.{IpAddress}
@@ -39,6 +40,11 @@ is_given_up patience now (Some unreachable) w = is_at_end patience now w || is_s
 abbrev pub unreachable_after : Option Waiting → Option IpAddress → Option IpAddress
 unreachable_after None unreachable = None
 unreachable_after (Some w) unreachable = unreachable
+
+-- it isn't written down of a socket that it waits, or whom it just gave up
+pub record IsUnnoted (watch : Watch) : Type 0 where
+  pub waiting : watch.waiting ≡ None
+  pub unreachable : watch.unreachable ≡ None
 
 -- the plan with what is written down of a socket of this wait after a round
 abbrev pub plan_after_look : ℤ → ℕ → Wait → Plan → Plan
@@ -95,7 +101,8 @@ module _ {L : Type 0} where
   after_alignment_to None r = r
   after_alignment_to (Some end) r = each_of (after_alignment_at end) (length r.plan.watches) r
 
-  -- all sockets that wait may ask again at one instant, the earliest: so they find the silence of the one whose turn it was, and no other
+  -- all sockets that wait may ask again at one instant, the earliest, so they find the silence of the one whose turn it was, and
+  -- no other
   abbrev pub after_alignment : Planned L → Planned L
   after_alignment r = after_alignment_to (earliest_end (length r.plan.watches) r.plan.watches) r
 
@@ -107,7 +114,9 @@ module _ {L : Type 0} where
   -- the first packet of a socket is given up: it is dropped, told of and counted, and the socket waits no more
   abbrev pub after_giving_up : ℕ → IpAddress → Planned L → Planned L
   after_giving_up i neighbor r = record {
-    plan = record (with_watch i (watch_after_giving_up neighbor (watch_at i r)) r.plan) { given_up = count_after r.plan.given_up };
+    plan = record (with_watch i (watch_after_giving_up neighbor (watch_at i r)) r.plan) {
+      given_up = count_after r.plan.given_up;
+    };
     sockets = with_wait (without_first i r.sockets (socket_at r.sockets i)) i None;
   }
 

@@ -1,12 +1,13 @@
 -- What is kept from one round to the next beside a set of sockets: for each socket whom it waits for, and whose turn it is.
 use Rattle.std.specs.Prelude.{ℕ, zero, suc, Bool, false, is_some, List, get_or, slice_set, replicate, Option, None, if◌then◌else◌}
+use Rattle.ip_address.specs.declared.ip.IpAddress.{IpAddress}
 use Rattle.socket_set.specs.SocketSet.{Sockets, wait_of}
 use Rattle.egress_schedule.specs.declared.watch.Waiting.{Waiting}
 use Rattle.egress_schedule.specs.declared.watch.Watch.{Watch}
 
--- how long a packet waits for a neighbour, in microseconds, 0 for ever; a watch for each socket; from which index on the next socket
--- may ask for its neighbour, and the next long packet may go; how many packets were given up; whether some socket waits; and whether
--- some packet may be long
+-- how long a packet waits for a neighbour, in microseconds, 0 for ever; a watch for each socket; from which index on the next
+-- socket may ask for its neighbour, and the next may send a long packet; how many packets were given up; whether some socket
+-- waits; and whether some packet may be long
 pub record Plan : Type 0 where
   pub patience : ℕ
   pub watches : List Watch
@@ -20,6 +21,18 @@ pub record Plan : Type 0 where
 abbrev pub idle : Watch
 idle = record { waiting = None; unreachable = None; given_up = None; set_aside = None }
 
+-- the plan with another watch at an index
+abbrev pub with_watch : ℕ → Watch → Plan → Plan
+with_watch i w plan = record plan { watches = slice_set plan.watches i w }
+
+-- the destination that the socket at an index gave up last, until that is told
+abbrev pub given_up_at : ℕ → Plan → Option IpAddress
+given_up_at i plan = (get_or plan.watches i idle).given_up
+
+-- the plan in which that is told
+abbrev pub without_given_up : ℕ → Plan → Plan
+without_given_up i plan = with_watch i (record (get_or plan.watches i idle) { given_up = None }) plan
+
 -- that of so many sockets, none of which waits
 abbrev pub first_plan : ℕ → ℕ → Plan
 first_plan patience sockets = record {
@@ -32,16 +45,15 @@ first_plan patience sockets = record {
   may_have_long = false;
 }
 
--- the plan with another watch at an index
-abbrev pub with_watch : ℕ → Watch → Plan → Plan
-with_watch i w plan = record plan { watches = slice_set plan.watches i w }
-
 -- a plan with its sockets
 pub record Planned (L : Type 0) : Type 0 where
   pub plan : Plan
   pub sockets : Sockets L
 
 module _ {L : Type 0} where
+  abbrev pub planned : Plan → Sockets L → Planned L
+  planned plan sockets = record { plan = plan; sockets = sockets }
+
   abbrev pub watch_at : ℕ → Planned L → Watch
   watch_at i r = get_or r.plan.watches i idle
 

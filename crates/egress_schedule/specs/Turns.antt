@@ -1,5 +1,5 @@
--- Turns among sockets that wait for neighbours: one request goes in a second, for all of them, so the sockets whose waits are over
--- ask in turn.
+-- Turns among sockets that wait for neighbours. One request is sent in a second, for all of them, so the sockets whose waits are
+-- over ask in turn.
 use Rattle.std.specs.Prelude.{ℕ, ◌+◌, ◌-◌, ◌||◌, ◌&&◌, not, nat_lt, Bool, false, length, ℤ, Option, Some, None, if◌then◌else◌}
 use Rattle.std.specs.Ordering.{int_cmp, is_le}
 use Rattle.net_base.specs.Time.{silence_from}
@@ -35,6 +35,10 @@ module _ {L : Type 0} where
   abbrev pub asks_at : ℤ → Planned L → ℕ → Bool
   asks_at now r i = asks_again r.plan.patience now (waiting_at i r)
 
+  -- the socket whose turn it is to ask
+  abbrev pub next_to_ask : ℤ → Planned L → ℕ
+  next_to_ask now r = next_in_turn (asks_at now r) r.plan.discovery_turn (length r.plan.watches)
+
   -- the socket at an index waits a second more, unless its neighbour is known
   abbrev pub with_wait_longer : ℤ → ℕ → Waiting → Planned L → Planned L
   with_wait_longer now i w r = record {
@@ -49,10 +53,11 @@ module _ {L : Type 0} where
   abbrev pub after_hold_at : ℤ → ℕ → ℕ → Planned L → Planned L
   after_hold_at now next i r = if_held now next i r (waiting_at i r)
 
-  -- those before the one whose turn it is, which would ask before it, wait a second more; those after it find the silence that it begins
+  -- those before the one whose turn it is, which would ask before it, wait a second more; those after it find the silence that it
+  -- begins
   abbrev pub after_taking_turns : ℤ → Planned L → Planned L
   after_taking_turns now r =
       let n = length r.plan.watches in
-      let next = next_in_turn (asks_at now r) r.plan.discovery_turn n in
+      let next = next_to_ask now r in
       let held = each_of (after_hold_at now next) n r in
       record held { plan = record held.plan { discovery_turn = turn_after n r.plan.discovery_turn next } }

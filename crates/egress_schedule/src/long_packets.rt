@@ -1,10 +1,11 @@
 //! Packets that have to be cut, of which one goes at a time.
-ghost use Rattle.std.specs.Prelude.{◌≡◌, ◌-◌, ◌≤◌, nat_lt, length};
+ghost use Rattle.std.specs.Prelude.{◌≡◌, ◌-◌, ◌≤◌, length};
 ghost use Rattle.net_base.specs.Time.{IsMoment};
 ghost use Rattle.socket_base.specs.Queue.{first_of};
 ghost use Rattle.egress_schedule.specs.LongPackets as spec;
-ghost use Rattle.egress_schedule.specs.LongPackets.{after_putting_back_at, after_setting_aside_at, has_long, len_behind};
-ghost use Rattle.egress_schedule.specs.Plan.{each_of, first_from};
+ghost use Rattle.egress_schedule.specs.LongPackets.{after_putting_back_at, after_setting_aside_at};
+ghost use Rattle.egress_schedule.specs.LongPackets.{has_long, len_behind, some_has_long};
+ghost use Rattle.egress_schedule.specs.Plan.{each_of, first_from, planned};
 ghost use Rattle.egress_schedule.specs.Turns.{next_in_turn};
 
 use crate::schedule::Schedule;
@@ -30,11 +31,12 @@ impl Schedule {
         sockets: &mut SocketSetOf<L>,
     )
         requires { IsMoment now }
-        ensures { record { plan = self.new; sockets = sockets.new } ≡ spec.after_setting_aside ip_mtu now is_piece_left (record { plan = self.old; sockets = sockets.old }) }
+        ensures { planned self.new sockets.new
+            ≡ spec.after_setting_aside ip_mtu now is_piece_left (planned self.old sockets.old) }
     {
         let next = self.next_of_long(ip_mtu, is_piece_left, sockets);
         let turn = self.fragment_turn_after(is_piece_left, next);
-        let may_have_long = self.may_have_long_of(ip_mtu, sockets);
+        let may_have_long = self.some_has_long(ip_mtu, sockets);
         self.set_all_aside(next, now, ip_mtu, sockets);
         self.fragment_turn = turn;
         self.may_have_long = may_have_long;
@@ -47,7 +49,7 @@ impl Schedule {
         is_piece_left: bool,
         sockets: &SocketSetOf<L>,
     ) -> usize
-        ensures { result ≡ spec.next_long ip_mtu is_piece_left (record { plan = self.now; sockets = sockets.now }) }
+        ensures { result ≡ spec.next_long ip_mtu is_piece_left (planned self.now sockets.now) }
     {
         let count = self.watches.len();
         if is_piece_left {
@@ -69,8 +71,8 @@ impl Schedule {
     }
 
     /// Whether some socket has a long packet to send first.
-    fn may_have_long_of<L: Drop>(&self, ip_mtu: usize, sockets: &SocketSetOf<L>) -> bool
-        ensures { result ≡ nat_lt (first_from (has_long ip_mtu sockets.now) 0 (length self.now.watches)) (length self.now.watches) }
+    fn some_has_long<L: Drop>(&self, ip_mtu: usize, sockets: &SocketSetOf<L>) -> bool
+        ensures { result ≡ some_has_long ip_mtu (planned self.now sockets.now) }
     {
         let count = self.watches.len();
         first_long(0, count, ip_mtu, sockets) < count
@@ -85,7 +87,8 @@ impl Schedule {
         sockets: &mut SocketSetOf<L>,
     )
         requires { IsMoment now }
-        ensures { record { plan = self.new; sockets = sockets.new } ≡ each_of (after_setting_aside_at ip_mtu now next) (length self.old.watches) (record { plan = self.old; sockets = sockets.old }) }
+        ensures { planned self.new sockets.new
+            ≡ each_of (after_setting_aside_at ip_mtu now next) (length self.old.watches) (planned self.old sockets.old) }
     {
         for index in 0..self.watches.len() {
             self.set_aside_at(index, next, now, ip_mtu, sockets);
@@ -102,7 +105,7 @@ impl Schedule {
         sockets: &mut SocketSetOf<L>,
     )
         requires { IsMoment now }
-        ensures { record { plan = self.new; sockets = sockets.new } ≡ after_setting_aside_at ip_mtu now next index (record { plan = self.old; sockets = sockets.old }) }
+        ensures { planned self.new sockets.new ≡ after_setting_aside_at ip_mtu now next index (planned self.old sockets.old) }
     {
         if has_long(index, ip_mtu, sockets) && index != next {
             let watch = Watch {
@@ -116,7 +119,7 @@ impl Schedule {
 
     /// Gives the sockets that weren't to be asked their own waits again.
     pub(crate) fn put_all_back<L: Drop>(&mut self, sockets: &mut SocketSetOf<L>)
-        ensures { record { plan = self.new; sockets = sockets.new } ≡ spec.after_putting_all_back (record { plan = self.old; sockets = sockets.old }) }
+        ensures { planned self.new sockets.new ≡ spec.after_putting_all_back (planned self.old sockets.old) }
     {
         for index in 0..self.watches.len() {
             self.put_back_at(index, sockets);
@@ -125,7 +128,7 @@ impl Schedule {
 
     /// Gives the socket at an index its own wait again, if that was set aside.
     fn put_back_at<L: Drop>(&mut self, index: usize, sockets: &mut SocketSetOf<L>)
-        ensures { record { plan = self.new; sockets = sockets.new } ≡ after_putting_back_at index (record { plan = self.old; sockets = sockets.old }) }
+        ensures { planned self.new sockets.new ≡ after_putting_back_at index (planned self.old sockets.old) }
     {
         let own_wait = self.watch(index).set_aside;
         if let Some(wait) = own_wait {

@@ -1,8 +1,9 @@
 //! Giving up a neighbour that doesn't answer.
-ghost use Rattle.std.specs.Prelude.{◌≡◌, false, None, get_or, length};
-ghost use Rattle.egress_schedule.specs.Plan.{idle};
+ghost use Rattle.std.specs.Prelude.{◌≡◌, false, get_or, length};
+ghost use Rattle.egress_schedule.specs.Plan.{idle, planned};
 ghost use Rattle.egress_schedule.specs.Patience as spec;
-ghost use Rattle.egress_schedule.specs.Patience.{after_alignment_at, after_giving_up, after_look_at, after_patience_at, earliest_end, earliest_with, plan_after_look, without_first};
+ghost use Rattle.egress_schedule.specs.Patience.{IsUnnoted, after_alignment_at, after_giving_up, after_look_at};
+ghost use Rattle.egress_schedule.specs.Patience.{after_patience_at, earliest_end, earliest_with, plan_after_look, without_first};
 ghost use Rattle.socket_set.specs.SocketSet.{socket_at};
 
 use crate::schedule::Schedule;
@@ -14,7 +15,7 @@ use socket_set::{SocketSetOf, by_index};
 impl Schedule {
     /// Writes down which sockets wait after a round.
     pub(crate) fn look<L: Drop>(&mut self, now: Instant, sockets: &SocketSetOf<L>)
-        ensures { record { plan = self.new; sockets = sockets.now } ≡ spec.after_look now (record { plan = self.old; sockets = sockets.now }) }
+        ensures { planned self.new sockets.now ≡ spec.after_look now (planned self.old sockets.now) }
     {
         self.is_waiting = false;
         for index in 0..self.watches.len() {
@@ -24,7 +25,7 @@ impl Schedule {
 
     /// Writes down whether the socket at an index waits.
     fn look_at<L: Drop>(&mut self, index: usize, now: Instant, sockets: &SocketSetOf<L>)
-        ensures { record { plan = self.new; sockets = sockets.now } ≡ after_look_at now index (record { plan = self.old; sockets = sockets.now }) }
+        ensures { planned self.new sockets.now ≡ after_look_at now index (planned self.old sockets.now) }
     {
         let wait = by_index::wait(sockets, index);
         // Nothing is written, where nothing changes.
@@ -35,7 +36,7 @@ impl Schedule {
 
     /// Whether it is written down of the socket at an index that it waits, or whom it just gave up.
     fn is_noted(&self, index: usize) -> bool
-        ensures { result ≡ false → ((get_or self.now.watches index idle).waiting ≡ None) × ((get_or self.now.watches index idle).unreachable ≡ None) }
+        ensures { result ≡ false → IsUnnoted (get_or self.now.watches index idle) }
     {
         match self.watches.get(index) {
             Some(watch) => watch.waiting.is_some() || watch.unreachable.is_some(),
@@ -66,7 +67,7 @@ impl Schedule {
 
     /// Lets all sockets that wait ask again at one instant, the earliest.
     pub(crate) fn align<L: Drop>(&mut self, sockets: &mut SocketSetOf<L>)
-        ensures { record { plan = self.new; sockets = sockets.new } ≡ spec.after_alignment (record { plan = self.old; sockets = sockets.old }) }
+        ensures { planned self.new sockets.new ≡ spec.after_alignment (planned self.old sockets.old) }
     {
         let Some(end) = self.earliest_end() else {
             return;
@@ -89,7 +90,7 @@ impl Schedule {
 
     /// Lets the socket at an index ask again at an instant, if it waits.
     fn align_at<L: Drop>(&mut self, index: usize, end: Instant, sockets: &mut SocketSetOf<L>)
-        ensures { record { plan = self.new; sockets = sockets.new } ≡ after_alignment_at end index (record { plan = self.old; sockets = sockets.old }) }
+        ensures { planned self.new sockets.new ≡ after_alignment_at end index (planned self.old sockets.old) }
     {
         let waiting = self.watch(index).waiting;
         if let Some(waiting) = waiting {
@@ -107,7 +108,7 @@ impl Schedule {
 
     /// Each socket whose patience has ended, or whose neighbour was just given up, gives up its first packet.
     pub(crate) fn give_up<L: Drop>(&mut self, now: Instant, sockets: &mut SocketSetOf<L>)
-        ensures { record { plan = self.new; sockets = sockets.new } ≡ spec.after_patience now (record { plan = self.old; sockets = sockets.old }) }
+        ensures { planned self.new sockets.new ≡ spec.after_patience now (planned self.old sockets.old) }
     {
         for index in 0..self.watches.len() {
             self.give_up_at(index, now, sockets);
@@ -116,7 +117,7 @@ impl Schedule {
 
     /// The socket at an index gives up its first packet, if its patience has ended or its neighbour was just given up.
     fn give_up_at<L: Drop>(&mut self, index: usize, now: Instant, sockets: &mut SocketSetOf<L>)
-        ensures { record { plan = self.new; sockets = sockets.new } ≡ after_patience_at now index (record { plan = self.old; sockets = sockets.old }) }
+        ensures { planned self.new sockets.new ≡ after_patience_at now index (planned self.old sockets.old) }
     {
         let Some(waiting) = self.waiting_at(sockets, index) else {
             return;
@@ -134,7 +135,7 @@ impl Schedule {
         neighbor: IpAddress,
         sockets: &mut SocketSetOf<L>,
     )
-        ensures { record { plan = self.new; sockets = sockets.new } ≡ after_giving_up index neighbor (record { plan = self.old; sockets = sockets.old }) }
+        ensures { planned self.new sockets.new ≡ after_giving_up index neighbor (planned self.old sockets.old) }
     {
         let watch = Watch {
             waiting: None,

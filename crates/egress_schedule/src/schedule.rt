@@ -1,7 +1,7 @@
 //! A schedule of a set of sockets.
-ghost use Rattle.std.specs.Prelude.{◌≡◌, true, IfOk, IsSome, IsNone, None, get_or};
+ghost use Rattle.std.specs.Prelude.{◌≡◌, true, IfOk, IsSome, IsNone, get_or};
 ghost use Rattle.net_base.specs.Time.{IsMoment};
-ghost use Rattle.egress_schedule.specs.Plan.{first_plan, idle, with_watch, waiting_at};
+ghost use Rattle.egress_schedule.specs.Plan.{first_plan, given_up_at, idle, planned, waiting_at, with_watch, without_given_up};
 ghost use Rattle.egress_schedule.specs.Rounds.{after_round, before_round, with_long_set_aside, with_turns_taken};
 
 use crate::watch::{Waiting, Watch};
@@ -30,7 +30,15 @@ impl Model for Schedule {
 
     ghost Value = { Plan };
 
-    ghost view = { λ s. record { patience = s.patience; watches = s.watches.items; discovery_turn = s.discovery_turn; fragment_turn = s.fragment_turn; given_up = s.given_up; is_waiting = s.is_waiting; may_have_long = s.may_have_long } };
+    ghost view = { λ s. record {
+        patience = s.patience;
+        watches = s.watches.items;
+        discovery_turn = s.discovery_turn;
+        fragment_turn = s.fragment_turn;
+        given_up = s.given_up;
+        is_waiting = s.is_waiting;
+        may_have_long = s.may_have_long;
+    } };
 }
 
 impl Schedule {
@@ -67,8 +75,8 @@ impl Schedule {
     /// The destination of the packet that the socket of a handle gave up last, if one was given up since this was
     /// asked. At `None` nothing changes.
     pub fn take_given_up(&mut self, handle: SocketHandle) -> Option<IpAddress>
-        ensures told { result ≡ (get_or self.old.watches handle idle).given_up }
-        ensures once { IsSome result → self.new ≡ with_watch handle (record (get_or self.old.watches handle idle) { given_up = None }) self.old }
+        ensures told { result ≡ given_up_at handle self.old }
+        ensures once { IsSome result → self.new ≡ without_given_up handle self.old }
         ensures unchanged { IsNone result → self.new ≡ self.old }
     {
         let index = by_index::index_of(handle);
@@ -88,7 +96,7 @@ impl Schedule {
         sockets: &SocketSetOf<L>,
         handle: SocketHandle,
     ) -> Option<Waiting>
-        ensures { result ≡ waiting_at handle (record { plan = self.now; sockets = sockets.now }) }
+        ensures { result ≡ waiting_at handle (planned self.now sockets.now) }
     {
         self.waiting_at(sockets, by_index::index_of(handle))
     }
@@ -99,7 +107,7 @@ impl Schedule {
         sockets: &SocketSetOf<L>,
         index: usize,
     ) -> Option<Waiting>
-        ensures { result ≡ waiting_at index (record { plan = self.now; sockets = sockets.now }) }
+        ensures { result ≡ waiting_at index (planned self.now sockets.now) }
     {
         if by_index::wait(sockets, index).is_some() {
             self.watch(index).waiting
@@ -133,7 +141,7 @@ impl Schedule {
         sockets: &mut SocketSetOf<L>,
     )
         requires { IsMoment now }
-        ensures { record { plan = self.new; sockets = sockets.new } ≡ before_round now ip_mtu is_piece_left (record { plan = self.old; sockets = sockets.old }) }
+        ensures { planned self.new sockets.new ≡ before_round now ip_mtu is_piece_left (planned self.old sockets.old) }
     {
         self.prepare_waiting(now, sockets);
         self.prepare_long(now, ip_mtu, is_piece_left, sockets);
@@ -142,7 +150,7 @@ impl Schedule {
     /// Lets the sockets that wait ask in turn, if some wait.
     fn prepare_waiting<L: Drop>(&mut self, now: Instant, sockets: &mut SocketSetOf<L>)
         requires { IsMoment now }
-        ensures { record { plan = self.new; sockets = sockets.new } ≡ with_turns_taken now (record { plan = self.old; sockets = sockets.old }) }
+        ensures { planned self.new sockets.new ≡ with_turns_taken now (planned self.old sockets.old) }
     {
         if self.is_waiting {
             self.take_turns(now, sockets);
@@ -158,7 +166,7 @@ impl Schedule {
         sockets: &mut SocketSetOf<L>,
     )
         requires { IsMoment now }
-        ensures { record { plan = self.new; sockets = sockets.new } ≡ with_long_set_aside ip_mtu now is_piece_left (record { plan = self.old; sockets = sockets.old }) }
+        ensures { planned self.new sockets.new ≡ with_long_set_aside ip_mtu now is_piece_left (planned self.old sockets.old) }
     {
         if self.may_have_long {
             self.set_aside(now, ip_mtu, is_piece_left, sockets);
@@ -169,7 +177,7 @@ impl Schedule {
     /// They may all ask again at one instant. A packet that waited as long as the patience is dropped and counted; so is
     /// one to the neighbour that its socket gave up in the round before.
     pub fn after_round<L: Drop>(&mut self, now: Instant, sockets: &mut SocketSetOf<L>)
-        ensures { record { plan = self.new; sockets = sockets.new } ≡ after_round now (record { plan = self.old; sockets = sockets.old }) }
+        ensures { planned self.new sockets.new ≡ after_round now (planned self.old sockets.old) }
     {
         if self.may_have_long {
             self.put_all_back(sockets);

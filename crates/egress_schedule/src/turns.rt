@@ -1,9 +1,9 @@
 //! Turns among sockets that wait for neighbours.
 ghost use Rattle.std.specs.Prelude.{◌≡◌, ◌-◌, length};
 ghost use Rattle.net_base.specs.Time.{IsMoment};
-ghost use Rattle.egress_schedule.specs.Plan.{each_of, first_from};
+ghost use Rattle.egress_schedule.specs.Plan.{each_of, first_from, planned};
 ghost use Rattle.egress_schedule.specs.Turns as spec;
-ghost use Rattle.egress_schedule.specs.Turns.{after_hold_at, asks_at, next_in_turn, with_wait_longer};
+ghost use Rattle.egress_schedule.specs.Turns.{after_hold_at, asks_at, next_to_ask, with_wait_longer};
 
 use crate::schedule::Schedule;
 use crate::watch::{Waiting, Watch, asks_again};
@@ -14,7 +14,7 @@ impl Schedule {
     /// Lets the sockets before the one whose turn it is to ask for its neighbour wait a second more.
     pub(crate) fn take_turns<L: Drop>(&mut self, now: Instant, sockets: &mut SocketSetOf<L>)
         requires { IsMoment now }
-        ensures { record { plan = self.new; sockets = sockets.new } ≡ spec.after_taking_turns now (record { plan = self.old; sockets = sockets.old }) }
+        ensures { planned self.new sockets.new ≡ spec.after_taking_turns now (planned self.old sockets.old) }
     {
         let next = self.next_to_ask(now, sockets);
         let turn = turn_after(self.watches.len(), self.discovery_turn, next);
@@ -25,7 +25,8 @@ impl Schedule {
     /// Lets the sockets that aren't to ask, as it isn't their turn or their packets are given up, wait a second more.
     fn hold_all<L: Drop>(&mut self, next: usize, now: Instant, sockets: &mut SocketSetOf<L>)
         requires { IsMoment now }
-        ensures { record { plan = self.new; sockets = sockets.new } ≡ each_of (after_hold_at now next) (length self.old.watches) (record { plan = self.old; sockets = sockets.old }) }
+        ensures { planned self.new sockets.new
+            ≡ each_of (after_hold_at now next) (length self.old.watches) (planned self.old sockets.old) }
     {
         for index in 0..self.watches.len() {
             self.hold_at(index, next, now, sockets);
@@ -34,7 +35,7 @@ impl Schedule {
 
     /// The index of the socket whose turn it is to ask; their number, where none asks.
     fn next_to_ask<L: Drop>(&self, now: Instant, sockets: &SocketSetOf<L>) -> usize
-        ensures { result ≡ next_in_turn (asks_at now (record { plan = self.now; sockets = sockets.now })) self.now.discovery_turn (length self.now.watches) }
+        ensures { result ≡ next_to_ask now (planned self.now sockets.now) }
     {
         let next = self.first_to_ask(self.discovery_turn, now, sockets);
         if next < self.watches.len() {
@@ -46,7 +47,7 @@ impl Schedule {
 
     /// The first index from one on whose socket asks for its neighbour again; the index after all, where none does.
     fn first_to_ask<L: Drop>(&self, from: usize, now: Instant, sockets: &SocketSetOf<L>) -> usize
-        ensures { result ≡ first_from (asks_at now (record { plan = self.now; sockets = sockets.now })) from (length self.now.watches - from) }
+        ensures { result ≡ first_from (asks_at now (planned self.now sockets.now)) from (length self.now.watches - from) }
     {
         let count = self.watches.len();
         for index in from..count {
@@ -66,7 +67,7 @@ impl Schedule {
         sockets: &mut SocketSetOf<L>,
     )
         requires { IsMoment now }
-        ensures { record { plan = self.new; sockets = sockets.new } ≡ after_hold_at now next index (record { plan = self.old; sockets = sockets.old }) }
+        ensures { planned self.new sockets.new ≡ after_hold_at now next index (planned self.old sockets.old) }
     {
         let Some(waiting) = self.waiting_at(sockets, index) else {
             return;
@@ -85,7 +86,7 @@ impl Schedule {
         sockets: &mut SocketSetOf<L>,
     )
         requires { IsMoment now }
-        ensures { record { plan = self.new; sockets = sockets.new } ≡ with_wait_longer now index waiting (record { plan = self.old; sockets = sockets.old }) }
+        ensures { planned self.new sockets.new ≡ with_wait_longer now index waiting (planned self.old sockets.old) }
     {
         let watch = Watch {
             waiting: Some(Waiting {

@@ -37,13 +37,15 @@ planned host = record { plan = host.schedule; sockets = host.sockets }
 abbrev pub is_piece_left : Host → Bool
 is_piece_left host = not (is_nil (host_with host.interface no_sockets).left)
 
--- the machine polls, by one call of each kind, with room for one frame reserved, over the sockets as they are before the round: what it sends waits behind what waited
+-- the machine polls, by one call of each kind, with room for one frame reserved, over the sockets as they are before the round; what
+-- it sends waits behind what waited
 pub record Round (t : ℤ) (old new : Host) : Type 0 where
   pub before : Planned (Bor (Unit {0}))
   pub polled : Sockets (Bor (Unit {0}))
   pub answer : PollResult
   pub prepared : before ≡ before_round t old.ip_mtu (is_piece_left old) (planned old)
-  pub went : Goes Tells (with_room true old.outbox) new.outbox (Polls t 1 answer) (interface.StandsFor old.interface before.sockets) (interface.StandsFor new.interface polled)
+  pub went : Goes Tells (with_room true old.outbox) new.outbox (Polls t 1 answer)
+      (interface.StandsFor old.interface before.sockets) (interface.StandsFor new.interface polled)
   pub ended : planned new ≡ after_round t (record { plan = before.plan; sockets = polled })
   pub rest : new ≡ record old { interface = new.interface; sockets = new.sockets; outbox = new.outbox; schedule = new.schedule }
 

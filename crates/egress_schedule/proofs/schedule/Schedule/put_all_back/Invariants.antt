@@ -1,7 +1,7 @@
 use Rattle.std.proofs.Common.{◌≡◌}
 use Rattle.egress_schedule.specs.LongPackets.{after_putting_back_at}
-use Rattle.egress_schedule.specs.Plan.{each_of}
+use Rattle.egress_schedule.specs.Plan.{each_of, planned}
 use Rattle.egress_schedule.proofs.schedule.Schedule.put_all_back.Given as goal
 
 abbrev pub invariant-loop-index : goal.invariant-loop-index
-invariant-loop-index g l = record { plan = l.self; sockets = l.sockets } ≡ each_of (after_putting_back_at) l.index (record { plan = l.fn.self; sockets = l.fn.sockets })
+invariant-loop-index g l = planned l.self l.sockets ≡ each_of (after_putting_back_at) l.index (planned l.fn.self l.fn.sockets)

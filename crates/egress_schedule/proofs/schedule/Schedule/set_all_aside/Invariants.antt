@@ -1,8 +1,8 @@
 use Rattle.std.proofs.Common.{◌≡◌}
 use Rattle.egress_schedule.specs.LongPackets.{after_setting_aside_at}
-use Rattle.egress_schedule.specs.Plan.{each_of}
+use Rattle.egress_schedule.specs.Plan.{each_of, planned}
 use Rattle.egress_schedule.proofs.schedule.Schedule.set_all_aside.Given as goal
 
 abbrev pub invariant-loop-index : goal.invariant-loop-index
 invariant-loop-index g l =
-    record { plan = l.self; sockets = l.sockets } ≡ each_of (after_setting_aside_at l.ip_mtu l.now l.next) l.index (record { plan = l.fn.self; sockets = l.fn.sockets })
+    planned l.self l.sockets ≡ each_of (after_setting_aside_at l.ip_mtu l.now l.next) l.index (planned l.fn.self l.fn.sockets)
