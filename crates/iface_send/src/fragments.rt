@@ -54,6 +54,7 @@ fn fragment_packet(
     requires of_medium { IsOf context.old.capabilities.medium destination.now }
     requires empty { scratch.old ≡ [] }
     requires writable { IsWritablePayload (value_of.payload packet.now.payload) }
+    requires some { 20 < value.total_len (value.Ipv4 (value_of.packet_v4 value_of.payload packet.now)) }
     requires long { ip_mtu_of context.old.capabilities < value.total_len (value.Ipv4 (value_of.packet_v4 value_of.payload packet.now)) }
     requires fits { value.total_len (value.Ipv4 (value_of.packet_v4 value_of.payload packet.now)) ≤ 4096 }
     ensures left { (sockets : SocketSet) → host_of context.new sockets ≡ with_left (host_of context.old sockets)
