@@ -365,6 +365,17 @@ impl<K: Drop> PacketAssemblerSet<K> {
     }
 }
 
+impl<K> PacketAssemblerSet<K> {
+    ghost use Rattle.fragmentation.specs.Assembly.{AreApart};
+
+    /// A lemma for proofs about a set, of whatever keys: no key has two of its slots. It does nothing.
+    pub fn no_key_has_two_slots(&self)
+        ensures { AreApart (keys_of self.now) }
+    {
+        let _ = &self.keys;
+    }
+}
+
 impl PacketAssemblerSet<FragKey> {
     ghost use Rattle.fragmentation.specs.Slots.{Slots};
     ghost use Rattle.fragmentation.specs.Stands.{StandForSlots};

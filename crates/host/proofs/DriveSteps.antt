@@ -16,6 +16,7 @@ use Rattle.host_machine.specs.Egress.{Egress}
 use Rattle.host_machine.specs.Polling.{Polls}
 use Rattle.host_machine.specs.Step.{Step, PolledIngressSingle, PolledEgress, Polled, OwnerActed}
 use Rattle.host_machine.specs.Run.{Ends, Then, NoAct, ThenAct}
+use Rattle.host_machine.specs.Real.{IsRegular}
 use Rattle.host_machine.specs.Ran.{Ran}
 use Rattle.host_machine.proofs.RunConcatenation.{run_laws, ran_on}
 use Rattle.interface.specs.declared.interface.Interface.{Interface}
@@ -27,8 +28,8 @@ use Rattle.host.specs.Driven.{Driven}
 
 module _ {D O : Type 0} (tells : D → List Event → D → Type 0) (did : O → ℕ → SocketSet → SocketSet → O → Type 0) where
   -- a run keeps the laws of UDP sockets, too
-  pub driven : {d e : D} {o p : O} {commands : List Command} {answers : List Answer} {H : Host} {after : Host → Type 0} → Ran tells did d e o p commands answers H after → Driven tells did d e o p commands answers H after
-  driven {H = H} ran = record { ran = ran; datagrams = runs_keep_datagrams H ran.last ran.transitions ran.run }
+  pub driven : {d e : D} {o p : O} {commands : List Command} {answers : List Answer} {H : Host} {after : Host → Type 0} → IsRegular H → Ran tells did d e o p commands answers H after → Driven tells did d e o p commands answers H after
+  driven {H = H} regular ran = record { regular = regular; ran = ran; datagrams = runs_keep_datagrams H ran.last ran.transitions ran.run }
 
   -- one command is a run of one place
   pub ran_one : (d e : D) (o p : O) (c : Command) (a : Answer) (H : Host) (after : Host → Type 0) → CommandWent tells did d e o p c a H after → Ran tells did d e o p (c ∷ []) (a ∷ []) H after

@@ -5,7 +5,6 @@ use Rattle.std.specs.Result.{is_err}
 use Rattle.std.specs.List.{AllByRecursion, Contains}
 use Rattle.std.proofs.Math.Seq.{drop-append_seam}
 use Rattle.std.specs.Borrow.{Bor}
-use Rattle.net_base.specs.Checksum.{ip_mtu_of}
 use Rattle.net_base.specs.Device.{handed_frames, sent_frames}
 use Rattle.net_base.specs.MemoryDevice.{Tells}
 use Rattle.net_base.proofs.KeptFrames.{frames_are_kept}
@@ -29,7 +28,7 @@ use Rattle.host.specs.declared.link.LinkStep.{LinkStep}
 use Rattle.host.specs.declared.link.LinkStep.TheVariants as step
 use Rattle.host.specs.declared.link.LinkError.{LinkError}
 use Rattle.host.specs.Commands.{CommandGoes}
-use Rattle.host_machine.specs.Real.{GivesSix, IsReal}
+use Rattle.host_machine.specs.Real.{IsRegular}
 use Rattle.host_machine.specs.TwoHosts.{WereSent}
 use Rattle.host.specs.Link.{End, Owns, Acts, sent_since, Links, Stops, OnA, OnB, ToA, ToB, NoneToA, NoneToB, IsDone, end_of, HandsOver, NoFrame, OneFrame, RebuildsCuts, RebuildsFew, GetsDatagrams, Went, Goes, LinkGoes}
 
@@ -77,17 +76,6 @@ run_a (ToA k t frame at is x l) = run_cons _ _ _ _ _ x.step x.before x.after (ru
 run_a (ToB k t frame at is x l) = run_a l
 run_a (NoneToA k t none l) = run_a l
 run_a (NoneToB k t none l) = run_a l
-
--- the commands of a run give hardware addresses of six octets
-six_a : {O P : Type 0} {did_a : Owns O} {did_b : Owns P} {m n : ℕ} {steps : List LinkStep} {a a' : End O} {b b' : End P} {ps qs : List Transition} →
-    Links did_a did_b m n steps a b ps qs a' b' → AllByRecursion (λ p. GivesSix p.command) ps
-six_a Stops = tt
-six_a (OnA x l) = (x.six, six_a l)
-six_a (OnB x l) = six_a l
-six_a (ToA k t frame at is x l) = (x.six, six_a l)
-six_a (ToB k t frame at is x l) = six_a l
-six_a (NoneToA k t none l) = six_a l
-six_a (NoneToB k t none l) = six_a l
 
 -- what is sent is what was sent before and what the places tell
 sent_more : (before mid last : List (List ℕ)) (p : Transition) (ps : List Transition) → mid ≡ before ++ sent_frames p.told → last ≡ mid ++ sent_frames (events_in ps) → last ≡ before ++ sent_frames (events_in (p ∷ ps))
@@ -195,9 +183,9 @@ module _ {O P : Type 0} (did_a : Owns O) (did_b : Owns P) (m n : ℕ) where
       let y = second x.last_a x.last_b x.stands_a x.stands_b in
       record { ps = x.ps ++ y.ps; qs = x.qs ++ y.qs; last_a = y.last_a; last_b = y.last_b; links = links_on x.links y.links; stands_a = y.stands_a; stands_b = y.stands_b })
 
-  pub on_a : (a a' : Linked O) (b : Linked P) (s : LinkStep) (c : Command) (answer : Answer) → s ≡ step.A c → GivesSix c →
+  pub on_a : (a a' : Linked O) (b : Linked P) (s : LinkStep) (c : Command) (answer : Answer) → s ≡ step.A c →
       CommandGoes Tells did_a a.device a'.device a.owner a'.owner c answer (StandsFor a.interface a.sockets) (StandsFor a'.interface a'.sockets) → Goes did_a did_b m n (s ∷ []) a a' b b
-  on_a a a' b s c answer is six goes = rw is (λ H K h k.
+  on_a a a' b s c answer is goes = rw is (λ H K h k.
       let went = goes H h in
       let transition : Transition = record { command = c; answer = answer; told = went.told; acts = went.acts; notes = went.notes; before = H; after = went.host } in
       record {
@@ -207,12 +195,12 @@ module _ {O P : Type 0} (did_a : Owns O) (did_b : Owns P) (m n : ℕ) where
         last_b = K;
         stands_a = went.stands;
         stands_b = k;
-        links = OnA {p = transition} (record { step = went.steps; before = refl; after = refl; tells = went.tells_it; owner_did = went.owner_did; six = six }) Stops;
+        links = OnA {p = transition} (record { step = went.steps; before = refl; after = refl; tells = went.tells_it; owner_did = went.owner_did }) Stops;
       })
 
-  pub on_b : (a : Linked O) (b b' : Linked P) (s : LinkStep) (c : Command) (answer : Answer) → s ≡ step.B c → GivesSix c →
+  pub on_b : (a : Linked O) (b b' : Linked P) (s : LinkStep) (c : Command) (answer : Answer) → s ≡ step.B c →
       CommandGoes Tells did_b b.device b'.device b.owner b'.owner c answer (StandsFor b.interface b.sockets) (StandsFor b'.interface b'.sockets) → Goes did_a did_b m n (s ∷ []) a a b b'
-  on_b a b b' s c answer is six goes = rw is (λ H K h k.
+  on_b a b b' s c answer is goes = rw is (λ H K h k.
       let went = goes K k in
       let transition : Transition = record { command = c; answer = answer; told = went.told; acts = went.acts; notes = went.notes; before = K; after = went.host } in
       record {
@@ -222,7 +210,7 @@ module _ {O P : Type 0} (did_a : Owns O) (did_b : Owns P) (m n : ℕ) where
         last_b = went.host;
         stands_a = h;
         stands_b = went.stands;
-        links = OnB {q = transition} (record { step = went.steps; before = refl; after = refl; tells = went.tells_it; owner_did = went.owner_did; six = six }) Stops;
+        links = OnB {q = transition} (record { step = went.steps; before = refl; after = refl; tells = went.tells_it; owner_did = went.owner_did }) Stops;
       })
 
   none_to_a : (a : Linked O) (b : Linked P) (k : ℕ) (t : ℤ) → sent_since n b.device k ≡ None → Goes did_a did_b m n (step.ToA k t ∷ []) a a b b
@@ -243,7 +231,7 @@ module _ {O P : Type 0} (did_a : Owns O) (did_b : Owns P) (m n : ℕ) where
         last_b = K;
         stands_a = went.stands;
         stands_b = i;
-        links = ToA {p = transition} k t frame at refl (record { step = went.steps; before = refl; after = refl; tells = went.tells_it; owner_did = went.owner_did; six = tt }) Stops;
+        links = ToA {p = transition} k t frame at refl (record { step = went.steps; before = refl; after = refl; tells = went.tells_it; owner_did = went.owner_did }) Stops;
       })
 
   pub to_b : (a : Linked O) (b b' : Linked P) (s : LinkStep) (k : ℕ) (t : ℤ) → s ≡ step.ToB k t → HandsOver did_b m a.device k t b b' → Goes did_a did_b m n (s ∷ []) a a b b'
@@ -258,30 +246,23 @@ module _ {O P : Type 0} (did_a : Owns O) (did_b : Owns P) (m n : ℕ) where
         last_b = went.host;
         stands_a = h;
         stands_b = went.stands;
-        links = ToB {q = transition} k t frame at refl (record { step = went.steps; before = refl; after = refl; tells = went.tells_it; owner_did = went.owner_did; six = tt }) Stops;
+        links = ToB {q = transition} k t frame at refl (record { step = went.steps; before = refl; after = refl; tells = went.tells_it; owner_did = went.owner_did }) Stops;
       })
 
--- an interface stands for hosts that have the hardware addresses of their medium, and carry packets of 576 octets
-pub record IsFit {O : Type 0} (a : Linked O) : Type 0 where
-  pub real : (H : Host) → StandsFor a.interface a.sockets H → IsReal H
-  pub mtu : (H : Host) → StandsFor a.interface a.sockets H → 576 ≤ ip_mtu_of H.capabilities
-
-pub fit : {O : Type 0} (a : Linked O) → ((s : Sockets (Bor (Unit {0}))) (H : Host) → StandsFor a.interface s H → IsReal H) →
-    ((s : Sockets (Bor (Unit {0}))) (H : Host) → StandsFor a.interface s H → 576 ≤ ip_mtu_of H.capabilities) → IsFit a
-fit a real mtu = record { real = real a.sockets; mtu = mtu a.sockets }
+-- an interface stands for regular hosts
+abbrev pub IsFit : {O : Type 0} → Linked O → Type 0
+IsFit a = (s : Sockets (Bor (Unit {0}))) (H : Host) → StandsFor a.interface s H → IsRegular H
 
 -- what the one end rebuilds is what the other cut
-rebuilds : {O P : Type 0} {a : Linked O} {b : Linked P} (H last_a K last_b : Host) (ps qs : List Transition) → IsFit a → IsFit b → StandsFor a.interface a.sockets H → StandsFor b.interface b.sockets K →
-    Run H ps last_a → Run K qs last_b → AllByRecursion (λ p. GivesSix p.command) ps → AllByRecursion (λ q. GivesSix q.command) qs → WereSent ps qs → RebuildsCuts H K ps qs
-rebuilds H last_a K last_b ps qs fit_a fit_b h k ra rb six_ps six_qs were = λ medium left own free.
+rebuilds : (H last_a K last_b : Host) (ps qs : List Transition) → IsRegular H → IsRegular K → Run H ps last_a → Run K qs last_b → WereSent ps qs → RebuildsCuts H K ps qs
+rebuilds H last_a K last_b ps qs regular_h regular_k ra rb were = λ medium left own free.
     run_rebuilds H last_a K last_b ps qs ra rb
-    (record { one_medium = medium; a_real = fit_a.real H h; b_real = fit_b.real K k; mtu = fit_a.mtu H h; left = left }) six_ps six_qs were own free
+    (record { one_medium = medium; a_real = regular_h.real; b_real = regular_k.real; mtu = regular_h.mtu; left = left }) were own free
 
 -- what UDP sockets of the one get those of the other sent
-gets : {O P : Type 0} {a : Linked O} {b : Linked P} (H last_a K last_b : Host) (ps qs : List Transition) → IsFit a → IsFit b → StandsFor a.interface a.sockets H → StandsFor b.interface b.sockets K →
-    Run H ps last_a → Run K qs last_b → AllByRecursion (λ p. GivesSix p.command) ps → AllByRecursion (λ q. GivesSix q.command) qs → WereSent ps qs → GetsDatagrams H K ps qs
-gets H last_a K last_b ps qs fit_a fit_b h k ra rb six_ps six_qs were = λ medium left nobody.
-    runs_get_what_was_sent H last_a K last_b ps qs ra rb (record { real = fit_a.real H h; mtu = fit_a.mtu H h; left = left }) (fit_b.real K k) medium six_ps six_qs nobody were
+gets : (H last_a K last_b : Host) (ps qs : List Transition) → IsRegular H → IsRegular K → Run H ps last_a → Run K qs last_b → WereSent ps qs → GetsDatagrams H K ps qs
+gets H last_a K last_b ps qs regular_h regular_k ra rb were = λ medium nobody.
+    runs_get_what_was_sent H last_a K last_b ps qs ra rb regular_h regular_k.real medium nobody were
 
 -- and without the premise on keys, where the other dispatched few packets
 rebuilds_few : {last_a : Host} (H K : Host) (ps qs : List Transition) → Run H ps last_a → RebuildsCuts H K ps qs → RebuildsFew H K ps qs
@@ -294,13 +275,17 @@ link_went did_a did_b m n steps done answer a a' b b' is_m is_n none_a none_b fi
     let is_done' : IsDone steps (length a.device.sent) (length b.device.sent) a'.device b'.device answer done = rw (is_m, is_n) at is_done in
     let went : Went did_a did_b (length a.device.sent) (length b.device.sent) done a a' b b' H K = rw (is_m, is_n) at (goes H K h k) in
     let over : Links did_b did_a (length b.device.sent) (length a.device.sent) (turn done) (end_of b K) (end_of a H) went.qs went.ps (end_of b' went.last_b) (end_of a' went.last_a) = turned went.links in
-    let cuts_b = rebuilds {a = a} {b = b} H went.last_a K went.last_b went.ps went.qs fit_a fit_b h k (run_a went.links) (run_a over) (six_a went.links) (six_a over) (were_sent went.links refl none_b) in
-    let cuts_a = rebuilds {a = b} {b = a} K went.last_b H went.last_a went.qs went.ps fit_b fit_a k h (run_a over) (run_a went.links) (six_a over) (six_a went.links) (were_sent over refl none_a) in record {
+    let regular_a = fit_a a.sockets H h in
+    let regular_b = fit_b b.sockets K k in
+    let cuts_b = rebuilds H went.last_a K went.last_b went.ps went.qs regular_a regular_b (run_a went.links) (run_a over) (were_sent went.links refl none_b) in
+    let cuts_a = rebuilds K went.last_b H went.last_a went.qs went.ps regular_b regular_a (run_a over) (run_a went.links) (were_sent over refl none_a) in record {
       done = done;
       is_done = is_done';
       went = went;
       run_a = run_a went.links;
       run_b = run_a over;
+      regular_a = regular_a;
+      regular_b = regular_b;
       laws_a = run_laws (run_a went.links);
       laws_b = run_laws (run_a over);
       datagrams_a = runs_keep_datagrams H went.last_a went.ps (run_a went.links);
@@ -311,6 +296,6 @@ link_went did_a did_b m n steps done answer a a' b b' is_m is_n none_a none_b fi
       rebuilds_a = cuts_a;
       few_b = rebuilds_few H K went.ps went.qs (run_a went.links) cuts_b;
       few_a = rebuilds_few K H went.qs went.ps (run_a over) cuts_a;
-      gets_b = gets {a = a} {b = b} H went.last_a K went.last_b went.ps went.qs fit_a fit_b h k (run_a went.links) (run_a over) (six_a went.links) (six_a over) (were_sent went.links refl none_b);
-      gets_a = gets {a = b} {b = a} K went.last_b H went.last_a went.qs went.ps fit_b fit_a k h (run_a over) (run_a went.links) (six_a over) (six_a went.links) (were_sent over refl none_a);
+      gets_b = gets H went.last_a K went.last_b went.ps went.qs regular_a regular_b (run_a went.links) (run_a over) (were_sent went.links refl none_b);
+      gets_a = gets K went.last_b H went.last_a went.qs went.ps regular_b regular_a (run_a over) (run_a went.links) (were_sent over refl none_a);
     }

@@ -9,13 +9,13 @@ use Rattle.host_machine.specs.Host.{Host, SocketSet}
 use Rattle.host_machine.specs.Step.{Step, IsTimely}
 use Rattle.host_machine.specs.Note.{identifications}
 use Rattle.host_machine.specs.Run.{Transition, Run, Did, notes_in}
-use Rattle.host_machine.specs.Real.{GivesSix}
+use Rattle.host_machine.specs.Real.{IsRegular}
 use Rattle.host_machine.specs.TwoHosts.{HaveOwnKeys, RebuildsThese, WereSent, cuts_in, key_of_cut}
 use Rattle.host_machine.specs.Ran.{Laws}
 use Rattle.host_machine.specs.declared.command.Answer.{Answer}
 use Rattle.host_laws.specs.Datagrams.{KeepsDatagrams}
 use Rattle.host_laws.specs.EndToEnd.{GetWhatWasSent}
-use Rattle.host_laws.specs.Senders.{IsPart, NoSocketWritesUdp}
+use Rattle.host_laws.specs.Senders.{NoSocketWritesUdp}
 use Rattle.interface.specs.Stands.{StandsFor}
 use Rattle.host.specs.Commands.{CommandGoes}
 use Rattle.host.specs.declared.link.Host.{Host as Linked}
@@ -41,15 +41,13 @@ pub record End (O : Type 0) : Type 0 where
 abbrev pub Owns : Type 0 → Type 1
 Owns O = O → ℕ → SocketSet → SocketSet → O → Type 0
 
--- one transition of an end's run: its device has these events, and its owner did these actions. A hardware address that its
--- command sets has six octets if it is an Ethernet address, as each has that a program holds
+-- one transition of an end's run: its device has these events, and its owner did these actions
 pub record Acts {O : Type 0} (did : Owns O) (p : Transition) (old new : End O) : Type 0 where
   pub step : Step p.command p.answer old.host p.told p.acts p.notes new.host
   pub before : p.before ≡ old.host
   pub after : p.after ≡ new.host
   pub tells : Tells old.device p.told new.device
   pub owner_did : Did did old.owner p.acts new.owner
-  pub six : GivesSix p.command
 
 -- a device with a copy of a frame appended to its queue
 abbrev pub with_frame : Memory → List ℕ → Memory
@@ -144,12 +142,10 @@ RebuildsFew H K ps qs =
     AllByRecursion (λ d. map.get K.slots (key_of_cut d) ≡ None) (cuts_in ps) → RebuildsThese (cuts_in ps) qs
 
 -- Each datagram that a UDP socket of an end gets was sent by a UDP socket of the other end, whole or, under the premises above,
--- in fragments. Both are on one medium; the fragments pending at the other end when the link began are parts of packets, if there
--- are any; and no raw socket of the other end sends UDP.
+-- in fragments. Both are on one medium, and no raw socket of the other end sends UDP.
 abbrev pub GetsDatagrams : Host → Host → List Transition → List Transition → Type 0
 GetsDatagrams H K ps qs =
-    K.capabilities.medium ≡ H.capabilities.medium → AllByRecursion (IsPart H.capabilities.medium) H.left → AllByRecursion (λ p. NoSocketWritesUdp p.before) ps →
-    GetWhatWasSent H K ps qs
+    K.capabilities.medium ≡ H.capabilities.medium → AllByRecursion (λ p. NoSocketWritesUdp p.before) ps → GetWhatWasSent H K ps qs
 
 -- what `link` did: some of its steps, which ones by its answer. So the ends made runs that satisfy the laws; what was received in
 -- each was sent in the other; what one end reassembles is what the other fragmented; and what UDP sockets of one get those of the
@@ -161,6 +157,8 @@ pub record LinkWent {O P : Type 0} (did_a : Owns O) (did_b : Owns P) (steps : Li
   pub went : Went did_a did_b (length a.device.sent) (length b.device.sent) done a a' b b' H K
   pub run_a : Run H went.ps went.last_a
   pub run_b : Run K went.qs went.last_b
+  pub regular_a : IsRegular H
+  pub regular_b : IsRegular K
   pub laws_a : Laws H went.ps
   pub laws_b : Laws K went.qs
   pub datagrams_a : KeepsDatagrams H went.last_a went.ps

@@ -172,6 +172,7 @@ pub fn drive<D: Device, O: Owner>(
     ensures { (H : Host) → StandsFor interface.old sockets.old H →
         Driven D.tells O.did device.old device.new owner.old owner.new commands.now answers.new H (StandsFor interface.new sockets.new) }
 {
+    interface.is_on_its_medium();
     for i in 0..commands.len() {
         answers[i] = step(interface, device, sockets, owner, &commands[i]);
     }

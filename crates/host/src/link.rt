@@ -2,7 +2,6 @@
 ghost use Rattle.std.specs.Prelude.{◌≡◌, [], ◌∷◌, Some, None, length, All, OnOk, OnErr, MatchOption};
 ghost use Rattle.net_base.specs.Time.{IsMoment};
 ghost use Rattle.host_machine.specs.Step.{IsTimely};
-ghost use Rattle.host_machine.specs.Real.{GivesSix};
 ghost use Rattle.net_base.specs.MemoryDevice.{Tells};
 ghost use Rattle.interface.specs.Stands.{StandsFor};
 ghost use Rattle.host.specs.Commands.{CommandGoes};
@@ -71,22 +70,11 @@ fn sent_since(device: &MemoryDevice, before: usize, k: usize) -> Option<&[u8]>
     Some(frame.as_slice())
 }
 
-/// A lemma: a hardware address that a command gives has as many octets as its medium's addresses.
-fn gives_six(command: &Command)
-    ensures { GivesSix command.now }
-{
-    if let Command::SetHardwareAddr(hardware_addr) = command {
-        let _ = hardware_addr.medium();
-    }
-}
-
 /// Runs a command on one end.
 fn run<O: Owner>(host: &mut Host<'_, O>, command: &Command) -> Answer
     requires { IsTimely command.now }
-    ensures six { GivesSix command.now }
-    ensures goes { CommandGoes Tells O.did host.old.device host.new.device host.old.owner host.new.owner command.now result (StandsFor host.old.interface host.old.sockets) (StandsFor host.new.interface host.new.sockets) }
+    ensures { CommandGoes Tells O.did host.old.device host.new.device host.old.owner host.new.owner command.now result (StandsFor host.old.interface host.old.sockets) (StandsFor host.new.interface host.new.sockets) }
 {
-    gives_six(command);
     step(
         &mut host.interface,
         &mut host.device,

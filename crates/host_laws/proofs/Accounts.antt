@@ -23,7 +23,7 @@ use Rattle.host_machine.specs.Host.{Host, without_expired, with_left}
 use Rattle.host_machine.specs.Packet.{Packet, PacketV4, payload_of}
 use Rattle.host_machine.specs.Frame.{piece_frame, sends}
 use Rattle.host_machine.specs.Dispatch.{Outcome, Dispatches, datagram_of}
-use Rattle.host_machine.specs.Real.{IsReal}
+use Rattle.host_machine.specs.Real.{IsReal, IsPart, IsRegular}
 use Rattle.host_machine.specs.Reply.{Reply, Arp, Ip}
 use Rattle.host_machine.specs.Response.{Responds}
 use Rattle.host_machine.specs.Ingress.{Takes, Ingress}
@@ -41,7 +41,8 @@ use Rattle.host_machine.proofs.NotesBySubject.{cut_notes-append, cut_notes-slots
 use Rattle.host_machine.proofs.UnchangedFields.{Keeps}
 use Rattle.host_machine.proofs.Malformed.{sent_frames-sends}
 use Rattle.host_machine.proofs.Pieces.{IsIn, is_in, contains_in, in_left, in_right, IsPiece, piece_in, part_of, count_below, length-pieces_from}
-use Rattle.host_machine.proofs.TwoHosts.{in_map, size_positive, is_part, cuts-append}
+use Rattle.host_machine.proofs.TwoHosts.{in_map, size_positive, cuts-append}
+use Rattle.host_machine.proofs.PendingParts.{pieces_are}
 use Rattle.host_machine.proofs.Walk.{Reached, dispatched, taken, sent_frames-append}
 use Rattle.host_machine.proofs.SentPieces.{GoodReply, takes_good, takes_real, reached_of}
 use Rattle.host_machine.proofs.NotedRequests.{sends_one}
@@ -49,7 +50,7 @@ use Rattle.host_machine.proofs.RunRequests.{takes_attends}
 use Rattle.host_machine.proofs.Turns.{dispatched_sockets, report_is, solicitation_is}
 use Rattle.host_machine.proofs.OwnMessages.{is_own}
 use Rattle.host_laws.specs.Departures.{Departure}
-use Rattle.host_laws.specs.Senders.{IsPart, IsRegular, NoSocketWritesUdp, CarriesNoUdp, CarryOnly, WentIn, may_be_udp, ways}
+use Rattle.host_laws.specs.Senders.{NoSocketWritesUdp, CarriesNoUdp, CarryOnly, WentIn, may_be_udp, ways}
 use Rattle.host_laws.proofs.IngressDeliveries.{all-append}
 use Rattle.host_laws.proofs.Lists.{cuts_of-append}
 use Rattle.host_laws.proofs.FramesWithoutUdp.{has_udp, own_has_none, packet_none, piece_none, arp_none, request_none, v4_none}
@@ -84,33 +85,6 @@ carried_on m ds es fs gs xs ys one two = rw (cut_notes-append, cuts-append) (rec
       (all_then (cuts (cut_notes xs)) (λ c is n. rw cuts_of-append (contains_in (cuts_of ds ++ cuts_of es) c (in_left (cuts_of ds) (cuts_of es) c (is_in (cuts_of ds) c (is n))))) one.cuts_are)
       (all_then (cuts (cut_notes ys)) (λ c is n. rw cuts_of-append (contains_in (cuts_of ds ++ cuts_of es) c (in_right (cuts_of ds) (cuts_of es) c (is_in (cuts_of es) c (is n))))) two.cuts_are);
 })
-
--- the pieces of a packet that was cut into two or more
-part_is : (m : Medium) (d : Datagram) (y : ℕ) (f : Fragment) → HasForm d → IsOf m d.destination → d.size ≡ y * 8 → 0 < d.size → d.size < length d.payload → IsPiece d.size d.payload f → IsPart m (piece_of d f)
-part_is m d y f form to size pos more piece =
-    let within = (part_of d.size d.payload f pos piece).within in
-    let payload = form.payload in
-    record {
-      destination = to;
-      part = λ n. is_part y d f size pos more piece;
-      header = λ n. record {
-        source = form.source_addr;
-        destination = form.destination_addr;
-        protocol = refl;
-        payload_len = omega arith;
-        identification = form.identification;
-        offset = omega arith;
-      };
-    }
-
-parts_are : (m : Medium) (d : Datagram) (y : ℕ) (fs : List Fragment) → HasForm d → IsOf m d.destination → d.size ≡ y * 8 → 0 < d.size → d.size < length d.payload → ((f : Fragment) → IsIn f fs → IsPiece d.size d.payload f) →
-    AllByRecursion (IsPart m) (map (piece_of d) fs)
-parts_are m d y [] form to size pos more pieces = tt
-parts_are m d y (f ∷ fs) form to size pos more pieces =
-    (part_is m d y f form to size pos more (pieces f (inl refl)), parts_are m d y fs form to size pos more (λ g i. pieces g (inr i)))
-
-pub pieces_are : (m : Medium) (d : Datagram) (y : ℕ) → HasForm d → IsOf m d.destination → d.size ≡ y * 8 → 0 < d.size → d.size < length d.payload → AllByRecursion (IsPart m) (pieces_of d)
-pieces_are m d y form to size pos more = parts_are m d y (cut d.size d.payload) form to size pos more (λ f i. piece_in d.size d.payload f (contains_in (cut d.size d.payload) f i))
 
 -- what is left of it behind the first
 rest_is : (m : Medium) (d : Datagram) (y : ℕ) (first : Piece) (rest : List Piece) → pieces_of d ≡ first ∷ rest → HasForm d → IsOf m d.destination → d.size ≡ y * 8 → 0 < d.size → AllByRecursion (IsPart m) rest

@@ -15,6 +15,7 @@ use Rattle.host_machine.specs.Egress as egress
 use Rattle.host_machine.specs.Order.{IsBeginning}
 use Rattle.host_machine.specs.TwoHosts.{cuts}
 use Rattle.host_machine.proofs.PollCalls.{both}
+use Rattle.host_machine.specs.Real.{IsRegular}
 use Rattle.host_laws.specs.Deliveries.{udp_at}
 use Rattle.host_laws.specs.Departures.{Departure, entries, from_index, without}
 use Rattle.host_laws.proofs.Places.{set_other, set_same, udp_of}
@@ -29,7 +30,7 @@ use Rattle.host_machine.specs.Egress.{packet_from, with_socket}
 use Rattle.host_machine.proofs.Malformed.{sent_frames-sends}
 use Rattle.host_machine.proofs.RawProtocols.{get_speaks}
 use Rattle.host_machine.proofs.Turns.{first_is, icmp_is, tcp_is, join_is, leave_is, served_speaks, turn_sockets}
-use Rattle.host_laws.specs.Senders.{CarryOnly, IsRegular, NoSocketWritesUdp, may_be_udp}
+use Rattle.host_laws.specs.Senders.{CarryOnly, NoSocketWritesUdp, may_be_udp}
 use Rattle.host_laws.proofs.FramesWithoutUdp.{has_udp, own_has_none}
 use Rattle.host_laws.proofs.Accounts.{AccountsFor, Follows, accounts_after, accounts_same, all_account, dispatch_follows, igmp_accounts, mld_accounts, nothing_carried, packet_accounts, piece_accounts, routers_account, still}
 use Rattle.host_laws.proofs.IdleParts.{Idle, base, dispatch_idle, idle, piece_idle, routers_idle, all_idle, igmp_idle, mld_idle}

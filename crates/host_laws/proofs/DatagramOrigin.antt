@@ -38,7 +38,7 @@ use Rattle.host_machine.specs.Frames.{Carries}
 use Rattle.host_machine.specs.Dispatch.{datagram_of}
 use Rattle.host_machine.specs.Ipv4.{key_in, fragment_in, rebuilt_header}
 use Rattle.host_machine.specs.Arrivals.{rebuilt, slot_notes_in}
-use Rattle.host_machine.specs.Real.{IsReal, GivesSix}
+use Rattle.host_machine.specs.Real.{IsReal, IsRegular}
 use Rattle.host_machine.specs.Run.{Transition, Run, Ends, Then, events_in, notes_in}
 use Rattle.host_machine.specs.TwoHosts.{WereSent, cuts, cuts_in, key_of_cut}
 use Rattle.host_machine.proofs.NotesBySubject.{cut_notes-append, slot_notes-append}
@@ -53,7 +53,7 @@ use Rattle.host_machine.proofs.Walk.{sent_frames-append}
 use Rattle.host_laws.specs.Deliveries.{Delivery, Deliver, NoFrame, OneGets, NoSocketGets, BringsPacket, BringsUdp, AtOnce, InFragments}
 use Rattle.host_laws.specs.Departures.{Departure, Way, Dropped, InOneFrame, InPieces, HasDeparted, Departs, cuts_by, cuts_of, departs_from}
 use Rattle.host_laws.specs.Departures as spec
-use Rattle.host_laws.specs.Senders.{CarriesNoUdp, IsRegular, NoSocketWritesUdp, WentIn, ways}
+use Rattle.host_laws.specs.Senders.{CarriesNoUdp, NoSocketWritesUdp, WentIn, ways}
 use Rattle.host_laws.specs.Datagrams.{host_at_command}
 use Rattle.host_laws.specs.EndToEnd.{GetWhatWasSent, MayRebuild, RunsGetWhatWasSent, WasSent, WasSentAt, WasSentSo, WereSentSo}
 use Rattle.host_laws.proofs.ReadBack.{IsRead, read_payload, read_whole}
@@ -228,12 +228,12 @@ begun_of : (m : Medium) (c : Command) (H : Host) → IsOf m H.hardware_addr → 
 begun_of m c H is = rw begun_hardware is
 
 module _ (a a' b b' : Host) (ps qs : List Transition) (ra : Run a ps a') (rb : Run b qs b') (regular : IsRegular a) (b_real : IsReal b) (medium_is : b.capabilities.medium ≡ a.capabilities.medium)
-    (a_six : AllByRecursion (λ p. GivesSix p.command) ps) (b_six : AllByRecursion (λ q. GivesSix q.command) qs) (nobody : AllByRecursion (λ p. NoSocketWritesUdp p.before) ps) (were : WereSent ps qs) where
+    (nobody : AllByRecursion (λ p. NoSocketWritesUdp p.before) ps) (were : WereSent ps qs) where
   abbrev m : Medium
   m = a.capabilities.medium
 
   sends : AllByRecursion (SendsOver a.capabilities) ps
-  sends = all_send ra regular a_six nobody
+  sends = all_send ra regular nobody
 
   own_of : (p : Transition) → SendsOver a.capabilities p → IsOf m (host_at_command p.command p.before).hardware_addr
   own_of p s = begun_of m p.command p.before (subst (λ (c : DeviceCapabilities). IsOf c.medium p.before.hardware_addr) s.same s.real.own)
@@ -263,8 +263,8 @@ module _ (a a' b b' : Host) (ps qs : List Transition) (ra : Run a ps a') (rb : R
   fragments_sent K mine frame packet there d octets c i s part next noted header header_is source destination payload may =
       let key = key_in (ipv4_in packet).0 (ipv4_in packet).1 in
       let f = fragment_in (ipv4_in packet).1 (ipv4_in packet).2 in
-      let x = frame_is_cut a a' ps ra regular.real regular.mtu may.left a_six K mine frame there key f (record { packet = packet; carried = c; ipv4 = i; source = s; part = part; key_is = refl; fragment_is = refl }) in
-      let all = run_rebuilds a a' b b' ps qs ra rb (record { one_medium = medium_is; a_real = regular.real; b_real = b_real; mtu = regular.mtu; left = may.left }) a_six b_six were may.own may.free in
+      let x = frame_is_cut a a' ps ra regular.real regular.mtu may.left K mine frame there key f (record { packet = packet; carried = c; ipv4 = i; source = s; part = part; key_is = refl; fragment_is = refl }) in
+      let all = run_rebuilds a a' b b' ps qs ra rb (record { one_medium = medium_is; a_real = regular.real; b_real = b_real; mtu = regular.mtu; left = may.left }) were may.own may.free in
       let same : octets ≡ x.datagram.payload =
       all_in (λ o. o ≡ x.datagram.payload) (rebuilt (key_of_cut x.datagram) (slot_notes_in qs)) octets
       (all_in (λ e. AllByRecursion (λ o. o ≡ e.payload) (rebuilt (key_of_cut e) (slot_notes_in qs))) (cuts_in ps) x.datagram all x.is_there)
@@ -304,18 +304,18 @@ module _ (a a' b b' : Host) (ps qs : List Transition) (ra : Run a ps a') (rb : R
   all_parted P (x ∷ xs) ys all = let r = all_parted P xs ys all.1 in ((all.0, r.0), r.1)
 
   -- at each place from one on
-  from : (K : Host) (last : Host) (rest : List Transition) → Run K rest last → IsReal K → K.capabilities.medium ≡ m → AllByRecursion (λ q. GivesSix q.command) rest →
+  from : (K : Host) (last : Host) (rest : List Transition) → Run K rest last → IsReal K → K.capabilities.medium ≡ m →
       AllByRecursion (Contains (sent_frames (events_in ps))) (handed_frames (events_in rest)) → ((n : SlotNote) → IsIn n (slot_notes_in rest) → IsIn n (slot_notes_in qs)) → GetWhatWasSent a b ps rest
-  from K last [] Ends real same six there notes = tt
-  from K last (q ∷ rest) (Then {mid = mid} {command = c} {told = told} {notes = noted} s r) real same six there notes =
-      let one = shown.stepped s six.0 real in
+  from K last [] Ends real same there notes = tt
+  from K last (q ∷ rest) (Then {mid = mid} {command = c} {told = told} {notes = noted} s r) real same there notes =
+      let one = shown.stepped s real in
       let halves = all_parted (Contains (sent_frames (events_in ps))) (handed_frames told) (handed_frames (events_in rest)) (subst (AllByRecursion (Contains (sent_frames (events_in ps)))) (handed_frames-append told (events_in rest)) there) in
       let mine : IsOf m (host_at_command c K).hardware_addr = begun_of m c K (rw same at real.own) in (
         (λ deliveries departures moves. each_got mine halves.0 (λ n i. notes n (subst (IsIn n) (sym (slot_notes-append noted (notes_in rest))) (in_left (slot_notes noted) (slot_notes_in rest) n i))) moves.came),
-        from mid last rest r one.real (ap (λ (x : DeviceCapabilities). x.medium) one.same ∙ same) six.1 halves.1
+        from mid last rest r one.real (ap (λ (x : DeviceCapabilities). x.medium) one.same ∙ same) halves.1
             (λ n i. notes n (subst (IsIn n) (sym (slot_notes-append noted (notes_in rest))) (in_right (slot_notes noted) (slot_notes_in rest) n i))),
       )
 
 pub runs_get_what_was_sent : RunsGetWhatWasSent
-runs_get_what_was_sent a a' b b' ps qs ra rb regular b_real medium a_six b_six nobody were =
-    from a a' b b' ps qs ra rb regular b_real medium a_six b_six nobody were b b' qs rb b_real medium b_six were (λ n i. i)
+runs_get_what_was_sent a a' b b' ps qs ra rb regular b_real medium nobody were =
+    from a a' b b' ps qs ra rb regular b_real medium nobody were b b' qs rb b_real medium were (λ n i. i)

@@ -41,9 +41,10 @@ use Rattle.host_machine.specs.Ethernet.{version_in}
 use Rattle.host_machine.specs.Requests.{is_request, is_arp_request, is_solicitation}
 use Rattle.host_machine.proofs.OwnMessages.{is_own}
 use Rattle.host_machine.proofs.FrameReading.{number_again, same_packet, other_packet, version_six}
+use Rattle.host_machine.specs.Real.{IsPart}
 use Rattle.host_laws.specs.Deliveries.{CarriesIpv6, BringsPacket}
 use Rattle.host_laws.specs.Deliveries as spec
-use Rattle.host_laws.specs.Senders.{CarriesNoUdp, IsPart, may_be_udp}
+use Rattle.host_laws.specs.Senders.{CarriesNoUdp, may_be_udp}
 
 -- a payload that may be a datagram: one by its values, and what a raw socket for UDP, or for options, sends
 abbrev pub has_udp : IpPayload → Bool

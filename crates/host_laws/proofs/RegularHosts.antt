@@ -7,7 +7,6 @@ use Rattle.net_base.specs.declared.phy.DeviceCapabilities.{DeviceCapabilities}
 use Rattle.ip_address.specs.declared.hardware.HardwareAddress.{HardwareAddress}
 use Rattle.fragmentation.specs.Cuts.{Piece}
 use Rattle.host_machine.specs.declared.command.Command.{Command}
-use Rattle.host_machine.specs.declared.command.Command.TheVariants.{SetHardwareAddr}
 use Rattle.host_machine.specs.declared.command.Answer.{Answer}
 use Rattle.host_machine.specs.declared.results.PollIngressSingleResult.{PollIngressSingleResult}
 use Rattle.host_machine.specs.Note.{Note, OfCuts, PieceSent, cut_notes}
@@ -15,19 +14,19 @@ use Rattle.host_machine.specs.Host.{Host, without_expired, with_left}
 use Rattle.host_machine.specs.Frame.{piece_frame, sends}
 use Rattle.host_machine.specs.Ingress.{Ingress}
 use Rattle.host_machine.specs.Parts.{Part}
-use Rattle.host_machine.specs.Real.{IsReal, IsSix, GivesSix}
+use Rattle.host_machine.specs.Real.{IsReal, IsPart, IsRegular}
 use Rattle.host_machine.specs.Reply.{Reply, Arp, Ip}
 use Rattle.host_machine.specs.Response.{Responds}
 use Rattle.host_machine.specs.Run.{Transition, Run, Ends, Then}
 use Rattle.host_machine.specs.Step.{Act, Step}
 use Rattle.host_machine.specs.Step as step
 use Rattle.host_machine.specs.TwoHosts.{cuts}
-use Rattle.host_machine.proofs.SentPieces.{given, takes_real}
+use Rattle.host_machine.proofs.SentPieces.{takes_real}
 use Rattle.host_machine.proofs.MediumAddresses.{none_of}
 use Rattle.host_machine.proofs.Turns.{stepped}
 use Rattle.host_laws.specs.Departures.{Departure, HasDeparted}
 use Rattle.host_laws.specs.Datagrams.{host_at_command}
-use Rattle.host_laws.specs.Senders.{CarryOnly, IsPart, IsRegular, NoSocketWritesUdp}
+use Rattle.host_laws.specs.Senders.{CarryOnly, NoSocketWritesUdp}
 use Rattle.host_laws.proofs.Accounts.{Follows, dispatch_follows, follows, itself, keeps, taken_left}
 use Rattle.host_laws.proofs.StepTraffic.{step_moves}
 
@@ -55,18 +54,15 @@ ingress t answer old new told notes i = λ r.
     let last = responds x.reply x.taken i.frames x.notes_responding new x.responds taken.regular in
     record { same = last.same ∙ taken.same; regular = last.regular }
 
-step_follows : {command : Command} {answer : Answer} {old new : Host} {told : List Event} {acts : List Act} {notes : List Note} → Step command answer old told acts notes new → GivesSix command → Over old told notes new
-step_follows s six = stepped Over (λ old new k nobody. keeps old new k) on (λ H. itself H) (λ p outcome H new frames notes may d. dispatch_follows d) pieces ingress
+step_follows : {command : Command} {answer : Answer} {old new : Host} {told : List Event} {acts : List Act} {notes : List Note} → Step command answer old told acts notes new → Over old told notes new
+step_follows s = stepped Over (λ old new k nobody. keeps old new k) on (λ H. itself H) (λ p outcome H new frames notes may d. dispatch_follows d) pieces ingress
     (λ H t. λ r. follows H (without_expired H t) refl refl (record { own = r.real.own; neighbors = r.real.neighbors }) r)
     (λ H list. λ r. follows H _ refl refl (record { own = r.real.own; neighbors = none_of H.capabilities.medium H.neighbors }) r)
-    IsSix
-    (λ H h taken is_six. λ r. follows H _ refl refl (record { own = given H.capabilities h taken is_six; neighbors = r.real.neighbors }) r)
+    (λ H h of. λ r. follows H _ refl refl (record { own = of; neighbors = r.real.neighbors }) r)
     (λ H timeout. λ r. follows H _ refl refl (record { own = r.real.own; neighbors = r.real.neighbors }) r)
     Over (λ old new told notes law. law)
     (λ H sockets. λ r. follows H _ refl refl (record { own = r.real.own; neighbors = r.real.neighbors }) r)
-    s (λ h e. gives h e six) where
-      gives : {command : Command} (h : HardwareAddress) → command ≡ SetHardwareAddr h → GivesSix command → IsSix h
-      gives h e is = let there : GivesSix (SetHardwareAddr h) = rw e at is in there
+    s
 
 -- what a place of a run sends
 pub record Sends (p : Transition) : Type 0 where
@@ -92,10 +88,10 @@ pub record SendsOver (c : DeviceCapabilities) (p : Transition) : Type 0 where
   pub same : p.before.capabilities ≡ c
   pub real : IsReal p.before
 
-pub all_send : {first last : Host} {transitions : List Transition} → Run first transitions last → IsRegular first → AllByRecursion (λ p. GivesSix p.command) transitions → AllByRecursion (λ p. NoSocketWritesUdp p.before) transitions →
+pub all_send : {first last : Host} {transitions : List Transition} → Run first transitions last → IsRegular first → AllByRecursion (λ p. NoSocketWritesUdp p.before) transitions →
     AllByRecursion (SendsOver first.capabilities) transitions
-all_send Ends r six none = tt
-all_send {first} (Then {mid = mid} {transitions = ps} s run) r six none =
-    let f = step_follows s six.0 r in
-    let rest : AllByRecursion (SendsOver first.capabilities) ps = subst (λ c. AllByRecursion (SendsOver c) ps) f.same (all_send run f.regular six.1 none.1) in
+all_send Ends r none = tt
+all_send {first} (Then {mid = mid} {transitions = ps} s run) r none =
+    let f = step_follows s r in
+    let rest : AllByRecursion (SendsOver first.capabilities) ps = subst (λ c. AllByRecursion (SendsOver c) ps) f.same (all_send run f.regular none.1) in
     (record { sends = place_sends s r none.0; same = refl; real = r.real }, rest)

@@ -25,6 +25,7 @@ use Rattle.host_machine.specs.TwoHosts.{cuts}
 use Rattle.host_machine.proofs.NotesBySubject.{slot_notes-append, cut_notes-append}
 use Rattle.host_machine.proofs.SlotEffects.{handed_frames-append, egress_hands_none, egress_still}
 use Rattle.host_machine.proofs.Walk.{sent_frames-append}
+use Rattle.host_machine.specs.Real.{IsRegular}
 use Rattle.host_laws.specs.Deliveries.{Delivery, Deliver, IsAccepted, NoFrame, to_index, udp_at, with_deliveries}
 use Rattle.host_laws.specs.Departures.{Departure, HasDeparted, cuts_of, entries, frames_of, from_index, without}
 use Rattle.host_laws.specs.Datagrams.{host_at_command, socket_after_run}
@@ -33,7 +34,7 @@ use Rattle.host_laws.proofs.IngressDeliveries.{Gains, IsAt, gained_none, gained_
 use Rattle.host_machine.proofs.PollCalls.{until}
 use Rattle.host_machine.proofs.SentPieces.{maintains}
 use Rattle.host_machine.proofs.TwoHosts.{cuts-append}
-use Rattle.host_laws.specs.Senders.{CarryOnly, IsRegular, NoSocketWritesUdp}
+use Rattle.host_laws.specs.Senders.{CarryOnly, NoSocketWritesUdp}
 use Rattle.host_laws.proofs.Accounts.{AccountsFor, Follows, accounts_after, accounts_on, accounts_same, follows, ingress_accounts}
 use Rattle.host_laws.proofs.EgressDepartures.{LosesOver, all_left_as_before, departs_alike, lost_on}
 use Rattle.host_laws.proofs.CallDepartures.{egress_loses, nothing_lost}
@@ -201,7 +202,7 @@ step_moves (step.Polled p) none = poll_moves _ _ _ _ _ _ _ p
 step_moves (step.PolledMaintenance {t} {old}) none = unmoved (maintained_sockets old t)
 step_moves (step.JoinedGroup j) none = unmoved (join_same j)
 step_moves (step.LeftGroup j) none = unmoved (leave_same j)
-step_moves (step.TookHardwareAddr (Taken a r e)) none = unmoved (ap (λ (K : Host). K.sockets) e)
+step_moves (step.TookHardwareAddr (Taken a of r e)) none = unmoved (ap (λ (K : Host). K.sockets) e)
 step_moves (step.TookHardwareAddr (NotTaken error a r e)) none = unmoved (ap (λ (K : Host). K.sockets) e)
 step_moves (step.TookReassemblyTimeout (WithinDay l r e)) none = unmoved (ap (λ (K : Host). K.sockets) e)
 step_moves (step.TookReassemblyTimeout (OverDay l r e)) none = unmoved (ap (λ (K : Host). K.sockets) e)

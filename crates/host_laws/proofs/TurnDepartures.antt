@@ -35,9 +35,11 @@ use Rattle.host_machine.specs.Dispatch.{piece_size}
 use Rattle.host_machine.proofs.NotedRequests.{sends_one}
 use Rattle.host_machine.proofs.Pieces.{contains_in}
 use Rattle.host_machine.proofs.TwoHosts.{size_positive}
+use Rattle.host_machine.proofs.PendingParts.{pieces_are}
 use Rattle.host_machine.proofs.Turns.{between_is}
-use Rattle.host_laws.specs.Senders.{CarryOnly, IsPart, IsRegular}
-use Rattle.host_laws.proofs.Accounts.{nothing_carried, pieces_are, unsent_carry}
+use Rattle.host_machine.specs.Real.{IsPart, IsRegular}
+use Rattle.host_laws.specs.Senders.{CarryOnly}
+use Rattle.host_laws.proofs.Accounts.{nothing_carried, unsent_carry}
 use Rattle.host_laws.proofs.FramesWithoutUdp.{piece_none}
 use Rattle.host_machine.specs.Frame.{ip_frame, piece_frame}
 use Rattle.host_machine.specs.Dispatch.{datagram_of, may_be_cut}

@@ -8,12 +8,13 @@ use Rattle.host_machine.specs.declared.command.Command.TheVariants.{PollIngressS
 use Rattle.host_machine.specs.Note.{slot_notes, cut_notes}
 use Rattle.host_machine.specs.Host.{Host, at, without_expired}
 use Rattle.host_machine.specs.Polling.{after_maintenance}
+use Rattle.host_machine.specs.Real.{IsRegular}
 use Rattle.host_machine.specs.Order.{IsAmong, IsBeginning}
 use Rattle.host_machine.specs.Run.{Transition, Run, acts_in}
 use Rattle.host_machine.specs.TwoHosts.{cuts}
 use Rattle.transport_sockets.specs.Udp.{UdpSocket}
 use Rattle.host_laws.specs.Deliveries.{Delivery, Deliver, IsAccepted, to_index, udp_at, with_deliveries}
-use Rattle.host_laws.specs.Senders.{IsRegular, NoSocketWritesUdp, CarryOnly}
+use Rattle.host_laws.specs.Senders.{NoSocketWritesUdp, CarryOnly}
 use Rattle.host_laws.specs.Departures.{Departure, HasDeparted, cuts_of, entries, frames_of, from_index, without}
 
 -- the host when a command receives or sends its first frame: at the command's moment, and maintained if it is a poll

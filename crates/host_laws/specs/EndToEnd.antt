@@ -5,12 +5,12 @@ use Rattle.std.specs.List.{AllByRecursion, Contains}
 use Rattle.std.specs.FinMap as map
 use Rattle.fragmentation.specs.Reassembly.{SlotNote}
 use Rattle.host_machine.specs.Host.{Host}
-use Rattle.host_machine.specs.Real.{IsReal, GivesSix}
+use Rattle.host_machine.specs.Real.{IsReal, IsRegular}
 use Rattle.host_machine.specs.Run.{Transition, Run}
 use Rattle.host_machine.specs.TwoHosts.{HaveOwnKeys, WereSent, cuts_in, key_of_cut}
 use Rattle.host_laws.specs.Deliveries.{Delivery, Deliver, NoFrame, OneGets, NoSocketGets, BringsUdp, AtOnce, InFragments}
 use Rattle.host_laws.specs.Departures.{Departure, Dropped, HasDeparted, departs_from}
-use Rattle.host_laws.specs.Senders.{IsRegular, NoSocketWritesUdp}
+use Rattle.host_laws.specs.Senders.{NoSocketWritesUdp}
 use Rattle.host_laws.specs.Datagrams.{MovesAt, host_at_command}
 
 -- A datagram was sent in a transition of a run. There it left the transmit queue of a UDP socket, with its destination and its
@@ -60,5 +60,4 @@ GetWhatWasSent a b ps qs =
 abbrev pub RunsGetWhatWasSent : Type 0
 RunsGetWhatWasSent =
     (a a' b b' : Host) (ps qs : List Transition) → Run a ps a' → Run b qs b' → IsRegular a → IsReal b → b.capabilities.medium ≡ a.capabilities.medium →
-    AllByRecursion (λ p. GivesSix p.command) ps → AllByRecursion (λ q. GivesSix q.command) qs → AllByRecursion (λ p. NoSocketWritesUdp p.before) ps →
-    WereSent ps qs → GetWhatWasSent a b ps qs
+    AllByRecursion (λ p. NoSocketWritesUdp p.before) ps → WereSent ps qs → GetWhatWasSent a b ps qs

@@ -2,18 +2,14 @@
 use Rattle.std.specs.Prelude.{◌≡◌, ◌⊎◌, ℕ, ◌==◌, ◌≤◌, ◌||◌, Bool, true, false, List, [], ◌∷◌}
 use Rattle.std.specs.List.{AllByRecursion, Contains}
 use Rattle.net_base.specs.declared.phy.Medium.{Medium}
-use Rattle.net_base.specs.Checksum.{ip_mtu_of}
 use Rattle.ip_address.specs.declared.hardware.HardwareAddress.{HardwareAddress}
 use Rattle.ip_address.specs.Hardware.{IsOf}
 use Rattle.ip_address.specs.Protocol.{number_of}
-use Rattle.ip_address.specs.declared.protocol.IpProtocol.TheVariants as protocol
 use Rattle.ip_wire.specs.declared.ip_packet.IpRepr.{IpRepr}
-use Rattle.ip_wire.specs.Ipv4Packet.{IsHeader, is_fragment}
 use Rattle.sockets.specs.Kinds.{down_raw}
-use Rattle.fragmentation.specs.Cuts.{Datagram, Piece, piece_header, piece_fragment}
+use Rattle.fragmentation.specs.Cuts.{Datagram}
 use Rattle.host_machine.specs.Host.{Host, Storage}
 use Rattle.host_machine.specs.Delivery.{holds}
-use Rattle.host_machine.specs.Real.{IsReal}
 use Rattle.host_laws.specs.Deliveries.{BringsPacket}
 use Rattle.host_laws.specs.Departures.{Way, InOneFrame, Departure, cuts_of}
 
@@ -27,20 +23,6 @@ writes_udp place = holds down_raw (λ s. may_be_udp (number_of s.protocol)) plac
 -- a host has no such socket
 abbrev pub NoSocketWritesUdp : Host → Type 0
 NoSocketWritesUdp H = AllByRecursion (λ place. writes_udp place ≡ false) H.sockets.places
-
--- a fragment is for an address of the medium; and if it is of UDP, more fragments follow or some precede, and its values fit the
--- fields of a header
-pub record IsPart (m : Medium) (p : Piece) : Type 0 where
-  pub destination : IsOf m p.destination
-  pub part : number_of p.header.next_header ≡ 17 → is_fragment (piece_fragment p) ≡ true
-  pub header : number_of p.header.next_header ≡ 17 → IsHeader (record (piece_header p) { next_header = protocol.Udp }) (piece_fragment p)
-
--- a host that sends as its medium requires: its hardware addresses are of the medium, its packets may have 576 octets, and its
--- pending fragments are parts of packets, if there are any
-pub record IsRegular (H : Host) : Type 0 where
-  pub real : IsReal H
-  pub mtu : 576 ≤ ip_mtu_of H.capabilities
-  pub left : AllByRecursion (IsPart H.capabilities.medium) H.left
 
 -- no host on the medium reads a frame as a packet for UDP; it may read a fragment of one
 abbrev pub CarriesNoUdp : Medium → List ℕ → Type 0

@@ -109,7 +109,7 @@ pub run_carried : {first last : Host} {transitions : List Transition} → Run fi
 run_carried Ends = NoneOfNone
 run_carried (Then {old = old} {mid = mid} {told = told} {notes = notes} {transitions = ps} s r) =
     let one : Carried notes = stepped CarriedOver (λ old new k none. NoneOfNone) on (λ H. NoneOfNone) (λ p outcome H new frames notes may d. dispatched d) (λ H p rest e. NoneOfNone) ingress
-    (λ H t. NoneOfNone) (λ H list. NoneOfNone) (λ h. Unit {0}) (λ H h taken given. NoneOfNone) (λ H timeout. NoneOfNone) CarriedOver (λ old new told notes law. law) (λ H sockets. NoneOfNone) s (λ h e. tt) in
+    (λ H t. NoneOfNone) (λ H list. NoneOfNone) (λ H h of. NoneOfNone) (λ H timeout. NoneOfNone) CarriedOver (λ old new told notes law. law) (λ H sockets. NoneOfNone) s in
     on old mid mid told [] notes (notes_in ps) one (run_carried r)
 
 -- where all of a list are distinct, so are some of it

@@ -40,6 +40,7 @@ pub mod TimelyArrivals
 pub mod FrameReading
 pub mod SentPieces
 pub mod TwoHosts
+pub mod PendingParts
 pub mod FewFragments
 mod GroupChanges
 mod Exchange

@@ -22,10 +22,10 @@ use Rattle.host_machine.proofs.SingleCalls.{run_on, events_in-append, acts_in-ap
 
 pub run_laws : {first last : Host} {transitions : List Transition} → Run first transitions last → Laws first transitions
 run_laws {first} {last} {transitions} r = record {
-  requests_spaced = λ sound all. rw (run_asks first last transitions r sound all) (run_spaced r);
+  requests_spaced = λ regular all. rw (run_asks first last transitions r regular all) (run_spaced r);
   asks_spaced = run_spaced r;
   arrivals_match_frames = run_arrivals r;
-  fragments_sent_are_pieces = λ real six. run_shows first last transitions r real six;
+  fragments_sent_are_pieces = λ real. run_shows first last transitions r real;
   cuts_take_identifications = run_carried r;
   own_keys = λ few. keys_own (cut_notes (notes_in transitions)) (distinct_among (run_carried r) (distinct _ _ (run_counted r) few));
   rebuilt = run_rebuilt r;

@@ -18,10 +18,8 @@ use Rattle.fragmentation.specs.Fragments.{Fragment}
 use Rattle.fragmentation.specs.declared.key.FragKey.{FragKey}
 use Rattle.fragmentation.specs.Cuts.{Piece, pieces_of, HasForm}
 use Rattle.host_machine.specs.declared.command.Command.{Command}
-use Rattle.host_machine.specs.declared.command.Command.TheVariants.{SetHardwareAddr}
 use Rattle.host_machine.specs.declared.command.Answer.{Answer}
 use Rattle.host_machine.specs.declared.results.PollIngressSingleResult.{PollIngressSingleResult}
-use Rattle.host_machine.specs.Config.{hardware_refusal_of}
 use Rattle.host_machine.specs.Note.{Note, OfCuts, Cut, PieceSent, asks}
 use Rattle.host_machine.specs.Host.{Host, SocketSet, at, without_expired, with_left}
 use Rattle.host_machine.specs.Packet.{Packet, PacketV4, payload_of}
@@ -39,8 +37,8 @@ use Rattle.host_machine.specs.Multicast.{without_neighbors}
 use Rattle.host_machine.specs.Response.{Responds}
 use Rattle.host_machine.specs.Ingress.{Takes, Ingress}
 use Rattle.host_machine.specs.Parts.{Part}
-use Rattle.host_machine.specs.Real.{IsReal, IsSix, GivesSix}
-use Rattle.host_machine.specs.Requests.{is_request, may_ask, sent_at, requests_at, NoSocketSpeaks, IsOrdinary, IsSound}
+use Rattle.host_machine.specs.Real.{IsReal, IsPart, IsRegular}
+use Rattle.host_machine.specs.Requests.{is_request, may_ask, sent_at, requests_at, NoSocketSpeaks}
 use Rattle.host_machine.specs.Laws.{SendsOneThing, ThePacket, ItsFirstPiece, ARequest, DiscoveriesAreNoted}
 use Rattle.host_machine.specs.Laws as laws
 use Rattle.host_machine.specs.Step.{Act, Step}
@@ -51,7 +49,7 @@ use Rattle.host_machine.proofs.RawProtocols.{Attends, attends, attends_by, atten
 use Rattle.host_machine.proofs.OwnMessages.{own_asks}
 use Rattle.host_machine.proofs.PacketEffects.{whole_plain, ipv6_plain}
 use Rattle.host_machine.proofs.NotedRequests.{quiet_packet, quiet_piece, quiet_reply, pieces_go, sends_one}
-use Rattle.host_machine.proofs.SentPieces.{GoodReply, takes_good, takes_real, given, reached_of}
+use Rattle.host_machine.proofs.SentPieces.{GoodReply, takes_good, takes_real, reached_of}
 use Rattle.host_machine.proofs.MediumAddresses.{none_of}
 use Rattle.host_machine.proofs.Turns.{MaySend, sent_is, dispatched_sockets, stepped}
 use Rattle.host_machine.proofs.Walk.{Reached, taken, dispatched}
@@ -75,6 +73,18 @@ requests-append m t (Asked now given ∷ xs) ys = requests-append m now xs ys
 requests-append m t (Sent id frame ∷ xs) ys =
     ap (λ rest. if is_request m frame then t ∷ rest else rest) (requests-append m t xs ys)
     ∙ behind (is_request m frame) t (requests_at m (sent_at t xs)) (requests_at m (sent_at (asked_last t xs) ys))
+
+-- a host whose hardware addresses are those of its medium, and whose pending fragments are for such an address
+record IsSound (H : Host) : Type 0 where
+  real : IsReal H
+  left : AllByRecursion (λ p. IsOf H.capabilities.medium p.destination) H.left
+
+-- each regular host is one
+sound_of : (H : Host) → IsRegular H → IsSound H
+sound_of H r = record { real = r.real; left = by H.left r.left } where
+  by : (ps : List Piece) → AllByRecursion (IsPart H.capabilities.medium) ps → AllByRecursion (λ p. IsOf H.capabilities.medium p.destination) ps
+  by [] all = tt
+  by (p ∷ ps) all = (all.0.destination, by ps all.1)
 
 -- what the law reads of a host, and what it says of a part of a step
 record Asks (old : Host) (told : List Event) (notes : List Note) (new : Host) : Type 0 where
@@ -293,9 +303,9 @@ moves H list = λ s none. record {
   nobody = none;
 }
 
-sets : (H : Host) (h : HardwareAddress) → hardware_refusal_of H.capabilities h ≡ None → IsSix h → AskedOver H [] [] (record H { hardware_addr = h })
-sets H h taken six = λ s none. record {
-  asks = stays H _ refl refl (record { own = given H.capabilities h taken six; neighbors = s.real.neighbors }) s;
+sets : (H : Host) (h : HardwareAddress) → IsOf H.capabilities.medium h → AskedOver H [] [] (record H { hardware_addr = h })
+sets H h of = λ s none. record {
+  asks = stays H _ refl refl (record { own = of; neighbors = s.real.neighbors }) s;
   nobody = none;
 }
 
@@ -308,19 +318,16 @@ lasts H timeout = λ s none. record {
 acts : (H : Host) (sockets : SocketSet) → StepAsks H [] [] (record H { sockets = sockets })
 acts H sockets = λ s none. stays H _ refl refl (record { own = s.real.own; neighbors = s.real.neighbors }) s
 
-gives : {command : Command} (h : HardwareAddress) → command ≡ SetHardwareAddr h → GivesSix command → IsSix h
-gives h e six = let there : GivesSix (SetHardwareAddr h) = rw e at six in there
-
-step_asks : {command : Command} {answer : Answer} {old new : Host} {told : List Event} {done : List Act} {notes : List Note} → Step command answer old told done notes new → GivesSix command → StepAsks old told notes new
-step_asks s six = stepped AskedOver keeps on refused dispatches pieces (λ t answer old new told notes i. ingress i) sweeps moves IsSix sets lasts
-    StepAsks (λ old new told notes law. λ sound none. (law sound none).asks) acts s (λ h e. gives h e six)
+step_asks : {command : Command} {answer : Answer} {old new : Host} {told : List Event} {done : List Act} {notes : List Note} → Step command answer old told done notes new → StepAsks old told notes new
+step_asks s = stepped AskedOver keeps on refused dispatches pieces (λ t answer old new told notes i. ingress i) sweeps moves sets lasts
+    StepAsks (λ old new told notes law. λ sound none. (law sound none).asks) acts s
 
 -- over a whole run
-all_asked : {first last : Host} {transitions : List Transition} → Run first transitions last → IsSound first → AllByRecursion IsOrdinary transitions → Asks first (events_in transitions) (notes_in transitions) last
+all_asked : {first last : Host} {transitions : List Transition} → Run first transitions last → IsSound first → AllByRecursion (λ p. NoSocketSpeaks p.before) transitions → Asks first (events_in transitions) (notes_in transitions) last
 all_asked {first} Ends sound all = record { noted = λ t. refl; same = refl; sound = sound }
 all_asked (Then {told = told} {notes = notes} {transitions = ps} s r) sound all =
-    let one = step_asks s all.0.0 sound all.0.1 in
+    let one = step_asks s sound all.0 in
     asks_on _ _ _ told (events_in ps) notes (notes_in ps) one (all_asked r one.sound all.1)
 
 pub run_asks : DiscoveriesAreNoted
-run_asks first last transitions r sound all = (all_asked r sound all).noted (pos 0)
+run_asks first last transitions r regular all = (all_asked r (sound_of first regular) all).noted (pos 0)

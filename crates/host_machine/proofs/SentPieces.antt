@@ -35,9 +35,6 @@ use Rattle.net_base.specs.declared.phy.DeviceCapabilities.{DeviceCapabilities}
 use Rattle.net_base.specs.declared.phy.Medium.{Medium}
 use Rattle.net_base.specs.declared.phy.Medium.TheVariants as medium
 use Rattle.ip_address.specs.EthernetAddress.{broadcast}
-use Rattle.ip_address.specs.Hardware.{is_unicast}
-use Rattle.host_machine.specs.Config.{same_medium, hardware_refusal_of}
-use Rattle.host_machine.specs.declared.results.HardwareError.TheVariants.{WrongMedium, NotUnicast}
 use Rattle.host_machine.proofs.GroupChanges.{join_groups, leave_groups}
 use Rattle.slaac.specs.Slaac.{sync_required}
 use Rattle.host_machine.specs.Slaac.{with_slaac_applied}
@@ -61,7 +58,7 @@ use Rattle.host_machine.specs.Ingress.{Takes, Ingress}
 use Rattle.host_machine.specs.Step.{Act, Step, UpdatesIpAddrs}
 use Rattle.host_machine.specs.Step as step
 use Rattle.ip_address.specs.Hardware.{IsOf}
-use Rattle.host_machine.specs.Real.{IsSix, IsReal, GivesSix}
+use Rattle.host_machine.specs.Real.{IsReal}
 use Rattle.host_machine.specs.Wire.{Shows, Nothing, OnePiece, OneCut, OtherFrame, FragmentsArePieces, StaysReal}
 use Rattle.host_machine.specs.Run.{Transition, Run, Ends, Then, events_in, notes_in}
 use Rattle.host_machine.specs.Parts.{Part}
@@ -271,21 +268,13 @@ ingress {t} {answer} {old} {new} {told} {notes} i = λ real.
     rw (i.events, r.all_notes, sent_frames-sends i.frames) (on old (without_expired old t) new [] i.frames [] (r.notes_taking ++ r.notes_responding) (sweeps old t)
     (on (without_expired old t) r.taken new [] i.frames r.notes_taking r.notes_responding first second) real)
 
--- a hardware address that is taken is one of the medium
-pub given : (c : DeviceCapabilities) (h : HardwareAddress) → hardware_refusal_of c h ≡ None → IsSix h → IsOf c.medium h
-given c (hardware.Ethernet a) none six = by c.medium none where
-  by : (m : Medium) → (if not (true && same_medium medium.Ethernet m) then Some WrongMedium else if not (is_unicast (hardware.Ethernet a)) then Some NotUnicast else None) ≡ None → IsOf m (hardware.Ethernet a)
-  by medium.Ethernet e = six
-  by medium.Ip e = absurd cc
-given c hardware.Ip none six = absurd cc
-
 updates : {list : List IpCidr} {answer : _} {old new : Host} → UpdatesIpAddrs list answer old new → ShownOver old [] [] new
 updates {old = old} (step.Accepted a r e) = λ real. rw e (record { shows = Nothing; same = refl; real = record { own = real.own; neighbors = none_of old.capabilities.medium old.neighbors } })
 updates (step.Refused a r e) = silent refl refl e
 
-sets : {h : HardwareAddress} {answer : _} {old new : Host} → IsSix h → step.SetsHardwareAddr h answer old new → ShownOver old [] [] new
-sets {h = h} {old = old} six (step.Taken a r e) = λ real. rw e (record { shows = Nothing; same = refl; real = record { own = given old.capabilities h a six; neighbors = real.neighbors } })
-sets six (step.NotTaken error a r e) = silent refl refl e
+sets : {h : HardwareAddress} {answer : _} {old new : Host} → step.SetsHardwareAddr h answer old new → ShownOver old [] [] new
+sets (step.Taken a of r e) = λ real. rw e (record { shows = Nothing; same = refl; real = record { own = of; neighbors = real.neighbors } })
+sets (step.NotTaken error a r e) = silent refl refl e
 
 lasts : {timeout : ℕ} {answer : _} {old new : Host} → step.SetsReassemblyTimeout timeout answer old new → ShownOver old [] [] new
 lasts {old = old} (step.WithinDay l r e) = λ real. rw e (stays old [] [] _ Nothing refl refl refl real)
@@ -309,26 +298,26 @@ begins H = λ real. stays H [] [] H Nothing refl refl refl real
 follows : (a b c : Host) (ts us : List Event) (xs ys : List Note) → Told a ts xs b → Told b us ys c → Told a (ts ++ us) (xs ++ ys) c
 follows a b c ts us xs ys one two = rw sent_frames-append (on a b c (sent_frames ts) (sent_frames us) xs ys one two)
 
-pub stepped : {command : Command} {answer : Answer} {old new : Host} {told : List Event} {acts : List Act} {notes : List Note} → Step command answer old told acts notes new → GivesSix command → IsReal old → Shown old (sent_frames told) notes new
-stepped (step.UpdatedIpAddrs u) six real = updates u real
-stepped (step.PolledIngressSingle i) six real = ingress i real
-stepped (step.PolledEgress e) six real = egressed ShownOver keeps on requests asked identifies whole cuts pieces e real
-stepped (step.Polled {t} p) six real = polled Told begins follows t (λ H. maintains H t) (λ answer old new told notes i. ingress i) (λ answer old new told notes e. egressed ShownOver keeps on requests asked identifies whole cuts pieces e) p real
-stepped (step.PolledMaintenance {t} {old}) six real = maintains old t real
-stepped {old = old} (step.JoinedGroup j) six real = let g = join_groups j in rw g.1 (stays old [] [] _ Nothing refl refl refl real)
-stepped {old = old} (step.LeftGroup j) six real = let g = leave_groups j in rw g.1 (stays old [] [] _ Nothing refl refl refl real)
-stepped (step.TookHardwareAddr s) six real = sets six s real
-stepped (step.TookReassemblyTimeout s) six real = lasts s real
-stepped {old = old} other six real = stays old [] [] _ Nothing refl refl refl real
+pub stepped : {command : Command} {answer : Answer} {old new : Host} {told : List Event} {acts : List Act} {notes : List Note} → Step command answer old told acts notes new → IsReal old → Shown old (sent_frames told) notes new
+stepped (step.UpdatedIpAddrs u) real = updates u real
+stepped (step.PolledIngressSingle i) real = ingress i real
+stepped (step.PolledEgress e) real = egressed ShownOver keeps on requests asked identifies whole cuts pieces e real
+stepped (step.Polled {t} p) real = polled Told begins follows t (λ H. maintains H t) (λ answer old new told notes i. ingress i) (λ answer old new told notes e. egressed ShownOver keeps on requests asked identifies whole cuts pieces e) p real
+stepped (step.PolledMaintenance {t} {old}) real = maintains old t real
+stepped {old = old} (step.JoinedGroup j) real = let g = join_groups j in rw g.1 (stays old [] [] _ Nothing refl refl refl real)
+stepped {old = old} (step.LeftGroup j) real = let g = leave_groups j in rw g.1 (stays old [] [] _ Nothing refl refl refl real)
+stepped (step.TookHardwareAddr s) real = sets s real
+stepped (step.TookReassemblyTimeout s) real = lasts s real
+stepped {old = old} other real = stays old [] [] _ Nothing refl refl refl real
 
 -- over a whole run
-all_shown : {first last : Host} {transitions : List Transition} → Run first transitions last → IsReal first → AllByRecursion (λ p. GivesSix p.command) transitions → Shown first (sent_frames (events_in transitions)) (notes_in transitions) last
-all_shown {first} Ends real six = stays first [] [] first Nothing refl refl refl real
-all_shown (Then {told = told} {notes = notes} {transitions = ps} s r) real six =
-    rw sent_frames-append (on _ _ _ (sent_frames told) (sent_frames (events_in ps)) notes (notes_in ps) (λ x. stepped s six.0 x) (λ x. all_shown r x six.1) real)
+all_shown : {first last : Host} {transitions : List Transition} → Run first transitions last → IsReal first → Shown first (sent_frames (events_in transitions)) (notes_in transitions) last
+all_shown {first} Ends real = stays first [] [] first Nothing refl refl refl real
+all_shown (Then {told = told} {notes = notes} {transitions = ps} s r) real =
+    rw sent_frames-append (on _ _ _ (sent_frames told) (sent_frames (events_in ps)) notes (notes_in ps) (λ x. stepped s x) (λ x. all_shown r x) real)
 
 pub run_shows : FragmentsArePieces
-run_shows first last transitions r real six = (all_shown r real six).shows
+run_shows first last transitions r real = (all_shown r real).shows
 
 pub run_real : StaysReal
-run_real first last transitions r real six = let all = all_shown r real six in (all.same, all.real)
+run_real first last transitions r real = let all = all_shown r real in (all.same, all.real)

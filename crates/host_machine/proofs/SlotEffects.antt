@@ -392,7 +392,7 @@ updates_slots (Accepted a r e) = ap (λ (K : Host). K.slots) e
 updates_slots (Refused a r e) = ap (λ (K : Host). K.slots) e
 
 sets_slots : {h : HardwareAddress} {answer : _} {old new : Host} → SetsHardwareAddr h answer old new → new.slots ≡ old.slots
-sets_slots (step.Taken a r e) = ap (λ (K : Host). K.slots) e
+sets_slots (step.Taken a of r e) = ap (λ (K : Host). K.slots) e
 sets_slots (step.NotTaken error a r e) = ap (λ (K : Host). K.slots) e
 
 timeout_slots : {timeout : ℕ} {answer : _} {old new : Host} → step.SetsReassemblyTimeout timeout answer old new → new.slots ≡ old.slots

@@ -53,9 +53,9 @@ updates_once (step.Refused t a x) (step.Accepted t' b y) = absurd cc
 updates_once (step.Refused t a x) (step.Refused t' b y) = both a x b y
 
 hardware_once : {h : HardwareAddress} {a b : Result (Unit {0}) HardwareError} {H x y : Host} → SetsHardwareAddr h a H x → SetsHardwareAddr h b H y → Agree a b x y
-hardware_once (step.Taken t a x) (step.Taken t' b y) = both a x b y
-hardware_once (step.Taken t a x) (step.NotTaken e t' b y) = absurd cc
-hardware_once (step.NotTaken e t a x) (step.Taken t' b y) = absurd cc
+hardware_once (step.Taken t of a x) (step.Taken t' of' b y) = both a x b y
+hardware_once (step.Taken t of a x) (step.NotTaken e t' b y) = absurd cc
+hardware_once (step.NotTaken e t a x) (step.Taken t' of b y) = absurd cc
 hardware_once (step.NotTaken e t a x) (step.NotTaken f t' b y) =
     let errors : Some e ≡ Some f = sym t ∙ t' in
     let one : e ≡ f = cc in

@@ -263,7 +263,7 @@ module _ (key other : FragKey) (t0 end : ℤ) where
   updated (step.Refused a r e) = ap (λ (K : Host). K.reassembly_timeout) e
 
   address_set : {h : _} {answer : _} {old new : Host} → step.SetsHardwareAddr h answer old new → new.reassembly_timeout ≡ old.reassembly_timeout
-  address_set (step.Taken a r e) = ap (λ (K : Host). K.reassembly_timeout) e
+  address_set (step.Taken a of r e) = ap (λ (K : Host). K.reassembly_timeout) e
   address_set (step.NotTaken error a r e) = ap (λ (K : Host). K.reassembly_timeout) e
 
   kept : (H : Host) (b : Bool) → (if b then with_slaac_applied H else H).reassembly_timeout ≡ H.reassembly_timeout

@@ -10,6 +10,7 @@ use Rattle.ip_address.specs.declared.cidr.IpCidr.{IpCidr}
 use Rattle.ip_address.specs.declared.ethernet_address.EthernetAddress.{EthernetAddress}
 use Rattle.ip_address.specs.declared.hardware.HardwareAddress.{HardwareAddress}
 use Rattle.ip_address.specs.declared.hardware.HardwareAddress.TheVariants as hardware
+use Rattle.ip_address.specs.Hardware.{IsOf}
 use Rattle.ip_address.specs.declared.ip.IpAddress.{IpAddress}
 use Rattle.ip_address.specs.declared.ip.IpAddress.TheVariants as address
 use Rattle.ip_address.specs.declared.ipv4.Ipv4Address.{Ipv4Address}
@@ -37,14 +38,12 @@ use Rattle.transport_sockets.specs.Udp as udp_socket
 use Rattle.transport_sockets.specs.Tcp as tcp_socket
 use Rattle.fragmentation.specs.Cuts.{Piece}
 use Rattle.host_machine.specs.declared.command.Command.{Command}
-use Rattle.host_machine.specs.declared.command.Command.TheVariants.{SetHardwareAddr}
 use Rattle.host_machine.specs.declared.command.Answer.{Answer}
 use Rattle.host_machine.specs.declared.results.PollIngressSingleResult.{PollIngressSingleResult}
 use Rattle.host_machine.specs.declared.results.PollResult.{PollResult}
 use Rattle.host_machine.specs.declared.results.Turn.{Turn}
 use Rattle.slaac.specs.Slaac.{sync_required, rs_required}
 use Rattle.host_machine.specs.Addresses.{ipv4_addr, link_local_addr, source_for}
-use Rattle.host_machine.specs.Config.{hardware_refusal_of}
 use Rattle.host_machine.specs.Note.{Note, OfCuts, PieceSent}
 use Rattle.host_machine.specs.Host.{Host, Socket, SocketSet, at, without_expired, with_left, with_groups}
 use Rattle.host_machine.specs.Packet.{Packet, IpPayload, packet_with, payload_of}
@@ -362,8 +361,7 @@ module _ (Law : Part)
   module _ (ingress : (t : ℤ) (answer : PollIngressSingleResult) (old new : Host) (told : List Event) (notes : List Note) → Ingress t answer old told notes new → Law old told notes new)
       (sweeps : (H : Host) (t : ℤ) → Law H [] [] (without_expired H t))
       (moves : (H : Host) (list : List IpCidr) → Law H [] [] (record H { ip_addrs = list; neighbors = without_neighbors H.neighbors }))
-      (Given : HardwareAddress → Type 0)
-      (sets : (H : Host) (h : HardwareAddress) → hardware_refusal_of H.capabilities h ≡ None → Given h → Law H [] [] (record H { hardware_addr = h }))
+      (sets : (H : Host) (h : HardwareAddress) → IsOf H.capabilities.medium h → Law H [] [] (record H { hardware_addr = h }))
       (lasts : (H : Host) (timeout : ℕ) → Law H [] [] (record H { reassembly_timeout = timeout })) where
     syncs : (H : Host) (b : Bool) → Law H [] [] (if b then with_slaac_applied H else H)
     syncs H true = before (moves H _) (unread refl refl) (λ none. none)
@@ -378,19 +376,18 @@ module _ (Law : Part)
     -- what the owner of the sockets does is told apart: who speaks may change
     module _ (StepLaw : Part) (weaker : (old new : Host) (told : List Event) (notes : List Note) → Law old told notes new → StepLaw old told notes new)
         (acts : (H : Host) (sockets : SocketSet) → StepLaw H [] [] (record H { sockets = sockets })) where
-      pub stepped : {command : Command} {answer : Answer} {old new : Host} {told : List Event} {acts : List step.Act} {notes : List Note} → Step command answer old told acts notes new →
-          ((h : HardwareAddress) → command ≡ SetHardwareAddr h → Given h) → StepLaw old told notes new
-      stepped {old = old} (step.UpdatedIpAddrs {list = list} (Accepted a r e)) given = rw e (weaker _ _ _ _ (before (moves old list.items) (unread refl refl) (λ none. none)))
-      stepped (step.UpdatedIpAddrs (Refused a r e)) given = weaker _ _ _ _ (still refl refl e)
-      stepped (step.PolledIngressSingle i) given = weaker _ _ _ _ (ingress _ _ _ _ _ _ i)
-      stepped (step.PolledEgress e) given = weaker _ _ _ _ (egressed e)
-      stepped (step.Polled {t} p) given = weaker _ _ _ _ (polled Law begins on t (λ H. maintains H t) (λ answer old new told notes i. ingress t answer old new told notes i) (λ answer old new told notes e. egressed e) p)
-      stepped (step.PolledMaintenance {t} {old}) given = weaker _ _ _ _ (maintains old t)
-      stepped (step.JoinedGroup j) given = let g = join_groups j in rw g.1 (weaker _ _ _ _ (same (unread refl refl) (λ none. none)))
-      stepped (step.LeftGroup j) given = let g = leave_groups j in rw g.1 (weaker _ _ _ _ (same (unread refl refl) (λ none. none)))
-      stepped {old = old} (step.TookHardwareAddr {h = h} (Taken a r e)) given = rw e (weaker _ _ _ _ (sets old h a (given h refl)))
-      stepped (step.TookHardwareAddr (NotTaken error a r e)) given = weaker _ _ _ _ (still refl refl e)
-      stepped {old = old} (step.TookReassemblyTimeout {timeout = timeout} (WithinDay l r e)) given = rw e (weaker _ _ _ _ (lasts old timeout))
-      stepped (step.TookReassemblyTimeout (OverDay l r e)) given = weaker _ _ _ _ (still refl refl e)
-      stepped {old = old} (step.OwnerActed sockets) given = acts old sockets
-      stepped other given = weaker _ _ _ _ (same (unread refl refl) (λ none. none))
+      pub stepped : {command : Command} {answer : Answer} {old new : Host} {told : List Event} {acts : List step.Act} {notes : List Note} → Step command answer old told acts notes new → StepLaw old told notes new
+      stepped {old = old} (step.UpdatedIpAddrs {list = list} (Accepted a r e)) = rw e (weaker _ _ _ _ (before (moves old list.items) (unread refl refl) (λ none. none)))
+      stepped (step.UpdatedIpAddrs (Refused a r e)) = weaker _ _ _ _ (still refl refl e)
+      stepped (step.PolledIngressSingle i) = weaker _ _ _ _ (ingress _ _ _ _ _ _ i)
+      stepped (step.PolledEgress e) = weaker _ _ _ _ (egressed e)
+      stepped (step.Polled {t} p) = weaker _ _ _ _ (polled Law begins on t (λ H. maintains H t) (λ answer old new told notes i. ingress t answer old new told notes i) (λ answer old new told notes e. egressed e) p)
+      stepped (step.PolledMaintenance {t} {old}) = weaker _ _ _ _ (maintains old t)
+      stepped (step.JoinedGroup j) = let g = join_groups j in rw g.1 (weaker _ _ _ _ (same (unread refl refl) (λ none. none)))
+      stepped (step.LeftGroup j) = let g = leave_groups j in rw g.1 (weaker _ _ _ _ (same (unread refl refl) (λ none. none)))
+      stepped {old = old} (step.TookHardwareAddr {h = h} (Taken a of r e)) = rw e (weaker _ _ _ _ (sets old h of))
+      stepped (step.TookHardwareAddr (NotTaken error a r e)) = weaker _ _ _ _ (still refl refl e)
+      stepped {old = old} (step.TookReassemblyTimeout {timeout = timeout} (WithinDay l r e)) = rw e (weaker _ _ _ _ (lasts old timeout))
+      stepped (step.TookReassemblyTimeout (OverDay l r e)) = weaker _ _ _ _ (still refl refl e)
+      stepped {old = old} (step.OwnerActed sockets) = acts old sockets
+      stepped other = weaker _ _ _ _ (same (unread refl refl) (λ none. none))

@@ -28,7 +28,7 @@ use Rattle.host_machine.specs.Arrivals.{arrivals_under, rebuilt, slot_notes_in}
 use Rattle.host_machine.specs.Frames.{Brings, Bring, NoFrame, OneBrings, NoneBrings, all_arrivals, receiving_host, ArrivesInFrames}
 use Rattle.host_machine.specs.Wire.{Shows, Nothing, OnePiece, OneCut, OtherFrame}
 use Rattle.ip_address.specs.Hardware.{IsOf}
-use Rattle.host_machine.specs.Real.{IsReal, GivesSix}
+use Rattle.host_machine.specs.Real.{IsReal}
 use Rattle.host_machine.specs.TwoHosts.{cuts, cuts_in, key_of_cut, HaveOwnKeys, RebuildsWhatWasCut, PiecesAreRead}
 use Rattle.host_machine.proofs.Keys.{same_is}
 use Rattle.host_machine.proofs.NotesBySubject.{cut_notes-append, cut_notes-slots, slot_notes-append}
@@ -212,15 +212,15 @@ module _ (m : Medium) (size y : ℕ) (is : size ≡ y * 8) (pos : 0 < size) (ds 
     all_brought mine (NoneBrings frame none more) was = all_brought mine more was.1
 
     -- the medium stays
-    each_arrival : {H last : Host} {qs : List Transition} → Run H qs last → H.capabilities.medium ≡ m → IsReal H → AllByRecursion (λ q. GivesSix q.command) qs →
+    each_arrival : {H last : Host} {qs : List Transition} → Run H qs last → H.capabilities.medium ≡ m → IsReal H →
         AllByRecursion ArrivesInFrames qs → AllByRecursion (Contains all) (handed_frames (events_in qs)) → AreCutBy ds (all_arrivals (slot_notes_in qs))
-    each_arrival Ends medium_is real six comes was = tt
-    each_arrival {H} (Then {command = command} {told = told} {notes = noted} {transitions = qs} s r) medium_is real six comes was =
-        let one = stepped s six.0 real in
+    each_arrival Ends medium_is real comes was = tt
+    each_arrival {H} (Then {command = command} {told = told} {notes = noted} {transitions = qs} s r) medium_is real comes was =
+        let one = stepped s real in
         let mine : IsOf m (receiving_host command H).hardware_addr = rw receiving_hardware (rw medium_is at real.own) in
         let parted : AllByRecursion (Contains all) (handed_frames told ++ handed_frames (events_in qs)) = subst (AllByRecursion (Contains all)) (handed_frames-append told (events_in qs)) was in
         let halves = all_parted (Contains all) (handed_frames told) (handed_frames (events_in qs)) parted in
-        let later = each_arrival r (ap (λ (c : DeviceCapabilities). c.medium) one.same ∙ medium_is) one.real six.1 comes.1 halves.1 in
+        let later = each_arrival r (ap (λ (c : DeviceCapabilities). c.medium) one.same ∙ medium_is) one.real comes.1 halves.1 in
         rw (slot_notes-append, all_arrivals-append) (all_push (λ c. CutBy ds c.0 c.1) (all_arrivals (slot_notes noted)) (all_arrivals (slot_notes_in qs)) (all_brought mine comes.0 halves.0) later) where
           all_parted : {X : Type 0} (P : X → Type 0) (xs ys : List X) → AllByRecursion P (xs ++ ys) → AllByRecursion P xs × AllByRecursion P ys
           all_parted P [] ys a = (tt, a)
@@ -306,22 +306,22 @@ each P [] f = tt
 each P (x ∷ xs) f = (f x (inl refl), each P xs (λ y i. f y (inr i)))
 
 pub run_rebuilds : RebuildsWhatWasCut
-run_rebuilds a a' b b' ps qs ra rb may a_six b_six were own free =
+run_rebuilds a a' b b' ps qs ra rb may were own free =
     let c = a.capabilities in
-    let shows = run_shows a a' ps ra may.a_real a_six in
+    let shows = run_shows a a' ps ra may.a_real in
     let came_all = each_arrival c.medium (piece_size c) ((ip_mtu_of c - 20) / 8) refl (size_positive (ip_mtu_of c) may.mtu) (cuts_in ps) (run_forms ra) (go_to shows)
-    (sent_frames (events_in ps)) (cut_notes (notes_in ps)) shows refl a.left may.left (run_first ra) (run_ordered ra) rb may.one_medium may.b_real b_six (run_arrivals rb) were in
+    (sent_frames (events_in ps)) (cut_notes (notes_in ps)) shows refl a.left may.left (run_first ra) (run_ordered ra) rb may.one_medium may.b_real (run_arrivals rb) were in
     each (λ d. AllByRecursion (λ octets. octets ≡ d.payload) (rebuilt (key_of_cut d) (slot_notes_in qs))) (cuts_in ps) (λ d i.
     only d.payload (key_of_cut d) (first_history b) (slot_notes_in qs) (run_rebuilt rb)
     (began_of d.payload b (key_of_cut d) (all_in (λ e. finite.get b.slots (key_of_cut e) ≡ None) (cuts_in ps) d free i))
     (parts_under (cuts_in ps) d (slot_notes_in qs) own i came_all))
 
 -- a fragment in a frame that a run sent is of a packet that the run cut
-pub frame_is_cut : (a a' : Host) (ps : List Transition) → Run a ps a' → IsReal a → 576 ≤ ip_mtu_of a.capabilities → a.left ≡ [] → AllByRecursion (λ p. GivesSix p.command) ps →
+pub frame_is_cut : (a a' : Host) (ps : List Transition) → Run a ps a' → IsReal a → 576 ≤ ip_mtu_of a.capabilities → a.left ≡ [] →
     (K : Host) → IsOf a.capabilities.medium K.hardware_addr → (frame : List ℕ) → Contains (sent_frames (events_in ps)) frame → (key : FragKey) (f : Fragment) → Brings K frame key f → CutBy (cuts_in ps) key f
-frame_is_cut a a' ps ra real mtu left six K mine frame there key f b =
+frame_is_cut a a' ps ra real mtu left K mine frame there key f b =
     let c = a.capabilities in
-    let shows = run_shows a a' ps ra real six in
+    let shows = run_shows a a' ps ra real in
     brought c.medium (piece_size c) ((ip_mtu_of c - 20) / 8) refl (size_positive (ip_mtu_of c) mtu) (cuts_in ps) (run_forms ra) (go_to shows)
     (sent_frames (events_in ps)) (cut_notes (notes_in ps)) shows refl a.left left (run_first ra) (run_ordered ra) frame K key f mine (origin frame shows (is_in (sent_frames (events_in ps)) frame there)) b
 

@@ -349,7 +349,7 @@ module _ (Law : Host → List (List ℕ) → List Note → Host → Type 0)
         stepped (step.PolledMaintenance {t} {old}) = maintains old t
         stepped (step.JoinedGroup j) = let g = join_groups j in rw g.1 (same refl refl)
         stepped (step.LeftGroup j) = let g = leave_groups j in rw g.1 (same refl refl)
-        stepped {old = old} (step.TookHardwareAddr {h = h} (Taken a r e)) = rw e (sets old h)
+        stepped {old = old} (step.TookHardwareAddr {h = h} (Taken a of r e)) = rw e (sets old h)
         stepped (step.TookHardwareAddr (NotTaken error a r e)) = keeping refl refl (kept e)
         stepped {old = old} (step.TookReassemblyTimeout {timeout = timeout} (WithinDay l r e)) = rw e (lasts old timeout)
         stepped (step.TookReassemblyTimeout (OverDay l r e)) = keeping refl refl (kept e)

@@ -86,7 +86,7 @@ socket_with_datagram = record listening_socket { rx = record empty_queue { packe
 
 -- a host with that socket at the second index; the first one is free
 abbrev pub with_socket : UdpSocket → Host → Host
-with_socket s H = record H { sockets = record { places = None ∷ Some (kind.Udp s) ∷ []; waits = None ∷ None ∷ []; grows = false } }
+with_socket s H = record H { sockets = record { places = None ∷ Some (kind.Udp s) ∷ []; waits = None ∷ None ∷ []; grows = false; room = 2 } }
 
 -- the datagram is delivered to the socket, and nothing is sent
 abbrev pub DatagramIsDelivered : Type 0
@@ -113,7 +113,7 @@ abbrev pub having_heard : RawSocket
 having_heard = record listening_raw_socket { rx = record { packets = (tt, drop 14 datagram) ∷ []; most = 1; limit = 64 } }
 
 abbrev pub with_raw : RawSocket → Host → Host
-with_raw s H = record H { sockets = record { places = Some (kind.Raw s) ∷ []; waits = None ∷ []; grows = false } }
+with_raw s H = record H { sockets = record { places = Some (kind.Raw s) ∷ []; waits = None ∷ []; grows = false; room = 1 } }
 
 -- a raw socket receives the whole packet, and then no error is sent
 abbrev pub RawSocketReceives : Type 0
@@ -141,7 +141,7 @@ sending = record listening_socket { tx = record empty_queue { packets = (record 
 abbrev pub with_sending : Wait → ℤ → ℕ → ℤ → Host
 with_sending wait t ipv4_id silent_until = record (example.host ipv4_id (example.no_neighbors silent_until)) {
   moment = t;
-  sockets = record { places = Some (kind.Udp sending) ∷ []; waits = wait ∷ []; grows = false };
+  sockets = record { places = Some (kind.Udp sending) ∷ []; waits = wait ∷ []; grows = false; room = 1 };
 }
 
 -- a socket whose destination is unknown waits for a second; then it is asked again, and another discovery request is sent

@@ -35,7 +35,7 @@ abbrev pub SocketSet : Type 0
 SocketSet = Sockets (Bor (Unit {0}))
 
 abbrev pub no_sockets : SocketSet
-no_sockets = record { places = []; waits = []; grows = false }
+no_sockets = record { places = []; waits = []; grows = false; room = 0 }
 
 pub record Host : Type 0 where
   pub capabilities : DeviceCapabilities  -- of its device, when the interface was created

@@ -23,8 +23,8 @@ use Rattle.host_machine.specs.Frame.{ip_frame, piece_frame}
 use Rattle.host_machine.specs.Dispatch.{Outcome, Dispatches, datagram_of}
 use Rattle.host_machine.specs.Ingress.{Ingress}
 use Rattle.host_machine.specs.Frames.{ArrivesInFrames}
-use Rattle.host_machine.specs.Real.{IsReal}
-use Rattle.host_machine.specs.Requests.{IsSound, IsOrdinary, is_request, requests_in}
+use Rattle.host_machine.specs.Real.{IsReal, IsRegular}
+use Rattle.host_machine.specs.Requests.{NoSocketSpeaks, is_request, requests_in}
 use Rattle.host_machine.specs.Run.{Transition, Run, notes_in}
 use Rattle.host_machine.specs.Ran.{Laws}
 
@@ -75,7 +75,7 @@ DispatchesSendOneThing =
 -- one sent is noted, and each one noted is sent, at its moment
 abbrev pub DiscoveriesAreNoted : Type 0
 DiscoveriesAreNoted =
-    (first last : Host) (transitions : List Transition) → Run first transitions last → IsSound first → AllByRecursion IsOrdinary transitions →
+    (first last : Host) (transitions : List Transition) → Run first transitions last → IsRegular first → AllByRecursion (λ p. NoSocketSpeaks p.before) transitions →
     requests_in first.capabilities.medium transitions ≡ asks (notes_in transitions)
 
 -- the transitions of one run followed by those of another are one run

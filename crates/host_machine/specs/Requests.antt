@@ -5,7 +5,6 @@ use Rattle.net_base.specs.declared.phy.Medium.{Medium}
 use Rattle.net_base.specs.declared.phy.Medium.TheVariants as medium
 use Rattle.net_base.specs.Device.{Event, Received, Asked, Sent}
 use Rattle.wire_base.specs.Octets.{u16_at}
-use Rattle.ip_address.specs.Hardware.{IsOf}
 use Rattle.ip_address.specs.Protocol.{number_of}
 use Rattle.icmpv6_wire.specs.declared.icmpv6.Icmpv6Repr.{Icmpv6Repr}
 use Rattle.icmpv6_wire.specs.declared.icmpv6.Icmpv6Repr.TheVariants as v6
@@ -15,7 +14,6 @@ use Rattle.sockets.specs.Kinds.{down_raw}
 use Rattle.host_machine.specs.Host.{Host, Storage}
 use Rattle.host_machine.specs.Delivery.{holds}
 use Rattle.host_machine.specs.Packet.{IpPayload, Icmpv4, Icmpv6, Udp, Tcp, Raw, Igmp, Mld}
-use Rattle.host_machine.specs.Real.{IsReal, GivesSix}
 use Rattle.host_machine.specs.Run.{Transition, events_in}
 
 -- an Ethernet frame that requests a hardware address: its type is ARP, and the operation a request (RFC 826)
@@ -79,16 +77,3 @@ speaks_icmpv6 place = holds down_raw (λ s. number_of s.protocol == 58) place
 -- a host has no such socket
 abbrev pub NoSocketSpeaks : Host → Type 0
 NoSocketSpeaks H = AllByRecursion (λ place. speaks_icmpv6 place ≡ false) H.sockets.places
-
--- in a transition of a run there is no such socket, and a hardware address that is set has six octets
-abbrev pub IsOrdinary : Transition → Type 0
-IsOrdinary p = GivesSix p.command × NoSocketSpeaks p.before
-
--- the pending fragments are for a hardware address of the medium, if there are any
-abbrev pub IsLeftWell : Host → Type 0
-IsLeftWell H = AllByRecursion (λ p. IsOf H.capabilities.medium p.destination) H.left
-
--- a host for the start of a run, whose hardware addresses are those of its medium
-pub record IsSound (H : Host) : Type 0 where
-  pub real : IsReal H
-  pub left : IsLeftWell H

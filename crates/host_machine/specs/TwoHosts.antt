@@ -19,7 +19,7 @@ use Rattle.host_machine.specs.Ethernet.{is_for}
 use Rattle.host_machine.specs.Frame.{piece_frame}
 use Rattle.host_machine.specs.Frames.{Brings}
 use Rattle.ip_address.specs.Hardware.{IsOf}
-use Rattle.host_machine.specs.Real.{IsReal, GivesSix}
+use Rattle.host_machine.specs.Real.{IsReal}
 use Rattle.host_machine.specs.Run.{Transition, Run, events_in, notes_in}
 use Rattle.host_machine.specs.Arrivals.{rebuilt, slot_notes_in}
 
@@ -63,8 +63,7 @@ RebuildsThese ds qs = AllByRecursion (λ d. AllByRecursion (λ octets. octets �
 abbrev pub RebuildsWhatWasCut : Type 0
 RebuildsWhatWasCut =
     (a a' b b' : Host) (ps qs : List Transition) → Run a ps a' → Run b qs b' → MayExchange a b →
-    AllByRecursion (λ p. GivesSix p.command) ps → AllByRecursion (λ q. GivesSix q.command) qs → WereSent ps qs →
-    HaveOwnKeys (cuts_in ps) → AllByRecursion (λ d. map.get b.slots (key_of_cut d) ≡ None) (cuts_in ps) → RebuildsThese (cuts_in ps) qs
+    WereSent ps qs → HaveOwnKeys (cuts_in ps) → AllByRecursion (λ d. map.get b.slots (key_of_cut d) ≡ None) (cuts_in ps) → RebuildsThese (cuts_in ps) qs
 
 -- whether a frame to a hardware address is for a host with another one: on a medium without hardware addresses each frame is
 abbrev pub reaches : HardwareAddress → HardwareAddress → Bool

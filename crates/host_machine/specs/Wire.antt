@@ -1,6 +1,5 @@
 -- Which frames of a run are fragments of packets.
 use Rattle.std.specs.Prelude.{◌≡◌, ℕ, List, [], ◌∷◌}
-use Rattle.std.specs.List.{AllByRecursion}
 use Rattle.net_base.specs.declared.phy.Medium.{Medium}
 use Rattle.net_base.specs.Device.{sent_frames}
 use Rattle.fragmentation.specs.declared.key.FragKey.{FragKey}
@@ -11,7 +10,7 @@ use Rattle.host_machine.specs.Host.{Host}
 use Rattle.host_machine.specs.Frame.{piece_frame}
 use Rattle.host_machine.specs.Frames.{Brings}
 use Rattle.ip_address.specs.Hardware.{IsOf}
-use Rattle.host_machine.specs.Real.{IsReal, GivesSix}
+use Rattle.host_machine.specs.Real.{IsReal}
 use Rattle.host_machine.specs.Run.{Transition, Run, events_in, notes_in}
 
 -- no host on the medium reads a frame as a fragment
@@ -30,12 +29,12 @@ pub data Shows (m : Medium) : List (List ℕ) → List CutNote → Type 0 where
 -- the frames of a run that a host on the same medium reads as fragments are the noted fragments, in order
 abbrev pub FragmentsArePieces : Type 0
 FragmentsArePieces =
-    (first last : Host) (transitions : List Transition) → Run first transitions last → IsReal first → AllByRecursion (λ p. GivesSix p.command) transitions →
+    (first last : Host) (transitions : List Transition) → Run first transitions last → IsReal first →
     Shows first.capabilities.medium (sent_frames (events_in transitions)) (cut_notes (notes_in transitions))
 
 -- the device's capabilities stay the same, and hardware addresses stay those of its medium, so that a continued run meets the
 -- same premises
 abbrev pub StaysReal : Type 0
 StaysReal =
-    (first last : Host) (transitions : List Transition) → Run first transitions last → IsReal first → AllByRecursion (λ p. GivesSix p.command) transitions →
+    (first last : Host) (transitions : List Transition) → Run first transitions last → IsReal first →
     (last.capabilities ≡ first.capabilities) × IsReal last

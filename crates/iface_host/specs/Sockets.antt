@@ -41,7 +41,7 @@ icmp endpoint room = Icmp (record { endpoint = endpoint; hop_limit = 64; rx = qu
 pub record Opens (socket : Socket) (n : ℕ) (old new : Host) : Type 0 where
   pub unused : first_unused old.names ≡ Some n
   pub after : new ≡ record old {
-    sockets = set_after_add old.sockets socket;
+    sockets = set_after_add old.sockets socket new.sockets.room;
     names = slice_set old.names n (Some (first_free old.sockets.places));
     schedule = with_watch (first_free old.sockets.places) idle old.schedule;
   }

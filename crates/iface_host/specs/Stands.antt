@@ -41,7 +41,7 @@ pub record IsFirst (s : Settings) (host : Host) : Type 0 where
   pub some_time : 0 < s.reassembly_timeout
   pub within_day : s.reassembly_timeout ≤ 86_400_000_000
   pub ip_mtu : host.ip_mtu ≡ ip_mtu_of (capabilities_of s)
-  pub sockets : host.sockets ≡ over (replicate s.sockets free_storage) false
+  pub sockets : host.sockets ≡ over (replicate s.sockets free_storage) false host.sockets.room
   pub names : host.names ≡ replicate s.sockets None
   pub outbox : host.outbox ≡ empty (capabilities_of s)
   pub schedule : host.schedule ≡ first_plan s.patience s.sockets

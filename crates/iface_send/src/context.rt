@@ -1,12 +1,13 @@
 //! What an interface knows, besides its buffers.
 ghost use Rattle.std.specs.Prelude.{◌≡◌, ◌≤◌, ◌+◌};
-ghost use Rattle.std.specs.List.{list_any};
+ghost use Rattle.std.specs.List.{AllByRecursion, list_any};
 ghost use Rattle.net_base.specs.Time.{IsMoment};
 ghost use Rattle.net_base.specs.Checksum.{ip_mtu_of};
 ghost use Rattle.ip_address.specs.Hardware.{IsOf, IsOf-prop, medium_of};
 ghost use Rattle.iface_tables.specs.Neighbor.{AreOf, AreOf-prop};
 ghost use Rattle.host_machine.specs.Host.{is_assigned, no_sockets};
 ghost use Rattle.host_machine.specs.Addresses as addresses;
+ghost use Rattle.host_machine.specs.Real.{IsPart, are_parts-prop};
 
 use crate::membership::Membership;
 use address_selection::{get_source_address_ipv6, ipv6_addr};
@@ -52,6 +53,7 @@ pub struct Context {
     pub ghost of_medium: { medium_of hardware_addr ≡ capabilities.medium },
     pub ghost own: { IsOf capabilities.medium hardware_addr } by { IsOf-prop capabilities.medium hardware_addr },
     pub ghost neighbors: { AreOf capabilities.medium neighbor_cache } by { AreOf-prop capabilities.medium neighbor_cache },
+    pub ghost pending: { AllByRecursion (IsPart capabilities.medium) fragmenter.pieces } by { are_parts-prop capabilities.medium fragmenter.pieces },
 }
 
 impl Context {

@@ -2,6 +2,7 @@
 //! RFC 826).
 ghost use Rattle.std.specs.Prelude.{◌≡◌, ◌≤◌, ◌<◌, true, false, [], length, None, Ok, Err, IfSome};
 ghost use Rattle.net_base.specs.Checksum.{ip_mtu_of};
+ghost use Rattle.ip_address.specs.Hardware.{IsOf};
 ghost use Rattle.ip_address.specs.Ip.{is_unicast, is_unspecified};
 ghost use Rattle.fragmentation.specs.Slots.{Slots};
 ghost use Rattle.host_machine.specs.Host.{SocketSet, no_sockets};
@@ -74,6 +75,7 @@ fn dispatch_ethernet<Q: AnyPacket>(
     packet: &Q,
     out: &mut FrameBuffer,
 ) -> Result<(), DispatchError>
+    requires own { context.old.hardware_addr ≡ HardwareAddress.Ethernet own }
     requires empty { out.old ≡ [] }
     requires specified { is_unspecified (spec.destination_of (Q.stands_for packet.now)) ≡ false }
     requires writable { IsWritable (Q.stands_for packet.now) }
@@ -225,6 +227,7 @@ fn emit_packet<Q: AnyPacket>(
     packet: &Q,
     out: &mut FrameBuffer,
 )
+    requires of_medium { IsOf context.old.capabilities.medium destination.now }
     requires empty { out.old ≡ [] }
     requires writable { IsWritable (Q.stands_for packet.now) }
     ensures { Built out.new (spec.Emits identification (Q.stands_for packet.now) destination.now (Ok tt)) context.old context.new }
@@ -255,6 +258,7 @@ fn emit_long_packet(
     packet: &Packet<'_>,
     out: &mut FrameBuffer,
 )
+    requires of_medium { IsOf context.old.capabilities.medium destination.now }
     requires empty { out.old ≡ [] }
     requires writable { IsWritable (value_of.packet packet.now) }
     requires long { ip_mtu_of context.old.capabilities < value.total_len (value_of.packet packet.now) }

@@ -1,6 +1,7 @@
 //! Fragmentation of packets that exceed the device's IP MTU (RFC 791 3.2).
 ghost use Rattle.std.specs.Prelude.{◌≡◌, ◌<◌, ◌≤◌, ◌+◌, false, [], length, Ok};
 ghost use Rattle.net_base.specs.Checksum.{ip_mtu_of};
+ghost use Rattle.ip_address.specs.Hardware.{IsOf};
 ghost use Rattle.fragmentation.specs.Cuts.{HasForm, pieces_of};
 ghost use Rattle.fragmentation.specs.Pending.{is_nil};
 ghost use Rattle.host_machine.specs.Host.{SocketSet, no_sockets, with_left};
@@ -29,6 +30,7 @@ pub(crate) fn emit_fragmented(
     packet: &PacketV4<IpPayload<'_>>,
     out: &mut FrameBuffer,
 )
+    requires of_medium { IsOf context.old.capabilities.medium destination.now }
     requires empty { out.old ≡ [] }
     requires writable { IsWritablePayload (value_of.payload packet.now.payload) }
     requires long { ip_mtu_of context.old.capabilities < value.total_len (value.Ipv4 (value_of.packet_v4 value_of.payload packet.now)) }
@@ -49,9 +51,11 @@ fn fragment_packet(
     packet: &PacketV4<IpPayload<'_>>,
     scratch: &mut FrameBuffer,
 )
+    requires of_medium { IsOf context.old.capabilities.medium destination.now }
     requires empty { scratch.old ≡ [] }
     requires writable { IsWritablePayload (value_of.payload packet.now.payload) }
     requires some { 20 < value.total_len (value.Ipv4 (value_of.packet_v4 value_of.payload packet.now)) }
+    requires long { ip_mtu_of context.old.capabilities < value.total_len (value.Ipv4 (value_of.packet_v4 value_of.payload packet.now)) }
     requires fits { value.total_len (value.Ipv4 (value_of.packet_v4 value_of.payload packet.now)) ≤ 4096 }
     ensures left { (sockets : SocketSet) → host_of context.new sockets ≡ with_left (host_of context.old sockets)
         (pieces_of (spec.datagram_of (host_of context.old sockets) destination.now identification (value_of.packet_v4 value_of.payload packet.now))) }

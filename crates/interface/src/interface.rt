@@ -87,9 +87,8 @@ impl Interface {
     ghost use Rattle.host_machine.specs.Ingress.{Ingress};
     ghost use Rattle.std.specs.Prelude.{ℤ};
     ghost use Rattle.std.specs.Borrow.{Bor};
-    ghost use Rattle.net_base.specs.Checksum.{ip_mtu_of};
     ghost use Rattle.socket_set.specs.SocketSet.{Sockets};
-    ghost use Rattle.host_machine.specs.Real.{IsReal};
+    ghost use Rattle.host_machine.specs.Real.{IsRegular};
     ghost use Rattle.host_machine.specs.Host.{Host, at, without_expired};
     ghost use Rattle.host_machine.specs.Egress.{Egress};
     ghost use Rattle.host_machine.specs.Multicast.{JoinsGroup, LeavesGroup};
@@ -168,10 +167,10 @@ impl Interface {
     }
 
     /// A lemma for proofs about an interface. Every host it stands for has the hardware addresses of its medium, of six
-    /// octets on Ethernet (RFC 894), and carries IP packets of 576 octets (RFC 791). It does nothing.
+    /// octets on Ethernet (RFC 894), and carries IP packets of 576 octets (RFC 791). Its pending fragments are parts of
+    /// packets, for such an address. It does nothing.
     pub fn is_on_its_medium(&self)
-        ensures real { (sockets : Sockets (Bor (Unit {0}))) (H : Host) → StandsFor self.now sockets H → IsReal H }
-        ensures mtu { (sockets : Sockets (Bor (Unit {0}))) (H : Host) → StandsFor self.now sockets H → 576 ≤ ip_mtu_of H.capabilities }
+        ensures { (sockets : Sockets (Bor (Unit {0}))) (H : Host) → StandsFor self.now sockets H → IsRegular H }
     {}
 
     /// A lemma for proofs about an interface: with any sockets there is a host that it stands for. So a clause about

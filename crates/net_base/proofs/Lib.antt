@@ -1,3 +1,4 @@
 pub mod KeptFrames
 pub mod MemoryMoves
 pub mod RangesLemmas
+mod FifthRange

@@ -4,4 +4,5 @@ pub mod MemoryDevice
 pub mod MemoryDeviceLaws
 pub mod Rand
 pub mod Ranges
+pub mod RangesLaws
 pub mod Time

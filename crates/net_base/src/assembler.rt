@@ -1,5 +1,6 @@
 //! Sets of covered offsets, such as those of the octets received of a datagram (RFC 791 3.2).
 ghost use Rattle.std.specs.Prelude.{◌≡◌, ◌↔◌, ◌≤◌, ◌<◌, ◌+◌, ℕ, ◌^◌, [], ◌∷◌, ◌++◌, IsTrue, false, IsOk, IsErr, IfOk, OnOk, OnErr, length, List};
+ghost use Rattle.net_base.specs.RangesLaws.{FifthTouchesNone};
 ghost use Rattle.net_base.specs.Ranges.{add_range, front, AreSeparate, range_union, places_before, IsMet, IsApart, IsUnion};
 
 use arrayvec::ArrayVec;
@@ -159,3 +160,9 @@ fn places_before(ranges: &[Range], start: usize) -> usize
     }
     ranges.len()
 }
+
+/// Of ranges that aren't empty, [`Assembler::add`] refuses exactly those that neither overlap nor touch any of four
+/// that are there.
+pub fn refused_touches_none()
+    ensures { FifthTouchesNone }
+{}

@@ -50,7 +50,7 @@ impl Owner for Idle {
 
 /// Adds a UDP socket that listens at a port of any address. If memory is refused, the set stays unchanged.
 fn add_udp(alloc: Global, sockets: &mut SocketSet<'_>, port: u16) -> Result<(), NoMemory>
-    ensures ok { OnOk result (sockets.new ≡ set_after_add sockets.old (Udp (listening_socket port))) }
+    ensures ok { OnOk result (sockets.new ≡ set_after_add sockets.old (Udp (listening_socket port)) sockets.new.room) }
     ensures err { OnErr result (sockets.new ≡ sockets.old) }
 {
     let endpoint = IpListenEndpoint { addr: None, port };

@@ -2,3 +2,4 @@ pub mod Busy
 pub mod Keys
 pub mod SocketMeta
 pub mod SocketSet
+pub mod Laws

@@ -12,16 +12,18 @@ pub record Storage (L : Type 0) : Type 0 where
   pub socket : Option (SocketOf L)
   pub wait : Wait
 
--- what stands at each place, the wait of each place's socket, and whether more places may be made
+-- what stands at each place, the wait of each place's socket, whether more places may be made, and for how many of them memory is
+-- reserved
 pub record Sockets (L : Type 0) : Type 0 where
   pub places : List (Option (SocketOf L))
   pub waits : List Wait
   pub grows : Bool
+  pub room : ℕ
 
 module _ {L : Type 0} where
   -- a set over these places
-  abbrev pub over : List (Storage L) → Bool → Sockets L
-  over stored grows = record { places = map (λ p. p.socket) stored; waits = map (λ p. p.wait) stored; grows = grows }
+  abbrev pub over : List (Storage L) → Bool → ℕ → Sockets L
+  over stored grows room = record { places = map (λ p. p.socket) stored; waits = map (λ p. p.wait) stored; grows = grows; room = room }
 
   -- the socket at an index, if there is one
   abbrev pub socket_at : Sockets L → ℕ → Option (SocketOf L)
@@ -56,12 +58,12 @@ module _ {L : Type 0} where
   abbrev pub with_wait : Sockets L → ℕ → Wait → Sockets L
   with_wait s i wait = record s { waits = slice_set s.waits i wait }
 
-  -- the set with a socket at the least free index, or at a new one behind all; it does not wait
-  abbrev pub set_after_add : Sockets L → SocketOf L → Sockets L
-  set_after_add s socket =
+  -- the set with a socket at the least free index, or at a new one behind all, for which memory may be reserved; it does not wait
+  abbrev pub set_after_add : Sockets L → SocketOf L → (room : ℕ) → Sockets L
+  set_after_add s socket room =
       if has_free s
       then with_wait (with_place s (first_free s.places) (Some socket)) (first_free s.places) None
-      else record s { places = s.places ++ Some socket ∷ []; waits = s.waits ++ None ∷ [] }
+      else record s { places = s.places ++ Some socket ∷ []; waits = s.waits ++ None ∷ []; room = room }
 
   -- the list with the socket of index i in front, if there is one
   abbrev pub with_pair : ℕ → Option (SocketOf L) → List (ℕ × SocketOf L) → List (ℕ × SocketOf L)

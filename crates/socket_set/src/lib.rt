@@ -5,6 +5,7 @@ pub mod busy;
 pub mod by_index;
 pub mod iter;
 pub mod keys;
+pub mod laws;
 pub mod socket_meta;
 pub mod socket_set;
 

@@ -1,5 +1,5 @@
 //! Sets of sockets, each with a handle.
-ghost use Rattle.std.specs.Prelude.{◌≡◌, ◌≢◌, ◌<◌, ◌≤◌, ℕ, Bool, true, false, not, Some, None, IsOk, IsErr, IsSome, IsNone, IfSome, IfOk, IfErr, OnOk, OnErr, is_some, length, map};
+ghost use Rattle.std.specs.Prelude.{◌≡◌, ◌≢◌, ◌<◌, ◌≤◌, ℕ, Bool, true, false, not, Some, None, IsOk, IsErr, IsSome, IsNone, IfSome, IfOk, IfErr, OnOk, OnErr, is_some, length, map, vec_capacity};
 ghost use Rattle.std.specs.Option.{option_copied, option_copied_mut, option_and_then};
 ghost use Rattle.net_base.specs.Time.{IsMoment, silence_from};
 ghost use Rattle.sockets.specs.Kinds.{own_port, poll_at as own_poll_at};
@@ -215,7 +215,7 @@ impl fmt::Display for SocketHandle {
 /// A set of sockets, with their lifetime as a type parameter.
 ///
 /// In contracts it is the list of what stands at each place, the list of the waits of the sockets
-/// there, and whether more places may be made.
+/// there, whether more places may be made, and for how many of them memory is reserved.
 #[derive(Drop)]
 pub struct SocketSetOf<L> {
     sockets: Vec<SocketStorageOf<L>>,
@@ -230,19 +230,19 @@ pub struct SocketSetOf<L> {
 pub type SocketSet<'a> = SocketSetOf<&'a ()>;
 
 impl<L> Model for SocketSetOf<L> {
-    ghost use Rattle.std.specs.Prelude.{◌≡◌, false};
+    ghost use Rattle.std.specs.Prelude.{◌≡◌, false, vec_capacity};
     ghost use Rattle.socket_set.specs.Busy.{AreTrue};
     ghost use Rattle.socket_set.specs.Keys.{AllHavePorts, AreKeysOf};
     ghost use Rattle.socket_set.specs.SocketSet.{Sockets, over};
 
     ghost Value = { Sockets L };
 
-    ghost view = { λ s. over s.sockets.items s.grows };
+    ghost view = { λ s. over s.sockets.items s.grows (vec_capacity s.sockets) };
 
     // Where a mark is clear, the place is idle; each key that isn't 0 is that of its place's socket; and where no socket
     // without ports may be there, none is.
-    ghost invariant = { λ s. AreTrue s.busy (over s.sockets.items s.grows) × AreKeysOf s.keys (over s.sockets.items s.grows)
-        × (s.portless ≡ false → AllHavePorts (over s.sockets.items s.grows)) };
+    ghost invariant = { λ s. AreTrue s.busy (over s.sockets.items s.grows (vec_capacity s.sockets)) × AreKeysOf s.keys (over s.sockets.items s.grows (vec_capacity s.sockets))
+        × (s.portless ≡ false → AllHavePorts (over s.sockets.items s.grows (vec_capacity s.sockets))) };
 }
 
 /// Why a socket found no place. Both give it back. They print as their names.
@@ -279,7 +279,7 @@ impl<T: Drop> error::Error for AddError<T> {}
 impl<L: Drop> SocketSetOf<L> {
     /// A set over these places, which makes more of them where none is free.
     pub fn new(sockets: Vec<SocketStorageOf<L>>) -> SocketSetOf<L>
-        ensures { result ≡ over sockets.items true }
+        ensures { result ≡ over sockets.items true (vec_capacity sockets) }
     {
         let keys = Keys::of(sockets.len());
         let portless = has_portless(sockets.as_slice());
@@ -294,7 +294,7 @@ impl<L: Drop> SocketSetOf<L> {
 
     /// A set over these places, which never makes more of them.
     pub fn fixed(sockets: Vec<SocketStorageOf<L>>) -> SocketSetOf<L>
-        ensures { result ≡ over sockets.items false }
+        ensures { result ≡ over sockets.items false (vec_capacity sockets) }
     {
         let keys = Keys::of(sockets.len());
         let portless = has_portless(sockets.as_slice());
@@ -315,12 +315,14 @@ impl<L: Drop> SocketSetOf<L> {
 
     /// Puts a socket at the least free index, else at a new one behind all, and names it. Where no
     /// index is free: `Full` if the set never grows, `NoMemory` if the memory for another place was
-    /// refused. Both give the socket back, and then the set stays as it was.
+    /// refused. Both give the socket back, and then the set stays as it was. Where an index is free it takes no
+    /// memory, and where memory for another one is reserved it isn't refused.
     pub fn add<T: AnySocketOf<L>>(&mut self, socket: T) -> Result<SocketHandle, AddError<T>>
         ensures free { has_free self.old ≡ true → IsOk result }
+        ensures reserved { self.old.grows ≡ true → length self.old.places < self.old.room → IsOk result }
         ensures full { has_free self.old ≡ false → self.old.grows ≡ false → IsErr result }
         ensures handle { IfOk result (λ h. h ≡ first_free self.old.places) }
-        ensures added { OnOk result (self.new ≡ set_after_add self.old (T.up socket)) }
+        ensures added { OnOk result (self.new ≡ set_after_add self.old (T.up socket) self.new.room) }
         ensures kind { IfErr result (λ e. is_full e ≡ not self.old.grows) }
         ensures given_back { IfErr result (λ e. given_back e ≡ socket) }
         ensures unchanged { OnErr result (self.new ≡ self.old) }
@@ -602,7 +604,7 @@ impl<L: Drop> SocketSetOf<L> {
 
 // Whether some socket is of a kind without ports.
 fn has_portless<L: Drop>(places: &[SocketStorageOf<L>]) -> bool
-    ensures { result ≡ false → AllHavePorts (over places.now false) }
+    ensures { result ≡ false → AllHavePorts (over places.now false 0) }
 {
     for index in 0..places.len() {
         if places[index].is_portless() {

@@ -21,4 +21,4 @@ pub returns : goal.returns
 returns g c = λ H h.
     let commands : take c.loop-i.i c.args.commands.now ≡ c.args.commands.now = take_all c.loop-i.i c.args.commands.now (omega arith) in
     let answers : take c.loop-i.i c.loop-i.answers ≡ c.loop-i.answers = take_all c.loop-i.i c.loop-i.answers (omega arith) in
-    driven g.D.Device.tells g.O.Owner.did (rw (commands, answers) at (c.loop-i.invariant H h))
+    driven g.D.Device.tells g.O.Owner.did (c.is_on_its_medium.ensures c.args.sockets.now H h) (rw (commands, answers) at (c.loop-i.invariant H h))

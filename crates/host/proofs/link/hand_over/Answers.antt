@@ -11,4 +11,4 @@ returns-clause-done g c =
     let at : sent_since c.args.before c.args.from.now c.args.k ≡ Some c.in-Some.frame.now = c.in-Some.ensures in
     OneFrame c.in-Some.frame.now c.run.result at
     (subst (λ (d : Memory). CommandGoes Tells g.O.Owner.did d c.run.new.host.device c.args.to.now.owner c.run.new.host.owner (PollIngressSingle c.args.timestamp) c.run.result (StandsFor c.args.to.now.interface c.args.to.now.sockets) (StandsFor c.run.new.host.interface c.run.new.host.sockets))
-    c.in_ok-push.ensures.ok c.run.ensures.goes)
+    c.in_ok-push.ensures.ok c.run.ensures)

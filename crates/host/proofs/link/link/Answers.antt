@@ -4,7 +4,7 @@ use Rattle.std.proofs.lemmas.List.{take_more, take_all}
 use Rattle.std.proofs.lemmas.Option.{slice_get-get_or}
 use Rattle.host.specs.declared.link.LinkError.TheVariants.{NoMemory}
 use Rattle.host.specs.Link.{Goes, Copies, All, Before}
-use Rattle.host.proofs.LinkSteps.{fit, goes_none, goes_on, link_went, no_error, an_error}
+use Rattle.host.proofs.LinkSteps.{goes_none, goes_on, link_went, no_error, an_error}
 use Rattle.host.proofs.link.link.Goals as goal
 
 pub loop-i-init : goal.loop-i-init
@@ -26,10 +26,10 @@ returns-then-is_err g c =
     an_error c.link_step.result (Copies c.frames_sent-sent_by_a.result c.frames_sent-sent_by_b.result c.index-steps-i.result c.loop-i.a.device c.loop-i.b.device) c.if-is_err.ensures.value c.link_step.ensures.refused in
     let there : slice_get c.args.steps.now c.loop-i.i ≡ Some c.index-steps-i.result = rw (← c.index-steps-i.is) at (slice_get-get_or c.args.steps.now c.loop-i.i c.index-steps-i.result c.loop-i-test.true) in
     rw (same_a, same_b) (link_went g.OA.Owner.did g.OB.Owner.did c.frames_sent-sent_by_a.result c.frames_sent-sent_by_b.result c.args.steps.now (take c.loop-i.i c.args.steps.now) (Err (NoMemory c.loop-i.i))
-    c.args.a.now c.loop-i.a c.args.b.now c.loop-i.b c.frames_sent-sent_by_a.ensures c.frames_sent-sent_by_b.ensures c.requires.a_waits c.requires.b_waits (fit c.args.a.now c.is_on_its_medium.ensures.real c.is_on_its_medium.ensures.mtu) (fit c.args.b.now c.is_on_its_medium-2.ensures.real c.is_on_its_medium-2.ensures.mtu) (Before c.loop-i.i c.index-steps-i.result there copies) c.loop-i.invariant)
+    c.args.a.now c.loop-i.a c.args.b.now c.loop-i.b c.frames_sent-sent_by_a.ensures c.frames_sent-sent_by_b.ensures c.requires.a_waits c.requires.b_waits c.is_on_its_medium.ensures c.is_on_its_medium-2.ensures (Before c.loop-i.i c.index-steps-i.result there copies) c.loop-i.invariant)
 
 pub returns : goal.returns
 returns g c =
     let all : take c.loop-i.i c.args.steps.now ≡ c.args.steps.now = take_all c.loop-i.i c.args.steps.now (omega arith) in
     link_went g.OA.Owner.did g.OB.Owner.did c.frames_sent-sent_by_a.result c.frames_sent-sent_by_b.result c.args.steps.now c.args.steps.now (Ok tt)
-    c.args.a.now c.loop-i.a c.args.b.now c.loop-i.b c.frames_sent-sent_by_a.ensures c.frames_sent-sent_by_b.ensures c.requires.a_waits c.requires.b_waits (fit c.args.a.now c.is_on_its_medium.ensures.real c.is_on_its_medium.ensures.mtu) (fit c.args.b.now c.is_on_its_medium-2.ensures.real c.is_on_its_medium-2.ensures.mtu) All (rw all at c.loop-i.invariant)
+    c.args.a.now c.loop-i.a c.args.b.now c.loop-i.b c.frames_sent-sent_by_a.ensures c.frames_sent-sent_by_b.ensures c.requires.a_waits c.requires.b_waits c.is_on_its_medium.ensures c.is_on_its_medium-2.ensures All (rw all at c.loop-i.invariant)

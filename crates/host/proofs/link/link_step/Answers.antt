@@ -4,10 +4,10 @@ use Rattle.host.proofs.LinkSteps.{if_done, on_a, on_b, to_a, to_b}
 use Rattle.host.proofs.link.link_step.Goals as goal
 
 pub returns-in-A-clause-done : goal.returns-in-A-clause-done
-returns-in-A-clause-done g c = on_a g.OA.Owner.did g.OB.Owner.did c.args.sent_by_a c.args.sent_by_b c.args.a.now c.run.new.host c.args.b.now c.args.step.now c.in-A.command c.run.result c.in-A.is c.run.ensures.six c.run.ensures.goes
+returns-in-A-clause-done g c = on_a g.OA.Owner.did g.OB.Owner.did c.args.sent_by_a c.args.sent_by_b c.args.a.now c.run.new.host c.args.b.now c.args.step.now c.in-A.command c.run.result c.in-A.is c.run.ensures
 
 pub returns-in-B-clause-done : goal.returns-in-B-clause-done
-returns-in-B-clause-done g c = on_b g.OA.Owner.did g.OB.Owner.did c.args.sent_by_a c.args.sent_by_b c.args.a.now c.args.b.now c.run-in-B.new.host c.args.step.now c.in-B.command c.run-in-B.result c.in-B.is c.run-in-B.ensures.six c.run-in-B.ensures.goes
+returns-in-B-clause-done g c = on_b g.OA.Owner.did g.OB.Owner.did c.args.sent_by_a c.args.sent_by_b c.args.a.now c.args.b.now c.run-in-B.new.host c.args.step.now c.in-B.command c.run-in-B.result c.in-B.is c.run-in-B.ensures
 
 pub returns-in-ToA-clause-done : goal.returns-in-ToA-clause-done
 returns-in-ToA-clause-done g c = if_done c.hand_over.result

@@ -1,7 +1,16 @@
 use Rattle.std.proofs.Common.{refl, sym, ◌∙◌}
+use Rattle.host_machine.specs.Host.{no_sockets}
 use Rattle.host_machine.specs.Dispatch.{Known, Silent, Unknown}
+use Rattle.host_machine.proofs.Walk.{ByNeighbor}
+use Rattle.host_machine.proofs.SentPieces.{reached_of}
+use Rattle.iface_send.specs.Stands.{host_of}
 use Rattle.iface_send.proofs.Building.{unsent, nothing, by_rule}
 use Rattle.iface_send.proofs.dispatch.dispatch_by_hop.Goals as goal
+
+pub emit_packet-requires-clause-of_medium : goal.emit_packet-requires-clause-of_medium
+emit_packet-requires-clause-of_medium g c =
+    let k = c.args.context.now in
+    reached_of (host_of k no_sockets) c.in-Found.destination (record { own = k.own; neighbors = k.neighbors }) (ByNeighbor c.args.hop.now (sym c.lookup.ensures ∙ c.in-Found.is))
 
 pub returns-in-Found : goal.returns-in-Found
 returns-in-Found g c = by_rule c.emit_packet.ensures (λ slots sockets frames notes emits. Known c.in-Found.destination (sym c.lookup.ensures ∙ c.in-Found.is) emits)

@@ -40,4 +40,5 @@ invariant_of-context c =
       of_medium = k.of_medium;
       own = k.own;
       neighbors = rw c.limit_rate.ensures k.neighbors;
+      pending = k.pending;
     }

@@ -12,4 +12,5 @@ invariant_of-context c =
       of_medium = k.of_medium;
       own = k.own;
       neighbors = c.reset_expiry_if_existing.ensures.of k.capabilities.medium k.neighbors;
+      pending = k.pending;
     }

@@ -12,4 +12,5 @@ invariant_of-result c =
       of_medium = c.requires.of_medium;
       own = c.requires.own;
       neighbors = c.new-3.ensures.of c.args.capabilities.medium;
+      pending = search rules;
     }

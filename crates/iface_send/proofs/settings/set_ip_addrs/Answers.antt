@@ -15,4 +15,5 @@ invariant_of-context-2 c =
       of_medium = k.of_medium;
       own = k.own;
       neighbors = c.flush.ensures.of k.capabilities.medium;
+      pending = k.pending;
     }
