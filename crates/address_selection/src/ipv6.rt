@@ -95,8 +95,8 @@ fn is_candidate(cidr: &Ipv6Cidr, dst_addr: &Ipv6Address) -> bool
 fn is_preferred(a: &Ipv6Cidr, b: &Ipv6Cidr, dst_addr: &Ipv6Address) -> bool
     ensures { result ≡ spec.is_preferred a.now b.now dst_addr.now }
 {
-    let a_is_same = a.address.bits == dst_addr.bits;
-    let b_is_same = b.address.bits == dst_addr.bits;
+    let a_is_same = a.address == *dst_addr;
+    let b_is_same = b.address == *dst_addr;
     if a_is_same != b_is_same {
         return a_is_same;
     }

@@ -94,20 +94,19 @@ pub enum Icmpv4Repr {
 }
 
 impl Icmpv4Repr {
-    /// Parses fewer than 65,536 octets as a message. Returns it and its data.
+    /// Parses octets as a message. Returns it and its data.
     ///
     /// `None` exactly in these cases:
     ///
-    /// - there are fewer than 8 octets;
+    /// - there are fewer than 8 octets, or more than the 65,535 that a packet can carry;
     /// - they are an echo message with a code other than 0, an error that quotes no IPv4 header, or a message of
     ///   another type;
     /// - with `checked`, the checksum over all of them is wrong.
     #[inline(always)]
     pub fn parse(octets: &[u8], checked: bool) -> Option<(Icmpv4Repr, &[u8])>
-        requires { length octets.now < 2 ^ 16 }
-        ensures { SomeIff (option_map spec.parts result) (spec.IsIcmpv4 checked octets.now) (spec.icmpv4_in octets.now) }
+        ensures { SomeIff (option_map spec.parts result) ((length octets.now < 2 ^ 16) × spec.IsIcmpv4 checked octets.now) (spec.icmpv4_in octets.now) }
     {
-        if octets.len() < HEADER_LEN {
+        if octets.len() < HEADER_LEN || octets.len() > 0xffff {
             return None;
         }
         if checked && sum_with(0, octets) != 0xffff {

@@ -6,7 +6,6 @@ ghost use Rattle.egress_schedule.specs.Turns as turns;
 
 use ip_wire::IpAddress;
 use net_base::time::{Duration, Instant};
-use sockets::endpoint::is_same_addr;
 
 /// A wait for a neighbour.
 #[derive(Clone, Copy, Debug, PartialEq, Eq)]
@@ -73,7 +72,7 @@ fn since(neighbor: &IpAddress, now: Instant, before: Option<Waiting>) -> Instant
     match before {
         None => now,
         Some(before) => {
-            if is_same_addr(&before.neighbor, neighbor) {
+            if before.neighbor == *neighbor {
                 before.since
             } else {
                 now
@@ -127,8 +126,6 @@ pub(crate) fn is_given_up(
 {
     match unreachable {
         None => waiting.is_at_end(patience, now),
-        Some(unreachable) => {
-            waiting.is_at_end(patience, now) || is_same_addr(&unreachable, &waiting.neighbor)
-        }
+        Some(unreachable) => { waiting.is_at_end(patience, now) || unreachable == waiting.neighbor }
     }
 }

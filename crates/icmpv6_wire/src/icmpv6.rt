@@ -165,12 +165,11 @@ pub enum Icmpv6Repr {
 }
 
 impl Icmpv6Repr {
-    /// Parses fewer than 65,536 octets as a message. Returns it and its data. `src` and `dst` are the packet's
-    /// addresses.
+    /// Parses octets as a message. Returns it and its data. `src` and `dst` are the packet's addresses.
     ///
     /// `None` exactly in these cases:
     ///
-    /// - there are fewer than 8 octets;
+    /// - there are fewer than 8 octets, or more than the 65,535 that a packet can carry;
     /// - they are a message other than an error with a code other than 0, an error that quotes no IPv6 header, or a
     ///   message of another type;
     /// - they are a message of neighbour or router discovery that is cut off or has invalid options (RFC 4861 6.1,
@@ -183,10 +182,9 @@ impl Icmpv6Repr {
         dst: &IpAddress,
         checked: bool,
     ) -> Option<(Icmpv6Repr, &'a [u8])>
-        requires { length octets.now < 2 ^ 16 }
-        ensures { SomeIff (option_map spec.parts result) (spec.IsIcmpv6 checked src.now dst.now octets.now) (spec.icmpv6_in octets.now) }
+        ensures { SomeIff (option_map spec.parts result) ((length octets.now < 2 ^ 16) × spec.IsIcmpv6 checked src.now dst.now octets.now) (spec.icmpv6_in octets.now) }
     {
-        if !is_sound(octets, src, dst, checked) {
+        if octets.len() > 0xffff || !is_sound(octets, src, dst, checked) {
             return None;
         }
         parse_sound(octets)

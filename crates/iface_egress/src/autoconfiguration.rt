@@ -19,11 +19,6 @@ use net_base::phy::Device;
 use net_base::time::Instant;
 use sockets::SocketContext;
 
-/// The all-routers address of the link, ff02::2 (RFC 4291 2.7.1).
-const ALL_ROUTERS: Ipv6Address = Ipv6Address {
-    bits: 0xff02_0000_0000_0000_0000_0000_0000_0002,
-};
-
 /// Sends the router solicitation that is due, if any, if the device grants a transmit token. With a token it counts as
 /// sent, whatever came of it; without a token it stays due.
 pub fn ndisc_rs_egress<D: Device>(context: &mut Context, device: &mut D, out: &mut FrameBuffer)
@@ -102,7 +97,7 @@ fn solicitation_from(own: EthernetAddress, source: Ipv6Address) -> Packet<'stati
     let message = RouterRepr::RouterSolicit { lladdr: Some(own) };
     Packet::Ipv6(PacketV6 {
         src_addr: source,
-        dst_addr: ALL_ROUTERS,
+        dst_addr: Ipv6Address::LINK_LOCAL_ALL_ROUTERS,
         hop_limit: 255,
         payload: IpPayload::Icmpv6(Icmpv6Repr::Router(message), &[]),
     })

@@ -31,14 +31,6 @@ use net_base::phy::Device;
 use net_base::time::Instant;
 use sockets::SocketContext;
 
-/// The all-routers group, 224.0.0.2 (RFC 1112).
-const ALL_ROUTERS: Ipv4Address = Ipv4Address { bits: 0xe000_0002 };
-
-/// The group of all MLDv2 routers, ff02::16 (RFC 3810 5.2.14).
-const MLD_ROUTERS: Ipv6Address = Ipv6Address {
-    bits: 0xff02_0000_0000_0000_0000_0000_0000_0016,
-};
-
 /// The length of the records of a report of eight groups, in octets.
 const RECORDS_LEN: usize = 160;
 
@@ -202,7 +194,7 @@ fn send_leave<D: Device>(
     match group {
         IpAddress::Ipv4(group) => {
             let message = IgmpRepr::LeaveGroup { group_addr: *group };
-            let packet = igmp_packet(context, ALL_ROUTERS, message);
+            let packet = igmp_packet(context, Ipv4Address::MULTICAST_ALL_ROUTERS, message);
             send_if_some(context, device, out, &packet)
         }
         IpAddress::Ipv6(group) => {
@@ -289,7 +281,7 @@ fn mld_packet<'p>(context: &Context, count: u16, records: &'p [u8]) -> Packet<'p
 {
     Packet::Ipv6(PacketV6 {
         src_addr: mld_source(context),
-        dst_addr: MLD_ROUTERS,
+        dst_addr: Ipv6Address::LINK_LOCAL_ALL_MLDV2_ROUTERS,
         hop_limit: 1,
         payload: IpPayload::Mld(count, records),
     })

@@ -17,9 +17,6 @@ use ip_wire::{IpAddress, Ipv4Address, Ipv4Repr};
 use net_base::time::Duration;
 use sockets::SocketContext;
 
-/// The all-hosts group, 224.0.0.1 (RFC 1112 4).
-const ALL_SYSTEMS: Ipv4Address = Ipv4Address { bits: 0xe000_0001 };
-
 /// Processes the payload of a packet with this header as an IGMP message. A query for all groups of the interface or
 /// for one of them schedules delayed reports, which replace those scheduled before. Nothing else has an effect, and
 /// nothing is sent immediately.
@@ -98,7 +95,9 @@ fn igmp_interval_for(version: IgmpVersion, time: Duration, count: usize) -> Dura
 fn is_igmp_general(context: &Context, dst_addr: &Ipv4Address, group: &Ipv4Address) -> bool
     ensures { result ≡ spec.is_igmp_general (host_of context.now no_sockets) dst_addr.now group.now }
 {
-    group.is_unspecified() && dst_addr.bits == ALL_SYSTEMS.bits && context.groups().ipv4_count() > 0
+    group.is_unspecified()
+        && dst_addr.bits == Ipv4Address::MULTICAST_ALL_SYSTEMS.bits
+        && context.groups().ipv4_count() > 0
 }
 
 /// Whether a query is for one group of the interface: it names the group, which is also its destination.

@@ -122,7 +122,7 @@ fn is_for(context: &Context, destination: &EthernetAddress) -> bool
 {
     match context.hardware_addr() {
         HardwareAddress::Ethernet(own) => {
-            destination.is_broadcast() || destination.is_multicast() || destination.is_same(&own)
+            destination.is_broadcast() || destination.is_multicast() || *destination == own
         }
         HardwareAddress::Ip => false,
     }

@@ -1,10 +1,12 @@
 -- Packets as values, apart from where their octets are in memory.
-use Rattle.std.specs.Prelude.{ℕ, List, [], Some, drop}
+use Rattle.std.specs.Prelude.{ℕ, ◌%◌, ◌^◌, List, [], Some, drop}
 use Rattle.control_wire.specs.declared.icmpv4.Icmpv4Repr.TheVariants as icmpv4
 use Rattle.icmpv6_wire.specs.declared.icmpv6.Icmpv6Repr.TheVariants as icmpv6
 use Rattle.icmpv6_wire.specs.declared.ndisc.NdiscRepr.TheVariants as ndisc
 use Rattle.control_wire.specs.Icmpv4.{echo_reply_to}
 use Rattle.icmpv6_wire.specs.Icmpv6 as v6
+use Rattle.ip_wire.specs.declared.ip_packet.IpRepr.{IpRepr}
+use Rattle.ip_wire.specs.declared.ip_packet.IpRepr.TheVariants as repr
 use Rattle.host_machine.specs.Packet as value
 use Rattle.iface_send.specs.declared.payload.IpPayload.{IpPayload}
 use Rattle.iface_send.specs.declared.payload.IpPayload.TheVariants.{Icmpv4, Icmpv6, Udp, Tcp, Raw, Igmp, Mld}
@@ -76,3 +78,8 @@ packet_v6 carried p = record { src_addr = p.src_addr; dst_addr = p.dst_addr; hop
 abbrev pub packet : Packet → value.Packet
 packet (Ipv4 p) = value.Ipv4 (packet_v4 payload p)
 packet (Ipv6 p) = value.Ipv6 (packet_v6 payload p)
+
+-- a header whose payload's length is as the field of 16 bits has it
+abbrev pub with_field_len : IpRepr → IpRepr
+with_field_len (repr.Ipv4 r) = repr.Ipv4 (record r { payload_len = r.payload_len % 2 ^ 16 })
+with_field_len (repr.Ipv6 r) = repr.Ipv6 (record r { payload_len = r.payload_len % 2 ^ 16 })

@@ -21,7 +21,6 @@ use net_base::rand::Rand;
 use net_base::time::{Duration, Instant};
 use slaac::Slaac;
 use sockets::SocketContext;
-use sockets::endpoint::is_same_addr;
 
 /// The maximum number of addresses of an interface.
 pub const IFACE_MAX_ADDR_COUNT: usize = 4;
@@ -189,7 +188,7 @@ impl Context {
         ensures { result ≡ addresses.has_multicast_group (host_of self.now no_sockets) address.now }
     {
         let is_member_always = match address {
-            IpAddress::Ipv4(address) => address.bits == 0xe000_0001,
+            IpAddress::Ipv4(address) => address.bits == Ipv4Address::MULTICAST_ALL_SYSTEMS.bits,
             IpAddress::Ipv6(address) => {
                 address.bits == Ipv6Address::LINK_LOCAL_ALL_NODES.bits
                     || self.has_solicited_node(address)
@@ -393,8 +392,7 @@ fn is_asked_by(cidr: &IpCidr, address: &Ipv6Address) -> bool
 fn is_assigned(own: &[IpCidr], address: &IpAddress) -> bool
     ensures { result ≡ is_assigned own.now address.now }
 {
-    own.iter()
-        .any(|cidr| is_same_addr(&cidr.address(), address))
+    own.iter().any(|cidr| cidr.address() == *address)
 }
 
 /// Whether an address is the broadcast address of a network in a list.

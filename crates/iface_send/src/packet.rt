@@ -1,11 +1,10 @@
 //! Packets to send: their values, with their octets borrowed from where they came from, and their frames, which are
 //! appended to a buffer.
-ghost use Rattle.std.specs.Prelude.{◌≡◌, ◌+◌, ◌-◌, ◌*◌, ◌<◌, ◌≤◌, ◌^◌, ◌++◌, [], length, min};
+ghost use Rattle.std.specs.Prelude.{◌≡◌, ◌+◌, ◌-◌, ◌*◌, ◌%◌, ◌<◌, ◌≤◌, ◌^◌, ◌++◌, [], length, min};
 ghost use Rattle.host_machine.specs.Frame.{arp_frame, ethertype_of, link_header, packet_text};
 ghost use Rattle.host_machine.specs.Packet.{IsFormed, IsWritable, total_len};
 ghost use Rattle.host_machine.specs.Packet as value;
 ghost use Rattle.host_machine.specs.Dispatch.{destination_of};
-ghost use Rattle.ip_wire.specs.IpPacket.{TellsLength};
 ghost use Rattle.ip_wire.specs.declared.ip_packet.IpRepr.TheVariants as repr;
 ghost use Rattle.iface_send.specs.PacketValues as value_of;
 
@@ -175,14 +174,26 @@ impl<'p> Packet<'p> {
         })
     }
 
-    /// The header's values. At most 65,535 octets are allowed: for IPv4 with the header, for IPv6 without it.
+    /// The header's values. A payload that is longer than a packet can carry has its length modulo 2^16 there, as in
+    /// the field of 16 bits.
     pub fn ip_repr(&self) -> IpRepr
-        requires { TellsLength (value.header_of (value_of.packet self.now)) }
-        ensures { result ≡ value.header_of (value_of.packet self.now) }
+        ensures { result ≡ value_of.with_field_len (value.header_of (value_of.packet self.now)) }
     {
         match self {
-            Packet::Ipv4(packet) => IpRepr::Ipv4(packet.header()),
-            Packet::Ipv6(packet) => IpRepr::Ipv6(packet.header()),
+            Packet::Ipv4(packet) => IpRepr::Ipv4(Ipv4Repr {
+                src_addr: packet.src_addr,
+                dst_addr: packet.dst_addr,
+                next_header: packet.payload.protocol(),
+                payload_len: field_len(packet.payload.len()),
+                hop_limit: packet.hop_limit,
+            }),
+            Packet::Ipv6(packet) => IpRepr::Ipv6(Ipv6Repr {
+                src_addr: packet.src_addr,
+                dst_addr: packet.dst_addr,
+                next_header: packet.payload.protocol(),
+                payload_len: field_len(packet.payload.len()),
+                hop_limit: packet.hop_limit,
+            }),
         }
     }
 
@@ -326,14 +337,20 @@ impl AnyPacket for Packet<'_> {
     }
 }
 
+/// A length as a field of 16 bits has it.
+fn field_len(len: usize) -> u16
+    ensures { result ≡ len % 2 ^ 16 }
+{
+    (len % (1 << 16)) as u16
+}
+
 /// How many octets of a payload of `len` octets an ICMP error quotes, so that the error is at most `mtu` octets long.
-/// The error also has an IP header of `header_len` octets, the 8 octets of the message, and the quoted header; these
-/// must fit (RFC 1122 3.2.2, RFC 4443 2.4).
+/// The error also has an IP header of `header_len` octets, the 8 octets of the message, and the quoted header; where
+/// these don't leave room, none are quoted (RFC 1122 3.2.2, RFC 4443 2.4).
 pub fn icmp_reply_payload_len(len: usize, mtu: usize, header_len: usize) -> usize
-    requires { header_len * 2 + 8 ≤ mtu }
     ensures { result ≡ min (mtu - (header_len * 2 + 8)) len }
 {
-    let most = mtu - (header_len * 2 + 8);
+    let most = mtu.saturating_sub(header_len.saturating_mul(2).saturating_add(8));
     if len < most { len } else { most }
 }
 

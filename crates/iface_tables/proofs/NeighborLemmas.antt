@@ -1,5 +1,5 @@
 -- The lists of neighbours, as the finite maps that they make.
-use Rattle.std.proofs.Common.{◌≡◌, ◌≢◌, ℕ, ◌<◌, ◌≤◌, List, [], ◌∷◌, ◌++◌, length, get_or, refl, sym, ap, subst, ◌∙◌, arith, suc}
+use Rattle.std.proofs.Common.{rules, ◌≡◌, ◌≢◌, ℕ, ◌<◌, ◌≤◌, List, [], ◌∷◌, ◌++◌, length, get_or, refl, sym, ap, subst, ◌∙◌, arith, suc}
 use Rattle.std.proofs.lemmas.Bool.Decides.{nat_tests}
 use Rattle.ip_address.specs.Hardware.{IsOf}
 use Rattle.std.specs.Prelude.{IfSome, Option, is_some, slice_get, nat_lt, IsTrue, if◌then◌else◌, Bool, ◌==◌, ℤ, pos, ◌≤ℤ◌, true, false, cond, Some, None}
@@ -16,10 +16,19 @@ use Rattle.iface_tables.specs.Entries.{index_of}
 use Rattle.iface_tables.specs.Neighbor.{AreOf, HasPlace, Neighbors, Puts, IsKept, IsLeastEnd, IsSettled, is_same, after_renewal, renewed_from}
 use Rattle.net_base.specs.declared.phy.Medium.{Medium}
 use Rattle.ip_address.specs.declared.ip.IpAddress.{IpAddress}
+use Rattle.ip_address.specs.contracts.hardware.HardwareAddressPartialEq.TheImpl as hardware_eq
 use Rattle.ip_address.specs.declared.hardware.HardwareAddress.{HardwareAddress}
+use Rattle.ip_address.specs.declared.hardware.HardwareAddress.TheVariants.{Ip, Ethernet}
 use Rattle.iface_tables.specs.declared.neighbor.Neighbor.{Neighbor}
 use Rattle.iface_tables.proofs.EntriesLemmas.{index_of-le, find-absent, find-there, key-there, from_entries-remove, from_entries-put, len-from_entries, distinct_after-remove, distinct_after-put, find-at, absent_after-remove, put_over, tied_itself}
 use Rattle.iface_tables.proofs.SettleLemmas.{element_of, taken, remove_last}
+
+-- `==` of hardware addresses is their equality
+pub eq_is_same : (a b : HardwareAddress) → hardware_eq.ghosts.eq a b ≡ is_same a b
+eq_is_same Ip Ip = refl
+eq_is_same Ip (Ethernet b) = refl
+eq_is_same (Ethernet a) Ip = refl
+eq_is_same (Ethernet a) (Ethernet b) = search rules
 
 pub address_total : IsTotalOrder address_cmp
 address_total = then_total (on_total (λ a. (address_key a).0) nat_cmp_total) (on_total (λ a. (address_key a).1) nat_cmp_total)

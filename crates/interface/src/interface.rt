@@ -360,7 +360,7 @@ impl Interface {
     pub fn update_ip_addrs<F>(&mut self, f: F) -> Result<(), AddrError>
     where
         F: FnOnce(ArrayVec<IpCidr, IFACE_MAX_ADDR_COUNT>) -> ArrayVec<IpCidr, IFACE_MAX_ADDR_COUNT>,
-        requires { F.IsAlwaysCallable f }
+        requires { (given : Addresses) → ((sockets : SocketSet) → given.items ≡ (host_with self.old sockets).ip_addrs) → F.pre f given }
         ensures { (given : Addresses) × (list : Addresses) × F.post f given list
             × ((sockets : SocketSet) → given.items ≡ (host_with self.old sockets).ip_addrs) × Follows self.old self.new (UpdatesIpAddrs list.items result) }
     {

@@ -1,12 +1,14 @@
 //! Ethernet addresses (IEEE 802.3).
 ghost use Rattle.std.specs.Prelude.{◌≡◌};
+ghost use Rattle.std.specs.Cmp.Rules.{comparing};
 ghost use Rattle.std.specs.Str.{bytes_eq};
+ghost use Rattle.std.proofs.Common.{rules};
 ghost use Rattle.ip_address.specs.EthernetAddress as spec;
 
 use std::fmt;
 
 /// The address of an Ethernet interface: six octets.
-#[derive(Clone, Copy, Debug, PartialEq, Eq, PartialOrd, Ord, Hash)]
+#[derive(Clone, Copy, Debug, PartialOrd, Ord, Hash)]
 pub struct EthernetAddress(pub [u8; 6]);
 
 // Whether all octets are equal. They are compared as two numbers, of four octets and of two.
@@ -23,14 +25,6 @@ const fn are_same(a: &[u8; 6], b: &[u8; 6]) -> bool
 impl EthernetAddress {
     /// The broadcast address.
     pub const BROADCAST: EthernetAddress = EthernetAddress([0xff, 0xff, 0xff, 0xff, 0xff, 0xff]);
-
-    /// Whether two addresses are equal.
-    #[inline(always)]
-    pub const fn is_same(&self, other: &EthernetAddress) -> bool
-        ensures { result ≡ spec.is_same self.now other.now }
-    {
-        are_same(&self.0, &other.0)
-    }
 
     /// Whether the address is broadcast: all ones.
     #[inline(always)]
@@ -54,6 +48,22 @@ impl EthernetAddress {
     {
         !(self.is_broadcast() || self.is_multicast())
     }
+}
+
+/// Equal exactly if all octets are.
+impl PartialEq for EthernetAddress {
+    ghost eq = { spec.is_same };
+
+    ghost laws = { Prim.search (comparing, rules) };
+
+    #[inline(always)]
+    fn eq(&self, other: &EthernetAddress) -> bool {
+        are_same(&self.0, &other.0)
+    }
+}
+
+impl Eq for EthernetAddress {
+    ghost laws = { Prim.search (comparing, rules) };
 }
 
 impl fmt::Display for EthernetAddress {

@@ -20,6 +20,12 @@ impl Ipv4Address {
     /// The limited broadcast address, 255.255.255.255.
     pub const BROADCAST: Ipv4Address = Ipv4Address { bits: 0xffff_ffff };
 
+    /// The all-systems group of a link, 224.0.0.1 (RFC 1112 4).
+    pub const MULTICAST_ALL_SYSTEMS: Ipv4Address = Ipv4Address { bits: 0xe000_0001 };
+
+    /// The all-routers group of a link, 224.0.0.2 (RFC 2236 9).
+    pub const MULTICAST_ALL_ROUTERS: Ipv4Address = Ipv4Address { bits: 0xe000_0002 };
+
     /// The address with these four octets.
     pub const fn new(a: u8, b: u8, c: u8, d: u8) -> Ipv4Address
         ensures { result ≡ spec.address_of a b c d }

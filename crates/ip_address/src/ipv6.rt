@@ -21,9 +21,19 @@ impl Ipv6Address {
     /// The loopback address, ::1.
     pub const LOCALHOST: Ipv6Address = Ipv6Address { bits: 1 };
 
-    /// The all-nodes group of a link, ff02::1.
+    /// The all-nodes group of a link, ff02::1 (RFC 4291 2.7.1).
     pub const LINK_LOCAL_ALL_NODES: Ipv6Address = Ipv6Address {
         bits: 0xff02_0000_0000_0000_0000_0000_0000_0001,
+    };
+
+    /// The all-routers group of a link, ff02::2 (RFC 4291 2.7.1).
+    pub const LINK_LOCAL_ALL_ROUTERS: Ipv6Address = Ipv6Address {
+        bits: 0xff02_0000_0000_0000_0000_0000_0000_0002,
+    };
+
+    /// The group of a link's MLDv2 routers, ff02::16 (RFC 3810 5.2.14).
+    pub const LINK_LOCAL_ALL_MLDV2_ROUTERS: Ipv6Address = Ipv6Address {
+        bits: 0xff02_0000_0000_0000_0000_0000_0000_0016,
     };
 
     /// The address of eight groups of 16 bits, as it is written: `Ipv6Address::new(0xfe80, 0, 0, 0, 0, 0, 0, 1)`

@@ -95,12 +95,12 @@ pub struct TcpRepr {
 }
 
 impl TcpRepr {
-    /// Parses a segment of fewer than 65,536 octets into its header and its payload. Options are skipped. `src` and
-    /// `dst` are the packet's addresses.
+    /// Parses a segment into its header and its payload. Options are skipped. `src` and `dst` are the packet's
+    /// addresses.
     ///
     /// `None` exactly in these cases:
     ///
-    /// - there are fewer than 20 octets;
+    /// - there are fewer than 20 octets, or more than the 65,535 that a packet can carry;
     /// - the header is shorter than 20 octets or longer than the octets are;
     /// - a port is 0, or two of FIN, SYN and RST are set;
     /// - with `checked`, the checksum is wrong.
@@ -110,10 +110,9 @@ impl TcpRepr {
         dst: &IpAddress,
         checked: bool,
     ) -> Option<(TcpRepr, &'a [u8])>
-        requires { length packet.now < 2 ^ 16 }
-        ensures { SomeIff (option_map spec.parts result) (spec.IsTcp checked src.now dst.now packet.now) (spec.tcp_in packet.now) }
+        ensures { SomeIff (option_map spec.parts result) ((length packet.now < 2 ^ 16) × spec.IsTcp checked src.now dst.now packet.now) (spec.tcp_in packet.now) }
     {
-        if packet.len() < HEADER_LEN {
+        if packet.len() < HEADER_LEN || packet.len() > 0xffff {
             return None;
         }
         let header_len = usize::from(packet[12] / 16) * 4;

@@ -2,7 +2,8 @@
 //!
 //! An [`Instant`] is a signed number of microseconds since an origin of the caller's choice, a [`Duration`] an unsigned
 //! number. In contracts both are their numbers.
-ghost use Rattle.std.specs.Prelude.{◌≡◌, ◌*◌, ◌<◌, ◌^◌, ℤ, pos, neg_ℤ, ◌*ℤ◌, ◌<ℤ◌, ◌≤ℤ◌};
+ghost use Rattle.std.specs.Prelude.{◌≡◌, ◌*◌, ◌<◌, ◌^◌, min, ℤ, pos, neg_ℤ, ◌*ℤ◌, ◌<ℤ◌, ◌≤ℤ◌};
+ghost use Rattle.net_base.specs.Time.{IsMoment};
 
 use std::fmt;
 use std::marker::Model;
@@ -156,6 +157,19 @@ impl Instant {
         ensures { result ≡ secs *ℤ pos 1000000 }
     {
         Instant::from_micros(secs * 1_000_000)
+    }
+
+    /// The moment this many microseconds after the origin, clamped to 2^62, the last moment that calls take. So a clock
+    /// that counts from the origin can be passed on: `Instant::from_micros_clamped(start.elapsed().as_micros())`.
+    pub const fn from_micros_clamped(micros: u128) -> Instant
+        ensures value { result ≡ pos (min micros (2 ^ 62)) }
+        ensures moment { IsMoment result }
+    {
+        if micros < 1 << 62 {
+            Instant::from_micros(micros as i64)
+        } else {
+            Instant::from_micros(1 << 62)
+        }
     }
 
     /// The number of microseconds since the origin.

@@ -1,5 +1,5 @@
 -- ICMP sockets (RFC 792, RFC 4443).
-use Rattle.std.specs.Prelude.{ℕ, ◌==◌, ◌&&◌, ◌||◌, nat_le, nat_lt, Bool, true, false, cond, is_none, List, length, Option, Some, None}
+use Rattle.std.specs.Prelude.{ℕ, ◌==◌, ◌&&◌, ◌||◌, nat_le, nat_lt, Bool, true, false, cond, if◌then◌else◌, is_none, List, length, Option, Some, None}
 use Rattle.std.specs.Borrow.{Bor}
 use Rattle.std.specs.Option.{option_and_then, option_map}
 use Rattle.control_wire.specs.Icmpv4.{type_in, code_in, icmpv4_in}
@@ -15,6 +15,7 @@ use Rattle.icmpv6_wire.specs.declared.icmpv6.Icmpv6DstUnreachable.TheVariants as
 use Rattle.icmpv6_wire.specs.declared.icmpv6.Icmpv6Repr.{Icmpv6Repr}
 use Rattle.icmpv6_wire.specs.declared.icmpv6.Icmpv6Repr.TheVariants as v6
 use Rattle.wire_base.specs.Octets.{u16_at}
+use Rattle.ip_address.specs.Ip.{is_unspecified}
 use Rattle.ip_address.specs.Protocol.{number_of}
 use Rattle.ip_address.specs.declared.ip.IpAddress.{IpAddress}
 use Rattle.ip_address.specs.declared.ip.IpAddress.TheVariants as address
@@ -28,6 +29,8 @@ use Rattle.socket_base.specs.declared.poll_at.PollAt.TheVariants.{Now, Ingress}
 use Rattle.network_sockets.specs.declared.icmp.Endpoint.{Endpoint}
 use Rattle.network_sockets.specs.declared.icmp.Endpoint.TheVariants as endpoint
 use Rattle.network_sockets.specs.declared.icmp.Packet.{Packet}
+use Rattle.network_sockets.specs.declared.icmp.SendError.{SendError}
+use Rattle.network_sockets.specs.declared.icmp.SendError.TheVariants as error
 
 -- which messages it accepts, the hop limit of packets sent, and the messages received and to send, each with the remote address
 pub record IcmpSocket : Type 0 where
@@ -126,6 +129,13 @@ socket_after_done s = record s { rx = queue_after_pop s.rx }
 -- a message is queued for sending
 abbrev pub socket_after_send : IpAddress → List ℕ → IcmpSocket → IcmpSocket
 socket_after_send remote message s = record s { tx = put s.tx remote message }
+
+-- the first reason not to queue a message, if there is one: an unspecified address; a message longer than the payload of an IPv4 packet
+-- with a TCP header; lack of room
+abbrev pub refusal : IpAddress → ℕ → Bool → Option SendError
+refusal remote len fits =
+    if is_unspecified remote then Some error.UnspecifiedAddress else if nat_lt 65495 len then Some error.TooLong
+    else if fits then None else Some error.Full
 
 -- the first message to send is removed
 abbrev pub without_first_to_send : IcmpSocket → IcmpSocket

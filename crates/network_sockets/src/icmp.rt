@@ -1,6 +1,7 @@
 //! ICMP sockets (RFC 792, RFC 4443): echo messages, and port unreachable errors for the datagrams of a port.
-ghost use Rattle.std.specs.Prelude.{◌≡◌, ◌≢◌, ◌≤◌, length, is_ok, false};
+ghost use Rattle.std.specs.Prelude.{◌≡◌, ◌≢◌, ◌≤◌, length, is_ok, false, IfSome, OnOk, OnErr};
 ghost use Rattle.std.specs.Option.{option_map};
+ghost use Rattle.std.specs.Result.{result_err};
 ghost use Rattle.ip_address.specs.Ip.{is_unspecified};
 ghost use Rattle.socket_base.specs.Queue.{is_room, first_of};
 ghost use Rattle.network_sockets.specs.Icmp as spec;
@@ -14,6 +15,24 @@ use socket_base::context::{SocketContext, source_address};
 use socket_base::poll_at::PollAt;
 use socket_base::queue::{Full, Queue};
 use std::marker::{Model, PhantomData};
+use thiserror::Error;
+
+/// The maximum length of a message that is queued for sending, in octets: as much as the other sockets take.
+pub const MAX_MESSAGE_LEN: usize = 65495;
+
+/// Why a message was not queued. It is displayed as its name.
+#[derive(Clone, Copy, Debug, PartialEq, Eq, Error)]
+pub enum SendError {
+    /// The remote address is 0.0.0.0 or ::.
+    #[error("UnspecifiedAddress")]
+    UnspecifiedAddress,
+    /// The message has more than 65,495 octets.
+    #[error("TooLong")]
+    TooLong,
+    /// There is no room for it now.
+    #[error("Full")]
+    Full,
+}
 
 /// Which messages a socket accepts.
 #[derive(Clone, Copy, Debug, PartialEq, Eq)]
@@ -126,7 +145,8 @@ impl<L: Drop> SocketOf<L> {
 
     /// The first message received but not read yet, if any: its source address and its octets.
     pub fn recv(&self) -> Option<(&IpAddress, &[u8])>
-        ensures { option_map (λ p. (p.0.now, p.1.now)) result ≡ first_of self.now.rx.packets }
+        ensures value { option_map (λ p. (p.0.now, p.1.now)) result ≡ first_of self.now.rx.packets }
+        ensures len { IfSome result (λ p. length p.1.now ≤ self.now.rx.limit) }
     {
         self.buffers.recv()
     }
@@ -147,6 +167,21 @@ impl<L: Drop> SocketOf<L> {
         ensures socket { self.new ≡ spec.socket_after_send remote message.now self.old }
     {
         self.buffers.send(remote, message)
+    }
+
+    /// Queues a message as [`send`](SocketOf::send) does, for any address and of any length. Fails exactly if the
+    /// address is unspecified, the message has more than 65,495 octets, or it doesn't fit; the first of these is
+    /// returned. Then the socket stays unchanged.
+    pub fn try_send(&mut self, remote: IpAddress, message: &[u8]) -> Result<(), SendError>
+        ensures refused { result_err result ≡ spec.refusal remote (length message.now) (is_room self.old.tx (length message.now)) }
+        ensures ok { OnOk result (self.new ≡ spec.socket_after_send remote message.now self.old) }
+        ensures err { OnErr result (self.new ≡ self.old) }
+    {
+        let len = message.len();
+        if let Some(error) = refusal(&remote, len, self.tx().has_room(len)) {
+            return Err(error);
+        }
+        self.send(remote, message).map_err(|_| SendError::Full)
     }
 
     /// When the socket has to be polled again: immediately, if there is something to send.
@@ -201,6 +236,21 @@ impl<L: Drop> SocketOf<L> {
     }
 }
 
+/// Why a message of `len` octets to an address isn't queued, if there is a reason.
+fn refusal(remote: &IpAddress, len: usize, fits: bool) -> Option<SendError>
+    ensures { result ≡ spec.refusal remote.now len fits }
+{
+    if remote.is_unspecified() {
+        Some(SendError::UnspecifiedAddress)
+    } else if len > MAX_MESSAGE_LEN {
+        Some(SendError::TooLong)
+    } else if !fits {
+        Some(SendError::Full)
+    } else {
+        None
+    }
+}
+
 /// Whether a message is an echo message with this identifier.
 fn is_echo_of(own: u16, repr: &IcmpRepr) -> bool
     ensures { result ≡ spec.is_echo_of own repr.now }
@@ -245,16 +295,12 @@ fn is_datagram_from(port: u16, header: &IpRepr, quoted: &[u8]) -> bool
     port == u16_at(quoted, 0)
 }
 
-/// Parses fewer than 65,536 octets as an echo message to a peer, by the ICMP of the peer's family. Returns the message
-/// and its data.
+/// Parses octets as an echo message to a peer, by the ICMP of the peer's family. Returns the message and its data.
 #[inline(always)]
 #[tactic(auto, using(crate::proofs::IcmpLemmas::is_echo_reads_v4, crate::proofs::IcmpLemmas::is_echo_reads_v6))]
 fn parse_echo<'m>(remote: &IpAddress, message: &'m [u8]) -> Option<(IcmpRepr, &'m [u8])>
     ensures { option_map spec.parts result ≡ spec.echo_to remote.now message.now }
 {
-    if message.len() >= 65536 {
-        return None;
-    }
     match remote {
         IpAddress::Ipv4(_) => match Icmpv4Repr::parse(message, false)? {
             (repr @ (Icmpv4Repr::EchoRequest { .. } | Icmpv4Repr::EchoReply { .. }), payload) => {

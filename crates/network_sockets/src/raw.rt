@@ -1,5 +1,5 @@
 //! Raw sockets, which send and receive whole packets of one protocol, with their headers.
-ghost use Rattle.std.specs.Prelude.{◌≡◌, length, is_ok};
+ghost use Rattle.std.specs.Prelude.{◌≡◌, ◌≤◌, length, is_ok, IfSome};
 ghost use Rattle.std.specs.Option.{option_map};
 ghost use Rattle.ip_wire.specs.IpPacket.{TellsLength};
 ghost use Rattle.socket_base.specs.Queue.{is_room, first_of};
@@ -93,19 +93,22 @@ impl<L: Drop> SocketOf<L> {
         self.version == version && self.protocol.number() == protocol.number()
     }
 
-    /// Queues a received packet of at most 65,535 octets; for IPv4 the header of 20 octets counts, for IPv6 only what
-    /// follows the header. The header is written anew, as that of a whole packet. An IPv4 checksum is 0 unless
-    /// `summed`. The packet is dropped if there is no room for it.
+    /// Queues a received packet. The header is written anew, as that of a whole packet. An IPv4 checksum is 0 unless
+    /// `summed`. The packet is dropped if there is no room for it, or if its header can't tell its length: an IPv4
+    /// packet has at most 65,535 octets with its header of 20 (RFC 791 3.1).
     pub fn process(&mut self, header: &IpRepr, payload: &[u8], summed: bool)
-        requires { TellsLength header.now }
-        ensures { self.new ≡ spec.socket_after_delivery summed header.now payload.now self.old }
+        ensures taken { TellsLength header.now → self.new ≡ spec.socket_after_delivery summed header.now payload.now self.old }
+        ensures dropped { (TellsLength header.now → ⊥) → self.new ≡ self.old }
     {
         match header {
+            IpRepr::Ipv4(header) if header.payload_len > 0xffff - 20 => {}
             IpRepr::Ipv4(header) => {
                 let text = header.octets(&Ipv4Fragment::WHOLE, summed);
                 self.buffers.process_parts((), &text, payload);
             }
             IpRepr::Ipv6(header) => {
+                // The length of 16 bits fits.
+                let _len = header.payload_len;
                 self.buffers.process_parts((), &header.octets(), payload);
             }
         }
@@ -113,7 +116,8 @@ impl<L: Drop> SocketOf<L> {
 
     /// The first packet received but not read yet, if any.
     pub fn recv(&self) -> Option<(&(), &[u8])>
-        ensures { option_map (λ p. (p.0.now, p.1.now)) result ≡ first_of self.now.rx.packets }
+        ensures value { option_map (λ p. (p.0.now, p.1.now)) result ≡ first_of self.now.rx.packets }
+        ensures len { IfSome result (λ p. length p.1.now ≤ self.now.rx.limit) }
     {
         self.buffers.recv()
     }

@@ -4,7 +4,7 @@ ghost use Rattle.std.specs.Prelude.{◌≡◌, ◌+◌, ◌<◌, ◌≤◌, ◌|
 ghost use Rattle.std.specs.List.{list_any, filter};
 ghost use Rattle.net_base.specs.Time.{IsMoment};
 ghost use Rattle.slaac.specs.Slaac as spec;
-ghost use Rattle.slaac.specs.Slaac.{is_before, is_same, is_prefix_valid, is_route_valid, knows_prefix, knows_router, advertised_prefix};
+ghost use Rattle.slaac.specs.Slaac.{is_before, is_prefix_valid, is_route_valid, knows_prefix, knows_router, advertised_prefix};
 ghost use Rattle.slaac.specs.Instants.{earliest_of};
 ghost use Rattle.slaac.specs.Slaac.{prefix_ends, route_ends, IsLifetime, default_route, whole, with_prefix, prefixes_after_withdrawal};
 ghost use Rattle.slaac.specs.Slaac.{prefixes_after, is_prefix_news, routers_after, is_router_news, with_router, with_end};
@@ -128,7 +128,7 @@ impl Route {
     pub fn same_route(&self, cidr: &Ipv6Cidr, via_router: &Ipv6Address) -> bool
         ensures { result ≡ spec.is_same_route cidr.now via_router.now self.now }
     {
-        is_same(&self.cidr, cidr) && self.via_router.bits == via_router.bits
+        self.cidr == *cidr && self.via_router == *via_router
     }
 
     // Whether it is the default route via a router.
@@ -337,13 +337,6 @@ fn whole() -> Ipv6Cidr
     }
 }
 
-// Whether two networks are equal, by address and length.
-pub(crate) fn is_same(a: &Ipv6Cidr, b: &Ipv6Cidr) -> bool
-    ensures { result ≡ is_same a.now b.now }
-{
-    a.address.bits == b.address.bits && a.prefix_len == b.prefix_len
-}
-
 // Whether router discovery goes on.
 fn is_searching(phase: Phase) -> bool
     ensures { result ≡ spec.is_searching phase }
@@ -396,7 +389,7 @@ fn prefix_index(prefixes: &[Prefix], cidr: &Ipv6Cidr) -> usize
     ensures { result ≡ prefix_index prefixes.now cidr.now }
 {
     for (i, prefix) in prefixes.iter().enumerate() {
-        if is_same(&prefix.cidr, cidr) {
+        if prefix.cidr == *cidr {
             return i;
         }
     }

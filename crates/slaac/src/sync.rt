@@ -6,7 +6,7 @@ ghost use Rattle.ip_address.specs.LinkPrefix as made;
 ghost use Rattle.slaac.specs.Slaac.{is_prefix_valid, is_route_valid};
 ghost use Rattle.slaac.specs.Sync as spec;
 
-use crate::slaac::{Prefix, Route, is_same};
+use crate::slaac::{Prefix, Route};
 use arrayvec::ArrayVec;
 use iface_tables::route as table;
 use ip_address::{HardwareAddress, IpAddress, IpCidr, Ipv6Cidr};
@@ -105,7 +105,7 @@ fn is_cidr(other: &IpCidr, cidr: &Ipv6Cidr) -> bool
 {
     match other {
         IpCidr::Ipv4(_) => false,
-        IpCidr::Ipv6(other) => is_same(other, cidr),
+        IpCidr::Ipv6(other) => other == cidr,
     }
 }
 
@@ -170,7 +170,7 @@ fn is_made(made: Option<Ipv6Cidr>, cidr: &Ipv6Cidr) -> bool
     ensures { result ≡ spec.is_made made cidr.now }
 {
     match made {
-        Some(made) => is_same(&made, cidr),
+        Some(made) => made == *cidr,
         None => false,
     }
 }

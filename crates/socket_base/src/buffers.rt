@@ -1,5 +1,5 @@
 //! The two queues that each socket holds.
-ghost use Rattle.std.specs.Prelude.{◌≡◌, ◌++◌, length, is_ok};
+ghost use Rattle.std.specs.Prelude.{◌≡◌, ◌≤◌, ◌++◌, length, is_ok, IfSome};
 ghost use Rattle.std.specs.Option.{option_map};
 ghost use Rattle.socket_base.specs.Buffers as spec;
 ghost use Rattle.socket_base.specs.Queue.{is_room, first_of};
@@ -63,9 +63,11 @@ impl<M: Drop> Buffers<M> {
         let _ = self.rx.push_parts(meta, front, back);
     }
 
-    /// The first packet received but not read yet, if any: its metadata and its octets.
+    /// The first packet received but not read yet, if any: its metadata and its octets, at most the receive queue's
+    /// [`payload_capacity`](Queue::payload_capacity).
     pub fn recv(&self) -> Option<(&M, &[u8])>
-        ensures { option_map (λ p. (p.0.now, p.1.now)) result ≡ first_of self.now.rx.packets }
+        ensures value { option_map (λ p. (p.0.now, p.1.now)) result ≡ first_of self.now.rx.packets }
+        ensures len { IfSome result (λ p. length p.1.now ≤ self.now.rx.limit) }
     {
         self.rx.front()
     }

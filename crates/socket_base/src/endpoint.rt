@@ -1,6 +1,4 @@
 //! The endpoints between which datagrams and segments are sent.
-ghost use Rattle.std.specs.Prelude.{◌≡◌};
-ghost use Rattle.socket_base.specs.Source as spec;
 
 use ip_wire::IpAddress;
 use std::fmt;
@@ -18,28 +16,6 @@ pub struct IpListenEndpoint {
     /// The address; `None` for any.
     pub addr: Option<IpAddress>,
     pub port: u16,
-}
-
-/// Whether two addresses are equal: of the same family, with the same bits.
-#[inline(always)]
-pub fn is_same_addr(a: &IpAddress, b: &IpAddress) -> bool
-    ensures { result ≡ spec.is_same a.now b.now }
-{
-    match (a, b) {
-        (IpAddress::Ipv4(a), IpAddress::Ipv4(b)) => a.bits == b.bits,
-        (IpAddress::Ipv6(a), IpAddress::Ipv6(b)) => a.bits == b.bits,
-        _ => false,
-    }
-}
-
-impl IpEndpoint {
-    /// Whether two endpoints are equal.
-    #[inline(always)]
-    pub fn is_same(&self, other: &IpEndpoint) -> bool
-        ensures { result ≡ spec.is_same_end self.now other.now }
-    {
-        is_same_addr(&self.addr, &other.addr) && self.port == other.port
-    }
 }
 
 impl From<(IpAddress, u16)> for IpEndpoint {

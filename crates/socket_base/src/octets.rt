@@ -89,7 +89,8 @@ impl Octets {
     #[tactic(auto, using(crate::proofs::OctetsLemmas::first_of_part))]
     pub fn first(&self, count: usize) -> &[u8]
         requires { count ≤ length self.now.octets }
-        ensures { result.now ≡ take count self.now.octets }
+        ensures value { result.now ≡ take count self.now.octets }
+        ensures len { length result.now ≤ self.now.limit }
     {
         &self.items[self.start..self.start + count]
     }

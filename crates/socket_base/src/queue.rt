@@ -1,5 +1,5 @@
 //! Queues of packets.
-ghost use Rattle.std.specs.Prelude.{◌≡◌, ◌==◌, ◌+◌, ◌≤◌, ◌<◌, ◌↔◌, [], ◌∷◌, ◌++◌, length, drop, IfOk, IsOk, OnOk, OnErr};
+ghost use Rattle.std.specs.Prelude.{◌≡◌, ◌==◌, ◌+◌, ◌≤◌, ◌<◌, ◌↔◌, [], ◌∷◌, ◌++◌, length, drop, IfSome, IfOk, IsOk, OnOk, OnErr};
 ghost use Rattle.std.specs.VecDeque.{deque_len, deque_capacity};
 ghost use Rattle.socket_base.specs.Queue.{octets_in, first_of, is_room};
 
@@ -135,11 +135,12 @@ impl<M: Drop> Queue<M> {
         self.octets.limit()
     }
 
-    /// The first packet, if any: its metadata and its octets.
+    /// The first packet, if any: its metadata and its octets, at most [`payload_capacity`](Queue::payload_capacity).
     #[inline(always)]
     #[tactic(auto, using(crate::proofs::QueueLemmas::first_cut))]
     pub fn front(&self) -> Option<(&M, &[u8])>
-        ensures { option_map (λ p. (p.0.now, p.1.now)) result ≡ first_of self.now.packets }
+        ensures value { option_map (λ p. (p.0.now, p.1.now)) result ≡ first_of self.now.packets }
+        ensures len { IfSome result (λ p. length p.1.now ≤ self.now.limit) }
     {
         match self.entries.front() {
             Some(entry) => Some((&entry.meta, self.octets.first(entry.len))),

@@ -1,5 +1,5 @@
 //! TCP sockets (RFC 9293), which hand segments in and out: their interpretation is up to the caller.
-ghost use Rattle.std.specs.Prelude.{◌≡◌, ◌≢◌, ◌<◌, ◌≤◌, ◌^◌, pos, length, is_ok, OnOk, OnErr, true, false};
+ghost use Rattle.std.specs.Prelude.{◌≡◌, ◌≢◌, ◌≤◌, pos, length, is_ok, IfSome, OnOk, OnErr, true, false};
 ghost use Rattle.std.specs.Option.{option_map};
 ghost use Rattle.std.specs.Result.{result_err};
 ghost use Rattle.ip_address.specs.Ip.{is_unspecified};
@@ -12,7 +12,7 @@ use ip_wire::{IpAddress, TcpControl, TcpRepr, TcpSeqNumber};
 use net_base::time::Instant;
 use socket_base::buffers::Buffers;
 use socket_base::context::{SocketContext, source_address};
-use socket_base::endpoint::{IpEndpoint, IpListenEndpoint, is_same_addr};
+use socket_base::endpoint::{IpEndpoint, IpListenEndpoint};
 use socket_base::poll_at::PollAt;
 use socket_base::queue::{Full, Queue};
 use std::marker::{Model, PhantomData};
@@ -167,18 +167,17 @@ impl<L: Drop> SocketOf<L> {
             return false;
         }
         if let Some(addr) = self.local.addr
-            && !is_same_addr(&addr, &dst.addr)
+            && addr != dst.addr
         {
             return false;
         }
         match self.remote {
             None => true,
-            Some(remote) => remote.is_same(src),
+            Some(remote) => remote == *src,
         }
     }
 
-    /// Processes a segment received from an address, with fewer than 65,536 octets of payload. Returns the segment that
-    /// answers it, if any.
+    /// Processes a segment received from an address. Returns the segment that answers it, if any.
     ///
     /// The socket queues the segment, without an answer; it is dropped if there is no room for it. After
     /// [`abort`](SocketOf::abort) the socket doesn't get it, and every segment but a reset is answered by a reset.
@@ -188,7 +187,6 @@ impl<L: Drop> SocketOf<L> {
         repr: &TcpRepr,
         payload: &[u8],
     ) -> Option<TcpRepr>
-        requires { length payload.now < 2 ^ 16 }
         ensures reply { result ≡ spec.reply repr.now payload.now self.old }
         ensures socket { self.new ≡ spec.socket_after_delivery src_addr repr.now payload.now self.old }
     {
@@ -204,7 +202,8 @@ impl<L: Drop> SocketOf<L> {
 
     /// The first segment received but not read yet, if any, and its payload.
     pub fn recv(&self) -> Option<(&Segment, &[u8])>
-        ensures { option_map (λ p. (p.0.now, p.1.now)) result ≡ first_of self.now.rx.packets }
+        ensures value { option_map (λ p. (p.0.now, p.1.now)) result ≡ first_of self.now.rx.packets }
+        ensures len { IfSome result (λ p. length p.1.now ≤ self.now.rx.limit) }
     {
         self.buffers.recv()
     }
@@ -337,12 +336,11 @@ fn repr_of(src_port: u16, segment: &Segment) -> TcpRepr
     }
 }
 
-/// The reset that answers a segment with fewer than 65,536 octets of payload (RFC 9293 3.5.2).
+/// The reset that answers a segment with this many octets of payload (RFC 9293 3.5.2).
 ///
 /// Its sequence number is the segment's acknowledgement number, or 0. It acknowledges only a SYN without an
-/// acknowledgement number: the number after the SYN and the payload.
+/// acknowledgement number: the number after the SYN and the payload, modulo 2^32.
 pub fn rst_reply(repr: &TcpRepr, payload_len: usize) -> TcpRepr
-    requires { payload_len < 2 ^ 16 }
     ensures { result ≡ spec.reset_of repr.now payload_len }
 {
     let seq_number = match repr.ack_number {
@@ -350,9 +348,11 @@ pub fn rst_reply(repr: &TcpRepr, payload_len: usize) -> TcpRepr
         None => TcpSeqNumber { bits: 0 },
     };
     let ack_number = match (repr.control, repr.ack_number) {
-        (TcpControl::Syn, None) => Some(TcpSeqNumber {
-            bits: repr.seq_number.bits.wrapping_add(1 + payload_len as u32),
-        }),
+        (TcpControl::Syn, None) => {
+            let advance = (payload_len % (1 << 32)) as u32;
+            let bits = repr.seq_number.bits.wrapping_add(1).wrapping_add(advance);
+            Some(TcpSeqNumber { bits })
+        }
         _ => None,
     };
     TcpRepr {

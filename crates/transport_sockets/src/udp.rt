@@ -1,5 +1,5 @@
 //! UDP sockets (RFC 768).
-ghost use Rattle.std.specs.Prelude.{◌≡◌, ◌≢◌, ◌≤◌, length, is_ok, OnOk, OnErr, false};
+ghost use Rattle.std.specs.Prelude.{◌≡◌, ◌≢◌, ◌≤◌, length, is_ok, IfSome, OnOk, OnErr, false};
 ghost use Rattle.std.specs.Option.{option_map};
 ghost use Rattle.std.specs.Result.{result_err};
 ghost use Rattle.ip_address.specs.Ip.{is_unspecified};
@@ -11,7 +11,7 @@ use crate::send_error::{SendError, refusal};
 use ip_wire::IpAddress;
 use socket_base::buffers::Buffers;
 use socket_base::context::{SocketContext, source_address};
-use socket_base::endpoint::{IpEndpoint, IpListenEndpoint, is_same_addr};
+use socket_base::endpoint::{IpEndpoint, IpListenEndpoint};
 use socket_base::poll_at::PollAt;
 use socket_base::queue::{Full, Queue};
 use std::marker::{Model, PhantomData};
@@ -117,9 +117,7 @@ impl<L: Drop> SocketOf<L> {
         match self.endpoint.addr {
             None => true,
             Some(addr) => {
-                is_same_addr(&addr, dst_addr)
-                    || context.is_broadcast(dst_addr)
-                    || dst_addr.is_multicast()
+                addr == *dst_addr || context.is_broadcast(dst_addr) || dst_addr.is_multicast()
             }
         }
     }
@@ -134,7 +132,8 @@ impl<L: Drop> SocketOf<L> {
 
     /// The first datagram received but not read yet, if any: its source endpoint and its payload.
     pub fn recv(&self) -> Option<(&IpEndpoint, &[u8])>
-        ensures { option_map (λ p. (p.0.now, p.1.now)) result ≡ first_of self.now.rx.packets }
+        ensures value { option_map (λ p. (p.0.now, p.1.now)) result ≡ first_of self.now.rx.packets }
+        ensures len { IfSome result (λ p. length p.1.now ≤ self.now.rx.limit) }
     {
         self.buffers.recv()
     }

@@ -14,14 +14,17 @@ returns c =
     let n : ℕ = c.from-header_len.result * 4 in
     let start : n ≡ header_len xs = omega (arith, c.from-header_len.ensures) in
     let payload : take (length xs - n) (drop n xs) ≡ drop (header_len xs) xs = take_rest xs n ∙ ap (λ (k : ℕ). drop k xs) start in (
-      record {
-        whole = search rules;
-        header = search rules;
-        header_fits = search rules;
-        source = search rules;
-        destination = search rules;
-        flags = search rules;
-        sum = search rules;
-      },
+      (
+        search rules,
+        record {
+          whole = search rules;
+          header = search rules;
+          header_fits = search rules;
+          source = search rules;
+          destination = search rules;
+          flags = search rules;
+          sum = search rules;
+        },
+      ),
       both c.header_of.result (header_in xs) _ _ c.header_of.ensures payload,
     )
