@@ -9,16 +9,16 @@ use Rattle.host_machine.specs.declared.command.Command.TheVariants as command
 use Rattle.host_machine.specs.declared.command.Answer.{Answer}
 use Rattle.host_machine.specs.declared.command.Answer.TheVariants as answer
 use Rattle.host_machine.specs.declared.results.PollIngressSingleResult.{PollIngressSingleResult}
-use Rattle.host_machine.specs.Host.{Host, SocketSet}
+use Rattle.host_machine.specs.State.Host.{Host, SocketSet}
 use Rattle.host_machine.specs.declared.results.PollResult.{PollResult}
-use Rattle.host_machine.specs.Ingress.{Ingress}
-use Rattle.host_machine.specs.Egress.{Egress}
-use Rattle.host_machine.specs.Polling.{Polls}
-use Rattle.host_machine.specs.Step.{Step, PolledIngressSingle, PolledEgress, Polled, OwnerActed}
-use Rattle.host_machine.specs.Run.{Ends, Then, NoAct, ThenAct}
-use Rattle.host_machine.specs.Real.{IsRegular}
-use Rattle.host_machine.specs.Ran.{Ran}
-use Rattle.host_machine.proofs.RunConcatenation.{run_laws, ran_on}
+use Rattle.host_machine.specs.Polling.Ingress.{Ingress}
+use Rattle.host_machine.specs.Sending.Egress.{Egress}
+use Rattle.host_machine.specs.Polling.Polling.{Polls}
+use Rattle.host_machine.specs.Polling.Step.{Step, PolledIngressSingle, PolledEgress, Polled, OwnerActed}
+use Rattle.host_machine.specs.Polling.Run.{Ends, Then, NoAct, ThenAct}
+use Rattle.host_machine.specs.Laws.Real.{IsRegular}
+use Rattle.host_machine.specs.Laws.Ran.{Ran}
+use Rattle.host_machine.proofs.Polling.RunConcatenation.{run_laws, ran_on}
 use Rattle.interface.specs.declared.interface.Interface.{Interface}
 use Rattle.interface.specs.Stands.{StandsFor, Led}
 use Rattle.interface.specs.Goes.{Went}

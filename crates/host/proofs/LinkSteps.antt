@@ -12,14 +12,14 @@ use Rattle.socket_set.specs.SocketSet.{Sockets}
 use Rattle.host_machine.specs.declared.command.Command.{Command}
 use Rattle.host_machine.specs.declared.command.Command.TheVariants.{PollIngressSingle}
 use Rattle.host_machine.specs.declared.command.Answer.{Answer}
-use Rattle.host_machine.specs.Host.{Host}
-use Rattle.host_machine.specs.Step.{Step}
-use Rattle.host_machine.specs.Run.{Transition, Run, Ends, Then, events_in}
-use Rattle.host_machine.proofs.Walk.{sent_frames-append}
-use Rattle.host_machine.proofs.SlotEffects.{handed_frames-append}
-use Rattle.host_machine.proofs.Pieces.{IsIn, contains_in, in_left, in_right, in_either}
-use Rattle.host_machine.proofs.RunConcatenation.{run_laws}
-use Rattle.host_machine.proofs.TwoHosts.{run_rebuilds}
+use Rattle.host_machine.specs.State.Host.{Host}
+use Rattle.host_machine.specs.Polling.Step.{Step}
+use Rattle.host_machine.specs.Polling.Run.{Transition, Run, Ends, Then, events_in}
+use Rattle.host_machine.proofs.Runs.Walk.{sent_frames-append}
+use Rattle.host_machine.proofs.Receiving.SlotEffects.{handed_frames-append}
+use Rattle.host_machine.proofs.Receiving.Pieces.{IsIn, contains_in, in_left, in_right, in_either}
+use Rattle.host_machine.proofs.Polling.RunConcatenation.{run_laws}
+use Rattle.host_machine.proofs.Runs.TwoHosts.{run_rebuilds}
 use Rattle.host_laws.proofs.RunTraffic.{runs_keep_datagrams}
 use Rattle.host_laws.proofs.DatagramOrigin.{runs_get_what_was_sent}
 use Rattle.interface.specs.Stands.{StandsFor}
@@ -28,8 +28,8 @@ use Rattle.host.specs.declared.link.LinkStep.{LinkStep}
 use Rattle.host.specs.declared.link.LinkStep.TheVariants as step
 use Rattle.host.specs.declared.link.LinkError.{LinkError}
 use Rattle.host.specs.Commands.{CommandGoes}
-use Rattle.host_machine.specs.Real.{IsRegular}
-use Rattle.host_machine.specs.TwoHosts.{WereSent}
+use Rattle.host_machine.specs.Laws.Real.{IsRegular}
+use Rattle.host_machine.specs.Laws.TwoHosts.{WereSent}
 use Rattle.host.specs.Link.{End, Owns, Acts, sent_since, Links, Stops, OnA, OnB, ToA, ToB, NoneToA, NoneToB, IsDone, end_of, HandsOver, NoFrame, OneFrame, RebuildsCuts, RebuildsFew, GetsDatagrams, Went, Goes, LinkGoes}
 
 -- the ends named the other way round

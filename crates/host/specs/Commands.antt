@@ -3,10 +3,10 @@ use Rattle.std.specs.Prelude.{ℕ, List}
 use Rattle.net_base.specs.Device.{Event}
 use Rattle.host_machine.specs.declared.command.Command.{Command}
 use Rattle.host_machine.specs.declared.command.Answer.{Answer}
-use Rattle.host_machine.specs.Host.{Host, SocketSet}
-use Rattle.host_machine.specs.Note.{Note}
-use Rattle.host_machine.specs.Step.{Act, Step}
-use Rattle.host_machine.specs.Run.{Did}
+use Rattle.host_machine.specs.State.Host.{Host, SocketSet}
+use Rattle.host_machine.specs.State.Note.{Note}
+use Rattle.host_machine.specs.Polling.Step.{Act, Step}
+use Rattle.host_machine.specs.Polling.Run.{Did}
 
 -- what a command did: these are the device's events, the owner's actions and the notes, and this is the host afterwards
 pub record CommandWent {D O : Type 0} (tells : D → List Event → D → Type 0) (did : O → ℕ → SocketSet → SocketSet → O → Type 0)

@@ -3,9 +3,9 @@ use Rattle.std.specs.Prelude.{ℕ, List}
 use Rattle.net_base.specs.Device.{Event}
 use Rattle.host_machine.specs.declared.command.Command.{Command}
 use Rattle.host_machine.specs.declared.command.Answer.{Answer}
-use Rattle.host_machine.specs.Host.{Host, SocketSet}
-use Rattle.host_machine.specs.Real.{IsRegular}
-use Rattle.host_machine.specs.Ran.{Ran}
+use Rattle.host_machine.specs.State.Host.{Host, SocketSet}
+use Rattle.host_machine.specs.Laws.Real.{IsRegular}
+use Rattle.host_machine.specs.Laws.Ran.{Ran}
 use Rattle.host_laws.specs.Datagrams.{KeepsDatagrams}
 
 -- from this host and through these devices and owners, with these answers, to a host that satisfies `after`

@@ -5,13 +5,13 @@ use Rattle.std.specs.FinMap as map
 use Rattle.net_base.specs.Time.{IsMoment}
 use Rattle.net_base.specs.MemoryDevice.{Memory, Tells}
 use Rattle.host_machine.specs.declared.command.Command.TheVariants.{PollIngressSingle}
-use Rattle.host_machine.specs.Host.{Host, SocketSet}
-use Rattle.host_machine.specs.Step.{Step, IsTimely}
-use Rattle.host_machine.specs.Note.{identifications}
-use Rattle.host_machine.specs.Run.{Transition, Run, Did, notes_in}
-use Rattle.host_machine.specs.Real.{IsRegular}
-use Rattle.host_machine.specs.TwoHosts.{HaveOwnKeys, RebuildsThese, WereSent, cuts_in, key_of_cut}
-use Rattle.host_machine.specs.Ran.{Laws}
+use Rattle.host_machine.specs.State.Host.{Host, SocketSet}
+use Rattle.host_machine.specs.Polling.Step.{Step, IsTimely}
+use Rattle.host_machine.specs.State.Note.{identifications}
+use Rattle.host_machine.specs.Polling.Run.{Transition, Run, Did, notes_in}
+use Rattle.host_machine.specs.Laws.Real.{IsRegular}
+use Rattle.host_machine.specs.Laws.TwoHosts.{HaveOwnKeys, RebuildsThese, WereSent, cuts_in, key_of_cut}
+use Rattle.host_machine.specs.Laws.Ran.{Laws}
 use Rattle.host_machine.specs.declared.command.Answer.{Answer}
 use Rattle.host_laws.specs.Datagrams.{KeepsDatagrams}
 use Rattle.host_laws.specs.EndToEnd.{GetWhatWasSent}

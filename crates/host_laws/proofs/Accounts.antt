@@ -18,37 +18,37 @@ use Rattle.fragmentation.specs.Fragments.{Fragment}
 use Rattle.fragmentation.specs.Cuts.{Datagram, Piece, HasForm, cut, count, pieces_of, piece_of}
 use Rattle.host_machine.specs.declared.results.PollIngressSingleResult.{PollIngressSingleResult}
 use Rattle.host_machine.specs.declared.results.DispatchError.{DispatchError}
-use Rattle.host_machine.specs.Note.{Note, OfCuts, Cut, PieceSent, cut_notes}
-use Rattle.host_machine.specs.Host.{Host, without_expired, with_left}
-use Rattle.host_machine.specs.Packet.{Packet, PacketV4, payload_of}
-use Rattle.host_machine.specs.Frame.{piece_frame, sends}
-use Rattle.host_machine.specs.Dispatch.{Outcome, Dispatches, datagram_of}
-use Rattle.host_machine.specs.Real.{IsReal, IsPart, IsRegular}
-use Rattle.host_machine.specs.Reply.{Reply, Arp, Ip}
-use Rattle.host_machine.specs.Response.{Responds}
-use Rattle.host_machine.specs.Ingress.{Takes, Ingress}
-use Rattle.host_machine.specs.Laws.{SendsOneThing, ThePacket, ItsFirstPiece, ARequest}
-use Rattle.host_machine.specs.Laws as laws
-use Rattle.host_machine.specs.Multicast as multicast
-use Rattle.host_machine.specs.Reports.{IgmpEgress, MldEgress}
-use Rattle.host_machine.specs.Reports as reports
-use Rattle.host_machine.specs.Slaac.{NdiscRsEgress}
-use Rattle.host_machine.specs.Slaac as slaac
-use Rattle.host_machine.specs.Egress.{Ipv4Egress}
-use Rattle.host_machine.specs.Egress as egress
-use Rattle.host_machine.specs.TwoHosts.{cuts}
-use Rattle.host_machine.proofs.NotesBySubject.{cut_notes-append, cut_notes-slots}
-use Rattle.host_machine.proofs.UnchangedFields.{Keeps}
-use Rattle.host_machine.proofs.Malformed.{sent_frames-sends}
-use Rattle.host_machine.proofs.Pieces.{IsIn, is_in, contains_in, in_left, in_right, IsPiece, piece_in, part_of, count_below, length-pieces_from}
-use Rattle.host_machine.proofs.TwoHosts.{in_map, size_positive, cuts-append}
-use Rattle.host_machine.proofs.PendingParts.{pieces_are}
-use Rattle.host_machine.proofs.Walk.{Reached, dispatched, taken, sent_frames-append}
-use Rattle.host_machine.proofs.SentPieces.{GoodReply, takes_good, takes_real, reached_of}
-use Rattle.host_machine.proofs.NotedRequests.{sends_one}
-use Rattle.host_machine.proofs.RunRequests.{takes_attends}
-use Rattle.host_machine.proofs.Turns.{dispatched_sockets, report_is, solicitation_is}
-use Rattle.host_machine.proofs.OwnMessages.{is_own}
+use Rattle.host_machine.specs.State.Note.{Note, OfCuts, Cut, PieceSent, cut_notes}
+use Rattle.host_machine.specs.State.Host.{Host, without_expired, with_left}
+use Rattle.host_machine.specs.Sending.Packet.{Packet, PacketV4, payload_of}
+use Rattle.host_machine.specs.Sending.Frame.{piece_frame, sends}
+use Rattle.host_machine.specs.Sending.Dispatch.{Outcome, Dispatches, datagram_of}
+use Rattle.host_machine.specs.Laws.Real.{IsReal, IsPart, IsRegular}
+use Rattle.host_machine.specs.Receiving.Reply.{Reply, Arp, Ip}
+use Rattle.host_machine.specs.Receiving.Response.{Responds}
+use Rattle.host_machine.specs.Polling.Ingress.{Takes, Ingress}
+use Rattle.host_machine.specs.Laws.Steps.{SendsOneThing, ThePacket, ItsFirstPiece, ARequest}
+use Rattle.host_machine.specs.Laws.Steps as laws
+use Rattle.host_machine.specs.Sending.Multicast as multicast
+use Rattle.host_machine.specs.Sending.Reports.{IgmpEgress, MldEgress}
+use Rattle.host_machine.specs.Sending.Reports as reports
+use Rattle.host_machine.specs.Sending.Slaac.{NdiscRsEgress}
+use Rattle.host_machine.specs.Sending.Slaac as slaac
+use Rattle.host_machine.specs.Sending.Egress.{Ipv4Egress}
+use Rattle.host_machine.specs.Sending.Egress as egress
+use Rattle.host_machine.specs.Laws.TwoHosts.{cuts}
+use Rattle.host_machine.proofs.State.NotesBySubject.{cut_notes-append, cut_notes-slots}
+use Rattle.host_machine.proofs.State.UnchangedFields.{Keeps}
+use Rattle.host_machine.proofs.Receiving.Malformed.{sent_frames-sends}
+use Rattle.host_machine.proofs.Receiving.Pieces.{IsIn, is_in, contains_in, in_left, in_right, IsPiece, piece_in, part_of, count_below, length-pieces_from}
+use Rattle.host_machine.proofs.Runs.TwoHosts.{in_map, size_positive, cuts-append}
+use Rattle.host_machine.proofs.Sending.PendingParts.{pieces_are}
+use Rattle.host_machine.proofs.Runs.Walk.{Reached, dispatched, taken, sent_frames-append}
+use Rattle.host_machine.proofs.Runs.SentPieces.{GoodReply, takes_good, takes_real, reached_of}
+use Rattle.host_machine.proofs.Sending.NotedRequests.{sends_one}
+use Rattle.host_machine.proofs.Runs.RunRequests.{takes_attends}
+use Rattle.host_machine.proofs.Sending.Turns.{dispatched_sockets, report_is, solicitation_is}
+use Rattle.host_machine.proofs.Sending.OwnMessages.{is_own}
 use Rattle.host_laws.specs.Departures.{Departure}
 use Rattle.host_laws.specs.Senders.{NoSocketWritesUdp, CarriesNoUdp, CarryOnly, WentIn, may_be_udp, ways}
 use Rattle.host_laws.proofs.IngressDeliveries.{all-append}

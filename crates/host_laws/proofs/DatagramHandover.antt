@@ -36,27 +36,27 @@ use Rattle.sockets.specs.declared.socket.SocketOf.TheVariants.{Raw, Icmp, Udp, T
 use Rattle.sockets.specs.Kinds.{down_udp}
 use Rattle.transport_sockets.specs.Udp as udp_socket
 use Rattle.transport_sockets.specs.Udp.{UdpSocket}
-use Rattle.host_machine.specs.Note.{Note}
-use Rattle.host_machine.specs.Host.{Host, Storage, no_sockets, with_places, with_neighbors}
-use Rattle.host_machine.specs.Addresses.{is_broadcast, is_for_host, is_unicast}
-use Rattle.host_machine.specs.Delivery.{DeliversFirst, holds}
-use Rattle.host_machine.specs.Reply.{Reply}
-use Rattle.host_machine.specs.Renewal.{sender_renewed}
-use Rattle.host_machine.specs.Raw as raw
-use Rattle.host_machine.specs.Icmp as icmp
-use Rattle.host_machine.specs.Icmpv4.{ProcessesIcmpv4}
-use Rattle.host_machine.specs.Icmpv4 as icmpv4
-use Rattle.host_machine.specs.Icmpv6.{ProcessesIcmpv6, ProcessesMessage}
-use Rattle.host_machine.specs.Icmpv6 as icmpv6
-use Rattle.host_machine.specs.Ndisc.{ProcessesNdisc, ProcessesNdiscMessage, Learns}
-use Rattle.host_machine.specs.Ndisc as ndisc
-use Rattle.host_machine.specs.Reports as reports
-use Rattle.host_machine.specs.Ipv4 as ipv4
-use Rattle.host_machine.specs.Ipv6 as ipv6
-use Rattle.host_machine.specs.Tcp.{ProcessesTcp}
-use Rattle.host_machine.specs.Tcp as tcp
-use Rattle.host_machine.specs.Udp.{ProcessesUdp}
-use Rattle.host_machine.specs.Udp as udp
+use Rattle.host_machine.specs.State.Note.{Note}
+use Rattle.host_machine.specs.State.Host.{Host, Storage, no_sockets, with_places, with_neighbors}
+use Rattle.host_machine.specs.State.Addresses.{is_broadcast, is_for_host, is_unicast}
+use Rattle.host_machine.specs.Receiving.Delivery.{DeliversFirst, holds}
+use Rattle.host_machine.specs.Receiving.Reply.{Reply}
+use Rattle.host_machine.specs.Receiving.Renewal.{sender_renewed}
+use Rattle.host_machine.specs.Receiving.Raw as raw
+use Rattle.host_machine.specs.Receiving.Icmp as icmp
+use Rattle.host_machine.specs.Receiving.Icmpv4.{ProcessesIcmpv4}
+use Rattle.host_machine.specs.Receiving.Icmpv4 as icmpv4
+use Rattle.host_machine.specs.Receiving.Icmpv6.{ProcessesIcmpv6, ProcessesMessage}
+use Rattle.host_machine.specs.Receiving.Icmpv6 as icmpv6
+use Rattle.host_machine.specs.Receiving.Ndisc.{ProcessesNdisc, ProcessesNdiscMessage, Learns}
+use Rattle.host_machine.specs.Receiving.Ndisc as ndisc
+use Rattle.host_machine.specs.Sending.Reports as reports
+use Rattle.host_machine.specs.Receiving.Ipv4 as ipv4
+use Rattle.host_machine.specs.Receiving.Ipv6 as ipv6
+use Rattle.host_machine.specs.Receiving.Tcp.{ProcessesTcp}
+use Rattle.host_machine.specs.Receiving.Tcp as tcp
+use Rattle.host_machine.specs.Receiving.Udp.{ProcessesUdp}
+use Rattle.host_machine.specs.Receiving.Udp as udp
 use Rattle.host_laws.specs.Deliveries.{udp_at}
 use Rattle.host_laws.proofs.Places.{udp_of, each_same, set_same, set_other}
 use Rattle.host_laws.proofs.Places as places

@@ -26,30 +26,30 @@ use Rattle.fragmentation.specs.Cuts.{Datagram}
 use Rattle.fragmentation.specs.Reassembly.{SlotNote, Take, Arrival, Rebuild}
 use Rattle.host_machine.specs.declared.command.Command.{Command}
 use Rattle.host_machine.specs.declared.command.Command.TheVariants as command
-use Rattle.host_machine.specs.Note.{cut_notes, slot_notes}
-use Rattle.host_machine.specs.Host.{Host, without_expired}
-use Rattle.host_machine.specs.Slaac.{with_slaac_applied}
-use Rattle.host_machine.specs.Addresses.{may_be_source}
-use Rattle.host_machine.specs.Egress.{packet_between}
-use Rattle.host_machine.specs.Packet.{IpPayload, Packet, PacketV4, Udp, IsFormed, header_v4, payload_of}
-use Rattle.host_machine.specs.Packet as packet
-use Rattle.host_machine.specs.Frame.{ip_frame}
-use Rattle.host_machine.specs.Frames.{Carries}
-use Rattle.host_machine.specs.Dispatch.{datagram_of}
-use Rattle.host_machine.specs.Ipv4.{key_in, fragment_in, rebuilt_header}
-use Rattle.host_machine.specs.Arrivals.{rebuilt, slot_notes_in}
-use Rattle.host_machine.specs.Real.{IsReal, IsRegular}
-use Rattle.host_machine.specs.Run.{Transition, Run, Ends, Then, events_in, notes_in}
-use Rattle.host_machine.specs.TwoHosts.{WereSent, cuts, cuts_in, key_of_cut}
-use Rattle.host_machine.proofs.NotesBySubject.{cut_notes-append, slot_notes-append}
-use Rattle.host_machine.proofs.Pieces.{IsIn, is_in, contains_in, in_left, in_right, in_either}
-use Rattle.host_machine.proofs.ReassemblyOrigin.{test_same}
-use Rattle.host_machine.proofs.SentPieces.{run_real}
-use Rattle.host_machine.proofs.SentPieces as shown
-use Rattle.host_machine.proofs.Turns.{between_is}
-use Rattle.host_machine.proofs.TwoHosts.{cuts-append, frame_is_cut, run_rebuilds}
-use Rattle.host_machine.proofs.SlotEffects.{handed_frames-append}
-use Rattle.host_machine.proofs.Walk.{sent_frames-append}
+use Rattle.host_machine.specs.State.Note.{cut_notes, slot_notes}
+use Rattle.host_machine.specs.State.Host.{Host, without_expired}
+use Rattle.host_machine.specs.Sending.Slaac.{with_slaac_applied}
+use Rattle.host_machine.specs.State.Addresses.{may_be_source}
+use Rattle.host_machine.specs.Sending.Egress.{packet_between}
+use Rattle.host_machine.specs.Sending.Packet.{IpPayload, Packet, PacketV4, Udp, IsFormed, header_v4, payload_of}
+use Rattle.host_machine.specs.Sending.Packet as packet
+use Rattle.host_machine.specs.Sending.Frame.{ip_frame}
+use Rattle.host_machine.specs.Laws.Frames.{Carries}
+use Rattle.host_machine.specs.Sending.Dispatch.{datagram_of}
+use Rattle.host_machine.specs.Receiving.Ipv4.{key_in, fragment_in, rebuilt_header}
+use Rattle.host_machine.specs.Laws.Arrivals.{rebuilt, slot_notes_in}
+use Rattle.host_machine.specs.Laws.Real.{IsReal, IsRegular}
+use Rattle.host_machine.specs.Polling.Run.{Transition, Run, Ends, Then, events_in, notes_in}
+use Rattle.host_machine.specs.Laws.TwoHosts.{WereSent, cuts, cuts_in, key_of_cut}
+use Rattle.host_machine.proofs.State.NotesBySubject.{cut_notes-append, slot_notes-append}
+use Rattle.host_machine.proofs.Receiving.Pieces.{IsIn, is_in, contains_in, in_left, in_right, in_either}
+use Rattle.host_machine.proofs.Runs.ReassemblyOrigin.{test_same}
+use Rattle.host_machine.proofs.Runs.SentPieces.{run_real}
+use Rattle.host_machine.proofs.Runs.SentPieces as shown
+use Rattle.host_machine.proofs.Sending.Turns.{between_is}
+use Rattle.host_machine.proofs.Runs.TwoHosts.{cuts-append, frame_is_cut, run_rebuilds}
+use Rattle.host_machine.proofs.Receiving.SlotEffects.{handed_frames-append}
+use Rattle.host_machine.proofs.Runs.Walk.{sent_frames-append}
 use Rattle.host_laws.specs.Deliveries.{Delivery, Deliver, NoFrame, OneGets, NoSocketGets, BringsPacket, BringsUdp, AtOnce, InFragments}
 use Rattle.host_laws.specs.Departures.{Departure, Way, Dropped, InOneFrame, InPieces, HasDeparted, Departs, cuts_by, cuts_of, departs_from}
 use Rattle.host_laws.specs.Departures as spec

@@ -6,17 +6,17 @@ use Rattle.ip_address.specs.declared.cidr.IpCidr.{IpCidr}
 use Rattle.ip_address.specs.declared.ip.IpAddress.{IpAddress}
 use Rattle.group_table.specs.declared.groups.Group.{Group}
 use Rattle.group_table.specs.declared.groups.GroupState.{GroupState}
-use Rattle.host_machine.specs.Note.{Note}
-use Rattle.host_machine.specs.Host.{Host}
-use Rattle.host_machine.specs.Packet.{Packet}
-use Rattle.host_machine.specs.Dispatch.{Outcome, Dispatches}
-use Rattle.host_machine.specs.Multicast as multicast
-use Rattle.host_machine.specs.Reports.{IgmpEgress, MldEgress}
-use Rattle.host_machine.specs.Reports as reports
-use Rattle.host_machine.specs.Slaac.{NdiscRsEgress}
-use Rattle.host_machine.specs.Slaac as slaac
-use Rattle.host_machine.specs.Egress.{Ipv4Egress}
-use Rattle.host_machine.specs.Egress as egress
+use Rattle.host_machine.specs.State.Note.{Note}
+use Rattle.host_machine.specs.State.Host.{Host}
+use Rattle.host_machine.specs.Sending.Packet.{Packet}
+use Rattle.host_machine.specs.Sending.Dispatch.{Outcome, Dispatches}
+use Rattle.host_machine.specs.Sending.Multicast as multicast
+use Rattle.host_machine.specs.Sending.Reports.{IgmpEgress, MldEgress}
+use Rattle.host_machine.specs.Sending.Reports as reports
+use Rattle.host_machine.specs.Sending.Slaac.{NdiscRsEgress}
+use Rattle.host_machine.specs.Sending.Slaac as slaac
+use Rattle.host_machine.specs.Sending.Egress.{Ipv4Egress}
+use Rattle.host_machine.specs.Sending.Egress as egress
 use Rattle.host_laws.proofs.DatagramHandover.{seen}
 use Rattle.host_laws.proofs.IngressDeliveries.{dispatched}
 

@@ -11,22 +11,22 @@ use Rattle.socket_base.specs.declared.endpoint.IpListenEndpoint.{IpListenEndpoin
 use Rattle.transport_sockets.specs.Udp.{UdpSocket, accepts, socket_after_delivery, is_accepted_at}
 use Rattle.fragmentation.specs.Reassembly.{SlotNote}
 use Rattle.host_machine.specs.declared.results.PollIngressSingleResult.{PollIngressSingleResult}
-use Rattle.host_machine.specs.Note.{Note, slot_notes}
-use Rattle.host_machine.specs.Host.{Host, SocketSet, at, without_expired}
-use Rattle.host_machine.specs.Addresses.{is_broadcast, is_for_host}
-use Rattle.host_machine.specs.Reply.{Reply, Arp, Ip}
-use Rattle.host_machine.specs.Frame.{sends}
-use Rattle.host_machine.specs.Dispatch.{Outcome, IsUnsent, Emits, Discovers, DispatchesByHop, DispatchesEthernet, SendsOver, Dispatches, with_next_id}
-use Rattle.host_machine.specs.Dispatch as dispatch
+use Rattle.host_machine.specs.State.Note.{Note, slot_notes}
+use Rattle.host_machine.specs.State.Host.{Host, SocketSet, at, without_expired}
+use Rattle.host_machine.specs.State.Addresses.{is_broadcast, is_for_host}
+use Rattle.host_machine.specs.Receiving.Reply.{Reply, Arp, Ip}
+use Rattle.host_machine.specs.Sending.Frame.{sends}
+use Rattle.host_machine.specs.Sending.Dispatch.{Outcome, IsUnsent, Emits, Discovers, DispatchesByHop, DispatchesEthernet, SendsOver, Dispatches, with_next_id}
+use Rattle.host_machine.specs.Sending.Dispatch as dispatch
 use Rattle.ip_address.specs.declared.hardware.HardwareAddress.{HardwareAddress}
 use Rattle.ip_address.specs.declared.hardware.HardwareAddress.TheVariants as hardware
-use Rattle.host_machine.specs.Packet.{Packet}
-use Rattle.host_machine.specs.Response.{Responds}
-use Rattle.host_machine.specs.Ingress.{Ingress}
-use Rattle.host_machine.specs.Parts.{Part}
-use Rattle.host_machine.proofs.NotesBySubject.{slot_notes-append}
-use Rattle.host_machine.proofs.Malformed.{handed_frames-sends}
-use Rattle.host_machine.proofs.SlotEffects.{handed_frames-append}
+use Rattle.host_machine.specs.Sending.Packet.{Packet}
+use Rattle.host_machine.specs.Receiving.Response.{Responds}
+use Rattle.host_machine.specs.Polling.Ingress.{Ingress}
+use Rattle.host_machine.specs.Sending.Parts.{Part}
+use Rattle.host_machine.proofs.State.NotesBySubject.{slot_notes-append}
+use Rattle.host_machine.proofs.Receiving.Malformed.{handed_frames-sends}
+use Rattle.host_machine.proofs.Receiving.SlotEffects.{handed_frames-append}
 use Rattle.host_laws.specs.Deliveries.{BringsPacket, BringsUdp, Delivery, Deliver, Gets, IsAccepted, NoFrame, NoSocketGets, OneGets, to_index, udp_at, with_deliveries}
 use Rattle.host_laws.specs.Deliveries as spec
 use Rattle.host_laws.proofs.DatagramHandover.{Same, seen}

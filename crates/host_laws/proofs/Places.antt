@@ -3,8 +3,8 @@ use Rattle.std.proofs.Common.{◌≡◌, ℕ, zero, suc, ◌==◌, Bool, true, f
 use Rattle.std.proofs.lemmas.Bool.Decides.{nat_tests}
 use Rattle.sockets.specs.Kinds.{down_udp}
 use Rattle.transport_sockets.specs.Udp.{UdpSocket}
-use Rattle.host_machine.specs.Host.{Storage}
-use Rattle.host_machine.specs.Delivery.{to_each, to_this}
+use Rattle.host_machine.specs.State.Host.{Storage}
+use Rattle.host_machine.specs.Receiving.Delivery.{to_each, to_this}
 
 -- the UDP socket in a place, and at an index
 abbrev pub udp_in : Storage → Option UdpSocket

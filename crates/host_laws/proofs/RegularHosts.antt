@@ -9,21 +9,21 @@ use Rattle.fragmentation.specs.Cuts.{Piece}
 use Rattle.host_machine.specs.declared.command.Command.{Command}
 use Rattle.host_machine.specs.declared.command.Answer.{Answer}
 use Rattle.host_machine.specs.declared.results.PollIngressSingleResult.{PollIngressSingleResult}
-use Rattle.host_machine.specs.Note.{Note, OfCuts, PieceSent, cut_notes}
-use Rattle.host_machine.specs.Host.{Host, without_expired, with_left}
-use Rattle.host_machine.specs.Frame.{piece_frame, sends}
-use Rattle.host_machine.specs.Ingress.{Ingress}
-use Rattle.host_machine.specs.Parts.{Part}
-use Rattle.host_machine.specs.Real.{IsReal, IsPart, IsRegular}
-use Rattle.host_machine.specs.Reply.{Reply, Arp, Ip}
-use Rattle.host_machine.specs.Response.{Responds}
-use Rattle.host_machine.specs.Run.{Transition, Run, Ends, Then}
-use Rattle.host_machine.specs.Step.{Act, Step}
-use Rattle.host_machine.specs.Step as step
-use Rattle.host_machine.specs.TwoHosts.{cuts}
-use Rattle.host_machine.proofs.SentPieces.{takes_real}
-use Rattle.host_machine.proofs.MediumAddresses.{none_of}
-use Rattle.host_machine.proofs.Turns.{stepped}
+use Rattle.host_machine.specs.State.Note.{Note, OfCuts, PieceSent, cut_notes}
+use Rattle.host_machine.specs.State.Host.{Host, without_expired, with_left}
+use Rattle.host_machine.specs.Sending.Frame.{piece_frame, sends}
+use Rattle.host_machine.specs.Polling.Ingress.{Ingress}
+use Rattle.host_machine.specs.Sending.Parts.{Part}
+use Rattle.host_machine.specs.Laws.Real.{IsReal, IsPart, IsRegular}
+use Rattle.host_machine.specs.Receiving.Reply.{Reply, Arp, Ip}
+use Rattle.host_machine.specs.Receiving.Response.{Responds}
+use Rattle.host_machine.specs.Polling.Run.{Transition, Run, Ends, Then}
+use Rattle.host_machine.specs.Polling.Step.{Act, Step}
+use Rattle.host_machine.specs.Polling.Step as step
+use Rattle.host_machine.specs.Laws.TwoHosts.{cuts}
+use Rattle.host_machine.proofs.Runs.SentPieces.{takes_real}
+use Rattle.host_machine.proofs.State.MediumAddresses.{none_of}
+use Rattle.host_machine.proofs.Sending.Turns.{stepped}
 use Rattle.host_laws.specs.Departures.{Departure, HasDeparted}
 use Rattle.host_laws.specs.Datagrams.{host_at_command}
 use Rattle.host_laws.specs.Senders.{CarryOnly, NoSocketWritesUdp}

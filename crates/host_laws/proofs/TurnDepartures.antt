@@ -12,12 +12,12 @@ use Rattle.sockets.specs.declared.socket.SocketOf.TheVariants.{Raw, Icmp, Udp, T
 use Rattle.transport_sockets.specs.Udp.{UdpSocket, without_first_to_send}
 use Rattle.transport_sockets.specs.Udp as udp
 use Rattle.host_machine.specs.declared.results.Turn.{Turn}
-use Rattle.host_machine.specs.Note.{Note, cut_notes}
-use Rattle.host_machine.specs.Host.{Host, Socket}
-use Rattle.host_machine.specs.Addresses.{source_for}
+use Rattle.host_machine.specs.State.Note.{Note, cut_notes}
+use Rattle.host_machine.specs.State.Host.{Host, Socket}
+use Rattle.host_machine.specs.State.Addresses.{source_for}
 use Rattle.net_base.specs.Checksum.{ip_mtu_of}
-use Rattle.host_machine.specs.Packet.{Packet, PacketV4, IsFormed, header_v4, payload_len, total_len, Udp as UdpPayload}
-use Rattle.host_machine.specs.Packet as packet
+use Rattle.host_machine.specs.Sending.Packet.{Packet, PacketV4, IsFormed, header_v4, payload_len, total_len, Udp as UdpPayload}
+use Rattle.host_machine.specs.Sending.Packet as packet
 use Rattle.std.specs.Prelude.{length, ◌+◌, ◌-◌, ◌/◌}
 use Rattle.std.specs.List.{AllByRecursion}
 use Rattle.std.proofs.Common.{inl, inr, arith}
@@ -30,24 +30,24 @@ use Rattle.ip_wire.specs.declared.udp.UdpRepr.{UdpRepr}
 use Rattle.ip_wire.specs.IpPacket.{src_addr, dst_addr}
 use Rattle.ip_wire.specs.Udp as udp_wire
 use Rattle.fragmentation.specs.Cuts.{Piece, HasForm, pieces_of}
-use Rattle.host_machine.specs.Frame.{payload_text}
-use Rattle.host_machine.specs.Dispatch.{piece_size}
-use Rattle.host_machine.proofs.NotedRequests.{sends_one}
-use Rattle.host_machine.proofs.Pieces.{contains_in}
-use Rattle.host_machine.proofs.TwoHosts.{size_positive}
-use Rattle.host_machine.proofs.PendingParts.{pieces_are}
-use Rattle.host_machine.proofs.Turns.{between_is}
-use Rattle.host_machine.specs.Real.{IsPart, IsRegular}
+use Rattle.host_machine.specs.Sending.Frame.{payload_text}
+use Rattle.host_machine.specs.Sending.Dispatch.{piece_size}
+use Rattle.host_machine.proofs.Sending.NotedRequests.{sends_one}
+use Rattle.host_machine.proofs.Receiving.Pieces.{contains_in}
+use Rattle.host_machine.proofs.Runs.TwoHosts.{size_positive}
+use Rattle.host_machine.proofs.Sending.PendingParts.{pieces_are}
+use Rattle.host_machine.proofs.Sending.Turns.{between_is}
+use Rattle.host_machine.specs.Laws.Real.{IsPart, IsRegular}
 use Rattle.host_laws.specs.Senders.{CarryOnly}
 use Rattle.host_laws.proofs.Accounts.{nothing_carried, unsent_carry}
 use Rattle.host_laws.proofs.FramesWithoutUdp.{piece_none}
-use Rattle.host_machine.specs.Frame.{ip_frame, piece_frame}
-use Rattle.host_machine.specs.Dispatch.{datagram_of, may_be_cut}
-use Rattle.host_machine.specs.Egress.{SocketTurn, Serves, packet_between, packet_from, socket_after_asking, with_socket}
-use Rattle.host_machine.specs.Egress as egress
-use Rattle.host_machine.specs.Order.{IsAmong, NoneOfNone, OneOf}
-use Rattle.host_machine.specs.TwoHosts.{cuts}
-use Rattle.host_machine.proofs.Malformed.{sent_frames-sends}
+use Rattle.host_machine.specs.Sending.Frame.{ip_frame, piece_frame}
+use Rattle.host_machine.specs.Sending.Dispatch.{datagram_of, may_be_cut}
+use Rattle.host_machine.specs.Sending.Egress.{SocketTurn, Serves, packet_between, packet_from, socket_after_asking, with_socket}
+use Rattle.host_machine.specs.Sending.Egress as egress
+use Rattle.host_machine.specs.Laws.Order.{IsAmong, NoneOfNone, OneOf}
+use Rattle.host_machine.specs.Laws.TwoHosts.{cuts}
+use Rattle.host_machine.proofs.Receiving.Malformed.{sent_frames-sends}
 use Rattle.host_laws.specs.Departures.{Departure, HasDeparted, Departs, Dropped, InOneFrame, InPieces, cuts_of, departs_from, entries, frames_of, from_index, packet_of, without}
 use Rattle.host_laws.specs.Departures as spec
 use Rattle.host_laws.proofs.Ways.{Goes, between}

@@ -9,18 +9,18 @@ use Rattle.ip_address.specs.Ip.{is_unspecified}
 use Rattle.ip_address.specs.declared.ethernet_address.EthernetAddress.{EthernetAddress}
 use Rattle.ip_address.specs.Hardware.{IsOf}
 use Rattle.fragmentation.specs.Cuts.{Piece, pieces_of, HasForm}
-use Rattle.host_machine.specs.Note.{Note, cut_notes}
-use Rattle.host_machine.specs.Host.{Host}
-use Rattle.host_machine.specs.Packet.{IpPayload, Packet, PacketV4, IsFormed, total_len}
-use Rattle.host_machine.specs.Real.{IsReal}
-use Rattle.host_machine.specs.Packet as packet
-use Rattle.host_machine.specs.Frame.{ip_frame, piece_frame}
-use Rattle.host_machine.specs.Dispatch.{Outcome, IsUnsent, Emits, Discovers, DispatchesByHop, DispatchesEthernet, SendsOver, Dispatches, datagram_of, destination_of, with_next_id, may_be_cut}
-use Rattle.host_machine.specs.Dispatch as dispatch
-use Rattle.host_machine.specs.Egress.{packet_between}
-use Rattle.host_machine.specs.TwoHosts.{cuts}
-use Rattle.host_machine.proofs.Walk.{Reached, ByNeighbor, ByGroup, WithoutAddresses}
-use Rattle.host_machine.proofs.SentPieces.{reached_of}
+use Rattle.host_machine.specs.State.Note.{Note, cut_notes}
+use Rattle.host_machine.specs.State.Host.{Host}
+use Rattle.host_machine.specs.Sending.Packet.{IpPayload, Packet, PacketV4, IsFormed, total_len}
+use Rattle.host_machine.specs.Laws.Real.{IsReal}
+use Rattle.host_machine.specs.Sending.Packet as packet
+use Rattle.host_machine.specs.Sending.Frame.{ip_frame, piece_frame}
+use Rattle.host_machine.specs.Sending.Dispatch.{Outcome, IsUnsent, Emits, Discovers, DispatchesByHop, DispatchesEthernet, SendsOver, Dispatches, datagram_of, destination_of, with_next_id, may_be_cut}
+use Rattle.host_machine.specs.Sending.Dispatch as dispatch
+use Rattle.host_machine.specs.Sending.Egress.{packet_between}
+use Rattle.host_machine.specs.Laws.TwoHosts.{cuts}
+use Rattle.host_machine.proofs.Runs.Walk.{Reached, ByNeighbor, ByGroup, WithoutAddresses}
+use Rattle.host_machine.proofs.Runs.SentPieces.{reached_of}
 
 -- whole, cut, or not at all
 pub data Goes (H : Host) (p : Packet) (frames : List (List ℕ)) (notes : List Note) : Type 0 where

@@ -4,10 +4,10 @@ use Rattle.std.specs.Prelude.{◌≡◌, ℕ, List, [], Some, None}
 use Rattle.std.specs.List.{AllByRecursion, Contains}
 use Rattle.std.specs.FinMap as map
 use Rattle.fragmentation.specs.Reassembly.{SlotNote}
-use Rattle.host_machine.specs.Host.{Host}
-use Rattle.host_machine.specs.Real.{IsReal, IsRegular}
-use Rattle.host_machine.specs.Run.{Transition, Run}
-use Rattle.host_machine.specs.TwoHosts.{HaveOwnKeys, WereSent, cuts_in, key_of_cut}
+use Rattle.host_machine.specs.State.Host.{Host}
+use Rattle.host_machine.specs.Laws.Real.{IsReal, IsRegular}
+use Rattle.host_machine.specs.Polling.Run.{Transition, Run}
+use Rattle.host_machine.specs.Laws.TwoHosts.{HaveOwnKeys, WereSent, cuts_in, key_of_cut}
 use Rattle.host_laws.specs.Deliveries.{Delivery, Deliver, NoFrame, OneGets, NoSocketGets, BringsUdp, AtOnce, InFragments}
 use Rattle.host_laws.specs.Departures.{Departure, Dropped, HasDeparted, departs_from}
 use Rattle.host_laws.specs.Senders.{NoSocketWritesUdp}

@@ -1,22 +1,22 @@
 //! Laws that follow from the definitions alone, each as the contract of an empty function.
-ghost use Rattle.host_machine.specs.Example.{EchoIsAnswered, PacketIsAnswered, RequestIsAnswered, SenderIsDiscovered};
-ghost use Rattle.host_machine.specs.ExampleAnyIp.{AddressesAreRoutedHere};
-ghost use Rattle.host_machine.specs.Arrivals.{FewAreKept, PiecesAreRebuilt, PiecesArriveInTime};
-ghost use Rattle.host_machine.specs.ExampleDiscovery.{NeighborIsSolicited};
-ghost use Rattle.host_machine.specs.ExampleIpv6 as ipv6;
-ghost use Rattle.host_machine.specs.ExampleGroups.{GroupsFollowAddresses, JoinsAreReported, LeaveIsReported, QueriesAreAnswered, RefusalsAreApart};
-ghost use Rattle.host_machine.specs.ExampleSlaac.{AddressesFollowPrefixes, AdvertisementsAreApplied, RoutersAreAsked};
-ghost use Rattle.host_machine.specs.ExampleFragments.{DatagramIsRebuilt, FragmentWaits, PacketGoesInPieces, TenAreCut, TimeoutsAreTested};
-ghost use Rattle.host_machine.specs.ExamplePolling.{RequestIsPolled, WaitIsDue};
-ghost use Rattle.host_machine.specs.ExampleSockets.{ConfigurationsAreTested, ConnectionIsReset, DatagramIsDelivered, DatagramIsRefused, ProtocolIsRefused, RawSocketReceives, SocketWaits, WindowFitsBurst};
-ghost use Rattle.host_machine.specs.Quiet.{SocketsAreQuiet};
-ghost use Rattle.host_machine.specs.Refusals.{RefusalsLoseNothing};
-ghost use Rattle.host_machine.specs.Determined.{DispatchIsDetermined, EgressIsDetermined, IngressIsDetermined, PollIsDetermined, ReceptionIsDetermined, RunIsDetermined, StepIsDetermined};
-ghost use Rattle.host_machine.specs.Service.{ArpRequestsAreAnswered, ClosedPortsAreAnswered, DatagramsAreQueued, DueIsDone, FirstDatagramsGo, LittleStaysDue, PiecesGo, PingsAreAnswered, PingsV6AreAnswered, PollsSyncSlaac, PollsEndInCalls, PollsLeaveLittle, RequestFramesAreRead, RequestsGo, SolicitationsAreAnswered};
-ghost use Rattle.host_machine.specs.Laws.{DiscoveriesAreNoted, DispatchesSendOneThing, FragmentsArriveInFrames, IngressIsSingle, MalformedIsDropped, RunsJoin, RunsKeepLaws};
-ghost use Rattle.host_machine.specs.Unfolded.{RunsUnfold};
-ghost use Rattle.host_machine.specs.TwoHosts.{PiecesAreRead, RebuildsWhatWasCut};
-ghost use Rattle.host_machine.specs.Wire.{FragmentsArePieces, StaysReal};
+ghost use Rattle.host_machine.specs.Examples.ArpAndEcho.{EchoIsAnswered, PacketIsAnswered, RequestIsAnswered, SenderIsDiscovered};
+ghost use Rattle.host_machine.specs.Examples.AnyIp.{AddressesAreRoutedHere};
+ghost use Rattle.host_machine.specs.Laws.Arrivals.{FewAreKept, PiecesAreRebuilt, PiecesArriveInTime};
+ghost use Rattle.host_machine.specs.Examples.Discovery.{NeighborIsSolicited};
+ghost use Rattle.host_machine.specs.Examples.Ipv6 as ipv6;
+ghost use Rattle.host_machine.specs.Examples.Groups.{GroupsFollowAddresses, JoinsAreReported, LeaveIsReported, QueriesAreAnswered, RefusalsAreApart};
+ghost use Rattle.host_machine.specs.Examples.Slaac.{AddressesFollowPrefixes, AdvertisementsAreApplied, RoutersAreAsked};
+ghost use Rattle.host_machine.specs.Examples.Fragments.{DatagramIsRebuilt, FragmentWaits, PacketGoesInPieces, TenAreCut, TimeoutsAreTested};
+ghost use Rattle.host_machine.specs.Examples.Polling.{RequestIsPolled, WaitIsDue};
+ghost use Rattle.host_machine.specs.Examples.Sockets.{ConfigurationsAreTested, ConnectionIsReset, DatagramIsDelivered, DatagramIsRefused, ProtocolIsRefused, RawSocketReceives, SocketWaits, WindowFitsBurst};
+ghost use Rattle.host_machine.specs.Laws.Quiet.{SocketsAreQuiet};
+ghost use Rattle.host_machine.specs.Laws.Refusals.{RefusalsLoseNothing};
+ghost use Rattle.host_machine.specs.Laws.Determined.{DispatchIsDetermined, EgressIsDetermined, IngressIsDetermined, PollIsDetermined, ReceptionIsDetermined, RunIsDetermined, StepIsDetermined};
+ghost use Rattle.host_machine.specs.Laws.Service.{ArpRequestsAreAnswered, ClosedPortsAreAnswered, DatagramsAreQueued, DueIsDone, FirstDatagramsGo, LittleStaysDue, PiecesGo, PingsAreAnswered, PingsV6AreAnswered, PollsSyncSlaac, PollsEndInCalls, PollsLeaveLittle, RequestFramesAreRead, RequestsGo, SolicitationsAreAnswered};
+ghost use Rattle.host_machine.specs.Laws.Steps.{DiscoveriesAreNoted, DispatchesSendOneThing, FragmentsArriveInFrames, IngressIsSingle, MalformedIsDropped, RunsJoin, RunsKeepLaws};
+ghost use Rattle.host_machine.specs.Laws.Unfolded.{RunsUnfold};
+ghost use Rattle.host_machine.specs.Laws.TwoHosts.{PiecesAreRead, RebuildsWhatWasCut};
+ghost use Rattle.host_machine.specs.Laws.Wire.{FragmentsArePieces, StaysReal};
 
 /// A frame with a malformed header of Ethernet, ARP, IPv4 or IPv6 sends nothing. It leaves the host as the same call
 /// without a frame does, which drops slots that have expired.

@@ -6,11 +6,11 @@ use Rattle.std.specs.Prelude.{ℤ, pos}
 use Rattle.std.specs.Borrow.{Bor}
 use Rattle.socket_set.specs.SocketSet.{Sockets}
 use Rattle.host_machine.specs.declared.results.PollResult.{PollResult}
-use Rattle.host_machine.specs.Config.{first_host}
-use Rattle.host_machine.specs.Due.{Due, IsLeast}
-use Rattle.host_machine.specs.Host.{Host as Machine, SocketSet, at}
-use Rattle.host_machine.specs.Polling.{Polls}
-use Rattle.host_machine.specs.Step.{SetsReassemblyTimeout, WithinDay, OverDay}
+use Rattle.host_machine.specs.State.Config.{first_host}
+use Rattle.host_machine.specs.Polling.Due.{Due, IsLeast}
+use Rattle.host_machine.specs.State.Host.{Host as Machine, SocketSet, at}
+use Rattle.host_machine.specs.Polling.Polling.{Polls}
+use Rattle.host_machine.specs.Polling.Step.{SetsReassemblyTimeout, WithinDay, OverDay}
 use Rattle.interface.specs.Goes.{Goes}
 use Rattle.interface.specs.Receives.{ReceivesFrame}
 use Rattle.interface.specs.Stands as interface

@@ -5,10 +5,10 @@ use Rattle.ip_address.specs.declared.ip.IpAddress.{IpAddress}
 use Rattle.iface_tables.specs.declared.route.Route.{Route}
 use Rattle.iface_tables.specs.declared.route.RouteTableFull.{RouteTableFull}
 use Rattle.iface_tables.specs.Route.{is_refused, old_or_full, with_default}
-use Rattle.host_machine.specs.Host.{Host as Machine, SocketSet}
-use Rattle.host_machine.specs.Multicast as machine
-use Rattle.host_machine.specs.Multicast.{NoGroup, NoPlace, JoinTaken, NoGroupEither, LeaveTaken}
-use Rattle.host_machine.specs.Step.{UpdatesIpAddrs, Accepted, Refused}
+use Rattle.host_machine.specs.State.Host.{Host as Machine, SocketSet}
+use Rattle.host_machine.specs.Sending.Multicast as machine
+use Rattle.host_machine.specs.Sending.Multicast.{NoGroup, NoPlace, JoinTaken, NoGroupEither, LeaveTaken}
+use Rattle.host_machine.specs.Polling.Step.{UpdatesIpAddrs, Accepted, Refused}
 use Rattle.host_machine.specs.declared.results.AddrError.{AddrError}
 use Rattle.host_machine.specs.declared.results.MulticastError.{MulticastError}
 use Rattle.interface.specs.Stands as interface

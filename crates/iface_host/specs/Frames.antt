@@ -8,9 +8,9 @@ use Rattle.socket_set.specs.SocketSet.{Sockets}
 use Rattle.interface.specs.Stands as interface
 use Rattle.interface.specs.Stands.{host_with}
 use Rattle.host_machine.specs.declared.results.PollResult.{PollResult}
-use Rattle.host_machine.specs.Due.{Due, IsLeast}
-use Rattle.host_machine.specs.Host.{Host as Machine, at, no_sockets}
-use Rattle.host_machine.specs.Polling.{Polls}
+use Rattle.host_machine.specs.Polling.Due.{Due, IsLeast}
+use Rattle.host_machine.specs.State.Host.{Host as Machine, at, no_sockets}
+use Rattle.host_machine.specs.Polling.Polling.{Polls}
 use Rattle.interface.specs.Goes.{Goes}
 use Rattle.interface.specs.Receives.{ReceivesFrame}
 use Rattle.iface_host.specs.Outbox.{HandsFirst, Tells, with_room}

@@ -5,8 +5,8 @@ use Rattle.egress_schedule.specs.Plan.{first_plan}
 use Rattle.net_base.specs.Checksum.{ip_mtu_of}
 use Rattle.socket_set.specs.SocketSet.{Storage, over}
 use Rattle.iface_host.specs.Outbox.{empty}
-use Rattle.host_machine.specs.Config.{first_host}
-use Rattle.host_machine.specs.Host.{Host as Machine}
+use Rattle.host_machine.specs.State.Config.{first_host}
+use Rattle.host_machine.specs.State.Host.{Host as Machine}
 use Rattle.ip_address.specs.Hardware.{medium_of}
 use Rattle.net_base.specs.declared.phy.Checksum.TheVariants.{Both}
 use Rattle.net_base.specs.declared.phy.DeviceCapabilities.{DeviceCapabilities}

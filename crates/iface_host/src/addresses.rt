@@ -1,6 +1,6 @@
 //! The addresses of a host, and the groups that it joins.
 ghost use Rattle.std.specs.Prelude.{◌≡◌, IfSome, OnOk, OnErr, slice_get};
-ghost use Rattle.host_machine.specs.Step.{UpdatesIpAddrs};
+ghost use Rattle.host_machine.specs.Polling.Step.{UpdatesIpAddrs};
 ghost use Rattle.interface.specs.Stands as stands;
 ghost use Rattle.std.specs.List.{position_or_len};
 ghost use Rattle.iface_host.specs.Calls.{is_same, AddsAddress, JoinsGroup, LeavesGroup, RemovesAddress, addresses_of};

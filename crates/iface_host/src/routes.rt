@@ -1,6 +1,6 @@
 //! The routes of a host.
 ghost use Rattle.std.specs.Prelude.{◌≡◌, ◌≤◌, OnOk, OnErr, length};
-ghost use Rattle.host_machine.specs.Host.{SocketSet};
+ghost use Rattle.host_machine.specs.State.Host.{SocketSet};
 ghost use Rattle.iface_tables.specs.Route.{ipv4_gateway, ipv6_gateway, is_ipv4_gateway, is_ipv6_gateway, old_or_full, with_default};
 ghost use Rattle.interface.specs.Stands.{Becomes, host_with};
 ghost use Rattle.std.specs.List.{position_or_len};

@@ -1,7 +1,6 @@
 -- What is done with a packet, over plain variables.
 use Rattle.std.proofs.Common.{◌≡◌, ◌⊎◌, inl, inr, ℕ, Bool, true, false, List, [], Option, None, length, ◌≤◌, refl, ap, ◌∙◌}
 use Rattle.net_base.specs.Checksum.{is_rx}
-use Rattle.ip_wire.specs.declared.arp.ArpRepr.{ArpRepr}
 use Rattle.ip_address.specs.declared.ethernet_address.EthernetAddress.{EthernetAddress}
 use Rattle.ip_address.specs.declared.hardware.HardwareAddress.TheVariants as hardware
 use Rattle.ip_address.specs.declared.ip.IpAddress.TheVariants.{Ipv4}
@@ -13,33 +12,23 @@ use Rattle.ip_wire.specs.declared.ethernet.EthernetProtocol.{EthernetProtocol}
 use Rattle.ip_wire.specs.declared.ethernet.EthernetProtocol.TheVariants as ethertype
 use Rattle.ip_wire.specs.declared.ethernet.EthernetRepr.{EthernetRepr}
 use Rattle.ip_wire.specs.Ethernet.{ethernet_in}
-use Rattle.ip_wire.specs.Arp.{IsArp, arp_in}
-use Rattle.iface_tables.specs.Neighbor.{Neighbors, Fills, expiry_from}
-use Rattle.host_machine.specs.Host.{Host, with_neighbors}
-use Rattle.host_machine.specs.Reply.{Reply}
-use Rattle.host_machine.specs.Arp.{ProcessesArp, Learnt, NotForUs, is_for_us, answer_by}
+use Rattle.host_machine.specs.State.Host.{Host}
+use Rattle.host_machine.specs.Receiving.Reply.{Reply}
+use Rattle.host_machine.specs.Receiving.Arp.{NotForUs}
 use Rattle.ip_address.specs.declared.hardware.HardwareAddress.{HardwareAddress}
 use Rattle.ip_wire.specs.declared.ipv4_packet.Ipv4Fragment.{Ipv4Fragment}
 use Rattle.ip_wire.specs.Ipv4Packet.{IsIpv4, ipv4_in}
-use Rattle.host_machine.specs.Addresses.{is_for_host}
-use Rattle.host_machine.specs.Raw.{host_after_raw_delivery, is_taken}
-use Rattle.host_machine.specs.Renewal.{sender_renewed}
-use Rattle.host_machine.specs.Note.{Note}
-use Rattle.host_machine.specs.Ethernet.{ProcessesFrame, ProcessesEthernet, ProcessesIp, ProcessesEthertype, is_for}
-use Rattle.host_machine.specs.Ethernet as ethernet
-use Rattle.host_machine.specs.Ipv4 as ipv4
-use Rattle.host_machine.specs.Ipv4.{ProcessesProtocol, ProcessesPacket, ProcessesDatagram, ProcessesIpv4, Read}
-use Rattle.host_machine.specs.Icmpv4.{unreachable}
+use Rattle.host_machine.specs.State.Addresses.{is_for_host}
+use Rattle.host_machine.specs.Receiving.Raw.{host_after_raw_delivery, is_taken}
+use Rattle.host_machine.specs.Receiving.Renewal.{sender_renewed}
+use Rattle.host_machine.specs.State.Note.{Note}
+use Rattle.host_machine.specs.Receiving.Ethernet.{ProcessesFrame, ProcessesEthernet, ProcessesIp, ProcessesEthertype, is_for}
+use Rattle.host_machine.specs.Receiving.Ethernet as ethernet
+use Rattle.host_machine.specs.Receiving.Ipv4 as ipv4
+use Rattle.host_machine.specs.Receiving.Ipv4.{ProcessesProtocol, ProcessesPacket, ProcessesDatagram, ProcessesIpv4, Read}
+use Rattle.host_machine.specs.Receiving.Icmpv4.{unreachable}
 use Rattle.control_wire.specs.declared.icmpv4.Icmpv4DstUnreachable.TheVariants.{ProtoUnreachable}
-use Rattle.iface_protocols.proofs.Processing.{dropped}
-
--- a packet is learnt from, and answered if it asks
-pub arp_learnt : (own : EthernetAddress) (H K : Host) (payload : List ℕ) (r : ArpRepr) (neighbors : Neighbors) (reply : Option Reply) →
-    IsArp payload × (r ≡ arp_in payload) → is_for_us H r ≡ true →
-    Fills H.neighbors neighbors (Ipv4 r.source_protocol_addr) (record { hardware_addr = hardware.Ethernet r.source_hardware_addr; expires_at = expiry_from H.moment }) →
-    K ≡ with_neighbors H neighbors → reply ≡ answer_by r.operation own r → ProcessesArp own H payload reply [] K
-arp_learnt own H K payload r neighbors reply is hears fills same answers =
-    Learnt is.0 (rw is.1 at hears) (record { neighbors = neighbors; filled = rw is.1 at fills; same = same }) (rw is.1 at answers) refl
+use Rattle.iface_send.proofs.Processing.{dropped}
 
 -- a packet is read, and taken
 pub ipv4_read : (source : HardwareAddress) (H K : Host) (octets payload : List ℕ) (r : Ipv4Repr) (f : Ipv4Fragment) (checked : Bool) (reply : Option Reply) (notes : List Note) →
@@ -103,7 +92,3 @@ pub ethernet_refused : (own : EthernetAddress) (H : Host) (frame payload : List 
 ethernet_refused own H frame payload e is others =
     let same_header : e ≡ (ethernet_in frame).0 = ap (λ (p : EthernetRepr × List ℕ). p.0) is.1 in
     ethernet.NotForUs is.0 (rw same_header at others) (dropped H)
-
--- a packet that isn't listened to
-pub arp_not_accepted : (own : EthernetAddress) (H : Host) (payload : List ℕ) (r : ArpRepr) → IsArp payload × (r ≡ arp_in payload) → is_for_us H r ≡ false → ProcessesArp own H payload None [] H
-arp_not_accepted own H payload r is deaf = NotForUs is.0 (rw is.1 at deaf) (dropped H)

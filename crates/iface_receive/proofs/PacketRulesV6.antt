@@ -11,15 +11,15 @@ use Rattle.ipv6_wire.specs.declared.hop_by_hop.Ipv6HopByHopRepr.{Ipv6HopByHopRep
 use Rattle.ipv6_wire.specs.declared.hop_by_hop.Ipv6OptionFailureType.{Ipv6OptionFailureType}
 use Rattle.ipv6_wire.specs.declared.hop_by_hop.Ipv6OptionFailureType.TheVariants.{Skip}
 use Rattle.ipv6_wire.specs.HopByHop.{IsHopByHop, hop_by_hop_in, first_failure}
-use Rattle.host_machine.specs.Note.{Note}
-use Rattle.host_machine.specs.Host.{Host}
-use Rattle.host_machine.specs.Addresses.{is_for_host}
-use Rattle.host_machine.specs.Reply.{Reply}
-use Rattle.host_machine.specs.Raw.{host_after_raw_delivery, is_taken}
-use Rattle.host_machine.specs.Renewal.{sender_renewed}
-use Rattle.host_machine.specs.Ipv6 as ipv6
-use Rattle.host_machine.specs.Ipv6.{ProcessesIpv6}
-use Rattle.iface_protocols.proofs.Processing.{dropped}
+use Rattle.host_machine.specs.State.Note.{Note}
+use Rattle.host_machine.specs.State.Host.{Host}
+use Rattle.host_machine.specs.State.Addresses.{is_for_host}
+use Rattle.host_machine.specs.Receiving.Reply.{Reply}
+use Rattle.host_machine.specs.Receiving.Raw.{host_after_raw_delivery, is_taken}
+use Rattle.host_machine.specs.Receiving.Renewal.{sender_renewed}
+use Rattle.host_machine.specs.Receiving.Ipv6 as ipv6
+use Rattle.host_machine.specs.Receiving.Ipv6.{ProcessesIpv6}
+use Rattle.iface_send.proofs.Processing.{dropped}
 
 -- octets that are no packet
 pub ipv6_malformed : (source : HardwareAddress) (H : Host) (octets : List ℕ) → (IsIpv6 octets → ⊥) → ProcessesIpv6 source H octets None [] H

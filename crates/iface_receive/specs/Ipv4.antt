@@ -12,7 +12,7 @@ use Rattle.fragmentation.specs.Slots.{Slots}
 use Rattle.fragmentation.specs.Assembly.{Assembly}
 use Rattle.fragmentation.specs.Stands.{StandForSlots}
 use Rattle.fragmentation.specs.Reassembled.{Reassembled}
-use Rattle.host_machine.specs.Ipv4.{key_in, fragment_in}
+use Rattle.host_machine.specs.Receiving.Ipv4.{key_in, fragment_in}
 use Rattle.iface_send.specs.declared.context.Context.{Context}
 
 -- the expiry of a slot that is taken now

@@ -1,14 +1,14 @@
 //! How an interface processes frames, by their link-layer header (RFC 894, RFC 1122 2.4).
 ghost use Rattle.std.specs.Prelude.{◌≡◌, ◌<◌, [], length};
-ghost use Rattle.host_machine.specs.Ethernet.{ProcessesFrame, ProcessesEthernet, ProcessesIp, ProcessesEthertype, is_for};
-ghost use Rattle.host_machine.specs.Host.{no_sockets};
+ghost use Rattle.host_machine.specs.Receiving.Ethernet.{ProcessesFrame, ProcessesEthernet, ProcessesIp, ProcessesEthertype, is_for};
+ghost use Rattle.host_machine.specs.State.Host.{no_sockets};
 ghost use Rattle.iface_send.specs.Stands.{host_of};
-ghost use Rattle.iface_protocols.specs.Processed.{Answers, StandsFor};
+ghost use Rattle.iface_send.specs.Refines.{Answers, StandsFor};
 
-use crate::arp::process_arp;
 use crate::ipv4::process_ipv4;
 use crate::ipv6::process_ipv6;
 use fragmentation::{FragKey, PacketAssemblerSet};
+use iface_discovery::arp::process_arp;
 use iface_send::Context;
 use ip_wire::emit::FrameBuffer;
 use ip_wire::{EthernetAddress, EthernetProtocol, EthernetRepr, HardwareAddress};

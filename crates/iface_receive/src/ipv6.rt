@@ -1,21 +1,20 @@
 //! How an interface processes IPv6 packets (RFC 8200).
 ghost use Rattle.std.specs.Prelude.{◌≡◌, ◌<◌, ◌^◌, [], length, true};
 ghost use Rattle.ip_address.specs.Ipv6.{is_unicast};
-ghost use Rattle.host_machine.specs.Host.{no_sockets};
-ghost use Rattle.host_machine.specs.Ipv6 as spec;
-ghost use Rattle.host_machine.specs.Response.{Responds};
-ghost use Rattle.iface_send.specs.Built.{Built};
+ghost use Rattle.host_machine.specs.State.Host.{no_sockets};
+ghost use Rattle.host_machine.specs.Receiving.Ipv6 as spec;
+ghost use Rattle.host_machine.specs.Receiving.Response.{Responds};
+ghost use Rattle.iface_send.specs.Refines.{Built, Processed};
 ghost use Rattle.iface_send.specs.Stands.{host_of};
-ghost use Rattle.iface_protocols.specs.Processed.{Processed};
 
-use crate::hop_by_hop::answer_unknown_option;
-use crate::renewal::renew_sender;
 use icmpv6_wire::Icmpv6ParamProblem;
-use iface_protocols::icmpv6::{parameter_problem, process_icmpv6};
-use iface_protocols::raw;
-use iface_protocols::tcp::process_tcp;
-use iface_protocols::udp::process_udp;
+use iface_discovery::renewal::renew_sender;
+use iface_icmp::hop_by_hop::answer_unknown_option;
+use iface_icmp::icmpv6::{parameter_problem, process_icmpv6};
 use iface_send::Context;
+use iface_sockets::raw;
+use iface_sockets::tcp::process_tcp;
+use iface_sockets::udp::process_udp;
 use ip_wire::emit::FrameBuffer;
 use ip_wire::{HardwareAddress, IpProtocol, IpRepr, Ipv6Repr};
 use ipv6_wire::{Ipv6HopByHopRepr, Ipv6OptionFailureType};

@@ -4,9 +4,6 @@
 //! Begin with [`ethernet::process_frame`].
 #![tactic(auto)]
 
-pub mod arp;
 pub mod ethernet;
-mod hop_by_hop;
 pub mod ipv4;
 pub mod ipv6;
-mod renewal;

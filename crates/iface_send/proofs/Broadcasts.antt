@@ -9,7 +9,7 @@ use Rattle.ip_address.specs.declared.cidr.IpCidr.{IpCidr}
 use Rattle.ip_address.specs.declared.cidr.IpCidr.TheVariants as cidr
 use Rattle.ip_address.specs.Prefixes.{last_of}
 use Rattle.ip_address.proofs.LastAddress.{ends_in_ones}
-use Rattle.host_machine.specs.Addresses.{is_broadcast_of, is_broadcast_v4, is_that}
+use Rattle.host_machine.specs.State.Addresses.{is_broadcast_of, is_broadcast_v4, is_that}
 
 -- a number that doesn't end in two ones isn't the last of a network
 unlike : (n : Ipv4Cidr) (a : Ipv4Address) → (a.bits % 4 == 3) ≡ false → is_broadcast_of (cidr.Ipv4 n) a ≡ false

@@ -1,13 +1,13 @@
 -- What was built, from its parts.
 use Rattle.std.proofs.Common.{◌≡◌, ℕ, ◌<◌, List, [], ◌∷◌, length, refl, arith}
 use Rattle.fragmentation.specs.Slots.{Slots}
-use Rattle.host_machine.specs.Note.{Note}
-use Rattle.host_machine.specs.Host.{Host, SocketSet}
-use Rattle.host_machine.specs.Frame.{frames_in}
-use Rattle.host_machine.specs.Dispatch.{IsUnsent}
+use Rattle.host_machine.specs.State.Note.{Note}
+use Rattle.host_machine.specs.State.Host.{Host, SocketSet}
+use Rattle.host_machine.specs.Sending.Frame.{frames_in}
+use Rattle.host_machine.specs.Sending.Dispatch.{IsUnsent}
 use Rattle.iface_send.specs.declared.context.Context.{Context}
 use Rattle.iface_send.specs.Stands.{host_in}
-use Rattle.iface_send.specs.Built.{Built}
+use Rattle.iface_send.specs.Refines.{Built}
 
 pub unsent : (H : Host) → IsUnsent H [] [] H
 unsent H = record { silent = refl; unnoted = refl; unchanged = refl }

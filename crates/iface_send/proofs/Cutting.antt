@@ -7,21 +7,20 @@ use Rattle.net_base.specs.declared.phy.Medium.{Medium}
 use Rattle.ip_address.specs.declared.hardware.HardwareAddress.{HardwareAddress}
 use Rattle.ip_wire.specs.declared.ethernet.EthernetProtocol.TheVariants as protocol
 use Rattle.ip_wire.specs.Ipv4Packet.{header_text}
-use Rattle.net_base.specs.Checksum.{is_tx}
+use Rattle.net_base.specs.Checksum.{is_tx, ip_mtu_of}
 use Rattle.fragmentation.specs.Cuts.{Piece, HasForm, pieces_of}
 use Rattle.fragmentation.specs.Pending.{IsNext, NoPiece, First, Shows, rest_of}
 use Rattle.fragmentation.specs.declared.fragmenter.NextPiece.{NextPiece}
-use Rattle.net_base.specs.Checksum.{ip_mtu_of}
-use Rattle.host_machine.specs.Note.{OfCuts, Cut, PieceSent}
+use Rattle.host_machine.specs.State.Note.{OfCuts, Cut, PieceSent}
 use Rattle.std.proofs.lemmas.Bool.Decides.{nat_tests}
-use Rattle.host_machine.specs.Packet.{PacketV4, Ipv4, HasPorts, total_len}
-use Rattle.host_machine.specs.Dispatch.{Emits, InPieces, datagram_of}
-use Rattle.host_machine.specs.Host.{Host, SocketSet, no_sockets, with_slots, with_left}
-use Rattle.host_machine.specs.Frame.{link_header, piece_frame}
-use Rattle.host_machine.specs.Real.{IsPart}
+use Rattle.host_machine.specs.Sending.Packet.{PacketV4, Ipv4, HasPorts, total_len}
+use Rattle.host_machine.specs.Sending.Dispatch.{Emits, InPieces, datagram_of}
+use Rattle.host_machine.specs.State.Host.{Host, SocketSet, no_sockets, with_slots, with_left}
+use Rattle.host_machine.specs.Sending.Frame.{link_header, piece_frame}
+use Rattle.host_machine.specs.Laws.Real.{IsPart}
 use Rattle.iface_send.specs.declared.context.Context.{Context}
 use Rattle.iface_send.specs.Stands.{host_of}
-use Rattle.iface_send.specs.Built.{Built}
+use Rattle.iface_send.specs.Refines.{Built}
 use Rattle.iface_send.specs.Pieces.{NextPieceGoes}
 use Rattle.iface_send.proofs.Building.{one, noting}
 

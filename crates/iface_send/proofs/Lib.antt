@@ -1,5 +1,9 @@
+mod Broadcasts
 mod Building
 mod Cutting
-mod Broadcasts
+mod DispatchFrame
+mod FragmentTurns
+pub mod Offered
+pub mod Processing
 mod Routing
 mod Syncing

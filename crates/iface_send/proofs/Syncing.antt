@@ -4,9 +4,9 @@ use Rattle.ip_address.specs.declared.cidr.IpCidr.{IpCidr}
 use Rattle.iface_tables.specs.declared.route.Route.{Route}
 use Rattle.slaac.specs.Slaac.{slaac_after_update}
 use Rattle.slaac.specs.Sync.{synced_addrs, synced_routes}
-use Rattle.host_machine.specs.Host.{Host}
-use Rattle.host_machine.specs.Multicast.{after_address_change}
-use Rattle.host_machine.specs.Slaac.{with_slaac_applied}
+use Rattle.host_machine.specs.State.Host.{Host}
+use Rattle.host_machine.specs.Sending.Multicast.{after_address_change}
+use Rattle.host_machine.specs.Sending.Slaac.{with_slaac_applied}
 
 pub in_line_by : (H K L M : Host) (list : List IpCidr) (routes : List Route) → list ≡ synced_addrs H.hardware_addr H.moment H.slaac.prefixes H.ip_addrs →
     routes ≡ synced_routes H.moment H.slaac.routers H.routes → K ≡ after_address_change H list → L ≡ record K { routes = routes } →

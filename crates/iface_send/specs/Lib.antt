@@ -1,5 +1,5 @@
 pub mod Multicast
-pub mod Stands
-pub mod PacketValues
-pub mod Built
+pub mod Offered
 pub mod Pieces
+pub mod Refines
+pub mod Stands

@@ -5,7 +5,7 @@ use Rattle.arrayvec.specs.ArrayVec.{ArrayVec}
 use Rattle.ip_address.specs.declared.cidr.IpCidr.{IpCidr}
 use Rattle.iface_tables.specs.declared.route.Route.{Route}
 use Rattle.fragmentation.specs.Slots.{Slots}
-use Rattle.host_machine.specs.Host.{Host, SocketSet, with_slots}
+use Rattle.host_machine.specs.State.Host.{Host, SocketSet, with_slots}
 use Rattle.iface_send.specs.declared.context.Context.{Context}
 
 -- a list of addresses, as an interface keeps it

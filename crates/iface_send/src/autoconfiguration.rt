@@ -1,8 +1,8 @@
 //! Stateless address autoconfiguration (SLAAC) on the state of an interface (RFC 4862 5.5, RFC 4861 6.3).
 ghost use Rattle.std.specs.Prelude.{◌≡◌, ◌≤◌, length};
-ghost use Rattle.host_machine.specs.Host.{SocketSet, no_sockets};
-ghost use Rattle.host_machine.specs.Multicast.{after_address_change};
-ghost use Rattle.host_machine.specs.Slaac.{with_slaac_applied, after_sync, with_slaac};
+ghost use Rattle.host_machine.specs.State.Host.{SocketSet, no_sockets};
+ghost use Rattle.host_machine.specs.Sending.Multicast.{after_address_change};
+ghost use Rattle.host_machine.specs.Sending.Slaac.{with_slaac_applied, after_sync, with_slaac};
 ghost use Rattle.fragmentation.specs.Slots.{Slots};
 ghost use Rattle.iface_send.specs.Stands.{host_in, host_of};
 ghost use Rattle.slaac.specs.Slaac as learnt;
@@ -21,7 +21,7 @@ use slaac::sync::{synced_addrs, synced_routes};
 
 impl Context {
     ghost use Rattle.std.specs.Prelude.{◌≡◌};
-    ghost use Rattle.host_machine.specs.Host.{no_sockets};
+    ghost use Rattle.host_machine.specs.State.Host.{no_sockets};
     ghost use Rattle.iface_send.specs.Stands.{host_of};
 
     /// Whether the interface takes IPv6 addresses from router advertisements.

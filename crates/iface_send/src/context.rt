@@ -1,18 +1,21 @@
 //! What an interface knows, besides its buffers.
 ghost use Rattle.std.specs.Prelude.{◌≡◌, ◌≤◌, ◌+◌};
-ghost use Rattle.std.specs.List.{AllByRecursion, list_any};
+ghost use Rattle.std.specs.List.{AllByRecursion};
 ghost use Rattle.net_base.specs.Time.{IsMoment};
 ghost use Rattle.net_base.specs.Checksum.{ip_mtu_of};
 ghost use Rattle.ip_address.specs.Hardware.{IsOf, IsOf-prop, medium_of};
 ghost use Rattle.iface_tables.specs.Neighbor.{AreOf, AreOf-prop};
-ghost use Rattle.host_machine.specs.Host.{is_assigned, no_sockets};
-ghost use Rattle.host_machine.specs.Addresses as addresses;
-ghost use Rattle.host_machine.specs.Real.{IsPart, are_parts-prop};
+ghost use Rattle.host_machine.specs.State.Host.{is_assigned, no_sockets};
+ghost use Rattle.host_machine.specs.State.Addresses as addresses;
+ghost use Rattle.host_machine.specs.Laws.Real.{IsPart, are_parts-prop};
 
 use crate::membership::Membership;
 use address_selection::{get_source_address_ipv6, ipv6_addr};
 use arrayvec::ArrayVec;
 use fragmentation::Fragmenter;
+use iface_addresses::addresses::{
+    ends_a_network, first_ipv4, first_link_local, is_assigned, is_loopback, is_solicited, near_ipv4,
+};
 use iface_tables::neighbor::Cache;
 use iface_tables::route::Routes;
 use ip_wire::{HardwareAddress, IpAddress, IpCidr, Ipv4Address, Ipv6Address};
@@ -58,7 +61,7 @@ pub struct Context {
 impl Context {
     ghost use Rattle.std.specs.Prelude.{◌≡◌, ◌≤◌, ◌||◌, [], not, length};
     ghost use Rattle.fragmentation.specs.Pending.{is_nil};
-    ghost use Rattle.host_machine.specs.Host as host;
+    ghost use Rattle.host_machine.specs.State.Host as host;
     ghost use Rattle.iface_send.specs.Stands.{host_of};
 
     /// The capabilities of the device when the interface was created.
@@ -304,7 +307,7 @@ impl Context {
 impl Context {
     ghost use Rattle.std.specs.Prelude.{◌≡◌, ◌/◌, ◌^◌};
     ghost use Rattle.net_base.specs.Rand.{next};
-    ghost use Rattle.host_machine.specs.Host.{SocketSet};
+    ghost use Rattle.host_machine.specs.State.Host.{SocketSet};
     ghost use Rattle.iface_send.specs.Stands.{host_of};
 
     /// Draws the next random 16-bit word, for values that need not be secret.
@@ -325,7 +328,7 @@ impl Context {
 }
 
 impl SocketContext for Context {
-    ghost use Rattle.host_machine.specs.Addresses as addresses;
+    ghost use Rattle.host_machine.specs.State.Addresses as addresses;
 
     ghost moment = { λ c. c.moment };
 
@@ -355,103 +358,4 @@ impl SocketContext for Context {
             IpAddress::Ipv6(_) => false,
         }
     }
-}
-
-/// Whether an address is ::1.
-fn is_loopback(address: &IpAddress) -> bool
-    ensures { result ≡ addresses.is_loopback address.now }
-{
-    match address {
-        IpAddress::Ipv4(_) => false,
-        IpAddress::Ipv6(address) => address.is_loopback(),
-    }
-}
-
-/// Whether an address is the solicited-node group of an address of the list other than ::1.
-pub(crate) fn is_solicited(own: &[IpCidr], address: &Ipv6Address) -> bool
-    ensures { result ≡ addresses.has_solicited_node own.now address.now }
-{
-    own.iter().any(|cidr| is_asked_by(cidr, address))
-}
-
-/// Whether an address is the solicited-node group of another address, which is not ::1.
-#[inline(always)]
-fn is_asked_by(cidr: &IpCidr, address: &Ipv6Address) -> bool
-    ensures { result ≡ addresses.is_asked_by address.now cidr.now }
-{
-    match cidr {
-        IpCidr::Ipv4(_) => false,
-        IpCidr::Ipv6(cidr) => {
-            !cidr.address.is_loopback() && cidr.address.solicited_node().bits == address.bits
-        }
-    }
-}
-
-/// Whether an address is in a list.
-#[inline(always)]
-fn is_assigned(own: &[IpCidr], address: &IpAddress) -> bool
-    ensures { result ≡ is_assigned own.now address.now }
-{
-    own.iter().any(|cidr| cidr.address() == *address)
-}
-
-/// Whether an address is the broadcast address of a network in a list.
-fn ends_a_network(own: &[IpCidr], address: &Ipv4Address) -> bool
-    ensures { result ≡ list_any (λ c. addresses.is_broadcast_of c address.now) own.now }
-{
-    own.iter().any(|cidr| is_broadcast_of(cidr, address))
-}
-
-/// Whether an address is the broadcast address of a network.
-#[inline(always)]
-fn is_broadcast_of(cidr: &IpCidr, address: &Ipv4Address) -> bool
-    ensures { result ≡ addresses.is_broadcast_of cidr.now address.now }
-{
-    match cidr {
-        IpCidr::Ipv4(cidr) => match cidr.broadcast() {
-            Some(broadcast) => broadcast.bits == address.bits,
-            None => false,
-        },
-        IpCidr::Ipv6(_) => false,
-    }
-}
-
-/// The first IPv4 address of a list.
-fn first_ipv4(own: &[IpCidr]) -> Option<Ipv4Address>
-    ensures { result ≡ addresses.ipv4_addr own.now }
-{
-    for cidr in own {
-        if let IpCidr::Ipv4(cidr) = cidr {
-            return Some(cidr.address);
-        }
-    }
-    None
-}
-
-/// The first link-local address of a list.
-fn first_link_local(own: &[IpCidr]) -> Option<Ipv6Address>
-    ensures { result ≡ addresses.link_local_addr own.now }
-{
-    for cidr in own {
-        if let IpCidr::Ipv6(cidr) = cidr {
-            if cidr.address.is_link_local() {
-                return Some(cidr.address);
-            }
-        }
-    }
-    None
-}
-
-/// The first IPv4 address of a list whose network contains another.
-fn near_ipv4(own: &[IpCidr], address: &Ipv4Address) -> Option<Ipv4Address>
-    ensures { result ≡ addresses.near_addr own.now address.now }
-{
-    for cidr in own {
-        if let IpCidr::Ipv4(cidr) = cidr {
-            if cidr.contains_addr(address) {
-                return Some(cidr.address);
-            }
-        }
-    }
-    None
 }

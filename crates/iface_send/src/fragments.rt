@@ -4,21 +4,74 @@ ghost use Rattle.net_base.specs.Checksum.{ip_mtu_of};
 ghost use Rattle.ip_address.specs.Hardware.{IsOf};
 ghost use Rattle.fragmentation.specs.Cuts.{HasForm, pieces_of};
 ghost use Rattle.fragmentation.specs.Pending.{is_nil};
-ghost use Rattle.host_machine.specs.Host.{SocketSet, no_sockets, with_left};
-ghost use Rattle.host_machine.specs.Packet.{HasPorts, IsWritablePayload};
-ghost use Rattle.host_machine.specs.Packet as value;
-ghost use Rattle.host_machine.specs.Dispatch as spec;
-ghost use Rattle.iface_send.specs.PacketValues as value_of;
-ghost use Rattle.iface_send.specs.Built.{Built};
-ghost use Rattle.iface_send.specs.Pieces.{NextPieceGoes};
+ghost use Rattle.host_machine.specs.State.Host.{SocketSet, no_sockets, with_left};
+ghost use Rattle.host_machine.specs.Sending.Packet.{HasPorts, IsWritablePayload};
+ghost use Rattle.host_machine.specs.Sending.Packet as value;
+ghost use Rattle.host_machine.specs.Sending.Dispatch as spec;
+ghost use Rattle.host_machine.specs.Polling.Due as due;
+ghost use Rattle.iface_packet.specs.PacketValues as value_of;
+ghost use Rattle.iface_send.specs.Refines.{Built, Told};
+ghost use Rattle.iface_send.specs.Pieces.{NextPieceGoes, PieceHasTurn};
 ghost use Rattle.iface_send.specs.Stands.{host_of};
 
 use crate::context::Context;
-use crate::packet::{PacketV4, emit_link_header};
-use crate::payload::{IpPayload, Payload};
+use crate::transmit::send_frame;
+use iface_packet::packet::{PacketV4, emit_link_header};
+use iface_packet::payload::{IpPayload, Payload};
 use ip_wire::emit::FrameBuffer;
 use ip_wire::ipv4_packet::HEADER_LEN;
 use ip_wire::{EthernetProtocol, HardwareAddress, IpRepr};
+use net_base::phy::Device;
+use net_base::time::Instant;
+use sockets::SocketContext;
+
+/// Builds the frame of the next pending fragment in an empty buffer; the others stay pending. There must be one.
+pub fn emit_next_piece(context: &mut Context, out: &mut FrameBuffer)
+    requires empty { out.old ≡ [] }
+    requires some { is_nil (host_of context.old no_sockets).left ≡ false }
+    ensures { Built out.new NextPieceGoes context.old context.new }
+{
+    let Some(piece) = context.fragmenter.peek() else {
+        return;
+    };
+    let destination = &piece.destination;
+    emit_link_header(
+        &context.hardware_addr,
+        destination,
+        EthernetProtocol::Ipv4,
+        out,
+    );
+    let summed = context.capabilities.checksum.ipv4.tx();
+    piece.header.emit(&piece.fragment, summed, out);
+    out.append(piece.octets);
+    context.fragmenter.advance();
+}
+
+/// Sends the next pending fragment, if there is one and the device grants a transmit token. The others stay pending.
+pub fn ipv4_egress<D: Device>(context: &mut Context, device: &mut D, out: &mut FrameBuffer)
+    ensures { Told D.tells device.old device.new (PieceHasTurn context.old) context.new }
+{
+    if !context.has_pending_fragment() {
+        return;
+    }
+    if !device.transmit(context.now()) {
+        return;
+    }
+    out.clear();
+    emit_next_piece(context, out);
+    send_frame(device, out);
+}
+
+/// When the pending fragment is due: immediately, if there is one.
+pub fn piece_poll_at(context: &Context) -> Option<Instant>
+    ensures { result ≡ due.at_once (host_of context.now no_sockets).left }
+{
+    if context.has_pending_fragment() {
+        Some(Instant::ZERO)
+    } else {
+        None
+    }
+}
 
 /// Fragments a packet that exceeds the device's IP MTU and has at most 4,096 octets. Builds the frame of the first
 /// fragment in an empty buffer, and keeps the others pending in place of any that were.
@@ -77,26 +130,4 @@ fn fragment_packet(
         scratch.as_slice(),
         packet.payload.octets(),
     );
-}
-
-/// Builds the frame of the next pending fragment in an empty buffer; the others stay pending. There must be one.
-pub fn emit_next_piece(context: &mut Context, out: &mut FrameBuffer)
-    requires empty { out.old ≡ [] }
-    requires some { is_nil (host_of context.old no_sockets).left ≡ false }
-    ensures { Built out.new NextPieceGoes context.old context.new }
-{
-    let Some(piece) = context.fragmenter.peek() else {
-        return;
-    };
-    let destination = &piece.destination;
-    emit_link_header(
-        &context.hardware_addr,
-        destination,
-        EthernetProtocol::Ipv4,
-        out,
-    );
-    let summed = context.capabilities.checksum.ipv4.tx();
-    piece.header.emit(&piece.fragment, summed, out);
-    out.append(piece.octets);
-    context.fragmenter.advance();
 }

@@ -1,5 +1,5 @@
-//! What an interface knows, and how it sends: the context with its address tests and source address selection, packets
-//! as values, and their dispatch to the next hop.
+//! What an interface knows, and how it sends: the context with its address tests and source address selection, next
+//! hops, and the dispatch of packets, fragmented where they are too long.
 #![tactic(auto)]
 
 pub mod autoconfiguration;
@@ -9,10 +9,7 @@ pub mod fragments;
 mod membership;
 pub mod multicast;
 pub mod neighbors;
-pub mod packet;
-pub mod payload;
 pub mod settings;
+pub mod transmit;
 
 pub use context::Context;
-pub use packet::{AnyPacket, Packet, PacketV4, PacketV6};
-pub use payload::{IpPayload, Payload};

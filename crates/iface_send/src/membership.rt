@@ -3,14 +3,14 @@ ghost use Rattle.std.specs.Prelude.{◌≡◌, ◌<◌, ◌≤◌, [], filter, l
 ghost use Rattle.group_table.specs.declared.groups.Group.{Group};
 ghost use Rattle.group_table.specs.declared.report.IgmpReportState.TheVariants as igmp;
 ghost use Rattle.group_table.specs.declared.report.MldReportState.TheVariants as mld;
-ghost use Rattle.host_machine.specs.Multicast as spec;
+ghost use Rattle.host_machine.specs.Sending.Multicast as spec;
 ghost use Rattle.iface_send.specs.Multicast.{interval_of};
 
-use crate::context::is_solicited;
 use arrayvec::ArrayVec;
 use group_table::{
     Group, Groups, IFACE_MAX_MULTICAST_GROUP_COUNT, IgmpReportState, MldReportState,
 };
+use iface_addresses::addresses::is_solicited;
 use ip_wire::{HardwareAddress, IpAddress, IpCidr, Ipv6Address};
 
 /// The groups of an interface, and the reports that answer queries of routers.

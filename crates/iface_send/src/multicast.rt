@@ -2,8 +2,8 @@
 ghost use Rattle.std.specs.Prelude.{◌≡◌, ◌+◌, ◌<◌, Some, OnErr};
 ghost use Rattle.group_table.specs.declared.groups.GroupState.TheVariants.{Joining, Leaving};
 ghost use Rattle.group_table.specs.Groups.{count_in, done_or_full, first_in, join_reported, groups_after_join, leave_reported, groups_after_leave};
-ghost use Rattle.host_machine.specs.Host.{SocketSet, no_sockets, with_groups};
-ghost use Rattle.host_machine.specs.Reports.{with_igmp_report, with_mld_report};
+ghost use Rattle.host_machine.specs.State.Host.{SocketSet, no_sockets, with_groups};
+ghost use Rattle.host_machine.specs.Sending.Reports.{with_igmp_report, with_mld_report};
 ghost use Rattle.iface_send.specs.Multicast.{interval_of};
 ghost use Rattle.iface_send.specs.Stands.{host_of};
 
@@ -13,7 +13,7 @@ use ip_wire::IpAddress;
 
 impl Context {
     ghost use Rattle.std.specs.Prelude.{◌≡◌, ◌<◌};
-    ghost use Rattle.host_machine.specs.Host.{no_sockets};
+    ghost use Rattle.host_machine.specs.State.Host.{no_sockets};
     ghost use Rattle.iface_send.specs.Multicast.{interval_of};
     ghost use Rattle.iface_send.specs.Stands.{host_of};
 

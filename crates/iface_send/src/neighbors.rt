@@ -3,7 +3,7 @@ ghost use Rattle.std.specs.Prelude.{◌≡◌, List, [], true};
 ghost use Rattle.ip_address.specs.Hardware as hardware;
 ghost use Rattle.ip_address.specs.Ip.{is_unicast};
 ghost use Rattle.iface_tables.specs.Neighbor.{Fills, answer_of, expiry_from, is_found, after_renewal};
-ghost use Rattle.host_machine.specs.Host.{SocketSet, with_neighbors, no_sockets};
+ghost use Rattle.host_machine.specs.State.Host.{SocketSet, with_neighbors, no_sockets};
 ghost use Rattle.iface_send.specs.Stands.{host_of};
 
 use crate::context::Context;

@@ -7,17 +7,16 @@ use Rattle.fragmentation.specs.Assembly.{Assembly}
 use Rattle.fragmentation.specs.Slots.{Slots}
 use Rattle.fragmentation.specs.Stands.{StandForSlots}
 use Rattle.host_machine.specs.declared.results.PollResult.{PollResult}
-use Rattle.host_machine.specs.Host.{Host, SocketSet, at}
-use Rattle.host_machine.specs.Parts.{Part, Both}
-use Rattle.host_machine.specs.Multicast.{JoinsEgress, LeavesEgress}
-use Rattle.host_machine.specs.Reports.{IgmpEgress, MldEgress}
-use Rattle.host_machine.specs.Slaac.{NdiscRsEgress}
-use Rattle.host_machine.specs.Egress.{Ipv4Egress, SocketEgress, Round, Egress, answer_of}
+use Rattle.host_machine.specs.State.Host.{Host, SocketSet, at}
+use Rattle.host_machine.specs.Sending.Parts.{Part, Both}
+use Rattle.host_machine.specs.Sending.Multicast.{JoinsEgress, LeavesEgress}
+use Rattle.host_machine.specs.Sending.Reports.{IgmpEgress, MldEgress}
+use Rattle.host_machine.specs.Sending.Slaac.{NdiscRsEgress}
+use Rattle.host_machine.specs.Sending.Egress.{Ipv4Egress, SocketEgress, Round, Egress, answer_of}
 use Rattle.iface_send.specs.declared.context.Context.{Context}
 use Rattle.iface_send.specs.Stands.{host_in}
-use Rattle.iface_protocols.specs.Processed.{StandsFor}
-use Rattle.iface_egress.specs.Told.{Told}
-use Rattle.iface_egress.specs.Multicast.{HasPart}
+use Rattle.iface_send.specs.Refines.{StandsFor, Told}
+use Rattle.iface_send.specs.Offered.{HasPart}
 use Rattle.interface.specs.Goes.{Went}
 
 module _ {D : Type 0} {tells : D → List Event → D → Type 0} (tells_on : (a b c : D) (xs ys : List Event) → tells a xs b → tells b ys c → tells a (xs ++ ys) c) where

@@ -4,14 +4,14 @@ use Rattle.std.specs.Prelude.{ℤ}
 use Rattle.net_base.specs.Device.{Event, Received, Frame, Nothing, Withheld, HandsNone, WasEmpty, WasWithheld}
 use Rattle.host_machine.specs.declared.results.PollIngressSingleResult.{PollIngressSingleResult}
 use Rattle.host_machine.specs.declared.results.PollIngressSingleResult.TheVariants as result
-use Rattle.host_machine.specs.Host.{Host, without_expired}
-use Rattle.host_machine.specs.Note.{Note}
-use Rattle.host_machine.specs.Reply.{Reply}
-use Rattle.host_machine.specs.Frame.{frames_in, sends}
-use Rattle.host_machine.specs.Ethernet.{ProcessesFrame}
-use Rattle.host_machine.specs.Response.{Response}
-use Rattle.host_machine.specs.Ingress.{Ingress, Takes, answer_to}
-use Rattle.iface_protocols.specs.Processed.{Answers, Responded}
+use Rattle.host_machine.specs.State.Host.{Host, without_expired}
+use Rattle.host_machine.specs.State.Note.{Note}
+use Rattle.host_machine.specs.Receiving.Reply.{Reply}
+use Rattle.host_machine.specs.Sending.Frame.{frames_in, sends}
+use Rattle.host_machine.specs.Receiving.Ethernet.{ProcessesFrame}
+use Rattle.host_machine.specs.Receiving.Response.{Response}
+use Rattle.host_machine.specs.Polling.Ingress.{Ingress, Takes, answer_to}
+use Rattle.iface_send.specs.Refines.{Answers, Responded}
 use Rattle.interface.specs.Goes.{Went}
 use Rattle.interface.specs.Receives.{FrameReceived, frames_shown}
 

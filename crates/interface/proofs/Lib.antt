@@ -1,6 +1,6 @@
-mod NewInterface
-pub mod SettingCalls
 mod EgressCall
 mod IdleSockets
 mod IngressCall
+mod NewInterface
 mod PollLoop
+mod SettingCalls

@@ -13,12 +13,12 @@ use Rattle.ip_address.specs.Hardware.{medium_of, is_unicast}
 use Rattle.fragmentation.specs.declared.key.FragKey.{FragKey}
 use Rattle.fragmentation.specs.Assembly.{Assembly}
 use Rattle.fragmentation.specs.Stands.{StandForSlots}
-use Rattle.host_machine.specs.Host.{SocketSet, with_slots}
+use Rattle.host_machine.specs.State.Host.{SocketSet, with_slots}
 use Rattle.iface_send.specs.declared.context.Context.{Context}
 use Rattle.iface_send.specs.Stands.{host_of}
-use Rattle.iface_protocols.specs.Processed.{StandsFor}
+use Rattle.iface_send.specs.Refines.{StandsFor}
 use Rattle.slaac.specs.Slaac.{initial_state}
-use Rattle.host_machine.specs.Config.{refusal_of, same_medium, first_host, first_id}
+use Rattle.host_machine.specs.State.Config.{refusal_of, same_medium, first_host, first_id}
 
 -- no reason to refuse holds
 pub not_refused : (c : DeviceCapabilities) (h : HardwareAddress) → same_medium (medium_of h) c.medium ≡ true → is_unicast h ≡ true → 576 ≤ ip_mtu_of c → c.max_transmission_unit ≤ 1514 → refusal_of c h ≡ None

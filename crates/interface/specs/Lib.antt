@@ -1,3 +1,3 @@
-pub mod Stands
 pub mod Goes
 pub mod Receives
+pub mod Stands

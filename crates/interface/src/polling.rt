@@ -1,19 +1,19 @@
 //! When an interface has to be polled again.
 ghost use Rattle.std.specs.Prelude.{◌≡◌};
 ghost use Rattle.fragmentation.specs.Slots.{Slots};
-ghost use Rattle.host_machine.specs.Host.{SocketSet, no_sockets};
-ghost use Rattle.host_machine.specs.Dispatch.{KnowsNextHop};
-ghost use Rattle.host_machine.specs.Due as spec;
-ghost use Rattle.host_machine.specs.Due.{Due, IsLeast, of_groups, of_routers};
-ghost use Rattle.host_machine.specs.Egress.{answer_of};
-ghost use Rattle.iface_send.specs.Stands.{host_in, host_of};
+ghost use Rattle.host_machine.specs.State.Host.{SocketSet};
+ghost use Rattle.host_machine.specs.Sending.Dispatch.{KnowsNextHop};
+ghost use Rattle.host_machine.specs.Polling.Due as spec;
+ghost use Rattle.host_machine.specs.Polling.Due.{Due, IsLeast, of_routers};
+ghost use Rattle.host_machine.specs.Sending.Egress.{answer_of};
+ghost use Rattle.iface_send.specs.Stands.{host_in};
 
-use group_table::GroupState;
 use host_machine::PollResult;
-use iface_egress::autoconfiguration::rs_poll_at;
-use iface_egress::multicast::{group_poll_at, igmp_poll_at, mld_poll_at};
+use iface_discovery::polling::routers_poll_at;
+use iface_multicast::polling::groups_poll_at;
 use iface_send::Context;
 use iface_send::dispatch::has_neighbor;
+use iface_send::fragments::piece_poll_at;
 use ip_wire::IpAddress;
 use net_base::time::Instant;
 use slaac::earlier_of;
@@ -43,49 +43,6 @@ pub fn poll_at(context: &Context, sockets: &SocketSet<'_>) -> Option<Instant>
     }
     let of_routers = routers_poll_at(context, groups_poll_at(context, least));
     earlier_of(piece_poll_at(context), of_routers)
-}
-
-/// The earlier of an instant and of the instants at which groups have something to report.
-fn groups_poll_at(context: &Context, other: Option<Instant>) -> Option<Instant>
-    ensures { result ≡ of_groups (host_of context.now no_sockets) other }
-{
-    let reports = earlier_of(
-        igmp_poll_at(context),
-        earlier_of(mld_poll_at(context), other),
-    );
-    let leaves = earlier_of(group_poll_at(context, GroupState::Leaving), reports);
-    earlier_of(group_poll_at(context, GroupState::Joining), leaves)
-}
-
-/// The earliest of an instant and of those at which router discovery has work: immediately for a pending sync of
-/// addresses and routes; the next router solicitation; and the expiry of what routers advertised.
-fn routers_poll_at(context: &Context, other: Option<Instant>) -> Option<Instant>
-    ensures { result ≡ of_routers (host_of context.now no_sockets) other }
-{
-    let ends = earlier_of(context.slaac().end_at(context.now()), other);
-    earlier_of(sync_poll_at(context), earlier_of(rs_poll_at(context), ends))
-}
-
-/// When addresses and routes have to be synchronized with router advertisements: immediately, if they are out of date.
-fn sync_poll_at(context: &Context) -> Option<Instant>
-    ensures { result ≡ spec.sync_instant (host_of context.now no_sockets) }
-{
-    if context.slaac().sync_required(context.now()) {
-        Some(Instant::ZERO)
-    } else {
-        None
-    }
-}
-
-/// When the pending fragment is due: immediately, if there is one.
-fn piece_poll_at(context: &Context) -> Option<Instant>
-    ensures { result ≡ spec.at_once (host_of context.now no_sockets).left }
-{
-    if context.has_pending_fragment() {
-        Some(Instant::ZERO)
-    } else {
-        None
-    }
 }
 
 /// The instant of a socket's answer; 0 for what is due immediately.

@@ -6,11 +6,11 @@
 #![tactic(auto)]
 
 ghost use Rattle.std.specs.Prelude.{◌≡◌, false, true, Err};
-ghost use Rattle.host_machine.specs.Host.{SocketSet, are_assignable};
+ghost use Rattle.host_machine.specs.State.Host.{SocketSet, are_assignable};
 ghost use Rattle.ip_address.specs.Ip.{is_multicast};
 ghost use Rattle.host_machine.specs.declared.results.AddrError.TheVariants as addr_error;
 ghost use Rattle.host_machine.specs.declared.results.MulticastError.TheVariants as multicast_error;
-ghost use Rattle.host_machine.specs.Step.{UpdatesIpAddrs};
+ghost use Rattle.host_machine.specs.Polling.Step.{UpdatesIpAddrs};
 ghost use Rattle.interface.specs.Stands.{host_with, Follows};
 
 use arrayvec::ArrayVec;

@@ -1,6 +1,6 @@
 use Rattle.std.proofs.Common.{◌≡◌, take, arith}
 use Rattle.std.proofs.lemmas.List.{take_more, take_more_set, take_all}
-use Rattle.host_machine.proofs.RunConcatenation.{no_commands}
+use Rattle.host_machine.proofs.Polling.RunConcatenation.{no_commands}
 use Rattle.interface.specs.Stands.{StandsFor}
 use Rattle.host.proofs.DriveSteps.{driven, ran_more}
 use Rattle.host.proofs.drive.drive.Goals as goal

@@ -5,18 +5,18 @@ use Rattle.wire_base.specs.Pseudo.{pseudo}
 use Rattle.ip_wire.specs.Tcp as wire
 use Rattle.ip_wire.specs.Tcp.{control_of}
 use Rattle.ip_wire.specs.declared.tcp.TcpControl.TheVariants as control
-use Rattle.host_machine.specs.Tcp as tcp
-use Rattle.host_machine.specs.ExampleSockets.{opening, reset, listening_socket, with_socket}
-use Rattle.host_machine.proofs.ExampleListeners.{none_of_two}
+use Rattle.host_machine.specs.Receiving.Tcp as tcp
+use Rattle.host_machine.specs.Examples.Sockets.{opening, reset, listening_socket, with_socket}
+use Rattle.host_machine.proofs.Examples.Listeners.{none_of_two}
 use Rattle.net_base.specs.Device.{Frame}
-use Rattle.host_machine.specs.Reply.{Ip}
-use Rattle.host_machine.specs.Packet.{Ipv4}
-use Rattle.host_machine.specs.Packet as packet
-use Rattle.host_machine.specs.Ipv4 as ipv4
-use Rattle.host_machine.specs.Ethernet as ethernet
-use Rattle.host_machine.specs.Dispatch.{ToSpecified, ByHop, OnLink, Known, Whole}
-use Rattle.host_machine.specs.Example as example
-use Rattle.host_machine.proofs.Exchange.{is_known, no_slots}
+use Rattle.host_machine.specs.Receiving.Reply.{Ip}
+use Rattle.host_machine.specs.Sending.Packet.{Ipv4}
+use Rattle.host_machine.specs.Sending.Packet as packet
+use Rattle.host_machine.specs.Receiving.Ipv4 as ipv4
+use Rattle.host_machine.specs.Receiving.Ethernet as ethernet
+use Rattle.host_machine.specs.Sending.Dispatch.{ToSpecified, ByHop, OnLink, Known, Whole}
+use Rattle.host_machine.specs.Examples.ArpAndEcho as example
+use Rattle.host_machine.proofs.Examples.Exchange.{is_known, no_slots}
 use Rattle.std.specs.Prelude.{pos}
 use Rattle.host_machine.proofs.laws.connection_is_reset.Goals as goal
 

@@ -3,13 +3,13 @@ use Rattle.wire_base.specs.Checksum.{word_sum}
 use Rattle.wire_base.specs.Pseudo.{pseudo}
 use Rattle.net_base.specs.Device.{Frame}
 use Rattle.sockets.specs.declared.socket.SocketOf.TheVariants as kind
-use Rattle.host_machine.specs.Udp as udp
-use Rattle.host_machine.specs.Ipv4 as ipv4
-use Rattle.host_machine.specs.Ethernet as ethernet
-use Rattle.host_machine.specs.Example as example
-use Rattle.host_machine.specs.ExampleSockets.{datagram, listening_socket, socket_with_datagram, with_socket}
-use Rattle.host_machine.proofs.ExampleListeners.{first_is_free}
-use Rattle.host_machine.proofs.Exchange.{no_slots}
+use Rattle.host_machine.specs.Receiving.Udp as udp
+use Rattle.host_machine.specs.Receiving.Ipv4 as ipv4
+use Rattle.host_machine.specs.Receiving.Ethernet as ethernet
+use Rattle.host_machine.specs.Examples.ArpAndEcho as example
+use Rattle.host_machine.specs.Examples.Sockets.{datagram, listening_socket, socket_with_datagram, with_socket}
+use Rattle.host_machine.proofs.Examples.Listeners.{first_is_free}
+use Rattle.host_machine.proofs.Examples.Exchange.{no_slots}
 use Rattle.std.specs.Prelude.{pos}
 use Rattle.host_machine.proofs.laws.datagram_is_delivered.Goals as goal
 

@@ -6,15 +6,15 @@ use Rattle.net_base.specs.Device.{Frame}
 use Rattle.iface_tables.specs.Neighbor.{Neighbors}
 use Rattle.fragmentation.specs.Slots.{live_at}
 use Rattle.fragmentation.specs.Reassembly.{Arrival, Rebuild, Rebuilt, Stood}
-use Rattle.host_machine.specs.Note.{OfSlots}
-use Rattle.host_machine.specs.Host.{with_neighbors, with_slots}
-use Rattle.host_machine.specs.Ipv4 as ipv4
-use Rattle.host_machine.specs.Ethernet as ethernet
-use Rattle.host_machine.specs.Reports as reports
+use Rattle.host_machine.specs.State.Note.{OfSlots}
+use Rattle.host_machine.specs.State.Host.{with_neighbors, with_slots}
+use Rattle.host_machine.specs.Receiving.Ipv4 as ipv4
+use Rattle.host_machine.specs.Receiving.Ethernet as ethernet
+use Rattle.host_machine.specs.Sending.Reports as reports
 use Rattle.group_wire.specs.Igmp.{IsType}
-use Rattle.host_machine.specs.ExampleFragments as example
-use Rattle.host_machine.proofs.Exchange.{none_renewed}
-use Rattle.host_machine.proofs.ExamplePair.{still_there, ten_rebuilt}
+use Rattle.host_machine.specs.Examples.Fragments as example
+use Rattle.host_machine.proofs.Examples.Exchange.{none_renewed}
+use Rattle.host_machine.proofs.Examples.Pair.{still_there, ten_rebuilt}
 use Rattle.host_machine.proofs.laws.datagram_is_rebuilt.Goals as goal
 
 -- the type of the message is none of IGMP's

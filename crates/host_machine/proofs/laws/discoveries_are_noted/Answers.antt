@@ -1,4 +1,4 @@
-use Rattle.host_machine.proofs.RunRequests.{run_asks}
+use Rattle.host_machine.proofs.Runs.RunRequests.{run_asks}
 use Rattle.host_machine.proofs.laws.discoveries_are_noted.Goals as goal
 
 pub returns : goal.returns

@@ -1,4 +1,4 @@
-use Rattle.host_machine.proofs.FragmentArrivals.{run_arrivals}
+use Rattle.host_machine.proofs.Runs.FragmentArrivals.{run_arrivals}
 use Rattle.host_machine.proofs.laws.fragments_arrive_in_frames.Goals as goal
 
 pub returns : goal.returns

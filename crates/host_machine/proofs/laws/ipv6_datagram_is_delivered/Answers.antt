@@ -6,14 +6,14 @@ use Rattle.wire_base.specs.Pseudo.{pseudo}
 use Rattle.ipv6_wire.specs.Ipv6Packet.{address_at}
 use Rattle.net_base.specs.Device.{Frame}
 use Rattle.sockets.specs.declared.socket.SocketOf.TheVariants as kind
-use Rattle.host_machine.specs.Udp as udp
-use Rattle.host_machine.specs.Ipv6 as ipv6
-use Rattle.host_machine.specs.Ethernet as ethernet
-use Rattle.host_machine.specs.ExampleDiscovery.{host}
-use Rattle.host_machine.specs.ExampleSockets.{listening_socket, with_socket}
-use Rattle.host_machine.specs.ExampleIpv6.{datagram, neighbors_after_renewal, socket_with_datagram}
-use Rattle.host_machine.proofs.ExampleListeners.{first_is_free}
-use Rattle.host_machine.proofs.Exchange.{no_slots}
+use Rattle.host_machine.specs.Receiving.Udp as udp
+use Rattle.host_machine.specs.Receiving.Ipv6 as ipv6
+use Rattle.host_machine.specs.Receiving.Ethernet as ethernet
+use Rattle.host_machine.specs.Examples.Discovery.{host}
+use Rattle.host_machine.specs.Examples.Sockets.{listening_socket, with_socket}
+use Rattle.host_machine.specs.Examples.Ipv6.{datagram, neighbors_after_renewal, socket_with_datagram}
+use Rattle.host_machine.proofs.Examples.Listeners.{first_is_free}
+use Rattle.host_machine.proofs.Examples.Exchange.{no_slots}
 use Rattle.host_machine.proofs.laws.ipv6_datagram_is_delivered.Goals as goal
 
 pub returns : goal.returns

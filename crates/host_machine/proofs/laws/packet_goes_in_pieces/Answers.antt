@@ -2,13 +2,13 @@ use Rattle.std.proofs.Common.{[], ◌∷◌, false, refl, lit≤}
 use Rattle.wire_base.specs.Checksum.{word_sum}
 use Rattle.ip_wire.specs.Ipv4Packet.{header_with, front, back}
 use Rattle.fragmentation.specs.Cuts.{piece_of}
-use Rattle.host_machine.specs.Note.{OfCuts, Cut, PieceSent}
-use Rattle.host_machine.specs.Dispatch.{ToSpecified, ByHop, OnLink, Known, InPieces}
-use Rattle.host_machine.specs.Egress.{NotGranted, PieceGoes, Begins, Whole}
-use Rattle.host_machine.specs.Example as host
-use Rattle.host_machine.specs.ExampleFragments as example
-use Rattle.host_machine.proofs.RoundWithoutPieces.{no_groups}
-use Rattle.host_machine.proofs.Exchange.{is_known}
+use Rattle.host_machine.specs.State.Note.{OfCuts, Cut, PieceSent}
+use Rattle.host_machine.specs.Sending.Dispatch.{ToSpecified, ByHop, OnLink, Known, InPieces}
+use Rattle.host_machine.specs.Sending.Egress.{NotGranted, PieceGoes, Begins, Whole}
+use Rattle.host_machine.specs.Examples.ArpAndEcho as host
+use Rattle.host_machine.specs.Examples.Fragments as example
+use Rattle.host_machine.proofs.Sending.RoundWithoutPieces.{no_groups}
+use Rattle.host_machine.proofs.Examples.Exchange.{is_known}
 use Rattle.host_machine.proofs.laws.packet_goes_in_pieces.Goals as goal
 
 pub returns : goal.returns

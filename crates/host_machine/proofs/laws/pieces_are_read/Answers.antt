@@ -1,4 +1,4 @@
-use Rattle.host_machine.proofs.TwoHosts.{pieces_read}
+use Rattle.host_machine.proofs.Runs.TwoHosts.{pieces_read}
 use Rattle.host_machine.proofs.laws.pieces_are_read.Goals as goal
 
 pub returns : goal.returns

@@ -1,4 +1,4 @@
-use Rattle.host_machine.proofs.TimelyArrivals.{pieces_in_time}
+use Rattle.host_machine.proofs.Runs.TimelyArrivals.{pieces_in_time}
 use Rattle.host_machine.proofs.laws.pieces_arrive_in_time.Goals as goal
 
 pub returns : goal.returns

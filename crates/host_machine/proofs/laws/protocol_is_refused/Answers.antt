@@ -5,16 +5,16 @@ use Rattle.ip_address.specs.declared.protocol.IpProtocol.TheVariants as protocol
 use Rattle.control_wire.specs.Icmpv4.{head_with}
 use Rattle.control_wire.specs.declared.icmpv4.Icmpv4Repr.TheVariants.{DstUnreachable}
 use Rattle.control_wire.specs.declared.icmpv4.Icmpv4DstUnreachable.TheVariants.{ProtoUnreachable}
-use Rattle.host_machine.specs.ExampleSockets.{unknown_protocol_frame, protocol_unreachable}
+use Rattle.host_machine.specs.Examples.Sockets.{unknown_protocol_frame, protocol_unreachable}
 use Rattle.net_base.specs.Device.{Frame}
-use Rattle.host_machine.specs.Reply.{Ip}
-use Rattle.host_machine.specs.Packet.{Ipv4}
-use Rattle.host_machine.specs.Packet as packet
-use Rattle.host_machine.specs.Ipv4 as ipv4
-use Rattle.host_machine.specs.Ethernet as ethernet
-use Rattle.host_machine.specs.Dispatch.{ToSpecified, ByHop, OnLink, Known, Whole}
-use Rattle.host_machine.specs.Example as example
-use Rattle.host_machine.proofs.Exchange.{is_known, no_slots}
+use Rattle.host_machine.specs.Receiving.Reply.{Ip}
+use Rattle.host_machine.specs.Sending.Packet.{Ipv4}
+use Rattle.host_machine.specs.Sending.Packet as packet
+use Rattle.host_machine.specs.Receiving.Ipv4 as ipv4
+use Rattle.host_machine.specs.Receiving.Ethernet as ethernet
+use Rattle.host_machine.specs.Sending.Dispatch.{ToSpecified, ByHop, OnLink, Known, Whole}
+use Rattle.host_machine.specs.Examples.ArpAndEcho as example
+use Rattle.host_machine.proofs.Examples.Exchange.{is_known, no_slots}
 use Rattle.std.specs.Prelude.{pos}
 use Rattle.host_machine.proofs.laws.protocol_is_refused.Goals as goal
 

@@ -3,13 +3,13 @@ use Rattle.wire_base.specs.Checksum.{word_sum}
 use Rattle.ip_wire.specs.Ipv4Packet.{header_with, front, back}
 use Rattle.wire_base.specs.Pseudo.{pseudo}
 use Rattle.net_base.specs.Device.{Frame}
-use Rattle.host_machine.specs.Udp as udp
-use Rattle.host_machine.specs.Ipv4 as ipv4
-use Rattle.host_machine.specs.Ethernet as ethernet
-use Rattle.host_machine.specs.Example as example
-use Rattle.host_machine.specs.ExampleSockets.{datagram, having_heard, with_raw}
-use Rattle.host_machine.proofs.ExampleListeners.{none_of_one}
-use Rattle.host_machine.proofs.Exchange.{no_slots}
+use Rattle.host_machine.specs.Receiving.Udp as udp
+use Rattle.host_machine.specs.Receiving.Ipv4 as ipv4
+use Rattle.host_machine.specs.Receiving.Ethernet as ethernet
+use Rattle.host_machine.specs.Examples.ArpAndEcho as example
+use Rattle.host_machine.specs.Examples.Sockets.{datagram, having_heard, with_raw}
+use Rattle.host_machine.proofs.Examples.Listeners.{none_of_one}
+use Rattle.host_machine.proofs.Examples.Exchange.{no_slots}
 use Rattle.std.specs.Prelude.{pos}
 use Rattle.host_machine.proofs.laws.raw_socket_receives.Goals as goal
 

@@ -1,4 +1,4 @@
-use Rattle.host_machine.proofs.TwoHosts.{run_rebuilds}
+use Rattle.host_machine.proofs.Runs.TwoHosts.{run_rebuilds}
 use Rattle.host_machine.proofs.laws.rebuilds_what_was_cut.Goals as goal
 
 pub returns : goal.returns

@@ -1,9 +1,9 @@
 use Rattle.std.proofs.Common.{refl}
-use Rattle.host_machine.specs.Egress.{NoPiece, Begins, Whole}
-use Rattle.host_machine.specs.Multicast as groups
-use Rattle.host_machine.specs.Reports as reports
-use Rattle.host_machine.specs.Slaac as slaac
-use Rattle.host_machine.specs.ExampleGroups.{busy_host}
+use Rattle.host_machine.specs.Sending.Egress.{NoPiece, Begins, Whole}
+use Rattle.host_machine.specs.Sending.Multicast as groups
+use Rattle.host_machine.specs.Sending.Reports as reports
+use Rattle.host_machine.specs.Sending.Slaac as slaac
+use Rattle.host_machine.specs.Examples.Groups.{busy_host}
 use Rattle.host_machine.proofs.laws.refusals_are_apart.Goals as goal
 
 pub returns : goal.returns

@@ -1,4 +1,4 @@
-use Rattle.host_machine.proofs.ArpExchange.{request_answered}
+use Rattle.host_machine.proofs.Examples.ArpExchange.{request_answered}
 use Rattle.host_machine.proofs.laws.request_is_answered.Goals as goal
 
 pub returns : goal.returns

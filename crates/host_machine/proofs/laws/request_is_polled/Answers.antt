@@ -2,11 +2,11 @@ use Rattle.std.proofs.Common.{[], ◌∷◌, false, true, refl, arith}
 use Rattle.std.specs.Prelude.{pos}
 use Rattle.net_base.specs.Device.{Received, Frame, Nothing, Sent}
 use Rattle.host_machine.specs.declared.results.PollIngressSingleResult.TheVariants as ingress
-use Rattle.host_machine.specs.Host.{at}
-use Rattle.host_machine.specs.Polling as polling
-use Rattle.host_machine.specs.Example as example
-use Rattle.host_machine.proofs.Exchange.{no_slots}
-use Rattle.host_machine.proofs.ArpExchange.{request_answered, nothing_taken, nothing_sent}
+use Rattle.host_machine.specs.State.Host.{at}
+use Rattle.host_machine.specs.Polling.Polling as polling
+use Rattle.host_machine.specs.Examples.ArpAndEcho as example
+use Rattle.host_machine.proofs.Examples.Exchange.{no_slots}
+use Rattle.host_machine.proofs.Examples.ArpExchange.{request_answered, nothing_taken, nothing_sent}
 use Rattle.host_machine.proofs.laws.request_is_polled.Goals as goal
 
 pub returns : goal.returns

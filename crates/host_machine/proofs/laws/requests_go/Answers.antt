@@ -1,4 +1,4 @@
-use Rattle.host_machine.proofs.RequestsWhileWaiting.{requests_go}
+use Rattle.host_machine.proofs.Runs.RequestsWhileWaiting.{requests_go}
 use Rattle.host_machine.proofs.laws.requests_go.Goals as goal
 
 pub returns : goal.returns

@@ -1,4 +1,4 @@
-use Rattle.host_machine.proofs.RunDeterminism.{run_once}
+use Rattle.host_machine.proofs.Runs.RunDeterminism.{run_once}
 use Rattle.host_machine.proofs.laws.run_is_determined.Goals as goal
 
 pub returns : goal.returns

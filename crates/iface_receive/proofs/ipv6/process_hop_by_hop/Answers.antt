@@ -1,6 +1,6 @@
 use Rattle.iface_send.specs.Stands.{host_in}
-use Rattle.host_machine.specs.Ipv6.{MalformedOptions}
-use Rattle.iface_protocols.proofs.Processing.{answered, by_rule, dropped, unanswered}
+use Rattle.host_machine.specs.Receiving.Ipv6.{MalformedOptions}
+use Rattle.iface_send.proofs.Processing.{answered, by_rule, dropped, unanswered}
 use Rattle.iface_receive.proofs.PacketRulesV6.{options_discarded, options_skipped}
 use Rattle.iface_receive.proofs.ipv6.process_hop_by_hop.Goals as goal
 

@@ -1,7 +1,7 @@
 use Rattle.std.proofs.Common.{sym, ◌∙◌}
-use Rattle.host_machine.specs.Ipv6.{Bare, FromNoHost, WithOptions}
+use Rattle.host_machine.specs.Receiving.Ipv6.{Bare, FromNoHost, WithOptions}
 use Rattle.iface_send.specs.Stands.{host_in}
-use Rattle.iface_protocols.proofs.Processing.{by_rule, dropped, unanswered}
+use Rattle.iface_send.proofs.Processing.{by_rule, dropped, unanswered}
 use Rattle.iface_receive.proofs.PacketRulesV6.{ipv6_malformed, ipv6_read}
 use Rattle.iface_receive.proofs.ipv6.process_ipv6.Goals as goal
 

@@ -1,5 +1,5 @@
 use Rattle.std.proofs.Common.{ap, sym, ◌∙◌}
-use Rattle.host_machine.specs.Host.{with_slots}
+use Rattle.host_machine.specs.State.Host.{with_slots}
 use Rattle.iface_send.proofs.autoconfiguration.sync_slaac.Goals as goal
 
 pub returns-then-sync_required : goal.returns-then-sync_required

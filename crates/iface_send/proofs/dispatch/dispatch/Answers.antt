@@ -1,7 +1,7 @@
 use Rattle.std.proofs.Common.{refl, sym, subst, Ok}
 use Rattle.ip_address.specs.declared.hardware.HardwareAddress.{HardwareAddress}
-use Rattle.host_machine.specs.Note.{OfIdentification, Identify}
-use Rattle.host_machine.specs.Dispatch.{SendsOver, ToUnspecified, ToSpecified, with_next_id}
+use Rattle.host_machine.specs.State.Note.{OfIdentification, Identify}
+use Rattle.host_machine.specs.Sending.Dispatch.{SendsOver, ToUnspecified, ToSpecified, with_next_id}
 use Rattle.iface_send.specs.Stands.{host_in}
 use Rattle.iface_send.proofs.Building.{unsent, nothing, noting}
 use Rattle.iface_send.proofs.dispatch.dispatch.Goals as goal

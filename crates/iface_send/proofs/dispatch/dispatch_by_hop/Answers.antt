@@ -1,8 +1,8 @@
 use Rattle.std.proofs.Common.{refl, sym, ◌∙◌}
-use Rattle.host_machine.specs.Host.{no_sockets}
-use Rattle.host_machine.specs.Dispatch.{Known, Silent, Unknown}
-use Rattle.host_machine.proofs.Walk.{ByNeighbor}
-use Rattle.host_machine.proofs.SentPieces.{reached_of}
+use Rattle.host_machine.specs.State.Host.{no_sockets}
+use Rattle.host_machine.specs.Sending.Dispatch.{Known, Silent, Unknown}
+use Rattle.host_machine.proofs.Runs.Walk.{ByNeighbor}
+use Rattle.host_machine.proofs.Runs.SentPieces.{reached_of}
 use Rattle.iface_send.specs.Stands.{host_of}
 use Rattle.iface_send.proofs.Building.{unsent, nothing, by_rule}
 use Rattle.iface_send.proofs.dispatch.dispatch_by_hop.Goals as goal

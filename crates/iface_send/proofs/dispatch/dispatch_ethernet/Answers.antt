@@ -1,5 +1,5 @@
 use Rattle.std.proofs.Common.{refl}
-use Rattle.host_machine.specs.Dispatch.{ToMulticast, NoHop, ByHop}
+use Rattle.host_machine.specs.Sending.Dispatch.{ToMulticast, NoHop, ByHop}
 use Rattle.iface_send.proofs.Building.{unsent, nothing, by_rule}
 use Rattle.iface_send.proofs.dispatch.dispatch_ethernet.Goals as goal
 

@@ -1,7 +1,7 @@
 use Rattle.std.proofs.Common.{[], refl, arith}
-use Rattle.host_machine.specs.Frame.{ip_frame}
-use Rattle.host_machine.specs.Host.{no_sockets}
-use Rattle.host_machine.specs.Dispatch.{Whole}
+use Rattle.host_machine.specs.Sending.Frame.{ip_frame}
+use Rattle.host_machine.specs.State.Host.{no_sockets}
+use Rattle.host_machine.specs.Sending.Dispatch.{Whole}
 use Rattle.iface_send.specs.Stands.{host_of}
 use Rattle.iface_send.proofs.Building.{one}
 use Rattle.iface_send.proofs.dispatch.emit_packet.Goals as goal

@@ -1,5 +1,5 @@
 use Rattle.std.proofs.Common.{refl, sym, ◌∙◌}
-use Rattle.host_machine.specs.Dispatch.{ByRouter}
+use Rattle.host_machine.specs.Sending.Dispatch.{ByRouter}
 use Rattle.iface_send.proofs.dispatch.next_hop.Goals as goal
 
 pub returns-in_err-router-clause-hop : goal.returns-in_err-router-clause-hop

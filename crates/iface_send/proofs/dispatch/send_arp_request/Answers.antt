@@ -1,8 +1,8 @@
 use Rattle.std.proofs.Common.{[], ◌∷◌, refl, sym, ◌∙◌, ap, arith}
-use Rattle.host_machine.specs.Note.{OfDiscovery, Ask}
-use Rattle.host_machine.specs.Arp.{request_for}
-use Rattle.host_machine.specs.Frame.{arp_frame}
-use Rattle.host_machine.specs.Dispatch.{Asked, NoSource}
+use Rattle.host_machine.specs.State.Note.{OfDiscovery, Ask}
+use Rattle.host_machine.specs.Receiving.Arp.{request_for}
+use Rattle.host_machine.specs.Sending.Frame.{arp_frame}
+use Rattle.host_machine.specs.Sending.Dispatch.{Asked, NoSource}
 use Rattle.iface_send.proofs.Building.{unsent, nothing, one}
 use Rattle.iface_send.proofs.dispatch.send_arp_request.Goals as goal
 

@@ -1,7 +1,7 @@
 use Rattle.std.proofs.Common.{◌<◌, ap, length, arith}
 use Rattle.std.proofs.lemmas.List.{length-append}
 use Rattle.fragmentation.specs.Pending.{Pending}
-use Rattle.host_machine.specs.Host.{with_left}
+use Rattle.host_machine.specs.State.Host.{with_left}
 use Rattle.iface_send.specs.Stands.{host_of}
 use Rattle.iface_send.proofs.Cutting.{next_goes, in_parts}
 use Rattle.iface_send.proofs.fragments.emit_next_piece.Goals as goal

@@ -1,7 +1,7 @@
 use Rattle.std.proofs.Common.{◌≡◌, ◌≤◌, ◌++◌, drop, length, map}
 use Rattle.std.specs.Prelude.{filter}
 use Rattle.group_table.specs.declared.groups.Group.{Group}
-use Rattle.host_machine.specs.Multicast.{is_idle}
+use Rattle.host_machine.specs.Sending.Multicast.{is_idle}
 use Rattle.iface_send.proofs.membership.idle_groups.Given as goal
 
 abbrev pub invariant-loop-group : goal.invariant-loop-group

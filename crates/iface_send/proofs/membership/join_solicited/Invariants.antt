@@ -1,5 +1,5 @@
 use Rattle.std.proofs.Common.{◌≡◌, drop}
-use Rattle.host_machine.specs.Multicast.{groups_after_joins}
+use Rattle.host_machine.specs.Sending.Multicast.{groups_after_joins}
 use Rattle.iface_send.proofs.membership.join_solicited.Given as goal
 
 abbrev pub invariant-loop-cidr : goal.invariant-loop-cidr

@@ -1,5 +1,5 @@
 use Rattle.std.proofs.Common.{◌≡◌, drop}
-use Rattle.host_machine.specs.Multicast.{groups_after_leaves}
+use Rattle.host_machine.specs.Sending.Multicast.{groups_after_leaves}
 use Rattle.iface_send.proofs.membership.leave_all.Given as goal
 
 abbrev pub invariant-loop-address : goal.invariant-loop-address

@@ -1,7 +1,7 @@
 use Rattle.std.proofs.Common.{List, ap, map, ◌∙◌}
 use Rattle.std.specs.Prelude.{filter}
 use Rattle.group_table.specs.declared.groups.Group.{Group}
-use Rattle.host_machine.specs.Multicast.{groups_after_joins, groups_after_leaves, is_idle}
+use Rattle.host_machine.specs.Sending.Multicast.{groups_after_joins, groups_after_leaves, is_idle}
 use Rattle.iface_send.proofs.membership.update_solicited_node_groups.Goals as goal
 
 pub returns-in-Ethernet : goal.returns-in-Ethernet

@@ -1,6 +1,6 @@
 use Rattle.std.proofs.Common.{◌≡◌, ◌+◌, None, arith, length}
-use Rattle.host_machine.specs.Due.{instant_of}
-use Rattle.host_machine.proofs.EarliestInstant.{own_least, below_more, below_none, due_least}
+use Rattle.host_machine.specs.Polling.Due.{instant_of}
+use Rattle.host_machine.proofs.Polling.EarliestInstant.{own_least, below_more, below_none, due_least}
 use Rattle.iface_send.specs.Stands.{host_in}
 use Rattle.interface.proofs.IdleSockets.{below_passed}
 use Rattle.interface.proofs.polling.poll_at.Goals as goal

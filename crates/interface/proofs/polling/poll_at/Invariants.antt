@@ -1,7 +1,7 @@
 use Rattle.std.proofs.Common.{◌≤◌, ◌-◌, length}
 use Rattle.fragmentation.specs.Slots.{Slots}
-use Rattle.host_machine.specs.Due.{IsLeast}
-use Rattle.host_machine.proofs.EarliestInstant.{DueBelow}
+use Rattle.host_machine.specs.Polling.Due.{IsLeast}
+use Rattle.host_machine.proofs.Polling.EarliestInstant.{DueBelow}
 use Rattle.iface_send.specs.Stands.{host_in}
 use Rattle.interface.proofs.polling.poll_at.Given as goal
 

@@ -1,5 +1,5 @@
 use Rattle.std.proofs.Common.{◌≡◌, true, rules}
-use Rattle.host_machine.specs.Host.{no_sockets}
+use Rattle.host_machine.specs.State.Host.{no_sockets}
 use Rattle.iface_host.specs.Outbox.{with_room}
 use Rattle.iface_host.proofs.FrameCalls.{rounded}
 use Rattle.iface_host.proofs.host.Host.round.Goals as goal

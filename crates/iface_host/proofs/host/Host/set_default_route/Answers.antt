@@ -1,6 +1,6 @@
 use Rattle.std.proofs.Common.{sym, ◌∙◌}
 use Rattle.iface_tables.specs.Route.{ipv4_gateway, ipv6_gateway, is_ipv4_gateway, is_ipv6_gateway, with_default}
-use Rattle.host_machine.specs.Host.{Host as Machine}
+use Rattle.host_machine.specs.State.Host.{Host as Machine}
 use Rattle.iface_host.proofs.RuleCalls.{changed, default_stays}
 use Rattle.iface_host.proofs.host.Host.set_default_route.Goals as goal
 

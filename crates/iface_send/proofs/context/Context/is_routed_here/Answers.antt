@@ -1,5 +1,5 @@
 use Rattle.std.proofs.Common.{refl, sym, ap, ◌∙◌}
-use Rattle.host_machine.specs.Host.{is_assigned}
+use Rattle.host_machine.specs.State.Host.{is_assigned}
 use Rattle.iface_send.proofs.Routing.{found}
 use Rattle.iface_send.proofs.context.Context.is_routed_here.Goals as goal
 

@@ -1,0 +1,4 @@
+pub mod Exchange
+pub mod ArpExchange
+pub mod Listeners
+pub mod Pair

@@ -1,0 +1,9 @@
+pub mod PollCalls
+pub mod SingleCalls
+pub mod OneFrameCalls
+pub mod LoopDeterminism
+pub mod CallDeterminism
+pub mod StepDeterminism
+pub mod EarliestInstant
+pub mod RunConcatenation
+pub mod SlaacPolls

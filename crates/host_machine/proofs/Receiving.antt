@@ -1,0 +1,12 @@
+pub mod RawProtocols
+pub mod PacketEffects
+pub mod Malformed
+pub mod RoomMade
+pub mod ReceiveDeterminism
+pub mod Pieces
+pub mod SlotEffects
+pub mod FrameReading
+pub mod FewFragments
+pub mod FrameReplies
+pub mod DatagramDelivery
+pub mod FrameRepliesV6

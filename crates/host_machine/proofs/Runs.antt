@@ -1,0 +1,14 @@
+pub mod Walk
+pub mod DiscoverySpacing
+pub mod ReassemblyOrigin
+pub mod IdentificationOrder
+pub mod PieceOrder
+pub mod RunRequests
+pub mod RunDeterminism
+pub mod CutIdentifications
+pub mod Quiet
+pub mod FragmentArrivals
+pub mod TimelyArrivals
+pub mod SentPieces
+pub mod TwoHosts
+pub mod RequestsWhileWaiting

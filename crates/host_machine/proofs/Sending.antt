@@ -1,0 +1,14 @@
+pub mod OwnMessages
+pub mod RefusedEgress
+pub mod Turns
+pub mod NotedRequests
+pub mod DispatchDeterminism
+pub mod PartDeterminism
+pub mod EgressDeterminism
+pub mod QuietSockets
+pub mod PendingParts
+pub mod GroupChanges
+pub mod RoundWithoutPieces
+pub mod GrantedEgress
+pub mod QueueDecrease
+pub mod DueWork

@@ -1,0 +1,9 @@
+pub mod ArpAndEcho
+pub mod AnyIp
+pub mod Sockets
+pub mod Discovery
+pub mod Groups
+pub mod Ipv6
+pub mod Slaac
+pub mod Polling
+pub mod Fragments

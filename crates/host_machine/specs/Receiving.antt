@@ -1,0 +1,17 @@
+pub mod Reply
+pub mod Arp
+pub mod Delivery
+pub mod Raw
+pub mod Icmp
+pub mod Icmpv4
+pub mod Ndisc
+pub mod Icmpv6
+pub mod Unreachable
+pub mod Udp
+pub mod Tcp
+pub mod Reassembly
+pub mod Renewal
+pub mod Ipv4
+pub mod Ipv6
+pub mod Ethernet
+pub mod Response

@@ -1,0 +1,4 @@
+pub mod Note
+pub mod Host
+pub mod Addresses
+pub mod Config

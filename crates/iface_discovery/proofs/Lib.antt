@@ -1,0 +1,3 @@
+mod ArpRules
+mod NeighborMessages
+mod RouterSolicitations

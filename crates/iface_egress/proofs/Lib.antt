@@ -1,6 +1,0 @@
-mod DispatchFrame
-mod Groups
-mod Records
-mod GroupReports
-mod SocketTurns
-mod RouterSolicitations

@@ -1,6 +1,0 @@
-use Rattle.std.proofs.Common.{refl}
-use Rattle.iface_egress.proofs.Groups.{no_packet}
-use Rattle.iface_egress.proofs.multicast.send_if_some.Goals as goal
-
-pub returns-in-None-clause-told : goal.returns-in-None-clause-told
-returns-in-None-clause-told g c = no_packet c.args.context.now (g.met.D.Device.tells_nothing c.args.device.now) (rw c.in-None.is refl) refl

@@ -1,3 +1,0 @@
-pub mod Multicast
-pub mod Told
-pub mod Turns

@@ -1,0 +1,4 @@
+mod IcmpRules
+mod Messages
+pub mod OtherPorts
+pub mod SocketIteration

@@ -1,0 +1,6 @@
+use Rattle.std.proofs.Common.{sym, ◌∙◌}
+use Rattle.iface_icmp.proofs.SocketIteration.{set_kept}
+use Rattle.iface_icmp.proofs.delivery.deliver_to_accepting.Goals as goal
+
+pub returns-else-is_accepted : goal.returns-else-is_accepted
+returns-else-is_accepted c = set_kept _ _ c.args.sockets.now (sym c.is_accepted.ensures ∙ c.if-is_accepted.false)

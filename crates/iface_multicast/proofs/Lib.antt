@@ -1,0 +1,4 @@
+mod GroupQueries
+mod GroupReports
+mod JoinReports
+mod Records

@@ -1,0 +1,26 @@
+//! When groups have something to report.
+ghost use Rattle.std.specs.Prelude.{◌≡◌};
+ghost use Rattle.host_machine.specs.State.Host.{no_sockets};
+ghost use Rattle.host_machine.specs.Polling.Due.{of_groups};
+ghost use Rattle.iface_send.specs.Stands.{host_of};
+
+use crate::igmp::igmp_poll_at;
+use crate::joins::group_poll_at;
+use crate::mld::mld_poll_at;
+use group_table::GroupState;
+use iface_send::Context;
+use net_base::time::Instant;
+use slaac::earlier_of;
+use sockets::SocketContext;
+
+/// The earlier of an instant and of the instants at which groups have something to report.
+pub fn groups_poll_at(context: &Context, other: Option<Instant>) -> Option<Instant>
+    ensures { result ≡ of_groups (host_of context.now no_sockets) other }
+{
+    let reports = earlier_of(
+        igmp_poll_at(context),
+        earlier_of(mld_poll_at(context), other),
+    );
+    let leaves = earlier_of(group_poll_at(context, GroupState::Leaving), reports);
+    earlier_of(group_poll_at(context, GroupState::Joining), leaves)
+}

@@ -1,6 +1,0 @@
-use Rattle.std.proofs.Common.{sym, ◌∙◌}
-use Rattle.iface_protocols.proofs.SocketIteration.{set_kept}
-use Rattle.iface_protocols.proofs.icmp.deliver_to_accepting.Goals as goal
-
-pub returns-else-is_accepted : goal.returns-else-is_accepted
-returns-else-is_accepted c = set_kept _ _ c.args.sockets.now (sym c.is_accepted.ensures ∙ c.if-is_accepted.false)

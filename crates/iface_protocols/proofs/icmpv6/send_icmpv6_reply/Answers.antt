@@ -1,5 +1,0 @@
-use Rattle.iface_protocols.proofs.Processing.{dispatched}
-use Rattle.iface_protocols.proofs.icmpv6.send_icmpv6_reply.Goals as goal
-
-pub returns : goal.returns
-returns g c = rw (← c.reply_source.ensures) (dispatched _ c.dispatch.result c.dispatch.ensures)

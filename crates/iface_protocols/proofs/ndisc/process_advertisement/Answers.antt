@@ -1,4 +1,0 @@
-use Rattle.iface_protocols.proofs.ndisc.process_advertisement.Goals as goal
-
-pub returns : goal.returns
-returns c = λ slots sockets. rw c.advertised_lladdr-address.ensures.told at (c.learn.ensures slots sockets)

@@ -1,4 +1,0 @@
-pub mod Back
-pub mod Messages
-pub mod Processed
-pub mod Segment

@@ -1,0 +1,2 @@
+mod PayloadRules
+mod SocketTurns

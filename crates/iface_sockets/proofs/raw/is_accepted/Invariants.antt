@@ -1,0 +1,11 @@
+use Rattle.std.proofs.Common.{◌≤◌, ◌-◌, length}
+use Rattle.host_machine.specs.Receiving.Raw.{takes}
+use Rattle.iface_icmp.proofs.OtherPorts.{NoneBefore}
+use Rattle.iface_sockets.proofs.raw.is_accepted.Given as goal
+
+-- no socket below the index takes it
+abbrev pub invariant-loop-index : goal.invariant-loop-index
+invariant-loop-index l = (l.index ≤ length l.sockets.places) × NoneBefore (takes l.header) l.sockets.places l.index
+
+abbrev pub decreases-loop-index : goal.decreases-loop-index
+decreases-loop-index l = length l.sockets.places - l.index

@@ -1,0 +1,9 @@
+//! The sockets of an interface: what each kind receives and sends, and whose turn it is.
+#![tactic(auto)]
+
+mod icmp;
+mod offers;
+pub mod raw;
+pub mod tcp;
+pub mod turns;
+pub mod udp;

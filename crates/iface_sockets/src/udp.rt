@@ -1,0 +1,226 @@
+//! UDP: how a datagram is delivered to a socket, and what UDP sockets send (RFC 768).
+ghost use Rattle.std.specs.Prelude.{◌≡◌, ◌<◌, ◌≤◌, ℕ, [], Some, true, false, length, slice_get, slice_set};
+ghost use Rattle.ip_wire.specs.IpPacket.{TellsLength};
+ghost use Rattle.socket_set.specs.SocketSet.{socket_at, with_places};
+ghost use Rattle.host_machine.specs.Receiving.Delivery.{DeliversFirst, NoneAccepts};
+ghost use Rattle.host_machine.specs.Receiving.Udp.{ProcessesUdp, accepts, storage_after_delivery};
+ghost use Rattle.host_machine.specs.State.Host.{Storage, no_sockets, Socket};
+ghost use Rattle.iface_send.specs.Stands.{host_of};
+ghost use Rattle.iface_send.specs.Refines.{Processed, Told};
+ghost use Rattle.sockets.specs.Kinds as kinds;
+ghost use Rattle.transport_sockets.specs.Udp as udp;
+ghost use Rattle.host_machine.specs.Sending.Egress as egress;
+ghost use Rattle.iface_packet.specs.PacketValues as value_of;
+ghost use Rattle.iface_sockets.specs.Turns.{HasTurn, OfferHasTurn};
+
+use crate::offers::{outcome, send};
+use host_machine::Turn;
+use iface_icmp::unreachable::send_port_unreachable;
+use iface_packet::payload::Datagram;
+use iface_packet::{Packet, PacketV4, PacketV6};
+use iface_send::Context;
+use ip_wire::emit::FrameBuffer;
+use ip_wire::{IpAddress, IpRepr, UdpRepr};
+use net_base::phy::Device;
+use socket_set::{SocketSet, by_index};
+use sockets::{IpEndpoint, SocketContext, udp};
+
+/// Processes the payload of a packet with this header as a UDP datagram (RFC 768). The first socket that accepts it
+/// gets its payload, with its sender, or drops it for lack of room; no other socket changes. If no socket accepts it,
+/// an error is sent in reply, unless a raw socket accepted the packet. A malformed datagram is dropped. The error is
+/// built in an empty buffer.
+#[inline(always)]
+pub fn process_udp(
+    context: &mut Context,
+    sockets: &mut SocketSet<'_>,
+    header: &IpRepr,
+    octets: &[u8],
+    handled_by_raw_socket: bool,
+    out: &mut FrameBuffer,
+)
+    requires empty { out.old ≡ [] }
+    requires quotable { TellsLength header.now }
+    ensures { Processed out.new (λ H. ProcessesUdp handled_by_raw_socket header.now H octets.now) (host_of context.old sockets.old) (host_of context.new sockets.new) }
+{
+    let checked = context.capabilities().checksum.udp.rx();
+    let source = header.src_addr();
+    let destination = header.dst_addr();
+    let Some((ports, payload)) = UdpRepr::parse(octets, &source, &destination, checked) else {
+        return;
+    };
+    if !deliver(context, sockets, header, &ports, payload) {
+        let refused = *header;
+        send_port_unreachable(context, &refused, octets, handled_by_raw_socket, out);
+    }
+}
+
+/// Delivers a datagram to the first socket that accepts it. Returns whether there was one.
+#[inline(always)]
+fn deliver(
+    context: &Context,
+    sockets: &mut SocketSet<'_>,
+    header: &IpRepr,
+    ports: &UdpRepr,
+    payload: &[u8],
+) -> bool
+    ensures delivered { result ≡ true → DeliversFirst (accepts (host_of context.now no_sockets).ip_addrs header.now ports.now) (storage_after_delivery header.now ports.now payload.now) sockets.old.places sockets.new.places }
+    ensures nobody { result ≡ false → NoneAccepts (accepts (host_of context.now no_sockets).ip_addrs header.now ports.now) sockets.old.places }
+    ensures kept { result ≡ false → sockets.new ≡ sockets.old }
+    ensures waits { sockets.new ≡ with_places sockets.old sockets.new.places }
+{
+    let index = find_socket(context, sockets, header, ports);
+    deliver_at(context, sockets, index, header, ports, payload)
+}
+
+/// The index of the first socket that accepts a datagram, or the number of indices if there is none. If it is the only
+/// socket, or the first, no loop is needed.
+#[inline(always)]
+fn find_socket(
+    context: &Context,
+    sockets: &SocketSet<'_>,
+    header: &IpRepr,
+    ports: &UdpRepr,
+) -> usize
+    ensures none_before { (k : ℕ) (other : Storage) → k < result → slice_get sockets.now.places k ≡ Some other → accepts (host_of context.now no_sockets).ip_addrs header.now ports.now other ≡ false }
+    ensures found { result < length sockets.now.places → accepts (host_of context.now no_sockets).ip_addrs header.now ports.now (socket_at sockets.now result) ≡ true }
+    ensures within { result ≤ length sockets.now.places }
+{
+    if accepts_at(context, sockets, 0, header, ports) {
+        return 0;
+    }
+    if by_index::places(sockets) <= 1 {
+        return by_index::places(sockets);
+    }
+    let (sought, wanted) = (*header, *ports);
+    find_among_several(context, sockets, &sought, &wanted)
+}
+
+/// The index of the first socket that accepts a datagram, as [`find_socket`] returns it, where there may be several
+/// sockets.
+#[inline(never)]
+fn find_among_several(
+    context: &Context,
+    sockets: &SocketSet<'_>,
+    header: &IpRepr,
+    ports: &UdpRepr,
+) -> usize
+    ensures none_before { (k : ℕ) (other : Storage) → k < result → slice_get sockets.now.places k ≡ Some other → accepts (host_of context.now no_sockets).ip_addrs header.now ports.now other ≡ false }
+    ensures found { result < length sockets.now.places → accepts (host_of context.now no_sockets).ip_addrs header.now ports.now (socket_at sockets.now result) ≡ true }
+    ensures within { result ≤ length sockets.now.places }
+{
+    let port = Some(ports.dst_port);
+    let mut index = by_index::next_at(sockets, 0, port);
+    while index < by_index::places(sockets) {
+        if accepts_at(context, sockets, index, header, ports) {
+            return index;
+        }
+        index = by_index::next_at(sockets, index + 1, port);
+    }
+    index
+}
+
+/// Whether the socket at an index accepts a datagram.
+#[inline(always)]
+fn accepts_at(
+    context: &Context,
+    sockets: &SocketSet<'_>,
+    index: usize,
+    header: &IpRepr,
+    ports: &UdpRepr,
+) -> bool
+    ensures { result ≡ accepts (host_of context.now no_sockets).ip_addrs header.now ports.now (socket_at sockets.now index) }
+{
+    match by_index::kind::<udp::Socket<'_>, _>(sockets, index) {
+        Some(socket) => socket.accepts(context, &header.dst_addr(), ports.dst_port),
+        None => false,
+    }
+}
+
+/// Delivers a datagram to the socket at an index, if it accepts it. Returns whether it did.
+#[inline(always)]
+fn deliver_at(
+    context: &Context,
+    sockets: &mut SocketSet<'_>,
+    index: usize,
+    header: &IpRepr,
+    ports: &UdpRepr,
+    payload: &[u8],
+) -> bool
+    ensures accepted { result ≡ accepts (host_of context.now no_sockets).ip_addrs header.now ports.now (socket_at sockets.old index) }
+    ensures delivered { result ≡ true → sockets.new.places ≡ slice_set sockets.old.places index (storage_after_delivery header.now ports.now payload.now (socket_at sockets.old index)) }
+    ensures kept { result ≡ false → sockets.new ≡ sockets.old }
+    ensures waits { sockets.new ≡ with_places sockets.old sockets.new.places }
+{
+    let Some(socket) = by_index::kind_mut::<udp::Socket<'_>, _>(sockets, index) else {
+        return false;
+    };
+    if !socket.accepts(context, &header.dst_addr(), ports.dst_port) {
+        return false;
+    }
+    let remote = IpEndpoint {
+        addr: header.src_addr(),
+        port: ports.src_port,
+    };
+    socket.process(remote, payload);
+    true
+}
+
+/// Gives a UDP socket its turn: dispatches the datagram it offers, if the device grants a transmit token, and reports
+/// the outcome to the socket.
+pub(crate) fn give_udp_turn<D: Device>(
+    socket: &mut udp::Socket<'_>,
+    context: &mut Context,
+    device: &mut D,
+    out: &mut FrameBuffer,
+) -> Turn
+    ensures { Told D.tells device.old device.new (HasTurn (kinds.up_udp socket.old) result (kinds.up_udp socket.new) context.old) context.new }
+{
+    let Some(datagram) = socket.offer(context) else {
+        return Turn::Idle;
+    };
+    let turn = send_datagram(context, device, out, &datagram);
+    if let Some(gone) = outcome(turn) {
+        socket.told(gone);
+    }
+    turn
+}
+
+/// Sends a UDP socket's datagram in a packet of its addresses' family.
+fn send_datagram<D: Device>(
+    context: &mut Context,
+    device: &mut D,
+    out: &mut FrameBuffer,
+    datagram: &udp::Packet<'_>,
+) -> Turn
+    ensures { Told D.tells device.old device.new (OfferHasTurn (egress.packet_of (kinds.UdpOffer (udp.value_of datagram.now))) result context.old) context.new }
+{
+    let hop_limit = datagram.hop_limit;
+    let payload = Datagram {
+        header: UdpRepr {
+            src_port: datagram.src.port,
+            dst_port: datagram.dst.port,
+        },
+        octets: datagram.payload,
+    };
+    match (&datagram.src.addr, &datagram.dst.addr) {
+        (IpAddress::Ipv4(src_addr), IpAddress::Ipv4(dst_addr)) => {
+            let packet = PacketV4 {
+                src_addr: *src_addr,
+                dst_addr: *dst_addr,
+                hop_limit,
+                payload,
+            };
+            send(context, device, out, &packet)
+        }
+        (IpAddress::Ipv6(src_addr), IpAddress::Ipv6(dst_addr)) => {
+            let packet = PacketV6 {
+                src_addr: *src_addr,
+                dst_addr: *dst_addr,
+                hop_limit,
+                payload,
+            };
+            send(context, device, out, &packet)
+        }
+        _ => Turn::Idle,
+    }
+}
