@@ -1,2 +1,3 @@
+mod IdleSockets
 mod PayloadRules
 mod SocketTurns

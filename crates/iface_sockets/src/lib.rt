@@ -3,6 +3,7 @@
 
 mod icmp;
 mod offers;
+pub mod polling;
 pub mod raw;
 pub mod tcp;
 pub mod turns;

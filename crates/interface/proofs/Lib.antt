@@ -1,5 +1,4 @@
 mod EgressCall
-mod IdleSockets
 mod IngressCall
 mod NewInterface
 mod PollLoop

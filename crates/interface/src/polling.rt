@@ -1,10 +1,7 @@
 //! When an interface has to be polled again.
 ghost use Rattle.std.specs.Prelude.{◌≡◌};
 ghost use Rattle.fragmentation.specs.Slots.{Slots};
-ghost use Rattle.host_machine.specs.State.Host.{SocketSet};
-ghost use Rattle.host_machine.specs.Sending.Dispatch.{KnowsNextHop};
-ghost use Rattle.host_machine.specs.Polling.Due as spec;
-ghost use Rattle.host_machine.specs.Polling.Due.{Due, IsLeast, of_routers};
+ghost use Rattle.host_machine.specs.Polling.Due.{Due, IsLeast};
 ghost use Rattle.host_machine.specs.Sending.Egress.{answer_of};
 ghost use Rattle.iface_send.specs.Stands.{host_in};
 
@@ -12,13 +9,11 @@ use host_machine::PollResult;
 use iface_discovery::polling::routers_poll_at;
 use iface_multicast::polling::groups_poll_at;
 use iface_send::Context;
-use iface_send::dispatch::has_neighbor;
 use iface_send::fragments::piece_poll_at;
-use ip_wire::IpAddress;
+use iface_sockets::polling::sockets_poll_at;
 use net_base::time::Instant;
 use slaac::earlier_of;
-use socket_set::{SocketSet, by_index};
-use sockets::{PollAt, SocketContext};
+use socket_set::SocketSet;
 
 /// The earliest instant at which `poll` has work, if any. Immediately: a pending fragment, an unreported join or leave,
 /// and a SLAAC sync. Later: a router solicitation, a group report, the expiry of what routers advertised, and each
@@ -26,34 +21,9 @@ use sockets::{PollAt, SocketContext};
 pub fn poll_at(context: &Context, sockets: &SocketSet<'_>) -> Option<Instant>
     ensures { (slots : Slots) → IsLeast (Due (host_in context.now slots sockets.now)) result }
 {
-    let now = context.now();
-    let mut least = None;
-    let mut index = by_index::next_busy(sockets, 0);
-    while index < by_index::places(sockets) {
-        let own = by_index::poll_at(
-            sockets,
-            index,
-            now,
-            |address: IpAddress| -> bool
-                ensures { (slots : Slots) (others : SocketSet) → KnowsNextHop (host_in context.exit.now slots others) address result }
-            { has_neighbor(context, &address) },
-        );
-        least = earlier_of(least, instant_of(own));
-        index = by_index::next_busy(sockets, index + 1);
-    }
-    let of_routers = routers_poll_at(context, groups_poll_at(context, least));
+    let of_sockets = sockets_poll_at(context, sockets);
+    let of_routers = routers_poll_at(context, groups_poll_at(context, of_sockets));
     earlier_of(piece_poll_at(context), of_routers)
-}
-
-/// The instant of a socket's answer; 0 for what is due immediately.
-const fn instant_of(own: PollAt) -> Option<Instant>
-    ensures { result ≡ spec.instant_of own }
-{
-    match own {
-        PollAt::Now => Some(Instant::ZERO),
-        PollAt::Time(instant) => Some(instant),
-        PollAt::Ingress => None,
-    }
 }
 
 /// The result of a poll: `SocketStateChanged` if something changed, otherwise `None`.

@@ -18,7 +18,7 @@ use Rattle.sockets.specs.Kinds as kinds
 use Rattle.host_machine.specs.State.Host.{Host, Storage}
 use Rattle.host_machine.specs.Sending.Dispatch.{IsNextHop, OnLink, ByRouter, is_known_hop, if_unicast, KnowsNextHop, OfNoHost, OfHost}
 use Rattle.host_machine.specs.State.Host.{Socket}
-use Rattle.host_machine.specs.Polling.Due.{Due, OfPiece, OfSync, OfSolicitation, OfPrefix, OfRouter, OfJoin, OfLeave, OfIgmpReport, OfMldReport, OfSocket, AtOnce, SocketDue, IsLeast, instant_of, at_once, of_groups, of_routers, sync_instant, report_due_at}
+use Rattle.host_machine.specs.Polling.Due.{Due, OfPiece, OfSync, OfSolicitation, OfPrefix, OfRouter, OfJoin, OfLeave, OfIgmpReport, OfMldReport, OfSocket, AtOnce, SocketDue, SocketsDue, IsLeast, instant_of, at_once, of_groups, of_routers, sync_instant, report_due_at}
 use Rattle.group_table.specs.declared.groups.GroupState.TheVariants.{Joining, Leaving}
 use Rattle.slaac.specs.Instants.{earliest_of, earlier_of}
 use Rattle.slaac.specs.Slaac.{prefix_ends, route_ends}
@@ -114,9 +114,9 @@ least_same P Q None there back p = λ x q. p x (back x q)
 least_same P Q (Some a) there back p = (there a p.0, λ x q. p.1 x (back x q))
 
 -- the places, as one source
-pub sockets_least : (H : Host) (a : Option ℤ) → IsLeast (DueBelow H (length H.sockets.places)) a → IsLeast (λ x. (i : ℕ) × SocketDue H i x) a
-sockets_least H a p = least_same (DueBelow H (length H.sockets.places)) (λ x. (i : ℕ) × SocketDue H i x) a (λ x d. (d.0, d.2)) back p where
-  back : (x : ℤ) → ((i : ℕ) × SocketDue H i x) → DueBelow H (length H.sockets.places) x
+pub sockets_least : (H : Host) (a : Option ℤ) → IsLeast (DueBelow H (length H.sockets.places)) a → IsLeast (SocketsDue H) a
+sockets_least H a p = least_same (DueBelow H (length H.sockets.places)) (SocketsDue H) a (λ x d. (d.0, d.2)) back p where
+  back : (x : ℤ) → SocketsDue H x → DueBelow H (length H.sockets.places) x
   back x d = (d.0, within H.sockets.places d.0 (Some d.1.socket) d.1.here, d.1)
 
 -- a list that is due while it has an element
@@ -152,7 +152,7 @@ there_least (y ∷ ys) =
 abbrev Sources : Host → ℤ → Type 0
 Sources H = Or (AtOnce H.left) (Or (λ x. sync_instant H ≡ Some x) (Or (λ x. solicitation_instant H ≡ Some x)
     (Or (Or (IsThere (prefix_ends H.slaac.prefixes H.moment)) (IsThere (route_ends H.slaac.routers H.moment))) (Or (λ x. report_due_at Joining H ≡ Some x) (Or (λ x. report_due_at Leaving H ≡ Some x) (Or (λ x. igmp_instant H ≡ Some x) (Or (λ x. mld_timeout_of H.mld_report ≡ Some x)
-    (λ x. (i : ℕ) × SocketDue H i x))))))))
+    (SocketsDue H))))))))
 
 is_due : (H : Host) (x : ℤ) → Sources H x → Due H x
 is_due H x (inl d) = OfPiece d
@@ -182,9 +182,12 @@ is_source H x (OfSocket i d) = inr (inr (inr (inr (inr (inr (inr (inr (i, d)))))
 abbrev pub soonest : Host → Option ℤ → Option ℤ
 soonest H a = earlier_of (at_once H.left) (of_routers H (of_groups H a))
 
-pub due_least : (H : Host) (a : Option ℤ) → IsLeast (DueBelow H (length H.sockets.places)) a → IsLeast (Due H) (soonest H a)
-due_least H a p =
+pub soonest_least : (H : Host) (a : Option ℤ) → IsLeast (SocketsDue H) a → IsLeast (Due H) (soonest H a)
+soonest_least H a p =
     least_same (Sources H) (Due H) (soonest H a) (is_due H) (is_source H)
     (or_least _ _ _ _ (once_least H.left) (or_least _ _ _ _ (exact_least (sync_instant H)) (or_least _ _ _ _ (exact_least (solicitation_instant H))
     (or_least _ _ _ _ (or_least _ _ _ _ (there_least (prefix_ends H.slaac.prefixes H.moment)) (there_least (route_ends H.slaac.routers H.moment))) (or_least _ _ _ _ (exact_least (report_due_at Joining H)) (or_least _ _ _ _ (exact_least (report_due_at Leaving H)) (or_least _ _ _ _ (exact_least (igmp_instant H))
-    (or_least _ _ _ _ (exact_least (mld_timeout_of H.mld_report)) (sockets_least H a p)))))))))
+    (or_least _ _ _ _ (exact_least (mld_timeout_of H.mld_report)) p))))))))
+
+pub due_least : (H : Host) (a : Option ℤ) → IsLeast (DueBelow H (length H.sockets.places)) a → IsLeast (Due H) (soonest H a)
+due_least H a p = soonest_least H a (sockets_least H a p)

@@ -31,6 +31,10 @@ pub record SocketDue (H : Host) (i : ℕ) (x : ℤ) : Type 0 where
   pub told : IsAnswerFor (KnowsNextHop H) (wait_at H.sockets i) known
   pub instant : instant_of (poll_at (wait_at H.sockets i) known H.moment (kinds.poll_at socket)) ≡ Some x
 
+-- some socket is due at an instant
+abbrev pub SocketsDue : Host → ℤ → Type 0
+SocketsDue H x = (i : ℕ) × SocketDue H i x
+
 -- while a list has an element, there is work immediately
 pub record AtOnce {A : Type 0} (xs : List A) (x : ℤ) : Type 0 where
   pub first : A

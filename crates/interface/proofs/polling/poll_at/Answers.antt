@@ -1,33 +1,8 @@
-use Rattle.std.proofs.Common.{◌≡◌, ◌+◌, None, arith, length}
-use Rattle.host_machine.specs.Polling.Due.{instant_of}
-use Rattle.host_machine.proofs.Polling.EarliestInstant.{own_least, below_more, below_none, due_least}
+use Rattle.host_machine.proofs.Polling.EarliestInstant.{soonest_least}
 use Rattle.iface_send.specs.Stands.{host_in}
-use Rattle.interface.proofs.IdleSockets.{below_passed}
 use Rattle.interface.proofs.polling.poll_at.Goals as goal
-
-pub loop-index-init : goal.loop-index-init
-loop-index-init c =
-    let idle = c.next_busy-index.ensures in (
-      λ slots.
-          let H = host_in c.args.context.now slots c.args.sockets.now in
-          below_passed H 0 c.next_busy-index.result None (omega arith) idle.idle (below_none H),
-      idle.within,
-    )
-
-pub loop-index-preserved : goal.loop-index-preserved
-loop-index-preserved c =
-    let idle = c.next_busy-index-in-loop-index.ensures in
-    let next = c.loop-index.index + 1 in (
-      λ slots.
-          let H = host_in c.args.context.now slots c.args.sockets.now in
-          below_passed H next c.next_busy-index-in-loop-index.result c.earlier_of-least.result (idle.after (omega arith)) idle.idle
-          (rw (c.earlier_of-least.ensures, c.instant_of.ensures)
-          (below_more H c.loop-index.index c.loop-index.least (instant_of c.poll_at-own.result) (c.loop-index.invariant.0 slots)
-          (own_least H c.loop-index.index c.poll_at-own.result _ (λ a known is. is.1 slots c.args.sockets.now) (rw c.now-now.ensures at c.poll_at-own.ensures.socket) c.poll_at-own.ensures.nobody))),
-      idle.within,
-    )
 
 pub returns : goal.returns
 returns c = λ slots.
-    let all : c.loop-index.index ≡ length c.args.sockets.now.places = omega (arith, c.loop-index.invariant.1) in
-    rw (c.earlier_of.ensures, c.piece_poll_at.ensures, c.routers_poll_at-of_routers.ensures, c.groups_poll_at.ensures) (due_least (host_in c.args.context.now slots c.args.sockets.now) c.loop-index.least (rw all at (c.loop-index.invariant.0 slots)))
+    rw (c.earlier_of.ensures, c.piece_poll_at.ensures, c.routers_poll_at-of_routers.ensures, c.groups_poll_at.ensures)
+    (soonest_least (host_in c.args.context.now slots c.args.sockets.now) c.sockets_poll_at-of_sockets.result (c.sockets_poll_at-of_sockets.ensures slots))

@@ -3,7 +3,7 @@ use Rattle.fragmentation.specs.Slots.{Slots}
 use Rattle.host_machine.specs.Polling.Due.{IsLeast}
 use Rattle.host_machine.proofs.Polling.EarliestInstant.{DueBelow}
 use Rattle.iface_send.specs.Stands.{host_in}
-use Rattle.interface.proofs.polling.poll_at.Given as goal
+use Rattle.iface_sockets.proofs.polling.sockets_poll_at.Given as goal
 
 abbrev pub invariant-loop-index : goal.invariant-loop-index
 invariant-loop-index l =
