@@ -77,7 +77,7 @@ pub fn process_ethernet(
     let Some((header, payload)) = EthernetRepr::parse(frame) else {
         return;
     };
-    if is_for(context, &header.dst_addr) {
+    if is_for(&own, &header.dst_addr) {
         process_ethertype(context, sockets, fragments, own, &header, payload, out);
     }
 }
@@ -115,15 +115,10 @@ fn process_ethertype(
     }
 }
 
-/// Whether a frame to this address is for the interface: broadcast, multicast, or its own hardware address.
+/// Whether a frame to this address is for the interface of an own address: broadcast, multicast, or that address.
 #[inline(always)]
-fn is_for(context: &Context, destination: &EthernetAddress) -> bool
-    ensures { (own : EthernetAddress) → (host_of context.now no_sockets).hardware_addr ≡ HardwareAddress.Ethernet own → result ≡ is_for own destination.now }
+fn is_for(own: &EthernetAddress, destination: &EthernetAddress) -> bool
+    ensures { result ≡ is_for own.now destination.now }
 {
-    match context.hardware_addr() {
-        HardwareAddress::Ethernet(own) => {
-            destination.is_broadcast() || destination.is_multicast() || *destination == own
-        }
-        HardwareAddress::Ip => false,
-    }
+    destination.is_broadcast() || destination.is_multicast() || destination == own
 }

@@ -168,7 +168,8 @@ fn accepts_at(sockets: &SocketSet<'_>, index: usize, header: &IpRepr, repr: &Tcp
     socket.accepts(&source, &destination)
 }
 
-/// Delivers a segment to the socket at an index, if it accepts it. Returns whether it did, and its answer.
+/// Delivers a segment to the socket at an index, which accepts it. Returns its answer, or `false` and no answer if there
+/// is no such index.
 fn deliver_at(
     sockets: &mut SocketSet<'_>,
     index: usize,
@@ -176,28 +177,18 @@ fn deliver_at(
     repr: &TcpRepr,
     payload: &[u8],
 ) -> (bool, Option<TcpRepr>)
-    requires { length payload.now < 2 ^ 16 }
+    requires short { length payload.now < 2 ^ 16 }
+    requires found { index < length sockets.old.places → spec.accepts header.now repr.now (socket_at sockets.old index) ≡ true }
     ensures accepted { result.0 ≡ spec.accepts header.now repr.now (socket_at sockets.old index) }
     ensures delivered { result.0 ≡ true → sockets.new.places ≡ slice_set sockets.old.places index (spec.storage_after_delivery header.now repr.now payload.now (socket_at sockets.old index)) }
     ensures replied { result.0 ≡ true → result.1 ≡ spec.socket_reply repr.now payload.now (socket_at sockets.old index) }
     ensures kept { result.0 ≡ false → sockets.new ≡ sockets.old }
     ensures waits { sockets.new ≡ with_places sockets.old sockets.new.places }
 {
-    let source = IpEndpoint {
-        addr: header.src_addr(),
-        port: repr.src_port,
-    };
-    let destination = IpEndpoint {
-        addr: header.dst_addr(),
-        port: repr.dst_port,
-    };
     let Some(socket) = by_index::kind_mut::<tcp::Socket<'_>, _>(sockets, index) else {
         return (false, None);
     };
-    if !socket.accepts(&source, &destination) {
-        return (false, None);
-    }
-    (true, socket.process(source.addr, repr, payload))
+    (true, socket.process(header.src_addr(), repr, payload))
 }
 
 /// Gives a TCP socket its turn: dispatches the segment it offers, if the device grants a transmit token, and reports

@@ -136,7 +136,7 @@ fn accepts_at(
     }
 }
 
-/// Delivers a datagram to the socket at an index, if it accepts it. Returns whether it did.
+/// Delivers a datagram to the socket at an index, which accepts it. Returns `false` if there is no such index.
 #[inline(always)]
 fn deliver_at(
     context: &Context,
@@ -146,6 +146,7 @@ fn deliver_at(
     ports: &UdpRepr,
     payload: &[u8],
 ) -> bool
+    requires found { index < length sockets.old.places → accepts (host_of context.now no_sockets).ip_addrs header.now ports.now (socket_at sockets.old index) ≡ true }
     ensures accepted { result ≡ accepts (host_of context.now no_sockets).ip_addrs header.now ports.now (socket_at sockets.old index) }
     ensures delivered { result ≡ true → sockets.new.places ≡ slice_set sockets.old.places index (storage_after_delivery header.now ports.now payload.now (socket_at sockets.old index)) }
     ensures kept { result ≡ false → sockets.new ≡ sockets.old }
@@ -154,9 +155,6 @@ fn deliver_at(
     let Some(socket) = by_index::kind_mut::<udp::Socket<'_>, _>(sockets, index) else {
         return false;
     };
-    if !socket.accepts(context, &header.dst_addr(), ports.dst_port) {
-        return false;
-    }
     let remote = IpEndpoint {
         addr: header.src_addr(),
         port: ports.src_port,
