@@ -27,7 +27,7 @@ use Rattle.host.specs.declared.link.Host.{Host as Linked}
 use Rattle.host.specs.declared.link.LinkStep.{LinkStep}
 use Rattle.host.specs.declared.link.LinkStep.TheVariants as step
 use Rattle.host.specs.declared.link.LinkError.{LinkError}
-use Rattle.host.specs.Commands.{CommandGoes}
+use Rattle.host.specs.Commands.{HostRefinesCommand}
 use Rattle.host_machine.specs.Laws.Real.{IsRegular}
 use Rattle.host_machine.specs.Laws.TwoHosts.{WereSent}
 use Rattle.host.specs.Link.{End, Owns, Acts, sent_since, Links, Stops, OnA, OnB, ToA, ToB, NoneToA, NoneToB, IsDone, end_of, HandsOver, NoFrame, OneFrame, RebuildsCuts, RebuildsFew, GetsDatagrams, Went, Goes, LinkGoes}
@@ -184,7 +184,7 @@ module _ {O P : Type 0} (did_a : Owns O) (did_b : Owns P) (m n : ℕ) where
       record { ps = x.ps ++ y.ps; qs = x.qs ++ y.qs; last_a = y.last_a; last_b = y.last_b; links = links_on x.links y.links; stands_a = y.stands_a; stands_b = y.stands_b })
 
   pub on_a : (a a' : Linked O) (b : Linked P) (s : LinkStep) (c : Command) (answer : Answer) → s ≡ step.A c →
-      CommandGoes Tells did_a a.device a'.device a.owner a'.owner c answer (StandsFor a.interface a.sockets) (StandsFor a'.interface a'.sockets) → Goes did_a did_b m n (s ∷ []) a a' b b
+      HostRefinesCommand Tells did_a a.device a'.device a.owner a'.owner c answer (StandsFor a.interface a.sockets) (StandsFor a'.interface a'.sockets) → Goes did_a did_b m n (s ∷ []) a a' b b
   on_a a a' b s c answer is goes = rw is (λ H K h k.
       let went = goes H h in
       let transition : Transition = record { command = c; answer = answer; told = went.told; acts = went.acts; notes = went.notes; before = H; after = went.host } in
@@ -199,7 +199,7 @@ module _ {O P : Type 0} (did_a : Owns O) (did_b : Owns P) (m n : ℕ) where
       })
 
   pub on_b : (a : Linked O) (b b' : Linked P) (s : LinkStep) (c : Command) (answer : Answer) → s ≡ step.B c →
-      CommandGoes Tells did_b b.device b'.device b.owner b'.owner c answer (StandsFor b.interface b.sockets) (StandsFor b'.interface b'.sockets) → Goes did_a did_b m n (s ∷ []) a a b b'
+      HostRefinesCommand Tells did_b b.device b'.device b.owner b'.owner c answer (StandsFor b.interface b.sockets) (StandsFor b'.interface b'.sockets) → Goes did_a did_b m n (s ∷ []) a a b b'
   on_b a b b' s c answer is goes = rw is (λ H K h k.
       let went = goes K k in
       let transition : Transition = record { command = c; answer = answer; told = went.told; acts = went.acts; notes = went.notes; before = K; after = went.host } in

@@ -17,7 +17,7 @@ use Rattle.host_laws.specs.Datagrams.{KeepsDatagrams}
 use Rattle.host_laws.specs.EndToEnd.{GetWhatWasSent}
 use Rattle.host_laws.specs.Senders.{NoSocketWritesUdp}
 use Rattle.interface.specs.Stands.{StandsFor}
-use Rattle.host.specs.Commands.{CommandGoes}
+use Rattle.host.specs.Commands.{HostRefinesCommand}
 use Rattle.host.specs.declared.link.Host.{Host as Linked}
 use Rattle.host.specs.declared.link.LinkStep.{LinkStep}
 use Rattle.host.specs.declared.link.LinkStep.TheVariants as step
@@ -117,7 +117,7 @@ pub record Went {O P : Type 0} (did_a : Owns O) (did_b : Owns P) (m n : ℕ) (st
 pub data HandsOver {O : Type 0} (did : Owns O) (before : ℕ) (from : Memory) (k : ℕ) (t : ℤ) (old new : Linked O) : Type 0 where
   NoFrame : sent_since before from k ≡ None → new ≡ old → HandsOver did before from k t old new
   OneFrame : (frame : List ℕ) (answer : Answer) → sent_since before from k ≡ Some frame →
-      CommandGoes Tells did (with_frame old.device frame) new.device old.owner new.owner (PollIngressSingle t) answer
+      HostRefinesCommand Tells did (with_frame old.device frame) new.device old.owner new.owner (PollIngressSingle t) answer
       (StandsFor old.interface old.sockets) (StandsFor new.interface new.sockets) →
       HandsOver did before from k t old new
 

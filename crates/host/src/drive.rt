@@ -3,10 +3,10 @@ ghost use Rattle.std.specs.Prelude.{◌≡◌, List, length, All};
 ghost use Rattle.host_machine.specs.State.Host.{Host, SocketSet};
 ghost use Rattle.host_machine.specs.Polling.Step.{IsTimely, UpdatesIpAddrs};
 ghost use Rattle.iface_tables.specs.Route.{first, ipv4_gateway, ipv6_gateway, is_ipv4_gateway, is_ipv6_gateway, old_or_full, with_default, without_first};
-ghost use Rattle.interface.specs.Stands.{StandsFor, Becomes, Follows, host_with};
+ghost use Rattle.interface.specs.Stands.{StandsFor, Becomes, HostRefines, host_with};
 ghost use Rattle.host.specs.Driven.{Driven};
 ghost use Rattle.host.specs.Joined.{DrivesJoin};
-ghost use Rattle.host.specs.Commands.{CommandGoes};
+ghost use Rattle.host.specs.Commands.{HostRefinesCommand};
 
 use arrayvec::ArrayVec;
 use host_machine::{AddrError, Answer, Command};
@@ -33,7 +33,7 @@ pub trait Owner {
 
 /// Replaces the addresses with a list.
 fn put_ip_addrs(interface: &mut Interface, list: &ArrayVec<IpCidr, 4>) -> Result<(), AddrError>
-    ensures { Follows interface.old interface.new (UpdatesIpAddrs list.now.items result) }
+    ensures { HostRefines interface.old interface.new (UpdatesIpAddrs list.now.items result) }
 {
     let mut addrs = ArrayVec::new();
     let _ = addrs.try_extend_from_slice(list.as_slice());
@@ -96,7 +96,7 @@ pub(crate) fn step<D: Device, O: Owner>(
     command: &Command,
 ) -> Answer
     requires { IsTimely command.now }
-    ensures { CommandGoes D.tells O.did device.old device.new owner.old owner.new command.now result (StandsFor interface.old sockets.old) (StandsFor interface.new sockets.new) }
+    ensures { HostRefinesCommand D.tells O.did device.old device.new owner.old owner.new command.now result (StandsFor interface.old sockets.old) (StandsFor interface.new sockets.new) }
 {
     match command {
         Command::UpdateIpAddrs(list) => Answer::UpdateIpAddrs(put_ip_addrs(interface, list)),

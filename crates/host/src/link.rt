@@ -4,7 +4,7 @@ ghost use Rattle.net_base.specs.Time.{IsMoment};
 ghost use Rattle.host_machine.specs.Polling.Step.{IsTimely};
 ghost use Rattle.net_base.specs.MemoryDevice.{Tells};
 ghost use Rattle.interface.specs.Stands.{StandsFor};
-ghost use Rattle.host.specs.Commands.{CommandGoes};
+ghost use Rattle.host.specs.Commands.{HostRefinesCommand};
 ghost use Rattle.host.specs.Link.{IsTimelyStep, Goes, LinkGoes, Copies, HandsOver, IsThere, sent_since};
 
 use crate::drive::{Owner, step};
@@ -73,7 +73,7 @@ fn sent_since(device: &MemoryDevice, before: usize, k: usize) -> Option<&[u8]>
 /// Runs a command on one end.
 fn run<O: Owner>(host: &mut Host<'_, O>, command: &Command) -> Answer
     requires { IsTimely command.now }
-    ensures { CommandGoes Tells O.did host.old.device host.new.device host.old.owner host.new.owner command.now result (StandsFor host.old.interface host.old.sockets) (StandsFor host.new.interface host.new.sockets) }
+    ensures { HostRefinesCommand Tells O.did host.old.device host.new.device host.old.owner host.new.owner command.now result (StandsFor host.old.interface host.old.sockets) (StandsFor host.new.interface host.new.sockets) }
 {
     step(
         &mut host.interface,

@@ -36,7 +36,7 @@ use Rattle.host_machine.specs.Sending.Packet as packet
 use Rattle.host_machine.specs.Sending.Frame.{ip_frame}
 use Rattle.host_machine.specs.Laws.Frames.{Carries}
 use Rattle.host_machine.specs.Sending.Dispatch.{datagram_of}
-use Rattle.host_machine.specs.Receiving.Ipv4.{key_in, fragment_in, rebuilt_header}
+use Rattle.host_machine.specs.Receiving.Ipv4.{key_in, fragment_in, datagram_header}
 use Rattle.host_machine.specs.Laws.Arrivals.{rebuilt, slot_notes_in}
 use Rattle.host_machine.specs.Laws.Real.{IsReal, IsRegular}
 use Rattle.host_machine.specs.Polling.Run.{Transition, Run, Ends, Then, events_in, notes_in}
@@ -257,7 +257,7 @@ module _ (a a' b b' : Host) (ps qs : List Transition) (ra : Run a ps a') (rb : R
   -- of a fragment, where what is rebuilt is what was cut
   fragments_sent : (K : Host) → IsOf m K.hardware_addr → (frame packet : List ℕ) → Contains (sent_frames (events_in ps)) frame → (d : Delivery) (octets : List ℕ) → Carries K.hardware_addr frame packet →
       IsIpv4 (is_rx K.capabilities.checksum.ipv4) packet → may_be_source K.ip_addrs (ipv4_in packet).0.src_addr ≡ true → is_fragment (ipv4_in packet).1 ≡ true → (ipv4_in packet).0.next_header ≡ kind.Udp →
-      IsIn (Rebuild (key_in (ipv4_in packet).0 (ipv4_in packet).1) octets) (slot_notes_in qs) → (header : IpRepr) → header ≡ repr.Ipv4 (rebuilt_header (ipv4_in packet).0 octets) →
+      IsIn (Rebuild (key_in (ipv4_in packet).0 (ipv4_in packet).1) octets) (slot_notes_in qs) → (header : IpRepr) → header ≡ repr.Ipv4 (datagram_header (ipv4_in packet).0 octets) →
       d.source ≡ record { addr = src_addr header; port = (udp_in octets).0.src_port } → d.destination ≡ record { addr = dst_addr header; port = (udp_in octets).0.dst_port } → d.payload ≡ (udp_in octets).1 →
       MayRebuild a b ps → WasSent ps d
   fragments_sent K mine frame packet there d octets c i s part next noted header header_is source destination payload may =

@@ -30,7 +30,7 @@ use Rattle.host_machine.specs.Receiving.Reply.{Reply}
 use Rattle.host_machine.specs.Receiving.Arp.{ProcessesArp}
 use Rattle.host_machine.specs.Receiving.Arp as arp
 use Rattle.host_machine.specs.Receiving.Reassembly.{TakesFragment}
-use Rattle.host_machine.specs.Receiving.Ipv4.{ProcessesDatagram, ProcessesPacket, ProcessesIpv4, key_in, fragment_in, rebuilt_header}
+use Rattle.host_machine.specs.Receiving.Ipv4.{ProcessesDatagram, ProcessesPacket, ProcessesIpv4, key_in, fragment_in, datagram_header}
 use Rattle.host_machine.specs.Receiving.Ipv4 as ipv4
 use Rattle.host_machine.specs.Receiving.Ipv6 as ipv6
 use Rattle.host_machine.specs.Receiving.Ethernet.{ProcessesEthertype, ProcessesEthernet, ProcessesFrame, is_for, version_in}
@@ -71,17 +71,17 @@ fragment_same t = same_by t.changed (unread refl refl)
 -- IPv4
 rebuilt_handed : {frame packet : List ℕ} {H mid new : Host} {octets : List ℕ} {notes first rest : List Note} → Carries H.hardware_addr frame packet → IsIpv4 (is_rx H.capabilities.checksum.ipv4) packet →
     may_be_source H.ip_addrs (ipv4_in packet).0.src_addr ≡ true → is_fragment (ipv4_in packet).1 ≡ true → TakesFragment (key_in (ipv4_in packet).0 (ipv4_in packet).1) (fragment_in (ipv4_in packet).1 (ipv4_in packet).2) (Some octets) H first mid →
-    notes ≡ first ++ rest → rest ≡ [] → Same mid new ⊎ HandsPacket (ipv4_in packet).0.next_header (repr.Ipv4 (rebuilt_header (ipv4_in packet).0 octets)) octets mid new → Same H new ⊎ Brought H frame (slot_notes notes) new
+    notes ≡ first ++ rest → rest ≡ [] → Same mid new ⊎ HandsPacket (ipv4_in packet).0.next_header (repr.Ipv4 (datagram_header (ipv4_in packet).0 octets)) octets mid new → Same H new ⊎ Brought H frame (slot_notes notes) new
 rebuilt_handed c i s g t n e (inl x) = inl (same_then (fragment_same t) x)
 rebuilt_handed {frame} {packet} {H} {mid} {new} {octets} {notes} {first} {rest} c i s g t n e (inr h) =
     let kept = fragment_same t in
     let last = completes t.reassembles in
     let all : slot_notes notes ≡ t.slot_notes = rw (n, e, append-nil, t.noted) (slot_notes-slots t.slot_notes) in
     inr (record {
-      header = repr.Ipv4 (rebuilt_header (ipv4_in packet).0 octets);
+      header = repr.Ipv4 (datagram_header (ipv4_in packet).0 octets);
       octets = octets;
       brings = spec.InFragments packet last.earlier c i s g h.is_udp (all ∙ last.last) refl;
-      for_host = subst (λ (K : Host). is_for_host K (dst_addr (repr.Ipv4 (rebuilt_header (ipv4_in packet).0 octets))) ≡ true) kept.seen_is h.for_host;
+      for_host = subst (λ (K : Host). is_for_host K (dst_addr (repr.Ipv4 (datagram_header (ipv4_in packet).0 octets))) ≡ true) kept.seen_is h.for_host;
       hands = hands_after kept h.hands;
     })
 

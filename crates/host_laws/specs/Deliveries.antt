@@ -27,7 +27,7 @@ use Rattle.host_machine.specs.State.Host.{Host, SocketSet}
 use Rattle.host_machine.specs.State.Addresses.{is_broadcast, is_for_host, may_be_source}
 use Rattle.host_machine.specs.Receiving.Ethernet.{is_for, version_in}
 use Rattle.host_machine.specs.Laws.Frames.{Carries}
-use Rattle.host_machine.specs.Receiving.Ipv4.{key_in, rebuilt_header}
+use Rattle.host_machine.specs.Receiving.Ipv4.{key_in, datagram_header}
 
 -- a datagram that was delivered to a socket: the socket's index, both endpoints, and the payload
 pub record Delivery : Type 0 where
@@ -67,7 +67,7 @@ pub data BringsUdp (H : Host) (frame : List ℕ) (noted : List SlotNote) (r : Ip
   InFragments : (packet : List ℕ) (earlier : List SlotNote) → Carries H.hardware_addr frame packet → IsIpv4 (is_rx H.capabilities.checksum.ipv4) packet →
       may_be_source H.ip_addrs (ipv4_in packet).0.src_addr ≡ true → is_fragment (ipv4_in packet).1 ≡ true →
       (ipv4_in packet).0.next_header ≡ protocol.Udp → noted ≡ earlier ++ Rebuild (key_in (ipv4_in packet).0 (ipv4_in packet).1) octets ∷ [] →
-      r ≡ repr.Ipv4 (rebuilt_header (ipv4_in packet).0 octets) → BringsUdp H frame noted r octets
+      r ≡ repr.Ipv4 (datagram_header (ipv4_in packet).0 octets) → BringsUdp H frame noted r octets
 
 -- a frame brings what a socket gets: a datagram with right lengths, and a right checksum if that is verified and there is one,
 -- for an address of the host

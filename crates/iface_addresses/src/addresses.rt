@@ -17,7 +17,7 @@ pub fn is_loopback(address: &IpAddress) -> bool
 }
 
 /// Whether an address is the solicited-node group of an address of the list other than ::1.
-pub fn is_solicited(own: &[IpCidr], address: &Ipv6Address) -> bool
+pub fn has_solicited_node(own: &[IpCidr], address: &Ipv6Address) -> bool
     ensures { result ≡ addresses.has_solicited_node own.now address.now }
 {
     own.iter().any(|cidr| is_asked_by(cidr, address))
@@ -66,7 +66,7 @@ fn is_broadcast_of(cidr: &IpCidr, address: &Ipv4Address) -> bool
 }
 
 /// The first IPv4 address of a list.
-pub fn first_ipv4(own: &[IpCidr]) -> Option<Ipv4Address>
+pub fn ipv4_addr(own: &[IpCidr]) -> Option<Ipv4Address>
     ensures { result ≡ addresses.ipv4_addr own.now }
 {
     for cidr in own {
@@ -78,7 +78,7 @@ pub fn first_ipv4(own: &[IpCidr]) -> Option<Ipv4Address>
 }
 
 /// The first link-local address of a list.
-pub fn first_link_local(own: &[IpCidr]) -> Option<Ipv6Address>
+pub fn link_local_addr(own: &[IpCidr]) -> Option<Ipv6Address>
     ensures { result ≡ addresses.link_local_addr own.now }
 {
     for cidr in own {
@@ -92,7 +92,7 @@ pub fn first_link_local(own: &[IpCidr]) -> Option<Ipv6Address>
 }
 
 /// The first IPv4 address of a list whose network contains another.
-pub fn near_ipv4(own: &[IpCidr], address: &Ipv4Address) -> Option<Ipv4Address>
+pub fn near_addr(own: &[IpCidr], address: &Ipv4Address) -> Option<Ipv4Address>
     ensures { result ≡ addresses.near_addr own.now address.now }
 {
     for cidr in own {

@@ -5,7 +5,7 @@ ghost use Rattle.ip_address.specs.Ipv4 as ipv4;
 ghost use Rattle.host_machine.specs.State.Host.{SocketSet, no_sockets};
 ghost use Rattle.host_machine.specs.Receiving.Arp.{ProcessesArp, answer_by, is_for_us, reply_to};
 ghost use Rattle.host_machine.specs.Receiving.Response.{Responds};
-ghost use Rattle.iface_send.specs.Refines.{Built, Processed};
+ghost use Rattle.iface_send.specs.Refines.{RefinesBuilding, RefinesReplying};
 ghost use Rattle.iface_send.specs.Stands.{host_of};
 
 use iface_packet::packet::emit_arp;
@@ -25,7 +25,7 @@ pub fn process_arp(
 )
     requires empty { out.old ≡ [] }
     requires own { (host_of context.old no_sockets).hardware_addr ≡ HardwareAddress.Ethernet own }
-    ensures { (sockets : SocketSet) → Processed out.new (λ H. ProcessesArp own H payload.now) (host_of context.old sockets) (host_of context.new sockets) }
+    ensures { (sockets : SocketSet) → RefinesReplying out.new (λ H. ProcessesArp own H payload.now) (host_of context.old sockets) (host_of context.new sockets) }
 {
     let Some(packet) = ArpRepr::parse(payload) else {
         return;
@@ -56,7 +56,7 @@ fn is_for_us(context: &Context, packet: &ArpRepr) -> bool
 /// Builds the reply to a request; a reply is not answered.
 fn answer(context: &Context, own: EthernetAddress, packet: &ArpRepr, out: &mut FrameBuffer)
     requires { out.old ≡ [] }
-    ensures { Built out.new (Responds (answer_by packet.now.operation own packet.now)) context.now context.now }
+    ensures { RefinesBuilding out.new (Responds (answer_by packet.now.operation own packet.now)) context.now context.now }
 {
     match packet.operation {
         ArpOperation::Request => emit_arp(&reply_to(own, packet), out),

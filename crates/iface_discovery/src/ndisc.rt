@@ -11,7 +11,7 @@ ghost use Rattle.host_machine.specs.Receiving.Ndisc as spec;
 ghost use Rattle.host_machine.specs.Sending.Packet as value;
 ghost use Rattle.iface_packet.specs.PacketValues as value_of;
 ghost use Rattle.iface_send.specs.Stands.{host_in, host_of};
-ghost use Rattle.iface_send.specs.Refines.{Processed};
+ghost use Rattle.iface_send.specs.Refines.{RefinesReplying};
 
 use bitflags::Flags;
 use icmpv6_wire::{NdiscNeighborFlags, NdiscRepr};
@@ -35,7 +35,7 @@ pub fn process_ndisc(
 )
     requires empty { out.old ≡ [] }
     requires from_one { ipv6.is_unicast header.now.src_addr ≡ true }
-    ensures { (sockets : SocketSet) → Processed out.new (λ H. spec.ProcessesNdisc header.now message.now H) (host_of context.old sockets) (host_of context.new sockets) }
+    ensures { (sockets : SocketSet) → RefinesReplying out.new (λ H. spec.ProcessesNdisc header.now message.now H) (host_of context.old sockets) (host_of context.new sockets) }
 {
     let HardwareAddress::Ethernet(own) = context.hardware_addr() else {
         return;
@@ -106,7 +106,7 @@ fn process_solicitation(
     requires empty { out.old ≡ [] }
     requires from_one { ipv6.is_unicast header.now.src_addr ≡ true }
     requires on_ethernet { medium_of (host_of context.old no_sockets).hardware_addr ≡ medium.Ethernet }
-    ensures { (sockets : SocketSet) → Processed out.new (λ H reply notes new. spec.ProcessesNdiscMessage own header.now H reply notes new (NeighborSolicit target_addr.now lladdr.now)) (host_of context.old sockets) (host_of context.new sockets) }
+    ensures { (sockets : SocketSet) → RefinesReplying out.new (λ H reply notes new. spec.ProcessesNdiscMessage own header.now H reply notes new (NeighborSolicit target_addr.now lladdr.now)) (host_of context.old sockets) (host_of context.new sockets) }
 {
     if has_no_unicast(lladdr, target_addr) {
         return;

@@ -2,7 +2,7 @@
 ghost use Rattle.std.specs.Prelude.{◌≡◌};
 ghost use Rattle.host_machine.specs.State.Host.{no_sockets};
 ghost use Rattle.host_machine.specs.Polling.Due as due;
-ghost use Rattle.host_machine.specs.Polling.Due.{of_routers};
+ghost use Rattle.host_machine.specs.Polling.Due.{routers_poll_at};
 ghost use Rattle.iface_send.specs.Stands.{host_of};
 
 use crate::router_solicitation::rs_poll_at;
@@ -14,7 +14,7 @@ use sockets::SocketContext;
 /// The earliest of an instant and of those at which router discovery has work: immediately for a pending sync of
 /// addresses and routes; the next router solicitation; and the expiry of what routers advertised.
 pub fn routers_poll_at(context: &Context, other: Option<Instant>) -> Option<Instant>
-    ensures { result ≡ of_routers (host_of context.now no_sockets) other }
+    ensures { result ≡ routers_poll_at (host_of context.now no_sockets) other }
 {
     let ends = earlier_of(context.slaac().end_at(context.now()), other);
     earlier_of(sync_poll_at(context), earlier_of(rs_poll_at(context), ends))
@@ -22,7 +22,7 @@ pub fn routers_poll_at(context: &Context, other: Option<Instant>) -> Option<Inst
 
 /// When addresses and routes have to be synchronized with router advertisements: immediately, if they are out of date.
 fn sync_poll_at(context: &Context) -> Option<Instant>
-    ensures { result ≡ due.sync_instant (host_of context.now no_sockets) }
+    ensures { result ≡ due.sync_poll_at (host_of context.now no_sockets) }
 {
     if context.slaac().sync_required(context.now()) {
         Some(Instant::ZERO)

@@ -7,7 +7,7 @@ ghost use Rattle.host_machine.specs.Sending.Slaac as spec;
 ghost use Rattle.iface_packet.specs.PacketValues as value_of;
 ghost use Rattle.iface_send.specs.Stands.{host_of};
 ghost use Rattle.iface_send.specs.Offered.{HasPart};
-ghost use Rattle.iface_send.specs.Refines.{Told};
+ghost use Rattle.iface_send.specs.Refines.{RefinesTelling};
 
 use icmpv6_wire::{Icmpv6Repr, RouterRepr};
 use iface_packet::{IpPayload, Packet, PacketV6};
@@ -23,7 +23,7 @@ use sockets::SocketContext;
 /// Sends the router solicitation that is due, if any, if the device grants a transmit token. With a token it counts as
 /// sent, whatever came of it; without a token it stays due.
 pub fn ndisc_rs_egress<D: Device>(context: &mut Context, device: &mut D, out: &mut FrameBuffer)
-    ensures { Told D.tells device.old device.new (HasPart spec.NdiscRsEgress context.old) context.new }
+    ensures { RefinesTelling D.tells device.old device.new (HasPart spec.NdiscRsEgress context.old) context.new }
 {
     if !may_solicit(context) {
         return;
@@ -42,7 +42,7 @@ fn may_solicit(context: &Context) -> bool
 /// Sends the router solicitation as [`ndisc_rs_egress`] does, where one may be due.
 #[inline(never)]
 fn send_router_solicit<D: Device>(context: &mut Context, device: &mut D, out: &mut FrameBuffer)
-    ensures { Told D.tells device.old device.new (HasPart spec.NdiscRsEgress context.old) context.new }
+    ensures { RefinesTelling D.tells device.old device.new (HasPart spec.NdiscRsEgress context.old) context.new }
 {
     let Some(packet) = due_solicitation(context) else {
         return;
@@ -55,7 +55,7 @@ fn send_router_solicit<D: Device>(context: &mut Context, device: &mut D, out: &m
 /// When the next router solicitation is due, if one may be sent and there is an address to send it from. The instant
 /// may have passed.
 pub fn rs_poll_at(context: &Context) -> Option<Instant>
-    ensures { result ≡ spec.solicitation_instant (host_of context.now no_sockets) }
+    ensures { result ≡ spec.rs_poll_at (host_of context.now no_sockets) }
 {
     let _packet = router_solicitation(context)?;
     context.slaac().retry_at()

@@ -11,8 +11,8 @@ use Rattle.host_machine.specs.Polling.Due.{Due, IsLeast}
 use Rattle.host_machine.specs.State.Host.{Host as Machine, SocketSet, at}
 use Rattle.host_machine.specs.Polling.Polling.{Polls}
 use Rattle.host_machine.specs.Polling.Step.{SetsReassemblyTimeout, WithinDay, OverDay}
-use Rattle.interface.specs.Goes.{Goes}
-use Rattle.interface.specs.Receives.{ReceivesFrame}
+use Rattle.interface.specs.Refines.{HostRefinesTelling}
+use Rattle.interface.specs.Receives.{HostRefinesReceiving}
 use Rattle.interface.specs.Stands as interface
 use Rattle.interface.specs.declared.interface.Interface.{Interface}
 use Rattle.iface_host.specs.Frames.{IsDue, IsWritten, Made, NextIs, Receives, Round, is_piece_left, planned}
@@ -32,7 +32,7 @@ pub stood : (s : Settings) (i : Interface) (o : Waiting) → o ≡ empty (capabi
 stood s i o is stands sockets = subst (λ (w : Waiting). interface.StandsFor i sockets (first_host w.capabilities s.hardware_addr s.random_seed s.slaac (pos 0) sockets)) is (stands sockets)
 
 -- fragments wait as long as they are to, from each host that an interface stood for
-pub timed : (i i' : Interface) (timeout : ℕ) (sockets : SocketSet) (H : Machine) → interface.StandsFor i sockets H → interface.Led (SetsReassemblyTimeout timeout (Ok tt)) H (interface.StandsFor i' sockets) →
+pub timed : (i i' : Interface) (timeout : ℕ) (sockets : SocketSet) (H : Machine) → interface.StandsFor i sockets H → interface.Refinement (SetsReassemblyTimeout timeout (Ok tt)) H (interface.StandsFor i' sockets) →
     interface.StandsFor i' sockets (record H { reassembly_timeout = timeout })
 timed i i' timeout sockets H stands led = by led.follows where
   by : SetsReassemblyTimeout timeout (Ok tt) H led.host → interface.StandsFor i' sockets (record H { reassembly_timeout = timeout })
@@ -41,28 +41,28 @@ timed i i' timeout sockets H stands led = by led.follows where
 
 -- a frame was taken at the moment that was tested
 pub received : (t t' : ℤ) → t' ≡ t → (frame : List ℕ) (n : ℕ) (before after : List ℕ) (old : Host) (i : Interface) (s : Sockets (Bor (Unit {0}))) (shown result : Option (List ℕ)) → result ≡ shown →
-    IsWritten shown n before after → ReceivesFrame t' frame result (interface.StandsFor old.interface old.sockets) (interface.StandsFor i s) →
+    IsWritten shown n before after → HostRefinesReceiving t' frame result (interface.StandsFor old.interface old.sockets) (interface.StandsFor i s) →
     Receives t frame n before after old (record old { interface = i; sockets = s })
 received t t' same frame n before after old i s shown result is w r = record {
   shown = shown;
   written = w;
   received =
-      let at_t = subst (λ (m : ℤ). ReceivesFrame m frame result (interface.StandsFor old.interface old.sockets) (interface.StandsFor i s)) same r in
-      subst (λ (x : Option (List ℕ)). ReceivesFrame t frame x (interface.StandsFor old.interface old.sockets) (interface.StandsFor i s)) is at_t;
+      let at_t = subst (λ (m : ℤ). HostRefinesReceiving m frame result (interface.StandsFor old.interface old.sockets) (interface.StandsFor i s)) same r in
+      subst (λ (x : Option (List ℕ)). HostRefinesReceiving t frame x (interface.StandsFor old.interface old.sockets) (interface.StandsFor i s)) is at_t;
   rest = refl;
 }
 
 -- a poll with the room that was reserved
 pub rounded : (t : ℤ) (old : Host) (room : Waiting) → room ≡ with_room true old.outbox → (left : Bool) → left ≡ is_piece_left old → (before after : Planned (Bor (Unit {0}))) → before ≡ before_round t old.ip_mtu left (planned old) →
     (answer : PollResult) (i : Interface) (polled : Sockets (Bor (Unit {0}))) (o : Waiting) →
-    Goes Tells room o (Polls t 1 answer) (interface.StandsFor old.interface before.sockets) (interface.StandsFor i polled) → after ≡ after_round t (record { plan = before.plan; sockets = polled }) →
+    HostRefinesTelling Tells room o (Polls t 1 answer) (interface.StandsFor old.interface before.sockets) (interface.StandsFor i polled) → after ≡ after_round t (record { plan = before.plan; sockets = polled }) →
     Round t old (record old { interface = i; sockets = after.sockets; outbox = o; schedule = after.plan })
 rounded t old room is left left_is before after prepared answer i polled o went ended = record {
   before = before;
   polled = polled;
   answer = answer;
   prepared = prepared ∙ ap (λ (b : Bool). before_round t old.ip_mtu b (planned old)) left_is;
-  went = subst (λ (w : Waiting). Goes Tells w o (Polls t 1 answer) (interface.StandsFor old.interface before.sockets) (interface.StandsFor i polled)) is went;
+  went = subst (λ (w : Waiting). HostRefinesTelling Tells w o (Polls t 1 answer) (interface.StandsFor old.interface before.sockets) (interface.StandsFor i polled)) is went;
   ended = ended;
   rest = refl;
 }

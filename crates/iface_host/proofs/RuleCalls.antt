@@ -21,11 +21,11 @@ abbrev with_interface : Host → Interface → Host
 with_interface host i = record host { interface = i }
 
 -- a rule of the interface's is the host's
-pub followed : (old : Host) (i : Interface) (Rule : Machine → Machine → Type 0) → interface.Follows old.interface i Rule → Follows Rule old (with_interface old i)
+pub followed : (old : Host) (i : Interface) (Rule : Machine → Machine → Type 0) → interface.HostRefines old.interface i Rule → Follows Rule old (with_interface old i)
 followed old i Rule f = record { led = λ H h. f old.sockets H h; rest = refl }
 
 -- a rule that leaves the machine's host as it is
-pub stayed : (old : Host) (i : Interface) (Rule : Machine → Machine → Type 0) → ((H H' : Machine) → Rule H H' → H' ≡ H) → interface.Follows old.interface i Rule →
+pub stayed : (old : Host) (i : Interface) (Rule : Machine → Machine → Type 0) → ((H H' : Machine) → Rule H H' → H' ≡ H) → interface.HostRefines old.interface i Rule →
     Stays old (with_interface old i)
 stayed old i Rule same f = record {
   led = λ H h. let l = f old.sockets H h in record { host = l.host; follows = same H l.host l.follows; stands = l.stands };
@@ -74,7 +74,7 @@ default_stays old i is_kind route e answers b = record {
 
 -- another list of addresses, which is made of the one before
 pub updated : (old : Host) (i : Interface) (f : List IpCidr → List IpCidr) (list : List IpCidr) → ((sockets : SocketSet) → list ≡ f (host_with old.interface sockets).ip_addrs) →
-    interface.Follows old.interface i (UpdatesIpAddrs list (Ok tt)) → Follows (λ H. UpdatesIpAddrs (f H.ip_addrs) (Ok tt) H) old (with_interface old i)
+    interface.HostRefines old.interface i (UpdatesIpAddrs list (Ok tt)) → Follows (λ H. UpdatesIpAddrs (f H.ip_addrs) (Ok tt) H) old (with_interface old i)
 updated old i f list made u = record {
   led = λ H h. let l = u old.sockets H h in record {
     host = l.host;

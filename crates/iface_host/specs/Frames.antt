@@ -11,8 +11,8 @@ use Rattle.host_machine.specs.declared.results.PollResult.{PollResult}
 use Rattle.host_machine.specs.Polling.Due.{Due, IsLeast}
 use Rattle.host_machine.specs.State.Host.{Host as Machine, at, no_sockets}
 use Rattle.host_machine.specs.Polling.Polling.{Polls}
-use Rattle.interface.specs.Goes.{Goes}
-use Rattle.interface.specs.Receives.{ReceivesFrame}
+use Rattle.interface.specs.Refines.{HostRefinesTelling}
+use Rattle.interface.specs.Receives.{HostRefinesReceiving}
 use Rattle.iface_host.specs.Outbox.{HandsFirst, Tells, with_room}
 use Rattle.iface_host.specs.Stands.{StandsFor}
 use Rattle.iface_host.specs.declared.host.Host.{Host}
@@ -26,7 +26,7 @@ IsWritten (Some frame) n before after = (n ≡ length frame) × (take n after �
 pub record Receives (t : ℤ) (frame : List ℕ) (n : ℕ) (before after : List ℕ) (old new : Host) : Type 0 where
   pub shown : Option (List ℕ)
   pub written : IsWritten shown n before after
-  pub received : ReceivesFrame t frame shown (StandsFor old) (StandsFor new)
+  pub received : HostRefinesReceiving t frame shown (StandsFor old) (StandsFor new)
   pub rest : new ≡ record old { interface = new.interface; sockets = new.sockets }
 
 -- what is kept of the sockets, and these
@@ -44,7 +44,7 @@ pub record Round (t : ℤ) (old new : Host) : Type 0 where
   pub polled : Sockets (Bor (Unit {0}))
   pub answer : PollResult
   pub prepared : before ≡ before_round t old.ip_mtu (is_piece_left old) (planned old)
-  pub went : Goes Tells (with_room true old.outbox) new.outbox (Polls t 1 answer)
+  pub went : HostRefinesTelling Tells (with_room true old.outbox) new.outbox (Polls t 1 answer)
       (interface.StandsFor old.interface before.sockets) (interface.StandsFor new.interface polled)
   pub ended : planned new ≡ after_round t (record { plan = before.plan; sockets = polled })
   pub rest : new ≡ record old { interface = new.interface; sockets = new.sockets; outbox = new.outbox; schedule = new.schedule }

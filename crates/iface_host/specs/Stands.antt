@@ -11,7 +11,7 @@ use Rattle.ip_address.specs.Hardware.{medium_of}
 use Rattle.net_base.specs.declared.phy.Checksum.TheVariants.{Both}
 use Rattle.net_base.specs.declared.phy.DeviceCapabilities.{DeviceCapabilities}
 use Rattle.interface.specs.Stands as interface
-use Rattle.interface.specs.Stands.{Led}
+use Rattle.interface.specs.Stands.{Refinement}
 use Rattle.iface_host.specs.declared.host.Host.{Host}
 use Rattle.iface_host.specs.declared.host.Settings.{Settings}
 
@@ -48,7 +48,7 @@ pub record IsFirst (s : Settings) (host : Host) : Type 0 where
 
 -- nothing but the interface changed, and by a rule: from each host that it stood for, the rule leads to one that it stands for
 pub record Follows (Rule : Machine → Machine → Type 0) (old new : Host) : Type 0 where
-  pub led : (H : Machine) → StandsFor old H → Led Rule H (StandsFor new)
+  pub led : (H : Machine) → StandsFor old H → Refinement Rule H (StandsFor new)
   pub rest : new ≡ record old { interface = new.interface }
 
 -- nothing changed

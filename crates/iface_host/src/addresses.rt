@@ -130,7 +130,7 @@ fn copied(list: &[IpCidr]) -> Option<ArrayVec<IpCidr, 4>>
 
 /// Replaces the addresses of an interface by a list.
 fn put_addresses(interface: &mut Interface, list: ArrayVec<IpCidr, 4>) -> Result<(), AddrError>
-    ensures { stands.Follows interface.old interface.new (UpdatesIpAddrs list.items result) }
+    ensures { stands.HostRefines interface.old interface.new (UpdatesIpAddrs list.items result) }
 {
     interface.update_ip_addrs(move |_| list)
 }

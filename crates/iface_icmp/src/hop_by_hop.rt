@@ -1,9 +1,9 @@
 //! How an interface processes IPv6 hop-by-hop options (RFC 8200 4.2, 4.3).
 ghost use Rattle.std.specs.Prelude.{◌≡◌, [], None, if◌then◌else◌};
 ghost use Rattle.host_machine.specs.State.Host.{no_sockets};
-ghost use Rattle.host_machine.specs.Receiving.Ipv6.{complaint};
+ghost use Rattle.host_machine.specs.Receiving.Ipv6.{unknown_option};
 ghost use Rattle.host_machine.specs.Receiving.Response.{Responds};
-ghost use Rattle.iface_send.specs.Refines.{Built};
+ghost use Rattle.iface_send.specs.Refines.{RefinesBuilding};
 ghost use Rattle.iface_send.specs.Stands.{host_of};
 
 use crate::icmpv6::parameter_problem;
@@ -23,7 +23,7 @@ pub fn answer_unknown_option(
     out: &mut FrameBuffer,
 )
     requires { out.old ≡ [] }
-    ensures { Built out.new (Responds (complaint failure (host_of context.old no_sockets).ip_addrs header.now payload.now)) context.old context.new }
+    ensures { RefinesBuilding out.new (Responds (unknown_option failure (host_of context.old no_sockets).ip_addrs header.now payload.now)) context.old context.new }
 {
     let is_answered = match failure {
         Ipv6OptionFailureType::Skip | Ipv6OptionFailureType::Discard => false,

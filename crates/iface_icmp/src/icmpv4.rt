@@ -5,7 +5,7 @@ ghost use Rattle.host_machine.specs.State.Host.{no_sockets};
 ghost use Rattle.host_machine.specs.Receiving.Icmpv4 as spec;
 ghost use Rattle.host_machine.specs.Sending.Packet as value;
 ghost use Rattle.host_machine.specs.Receiving.Response.{Responds};
-ghost use Rattle.iface_send.specs.Refines.{Built, Processed};
+ghost use Rattle.iface_send.specs.Refines.{RefinesBuilding, RefinesReplying};
 ghost use Rattle.iface_send.specs.Stands.{host_of};
 
 use crate::delivery::deliver;
@@ -36,7 +36,7 @@ pub fn process_icmpv4(
 )
     requires empty { out.old ≡ [] }
     requires short { length octets.now < 2 ^ 16 }
-    ensures { Processed out.new (λ H. spec.ProcessesIcmpv4 header.now H octets.now) (host_of context.old sockets.old) (host_of context.new sockets.new) }
+    ensures { RefinesReplying out.new (λ H. spec.ProcessesIcmpv4 header.now H octets.now) (host_of context.old sockets.old) (host_of context.new sockets.new) }
 {
     let checked = context.capabilities().checksum.icmpv4.rx();
     let Some((message, contents)) = Icmpv4Repr::parse(octets, checked) else {
@@ -63,7 +63,7 @@ fn answer(
     requires empty { out.old ≡ [] }
     requires short { length octets.now < 2 ^ 16 }
     requires read { IsIcmpv4 checked octets.now × ((message.now, contents.now) ≡ icmpv4_in octets.now) }
-    ensures { Built out.new (Responds (spec.answer_to (host_of context.old no_sockets).ip_addrs header.now message.now contents.now)) context.old context.new }
+    ensures { RefinesBuilding out.new (Responds (spec.answer_to (host_of context.old no_sockets).ip_addrs header.now message.now contents.now)) context.old context.new }
 {
     let Icmpv4Repr::EchoRequest { ident, seq_no } = message else {
         return;
@@ -95,7 +95,7 @@ pub fn icmpv4_unreachable(
 )
     requires empty { out.old ≡ [] }
     requires quotable { 20 + header.now.payload_len < 2 ^ 16 }
-    ensures { Built out.new (Responds (spec.unreachable handled_by_raw_socket (host_of context.old no_sockets).ip_addrs reason header.now payload.now)) context.old context.new }
+    ensures { RefinesBuilding out.new (Responds (spec.unreachable handled_by_raw_socket (host_of context.old no_sockets).ip_addrs reason header.now payload.now)) context.old context.new }
 {
     if handled_by_raw_socket {
         return;
@@ -131,7 +131,7 @@ fn send_icmpv4_reply<P: Payload>(
     requires empty { out.old ≡ [] }
     requires quoted { QuotesPacket message }
     requires carried { P.carried payload ≡ value.Icmpv4 message (P.after payload) }
-    ensures { Built out.new (Responds (spec.icmpv4_reply (host_of context.old no_sockets).ip_addrs header.now message (P.after payload))) context.old context.new }
+    ensures { RefinesBuilding out.new (Responds (spec.icmpv4_reply (host_of context.old no_sockets).ip_addrs header.now message (P.after payload))) context.old context.new }
 {
     let Some(src_addr) = reply_source(context, header, &message) else {
         return;

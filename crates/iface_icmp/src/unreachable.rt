@@ -4,7 +4,7 @@ ghost use Rattle.ip_wire.specs.IpPacket.{TellsLength};
 ghost use Rattle.host_machine.specs.State.Host.{no_sockets};
 ghost use Rattle.host_machine.specs.Receiving.Response.{Responds};
 ghost use Rattle.host_machine.specs.Receiving.Unreachable.{port_unreachable};
-ghost use Rattle.iface_send.specs.Refines.{Built};
+ghost use Rattle.iface_send.specs.Refines.{RefinesBuilding};
 ghost use Rattle.iface_send.specs.Stands.{host_of};
 
 use crate::{icmpv4, icmpv6};
@@ -24,7 +24,7 @@ pub fn send_port_unreachable(
 )
     requires empty { out.old ≡ [] }
     requires quotable { TellsLength header.now }
-    ensures { Built out.new (Responds (port_unreachable handled_by_raw_socket (host_of context.old no_sockets).ip_addrs header.now payload.now)) context.old context.new }
+    ensures { RefinesBuilding out.new (Responds (port_unreachable handled_by_raw_socket (host_of context.old no_sockets).ip_addrs header.now payload.now)) context.old context.new }
 {
     match header {
         IpRepr::Ipv4(header) => {

@@ -19,7 +19,7 @@ use Rattle.iface_packet.specs.declared.packet.Packet.{Packet}
 use Rattle.iface_packet.specs.PacketValues as value_of
 use Rattle.iface_send.specs.Stands.{host_in, host_of}
 use Rattle.iface_send.specs.Offered.{HasPart, IsOffered, NoPacket, NotGranted, Goes}
-use Rattle.iface_send.specs.Refines.{Told}
+use Rattle.iface_send.specs.Refines.{RefinesTelling}
 use Rattle.iface_send.proofs.Offered.{none_is_some, true_is_false}
 
 -- the packet of the next report
@@ -37,19 +37,19 @@ without_address H version group r shows none = none_mapped _ (ipv4_addr H.ip_add
 
 module _ {D : Type 0} {tells : D → List Event → D → Type 0} where
   -- IGMP
-  pub not_due : {d : D} (c : Context) → tells d [] d → has_passed (igmp_timeout_of c.multicast.igmp_report) c.moment ≡ false → Told tells d d (HasPart IgmpEgress c) c
+  pub not_due : {d : D} (c : Context) → tells d [] d → has_passed (igmp_timeout_of c.multicast.igmp_report) c.moment ≡ false → RefinesTelling tells d d (HasPart IgmpEgress c) c
   not_due c quiet due = record { told = []; notes = []; tells_it = quiet; follows = λ slots sockets. reports.NotDue due refl refl refl }
 
   pub no_further : {d : D} (c c' : Context) → tells d [] d → has_passed (igmp_timeout_of c.multicast.igmp_report) c.moment ≡ true → next_group (host_of c no_sockets) c.multicast.igmp_report ≡ None →
-      ((sockets : SocketSet) → host_of c' sockets ≡ with_igmp_report (host_of c sockets) igmp.Inactive) → Told tells d d (HasPart IgmpEgress c) c'
+      ((sockets : SocketSet) → host_of c' sockets ≡ with_igmp_report (host_of c sockets) igmp.Inactive) → RefinesTelling tells d d (HasPart IgmpEgress c) c'
   no_further c c' quiet due none sets = record { told = []; notes = []; tells_it = quiet; follows = λ slots sockets. reports.NoFurtherGroup due none refl refl (ap (λ H. with_slots H slots) (sets sockets)) }
 
   pub no_address : {d : D} (c : Context) (next : IgmpVersion × Ipv4Address) → tells d [] d → has_passed (igmp_timeout_of c.multicast.igmp_report) c.moment ≡ true →
-      next_group (host_of c no_sockets) c.multicast.igmp_report ≡ Some next → ipv4_addr (host_of c no_sockets).ip_addrs ≡ None → Told tells d d (HasPart IgmpEgress c) c
+      next_group (host_of c no_sockets) c.multicast.igmp_report ≡ Some next → ipv4_addr (host_of c no_sockets).ip_addrs ≡ None → RefinesTelling tells d d (HasPart IgmpEgress c) c
   no_address c next quiet due some none = record { told = []; notes = []; tells_it = quiet; follows = λ slots sockets. reports.NoAddress next due some none refl refl refl }
 
   pub report_waits : {d e : D} (c c' : Context) (p : value.Packet) (granted : Bool) → has_passed (igmp_timeout_of c.multicast.igmp_report) c.moment ≡ true → next_report (host_of c no_sockets) ≡ Some p → granted ≡ false →
-      Told tells d e (HasPart (IsOffered (Some p) granted) c) c' → Told tells d e (HasPart IgmpEgress c) c'
+      RefinesTelling tells d e (HasPart (IsOffered (Some p) granted) c) c' → RefinesTelling tells d e (HasPart IgmpEgress c) c'
   report_waits c c' p granted due next refused offered = record { told = offered.told; notes = offered.notes; tells_it = offered.tells_it; follows = λ slots sockets. by slots sockets (offered.follows slots sockets) } where
     by : (slots : Slots) (sockets : SocketSet) → IsOffered (Some p) granted (host_in c slots sockets) offered.told offered.notes (host_in c' slots sockets) →
         IgmpEgress (host_in c slots sockets) offered.told offered.notes (host_in c' slots sockets)
@@ -58,8 +58,8 @@ module _ {D : Type 0} {tells : D → List Event → D → Type 0} where
     by slots sockets (Goes q outcome frames some is sends_it told_so) = true_is_false is refused
 
   pub report_goes : {d e : D} (c c' c'' : Context) (p : value.Packet) (granted : Bool) → has_passed (igmp_timeout_of c.multicast.igmp_report) c.moment ≡ true → next_report (host_of c no_sockets) ≡ Some p → granted ≡ true →
-      Told tells d e (HasPart (IsOffered (Some p) granted) c) c' → ((sockets : SocketSet) → host_of c'' sockets ≡ with_igmp_report (host_of c' sockets) (igmp_report_after c.multicast.igmp_report c.moment)) →
-      Told tells d e (HasPart IgmpEgress c) c''
+      RefinesTelling tells d e (HasPart (IsOffered (Some p) granted) c) c' → ((sockets : SocketSet) → host_of c'' sockets ≡ with_igmp_report (host_of c' sockets) (igmp_report_after c.multicast.igmp_report c.moment)) →
+      RefinesTelling tells d e (HasPart IgmpEgress c) c''
   report_goes c c' c'' p granted due next gone offered sets = record { told = offered.told; notes = offered.notes; tells_it = offered.tells_it; follows = λ slots sockets. by slots sockets (offered.follows slots sockets) } where
     by : (slots : Slots) (sockets : SocketSet) → IsOffered (Some p) granted (host_in c slots sockets) offered.told offered.notes (host_in c' slots sockets) →
         IgmpEgress (host_in c slots sockets) offered.told offered.notes (host_in c'' slots sockets)
@@ -69,11 +69,11 @@ module _ {D : Type 0} {tells : D → List Event → D → Type 0} where
         reports.Sent q outcome frames (host_in c' slots sockets) due (next ∙ some) sends_it told_so (ap (λ H. with_slots H slots) (sets sockets))
 
   -- MLD
-  pub not_yet : {d : D} (c : Context) → tells d [] d → has_passed (mld_timeout_of c.multicast.mld_report) c.moment ≡ false → Told tells d d (HasPart MldEgress c) c
+  pub not_yet : {d : D} (c : Context) → tells d [] d → has_passed (mld_timeout_of c.multicast.mld_report) c.moment ≡ false → RefinesTelling tells d d (HasPart MldEgress c) c
   not_yet c quiet due = record { told = []; notes = []; tells_it = quiet; follows = λ slots sockets. reports.NotYet due refl refl refl }
 
   pub report_ends : {d e : D} (c c' c'' : Context) (p : value.Packet) (granted : Bool) → has_passed (mld_timeout_of c.multicast.mld_report) c.moment ≡ true → p ≡ next_mld_report (host_of c no_sockets) →
-      Told tells d e (HasPart (IsOffered (Some p) granted) c) c' → ((sockets : SocketSet) → host_of c'' sockets ≡ with_mld_report (host_of c' sockets) mld.Inactive) → Told tells d e (HasPart MldEgress c) c''
+      RefinesTelling tells d e (HasPart (IsOffered (Some p) granted) c) c' → ((sockets : SocketSet) → host_of c'' sockets ≡ with_mld_report (host_of c' sockets) mld.Inactive) → RefinesTelling tells d e (HasPart MldEgress c) c''
   report_ends c c' c'' p granted due next offered sets = record { told = offered.told; notes = offered.notes; tells_it = offered.tells_it; follows = λ slots sockets. by slots sockets (offered.follows slots sockets) } where
     is_next : (q : value.Packet) → Some p ≡ Some q → q ≡ next_mld_report (host_of c no_sockets)
     is_next q some = rw (← next) (let same : p ≡ q = cc in sym same)

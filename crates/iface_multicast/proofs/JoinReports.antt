@@ -18,7 +18,7 @@ use Rattle.iface_send.specs.declared.context.Context.{Context}
 use Rattle.iface_send.specs.Stands.{host_in, host_of}
 use Rattle.iface_send.specs.Offered.{HasPart, IsOffered, NoPacket, NotGranted, Goes}
 use Rattle.iface_multicast.specs.Joins.{IsReported}
-use Rattle.iface_send.specs.Refines.{Told}
+use Rattle.iface_send.specs.Refines.{RefinesTelling}
 
 -- the groups in a state, as far as they were told of
 abbrev pub ReportsSo : GroupState → (List IpCidr → IpAddress → Option Packet) → (List Group → IpAddress → List Group) → Bool → Part
@@ -41,12 +41,12 @@ module _ (state : GroupState) (packet_for : List IpCidr → IpAddress → Option
         rw (end, is, told_so) (ToldGroup a p outcome frames others one.mid so first some sends_it)
 
   module _ {D : Type 0} {tells : D → List Event → D → Type 0} where
-    pub none_told : {d : D} (c : Context) → tells d [] d → Told tells d d (HasPart (ReportsSo state packet_for after_report true) c) c
+    pub none_told : {d : D} (c : Context) → tells d [] d → RefinesTelling tells d d (HasPart (ReportsSo state packet_for after_report true) c) c
     none_told c quiet = record { told = []; notes = []; tells_it = quiet; follows = λ slots sockets. Begins }
 
     pub one_reported : {d m e : D} (c c' c'' : Context) (granted : Bool) (a : IpAddress) → ((a b c : D) (xs ys : List Event) → tells a xs b → tells b ys c → tells a (xs ++ ys) c) →
-        Told tells d m (HasPart (ReportsSo state packet_for after_report true) c) c' → (first_in state (host_of c' no_sockets).groups ≡ Some a) →
-        Told tells m e (HasPart (IsReported packet_for after_report a granted) c') c'' → Told tells d e (HasPart (ReportsSo state packet_for after_report granted) c) c''
+        RefinesTelling tells d m (HasPart (ReportsSo state packet_for after_report true) c) c' → (first_in state (host_of c' no_sockets).groups ≡ Some a) →
+        RefinesTelling tells m e (HasPart (IsReported packet_for after_report a granted) c') c'' → RefinesTelling tells d e (HasPart (ReportsSo state packet_for after_report granted) c) c''
     one_reported {d} {m} {e} c c' c'' granted a tells_on so first one = record {
       told = so.told ++ one.told;
       notes = so.notes ++ one.notes;
@@ -54,20 +54,20 @@ module _ (state : GroupState) (packet_for : List IpCidr → IpAddress → Option
       follows = λ slots sockets. one_more (host_in c slots sockets) (host_in c' slots sockets) (host_in c'' slots sockets) a granted so.told one.told so.notes one.notes (so.follows slots sockets) first (one.follows slots sockets);
     }
 
-    pub all_reported : {d e : D} (c c' : Context) → Told tells d e (HasPart (ReportsSo state packet_for after_report true) c) c' → first_in state (host_of c' no_sockets).groups ≡ None →
-        Told tells d e (HasPart (ReportsAll state packet_for after_report) c) c'
+    pub all_reported : {d e : D} (c c' : Context) → RefinesTelling tells d e (HasPart (ReportsSo state packet_for after_report true) c) c' → first_in state (host_of c' no_sockets).groups ≡ None →
+        RefinesTelling tells d e (HasPart (ReportsAll state packet_for after_report) c) c'
     all_reported c c' so none = record { told = so.told; notes = so.notes; tells_it = so.tells_it; follows = λ slots sockets. All (so.follows slots sockets) none }
 
-    pub told_until : {d e : D} (c c' : Context) (granted : Bool) → granted ≡ false → Told tells d e (HasPart (ReportsSo state packet_for after_report granted) c) c' →
-        Told tells d e (HasPart (ReportsAll state packet_for after_report) c) c'
+    pub told_until : {d e : D} (c c' : Context) (granted : Bool) → granted ≡ false → RefinesTelling tells d e (HasPart (ReportsSo state packet_for after_report granted) c) c' →
+        RefinesTelling tells d e (HasPart (ReportsAll state packet_for after_report) c) c'
     told_until c c' granted refused so = record { told = so.told; notes = so.notes; tells_it = so.tells_it; follows = λ slots sockets. UpToRefusal (rw refused at (so.follows slots sockets)) }
 
 module _ {D : Type 0} {tells : D → List Event → D → Type 0} where
   -- what was told of a group counts
   pub reported_it : {d e : D} (packet_for : List IpCidr → IpAddress → Option Packet) (after_report : List Group → IpAddress → List Group) (a : IpAddress) (granted : Bool) (c c' c'' : Context) →
-      Told tells d e (HasPart (IsOffered (packet_for (host_of c no_sockets).ip_addrs a) granted) c) c' →
+      RefinesTelling tells d e (HasPart (IsOffered (packet_for (host_of c no_sockets).ip_addrs a) granted) c) c' →
       ((slots : Slots) (sockets : SocketSet) → host_in c'' slots sockets ≡ (if granted then with_groups (host_in c' slots sockets) (after_report (host_in c' slots sockets).groups a) else host_in c' slots sockets)) →
-      Told tells d e (HasPart (IsReported packet_for after_report a granted) c) c''
+      RefinesTelling tells d e (HasPart (IsReported packet_for after_report a granted) c) c''
   reported_it packet_for after_report a granted c c' c'' offered counts = record {
     told = offered.told;
     notes = offered.notes;

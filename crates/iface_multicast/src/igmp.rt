@@ -13,7 +13,7 @@ ghost use Rattle.net_base.specs.Time.{IsMoment};
 ghost use Rattle.host_machine.specs.Sending.Packet.{IsWritable};
 ghost use Rattle.iface_packet.specs.PacketValues as value_of;
 ghost use Rattle.iface_send.specs.Offered.{HasPart};
-ghost use Rattle.iface_send.specs.Refines.{Told};
+ghost use Rattle.iface_send.specs.Refines.{RefinesTelling};
 
 use crate::timeout::{has_passed, later_of};
 use group_table::IgmpReportState;
@@ -38,13 +38,13 @@ pub fn process_igmp(context: &mut Context, header: &Ipv4Repr, octets: &[u8])
     let Some(message) = IgmpRepr::parse(octets) else {
         return;
     };
-    take_message(context, &header.dst_addr, &message);
+    process_igmp_message(context, &header.dst_addr, &message);
 }
 
 /// Sends the next report of an IPv4 group, if it is due and the device grants a transmit token. If no further group is
 /// left to report, the answer to the query ends. Without a token or an IPv4 address the report stays due.
 pub fn igmp_egress<D: Device>(context: &mut Context, device: &mut D, out: &mut FrameBuffer)
-    ensures { Told D.tells device.old device.new (HasPart reports.IgmpEgress context.old) context.new }
+    ensures { RefinesTelling D.tells device.old device.new (HasPart reports.IgmpEgress context.old) context.new }
 {
     let now = context.now();
     let report = context.igmp_report();
@@ -65,7 +65,7 @@ pub fn igmp_egress<D: Device>(context: &mut Context, device: &mut D, out: &mut F
 
 /// When the next report of an IPv4 group is due, if there is one and an address to send it from.
 pub fn igmp_poll_at(context: &Context) -> Option<Instant>
-    ensures { result ≡ reports.igmp_instant (host_of context.now no_sockets) }
+    ensures { result ≡ reports.igmp_poll_at (host_of context.now no_sockets) }
 {
     let report = context.igmp_report();
     let (version, group) = next_group(context, &report)?;
@@ -74,7 +74,7 @@ pub fn igmp_poll_at(context: &Context) -> Option<Instant>
 }
 
 /// Processes a message by its values: only a query has an effect.
-fn take_message(context: &mut Context, dst_addr: &Ipv4Address, message: &IgmpRepr)
+fn process_igmp_message(context: &mut Context, dst_addr: &Ipv4Address, message: &IgmpRepr)
     ensures { (slots : Slots) (sockets : SocketSet) → host_in context.new slots sockets ≡ reports.host_after_igmp (host_in context.old slots sockets) dst_addr.now message.now }
 {
     match message {

@@ -4,14 +4,14 @@ ghost use Rattle.std.specs.Option.{option_map};
 ghost use Rattle.group_table.specs.declared.groups.GroupState.TheVariants.{Joining, Leaving};
 ghost use Rattle.group_table.specs.Groups.{count_in, first_in, join_reported, leave_reported};
 ghost use Rattle.host_machine.specs.State.Host.{no_sockets};
-ghost use Rattle.host_machine.specs.Polling.Due.{report_due_at};
+ghost use Rattle.host_machine.specs.Polling.Due.{group_poll_at};
 ghost use Rattle.host_machine.specs.Sending.Multicast as spec;
 ghost use Rattle.host_machine.specs.Sending.Packet.{IsWritable};
 ghost use Rattle.iface_packet.specs.PacketValues as value_of;
 ghost use Rattle.iface_send.specs.Stands.{host_of};
 ghost use Rattle.iface_send.specs.Offered.{HasPart, IsOffered};
 ghost use Rattle.iface_multicast.specs.Joins.{IsReported};
-ghost use Rattle.iface_send.specs.Refines.{Told};
+ghost use Rattle.iface_send.specs.Refines.{RefinesTelling};
 
 use crate::igmp::{igmp_packet, igmp_report};
 use crate::mld::send_record;
@@ -29,7 +29,7 @@ use sockets::SocketContext;
 
 /// Reports each join that isn't reported yet, in the order of the table, until the device grants no transmit token.
 pub fn joins_egress<D: Device>(context: &mut Context, device: &mut D, out: &mut FrameBuffer)
-    ensures { Told D.tells device.old device.new (HasPart spec.JoinsEgress context.old) context.new }
+    ensures { RefinesTelling D.tells device.old device.new (HasPart spec.JoinsEgress context.old) context.new }
 {
     while let Some(group) = context.groups().first_in(GroupState::Joining) {
         if !report_join(context, device, out, &group) {
@@ -41,7 +41,7 @@ pub fn joins_egress<D: Device>(context: &mut Context, device: &mut D, out: &mut 
 /// Reports each leave that isn't reported yet, in the order of the table, until the device grants no transmit token.
 /// Each reported group is removed.
 pub fn leaves_egress<D: Device>(context: &mut Context, device: &mut D, out: &mut FrameBuffer)
-    ensures { Told D.tells device.old device.new (HasPart spec.LeavesEgress context.old) context.new }
+    ensures { RefinesTelling D.tells device.old device.new (HasPart spec.LeavesEgress context.old) context.new }
 {
     while let Some(group) = context.groups().first_in(GroupState::Leaving) {
         if !report_leave(context, device, out, &group) {
@@ -52,7 +52,7 @@ pub fn leaves_egress<D: Device>(context: &mut Context, device: &mut D, out: &mut
 
 /// When a group in this state has to be reported: immediately, if there is one.
 pub fn group_poll_at(context: &Context, state: GroupState) -> Option<Instant>
-    ensures { result ≡ report_due_at state (host_of context.now no_sockets) }
+    ensures { result ≡ group_poll_at state (host_of context.now no_sockets) }
 {
     context.groups().first_in(state)?;
     Some(Instant::ZERO)
@@ -66,7 +66,7 @@ fn report_join<D: Device>(
     out: &mut FrameBuffer,
     group: &IpAddress,
 ) -> bool
-    ensures told { Told D.tells device.old device.new (HasPart (IsReported spec.join_packet join_reported group.now result) context.old) context.new }
+    ensures told { RefinesTelling D.tells device.old device.new (HasPart (IsReported spec.join_packet join_reported group.now result) context.old) context.new }
     ensures fewer { result ≡ true → first_in Joining (host_of context.old no_sockets).groups ≡ Some group.now →
         count_in Joining (host_of context.old no_sockets).groups ≡ count_in Joining (host_of context.new no_sockets).groups + 1 }
 {
@@ -85,7 +85,7 @@ fn report_leave<D: Device>(
     out: &mut FrameBuffer,
     group: &IpAddress,
 ) -> bool
-    ensures told { Told D.tells device.old device.new (HasPart (IsReported spec.leave_packet leave_reported group.now result) context.old) context.new }
+    ensures told { RefinesTelling D.tells device.old device.new (HasPart (IsReported spec.leave_packet leave_reported group.now result) context.old) context.new }
     ensures fewer { result ≡ true → first_in Leaving (host_of context.old no_sockets).groups ≡ Some group.now →
         count_in Leaving (host_of context.old no_sockets).groups ≡ count_in Leaving (host_of context.new no_sockets).groups + 1 }
 {
@@ -104,7 +104,7 @@ fn send_join<D: Device>(
     out: &mut FrameBuffer,
     group: &IpAddress,
 ) -> bool
-    ensures told { Told D.tells device.old device.new (HasPart (IsOffered (spec.join_packet (host_of context.old no_sockets).ip_addrs group.now) result) context.old) context.new }
+    ensures told { RefinesTelling D.tells device.old device.new (HasPart (IsOffered (spec.join_packet (host_of context.old no_sockets).ip_addrs group.now) result) context.old) context.new }
     ensures groups { (host_of context.new no_sockets).groups ≡ (host_of context.old no_sockets).groups }
 {
     match group {
@@ -126,7 +126,7 @@ fn send_leave<D: Device>(
     out: &mut FrameBuffer,
     group: &IpAddress,
 ) -> bool
-    ensures told { Told D.tells device.old device.new (HasPart (IsOffered (spec.leave_packet (host_of context.old no_sockets).ip_addrs group.now) result) context.old) context.new }
+    ensures told { RefinesTelling D.tells device.old device.new (HasPart (IsOffered (spec.leave_packet (host_of context.old no_sockets).ip_addrs group.now) result) context.old) context.new }
     ensures groups { (host_of context.new no_sockets).groups ≡ (host_of context.old no_sockets).groups }
 {
     match group {
@@ -149,7 +149,7 @@ fn send_if_some<D: Device>(
     packet: &Option<Packet<'_>>,
 ) -> bool
     requires { IfSome packet.now (λ p. IsWritable (value_of.packet p)) }
-    ensures told { Told D.tells device.old device.new (HasPart (IsOffered (option_map value_of.packet packet.now) result) context.old) context.new }
+    ensures told { RefinesTelling D.tells device.old device.new (HasPart (IsOffered (option_map value_of.packet packet.now) result) context.old) context.new }
     ensures groups { (host_of context.new no_sockets).groups ≡ (host_of context.old no_sockets).groups }
 {
     match packet {

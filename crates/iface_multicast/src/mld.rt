@@ -12,7 +12,7 @@ ghost use Rattle.group_table.specs.Groups.{ipv6_groups};
 ghost use Rattle.host_machine.specs.Sending.Packet.{IsWritable};
 ghost use Rattle.iface_packet.specs.PacketValues as value_of;
 ghost use Rattle.iface_send.specs.Offered.{HasPart, IsOffered};
-ghost use Rattle.iface_send.specs.Refines.{Told};
+ghost use Rattle.iface_send.specs.Refines.{RefinesTelling};
 
 use crate::timeout::has_passed;
 use arrayvec::ArrayVec;
@@ -41,7 +41,7 @@ pub fn process_mld(context: &mut Context, header: &Ipv6Repr, message: &MldRepr)
         MldRepr::Query {
             max_resp_code,
             mcast_addr,
-        } => process_query(context, header, *max_resp_code, mcast_addr),
+        } => process_mld_query(context, header, *max_resp_code, mcast_addr),
         MldRepr::Report { .. } => {}
     }
 }
@@ -49,7 +49,7 @@ pub fn process_mld(context: &mut Context, header: &Ipv6Repr, message: &MldRepr)
 /// Sends the report of the IPv6 groups, if it is due and the device grants a transmit token. Without a token the report
 /// is dropped.
 pub fn mld_egress<D: Device>(context: &mut Context, device: &mut D, out: &mut FrameBuffer)
-    ensures { Told D.tells device.old device.new (HasPart reports.MldEgress context.old) context.new }
+    ensures { RefinesTelling D.tells device.old device.new (HasPart reports.MldEgress context.old) context.new }
 {
     let report = context.mld_report();
     if !has_passed(mld_timeout(&report), context.now()) {
@@ -70,7 +70,12 @@ pub fn mld_poll_at(context: &Context) -> Option<Instant>
 }
 
 /// Processes a query for a group, or for all.
-fn process_query(context: &mut Context, header: &Ipv6Repr, max_resp_code: u16, group: &Ipv6Address)
+fn process_mld_query(
+    context: &mut Context,
+    header: &Ipv6Repr,
+    max_resp_code: u16,
+    group: &Ipv6Address,
+)
     ensures { (slots : Slots) (sockets : SocketSet) → host_in context.new slots sockets ≡ reports.host_after_mld_query (host_in context.old slots sockets) header.now max_resp_code group.now }
 {
     if !is_near(header) {
@@ -78,7 +83,7 @@ fn process_query(context: &mut Context, header: &Ipv6Repr, max_resp_code: u16, g
     }
     let delay = delay(context, max_resp_code);
     let timeout = context.now() + delay;
-    let report = report_for(context, &header.dst_addr, timeout, group);
+    let report = mld_report_for(context, &header.dst_addr, timeout, group);
     set_mld_report(context, report);
 }
 
@@ -104,7 +109,7 @@ fn delay(context: &mut Context, max_resp_code: u16) -> Duration
 
 /// The MLD report state after a query, with a report due at `timeout`; unchanged if the query is for no group of the
 /// interface.
-fn report_for(
+fn mld_report_for(
     context: &Context,
     dst_addr: &Ipv6Address,
     timeout: Instant,
@@ -112,10 +117,10 @@ fn report_for(
 ) -> MldReportState
     ensures { result ≡ reports.mld_report_for (host_of context.now no_sockets) dst_addr.now timeout group.now }
 {
-    if is_general(context, dst_addr, group) {
+    if is_mld_general(context, dst_addr, group) {
         return MldReportState::ToGeneralQuery { timeout };
     }
-    if is_specific(context, dst_addr, group) {
+    if is_mld_specific(context, dst_addr, group) {
         return MldReportState::ToSpecificQuery {
             group: *group,
             timeout,
@@ -126,7 +131,7 @@ fn report_for(
 
 /// Whether a query is a general query for the interface: it names no group, its destination is all-nodes or one of the
 /// interface's own addresses, and there is a group to report.
-fn is_general(context: &Context, dst_addr: &Ipv6Address, group: &Ipv6Address) -> bool
+fn is_mld_general(context: &Context, dst_addr: &Ipv6Address, group: &Ipv6Address) -> bool
     ensures { result ≡ reports.is_mld_general (host_of context.now no_sockets) dst_addr.now group.now }
 {
     let is_to_us = dst_addr.bits == Ipv6Address::LINK_LOCAL_ALL_NODES.bits
@@ -135,7 +140,7 @@ fn is_general(context: &Context, dst_addr: &Ipv6Address, group: &Ipv6Address) ->
 }
 
 /// Whether a query is for one group of the interface: it names the group, which is also its destination.
-fn is_specific(context: &Context, dst_addr: &Ipv6Address, group: &Ipv6Address) -> bool
+fn is_mld_specific(context: &Context, dst_addr: &Ipv6Address, group: &Ipv6Address) -> bool
     ensures { result ≡ reports.is_mld_specific (host_of context.now no_sockets) dst_addr.now group.now }
 {
     context.has_multicast_group(&IpAddress::Ipv6(*group)) && dst_addr.bits == group.bits
@@ -149,7 +154,7 @@ pub(crate) fn send_record<D: Device>(
     record_type: MldRecordType,
     group: &Ipv6Address,
 ) -> bool
-    ensures told { Told D.tells device.old device.new (HasPart (IsOffered (Some (multicast.mld_report (host_of context.old no_sockets).ip_addrs record_type (group.now ∷ []))) result) context.old) context.new }
+    ensures told { RefinesTelling D.tells device.old device.new (HasPart (IsOffered (Some (multicast.mld_report (host_of context.old no_sockets).ip_addrs record_type (group.now ∷ []))) result) context.old) context.new }
     ensures groups { (host_of context.new no_sockets).groups ≡ (host_of context.old no_sockets).groups }
 {
     let record = MldAddressRecordRepr {

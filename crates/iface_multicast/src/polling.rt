@@ -1,7 +1,7 @@
 //! When groups have something to report.
 ghost use Rattle.std.specs.Prelude.{◌≡◌};
 ghost use Rattle.host_machine.specs.State.Host.{no_sockets};
-ghost use Rattle.host_machine.specs.Polling.Due.{of_groups};
+ghost use Rattle.host_machine.specs.Polling.Due.{groups_poll_at};
 ghost use Rattle.iface_send.specs.Stands.{host_of};
 
 use crate::igmp::igmp_poll_at;
@@ -15,7 +15,7 @@ use sockets::SocketContext;
 
 /// The earlier of an instant and of the instants at which groups have something to report.
 pub fn groups_poll_at(context: &Context, other: Option<Instant>) -> Option<Instant>
-    ensures { result ≡ of_groups (host_of context.now no_sockets) other }
+    ensures { result ≡ groups_poll_at (host_of context.now no_sockets) other }
 {
     let reports = earlier_of(
         igmp_poll_at(context),

@@ -18,11 +18,11 @@ use Rattle.host_machine.specs.State.Addresses.{may_be_source}
 use Rattle.host_machine.specs.Sending.Frame.{frames_in}
 use Rattle.host_machine.specs.Receiving.Reassembly.{TakesFragment}
 use Rattle.host_machine.specs.Receiving.Response.{Response}
-use Rattle.host_machine.specs.Receiving.Ipv4.{ProcessesPacket, ProcessesDatagram, Part, Completed, Whole, key_in, fragment_in, rebuilt_header}
+use Rattle.host_machine.specs.Receiving.Ipv4.{ProcessesPacket, ProcessesDatagram, Part, Completed, Whole, key_in, fragment_in, datagram_header}
 use Rattle.iface_send.specs.declared.context.Context.{Context}
 use Rattle.iface_send.specs.Stands.{host_in, host_of}
 use Rattle.iface_receive.specs.Ipv4.{Datagram, Own, Together, end_of_slots}
-use Rattle.iface_send.specs.Refines.{Answers, Processed, StandsFor}
+use Rattle.iface_send.specs.Refines.{HostRefinesReplying, RefinesReplying, StandsFor}
 use Rattle.iface_send.proofs.Processing.{by_rule, in_place}
 
 abbrev in_some : Option (List ℕ) → List ℕ
@@ -30,7 +30,7 @@ in_some (Some octets) = octets
 in_some None = []
 
 -- the header of a whole packet tells the length of its payload
-pub own_header : (checked : Bool) (octets payload : List ℕ) (r : Ipv4Repr) (f : Ipv4Fragment) → IsIpv4 checked octets × ((r, f, payload) ≡ ipv4_in octets) → rebuilt_header r payload ≡ r
+pub own_header : (checked : Bool) (octets payload : List ℕ) (r : Ipv4Repr) (f : Ipv4Fragment) → IsIpv4 checked octets × ((r, f, payload) ≡ ipv4_in octets) → datagram_header r payload ≡ r
 own_header checked octets payload r f is =
     let same_header : r ≡ header_in octets = ap (λ (p : Ipv4Repr × Ipv4Fragment × List ℕ). p.0) is.1 in
     let same_payload : payload ≡ (ipv4_in octets).2 = ap (λ (p : Ipv4Repr × Ipv4Fragment × List ℕ). p.2) is.1 in
@@ -53,7 +53,7 @@ module _ (c : Context) (places places' : List (Assembly FragKey)) (s : SocketSet
 
   -- others are missing, or it is dropped
   waits : is_fragment f ≡ true → ((slots : Slots) → StandForSlots places slots → Reassembled (end_of_slots c) (key_in r f) (fragment_in f payload) result slots places') →
-      result ≡ None → buffer ≡ [] → Answers buffer (λ H. ProcessesPacket source r f H payload) (StandsFor c places s) (StandsFor c places' s)
+      result ≡ None → buffer ≡ [] → HostRefinesReplying buffer (λ H. ProcessesPacket source r f H payload) (StandsFor c places s) (StandsFor c places' s)
   waits is_part rests is empty H h =
       let R = rests h.slots h.stand in record {
         notes = map OfSlots R.notes;
@@ -72,8 +72,8 @@ module _ (c : Context) (places places' : List (Assembly FragKey)) (s : SocketSet
 
   -- its datagram is complete, and taken
   completes : is_fragment f ≡ true → ((slots : Slots) → StandForSlots places slots → Reassembled (end_of_slots c) (key_in r f) (fragment_in f payload) result slots places') →
-      (c' : Context) (s' : SocketSet) (octets : List ℕ) (header : Ipv4Repr) → result ≡ Some octets → header ≡ rebuilt_header r octets →
-      Processed buffer (λ H. ProcessesDatagram source header H octets) (host_of c s) (host_of c' s') → Answers buffer (λ H. ProcessesPacket source r f H payload) (StandsFor c places s) (StandsFor c' places' s')
+      (c' : Context) (s' : SocketSet) (octets : List ℕ) (header : Ipv4Repr) → result ≡ Some octets → header ≡ datagram_header r octets →
+      RefinesReplying buffer (λ H. ProcessesDatagram source header H octets) (host_of c s) (host_of c' s') → HostRefinesReplying buffer (λ H. ProcessesPacket source r f H payload) (StandsFor c places s) (StandsFor c' places' s')
   completes is_part rests c' s' octets header is header_is processed H h =
       let R = rests h.slots h.stand in
       let whole = processed.response R.new in record {
@@ -94,16 +94,16 @@ module _ (c : Context) (places places' : List (Assembly FragKey)) (s : SocketSet
 
   -- what is done while no datagram is there
   pub no_datagram : Datagram (end_of_slots c) r f payload result places places' → result ≡ None → buffer ≡ [] →
-      Answers buffer (λ H. ProcessesPacket source r f H payload) (StandsFor c places s) (StandsFor c places' s)
+      HostRefinesReplying buffer (λ H. ProcessesPacket source r f H payload) (StandsFor c places s) (StandsFor c places' s)
   no_datagram (Own whole own unchanged) is empty = absurd (none-some payload (sym is ∙ own))
   no_datagram (Together is_part rests) is empty = waits is_part rests is empty
 
   -- and with one, under the header that tells its length
-  pub a_datagram : Datagram (end_of_slots c) r f payload result places places' → rebuilt_header r payload ≡ r → (c' : Context) (s' : SocketSet) (octets : List ℕ) (header : Ipv4Repr) →
-      result ≡ Some octets → header ≡ rebuilt_header r octets → Processed buffer (λ H. ProcessesDatagram source header H octets) (host_of c s) (host_of c' s') →
-      Answers buffer (λ H. ProcessesPacket source r f H payload) (StandsFor c places s) (StandsFor c' places' s')
+  pub a_datagram : Datagram (end_of_slots c) r f payload result places places' → datagram_header r payload ≡ r → (c' : Context) (s' : SocketSet) (octets : List ℕ) (header : Ipv4Repr) →
+      result ≡ Some octets → header ≡ datagram_header r octets → RefinesReplying buffer (λ H. ProcessesDatagram source header H octets) (host_of c s) (host_of c' s') →
+      HostRefinesReplying buffer (λ H. ProcessesPacket source r f H payload) (StandsFor c places s) (StandsFor c' places' s')
   a_datagram (Own whole own unchanged) tells c' s' octets header is header_is processed =
       let same_payload : octets ≡ payload = ap in_some (sym is ∙ own) in
-      let same_header : header ≡ r = header_is ∙ ap (rebuilt_header r) same_payload ∙ tells in
+      let same_header : header ≡ r = header_is ∙ ap (datagram_header r) same_payload ∙ tells in
       rw unchanged (in_place (by_rule processed (λ slots reply notes taken takes. Whole from whole (rw (← same_header, ← same_payload) takes))))
   a_datagram (Together is_part rests) tells c' s' octets header is header_is processed = completes is_part rests c' s' octets header is header_is processed

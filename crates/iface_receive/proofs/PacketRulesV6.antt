@@ -45,7 +45,7 @@ options_skipped source H K r payload rest o failure reply notes is fails skips t
 -- or one ends the packet
 pub options_discarded : (source : HardwareAddress) (H : Host) (r : Ipv6Repr) (payload rest : List ℕ) (o : Ipv6HopByHopRepr) (failure : Ipv6OptionFailureType) →
     IsHopByHop payload × ((o, rest) ≡ hop_by_hop_in payload) → failure ≡ first_failure o.options.items → failure ≢ Skip →
-    ipv6.ProcessesHopByHop source r H payload (ipv6.complaint failure H.ip_addrs r payload) [] H
+    ipv6.ProcessesHopByHop source r H payload (ipv6.unknown_option failure H.ip_addrs r payload) [] H
 options_discarded source H r payload rest o failure is fails ends =
     let same_options : o ≡ (hop_by_hop_in payload).0 = ap (λ (p : Ipv6HopByHopRepr × List ℕ). p.0) is.1 in
     ipv6.Discarded failure is.0 (rw same_options at (sym fails)) ends refl refl refl
@@ -57,7 +57,7 @@ taken_by_protocol_v6 p q raw r H K octets reply notes is takes = rw is takes
 
 pub protocol_refused_v6 : (p : IpProtocol) (raw : Bool) (r : Ipv6Repr) (H : Host) (octets : List ℕ) →
     (p ≡ protocol.Icmp) ⊎ ((p ≡ protocol.Igmp) ⊎ ((p ≡ protocol.HopByHop) ⊎ ((number : ℕ) × (p ≡ protocol.Unknown number)))) →
-    ipv6.ProcessesProtocol p raw r H octets (ipv6.protocol_unknown raw H.ip_addrs r octets) [] H
+    ipv6.ProcessesProtocol p raw r H octets (ipv6.unrecognized_next_header raw H.ip_addrs r octets) [] H
 protocol_refused_v6 p raw r H octets (inl is) = rw is (record { replied = refl; unnoted = refl; unchanged = refl })
 protocol_refused_v6 p raw r H octets (inr (inl is)) = rw is (record { replied = refl; unnoted = refl; unchanged = refl })
 protocol_refused_v6 p raw r H octets (inr (inr (inl is))) = rw is (record { replied = refl; unnoted = refl; unchanged = refl })

@@ -3,7 +3,7 @@ ghost use Rattle.std.specs.Prelude.{◌≡◌, ◌<◌, [], length};
 ghost use Rattle.host_machine.specs.Receiving.Ethernet.{ProcessesFrame, ProcessesEthernet, ProcessesIp, ProcessesEthertype, is_for};
 ghost use Rattle.host_machine.specs.State.Host.{no_sockets};
 ghost use Rattle.iface_send.specs.Stands.{host_of};
-ghost use Rattle.iface_send.specs.Refines.{Answers, StandsFor};
+ghost use Rattle.iface_send.specs.Refines.{HostRefinesReplying, StandsFor};
 
 use crate::ipv4::process_ipv4;
 use crate::ipv6::process_ipv6;
@@ -26,7 +26,7 @@ pub fn process_frame(
 )
     requires empty { out.old ≡ [] }
     requires some { 0 < length frame.now }
-    ensures { Answers out.new (λ H. ProcessesFrame H.hardware_addr H frame.now) (StandsFor context.old fragments.old sockets.old) (StandsFor context.new fragments.new sockets.new) }
+    ensures { HostRefinesReplying out.new (λ H. ProcessesFrame H.hardware_addr H frame.now) (StandsFor context.old fragments.old sockets.old) (StandsFor context.new fragments.new sockets.new) }
 {
     match context.hardware_addr() {
         HardwareAddress::Ethernet(own) => process_ethernet(
@@ -48,7 +48,7 @@ pub fn process_ip(
 )
     requires empty { out.old ≡ [] }
     requires some { 0 < length packet.now }
-    ensures { Answers out.new (λ H. ProcessesIp H packet.now) (StandsFor context.old fragments.old sockets.old) (StandsFor context.new fragments.new sockets.new) }
+    ensures { HostRefinesReplying out.new (λ H. ProcessesIp H packet.now) (StandsFor context.old fragments.old sockets.old) (StandsFor context.new fragments.new sockets.new) }
 {
     let source = HardwareAddress::Ip;
     match packet[0] / 16 {
@@ -72,7 +72,7 @@ pub fn process_ethernet(
 )
     requires empty { out.old ≡ [] }
     requires own { (host_of context.old no_sockets).hardware_addr ≡ HardwareAddress.Ethernet own }
-    ensures { Answers out.new (λ H. ProcessesEthernet own H frame.now) (StandsFor context.old fragments.old sockets.old) (StandsFor context.new fragments.new sockets.new) }
+    ensures { HostRefinesReplying out.new (λ H. ProcessesEthernet own H frame.now) (StandsFor context.old fragments.old sockets.old) (StandsFor context.new fragments.new sockets.new) }
 {
     let Some((header, payload)) = EthernetRepr::parse(frame) else {
         return;
@@ -95,7 +95,7 @@ fn process_ethertype(
 )
     requires empty { out.old ≡ [] }
     requires own { (host_of context.old no_sockets).hardware_addr ≡ HardwareAddress.Ethernet own }
-    ensures { Answers out.new (λ H. ProcessesEthertype own header.now.src_addr H header.now.ethertype payload.now) (StandsFor context.old fragments.old sockets.old) (StandsFor context.new fragments.new sockets.new) }
+    ensures { HostRefinesReplying out.new (λ H. ProcessesEthertype own header.now.src_addr H header.now.ethertype payload.now) (StandsFor context.old fragments.old sockets.old) (StandsFor context.new fragments.new sockets.new) }
 {
     match header.ethertype {
         EthernetProtocol::Arp => {

@@ -8,7 +8,7 @@ ghost use Rattle.host_machine.specs.Receiving.Ipv4 as spec;
 ghost use Rattle.host_machine.specs.Receiving.Ipv4.{ProcessesIpv4, ProcessesProtocol, ProcessesDatagram};
 ghost use Rattle.iface_send.specs.Stands.{host_of};
 ghost use Rattle.iface_receive.specs.Ipv4.{RestsDatagram, end_of_slots};
-ghost use Rattle.iface_send.specs.Refines.{Answers, Processed, StandsFor};
+ghost use Rattle.iface_send.specs.Refines.{HostRefinesReplying, RefinesReplying, StandsFor};
 
 use control_wire::icmpv4::Icmpv4DstUnreachable;
 use fragmentation::{FragKey, PacketAssemblerSet, reassemble};
@@ -39,7 +39,7 @@ pub fn process_ipv4(
     out: &mut FrameBuffer,
 )
     requires { out.old ≡ [] }
-    ensures { Answers out.new (λ H. ProcessesIpv4 source H octets.now) (StandsFor context.old fragments.old sockets.old) (StandsFor context.new fragments.new sockets.new) }
+    ensures { HostRefinesReplying out.new (λ H. ProcessesIpv4 source H octets.now) (StandsFor context.old fragments.old sockets.old) (StandsFor context.new fragments.new sockets.new) }
 {
     let checked = context.capabilities().checksum.ipv4.rx();
     let Some((header, fragment, payload)) = Ipv4Repr::parse(octets, checked) else {
@@ -98,7 +98,7 @@ fn rebuilt<'s>(
 /// The header of a datagram: that of the packet which brought or completed it, with the length of the whole payload.
 fn header_of_datagram(header: &Ipv4Repr, octets: &[u8]) -> Ipv4Repr
     requires { length octets.now < 2 ^ 16 }
-    ensures { result ≡ spec.rebuilt_header header.now octets.now }
+    ensures { result ≡ spec.datagram_header header.now octets.now }
 {
     Ipv4Repr {
         payload_len: octets.len() as u16,
@@ -119,7 +119,7 @@ fn process_datagram(
     requires empty { out.old ≡ [] }
     requires short { length payload.now < 2 ^ 16 }
     requires quotable { 20 + header.now.payload_len < 2 ^ 16 }
-    ensures { Processed out.new (λ H. ProcessesDatagram source header.now H payload.now) (host_of context.old sockets.old) (host_of context.new sockets.new) }
+    ensures { RefinesReplying out.new (λ H. ProcessesDatagram source header.now H payload.now) (host_of context.old sockets.old) (host_of context.new sockets.new) }
 {
     let packet = IpRepr::Ipv4(*header);
     let handled_by_raw_socket = raw::deliver(context, sockets, &packet, payload);
@@ -157,7 +157,7 @@ fn process_protocol(
     requires empty { out.old ≡ [] }
     requires short { length payload.now < 2 ^ 16 }
     requires quotable { 20 + header.now.payload_len < 2 ^ 16 }
-    ensures { Processed out.new (λ H. ProcessesProtocol header.now.next_header handled_by_raw_socket header.now H payload.now) (host_of context.old sockets.old) (host_of context.new sockets.new) }
+    ensures { RefinesReplying out.new (λ H. ProcessesProtocol header.now.next_header handled_by_raw_socket header.now H payload.now) (host_of context.old sockets.old) (host_of context.new sockets.new) }
 {
     match header.next_header {
         IpProtocol::Icmp => process_icmpv4(context, sockets, header, payload, out),

@@ -20,8 +20,8 @@ use Rattle.host_machine.specs.Sending.Frame.{link_header, piece_frame}
 use Rattle.host_machine.specs.Laws.Real.{IsPart}
 use Rattle.iface_send.specs.declared.context.Context.{Context}
 use Rattle.iface_send.specs.Stands.{host_of}
-use Rattle.iface_send.specs.Refines.{Built}
-use Rattle.iface_send.specs.Pieces.{NextPieceGoes}
+use Rattle.iface_send.specs.Refines.{RefinesBuilding}
+use Rattle.iface_send.specs.Pieces.{EmitsNextPiece}
 use Rattle.iface_send.proofs.Building.{one, noting}
 
 none_some : {x : NextPiece} → None ≡ Some x → ⊥
@@ -39,7 +39,7 @@ shown_frame c s p sockets shows = rw (shows.destination, shows.header, shows.fra
 
 module _ {buffer : List ℕ} {old new : Context} (shown : NextPiece) (is : buffer ≡ frame_by old shown) (some : 0 < length buffer)
     (advanced : (sockets : SocketSet) → host_of new sockets ≡ with_left (host_of old sockets) (rest_of old.fragmenter.pieces)) where
-  pub next_goes : (next : Option NextPiece) → next ≡ Some shown → IsNext old.fragmenter.pieces next → Built buffer NextPieceGoes old new
+  pub next_goes : (next : Option NextPiece) → next ≡ Some shown → IsNext old.fragmenter.pieces next → RefinesBuilding buffer EmitsNextPiece old new
   next_goes next it (NoPiece none nothing) = absurd (none_some (sym nothing ∙ it))
   next_goes next it (First s piece rest is_first is_shown shows) = one (frame_by old shown) (OfCuts (PieceSent piece) ∷ []) is some (λ slots sockets. record {
     piece = piece;
@@ -59,7 +59,7 @@ in_parts link header octets empty by_link by_header by_octets =
 pub begins : {buffer : List ℕ} {old mid new : Context} (id : ℕ) (p : PacketV4) (h : HardwareAddress) →
     ((sockets : SocketSet) → host_of mid sockets ≡ with_left (host_of old sockets) (pieces_of (datagram_of (host_of old sockets) h id p))) →
     HasForm (datagram_of (host_of old no_sockets) h id p) → HasPorts p.payload → ip_mtu_of old.capabilities < total_len (Ipv4 p) → total_len (Ipv4 p) ≤ 4096 →
-    Built buffer NextPieceGoes mid new → Built buffer (Emits id (Ipv4 p) h (Ok tt)) old new
+    RefinesBuilding buffer EmitsNextPiece mid new → RefinesBuilding buffer (Emits id (Ipv4 p) h (Ok tt)) old new
 begins {buffer} {old} {mid} {new} id p h left form ports long fits built =
     noting (OfCuts (Cut (datagram_of (host_of old no_sockets) h id p))) built (λ slots sockets frames notes goes. InPieces p goes.piece goes.rest refl long (grind (arith, nat_tests, fits))
     (sym (ap (λ (H : Host). H.left) (left sockets)) ∙ goes.is_first) form (record { source = form.source_addr; destination = form.destination_addr; len = omega (arith, fits); ports = ports }) refl

@@ -11,7 +11,7 @@ use Rattle.iface_send.specs.declared.context.Context.{Context}
 use Rattle.iface_send.specs.Stands.{host_in}
 
 -- the first pending fragment is sent, and the others stay pending
-pub record NextPieceGoes (H : Host) (frames : List (List ℕ)) (notes : List Note) (new : Host) : Type 0 where
+pub record EmitsNextPiece (H : Host) (frames : List (List ℕ)) (notes : List Note) (new : Host) : Type 0 where
   pub piece : Piece
   pub rest : List Piece
   pub is_first : H.left ≡ piece ∷ rest

@@ -14,7 +14,8 @@ use address_selection::{get_source_address_ipv6, ipv6_addr};
 use arrayvec::ArrayVec;
 use fragmentation::Fragmenter;
 use iface_addresses::addresses::{
-    ends_a_network, first_ipv4, first_link_local, is_assigned, is_loopback, is_solicited, near_ipv4,
+    ends_a_network, has_solicited_node, ipv4_addr, is_assigned, is_loopback, link_local_addr,
+    near_addr,
 };
 use iface_tables::neighbor::Cache;
 use iface_tables::route::Routes;
@@ -205,7 +206,7 @@ impl Context {
     pub fn has_solicited_node(&self, address: &Ipv6Address) -> bool
         ensures { result ≡ addresses.has_solicited_node (host_of self.now no_sockets).ip_addrs address.now }
     {
-        is_solicited(self.ip_addrs.as_slice(), address)
+        has_solicited_node(self.ip_addrs.as_slice(), address)
     }
 
     /// Whether a packet to this address is for the interface: one of its own addresses, one of its groups, a broadcast
@@ -261,14 +262,14 @@ impl Context {
     pub fn ipv4_addr(&self) -> Option<Ipv4Address>
         ensures { result ≡ addresses.ipv4_addr (host_of self.now no_sockets).ip_addrs }
     {
-        first_ipv4(self.ip_addrs.as_slice())
+        ipv4_addr(self.ip_addrs.as_slice())
     }
 
     /// The first link-local address of the interface, if any (RFC 4291 2.5.6).
     pub fn link_local_addr(&self) -> Option<Ipv6Address>
         ensures { result ≡ addresses.link_local_addr (host_of self.now no_sockets).ip_addrs }
     {
-        first_link_local(self.ip_addrs.as_slice())
+        link_local_addr(self.ip_addrs.as_slice())
     }
 
     /// The source address for an IPv4 destination: the first address of the interface whose network contains the
@@ -276,7 +277,7 @@ impl Context {
     pub fn get_source_address_ipv4(&self, dst_addr: &Ipv4Address) -> Option<Ipv4Address>
         ensures { result ≡ addresses.source_v4 (host_of self.now no_sockets).ip_addrs dst_addr.now }
     {
-        match near_ipv4(self.ip_addrs.as_slice(), dst_addr) {
+        match near_addr(self.ip_addrs.as_slice(), dst_addr) {
             Some(near) => Some(near),
             None => self.ipv4_addr(),
         }

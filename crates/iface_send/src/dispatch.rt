@@ -14,7 +14,7 @@ ghost use Rattle.host_machine.specs.Sending.Packet.{IsFormed, IsWritable};
 ghost use Rattle.host_machine.specs.Sending.Packet as value;
 ghost use Rattle.host_machine.specs.Sending.Dispatch as spec;
 ghost use Rattle.iface_packet.specs.PacketValues as value_of;
-ghost use Rattle.iface_send.specs.Refines.{Built};
+ghost use Rattle.iface_send.specs.Refines.{RefinesBuilding};
 ghost use Rattle.iface_send.specs.Stands.{host_in, host_of};
 
 use crate::context::Context;
@@ -47,7 +47,7 @@ pub fn dispatch<Q: AnyPacket>(
 ) -> Result<(), DispatchError>
     requires empty { out.old ≡ [] }
     requires writable { IsWritable (Q.stands_for packet.now) }
-    ensures { Built out.new (spec.Dispatches (Q.stands_for packet.now) result) context.old context.new }
+    ensures { RefinesBuilding out.new (spec.Dispatches (Q.stands_for packet.now) result) context.old context.new }
 {
     if packet.dst_addr().is_unspecified() {
         return Ok(());
@@ -79,7 +79,7 @@ fn dispatch_ethernet<Q: AnyPacket>(
     requires empty { out.old ≡ [] }
     requires specified { is_unspecified (spec.destination_of (Q.stands_for packet.now)) ≡ false }
     requires writable { IsWritable (Q.stands_for packet.now) }
-    ensures { Built out.new (spec.DispatchesEthernet identification own (Q.stands_for packet.now) result) context.old context.new }
+    ensures { RefinesBuilding out.new (spec.DispatchesEthernet identification own (Q.stands_for packet.now) result) context.old context.new }
 {
     let dst_addr = packet.dst_addr();
     if let Some(many) = multicast_hardware_addr(context, &dst_addr) {
@@ -106,7 +106,7 @@ fn dispatch_by_hop<Q: AnyPacket>(
     requires empty { out.old ≡ [] }
     requires hop { is_unicast hop.now ≡ true }
     requires writable { IsWritable (Q.stands_for packet.now) }
-    ensures { Built out.new (spec.DispatchesByHop identification own (Q.stands_for packet.now) hop.now result) context.old context.new }
+    ensures { RefinesBuilding out.new (spec.DispatchesByHop identification own (Q.stands_for packet.now) hop.now result) context.old context.new }
 {
     match context.neighbor_cache.lookup(hop, context.moment) {
         Answer::Found(destination) => {
@@ -132,7 +132,7 @@ fn discover_neighbor(
     out: &mut FrameBuffer,
 ) -> DispatchError
     requires empty { out.old ≡ [] }
-    ensures { Built out.new (spec.Discovers own hop.now (Err result)) context.old context.new }
+    ensures { RefinesBuilding out.new (spec.Discovers own hop.now (Err result)) context.old context.new }
 {
     match hop {
         IpAddress::Ipv4(target) => send_arp_request(context, own, target, out),
@@ -151,7 +151,7 @@ fn send_arp_request(
     out: &mut FrameBuffer,
 ) -> DispatchError
     requires empty { out.old ≡ [] }
-    ensures { Built out.new (spec.Discovers own (Ipv4 target.now) (Err result)) context.old context.new }
+    ensures { RefinesBuilding out.new (spec.Discovers own (Ipv4 target.now) (Err result)) context.old context.new }
 {
     let Some(source) = context.get_source_address_ipv4(target) else {
         return DispatchError::NoRoute;
@@ -172,7 +172,7 @@ fn send_neighbor_solicit(
     out: &mut FrameBuffer,
 ) -> DispatchError
     requires empty { out.old ≡ [] }
-    ensures { Built out.new (spec.Discovers own (Ipv6 target.now) (Err result)) context.old context.new }
+    ensures { RefinesBuilding out.new (spec.Discovers own (Ipv6 target.now) (Err result)) context.old context.new }
 {
     let now = context.moment;
     let source = context.get_source_address_ipv6(target);
@@ -230,7 +230,7 @@ fn emit_packet<Q: AnyPacket>(
     requires of_medium { IsOf context.old.capabilities.medium destination.now }
     requires empty { out.old ≡ [] }
     requires writable { IsWritable (Q.stands_for packet.now) }
-    ensures { Built out.new (spec.Emits identification (Q.stands_for packet.now) destination.now (Ok tt)) context.old context.new }
+    ensures { RefinesBuilding out.new (spec.Emits identification (Q.stands_for packet.now) destination.now (Ok tt)) context.old context.new }
 {
     let total_len = packet.total_len();
     if total_len <= context.capabilities.ip_mtu() {
@@ -262,7 +262,7 @@ fn emit_long_packet(
     requires empty { out.old ≡ [] }
     requires writable { IsWritable (value_of.packet packet.now) }
     requires long { ip_mtu_of context.old.capabilities < value.total_len (value_of.packet packet.now) }
-    ensures { Built out.new (spec.Emits identification (value_of.packet packet.now) destination.now (Ok tt)) context.old context.new }
+    ensures { RefinesBuilding out.new (spec.Emits identification (value_of.packet packet.now) destination.now (Ok tt)) context.old context.new }
 {
     let total_len = packet.total_len();
     if let Packet::Ipv4(packet) = packet {
@@ -350,7 +350,7 @@ fn group_address_v6(group: &Ipv6Address) -> EthernetAddress
 /// Whether the next hop to an address is a neighbour with a known hardware address, so that a packet needs no
 /// discovery. An address that isn't unicast has no next hop.
 pub fn has_neighbor(context: &Context, address: &IpAddress) -> bool
-    ensures { (slots : Slots) (sockets : SocketSet) → spec.KnowsNextHop (host_in context.now slots sockets) address.now result }
+    ensures { (slots : Slots) (sockets : SocketSet) → spec.HasNeighbor (host_in context.now slots sockets) address.now result }
 {
     if !address.is_unicast() {
         return false;

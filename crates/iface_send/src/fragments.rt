@@ -10,8 +10,8 @@ ghost use Rattle.host_machine.specs.Sending.Packet as value;
 ghost use Rattle.host_machine.specs.Sending.Dispatch as spec;
 ghost use Rattle.host_machine.specs.Polling.Due as due;
 ghost use Rattle.iface_packet.specs.PacketValues as value_of;
-ghost use Rattle.iface_send.specs.Refines.{Built, Told};
-ghost use Rattle.iface_send.specs.Pieces.{NextPieceGoes, PieceHasTurn};
+ghost use Rattle.iface_send.specs.Refines.{RefinesBuilding, RefinesTelling};
+ghost use Rattle.iface_send.specs.Pieces.{EmitsNextPiece, PieceHasTurn};
 ghost use Rattle.iface_send.specs.Stands.{host_of};
 
 use crate::context::Context;
@@ -29,7 +29,7 @@ use sockets::SocketContext;
 pub fn emit_next_piece(context: &mut Context, out: &mut FrameBuffer)
     requires empty { out.old ≡ [] }
     requires some { is_nil (host_of context.old no_sockets).left ≡ false }
-    ensures { Built out.new NextPieceGoes context.old context.new }
+    ensures { RefinesBuilding out.new EmitsNextPiece context.old context.new }
 {
     let Some(piece) = context.fragmenter.peek() else {
         return;
@@ -49,7 +49,7 @@ pub fn emit_next_piece(context: &mut Context, out: &mut FrameBuffer)
 
 /// Sends the next pending fragment, if there is one and the device grants a transmit token. The others stay pending.
 pub fn ipv4_egress<D: Device>(context: &mut Context, device: &mut D, out: &mut FrameBuffer)
-    ensures { Told D.tells device.old device.new (PieceHasTurn context.old) context.new }
+    ensures { RefinesTelling D.tells device.old device.new (PieceHasTurn context.old) context.new }
 {
     if !context.has_pending_fragment() {
         return;
@@ -88,7 +88,7 @@ pub(crate) fn emit_fragmented(
     requires writable { IsWritablePayload (value_of.payload packet.now.payload) }
     requires long { ip_mtu_of context.old.capabilities < value.total_len (value.Ipv4 (value_of.packet_v4 value_of.payload packet.now)) }
     requires fits { value.total_len (value.Ipv4 (value_of.packet_v4 value_of.payload packet.now)) ≤ 4096 }
-    ensures { Built out.new (spec.Emits identification (value.Ipv4 (value_of.packet_v4 value_of.payload packet.now)) destination.now (Ok tt)) context.old context.new }
+    ensures { RefinesBuilding out.new (spec.Emits identification (value.Ipv4 (value_of.packet_v4 value_of.payload packet.now)) destination.now (Ok tt)) context.old context.new }
 {
     fragment_packet(context, identification, destination, packet, out);
     out.clear();

@@ -10,7 +10,7 @@ use arrayvec::ArrayVec;
 use group_table::{
     Group, Groups, IFACE_MAX_MULTICAST_GROUP_COUNT, IgmpReportState, MldReportState,
 };
-use iface_addresses::addresses::is_solicited;
+use iface_addresses::addresses::has_solicited_node;
 use ip_wire::{HardwareAddress, IpAddress, IpCidr, Ipv6Address};
 
 /// The groups of an interface, and the reports that answer queries of routers.
@@ -79,7 +79,7 @@ fn is_idle(own: &[IpCidr], group: &IpAddress) -> bool
 {
     match group {
         IpAddress::Ipv4(_) => false,
-        IpAddress::Ipv6(group) => is_solicited_node(group) && !is_solicited(own, group),
+        IpAddress::Ipv6(group) => is_solicited_node(group) && !has_solicited_node(own, group),
     }
 }
 

@@ -6,7 +6,7 @@ ghost use Rattle.host_machine.specs.Sending.Packet.{IsWritable};
 ghost use Rattle.iface_packet.specs.PacketValues as value_of;
 ghost use Rattle.iface_send.specs.Stands.{host_of};
 ghost use Rattle.iface_send.specs.Offered.{HasPart, IsOffered};
-ghost use Rattle.iface_send.specs.Refines.{Told};
+ghost use Rattle.iface_send.specs.Refines.{RefinesTelling};
 
 use crate::context::Context;
 use crate::dispatch::dispatch;
@@ -34,7 +34,7 @@ pub fn send_packet<D: Device>(
     packet: &Packet<'_>,
 ) -> bool
     requires { IsWritable (value_of.packet packet.now) }
-    ensures told { Told D.tells device.old device.new (HasPart (IsOffered (Some (value_of.packet packet.now)) result) context.old) context.new }
+    ensures told { RefinesTelling D.tells device.old device.new (HasPart (IsOffered (Some (value_of.packet packet.now)) result) context.old) context.new }
     ensures groups { (host_of context.new no_sockets).groups ≡ (host_of context.old no_sockets).groups }
 {
     if !device.transmit(context.now()) {

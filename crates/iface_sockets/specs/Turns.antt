@@ -10,7 +10,7 @@ use Rattle.socket_set.specs.SocketSet.{socket_at, wait_at, with_wait}
 use Rattle.host_machine.specs.State.Host.{Host, Socket, SocketSet}
 use Rattle.host_machine.specs.Sending.Packet.{Packet}
 use Rattle.host_machine.specs.Sending.Frame.{sends}
-use Rattle.host_machine.specs.Sending.Dispatch.{Outcome, Dispatches, KnowsNextHop}
+use Rattle.host_machine.specs.Sending.Dispatch.{Outcome, Dispatches, HasNeighbor}
 use Rattle.host_machine.specs.Sending.Egress.{SocketTurn, turn_of}
 use Rattle.iface_send.specs.declared.context.Context.{Context}
 use Rattle.iface_send.specs.Stands.{host_in}
@@ -42,9 +42,9 @@ outcome_of Exhausted = None
 
 -- whether the socket at an index may be asked, and the sockets after that is decided: a known neighbour ends the wait. Slots
 -- don't matter
-pub data IsDecided (c : Context) (sockets : SocketSet) (i : ℕ) (permitted : Bool) (new : SocketSet) : Type 0 where
-  NoSocket : socket_at sockets i ≡ None → permitted ≡ false → new ≡ sockets → IsDecided c sockets i permitted new
+pub data IsPermitted (c : Context) (sockets : SocketSet) (i : ℕ) (permitted : Bool) (new : SocketSet) : Type 0 where
+  NoSocket : socket_at sockets i ≡ None → permitted ≡ false → new ≡ sockets → IsPermitted c sockets i permitted new
   OfSocket : (s : Socket) (known : Bool) → socket_at sockets i ≡ Some s →
-      ((slots : Slots) → IsAnswerFor (KnowsNextHop (host_in c slots sockets)) (wait_at sockets i) known) →
+      ((slots : Slots) → IsAnswerFor (HasNeighbor (host_in c slots sockets)) (wait_at sockets i) known) →
       permitted ≡ is_permitted (wait_at sockets i) known c.moment → new ≡ with_wait sockets i (after_asking (wait_at sockets i) known) →
-      IsDecided c sockets i permitted new
+      IsPermitted c sockets i permitted new

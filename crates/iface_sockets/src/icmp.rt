@@ -7,7 +7,7 @@ ghost use Rattle.host_machine.specs.State.Host.{Socket};
 ghost use Rattle.host_machine.specs.Sending.Egress as egress;
 ghost use Rattle.host_machine.specs.Sending.Packet.{IsWritable, IsWritablePayload};
 ghost use Rattle.iface_packet.specs.PacketValues as value_of;
-ghost use Rattle.iface_send.specs.Refines.{Told};
+ghost use Rattle.iface_send.specs.Refines.{RefinesTelling};
 ghost use Rattle.iface_sockets.specs.Turns.{HasTurn};
 
 use crate::offers::{outcome, packet_between, send_if};
@@ -28,7 +28,7 @@ pub(crate) fn give_icmp_turn<D: Device>(
     device: &mut D,
     out: &mut FrameBuffer,
 ) -> Turn
-    ensures { Told D.tells device.old device.new (HasTurn (kinds.up_icmp socket.old) result (kinds.up_icmp socket.new) context.old) context.new }
+    ensures { RefinesTelling D.tells device.old device.new (HasTurn (kinds.up_icmp socket.old) result (kinds.up_icmp socket.new) context.old) context.new }
 {
     let Some(message) = socket.offer(context) else {
         return Turn::Idle;
@@ -56,7 +56,7 @@ fn icmp_packet<'p>(packet: &icmp::Packet<'p>) -> Option<Packet<'p>>
 
 /// A message as a payload; `None` unless it is an echo message.
 fn echo_payload<'p>(repr: &IcmpRepr, octets: &'p [u8]) -> Option<IpPayload<'p>>
-    ensures value { option_map value_of.payload result ≡ egress.if_echo repr.now octets.now }
+    ensures value { option_map value_of.payload result ≡ egress.echo_payload repr.now octets.now }
     ensures writable { IfSome result (λ p. IsWritablePayload (value_of.payload p)) }
 {
     match repr {

@@ -4,7 +4,7 @@ ghost use Rattle.std.specs.Option.{option_map};
 ghost use Rattle.host_machine.specs.Sending.Egress as egress;
 ghost use Rattle.host_machine.specs.Sending.Packet.{IsWritable, IsWritablePayload};
 ghost use Rattle.iface_packet.specs.PacketValues as value_of;
-ghost use Rattle.iface_send.specs.Refines.{Told};
+ghost use Rattle.iface_send.specs.Refines.{RefinesTelling};
 ghost use Rattle.iface_sockets.specs.Turns.{OfferHasTurn, outcome_of};
 
 use host_machine::Turn;
@@ -38,7 +38,7 @@ pub(crate) fn send_if<D: Device>(
     packet: Option<Packet<'_>>,
 ) -> Turn
     requires { IfSome packet (λ p. IsWritable (value_of.packet p)) }
-    ensures { Told D.tells device.old device.new (OfferHasTurn (option_map value_of.packet packet.entry) result context.old) context.new }
+    ensures { RefinesTelling D.tells device.old device.new (OfferHasTurn (option_map value_of.packet packet.entry) result context.old) context.new }
 {
     match packet {
         Some(packet) => send(context, device, out, &packet),
@@ -55,7 +55,7 @@ pub(crate) fn send<D: Device, Q: AnyPacket>(
     packet: &Q,
 ) -> Turn
     requires { IsWritable (Q.stands_for packet.now) }
-    ensures { Told D.tells device.old device.new (OfferHasTurn (Some (Q.stands_for packet.now)) result context.old) context.new }
+    ensures { RefinesTelling D.tells device.old device.new (OfferHasTurn (Some (Q.stands_for packet.now)) result context.old) context.new }
 {
     if !device.transmit(context.now()) {
         return Turn::Exhausted;

@@ -2,7 +2,7 @@
 ghost use Rattle.std.specs.Prelude.{◌≡◌};
 ghost use Rattle.fragmentation.specs.Slots.{Slots};
 ghost use Rattle.host_machine.specs.State.Host.{SocketSet};
-ghost use Rattle.host_machine.specs.Sending.Dispatch.{KnowsNextHop};
+ghost use Rattle.host_machine.specs.Sending.Dispatch.{HasNeighbor};
 ghost use Rattle.host_machine.specs.Polling.Due as spec;
 ghost use Rattle.host_machine.specs.Polling.Due.{IsLeast, SocketsDue};
 ghost use Rattle.iface_send.specs.Stands.{host_in};
@@ -29,7 +29,7 @@ pub fn sockets_poll_at(context: &Context, sockets: &SocketSet<'_>) -> Option<Ins
             index,
             now,
             |address: IpAddress| -> bool
-                ensures { (slots : Slots) (others : SocketSet) → KnowsNextHop (host_in context.exit.now slots others) address result }
+                ensures { (slots : Slots) (others : SocketSet) → HasNeighbor (host_in context.exit.now slots others) address result }
             { has_neighbor(context, &address) },
         );
         least = earlier_of(least, instant_of(own));

@@ -11,7 +11,7 @@ ghost use Rattle.host_machine.specs.State.Host.{Socket};
 ghost use Rattle.host_machine.specs.Sending.Egress as egress;
 ghost use Rattle.host_machine.specs.Sending.Packet.{IsWritable};
 ghost use Rattle.iface_packet.specs.PacketValues as value_of;
-ghost use Rattle.iface_send.specs.Refines.{Told};
+ghost use Rattle.iface_send.specs.Refines.{RefinesTelling};
 ghost use Rattle.iface_sockets.specs.Turns.{HasTurn};
 
 use crate::offers::{outcome, send};
@@ -139,7 +139,7 @@ pub(crate) fn give_raw_turn<D: Device>(
     device: &mut D,
     out: &mut FrameBuffer,
 ) -> Turn
-    ensures { Told D.tells device.old device.new (HasTurn (kinds.up_raw socket.old) result (kinds.up_raw socket.new) context.old) context.new }
+    ensures { RefinesTelling D.tells device.old device.new (HasTurn (kinds.up_raw socket.old) result (kinds.up_raw socket.new) context.old) context.new }
 {
     let Some(packet) = socket.offer() else {
         return Turn::Idle;

@@ -7,7 +7,7 @@ ghost use Rattle.host_machine.specs.State.Host.{Storage, Socket};
 ghost use Rattle.host_machine.specs.Receiving.Response.{Responds};
 ghost use Rattle.host_machine.specs.Receiving.Tcp as spec;
 ghost use Rattle.host_machine.specs.Sending.Egress as egress;
-ghost use Rattle.iface_send.specs.Refines.{Processed, Built, Told};
+ghost use Rattle.iface_send.specs.Refines.{RefinesReplying, RefinesBuilding, RefinesTelling};
 ghost use Rattle.iface_sockets.specs.Segment.{IsTaken};
 ghost use Rattle.iface_send.specs.Stands.{host_of};
 ghost use Rattle.sockets.specs.Kinds as kinds;
@@ -43,7 +43,7 @@ pub fn process_tcp(
 )
     requires empty { out.old ≡ [] }
     requires short { length octets.now < 2 ^ 16 }
-    ensures { Processed out.new (λ H. spec.ProcessesTcp handled_by_raw_socket header.now H octets.now) (host_of context.old sockets.old) (host_of context.new sockets.new) }
+    ensures { RefinesReplying out.new (λ H. spec.ProcessesTcp handled_by_raw_socket header.now H octets.now) (host_of context.old sockets.old) (host_of context.new sockets.new) }
 {
     if is_between_unspecified(header) {
         return;
@@ -93,7 +93,7 @@ fn send_tcp_reply(
     out: &mut FrameBuffer,
 )
     requires { out.old ≡ [] }
-    ensures { Built out.new (Responds (option_map (spec.segment_back header.now) repr)) context.old context.new }
+    ensures { RefinesBuilding out.new (Responds (option_map (spec.segment_back header.now) repr)) context.old context.new }
 {
     let Some(repr) = repr else {
         return;
@@ -199,7 +199,7 @@ pub(crate) fn give_tcp_turn<D: Device>(
     device: &mut D,
     out: &mut FrameBuffer,
 ) -> Turn
-    ensures { Told D.tells device.old device.new (HasTurn (kinds.up_tcp socket.old) result (kinds.up_tcp socket.new) context.old) context.new }
+    ensures { RefinesTelling D.tells device.old device.new (HasTurn (kinds.up_tcp socket.old) result (kinds.up_tcp socket.new) context.old) context.new }
 {
     let Some(segment) = socket.offer(context) else {
         return Turn::Idle;

@@ -9,11 +9,11 @@ ghost use Rattle.net_base.specs.Time.{IsMoment};
 ghost use Rattle.socket_set.specs.SocketSet.{socket_at, wait_at, with_place, with_wait};
 ghost use Rattle.fragmentation.specs.Slots.{Slots};
 ghost use Rattle.host_machine.specs.State.Host.{Socket, SocketSet};
-ghost use Rattle.host_machine.specs.Sending.Dispatch.{KnowsNextHop};
+ghost use Rattle.host_machine.specs.Sending.Dispatch.{HasNeighbor};
 ghost use Rattle.host_machine.specs.Sending.Egress as spec;
 ghost use Rattle.iface_send.specs.Stands.{host_in};
-ghost use Rattle.iface_send.specs.Refines.{Told};
-ghost use Rattle.iface_sockets.specs.Turns.{HasTurn, IsDecided};
+ghost use Rattle.iface_send.specs.Refines.{RefinesTelling};
+ghost use Rattle.iface_sockets.specs.Turns.{HasTurn, IsPermitted};
 
 use crate::icmp::give_icmp_turn;
 use crate::raw::give_raw_turn;
@@ -37,7 +37,7 @@ pub fn socket_egress<D: Device>(
     out: &mut FrameBuffer,
     sockets: &mut SocketSet<'_>,
 ) -> bool
-    ensures { (slots : Slots) → Told D.tells device.old device.new (spec.SocketEgress (host_in context.old slots sockets.old) result) (host_in context.new slots sockets.new) }
+    ensures { (slots : Slots) → RefinesTelling D.tells device.old device.new (spec.SocketEgress (host_in context.old slots sockets.old) result) (host_in context.new slots sockets.new) }
 {
     let mut changed = false;
     let mut index = by_index::next_busy(sockets, 0);
@@ -62,7 +62,7 @@ fn serve<D: Device>(
     index: usize,
 ) -> Turn
     requires { index < length sockets.old.places }
-    ensures told { (slots : Slots) → Told D.tells device.old device.new (spec.Serves index result (host_in context.old slots sockets.old)) (host_in context.new slots sockets.new) }
+    ensures told { (slots : Slots) → RefinesTelling D.tells device.old device.new (spec.Serves index result (host_in context.old slots sockets.old)) (host_in context.new slots sockets.new) }
     ensures places { length sockets.new.places ≡ length sockets.old.places }
 {
     if by_index::rest(sockets, index) {
@@ -81,7 +81,7 @@ fn serve_busy<D: Device>(
     index: usize,
 ) -> Turn
     requires { index < length sockets.old.places }
-    ensures told { (slots : Slots) → Told D.tells device.old device.new (spec.Serves index result (host_in context.old slots sockets.old)) (host_in context.new slots sockets.new) }
+    ensures told { (slots : Slots) → RefinesTelling D.tells device.old device.new (spec.Serves index result (host_in context.old slots sockets.old)) (host_in context.new slots sockets.new) }
     ensures places { length sockets.new.places ≡ length sockets.old.places }
 {
     let now = context.now();
@@ -96,14 +96,14 @@ fn serve_busy<D: Device>(
 /// Whether the socket at an index may be asked for a packet: there is one, and it isn't waiting. The wait ends when the
 /// next hop to the destination becomes known.
 fn is_permitted(context: &Context, sockets: &mut SocketSet<'_>, index: usize) -> bool
-    ensures { IsDecided context.now sockets.old index result sockets.new }
+    ensures { IsPermitted context.now sockets.old index result sockets.new }
 {
     by_index::egress_permitted(
         sockets,
         index,
         context.now(),
         |address: IpAddress| -> bool
-            ensures { (slots : Slots) (others : SocketSet) → KnowsNextHop (host_in context.exit.now slots others) address result }
+            ensures { (slots : Slots) (others : SocketSet) → HasNeighbor (host_in context.exit.now slots others) address result }
         { has_neighbor(context, &address) },
     )
 }
@@ -128,7 +128,7 @@ fn give_turn<D: Device>(
     device: &mut D,
     out: &mut FrameBuffer,
 ) -> Turn
-    ensures { IfSome (socket_at sockets.old index) (λ before. (after : Socket) × Told D.tells device.old device.new (HasTurn before result after context.old) context.new × (sockets.new ≡ with_place sockets.old index (Some after))) }
+    ensures { IfSome (socket_at sockets.old index) (λ before. (after : Socket) × RefinesTelling D.tells device.old device.new (HasTurn before result after context.old) context.new × (sockets.new ≡ with_place sockets.old index (Some after))) }
 {
     if let Some(udp) = by_index::kind_mut::<udp::Socket<'_>, _>(sockets, index) {
         return give_udp_turn(udp, context, device, out);

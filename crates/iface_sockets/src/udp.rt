@@ -6,7 +6,7 @@ ghost use Rattle.host_machine.specs.Receiving.Delivery.{DeliversFirst, NoneAccep
 ghost use Rattle.host_machine.specs.Receiving.Udp.{ProcessesUdp, accepts, storage_after_delivery};
 ghost use Rattle.host_machine.specs.State.Host.{Storage, no_sockets, Socket};
 ghost use Rattle.iface_send.specs.Stands.{host_of};
-ghost use Rattle.iface_send.specs.Refines.{Processed, Told};
+ghost use Rattle.iface_send.specs.Refines.{RefinesReplying, RefinesTelling};
 ghost use Rattle.sockets.specs.Kinds as kinds;
 ghost use Rattle.transport_sockets.specs.Udp as udp;
 ghost use Rattle.host_machine.specs.Sending.Egress as egress;
@@ -40,7 +40,7 @@ pub fn process_udp(
 )
     requires empty { out.old ≡ [] }
     requires quotable { TellsLength header.now }
-    ensures { Processed out.new (λ H. ProcessesUdp handled_by_raw_socket header.now H octets.now) (host_of context.old sockets.old) (host_of context.new sockets.new) }
+    ensures { RefinesReplying out.new (λ H. ProcessesUdp handled_by_raw_socket header.now H octets.now) (host_of context.old sockets.old) (host_of context.new sockets.new) }
 {
     let checked = context.capabilities().checksum.udp.rx();
     let source = header.src_addr();
@@ -171,7 +171,7 @@ pub(crate) fn give_udp_turn<D: Device>(
     device: &mut D,
     out: &mut FrameBuffer,
 ) -> Turn
-    ensures { Told D.tells device.old device.new (HasTurn (kinds.up_udp socket.old) result (kinds.up_udp socket.new) context.old) context.new }
+    ensures { RefinesTelling D.tells device.old device.new (HasTurn (kinds.up_udp socket.old) result (kinds.up_udp socket.new) context.old) context.new }
 {
     let Some(datagram) = socket.offer(context) else {
         return Turn::Idle;
@@ -190,7 +190,7 @@ fn send_datagram<D: Device>(
     out: &mut FrameBuffer,
     datagram: &udp::Packet<'_>,
 ) -> Turn
-    ensures { Told D.tells device.old device.new (OfferHasTurn (egress.packet_of (kinds.UdpOffer (udp.value_of datagram.now))) result context.old) context.new }
+    ensures { RefinesTelling D.tells device.old device.new (OfferHasTurn (egress.packet_of (kinds.UdpOffer (udp.value_of datagram.now))) result context.old) context.new }
 {
     let hop_limit = datagram.hop_limit;
     let payload = Datagram {

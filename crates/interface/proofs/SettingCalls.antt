@@ -12,7 +12,7 @@ use Rattle.host_machine.specs.State.Host.{Host, SocketSet, with_slots}
 use Rattle.iface_send.specs.declared.context.Context.{Context}
 use Rattle.iface_send.specs.Stands.{host_of}
 use Rattle.iface_send.specs.Refines.{StandsFor}
-use Rattle.interface.specs.Stands.{Led}
+use Rattle.interface.specs.Stands.{Refinement}
 
 module _ (c c' : Context) (places : List (Assembly FragKey)) (sockets : SocketSet) (H : Host) (h : StandsFor c places sockets H) where
   -- each host is changed so
@@ -25,11 +25,11 @@ module _ (c c' : Context) (places : List (Assembly FragKey)) (sockets : SocketSe
 
   -- by a rule that allows the change
   pub led : {Rule : Host → Host → Type 0} (change : Host → Host) → host_of c' sockets ≡ change (host_of c sockets) → ((K : Host) (slots : Slots) → with_slots (change K) slots ≡ change (with_slots K slots)) →
-      Rule H (change H) → Led Rule H (StandsFor c' places sockets)
+      Rule H (change H) → Refinement Rule H (StandsFor c' places sockets)
   led change sets apart follows = record { host = change H; follows = follows; stands = becomes change sets apart }
 
 -- nothing changes, by a rule that allows it
-pub kept : {Rule : Host → Host → Type 0} {after : Host → Type 0} (H : Host) → after H → Rule H H → Led Rule H after
+pub kept : {Rule : Host → Host → Type 0} {after : Host → Type 0} (H : Host) → after H → Rule H H → Refinement Rule H after
 kept H stands follows = record { host = H; follows = follows; stands = stands }
 
 -- a join that is answered so is taken, or finds no place

@@ -1,3 +1,3 @@
-pub mod Goes
+pub mod Refines
 pub mod Receives
 pub mod Stands

@@ -12,12 +12,12 @@ frames_shown None = []
 frames_shown (Some frame) = frame ∷ []
 
 -- one ingress step, in which just this frame is received, and just the returned one sent
-pub record FrameReceived (t : ℤ) (frame : List ℕ) (shown : Option (List ℕ)) (H : Host) (after : Host → Type 0) : Type 0 where
+pub record RefinementReceiving (t : ℤ) (frame : List ℕ) (shown : Option (List ℕ)) (H : Host) (after : Host → Type 0) : Type 0 where
   pub notes : List Note
   pub host : Host
   pub steps : Ingress t (answer_to (Frame frame)) H (Received t (Frame frame) ∷ sends (frames_shown shown)) notes host
   pub stands : after host
 
 -- from each host before, such a step leads to a host afterwards
-abbrev pub ReceivesFrame : ℤ → List ℕ → Option (List ℕ) → (Host → Type 0) → (Host → Type 0) → Type 0
-ReceivesFrame t frame shown before after = (H : Host) → before H → FrameReceived t frame shown H after
+abbrev pub HostRefinesReceiving : ℤ → List ℕ → Option (List ℕ) → (Host → Type 0) → (Host → Type 0) → Type 0
+HostRefinesReceiving t frame shown before after = (H : Host) → before H → RefinementReceiving t frame shown H after

@@ -31,10 +31,10 @@ abbrev pub Becomes : Interface → Interface → (Host → Host) → Type 0
 Becomes old new change = (sockets : SocketSet) (H : Host) → StandsFor old sockets H → StandsFor new sockets (change H)
 
 -- from each host that an interface stood for, a rule leads to one that it stands for
-pub record Led (Rule : Host → Host → Type 0) (H : Host) (after : Host → Type 0) : Type 0 where
+pub record Refinement (Rule : Host → Host → Type 0) (H : Host) (after : Host → Type 0) : Type 0 where
   pub host : Host
   pub follows : Rule H host
   pub stands : after host
 
-abbrev pub Follows : Interface → Interface → (Host → Host → Type 0) → Type 0
-Follows old new Rule = (sockets : SocketSet) (H : Host) → StandsFor old sockets H → Led Rule H (StandsFor new sockets)
+abbrev pub HostRefines : Interface → Interface → (Host → Host → Type 0) → Type 0
+HostRefines old new Rule = (sockets : SocketSet) (H : Host) → StandsFor old sockets H → Refinement Rule H (StandsFor new sockets)

@@ -8,7 +8,7 @@ ghost use Rattle.host_machine.specs.State.Host.{SocketSet, are_assignable};
 ghost use Rattle.host_machine.specs.Polling.Ingress.{Takes};
 ghost use Rattle.net_base.specs.Device.{Frame};
 ghost use Rattle.net_base.specs.Rand.{next};
-ghost use Rattle.iface_send.specs.Refines.{Answers};
+ghost use Rattle.iface_send.specs.Refines.{HostRefinesReplying};
 ghost use Rattle.iface_send.specs.Refines as processed;
 
 use crate::polling::{poll_at, poll_result};
@@ -80,7 +80,7 @@ impl Interface {
     ghost use Rattle.std.specs.Prelude.{◌≡◌, ◌≤◌, List, [], Option, IfOk, IfSome, IsOk, MatchResult, length};
     ghost use Rattle.std.specs.Option.{option_copied, option_map};
     ghost use Rattle.std.specs.Io.BufRead.{Rests};
-    ghost use Rattle.interface.specs.Receives.{ReceivesFrame};
+    ghost use Rattle.interface.specs.Receives.{HostRefinesReceiving};
     ghost use Rattle.net_base.specs.Time.{IsMoment};
     ghost use Rattle.host_machine.specs.State.Host.{Storage};
     ghost use Rattle.host_machine.specs.State.Host as host;
@@ -103,8 +103,8 @@ impl Interface {
     ghost use Rattle.std.specs.Borrow.{sem, Lends};
     ghost use Rattle.iface_tables.specs.contracts.route.Routes.{the_row as routes_row};
     ghost use Rattle.interface.specs.contracts.interface.Interface.{the_row};
-    ghost use Rattle.interface.specs.Stands.{host_with, with_context, with_routes, StandsFor, Becomes, Follows};
-    ghost use Rattle.interface.specs.Goes.{Goes};
+    ghost use Rattle.interface.specs.Stands.{host_with, with_context, with_routes, StandsFor, Becomes, HostRefines};
+    ghost use Rattle.interface.specs.Refines.{HostRefinesTelling};
 
     /// Creates an interface over a device, of which only the capabilities are read. The errors are tested in the order
     /// in which [`NewError`] lists them, each under exactly the condition stated there. The interface starts without
@@ -187,7 +187,7 @@ impl Interface {
     /// Changes the hardware address. The errors are tested in the order in which [`HardwareError`] lists them, each
     /// under exactly the condition stated there; on an error nothing changes.
     pub fn set_hardware_addr(&mut self, hardware_addr: HardwareAddress) -> Result<(), HardwareError>
-        ensures { Follows self.old self.new (SetsHardwareAddr hardware_addr result) }
+        ensures { HostRefines self.old self.new (SetsHardwareAddr hardware_addr result) }
     {
         if let Some(error) = hardware_refusal(&self.context.capabilities(), &hardware_addr) {
             return Err(error);
@@ -267,7 +267,7 @@ impl Interface {
     /// interface is not in the group and eight other groups are in the table; groups whose leave is not reported yet
     /// count. On an error nothing changes.
     pub fn join_multicast_group(&mut self, group: IpAddress) -> Result<(), MulticastError>
-        ensures { Follows self.old self.new (JoinsGroup group result) }
+        ensures { HostRefines self.old self.new (JoinsGroup group result) }
     {
         if !group.is_multicast() {
             return Err(MulticastError::Unaddressable);
@@ -282,7 +282,7 @@ impl Interface {
     /// routers, if the join was reported. Nothing changes if the interface isn't in the group. Fails with
     /// `Unaddressable` exactly if the address is not multicast; then nothing changes.
     pub fn leave_multicast_group(&mut self, group: IpAddress) -> Result<(), MulticastError>
-        ensures { Follows self.old self.new (LeavesGroup group result) }
+        ensures { HostRefines self.old self.new (LeavesGroup group result) }
     {
         if !group.is_multicast() {
             return Err(MulticastError::Unaddressable);
@@ -332,7 +332,7 @@ impl Interface {
     /// Sets the reassembly timeout of slots that are taken from now on. A slot in use keeps its expiry. Fails with
     /// `TimeoutTooLong` exactly if the timeout is longer than a day (86,400 s); then nothing changes.
     pub fn set_reassembly_timeout(&mut self, timeout: Duration) -> Result<(), TimeoutError>
-        ensures { Follows self.old self.new (SetsReassemblyTimeout timeout result) }
+        ensures { HostRefines self.old self.new (SetsReassemblyTimeout timeout result) }
     {
         if timeout.total_micros() > 86_400_000_000 {
             return Err(TimeoutError::TimeoutTooLong);
@@ -365,7 +365,7 @@ impl Interface {
         F: FnOnce(ArrayVec<IpCidr, IFACE_MAX_ADDR_COUNT>) -> ArrayVec<IpCidr, IFACE_MAX_ADDR_COUNT>,
         requires { (given : Addresses) → ((sockets : SocketSet) → given.items ≡ (host_with self.old sockets).ip_addrs) → F.pre f given }
         ensures { (given : Addresses) × (list : Addresses) × F.post f given list
-            × ((sockets : SocketSet) → given.items ≡ (host_with self.old sockets).ip_addrs) × Follows self.old self.new (UpdatesIpAddrs list.items result) }
+            × ((sockets : SocketSet) → given.items ≡ (host_with self.old sockets).ip_addrs) × HostRefines self.old self.new (UpdatesIpAddrs list.items result) }
     {
         let list = f(copied(self.context.ip_addrs()));
         if !are_assignable(list.as_slice()) {
@@ -384,7 +384,7 @@ impl Interface {
         sockets: &mut SocketSet<'_>,
     ) -> PollIngressSingleResult
         requires { IsMoment timestamp }
-        ensures { Goes D.tells device.old device.new (Ingress timestamp result) (StandsFor self.old sockets.old) (StandsFor self.new sockets.new) }
+        ensures { HostRefinesTelling D.tells device.old device.new (Ingress timestamp result) (StandsFor self.old sockets.old) (StandsFor self.new sockets.new) }
     {
         self.expire_slots(timestamp);
         let Some((len, _)) = device.receive(timestamp, &mut self.receive_buffer) else {
@@ -417,7 +417,7 @@ impl Interface {
         sockets: &mut SocketSet<'_>,
     ) -> Option<&[u8]>
         requires { IsMoment timestamp }
-        ensures* received { sem 𝓛 (Rests the_row self.entry (λ new. ReceivesFrame timestamp frame.now (option_map (λ f. f.now) result) (StandsFor self.old sockets.old) (StandsFor new sockets.new))) }
+        ensures* received { sem 𝓛 (Rests the_row self.entry (λ new. HostRefinesReceiving timestamp frame.now (option_map (λ f. f.now) result) (StandsFor self.old sockets.old) (StandsFor new sockets.new))) }
         ensures short { IfSome result (λ f. length f.now ≤ 1514) }
     {
         self.expire_slots(timestamp);
@@ -453,7 +453,7 @@ impl Interface {
         sockets: &mut SocketSet<'_>,
     ) -> PollResult
         requires { IsMoment timestamp }
-        ensures { Goes D.tells device.old device.new (Egress timestamp result) (StandsFor self.old sockets.old) (StandsFor self.new sockets.new) }
+        ensures { HostRefinesTelling D.tells device.old device.new (Egress timestamp result) (StandsFor self.old sockets.old) (StandsFor self.new sockets.new) }
     {
         set_moment(&mut self.context, timestamp);
         let buffer = &mut self.transmit_buffer;
@@ -478,7 +478,7 @@ impl Interface {
         budget: usize,
     ) -> PollResult
         requires { IsMoment timestamp }
-        ensures { Goes D.tells device.old device.new (Polls timestamp budget result) (StandsFor self.old sockets.old) (StandsFor self.new sockets.new) }
+        ensures { HostRefinesTelling D.tells device.old device.new (Polls timestamp budget result) (StandsFor self.old sockets.old) (StandsFor self.new sockets.new) }
     {
         self.poll_maintenance(timestamp);
         let received = self.receive_until(timestamp, device, sockets, budget);
@@ -517,7 +517,7 @@ impl Interface {
         budget: usize,
     ) -> bool
         requires { IsMoment timestamp }
-        ensures { Goes D.tells device.old device.new (Receives timestamp budget result) (StandsFor self.old sockets.old) (StandsFor self.new sockets.new) }
+        ensures { HostRefinesTelling D.tells device.old device.new (Receives timestamp budget result) (StandsFor self.old sockets.old) (StandsFor self.new sockets.new) }
     {
         let mut changed = false;
         for _ in 0..budget {
@@ -539,7 +539,7 @@ impl Interface {
         budget: usize,
     ) -> bool
         requires { IsMoment timestamp }
-        ensures { Goes D.tells device.old device.new (Sends timestamp budget result) (StandsFor self.old sockets.old) (StandsFor self.new sockets.new) }
+        ensures { HostRefinesTelling D.tells device.old device.new (Sends timestamp budget result) (StandsFor self.old sockets.old) (StandsFor self.new sockets.new) }
     {
         let mut changed = false;
         for _ in 0..budget {
@@ -587,7 +587,7 @@ fn take_frame(
     frame: &[u8],
     out: &mut FrameBuffer,
 )
-    ensures { Answers out.new (λ H. Takes H (Frame frame.now)) (processed.StandsFor context.old fragments.old sockets.old) (processed.StandsFor context.new fragments.new sockets.new) }
+    ensures { HostRefinesReplying out.new (λ H. Takes H (Frame frame.now)) (processed.StandsFor context.old fragments.old sockets.old) (processed.StandsFor context.new fragments.new sockets.new) }
 {
     out.clear();
     if !frame.is_empty() {

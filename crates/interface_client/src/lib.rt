@@ -11,7 +11,7 @@ ghost use Rattle.ip_address.specs.Ip.{is_multicast};
 ghost use Rattle.host_machine.specs.declared.results.AddrError.TheVariants as addr_error;
 ghost use Rattle.host_machine.specs.declared.results.MulticastError.TheVariants as multicast_error;
 ghost use Rattle.host_machine.specs.Polling.Step.{UpdatesIpAddrs};
-ghost use Rattle.interface.specs.Stands.{host_with, Follows};
+ghost use Rattle.interface.specs.Stands.{host_with, HostRefines};
 
 use arrayvec::ArrayVec;
 use interface::{AddrError, Interface, MulticastError};
@@ -55,7 +55,7 @@ pub fn joins_no_other_address(
 
 // Replaces the addresses by a list.
 fn put_ip_addrs(interface: &mut Interface, list: &ArrayVec<IpCidr, 4>) -> Result<(), AddrError>
-    ensures { Follows interface.old interface.new (UpdatesIpAddrs list.now.items result) }
+    ensures { HostRefines interface.old interface.new (UpdatesIpAddrs list.now.items result) }
 {
     let mut addrs = ArrayVec::new();
     let _ = addrs.try_extend_from_slice(list.as_slice());

@@ -16,14 +16,14 @@ use Rattle.socket_set.specs.SocketSet.{socket_at, wait_at}
 use Rattle.iface_tables.proofs.RouteLemmas.{routers_are_one}
 use Rattle.sockets.specs.Kinds as kinds
 use Rattle.host_machine.specs.State.Host.{Host, Storage}
-use Rattle.host_machine.specs.Sending.Dispatch.{IsNextHop, OnLink, ByRouter, is_known_hop, if_unicast, KnowsNextHop, OfNoHost, OfHost}
+use Rattle.host_machine.specs.Sending.Dispatch.{IsNextHop, OnLink, ByRouter, is_known_hop, if_unicast, HasNeighbor, OfNoHost, OfHost}
 use Rattle.host_machine.specs.State.Host.{Socket}
-use Rattle.host_machine.specs.Polling.Due.{Due, OfPiece, OfSync, OfSolicitation, OfPrefix, OfRouter, OfJoin, OfLeave, OfIgmpReport, OfMldReport, OfSocket, AtOnce, SocketDue, SocketsDue, IsLeast, instant_of, at_once, of_groups, of_routers, sync_instant, report_due_at}
+use Rattle.host_machine.specs.Polling.Due.{Due, OfPiece, OfSync, OfSolicitation, OfPrefix, OfRouter, OfJoin, OfLeave, OfIgmpReport, OfMldReport, OfSocket, AtOnce, SocketDue, SocketsDue, IsLeast, instant_of, at_once, groups_poll_at, routers_poll_at, sync_poll_at, group_poll_at}
 use Rattle.group_table.specs.declared.groups.GroupState.TheVariants.{Joining, Leaving}
 use Rattle.slaac.specs.Instants.{earliest_of, earlier_of}
 use Rattle.slaac.specs.Slaac.{prefix_ends, route_ends}
-use Rattle.host_machine.specs.Sending.Slaac.{solicitation_instant}
-use Rattle.host_machine.specs.Sending.Reports.{igmp_instant, mld_timeout_of}
+use Rattle.host_machine.specs.Sending.Slaac.{rs_poll_at}
+use Rattle.host_machine.specs.Sending.Reports.{igmp_poll_at, mld_timeout_of}
 
 -- what is known of a destination is one answer
 pub hop_is_one : {H : Host} {a : IpAddress} {x y : Option IpAddress} → IsNextHop H a x → IsNextHop H a y → x ≡ y
@@ -32,13 +32,13 @@ hop_is_one (OnLink i e) (ByRouter router j r f) = absurd cc
 hop_is_one (ByRouter router i r e) (OnLink j f) = absurd cc
 hop_is_one {H} {a} (ByRouter r i is e) (ByRouter s j it f) = e ∙ ap (option_and_then if_unicast) (routers_are_one H.routes a H.moment r s is it) ∙ sym f
 
-pub known_is_one : {H : Host} {a : IpAddress} {x y : Bool} → KnowsNextHop H a x → KnowsNextHop H a y → x ≡ y
+pub known_is_one : {H : Host} {a : IpAddress} {x y : Bool} → HasNeighbor H a x → HasNeighbor H a y → x ≡ y
 known_is_one (OfNoHost n e) (OfNoHost m f) = e ∙ sym f
 known_is_one (OfNoHost n e) (OfHost hop m i f) = absurd cc
 known_is_one (OfHost hop n i e) (OfNoHost m f) = absurd cc
 known_is_one {H} (OfHost hop n i e) (OfHost other m j f) = e ∙ ap (is_known_hop H) (hop_is_one i j) ∙ sym f
 
-told_is_one : (H : Host) (w : Wait) (x y : Bool) (t : ℤ) (own : PollAt) → IsAnswerFor (KnowsNextHop H) w x → IsAnswerFor (KnowsNextHop H) w y → poll_at w x t own ≡ poll_at w y t own
+told_is_one : (H : Host) (w : Wait) (x y : Bool) (t : ℤ) (own : PollAt) → IsAnswerFor (HasNeighbor H) w x → IsAnswerFor (HasNeighbor H) w y → poll_at w x t own ≡ poll_at w y t own
 told_is_one H None x y t own a b = refl
 told_is_one H (Some w) x y t own a b = ap (λ known. poll_at (Some w) known t own) (known_is_one a b)
 
@@ -47,7 +47,7 @@ least_one : {P : ℤ → Type 0} (end : Option ℤ) → ((x : ℤ) → end ≡ S
 least_one None there only = λ x p. absurd (let e = only x p in cc)
 least_one (Some m) there only = (there m refl, λ x p. let e = only x p in let same : m ≡ x = cc in rw same (omega (arith, ints)))
 
-pub socket_least : (H : Host) (i : ℕ) (s : Socket) (known : Bool) → slice_get H.sockets.places i ≡ Some (Some s) → IsAnswerFor (KnowsNextHop H) (wait_at H.sockets i) known →
+pub socket_least : (H : Host) (i : ℕ) (s : Socket) (known : Bool) → slice_get H.sockets.places i ≡ Some (Some s) → IsAnswerFor (HasNeighbor H) (wait_at H.sockets i) known →
     IsLeast (SocketDue H i) (instant_of (poll_at (wait_at H.sockets i) known H.moment (kinds.poll_at s)))
 socket_least H i s known here told =
     least_one (instant_of (poll_at (wait_at H.sockets i) known H.moment (kinds.poll_at s)))
@@ -61,11 +61,11 @@ pub no_socket_least : (H : Host) (i : ℕ) → socket_at H.sockets i ≡ None �
 no_socket_least H i none = λ x d. let there : socket_at H.sockets i ≡ Some d.socket = ap (option_and_then (λ place. place)) d.here in absurd cc
 
 -- what a socket answers that is asked at a moment, with what is told of the destination that it waits for
-pub own_least : (H : Host) (i : ℕ) (answer : PollAt) (post : IpAddress → Bool → Type 0) → ((a : IpAddress) (known : Bool) → post a known → KnowsNextHop H a known) →
+pub own_least : (H : Host) (i : ℕ) (answer : PollAt) (post : IpAddress → Bool → Type 0) → ((a : IpAddress) (known : Bool) → post a known → HasNeighbor H a known) →
     (IfSome (socket_at H.sockets i) (λ s. (known : Bool) × IsAnswerFor post (wait_at H.sockets i) known × (answer ≡ poll_at (wait_at H.sockets i) known H.moment (kinds.poll_at s)))) →
     (IsNone (socket_at H.sockets i) → answer ≡ Ingress) → IsLeast (SocketDue H i) (instant_of answer)
 own_least H i answer post tells some none = by (slice_get H.sockets.places i) refl some none where
-  told : (w : Wait) (known : Bool) → IsAnswerFor post w known → IsAnswerFor (KnowsNextHop H) w known
+  told : (w : Wait) (known : Bool) → IsAnswerFor post w known → IsAnswerFor (HasNeighbor H) w known
   told None known t = tt
   told (Some w) known t = tells w.0 known t
 
@@ -150,8 +150,8 @@ there_least (y ∷ ys) =
 
 -- all sources
 abbrev Sources : Host → ℤ → Type 0
-Sources H = Or (AtOnce H.left) (Or (λ x. sync_instant H ≡ Some x) (Or (λ x. solicitation_instant H ≡ Some x)
-    (Or (Or (IsThere (prefix_ends H.slaac.prefixes H.moment)) (IsThere (route_ends H.slaac.routers H.moment))) (Or (λ x. report_due_at Joining H ≡ Some x) (Or (λ x. report_due_at Leaving H ≡ Some x) (Or (λ x. igmp_instant H ≡ Some x) (Or (λ x. mld_timeout_of H.mld_report ≡ Some x)
+Sources H = Or (AtOnce H.left) (Or (λ x. sync_poll_at H ≡ Some x) (Or (λ x. rs_poll_at H ≡ Some x)
+    (Or (Or (IsThere (prefix_ends H.slaac.prefixes H.moment)) (IsThere (route_ends H.slaac.routers H.moment))) (Or (λ x. group_poll_at Joining H ≡ Some x) (Or (λ x. group_poll_at Leaving H ≡ Some x) (Or (λ x. igmp_poll_at H ≡ Some x) (Or (λ x. mld_timeout_of H.mld_report ≡ Some x)
     (SocketsDue H))))))))
 
 is_due : (H : Host) (x : ℤ) → Sources H x → Due H x
@@ -180,13 +180,13 @@ is_source H x (OfSocket i d) = inr (inr (inr (inr (inr (inr (inr (inr (i, d)))))
 
 -- the least of all, from that of the sockets
 abbrev pub soonest : Host → Option ℤ → Option ℤ
-soonest H a = earlier_of (at_once H.left) (of_routers H (of_groups H a))
+soonest H a = earlier_of (at_once H.left) (routers_poll_at H (groups_poll_at H a))
 
 pub soonest_least : (H : Host) (a : Option ℤ) → IsLeast (SocketsDue H) a → IsLeast (Due H) (soonest H a)
 soonest_least H a p =
     least_same (Sources H) (Due H) (soonest H a) (is_due H) (is_source H)
-    (or_least _ _ _ _ (once_least H.left) (or_least _ _ _ _ (exact_least (sync_instant H)) (or_least _ _ _ _ (exact_least (solicitation_instant H))
-    (or_least _ _ _ _ (or_least _ _ _ _ (there_least (prefix_ends H.slaac.prefixes H.moment)) (there_least (route_ends H.slaac.routers H.moment))) (or_least _ _ _ _ (exact_least (report_due_at Joining H)) (or_least _ _ _ _ (exact_least (report_due_at Leaving H)) (or_least _ _ _ _ (exact_least (igmp_instant H))
+    (or_least _ _ _ _ (once_least H.left) (or_least _ _ _ _ (exact_least (sync_poll_at H)) (or_least _ _ _ _ (exact_least (rs_poll_at H))
+    (or_least _ _ _ _ (or_least _ _ _ _ (there_least (prefix_ends H.slaac.prefixes H.moment)) (there_least (route_ends H.slaac.routers H.moment))) (or_least _ _ _ _ (exact_least (group_poll_at Joining H)) (or_least _ _ _ _ (exact_least (group_poll_at Leaving H)) (or_least _ _ _ _ (exact_least (igmp_poll_at H))
     (or_least _ _ _ _ (exact_least (mld_timeout_of H.mld_report)) p))))))))
 
 pub due_least : (H : Host) (a : Option ℤ) → IsLeast (DueBelow H (length H.sockets.places)) a → IsLeast (Due H) (soonest H a)

@@ -67,7 +67,7 @@ use Rattle.host_machine.specs.Receiving.Udp as udp
 use Rattle.host_machine.specs.Receiving.Unreachable.{port_unreachable}
 use Rattle.host_machine.specs.Receiving.Ipv4.{ProcessesDatagram}
 use Rattle.host_machine.specs.Receiving.Ipv4 as ipv4
-use Rattle.host_machine.specs.Receiving.Ipv6.{ProcessesIpv6, ProcessesPacket, ProcessesHopByHop, ProcessesDatagramV6, complaint, protocol_unknown}
+use Rattle.host_machine.specs.Receiving.Ipv6.{ProcessesIpv6, ProcessesPacket, ProcessesHopByHop, ProcessesDatagramV6, unknown_option, unrecognized_next_header}
 use Rattle.host_machine.specs.Receiving.Ipv6 as ipv6
 use Rattle.host_machine.proofs.State.UnchangedFields.{Keeps, rest_of, kept, kept_by, kept_then, unread, heard_kept, sender_kept}
 use Rattle.host_machine.proofs.State.MediumAddresses.{filled_of, of_six}
@@ -343,7 +343,7 @@ icmpv6_plain {r} {H} {new} {octets} {reply} {notes} (icmpv6.Taken i t) =
     after (unread refl refl) (icmp_attends _ _ _ octets H) (message_plain r (icmpv6_in octets).0 (icmpv6_in octets).1 (icmpv6.host_after_delivery r octets H) reply notes new (tells _ _ _ octets i) t)
 
 refused_v6 : {handled_by_raw_socket : Bool} {r : Ipv6Repr} {H new : Host} {octets : List ℕ} {reply : Option Reply} {notes : List Note} → ipv6.IsRefused handled_by_raw_socket r H octets reply notes new → IsPlain H reply notes new
-refused_v6 {handled_by_raw_socket} {r} {H} {new} {octets} i = replied (protocol_unknown handled_by_raw_socket H.ip_addrs r octets) (unless handled_by_raw_socket _ refl) i.replied i.unnoted i.unchanged
+refused_v6 {handled_by_raw_socket} {r} {H} {new} {octets} i = replied (unrecognized_next_header handled_by_raw_socket H.ip_addrs r octets) (unless handled_by_raw_socket _ refl) i.replied i.unnoted i.unchanged
 
 protocol_v6 : (p : IpProtocol) (handled_by_raw_socket : Bool) (r : Ipv6Repr) (H : Host) (octets : List ℕ) (reply : Option Reply) (notes : List Note) (new : Host) →
     ipv6.ProcessesProtocol p handled_by_raw_socket r H octets reply notes new → IsPlain H reply notes new
@@ -362,7 +362,7 @@ payload_v6 {source} {r} {p} {H} {new} {payload} {reply} {notes} (ipv6.Accepted u
     after (heard_kept (repr.Ipv6 r) payload H) (raw_attends (repr.Ipv6 r) payload H)
     (after (sender_kept source (repr.Ipv6 r) (raw.host_after_raw_delivery (repr.Ipv6 r) payload H)) (sender_attends source (repr.Ipv6 r) (raw.host_after_raw_delivery (repr.Ipv6 r) payload H)) (protocol_v6 p _ r _ payload reply notes new t))
 
-complaint_plain : (failure : Ipv6OptionFailureType) (own : List IpCidr) (r : Ipv6Repr) (payload : List ℕ) → IsByIp (complaint failure own r payload)
+complaint_plain : (failure : Ipv6OptionFailureType) (own : List IpCidr) (r : Ipv6Repr) (payload : List ℕ) → IsByIp (unknown_option failure own r payload)
 complaint_plain Skip own r payload = tt
 complaint_plain Discard own r payload = tt
 complaint_plain DiscardSendAll own r payload = refl
@@ -372,7 +372,7 @@ options_v6 : {source : HardwareAddress} {r : Ipv6Repr} {H new : Host} {payload :
     ProcessesHopByHop source r H payload reply notes new → IsPlain H reply notes new
 options_v6 (ipv6.MalformedOptions m d) = dropped d
 options_v6 (ipv6.Skipped o s t) = payload_v6 t
-options_v6 {source} {r} {H} {new} {payload} (ipv6.Discarded failure o f s e n same) = replied (complaint failure H.ip_addrs r payload) (complaint_plain failure H.ip_addrs r payload) e n same
+options_v6 {source} {r} {H} {new} {payload} (ipv6.Discarded failure o f s e n same) = replied (unknown_option failure H.ip_addrs r payload) (complaint_plain failure H.ip_addrs r payload) e n same
 
 packet_v6 : {source : HardwareAddress} {r : Ipv6Repr} {H new : Host} {payload : List ℕ} {reply : Option Reply} {notes : List Note} →
     ProcessesPacket source r H payload reply notes new → IsPlain H reply notes new

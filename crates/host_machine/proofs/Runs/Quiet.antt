@@ -28,7 +28,7 @@ use Rattle.host_machine.specs.State.Note.{Note}
 use Rattle.fragmentation.specs.Slots.{Slots, live_at}
 use Rattle.host_machine.specs.State.Host.{Host, Socket, Storage, at, without_expired}
 use Rattle.host_machine.specs.State.Addresses.{source_for}
-use Rattle.host_machine.specs.Sending.Dispatch.{KnowsNextHop, OfNoHost, OfHost, IsNextHop, OnLink, ByRouter}
+use Rattle.host_machine.specs.Sending.Dispatch.{HasNeighbor, OfNoHost, OfHost, IsNextHop, OnLink, ByRouter}
 use Rattle.host_machine.specs.Receiving.Reply.{IsDropped}
 use Rattle.host_machine.specs.Polling.Ingress.{Ingress, Takes, answer_to}
 use Rattle.host_machine.specs.Sending.Parts.{Part, Both}
@@ -36,7 +36,7 @@ use Rattle.host_machine.specs.Sending.Egress.{Round, Ipv4Egress, packet_of, pack
 use Rattle.host_machine.specs.Sending.Egress as egress
 use Rattle.host_machine.specs.Polling.Polling.{after_maintenance, Repeats, Until, Spent, Done, Polls}
 use Rattle.host_machine.specs.Polling.Polling as polling
-use Rattle.host_machine.specs.Polling.Due.{Due, OfPiece, OfSync, OfSolicitation, OfPrefix, OfRouter, OfJoin, OfLeave, OfIgmpReport, OfMldReport, OfSocket, AtOnce, SocketDue, IsLeast, instant_of, report_due_at}
+use Rattle.host_machine.specs.Polling.Due.{Due, OfPiece, OfSync, OfSolicitation, OfPrefix, OfRouter, OfJoin, OfLeave, OfIgmpReport, OfMldReport, OfSocket, AtOnce, SocketDue, IsLeast, instant_of, group_poll_at}
 use Rattle.std.specs.Ordering.{int_cmp, is_le, is_lt}
 use Rattle.ip_address.specs.declared.cidr.IpCidr.{IpCidr}
 use Rattle.group_table.specs.declared.groups.Group.{Group}
@@ -46,7 +46,7 @@ use Rattle.group_table.specs.Groups.{first_in}
 use Rattle.host_machine.specs.Sending.Packet.{Packet}
 use Rattle.host_machine.specs.Sending.Multicast as multicast
 use Rattle.host_machine.specs.Sending.Reports as reports
-use Rattle.host_machine.specs.Sending.Reports.{IgmpEgress, MldEgress, igmp_instant, mld_timeout_of, igmp_timeout_of, has_passed, with_igmp_report}
+use Rattle.host_machine.specs.Sending.Reports.{IgmpEgress, MldEgress, igmp_poll_at, mld_timeout_of, igmp_timeout_of, has_passed, with_igmp_report}
 use Rattle.std.specs.List.{list_any}
 use Rattle.slaac.specs.declared.slaac.Prefix.{Prefix}
 use Rattle.slaac.specs.declared.slaac.Route.{Route as Router}
@@ -178,15 +178,15 @@ hop_on : (H : Host) (K : Host) (t0 : ℤ) {a : IpAddress} {hop : Option IpAddres
 hop_on H K t0 (OnLink own e) = OnLink own e
 hop_on H K t0 (ByRouter router other r e) = ByRouter router other r e
 
-known_on : (H : Host) (K : Host) (t0 : ℤ) {a : IpAddress} {known : Bool} → KnowsNextHop (at (altered H K) t0) a known → KnowsNextHop (at H t0) a known
+known_on : (H : Host) (K : Host) (t0 : ℤ) {a : IpAddress} {known : Bool} → HasNeighbor (at (altered H K) t0) a known → HasNeighbor (at H t0) a known
 known_on H K t0 (OfNoHost none e) = OfNoHost none e
 known_on H K t0 (OfHost hop one n e) = OfHost hop one (hop_on H K t0 n) e
 
-told_on : (H : Host) (K : Host) (t0 : ℤ) (w : Wait) (known : Bool) → IsAnswerFor (KnowsNextHop (at (altered H K) t0)) w known → IsAnswerFor (KnowsNextHop (at H t0)) w known
+told_on : (H : Host) (K : Host) (t0 : ℤ) (w : Wait) (known : Bool) → IsAnswerFor (HasNeighbor (at (altered H K) t0)) w known → IsAnswerFor (HasNeighbor (at H t0)) w known
 told_on H K t0 None known told = tt
 told_on H K t0 (Some w) known told = known_on H K t0 told
 
-due_by : (H : Host) (t0 : ℤ) (i : ℕ) (was : Bool) → was ≡ true → IsAnswerFor (KnowsNextHop (at H t0)) (wait_at H.sockets i) was →
+due_by : (H : Host) (t0 : ℤ) (i : ℕ) (was : Bool) → was ≡ true → IsAnswerFor (HasNeighbor (at H t0)) (wait_at H.sockets i) was →
     (x : ℤ) (j : ℕ) → SocketDue (at (with_waits H (slice_set H.sockets.waits i None)) t0) j x → (j ≡ i) ⊎ (j ≡ i → ⊥) → SocketDue (at H t0) j x
 due_by H t0 i was is told x j d (inl same) =
     let gone : get_or (slice_set H.sockets.waits i None) j None ≡ None = rw same (cleared H.sockets.waits i) in
@@ -204,14 +204,14 @@ due_by H t0 i was is told x j d (inr other) =
       socket = d.socket;
       known = d.known;
       here = d.here;
-      told = subst (λ w. IsAnswerFor (KnowsNextHop (at H t0)) w d.known) kept (told_on H (with_waits H (slice_set H.sockets.waits i None)) t0 (get_or (slice_set H.sockets.waits i None) j None) d.known d.told);
+      told = subst (λ w. IsAnswerFor (HasNeighbor (at H t0)) w d.known) kept (told_on H (with_waits H (slice_set H.sockets.waits i None)) t0 (get_or (slice_set H.sockets.waits i None) j None) d.known d.told);
       instant = sym (ap (λ w. instant_of (poll_at w d.known t0 (socket.poll_at d.socket))) kept) ∙ d.instant;
     }
 
 -- what is due where slots and waits are others: by cases, of which only the last reads those
 due_altered : (H : Host) (t0 x : ℤ) (K : Host) →
     ((j : ℕ) → SocketDue (at (altered H K) t0) j x → SocketDue (at H t0) j x) →
-    (igmp_instant (at (altered H K) t0) ≡ Some x → igmp_instant (at H t0) ≡ Some x) →
+    (igmp_poll_at (at (altered H K) t0) ≡ Some x → igmp_poll_at (at H t0) ≡ Some x) →
     Due (at (altered H K) t0) x → Due (at H t0) x
 due_altered H t0 x K of_socket of_report (OfPiece d) = OfPiece d
 due_altered H t0 x K of_socket of_report (OfSync d) = OfSync d
@@ -224,7 +224,7 @@ due_altered H t0 x K of_socket of_report (OfIgmpReport d) = OfIgmpReport (of_rep
 due_altered H t0 x K of_socket of_report (OfMldReport d) = OfMldReport d
 due_altered H t0 x K of_socket of_report (OfSocket j d) = OfSocket j (of_socket j d)
 
-due_cleared : (H : Host) (t0 : ℤ) (i : ℕ) (was : Bool) → was ≡ true → IsAnswerFor (KnowsNextHop (at H t0)) (wait_at H.sockets i) was →
+due_cleared : (H : Host) (t0 : ℤ) (i : ℕ) (was : Bool) → was ≡ true → IsAnswerFor (HasNeighbor (at H t0)) (wait_at H.sockets i) was →
     (x : ℤ) → Due (at (with_waits H (slice_set H.sockets.waits i None)) t0) x → Due (at H t0) x
 due_cleared H t0 i was is told x d = due_altered H t0 x (with_waits H (slice_set H.sockets.waits i None)) (λ j d. due_by H t0 i was is told x j d (cases_eq j i)) (λ e. e) d
 
@@ -357,7 +357,7 @@ untold {state} none (multicast.Refused {mid = mid} a p w f q) = let before = unt
 untold {state} none (multicast.Reported {mid = mid} a p outcome frames more new w f q d) = let before = untold none w in absurd (let same : first_in state mid.groups ≡ None = rw before.0 none in cc)
 
 all_still : {state : GroupState} {packet_for : List IpCidr → IpAddress → Option Packet} {after_report : List Group → IpAddress → List Group} (t0 : ℤ) →
-    ((H : Host) → report_due_at state H ≡ Some (pos 0) → Due H (pos 0)) → IsStill t0 (multicast.ReportsAll state packet_for after_report)
+    ((H : Host) → group_poll_at state H ≡ Some (pos 0) → Due H (pos 0)) → IsStill t0 (multicast.ReportsAll state packet_for after_report)
 all_still {state} {packet_for} {after_report} t0 is_due old new told notes r p = by (first_in state old.groups) refl where
   of : (granted : Bool) → multicast.ReportsEach state packet_for after_report old granted told notes new → first_in state old.groups ≡ None → Stays t0 old new told
   of granted w none = let u = untold none w in stays t0 u.0 (ap sent_frames u.1)

@@ -31,13 +31,13 @@ use Rattle.host_machine.specs.Sending.Packet.{Packet}
 use Rattle.host_machine.specs.Sending.Frame.{piece_frame}
 use Rattle.host_machine.specs.Sending.Multicast.{ReportsEach, ReportsAll, JoinsEgress, LeavesEgress, igmp_report, join_packet, leave_packet}
 use Rattle.host_machine.specs.Sending.Multicast as multicast
-use Rattle.host_machine.specs.Sending.Reports.{IgmpEgress, MldEgress, has_passed, igmp_instant, later_of, mld_timeout_of, next_group, next_report, igmp_report_after, igmp_timeout_of}
+use Rattle.host_machine.specs.Sending.Reports.{IgmpEgress, MldEgress, has_passed, igmp_poll_at, later_of, mld_timeout_of, next_group, next_report, igmp_report_after, igmp_timeout_of}
 use Rattle.host_machine.specs.Sending.Reports as reports
-use Rattle.host_machine.specs.Sending.Slaac.{NdiscRsEgress, due_solicitation, router_solicitation, solicitation_instant, with_slaac}
+use Rattle.host_machine.specs.Sending.Slaac.{NdiscRsEgress, due_solicitation, router_solicitation, rs_poll_at, with_slaac}
 use Rattle.host_machine.specs.Sending.Slaac as slaac
 use Rattle.slaac.specs.declared.slaac.Prefix.{Prefix}
 use Rattle.slaac.specs.declared.slaac.Route.{Route}
-use Rattle.host_machine.specs.Polling.Due.{Due, SocketDue, sync_instant}
+use Rattle.host_machine.specs.Polling.Due.{Due, SocketDue, sync_poll_at}
 use Rattle.host_machine.specs.Polling.Due as due
 use Rattle.host_machine.specs.Sending.Egress.{Ipv4Egress, SocketTurn, Serves, Walks, SocketEgress, Egress}
 use Rattle.host_machine.specs.Sending.Egress as egress
@@ -134,9 +134,9 @@ and_later : (t : ℤ) (o : Option Packet) (r : Option ℤ) → IsLater t r → I
 and_later t None r l = tt
 and_later t (Some p) r l = l
 
-solicited_later : {H new : Host} {told : List Event} {notes : List Note} → NdiscRsEgress H told notes new → all_granted told ≡ true → IsLater H.moment (solicitation_instant new)
+solicited_later : {H new : Host} {told : List Event} {notes : List Note} → NdiscRsEgress H told notes new → all_granted told ≡ true → IsLater H.moment (rs_poll_at new)
 solicited_later {H} (slaac.NotDue d e m y) all =
-    subst (λ (K : Host). IsLater H.moment (solicitation_instant K)) (sym y)
+    subst (λ (K : Host). IsLater H.moment (rs_poll_at K)) (sym y)
     (required_later H.moment (router_solicitation H) (is_searching H.slaac.phase) (is_le (int_cmp H.slaac.retry_at H.moment)) (nat_lt 0 H.slaac.left) H.slaac.retry_at refl d)
 solicited_later (slaac.NotGranted p d e m y) all = absurd (clash all (ap all_granted e))
 solicited_later {H} (slaac.Goes p o f mid d s e y) all =
@@ -144,7 +144,7 @@ solicited_later {H} (slaac.Goes p o f mid d s e y) all =
     let moment : mid.moment ≡ H.moment = ap (λ (K : Host). K.moment) (dispatched_gone s) in
     let same : rs_sent mid.slaac mid.moment ≡ rs_sent H.slaac H.moment = ap (λ l. rs_sent l mid.moment) learnt ∙ ap (λ t. rs_sent H.slaac t) moment in
     let later : IsLater H.moment (retry_at (rs_sent mid.slaac mid.moment)) = subst (λ l. IsLater H.moment (retry_at l)) (sym same) (sent_later H.slaac H.moment (is_required H p d)) in
-    subst (λ (K : Host). IsLater H.moment (solicitation_instant K)) (sym y) (and_later H.moment (router_solicitation (with_slaac mid (rs_sent mid.slaac mid.moment))) (retry_at (rs_sent mid.slaac mid.moment)) later)
+    subst (λ (K : Host). IsLater H.moment (rs_poll_at K)) (sym y) (and_later H.moment (router_solicitation (with_slaac mid (rs_sent mid.slaac mid.moment))) (retry_at (rs_sent mid.slaac mid.moment)) later)
 
 -- what is kept beside what the part changes
 abbrev learnt_apart : Host → Host
@@ -170,13 +170,13 @@ no_address H none = by (next_group H H.igmp_report) where
   by None = refl
   by (Some n) = rw none refl
 
-timeout_is : (H : Host) (x : ℤ) → igmp_instant H ≡ Some x → igmp_timeout_of H.igmp_report ≡ Some x
+timeout_is : (H : Host) (x : ℤ) → igmp_poll_at H ≡ Some x → igmp_timeout_of H.igmp_report ≡ Some x
 timeout_is H x = by (next_report H) where
   by : (o : Option Packet) → option_and_then (λ p. igmp_timeout_of H.igmp_report) o ≡ Some x → igmp_timeout_of H.igmp_report ≡ Some x
   by None e = absurd cc
   by (Some p) e = e
 
-some_instant : (H : Host) (x : ℤ) → igmp_instant H ≡ Some x → ipv4_addr H.ip_addrs ≡ None → ⊥
+some_instant : (H : Host) (x : ℤ) → igmp_poll_at H ≡ Some x → ipv4_addr H.ip_addrs ≡ None → ⊥
 some_instant H x e none = let bad : None ≡ Some x = sym (ap (λ o. option_and_then (λ (p : Packet). igmp_timeout_of H.igmp_report) o) (no_address H none)) ∙ e in absurd cc
 
 igmp_by : {r r' : IgmpReportState} {k k' : IgmpReportState} → (r ≡ k) ⊎ (r ≡ igmp.Inactive) → r' ≡ r → k ≡ k' → (r' ≡ k') ⊎ (r' ≡ igmp.Inactive)
@@ -357,10 +357,10 @@ due_done t answer old new told notes e all kept =
     let given_g = given_parts g.told_one g.told_two (sym (ap all_granted g.events) ∙ given_f.1) in
     -- solicitations
     let moment_a : a.mid.moment ≡ t = ap (λ (K : Host). K.moment) (piece_gone a.begins) in
-    let no_sooner : IsLater a.mid.moment (solicitation_instant b.mid) = solicited_later b.begins given_b.0 in
-    let instant : solicitation_instant new ≡ solicitation_instant b.mid =
-    ap solicitation_instant (all_kept g.ends) ∙ ap solicitation_instant (mld_kept g.begins) ∙ ap solicitation_instant (igmp_kept f.begins)
-    ∙ ap solicitation_instant (groups_kept Leaving leave_packet leave_reported d.begins) ∙ ap solicitation_instant (groups_kept Joining join_packet join_reported c.begins) in
+    let no_sooner : IsLater a.mid.moment (rs_poll_at b.mid) = solicited_later b.begins given_b.0 in
+    let instant : rs_poll_at new ≡ rs_poll_at b.mid =
+    ap rs_poll_at (all_kept g.ends) ∙ ap rs_poll_at (mld_kept g.begins) ∙ ap rs_poll_at (igmp_kept f.begins)
+    ∙ ap rs_poll_at (groups_kept Leaving leave_packet leave_reported d.begins) ∙ ap rs_poll_at (groups_kept Joining join_packet join_reported c.begins) in
     -- groups
     let no_join : lacks Joining d.mid.groups ≡ true = leaves_reported_lack d.begins (none_lacks Joining c.mid.groups (none_left Joining join_packet join_reported c.begins given_c.0)) in
     let not_granted : first_in Leaving d.mid.groups ≡ None = none_left Leaving leave_packet leave_reported d.begins given_d.0 in
@@ -384,7 +384,7 @@ due_done t answer old new told notes e all kept =
     record {
       joins = ap (option_map (λ x. pos 0)) (ap (first_in Joining) groups ∙ lacks_none Joining d.mid.groups no_join);
       leaves_reported = ap (option_map (λ x. pos 0)) (ap (first_in Leaving) groups ∙ not_granted);
-      solicitation = subst (λ o. IsLater t o) (sym instant) (subst (λ m. IsLater m (solicitation_instant b.mid)) moment_a no_sooner);
+      solicitation = subst (λ o. IsLater t o) (sym instant) (subst (λ m. IsLater m (rs_poll_at b.mid)) moment_a no_sooner);
       mld = subst (λ m. IsLater t (mld_timeout_of m)) (sym mld_same) (subst (λ m. IsLater m (mld_timeout_of g.mid.mld_report)) moment_f mld_is);
       igmp = λ x due le. is_further t (igmp_by (igmp_went {H = d.mid} x f.begins given_f.0 (ap igmp_timeout_of igmp_before ∙ timeout_is (at old t) x due) (subst (λ m. x ≤ℤ m) (sym moment_d) le)
           (λ none. some_instant (at old t) x due (sym (ap ipv4_addr addrs_before) ∙ none))) igmp_after
@@ -414,7 +414,7 @@ later_not : (o : Option ℤ) (t x : ℤ) → IsLater t o → o ≡ Some x → x 
 later_not None t x l e le = absurd cc
 later_not (Some y) t x l e le = let same : y ≡ x = cc in omega (arith, ints, l, same, le)
 
-sync_is : (H : Host) (x : ℤ) → sync_instant H ≡ Some x → sync_instant H ≡ Some (pos 0)
+sync_is : (H : Host) (x : ℤ) → sync_poll_at H ≡ Some x → sync_poll_at H ≡ Some (pos 0)
 sync_is H x = by (sync_required H.slaac H.moment) where
   by : (b : Bool) → (if b then Some (pos 0) else None) ≡ Some x → (if b then Some (pos 0) else None) ≡ Some (pos 0)
   by true e = refl
@@ -432,7 +432,7 @@ listed_later t x (y ∷ ys) i e = by (is_before t y) refl i e (λ k f. listed_la
 still_by : (H new : Host) (x : ℤ) → IsDone H new → new.moment ≡ H.moment → Due new x → x ≤ℤ H.moment → IsStillDue H new
 still_by H new x d same (due.OfPiece p) le = StillPiece p.first p.others p.are
 still_by H new x d same (due.OfSync e) le = StillLine (sync_is new x e)
-still_by H new x d same (due.OfSolicitation e) le = absurd (later_not (solicitation_instant new) H.moment x d.solicitation e le)
+still_by H new x d same (due.OfSolicitation e) le = absurd (later_not (rs_poll_at new) H.moment x d.solicitation e le)
 still_by H new x d same (due.OfPrefix i e) le =
     let later : new.moment <ℤ x = listed_later new.moment x (map (λ (p : Prefix). p.info.valid_until) new.slaac.prefixes) i e in
     absurd (omega (arith, ints, later, same, le))

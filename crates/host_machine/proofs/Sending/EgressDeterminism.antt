@@ -25,7 +25,7 @@ use Rattle.host_machine.specs.State.Note.{Note}
 use Rattle.host_machine.specs.State.Host.{Host, Socket, SocketSet, at, with_groups}
 use Rattle.host_machine.specs.Sending.Packet.{Packet}
 use Rattle.host_machine.specs.Sending.Frame.{sends}
-use Rattle.host_machine.specs.Sending.Dispatch.{Outcome, Dispatches, KnowsNextHop}
+use Rattle.host_machine.specs.Sending.Dispatch.{Outcome, Dispatches, HasNeighbor}
 use Rattle.host_machine.specs.Sending.Parts.{Part, Both}
 use Rattle.host_machine.specs.Sending.Multicast as multicast
 use Rattle.host_machine.specs.Sending.Multicast.{ReportsEach, ReportsAll, JoinsEgress, LeavesEgress, join_packet, leave_packet}
@@ -231,11 +231,11 @@ module _ (state : GroupState) (packet_for : List IpCidr → IpAddress → Option
 
 -- sockets
 
-told_same : (H : Host) (w : Wait) (known known' : Bool) (t : ℤ) → IsAnswerFor (KnowsNextHop H) w known → IsAnswerFor (KnowsNextHop H) w known' → is_permitted w known t ≡ is_permitted w known' t
+told_same : (H : Host) (w : Wait) (known known' : Bool) (t : ℤ) → IsAnswerFor (HasNeighbor H) w known → IsAnswerFor (HasNeighbor H) w known' → is_permitted w known t ≡ is_permitted w known' t
 told_same H None known known' t a b = refl
 told_same H (Some w) known known' t a b = ap (λ k. is_permitted (Some w) k t) (known_is_one a b)
 
-asked_same : (H : Host) (w : Wait) (known known' : Bool) → IsAnswerFor (KnowsNextHop H) w known → IsAnswerFor (KnowsNextHop H) w known' → after_asking w known ≡ after_asking w known'
+asked_same : (H : Host) (w : Wait) (known known' : Bool) → IsAnswerFor (HasNeighbor H) w known → IsAnswerFor (HasNeighbor H) w known' → after_asking w known ≡ after_asking w known'
 asked_same H None known known' a b = refl
 asked_same H (Some w) known known' a b = ap (after_asking (Some w)) (known_is_one a b)
 
@@ -277,7 +277,7 @@ idle : {turn turn' : Turn} {t t' : List Event} {n n' : List Note} {x x' H : Host
 idle d t n x d' t' n' x' = record { answer_is = d ∙ sym d'; told_is = t ∙ sym t'; notes_are = n ∙ sym n'; host_is = x ∙ sym x' }
 
 -- a socket that may send, or may not
-clash : (H : Host) (i : ℕ) (known known' : Bool) → IsAnswerFor (KnowsNextHop H) (wait_at H.sockets i) known → IsAnswerFor (KnowsNextHop H) (wait_at H.sockets i) known' →
+clash : (H : Host) (i : ℕ) (known known' : Bool) → IsAnswerFor (HasNeighbor H) (wait_at H.sockets i) known → IsAnswerFor (HasNeighbor H) (wait_at H.sockets i) known' →
     is_permitted (wait_at H.sockets i) known H.moment ≡ false → is_permitted (wait_at H.sockets i) known' H.moment ≡ true → ⊥
 clash H i known known' is is' kept may = let one = told_same H (wait_at H.sockets i) known known' H.moment is is' in absurd cc
 

@@ -43,7 +43,7 @@ use Rattle.host_machine.specs.State.Addresses.{is_unicast, source_for}
 use Rattle.host_machine.specs.Sending.Packet.{Packet, total_len}
 use Rattle.host_machine.specs.Sending.Packet as packet
 use Rattle.host_machine.specs.Sending.Frame.{ip_frame}
-use Rattle.host_machine.specs.Sending.Dispatch.{Outcome, IsNextHop, KnowsNextHop, OfHost, IsUnsent, Emits, Discovers, DispatchesByHop, DispatchesEthernet, SendsOver, Dispatches, destination_of, with_next_id, is_known_hop, multicast_hardware_addr}
+use Rattle.host_machine.specs.Sending.Dispatch.{Outcome, IsNextHop, HasNeighbor, OfHost, IsUnsent, Emits, Discovers, DispatchesByHop, DispatchesEthernet, SendsOver, Dispatches, destination_of, with_next_id, is_known_hop, multicast_hardware_addr}
 use Rattle.host_machine.specs.Sending.Dispatch as dispatch
 use Rattle.host_machine.specs.Sending.Multicast.{ReportsEach, ReportsAll}
 use Rattle.host_machine.specs.Sending.Multicast as multicast
@@ -373,11 +373,11 @@ or_true : (b c : Bool) → c ≡ true → (b || c) ≡ true
 or_true true c e = refl
 or_true false c e = e
 
-pub permitted : (H : Host) (i : ℕ) → MayBeAsked H i → (known : Bool) → IsAnswerFor (KnowsNextHop H) (wait_at H.sockets i) known → is_permitted (wait_at H.sockets i) known H.moment ≡ true
+pub permitted : (H : Host) (i : ℕ) → MayBeAsked H i → (known : Bool) → IsAnswerFor (HasNeighbor H) (wait_at H.sockets i) known → is_permitted (wait_at H.sockets i) known H.moment ≡ true
 permitted H i (NoWait e) known told = rw e refl
 permitted H i (Over a end e le) known told = rw e (or_true known (is_ge (int_cmp H.moment end)) (ranked_ge H.moment end (int_cmp H.moment end) (int_ranks H.moment end) le))
 permitted H i (IsKnown a end h e one r) known told =
-    let knows : KnowsNextHop H a known = subst (λ w. IsAnswerFor (KnowsNextHop H) w known) e told in
+    let knows : HasNeighbor H a known = subst (λ w. IsAnswerFor (HasNeighbor H) w known) e told in
     let is : known ≡ is_known_hop H (Some r.hop) = known_is_one knows (OfHost (Some r.hop) one r.next refl) in
     let found : known ≡ true = is ∙ ap is_found r.known in
     rw (e, found) refl

@@ -48,10 +48,10 @@ use Rattle.host_machine.specs.State.Host.{Host, Socket}
 use Rattle.host_machine.specs.State.Addresses.{source_for}
 use Rattle.host_machine.specs.Sending.Packet.{IpPayload, Packet}
 use Rattle.host_machine.specs.Sending.Packet as packet
-use Rattle.host_machine.specs.Sending.Dispatch.{Outcome, IsNextHop, KnowsNextHop, OfNoHost, OfHost, Emits, DispatchesByHop, DispatchesEthernet, SendsOver, Dispatches, destination_of, with_next_id, is_known_hop}
+use Rattle.host_machine.specs.Sending.Dispatch.{Outcome, IsNextHop, HasNeighbor, OfNoHost, OfHost, Emits, DispatchesByHop, DispatchesEthernet, SendsOver, Dispatches, destination_of, with_next_id, is_known_hop}
 use Rattle.host_machine.specs.Sending.Dispatch as dispatch
 use Rattle.host_machine.specs.Polling.Due.{SocketDue, instant_of}
-use Rattle.host_machine.specs.Sending.Egress.{SocketTurn, Serves, Walks, SocketEgress, socket_after_asking, if_echo, packet_between, packet_from, packet_of, turn_of, wait_after, with_socket}
+use Rattle.host_machine.specs.Sending.Egress.{SocketTurn, Serves, Walks, SocketEgress, socket_after_asking, echo_payload, packet_between, packet_from, packet_of, turn_of, wait_after, with_socket}
 use Rattle.host_machine.specs.Sending.Egress as egress
 use Rattle.host_machine.specs.Laws.Service.{all_granted, waiting_in}
 use Rattle.host_machine.proofs.Polling.EarliestInstant.{hop_is_one, known_is_one}
@@ -81,26 +81,26 @@ quad true true false d e = absurd cc
 quad true false c d e = absurd cc
 quad false b c d e = absurd cc
 
-echo_is_v4 : (octets : List ℕ) → icmp_socket.is_echo 8 0 octets ≡ true → if_echo (icmp.Ipv4 (icmpv4_in octets).0) (icmpv4_in octets).1 ≡ None → ⊥
+echo_is_v4 : (octets : List ℕ) → icmp_socket.is_echo 8 0 octets ≡ true → echo_payload (icmp.Ipv4 (icmpv4_in octets).0) (icmpv4_in octets).1 ≡ None → ⊥
 echo_is_v4 octets is none = by (type_in octets == 8) (type_in octets == 0) refl refl (quad (nat_le 8 (length octets)) (nat_lt (length octets) 65536) ((type_in octets == 8) || (type_in octets == 0)) (code_in octets == 0) is) where
   by : (b c : Bool) → (type_in octets == 8) ≡ b → (type_in octets == 0) ≡ c → (b || c) ≡ true → ⊥
   by true c e f either =
       let it : icmpv4_in octets ≡ (v4.EchoRequest (u16_at octets 4) (u16_at octets 6), drop 8 octets) = rw e refl in
-      let bad = sym (ap (λ m. if_echo (icmp.Ipv4 m.0) m.1) it) ∙ none in absurd cc
+      let bad = sym (ap (λ m. echo_payload (icmp.Ipv4 m.0) m.1) it) ∙ none in absurd cc
   by false true e f either =
       let it : icmpv4_in octets ≡ (v4.EchoReply (u16_at octets 4) (u16_at octets 6), drop 8 octets) = rw (e, f) refl in
-      let bad = sym (ap (λ m. if_echo (icmp.Ipv4 m.0) m.1) it) ∙ none in absurd cc
+      let bad = sym (ap (λ m. echo_payload (icmp.Ipv4 m.0) m.1) it) ∙ none in absurd cc
   by false false e f either = absurd cc
 
-echo_is_v6 : (octets : List ℕ) → icmp_socket.is_echo 128 129 octets ≡ true → if_echo (icmp.Ipv6 (icmpv6_in octets).0) (icmpv6_in octets).1 ≡ None → ⊥
+echo_is_v6 : (octets : List ℕ) → icmp_socket.is_echo 128 129 octets ≡ true → echo_payload (icmp.Ipv6 (icmpv6_in octets).0) (icmpv6_in octets).1 ≡ None → ⊥
 echo_is_v6 octets is none = by (type_in octets == 128) (type_in octets == 129) refl refl (quad (nat_le 8 (length octets)) (nat_lt (length octets) 65536) ((type_in octets == 128) || (type_in octets == 129)) (code_in octets == 0) is) where
   by : (b c : Bool) → (type_in octets == 128) ≡ b → (type_in octets == 129) ≡ c → (b || c) ≡ true → ⊥
   by true c e f either =
       let it : icmpv6_in octets ≡ (v6.EchoRequest (u16_at octets 4) (u16_at octets 6), drop 8 octets) = rw e refl in
-      let bad = sym (ap (λ m. if_echo (icmp.Ipv6 m.0) m.1) it) ∙ none in absurd cc
+      let bad = sym (ap (λ m. echo_payload (icmp.Ipv6 m.0) m.1) it) ∙ none in absurd cc
   by false true e f either =
       let it : icmpv6_in octets ≡ (v6.EchoReply (u16_at octets 4) (u16_at octets 6), drop 8 octets) = rw (e, f) refl in
-      let bad = sym (ap (λ m. if_echo (icmp.Ipv6 m.0) m.1) it) ∙ none in absurd cc
+      let bad = sym (ap (λ m. echo_payload (icmp.Ipv6 m.0) m.1) it) ∙ none in absurd cc
   by false false e f either = absurd cc
 
 -- a socket that has no packet offers nothing
@@ -134,14 +134,14 @@ between_then : (source peer : IpAddress) (hop_limit : ℕ) (o : Option IpPayload
 between_then source peer hop_limit None some all e = some refl
 between_then source peer hop_limit (Some payload) some all e = all payload e
 
-echo_to_is : (peer : IpAddress) (octets : List ℕ) (m : IcmpRepr × List ℕ) → icmp_socket.echo_to peer octets ≡ Some m → if_echo m.0 m.1 ≡ None → ⊥
+echo_to_is : (peer : IpAddress) (octets : List ℕ) (m : IcmpRepr × List ℕ) → icmp_socket.echo_to peer octets ≡ Some m → echo_payload m.0 m.1 ≡ None → ⊥
 echo_to_is (Ipv4 a) octets m is none = by (icmp_socket.is_echo 8 0 octets) refl is where
   by : (b : Bool) → icmp_socket.is_echo 8 0 octets ≡ b → cond b (Some (icmp.Ipv4 (icmpv4_in octets).0, (icmpv4_in octets).1)) None ≡ Some m → ⊥
-  by true e f = let same : (icmp.Ipv4 (icmpv4_in octets).0, (icmpv4_in octets).1) ≡ m = cc in echo_is_v4 octets e (ap (λ x. if_echo x.0 x.1) same ∙ none)
+  by true e f = let same : (icmp.Ipv4 (icmpv4_in octets).0, (icmpv4_in octets).1) ≡ m = cc in echo_is_v4 octets e (ap (λ x. echo_payload x.0 x.1) same ∙ none)
   by false e f = absurd cc
 echo_to_is (Ipv6 a) octets m is none = by (icmp_socket.is_echo 128 129 octets) refl is where
   by : (b : Bool) → icmp_socket.is_echo 128 129 octets ≡ b → cond b (Some (icmp.Ipv6 (icmpv6_in octets).0, (icmpv6_in octets).1)) None ≡ Some m → ⊥
-  by true e f = let same : (icmp.Ipv6 (icmpv6_in octets).0, (icmpv6_in octets).1) ≡ m = cc in echo_is_v6 octets e (ap (λ x. if_echo x.0 x.1) same ∙ none)
+  by true e f = let same : (icmp.Ipv6 (icmpv6_in octets).0, (icmpv6_in octets).1) ≡ m = cc in echo_is_v6 octets e (ap (λ x. echo_payload x.0 x.1) same ∙ none)
   by false e f = absurd cc
 
 none_icmp : (choose : IpAddress → Option IpAddress) (s : icmp_socket.IcmpSocket) → option_and_then packet_of (option_map IcmpOffer (icmp_socket.offered_packet choose s)) ≡ None → icmp_socket.offered_packet choose s ≡ None
@@ -156,7 +156,7 @@ none_icmp choose s none = by (first_of s.tx.packets) none where
     message (Some m) f g = from (source_of choose None p.0) refl g where
       from : (o : Option IpAddress) → source_of choose None p.0 ≡ o → option_and_then packet_of (option_map IcmpOffer (option_map (icmp_socket.packet_to_send s p.0 m) o)) ≡ None → option_map (icmp_socket.packet_to_send s p.0 m) o ≡ None
       from None h k = refl
-      from (Some a) h k = absurd (between_then a p.0 s.hop_limit (if_echo m.0 m.1) (λ e. echo_to_is p.0 p.1 m f e) (λ payload e. one_family choose None p.0 a s.hop_limit payload h e) k)
+      from (Some a) h k = absurd (between_then a p.0 s.hop_limit (echo_payload m.0 m.1) (λ e. echo_to_is p.0 p.1 m f e) (λ payload e. one_family choose None p.0 a s.hop_limit payload h e) k)
 
 -- One packet less
 
@@ -270,7 +270,7 @@ emitted_ok (dispatch.Whole fits formed o f n e) = absurd cc
 emitted_ok (dispatch.InPieces q first rest is long short pieces fits formed o f n e) = absurd cc
 emitted_ok (dispatch.TooLong long longer o u) = absurd cc
 
-no_hop : {H : Host} {a : IpAddress} {known : Bool} (hop : Option IpAddress) → IsNextHop H a hop → is_known_hop H hop ≡ false → KnowsNextHop H a known → known ≡ false
+no_hop : {H : Host} {a : IpAddress} {known : Bool} (hop : Option IpAddress) → IsNextHop H a hop → is_known_hop H hop ≡ false → HasNeighbor H a known → known ≡ false
 no_hop hop is unknown (OfNoHost one e) = e
 no_hop {H} hop is unknown (OfHost other one next e) = e ∙ ap (is_known_hop H) (hop_is_one next is) ∙ unknown
 
@@ -281,13 +281,13 @@ by_hop_unknown (dispatch.Silent s o u) = ap is_found s
 by_hop_unknown (dispatch.Unknown u d) = ap is_found u
 
 ethernet_unknown : {id : ℕ} {own : EthernetAddress} {p : Packet} {error : DispatchError} {H new : Host} {frames : List (List ℕ)} {notes : List Note} {known : Bool} →
-    DispatchesEthernet id own p (Err error) H frames notes new → KnowsNextHop H (destination_of p) known → known ≡ false
+    DispatchesEthernet id own p (Err error) H frames notes new → HasNeighbor H (destination_of p) known → known ≡ false
 ethernet_unknown (dispatch.ToMulticast h m e) k = absurd (emitted_ok e)
 ethernet_unknown (dispatch.NoHop m n o u) k = no_hop None n refl k
 ethernet_unknown (dispatch.ByHop hop m n s) k = no_hop (Some hop) n (by_hop_unknown s) k
 
 over_unknown : (id : ℕ) (h : HardwareAddress) (p : Packet) (error : DispatchError) (H : Host) (frames : List (List ℕ)) (notes : List Note) (new : Host) {known : Bool} →
-    SendsOver id h p (Err error) H frames notes new → KnowsNextHop H (destination_of p) known → known ≡ false
+    SendsOver id h p (Err error) H frames notes new → HasNeighbor H (destination_of p) known → known ≡ false
 over_unknown id (hardware.Ethernet own) p error H frames notes new s k = ethernet_unknown s k
 over_unknown id hardware.Ip p error H frames notes new s k = absurd (emitted_ok s)
 
@@ -314,17 +314,17 @@ hop_alike H K e (Some a) =
     ∙ ap (λ t. is_found (answer_from (map.get H.neighbors.known a) K.neighbors.silent_until t)) (ap (λ (x : Host). x.moment) e)
     ∙ found_alike (map.get H.neighbors.known a) K.neighbors.silent_until H.neighbors.silent_until H.moment)
 
-known_as : (H K : Host) {a : IpAddress} {known : Bool} → sans K ≡ sans H → KnowsNextHop H a known → KnowsNextHop K a known
+known_as : (H K : Host) {a : IpAddress} {known : Bool} → sans K ≡ sans H → HasNeighbor H a known → HasNeighbor K a known
 known_as H K e (OfNoHost one f) = OfNoHost one f
 known_as H K e (OfHost hop one next f) =
     OfHost hop one (hop_as {H = H} {K = K} (ap (λ (x : Host). x.ip_addrs) e) (ap (λ (x : Host). x.routes) e) (ap (λ (x : Host). x.moment) e) next) (f ∙ hop_alike H K e hop)
 
-told_as : (H K : Host) (w : Wait) (known : Bool) → sans K ≡ sans H → IsAnswerFor (KnowsNextHop H) w known → IsAnswerFor (KnowsNextHop K) w known
+told_as : (H K : Host) (w : Wait) (known : Bool) → sans K ≡ sans H → IsAnswerFor (HasNeighbor H) w known → IsAnswerFor (HasNeighbor K) w known
 told_as H K None known e t = tt
 told_as H K (Some w) known e t = known_as H K e t
 
 unsent_unknown : {q : Packet} {error : DispatchError} {H new : Host} {frames : List (List ℕ)} {notes : List Note} {known : Bool} → Dispatches q (Err error) H frames notes new →
-    KnowsNextHop H (destination_of q) known → known ≡ false
+    HasNeighbor H (destination_of q) known → known ≡ false
 unsent_unknown (dispatch.ToUnspecified n o u) k = absurd cc
 unsent_unknown {q} {error} {H} {new} {frames} {notes} (dispatch.ToSpecified more s d n) k =
     over_unknown H.ipv4_id H.hardware_addr q error (with_next_id H) frames more new d (known_as H (with_next_id H) refl k)
@@ -356,7 +356,7 @@ own_due (Some w) known t own x e le = by (known || is_ge (int_cmp t w.1)) refl e
       let later : t <ℤ w.1 = not_ge t w.1 (or_false known (is_ge (int_cmp t w.1)) f) in
       absurd (omega (arith, ints, same, later, le))
 
-permit_same : (H : Host) (w : Wait) (known known' : Bool) (t : ℤ) → IsAnswerFor (KnowsNextHop H) w known → IsAnswerFor (KnowsNextHop H) w known' → is_permitted w known t ≡ is_permitted w known' t
+permit_same : (H : Host) (w : Wait) (known known' : Bool) (t : ℤ) → IsAnswerFor (HasNeighbor H) w known → IsAnswerFor (HasNeighbor H) w known' → is_permitted w known t ≡ is_permitted w known' t
 permit_same H None known known' t a b = refl
 permit_same H (Some w) known known' t a b = ap (λ k. is_permitted (Some w) k t) (known_is_one a b)
 
@@ -381,7 +381,7 @@ sent_case : {H mid N : Host} {q : Packet} {frames : List (List ℕ)} {notes : Li
 sent_case {H} {q = q} s s' turn i first x (Ok u) some g t z e d w may = ap (λ k. waiting_in k + 1) z ∙ sent_less H s q some
 sent_case {H} {mid} {N} {q} s s' turn i first x (Err error) some g t z e d w may =
     let waits : wait_at N.sockets i ≡ Some (destination_of q, silence_from H.moment) = w ∙ ap (λ k. wait_after k H.moment first) t in
-    let knows : KnowsNextHop N (destination_of q) d.known = subst (λ k. IsAnswerFor (KnowsNextHop N) k d.known) waits d.told in
+    let knows : HasNeighbor N (destination_of q) d.known = subst (λ k. IsAnswerFor (HasNeighbor N) k d.known) waits d.told in
     let unknown : d.known ≡ false = unsent_unknown g (known_as N H (sym e) knows) in
     absurd (clash (ap (λ k. is_permitted k d.known H.moment) (sym waits) ∙ may) (silent_still (destination_of q) H.moment d.known unknown))
 
@@ -403,7 +403,7 @@ served_less {i} {turn} {H} {A} N x (egress.Waits s known f l w t o n y) all with
     let own = own_due (wait_at N.sockets i) d.known N.moment (kinds.poll_at d.socket) x d.instant (subst (λ m. x ≤ℤ m) (sym moment) le) in
     let waits : wait_at N.sockets i ≡ wait_at H.sockets i = same.wait ∙ ap (λ (K : Host). wait_at K.sockets i) y in
     let may : is_permitted (wait_at H.sockets i) d.known H.moment ≡ true = sym (ap (λ k. is_permitted k d.known N.moment) waits ∙ ap (λ m. is_permitted (wait_at H.sockets i) d.known m) moment) ∙ own.may in
-    let told_it_is : IsAnswerFor (KnowsNextHop H) (wait_at H.sockets i) d.known = subst (λ k. IsAnswerFor (KnowsNextHop H) k d.known) waits (told_as N H (wait_at N.sockets i) d.known (sym e) d.told) in
+    let told_it_is : IsAnswerFor (HasNeighbor H) (wait_at H.sockets i) d.known = subst (λ k. IsAnswerFor (HasNeighbor H) k d.known) waits (told_as N H (wait_at N.sockets i) d.known (sym e) d.told) in
     absurd (clash (permit_same H (wait_at H.sockets i) known d.known H.moment l told_it_is ∙ may) w)
 served_less {i} {turn} {H} {A} N x (egress.Served s s' known mid f l w z y) all within e same d le =
     let moment : N.moment ≡ H.moment = ap (λ (K : Host). K.moment) e in

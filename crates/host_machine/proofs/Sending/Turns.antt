@@ -58,7 +58,7 @@ use Rattle.host_machine.specs.Sending.Reports as reports
 use Rattle.host_machine.specs.Sending.Reports.{IgmpEgress, MldEgress, next_group, next_report}
 use Rattle.host_machine.specs.Sending.Slaac as slaac
 use Rattle.host_machine.specs.Sending.Slaac.{NdiscRsEgress, with_slaac_applied, due_solicitation, router_solicitation, solicitation_by, solicitation_from}
-use Rattle.host_machine.specs.Sending.Egress.{SocketTurn, Serves, Walks, SocketEgress, Ipv4Egress, Round, Egress, packet_between, packet_of, packet_from, if_echo}
+use Rattle.host_machine.specs.Sending.Egress.{SocketTurn, Serves, Walks, SocketEgress, Ipv4Egress, Round, Egress, packet_between, packet_of, packet_from, echo_payload}
 use Rattle.host_machine.specs.Sending.Egress as egress
 use Rattle.host_machine.specs.Sending.Parts.{Part}
 use Rattle.host_machine.specs.Polling.Polling.{after_maintenance}
@@ -88,7 +88,7 @@ between_is (address.Ipv6 a) (address.Ipv4 b) hop_limit payload p e = absurd cc
 between_is (address.Ipv6 a) (address.Ipv6 b) hop_limit payload p e = let same : packet.Ipv6 (record { src_addr = a; dst_addr = b; hop_limit = hop_limit; payload = payload }) ≡ p = cc in rw (← same) refl
 
 -- what ICMP and TCP sockets offer is of the host's own
-echo_is : (m : IcmpRepr) (octets : List ℕ) (payload : IpPayload) → if_echo m octets ≡ Some payload → is_own payload ≡ true
+echo_is : (m : IcmpRepr) (octets : List ℕ) (payload : IpPayload) → echo_payload m octets ≡ Some payload → is_own payload ≡ true
 echo_is (icmp.Ipv4 (v4.EchoRequest ident seq_no)) octets payload e = let same : packet.Icmpv4 (v4.EchoRequest ident seq_no) octets ≡ payload = cc in rw (← same) refl
 echo_is (icmp.Ipv4 (v4.EchoReply ident seq_no)) octets payload e = let same : packet.Icmpv4 (v4.EchoReply ident seq_no) octets ≡ payload = cc in rw (← same) refl
 echo_is (icmp.Ipv4 (v4.DstUnreachable reason header)) octets payload e = absurd cc
@@ -110,7 +110,7 @@ icmp_between m (Some payload) p all e = rw (between_is m.src_addr m.dst_addr m.h
 
 pub icmp_is : (o : Option icmp_socket.Sent) (p : Packet) → option_and_then packet_of (option_map IcmpOffer o) ≡ Some p → is_own (payload_of p) ≡ true
 icmp_is None p e = absurd cc
-icmp_is (Some m) p e = icmp_between m (if_echo m.repr m.payload) p (λ payload is. echo_is m.repr m.payload payload is) e
+icmp_is (Some m) p e = icmp_between m (echo_payload m.repr m.payload) p (λ payload is. echo_is m.repr m.payload payload is) e
 
 pub tcp_is : (o : Option tcp_socket.Sent) (p : Packet) → option_and_then packet_of (option_map TcpOffer o) ≡ Some p → is_own (payload_of p) ≡ true
 tcp_is None p e = absurd cc

@@ -16,7 +16,7 @@ use Rattle.iface_tables.specs.Neighbor.{answer_from, is_before, is_found, answer
 use Rattle.iface_tables.specs.Route.{IsBest, IsRouter, is_until, matches}
 use Rattle.socket_set.specs.SocketMeta.{Wait, IsAnswerFor}
 use Rattle.host_machine.specs.State.Host.{Host, at}
-use Rattle.host_machine.specs.Sending.Dispatch.{IsNextHop, OnLink, ByRouter, is_known_hop, KnowsNextHop, OfNoHost, OfHost}
+use Rattle.host_machine.specs.Sending.Dispatch.{IsNextHop, OnLink, ByRouter, is_known_hop, HasNeighbor, OfNoHost, OfHost}
 use Rattle.host_machine.specs.Laws.Quiet.{RoutesLast}
 
 -- orders of moments, by their comparison
@@ -85,10 +85,10 @@ hop_is_before {H} {a} t0 later last (ByRouter router other r e) = ByRouter route
 -- what was told of a wait's destination before
 pub record Knew (H : Host) (t0 : ℤ) (wait : Wait) (known : Bool) : Type 0 where
   pub was : Bool
-  pub told : IsAnswerFor (KnowsNextHop (at H t0)) wait was
+  pub told : IsAnswerFor (HasNeighbor (at H t0)) wait was
   pub stays : known ≡ true → was ≡ true
 
-hop_knew : {H : Host} {known : Bool} (a : IpAddress) (end t0 : ℤ) → t0 ≤ℤ H.moment → RoutesLast H.routes t0 H.moment → KnowsNextHop H a known → Knew H t0 (Some (a, end)) known
+hop_knew : {H : Host} {known : Bool} (a : IpAddress) (end t0 : ℤ) → t0 ≤ℤ H.moment → RoutesLast H.routes t0 H.moment → HasNeighbor H a known → Knew H t0 (Some (a, end)) known
 hop_knew {H} {known} a end t0 later last (OfNoHost none e) = record { was = known; told = OfNoHost none e; stays = λ k. k }
 hop_knew {H} a end t0 later last (OfHost hop one n e) = record {
   was = is_known_hop (at H t0) hop;
@@ -96,6 +96,6 @@ hop_knew {H} a end t0 later last (OfHost hop one n e) = record {
   stays = λ k. hop_before H t0 hop later (sym e ∙ k);
 }
 
-pub knew : (H : Host) (t0 : ℤ) (wait : Wait) (known : Bool) → t0 ≤ℤ H.moment → RoutesLast H.routes t0 H.moment → IsAnswerFor (KnowsNextHop H) wait known → Knew H t0 wait known
+pub knew : (H : Host) (t0 : ℤ) (wait : Wait) (known : Bool) → t0 ≤ℤ H.moment → RoutesLast H.routes t0 H.moment → IsAnswerFor (HasNeighbor H) wait known → Knew H t0 wait known
 knew H t0 None known later last told = record { was = known; told = tt; stays = λ k. k }
 knew H t0 (Some w) known later last told = hop_knew w.0 w.1 t0 later last told

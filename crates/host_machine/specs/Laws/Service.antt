@@ -66,9 +66,9 @@ use Rattle.host_machine.specs.Sending.Egress.{Egress}
 use Rattle.host_machine.specs.Polling.Ingress.{Ingress}
 use Rattle.host_machine.specs.Receiving.Icmpv6.{IsMessage}
 use Rattle.host_machine.specs.Receiving.Ndisc.{solicited_flag}
-use Rattle.host_machine.specs.Sending.Slaac.{solicitation_instant}
-use Rattle.host_machine.specs.Sending.Reports.{igmp_instant, mld_timeout_of}
-use Rattle.host_machine.specs.Polling.Due.{Due, SocketDue, sync_instant, report_due_at}
+use Rattle.host_machine.specs.Sending.Slaac.{rs_poll_at}
+use Rattle.host_machine.specs.Sending.Reports.{igmp_poll_at, mld_timeout_of}
+use Rattle.host_machine.specs.Polling.Due.{Due, SocketDue, sync_poll_at, group_poll_at}
 use Rattle.host_machine.specs.Polling.Polling.{Polls}
 
 -- Frames received
@@ -361,11 +361,11 @@ pub data IsFurther : (old new : IgmpReportState) → Type 0 where
 -- report is due any more; an IGMP report that was due was sent, and if another one is due that is the next; and a socket that is
 -- still due has one packet less to send
 pub record IsDone (H new : Host) : Type 0 where
-  pub joins : report_due_at Joining new ≡ None
-  pub leaves_reported : report_due_at Leaving new ≡ None
-  pub solicitation : IsLater H.moment (solicitation_instant new)
+  pub joins : group_poll_at Joining new ≡ None
+  pub leaves_reported : group_poll_at Leaving new ≡ None
+  pub solicitation : IsLater H.moment (rs_poll_at new)
   pub mld : IsLater H.moment (mld_timeout_of new.mld_report)
-  pub igmp : (x : ℤ) → igmp_instant H ≡ Some x → x ≤ℤ H.moment → IsFurther H.igmp_report new.igmp_report
+  pub igmp : (x : ℤ) → igmp_poll_at H ≡ Some x → x ≤ℤ H.moment → IsFurther H.igmp_report new.igmp_report
   pub sockets : (i : ℕ) (x : ℤ) → SocketDue new i x → x ≤ℤ H.moment → HasOneLess i H new
 
 -- so it is, if every transmit token is granted; each index of the host's socket set has a wait, as in every set
@@ -386,7 +386,7 @@ PiecesGo =
 abbrev pub PollsSyncSlaac : Type 0
 PollsSyncSlaac =
     (t : ℤ) (budget : ℕ) (answer : PollResult) (old new : Host) (told : List Event) (notes : List Note) →
-    Polls t budget answer old told notes new → handed_frames told ≡ [] → sync_instant (at new t) ≡ None
+    Polls t budget answer old told notes new → handed_frames told ≡ [] → sync_poll_at (at new t) ≡ None
 
 -- the last call of a poll that sends
 pub record EndsIn (t : ℤ) (told : List Event) (new : Host) : Type 0 where
@@ -407,9 +407,9 @@ PollsEndInCalls =
 -- what may still be due at a moment after a call that sends: a sync of addresses and routes, which a poll does; a pending
 -- fragment; the next IGMP report; and a socket that has one packet less to send
 pub data IsStillDue (H new : Host) : Type 0 where
-  StillLine : sync_instant new ≡ Some (pos 0) → IsStillDue H new
+  StillLine : sync_poll_at new ≡ Some (pos 0) → IsStillDue H new
   StillPiece : (piece : Piece) (rest : List Piece) → new.left ≡ piece ∷ rest → IsStillDue H new
-  StillReport : (x : ℤ) → igmp_instant new ≡ Some x → IsStillDue H new
+  StillReport : (x : ℤ) → igmp_poll_at new ≡ Some x → IsStillDue H new
   StillSocket : (i : ℕ) → HasOneLess i H new → IsStillDue H new
 
 -- so whatever `poll_at` names after it, at a moment that has passed, is one of these; and if there is none of them, nothing is

@@ -57,8 +57,8 @@ abbrev pub fragment_in : Ipv4Fragment → List ℕ → Fragment
 fragment_in f payload = record { offset = f.offset * 8; octets = payload; is_last = not f.more_fragments }
 
 -- the header of a reassembled datagram: that of the fragment which completed it, with the length of the whole payload
-abbrev pub rebuilt_header : Ipv4Repr → List ℕ → Ipv4Repr
-rebuilt_header r octets = record r { payload_len = length octets }
+abbrev pub datagram_header : Ipv4Repr → List ℕ → Ipv4Repr
+datagram_header r octets = record r { payload_len = length octets }
 
 -- a packet, by its header, its fragmentation fields and its payload: a fragment is added to those received before, and the
 -- datagram is processed once it is reassembled
@@ -68,7 +68,7 @@ pub data ProcessesPacket (source : HardwareAddress) (r : Ipv4Repr) (f : Ipv4Frag
   Part : may_be_source H.ip_addrs r.src_addr ≡ true → is_fragment f ≡ true → TakesFragment (key_in r f) (fragment_in f payload) None H notes new →
       reply ≡ None → ProcessesPacket source r f H payload reply notes new
   Completed : (octets : List ℕ) (mid : Host) (first rest : List Note) → may_be_source H.ip_addrs r.src_addr ≡ true → is_fragment f ≡ true →
-      TakesFragment (key_in r f) (fragment_in f payload) (Some octets) H first mid → ProcessesDatagram source (rebuilt_header r octets) mid octets reply rest new →
+      TakesFragment (key_in r f) (fragment_in f payload) (Some octets) H first mid → ProcessesDatagram source (datagram_header r octets) mid octets reply rest new →
       notes ≡ first ++ rest → ProcessesPacket source r f H payload reply notes new
   Whole : may_be_source H.ip_addrs r.src_addr ≡ true → is_fragment f ≡ false → ProcessesDatagram source r H payload reply notes new →
       ProcessesPacket source r f H payload reply notes new

@@ -26,12 +26,12 @@ use Rattle.host_machine.specs.Receiving.Raw.{host_after_raw_delivery, is_taken}
 use Rattle.host_machine.specs.Receiving.Renewal.{sender_renewed}
 
 -- the answer to a packet of an unknown protocol: a parameter problem, unless a raw socket accepted the packet (RFC 4443 3.4)
-abbrev pub protocol_unknown : Bool → List IpCidr → Ipv6Repr → List ℕ → Option Reply
-protocol_unknown handled_by_raw_socket own r payload = if handled_by_raw_socket then None else Some (problem own UnrecognizedNxtHdr r payload)
+abbrev pub unrecognized_next_header : Bool → List IpCidr → Ipv6Repr → List ℕ → Option Reply
+unrecognized_next_header handled_by_raw_socket own r payload = if handled_by_raw_socket then None else Some (problem own UnrecognizedNxtHdr r payload)
 
 -- a payload of an unknown protocol
 pub record IsRefused (handled_by_raw_socket : Bool) (r : Ipv6Repr) (H : Host) (octets : List ℕ) (reply : Option Reply) (notes : List Note) (new : Host) : Type 0 where
-  pub replied : reply ≡ protocol_unknown handled_by_raw_socket H.ip_addrs r octets
+  pub replied : reply ≡ unrecognized_next_header handled_by_raw_socket H.ip_addrs r octets
   pub unnoted : notes ≡ []
   pub unchanged : new ≡ H
 
@@ -56,11 +56,11 @@ pub data ProcessesDatagramV6 (source : HardwareAddress) (r : Ipv6Repr) (p : IpPr
 
 -- the answer to an unrecognized option: a parameter problem, quoting from the options on; by its class also to a multicast
 -- packet, or not
-abbrev pub complaint : Ipv6OptionFailureType → List IpCidr → Ipv6Repr → List ℕ → Option Reply
-complaint Skip own r payload = None
-complaint Discard own r payload = None
-complaint DiscardSendAll own r payload = Some (problem own UnrecognizedOption r payload)
-complaint DiscardSendUnicast own r payload = if is_multicast r.dst_addr then None else Some (problem own UnrecognizedOption r payload)
+abbrev pub unknown_option : Ipv6OptionFailureType → List IpCidr → Ipv6Repr → List ℕ → Option Reply
+unknown_option Skip own r payload = None
+unknown_option Discard own r payload = None
+unknown_option DiscardSendAll own r payload = Some (problem own UnrecognizedOption r payload)
+unknown_option DiscardSendUnicast own r payload = if is_multicast r.dst_addr then None else Some (problem own UnrecognizedOption r payload)
 
 -- a payload with hop-by-hop options: the first one that is unrecognized and not to be skipped ends it, before the destination is
 -- tested
@@ -71,7 +71,7 @@ pub data ProcessesHopByHop (source : HardwareAddress) (r : Ipv6Repr) (H : Host) 
       ProcessesDatagramV6 source r (hop_by_hop_in payload).0.next_header H (hop_by_hop_in payload).1 reply notes new →
       ProcessesHopByHop source r H payload reply notes new
   Discarded : (failure : Ipv6OptionFailureType) → IsHopByHop payload → first_failure (hop_by_hop_in payload).0.options.items ≡ failure →
-      failure ≢ Skip → reply ≡ complaint failure H.ip_addrs r payload → notes ≡ [] → new ≡ H → ProcessesHopByHop source r H payload reply notes new
+      failure ≢ Skip → reply ≡ unknown_option failure H.ip_addrs r payload → notes ≡ [] → new ≡ H → ProcessesHopByHop source r H payload reply notes new
 
 -- a packet by its header and its payload: its source must be unicast
 pub data ProcessesPacket (source : HardwareAddress) (r : Ipv6Repr) (H : Host) (payload : List ℕ) (reply : Option Reply) (notes : List Note)

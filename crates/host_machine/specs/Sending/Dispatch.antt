@@ -72,9 +72,9 @@ is_known_hop H None = false
 is_known_hop H (Some hop) = is_found (answer_of H.neighbors hop H.moment)
 
 -- whether the next hop to an address is a known neighbour; an address that isn't unicast has no next hop
-pub data KnowsNextHop (H : Host) (a : IpAddress) (known : Bool) : Type 0 where
-  OfNoHost : is_unicast a ≡ false → known ≡ false → KnowsNextHop H a known
-  OfHost : (hop : Option IpAddress) → is_unicast a ≡ true → IsNextHop H a hop → known ≡ is_known_hop H hop → KnowsNextHop H a known
+pub data HasNeighbor (H : Host) (a : IpAddress) (known : Bool) : Type 0 where
+  OfNoHost : is_unicast a ≡ false → known ≡ false → HasNeighbor H a known
+  OfHost : (hop : Option IpAddress) → is_unicast a ≡ true → IsNextHop H a hop → known ≡ is_known_hop H hop → HasNeighbor H a known
 
 -- nothing is sent, and nothing changes
 pub record IsUnsent (H : Host) (frames : List (List ℕ)) (notes : List Note) (new : Host) : Type 0 where

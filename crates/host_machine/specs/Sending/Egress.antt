@@ -30,7 +30,7 @@ use Rattle.host_machine.specs.Sending.Slaac.{NdiscRsEgress}
 use Rattle.host_machine.specs.State.Addresses.{source_for}
 use Rattle.host_machine.specs.Sending.Packet.{IpPayload, Icmpv4, Icmpv6, Udp, Tcp, Raw, Packet, Ipv4, Ipv6, packet_with}
 use Rattle.host_machine.specs.Sending.Frame.{sends, piece_frame}
-use Rattle.host_machine.specs.Sending.Dispatch.{Outcome, Dispatches, KnowsNextHop, destination_of}
+use Rattle.host_machine.specs.Sending.Dispatch.{Outcome, Dispatches, HasNeighbor, destination_of}
 
 -- a packet between two addresses of the same family
 abbrev pub packet_between : IpAddress → IpAddress → ℕ → IpPayload → Option Packet
@@ -59,14 +59,14 @@ if_echo_v6 (v6.Ndisc message) octets = None
 if_echo_v6 (v6.Router message) octets = None
 if_echo_v6 (v6.Mld message) octets = None
 
-abbrev pub if_echo : IcmpRepr → List ℕ → Option IpPayload
-if_echo (icmp.Ipv4 message) octets = if_echo_v4 message octets
-if_echo (icmp.Ipv6 message) octets = if_echo_v6 message octets
+abbrev pub echo_payload : IcmpRepr → List ℕ → Option IpPayload
+echo_payload (icmp.Ipv4 message) octets = if_echo_v4 message octets
+echo_payload (icmp.Ipv6 message) octets = if_echo_v6 message octets
 
 -- the packet that a socket offers; a raw socket's header is written anew from its addresses, its protocol and its hop limit
 abbrev pub packet_of : Offered → Option Packet
 packet_of (RawOffer s) = Some (packet_with s.header (Raw (next_header s.header) s.payload))
-packet_of (IcmpOffer m) = option_and_then (packet_between m.src_addr m.dst_addr m.hop_limit) (if_echo m.repr m.payload)
+packet_of (IcmpOffer m) = option_and_then (packet_between m.src_addr m.dst_addr m.hop_limit) (echo_payload m.repr m.payload)
 packet_of (UdpOffer d) = packet_between d.src.addr d.dst.addr d.hop_limit (Udp (record { src_port = d.src.port; dst_port = d.dst.port }) d.payload)
 packet_of (TcpOffer s) = packet_between s.src_addr s.dst_addr s.hop_limit (Tcp s.repr s.payload)
 
@@ -106,9 +106,9 @@ pub data SocketTurn (s : Socket) (turn : Turn) (s' : Socket) (H : Host) (told_it
 -- is a known neighbour (which ends the wait) or the wait has timed out
 pub data Serves (i : ℕ) (turn : Turn) (H : Host) (told_it : List Event) (notes : List Note) (new : Host) : Type 0 where
   Free : slice_get H.sockets.places i ≡ Some None → turn ≡ Idle → told_it ≡ [] → notes ≡ [] → new ≡ H → Serves i turn H told_it notes new
-  Waits : (s : Socket) (known : Bool) → slice_get H.sockets.places i ≡ Some (Some s) → IsAnswerFor (KnowsNextHop H) (wait_at H.sockets i) known →
+  Waits : (s : Socket) (known : Bool) → slice_get H.sockets.places i ≡ Some (Some s) → IsAnswerFor (HasNeighbor H) (wait_at H.sockets i) known →
       is_permitted (wait_at H.sockets i) known H.moment ≡ false → turn ≡ Idle → told_it ≡ [] → notes ≡ [] → new ≡ H → Serves i turn H told_it notes new
-  Served : (s s' : Socket) (known : Bool) (mid : Host) → slice_get H.sockets.places i ≡ Some (Some s) → IsAnswerFor (KnowsNextHop H) (wait_at H.sockets i) known →
+  Served : (s s' : Socket) (known : Bool) (mid : Host) → slice_get H.sockets.places i ≡ Some (Some s) → IsAnswerFor (HasNeighbor H) (wait_at H.sockets i) known →
       is_permitted (wait_at H.sockets i) known H.moment ≡ true → SocketTurn s turn s' H told_it notes mid →
       new ≡ with_socket mid i s' (wait_after turn H.moment (after_asking (wait_at H.sockets i) known)) → Serves i turn H told_it notes new
 

@@ -124,8 +124,8 @@ pub data IgmpEgress (H : Host) (told : List Event) (notes : List Note) (new : Ho
       new ≡ with_igmp_report mid (igmp_report_after H.igmp_report H.moment) → IgmpEgress H told notes new
 
 -- when the next report is due: at its time, if there is an address to send it from, and a group to report
-abbrev pub igmp_instant : Host → Option ℤ
-igmp_instant H = option_and_then (λ p. igmp_timeout_of H.igmp_report) (next_report H)
+abbrev pub igmp_poll_at : Host → Option ℤ
+igmp_poll_at H = option_and_then (λ p. igmp_timeout_of H.igmp_report) (next_report H)
 
 -- MLD
 

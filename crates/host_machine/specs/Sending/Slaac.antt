@@ -70,8 +70,8 @@ abbrev pub due_solicitation : Host → Option Packet
 due_solicitation H = if rs_required H.slaac H.moment then router_solicitation H else None
 
 -- when the next one is due, if one may be sent
-abbrev pub solicitation_instant : Host → Option ℤ
-solicitation_instant H = option_and_then (λ p. retry_at H.slaac) (router_solicitation H)
+abbrev pub rs_poll_at : Host → Option ℤ
+rs_poll_at H = option_and_then (λ p. retry_at H.slaac) (router_solicitation H)
 
 -- the solicitation that is due is sent, if the device grants a transmit token, and counts as sent, whatever came of it
 pub data NdiscRsEgress (H : Host) (told : List Event) (notes : List Note) (new : Host) : Type 0 where

@@ -1,10 +1,10 @@
 use Rattle.std.proofs.Common.{◌≡◌, List, rules, subst}
 use Rattle.ip_address.specs.declared.cidr.IpCidr.{IpCidr}
 use Rattle.host_machine.specs.Polling.Step.{UpdatesIpAddrs}
-use Rattle.interface.specs.Stands.{Follows}
+use Rattle.interface.specs.Stands.{HostRefines}
 use Rattle.iface_host.proofs.addresses.put_addresses.Goals as goal
 
 pub returns : goal.returns
 returns c =
     let same : c.update_ip_addrs.ensures.1.items ≡ c.args.list.items = search rules in
-    subst (λ (items : List IpCidr). Follows c.args.interface.now c.update_ip_addrs.new.self (UpdatesIpAddrs items c.update_ip_addrs.result)) same c.update_ip_addrs.ensures.4
+    subst (λ (items : List IpCidr). HostRefines c.args.interface.now c.update_ip_addrs.new.self (UpdatesIpAddrs items c.update_ip_addrs.result)) same c.update_ip_addrs.ensures.4

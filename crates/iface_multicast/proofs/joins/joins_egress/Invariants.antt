@@ -3,12 +3,12 @@ use Rattle.group_table.specs.declared.groups.GroupState.TheVariants.{Joining}
 use Rattle.group_table.specs.Groups.{count_in, join_reported}
 use Rattle.host_machine.specs.Sending.Multicast.{join_packet}
 use Rattle.iface_send.specs.Offered.{HasPart}
-use Rattle.iface_send.specs.Refines.{Told}
+use Rattle.iface_send.specs.Refines.{RefinesTelling}
 use Rattle.iface_multicast.proofs.JoinReports.{ReportsSo}
 use Rattle.iface_multicast.proofs.joins.joins_egress.Given as goal
 
 abbrev pub invariant-loop-group : goal.invariant-loop-group
-invariant-loop-group g l = Told g.D.Device.tells l.fn.device l.device (HasPart (ReportsSo Joining join_packet join_reported true) l.fn.context) l.context
+invariant-loop-group g l = RefinesTelling g.D.Device.tells l.fn.device l.device (HasPart (ReportsSo Joining join_packet join_reported true) l.fn.context) l.context
 
 abbrev pub decreases-loop-group : goal.decreases-loop-group
 decreases-loop-group g l = count_in Joining l.context.multicast.groups

@@ -1,6 +1,6 @@
 use Rattle.std.proofs.Common.{◌≡◌, drop}
 use Rattle.host_machine.specs.State.Addresses.{ipv4_addr}
-use Rattle.iface_addresses.proofs.addresses.first_ipv4.Given as goal
+use Rattle.iface_addresses.proofs.addresses.ipv4_addr.Given as goal
 
 abbrev pub invariant-loop-cidr : goal.invariant-loop-cidr
 invariant-loop-cidr l = ipv4_addr (drop l.cidr-index l.own) ≡ ipv4_addr l.own
