@@ -115,9 +115,10 @@ def count_read(spec, text):
 
 
 def read_specs(folder, problems):
-    """The files of definitions of a crate, in the order of its `Lib.antt`."""
-    found, order = [], []
-    for path in sorted((folder / "specs").rglob("*.antt")):
+    """The files of definitions of a crate, in the order of its `Lib.antt`; a folder's files where its name stands."""
+    specs = folder / "specs"
+    found, modules = {}, {}
+    for path in sorted(specs.rglob("*.antt")):
         text = path.read_text(encoding="utf-8")
         reader = SpecReader(str(path.relative_to(folder.parent.parent)), text)
         try:
@@ -126,10 +127,17 @@ def read_specs(folder, problems):
         except NotUnderstood as problem:
             problems.append(str(problem))
             continue
-        if spec.name == "Lib":
-            order = reader.modules
-        else:
-            found.append(spec)
-    problems += [f"{spec.path}: not in Lib.antt" for spec in found if spec.name not in order]
-    return sorted((spec for spec in found if spec.name in order),
-                  key=lambda spec: order.index(spec.name))
+        spec.name = ".".join(path.relative_to(specs).with_suffix("").parts)
+        modules[spec.name] = reader.modules
+        if spec.name != "Lib" and not path.with_suffix("").is_dir():
+            found[spec.name] = spec
+
+    def in_order(name, prefix):
+        for module in modules.get(name, []):
+            yield prefix + module
+            if prefix + module not in found:
+                yield from in_order(prefix + module, f"{prefix}{module}.")
+
+    order = [name for name in in_order("Lib", "") if name in found]
+    problems += [f"{spec.path}: not in Lib.antt" for name, spec in found.items() if name not in order]
+    return [found[name] for name in order]

@@ -175,10 +175,11 @@ class Names:
             return None
         if path[3] == "declared":
             return self.declared(crate, path[4:])
-        spec = next((spec for spec in crate.specs if spec.name == path[3]), None)
-        if spec is None or len(path) == 4:
-            return spec
-        return self.defined(spec, path[4], seen)
+        for length in range(4, len(path) + 1):
+            spec = next((spec for spec in crate.specs if spec.name == ".".join(path[3:length])), None)
+            if spec:
+                return self.defined(spec, path[length], seen) if length < len(path) else spec
+        return None
 
     def defined(self, spec, name, seen=()):
         """A definition of a file, or one that it hands on; or None."""
