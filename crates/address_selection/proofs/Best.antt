@@ -42,7 +42,8 @@ preferred_itself : (d : Ipv6Address) (a : Ipv6Cidr) → is_preferred a a d ≡ f
 preferred_itself d a = by_all_itself (a.address.bits == d.bits) (scope_of a.address) (scope_of d) (common_prefix_len a d)
 
 preferred_trans : (d : Ipv6Address) (a b c : Ipv6Cidr) → is_preferred a b d ≡ true → is_preferred b c d ≡ true → is_preferred a c d ≡ true
-preferred_trans d a b c = by_all_trans (a.address.bits == d.bits) (b.address.bits == d.bits) (c.address.bits == d.bits) (scope_of a.address) (scope_of b.address) (scope_of c.address) (scope_of d) (common_prefix_len a d) (common_prefix_len b d) (common_prefix_len c d)
+preferred_trans d a b c = by_all_trans (a.address.bits == d.bits) (b.address.bits == d.bits) (c.address.bits == d.bits) (scope_of a.address)
+    (scope_of b.address) (scope_of c.address) (scope_of d) (common_prefix_len a d) (common_prefix_len b d) (common_prefix_len c d)
 
 -- it is one of them
 abbrev IsAmong : IpCidr → List IpCidr → Type 0
@@ -78,7 +79,8 @@ none_beats d a (cidr.Ipv6 x ∷ all) h =
     either (is_candidate d x && is_preferred x a d) (list_any (beats d a) all) (ap (λ b. b && is_preferred x a d) n.0) (none_beats d a all n.1)
 
 -- what is preferred to an unbeaten one is unbeaten
-less_beaten : (d : Ipv6Address) (a b x : Ipv6Cidr) → is_preferred a b d ≡ true → is_candidate d x && is_preferred x b d ≡ false → is_candidate d x && is_preferred x a d ≡ false
+less_beaten : (d : Ipv6Address) (a b x : Ipv6Cidr) → is_preferred a b d ≡ true → is_candidate d x && is_preferred x b d ≡ false →
+    is_candidate d x && is_preferred x a d ≡ false
 less_beaten d a b x h none =
     elim (is_candidate d x && is_preferred x a d) as (λ t. is_candidate d x && is_preferred x a d ≡ t → t ≡ false) [
       | true ↦ λ e.
@@ -87,7 +89,8 @@ less_beaten d a b x h none =
       | false ↦ λ e. refl
     ] refl
 
-unbeaten_by : (d : Ipv6Address) (a b : Ipv6Cidr) (all : List IpCidr) → is_preferred a b d ≡ true → list_any (beats d b) all ≡ false → list_any (beats d a) all ≡ false
+unbeaten_by : (d : Ipv6Address) (a b : Ipv6Cidr) (all : List IpCidr) →
+    is_preferred a b d ≡ true → list_any (beats d b) all ≡ false → list_any (beats d a) all ≡ false
 unbeaten_by d a b [] h none = refl
 unbeaten_by d a b (cidr.Ipv4 x ∷ all) h none = unbeaten_by d a b all h none
 unbeaten_by d a b (cidr.Ipv6 x ∷ all) h none =
@@ -105,22 +108,26 @@ one_more d x all c h =
         best = x;
         among = inl refl;
         candidate = c;
-        unbeaten = either (is_candidate d x && is_preferred x x d) (list_any (beats d x) all) (no_match (is_candidate d x) (is_preferred x x d) (preferred_itself d x)) (unbeaten_by d x h.best all e h.unbeaten);
+        unbeaten = either (is_candidate d x && is_preferred x x d) (list_any (beats d x) all)
+            (no_match (is_candidate d x) (is_preferred x x d) (preferred_itself d x)) (unbeaten_by d x h.best all e h.unbeaten);
       }
       | false ↦ λ e. record {
         best = h.best;
         among = inr h.among;
         candidate = h.candidate;
-        unbeaten = either (is_candidate d x && is_preferred x h.best d) (list_any (beats d h.best) all) (no_match (is_candidate d x) (is_preferred x h.best d) e) h.unbeaten;
+        unbeaten = either (is_candidate d x && is_preferred x h.best d) (list_any (beats d h.best) all)
+            (no_match (is_candidate d x) (is_preferred x h.best d) e) h.unbeaten;
       }
     ] refl
 
-only_one : (d : Ipv6Address) (x : Ipv6Cidr) (all : List IpCidr) → is_candidate d x ≡ true → list_any (is_candidate_of d) all ≡ false → HasBest d (cidr.Ipv6 x ∷ all)
+only_one : (d : Ipv6Address) (x : Ipv6Cidr) (all : List IpCidr) →
+    is_candidate d x ≡ true → list_any (is_candidate_of d) all ≡ false → HasBest d (cidr.Ipv6 x ∷ all)
 only_one d x all c none = record {
   best = x;
   among = inl refl;
   candidate = c;
-  unbeaten = either (is_candidate d x && is_preferred x x d) (list_any (beats d x) all) (no_match (is_candidate d x) (is_preferred x x d) (preferred_itself d x)) (none_beats d x all none);
+  unbeaten = either (is_candidate d x && is_preferred x x d) (list_any (beats d x) all)
+      (no_match (is_candidate d x) (is_preferred x x d) (preferred_itself d x)) (none_beats d x all none);
 }
 
 other_one : (d : Ipv6Address) (x : Ipv6Cidr) (all : List IpCidr) → is_candidate d x ≡ false → HasBest d all → HasBest d (cidr.Ipv6 x ∷ all)
@@ -128,7 +135,8 @@ other_one d x all off h = record {
   best = h.best;
   among = inr h.among;
   candidate = h.candidate;
-  unbeaten = either (is_candidate d x && is_preferred x h.best d) (list_any (beats d h.best) all) (ap (λ b. b && is_preferred x h.best d) off) h.unbeaten;
+  unbeaten =
+      either (is_candidate d x && is_preferred x h.best d) (list_any (beats d h.best) all) (ap (λ b. b && is_preferred x h.best d) off) h.unbeaten;
 }
 
 second : (a b : Bool) → a || b ≡ true → a ≡ false → b ≡ true
@@ -137,7 +145,8 @@ second false b h e = h
 
 best_of : (d : Ipv6Address) (all : List IpCidr) → list_any (is_candidate_of d) all ≡ true → HasBest d all
 best_of d [] h = absurd (not_both false h refl)
-best_of d (cidr.Ipv4 x ∷ all) h = let rest = best_of d all h in record { best = rest.best; among = inr rest.among; candidate = rest.candidate; unbeaten = rest.unbeaten }
+best_of d (cidr.Ipv4 x ∷ all) h = let rest = best_of d all h in
+    record { best = rest.best; among = inr rest.among; candidate = rest.candidate; unbeaten = rest.unbeaten }
 best_of d (cidr.Ipv6 x ∷ all) h =
     elim (is_candidate d x) as (λ t. is_candidate d x ≡ t → HasBest d (cidr.Ipv6 x ∷ all)) [
       | true ↦ λ c.
@@ -155,13 +164,17 @@ other_family a x e = cc
 same_cidr : (a x : Ipv6Cidr) → cidr.Ipv6 a ≡ cidr.Ipv6 x → a ≡ x
 same_cidr a x e = cc
 
-found : (own : List IpCidr) (d : Ipv6Address) (some : List IpCidr) (a : Ipv6Cidr) → IsAmong (cidr.Ipv6 a) some → is_best own d a ≡ true → IsSome (first_best own d some)
+found : (own : List IpCidr) (d : Ipv6Address) (some : List IpCidr) (a : Ipv6Cidr) →
+    IsAmong (cidr.Ipv6 a) some → is_best own d a ≡ true → IsSome (first_best own d some)
 found own d [] a m h = absurd m
 found own d (cidr.Ipv4 x ∷ some) a m h = elim m [ inl e ↦ other_family a x e | inr rest ↦ found own d some a rest h ]
 found own d (cidr.Ipv6 x ∷ some) a m h =
     elim (is_best own d x) as (λ t. is_best own d x ≡ t → IsSome (cond t (Some x.address) (first_best own d some))) [
       | true ↦ λ e. refl
-      | false ↦ λ e. elim m [ inl same ↦ absurd (not_both (is_best own d x) (ap (is_best own d) (sym (same_cidr a x same)) ∙ h) e) | inr rest ↦ found own d some a rest h ]
+      | false ↦ λ e. elim m [
+        | inl same ↦ absurd (not_both (is_best own d x) (ap (is_best own d) (sym (same_cidr a x same)) ∙ h) e)
+        | inr rest ↦ found own d some a rest h
+      ]
     ] refl
 
 pub best_is_there : (own : List IpCidr) (d : Ipv6Address) → list_any (is_candidate_of d) own ≡ true → IsSome (first_best own d own)

@@ -1,6 +1,7 @@
--- The source address of a packet to an IPv6 destination (RFC 6724 5). A host with one interface, no deprecated or temporary
--- addresses and no policy table compares its addresses by rules 1, 2 and 8.
-use Rattle.std.specs.Prelude.{ℕ, Bool, true, false, not, ◌==◌, ◌&&◌, ◌||◌, nat_lt, List, [], ◌∷◌, Option, Some, None, if◌then◌else◌}
+-- The source address of a packet to an IPv6 destination (RFC 6724 5). A host with one interface, no deprecated or
+-- temporary addresses and no policy table compares its addresses by rules 1, 2 and 8.
+use Rattle.std.specs.Prelude.{ℕ, Bool, true, false, not, ◌==◌, ◌&&◌, ◌||◌, nat_lt}
+use Rattle.std.specs.Prelude.{List, [], ◌∷◌, Option, Some, None, if◌then◌else◌}
 use Rattle.std.specs.List.{list_any}
 use Rattle.ip_address.specs.declared.ipv6.Ipv6Address.{Ipv6Address}
 use Rattle.ip_address.specs.declared.cidr.Ipv6Cidr.{Ipv6Cidr}
@@ -25,7 +26,8 @@ has_better_scope a b d = (nat_lt a b && not (nat_lt a d)) || (nat_lt b a && nat_
 abbrev pub common_prefix_len : Ipv6Cidr → Ipv6Address → ℕ
 common_prefix_len c d = common_bits 128 c.address.bits d.bits c.prefix_len
 
--- whether an address of the host is preferred to another one for a destination: by the first rule that distinguishes them
+-- whether an address of the host is preferred to another one for a destination: by the first rule
+-- that distinguishes them
 abbrev pub is_preferred : Ipv6Cidr → Ipv6Cidr → Ipv6Address → Bool
 is_preferred a b d =
     if is_same_alone a.address b.address d then true else if is_same_alone b.address a.address d then false else
@@ -69,7 +71,7 @@ or_loopback (Some a) other = a
 or_loopback None (Some a) = a
 or_loopback None None = loopback
 
--- the source address for a destination: ::1 for the host itself; otherwise the first of the best addresses; without a candidate
--- the first IPv6 address, and ::1 if there is none
+-- the source address for a destination: ::1 for the host itself; otherwise the first of the best addresses; without a
+-- candidate the first IPv6 address, and ::1 if there is none
 abbrev pub source_v6 : List IpCidr → Ipv6Address → Ipv6Address
 source_v6 own d = if is_loopback d then loopback else or_loopback (first_best own d own) (ipv6_addr own)

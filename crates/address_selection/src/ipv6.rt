@@ -31,7 +31,8 @@ pub fn get_source_address_ipv6(own: &[IpCidr], dst_addr: &Ipv6Address) -> Ipv6Ad
 /// A lemma for proofs about sources: if one of a host's own addresses is a candidate for a destination, one of them is
 /// best, that is, no candidate is preferred to it. It does nothing.
 pub fn a_best_source_is_there()
-    ensures { (own : List IpCidr) (d : Ipv6Address) → IsTrue (list_any (is_candidate_of d) own) → IsSome (spec.first_best own d own) }
+    ensures { (own : List IpCidr) (d : Ipv6Address) →
+        IsTrue (list_any (is_candidate_of d) own) → IsSome (spec.first_best own d own) }
 {}
 
 /// The first IPv6 address in a list.

@@ -1,5 +1,6 @@
 -- A message is read as it was written.
-use Rattle.std.proofs.Common.{◌≡◌, ℕ, ◌+◌, ◌-◌, ◌%◌, ◌<◌, ◌≤◌, ◌^◌, Bool, true, false, IsTrue, List, ◌++◌, length, refl, ap, ◌∙◌, length-append, arith}
+use Rattle.std.proofs.Common.{◌≡◌, ℕ, ◌+◌, ◌-◌, ◌%◌, ◌<◌, ◌≤◌, ◌^◌, Bool, true, false}
+use Rattle.std.proofs.Common.{IsTrue, List, ◌++◌, length, refl, ap, ◌∙◌, length-append, arith}
 use Rattle.wire_base.specs.Checksum.{folded_sum, word_sum}
 use Rattle.ip_wire.specs.Ipv4Packet.{quoted_in, header_text, header_with, front, back, whole}
 use Rattle.ip_wire.specs.declared.ipv4_packet.Ipv4Repr.{Ipv4Repr}
@@ -44,7 +45,8 @@ sums qs r octets =
     let all : word_sum (head_with c r ++ quoted_text qs r ++ octets) ≡ before + c = omega (arith, one, two, three) in
     ap folded_sum all ∙ summed_up before c refl
 
-checked_sum : (checked summed qs : Bool) (r : Icmpv4Repr) (octets : List ℕ) → (IsTrue checked → IsTrue summed) → IsTrue checked → folded_sum (word_sum (text summed qs r octets)) ≡ 65535
+checked_sum : (checked summed qs : Bool) (r : Icmpv4Repr) (octets : List ℕ) →
+    (IsTrue checked → IsTrue summed) → IsTrue checked → folded_sum (word_sum (text summed qs r octets)) ≡ 65535
 checked_sum checked true qs r octets both yes' = sums qs r octets
 checked_sum checked false qs r octets both yes' = absurd (let bad = both yes' in cc)
 
@@ -53,35 +55,54 @@ long summed qs r octets =
     let c : ℕ = sum_of summed qs r octets in
     omega (arith, length-append (head_with c r ++ quoted_text qs r) octets, length-append (head_with c r) (quoted_text qs r), head_length c r)
 
-request_made : (a b : ℕ) (xs ys : List ℕ) (i s : ℕ) → a ≡ i → b ≡ s → xs ≡ ys → ◌≡◌ {A = Icmpv4Repr × List ℕ} (EchoRequest a b, xs) (EchoRequest i s, ys)
+request_made : (a b : ℕ) (xs ys : List ℕ) (i s : ℕ) →
+    a ≡ i → b ≡ s → xs ≡ ys → ◌≡◌ {A = Icmpv4Repr × List ℕ} (EchoRequest a b, xs) (EchoRequest i s, ys)
 request_made a b xs ys i s ei es e = rw (ei, es, e) refl
 
 reply_made : (a b : ℕ) (xs ys : List ℕ) (i s : ℕ) → a ≡ i → b ≡ s → xs ≡ ys → ◌≡◌ {A = Icmpv4Repr × List ℕ} (EchoReply a b, xs) (EchoReply i s, ys)
 reply_made a b xs ys i s ei es e = rw (ei, es, e) refl
 
-unreachable_made : (r r' : Icmpv4DstUnreachable) (p : Ipv4Repr × List ℕ) (h : Ipv4Repr) (xs : List ℕ) → r ≡ r' → p ≡ (h, xs) → ◌≡◌ {A = Icmpv4Repr × List ℕ} (DstUnreachable r p.0, p.1) (DstUnreachable r' h, xs)
+unreachable_made : (r r' : Icmpv4DstUnreachable) (p : Ipv4Repr × List ℕ) (h : Ipv4Repr) (xs : List ℕ) →
+    r ≡ r' → p ≡ (h, xs) → ◌≡◌ {A = Icmpv4Repr × List ℕ} (DstUnreachable r p.0, p.1) (DstUnreachable r' h, xs)
 unreachable_made r r' p h xs er e = rw (er, e) refl
 
-exceeded_made : (code : ℕ) (p : Ipv4Repr × List ℕ) (h : Ipv4Repr) (xs : List ℕ) → p ≡ (h, xs) → ◌≡◌ {A = Icmpv4Repr × List ℕ} (TimeExceeded code p.0, p.1) (TimeExceeded code h, xs)
+exceeded_made : (code : ℕ) (p : Ipv4Repr × List ℕ) (h : Ipv4Repr) (xs : List ℕ) →
+    p ≡ (h, xs) → ◌≡◌ {A = Icmpv4Repr × List ℕ} (TimeExceeded code p.0, p.1) (TimeExceeded code h, xs)
 exceeded_made code p h xs e = rw e refl
 
 pub read_again : ReadAgain
 unfolding head_with
 read_again checked summed qs (EchoRequest ident seq_no) octets m both = (
-  record { whole_header = long summed qs (EchoRequest ident seq_no) octets; sum = checked_sum checked summed qs (EchoRequest ident seq_no) octets both; body = Request refl refl },
+  record {
+    whole_header = long summed qs (EchoRequest ident seq_no) octets;
+    sum = checked_sum checked summed qs (EchoRequest ident seq_no) octets both;
+    body = Request refl refl;
+  },
   request_made _ _ _ _ _ _ (total ident m.0) (total seq_no m.1) refl,
 )
 read_again checked summed qs (EchoReply ident seq_no) octets m both = (
-  record { whole_header = long summed qs (EchoReply ident seq_no) octets; sum = checked_sum checked summed qs (EchoReply ident seq_no) octets both; body = Reply refl refl },
+  record {
+    whole_header = long summed qs (EchoReply ident seq_no) octets;
+    sum = checked_sum checked summed qs (EchoReply ident seq_no) octets both;
+    body = Reply refl refl;
+  },
   reply_made _ _ _ _ _ _ (total ident m.0) (total seq_no m.1) refl,
 )
 read_again checked summed qs (DstUnreachable reason header) octets m both =
     let q = quoted_again qs header whole octets m.1 in (
-      record { whole_header = long summed qs (DstUnreachable reason header) octets; sum = checked_sum checked summed qs (DstUnreachable reason header) octets both; body = Unreachable refl q.0 },
+      record {
+        whole_header = long summed qs (DstUnreachable reason header) octets;
+        sum = checked_sum checked summed qs (DstUnreachable reason header) octets both;
+        body = Unreachable refl q.0;
+      },
       unreachable_made (reason_of (code_of reason)) reason (quoted_in (header_text qs header whole ++ octets)) header octets m.0 q.1,
     )
 read_again checked summed qs (TimeExceeded code header) octets m both =
     let q = quoted_again qs header whole octets m in (
-      record { whole_header = long summed qs (TimeExceeded code header) octets; sum = checked_sum checked summed qs (TimeExceeded code header) octets both; body = Exceeded refl q.0 },
+      record {
+        whole_header = long summed qs (TimeExceeded code header) octets;
+        sum = checked_sum checked summed qs (TimeExceeded code header) octets both;
+        body = Exceeded refl q.0;
+      },
       exceeded_made code (quoted_in (header_text qs header whole ++ octets)) header octets q.1,
     )

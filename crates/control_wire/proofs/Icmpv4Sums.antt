@@ -1,5 +1,6 @@
 -- Sums over the parts of a message.
-use Rattle.std.proofs.Common.{◌≡◌, ℕ, zero, suc, ◌+◌, ◌-◌, ◌/◌, ◌%◌, ◌<◌, ◌≤◌, ◌^◌, List, [], ◌++◌, length, drop, refl, sym, ap, ◌∙◌, length-append, arith}
+use Rattle.std.proofs.Common.{◌≡◌, ℕ, zero, suc, ◌+◌, ◌-◌, ◌/◌, ◌%◌, ◌<◌, ◌≤◌, ◌^◌, List, []}
+use Rattle.std.proofs.Common.{◌++◌, length, drop, refl, sym, ap, ◌∙◌, length-append, arith}
 use Rattle.wire_base.specs.Checksum.{folded_sum, word_sum, checksum_of}
 use Rattle.wire_base.proofs.Sums.{word, word_sum-append}
 use Rattle.wire_base.specs.Octets.{u16_at}
@@ -13,13 +14,15 @@ words h q d eh eq =
     omega (arith, one, two)
 
 -- the checksum of three parts, two of them in sums that fold as theirs do
-pub checksum_of_parts : (h q d : List ℕ) (a b c : ℕ) → length h % 2 ≡ 0 → length q % 2 ≡ 0 → ((sum : ℕ) → folded_sum (sum + a) ≡ folded_sum (sum + word_sum h)) →
+pub checksum_of_parts : (h q d : List ℕ) (a b c : ℕ) →
+    length h % 2 ≡ 0 → length q % 2 ≡ 0 → ((sum : ℕ) → folded_sum (sum + a) ≡ folded_sum (sum + word_sum h)) →
     ((sum : ℕ) → folded_sum (sum + b) ≡ folded_sum (sum + word_sum q)) → c ≡ folded_sum (a + b + word_sum d) → 65535 - c ≡ checksum_of (h ++ q ++ d)
 checksum_of_parts h q d a b c eh eq heads quotes ec =
     let second : a + b + word_sum d ≡ a + word_sum d + b = omega arith in
     let first : a + word_sum d + word_sum q ≡ word_sum q + word_sum d + a = omega arith in
     let all : word_sum q + word_sum d + word_sum h ≡ word_sum (h ++ q ++ d) = omega (arith, words h q d eh eq) in
-    ap (λ (t : ℕ). 65535 - t) (ec ∙ ap folded_sum second ∙ quotes (a + word_sum d) ∙ ap folded_sum first ∙ heads (word_sum q + word_sum d) ∙ ap folded_sum all)
+    ap (λ (t : ℕ). 65535 - t)
+    (ec ∙ ap folded_sum second ∙ quotes (a + word_sum d) ∙ ap folded_sum first ∙ heads (word_sum q + word_sum d) ∙ ap folded_sum all)
 
 -- what a word leaves of a sum that is all ones
 complement : (n k w : ℕ) → n ≡ k + w → folded_sum n ≡ 65535 → 0 < k % 65535 → k % 65535 ≡ 65535 - folded_sum w
@@ -42,7 +45,8 @@ unfolding head_with word_sum
 reply_words i s xs il sl = omega (arith, il, sl)
 
 -- a reply's checksum from its request's
-pub reply_checksum : (octets : List ℕ) (c : ℕ) → IsEchoRequest octets → c ≡ u16_at octets 2 → u16_at octets 4 < 2 ^ 16 → u16_at octets 6 < 2 ^ 16 → 0 < (c + 2048) % 65535 →
+pub reply_checksum : (octets : List ℕ) (c : ℕ) → IsEchoRequest octets → c ≡ u16_at octets 2 → u16_at octets 4 < 2 ^ 16 →
+    u16_at octets 6 < 2 ^ 16 → 0 < (c + 2048) % 65535 →
     (c + 2048) % 65535 ≡ checksum_of (head_with 0 (echo_reply_to octets) ++ [] ++ drop 8 octets)
 reply_checksum octets c request is il sl some =
     let w = u16_at octets 4 + u16_at octets 6 + word_sum (drop 8 octets) in

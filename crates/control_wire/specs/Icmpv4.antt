@@ -1,14 +1,17 @@
 -- ICMP for IPv4 (RFC 792): echo messages, and errors with their quotations.
-use Rattle.std.specs.Prelude.{◌≡◌, ℕ, ◌+◌, ◌<◌, ◌≤◌, ◌^◌, ◌==◌, Bool, IsTrue, List, [], ◌∷◌, ◌++◌, length, drop, slice_index, if◌then◌else◌}
+use Rattle.std.specs.Prelude.{◌≡◌, ℕ, ◌+◌, ◌<◌, ◌≤◌, ◌^◌, ◌==◌, Bool, IsTrue}
+use Rattle.std.specs.Prelude.{List, [], ◌∷◌, ◌++◌, length, drop, slice_index, if◌then◌else◌}
 use Rattle.std.specs.Borrow.{Bor}
 use Rattle.std.specs.Int.{w16, to_be_bytes}
 use Rattle.wire_base.specs.Checksum.{folded_sum, word_sum, checksum_of}
 use Rattle.wire_base.specs.Octets.{u16_at}
 use Rattle.ip_wire.specs.Ipv4Packet.{IsQuoted, quoted_in, header_text, whole, IsHeader}
 use Rattle.control_wire.specs.declared.icmpv4.Icmpv4DstUnreachable.{Icmpv4DstUnreachable}
-use Rattle.control_wire.specs.declared.icmpv4.Icmpv4DstUnreachable.TheVariants.{ProtoUnreachable, PortUnreachable, Unknown}
+use Rattle.control_wire.specs.declared.icmpv4.Icmpv4DstUnreachable.TheVariants.{ProtoUnreachable}
+use Rattle.control_wire.specs.declared.icmpv4.Icmpv4DstUnreachable.TheVariants.{PortUnreachable, Unknown}
 use Rattle.control_wire.specs.declared.icmpv4.Icmpv4Repr.{Icmpv4Repr}
-use Rattle.control_wire.specs.declared.icmpv4.Icmpv4Repr.TheVariants.{EchoRequest, EchoReply, DstUnreachable, TimeExceeded}
+use Rattle.control_wire.specs.declared.icmpv4.Icmpv4Repr.TheVariants.{EchoRequest, EchoReply}
+use Rattle.control_wire.specs.declared.icmpv4.Icmpv4Repr.TheVariants.{DstUnreachable, TimeExceeded}
 
 -- the reasons by their codes
 abbrev pub code_of : Icmpv4DstUnreachable → ℕ
@@ -47,7 +50,8 @@ abbrev pub icmpv4_in : List ℕ → Icmpv4Repr × List ℕ
 icmpv4_in octets =
     if type_in octets == 8 then (EchoRequest (u16_at octets 4) (u16_at octets 6), drop 8 octets) else
     if type_in octets == 0 then (EchoReply (u16_at octets 4) (u16_at octets 6), drop 8 octets) else
-    if type_in octets == 3 then (DstUnreachable (reason_of (code_in octets)) (quoted_in (drop 8 octets)).0, (quoted_in (drop 8 octets)).1) else
+    if type_in octets == 3
+    then (DstUnreachable (reason_of (code_in octets)) (quoted_in (drop 8 octets)).0, (quoted_in (drop 8 octets)).1) else
     (TimeExceeded (code_in octets) (quoted_in (drop 8 octets)).0, (quoted_in (drop 8 octets)).1)
 
 -- values and data, apart from where that is in memory
@@ -94,11 +98,13 @@ quoted_text quoted_summed (TimeExceeded code header) = header_text quoted_summed
 
 -- its checksum, or 0 if that is off: that of the message with 0 in its place
 abbrev pub sum_of : Bool → Bool → Icmpv4Repr → List ℕ → ℕ
-sum_of summed quoted_summed r octets = if summed then checksum_of (head_with 0 r ++ quoted_text quoted_summed r ++ octets) else 0
+sum_of summed quoted_summed r octets =
+    if summed then checksum_of (head_with 0 r ++ quoted_text quoted_summed r ++ octets) else 0
 
 -- the text of a message with its data
 abbrev pub text : Bool → Bool → Icmpv4Repr → List ℕ → List ℕ
-text summed quoted_summed r octets = head_with (sum_of summed quoted_summed r octets) r ++ quoted_text quoted_summed r ++ octets
+text summed quoted_summed r octets =
+    head_with (sum_of summed quoted_summed r octets) r ++ quoted_text quoted_summed r ++ octets
 
 -- a quoted header is that of a packet of at most 65,535 octets
 abbrev pub QuotesPacket : Icmpv4Repr → Type 0
@@ -114,11 +120,13 @@ IsMessage (EchoReply ident seq_no) = (ident < 2 ^ 16) × (seq_no < 2 ^ 16)
 IsMessage (DstUnreachable reason header) = (reason_of (code_of reason) ≡ reason) × IsHeader header whole
 IsMessage (TimeExceeded code header) = IsHeader header whole
 
--- a text is parsed back as its values and its data, if its checksum is there or isn't verified; that of a quoted header is never
--- verified
+-- a text is parsed back as its values and its data, if its checksum is there or isn't verified; that of a quoted
+-- header is never verified
 abbrev pub ReadAgain : Type 0
-ReadAgain = (checked summed quoted_summed : Bool) (r : Icmpv4Repr) (octets : List ℕ) → IsMessage r → (IsTrue checked → IsTrue summed)
-    → IsIcmpv4 checked (text summed quoted_summed r octets) × (icmpv4_in (text summed quoted_summed r octets) ≡ (r, octets))
+ReadAgain = (checked summed quoted_summed : Bool) (r : Icmpv4Repr) (octets : List ℕ) →
+    IsMessage r → (IsTrue checked → IsTrue summed)
+    → IsIcmpv4 checked (text summed quoted_summed r octets)
+    × (icmpv4_in (text summed quoted_summed r octets) ≡ (r, octets))
 
 -- an echo request whose checksum is right
 pub record IsEchoRequest (octets : List ℕ) : Type 0 where

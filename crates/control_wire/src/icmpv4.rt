@@ -104,7 +104,8 @@ impl Icmpv4Repr {
     /// - with `checked`, the checksum over all of them is wrong.
     #[inline(always)]
     pub fn parse(octets: &[u8], checked: bool) -> Option<(Icmpv4Repr, &[u8])>
-        ensures { SomeIff (option_map spec.parts result) ((length octets.now < 2 ^ 16) × spec.IsIcmpv4 checked octets.now) (spec.icmpv4_in octets.now) }
+        ensures { SomeIff (option_map spec.parts result)
+            ((length octets.now < 2 ^ 16) × spec.IsIcmpv4 checked octets.now) (spec.icmpv4_in octets.now) }
     {
         if octets.len() < HEADER_LEN || octets.len() > 0xffff {
             return None;
@@ -182,7 +183,8 @@ impl EchoRequest<'_> {
     #[inline(always)]
     pub fn emit_reply(&self, summed: bool, out: &mut FrameBuffer)
         requires room { length out.old + length self.now.octets.now ≤ 1514 }
-        ensures items { out.new ≡ out.old ++ spec.text summed true (spec.echo_reply_to self.now.octets.now) (drop 8 self.now.octets.now) }
+        ensures items { out.new
+            ≡ out.old ++ spec.text summed true (spec.echo_reply_to self.now.octets.now) (drop 8 self.now.octets.now) }
         ensures len { length out.new ≡ length out.old + length self.now.octets.now }
     {
         self.emit_reply_header(summed, out);
@@ -201,7 +203,8 @@ impl EchoRequest<'_> {
     #[inline(always)]
     pub fn emit_reply_header(&self, summed: bool, out: &mut FrameBuffer)
         requires room { length out.old + 8 ≤ 1514 }
-        ensures items { out.new ++ drop 8 self.now.octets.now ≡ out.old ++ spec.text summed true (spec.echo_reply_to self.now.octets.now) (drop 8 self.now.octets.now) }
+        ensures items { out.new ++ drop 8 self.now.octets.now
+            ≡ out.old ++ spec.text summed true (spec.echo_reply_to self.now.octets.now) (drop 8 self.now.octets.now) }
         ensures len { length out.new ≡ length out.old + 8 }
     {
         let request = self.octets;

@@ -31,14 +31,14 @@ not_behind n turn i next within at_most before = by (cases_eq next i) where
   by (inr other) =
       let less : next < i = omega (arith, at_most, other) in
       let left : ahead n (turn_after n turn next) i ≡ i - (next + 1) =
-          ap (λ t. ahead n t i) (turn_is n turn next within) ∙ from_turn n (next + 1) i (omega (arith, less)) in
+      ap (λ t. ahead n t i) (turn_is n turn next within) ∙ from_turn n (next + 1) i (omega (arith, less)) in
       inr (rw left (omega (arith, less, before)))
 
 -- where it is
 behind : (n turn i next : ℕ) → next < n → turn ≤ next → i < turn → Comes n turn i next
 behind n turn i next within after before =
     let left : ahead n (turn_after n turn next) i ≡ i + (n - (next + 1)) =
-        ap (λ t. ahead n t i) (turn_is n turn next within) ∙ round_about n (next + 1) i (omega (arith, after, before)) in
+    ap (λ t. ahead n t i) (turn_is n turn next within) ∙ round_about n (next + 1) i (omega (arith, after, before)) in
     let right = round_about n turn i before in
     inr (rw (left, right) (omega (arith, within, after, before)))
 

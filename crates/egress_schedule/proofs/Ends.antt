@@ -69,7 +69,8 @@ never_some None end is = (refl, is)
 never_some (Some w) end is = absurd cc
 
 -- two that end at one instant
-together : (a b : Option Waiting) (end : ℤ) → IfSome a (λ w. w.until ≡ end) → IfSome b (λ w. w.until ≡ end) → IfSome a (λ w. IfSome b (λ x. w.until ≡ x.until))
+together : (a b : Option Waiting) (end : ℤ) → IfSome a (λ w. w.until ≡ end) → IfSome b (λ w. w.until ≡ end) →
+    IfSome a (λ w. IfSome b (λ x. w.until ≡ x.until))
 together None b end one two = tt
 together (Some w) None end one two = tt
 together (Some w) (Some x) end one two = one ∙ sym two
@@ -176,7 +177,8 @@ module _ {L : Type 0} where
       patience = kept patience_of (after_patience_at now) giving_keeps_patience m r
 
       by : ((i ≡ m) ⊎ (i ≡ m → ⊥)) → (i < m → Holds (patience_of r) i mid) → Holds (patience_of r) i (after_patience_at now m mid)
-      by (inl same) before = rw same (subst (λ (p : ℕ). Holds p m (after_patience_at now m mid)) patience (step_here m mid (rw count (omega (arith, all)))))
+      by (inl same) before =
+          rw same (subst (λ (p : ℕ). Holds p m (after_patience_at now m mid)) patience (step_here m mid (rw count (omega (arith, all)))))
       by (inr other) before = step_other (patience_of r) m i mid other (before (omega (arith, within, other)))
 
     -- of an index after all nothing is written down
@@ -265,7 +267,8 @@ module _ {L : Type 0} where
       mid = each_of (after_alignment_at end) m r
 
       by : ((i ≡ m) ⊎ (i ≡ m → ⊥)) → (i < m → EndsAt end i mid) → EndsAt end i (after_alignment_at end m mid)
-      by (inl same) before = rw same (aligned_here end m mid (rw (kept count_of (after_alignment_at end) (aligning_keeps_count end) m r) (omega (arith, all))))
+      by (inl same) before =
+          rw same (aligned_here end m mid (rw (kept count_of (after_alignment_at end) (aligning_keeps_count end) m r) (omega (arith, all))))
       by (inr other) before = aligned_other end m i mid other (before (omega (arith, within, other)))
 
     -- where no wait has an end, none waits

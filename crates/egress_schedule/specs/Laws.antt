@@ -1,5 +1,5 @@
--- What a schedule promises, whatever arrives: no packet waits longer than the patience, the turn comes to each socket that waits,
--- and all that wait do so until one instant.
+-- What a schedule promises, whatever arrives: no packet waits longer than the patience, the turn comes to each socket
+-- that waits, and all that wait do so until one instant.
 use Rattle.std.specs.Prelude.{ℕ, ◌≡◌, ◌≤◌, ◌<◌, ◌+◌, ◌-◌, ◌⊎◌, nat_lt, Bool, true, false, ℤ, IfSome, if◌then◌else◌}
 use Rattle.std.specs.Borrow.{Bor}
 use Rattle.egress_schedule.specs.Plan.{Planned, waiting_at}
@@ -17,8 +17,8 @@ PatienceEnds =
 abbrev pub ahead : ℕ → ℕ → ℕ → ℕ
 ahead n turn i = if nat_lt i turn then i + (n - turn) else i - turn
 
--- one that has the property has its turn, or fewer stand before it afterwards; so it has its turn after at most n turns at which
--- it has the property
+-- one that has the property has its turn, or fewer stand before it afterwards; so it has its turn after at most n turns
+-- at which it has the property
 abbrev pub TurnsCome : Type 0
 TurnsCome =
     (p : ℕ → Bool) (n turn i : ℕ) → i < n → turn ≤ n → p i ≡ true →

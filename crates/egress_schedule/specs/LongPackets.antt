@@ -1,6 +1,7 @@
--- Packets that have to be cut. The pieces of one replace those that are left of the one before. So one socket at a time sends
--- such a packet, and none while a piece is left.
-use Rattle.std.specs.Prelude.{ℕ, ◌+◌, ◌==◌, ◌&&◌, not, nat_lt, Bool, false, List, length, ℤ, Option, Some, None, if◌then◌else◌}
+-- Packets that have to be cut. The pieces of one replace those that are left of the one before. So one socket at a time
+-- sends such a packet, and none while a piece is left.
+use Rattle.std.specs.Prelude.{ℕ, ◌+◌, ◌==◌, ◌&&◌, not, nat_lt, Bool, false}
+use Rattle.std.specs.Prelude.{List, length, ℤ, Option, Some, None, if◌then◌else◌}
 use Rattle.net_base.specs.Time.{silence_from}
 use Rattle.ip_address.specs.declared.ip.IpAddress.{IpAddress}
 use Rattle.ip_address.specs.declared.ip.IpAddress.TheVariants as address
@@ -17,8 +18,8 @@ abbrev pub len_behind : {M : Type 0} → ℕ → Option (M × List ℕ) → ℕ
 len_behind headers None = 0
 len_behind headers (Some p) = headers + length p.1
 
--- the length of the first packet that a socket has to send, over IPv4 (RFC 791 3.1, 768, 9293 3.1): TCP's and UDP's with their
--- headers, a raw one as it stands
+-- the length of the first packet that a socket has to send, over IPv4 (RFC 791 3.1, 768, 9293 3.1): TCP's and UDP's
+-- with their headers, a raw one as it stands
 abbrev pub first_len : {L : Type 0} → SocketOf L → ℕ
 first_len (Raw s) = len_behind 0 (first_of s.tx.packets)
 first_len (Icmp s) = len_behind 20 (first_of s.tx.packets)

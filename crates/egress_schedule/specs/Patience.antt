@@ -1,5 +1,5 @@
--- Giving up a neighbour that doesn't answer. After three solicitations, a second apart, resolution has failed, and the packets
--- that wait for it are dropped (RFC 4861 7.2.2, 10).
+-- Giving up a neighbour that doesn't answer. After three solicitations, a second apart, resolution has failed, and the
+-- packets that wait for it are dropped (RFC 4861 7.2.2, 10).
 use Rattle.std.specs.Prelude.{ℕ, ◌≡◌, zero, suc, ◌+◌, ◌==◌, not, min, ◌&&◌, ◌||◌, Bool, false, true, is_some}
 use Rattle.std.specs.Prelude.{List, length, get_or}
 use Rattle.std.specs.Prelude.{ℤ, pos, ◌+ℤ◌, Option, Some, None, if◌then◌else◌}
@@ -51,7 +51,8 @@ abbrev pub plan_after_look : ℤ → ℕ → Wait → Plan → Plan
 plan_after_look now i wait plan =
     let watch = get_or plan.watches i idle in
     let waiting = waiting_after now wait watch.waiting in
-    record (with_watch i (record watch { waiting = waiting; unreachable = unreachable_after waiting watch.unreachable }) plan) {
+    record (with_watch i
+    (record watch { waiting = waiting; unreachable = unreachable_after waiting watch.unreachable }) plan) {
       is_waiting = plan.is_waiting || is_some waiting;
     }
 
@@ -76,7 +77,8 @@ earliest_end (suc n) watches = earliest_with (get_or watches n idle).waiting (ea
 
 -- what is written down of a socket whose first packet is given up
 abbrev pub watch_after_giving_up : IpAddress → Watch → Watch
-watch_after_giving_up neighbor watch = record watch { waiting = None; unreachable = Some neighbor; given_up = Some neighbor }
+watch_after_giving_up neighbor watch =
+    record watch { waiting = None; unreachable = Some neighbor; given_up = Some neighbor }
 
 module _ {L : Type 0} where
   -- what is written down of a socket after a round
@@ -101,8 +103,8 @@ module _ {L : Type 0} where
   after_alignment_to None r = r
   after_alignment_to (Some end) r = each_of (after_alignment_at end) (length r.plan.watches) r
 
-  -- all sockets that wait may ask again at one instant, the earliest, so they find the silence of the one whose turn it was, and
-  -- no other
+  -- all sockets that wait may ask again at one instant, the earliest, so they find the silence of the one whose
+  -- turn it was, and no other
   abbrev pub after_alignment : Planned L → Planned L
   after_alignment r = after_alignment_to (earliest_end (length r.plan.watches) r.plan.watches) r
 

@@ -1,13 +1,15 @@
--- What is kept from one round to the next beside a set of sockets: for each socket whom it waits for, and whose turn it is.
-use Rattle.std.specs.Prelude.{ℕ, zero, suc, Bool, false, is_some, List, get_or, slice_set, replicate, Option, None, if◌then◌else◌}
+-- What is kept from one round to the next beside a set of sockets: for each socket whom it waits for,
+-- and whose turn it is.
+use Rattle.std.specs.Prelude.{ℕ, zero, suc, Bool, false, is_some, List, get_or}
+use Rattle.std.specs.Prelude.{slice_set, replicate, Option, None, if◌then◌else◌}
 use Rattle.ip_address.specs.declared.ip.IpAddress.{IpAddress}
 use Rattle.socket_set.specs.SocketSet.{Sockets, wait_of}
 use Rattle.egress_schedule.specs.declared.watch.Waiting.{Waiting}
 use Rattle.egress_schedule.specs.declared.watch.Watch.{Watch}
 
--- how long a packet waits for a neighbour, in microseconds, 0 for ever; a watch for each socket; from which index on the next
--- socket may ask for its neighbour, and the next may send a long packet; how many packets were given up; whether some socket
--- waits; and whether some packet may be long
+-- how long a packet waits for a neighbour, in microseconds, 0 for ever; a watch for each socket; from which index on
+-- the next socket may ask for its neighbour, and the next may send a long packet; how many packets were given up;
+-- whether some socket waits; and whether some packet may be long
 pub record Plan : Type 0 where
   pub patience : ℕ
   pub watches : List Watch

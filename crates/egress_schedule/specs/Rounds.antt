@@ -10,7 +10,8 @@ module _ {L : Type 0} where
   with_turns_taken now r = if r.plan.is_waiting then after_taking_turns now r else r
 
   abbrev pub with_long_set_aside : ℕ → ℤ → Bool → Planned L → Planned L
-  with_long_set_aside mtu now is_piece_left r = if r.plan.may_have_long then after_setting_aside mtu now is_piece_left r else r
+  with_long_set_aside mtu now is_piece_left r =
+      if r.plan.may_have_long then after_setting_aside mtu now is_piece_left r else r
 
   -- the sockets that wait ask in turn, and one long packet may go
   abbrev pub before_round : ℤ → ℕ → Bool → Planned L → Planned L
@@ -22,6 +23,7 @@ module _ {L : Type 0} where
   abbrev pub with_waits_ended : ℤ → Planned L → Planned L
   with_waits_ended now r = if r.plan.is_waiting then after_patience now (after_alignment r) else r
 
-  -- the sockets have their own waits again, these are written down, and the packets whose patience has ended are given up
+  -- the sockets have their own waits again, these are written down, and the packets whose patience
+  -- has ended are given up
   abbrev pub after_round : ℤ → Planned L → Planned L
   after_round now r = with_waits_ended now (after_look now (with_long_put_back r))

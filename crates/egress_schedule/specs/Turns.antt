@@ -1,6 +1,7 @@
--- Turns among sockets that wait for neighbours. One request is sent in a second, for all of them, so the sockets whose waits are
--- over ask in turn.
-use Rattle.std.specs.Prelude.{ℕ, ◌+◌, ◌-◌, ◌||◌, ◌&&◌, not, nat_lt, Bool, false, length, ℤ, Option, Some, None, if◌then◌else◌}
+-- Turns among sockets that wait for neighbours. One request is sent in a second, for all of them, so the sockets whose
+-- waits are over ask in turn.
+use Rattle.std.specs.Prelude.{ℕ, ◌+◌, ◌-◌, ◌||◌, ◌&&◌, not, nat_lt, Bool, false}
+use Rattle.std.specs.Prelude.{length, ℤ, Option, Some, None, if◌then◌else◌}
 use Rattle.std.specs.Ordering.{int_cmp, is_le}
 use Rattle.net_base.specs.Time.{silence_from}
 use Rattle.socket_set.specs.SocketSet.{with_wait}
@@ -48,13 +49,14 @@ module _ {L : Type 0} where
 
   abbrev pub if_held : ℤ → ℕ → ℕ → Planned L → Option Waiting → Planned L
   if_held now next i r None = r
-  if_held now next i r (Some w) = if is_held r.plan.patience now (nat_lt i next) w then with_wait_longer now i w r else r
+  if_held now next i r (Some w) =
+      if is_held r.plan.patience now (nat_lt i next) w then with_wait_longer now i w r else r
 
   abbrev pub after_hold_at : ℤ → ℕ → ℕ → Planned L → Planned L
   after_hold_at now next i r = if_held now next i r (waiting_at i r)
 
-  -- those before the one whose turn it is, which would ask before it, wait a second more; those after it find the silence that it
-  -- begins
+  -- those before the one whose turn it is, which would ask before it, wait a second more; those after it find the
+  -- silence that it begins
   abbrev pub after_taking_turns : ℤ → Planned L → Planned L
   after_taking_turns now r =
       let n = length r.plan.watches in

@@ -13,14 +13,14 @@ pub fn turns_come()
     ensures { TurnsCome }
 {}
 
-/// Where no socket asks the turn stays, so rounds in which none asks take no turn from a socket. It is always one of the
-/// indices, or the one after them, as the law above asks.
+/// Where no socket asks the turn stays, so rounds in which none asks take no turn from a socket. It is always one of
+/// the indices, or the one after them, as the law above asks.
 pub fn turns_stay()
     ensures { TurnsStay }
 {}
 
-/// After a round all sockets that wait may ask again at one instant. So they are in one turn, and none finds the silence
-/// of another one that asks in between.
+/// After a round all sockets that wait may ask again at one instant. So they are in one turn, and none finds the
+/// silence of another one that asks in between.
 pub fn waits_end_together()
     ensures { WaitsEndTogether }
 {}

@@ -21,8 +21,8 @@ use sockets::socket::SocketOf;
 const NOBODY: IpAddress = IpAddress::Ipv4(Ipv4Address { bits: 0 });
 
 impl Schedule {
-    /// Lets the sockets whose first packet is long not be asked, but for the one whose turn it is; that one too, while a piece
-    /// is left.
+    /// Lets the sockets whose first packet is long not be asked, but for the one whose turn it is; that one too,
+    /// while a piece is left.
     pub(crate) fn set_aside<L: Drop>(
         &mut self,
         now: Instant,
@@ -88,7 +88,8 @@ impl Schedule {
     )
         requires { IsMoment now }
         ensures { planned self.new sockets.new
-            ≡ each_of (after_setting_aside_at ip_mtu now next) (length self.old.watches) (planned self.old sockets.old) }
+            ≡ each_of (after_setting_aside_at ip_mtu now next)
+            (length self.old.watches) (planned self.old sockets.old) }
     {
         for index in 0..self.watches.len() {
             self.set_aside_at(index, next, now, ip_mtu, sockets);
@@ -105,7 +106,8 @@ impl Schedule {
         sockets: &mut SocketSetOf<L>,
     )
         requires { IsMoment now }
-        ensures { planned self.new sockets.new ≡ after_setting_aside_at ip_mtu now next index (planned self.old sockets.old) }
+        ensures { planned self.new sockets.new
+            ≡ after_setting_aside_at ip_mtu now next index (planned self.old sockets.old) }
     {
         if has_long(index, ip_mtu, sockets) && index != next {
             let watch = Watch {

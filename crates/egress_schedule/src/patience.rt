@@ -2,8 +2,9 @@
 ghost use Rattle.std.specs.Prelude.{◌≡◌, false, get_or, length};
 ghost use Rattle.egress_schedule.specs.Plan.{idle, planned};
 ghost use Rattle.egress_schedule.specs.Patience as spec;
-ghost use Rattle.egress_schedule.specs.Patience.{IsUnnoted, after_alignment_at, after_giving_up, after_look_at};
-ghost use Rattle.egress_schedule.specs.Patience.{after_patience_at, earliest_end, earliest_with, plan_after_look, without_first};
+ghost use Rattle.egress_schedule.specs.Patience.{IsUnnoted, after_alignment_at, after_giving_up};
+ghost use Rattle.egress_schedule.specs.Patience.{after_look_at, after_patience_at, earliest_end};
+ghost use Rattle.egress_schedule.specs.Patience.{earliest_with, plan_after_look, without_first};
 ghost use Rattle.socket_set.specs.SocketSet.{socket_at};
 
 use crate::schedule::Schedule;

@@ -1,7 +1,8 @@
 //! A schedule of a set of sockets.
 ghost use Rattle.std.specs.Prelude.{◌≡◌, true, IfOk, IsSome, IsNone, get_or};
 ghost use Rattle.net_base.specs.Time.{IsMoment};
-ghost use Rattle.egress_schedule.specs.Plan.{first_plan, given_up_at, idle, planned, waiting_at, with_watch, without_given_up};
+ghost use Rattle.egress_schedule.specs.Plan.{first_plan, given_up_at, idle, planned};
+ghost use Rattle.egress_schedule.specs.Plan.{waiting_at, with_watch, without_given_up};
 ghost use Rattle.egress_schedule.specs.Rounds.{after_round, before_round, with_long_set_aside, with_turns_taken};
 
 use crate::watch::{Waiting, Watch};
@@ -31,13 +32,13 @@ impl Model for Schedule {
     ghost Value = { Plan };
 
     ghost view = { λ s. record {
-        patience = s.patience;
-        watches = s.watches.items;
-        discovery_turn = s.discovery_turn;
-        fragment_turn = s.fragment_turn;
-        given_up = s.given_up;
-        is_waiting = s.is_waiting;
-        may_have_long = s.may_have_long;
+      patience = s.patience;
+      watches = s.watches.items;
+      discovery_turn = s.discovery_turn;
+      fragment_turn = s.fragment_turn;
+      given_up = s.given_up;
+      is_waiting = s.is_waiting;
+      may_have_long = s.may_have_long;
     } };
 }
 
@@ -90,7 +91,8 @@ impl Schedule {
         Some(given_up)
     }
 
-    /// For whom the socket of a handle waits, since when, and until when it doesn't ask again. `None` if it doesn't wait.
+    /// For whom the socket of a handle waits, since when, and until when it doesn't ask again.
+    /// `None` if it doesn't wait.
     pub fn waiting<L: Drop>(
         &self,
         sockets: &SocketSetOf<L>,
@@ -131,8 +133,8 @@ impl Schedule {
     }
 
     /// Prepares a round of an interface, which polls at a moment. Of the sockets whose waits are over, those before the
-    /// one whose turn it is wait a second more. Of the sockets whose first packet is longer than the link's packets, only
-    /// the one whose turn it is will be asked, and none while a piece of a packet is left.
+    /// one whose turn it is wait a second more. Of the sockets whose first packet is longer than the link's packets,
+    /// only the one whose turn it is will be asked, and none while a piece of a packet is left.
     pub fn before_round<L: Drop>(
         &mut self,
         now: Instant,
@@ -166,7 +168,8 @@ impl Schedule {
         sockets: &mut SocketSetOf<L>,
     )
         requires { IsMoment now }
-        ensures { planned self.new sockets.new ≡ with_long_set_aside ip_mtu now is_piece_left (planned self.old sockets.old) }
+        ensures { planned self.new sockets.new
+            ≡ with_long_set_aside ip_mtu now is_piece_left (planned self.old sockets.old) }
     {
         if self.may_have_long {
             self.set_aside(now, ip_mtu, is_piece_left, sockets);
@@ -174,8 +177,8 @@ impl Schedule {
     }
 
     /// Ends a round. Sockets that weren't to be asked may be asked again, and it is written down which sockets wait.
-    /// They may all ask again at one instant. A packet that waited as long as the patience is dropped and counted; so is
-    /// one to the neighbour that its socket gave up in the round before.
+    /// They may all ask again at one instant. A packet that waited as long as the patience is dropped and counted; so
+    /// is one to the neighbour that its socket gave up in the round before.
     pub fn after_round<L: Drop>(&mut self, now: Instant, sockets: &mut SocketSetOf<L>)
         ensures { planned self.new sockets.new ≡ after_round now (planned self.old sockets.old) }
     {

@@ -47,7 +47,8 @@ impl Schedule {
 
     /// The first index from one on whose socket asks for its neighbour again; the index after all, where none does.
     fn first_to_ask<L: Drop>(&self, from: usize, now: Instant, sockets: &SocketSetOf<L>) -> usize
-        ensures { result ≡ first_from (asks_at now (planned self.now sockets.now)) from (length self.now.watches - from) }
+        ensures { result
+            ≡ first_from (asks_at now (planned self.now sockets.now)) from (length self.now.watches - from) }
     {
         let count = self.watches.len();
         for index in from..count {

@@ -1,11 +1,13 @@
 -- Fragments, and the ranges that they cover.
-use Rattle.std.proofs.Common.{◌≡◌, ◌<◌, ◌≤◌, ◌+◌, ◌-◌, ◌==◌, ℕ, zero, suc, Bool, true, false, List, [], ◌∷◌, ◌++◌, length, get_or, take, drop, length-take, refl, sym, ap, ◌∙◌, arith, Option, Some, None}
+use Rattle.std.proofs.Common.{◌≡◌, ◌<◌, ◌≤◌, ◌+◌, ◌-◌, ◌==◌, ℕ, zero, suc, Bool, true, false, List, [], ◌∷◌, ◌++◌}
+use Rattle.std.proofs.Common.{length, get_or, take, drop, length-take, refl, sym, ap, ◌∙◌, arith, Option, Some, None}
 use Rattle.std.specs.Prelude.{cond, nat_lt, nat_le, ◌&&◌, ◌||◌, not, Result, Ok, Err, IsErr, OnOk, OnErr, is_ok, is_err, IsTrue}
 use Rattle.std.proofs.lemmas.Bool.Decides.{nat_tests}
 use Rattle.std.proofs.lemmas.List.{ext_get_or, get_or-take, get_or-drop, get_or_append_left, get_or-append_right}
 use Rattle.net_base.specs.declared.assembler.Range.{Range}
 use Rattle.net_base.specs.Ranges.{AreSeparate, covered, front, IsUnion}
-use Rattle.fragmentation.specs.Fragments.{Fragment, Got, end_of, has_place, is_covered, octet_at, begins_run, runs_below, ranges, allows, is_fit, with_one, IsWhole, IsRebuilt}
+use Rattle.fragmentation.specs.Fragments.{Fragment, Got, end_of, has_place, is_covered, octet_at, begins_run}
+use Rattle.fragmentation.specs.Fragments.{runs_below, ranges, allows, is_fit, with_one, IsWhole, IsRebuilt}
 use Rattle.fragmentation.specs.Assembly.{Assembly, is_total, is_refused, is_complete, AreSound, octets_after_write}
 use Rattle.fragmentation.specs.Stands.{Gathers, with_kept, with_total}
 
@@ -47,28 +49,34 @@ covered_below from (r ∷ rs) p s h =
     let a = s.0 in
     grind (arith, nat_tests)
 
-begins_low : (s e q : ℕ) (c d : Bool) → c ≡ false → d ≡ false → s < e → suc q ≤ e → cond (((nat_le s (suc q) && nat_lt (suc q) e) || c) && not ((nat_le s q && nat_lt q e) || d)) 1 0 ≡ cond (suc q == s) 1 0 + cond (c && not d) 1 0
+begins_low : (s e q : ℕ) (c d : Bool) → c ≡ false → d ≡ false → s < e → suc q ≤ e →
+    cond (((nat_le s (suc q) && nat_lt (suc q) e) || c) && not ((nat_le s q && nat_lt q e) || d)) 1 0 ≡ cond (suc q == s) 1 0 + cond (c && not d) 1 0
 begins_low s e q c d h k l m = grind (arith, nat_tests)
 
-begins_high : (s e q : ℕ) (c d : Bool) → s < e → e ≤ q → cond (((nat_le s (suc q) && nat_lt (suc q) e) || c) && not ((nat_le s q && nat_lt q e) || d)) 1 0 ≡ cond (suc q == s) 1 0 + cond (c && not d) 1 0
+begins_high : (s e q : ℕ) (c d : Bool) → s < e → e ≤ q →
+    cond (((nat_le s (suc q) && nat_lt (suc q) e) || c) && not ((nat_le s q && nat_lt q e) || d)) 1 0 ≡ cond (suc q == s) 1 0 + cond (c && not d) 1 0
 begins_high s e q c d l m = grind (arith, nat_tests)
 
 begins_zero : (s e : ℕ) (c : Bool) → c ≡ false → s < e → cond ((nat_le s 0 && nat_lt 0 e) || c) 1 0 ≡ cond (0 == s) 1 0 + cond c 1 0
 begins_zero s e c h l = grind (arith, nat_tests)
 
 -- a run begins where a range does
-begins_cons : (from : ℕ) (r : Range) (rs : List Range) (p : ℕ) → AreSeparate from (r ∷ rs) → cond (begins_run (covered (r ∷ rs)) p) 1 0 ≡ cond (p == r.start) 1 0 + cond (begins_run (covered rs) p) 1 0
+begins_cons : (from : ℕ) (r : Range) (rs : List Range) (p : ℕ) →
+    AreSeparate from (r ∷ rs) → cond (begins_run (covered (r ∷ rs)) p) 1 0 ≡ cond (p == r.start) 1 0 + cond (begins_run (covered rs) p) 1 0
 begins_cons from r rs zero s = begins_zero r.start r.end (covered rs 0) (covered_below (r.end + 1) rs 0 s.2 (omega arith)) s.1
 begins_cons from r rs (suc q) s =
-    elim (nat_lt q r.end) as (λ b. nat_lt q r.end ≡ b → cond (begins_run (covered (r ∷ rs)) (suc q)) 1 0 ≡ cond (suc q == r.start) 1 0 + cond (begins_run (covered rs) (suc q)) 1 0) [
-      | true ↦ λ t. let h : q < r.end = grind (arith, nat_tests) in begins_low r.start r.end q (covered rs (suc q)) (covered rs q) (covered_below (r.end + 1) rs (suc q) s.2 (omega arith)) (covered_below (r.end + 1) rs q s.2 (omega arith)) s.1 (omega arith)
+    elim (nat_lt q r.end) as (λ b. nat_lt q r.end ≡ b →
+    cond (begins_run (covered (r ∷ rs)) (suc q)) 1 0 ≡ cond (suc q == r.start) 1 0 + cond (begins_run (covered rs) (suc q)) 1 0) [
+      | true ↦ λ t. let h : q < r.end = grind (arith, nat_tests) in begins_low r.start r.end q (covered rs (suc q)) (covered rs q)
+          (covered_below (r.end + 1) rs (suc q) s.2 (omega arith)) (covered_below (r.end + 1) rs q s.2 (omega arith)) s.1 (omega arith)
       | false ↦ λ t. let h : r.end ≤ q = grind (arith, nat_tests) in begins_high r.start r.end q (covered rs (suc q)) (covered rs q) s.1 h
     ] refl
 
 count_more : (s n a b : ℕ) → a ≡ cond (nat_lt s n) 1 0 + b → (c d : ℕ) → c ≡ cond (n == s) 1 0 + d → a + c ≡ cond (nat_lt s (suc n)) 1 0 + (b + d)
 count_more s n a b e c d k = grind (arith, nat_tests)
 
-runs_cons : (from : ℕ) (r : Range) (rs : List Range) (n : ℕ) → AreSeparate from (r ∷ rs) → runs_below (covered (r ∷ rs)) n ≡ cond (nat_lt r.start n) 1 0 + runs_below (covered rs) n
+runs_cons : (from : ℕ) (r : Range) (rs : List Range) (n : ℕ) →
+    AreSeparate from (r ∷ rs) → runs_below (covered (r ∷ rs)) n ≡ cond (nat_lt r.start n) 1 0 + runs_below (covered rs) n
 unfolding runs_below
 runs_cons from r rs zero s = grind (arith, nat_tests)
 runs_cons from r rs (suc n) s = count_more r.start n _ _ (runs_cons from r rs n s) _ _ (begins_cons from r rs n s)
@@ -92,7 +100,8 @@ one_more s n k h = grind (arith, nat_tests)
 runs_of : (from n : ℕ) (rs : List Range) → AreSeparate from rs → ((p : ℕ) → covered rs p ≡ true → p < n) → runs_below (covered rs) n ≡ length rs
 runs_of from n [] s w = runs_none n
 runs_of from n (r ∷ rs) s w =
-    runs_cons from r rs n s ∙ one_more r.start n _ (w r.start (starts r rs s.1)) ∙ ap suc (runs_of (r.end + 1) n rs s.2 (λ p h. w p (within_rest r rs p h)))
+    runs_cons from r rs n s ∙ one_more r.start n _ (w r.start (starts r rs s.1))
+    ∙ ap suc (runs_of (r.end + 1) n rs s.2 (λ p h. w p (within_rest r rs p h)))
 
 -- the covered front
 front_below : (from : ℕ) (rs : List Range) (p : ℕ) → AreSeparate from rs → p < front rs → covered rs p ≡ true
@@ -104,7 +113,10 @@ front_at from [] s = refl
 front_at from (r ∷ rs) s =
     let a = covered_below (r.end + 1) rs r.end s.2 (omega arith) in
     let b = covered_below (r.end + 1) rs 0 s.2 (omega arith) in
-    elim (r.start == 0) as (λ t. r.start == 0 ≡ t → covered (r ∷ rs) (cond t r.end 0) ≡ false) [ true ↦ λ t. grind (arith, nat_tests) | false ↦ λ t. grind (arith, nat_tests) ] refl
+    elim (r.start == 0) as (λ t. r.start == 0 ≡ t → covered (r ∷ rs) (cond t r.end 0) ≡ false) [
+      | true ↦ λ t. grind (arith, nat_tests)
+      | false ↦ λ t. grind (arith, nat_tests)
+    ] refl
 
 two_ways : (b : Bool) → b ≡ true → b ≡ false → ⊥
 two_ways b h k = cc
@@ -116,7 +128,8 @@ only_old : (fs : List Fragment) (f : Fragment) (p : ℕ) → has_place f p ≡ f
 only_old fs f p h k = let e = sym (covered_more fs f p) ∙ k in rw h at e
 
 -- what is covered with one more fragment lies below 4096
-below_end : (rs : List Range) (f : Fragment) (p : ℕ) → end_of f ≤ 4096 → (covered rs p ≡ true → p < 4096) → has_place f p || covered rs p ≡ true → p < 4096
+below_end : (rs : List Range) (f : Fragment) (p : ℕ) → end_of f ≤ 4096 → (covered rs p ≡ true → p < 4096) →
+    has_place f p || covered rs p ≡ true → p < 4096
 below_end rs f p w old k =
     elim (covered rs p) as (λ b. covered rs p ≡ b → p < 4096) [
       | true ↦ λ t. old t
@@ -136,7 +149,8 @@ front_least rs n s below at =
 pub front_within : (rs : List Range) → AreSound rs → front rs ≤ 4096
 front_within rs s =
     elim (nat_lt 4096 (front rs)) as (λ b. nat_lt 4096 (front rs) ≡ b → front rs ≤ 4096) [
-      | true ↦ λ t. let h : 4096 < front rs = grind (arith, nat_tests) in let k = s.within 4096 (front_below 0 rs 4096 s.separate h) in absurd (omega arith)
+      | true ↦ λ t. let h : 4096 < front rs = grind (arith, nat_tests) in
+          let k = s.within 4096 (front_below 0 rs 4096 s.separate h) in absurd (omega arith)
       | false ↦ λ t. grind (arith, nat_tests)
     ] refl
 
@@ -154,15 +168,19 @@ many_test : (n : ℕ) → 4 < n → nat_le n 4 ≡ false
 many_test n h = grind (arith, nat_tests)
 
 -- what is written, place by place
-written_at : (xs bytes : List ℕ) (offset p : ℕ) → offset + length bytes ≤ length xs → get_or (octets_after_write xs offset bytes) p 0 ≡ cond (nat_le offset p && nat_lt p (offset + length bytes)) (get_or bytes (p - offset) 0) (get_or xs p 0)
+written_at : (xs bytes : List ℕ) (offset p : ℕ) → offset + length bytes ≤ length xs → get_or (octets_after_write xs offset bytes) p 0
+    ≡ cond (nat_le offset p && nat_lt p (offset + length bytes)) (get_or bytes (p - offset) 0) (get_or xs p 0)
 written_at xs bytes offset p h =
     let front_length : length (take offset xs) ≡ offset = omega (arith, length-take offset xs) in
-    elim (nat_le offset p) as (λ b. nat_le offset p ≡ b → get_or (octets_after_write xs offset bytes) p 0 ≡ cond (b && nat_lt p (offset + length bytes)) (get_or bytes (p - offset) 0) (get_or xs p 0)) [
+    elim (nat_le offset p) as (λ b. nat_le offset p ≡ b →
+    get_or (octets_after_write xs offset bytes) p 0 ≡ cond (b && nat_lt p (offset + length bytes)) (get_or bytes (p - offset) 0) (get_or xs p 0)) [
       | true ↦ λ t.
           let low : offset ≤ p = grind (arith, nat_tests) in
           get_or-append_right (take offset xs) (bytes ++ drop (offset + length bytes) xs) offset p 0 front_length low
-          ∙ elim (nat_lt p (offset + length bytes)) as (λ b. nat_lt p (offset + length bytes) ≡ b → get_or (bytes ++ drop (offset + length bytes) xs) (p - offset) 0 ≡ cond b (get_or bytes (p - offset) 0) (get_or xs p 0)) [
-            | true ↦ λ u. let high : p < offset + length bytes = grind (arith, nat_tests) in get_or_append_left bytes (drop (offset + length bytes) xs) 0 (p - offset) (omega arith)
+          ∙ elim (nat_lt p (offset + length bytes)) as (λ b. nat_lt p (offset + length bytes) ≡ b →
+          get_or (bytes ++ drop (offset + length bytes) xs) (p - offset) 0 ≡ cond b (get_or bytes (p - offset) 0) (get_or xs p 0)) [
+            | true ↦ λ u. let high : p < offset + length bytes = grind (arith, nat_tests) in
+                get_or_append_left bytes (drop (offset + length bytes) xs) 0 (p - offset) (omega arith)
             | false ↦ λ u.
                 let high : offset + length bytes ≤ p = grind (arith, nat_tests) in
                 get_or-append_right bytes (drop (offset + length bytes) xs) (length bytes) (p - offset) 0 refl (omega arith)
@@ -184,26 +202,33 @@ module _ {K : Type 0} where
   }
 
   complete_is : (s : Assembly K) (g : Got) (n : ℕ) → AreSeparate 0 s.ranges → Gathers s g → IsWhole g n → is_complete s ≡ true
-  complete_is s g n sep h w = is_total_of s.total (front s.ranges) (h.total ∙ w.total ∙ ap (λ (m : ℕ). Some m) (front_least s.ranges n sep (λ p l. h.places p ∙ w.below p l) (h.places n ∙ w.at)))
+  complete_is s g n sep h w = is_total_of s.total (front s.ranges)
+      (h.total ∙ w.total ∙ ap (λ (m : ℕ). Some m) (front_least s.ranges n sep (λ p l. h.places p ∙ w.below p l) (h.places n ∙ w.at)))
 
-  pub complete_iff : (s : Assembly K) (g : Got) → AreSeparate 0 s.ranges → Gathers s g → (is_complete s ≡ true → (n : ℕ) × IsWhole g n) × (((n : ℕ) × IsWhole g n) → is_complete s ≡ true)
+  pub complete_iff : (s : Assembly K) (g : Got) →
+      AreSeparate 0 s.ranges → Gathers s g → (is_complete s ≡ true → (n : ℕ) × IsWhole g n) × (((n : ℕ) × IsWhole g n) → is_complete s ≡ true)
   complete_iff s g sep h = (λ t. (front s.ranges, whole_is s g sep h t), λ w. complete_is s g w.0 sep h w.1)
 
   -- what is lent is what the fragments give together
-  pub rebuilt_is : (s : Assembly K) (g : Got) (xs : List ℕ) → AreSeparate 0 s.ranges → Gathers s g → is_complete s ≡ true → length xs ≡ front s.ranges → ((p : ℕ) → p < length xs → get_or xs p 0 ≡ get_or s.octets p 0) → IsRebuilt g xs
+  pub rebuilt_is : (s : Assembly K) (g : Got) (xs : List ℕ) → AreSeparate 0 s.ranges → Gathers s g → is_complete s ≡ true →
+      length xs ≡ front s.ranges → ((p : ℕ) → p < length xs → get_or xs p 0 ≡ get_or s.octets p 0) → IsRebuilt g xs
   rebuilt_is s g xs sep h t e same = record {
     whole = rw e (whole_is s g sep h t);
     octets_at = λ p l. same p l ∙ h.octets p ((whole_is s g sep h t).below p (omega arith));
   }
 
   -- as many ranges as the place has with one more
-  ranges_are : (s : Assembly K) (g : Got) (f : Fragment) (rs : List Range) → Gathers s g → AreSound s.ranges → IsUnion s.ranges rs f.offset (end_of f) → end_of f ≤ 4096 → ranges (g.fragments ++ f ∷ []) ≡ length rs
+  ranges_are : (s : Assembly K) (g : Got) (f : Fragment) (rs : List Range) →
+      Gathers s g → AreSound s.ranges → IsUnion s.ranges rs f.offset (end_of f) → end_of f ≤ 4096 → ranges (g.fragments ++ f ∷ []) ≡ length rs
   ranges_are s g f rs h sound u w =
-      runs_same (is_covered (g.fragments ++ f ∷ [])) (covered rs) (λ p. covered_more g.fragments f p ∙ ap (λ b. has_place f p || b) (sym (h.places p)) ∙ sym (u.covers p)) 4096
+      runs_same (is_covered (g.fragments ++ f ∷ [])) (covered rs)
+      (λ p. covered_more g.fragments f p ∙ ap (λ b. has_place f p || b) (sym (h.places p)) ∙ sym (u.covers p)) 4096
       ∙ runs_of 0 4096 rs u.separate (λ p k. below_end s.ranges f p w (sound.within p) (sym (u.covers p) ∙ k))
 
   -- a place that took a fragment's octets
-  pub gathers_more : (s : Assembly K) (g : Got) (f : Fragment) (rs : List Range) (xs : List ℕ) → Gathers s g → AreSound s.ranges → IsUnion s.ranges rs f.offset (end_of f) → end_of f ≤ 4096 → length s.octets ≡ 4096 → length rs ≤ 4 → xs ≡ octets_after_write s.octets f.offset f.octets → Gathers (record s { ranges = rs; octets = xs }) (with_kept g f)
+  pub gathers_more : (s : Assembly K) (g : Got) (f : Fragment) (rs : List Range) (xs : List ℕ) →
+      Gathers s g → AreSound s.ranges → IsUnion s.ranges rs f.offset (end_of f) → end_of f ≤ 4096 → length s.octets ≡ 4096 → length rs ≤ 4 →
+      xs ≡ octets_after_write s.octets f.offset f.octets → Gathers (record s { ranges = rs; octets = xs }) (with_kept g f)
   gathers_more s g f rs xs h sound u w long few e =
       let n = ranges_are s g f rs h sound u w in
       rw (n, few_test (length rs) few) (record {
@@ -218,7 +243,8 @@ module _ {K : Type 0} where
       })
 
   -- and one that could not
-  pub gathers_left : (s : Assembly K) (g : Got) (f : Fragment) (rs : List Range) → Gathers s g → AreSound s.ranges → IsUnion s.ranges rs f.offset (end_of f) → end_of f ≤ 4096 → 4 < length rs → Gathers s (with_kept g f)
+  pub gathers_left : (s : Assembly K) (g : Got) (f : Fragment) (rs : List Range) →
+      Gathers s g → AreSound s.ranges → IsUnion s.ranges rs f.offset (end_of f) → end_of f ≤ 4096 → 4 < length rs → Gathers s (with_kept g f)
   gathers_left s g f rs h sound u w many = rw (ranges_are s g f rs h sound u w, many_test (length rs) many) h
 
 -- the fragments and the total give one list alone
@@ -268,7 +294,8 @@ allowed (Some t) n h =
     elim (t == n) as (λ b. (not b || nat_lt 4096 n ≡ true → false ≡ true) → b ≡ true) [ true ↦ λ h. refl | false ↦ λ h. h refl ] h
 
 -- a last fragment whose total is allowed is fit
-pub fit_last : {A E : Type 0} (r : Result A E) (o : Option ℕ) (f : Fragment) → end_of f ≤ 4096 → (IsTrue (is_refused o (end_of f)) → IsErr r) → false ≡ is_err r → f.is_last ≡ true → is_fit o f ≡ true
+pub fit_last : {A E : Type 0} (r : Result A E) (o : Option ℕ) (f : Fragment) →
+    end_of f ≤ 4096 → (IsTrue (is_refused o (end_of f)) → IsErr r) → false ≡ is_err r → f.is_last ≡ true → is_fit o f ≡ true
 fit_last (Ok x) o f le h e last = rw (last, allowed o (end_of f) h) (grind (arith, nat_tests))
 fit_last (Err x) o f le h e last = absurd (two_ways false e refl)
 

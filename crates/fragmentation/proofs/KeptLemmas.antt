@@ -1,11 +1,13 @@
 -- Places with their keys, no two of which are taken for one.
-use Rattle.std.proofs.Common.{◌≡◌, ◌<◌, ◌≤◌, ◌+◌, ℕ, ℤ, zero, suc, Bool, true, false, List, [], ◌∷◌, Option, Some, None, length, get_or, slice_get, slice_set, add-one, refl, sym, ap, ◌∙◌, arith, inl, inr}
+use Rattle.std.proofs.Common.{◌≡◌, ◌<◌, ◌≤◌, ◌+◌, ℕ, ℤ, zero, suc, Bool, true, false, List, [], ◌∷◌, Option, Some, None}
+use Rattle.std.proofs.Common.{length, get_or, slice_get, slice_set, add-one, refl, sym, ap, ◌∙◌, arith, inl, inr}
 use Rattle.std.specs.Prelude.{cond, is_none, ◌⊎◌, ◌==◌}
 use Rattle.std.proofs.lemmas.Bool.Decides.{nat_tests}
 use Rattle.std.proofs.Math.Path.{fun_ext}
 use Rattle.std.proofs.lemmas.List.{length-set}
 use Rattle.std.specs.List.{refill}
-use Rattle.fragmentation.specs.Assembly.{Assembly, index_of_key, free_slot, slot_for, has_key, IsFree, taken, with_key, with_keys, keys_of, taken_at, AreApart, AreKept}
+use Rattle.fragmentation.specs.Assembly.{Assembly, index_of_key, free_slot, slot_for, has_key, IsFree}
+use Rattle.fragmentation.specs.Assembly.{taken, with_key, with_keys, keys_of, taken_at, AreApart, AreKept}
 use Rattle.fragmentation.specs.Lending.{FreedIfLent}
 use Rattle.fragmentation.proofs.PlacesLemmas.{choose_keyed, index_of_key-le, refilled}
 
@@ -16,10 +18,16 @@ same_some : {A : Type 0} (x y : A) → Some x ≡ Some y → x ≡ y
 same_some x y e = cc
 
 below_or_at : (a n : ℕ) → a ≤ n → (a < n) ⊎ (a ≡ n)
-below_or_at a n h = elim (a == n) as (λ b. a == n ≡ b → (a < n) ⊎ (a ≡ n)) [ true ↦ λ t. inr (grind (arith, nat_tests)) | false ↦ λ t. inl (grind (arith, nat_tests)) ] refl
+below_or_at a n h = elim (a == n) as (λ b. a == n ≡ b → (a < n) ⊎ (a ≡ n)) [
+  | true ↦ λ t. inr (grind (arith, nat_tests))
+  | false ↦ λ t. inl (grind (arith, nat_tests))
+] refl
 
 same_or_not : (a b : ℕ) → (a ≡ b) ⊎ (a ≡ b → ⊥)
-same_or_not a b = elim (a == b) as (λ t. a == b ≡ t → (a ≡ b) ⊎ (a ≡ b → ⊥)) [ true ↦ λ t. inl (grind (arith, nat_tests)) | false ↦ λ t. inr (λ e. grind (arith, nat_tests)) ] refl
+same_or_not a b = elim (a == b) as (λ t. a == b ≡ t → (a ≡ b) ⊎ (a ≡ b → ⊥)) [
+  | true ↦ λ t. inl (grind (arith, nat_tests))
+  | false ↦ λ t. inr (λ e. grind (arith, nat_tests))
+] refl
 
 module _ {K : Type 0} where
   own_key : (o : Option K) → cond (is_none o) None o ≡ o
@@ -28,14 +36,16 @@ module _ {K : Type 0} where
 
   -- a place that has its key, or is free, stays what it is
   pub with_own : (o : Option K) (s : Assembly K) → s.key ≡ o → with_key o s ≡ s
-  with_own o s e = ap (λ (q : Option K). record s { key = cond (is_none s.key) None q }) (sym e) ∙ ap (λ (q : Option K). record s { key = q }) (own_key s.key)
+  with_own o s e = ap (λ (q : Option K). record s { key = cond (is_none s.key) None q }) (sym e)
+      ∙ ap (λ (q : Option K). record s { key = q }) (own_key s.key)
 
   pub with_none : (o : Option K) (s : Assembly K) → s.key ≡ None → with_key o s ≡ s
   with_none o s e = ap (λ (q : Option K). record s { key = cond (is_none q) None o }) e ∙ ap (λ (q : Option K). record s { key = q }) (sym e)
 
   pub with_own_keys : (ss : List (Assembly K)) → with_keys (keys_of ss) ss ≡ ss
   with_own_keys [] = refl
-  with_own_keys (s ∷ ss) = ap (λ (x : Assembly K). x ∷ with_keys (keys_of ss) ss) (with_own s.key s refl) ∙ ap (λ (xs : List (Assembly K)). s ∷ xs) (with_own_keys ss)
+  with_own_keys (s ∷ ss) = ap (λ (x : Assembly K). x ∷ with_keys (keys_of ss) ss) (with_own s.key s refl)
+      ∙ ap (λ (xs : List (Assembly K)). s ∷ xs) (with_own_keys ss)
 
   -- what is left of a place that was lent has its key, or is free
   pub lent_left : {B : Type 0} (s new last : Assembly K) (r : Option B) → new.key ≡ s.key → FreedIfLent new r last → with_key s.key last ≡ last
@@ -66,22 +76,27 @@ module _ {K : Type 0} where
   taken_beyond zero k end (s ∷ ss) h = absurd (omega arith)
   taken_beyond (suc i) k end (s ∷ ss) h = ap (λ (xs : List (Assembly K)). s ∷ xs) (taken_beyond i k end ss (omega arith))
 
-  pub get_taken : (i : ℕ) (k : K) (end : ℤ) (ss : List (Assembly K)) (d : Assembly K) → i < length ss → get_or (taken_at i k end ss) i d ≡ taken k end (get_or ss i d)
+  pub get_taken : (i : ℕ) (k : K) (end : ℤ) (ss : List (Assembly K)) (d : Assembly K) →
+      i < length ss → get_or (taken_at i k end ss) i d ≡ taken k end (get_or ss i d)
   get_taken i k end [] d h = absurd (omega arith)
   get_taken zero k end (s ∷ ss) d h = refl
   get_taken (suc i) k end (s ∷ ss) d h = get_taken i k end ss d (omega arith)
 
   -- whatever is left in it
-  lent_one : (i : ℕ) (k : K) (end : ℤ) (ss : List (Assembly K)) (o : Option K) (d w : Assembly K) → i < length ss → o ≡ (taken k end (get_or ss i d)).key
+  lent_one : (i : ℕ) (k : K) (end : ℤ) (ss : List (Assembly K)) (o : Option K) (d w : Assembly K) →
+      i < length ss → o ≡ (taken k end (get_or ss i d)).key
       → with_keys (keys_of (taken_at i k end ss)) (slice_set (taken_at i k end ss) i w) ≡ slice_set ss i (with_key o w)
   lent_one i k end [] o d w h e = absurd (omega arith)
-  lent_one zero k end (s ∷ ss) o d w h e = ap (λ (q : Option K). with_key q w ∷ with_keys (keys_of ss) ss) (sym e) ∙ ap (λ (xs : List (Assembly K)). with_key o w ∷ xs) (with_own_keys ss)
+  lent_one zero k end (s ∷ ss) o d w h e = ap (λ (q : Option K). with_key q w ∷ with_keys (keys_of ss) ss) (sym e)
+      ∙ ap (λ (xs : List (Assembly K)). with_key o w ∷ xs) (with_own_keys ss)
   lent_one (suc i) k end (s ∷ ss) o d w h e =
       ap (λ (x : Assembly K). x ∷ with_keys (keys_of (taken_at i k end ss)) (slice_set (taken_at i k end ss) i w)) (with_own s.key s refl)
       ∙ ap (λ (xs : List (Assembly K)). s ∷ xs) (lent_one i k end ss o d w (omega arith) e)
 
-  pub lent_as : (i : ℕ) (k : K) (end : ℤ) (ss : List (Assembly K)) (o : Option K) (d : Assembly K) → i < length ss → o ≡ (taken k end (get_or ss i d)).key
-      → ◌≡◌ {A = Assembly K → List (Assembly K)} (λ w. with_keys (keys_of (taken_at i k end ss)) (slice_set (taken_at i k end ss) i w)) (λ w. slice_set ss i (with_key o w))
+  pub lent_as : (i : ℕ) (k : K) (end : ℤ) (ss : List (Assembly K)) (o : Option K) (d : Assembly K) →
+      i < length ss → o ≡ (taken k end (get_or ss i d)).key
+      → ◌≡◌ {A = Assembly K → List (Assembly K)} (λ w. with_keys (keys_of (taken_at i k end ss)) (slice_set (taken_at i k end ss) i w))
+      (λ w. slice_set ss i (with_key o w))
   lent_as i k end ss o d h e = fun_ext (λ w. lent_one i k end ss o d w h e)
 
   -- no two of two places without a key have one
@@ -94,7 +109,8 @@ module _ {K : Type 0} where
   with_only : (o : Option K) (s : Assembly K) (k : K) → (with_key o s).key ≡ Some k → o ≡ Some k
   with_only o s k e = elim s.key as (λ q. cond (is_none q) None o ≡ Some k → o ≡ Some k) [ None ↦ λ e. absurd (no_key k e) | Some j ↦ λ e. e ] e
 
-  pub with_among : (os : List (Option K)) (ss : List (Assembly K)) (i : ℕ) (k : K) → slice_get (keys_of (with_keys os ss)) i ≡ Some (Some k) → slice_get os i ≡ Some (Some k)
+  pub with_among : (os : List (Option K)) (ss : List (Assembly K)) (i : ℕ) (k : K) →
+      slice_get (keys_of (with_keys os ss)) i ≡ Some (Some k) → slice_get os i ≡ Some (Some k)
   with_among [] ss i k e = absurd (no_key (Some k) e)
   with_among (o ∷ os) [] i k e = absurd (no_key (Some k) e)
   with_among (o ∷ os) (s ∷ ss) zero k e = ap (λ (q : Option K). Some q) (with_only o s k (same_some (with_key o s).key (Some k) e))
@@ -115,7 +131,10 @@ module _ {K : Type 0} where
       → (slice_get (keys_of ss) j ≡ Some (Some q)) ⊎ ((j ≡ i) × (slice_get (keys_of ss) j ≡ Some None) × (q ≡ k))
   taken_there i k end [] j q e = absurd (no_key (Some q) e)
   taken_there zero k end (s ∷ ss) zero q e =
-      elim (taken_key k end s q (same_some (taken k end s).key (Some q) e)) [ inl f ↦ inl (ap (λ (o : Option K). Some o) f) | inr p ↦ inr (refl, ap (λ (o : Option K). Some o) p.0, p.1) ]
+      elim (taken_key k end s q (same_some (taken k end s).key (Some q) e)) [
+        | inl f ↦ inl (ap (λ (o : Option K). Some o) f)
+        | inr p ↦ inr (refl, ap (λ (o : Option K). Some o) p.0, p.1)
+      ]
   taken_there zero k end (s ∷ ss) (suc j) q e = inl e
   taken_there (suc i) k end (s ∷ ss) zero q e = inl e
   taken_there (suc i) k end (s ∷ ss) (suc j) q e = elim (taken_there i k end ss j q e) [ inl f ↦ inl f | inr p ↦ inr (ap suc p.0, p.1, p.2) ]
@@ -138,27 +157,32 @@ module _ {K : Type 0} where
     keyed_some : (k : K) (ss : List (Assembly K)) → index_of_key eq k ss < length ss → slice_get (keys_of ss) (index_of_key eq k ss) ≡ Some None → ⊥
     keyed_some k [] h e = omega arith
     keyed_some k (s ∷ ss) h e =
-        elim s.key as (λ o. cond (has_key eq k o) 0 (index_of_key eq k ss + 1) < suc (length ss) → slice_get (o ∷ keys_of ss) (cond (has_key eq k o) 0 (index_of_key eq k ss + 1)) ≡ Some None → ⊥) [
+        elim s.key as (λ o. cond (has_key eq k o) 0 (index_of_key eq k ss + 1) < suc (length ss) →
+        slice_get (o ∷ keys_of ss) (cond (has_key eq k o) 0 (index_of_key eq k ss + 1)) ≡ Some None → ⊥) [
           | None ↦ λ l f. keyed_some k ss (omega arith) (rw add-one at f)
           | Some q ↦ λ l f.
-              elim (eq q k) as (λ b. cond b 0 (index_of_key eq k ss + 1) < suc (length ss) → slice_get (Some q ∷ keys_of ss) (cond b 0 (index_of_key eq k ss + 1)) ≡ Some None → ⊥) [
+              elim (eq q k) as (λ b. cond b 0 (index_of_key eq k ss + 1) < suc (length ss) →
+              slice_get (Some q ∷ keys_of ss) (cond b 0 (index_of_key eq k ss + 1)) ≡ Some None → ⊥) [
                 | true ↦ λ l f. no_key q (sym (same_some (Some q) None f))
                 | false ↦ λ l f. keyed_some k ss (omega arith) (rw add-one at f)
               ] l f
         ] h e
 
     -- where the place that serves a key is free, no place is taken for the key
-    unserved : (k : K) (ss : List (Assembly K)) (i j : ℕ) → i ≡ slot_for eq k ss → slice_get (keys_of ss) i ≡ Some None → slice_get (keys_of ss) j ≡ Some (Some k) → ⊥
+    unserved : (k : K) (ss : List (Assembly K)) (i j : ℕ) →
+        i ≡ slot_for eq k ss → slice_get (keys_of ss) i ≡ Some None → slice_get (keys_of ss) j ≡ Some (Some k) → ⊥
     unserved k ss i j is free there =
         elim (below_or_at (index_of_key eq k ss) (length ss) (index_of_key-le eq k ss)) [
-          | inl below ↦ keyed_some k ss below (ap (slice_get (keys_of ss)) (sym (is ∙ choose_keyed (index_of_key eq k ss) (length ss) (free_slot ss) below)) ∙ free)
+          | inl below ↦ keyed_some k ss below
+              (ap (slice_get (keys_of ss)) (sym (is ∙ choose_keyed (index_of_key eq k ss) (length ss) (free_slot ss) below)) ∙ free)
           | inr at ↦ keyed_none k ss j at there
         ]
 
     pub apart_taken : (k : K) (end : ℤ) (ss : List (Assembly K)) → AreApart (keys_of ss) → AreApart (keys_of (taken_at (slot_for eq k ss) k end ss))
     apart_taken k end ss h a b q at_a at_b =
         let i = slot_for eq k ss in
-        let other : (c : ℕ) → slice_get (keys_of ss) i ≡ Some None → slice_get (keys_of ss) c ≡ Some (Some q) → q ≡ k → ⊥ = λ c free there same. unserved k ss i c refl free (there ∙ ap (λ (x : K). Some (Some x)) same) in
+        let other : (c : ℕ) → slice_get (keys_of ss) i ≡ Some None → slice_get (keys_of ss) c ≡ Some (Some q) → q ≡ k →
+        ⊥ = λ c free there same. unserved k ss i c refl free (there ∙ ap (λ (x : K). Some (Some x)) same) in
         elim (taken_there i k end ss a q at_a) [
           | inl f ↦ elim (taken_there i k end ss b q at_b) [
             | inl g ↦ h a b q f g
@@ -171,17 +195,21 @@ module _ {K : Type 0} where
         ]
 
   -- the key and the place that were found for it, and what the keys and the places are then
-  pub record Took (eq : K → K → Bool) (k : K) (end : ℤ) (os : List (Option K)) (ss : List (Assembly K)) (p : ℕ) (ks : List (Option K)) (ps : List (Assembly K)) : Type 0 where
+  pub record Took (eq : K → K → Bool) (k : K) (end : ℤ) (os : List (Option K)) (ss : List (Assembly K)) (p : ℕ)
+      (ks : List (Option K)) (ps : List (Assembly K)) : Type 0 where
     pub slot : p ≡ slot_for eq k (with_keys os ss)
     pub taken : ps ≡ taken_at (slot_for eq k (with_keys os ss)) k end (with_keys os ss)
     pub keys : ks ≡ keys_of ps
 
   -- where they were lent as slices
-  pub took_of : {eq : K → K → Bool} {k : K} {end : ℤ} {os os' : List (Option K)} {ss ss' : List (Assembly K)} {p : ℕ} {ks : List (Option K)} {ps : List (Assembly K)} → os' ≡ os → ss' ≡ ss
-      → p ≡ slot_for eq k (with_keys os' ss') → ps ≡ taken_at (slot_for eq k (with_keys os' ss')) k end (with_keys os' ss') → ks ≡ keys_of ps → Took eq k end os ss p ks ps
+  pub took_of : {eq : K → K → Bool} {k : K} {end : ℤ} {os os' : List (Option K)} {ss ss' : List (Assembly K)} {p : ℕ} {ks : List (Option K)}
+      {ps : List (Assembly K)} → os' ≡ os → ss' ≡ ss
+      → p ≡ slot_for eq k (with_keys os' ss') → ps ≡ taken_at (slot_for eq k (with_keys os' ss')) k end (with_keys os' ss') →
+      ks ≡ keys_of ps → Took eq k end os ss p ks ps
   took_of e f slot taken keys = record { slot = rw (e, f) at slot; taken = rw (e, f) at taken; keys = keys }
 
-  module _ (eq : K → K → Bool) (reflexive : (k : K) → eq k k ≡ true) (k : K) (end : ℤ) (os : List (Option K)) (ss : List (Assembly K)) (p : ℕ) (ks : List (Option K)) (ps : List (Assembly K)) (kept : AreKept os ss) (took : Took eq k end os ss p ks ps) where
+  module _ (eq : K → K → Bool) (reflexive : (k : K) → eq k k ≡ true) (k : K) (end : ℤ) (os : List (Option K)) (ss : List (Assembly K)) (p : ℕ)
+      (ks : List (Option K)) (ps : List (Assembly K)) (kept : AreKept os ss) (took : Took eq k end os ss p ks ps) where
     pub length-shown : length (with_keys os ss) ≡ 2
     length-shown = length-with_keys os ss (kept.keys ∙ sym kept.places) ∙ kept.places
 
@@ -201,19 +229,32 @@ module _ {K : Type 0} where
     apart_then = rw keys_are (apart_taken eq reflexive k end (with_keys os ss) (apart_with os ss kept.apart))
 
     pub kept_then : AreKept (refill (length os) os ks) (refill (length ss) ss ps)
-    kept_then = record { keys = ap length keys_are ∙ length-keys_of (taken_at (slot_for eq k (with_keys os ss)) k end (with_keys os ss)) ∙ sym (ap length took.taken) ∙ length-places; places = ap length places_are ∙ sym (ap length took.taken) ∙ length-places; apart = apart_then }
+    kept_then = record {
+      keys = ap length keys_are ∙ length-keys_of (taken_at (slot_for eq k (with_keys os ss)) k end (with_keys os ss))
+          ∙ sym (ap length took.taken) ∙ length-places;
+      places = ap length places_are ∙ sym (ap length took.taken) ∙ length-places;
+      apart = apart_then;
+    }
 
     pub kept_lent : (w : Assembly K) → AreKept (refill (length os) os ks) (slice_set (refill (length ss) ss ps) p w)
     kept_lent w = record { keys = kept_then.keys; places = length-set (refill (length ss) ss ps) p w ∙ kept_then.places; apart = apart_then }
 
-    pub shown_place : (d : Assembly K) → p < length (with_keys os ss) → get_or (refill (length ss) ss ps) p d ≡ taken k end (get_or (with_keys os ss) (slot_for eq k (with_keys os ss)) d)
-    shown_place d h = ap (λ (xs : List (Assembly K)). get_or xs p d) places_are ∙ ap (λ i. get_or (taken_at (slot_for eq k (with_keys os ss)) k end (with_keys os ss)) i d) took.slot ∙ get_taken (slot_for eq k (with_keys os ss)) k end (with_keys os ss) d (rw took.slot at h)
+    pub shown_place : (d : Assembly K) → p < length (with_keys os ss) →
+        get_or (refill (length ss) ss ps) p d ≡ taken k end (get_or (with_keys os ss) (slot_for eq k (with_keys os ss)) d)
+    shown_place d h = ap (λ (xs : List (Assembly K)). get_or xs p d) places_are
+        ∙ ap (λ i. get_or (taken_at (slot_for eq k (with_keys os ss)) k end (with_keys os ss)) i d) took.slot
+        ∙ get_taken (slot_for eq k (with_keys os ss)) k end (with_keys os ss) d (rw took.slot at h)
 
-    pub lent_shown : (o : Option K) (d : Assembly K) → p < length (with_keys os ss) → o ≡ (taken k end (get_or (with_keys os ss) (slot_for eq k (with_keys os ss)) d)).key
-        → ◌≡◌ {A = Assembly K → List (Assembly K)} (λ w. with_keys (refill (length os) os ks) (slice_set (refill (length ss) ss ps) p w)) (λ w. slice_set (with_keys os ss) (slot_for eq k (with_keys os ss)) (with_key o w))
-    lent_shown o d h e = rw (keys_are, places_are, took.slot) (lent_as (slot_for eq k (with_keys os ss)) k end (with_keys os ss) o d (rw took.slot at h) e)
+    pub lent_shown : (o : Option K) (d : Assembly K) →
+        p < length (with_keys os ss) → o ≡ (taken k end (get_or (with_keys os ss) (slot_for eq k (with_keys os ss)) d)).key
+        → ◌≡◌ {A = Assembly K → List (Assembly K)} (λ w. with_keys (refill (length os) os ks) (slice_set (refill (length ss) ss ps) p w))
+        (λ w. slice_set (with_keys os ss) (slot_for eq k (with_keys os ss)) (with_key o w))
+    lent_shown o d h e =
+        rw (keys_are, places_are, took.slot) (lent_as (slot_for eq k (with_keys os ss)) k end (with_keys os ss) o d (rw took.slot at h) e)
 
     pub none_shown : length (with_keys os ss) ≤ p → with_keys (refill (length os) os ks) (refill (length ss) ss ps) ≡ with_keys os ss
     none_shown h =
-        ap (λ xs. with_keys xs (refill (length ss) ss ps)) keys_are ∙ ap (with_keys (keys_of (taken_at (slot_for eq k (with_keys os ss)) k end (with_keys os ss)))) places_are
-        ∙ with_own_keys (taken_at (slot_for eq k (with_keys os ss)) k end (with_keys os ss)) ∙ taken_beyond (slot_for eq k (with_keys os ss)) k end (with_keys os ss) (rw took.slot at h)
+        ap (λ xs. with_keys xs (refill (length ss) ss ps)) keys_are
+        ∙ ap (with_keys (keys_of (taken_at (slot_for eq k (with_keys os ss)) k end (with_keys os ss)))) places_are
+        ∙ with_own_keys (taken_at (slot_for eq k (with_keys os ss)) k end (with_keys os ss))
+        ∙ taken_beyond (slot_for eq k (with_keys os ss)) k end (with_keys os ss) (rw took.slot at h)

@@ -12,7 +12,8 @@ use Rattle.fragmentation.specs.Keys.{key_cmp}
 use Rattle.fragmentation.specs.Slots.{Slot, Slots, has_ended, live_at}
 
 pub key_total : IsTotalOrder key_cmp
-key_total = then_total (on_total (λ (k : FragKey). k.identification) nat_cmp_total) (then_total (on_total (λ (k : FragKey). k.src_addr.bits) nat_cmp_total)
+key_total =
+    then_total (on_total (λ (k : FragKey). k.identification) nat_cmp_total) (then_total (on_total (λ (k : FragKey). k.src_addr.bits) nat_cmp_total)
     (then_total (on_total (λ (k : FragKey). k.dst_addr.bits) nat_cmp_total) (on_total (λ (k : FragKey). k.protocol) nat_cmp_total)))
 
 then_equal : (a b : Ordering) → ordering_then a b ≡ Equal → (a ≡ Equal) × (b ≡ Equal)
@@ -53,7 +54,10 @@ two_ways : (b : Bool) → b ≡ true → b ≡ false → ⊥
 two_ways b h k = cc
 
 pub keys_apart : (a b : FragKey) → (a ≡ b → ⊥) → eq_by_cmp key_cmp a b ≡ false
-keys_apart a b apart = elim (eq_by_cmp key_cmp a b) as (λ t. eq_by_cmp key_cmp a b ≡ t → t ≡ false) [ true ↦ λ h. absurd (apart (keys_equal a b h)) | false ↦ λ h. refl ] refl
+keys_apart a b apart = elim (eq_by_cmp key_cmp a b) as (λ t. eq_by_cmp key_cmp a b ≡ t → t ≡ false) [
+  | true ↦ λ h. absurd (apart (keys_equal a b h))
+  | false ↦ λ h. refl
+] refl
 
 pub get_put : (m : Slots) (k : FragKey) (v : Slot) → map.get (map.insert m k v) k ≡ Some v
 get_put m k v = get-insert key_total m k v k ∙ rw (key_tied k) refl
@@ -108,7 +112,8 @@ absent true o h = sym (h refl)
 absent false o h = refl
 
 pub out_absent : (m : Slots) (k : FragKey) → map.get m k ≡ None → map.remove m k ≡ m
-out_absent m k e = same _ _ (λ q. get-remove key_total m k q ∙ absent (eq_by_cmp key_cmp q k) (map.get m q) (λ h. ap (map.get m) (keys_equal q k h) ∙ e))
+out_absent m k e =
+    same _ _ (λ q. get-remove key_total m k q ∙ absent (eq_by_cmp key_cmp q k) (map.get m q) (λ h. ap (map.get m) (keys_equal q k h) ∙ e))
 
 -- what is there and is taken out can be put in again
 present : (b : Bool) (o : Option Slot) (v : Slot) → (b ≡ true → o ≡ Some v) → cond b (Some v) (cond b None o) ≡ o
@@ -127,13 +132,15 @@ len_out m k v e = sym (ap map.len (out_put m k v e)) ∙ len-insert key_total (m
 pub get_left : (t : ℤ) (m : Slots) (q : FragKey) → map.get (live_at t m) q ≡ cond (not (has_ended t (map.get m q))) (map.get m q) None
 get_left t m q = get-retain_keys m (λ k. not (has_ended t (map.get m k))) q (λ x e. ap (λ k. not (has_ended t (map.get m k))) (sym (key_same q x e)))
 
-left_out : (t : ℤ) (b : Bool) (o : Option Slot) → cond b None (cond (not (has_ended t o)) o None) ≡ cond (not (has_ended t (cond b None o))) (cond b None o) None
+left_out : (t : ℤ) (b : Bool) (o : Option Slot) →
+    cond b None (cond (not (has_ended t o)) o None) ≡ cond (not (has_ended t (cond b None o))) (cond b None o) None
 left_out t true o = refl
 left_out t false o = refl
 
 pub left_remove : (t : ℤ) (m : Slots) (k : FragKey) → map.remove (live_at t m) k ≡ live_at t (map.remove m k)
 left_remove t m k = same _ _ (λ q.
-    get-remove key_total (live_at t m) k q ∙ ap (cond (eq_by_cmp key_cmp q k) None) (get_left t m q) ∙ left_out t (eq_by_cmp key_cmp q k) (map.get m q)
+    get-remove key_total (live_at t m) k q ∙ ap (cond (eq_by_cmp key_cmp q k) None) (get_left t m q)
+    ∙ left_out t (eq_by_cmp key_cmp q k) (map.get m q)
     ∙ sym (ap (λ (o : Option Slot). cond (not (has_ended t o)) o None) (get-remove key_total m k q)) ∙ sym (get_left t (map.remove m k) q))
 
 -- a slot that has ended is not left
@@ -154,9 +161,12 @@ ties Greater s = refl
 number_ties : (m n : ℕ) → (m == n) ≡ is_eq (nat_cmp m n)
 number_ties m n = unsigned_ties m n
 
-parts : (p q r s : Bool) (w x y z : Ordering) → p ≡ is_eq w → q ≡ is_eq x → r ≡ is_eq y → s ≡ is_eq z → p && (q && (r && s)) ≡ is_eq (ordering_then w (ordering_then x (ordering_then y z)))
+parts : (p q r s : Bool) (w x y z : Ordering) → p ≡ is_eq w → q ≡ is_eq x → r ≡ is_eq y → s ≡ is_eq z →
+    p && (q && (r && s)) ≡ is_eq (ordering_then w (ordering_then x (ordering_then y z)))
 parts p q r s w x y z a b c d = rw (a, b, c, d) (sym (ties w _ ∙ ap (λ t. is_eq w && t) (ties x _ ∙ ap (λ t. is_eq x && t) (ties y z))))
 
 -- keys are equal part by part
-pub key_ties : (a b : FragKey) → (a.identification == b.identification) && ((a.src_addr.bits == b.src_addr.bits) && ((a.dst_addr.bits == b.dst_addr.bits) && (a.protocol == b.protocol))) ≡ eq_by_cmp key_cmp a b
-key_ties a b = parts _ _ _ _ _ _ _ _ (number_ties a.identification b.identification) (number_ties a.src_addr.bits b.src_addr.bits) (number_ties a.dst_addr.bits b.dst_addr.bits) (number_ties a.protocol b.protocol)
+pub key_ties : (a b : FragKey) → (a.identification == b.identification)
+    && ((a.src_addr.bits == b.src_addr.bits) && ((a.dst_addr.bits == b.dst_addr.bits) && (a.protocol == b.protocol))) ≡ eq_by_cmp key_cmp a b
+key_ties a b = parts _ _ _ _ _ _ _ _ (number_ties a.identification b.identification) (number_ties a.src_addr.bits b.src_addr.bits)
+    (number_ties a.dst_addr.bits b.dst_addr.bits) (number_ties a.protocol b.protocol)

@@ -1,5 +1,6 @@
 -- Places of a set.
-use Rattle.std.proofs.Common.{◌≡◌, ◌<◌, ◌≤◌, ◌+◌, ℕ, zero, suc, Bool, true, false, List, [], ◌∷◌, ◌++◌, map, take, drop, length, get_or, slice_set, add-one, ap, ◌∙◌, arith}
+use Rattle.std.proofs.Common.{◌≡◌, ◌<◌, ◌≤◌, ◌+◌, ℕ, zero, suc, Bool, true, false, List, [], ◌∷◌, ◌++◌}
+use Rattle.std.proofs.Common.{map, take, drop, length, get_or, slice_set, add-one, ap, ◌∙◌, arith}
 use Rattle.std.proofs.lemmas.Bool.Decides.{nat_tests}
 use Rattle.std.proofs.lemmas.List.{take_all, drop_all, append-nil}
 use Rattle.std.specs.List.{refill}
@@ -16,27 +17,39 @@ module _ {K : Type 0} where
   pub index_of_key-le : (eq : K → K → Bool) (k : K) (ss : List (Assembly K)) → index_of_key eq k ss ≤ length ss
   index_of_key-le eq k [] = omega arith
   index_of_key-le eq k (s ∷ ss) =
-      elim (has_key eq k s.key) as (λ b. cond b 0 (index_of_key eq k ss + 1) ≤ suc (length ss)) [ true ↦ omega arith | false ↦ let h = index_of_key-le eq k ss in omega arith ]
+      elim (has_key eq k s.key) as (λ b. cond b 0 (index_of_key eq k ss + 1) ≤ suc (length ss)) [
+        | true ↦ omega arith
+        | false ↦ let h = index_of_key-le eq k ss in omega arith
+      ]
 
   pub free_slot-le : (ss : List (Assembly K)) → free_slot ss ≤ length ss
   free_slot-le [] = omega arith
   free_slot-le (s ∷ ss) =
-      elim (is_none s.key) as (λ b. cond b 0 (free_slot ss + 1) ≤ suc (length ss)) [ true ↦ omega arith | false ↦ let h = free_slot-le ss in omega arith ]
+      elim (is_none s.key) as (λ b. cond b 0 (free_slot ss + 1) ≤ suc (length ss)) [
+        | true ↦ omega arith
+        | false ↦ let h = free_slot-le ss in omega arith
+      ]
 
   -- a place is at most the length
   pub slot_for-le : (eq : K → K → Bool) (k : K) (ss : List (Assembly K)) → slot_for eq k ss ≤ length ss
-  slot_for-le eq k ss = elim (index_of_key eq k ss == length ss) as (λ b. cond b (free_slot ss) (index_of_key eq k ss) ≤ length ss) [ true ↦ free_slot-le ss | false ↦ index_of_key-le eq k ss ]
+  slot_for-le eq k ss = elim (index_of_key eq k ss == length ss) as (λ b. cond b (free_slot ss) (index_of_key eq k ss) ≤ length ss) [
+    | true ↦ free_slot-le ss
+    | false ↦ index_of_key-le eq k ss
+  ]
 
 -- a list that is written anew through a slice of it
 pub refilled : {A : Type 0} (xs ws : List A) → length ws ≡ length xs → refill (length xs) xs ws ≡ ws
-refilled xs ws e = ap (take (length xs)) (ap (λ ys. ws ++ ys) (drop_all (length ws) xs (omega arith)) ∙ append-nil ws) ∙ take_all (length xs) ws (omega arith)
+refilled xs ws e = ap (take (length xs)) (ap (λ ys. ws ++ ys) (drop_all (length ws) xs (omega arith)) ∙ append-nil ws)
+    ∙ take_all (length xs) ws (omega arith)
 
 -- a loop that maps each item in its place
 module _ {A : Type 0} (f : A → A) where
-  step : (xs : List A) (i : ℕ) (y d : A) → i < length xs → y ≡ f (get_or (map f (take i xs) ++ drop i xs) i d) → slice_set (map f (take i xs) ++ drop i xs) i y ≡ map f (take (suc i) xs) ++ drop (suc i) xs
+  step : (xs : List A) (i : ℕ) (y d : A) → i < length xs → y ≡ f (get_or (map f (take i xs) ++ drop i xs) i d) →
+      slice_set (map f (take i xs) ++ drop i xs) i y ≡ map f (take (suc i) xs) ++ drop (suc i) xs
   step [] i y d h e = absurd (omega arith)
   step (x ∷ xs) zero y d h e = ap (λ (z : A). z ∷ xs) e
   step (x ∷ xs) (suc i) y d h e = ap (λ (zs : List A). f x ∷ zs) (step xs i y d (omega arith) e)
 
-  pub mapped_more : (xs ys : List A) (i : ℕ) (x y : A) → i < length xs → ys ≡ map f (take i xs) ++ drop i xs → x ≡ get_or ys i x → y ≡ f x → slice_set ys i y ≡ map f (take (i + 1) xs) ++ drop (i + 1) xs
+  pub mapped_more : (xs ys : List A) (i : ℕ) (x y : A) → i < length xs → ys ≡ map f (take i xs) ++ drop i xs → x ≡ get_or ys i x → y ≡ f x →
+      slice_set ys i y ≡ map f (take (i + 1) xs) ++ drop (i + 1) xs
   mapped_more xs ys i x y h e at k = rw (e, add-one) (step xs i y x h (k ∙ ap f (at ∙ ap (λ (zs : List A). get_or zs i x) e)))

@@ -1,5 +1,6 @@
 -- What a fragment does to places, told by the slots that they stand for.
-use Rattle.std.proofs.Common.{◌≡◌, ◌<◌, ◌≤◌, ℕ, ℤ, Bool, true, false, List, [], ◌∷◌, ◌++◌, Option, Some, None, length, get_or, slice_set, refl, sym, ap, ◌∙◌, arith, inl, inr}
+use Rattle.std.proofs.Common.{◌≡◌, ◌<◌, ◌≤◌, ℕ, ℤ, Bool, true, false, List, [], ◌∷◌, ◌++◌, Option, Some, None}
+use Rattle.std.proofs.Common.{length, get_or, slice_set, refl, sym, ap, ◌∙◌, arith, inl, inr}
 use Rattle.std.specs.Prelude.{◌==◌, ◌⊎◌, IsSome, IfSome, option_map}
 use Rattle.std.specs.Borrow.{Bor}
 use Rattle.std.proofs.lemmas.Bool.Decides.{nat_tests}
@@ -28,14 +29,17 @@ record Entered (ends : ℤ) (k : FragKey) (m : Slots) (s : Assembly FragKey) : T
 taken_kept : (k j : FragKey) (ends : ℤ) (s : Assembly FragKey) → s.key ≡ Some j → taken k ends s ≡ s
 taken_kept k j ends s e = rw e refl
 
-taken_new : (k : FragKey) (ends : ℤ) (s : Assembly FragKey) → s.key ≡ None → taken k ends s ≡ record { key = Some k; expires_at = ends; total = None; ranges = []; octets = s.octets }
+taken_new : (k : FragKey) (ends : ℤ) (s : Assembly FragKey) →
+    s.key ≡ None → taken k ends s ≡ record { key = Some k; expires_at = ends; total = None; ranges = []; octets = s.octets }
 taken_new k ends s e = rw e refl
 
-stood : (ends : ℤ) (k : FragKey) (m : Slots) (s new : Assembly FragKey) → s.key ≡ Some k → StandsAt s k m → new ≡ taken k ends s → Entered ends k m new
+stood : (ends : ℤ) (k : FragKey) (m : Slots) (s new : Assembly FragKey) →
+    s.key ≡ Some k → StandsAt s k m → new ≡ taken k ends s → Entered ends k m new
 stood ends k m s new e at is =
     rw (is, taken_kept k k ends s e) (record { slot = at.slot; notes = []; enters = Stood at.found refl; key = e; stands = at.stands })
 
-fresh : (ends : ℤ) (k : FragKey) (m : Slots) (s new : Assembly FragKey) → s.key ≡ None → map.get m k ≡ None → map.len m < 2 → new ≡ taken k ends s → Entered ends k m new
+fresh : (ends : ℤ) (k : FragKey) (m : Slots) (s new : Assembly FragKey) →
+    s.key ≡ None → map.get m k ≡ None → map.len m < 2 → new ≡ taken k ends s → Entered ends k m new
 fresh ends k m s new e none room is =
     rw (is, taken_new k ends s e) (record {
       slot = record { got = no_fragments; ends = ends };
@@ -46,7 +50,10 @@ fresh ends k m s new e none room is =
     })
 
 below_or_at : (a n : ℕ) → a ≤ n → (a < n) ⊎ (a ≡ n)
-below_or_at a n h = elim (a == n) as (λ b. a == n ≡ b → (a < n) ⊎ (a ≡ n)) [ true ↦ λ t. inr (grind (arith, nat_tests)) | false ↦ λ t. inl (grind (arith, nat_tests)) ] refl
+below_or_at a n h = elim (a == n) as (λ b. a == n ≡ b → (a < n) ⊎ (a ≡ n)) [
+  | true ↦ λ t. inr (grind (arith, nat_tests))
+  | false ↦ λ t. inl (grind (arith, nat_tests))
+] refl
 
 no_some : false ≡ true → ⊥
 no_some e = cc
@@ -54,7 +61,8 @@ no_some e = cc
 pub below : (p n : ℕ) → p ≤ n → (p ≡ n → false ≡ true) → p < n
 below p n h apart = elim (below_or_at p n h) [ inl l ↦ l | inr e ↦ absurd (no_some (apart e)) ]
 
-module _ (eq : FragKey → FragKey → Bool) (exact : (a b : FragKey) → eq a b ≡ eq_by_cmp key_cmp a b) (ends : ℤ) (k : FragKey) (m : Slots) (ss : List (Assembly FragKey)) (two : length ss ≡ 2) (h : StandForSlots ss m) where
+module _ (eq : FragKey → FragKey → Bool) (exact : (a b : FragKey) → eq a b ≡ eq_by_cmp key_cmp a b) (ends : ℤ) (k : FragKey) (m : Slots)
+    (ss : List (Assembly FragKey)) (two : length ss ≡ 2) (h : StandForSlots ss m) where
   may_serve : (d : Assembly FragKey) → slot_for eq k ss < length ss → MayServe (get_or ss (slot_for eq k ss) d) k m
   may_serve d l =
       elim (below_or_at (index_of_key eq k ss) (length ss) (index_of_key-le eq k ss)) [
@@ -74,7 +82,8 @@ module _ (eq : FragKey → FragKey → Bool) (exact : (a b : FragKey) → eq a b
         | inr at ↦
             let e = choose_free (index_of_key eq k ss) (length ss) (free_slot ss) at in
             let room = has_room ss m (rw e at l) h in
-            fresh ends k m (get_or ss (free_slot ss) new) new (free_key ss new (rw e at l)) (not_there eq exact k ss m at h) (omega arith) (rw e at is)
+            fresh ends k m (get_or ss (free_slot ss) new) new (free_key ss new (rw e at l))
+            (not_there eq exact k ss m at h) (omega arith) (rw e at is)
       ]
 
   pub no_slot : (f : Fragment) → slot_for eq k ss ≡ length ss → Reassembled ends k f None m ss
@@ -87,7 +96,8 @@ module _ (eq : FragKey → FragKey → Bool) (exact : (a b : FragKey) → eq a b
             record { notes = Arrival k f ∷ []; new = m; rule = NoSlot (not_there eq exact k ss m at h) (omega arith) refl refl refl; stands = h }
       ]
 
-  pub unfit : (f : Fragment) (s : Assembly FragKey) → slot_for eq k ss < length ss → s ≡ taken k ends (get_or ss (slot_for eq k ss) s) → is_fit s.total f ≡ false → Reassembled ends k f None m (slice_set ss (slot_for eq k ss) s)
+  pub unfit : (f : Fragment) (s : Assembly FragKey) → slot_for eq k ss < length ss → s ≡ taken k ends (get_or ss (slot_for eq k ss) s) →
+      is_fit s.total f ≡ false → Reassembled ends k f None m (slice_set ss (slot_for eq k ss) s)
   unfit f s l is fit =
       let en = entered s l is in
       record {
@@ -97,8 +107,10 @@ module _ (eq : FragKey → FragKey → Bool) (exact : (a b : FragKey) → eq a b
         stands = put_at ss m (slot_for eq k ss) k s s en.slot l (may_serve s l) en.key en.stands h;
       }
 
-  pub waits : (f : Fragment) (s new : Assembly FragKey) → slot_for eq k ss < length ss → s ≡ taken k ends (get_or ss (slot_for eq k ss) s) → is_fit s.total f ≡ true → new.key ≡ s.key → new.expires_at ≡ s.expires_at
-      → ((g : Got) → Gathers s g → Gathers new (with_one g f)) → ((g : Got) → Gathers new g → ((n : ℕ) × IsWhole g n) → ⊥) → Reassembled ends k f None m (slice_set ss (slot_for eq k ss) new)
+  pub waits : (f : Fragment) (s new : Assembly FragKey) → slot_for eq k ss < length ss → s ≡ taken k ends (get_or ss (slot_for eq k ss) s) →
+      is_fit s.total f ≡ true → new.key ≡ s.key → new.expires_at ≡ s.expires_at
+      → ((g : Got) → Gathers s g → Gathers new (with_one g f)) → ((g : Got) → Gathers new g → ((n : ℕ) × IsWhole g n) → ⊥) →
+      Reassembled ends k f None m (slice_set ss (slot_for eq k ss) new)
   waits f s new l is fit key end more part =
       let en = entered s l is in
       let got = more en.slot.got en.stands.got in
@@ -106,25 +118,31 @@ module _ (eq : FragKey → FragKey → Bool) (exact : (a b : FragKey) → eq a b
       record {
         notes = en.notes ++ Arrival k f ∷ [];
         new = map.insert m k slot;
-        rule = Waits en.slot en.notes en.enters (ap (λ (t : Option ℕ). is_fit t f) (sym en.stands.got.total) ∙ fit) (λ octets b. part (with_one en.slot.got f) got (length octets, b.whole)) refl refl refl;
+        rule = Waits en.slot en.notes en.enters (ap (λ (t : Option ℕ). is_fit t f) (sym en.stands.got.total) ∙ fit)
+            (λ octets b. part (with_one en.slot.got f) got (length octets, b.whole)) refl refl refl;
         stands = put_at ss m (slot_for eq k ss) k s new slot l (may_serve s l) (key ∙ en.key) (record { ends = end ∙ en.stands.ends; got = got }) h;
       }
 
-  pub rebuilt : (f : Fragment) (s new freed : Assembly FragKey) (octets : List ℕ) → slot_for eq k ss < length ss → s ≡ taken k ends (get_or ss (slot_for eq k ss) s) → is_fit s.total f ≡ true
-      → ((g : Got) → Gathers s g → Gathers new (with_one g f)) → ((g : Got) → Gathers new g → IsRebuilt g octets) → freed.key ≡ None → Reassembled ends k f (Some octets) m (slice_set ss (slot_for eq k ss) freed)
+  pub rebuilt : (f : Fragment) (s new freed : Assembly FragKey) (octets : List ℕ) →
+      slot_for eq k ss < length ss → s ≡ taken k ends (get_or ss (slot_for eq k ss) s) → is_fit s.total f ≡ true
+      → ((g : Got) → Gathers s g → Gathers new (with_one g f)) → ((g : Got) → Gathers new g → IsRebuilt g octets) → freed.key ≡ None →
+      Reassembled ends k f (Some octets) m (slice_set ss (slot_for eq k ss) freed)
   rebuilt f s new freed octets l is fit more whole free =
       let en = entered s l is in
       record {
         notes = en.notes ++ (Arrival k f ∷ Rebuild k octets ∷ []);
         new = map.remove m k;
-        rule = Rebuilt en.slot en.notes octets en.enters (ap (λ (t : Option ℕ). is_fit t f) (sym en.stands.got.total) ∙ fit) (whole (with_one en.slot.got f) (more en.slot.got en.stands.got)) refl refl refl;
+        rule = Rebuilt en.slot en.notes octets en.enters (ap (λ (t : Option ℕ). is_fit t f) (sym en.stands.got.total) ∙ fit)
+            (whole (with_one en.slot.got f) (more en.slot.got en.stands.got)) refl refl refl;
         stands = free_at ss m (slot_for eq k ss) k s freed l (may_serve s l) free h;
       }
 
   -- a fit fragment, and what is lent then
-  pub fit_then : (f : Fragment) (s new final : Assembly FragKey) (r : Option (Bor (List ℕ))) → slot_for eq k ss < length ss → s ≡ taken k ends (get_or ss (slot_for eq k ss) s) → is_fit s.total f ≡ true → new.key ≡ s.key → new.expires_at ≡ s.expires_at
+  pub fit_then : (f : Fragment) (s new final : Assembly FragKey) (r : Option (Bor (List ℕ))) → slot_for eq k ss < length ss →
+      s ≡ taken k ends (get_or ss (slot_for eq k ss) s) → is_fit s.total f ≡ true → new.key ≡ s.key → new.expires_at ≡ s.expires_at
       → ((g : Got) → Gathers s g → Gathers new (with_one g f)) → FreedIfLent new r final
-      → ((g : Got) → Gathers new g → (IsSome r → (n : ℕ) × IsWhole g n) × (((n : ℕ) × IsWhole g n) → IsSome r)) → IfSome r (λ b. (g : Got) → Gathers new g → IsRebuilt g b.now)
+      → ((g : Got) → Gathers new g → (IsSome r → (n : ℕ) × IsWhole g n) × (((n : ℕ) × IsWhole g n) → IsSome r)) →
+      IfSome r (λ b. (g : Got) → Gathers new g → IsRebuilt g b.now)
       → Reassembled ends k f (option_map (λ b. b.now) r) m (slice_set ss (slot_for eq k ss) final)
   fit_then f s new final None l is fit key end more freed found whole =
       rw freed (waits f s new l is fit key end more (λ g got w. no_some ((found g got).1 w)))

@@ -1,5 +1,6 @@
 -- Places that stand for slots.
-use Rattle.std.proofs.Common.{◌≡◌, ◌<◌, ◌≤◌, ◌+◌, ℕ, ℤ, zero, suc, Bool, true, false, List, [], ◌∷◌, Option, Some, None, map as each, length, get_or, slice_set, add-one, refl, sym, ap, subst, ◌∙◌, arith, inl, inr}
+use Rattle.std.proofs.Common.{◌≡◌, ◌<◌, ◌≤◌, ◌+◌, ℕ, ℤ, zero, suc, Bool, true, false, List, [], ◌∷◌, Option, Some, None}
+use Rattle.std.proofs.Common.{map as each, length, get_or, slice_set, add-one, refl, sym, ap, subst, ◌∙◌, arith, inl, inr}
 use Rattle.std.specs.Prelude.{cond, is_none, ◌⊎◌, int_lt}
 use Rattle.std.specs.Ordering.{eq_by_cmp}
 use Rattle.std.specs.FinMap as map
@@ -10,21 +11,26 @@ use Rattle.fragmentation.specs.Slots as slots
 use Rattle.fragmentation.specs.Slots.{Slot, Slots, has_ended}
 use Rattle.fragmentation.specs.Assembly.{Assembly, index_of_key, free_slot, has_key, slot_after_free, live_at, AreFree}
 use Rattle.fragmentation.specs.Stands.{StandsFor, StandsAt, StandsBefore, StandForSlotsOf, StandForSlots}
-use Rattle.fragmentation.proofs.KeyLemmas.{key_tied, keys_equal, get_put, get_put_apart, get_out, get_out_apart, put_out, put_out_apart, out_out, out_absent, len_out, left_remove, left_ended, left_kept, left_none}
+use Rattle.fragmentation.proofs.KeyLemmas.{key_tied, keys_equal, get_put, get_put_apart, get_out, get_out_apart, put_out}
+use Rattle.fragmentation.proofs.KeyLemmas.{put_out_apart, out_out, out_absent, len_out, left_remove, left_ended, left_kept, left_none}
 
 module _ {K : Type 0} (key_of : K → FragKey) where
   -- its key, and that the others stand for the rest
-  pub cases : (s : Assembly K) (Others : Slots → Type 0) (m : Slots) (P : Option K → Type 0) → StandsBefore key_of s s.key Others m → (s.key ≡ None → Others m → P None) → ((k : K) → s.key ≡ Some k → StandsAt s (key_of k) m → Others (map.remove m (key_of k)) → P (Some k)) → P s.key
+  pub cases : (s : Assembly K) (Others : Slots → Type 0) (m : Slots) (P : Option K → Type 0) →
+      StandsBefore key_of s s.key Others m → (s.key ≡ None → Others m → P None) →
+      ((k : K) → s.key ≡ Some k → StandsAt s (key_of k) m → Others (map.remove m (key_of k)) → P (Some k)) → P s.key
   cases s Others m P h none some =
       elim s.key as (λ o. s.key ≡ o → StandsBefore key_of s o Others m → P o) [
         | None ↦ λ e h. none e h
         | Some k ↦ λ e h. some k e h.0 h.1
       ] refl h
 
-  pub key_is : (s : Assembly K) (Others : Slots → Type 0) (m : Slots) (o : Option K) → s.key ≡ o → StandsBefore key_of s o Others m → StandsBefore key_of s s.key Others m
+  pub key_is : (s : Assembly K) (Others : Slots → Type 0) (m : Slots) (o : Option K) →
+      s.key ≡ o → StandsBefore key_of s o Others m → StandsBefore key_of s s.key Others m
   key_is s Others m o e h = subst (λ (o : Option K). StandsBefore key_of s o Others m) (sym e) h
 
-  same_place : (s new : Assembly K) (Others : Slots → Type 0) (m : Slots) (o : Option K) → new ≡ s → s.key ≡ o → StandsBefore key_of s o Others m → StandsBefore key_of new new.key Others m
+  same_place : (s new : Assembly K) (Others : Slots → Type 0) (m : Slots) (o : Option K) →
+      new ≡ s → s.key ≡ o → StandsBefore key_of s o Others m → StandsBefore key_of new new.key Others m
   same_place s new Others m o is e h = subst (λ (x : Assembly K). StandsBefore key_of x x.key Others m) (sym is) (key_is s Others m o e h)
 
 some_none : {A : Type 0} (x : A) → Some x ≡ None → ⊥
@@ -36,14 +42,16 @@ true_false e = cc
 there_apart : (m : Slots) (j k : FragKey) (v : Slot) → map.get (map.remove m j) k ≡ Some v → k ≡ j → ⊥
 there_apart m j k v e same = some_none v (sym e ∙ ap (map.get (map.remove m j)) same ∙ get_out m j)
 
-with_key : (s : Assembly FragKey) (Others : Slots → Type 0) (m : Slots) (k : FragKey) → s.key ≡ Some k → StandsBefore (λ k. k) s s.key Others m → StandsAt s k m × Others (map.remove m k)
+with_key : (s : Assembly FragKey) (Others : Slots → Type 0) (m : Slots) (k : FragKey) →
+    s.key ≡ Some k → StandsBefore (λ k. k) s s.key Others m → StandsAt s k m × Others (map.remove m k)
 with_key s Others m k e h = subst (λ (o : Option FragKey). StandsBefore (λ k. k) s o Others m) e h
 
 without_key : (s : Assembly FragKey) (Others : Slots → Type 0) (m : Slots) → s.key ≡ None → StandsBefore (λ k. k) s s.key Others m → Others m
 without_key s Others m e h = subst (λ (o : Option FragKey). StandsBefore (λ k. k) s o Others m) e h
 
 -- the place at i stands for the slot of its key
-pub there : (ss : List (Assembly FragKey)) (m : Slots) (i : ℕ) (k : FragKey) (d : Assembly FragKey) → i < length ss → (get_or ss i d).key ≡ Some k → StandForSlots ss m → StandsAt (get_or ss i d) k m
+pub there : (ss : List (Assembly FragKey)) (m : Slots) (i : ℕ) (k : FragKey) (d : Assembly FragKey) →
+    i < length ss → (get_or ss i d).key ≡ Some k → StandForSlots ss m → StandsAt (get_or ss i d) k m
 there [] m i k d l e h = absurd (omega arith)
 there (s ∷ ss) m zero k d l e h = (with_key s (StandForSlots ss) m k e h).0
 there (s ∷ ss) m (suc i) k d l e h =
@@ -57,7 +65,8 @@ there (s ∷ ss) m (suc i) k d l e h =
 abbrev pub MayServe : Assembly FragKey → FragKey → Slots → Type 0
 MayServe s k m = (s.key ≡ Some k) ⊎ ((s.key ≡ None) × (map.get m k ≡ None))
 
-serves_apart : (ss : List (Assembly FragKey)) (m : Slots) (s : Assembly FragKey) (i : ℕ) (j k : FragKey) (d : Assembly FragKey) → i < length ss → StandsAt s j m → StandForSlots ss (map.remove m j) → MayServe (get_or ss i d) k m → k ≡ j → ⊥
+serves_apart : (ss : List (Assembly FragKey)) (m : Slots) (s : Assembly FragKey) (i : ℕ) (j k : FragKey) (d : Assembly FragKey) →
+    i < length ss → StandsAt s j m → StandForSlots ss (map.remove m j) → MayServe (get_or ss i d) k m → k ≡ j → ⊥
 serves_apart ss m s i j k d l at others may same =
     elim may [
       | inl e ↦ let h = there ss (map.remove m j) i k d l e others in there_apart m j k h.slot h.found same
@@ -67,7 +76,8 @@ serves_apart ss m s i j k d l at others may same =
 serves_rest : (s : Assembly FragKey) (m : Slots) (j k : FragKey) → (k ≡ j → ⊥) → MayServe s k m → MayServe s k (map.remove m j)
 serves_rest s m j k apart may = elim may [ inl e ↦ inl e | inr p ↦ inr (p.0, get_out_apart m j k apart ∙ p.1) ]
 
-rest_of : (s : Assembly FragKey) (Others : Slots → Type 0) (m : Slots) (k : FragKey) → MayServe s k m → StandsBefore (λ k. k) s s.key Others m → Others (map.remove m k)
+rest_of : (s : Assembly FragKey) (Others : Slots → Type 0) (m : Slots) (k : FragKey) →
+    MayServe s k m → StandsBefore (λ k. k) s s.key Others m → Others (map.remove m k)
 rest_of s Others m k may h =
     elim may [
       | inl e ↦ (with_key s Others m k e h).1
@@ -75,22 +85,27 @@ rest_of s Others m k may h =
     ]
 
 -- a slot is put at a place that may serve its key
-pub put_at : (ss : List (Assembly FragKey)) (m : Slots) (i : ℕ) (k : FragKey) (d new : Assembly FragKey) (v : Slot) → i < length ss → MayServe (get_or ss i d) k m → new.key ≡ Some k → StandsFor new v → StandForSlots ss m → StandForSlots (slice_set ss i new) (map.insert m k v)
+pub put_at : (ss : List (Assembly FragKey)) (m : Slots) (i : ℕ) (k : FragKey) (d new : Assembly FragKey) (v : Slot) → i < length ss →
+    MayServe (get_or ss i d) k m → new.key ≡ Some k → StandsFor new v → StandForSlots ss m → StandForSlots (slice_set ss i new) (map.insert m k v)
 put_at [] m i k d new v l may e stands h = absurd (omega arith)
 put_at (s ∷ ss) m zero k d new v l may e stands h =
-    key_is (λ k. k) new (StandForSlots ss) (map.insert m k v) (Some k) e
-    (record { slot = v; found = get_put m k v; stands = stands }, subst (StandForSlots ss) (sym (put_out m k v)) (rest_of s (StandForSlots ss) m k may h))
+    key_is (λ k. k) new (StandForSlots ss) (map.insert m k v) (Some k) e (
+      record { slot = v; found = get_put m k v; stands = stands },
+      subst (StandForSlots ss) (sym (put_out m k v)) (rest_of s (StandForSlots ss) m k may h),
+    )
 put_at (s ∷ ss) m (suc i) k d new v l may e stands h =
     cases (λ k. k) s (StandForSlots ss) m (λ o. StandsBefore (λ k. k) s o (StandForSlots (slice_set ss i new)) (map.insert m k v)) h
     (λ _ others. put_at ss m i k d new v (omega arith) may e stands others)
     (λ j _ at others.
     let apart = serves_apart ss m s i j k d (omega arith) at others may in (
       record { slot = at.slot; found = get_put_apart m k j v (λ same. apart (sym same)) ∙ at.found; stands = at.stands },
-      subst (StandForSlots (slice_set ss i new)) (sym (put_out_apart m j k v apart)) (put_at ss (map.remove m j) i k d new v (omega arith) (serves_rest (get_or ss i d) m j k apart may) e stands others),
+      subst (StandForSlots (slice_set ss i new)) (sym (put_out_apart m j k v apart))
+          (put_at ss (map.remove m j) i k d new v (omega arith) (serves_rest (get_or ss i d) m j k apart may) e stands others),
     ))
 
 -- the slot of a place is given up
-pub free_at : (ss : List (Assembly FragKey)) (m : Slots) (i : ℕ) (k : FragKey) (d new : Assembly FragKey) → i < length ss → MayServe (get_or ss i d) k m → new.key ≡ None → StandForSlots ss m → StandForSlots (slice_set ss i new) (map.remove m k)
+pub free_at : (ss : List (Assembly FragKey)) (m : Slots) (i : ℕ) (k : FragKey) (d new : Assembly FragKey) →
+    i < length ss → MayServe (get_or ss i d) k m → new.key ≡ None → StandForSlots ss m → StandForSlots (slice_set ss i new) (map.remove m k)
 free_at [] m i k d new l may e h = absurd (omega arith)
 free_at (s ∷ ss) m zero k d new l may e h = key_is (λ k. k) new (StandForSlots ss) (map.remove m k) None e (rest_of s (StandForSlots ss) m k may h)
 free_at (s ∷ ss) m (suc i) k d new l may e h =
@@ -99,7 +114,8 @@ free_at (s ∷ ss) m (suc i) k d new l may e h =
     (λ j _ at others.
     let apart = serves_apart ss m s i j k d (omega arith) at others may in (
       record { slot = at.slot; found = get_out_apart m k j (λ same. apart (sym same)) ∙ at.found; stands = at.stands },
-      subst (StandForSlots (slice_set ss i new)) (sym (out_out m j k)) (free_at ss (map.remove m j) i k d new (omega arith) (serves_rest (get_or ss i d) m j k apart may) e others),
+      subst (StandForSlots (slice_set ss i new)) (sym (out_out m j k))
+          (free_at ss (map.remove m j) i k d new (omega arith) (serves_rest (get_or ss i d) m j k apart may) e others),
     ))
 
 module _ {K : Type 0} where
@@ -112,12 +128,14 @@ module _ {K : Type 0} where
   left_alive : (t : ℤ) (s : Assembly K) (k : K) → s.key ≡ Some k → int_lt s.expires_at t ≡ false → live_at t s ≡ s
   left_alive t s k e h = rw (e, h) refl
 
-  ended_as : (t : ℤ) (s : Assembly K) (k : FragKey) (m : Slots) (b : Bool) → StandsAt s k m → int_lt s.expires_at t ≡ b → has_ended t (map.get m k) ≡ b
+  ended_as : (t : ℤ) (s : Assembly K) (k : FragKey) (m : Slots) (b : Bool) →
+      StandsAt s k m → int_lt s.expires_at t ≡ b → has_ended t (map.get m k) ≡ b
   ended_as t s k m b at h = ap (has_ended t) at.found ∙ ap (λ z. int_lt z t) (sym at.stands.ends) ∙ h
 
 module _ {K : Type 0} (key_of : K → FragKey) where
   -- what is left of the places stands for what is left of the slots
-  pub left_all : (t : ℤ) (ss : List (Assembly K)) (m : Slots) → StandForSlotsOf key_of ss m → StandForSlotsOf key_of (each (live_at t) ss) (slots.live_at t m)
+  pub left_all : (t : ℤ) (ss : List (Assembly K)) (m : Slots) →
+      StandForSlotsOf key_of ss m → StandForSlotsOf key_of (each (live_at t) ss) (slots.live_at t m)
   left_all t [] m h = ap (slots.live_at t) h ∙ left_none t
   left_all t (s ∷ ss) m h =
       let Others : Slots → Type 0 = StandForSlotsOf key_of (each (live_at t) ss) in
@@ -125,10 +143,14 @@ module _ {K : Type 0} (key_of : K → FragKey) where
       (λ e others. same_place key_of s (live_at t s) Others (slots.live_at t m) None (left_free t s e) e (left_all t ss m others))
       (λ k e at others.
       let rest = left_all t ss (map.remove m (key_of k)) others in
-      elim (int_lt s.expires_at t) as (λ b. int_lt s.expires_at t ≡ b → StandsBefore key_of (live_at t s) (live_at t s).key Others (slots.live_at t m)) [
-        | true ↦ λ u. same_place key_of (slot_after_free s) (live_at t s) Others (slots.live_at t m) None (left_expired t s k e u) refl (subst Others (left_ended t m (key_of k) (ended_as t s (key_of k) m true at u)) rest)
-        | false ↦ λ u. same_place key_of s (live_at t s) Others (slots.live_at t m) (Some k) (left_alive t s k e u) e
-            (record { slot = at.slot; found = left_kept t m (key_of k) (ended_as t s (key_of k) m false at u) ∙ at.found; stands = at.stands }, subst Others (sym (left_remove t m (key_of k))) rest)
+      elim (int_lt s.expires_at t)
+      as (λ b. int_lt s.expires_at t ≡ b → StandsBefore key_of (live_at t s) (live_at t s).key Others (slots.live_at t m)) [
+        | true ↦ λ u. same_place key_of (slot_after_free s) (live_at t s) Others (slots.live_at t m) None (left_expired t s k e u) refl
+            (subst Others (left_ended t m (key_of k) (ended_as t s (key_of k) m true at u)) rest)
+        | false ↦ λ u. same_place key_of s (live_at t s) Others (slots.live_at t m) (Some k) (left_alive t s k e u) e (
+          record { slot = at.slot; found = left_kept t m (key_of k) (ended_as t s (key_of k) m false at u) ∙ at.found; stands = at.stands },
+          subst Others (sym (left_remove t m (key_of k))) rest,
+        )
       ] refl)
 
   -- free places stand for no slots
@@ -161,26 +183,31 @@ is_full (s ∷ ss) m f h =
 pub free_key : (ss : List (Assembly FragKey)) (d : Assembly FragKey) → free_slot ss < length ss → (get_or ss (free_slot ss) d).key ≡ None
 free_key [] d h = absurd (omega arith)
 free_key (s ∷ ss) d h =
-    elim s.key as (λ o. s.key ≡ o → cond (is_none o) 0 (free_slot ss + 1) < suc (length ss) → (get_or (s ∷ ss) (cond (is_none o) 0 (free_slot ss + 1)) d).key ≡ None) [
+    elim s.key as (λ o. s.key ≡ o → cond (is_none o) 0 (free_slot ss + 1) < suc (length ss) →
+    (get_or (s ∷ ss) (cond (is_none o) 0 (free_slot ss + 1)) d).key ≡ None) [
       | None ↦ λ e l. e
       | Some k ↦ λ e l. rw add-one (free_key ss d (omega arith))
     ] refl h
 
 -- a test that tells keys apart
 module _ (eq : FragKey → FragKey → Bool) (exact : (a b : FragKey) → eq a b ≡ eq_by_cmp key_cmp a b) where
-  pub keyed_key : (k : FragKey) (ss : List (Assembly FragKey)) (d : Assembly FragKey) → index_of_key eq k ss < length ss → (get_or ss (index_of_key eq k ss) d).key ≡ Some k
+  pub keyed_key : (k : FragKey) (ss : List (Assembly FragKey)) (d : Assembly FragKey) →
+      index_of_key eq k ss < length ss → (get_or ss (index_of_key eq k ss) d).key ≡ Some k
   keyed_key k [] d h = absurd (omega arith)
   keyed_key k (s ∷ ss) d h =
-      elim s.key as (λ o. s.key ≡ o → cond (has_key eq k o) 0 (index_of_key eq k ss + 1) < suc (length ss) → (get_or (s ∷ ss) (cond (has_key eq k o) 0 (index_of_key eq k ss + 1)) d).key ≡ Some k) [
+      elim s.key as (λ o. s.key ≡ o → cond (has_key eq k o) 0 (index_of_key eq k ss + 1) < suc (length ss) →
+      (get_or (s ∷ ss) (cond (has_key eq k o) 0 (index_of_key eq k ss + 1)) d).key ≡ Some k) [
         | None ↦ λ e l. rw add-one (keyed_key k ss d (omega arith))
         | Some j ↦ λ e.
-            elim (eq j k) as (λ b. eq j k ≡ b → cond b 0 (index_of_key eq k ss + 1) < suc (length ss) → (get_or (s ∷ ss) (cond b 0 (index_of_key eq k ss + 1)) d).key ≡ Some k) [
+            elim (eq j k) as (λ b. eq j k ≡ b → cond b 0 (index_of_key eq k ss + 1) < suc (length ss) →
+            (get_or (s ∷ ss) (cond b 0 (index_of_key eq k ss + 1)) d).key ≡ Some k) [
               | true ↦ λ t l. e ∙ ap (λ (x : FragKey). Some x) (keys_equal j k (sym (exact j k) ∙ t))
               | false ↦ λ t l. rw add-one (keyed_key k ss d (omega arith))
             ] refl
       ] refl h
 
-  pub not_there : (k : FragKey) (ss : List (Assembly FragKey)) (m : Slots) → index_of_key eq k ss ≡ length ss → StandForSlots ss m → map.get m k ≡ None
+  pub not_there : (k : FragKey) (ss : List (Assembly FragKey)) (m : Slots) →
+      index_of_key eq k ss ≡ length ss → StandForSlots ss m → map.get m k ≡ None
   not_there k [] m f h = ap (λ (n : Slots). map.get n k) h ∙ get-empty key_cmp k
   not_there k (s ∷ ss) m f h =
       cases (λ k. k) s (StandForSlots ss) m (λ o. cond (has_key eq k o) 0 (index_of_key eq k ss + 1) ≡ suc (length ss) → map.get m k ≡ None) h
@@ -188,5 +215,6 @@ module _ (eq : FragKey → FragKey → Bool) (exact : (a b : FragKey) → eq a b
       (λ j _ at others.
       elim (eq j k) as (λ b. eq j k ≡ b → cond b 0 (index_of_key eq k ss + 1) ≡ suc (length ss) → map.get m k ≡ None) [
         | true ↦ λ t f. absurd (omega arith)
-        | false ↦ λ t f. sym (get_out_apart m j k (λ same. true_false (sym (exact j k ∙ ap (eq_by_cmp key_cmp j) same ∙ key_tied j) ∙ t))) ∙ not_there k ss (map.remove m j) (omega arith) others
+        | false ↦ λ t f. sym (get_out_apart m j k (λ same. true_false (sym (exact j k ∙ ap (eq_by_cmp key_cmp j) same ∙ key_tied j) ∙ t)))
+            ∙ not_there k ss (map.remove m j) (omega arith) others
       ] refl) f

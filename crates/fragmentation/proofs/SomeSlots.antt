@@ -1,5 +1,6 @@
 -- There are slots for which places stand that are apart.
-use Rattle.std.proofs.Common.{◌≡◌, ◌<◌, ◌≤◌, ◌+◌, ◌-◌, ℕ, suc, Bool, true, false, List, [], ◌∷◌, Option, Some, None, length, take, drop, get_or, slice_get, refl, sym, ap, subst, ◌∙◌, arith}
+use Rattle.std.proofs.Common.{◌≡◌, ◌<◌, ◌≤◌, ◌+◌, ◌-◌, ℕ, suc, Bool, true, false, List, [], ◌∷◌, Option, Some, None}
+use Rattle.std.proofs.Common.{length, take, drop, get_or, slice_get, refl, sym, ap, subst, ◌∙◌, arith}
 use Rattle.std.specs.Prelude.{nat_le, nat_lt, ◌&&◌, ◌||◌}
 use Rattle.std.proofs.lemmas.Bool.Decides.{nat_tests}
 use Rattle.std.proofs.Common.{length-take}
@@ -38,27 +39,33 @@ long xs r h k = omega (arith, length-take (r.end - r.start) (drop r.start xs), l
 end_within : (xs : List ℕ) (r : Range) (rs : List Range) → r.start < r.end → ((p : ℕ) → covered (r ∷ rs) p ≡ true → p < length xs) → r.end ≤ length xs
 end_within xs r rs h w = let k = w (r.end - 1) (last_place r rs h) in omega arith
 
-has_range : (xs : List ℕ) (r : Range) (p : ℕ) → r.start < r.end → r.end ≤ length xs → has_place (range_fragment xs r) p ≡ nat_le r.start p && nat_lt p r.end
+has_range : (xs : List ℕ) (r : Range) (p : ℕ) →
+    r.start < r.end → r.end ≤ length xs → has_place (range_fragment xs r) p ≡ nat_le r.start p && nat_lt p r.end
 has_range xs r p h k = ap (λ n. nat_le r.start p && nat_lt p n) (long xs r h k)
 
 -- they have the places of the ranges
-covered_as : (xs : List ℕ) (from : ℕ) (rs : List Range) → AreSeparate from rs → ((p : ℕ) → covered rs p ≡ true → p < length xs) → (p : ℕ) → covered rs p ≡ is_covered (range_fragments xs rs) p
+covered_as : (xs : List ℕ) (from : ℕ) (rs : List Range) → AreSeparate from rs → ((p : ℕ) → covered rs p ≡ true → p < length xs) → (p : ℕ) →
+    covered rs p ≡ is_covered (range_fragments xs rs) p
 covered_as xs from [] s w p = refl
 covered_as xs from (r ∷ rs) s w p =
-    ap (λ b. b || covered rs p) (sym (has_range xs r p s.1 (end_within xs r rs s.1 w))) ∙ ap (λ b. has_place (range_fragment xs r) p || b) (covered_as xs (r.end + 1) rs s.2 (λ q h. w q (in_rest r rs q h)) p)
+    ap (λ b. b || covered rs p) (sym (has_range xs r p s.1 (end_within xs r rs s.1 w)))
+    ∙ ap (λ b. has_place (range_fragment xs r) p || b) (covered_as xs (r.end + 1) rs s.2 (λ q h. w q (in_rest r rs q h)) p)
 
 -- and their octets there
-octet_in : (xs : List ℕ) (r : Range) (p : ℕ) → nat_le r.start p && nat_lt p r.end ≡ true → get_or xs p 0 ≡ get_or (take (r.end - r.start) (drop r.start xs)) (p - r.start) 0
+octet_in : (xs : List ℕ) (r : Range) (p : ℕ) → nat_le r.start p && nat_lt p r.end ≡ true →
+    get_or xs p 0 ≡ get_or (take (r.end - r.start) (drop r.start xs)) (p - r.start) 0
 octet_in xs r p h =
     let low : r.start ≤ p = grind (arith, nat_tests) in
     let high : p < r.end = grind (arith, nat_tests) in
-    sym (get_or-take (r.end - r.start) (drop r.start xs) (p - r.start) 0 (omega arith) ∙ get_or-drop r.start xs (p - r.start) 0 ∙ ap (λ i. get_or xs i 0) (omega arith))
+    sym (get_or-take (r.end - r.start) (drop r.start xs) (p - r.start) 0 (omega arith)
+    ∙ get_or-drop r.start xs (p - r.start) 0 ∙ ap (λ i. get_or xs i 0) (omega arith))
 
 one_of : (b c : Bool) → b || c ≡ true → c ≡ false → b ≡ true
 one_of true c h e = refl
 one_of false c h e = sym e ∙ h
 
-octets_as : (xs : List ℕ) (from : ℕ) (rs : List Range) → AreSeparate from rs → ((p : ℕ) → covered rs p ≡ true → p < length xs) → (p : ℕ) → covered rs p ≡ true → get_or xs p 0 ≡ octet_at (range_fragments xs rs) p
+octets_as : (xs : List ℕ) (from : ℕ) (rs : List Range) → AreSeparate from rs → ((p : ℕ) → covered rs p ≡ true → p < length xs) → (p : ℕ) →
+    covered rs p ≡ true → get_or xs p 0 ≡ octet_at (range_fragments xs rs) p
 octets_as xs from [] s w p h = cc
 octets_as xs from (r ∷ rs) s w p h =
     let rest : (q : ℕ) → covered rs q ≡ true → q < length xs = λ q k. w q (in_rest r rs q k) in
@@ -99,19 +106,24 @@ zero_suc : (n : ℕ) → 0 ≡ suc n → ⊥
 zero_suc n e = omega arith
 
 -- a key that no place has has no slot
-no_slot : (ss : List (Assembly FragKey)) (m : Slots) (k : FragKey) → StandForSlots ss m → ((i : ℕ) → slice_get (keys_of ss) i ≡ Some (Some k) → ⊥) → map.get m k ≡ None
+no_slot : (ss : List (Assembly FragKey)) (m : Slots) (k : FragKey) →
+    StandForSlots ss m → ((i : ℕ) → slice_get (keys_of ss) i ≡ Some (Some k) → ⊥) → map.get m k ≡ None
 no_slot [] m k h none = ap (λ (n : Slots). map.get n k) h ∙ get-empty key_cmp k
 no_slot (s ∷ ss) m k h none =
     cases (λ k. k) s (StandForSlots ss) m (λ o. ((i : ℕ) → slice_get (o ∷ keys_of ss) i ≡ Some (Some k) → ⊥) → map.get m k ≡ None) h
     (λ _ others none. no_slot ss m k others (λ i e. none (suc i) e))
-    (λ j _ at others none. sym (get_out_apart m j k (λ same. none 0 (ap (λ (q : FragKey). Some (Some q)) (sym same)))) ∙ no_slot ss (map.remove m j) k others (λ i e. none (suc i) e))
+    (λ j _ at others none. sym (get_out_apart m j k (λ same. none 0 (ap (λ (q : FragKey). Some (Some q)) (sym same))))
+    ∙ no_slot ss (map.remove m j) k others (λ i e. none (suc i) e))
     none
 
 -- a taken place stands for a slot of its key, and the others for the rest
-with_slot : (s : Assembly FragKey) (ss : List (Assembly FragKey)) (m : Slots) (k : FragKey) → s.key ≡ Some k → IsSound s → StandForSlots ss m → map.get m k ≡ None → StandForSlots (s ∷ ss) (map.insert m k (slot_of s))
+with_slot : (s : Assembly FragKey) (ss : List (Assembly FragKey)) (m : Slots) (k : FragKey) →
+    s.key ≡ Some k → IsSound s → StandForSlots ss m → map.get m k ≡ None → StandForSlots (s ∷ ss) (map.insert m k (slot_of s))
 with_slot s ss m k e sound h none =
-    key_is (λ k. k) s (StandForSlots ss) (map.insert m k (slot_of s)) (Some k) e
-    (record { slot = slot_of s; found = get_put m k (slot_of s); stands = stands_it s sound }, subst (StandForSlots ss) (sym (put_out m k (slot_of s) ∙ out_absent m k none)) h)
+    key_is (λ k. k) s (StandForSlots ss) (map.insert m k (slot_of s)) (Some k) e (
+      record { slot = slot_of s; found = get_put m k (slot_of s); stands = stands_it s sound },
+      subst (StandForSlots ss) (sym (put_out m k (slot_of s) ∙ out_absent m k none)) h,
+    )
 
 all_stand : (ss : List (Assembly FragKey)) → AllSound ss → AreApart (keys_of ss) → (m : Slots) × StandForSlots ss m
 all_stand [] sound apart = (map.empty, refl)
@@ -121,10 +133,12 @@ all_stand (s ∷ ss) sound apart =
       | None ↦ λ e. (rest.0, key_is (λ k. k) s (StandForSlots ss) rest.0 None e rest.1)
       | Some k ↦ λ e. (
         map.insert rest.0 k (slot_of s),
-        with_slot s ss rest.0 k e sound.0 rest.1 (no_slot ss rest.0 k rest.1 (λ i there. zero_suc i (apart 0 (suc i) k (ap (λ (o : Option FragKey). Some o) e) there))),
+        with_slot s ss rest.0 k e sound.0 rest.1
+            (no_slot ss rest.0 k rest.1 (λ i there. zero_suc i (apart 0 (suc i) k (ap (λ (o : Option FragKey). Some o) e) there))),
       )
     ] refl
 
 -- whatever keys they have, where no key is there twice
-pub some_slots : (os : List (Option FragKey)) (ss : List (Assembly FragKey)) → AllSound ss → AreApart os → (m : Slots) × StandForSlots (with_keys os ss) m
+pub some_slots : (os : List (Option FragKey)) (ss : List (Assembly FragKey)) →
+    AllSound ss → AreApart os → (m : Slots) × StandForSlots (with_keys os ss) m
 some_slots os ss sound apart = all_stand (with_keys os ss) (all_with os ss sound) (apart_with os ss apart)

@@ -1,10 +1,12 @@
 -- The value of a slot for a datagram in fragments.
-use Rattle.std.specs.Prelude.{◌≡◌, ◌+◌, ◌<◌, [], ◌∷◌, ◌++◌, is_none, length, slice_get, take, drop, ℕ, zero, suc, ℤ, pos, ◌&&◌, ◌||◌, List, Option, None, Some, Bool, true, false, ◌==◌, not, nat_lt, nat_le, int_lt, if◌then◌else◌}
+use Rattle.std.specs.Prelude.{◌≡◌, ◌+◌, ◌<◌, [], ◌∷◌, ◌++◌, is_none, length, slice_get, take}
+use Rattle.std.specs.Prelude.{drop, ℕ, zero, suc, ℤ, pos, ◌&&◌, ◌||◌, List, Option, None, Some}
+use Rattle.std.specs.Prelude.{Bool, true, false, ◌==◌, not, nat_lt, nat_le, int_lt, if◌then◌else◌}
 use Rattle.net_base.specs.declared.assembler.Range.{Range}
 use Rattle.net_base.specs.Ranges.{front, covered, add_range, AreSeparate}
 
--- the key of its fragments, none if it is free; its expiry; the total length, once it is set; the offsets received, as ranges;
--- and the octets
+-- the key of its fragments, none if it is free; its expiry; the total length, once it is set; the offsets received, as
+-- ranges; and the octets
 pub record Assembly (K : Type 0) : Type 0 where
   pub key : Option K
   pub expires_at : ℤ
@@ -68,7 +70,8 @@ module _ {K : Type 0} where
 
   -- if it is free, it is taken for a key with an expiry
   abbrev pub taken : K → ℤ → Assembly K → Assembly K
-  taken k end s = if is_none s.key then record { key = Some k; expires_at = end; total = None; ranges = []; octets = s.octets } else s
+  taken k end s = if is_none s.key
+      then record { key = Some k; expires_at = end; total = None; ranges = []; octets = s.octets } else s
 
   -- if it is taken, it gets this key, or is free without one
   abbrev pub with_key : Option K → Assembly K → Assembly K

@@ -1,14 +1,16 @@
 -- The fragments of packets that are sent (RFC 791 3.2), and the octets of a fragment.
-use Rattle.std.specs.Prelude.{ℕ, zero, suc, ◌+◌, ◌-◌, ◌*◌, ◌/◌, ◌^◌, ◌<◌, ◌≤◌, nat_le, false, not, List, [], ◌∷◌, length, take, drop, map}
+use Rattle.std.specs.Prelude.{ℕ, zero, suc, ◌+◌, ◌-◌, ◌*◌, ◌/◌, ◌^◌, ◌<◌, ◌≤◌, nat_le}
+use Rattle.std.specs.Prelude.{false, not, List, [], ◌∷◌, length, take, drop, map}
 use Rattle.ip_address.specs.declared.hardware.HardwareAddress.{HardwareAddress}
 use Rattle.ip_wire.specs.declared.ipv4_packet.Ipv4Repr.{Ipv4Repr}
 use Rattle.ip_wire.specs.declared.ipv4_packet.Ipv4Fragment.{Ipv4Fragment}
 use Rattle.fragmentation.specs.Fragments.{Fragment}
 
--- fragment k of a payload, where each but the last has m octets: its offset is k times m, and it is the last one if the payload
--- ends with it
+-- fragment k of a payload, where each but the last has m octets: its offset is k times m, and it is the last one if
+-- the payload ends with it
 abbrev pub piece_at : ℕ → List ℕ → ℕ → Fragment
-piece_at m payload k = record { offset = k * m; octets = take m (drop (k * m) payload); is_last = nat_le (length payload) (k * m + m) }
+piece_at m payload k =
+    record { offset = k * m; octets = take m (drop (k * m) payload); is_last = nat_le (length payload) (k * m + m) }
 
 -- the number of fragments
 abbrev pub count : ℕ → ℕ → ℕ
@@ -23,8 +25,8 @@ pieces_from m payload k (suc n) = piece_at m payload k ∷ pieces_from m payload
 abbrev pub cut : ℕ → List ℕ → List Fragment
 cut m payload = pieces_from m payload 0 (count m (length payload))
 
--- a packet that is fragmented: its hardware destination, its header with an identification, its payload, and the length of each
--- fragment but the last
+-- a packet that is fragmented: its hardware destination, its header with an identification, its payload, and the length
+-- of each fragment but the last
 pub record Datagram : Type 0 where
   pub destination : HardwareAddress
   pub header : Ipv4Repr
@@ -40,7 +42,8 @@ pub record Piece : Type 0 where
   pub fragment : Fragment
 
 abbrev pub piece_of : Datagram → Fragment → Piece
-piece_of d f = record { destination = d.destination; header = d.header; identification = d.identification; fragment = f }
+piece_of d f =
+    record { destination = d.destination; header = d.header; identification = d.identification; fragment = f }
 
 -- its fragments: all have one hardware destination, one header and one identification
 abbrev pub pieces_of : Datagram → List Piece
@@ -52,7 +55,12 @@ piece_header p = record p.header { payload_len = length p.fragment.octets }
 
 -- its fragmentation fields; the offset is in units of eight octets
 abbrev pub piece_fragment : Piece → Ipv4Fragment
-piece_fragment p = record { identification = p.identification; dont_fragment = false; more_fragments = not p.fragment.is_last; offset = p.fragment.offset / 8 }
+piece_fragment p = record {
+  identification = p.identification;
+  dont_fragment = false;
+  more_fragments = not p.fragment.is_last;
+  offset = p.fragment.offset / 8;
+}
 
 -- its values fit the fields of a header, as those of every packet do that a program holds
 pub record HasForm (d : Datagram) : Type 0 where

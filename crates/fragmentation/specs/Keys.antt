@@ -8,7 +8,12 @@ use Rattle.fragmentation.specs.declared.key.FragKey.{FragKey}
 
 -- the key of a packet's fragments: its identification, source, destination, and its protocol by number
 abbrev pub key_of : Ipv4Repr → ℕ → FragKey
-key_of r identification = record { identification = identification; src_addr = r.src_addr; dst_addr = r.dst_addr; protocol = number_of r.next_header }
+key_of r identification = record {
+  identification = identification;
+  src_addr = r.src_addr;
+  dst_addr = r.dst_addr;
+  protocol = number_of r.next_header;
+}
 
 -- an order of keys, so that slots can be a map from them
 abbrev pub key_cmp : FragKey → FragKey → Ordering

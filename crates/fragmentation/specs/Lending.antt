@@ -21,7 +21,7 @@ module _ (K : RattleType) (s : MutBor (List (Assembly K.Denot))) where
   key_of (Ok slot) = slot.now.key
   key_of (Err e) = None
 
-  -- the value of a slot after the borrow is what the reference had last, except that it keeps the key for which it was lent, or
-  -- is free. A refusal changes nothing
+  -- the value of a slot after the borrow is what the reference had last, except that it keeps the key for which it was
+  -- lent, or is free. A refusal changes nothing
   abbrev pub LendsPlace : {E : Type 0} → ℕ → Result (MutBor (Assembly K.Denot)) E → Fml
   LendsPlace i r = LendsIfOk (set.the_row K) (the_row K) s r (λ w. slice_set s.now i (with_key (key_of r) w)) s.now

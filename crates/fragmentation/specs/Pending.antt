@@ -33,4 +33,5 @@ pub record Shows (next : NextPiece) (piece : Piece) : Type 0 where
 -- the first pending fragment, if any
 pub data IsNext (pieces : List Piece) (next : Option NextPiece) : Type 0 where
   NoPiece : pieces ≡ [] → next ≡ None → IsNext pieces next
-  First : (shown : NextPiece) (piece : Piece) (rest : List Piece) → pieces ≡ piece ∷ rest → next ≡ Some shown → Shows shown piece → IsNext pieces next
+  First : (shown : NextPiece) (piece : Piece) (rest : List Piece) →
+      pieces ≡ piece ∷ rest → next ≡ Some shown → Shows shown piece → IsNext pieces next

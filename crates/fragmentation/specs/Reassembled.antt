@@ -12,7 +12,8 @@ use Rattle.fragmentation.specs.Assembly.{Assembly}
 use Rattle.fragmentation.specs.Stands.{StandForSlots}
 
 -- the assemblers stand for slots to which the fragment leads
-pub record Reassembled (ends : ℤ) (key : FragKey) (f : Fragment) (result : Option (List ℕ)) (slots : Slots) (places : List (Assembly FragKey)) : Type 0 where
+pub record Reassembled (ends : ℤ) (key : FragKey) (f : Fragment) (result : Option (List ℕ)) (slots : Slots)
+    (places : List (Assembly FragKey)) : Type 0 where
   pub notes : List SlotNote
   pub new : Slots
   pub rule : Reassembles ends key f result slots notes new
@@ -20,4 +21,5 @@ pub record Reassembled (ends : ℤ) (key : FragKey) (f : Fragment) (result : Opt
 
 -- that, once the borrow of the octets has ended, whichever slots they stood for
 abbrev pub RestsReassembled : MutBor (List (Assembly FragKey)) → ℤ → FragKey → Fragment → Option (Bor (List ℕ)) → Fml
-RestsReassembled s ends k f r = Rests (set.the_row key.the_row) s (λ places. (slots : Slots) → StandForSlots s.now slots → Reassembled ends k f (option_map (λ b. b.now) r) slots places)
+RestsReassembled s ends k f r = Rests (set.the_row key.the_row) s (λ places. (slots : Slots) →
+    StandForSlots s.now slots → Reassembled ends k f (option_map (λ b. b.now) r) slots places)

@@ -18,8 +18,8 @@ with_kept g f = record g { fragments = if keeps_few g.fragments f then g.fragmen
 abbrev pub with_total : Got → ℕ → Got
 with_total g n = record g { total = Some n }
 
--- the total is the one that was set, the offsets are those of the fragments, and at each is the octet of the last of them that
--- has one
+-- the total is the one that was set, the offsets are those of the fragments, and at each is the octet of the
+-- last of them that has one
 pub record Gathers {K : Type 0} (s : Assembly K) (g : Got) : Type 0 where
   pub total : s.total ≡ g.total
   pub places : (p : ℕ) → covered s.ranges p ≡ is_covered g.fragments p
@@ -37,7 +37,8 @@ module _ {K : Type 0} where
     pub stands : StandsFor s slot
 
 module _ {K : Type 0} (key_of : K → FragKey) where
-  -- a taken assembler stands for the slot of its key, and the others for the rest of the slots; a free one stands for none
+  -- a taken assembler stands for the slot of its key, and the others for the rest of the slots; a
+  -- free one stands for none
   abbrev pub StandsBefore : Assembly K → Option K → (Slots → Type 0) → Slots → Type 0
   StandsBefore s None Others slots = Others slots
   StandsBefore s (Some k) Others slots = StandsAt s (key_of k) slots × Others (map.remove slots (key_of k))

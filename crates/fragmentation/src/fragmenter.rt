@@ -43,12 +43,19 @@ impl Model for Fragmenter {
     ghost Value = { Pending };
 
     ghost view = { λ f. record {
-      pieces = map (piece_of (record { destination = f.destination; header = f.header; identification = f.identification; payload = take f.len f.buffer; size = f.size }))
+      pieces = map (piece_of (record {
+        destination = f.destination;
+        header = f.header;
+        identification = f.identification;
+        payload = take f.len f.buffer;
+        size = f.size;
+      }))
           (pieces_from f.size (take f.len f.buffer) f.sent f.left);
       size = f.size;
     } };
 
-    ghost invariant = { λ f. (length f.buffer ≡ 4096) × (f.len ≤ 4096) × (f.size ≤ 4096) × (f.sent + f.left ≤ 8192) × (f.sent * f.size + f.left * f.size ≤ f.len + f.size) };
+    ghost invariant = { λ f. (length f.buffer ≡ 4096) × (f.len ≤ 4096) × (f.size ≤ 4096) × (f.sent + f.left ≤ 8192)
+        × (f.sent * f.size + f.left * f.size ≤ f.len + f.size) };
 }
 
 impl Fragmenter {
@@ -99,7 +106,13 @@ impl Fragmenter {
         requires small { size ≤ 4096 }
         requires fits { length head.now + length octets.now ≤ 4096 }
         ensures { self.new ≡ record {
-          pieces = pieces_of (record { destination = destination; header = header; identification = identification; payload = head.now ++ octets.now; size = size });
+          pieces = pieces_of (record {
+            destination = destination;
+            header = header;
+            identification = identification;
+            payload = head.now ++ octets.now;
+            size = size;
+          });
           size = size;
         } }
     {

@@ -2,10 +2,13 @@
 //!
 //! A [`PacketAssembler`] is a slot for one datagram, and a [`PacketAssemblerSet`] has two of them, each for the
 //! datagram of one key. Where fragments overlap, the one received last counts.
-ghost use Rattle.std.specs.Prelude.{◌≡◌, List, ◌↔◌, ◌≤◌, ◌<◌, ◌+◌, ◌-◌, ℕ, Bool, nat_le, nat_lt, ◌&&◌, IsTrue, is_none, IsSome, false, IsOk, IsErr, slice_index, slice_index_or, if◌then◌else◌, IfOk, OnOk, OnErr, IfSome, map as each, length, None, Some};
+ghost use Rattle.std.specs.Prelude.{◌≡◌, List, ◌↔◌, ◌≤◌, ◌<◌, ◌+◌, ◌-◌, ℕ, Bool, nat_le, nat_lt, ◌&&◌};
+ghost use Rattle.std.specs.Prelude.{IsTrue, is_none, IsSome, false, IsOk, IsErr, slice_index, slice_index_or};
+ghost use Rattle.std.specs.Prelude.{if◌then◌else◌, IfOk, OnOk, OnErr, IfSome, map as each, length, None, Some};
 ghost use Rattle.std.specs.Borrow.{sem};
 ghost use Rattle.fragmentation.specs.Assembly as spec;
-ghost use Rattle.fragmentation.specs.Assembly.{octets_after_write, index_of_key, free_slot, live_at, with_keys, keys_of, taken_at, AllSound};
+ghost use Rattle.fragmentation.specs.Assembly.{octets_after_write, index_of_key, free_slot};
+ghost use Rattle.fragmentation.specs.Assembly.{live_at, with_keys, keys_of, taken_at, AllSound};
 ghost use Rattle.fragmentation.specs.Stands.{fragment};
 ghost use Rattle.fragmentation.specs.Reassembled.{RestsReassembled};
 
@@ -50,7 +53,13 @@ impl<K> Model for PacketAssembler<K> {
 
     ghost Value = { Assembly K };
 
-    ghost view = { λ a. record { key = a.key; expires_at = a.expires_at; total = a.total_size; ranges = a.assembler; octets = a.buffer } };
+    ghost view = { λ a. record {
+      key = a.key;
+      expires_at = a.expires_at;
+      total = a.total_size;
+      ranges = a.assembler;
+      octets = a.buffer;
+    } };
 
     ghost invariant = { λ a. AreSound a.assembler };
 }
@@ -138,7 +147,8 @@ impl<K: Drop> PacketAssembler<K> {
         ensures refused { IsErr result ↔ (4096 < offset + length octets.now) }
         ensures ok { OnOk result (self.new ≡ with_octets offset octets.now self.old) }
         ensures err { OnErr result (self.new ≡ self.old) }
-        ensures gathers { OnOk result ((g : Got) (last : Bool) → Gathers self.old g → Gathers self.new (with_kept g (fragment offset octets.now last))) }
+        ensures gathers { OnOk result ((g : Got) (last : Bool) →
+            Gathers self.old g → Gathers self.new (with_kept g (fragment offset octets.now last))) }
     {
         if ends_beyond(octets, offset) {
             return Err(AssemblerError);
@@ -181,7 +191,8 @@ impl<K: Drop> PacketAssembler<K> {
         ensures unfit { result ≡ false → self.new ≡ self.old }
         ensures key { self.new.key ≡ self.old.key }
         ensures end { self.new.expires_at ≡ self.old.expires_at }
-        ensures gathers { (g : Got) → Gathers self.old g → Gathers self.new (with_one g (fragment offset octets.now is_last)) }
+        ensures gathers { (g : Got) →
+            Gathers self.old g → Gathers self.new (with_one g (fragment offset octets.now is_last)) }
     {
         if ends_beyond(octets, offset) {
             return false;
@@ -310,7 +321,8 @@ impl<K: Eq + Copy> PacketAssemblerSet<K> {
         end: Instant,
     ) -> Result<&mut PacketAssembler<K>, AssemblerFullError>
         ensures* lends { sem 𝓛 (LendsPlace K.row self.entry (slot_for K.eq key.now self.old) result) }
-        ensures value { IfOk result (λ r. r.now ≡ taken key.now end (slice_index_or self.old (slot_for K.eq key.now self.old) r.now)) }
+        ensures value { IfOk result
+            (λ r. r.now ≡ taken key.now end (slice_index_or self.old (slot_for K.eq key.now self.old) r.now)) }
         ensures refused { IsErr result ↔ (slot_for K.eq key.now self.old ≡ length self.old) }
         ensures within { slot_for K.eq key.now self.old ≤ length self.old }
         ensures two { length self.old ≡ 2 }
@@ -355,7 +367,8 @@ impl<K: Drop> PacketAssemblerSet<K> {
     #[inline(always)]
     pub fn remove_expired(&mut self, timestamp: Instant)
         ensures places { self.new ≡ each (live_at timestamp) self.old }
-        ensures stands { (key_of : K → FragKey) (m : Slots) → StandForSlotsOf key_of self.old m → StandForSlotsOf key_of self.new (slots.live_at timestamp m) }
+        ensures stands { (key_of : K → FragKey) (m : Slots) →
+            StandForSlotsOf key_of self.old m → StandForSlotsOf key_of self.new (slots.live_at timestamp m) }
     {
         drop_expired(
             self.keys.as_slice(),
@@ -457,7 +470,8 @@ fn take<K: Eq + Copy>(
     requires keys { length keys.old ≡ 2 }
     requires places { length assemblers.old ≡ 2 }
     ensures slot { result ≡ spec.slot_for K.eq key.now (with_keys keys.old assemblers.old) }
-    ensures taken { assemblers.new ≡ taken_at (spec.slot_for K.eq key.now (with_keys keys.old assemblers.old)) key.now end (with_keys keys.old assemblers.old) }
+    ensures taken { assemblers.new ≡ taken_at (spec.slot_for K.eq key.now (with_keys keys.old assemblers.old))
+        key.now end (with_keys keys.old assemblers.old) }
     ensures keys { keys.new ≡ keys_of assemblers.new }
 {
     keep_keys(keys, assemblers);

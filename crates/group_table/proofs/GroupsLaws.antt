@@ -132,7 +132,8 @@ new_state gs a distinct none =
     state_at (with_new gs a) a (length gs) d (distinct_after-new gs a none distinct) (grind (arith, common_steps)) (new_at gs a (length gs) d refl)
     ∙ ap (λ (g : Group). Some g.state) (get_or-append_seam gs d [] d)
 
-other_state : (gs : List Group) (a : IpAddress) (s : GroupState) → AreDistinct gs → index_of gs a < length gs → state_of (with_state gs a s) a ≡ Some s
+other_state : (gs : List Group) (a : IpAddress) (s : GroupState) →
+    AreDistinct gs → index_of gs a < length gs → state_of (with_state gs a s) a ≡ Some s
 other_state gs a s distinct h =
     let d = new_group a in
     let at : Group = record { addr = a; state = s } in

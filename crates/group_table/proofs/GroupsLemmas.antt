@@ -154,4 +154,5 @@ distinct_after-taken_out gs a h distinct i j d i_in j_in same =
     let p = index_of gs a in
     let is = λ (k : ℕ) (k_in : k < length (taken_out gs a)). ap (λ (g : Group). g.addr) (taken_at gs a k d h k_in) in
     came_from-one (length gs) p i j (omega (arith, n)) (omega (arith, n))
-    (distinct _ _ d (came_from-lt (length gs) p i (omega (arith, n))) (came_from-lt (length gs) p j (omega (arith, n))) (sym (is i i_in) ∙ same ∙ is j j_in))
+    (distinct _ _ d (came_from-lt (length gs) p i (omega (arith, n)))
+    (came_from-lt (length gs) p j (omega (arith, n))) (sym (is i i_in) ∙ same ∙ is j j_in))

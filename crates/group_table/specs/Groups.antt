@@ -1,6 +1,7 @@
 -- Multicast groups (RFC 1112 7.1, RFC 2236 6, RFC 3810 4.2): a list, in the order in which it is walked.
-use Rattle.std.specs.Prelude.{◌≡◌, ◌≢◌, ℕ, ◌<◌, ◌==◌, ◌&&◌, nat_le, Bool, true, false, if◌then◌else◌, List, [], ◌∷◌, ◌++◌, length, find}
-use Rattle.std.specs.Prelude.{◌+◌, count_by, filter_map, option_map, is_none, slice_index_or, slice_set, Option, Some, None, Result, Ok, Err}
+use Rattle.std.specs.Prelude.{◌≡◌, ◌≢◌, ℕ, ◌<◌, ◌==◌, ◌&&◌, nat_le, Bool, true, false, if◌then◌else◌}
+use Rattle.std.specs.Prelude.{List, [], ◌∷◌, ◌++◌, length, find, ◌+◌, count_by, filter_map, option_map}
+use Rattle.std.specs.Prelude.{is_none, slice_index_or, slice_set, Option, Some, None, Result, Ok, Err}
 use Rattle.std.specs.List.{position_or_len, swap_remove}
 use Rattle.ip_address.specs.declared.ip.IpAddress.{IpAddress}
 use Rattle.ip_address.specs.declared.ip.IpAddress.TheVariants.{Ipv4, Ipv6}
@@ -51,7 +52,8 @@ state_of gs a = option_map (λ (g : Group). g.state) (find (is_at a) gs)
 
 -- no address occurs twice: two indices with the same address are equal
 abbrev pub AreDistinct : List Group → Type 0
-AreDistinct gs = (i j : ℕ) (d : Group) → i < length gs → j < length gs → (slice_index_or gs i d).addr ≡ (slice_index_or gs j d).addr → i ≡ j
+AreDistinct gs = (i j : ℕ) (d : Group) →
+    i < length gs → j < length gs → (slice_index_or gs i d).addr ≡ (slice_index_or gs j d).addr → i ≡ j
 
 -- the groups with a new one appended
 abbrev pub with_new : List Group → IpAddress → List Group
@@ -172,11 +174,13 @@ LastMovesIntoGap =
 
 -- if the last group is removed, none moves
 abbrev pub LastGoesAlone : Type 0
-LastGoesAlone = (front : List Group) (g : Group) → AreDistinct (front ++ g ∷ []) → taken_out (front ++ g ∷ []) g.addr ≡ front
+LastGoesAlone = (front : List Group) (g : Group) →
+    AreDistinct (front ++ g ∷ []) → taken_out (front ++ g ∷ []) g.addr ≡ front
 
 -- after a join that wasn't refused the interface is a member
 abbrev pub JoinsMember : Type 0
-JoinsMember = (gs : List Group) (a : IpAddress) → AreDistinct gs → is_refused gs a ≡ false → is_member (groups_after_join gs a) a ≡ true
+JoinsMember = (gs : List Group) (a : IpAddress) →
+    AreDistinct gs → is_refused gs a ≡ false → is_member (groups_after_join gs a) a ≡ true
 
 -- after a leave the interface is not a member
 abbrev pub LeavesNoMember : Type 0

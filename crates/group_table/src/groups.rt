@@ -5,10 +5,11 @@ ghost use Rattle.ip_address.specs.Ip as ip;
 ghost use Rattle.group_table.specs.declared.groups.Group.{Group};
 ghost use Rattle.group_table.specs.declared.groups.GroupState.TheVariants.{Joining, Leaving};
 ghost use Rattle.group_table.specs.Groups as spec;
-ghost use Rattle.group_table.specs.Groups.{AreDistinct, done_or_full, ipv4_groups, ipv6_groups, join_reported, groups_after_join, leave_reported, groups_after_leave};
-ghost use Rattle.group_table.specs.Groups.{new_group, index_of, state_of, taken_out, with_state};
-ghost use Rattle.group_table.specs.Groups.{JoinReportsEnd, JoinsMember, LastGoesAlone, LastMovesIntoGap, LeaveReportsEnd, LeavesNoMember};
-ghost use Rattle.group_table.specs.Groups.{NoneLeft, OthersStay, StayDistinct};
+ghost use Rattle.group_table.specs.Groups.{AreDistinct, done_or_full, ipv4_groups, ipv6_groups, join_reported};
+ghost use Rattle.group_table.specs.Groups.{groups_after_join, leave_reported, groups_after_leave, new_group};
+ghost use Rattle.group_table.specs.Groups.{index_of, state_of, taken_out, with_state, JoinReportsEnd};
+ghost use Rattle.group_table.specs.Groups.{JoinsMember, LastGoesAlone, LastMovesIntoGap, LeaveReportsEnd};
+ghost use Rattle.group_table.specs.Groups.{LeavesNoMember, NoneLeft, OthersStay, StayDistinct};
 
 use arrayvec::ArrayVec;
 use ip_address::{IpAddress, Ipv4Address, Ipv6Address};
@@ -156,7 +157,8 @@ impl Groups {
     #[tactic(auto, using(crate::proofs::GroupsCounts::join_reports_end))]
     pub fn join_reported(&mut self, group: &IpAddress)
         ensures groups { self.new ≡ join_reported self.old group.now }
-        ensures fewer { spec.first_in Joining self.old ≡ Some group.now → spec.count_in Joining self.old ≡ spec.count_in Joining self.new + 1 }
+        ensures fewer { spec.first_in Joining self.old ≡ Some group.now →
+            spec.count_in Joining self.old ≡ spec.count_in Joining self.new + 1 }
     {
         join_reported_in(&mut self.entries, group);
     }
@@ -167,7 +169,8 @@ impl Groups {
     #[tactic(auto, using(crate::proofs::GroupsCounts::leave_reports_end))]
     pub fn leave_reported(&mut self, group: &IpAddress)
         ensures groups { self.new ≡ leave_reported self.old group.now }
-        ensures fewer { spec.first_in Leaving self.old ≡ Some group.now → spec.count_in Leaving self.old ≡ spec.count_in Leaving self.new + 1 }
+        ensures fewer { spec.first_in Leaving self.old ≡ Some group.now →
+            spec.count_in Leaving self.old ≡ spec.count_in Leaving self.new + 1 }
     {
         leave_reported_in(&mut self.entries, group);
     }

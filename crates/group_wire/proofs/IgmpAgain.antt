@@ -31,8 +31,10 @@ octets_again sum (MembershipReport group Version1) more is =
     let same = made _ group (number group.bits (fits group is)) in
     (record { whole = omega arith; type = inr (inl refl); group = named _ group same is }, ap (λ (a : Ipv4Address). MembershipReport a Version1) same)
 octets_again sum (MembershipReport group Version2) more is =
-    let same = made _ group (number group.bits (fits group is)) in
-    (record { whole = omega arith; type = inr (inr (inl refl)); group = named _ group same is }, ap (λ (a : Ipv4Address). MembershipReport a Version2) same)
+    let same = made _ group (number group.bits (fits group is)) in (
+      record { whole = omega arith; type = inr (inr (inl refl)); group = named _ group same is },
+      ap (λ (a : Ipv4Address). MembershipReport a Version2) same,
+    )
 octets_again sum (LeaveGroup group) more is =
     let same = made _ group (number group.bits (fits group is)) in
     (record { whole = omega arith; type = inr (inr (inr refl)); group = named _ group same is }, ap LeaveGroup same)

@@ -1,5 +1,6 @@
 -- IGMP (RFC 2236 2; version 1 in RFC 1112 appendix I): type, code, checksum, the group.
-use Rattle.std.specs.Prelude.{◌≡◌, ℕ, ◌+◌, ◌*◌, ◌/◌, ◌%◌, ◌≤◌, ◌^◌, ◌⊎◌, ◌==◌, ◌||◌, nat_lt, Bool, IsTrue, List, ◌∷◌, ◌++◌, length, slice_index, if◌then◌else◌}
+use Rattle.std.specs.Prelude.{◌≡◌, ℕ, ◌+◌, ◌*◌, ◌/◌, ◌%◌, ◌≤◌, ◌^◌, ◌⊎◌, ◌==◌, ◌||◌, nat_lt}
+use Rattle.std.specs.Prelude.{Bool, IsTrue, List, ◌∷◌, ◌++◌, length, slice_index, if◌then◌else◌}
 use Rattle.std.specs.Int.{w16, w32, to_be_bytes}
 use Rattle.wire_base.specs.Checksum.{checksum_of}
 use Rattle.wire_base.specs.Octets.{u32_at}
@@ -71,10 +72,12 @@ text r = text_with (checksum_of (text_with 0 r)) r
 abbrev pub query_version : ℕ → IgmpVersion
 query_version code = if code == 0 then Version1 else Version2
 
--- the time of a code, in tenths of a second: from 128 on it has a mantissa of four bits and an exponent of three (RFC 3376 4.1.1)
+-- the time of a code, in tenths of a second: from 128 on it has a mantissa of four bits and an exponent of
+-- three (RFC 3376 4.1.1)
 abbrev pub tenths_of : ℕ → ℕ
 tenths_of code = if nat_lt code 128 then code else (code % 16 + 16) * 2 ^ (code / 16 % 8 + 3)
 
 -- a text is parsed back as its values, whatever follows it, if a message may carry the group
 abbrev pub ReadAgain : Type 0
-ReadAgain = (r : IgmpRepr) (more : List ℕ) → IsTrue (is_group (group_of r)) → IsIgmp (text r ++ more) × (igmp_in (text r ++ more) ≡ r)
+ReadAgain = (r : IgmpRepr) (more : List ℕ) →
+    IsTrue (is_group (group_of r)) → IsIgmp (text r ++ more) × (igmp_in (text r ++ more) ≡ r)

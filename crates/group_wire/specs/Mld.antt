@@ -1,5 +1,6 @@
 -- MLD (RFC 3810 5.1, 5.2): type, code, checksum, 4 octets; in a query the group and 4 octets; the data.
-use Rattle.std.specs.Prelude.{◌≡◌, ℕ, ◌≤◌, ◌<◌, ◌^◌, ◌==◌, List, [], ◌∷◌, ◌++◌, length, drop, slice_index, Option, Some, None, if◌then◌else◌}
+use Rattle.std.specs.Prelude.{◌≡◌, ℕ, ◌≤◌, ◌<◌, ◌^◌, ◌==◌, List, [], ◌∷◌, ◌++◌, length}
+use Rattle.std.specs.Prelude.{drop, slice_index, Option, Some, None, if◌then◌else◌}
 use Rattle.std.specs.Borrow.{Bor}
 use Rattle.std.specs.Int.{w16, to_be_bytes}
 use Rattle.wire_base.specs.Octets.{u16_at}
@@ -38,8 +39,8 @@ abbrev pub message_len : MldRepr → ℕ
 message_len (Query code group) = 28
 message_len (Report count) = 8
 
--- the four octets after the checksum: maximum response code and reserved (5.1.3, 5.1.4), or reserved and the number of records
--- (5.2.1, 5.2.3)
+-- the four octets after the checksum: maximum response code and reserved (5.1.3, 5.1.4), or reserved and the number of
+-- records (5.2.1, 5.2.3)
 abbrev pub rest_of : MldRepr → List ℕ
 rest_of (Query code group) = to_be_bytes w16 code ++ 0 ∷ 0 ∷ []
 rest_of (Report count) = 0 ∷ 0 ∷ to_be_bytes w16 count

@@ -28,11 +28,13 @@ use Rattle.host.specs.Driven.{Driven}
 
 module _ {D O : Type 0} (tells : D → List Event → D → Type 0) (did : O → ℕ → SocketSet → SocketSet → O → Type 0) where
   -- a run keeps the laws of UDP sockets, too
-  pub driven : {d e : D} {o p : O} {commands : List Command} {answers : List Answer} {H : Host} {after : Host → Type 0} → IsRegular H → Ran tells did d e o p commands answers H after → Driven tells did d e o p commands answers H after
+  pub driven : {d e : D} {o p : O} {commands : List Command} {answers : List Answer} {H : Host} {after : Host → Type 0} →
+      IsRegular H → Ran tells did d e o p commands answers H after → Driven tells did d e o p commands answers H after
   driven {H = H} regular ran = record { regular = regular; ran = ran; datagrams = runs_keep_datagrams H ran.last ran.transitions ran.run }
 
   -- one command is a run of one place
-  pub ran_one : (d e : D) (o p : O) (c : Command) (a : Answer) (H : Host) (after : Host → Type 0) → RefinementOfCommand tells did d e o p c a H after → Ran tells did d e o p (c ∷ []) (a ∷ []) H after
+  pub ran_one : (d e : D) (o p : O) (c : Command) (a : Answer) (H : Host) (after : Host → Type 0) →
+      RefinementOfCommand tells did d e o p c a H after → Ran tells did d e o p (c ∷ []) (a ∷ []) H after
   ran_one d e o p c a H after went = record {
     transitions = record { command = c; answer = a; told = went.told; acts = went.acts; notes = went.notes; before = H; after = went.host } ∷ [];
     last = went.host;
@@ -47,19 +49,33 @@ module _ {D O : Type 0} (tells : D → List Event → D → Type 0) (did : O →
 
   -- a run goes on by one command
   pub ran_more : ((a b c : D) (xs ys : List Event) → tells a xs b → tells b ys c → tells a (xs ++ ys) c) →
-      (d m e : D) (o p q : O) (commands all_commands : List Command) (c : Command) (answers all_answers : List Answer) (a : Answer) (H : Host) (mid after : Host → Type 0) →
+      (d m e : D) (o p q : O) (commands all_commands : List Command) (c : Command) (answers all_answers : List Answer)
+      (a : Answer) (H : Host) (mid after : Host → Type 0) →
       all_commands ≡ commands ++ c ∷ [] → all_answers ≡ answers ++ a ∷ [] →
-      Ran tells did d m o p commands answers H mid → HostRefinesCommand tells did m e p q c a mid after → Ran tells did d e o q all_commands all_answers H after
+      Ran tells did d m o p commands answers H mid → HostRefinesCommand tells did m e p q c a mid after →
+      Ran tells did d e o q all_commands all_answers H after
   ran_more tells_on d m e o p q commands all_commands c answers all_answers a H mid after is_commands is_answers ran goes =
-      rw (is_commands, is_answers) (ran_on tells did tells_on d m e o p q commands (c ∷ []) answers (a ∷ []) H mid after ran (λ K stands. ran_one m e p q c a K after (goes K stands)))
+      rw (is_commands, is_answers) (ran_on tells did tells_on d m e o p q commands (c ∷ []) answers (a ∷ []) H mid after ran
+      (λ K stands. ran_one m e p q c a K after (goes K stands)))
 
   -- a call that sets something by a rule, or refuses
-  pub was_led : {Rule : Host → Host → Type 0} (d : D) (o : O) (c : Command) (a : Answer) (H : Host) (after : Host → Type 0) → tells d [] d → Refinement Rule H after →
+  pub was_led : {Rule : Host → Host → Type 0} (d : D) (o : O) (c : Command) (a : Answer) (H : Host) (after : Host → Type 0) →
+      tells d [] d → Refinement Rule H after →
       ((K : Host) → Rule H K → Step c a H [] [] [] K) → RefinementOfCommand tells did d d o o c a H after
-  was_led d o c a H after quiet led steps = record { told = []; acts = []; notes = []; host = led.host; tells_it = quiet; owner_did = NoAct; steps = steps led.host led.follows; stands = led.stands }
+  was_led d o c a H after quiet led steps = record {
+    told = [];
+    acts = [];
+    notes = [];
+    host = led.host;
+    tells_it = quiet;
+    owner_did = NoAct;
+    steps = steps led.host led.follows;
+    stands = led.stands;
+  }
 
   -- a frame was taken, or none came
-  pub polled : (d e : D) (o : O) (t : ℤ) (answered : PollIngressSingleResult) (H : Host) (after : Host → Type 0) → RefinementTelling tells d e (Ingress t answered H) after →
+  pub polled : (d e : D) (o : O) (t : ℤ) (answered : PollIngressSingleResult) (H : Host) (after : Host → Type 0) →
+      RefinementTelling tells d e (Ingress t answered H) after →
       RefinementOfCommand tells did d e o o (command.PollIngressSingle t) (answer.PollIngressSingle answered) H after
   polled d e o t answered H after went = record {
     told = went.told;
@@ -87,7 +103,8 @@ module _ {D O : Type 0} (tells : D → List Event → D → Type 0) (did : O →
   }
 
   -- the sockets have sent what they could
-  pub polled_egress : (d e : D) (o : O) (t : ℤ) (answered : PollResult) (H : Host) (after : Host → Type 0) → RefinementTelling tells d e (Egress t answered H) after →
+  pub polled_egress : (d e : D) (o : O) (t : ℤ) (answered : PollResult) (H : Host) (after : Host → Type 0) →
+      RefinementTelling tells d e (Egress t answered H) after →
       RefinementOfCommand tells did d e o o (command.PollEgress t) (answer.PollEgress answered) H after
   polled_egress d e o t answered H after went = record {
     told = went.told;
@@ -101,7 +118,8 @@ module _ {D O : Type 0} (tells : D → List Event → D → Type 0) (did : O →
   }
 
   -- a poll
-  pub polled_all : (d e : D) (o : O) (t : ℤ) (budget : ℕ) (answered : PollResult) (H : Host) (after : Host → Type 0) → RefinementTelling tells d e (Polls t budget answered H) after →
+  pub polled_all : (d e : D) (o : O) (t : ℤ) (budget : ℕ) (answered : PollResult) (H : Host) (after : Host → Type 0) →
+      RefinementTelling tells d e (Polls t budget answered H) after →
       RefinementOfCommand tells did d e o o (command.Poll t budget) (answer.Poll answered) H after
   polled_all d e o t budget answered H after went = record {
     told = went.told;
@@ -115,5 +133,7 @@ module _ {D O : Type 0} (tells : D → List Event → D → Type 0) (did : O →
   }
 
   -- a step of which nothing is told
-  pub untold : (d : D) (o : O) (c : Command) (a : Answer) (H K : Host) (after : Host → Type 0) → tells d [] d → Step c a H [] [] [] K → after K → RefinementOfCommand tells did d d o o c a H after
-  untold d o c a H K after quiet steps stands = record { told = []; acts = []; notes = []; host = K; tells_it = quiet; owner_did = NoAct; steps = steps; stands = stands }
+  pub untold : (d : D) (o : O) (c : Command) (a : Answer) (H K : Host) (after : Host → Type 0) →
+      tells d [] d → Step c a H [] [] [] K → after K → RefinementOfCommand tells did d d o o c a H after
+  untold d o c a H K after quiet steps stands =
+      record { told = []; acts = []; notes = []; host = K; tells_it = quiet; owner_did = NoAct; steps = steps; stands = stands }

@@ -9,8 +9,10 @@ use Rattle.host_machine.specs.Polling.Step.{Act, Step}
 use Rattle.host_machine.specs.Polling.Run.{Did}
 
 -- what a command did: these are the device's events, the owner's actions and the notes, and this is the host afterwards
-pub record RefinementOfCommand {D O : Type 0} (tells : D → List Event → D → Type 0) (did : O → ℕ → SocketSet → SocketSet → O → Type 0)
-    (device device' : D) (owner owner' : O) (command : Command) (answer : Answer) (H : Host) (after : Host → Type 0) : Type 0 where
+pub record RefinementOfCommand {D O : Type 0} (tells : D → List Event → D → Type 0)
+    (did : O → ℕ → SocketSet → SocketSet → O → Type 0)
+    (device device' : D) (owner owner' : O) (command : Command) (answer : Answer) (H : Host)
+    (after : Host → Type 0) : Type 0 where
   pub told : List Event
   pub acts : List Act
   pub notes : List Note
@@ -21,7 +23,8 @@ pub record RefinementOfCommand {D O : Type 0} (tells : D → List Event → D �
   pub stands : after host
 
 -- from each host before, one step leads to a host afterwards
-abbrev pub HostRefinesCommand : {D O : Type 0} → (D → List Event → D → Type 0) → (O → ℕ → SocketSet → SocketSet → O → Type 0) →
+abbrev pub HostRefinesCommand : {D O : Type 0} →
+    (D → List Event → D → Type 0) → (O → ℕ → SocketSet → SocketSet → O → Type 0) →
     D → D → O → O → Command → Answer → (Host → Type 0) → (Host → Type 0) → Type 0
 HostRefinesCommand tells did device device' owner owner' command answer before after =
     (H : Host) → before H → RefinementOfCommand tells did device device' owner owner' command answer H after

@@ -9,8 +9,12 @@ use Rattle.host_machine.specs.Laws.Ran.{Ran}
 use Rattle.host_laws.specs.Datagrams.{KeepsDatagrams}
 
 -- from this host and through these devices and owners, with these answers, to a host that satisfies `after`
-pub record Driven {D O : Type 0} (tells : D → List Event → D → Type 0) (did : O → ℕ → SocketSet → SocketSet → O → Type 0)
-    (device device' : D) (owner owner' : O) (commands : List Command) (answers : List Answer) (first : Host) (after : Host → Type 0) : Type 0 where
-  pub regular : IsRegular first  -- so the premises of the laws on the first host hold
+pub record Driven {D O : Type 0} (tells : D → List Event → D → Type 0)
+    (did : O → ℕ → SocketSet → SocketSet → O → Type 0)
+    (device device' : D) (owner owner' : O) (commands : List Command) (answers : List Answer) (first : Host)
+    (after : Host → Type 0) : Type 0 where
+  -- so the premises of the laws on the first host hold
+  pub regular : IsRegular first
   pub ran : Ran tells did device device' owner owner' commands answers first after
-  pub datagrams : KeepsDatagrams first ran.last ran.transitions  -- what UDP sockets get arrived in frames, and what they send is sent in frames
+  -- what UDP sockets get arrived in frames, and what they send is sent in frames
+  pub datagrams : KeepsDatagrams first ran.last ran.transitions

@@ -11,7 +11,8 @@ use Rattle.interface.specs.Stands.{StandsFor}
 use Rattle.host.specs.Driven.{Driven}
 
 -- what two calls did one after another is what one call over both lists of commands may do
-abbrev pub DrivesJoin : {D O : Type 0} → (D → List Event → D → Type 0) → (O → ℕ → SocketSet → SocketSet → O → Type 0) → Type 0
+abbrev pub DrivesJoin : {D O : Type 0} →
+    (D → List Event → D → Type 0) → (O → ℕ → SocketSet → SocketSet → O → Type 0) → Type 0
 DrivesJoin {D} {O} tells did =
     (d e f : D) (o p q : O) (commands more_commands : List Command) (answers more_answers : List Answer) (H : Host)
     (i j : Interface) (s t : Sockets (Bor (Unit {0}))) →

@@ -1,5 +1,6 @@
 -- Two hosts on a link that loses, repeats and reorders frames, but never changes one.
-use Rattle.std.specs.Prelude.{◌≡◌, ℕ, ◌<◌, ◌^◌, ℤ, List, [], ◌∷◌, ◌++◌, length, take, drop, slice_get, Option, Some, None, Result, Ok, Err}
+use Rattle.std.specs.Prelude.{◌≡◌, ℕ, ◌<◌, ◌^◌, ℤ, List, [], ◌∷◌, ◌++◌, length, take}
+use Rattle.std.specs.Prelude.{drop, slice_get, Option, Some, None, Result, Ok, Err}
 use Rattle.std.specs.List.{AllByRecursion}
 use Rattle.std.specs.FinMap as map
 use Rattle.net_base.specs.Time.{IsMoment}
@@ -60,26 +61,34 @@ end_with_frame e frame = record e { device = with_frame e.device frame }
 abbrev pub sent_since : ℕ → Memory → ℕ → Option (List ℕ)
 sent_since before d k = slice_get (drop before d.sent) k
 
--- Steps on a link between two ends, which had sent m and n frames before it began, and the transitions of their runs: a command
--- on one end; or a copy of a frame that one end has sent is queued for the other, which is then polled for a frame. If there is
--- no such frame, nothing is done.
+-- Steps on a link between two ends, which had sent m and n frames before it began, and the transitions of their runs: a
+-- command on one end; or a copy of a frame that one end has sent is queued for the other, which is then polled for a
+-- frame. If there is no such frame, nothing is done.
 pub data Links {O P : Type 0} (did_a : Owns O) (did_b : Owns P) (m n : ℕ) :
     List LinkStep → End O → End P → List Transition → List Transition → End O → End P → Type 0 where
   Stops : {a : End O} {b : End P} → Links did_a did_b m n [] a b [] [] a b
   OnA : {steps : List LinkStep} {a c a' : End O} {b b' : End P} {p : Transition} {ps qs : List Transition} →
-      Acts did_a p a c → Links did_a did_b m n steps c b ps qs a' b' → Links did_a did_b m n (step.A p.command ∷ steps) a b (p ∷ ps) qs a' b'
+      Acts did_a p a c → Links did_a did_b m n steps c b ps qs a' b' →
+      Links did_a did_b m n (step.A p.command ∷ steps) a b (p ∷ ps) qs a' b'
   OnB : {steps : List LinkStep} {a a' : End O} {b c b' : End P} {q : Transition} {ps qs : List Transition} →
-      Acts did_b q b c → Links did_a did_b m n steps a c ps qs a' b' → Links did_a did_b m n (step.B q.command ∷ steps) a b ps (q ∷ qs) a' b'
-  ToA : {steps : List LinkStep} {a c a' : End O} {b b' : End P} {p : Transition} {ps qs : List Transition} (k : ℕ) (t : ℤ) (frame : List ℕ) →
-      sent_since n b.device k ≡ Some frame → p.command ≡ PollIngressSingle t → Acts did_a p (end_with_frame a frame) c → Links did_a did_b m n steps c b ps qs a' b' →
+      Acts did_b q b c → Links did_a did_b m n steps a c ps qs a' b' →
+      Links did_a did_b m n (step.B q.command ∷ steps) a b ps (q ∷ qs) a' b'
+  ToA : {steps : List LinkStep} {a c a' : End O} {b b' : End P} {p : Transition} {ps qs : List Transition}
+      (k : ℕ) (t : ℤ) (frame : List ℕ) →
+      sent_since n b.device k ≡ Some frame → p.command ≡ PollIngressSingle t → Acts did_a p (end_with_frame a frame) c →
+      Links did_a did_b m n steps c b ps qs a' b' →
       Links did_a did_b m n (step.ToA k t ∷ steps) a b (p ∷ ps) qs a' b'
-  ToB : {steps : List LinkStep} {a a' : End O} {b c b' : End P} {q : Transition} {ps qs : List Transition} (k : ℕ) (t : ℤ) (frame : List ℕ) →
-      sent_since m a.device k ≡ Some frame → q.command ≡ PollIngressSingle t → Acts did_b q (end_with_frame b frame) c → Links did_a did_b m n steps a c ps qs a' b' →
+  ToB : {steps : List LinkStep} {a a' : End O} {b c b' : End P} {q : Transition} {ps qs : List Transition}
+      (k : ℕ) (t : ℤ) (frame : List ℕ) →
+      sent_since m a.device k ≡ Some frame → q.command ≡ PollIngressSingle t → Acts did_b q (end_with_frame b frame) c →
+      Links did_a did_b m n steps a c ps qs a' b' →
       Links did_a did_b m n (step.ToB k t ∷ steps) a b ps (q ∷ qs) a' b'
   NoneToA : {steps : List LinkStep} {a a' : End O} {b b' : End P} {ps qs : List Transition} (k : ℕ) (t : ℤ) →
-      sent_since n b.device k ≡ None → Links did_a did_b m n steps a b ps qs a' b' → Links did_a did_b m n (step.ToA k t ∷ steps) a b ps qs a' b'
+      sent_since n b.device k ≡ None → Links did_a did_b m n steps a b ps qs a' b' →
+      Links did_a did_b m n (step.ToA k t ∷ steps) a b ps qs a' b'
   NoneToB : {steps : List LinkStep} {a a' : End O} {b b' : End P} {ps qs : List Transition} (k : ℕ) (t : ℤ) →
-      sent_since m a.device k ≡ None → Links did_a did_b m n steps a b ps qs a' b' → Links did_a did_b m n (step.ToB k t ∷ steps) a b ps qs a' b'
+      sent_since m a.device k ≡ None → Links did_a did_b m n steps a b ps qs a' b' →
+      Links did_a did_b m n (step.ToB k t ∷ steps) a b ps qs a' b'
 
 -- there is a frame of this number
 abbrev pub IsThere : ℕ → Memory → ℕ → Type 0
@@ -92,17 +101,20 @@ Copies m n (step.ToB k t) a b = IsThere m a k
 Copies m n other a b = ⊥
 
 -- which steps were done: all; or those before the one whose copy was refused, the only reason to stop
-pub data IsDone (steps : List LinkStep) (m n : ℕ) (a b : Memory) : Result (Unit {0}) LinkError → List LinkStep → Type 0 where
+pub data IsDone (steps : List LinkStep) (m n : ℕ) (a b : Memory) : Result (Unit {0}) LinkError →
+    List LinkStep → Type 0 where
   All : IsDone steps m n a b (Ok tt) steps
-  Before : (k : ℕ) (refused : LinkStep) → slice_get steps k ≡ Some refused → Copies m n refused a b → IsDone steps m n a b (Err (NoMemory k)) (take k steps)
+  Before : (k : ℕ) (refused : LinkStep) → slice_get steps k ≡ Some refused → Copies m n refused a b →
+      IsDone steps m n a b (Err (NoMemory k)) (take k steps)
 
 -- the end of a link that a program's host is, if its interface and sockets stand for a host of the machine
 abbrev pub end_of : {O : Type 0} → Linked O → Host → End O
 end_of h H = record { host = H; device = h.device; owner = h.owner }
 
--- what these steps did, from hosts that both ends stood for: the transitions of both runs, and the hosts that they stand for
--- afterwards
-pub record Went {O P : Type 0} (did_a : Owns O) (did_b : Owns P) (m n : ℕ) (steps : List LinkStep) (a a' : Linked O) (b b' : Linked P)
+-- what these steps did, from hosts that both ends stood for: the transitions of both runs, and the hosts that
+-- they stand for afterwards
+pub record Went {O P : Type 0} (did_a : Owns O) (did_b : Owns P) (m n : ℕ) (steps : List LinkStep)
+    (a a' : Linked O) (b b' : Linked P)
     (H K : Host) : Type 0 where
   pub ps : List Transition
   pub qs : List Transition
@@ -112,45 +124,51 @@ pub record Went {O P : Type 0} (did_a : Owns O) (did_b : Owns P) (m n : ℕ) (st
   pub stands_a : StandsFor a'.interface a'.sockets last_a
   pub stands_b : StandsFor b'.interface b'.sockets last_b
 
--- what is done with the number of a frame: if a device has sent no frame of this number, nothing; otherwise a copy is queued for
--- an end, which is then polled
-pub data HandsOver {O : Type 0} (did : Owns O) (before : ℕ) (from : Memory) (k : ℕ) (t : ℤ) (old new : Linked O) : Type 0 where
+-- what is done with the number of a frame: if a device has sent no frame of this number, nothing; otherwise a copy is
+-- queued for an end, which is then polled
+pub data HandsOver {O : Type 0} (did : Owns O) (before : ℕ) (from : Memory) (k : ℕ)
+    (t : ℤ) (old new : Linked O) : Type 0 where
   NoFrame : sent_since before from k ≡ None → new ≡ old → HandsOver did before from k t old new
   OneFrame : (frame : List ℕ) (answer : Answer) → sent_since before from k ≡ Some frame →
-      HostRefinesCommand Tells did (with_frame old.device frame) new.device old.owner new.owner (PollIngressSingle t) answer
+      HostRefinesCommand Tells did (with_frame old.device frame) new.device old.owner new.owner
+      (PollIngressSingle t) answer
       (StandsFor old.interface old.sockets) (StandsFor new.interface new.sockets) →
       HandsOver did before from k t old new
 
 -- that, from all hosts that both ends stood for
-abbrev pub Goes : {O P : Type 0} → Owns O → Owns P → ℕ → ℕ → List LinkStep → Linked O → Linked O → Linked P → Linked P → Type 0
+abbrev pub Goes : {O P : Type 0} → Owns O → Owns P → ℕ → ℕ → List LinkStep → Linked O →
+    Linked O → Linked P → Linked P → Type 0
 Goes did_a did_b m n steps a a' b b' =
-    (H K : Host) → StandsFor a.interface a.sockets H → StandsFor b.interface b.sockets K → Went did_a did_b m n steps a a' b b' H K
+    (H K : Host) → StandsFor a.interface a.sockets H → StandsFor b.interface b.sockets K →
+    Went did_a did_b m n steps a a' b b' H K
 
--- Whatever an end reassembles under the key of a packet that the other end fragmented is that packet's payload. Both are on one
--- medium; the other end had no pending fragment when the link began, and fragments no two packets under one key; and the
--- receiving end had no slot with such a key.
+-- Whatever an end reassembles under the key of a packet that the other end fragmented is that packet's payload. Both
+-- are on one medium; the other end had no pending fragment when the link began, and fragments no two packets under one
+-- key; and the receiving end had no slot with such a key.
 abbrev pub RebuildsCuts : Host → Host → List Transition → List Transition → Type 0
 RebuildsCuts H K ps qs =
     K.capabilities.medium ≡ H.capabilities.medium → H.left ≡ [] → HaveOwnKeys (cuts_in ps) →
     AllByRecursion (λ d. map.get K.slots (key_of_cut d) ≡ None) (cuts_in ps) → RebuildsThese (cuts_in ps) qs
 
--- If the other end makes fewer than 65,536 dispatches, it fragments no two packets under one key, and the law holds without that
--- premise.
+-- If the other end makes fewer than 65,536 dispatches, it fragments no two packets under one key, and the law holds
+-- without that premise.
 abbrev pub RebuildsFew : Host → Host → List Transition → List Transition → Type 0
 RebuildsFew H K ps qs =
     K.capabilities.medium ≡ H.capabilities.medium → H.left ≡ [] → length (identifications (notes_in ps)) < 2 ^ 16 →
     AllByRecursion (λ d. map.get K.slots (key_of_cut d) ≡ None) (cuts_in ps) → RebuildsThese (cuts_in ps) qs
 
--- Each datagram that a UDP socket of an end gets was sent by a UDP socket of the other end, whole or, under the premises above,
--- in fragments. Both are on one medium, and no raw socket of the other end sends UDP.
+-- Each datagram that a UDP socket of an end gets was sent by a UDP socket of the other end, whole or, under the
+-- premises above, in fragments. Both are on one medium, and no raw socket of the other end sends UDP.
 abbrev pub GetsDatagrams : Host → Host → List Transition → List Transition → Type 0
 GetsDatagrams H K ps qs =
-    K.capabilities.medium ≡ H.capabilities.medium → AllByRecursion (λ p. NoSocketWritesUdp p.before) ps → GetWhatWasSent H K ps qs
+    K.capabilities.medium ≡ H.capabilities.medium →
+    AllByRecursion (λ p. NoSocketWritesUdp p.before) ps → GetWhatWasSent H K ps qs
 
--- what `link` did: some of its steps, which ones by its answer. So the ends made runs that satisfy the laws; what was received in
--- each was sent in the other; what one end reassembles is what the other fragmented; and what UDP sockets of one get those of the
--- other sent
-pub record LinkWent {O P : Type 0} (did_a : Owns O) (did_b : Owns P) (steps : List LinkStep) (answer : Result (Unit {0}) LinkError)
+-- what `link` did: some of its steps, which ones by its answer. So the ends made runs that satisfy the laws; what was
+-- received in each was sent in the other; what one end reassembles is what the other fragmented; and what UDP sockets
+-- of one get those of the other sent
+pub record LinkWent {O P : Type 0} (did_a : Owns O) (did_b : Owns P) (steps : List LinkStep)
+    (answer : Result (Unit {0}) LinkError)
     (a a' : Linked O) (b b' : Linked P) (H K : Host) : Type 0 where
   pub done : List LinkStep
   pub is_done : IsDone steps (length a.device.sent) (length b.device.sent) a'.device b'.device answer done
@@ -173,6 +191,8 @@ pub record LinkWent {O P : Type 0} (did_a : Owns O) (did_b : Owns P) (steps : Li
   pub gets_a : GetsDatagrams K H went.qs went.ps
 
 -- that, from all hosts that both ends stood for
-abbrev pub LinkGoes : {O P : Type 0} → Owns O → Owns P → List LinkStep → Result (Unit {0}) LinkError → Linked O → Linked O → Linked P → Linked P → Type 0
+abbrev pub LinkGoes : {O P : Type 0} → Owns O → Owns P → List LinkStep → Result (Unit {0}) LinkError → Linked O →
+    Linked O → Linked P → Linked P → Type 0
 LinkGoes did_a did_b steps answer a a' b b' =
-    (H K : Host) → StandsFor a.interface a.sockets H → StandsFor b.interface b.sockets K → LinkWent did_a did_b steps answer a a' b b' H K
+    (H K : Host) → StandsFor a.interface a.sockets H → StandsFor b.interface b.sockets K →
+    LinkWent did_a did_b steps answer a a' b b' H K

@@ -2,7 +2,8 @@
 ghost use Rattle.std.specs.Prelude.{◌≡◌, List, length, All};
 ghost use Rattle.host_machine.specs.State.Host.{Host, SocketSet};
 ghost use Rattle.host_machine.specs.Polling.Step.{IsTimely, UpdatesIpAddrs};
-ghost use Rattle.iface_tables.specs.Route.{first, ipv4_gateway, ipv6_gateway, is_ipv4_gateway, is_ipv6_gateway, old_or_full, with_default, without_first};
+ghost use Rattle.iface_tables.specs.Route.{first, ipv4_gateway, ipv6_gateway, is_ipv4_gateway};
+ghost use Rattle.iface_tables.specs.Route.{is_ipv6_gateway, old_or_full, with_default, without_first};
 ghost use Rattle.interface.specs.Stands.{StandsFor, Becomes, HostRefines, host_with};
 ghost use Rattle.host.specs.Driven.{Driven};
 ghost use Rattle.host.specs.Joined.{DrivesJoin};
@@ -54,8 +55,10 @@ fn add_default_ipv4_route(
     interface: &mut Interface,
     gateway: Ipv4Address,
 ) -> Result<Option<Route>, RouteTableFull>
-    ensures answer { (sockets : SocketSet) → result ≡ old_or_full is_ipv4_gateway (host_with interface.old sockets).routes }
-    ensures table { Becomes interface.old interface.new (λ H. record H { routes = with_default is_ipv4_gateway H.routes (ipv4_gateway gateway) }) }
+    ensures answer { (sockets : SocketSet) →
+        result ≡ old_or_full is_ipv4_gateway (host_with interface.old sockets).routes }
+    ensures table { Becomes interface.old interface.new
+        (λ H. record H { routes = with_default is_ipv4_gateway H.routes (ipv4_gateway gateway) }) }
 {
     interface.routes_mut().add_default_ipv4_route(gateway)
 }
@@ -63,7 +66,8 @@ fn add_default_ipv4_route(
 /// Removes the IPv4 default route.
 fn remove_default_ipv4_route(interface: &mut Interface) -> Option<Route>
     ensures answer { (sockets : SocketSet) → result ≡ first is_ipv4_gateway (host_with interface.old sockets).routes }
-    ensures table { Becomes interface.old interface.new (λ H. record H { routes = without_first is_ipv4_gateway H.routes }) }
+    ensures table { Becomes interface.old interface.new
+        (λ H. record H { routes = without_first is_ipv4_gateway H.routes }) }
 {
     interface.routes_mut().remove_default_ipv4_route()
 }
@@ -73,8 +77,10 @@ fn add_default_ipv6_route(
     interface: &mut Interface,
     gateway: Ipv6Address,
 ) -> Result<Option<Route>, RouteTableFull>
-    ensures answer { (sockets : SocketSet) → result ≡ old_or_full is_ipv6_gateway (host_with interface.old sockets).routes }
-    ensures table { Becomes interface.old interface.new (λ H. record H { routes = with_default is_ipv6_gateway H.routes (ipv6_gateway gateway) }) }
+    ensures answer { (sockets : SocketSet) →
+        result ≡ old_or_full is_ipv6_gateway (host_with interface.old sockets).routes }
+    ensures table { Becomes interface.old interface.new
+        (λ H. record H { routes = with_default is_ipv6_gateway H.routes (ipv6_gateway gateway) }) }
 {
     interface.routes_mut().add_default_ipv6_route(gateway)
 }
@@ -82,7 +88,8 @@ fn add_default_ipv6_route(
 /// Removes the IPv6 default route.
 fn remove_default_ipv6_route(interface: &mut Interface) -> Option<Route>
     ensures answer { (sockets : SocketSet) → result ≡ first is_ipv6_gateway (host_with interface.old sockets).routes }
-    ensures table { Becomes interface.old interface.new (λ H. record H { routes = without_first is_ipv6_gateway H.routes }) }
+    ensures table { Becomes interface.old interface.new
+        (λ H. record H { routes = without_first is_ipv6_gateway H.routes }) }
 {
     interface.routes_mut().remove_default_ipv6_route()
 }
@@ -96,7 +103,8 @@ pub(crate) fn step<D: Device, O: Owner>(
     command: &Command,
 ) -> Answer
     requires { IsTimely command.now }
-    ensures { HostRefinesCommand D.tells O.did device.old device.new owner.old owner.new command.now result (StandsFor interface.old sockets.old) (StandsFor interface.new sockets.new) }
+    ensures { HostRefinesCommand D.tells O.did device.old device.new owner.old owner.new command.now result
+        (StandsFor interface.old sockets.old) (StandsFor interface.new sockets.new) }
 {
     match command {
         Command::UpdateIpAddrs(list) => Answer::UpdateIpAddrs(put_ip_addrs(interface, list)),
@@ -170,7 +178,8 @@ pub fn drive<D: Device, O: Owner>(
     requires room { length answers.old ≡ length commands.now }
     requires timely { All IsTimely commands.now }
     ensures { (H : Host) → StandsFor interface.old sockets.old H →
-        Driven D.tells O.did device.old device.new owner.old owner.new commands.now answers.new H (StandsFor interface.new sockets.new) }
+        Driven D.tells O.did device.old device.new owner.old owner.new commands.now answers.new H
+        (StandsFor interface.new sockets.new) }
 {
     interface.is_on_its_medium();
     for i in 0..commands.len() {

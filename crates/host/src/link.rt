@@ -63,7 +63,8 @@ fn frames_sent(device: &MemoryDevice) -> usize
 
 /// A frame, by its number from 0, among those that a device has sent after its first `before` frames.
 fn sent_since(device: &MemoryDevice, before: usize, k: usize) -> Option<&[u8]>
-    ensures { MatchOption result (sent_since before device.now k ≡ None) (λ frame. sent_since before device.now k ≡ Some frame.now) }
+    ensures { MatchOption result (sent_since before device.now k ≡ None)
+        (λ frame. sent_since before device.now k ≡ Some frame.now) }
 {
     let frames = device.sent().get(before..)?;
     let frame = frames.get(k)?;
@@ -73,7 +74,8 @@ fn sent_since(device: &MemoryDevice, before: usize, k: usize) -> Option<&[u8]>
 /// Runs a command on one end.
 fn run<O: Owner>(host: &mut Host<'_, O>, command: &Command) -> Answer
     requires { IsTimely command.now }
-    ensures { HostRefinesCommand Tells O.did host.old.device host.new.device host.old.owner host.new.owner command.now result (StandsFor host.old.interface host.old.sockets) (StandsFor host.new.interface host.new.sockets) }
+    ensures { HostRefinesCommand Tells O.did host.old.device host.new.device host.old.owner host.new.owner command.now
+        result (StandsFor host.old.interface host.old.sockets) (StandsFor host.new.interface host.new.sockets) }
 {
     step(
         &mut host.interface,

@@ -80,19 +80,26 @@ is_0 : (n : ℕ) → number_of (protocol_of n) ≡ 0 → n ≡ 0
 is_0 n e = sym (number_again n) ∙ e
 
 -- the header of a frame, and what stands behind it
-type_is : (own far : EthernetAddress) (type : EthernetProtocol) (text : List ℕ) → IsHeader (record { src_addr = own; dst_addr = far; ethertype = type }) →
+type_is : (own far : EthernetAddress) (type : EthernetProtocol) (text : List ℕ) →
+    IsHeader (record { src_addr = own; dst_addr = far; ethertype = type }) →
     (header_in (header_text (record { src_addr = own; dst_addr = far; ethertype = type }) ++ text)).ethertype ≡ type
-type_is own far type text h = ap (λ (x : EthernetRepr × List ℕ). x.0.ethertype) (ethernet_again.read_again (record { src_addr = own; dst_addr = far; ethertype = type }) text h)
+type_is own far type text h =
+    ap (λ (x : EthernetRepr × List ℕ). x.0.ethertype) (ethernet_again.read_again (record { src_addr = own; dst_addr = far; ethertype = type }) text h)
 
-after : (own far : EthernetAddress) (type : EthernetProtocol) (text : List ℕ) → IsHeader (record { src_addr = own; dst_addr = far; ethertype = type }) →
+after : (own far : EthernetAddress) (type : EthernetProtocol) (text : List ℕ) →
+    IsHeader (record { src_addr = own; dst_addr = far; ethertype = type }) →
     drop 14 (header_text (record { src_addr = own; dst_addr = far; ethertype = type }) ++ text) ≡ text
-after own far type text h = ap (λ (x : EthernetRepr × List ℕ). x.1) (ethernet_again.read_again (record { src_addr = own; dst_addr = far; ethertype = type }) text h)
+after own far type text h =
+    ap (λ (x : EthernetRepr × List ℕ). x.1) (ethernet_again.read_again (record { src_addr = own; dst_addr = far; ethertype = type }) text h)
 
 -- the packet of IPv6 that a host takes out of a frame is the one that stands behind the frame's header
-pub same_packet_v6 : (m : Medium) (own far mine : HardwareAddress) (text packet : List ℕ) → IsOf m own → IsOf m far → IsOf m mine → CarriesIpv6 mine (link_header own far protocol.Ipv6 ++ text) packet → packet ≡ text
-same_packet_v6 medium.Ethernet (hardware.Ethernet own) (hardware.Ethernet far) (hardware.Ethernet mine) text packet s t u (spec.OverEthernet a e w for type is) =
+pub same_packet_v6 : (m : Medium) (own far mine : HardwareAddress) (text packet : List ℕ) →
+    IsOf m own → IsOf m far → IsOf m mine → CarriesIpv6 mine (link_header own far protocol.Ipv6 ++ text) packet → packet ≡ text
+same_packet_v6 medium.Ethernet (hardware.Ethernet own) (hardware.Ethernet far)
+    (hardware.Ethernet mine) text packet s t u (spec.OverEthernet a e w for type is) =
     is ∙ after own far protocol.Ipv6 text (record { destination = t; source = s; number = omega arith; protocol = refl })
-same_packet_v6 medium.Ethernet (hardware.Ethernet own) (hardware.Ethernet far) (hardware.Ethernet mine) text packet s t u (spec.AsItStands e v is) = absurd (no_address mine e)
+same_packet_v6 medium.Ethernet (hardware.Ethernet own) (hardware.Ethernet far) (hardware.Ethernet mine) text packet s t u (spec.AsItStands e v is) =
+    absurd (no_address mine e)
 same_packet_v6 medium.Ethernet (hardware.Ethernet own) (hardware.Ethernet far) hardware.Ip text packet s t u c = absurd u
 same_packet_v6 medium.Ethernet (hardware.Ethernet own) hardware.Ip mine text packet s t u c = absurd t
 same_packet_v6 medium.Ethernet hardware.Ip far mine text packet s t u c = absurd s
@@ -106,17 +113,21 @@ same_packet_v6 medium.Ip hardware.Ip hardware.Ip hardware.Ip text packet s t u (
 not_four : protocol.Ipv4 ≡ protocol.Ipv6 → ⊥
 not_four e = cc
 
-pub other_packet_v6 : (m : Medium) (own far mine : HardwareAddress) (text packet : List ℕ) → IsOf m own → IsOf m far → IsOf m mine → (version_in text ≡ 6 → ⊥) → CarriesIpv6 mine (link_header own far protocol.Ipv4 ++ text) packet → ⊥
-other_packet_v6 medium.Ethernet (hardware.Ethernet own) (hardware.Ethernet far) (hardware.Ethernet mine) text packet s t u other (spec.OverEthernet a e w for type is) =
+pub other_packet_v6 : (m : Medium) (own far mine : HardwareAddress) (text packet : List ℕ) →
+    IsOf m own → IsOf m far → IsOf m mine → (version_in text ≡ 6 → ⊥) → CarriesIpv6 mine (link_header own far protocol.Ipv4 ++ text) packet → ⊥
+other_packet_v6 medium.Ethernet (hardware.Ethernet own) (hardware.Ethernet far) (hardware.Ethernet mine) text packet s t u other
+    (spec.OverEthernet a e w for type is) =
     not_four (sym (type_is own far protocol.Ipv4 text (record { destination = t; source = s; number = omega arith; protocol = refl })) ∙ type)
-other_packet_v6 medium.Ethernet (hardware.Ethernet own) (hardware.Ethernet far) (hardware.Ethernet mine) text packet s t u other (spec.AsItStands e v is) = absurd (no_address mine e)
+other_packet_v6 medium.Ethernet (hardware.Ethernet own) (hardware.Ethernet far) (hardware.Ethernet mine) text packet s t u other
+    (spec.AsItStands e v is) = absurd (no_address mine e)
 other_packet_v6 medium.Ethernet (hardware.Ethernet own) (hardware.Ethernet far) hardware.Ip text packet s t u other c = absurd u
 other_packet_v6 medium.Ethernet (hardware.Ethernet own) hardware.Ip mine text packet s t u other c = absurd t
 other_packet_v6 medium.Ethernet hardware.Ip far mine text packet s t u other c = absurd s
 other_packet_v6 medium.Ip (hardware.Ethernet own) far mine text packet s t u other c = absurd s
 other_packet_v6 medium.Ip hardware.Ip (hardware.Ethernet far) mine text packet s t u other c = absurd t
 other_packet_v6 medium.Ip hardware.Ip hardware.Ip (hardware.Ethernet mine) text packet s t u other c = absurd u
-other_packet_v6 medium.Ip hardware.Ip hardware.Ip hardware.Ip text packet s t u other (spec.OverEthernet a e w for type is) = absurd (no_address a (sym e))
+other_packet_v6 medium.Ip hardware.Ip hardware.Ip hardware.Ip text packet s t u other (spec.OverEthernet a e w for type is) =
+    absurd (no_address a (sym e))
 other_packet_v6 medium.Ip hardware.Ip hardware.Ip hardware.Ip text packet s t u other (spec.AsItStands e v is) = other v
 
 pub version_four : (summed : Bool) (r : Ipv4Repr) (f : Ipv4Fragment) (rest : List ℕ) → version_in (ipv4.header_text summed r f ++ rest) ≡ 6 → ⊥
@@ -124,7 +135,8 @@ unfolding front back header_with
 version_four summed r f rest e = absurd (omega (arith, e))
 
 -- the protocol of a packet as it is read
-pub number_v4 : (summed : Bool) (r : Ipv4Repr) (f : Ipv4Fragment) (rest : List ℕ) → (ipv4_in (ipv4.header_text summed r f ++ rest)).0.next_header ≡ protocol_of (number_of r.next_header)
+pub number_v4 : (summed : Bool) (r : Ipv4Repr) (f : Ipv4Fragment) (rest : List ℕ) →
+    (ipv4_in (ipv4.header_text summed r f ++ rest)).0.next_header ≡ protocol_of (number_of r.next_header)
 unfolding front back header_with
 number_v4 summed r f rest = refl
 
@@ -133,10 +145,12 @@ unfolding ipv6.header_text
 number_v6 r rest = refl
 
 -- a packet of IPv4 with another number
-none_by_number : (m : Medium) (own far : HardwareAddress) (summed : Bool) (r : Ipv4Repr) (f : Ipv4Fragment) (rest : List ℕ) → IsOf m own → IsOf m far → (number_of r.next_header ≡ 17 → ⊥) →
+none_by_number : (m : Medium) (own far : HardwareAddress) (summed : Bool) (r : Ipv4Repr) (f : Ipv4Fragment) (rest : List ℕ) →
+    IsOf m own → IsOf m far → (number_of r.next_header ≡ 17 → ⊥) →
     CarriesNoUdp m (link_header own far protocol.Ipv4 ++ (ipv4.header_text summed r f ++ rest))
 none_by_number m own far summed r f rest s t other K x octets mine (spec.OverIpv4 packet c i may part udp is_x is_octets) =
-    let e : packet ≡ ipv4.header_text summed r f ++ rest = same_packet m own far K.hardware_addr (ipv4.header_text summed r f ++ rest) packet s t mine c in
+    let e : packet ≡ ipv4.header_text summed r f ++ rest =
+    same_packet m own far K.hardware_addr (ipv4.header_text summed r f ++ rest) packet s t mine c in
     other (is_17 (number_of r.next_header) (sym (number_v4 summed r f rest) ∙ ap (λ (p : List ℕ). (ipv4_in p).0.next_header) (sym e) ∙ udp))
 none_by_number m own far summed r f rest s t other K x octets mine (spec.OverIpv6 packet c i u udp is_x is_octets) =
     other_packet_v6 m own far K.hardware_addr (ipv4.header_text summed r f ++ rest) packet s t mine (version_four summed r f rest) c
@@ -144,8 +158,10 @@ none_by_number m own far summed r f rest s t other K x octets mine (spec.AfterOp
     other_packet_v6 m own far K.hardware_addr (ipv4.header_text summed r f ++ rest) packet s t mine (version_four summed r f rest) c
 
 -- of IPv6: with another number, behind which no options are read
-none_by_number_v6 : (m : Medium) (own far : HardwareAddress) (r : Ipv6Repr) (rest : List ℕ) → IsOf m own → IsOf m far → (number_of r.next_header ≡ 17 → ⊥) →
-    (number_of r.next_header ≡ 0 → IsHopByHop (ipv6_in (ipv6.header_text r ++ rest)).1 → (hop_by_hop_in (ipv6_in (ipv6.header_text r ++ rest)).1).0.next_header ≡ kind.Udp → ⊥) →
+none_by_number_v6 : (m : Medium) (own far : HardwareAddress) (r : Ipv6Repr) (rest : List ℕ) →
+    IsOf m own → IsOf m far → (number_of r.next_header ≡ 17 → ⊥) →
+    (number_of r.next_header ≡ 0 → IsHopByHop (ipv6_in (ipv6.header_text r ++ rest)).1 →
+    (hop_by_hop_in (ipv6_in (ipv6.header_text r ++ rest)).1).0.next_header ≡ kind.Udp → ⊥) →
     CarriesNoUdp m (link_header own far protocol.Ipv6 ++ (ipv6.header_text r ++ rest))
 none_by_number_v6 m own far r rest s t other options K x octets mine (spec.OverIpv4 packet c i may part udp is_x is_octets) =
     other_packet m own far K.hardware_addr (ipv6.header_text r ++ rest) packet s t mine (version_six r rest) c
@@ -154,7 +170,8 @@ none_by_number_v6 m own far r rest s t other options K x octets mine (spec.OverI
     other (is_17 (number_of r.next_header) (sym (number_v6 r rest) ∙ ap (λ (p : List ℕ). (ipv6_in p).0.next_header) (sym e) ∙ udp))
 none_by_number_v6 m own far r rest s t other options K x octets mine (spec.AfterOptions packet c i u z o skip udp is_x is_octets) =
     let e : packet ≡ ipv6.header_text r ++ rest = same_packet_v6 m own far K.hardware_addr (ipv6.header_text r ++ rest) packet s t mine c in
-    options (is_0 (number_of r.next_header) (ap number_of (sym (number_v6 r rest)) ∙ ap (λ (p : List ℕ). number_of (ipv6_in p).0.next_header) (sym e) ∙ z))
+    options
+    (is_0 (number_of r.next_header) (ap number_of (sym (number_v6 r rest)) ∙ ap (λ (p : List ℕ). number_of (ipv6_in p).0.next_header) (sym e) ∙ z))
     (subst (λ (p : List ℕ). IsHopByHop (ipv6_in p).1) e o)
     (ap (λ (p : List ℕ). (hop_by_hop_in (ipv6_in p).1).0.next_header) (sym e) ∙ udp)
 
@@ -163,7 +180,8 @@ options_before : (n : ℕ) (rest : List ℕ) → IsHopByHop (take n (58 ∷ rest
 options_before zero rest o e = let w = o.whole in absurd (omega (arith, w))
 options_before (suc n) rest o e = cc
 
-reports_have_none : (r : Ipv6Repr) (rest : List ℕ) → IsHopByHop (ipv6_in (ipv6.header_text r ++ (58 ∷ rest))).1 → (hop_by_hop_in (ipv6_in (ipv6.header_text r ++ (58 ∷ rest))).1).0.next_header ≡ kind.Udp → ⊥
+reports_have_none : (r : Ipv6Repr) (rest : List ℕ) → IsHopByHop (ipv6_in (ipv6.header_text r ++ (58 ∷ rest))).1 →
+    (hop_by_hop_in (ipv6_in (ipv6.header_text r ++ (58 ∷ rest))).1).0.next_header ≡ kind.Udp → ⊥
 unfolding ipv6.header_text ipv6.address_text
 reports_have_none r rest o e = options_before (end (ipv6.header_text r ++ (58 ∷ rest)) - 40) rest o e
 
@@ -184,45 +202,60 @@ v4_none (Igmp message) none e = absurd (omega (arith, e))
 v4_none (Mld count records) none e = absurd (omega (arith, e))
 
 -- by the number alone
-numbered : (m : Medium) (H : Host) (h : HardwareAddress) (r : Ipv6Repr) (rest : List ℕ) → IsOf m H.hardware_addr → IsOf m h → (number_of r.next_header ≡ 17 → ⊥) → (number_of r.next_header ≡ 0 → ⊥) →
+numbered : (m : Medium) (H : Host) (h : HardwareAddress) (r : Ipv6Repr) (rest : List ℕ) →
+    IsOf m H.hardware_addr → IsOf m h → (number_of r.next_header ≡ 17 → ⊥) → (number_of r.next_header ≡ 0 → ⊥) →
     CarriesNoUdp m (link_header H.hardware_addr h protocol.Ipv6 ++ (ipv6.header_text r ++ rest))
 numbered m H h r rest own far udp options = none_by_number_v6 m H.hardware_addr h r rest own far udp (λ e o u. options e)
 
-v6_none : (m : Medium) (H : Host) (h : HardwareAddress) (src dst : Ipv6Address) (hop_limit : ℕ) (payload : IpPayload) → IsOf m H.hardware_addr → IsOf m h → has_udp payload ≡ false →
+v6_none : (m : Medium) (H : Host) (h : HardwareAddress) (src dst : Ipv6Address) (hop_limit : ℕ) (payload : IpPayload) →
+    IsOf m H.hardware_addr → IsOf m h → has_udp payload ≡ false →
     CarriesNoUdp m (ip_frame H h (packet.Ipv6 (record { src_addr = src; dst_addr = dst; hop_limit = hop_limit; payload = payload })))
 v6_none m H h src dst hop_limit (Icmpv4 message octets) own far none = numbered m H h _ _ own far (λ e. omega (arith, e)) (λ e. omega (arith, e))
 v6_none m H h src dst hop_limit (Icmpv6 message octets) own far none = numbered m H h _ _ own far (λ e. omega (arith, e)) (λ e. omega (arith, e))
 v6_none m H h src dst hop_limit (Udp header octets) own far none = absurd cc
 v6_none m H h src dst hop_limit (Tcp header octets) own far none = numbered m H h _ _ own far (λ e. omega (arith, e)) (λ e. omega (arith, e))
-v6_none m H h src dst hop_limit (Raw number octets) own far none = numbered m H h _ _ own far (may_not_be (number_of number) none) (may_not_be_0 (number_of number) none)
+v6_none m H h src dst hop_limit (Raw number octets) own far none =
+    numbered m H h _ _ own far (may_not_be (number_of number) none) (may_not_be_0 (number_of number) none)
 v6_none m H h src dst hop_limit (Igmp message) own far none = numbered m H h _ _ own far (λ e. omega (arith, e)) (λ e. omega (arith, e))
-v6_none m H h src dst hop_limit (Mld count records) own far none = none_by_number_v6 m H.hardware_addr h _ _ own far (λ e. omega (arith, e)) (λ e o udp. reports_have_none _ _ o udp)
+v6_none m H h src dst hop_limit (Mld count records) own far none =
+    none_by_number_v6 m H.hardware_addr h _ _ own far (λ e. omega (arith, e)) (λ e o udp. reports_have_none _ _ o udp)
 
-pub packet_none : (m : Medium) (H : Host) (h : HardwareAddress) (p : Packet) → IsOf m H.hardware_addr → IsOf m h → has_udp (payload_of p) ≡ false → CarriesNoUdp m (ip_frame H h p)
-packet_none m H h (packet.Ipv4 p) own far none = none_by_number m H.hardware_addr h (is_tx H.capabilities.checksum.ipv4) (packet.header_v4 p) whole _ own far (v4_none p.payload none)
+pub packet_none : (m : Medium) (H : Host) (h : HardwareAddress) (p : Packet) →
+    IsOf m H.hardware_addr → IsOf m h → has_udp (payload_of p) ≡ false → CarriesNoUdp m (ip_frame H h p)
+packet_none m H h (packet.Ipv4 p) own far none =
+    none_by_number m H.hardware_addr h (is_tx H.capabilities.checksum.ipv4) (packet.header_v4 p) whole _ own far (v4_none p.payload none)
 packet_none m H h (packet.Ipv6 p) own far none = v6_none m H h p.src_addr p.dst_addr p.hop_limit p.payload own far none
 
 -- a piece is read as one
-as_udp : (summed : Bool) (r : Ipv4Repr) (f : Ipv4Fragment) (rest : List ℕ) → number_of r.next_header ≡ 17 → ipv4.header_text summed r f ++ rest ≡ ipv4.header_text summed (record r { next_header = kind.Udp }) f ++ rest
+as_udp : (summed : Bool) (r : Ipv4Repr) (f : Ipv4Fragment) (rest : List ℕ) →
+    number_of r.next_header ≡ 17 → ipv4.header_text summed r f ++ rest ≡ ipv4.header_text summed (record r { next_header = kind.Udp }) f ++ rest
 unfolding front back header_with
 as_udp summed r f rest e = rw e refl
 
 pub piece_none : (m : Medium) (H : Host) (p : Piece) → IsOf m H.hardware_addr → IsPart m p → CarriesNoUdp m (piece_frame H p)
 piece_none m H p own is K x octets mine (spec.OverIpv4 packet c i may part udp is_x is_octets) =
-    let e : packet ≡ piece_text H.capabilities p = same_packet m H.hardware_addr p.destination K.hardware_addr (piece_text H.capabilities p) packet own is.destination mine c in
-    let number : number_of p.header.next_header ≡ 17 = is_17 (number_of p.header.next_header) (sym (number_v4 (is_tx H.capabilities.checksum.ipv4) (piece_header p) (piece_fragment p) p.fragment.octets)
+    let e : packet ≡ piece_text H.capabilities p =
+    same_packet m H.hardware_addr p.destination K.hardware_addr (piece_text H.capabilities p) packet own is.destination mine c in
+    let number : number_of p.header.next_header ≡ 17 =
+    is_17 (number_of p.header.next_header) (sym (number_v4 (is_tx H.capabilities.checksum.ipv4) (piece_header p) (piece_fragment p) p.fragment.octets)
     ∙ ap (λ (p : List ℕ). (ipv4_in p).0.next_header) (sym e) ∙ udp) in
     let text = e ∙ as_udp (is_tx H.capabilities.checksum.ipv4) (piece_header p) (piece_fragment p) p.fragment.octets number
-    ∙ sym (append-nil (ipv4.header_text (is_tx H.capabilities.checksum.ipv4) (record (piece_header p) { next_header = kind.Udp }) (piece_fragment p) ++ p.fragment.octets)) in
-    let again = (ipv4_again.read_again false (is_tx H.capabilities.checksum.ipv4) (record (piece_header p) { next_header = kind.Udp }) (piece_fragment p) p.fragment.octets [] (is.header number) refl (λ x. absurd cc)).1 in
-    two_ways (is_fragment (ipv4_in packet).1) (ap (λ (p : List ℕ). is_fragment (ipv4_in p).1) text ∙ ap (λ (x : Ipv4Repr × Ipv4Fragment × List ℕ). is_fragment x.1) again ∙ is.part number) part
+    ∙ sym (append-nil (ipv4.header_text (is_tx H.capabilities.checksum.ipv4) (record (piece_header p) { next_header = kind.Udp }) (piece_fragment p)
+    ++ p.fragment.octets)) in
+    let again = (ipv4_again.read_again false (is_tx H.capabilities.checksum.ipv4) (record (piece_header p) { next_header = kind.Udp })
+    (piece_fragment p) p.fragment.octets [] (is.header number) refl (λ x. absurd cc)).1 in
+    two_ways (is_fragment (ipv4_in packet).1)
+    (ap (λ (p : List ℕ). is_fragment (ipv4_in p).1) text ∙ ap (λ (x : Ipv4Repr × Ipv4Fragment × List ℕ). is_fragment x.1) again ∙ is.part number) part
 piece_none m H p own is K x octets mine (spec.OverIpv6 packet c i u udp is_x is_octets) =
-    other_packet_v6 m H.hardware_addr p.destination K.hardware_addr (piece_text H.capabilities p) packet own is.destination mine (version_four _ (piece_header p) (piece_fragment p) p.fragment.octets) c
+    other_packet_v6 m H.hardware_addr p.destination K.hardware_addr (piece_text H.capabilities p) packet own is.destination mine
+    (version_four _ (piece_header p) (piece_fragment p) p.fragment.octets) c
 piece_none m H p own is K x octets mine (spec.AfterOptions packet c i u z o skip udp is_x is_octets) =
-    other_packet_v6 m H.hardware_addr p.destination K.hardware_addr (piece_text H.capabilities p) packet own is.destination mine (version_four _ (piece_header p) (piece_fragment p) p.fragment.octets) c
+    other_packet_v6 m H.hardware_addr p.destination K.hardware_addr (piece_text H.capabilities p) packet own is.destination mine
+    (version_four _ (piece_header p) (piece_fragment p) p.fragment.octets) c
 
 -- a frame of another type carries none
-by_type : (m : Medium) (frame : List ℕ) (type : EthernetProtocol) → m ≡ medium.Ethernet → (header_in frame).ethertype ≡ type → (type ≡ protocol.Ipv4 → ⊥) → (type ≡ protocol.Ipv6 → ⊥) → CarriesNoUdp m frame
+by_type : (m : Medium) (frame : List ℕ) (type : EthernetProtocol) →
+    m ≡ medium.Ethernet → (header_in frame).ethertype ≡ type → (type ≡ protocol.Ipv4 → ⊥) → (type ≡ protocol.Ipv6 → ⊥) → CarriesNoUdp m frame
 by_type m frame type on is four six K x octets mine b = by b where
   ethernet : (h : HardwareAddress) → IsOf m h → h ≡ hardware.Ip → ⊥
   ethernet hardware.Ip of e = rw on at of
@@ -247,9 +280,11 @@ arp_not_four e = cc
 arp_not_six : protocol.Arp ≡ protocol.Ipv6 → ⊥
 arp_not_six e = cc
 
-pub arp_none : (m : Medium) (r : ArpRepr) → IsOf m (hardware.Ethernet r.source_hardware_addr) → IsOf m (hardware.Ethernet r.target_hardware_addr) → CarriesNoUdp m (arp_frame r)
+pub arp_none : (m : Medium) (r : ArpRepr) → IsOf m (hardware.Ethernet r.source_hardware_addr) →
+    IsOf m (hardware.Ethernet r.target_hardware_addr) → CarriesNoUdp m (arp_frame r)
 arp_none medium.Ethernet r s t = by_type medium.Ethernet (arp_frame r) protocol.Arp refl
-    (type_is r.source_hardware_addr r.target_hardware_addr protocol.Arp (arp.text r) (record { destination = t; source = s; number = omega arith; protocol = refl })) arp_not_four arp_not_six
+    (type_is r.source_hardware_addr r.target_hardware_addr protocol.Arp (arp.text r)
+    (record { destination = t; source = s; number = omega arith; protocol = refl })) arp_not_four arp_not_six
 arp_none medium.Ip r s t = absurd s
 
 -- nor does a request for a hardware address
@@ -279,7 +314,8 @@ solicitation_none frame e K x octets mine b = by b where
   type = let n : u16_at frame 12 ≡ 0x86dd = type_of frame 0x86dd (and_left (u16_at frame 12 == 0x86dd) (slice_index frame 20 == 58) both) in rw n refl
 
   next : slice_index (drop 14 frame) 6 ≡ 58
-  next = let n : slice_index frame 20 ≡ 58 = grind (arith, nat_tests, and_right (u16_at frame 12 == 0x86dd) (slice_index frame 20 == 58) both) in get_or-drop 14 frame 6 0 ∙ n
+  next = let n : slice_index frame 20 ≡ 58 = grind (arith, nat_tests, and_right (u16_at frame 12 == 0x86dd) (slice_index frame 20 == 58) both) in
+      get_or-drop 14 frame 6 0 ∙ n
 
   six : protocol.Ipv6 ≡ protocol.Ipv4 → ⊥
   six e = cc
@@ -298,7 +334,8 @@ solicitation_none frame e K x octets mine b = by b where
 
   by : BringsPacket K frame x octets → ⊥
   by (spec.OverIpv4 packet c i may part udp is_x is_octets) = v4 packet c
-  by (spec.OverIpv6 packet c i u udp is_x is_octets) = let n = icmp packet c in let m : number_of (ipv6_in packet).0.next_header ≡ 17 = ap number_of udp in omega (arith, n, m)
+  by (spec.OverIpv6 packet c i u udp is_x is_octets) = let n = icmp packet c in
+      let m : number_of (ipv6_in packet).0.next_header ≡ 17 = ap number_of udp in omega (arith, n, m)
   by (spec.AfterOptions packet c i u z o skip udp is_x is_octets) = let n = icmp packet c in omega (arith, n, z)
 
 pub request_none : (m : Medium) (frame : List ℕ) → is_request m frame ≡ true → CarriesNoUdp m frame

@@ -42,9 +42,13 @@ idle_then i j = record { base_is = j.base_is ∙ i.base_is; sockets_are = j.sock
 pub rests : {old new : Host} → base new ≡ base old → new.sockets ≡ old.sockets → Idle old new
 rests b s = record { base_is = b; sockets_are = s }
 
-pub dispatch_idle : {p : Packet} {outcome : Outcome} {H new : Host} {frames : List (List ℕ)} {notes : List Note} → Dispatches p outcome H frames notes new → Idle H new
+pub dispatch_idle : {p : Packet} {outcome : Outcome} {H new : Host} {frames : List (List ℕ)} {notes : List Note} →
+    Dispatches p outcome H frames notes new → Idle H new
 dispatch_idle d = let u = dispatched d in
-    record { base_is = ap (λ (K : Host). record K { moment = pos 0; any_ip = false; routes = []; groups = [] }) u.seen_is; sockets_are = u.sockets_are }
+    record {
+      base_is = ap (λ (K : Host). record K { moment = pos 0; any_ip = false; routes = []; groups = [] }) u.seen_is;
+      sockets_are = u.sockets_are;
+    }
 
 pub piece_idle : {H new : Host} {told : List Event} {notes : List Note} → Ipv4Egress H told notes new → Idle H new
 piece_idle (egress.NoPiece l t n e) = idle e
@@ -56,14 +60,16 @@ routers_idle (slaac.NotDue d t n e) = idle e
 routers_idle (slaac.NotGranted p d t n e) = idle e
 routers_idle (slaac.Goes p outcome frames mid h d t e) = idle_by e (idle_then (dispatch_idle d) (rests refl refl))
 
-pub groups_idle : {state : GroupState} {packet_for : List IpCidr → IpAddress → Option Packet} {after_report : List Group → IpAddress → List Group} {old new : Host} {granted : Bool} {told : List Event} {notes : List Note} →
+pub groups_idle : {state : GroupState} {packet_for : List IpCidr → IpAddress → Option Packet} {after_report : List Group → IpAddress → List Group}
+    {old new : Host} {granted : Bool} {told : List Event} {notes : List Note} →
     multicast.ReportsEach state packet_for after_report old granted told notes new → Idle old new
 groups_idle multicast.Begins = idle refl
 groups_idle (multicast.Silently a w f p) = idle_then (groups_idle w) (rests refl refl)
 groups_idle (multicast.Refused a p w f q) = groups_idle w
 groups_idle (multicast.Reported a p outcome frames more new w f q d) = idle_then (groups_idle w) (idle_then (dispatch_idle d) (rests refl refl))
 
-pub all_idle : {state : GroupState} {packet_for : List IpCidr → IpAddress → Option Packet} {after_report : List Group → IpAddress → List Group} {old new : Host} {told : List Event} {notes : List Note} →
+pub all_idle : {state : GroupState} {packet_for : List IpCidr → IpAddress → Option Packet} {after_report : List Group → IpAddress → List Group}
+    {old new : Host} {told : List Event} {notes : List Note} →
     multicast.ReportsAll state packet_for after_report old told notes new → Idle old new
 all_idle (multicast.All w n) = groups_idle w
 all_idle (multicast.UpToRefusal w) = groups_idle w

@@ -1,5 +1,6 @@
 -- What is delivered, and what departs, of parts one after the other.
-use Rattle.std.proofs.Common.{◌≡◌, ℕ, ◌==◌, Bool, true, false, List, [], ◌∷◌, ◌++◌, refl, sym, ◌∙◌, ap, subst, Option, Some, None, option_map, if◌then◌else◌, arith}
+use Rattle.std.proofs.Common.{◌≡◌, ℕ, ◌==◌, Bool, true, false, List, [], ◌∷◌, ◌++◌, refl, sym}
+use Rattle.std.proofs.Common.{◌∙◌, ap, subst, Option, Some, None, option_map, if◌then◌else◌, arith}
 use Rattle.std.proofs.lemmas.Bool.Decides.{nat_tests}
 use Rattle.std.proofs.lemmas.List.{append_assoc}
 use Rattle.fragmentation.specs.Cuts.{Datagram}
@@ -8,7 +9,8 @@ use Rattle.transport_sockets.specs.Udp.{UdpSocket, socket_after_delivery, withou
 use Rattle.host_machine.specs.State.Host.{Host}
 use Rattle.host_machine.specs.Laws.Order.{IsAmong, NoneOfNone, OneOf, NotThis}
 use Rattle.host_laws.specs.Deliveries.{Delivery, Deliver, NoFrame, OneGets, NoSocketGets, to_index, with_deliveries}
-use Rattle.host_laws.specs.Departures.{Departure, Way, Dropped, InOneFrame, InPieces, frames_by, frames_of, cuts_by, cuts_of, from_index, entries, without}
+use Rattle.host_laws.specs.Departures.{Departure, Way, Dropped, InOneFrame, InPieces, frames_by}
+use Rattle.host_laws.specs.Departures.{frames_of, cuts_by, cuts_of, from_index, entries, without}
 
 if_append : {A : Type 0} (b : Bool) (x : A) (xs ys : List A) → (if b then x ∷ (xs ++ ys) else (xs ++ ys)) ≡ (if b then x ∷ xs else xs) ++ ys
 if_append true x xs ys = refl
@@ -17,16 +19,19 @@ if_append false x xs ys = refl
 -- deliveries
 pub to_index-append : (i : ℕ) (ds es : List Delivery) → to_index i (ds ++ es) ≡ to_index i ds ++ to_index i es
 to_index-append i [] es = refl
-to_index-append i (d ∷ ds) es = ap (λ rest. if d.index == i then d ∷ rest else rest) (to_index-append i ds es) ∙ if_append (d.index == i) d (to_index i ds) (to_index i es)
+to_index-append i (d ∷ ds) es = ap (λ rest. if d.index == i then d ∷ rest else rest) (to_index-append i ds es)
+    ∙ if_append (d.index == i) d (to_index i ds) (to_index i es)
 
 pub with_deliveries-append : (ds es : List Delivery) (s : UdpSocket) → with_deliveries (ds ++ es) s ≡ with_deliveries es (with_deliveries ds s)
 with_deliveries-append [] es s = refl
 with_deliveries-append (d ∷ ds) es s = with_deliveries-append ds es (socket_after_delivery d.source d.payload s)
 
-pub deliver-append : {B : Host} {fs gs : List (List ℕ)} {ns ms : List SlotNote} {ds es : List Delivery} → Deliver B fs ns ds → Deliver B gs ms es → Deliver B (fs ++ gs) (ns ++ ms) (ds ++ es)
+pub deliver-append : {B : Host} {fs gs : List (List ℕ)} {ns ms : List SlotNote} {ds es : List Delivery} →
+    Deliver B fs ns ds → Deliver B gs ms es → Deliver B (fs ++ gs) (ns ++ ms) (ds ++ es)
 deliver-append NoFrame e = e
 deliver-append {B = B} {gs = gs} {ms = ms} {es = es} (OneGets {frames = frames} {noted = noted} {ds = ds} frame own d g r) e =
-    subst (λ ns. Deliver B (frame ∷ (frames ++ gs)) ns (d ∷ (ds ++ es))) (sym (append_assoc own noted ms)) (OneGets frame own d g (deliver-append r e))
+    subst (λ ns. Deliver B (frame ∷ (frames ++ gs)) ns (d ∷ (ds ++ es))) (sym (append_assoc own noted ms))
+    (OneGets frame own d g (deliver-append r e))
 deliver-append {B = B} {gs = gs} {ms = ms} {es = es} (NoSocketGets {frames = frames} {noted = noted} {ds = ds} frame own r) e =
     subst (λ ns. Deliver B (frame ∷ (frames ++ gs)) ns (ds ++ es)) (sym (append_assoc own noted ms)) (NoSocketGets frame own (deliver-append r e))
 
@@ -43,7 +48,8 @@ pub tx_stays : (ds : List Delivery) (s : UdpSocket) → (with_deliveries ds s).t
 tx_stays [] s = refl
 tx_stays (d ∷ ds) s = tx_stays ds (socket_after_delivery d.source d.payload s)
 
-pub option_map_then : {A B C : Type 0} (g : B → C) (f : A → B) (h : A → C) → ((x : A) → g (f x) ≡ h x) → (o : Option A) → option_map g (option_map f o) ≡ option_map h o
+pub option_map_then : {A B C : Type 0} (g : B → C) (f : A → B) (h : A → C) → ((x : A) → g (f x) ≡ h x) → (o : Option A) →
+    option_map g (option_map f o) ≡ option_map h o
 option_map_then g f h same None = refl
 option_map_then g f h same (Some x) = ap (λ y. Some y) (same x)
 
@@ -58,7 +64,8 @@ eq_of k i e = grind (arith, nat_tests)
 -- departures
 pub from_index-append : (i : ℕ) (ds es : List Departure) → from_index i (ds ++ es) ≡ from_index i ds ++ from_index i es
 from_index-append i [] es = refl
-from_index-append i (d ∷ ds) es = ap (λ rest. if d.index == i then d ∷ rest else rest) (from_index-append i ds es) ∙ if_append (d.index == i) d (from_index i ds) (from_index i es)
+from_index-append i (d ∷ ds) es = ap (λ rest. if d.index == i then d ∷ rest else rest) (from_index-append i ds es)
+    ∙ if_append (d.index == i) d (from_index i ds) (from_index i es)
 
 pub without-append : (ds es : List Departure) (s : UdpSocket) → without (ds ++ es) s ≡ without es (without ds s)
 without-append [] es s = refl

@@ -36,26 +36,32 @@ Over old told notes new = IsRegular old → Follows old new
 on : (a b c : Host) (ts us : List Event) (xs ys : List Note) → Over a ts xs b → Over b us ys c → Over a (ts ++ us) (xs ++ ys) c
 on a b c ts us xs ys one two = λ r. let x = one r in let y = two x.regular in record { same = y.same ∙ x.same; regular = y.regular }
 
-pieces : (H : Host) (p : Piece) (rest : List Piece) → H.left ≡ p ∷ rest → Over H (Asked H.moment true ∷ sends (piece_frame H p ∷ [])) (OfCuts (PieceSent p) ∷ []) (with_left H rest)
+pieces : (H : Host) (p : Piece) (rest : List Piece) →
+    H.left ≡ p ∷ rest → Over H (Asked H.moment true ∷ sends (piece_frame H p ∷ [])) (OfCuts (PieceSent p) ∷ []) (with_left H rest)
 pieces H p rest e = λ r.
     let all : AllByRecursion (IsPart H.capabilities.medium) (p ∷ rest) = rw e at r.left in
     record { same = refl; regular = record { real = record { own = r.real.own; neighbors = r.real.neighbors }; mtu = r.mtu; left = all.1 } }
 
-responds : (reply : Option Reply) (H : Host) (frames : List (List ℕ)) (notes : List Note) (new : Host) → Responds reply H frames notes new → IsRegular H → Follows H new
+responds : (reply : Option Reply) (H : Host) (frames : List (List ℕ)) (notes : List Note) (new : Host) →
+    Responds reply H frames notes new → IsRegular H → Follows H new
 responds None H frames notes new r = rw r.2 (itself H)
 responds (Some (Arp packet)) H frames notes new r = rw r.2 (itself H)
 responds (Some (Ip packet)) H frames notes new r = dispatch_follows r.1
 
-ingress : (t : ℤ) (answer : PollIngressSingleResult) (old new : Host) (told : List Event) (notes : List Note) → Ingress t answer old told notes new → Over old told notes new
+ingress : (t : ℤ) (answer : PollIngressSingleResult) (old new : Host) (told : List Event) (notes : List Note) →
+    Ingress t answer old told notes new → Over old told notes new
 ingress t answer old new told notes i = λ r.
     let x = i.response in
-    let shown = takes_real (without_expired old t) i.reception x.reply x.notes_taking x.taken x.takes (record { own = r.real.own; neighbors = r.real.neighbors }) in
+    let shown = takes_real (without_expired old t) i.reception x.reply x.notes_taking x.taken x.takes
+    (record { own = r.real.own; neighbors = r.real.neighbors }) in
     let taken = follows old x.taken shown.same (taken_left (without_expired old t) i.reception x.reply x.notes_taking x.taken x.takes) shown.real r in
     let last = responds x.reply x.taken i.frames x.notes_responding new x.responds taken.regular in
     record { same = last.same ∙ taken.same; regular = last.regular }
 
-step_follows : {command : Command} {answer : Answer} {old new : Host} {told : List Event} {acts : List Act} {notes : List Note} → Step command answer old told acts notes new → Over old told notes new
-step_follows s = stepped Over (λ old new k nobody. keeps old new k) on (λ H. itself H) (λ p outcome H new frames notes may d. dispatch_follows d) pieces ingress
+step_follows : {command : Command} {answer : Answer} {old new : Host} {told : List Event} {acts : List Act} {notes : List Note} →
+    Step command answer old told acts notes new → Over old told notes new
+step_follows s =
+    stepped Over (λ old new k nobody. keeps old new k) on (λ H. itself H) (λ p outcome H new frames notes may d. dispatch_follows d) pieces ingress
     (λ H t. λ r. follows H (without_expired H t) refl refl (record { own = r.real.own; neighbors = r.real.neighbors }) r)
     (λ H list. λ r. follows H _ refl refl (record { own = r.real.own; neighbors = none_of H.capabilities.medium H.neighbors }) r)
     (λ H h of. λ r. follows H _ refl refl (record { own = of; neighbors = r.real.neighbors }) r)
@@ -71,14 +77,17 @@ pub record Sends (p : Transition) : Type 0 where
   pub only : CarryOnly p.before.capabilities.medium departures (sent_frames p.told) (cuts (cut_notes p.notes))
 
 -- the owner of the sockets sends nothing
-acts_or : {command : Command} {answer : Answer} {old new : Host} {told : List Event} {acts : List Act} {notes : List Note} → Step command answer old told acts notes new → (acts ≡ []) ⊎ ((told ≡ []) × (notes ≡ []))
+acts_or : {command : Command} {answer : Answer} {old new : Host} {told : List Event} {acts : List Act} {notes : List Note} →
+    Step command answer old told acts notes new → (acts ≡ []) ⊎ ((told ≡ []) × (notes ≡ []))
 acts_or (step.OwnerActed sockets) = inr (refl, refl)
 acts_or other = inl refl
 
-place_sends : {command : Command} {answer : Answer} {old new : Host} {told : List Event} {acts : List Act} {notes : List Note} → Step command answer old told acts notes new → IsRegular old → NoSocketWritesUdp old →
+place_sends : {command : Command} {answer : Answer} {old new : Host} {told : List Event} {acts : List Act} {notes : List Note} →
+    Step command answer old told acts notes new → IsRegular old → NoSocketWritesUdp old →
     Sends (record { command = command; answer = answer; told = told; acts = acts; notes = notes; before = old; after = new })
 place_sends {command} {answer} {old} {new} {told} {acts} {notes} s r none = by (acts_or s) where
-  by : (acts ≡ []) ⊎ ((told ≡ []) × (notes ≡ [])) → Sends (record { command = command; answer = answer; told = told; acts = acts; notes = notes; before = old; after = new })
+  by : (acts ≡ []) ⊎ ((told ≡ []) × (notes ≡ [])) →
+      Sends (record { command = command; answer = answer; told = told; acts = acts; notes = notes; before = old; after = new })
   by (inl e) = let x = step_moves s e in record { departures = x.departures; left = x.left; only = x.only r none }
   by (inr e) = record { departures = []; left = tt; only = record { frames_are = rw e.0 tt; cuts_are = rw e.1 tt } }
 
@@ -88,10 +97,12 @@ pub record SendsOver (c : DeviceCapabilities) (p : Transition) : Type 0 where
   pub same : p.before.capabilities ≡ c
   pub real : IsReal p.before
 
-pub all_send : {first last : Host} {transitions : List Transition} → Run first transitions last → IsRegular first → AllByRecursion (λ p. NoSocketWritesUdp p.before) transitions →
+pub all_send : {first last : Host} {transitions : List Transition} →
+    Run first transitions last → IsRegular first → AllByRecursion (λ p. NoSocketWritesUdp p.before) transitions →
     AllByRecursion (SendsOver first.capabilities) transitions
 all_send Ends r none = tt
 all_send {first} (Then {mid = mid} {transitions = ps} s run) r none =
     let f = step_follows s r in
-    let rest : AllByRecursion (SendsOver first.capabilities) ps = subst (λ c. AllByRecursion (SendsOver c) ps) f.same (all_send run f.regular none.1) in
+    let rest : AllByRecursion (SendsOver first.capabilities) ps =
+    subst (λ c. AllByRecursion (SendsOver c) ps) f.same (all_send run f.regular none.1) in
     (record { sends = place_sends s r none.0; same = refl; real = r.real }, rest)

@@ -69,7 +69,8 @@ unmoved {begin} {old} {new} e = record {
 }
 
 -- a call that takes a frame
-ingress_moves : (t : ℤ) (answer : PollIngressSingleResult) (old new : Host) (told : List Event) (notes : List Note) → Ingress t answer old told notes new → Moved (without_expired old t) old told notes new
+ingress_moves : (t : ℤ) (answer : PollIngressSingleResult) (old new : Host) (told : List Event) (notes : List Note) →
+    Ingress t answer old told notes new → Moved (without_expired old t) old told notes new
 ingress_moves t answer old new told notes i =
     let g = ingress_gained (without_expired old t) t answer old new told notes i refl in record {
       deliveries = g.deliveries;
@@ -85,7 +86,8 @@ ingress_moves t answer old new told notes i =
     }
 
 -- a call that sends
-egress_moves : (t : ℤ) (answer : PollResult) (old new : Host) (told : List Event) (notes : List Note) → Egress t answer old told notes new → Moved (at old t) old told notes new
+egress_moves : (t : ℤ) (answer : PollResult) (old new : Host) (told : List Event) (notes : List Note) →
+    Egress t answer old told notes new → Moved (at old t) old told notes new
 egress_moves t answer old new told notes e =
     let l = egress_loses (at old t) t answer old new told notes e refl in
     let still = egress_still e in record {
@@ -123,18 +125,25 @@ abbrev HandsNone : Part
 HandsNone old told notes new = Hands told notes
 
 hands_on : (a b c : Host) (ts us : List Event) (xs ys : List Note) → HandsNone a ts xs b → HandsNone b us ys c → HandsNone a (ts ++ us) (xs ++ ys) c
-hands_on a b c ts us xs ys one two = record { none = rw (handed_frames-append, one.none) two.none; unnoted = rw (slot_notes-append, one.unnoted) two.unnoted }
+hands_on a b c ts us xs ys one two =
+    record { none = rw (handed_frames-append, one.none) two.none; unnoted = rw (slot_notes-append, one.unnoted) two.unnoted }
 
 -- what gaining leaves of the front of a queue
-fronts_gained : (old mid : SocketSet) (ds : List Delivery) (es : List Departure) (i : ℕ) → udp_at mid i ≡ option_map (with_deliveries (to_index i ds)) (udp_at old i) →
-    ((s : UdpSocket) → udp_at mid i ≡ Some s → IsBeginning (entries (from_index i es)) s.tx.packets) → (s : UdpSocket) → udp_at old i ≡ Some s → IsBeginning (entries (from_index i es)) s.tx.packets
+fronts_gained : (old mid : SocketSet) (ds : List Delivery) (es : List Departure) (i : ℕ) →
+    udp_at mid i ≡ option_map (with_deliveries (to_index i ds)) (udp_at old i) →
+    ((s : UdpSocket) → udp_at mid i ≡ Some s → IsBeginning (entries (from_index i es)) s.tx.packets) → (s : UdpSocket) →
+    udp_at old i ≡ Some s → IsBeginning (entries (from_index i es)) s.tx.packets
 fronts_gained old mid ds es i e fronts s there =
     let f = fronts (with_deliveries (to_index i ds) s) (e ∙ ap (option_map (with_deliveries (to_index i ds))) there) in
     (f.0, f.1 ∙ ap (λ q. q.packets) (tx_stays (to_index i ds) s))
 
 -- a host is as its fields
 with_own : (B : Host) (d : Departure) → HasDeparted (record B { sockets = B.sockets }) d → HasDeparted B d
-with_own B d l = record { socket = l.socket; there = l.there; leaves = departs_alike (record B { sockets = B.sockets }) B l.socket l.socket d refl refl refl l.leaves }
+with_own B d l = record {
+  socket = l.socket;
+  there = l.there;
+  leaves = departs_alike (record B { sockets = B.sockets }) B l.socket l.socket d refl refl refl l.leaves;
+}
 
 all_own : (B : Host) (ds : List Departure) → AllByRecursion (HasDeparted (record B { sockets = B.sockets })) ds → AllByRecursion (HasDeparted B) ds
 all_own B [] all = tt
@@ -146,10 +155,11 @@ heard_own B (d ∷ ds) all = (record { socket = all.0.socket; there = all.0.ther
 
 -- a maintained host is regular, too
 maintained_follows : (H : Host) (t : ℤ) → IsRegular H → Follows H (after_maintenance (at H t))
-maintained_follows H t r = let s = maintains H t r.real in follows H (after_maintenance (at H t)) s.same (maintained_left (sync_required H.slaac t)) s.real r where
-  maintained_left : (b : Bool) → (if b then with_slaac_applied (without_expired H t) else without_expired H t).left ≡ H.left
-  maintained_left true = refl
-  maintained_left false = refl
+maintained_follows H t r = let s = maintains H t r.real in
+    follows H (after_maintenance (at H t)) s.same (maintained_left (sync_required H.slaac t)) s.real r where
+      maintained_left : (b : Bool) → (if b then with_slaac_applied (without_expired H t) else without_expired H t).left ≡ H.left
+      maintained_left true = refl
+      maintained_left false = refl
 
 -- calls that receive send nothing of sockets
 abbrev Quietly : Part
@@ -159,26 +169,44 @@ quietly_on : (a b c : Host) (ts us : List Event) (xs ys : List Note) → Quietly
 quietly_on a b c ts us xs ys one two = rw sent_frames-append (accounts_on a b c [] [] (sent_frames ts) (sent_frames us) xs ys one two)
 
 -- a poll: what its calls that receive gain, and what those that send lose
-poll_moves : (t : ℤ) (budget : ℕ) (answer : PollResult) (old new : Host) (told : List Event) (notes : List Note) → Polls t budget answer old told notes new → Moved (after_maintenance (at old t)) old told notes new
+poll_moves : (t : ℤ) (budget : ℕ) (answer : PollResult) (old new : Host) (told : List Event) (notes : List Note) →
+    Polls t budget answer old told notes new → Moved (after_maintenance (at old t)) old told notes new
 poll_moves t budget answer old new told notes p =
     let B : Host = after_maintenance (at old t) in
     let kept : B.sockets ≡ old.sockets = maintained_sockets old t in
-    let g = until (Gains B) (λ H. gained_none B H [] [] H refl refl refl refl) (gained_on B) (ingress_gains B t (maintained_at old t)) p.receives refl in
+    let g =
+    until (Gains B) (λ H. gained_none B H [] [] H refl refl refl refl) (gained_on B) (ingress_gains B t (maintained_at old t)) p.receives refl in
     let l = until (LosesOver B) (nothing_lost B) (lost_on B) (egress_loses B t) p.sends (ap (λ (K : Host). base K) g.seen_is) in
-    let received = until Quietly (λ H. accounts_same refl refl refl) quietly_on (λ answer old new told notes e. ingress_accounts t answer old new told notes e) p.receives in
-    let poll_accounts : AccountsFor old l.departures (sent_frames p.told_receiving ++ sent_frames p.told_sending) (p.notes_receiving ++ p.notes_sending) new = accounts_after (maintained_follows old t) (λ x. rw kept x)
-    (accounts_on B p.mid new [] l.departures (sent_frames p.told_receiving) (sent_frames p.told_sending) p.notes_receiving p.notes_sending received l.accounts) in
-    let h = until HandsNone (λ H. record { none = refl; unnoted = refl }) hands_on (λ answer old new told notes e. record { none = egress_hands_none e; unnoted = (egress_still e).silent }) p.sends in record {
+    let received = until Quietly
+    (λ H. accounts_same refl refl refl) quietly_on (λ answer old new told notes e. ingress_accounts t answer old new told notes e) p.receives in
+    let poll_accounts : AccountsFor old l.departures (sent_frames p.told_receiving ++ sent_frames p.told_sending)
+    (p.notes_receiving ++ p.notes_sending) new = accounts_after (maintained_follows old t) (λ x. rw kept x)
+    (accounts_on B p.mid new [] l.departures (sent_frames p.told_receiving)
+    (sent_frames p.told_sending) p.notes_receiving p.notes_sending received l.accounts) in
+    let h = until HandsNone (λ H. record { none = refl; unnoted = refl }) hands_on
+    (λ answer old new told notes e. record { none = egress_hands_none e; unnoted = (egress_still e).silent }) p.sends in record {
       deliveries = g.deliveries;
       departures = l.departures;
-      came = rw (p.events, p.all_notes, handed_frames-append, slot_notes-append, h.none, h.unnoted, append-nil (handed_frames p.told_receiving), append-nil (slot_notes p.notes_receiving)) g.came;
+      came = rw (
+        p.events,
+        p.all_notes,
+        handed_frames-append,
+        slot_notes-append,
+        h.none,
+        h.unnoted,
+        append-nil (handed_frames p.told_receiving),
+        append-nil (slot_notes p.notes_receiving),
+      ) g.came;
       heard = heard_own B g.deliveries g.heard;
-      left = all_own B l.departures (all_left_as_before B B.sockets p.mid.sockets (λ i. with_deliveries (to_index i g.deliveries)) l.departures (λ i. endpoint_stays (to_index i g.deliveries)) (λ i. hop_limit_stays (to_index i g.deliveries)) g.udp_is l.left);
+      left = all_own B l.departures (all_left_as_before B B.sockets p.mid.sockets (λ i. with_deliveries (to_index i g.deliveries)) l.departures
+          (λ i. endpoint_stays (to_index i g.deliveries)) (λ i. hop_limit_stays (to_index i g.deliveries)) g.udp_is l.left);
       went = rw (p.events, sent_frames-append) (among-append (none_among (sent_frames p.told_receiving)) l.went);
       cut = rw (p.all_notes, cut_notes-append, cuts-append) (among-append (none_among (cuts (cut_notes p.notes_receiving))) l.cut);
-      fronts = λ i s there. fronts_gained B.sockets p.mid.sockets g.deliveries l.departures i (g.udp_is i) (l.fronts i) s (ap (λ (x : SocketSet). udp_at x i) kept ∙ there);
+      fronts = λ i s there. fronts_gained B.sockets p.mid.sockets g.deliveries l.departures i (g.udp_is i)
+          (l.fronts i) s (ap (λ (x : SocketSet). udp_at x i) kept ∙ there);
       queues = λ i. l.udp_is i ∙ ap (option_map (without (from_index i l.departures))) (g.udp_is i)
-          ∙ option_map_then (without (from_index i l.departures)) (with_deliveries (to_index i g.deliveries)) (socket_after_run (to_index i g.deliveries) (from_index i l.departures)) (λ s. refl) (udp_at B.sockets i)
+          ∙ option_map_then (without (from_index i l.departures)) (with_deliveries (to_index i g.deliveries))
+          (socket_after_run (to_index i g.deliveries) (from_index i l.departures)) (λ s. refl) (udp_at B.sockets i)
           ∙ ap (λ (x : SocketSet). option_map (socket_after_run (to_index i g.deliveries) (from_index i l.departures)) (udp_at x i)) kept;
       only = λ r none. rw (p.events, p.all_notes, sent_frames-append) (poll_accounts r none).carry;
     }
@@ -193,7 +221,8 @@ leave_same (NoGroupEither m r e) = ap (λ (K : Host). K.sockets) e
 leave_same (LeaveTaken m r e) = ap (λ (K : Host). K.sockets) e
 
 -- every step at which the owner has no turn
-pub step_moves : {c : Command} {answer : Answer} {old new : Host} {told : List Event} {acts : List Act} {notes : List Note} → Step c answer old told acts notes new → acts ≡ [] → Moved (host_at_command c old) old told notes new
+pub step_moves : {c : Command} {answer : Answer} {old new : Host} {told : List Event} {acts : List Act} {notes : List Note} →
+    Step c answer old told acts notes new → acts ≡ [] → Moved (host_at_command c old) old told notes new
 step_moves (step.UpdatedIpAddrs (Accepted a r e)) none = unmoved (ap (λ (K : Host). K.sockets) e)
 step_moves (step.UpdatedIpAddrs (Refused a r e)) none = unmoved (ap (λ (K : Host). K.sockets) e)
 step_moves (step.PolledIngressSingle i) none = ingress_moves _ _ _ _ _ _ i

@@ -1,5 +1,6 @@
 -- What the turns of sockets do to UDP sockets: what left their transmit queues departed.
-use Rattle.std.proofs.Common.{◌≡◌, ◌<◌, ℕ, Bool, List, [], ◌∷◌, refl, sym, ◌∙◌, ap, subst, Option, Some, None, Ok, Err, option_map, option_and_then, is_ok}
+use Rattle.std.proofs.Common.{◌≡◌, ◌<◌, ℕ, Bool, List, [], ◌∷◌, refl, sym, ◌∙◌, ap, subst}
+use Rattle.std.proofs.Common.{Option, Some, None, Ok, Err, option_map, option_and_then, is_ok}
 use Rattle.net_base.specs.Device.{Event, sent_frames}
 use Rattle.ip_address.specs.declared.ip.IpAddress.{IpAddress}
 use Rattle.ip_address.specs.Ip.{is_unspecified}
@@ -48,14 +49,16 @@ use Rattle.host_machine.specs.Sending.Egress as egress
 use Rattle.host_machine.specs.Laws.Order.{IsAmong, NoneOfNone, OneOf}
 use Rattle.host_machine.specs.Laws.TwoHosts.{cuts}
 use Rattle.host_machine.proofs.Receiving.Malformed.{sent_frames-sends}
-use Rattle.host_laws.specs.Departures.{Departure, HasDeparted, Departs, Dropped, InOneFrame, InPieces, cuts_of, departs_from, entries, frames_of, from_index, packet_of, without}
+use Rattle.host_laws.specs.Departures.{Departure, HasDeparted, Departs, Dropped, InOneFrame, InPieces, cuts_of}
+use Rattle.host_laws.specs.Departures.{departs_from, entries, frames_of, from_index, packet_of, without}
 use Rattle.host_laws.specs.Departures as spec
 use Rattle.host_laws.proofs.Ways.{Goes, between}
 use Rattle.host_laws.proofs.Ways as ways
 use Rattle.host_laws.proofs.Lists.{none_among}
 
 -- how long a datagram's text is
-pub datagram_len : (summed : Bool) (src dst : IpAddress) (ports : UdpRepr) (octets : List ℕ) → length (udp_wire.text summed src dst ports octets) ≡ 8 + length octets
+pub datagram_len : (summed : Bool) (src dst : IpAddress) (ports : UdpRepr) (octets : List ℕ) →
+    length (udp_wire.text summed src dst ports octets) ≡ 8 + length octets
 unfolding udp_wire.header_with
 datagram_len summed src dst ports octets = omega arith
 
@@ -90,16 +93,21 @@ popped_empty : (q : Queued IpEndpoint) → q.packets ≡ [] → queue_after_pop 
 popped_empty q e = ap (λ ps. record q { packets = ps }) (rw e refl ∙ sym e)
 
 -- a datagram as the payload of a packet has the octets that its length says
-text_of_udp : (c : DeviceCapabilities) (q : PacketV4) {ports : UdpRepr} {octets : List ℕ} → q.payload ≡ UdpPayload ports octets → length (payload_text c (repr.Ipv4 (header_v4 q)) q.payload) ≡ payload_len q.payload
-text_of_udp c q {ports} {octets} e = ap (λ p. length (payload_text c (repr.Ipv4 (header_v4 q)) p)) e ∙ datagram_len (is_tx c.checksum.udp) (src_addr (repr.Ipv4 (header_v4 q))) (dst_addr (repr.Ipv4 (header_v4 q))) ports octets ∙ ap payload_len (sym e)
+text_of_udp : (c : DeviceCapabilities) (q : PacketV4) {ports : UdpRepr} {octets : List ℕ} →
+    q.payload ≡ UdpPayload ports octets → length (payload_text c (repr.Ipv4 (header_v4 q)) q.payload) ≡ payload_len q.payload
+text_of_udp c q {ports} {octets} e = ap (λ p. length (payload_text c (repr.Ipv4 (header_v4 q)) p)) e
+    ∙ datagram_len (is_tx c.checksum.udp) (src_addr (repr.Ipv4 (header_v4 q))) (dst_addr (repr.Ipv4 (header_v4 q))) ports octets
+    ∙ ap payload_len (sym e)
 
 -- by the socket's first datagram and its source
-asked_udp : (H : Host) (i : ℕ) (s : UdpSocket) (frames : List (List ℕ)) (notes : List Note) → frames ≡ [] → notes ≡ [] → udp.offered_packet (source_for H.ip_addrs) s ≡ None → Turned H i s (without_first_to_send s) frames notes
+asked_udp : (H : Host) (i : ℕ) (s : UdpSocket) (frames : List (List ℕ)) (notes : List Note) →
+    frames ≡ [] → notes ≡ [] → udp.offered_packet (source_for H.ip_addrs) s ≡ None → Turned H i s (without_first_to_send s) frames notes
 asked_udp H i s frames notes no_frame unnoted none = by s.tx.packets refl where
   by : (ps : List (IpEndpoint × List ℕ)) → s.tx.packets ≡ ps → Turned H i s (without_first_to_send s) frames notes
   by [] e = Stays (ap (λ q. record s { tx = q }) (popped_empty s.tx e)) (λ r. nothing_carried notes no_frame (ap cut_notes unnoted))
   by (p ∷ ps) e = by_source (source_of (source_for H.ip_addrs) s.endpoint.addr p.0.addr) refl where
-    by_source : (o : Option IpAddress) → source_of (source_for H.ip_addrs) s.endpoint.addr p.0.addr ≡ o → Turned H i s (without_first_to_send s) frames notes
+    by_source : (o : Option IpAddress) → source_of (source_for H.ip_addrs) s.endpoint.addr p.0.addr ≡ o →
+        Turned H i s (without_first_to_send s) frames notes
     by_source None is = Loses (record {
       departure = record { index = i; destination = p.0; payload = p.1; way = Dropped };
       at_index = refl;
@@ -132,26 +140,32 @@ offers H s o some = by s.tx.packets refl where
         record { first = p; rest = ps; src = src; front = e; source = is; is = cc }
 
 -- its packet counts as gone
-sent_udp : (H : Host) (i : ℕ) (s : UdpSocket) (o : udp.Datagram) (p : Packet) (frames : List (List ℕ)) (notes : List Note) → Offers H s o → egress.packet_of (UdpOffer o) ≡ Some p → Goes H p frames notes →
+sent_udp : (H : Host) (i : ℕ) (s : UdpSocket) (o : udp.Datagram) (p : Packet) (frames : List (List ℕ)) (notes : List Note) →
+    Offers H s o → egress.packet_of (UdpOffer o) ≡ Some p → Goes H p frames notes →
     Turned H i s (without_first_to_send s) frames notes
 sent_udp H i s o p frames notes f e g = Loses (by g) refl where
-  packet_is : packet_between f.src f.first.0.addr s.hop_limit (UdpPayload (record { src_port = s.endpoint.port; dst_port = f.first.0.port }) f.first.1) ≡ Some p
+  packet_is : packet_between f.src f.first.0.addr s.hop_limit
+      (UdpPayload (record { src_port = s.endpoint.port; dst_port = f.first.0.port }) f.first.1) ≡ Some p
   packet_is = subst (λ d. egress.packet_of (UdpOffer d) ≡ Some p) f.is e
 
   -- the first piece of its packet, which was cut since it is longer
-  text_len : (q : PacketV4) → q.payload ≡ UdpPayload (record { src_port = s.endpoint.port; dst_port = f.first.0.port }) f.first.1 → (h : HardwareAddress) (id : ℕ) →
+  text_len : (q : PacketV4) →
+      q.payload ≡ UdpPayload (record { src_port = s.endpoint.port; dst_port = f.first.0.port }) f.first.1 → (h : HardwareAddress) (id : ℕ) →
       length (datagram_of H h id q).payload ≡ payload_len q.payload
   text_len q is h id = text_of_udp H.capabilities q is
 
   first_part : (h : HardwareAddress) (id : ℕ) (q : PacketV4) (first : Piece) (rest : List Piece) → IsOf H.capabilities.medium h →
-      packet_between f.src f.first.0.addr s.hop_limit (UdpPayload (record { src_port = s.endpoint.port; dst_port = f.first.0.port }) f.first.1) ≡ Some (packet.Ipv4 q) →
-      ip_mtu_of H.capabilities < total_len (packet.Ipv4 q) → pieces_of (datagram_of H h id q) ≡ first ∷ rest → HasForm (datagram_of H h id q) → IsRegular H → IsPart H.capabilities.medium first
+      packet_between f.src f.first.0.addr s.hop_limit (UdpPayload (record { src_port = s.endpoint.port; dst_port = f.first.0.port }) f.first.1)
+      ≡ Some (packet.Ipv4 q) →
+      ip_mtu_of H.capabilities < total_len (packet.Ipv4 q) → pieces_of (datagram_of H h id q) ≡ first ∷ rest → HasForm (datagram_of H h id q) →
+      IsRegular H → IsPart H.capabilities.medium first
   first_part h id q first rest to is long pieces form r =
       let payload = between_is f.src f.first.0.addr s.hop_limit _ (packet.Ipv4 q) is in
       let len = text_len q payload h id in
       let mtu = r.mtu in
       let more : piece_size H.capabilities < length (datagram_of H h id q).payload = omega (arith, len, long) in
-      let all : AllByRecursion (IsPart H.capabilities.medium) (first ∷ rest) = rw pieces at (pieces_are H.capabilities.medium (datagram_of H h id q) ((ip_mtu_of H.capabilities - 20) / 8) form to refl (size_positive (ip_mtu_of H.capabilities) r.mtu) more) in
+      let all : AllByRecursion (IsPart H.capabilities.medium) (first ∷ rest) = rw pieces at (pieces_are H.capabilities.medium (datagram_of H h id q)
+      ((ip_mtu_of H.capabilities - 20) / 8) form to refl (size_positive (ip_mtu_of H.capabilities) r.mtu) more) in
       all.0
 
   by : Goes H p frames notes → Leaving H s frames notes i
@@ -162,17 +176,25 @@ sent_udp H i s o p frames notes f e g = Loses (by g) refl where
     leaves = spec.GoesWhole f.src p h f.source packet_is l formed refl;
     went = rw w (OneOf (ip_frame H h p) NoneOfNone);
     cut = none_among (cuts (cut_notes notes));
-    only = λ r. rw (w, c) (record { frames_are = (inr (h, to r.real, contains_in (InOneFrame h (ip_frame H h p) ∷ []) (InOneFrame h (ip_frame H h p)) (inl refl)), tt); cuts_are = tt });
+    only = λ r. rw (w, c) (record {
+      frames_are = (inr (h, to r.real, contains_in (InOneFrame h (ip_frame H h p) ∷ []) (InOneFrame h (ip_frame H h p)) (inl refl)), tt);
+      cuts_are = tt;
+    });
   }
   by (ways.Cut q h id first rest to is l m pieces form formed w c) = record {
     departure = record { index = i; destination = f.first.0; payload = f.first.1; way = InPieces (datagram_of H h id q) (piece_frame H first) };
     at_index = refl;
     front = (f.rest, f.front);
-    leaves = spec.GoesInPieces f.src q h id first rest f.source (packet_is ∙ ap (λ x. Some x) is) (subst (λ (x : Packet). ip_mtu_of H.capabilities < total_len x) is l) (sym (ap may_be_cut is) ∙ m) pieces (subst IsFormed is formed) refl;
+    leaves = spec.GoesInPieces f.src q h id first rest f.source (packet_is ∙ ap (λ x. Some x) is)
+        (subst (λ (x : Packet). ip_mtu_of H.capabilities < total_len x) is l) (sym (ap may_be_cut is) ∙ m) pieces (subst IsFormed is formed) refl;
     went = rw w (OneOf (piece_frame H first) NoneOfNone);
     cut = rw c (OneOf (datagram_of H h id q) NoneOfNone);
     only = λ r. rw (w, c) (record {
-      frames_are = (inl (piece_none H.capabilities.medium H first r.real.own (first_part h id q first rest (to r.real) (packet_is ∙ ap (λ x. Some x) is) (subst (λ (x : Packet). ip_mtu_of H.capabilities < total_len x) is l) pieces form r)), tt);
+      frames_are = (
+        inl (piece_none H.capabilities.medium H first r.real.own (first_part h id q first rest (to r.real) (packet_is ∙ ap (λ x. Some x) is)
+            (subst (λ (x : Packet). ip_mtu_of H.capabilities < total_len x) is l) pieces form r)),
+        tt,
+      );
       cuts_are = ((λ n. contains_in (datagram_of H h id q ∷ []) (datagram_of H h id q) (inl refl)), tt);
     });
   }
@@ -201,22 +223,36 @@ pub record TurnedUdp (H : Host) (i : ℕ) (s : UdpSocket) (after : Socket) (fram
   pub is : after ≡ Udp socket
   pub turned : Turned H i s socket frames notes
 
-pub turned : (H : Host) (i : ℕ) (s : UdpSocket) {after : Socket} {turn : Turn} {told : List Event} {notes : List Note} {new : Host} → SocketTurn (Udp s) turn after H told notes new →
+pub turned : (H : Host) (i : ℕ) (s : UdpSocket) {after : Socket} {turn : Turn} {told : List Event} {notes : List Note} {new : Host} →
+    SocketTurn (Udp s) turn after H told notes new →
     TurnedUdp H i s after (sent_frames told) notes
 turned H i s {after} {turn} {told} {notes} {new} t = by (udp.offered_packet (source_for H.ip_addrs) s) refl t where
-  by : (o : Option udp.Datagram) → udp.offered_packet (source_for H.ip_addrs) s ≡ o → SocketTurn (Udp s) turn after H told notes new → TurnedUdp H i s after (sent_frames told) notes
-  by None none (egress.Silent p x o n e r) = record { socket = without_first_to_send s; is = r ∙ rw none refl; turned = asked_udp H i s (sent_frames told) notes (ap sent_frames o) n none }
+  by : (o : Option udp.Datagram) → udp.offered_packet (source_for H.ip_addrs) s ≡ o → SocketTurn (Udp s) turn after H told notes new →
+      TurnedUdp H i s after (sent_frames told) notes
+  by None none (egress.Silent p x o n e r) =
+      record { socket = without_first_to_send s; is = r ∙ rw none refl; turned = asked_udp H i s (sent_frames told) notes (ap sent_frames o) n none }
   by None none (egress.Refused p q x o n e r) = let no : packet_from H (Udp s) ≡ None = rw none refl in absurd cc
   by None none (egress.Sent p outcome frames q d x o r) = let no : packet_from H (Udp s) ≡ None = rw none refl in absurd cc
-  by (Some d) some (egress.Silent p x o n e r) = record { socket = s; is = r ∙ rw some refl; turned = Stays refl (λ x. nothing_carried notes (ap sent_frames o) (ap cut_notes n)) }
-  by (Some d) some (egress.Refused p q x o n e r) = record { socket = s; is = r ∙ rw some refl; turned = Stays refl (λ x. nothing_carried notes (ap sent_frames o) (ap cut_notes n)) }
+  by (Some d) some (egress.Silent p x o n e r) =
+      record { socket = s; is = r ∙ rw some refl; turned = Stays refl (λ x. nothing_carried notes (ap sent_frames o) (ap cut_notes n)) }
+  by (Some d) some (egress.Refused p q x o n e r) =
+      record { socket = s; is = r ∙ rw some refl; turned = Stays refl (λ x. nothing_carried notes (ap sent_frames o) (ap cut_notes n)) }
   by (Some d) some (egress.Sent p (Ok tt) frames q dispatched x o r) =
-      let packet : egress.packet_of (UdpOffer d) ≡ Some p = subst (λ (a : Option udp.Datagram). option_and_then egress.packet_of (option_map UdpOffer a) ≡ Some p) some q in
+      let packet : egress.packet_of (UdpOffer d) ≡ Some p =
+      subst (λ (a : Option udp.Datagram). option_and_then egress.packet_of (option_map UdpOffer a) ≡ Some p) some q in
       let frames_are : sent_frames told ≡ frames = ap sent_frames o ∙ sent_frames-sends frames in
-      record { socket = without_first_to_send s; is = r ∙ rw some refl; turned = rw frames_are (sent_udp H i s d p frames notes (offers H s d some) packet (ways.gone dispatched)) }
+      record {
+        socket = without_first_to_send s;
+        is = r ∙ rw some refl;
+        turned = rw frames_are (sent_udp H i s d p frames notes (offers H s d some) packet (ways.gone dispatched));
+      }
   by (Some d) some (egress.Sent p (Err error) frames q dispatched x o r) =
       let frames_are : sent_frames told ≡ frames = ap sent_frames o ∙ sent_frames-sends frames in
-      record { socket = s; is = r ∙ rw some refl; turned = Stays refl (λ x. rw frames_are (unsent_carry p error H frames notes (sends_one p (Err error) H new frames notes x.real dispatched))) }
+      record {
+        socket = s;
+        is = r ∙ rw some refl;
+        turned = Stays refl (λ x. rw frames_are (unsent_carry p error H frames notes (sends_one p (Err error) H new frames notes x.real dispatched)));
+      }
 
 -- a socket of another kind is none after its turn
 other : (H : Host) (s : Socket) → down_udp s ≡ None → down_udp (socket_after_asking H s) ≡ None
@@ -231,7 +267,9 @@ told_other b (Icmp s) e = refl
 told_other b (Udp s) e = absurd cc
 told_other b (Tcp s) e = refl
 
-pub turned_other : {H new : Host} {s s' : Socket} {turn : Turn} {told : List Event} {notes : List Note} → down_udp s ≡ None → SocketTurn s turn s' H told notes new → down_udp s' ≡ None
+pub turned_other : {H new : Host} {s s' : Socket} {turn : Turn} {told : List Event} {notes : List Note} →
+    down_udp s ≡ None → SocketTurn s turn s' H told notes new → down_udp s' ≡ None
 turned_other {H} {s = s} e (egress.Silent p t o n x r) = ap down_udp r ∙ other H s e
 turned_other {H} {s = s} e (egress.Refused p q t o n x r) = ap down_udp r ∙ other H s e
-turned_other {H} {s = s} e (egress.Sent p outcome frames q d t o r) = ap down_udp r ∙ told_other (is_ok outcome) (socket_after_asking H s) (other H s e)
+turned_other {H} {s = s} e (egress.Sent p outcome frames q d t o r) = ap down_udp r
+    ∙ told_other (is_ok outcome) (socket_after_asking H s) (other H s e)

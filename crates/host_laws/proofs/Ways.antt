@@ -15,7 +15,8 @@ use Rattle.host_machine.specs.Sending.Packet.{IpPayload, Packet, PacketV4, IsFor
 use Rattle.host_machine.specs.Laws.Real.{IsReal}
 use Rattle.host_machine.specs.Sending.Packet as packet
 use Rattle.host_machine.specs.Sending.Frame.{ip_frame, piece_frame}
-use Rattle.host_machine.specs.Sending.Dispatch.{Outcome, IsUnsent, Emits, Discovers, DispatchesByHop, DispatchesEthernet, SendsOver, Dispatches, datagram_of, destination_of, with_next_id, may_be_cut}
+use Rattle.host_machine.specs.Sending.Dispatch.{Outcome, IsUnsent, Emits, Discovers, DispatchesByHop, DispatchesEthernet}
+use Rattle.host_machine.specs.Sending.Dispatch.{SendsOver, Dispatches, datagram_of, destination_of, with_next_id, may_be_cut}
 use Rattle.host_machine.specs.Sending.Dispatch as dispatch
 use Rattle.host_machine.specs.Sending.Egress.{packet_between}
 use Rattle.host_machine.specs.Laws.TwoHosts.{cuts}
@@ -24,16 +25,20 @@ use Rattle.host_machine.proofs.Runs.SentPieces.{reached_of}
 
 -- whole, cut, or not at all
 pub data Goes (H : Host) (p : Packet) (frames : List (List ℕ)) (notes : List Note) : Type 0 where
-  InAFrame : (h : HardwareAddress) → (IsReal H → IsOf H.capabilities.medium h) → total_len p ≤ ip_mtu_of H.capabilities → IsFormed p → frames ≡ ip_frame H h p ∷ [] → cuts (cut_notes notes) ≡ [] → Goes H p frames notes
-  Cut : (q : PacketV4) (h : HardwareAddress) (id : ℕ) (first : Piece) (rest : List Piece) → (IsReal H → IsOf H.capabilities.medium h) → p ≡ packet.Ipv4 q → ip_mtu_of H.capabilities < total_len p → may_be_cut p ≡ true →
-      pieces_of (datagram_of H h id q) ≡ first ∷ rest → HasForm (datagram_of H h id q) → IsFormed p → frames ≡ piece_frame H first ∷ [] → cuts (cut_notes notes) ≡ datagram_of H h id q ∷ [] → Goes H p frames notes
+  InAFrame : (h : HardwareAddress) → (IsReal H → IsOf H.capabilities.medium h) → total_len p ≤ ip_mtu_of H.capabilities → IsFormed p →
+      frames ≡ ip_frame H h p ∷ [] → cuts (cut_notes notes) ≡ [] → Goes H p frames notes
+  Cut : (q : PacketV4) (h : HardwareAddress) (id : ℕ) (first : Piece) (rest : List Piece) →
+      (IsReal H → IsOf H.capabilities.medium h) → p ≡ packet.Ipv4 q → ip_mtu_of H.capabilities < total_len p → may_be_cut p ≡ true →
+      pieces_of (datagram_of H h id q) ≡ first ∷ rest → HasForm (datagram_of H h id q) → IsFormed p → frames ≡ piece_frame H first ∷ [] →
+      cuts (cut_notes notes) ≡ datagram_of H h id q ∷ [] → Goes H p frames notes
   ToUnspecifiedAddress : is_unspecified (destination_of p) ≡ true → frames ≡ [] → cuts (cut_notes notes) ≡ [] → Goes H p frames notes
   Longer : ip_mtu_of H.capabilities < total_len p → may_be_cut p ≡ false → frames ≡ [] → cuts (cut_notes notes) ≡ [] → Goes H p frames notes
 
 cuts_none : {notes : List Note} → notes ≡ [] → cuts (cut_notes notes) ≡ []
 cuts_none e = ap (λ ns. cuts (cut_notes ns)) e
 
-emitted : {id : ℕ} {p : Packet} {h : HardwareAddress} {outcome : Outcome} {H new : Host} {frames : List (List ℕ)} {notes : List Note} → Reached H h → Emits id p h outcome H frames notes new → Goes H p frames notes
+emitted : {id : ℕ} {p : Packet} {h : HardwareAddress} {outcome : Outcome} {H new : Host} {frames : List (List ℕ)} {notes : List Note} →
+    Reached H h → Emits id p h outcome H frames notes new → Goes H p frames notes
 emitted {h = h} {H = H} r (dispatch.Whole fits formed o f n e) = InAFrame h (λ real. reached_of H h real r) fits formed f (cuts_none n)
 emitted {id} {h = h} {H = H} r (dispatch.InPieces q first rest is long may pieces form formed o f n e) =
     Cut q h _ first rest (λ real. reached_of H h real r) is long may pieces form formed f (ap (λ ns. cuts (cut_notes ns)) n)
@@ -45,17 +50,20 @@ not_discovered (dispatch.Asked target source i s o f n e) = absurd cc
 not_discovered (dispatch.NoSource target i s o u) = absurd cc
 not_discovered (dispatch.Solicited target i o f n e) = absurd cc
 
-by_hop : {id : ℕ} {own : _} {p : Packet} {hop : _} {H new : Host} {frames : List (List ℕ)} {notes : List Note} → DispatchesByHop id own p hop (Ok tt) H frames notes new → Goes H p frames notes
+by_hop : {id : ℕ} {own : _} {p : Packet} {hop : _} {H new : Host} {frames : List (List ℕ)} {notes : List Note} →
+    DispatchesByHop id own p hop (Ok tt) H frames notes new → Goes H p frames notes
 by_hop {hop = hop} (dispatch.Known h k e) = emitted (ByNeighbor hop k) e
 by_hop (dispatch.Silent k o u) = absurd cc
 by_hop (dispatch.Unknown k d) = absurd (not_discovered d)
 
-by_ethernet : {id : ℕ} {own : EthernetAddress} {p : Packet} {H new : Host} {frames : List (List ℕ)} {notes : List Note} → H.hardware_addr ≡ hardware.Ethernet own → DispatchesEthernet id own p (Ok tt) H frames notes new → Goes H p frames notes
+by_ethernet : {id : ℕ} {own : EthernetAddress} {p : Packet} {H new : Host} {frames : List (List ℕ)} {notes : List Note} →
+    H.hardware_addr ≡ hardware.Ethernet own → DispatchesEthernet id own p (Ok tt) H frames notes new → Goes H p frames notes
 by_ethernet {own = own} {p = p} mine (dispatch.ToMulticast h m e) = emitted (ByGroup own (destination_of p) h mine m refl) e
 by_ethernet mine (dispatch.NoHop m i o u) = absurd cc
 by_ethernet mine (dispatch.ByHop hop m i s) = by_hop s
 
-over : (id : ℕ) (h : HardwareAddress) (p : Packet) (H : Host) (frames : List (List ℕ)) (notes : List Note) (new : Host) → H.hardware_addr ≡ h → SendsOver id h p (Ok tt) H frames notes new → Goes H p frames notes
+over : (id : ℕ) (h : HardwareAddress) (p : Packet) (H : Host) (frames : List (List ℕ)) (notes : List Note) (new : Host) →
+    H.hardware_addr ≡ h → SendsOver id h p (Ok tt) H frames notes new → Goes H p frames notes
 over id (hardware.Ethernet own) p H frames notes new mine s = by_ethernet mine s
 over id hardware.Ip p H frames notes new mine s = emitted (WithoutAddresses mine refl) s
 
@@ -63,7 +71,8 @@ over id hardware.Ip p H frames notes new mine s = emitted (WithoutAddresses mine
 before : (H : Host) (h : HardwareAddress) → (IsReal (with_next_id H) → IsOf H.capabilities.medium h) → IsReal H → IsOf H.capabilities.medium h
 before H h to real = to (record { own = real.own; neighbors = real.neighbors })
 
-identifies : {H : Host} {p : Packet} {frames : List (List ℕ)} {more notes : List Note} → cuts (cut_notes notes) ≡ cuts (cut_notes more) → Goes (with_next_id H) p frames more → Goes H p frames notes
+identifies : {H : Host} {p : Packet} {frames : List (List ℕ)} {more notes : List Note} →
+    cuts (cut_notes notes) ≡ cuts (cut_notes more) → Goes (with_next_id H) p frames more → Goes H p frames notes
 identifies {H} e (InAFrame h to l formed f c) = InAFrame h (before H h to) l formed f (e ∙ c)
 identifies {H} e (Cut q h id first rest to is l m pieces form formed f c) = Cut q h id first rest (before H h to) is l m pieces form formed f (e ∙ c)
 identifies e (ToUnspecifiedAddress n f c) = ToUnspecifiedAddress n f (e ∙ c)
@@ -71,11 +80,15 @@ identifies e (Longer l m f c) = Longer l m f (e ∙ c)
 
 pub gone : {p : Packet} {H new : Host} {frames : List (List ℕ)} {notes : List Note} → Dispatches p (Ok tt) H frames notes new → Goes H p frames notes
 gone (dispatch.ToUnspecified n o u) = ToUnspecifiedAddress n u.silent (cuts_none u.unnoted)
-gone {p} {H} {new} {frames} {notes} (dispatch.ToSpecified more s d n) = identifies (ap (λ ns. cuts (cut_notes ns)) n) (over H.ipv4_id H.hardware_addr p (with_next_id H) frames more new refl d)
+gone {p} {H} {new} {frames} {notes} (dispatch.ToSpecified more s d n) =
+    identifies (ap (λ ns. cuts (cut_notes ns)) n) (over H.ipv4_id H.hardware_addr p (with_next_id H) frames more new refl d)
 
 -- a packet between two addresses goes to the one
-pub between : (src dst : IpAddress) (hop_limit : ℕ) (payload : IpPayload) (p : Packet) → packet_between src dst hop_limit payload ≡ Some p → destination_of p ≡ dst
-between (address.Ipv4 src) (address.Ipv4 dst) hop_limit payload p e = let is : packet.Ipv4 (record { src_addr = src; dst_addr = dst; hop_limit = hop_limit; payload = payload }) ≡ p = cc in ap destination_of (sym is)
+pub between : (src dst : IpAddress) (hop_limit : ℕ) (payload : IpPayload) (p : Packet) →
+    packet_between src dst hop_limit payload ≡ Some p → destination_of p ≡ dst
+between (address.Ipv4 src) (address.Ipv4 dst) hop_limit payload p e =
+    let is : packet.Ipv4 (record { src_addr = src; dst_addr = dst; hop_limit = hop_limit; payload = payload }) ≡ p = cc in ap destination_of (sym is)
 between (address.Ipv4 src) (address.Ipv6 dst) hop_limit payload p e = absurd cc
 between (address.Ipv6 src) (address.Ipv4 dst) hop_limit payload p e = absurd cc
-between (address.Ipv6 src) (address.Ipv6 dst) hop_limit payload p e = let is : packet.Ipv6 (record { src_addr = src; dst_addr = dst; hop_limit = hop_limit; payload = payload }) ≡ p = cc in ap destination_of (sym is)
+between (address.Ipv6 src) (address.Ipv6 dst) hop_limit payload p e =
+    let is : packet.Ipv6 (record { src_addr = src; dst_addr = dst; hop_limit = hop_limit; payload = payload }) ≡ p = cc in ap destination_of (sym is)

@@ -24,43 +24,49 @@ host_at_command (PollEgress t) H = at H t
 host_at_command (Poll t budget) H = after_maintenance (at H t)
 host_at_command other H = H
 
--- What moves in a transition of a run. Each datagram that a socket gets arrived in a frame received there, at most one in each,
--- or was reassembled there when a fragment arrived, and the socket accepts it. What left a socket's queue was sent there in a
--- frame, or was fragmented there, in this order, or was dropped. Nothing else sent there carries UDP, unless a raw socket sends
--- it.
+-- What moves in a transition of a run. Each datagram that a socket gets arrived in a frame received there, at most one
+-- in each, or was reassembled there when a fragment arrived, and the socket accepts it. What left a socket's queue was
+-- sent there in a frame, or was fragmented there, in this order, or was dropped. Nothing else sent there carries UDP,
+-- unless a raw socket sends it.
 pub record MovesAt (p : Transition) (deliveries : List Delivery) (departures : List Departure) : Type 0 where
   pub came : Deliver (host_at_command p.command p.before) (handed_frames p.told) (slot_notes p.notes) deliveries
   pub heard : AllByRecursion (IsAccepted (host_at_command p.command p.before)) deliveries
   pub left : AllByRecursion (HasDeparted (host_at_command p.command p.before)) departures
   pub went : IsAmong (frames_of departures) (sent_frames p.told)
   pub cut : IsAmong (cuts_of departures) (cuts (cut_notes p.notes))
+  -- and no other frame carries UDP
   pub only : IsRegular p.before → NoSocketWritesUdp p.before →
-      CarryOnly p.before.capabilities.medium departures (sent_frames p.told) (cuts (cut_notes p.notes))  -- and no other frame carries UDP
+      CarryOnly p.before.capabilities.medium departures (sent_frames p.told) (cuts (cut_notes p.notes))
 
 -- what moves in several transitions, one after another
 pub data Move : List Transition → List Delivery → List Departure → Type 0 where
   Still : Move [] [] []
   OneTransition : {transitions : List Transition} {more_deliveries : List Delivery} {more_departures : List Departure}
       (p : Transition) (deliveries : List Delivery) (departures : List Departure) → MovesAt p deliveries departures →
-      Move transitions more_deliveries more_departures → Move (p ∷ transitions) (deliveries ++ more_deliveries) (departures ++ more_departures)
+      Move transitions more_deliveries more_departures →
+      Move (p ∷ transitions) (deliveries ++ more_deliveries) (departures ++ more_departures)
 
--- the socket with what it got appended to its receive queue, as far as there was room, and without what left its transmit queue
+-- the socket with what it got appended to its receive queue, as far as there was room, and without what
+-- left its transmit queue
 abbrev pub socket_after_run : List Delivery → List Departure → UdpSocket → UdpSocket
 socket_after_run deliveries departures s = without departures (with_deliveries deliveries s)
 
--- What the UDP sockets of a host hold after these transitions is what they held, followed by what was delivered to them, each as
--- far as there was room, in this order; less what left the front of their transmit queues, in this order. No socket is added or
--- removed.
+-- What the UDP sockets of a host hold after these transitions is what they held, followed by what was delivered to
+-- them, each as far as there was room, in this order; less what left the front of their transmit queues, in this order.
+-- No socket is added or removed.
 pub record KeepsQueues (first last : Host) (transitions : List Transition) : Type 0 where
   pub deliveries : List Delivery
   pub departures : List Departure
   pub moves : Move transitions deliveries departures
-  pub fronts : (i : ℕ) (s : UdpSocket) → udp_at first.sockets i ≡ Some s → IsBeginning (entries (from_index i departures)) s.tx.packets
-  pub queues : (i : ℕ) → udp_at last.sockets i ≡ option_map (socket_after_run (to_index i deliveries) (from_index i departures)) (udp_at first.sockets i)
+  pub fronts : (i : ℕ) (s : UdpSocket) →
+      udp_at first.sockets i ≡ Some s → IsBeginning (entries (from_index i departures)) s.tx.packets
+  pub queues : (i : ℕ) → udp_at last.sockets i
+      ≡ option_map (socket_after_run (to_index i deliveries) (from_index i departures)) (udp_at first.sockets i)
 
 -- between two turns of the owner of the sockets, over every run
 abbrev pub RunsKeepQueues : Type 0
-RunsKeepQueues = (first last : Host) (transitions : List Transition) → Run first transitions last → acts_in transitions ≡ [] → KeepsQueues first last transitions
+RunsKeepQueues = (first last : Host) (transitions : List Transition) →
+    Run first transitions last → acts_in transitions ≡ [] → KeepsQueues first last transitions
 
 -- a part of a run: the run up to it, the part itself, and the run after it
 pub record Stretch (first last : Host) (before between after : List Transition) : Type 0 where
@@ -73,8 +79,10 @@ pub record Stretch (first last : Host) (before between after : List Transition) 
 
 -- that, in each part of a run
 abbrev pub KeepsDatagrams : Host → Host → List Transition → Type 0
-KeepsDatagrams first last transitions = (before between after : List Transition) → transitions ≡ before ++ (between ++ after) → Stretch first last before between after
+KeepsDatagrams first last transitions = (before between after : List Transition) →
+    transitions ≡ before ++ (between ++ after) → Stretch first last before between after
 
 -- that, for every run
 abbrev pub RunsKeepDatagrams : Type 0
-RunsKeepDatagrams = (first last : Host) (transitions : List Transition) → Run first transitions last → KeepsDatagrams first last transitions
+RunsKeepDatagrams = (first last : Host) (transitions : List Transition) →
+    Run first transitions last → KeepsDatagrams first last transitions

@@ -1,5 +1,6 @@
 -- What UDP sockets receive, and in which frames it arrives (RFC 768, RFC 1122 4.1.3).
-use Rattle.std.specs.Prelude.{◌≡◌, ℕ, ◌==◌, ◌≤◌, true, false, List, [], ◌∷◌, ◌++◌, length, drop, Option, Some, if◌then◌else◌}
+use Rattle.std.specs.Prelude.{◌≡◌, ℕ, ◌==◌, ◌≤◌, true, false, List, [], ◌∷◌}
+use Rattle.std.specs.Prelude.{◌++◌, length, drop, Option, Some, if◌then◌else◌}
 use Rattle.std.specs.Option.{option_and_then}
 use Rattle.net_base.specs.Checksum.{is_rx}
 use Rattle.ip_address.specs.declared.ethernet_address.EthernetAddress.{EthernetAddress}
@@ -40,37 +41,47 @@ pub record Delivery : Type 0 where
 abbrev pub udp_at : SocketSet → ℕ → Option UdpSocket
 udp_at sockets i = option_and_then down_udp (socket_at sockets i)
 
--- a frame that a host accepts carries an IPv6 packet: over Ethernet after the header, if the frame is for the host (RFC 2464); on
--- a medium without hardware addresses it is the packet
+-- a frame that a host accepts carries an IPv6 packet: over Ethernet after the header, if the frame is for the host
+-- (RFC 2464); on a medium without hardware addresses it is the packet
 pub data CarriesIpv6 (h : HardwareAddress) (frame packet : List ℕ) : Type 0 where
-  OverEthernet : (own : EthernetAddress) → h ≡ hardware.Ethernet own → 14 ≤ length frame → is_for own (header_in frame).dst_addr ≡ true →
+  OverEthernet : (own : EthernetAddress) → h ≡ hardware.Ethernet own → 14 ≤ length frame →
+      is_for own (header_in frame).dst_addr ≡ true →
       (header_in frame).ethertype ≡ ethertype.Ipv6 → packet ≡ drop 14 frame → CarriesIpv6 h frame packet
   AsItStands : h ≡ hardware.Ip → version_in frame ≡ 6 → packet ≡ frame → CarriesIpv6 h frame packet
 
--- A frame carries octets for UDP in one packet, with that packet's header: as the payload of a whole IPv4 packet; as the payload
--- of an IPv6 packet; or after hop-by-hop options that are known or to be skipped. The header is right, and its source is valid.
+-- A frame carries octets for UDP in one packet, with that packet's header: as the payload of a whole IPv4 packet; as
+-- the payload of an IPv6 packet; or after hop-by-hop options that are known or to be skipped. The header is right,
+-- and its source is valid.
 pub data BringsPacket (H : Host) (frame : List ℕ) (r : IpRepr) (octets : List ℕ) : Type 0 where
-  OverIpv4 : (packet : List ℕ) → Carries H.hardware_addr frame packet → IsIpv4 (is_rx H.capabilities.checksum.ipv4) packet →
+  OverIpv4 : (packet : List ℕ) → Carries H.hardware_addr frame packet →
+      IsIpv4 (is_rx H.capabilities.checksum.ipv4) packet →
       may_be_source H.ip_addrs (ipv4_in packet).0.src_addr ≡ true → is_fragment (ipv4_in packet).1 ≡ false →
-      (ipv4_in packet).0.next_header ≡ protocol.Udp → r ≡ repr.Ipv4 (ipv4_in packet).0 → octets ≡ (ipv4_in packet).2 → BringsPacket H frame r octets
-  OverIpv6 : (packet : List ℕ) → CarriesIpv6 H.hardware_addr frame packet → IsIpv6 packet → is_unicast (ipv6_in packet).0.src_addr ≡ true →
-      (ipv6_in packet).0.next_header ≡ protocol.Udp → r ≡ repr.Ipv6 (ipv6_in packet).0 → octets ≡ (ipv6_in packet).1 → BringsPacket H frame r octets
-  AfterOptions : (packet : List ℕ) → CarriesIpv6 H.hardware_addr frame packet → IsIpv6 packet → is_unicast (ipv6_in packet).0.src_addr ≡ true →
+      (ipv4_in packet).0.next_header ≡ protocol.Udp → r ≡ repr.Ipv4 (ipv4_in packet).0 →
+      octets ≡ (ipv4_in packet).2 → BringsPacket H frame r octets
+  OverIpv6 : (packet : List ℕ) → CarriesIpv6 H.hardware_addr frame packet → IsIpv6 packet →
+      is_unicast (ipv6_in packet).0.src_addr ≡ true →
+      (ipv6_in packet).0.next_header ≡ protocol.Udp → r ≡ repr.Ipv6 (ipv6_in packet).0 →
+      octets ≡ (ipv6_in packet).1 → BringsPacket H frame r octets
+  AfterOptions : (packet : List ℕ) → CarriesIpv6 H.hardware_addr frame packet → IsIpv6 packet →
+      is_unicast (ipv6_in packet).0.src_addr ≡ true →
       number_of (ipv6_in packet).0.next_header ≡ 0 → IsHopByHop (ipv6_in packet).1 →
-      first_failure (hop_by_hop_in (ipv6_in packet).1).0.options.items ≡ Skip → (hop_by_hop_in (ipv6_in packet).1).0.next_header ≡ protocol.Udp →
+      first_failure (hop_by_hop_in (ipv6_in packet).1).0.options.items ≡ Skip →
+      (hop_by_hop_in (ipv6_in packet).1).0.next_header ≡ protocol.Udp →
       r ≡ repr.Ipv6 (ipv6_in packet).0 → octets ≡ (hop_by_hop_in (ipv6_in packet).1).1 → BringsPacket H frame r octets
 
--- A frame brings octets for UDP: in one packet; or as what was reassembled when the frame's fragment arrived, which is the last
--- note then, with that fragment's header.
+-- A frame brings octets for UDP: in one packet; or as what was reassembled when the frame's fragment arrived, which is
+-- the last note then, with that fragment's header.
 pub data BringsUdp (H : Host) (frame : List ℕ) (noted : List SlotNote) (r : IpRepr) (octets : List ℕ) : Type 0 where
   AtOnce : BringsPacket H frame r octets → BringsUdp H frame noted r octets
-  InFragments : (packet : List ℕ) (earlier : List SlotNote) → Carries H.hardware_addr frame packet → IsIpv4 (is_rx H.capabilities.checksum.ipv4) packet →
+  InFragments : (packet : List ℕ) (earlier : List SlotNote) →
+      Carries H.hardware_addr frame packet → IsIpv4 (is_rx H.capabilities.checksum.ipv4) packet →
       may_be_source H.ip_addrs (ipv4_in packet).0.src_addr ≡ true → is_fragment (ipv4_in packet).1 ≡ true →
-      (ipv4_in packet).0.next_header ≡ protocol.Udp → noted ≡ earlier ++ Rebuild (key_in (ipv4_in packet).0 (ipv4_in packet).1) octets ∷ [] →
+      (ipv4_in packet).0.next_header ≡ protocol.Udp →
+      noted ≡ earlier ++ Rebuild (key_in (ipv4_in packet).0 (ipv4_in packet).1) octets ∷ [] →
       r ≡ repr.Ipv4 (datagram_header (ipv4_in packet).0 octets) → BringsUdp H frame noted r octets
 
--- a frame brings what a socket gets: a datagram with right lengths, and a right checksum if that is verified and there is one,
--- for an address of the host
+-- a frame brings what a socket gets: a datagram with right lengths, and a right checksum if that is verified and there
+-- is one, for an address of the host
 pub record Gets (H : Host) (frame : List ℕ) (noted : List SlotNote) (d : Delivery) : Type 0 where
   pub header : IpRepr
   pub octets : List ℕ
@@ -81,12 +92,15 @@ pub record Gets (H : Host) (frame : List ℕ) (noted : List SlotNote) (d : Deliv
   pub destination_is : d.destination ≡ record { addr = dst_addr header; port = (udp_in octets).0.dst_port }
   pub payload_is : d.payload ≡ (udp_in octets).1
 
--- what sockets get from frames received one after another, with the notes about slots of each: at most one datagram from each
+-- what sockets get from frames received one after another, with the notes about slots of each: at most
+-- one datagram from each
 pub data Deliver (H : Host) : List (List ℕ) → List SlotNote → List Delivery → Type 0 where
   NoFrame : Deliver H [] [] []
-  OneGets : {frames : List (List ℕ)} {noted : List SlotNote} {ds : List Delivery} (frame : List ℕ) (own : List SlotNote) (d : Delivery) →
+  OneGets : {frames : List (List ℕ)} {noted : List SlotNote} {ds : List Delivery} (frame : List ℕ)
+      (own : List SlotNote) (d : Delivery) →
       Gets H frame own d → Deliver H frames noted ds → Deliver H (frame ∷ frames) (own ++ noted) (d ∷ ds)
-  NoSocketGets : {frames : List (List ℕ)} {noted : List SlotNote} {ds : List Delivery} (frame : List ℕ) (own : List SlotNote) →
+  NoSocketGets : {frames : List (List ℕ)} {noted : List SlotNote} {ds : List Delivery}
+      (frame : List ℕ) (own : List SlotNote) →
       Deliver H frames noted ds → Deliver H (frame ∷ frames) (own ++ noted) ds
 
 -- the socket that got a datagram accepts its destination: its port, and its address or a broadcast or multicast one

@@ -17,8 +17,8 @@ use Rattle.host_machine.specs.Sending.Dispatch.{datagram_of, may_be_cut}
 use Rattle.host_machine.specs.Sending.Egress.{packet_between}
 use Rattle.host_laws.specs.Deliveries.{udp_at}
 
--- how a datagram left: it was dropped; it was sent to a hardware address in a frame; or it was fragmented, and its first fragment
--- sent in a frame
+-- how a datagram left: it was dropped; it was sent to a hardware address in a frame; or it was fragmented, and its
+-- first fragment sent in a frame
 pub data Way : Type 0 where
   Dropped : Way
   InOneFrame : (to : HardwareAddress) (frame : List ℕ) → Way
@@ -33,25 +33,32 @@ pub record Departure : Type 0 where
 
 -- its packet, from a source address: with the socket's port and hop limit, and its own destination and payload
 abbrev pub packet_of : UdpSocket → Departure → IpAddress → Option Packet
-packet_of s d src = packet_between src d.destination.addr s.hop_limit (Udp (record { src_port = s.endpoint.port; dst_port = d.destination.port }) d.payload)
+packet_of s d src = packet_between src d.destination.addr s.hop_limit
+    (Udp (record { src_port = s.endpoint.port; dst_port = d.destination.port }) d.payload)
 
 -- the source address with which it is sent: the socket's own, or the one that the host has for its destination
 abbrev pub departs_from : Host → UdpSocket → Departure → Option IpAddress
 departs_from H s d = source_of (source_for H.ip_addrs) s.endpoint.addr d.destination.addr
 
--- How a datagram leaves its socket's queue. It is sent in one packet, whose values fit the fields of its forms: whole, if it fits
--- the device's IP MTU, or else fragmented, by its first fragment. Or it is dropped: because there is no source for it; because
--- its destination is unspecified (0.0.0.0 or ::); or because it is longer and may not be fragmented.
+-- How a datagram leaves its socket's queue. It is sent in one packet, whose values fit the fields of its forms:
+-- whole, if it fits the device's IP MTU, or else fragmented, by its first fragment. Or it is dropped: because
+-- there is no source for it; because its destination is unspecified (0.0.0.0 or ::); or because it is longer and
+-- may not be fragmented.
 pub data Departs (H : Host) (s : UdpSocket) (d : Departure) : Type 0 where
-  GoesWhole : (src : IpAddress) (p : Packet) (h : HardwareAddress) → departs_from H s d ≡ Some src → packet_of s d src ≡ Some p →
+  GoesWhole : (src : IpAddress) (p : Packet) (h : HardwareAddress) →
+      departs_from H s d ≡ Some src → packet_of s d src ≡ Some p →
       total_len p ≤ ip_mtu_of H.capabilities → IsFormed p → d.way ≡ InOneFrame h (ip_frame H h p) → Departs H s d
-  GoesInPieces : (src : IpAddress) (q : PacketV4) (h : HardwareAddress) (identification : ℕ) (first : Piece) (rest : List Piece) →
-      departs_from H s d ≡ Some src → packet_of s d src ≡ Some (packet.Ipv4 q) → ip_mtu_of H.capabilities < total_len (packet.Ipv4 q) →
-      may_be_cut (packet.Ipv4 q) ≡ true → pieces_of (datagram_of H h identification q) ≡ first ∷ rest → IsFormed (packet.Ipv4 q) →
+  GoesInPieces : (src : IpAddress) (q : PacketV4) (h : HardwareAddress) (identification : ℕ)
+      (first : Piece) (rest : List Piece) →
+      departs_from H s d ≡ Some src → packet_of s d src ≡ Some (packet.Ipv4 q) →
+      ip_mtu_of H.capabilities < total_len (packet.Ipv4 q) →
+      may_be_cut (packet.Ipv4 q) ≡ true →
+      pieces_of (datagram_of H h identification q) ≡ first ∷ rest → IsFormed (packet.Ipv4 q) →
       d.way ≡ InPieces (datagram_of H h identification q) (piece_frame H first) → Departs H s d
   NoSource : departs_from H s d ≡ None → d.way ≡ Dropped → Departs H s d
   ToUnspecified : is_unspecified d.destination.addr ≡ true → d.way ≡ Dropped → Departs H s d
-  TooLong : (src : IpAddress) (p : Packet) → departs_from H s d ≡ Some src → packet_of s d src ≡ Some p → ip_mtu_of H.capabilities < total_len p →
+  TooLong : (src : IpAddress) (p : Packet) → departs_from H s d ≡ Some src → packet_of s d src ≡ Some p →
+      ip_mtu_of H.capabilities < total_len p →
       may_be_cut p ≡ false → d.way ≡ Dropped → Departs H s d
 
 -- the socket that it left is there, and it left the socket in this way

@@ -1,4 +1,5 @@
--- Who sends UDP: no frame of a host carries a datagram except those of its UDP sockets, unless a raw socket sends one (RFC 768).
+-- Who sends UDP: no frame of a host carries a datagram except those of its UDP sockets, unless a raw
+-- socket sends one (RFC 768).
 use Rattle.std.specs.Prelude.{◌≡◌, ◌⊎◌, ℕ, ◌==◌, ◌≤◌, ◌||◌, Bool, true, false, List, [], ◌∷◌}
 use Rattle.std.specs.List.{AllByRecursion, Contains}
 use Rattle.net_base.specs.declared.phy.Medium.{Medium}
@@ -26,7 +27,8 @@ NoSocketWritesUdp H = AllByRecursion (λ place. writes_udp place ≡ false) H.so
 
 -- no host on the medium reads a frame as a packet for UDP; it may read a fragment of one
 abbrev pub CarriesNoUdp : Medium → List ℕ → Type 0
-CarriesNoUdp m frame = (K : Host) (r : IpRepr) (octets : List ℕ) → IsOf m K.hardware_addr → BringsPacket K frame r octets → ⊥
+CarriesNoUdp m frame = (K : Host) (r : IpRepr) (octets : List ℕ) →
+    IsOf m K.hardware_addr → BringsPacket K frame r octets → ⊥
 
 -- the ways in which these departures left
 abbrev pub ways : List Departure → List Way
@@ -37,8 +39,9 @@ ways (d ∷ ds) = d.way ∷ ways ds
 abbrev pub WentIn : Medium → List Departure → List ℕ → Type 0
 WentIn m departures frame = (h : HardwareAddress) × IsOf m h × Contains (ways departures) (InOneFrame h frame)
 
--- no other of these frames and fragmented packets carries UDP. Each frame that a host on the medium reads as a packet for UDP is
--- that of a departure, and so is each fragmented packet for UDP
-pub record CarryOnly (m : Medium) (departures : List Departure) (frames : List (List ℕ)) (cut : List Datagram) : Type 0 where
+-- no other of these frames and fragmented packets carries UDP. Each frame that a host on the medium reads as a packet
+-- for UDP is that of a departure, and so is each fragmented packet for UDP
+pub record CarryOnly (m : Medium) (departures : List Departure) (frames : List (List ℕ))
+    (cut : List Datagram) : Type 0 where
   pub frames_are : AllByRecursion (λ frame. CarriesNoUdp m frame ⊎ WentIn m departures frame) frames
   pub cuts_are : AllByRecursion (λ c. number_of c.header.next_header ≡ 17 → Contains (cuts_of departures) c) cut

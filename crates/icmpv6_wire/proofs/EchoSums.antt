@@ -30,7 +30,8 @@ alike s (suc k) w r some same =
     omega (arith, a, b, same)
 
 -- the words of a request
-request_words : (octets : List ℕ) → 8 ≤ length octets → type_in octets ≡ 128 → code_in octets ≡ 0 → word_sum octets ≡ 32768 + u16_at octets 2 + word_sum (drop 4 octets)
+request_words : (octets : List ℕ) → 8 ≤ length octets → type_in octets ≡ 128 → code_in octets ≡ 0 →
+    word_sum octets ≡ 32768 + u16_at octets 2 + word_sum (drop 4 octets)
 request_words octets long t c =
     let one = word octets 0 1 2 refl refl (omega (arith, long)) in
     let two = word octets 2 3 4 refl refl (omega (arith, long)) in
@@ -47,8 +48,10 @@ pub rest_of_request : (src dst : IpAddress) (octets : List ℕ) (start sum n : �
     ((s : ℕ) → folded_sum (s + start) ≡ folded_sum (s + word_sum (pseudo src dst 58 n))) → sum ≡ u16_at octets 2 →
     (65535 - folded_sum (start + 32768 + sum)) % 65535 ≡ word_sum (drop 4 octets) % 65535
 rest_of_request src dst octets start sum n request en starts esum =
-    let own : word_sum octets ≡ 32768 + sum + word_sum (drop 4 octets) = rw esum (request_words octets request.whole_header request.type request.code) in
-    let ones : folded_sum (start + (32768 + sum + word_sum (drop 4 octets))) ≡ 65535 = rw (← own) (sym (after src dst 58 n start octets starts) ∙ rw en request.sum) in
+    let own : word_sum octets ≡ 32768 + sum + word_sum (drop 4 octets) =
+    rw esum (request_words octets request.whole_header request.type request.code) in
+    let ones : folded_sum (start + (32768 + sum + word_sum (drop 4 octets))) ≡ 65535 =
+    rw (← own) (sym (after src dst 58 n start octets starts) ∙ rw en request.sum) in
     let turned : start + 32768 + sum ≡ start + (32768 + sum) = omega arith in
     rw turned (leaves start (32768 + sum) (word_sum (drop 4 octets)) (omega arith) ones)
 
@@ -57,11 +60,14 @@ reply_words : (i s : ℕ) (xs : List ℕ) → i < 2 ^ 16 → s < 2 ^ 16 → word
 unfolding head_with word_sum
 reply_words i s xs il sl = omega (arith, il, sl)
 
-pub reply_checksum : (src dst : IpAddress) (octets : List ℕ) (start rest n : ℕ) → 8 ≤ length octets → u16_at octets 4 < 2 ^ 16 → u16_at octets 6 < 2 ^ 16 → n ≡ length octets →
+pub reply_checksum : (src dst : IpAddress) (octets : List ℕ) (start rest n : ℕ) →
+    8 ≤ length octets → u16_at octets 4 < 2 ^ 16 → u16_at octets 6 < 2 ^ 16 → n ≡ length octets →
     ((s : ℕ) → folded_sum (s + start) ≡ folded_sum (s + word_sum (pseudo src dst 58 n))) → rest % 65535 ≡ word_sum (drop 4 octets) % 65535 →
     65535 - folded_sum (start + 33024 + rest) ≡ checksum_of (pseudo src dst 58 n ++ (head_with 0 (echo_reply_to octets) ++ [] ++ drop 8 octets))
 reply_checksum src dst octets start rest n long il sl en starts leaves_it =
     let xs = head_with 0 (echo_reply_to octets) ++ [] ++ drop 8 octets in
-    let own : word_sum xs ≡ 33024 + word_sum (drop 4 octets) = rw (rest_words octets long) (reply_words (u16_at octets 4) (u16_at octets 6) (drop 8 octets) il sl) in
-    let there : folded_sum (start + (33024 + word_sum (drop 4 octets))) ≡ folded_sum (word_sum (pseudo src dst 58 n ++ xs)) = rw (← own) (sym (after src dst 58 n start xs starts)) in
+    let own : word_sum xs ≡ 33024 + word_sum (drop 4 octets) =
+    rw (rest_words octets long) (reply_words (u16_at octets 4) (u16_at octets 6) (drop 8 octets) il sl) in
+    let there : folded_sum (start + (33024 + word_sum (drop 4 octets))) ≡ folded_sum (word_sum (pseudo src dst 58 n ++ xs)) =
+    rw (← own) (sym (after src dst 58 n start xs starts)) in
     ap (λ (t : ℕ). 65535 - t) (alike start 33024 (word_sum (drop 4 octets)) rest (omega arith) leaves_it ∙ there)

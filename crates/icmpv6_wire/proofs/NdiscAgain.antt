@@ -19,26 +19,38 @@ none_again : (type : ℕ) → AreOptions [] × (lladdr_in type [] ≡ None)
 unfolding options_from last_of
 none_again type = (All-nil IsOption, refl)
 
-source_six : (a b c d e f : ℕ) → let octets = a ∷ b ∷ c ∷ d ∷ e ∷ f ∷ [] in AreOptions (1 ∷ 1 ∷ octets) × (lladdr_in 1 (1 ∷ 1 ∷ octets) ≡ Some (record { 0 = octets }))
+source_six : (a b c d e f : ℕ) → let octets = a ∷ b ∷ c ∷ d ∷ e ∷ f ∷ [] in
+    AreOptions (1 ∷ 1 ∷ octets) × (lladdr_in 1 (1 ∷ 1 ∷ octets) ≡ Some (record { 0 = octets }))
 unfolding options_from last_of
-source_six a b c d e f = (All-cons IsOption (1 ∷ 1 ∷ a ∷ b ∷ c ∷ d ∷ e ∷ f ∷ []) [] (record { header = omega arith; some = omega arith; fits = omega arith; allowed = refl }) (All-nil IsOption), refl)
+source_six a b c d e f = (
+  All-cons IsOption (1 ∷ 1 ∷ a ∷ b ∷ c ∷ d ∷ e ∷ f ∷ []) [] (record { header = omega arith; some = omega arith; fits = omega arith; allowed = refl })
+      (All-nil IsOption),
+  refl,
+)
 
 source_again : (octets : List ℕ) → Six octets → AreOptions (1 ∷ 1 ∷ octets) × (lladdr_in 1 (1 ∷ 1 ∷ octets) ≡ Some (record { 0 = octets }))
 source_again octets s = rw s.is (source_six s.a s.b s.c s.d s.e s.f)
 
-target_six : (a b c d e f : ℕ) → let octets = a ∷ b ∷ c ∷ d ∷ e ∷ f ∷ [] in AreOptions (2 ∷ 1 ∷ octets) × (lladdr_in 2 (2 ∷ 1 ∷ octets) ≡ Some (record { 0 = octets }))
+target_six : (a b c d e f : ℕ) → let octets = a ∷ b ∷ c ∷ d ∷ e ∷ f ∷ [] in
+    AreOptions (2 ∷ 1 ∷ octets) × (lladdr_in 2 (2 ∷ 1 ∷ octets) ≡ Some (record { 0 = octets }))
 unfolding options_from last_of
-target_six a b c d e f = (All-cons IsOption (2 ∷ 1 ∷ a ∷ b ∷ c ∷ d ∷ e ∷ f ∷ []) [] (record { header = omega arith; some = omega arith; fits = omega arith; allowed = refl }) (All-nil IsOption), refl)
+target_six a b c d e f = (
+  All-cons IsOption (2 ∷ 1 ∷ a ∷ b ∷ c ∷ d ∷ e ∷ f ∷ []) [] (record { header = omega arith; some = omega arith; fits = omega arith; allowed = refl })
+      (All-nil IsOption),
+  refl,
+)
 
 target_again : (octets : List ℕ) → Six octets → AreOptions (2 ∷ 1 ∷ octets) × (lladdr_in 2 (2 ∷ 1 ∷ octets) ≡ Some (record { 0 = octets }))
 target_again octets s = rw s.is (target_six s.a s.b s.c s.d s.e s.f)
 
-source_options : (lladdr : Option EthernetAddress) → IsLinkLayerAddr lladdr → AreOptions (lladdr_option 1 lladdr) × (lladdr_in 1 (lladdr_option 1 lladdr) ≡ lladdr)
+source_options : (lladdr : Option EthernetAddress) →
+    IsLinkLayerAddr lladdr → AreOptions (lladdr_option 1 lladdr) × (lladdr_in 1 (lladdr_option 1 lladdr) ≡ lladdr)
 unfolding lladdr_text
 source_options None h = none_again 1
 source_options (Some address) h = source_again address.0 (six address.0 h)
 
-target_options : (lladdr : Option EthernetAddress) → IsLinkLayerAddr lladdr → AreOptions (lladdr_option 2 lladdr) × (lladdr_in 2 (lladdr_option 2 lladdr) ≡ lladdr)
+target_options : (lladdr : Option EthernetAddress) →
+    IsLinkLayerAddr lladdr → AreOptions (lladdr_option 2 lladdr) × (lladdr_in 2 (lladdr_option 2 lladdr) ≡ lladdr)
 unfolding lladdr_text
 target_options None h = none_again 2
 target_options (Some address) h = target_again address.0 (six address.0 h)
@@ -64,5 +76,6 @@ neighbor_again c (NeighborSolicit target lladdr) h =
 neighbor_again c (NeighborAdvert flags target lladdr) h =
     let o = target_options lladdr h.2 in (
       record { whole = omega arith; type = inr refl; code = refl; options = o.0 },
-      advert_made _ _ _ _ _ _ (ap flags_of h.0 ∙ h.0) (address_again target (head_with c (Ndisc (NeighborAdvert flags target lladdr))) (lladdr_option 2 lladdr) h.1) o.1,
+      advert_made _ _ _ _ _ _ (ap flags_of h.0 ∙ h.0)
+          (address_again target (head_with c (Ndisc (NeighborAdvert flags target lladdr))) (lladdr_option 2 lladdr) h.1) o.1,
     )

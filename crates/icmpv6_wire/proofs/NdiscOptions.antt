@@ -1,5 +1,6 @@
 -- Options are read one after the other.
-use Rattle.std.proofs.Common.{◌≡◌, ℕ, zero, suc, ◌-◌, ◌<◌, ◌≤◌, Bool, true, false, cond, eqb, List, [], ◌∷◌, length, drop, slice_index, refl, sym, ap, ◌∙◌, Option, Some, None, length-drop, arith}
+use Rattle.std.proofs.Common.{◌≡◌, ℕ, zero, suc, ◌-◌, ◌<◌, ◌≤◌, Bool, true, false, cond, eqb, List, [], ◌∷◌}
+use Rattle.std.proofs.Common.{length, drop, slice_index, refl, sym, ap, ◌∙◌, Option, Some, None, length-drop, arith}
 use Rattle.std.specs.Option.{option_or}
 use Rattle.std.specs.List.{All}
 use Rattle.std.proofs.lemmas.List.Elements.{All-nil, All-cons, All-head, All-tail}
@@ -42,10 +43,12 @@ empty [] e = refl
 empty (x ∷ xs) e = absurd (omega (arith, e))
 
 -- which address was found with one more option read
-pub found_there : {A : Type 0} (n m type : ℕ) (address a : A) (before found : Option A) → n ≡ m → m ≡ type → a ≡ address → found ≡ Some a → found ≡ cond (eqb n type) (Some address) before
+pub found_there : {A : Type 0} (n m type : ℕ) (address a : A) (before found : Option A) →
+    n ≡ m → m ≡ type → a ≡ address → found ≡ Some a → found ≡ cond (eqb n type) (Some address) before
 found_there n m type address a before found here is ea ef = let e : eqb n type ≡ true = eq-eqb n type (here ∙ is) in rw e (ef ∙ ap Some ea)
 
-pub found_before : {A : Type 0} (n m type : ℕ) (address : A) (before found : Option A) → ¬ (n ≡ m) → m ≡ type → found ≡ before → found ≡ cond (eqb n type) (Some address) before
+pub found_before : {A : Type 0} (n m type : ℕ) (address : A) (before found : Option A) →
+    ¬ (n ≡ m) → m ≡ type → found ≡ before → found ≡ cond (eqb n type) (Some address) before
 found_before n m type address before found other is ef = let e : eqb n type ≡ false = grind (arith, nat_tests, other, is) in rw e ef
 
 -- what is read of the last option of a type
@@ -84,15 +87,18 @@ module _ {A : Type 0} (read : List ℕ → A) where
 
   -- an option is read
   pub next : (type : ℕ) (octets rest rest' : List ℕ) (found found' : Option A) → Rest read type octets rest found → IsOption rest
-      → found' ≡ cond (eqb (slice_index rest 0) type) (Some (read rest)) found → rest' ≡ drop (option_len rest) rest → Rest read type octets rest' found'
+      → found' ≡ cond (eqb (slice_index rest 0) type) (Some (read rest)) found →
+      rest' ≡ drop (option_len rest) rest → Rest read type octets rest' found'
   next type octets rest rest' found found' r o ef er = rw (ef, er) (next_at type octets rest found r o)
 
   -- where something is left that doesn't begin with an option, the octets aren't options
-  pub refused : (type : ℕ) (octets rest : List ℕ) (found : Option A) → Rest read type octets rest found → 0 < length rest → ¬ IsOption rest → ¬ AreOptions octets
+  pub refused : (type : ℕ) (octets rest : List ℕ) (found : Option A) →
+      Rest read type octets rest found → 0 < length rest → ¬ IsOption rest → ¬ AreOptions octets
   refused type octets rest found r some other = λ h. other (first_of_all r.most rest some r.enough (r.forth h))
 
   -- where nothing is left, they are, and the last address was found
-  pub finished : (type : ℕ) (octets rest : List ℕ) (found : Option A) → Rest read type octets rest found → length rest ≡ 0 → AreOptions octets × (found ≡ last_of read type (options_in octets))
+  pub finished : (type : ℕ) (octets rest : List ℕ) (found : Option A) →
+      Rest read type octets rest found → length rest ≡ 0 → AreOptions octets × (found ≡ last_of read type (options_in octets))
   unfolding last_of
   finished type octets rest found r e =
       let none : options_from r.most rest ≡ [] = ap (options_from r.most) (empty rest e) ∙ none_left r.most in

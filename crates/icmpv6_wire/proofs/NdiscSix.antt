@@ -1,5 +1,6 @@
 -- The link-layer address that a message tells has six octets.
-use Rattle.std.proofs.Common.{◌≡◌, ℕ, ◌≤◌, Bool, true, false, List, [], ◌∷◌, length, drop, slice_index, refl, Option, Some, None, length-drop, length-take, arith}
+use Rattle.std.proofs.Common.{◌≡◌, ℕ, ◌≤◌, Bool, true, false, List, [], ◌∷◌, length, drop}
+use Rattle.std.proofs.Common.{slice_index, refl, Option, Some, None, length-drop, length-take, arith}
 use Rattle.std.specs.Prelude.{◌==◌, IsTrue, if◌then◌else◌}
 use Rattle.std.specs.Option.{option_or}
 use Rattle.std.specs.List.{All}
@@ -32,10 +33,12 @@ module _ (type : ℕ) (one : (n : ℕ) → has_length type n ≡ (n == 1)) where
   unfolding last_of
   last_six [] all = tt
   last_six (o ∷ os) all =
-      first_or (last_of address_in type os) (if slice_index o 0 == type then Some (address_in o) else None) (last_six os (All-tail IsOption o os all)) (in_option o (All-head IsOption o os all))
+      first_or (last_of address_in type os) (if slice_index o 0 == type then Some (address_in o) else None)
+      (last_six os (All-tail IsOption o os all)) (in_option o (All-head IsOption o os all))
 
 pub are_six : LinkLayerAddrsAreSix
 are_six octets is = by (slice_index octets 0 == 135) where
-  by : (b : Bool) → IsLinkLayerAddr (lladdr_of (if b then NeighborSolicit (address_at octets 8) (lladdr_in 1 (drop 24 octets)) else NeighborAdvert (flags_in octets) (address_at octets 8) (lladdr_in 2 (drop 24 octets))))
+  by : (b : Bool) → IsLinkLayerAddr (lladdr_of (if b then NeighborSolicit (address_at octets 8) (lladdr_in 1 (drop 24 octets))
+      else NeighborAdvert (flags_in octets) (address_at octets 8) (lladdr_in 2 (drop 24 octets))))
   by true = last_six 1 (λ n. refl) (options_in (drop 24 octets)) is.options
   by false = last_six 2 (λ n. refl) (options_in (drop 24 octets)) is.options

@@ -1,5 +1,6 @@
 -- A router message is read as it was written.
-use Rattle.std.proofs.Common.{◌≡◌, ℕ, ◌+◌, ◌*◌, ◌/◌, ◌%◌, ◌<◌, ◌^◌, List, [], ◌∷◌, ◌++◌, length, length-append, append-nil, refl, ap, ◌∙◌, Option, Some, None, arith}
+use Rattle.std.proofs.Common.{◌≡◌, ℕ, ◌+◌, ◌*◌, ◌/◌, ◌%◌, ◌<◌, ◌^◌, List, [], ◌∷◌, ◌++◌, length}
+use Rattle.std.proofs.Common.{length-append, append-nil, refl, ap, ◌∙◌, Option, Some, None, arith}
 use Rattle.std.proofs.lemmas.List.Elements.{All-nil, All-cons}
 use Rattle.ip_address.specs.declared.ethernet_address.EthernetAddress.{EthernetAddress}
 use Rattle.ip_address.specs.declared.ipv6.Ipv6Address.{Ipv6Address}
@@ -22,8 +23,10 @@ use Rattle.icmpv6_wire.specs.declared.router.RouterRepr.TheVariants.{RouterSolic
 pub number : (n : ℕ) → n < 2 ^ 32 → n / 16777216 % 256 * 16777216 + n / 65536 % 256 * 65536 + n / 256 % 256 * 256 + n % 256 ≡ n
 number n lt = omega arith
 
-prefix_made : (n : ℕ) (p : NdiscPrefixInformation) (v w : ℕ) (a : Ipv6Address) → n ≡ p.flags.0 → v ≡ p.valid_lifetime → w ≡ p.preferred_lifetime → a ≡ p.prefix
-    → ◌≡◌ {A = NdiscPrefixInformation} (record { prefix_len = p.prefix_len; flags = record { 0 = n }; valid_lifetime = v; preferred_lifetime = w; prefix = a }) p
+prefix_made : (n : ℕ) (p : NdiscPrefixInformation) (v w : ℕ) (a : Ipv6Address) →
+    n ≡ p.flags.0 → v ≡ p.valid_lifetime → w ≡ p.preferred_lifetime → a ≡ p.prefix
+    → ◌≡◌ {A = NdiscPrefixInformation}
+    (record { prefix_len = p.prefix_len; flags = record { 0 = n }; valid_lifetime = v; preferred_lifetime = w; prefix = a }) p
 prefix_made n p v w a en ev ew ea = rw (en, ev, ew, ea) refl
 
 -- a prefix is read as it was written
@@ -49,7 +52,8 @@ nothing_again = record { options = All-nil IsOption; lladdr_is = refl; prefix_is
 prefix_alone : (p : NdiscPrefixInformation) → IsPrefix (Some p) → Again (prefix_text p) None (Some p)
 unfolding options_from last_of prefix_text address_text
 prefix_alone p h = record {
-  options = All-cons IsOption (prefix_text p) [] (record { header = omega arith; some = omega arith; fits = omega arith; allowed = refl }) (All-nil IsOption);
+  options = All-cons IsOption
+      (prefix_text p) [] (record { header = omega arith; some = omega arith; fits = omega arith; allowed = refl }) (All-nil IsOption);
   lladdr_is = refl;
   prefix_is = ap Some (prefix_again p h);
 }
@@ -57,7 +61,8 @@ prefix_alone p h = record {
 address_alone : (a b c d e f : ℕ) → let octets = a ∷ b ∷ c ∷ d ∷ e ∷ f ∷ [] in Again (1 ∷ 1 ∷ octets) (Some (record { 0 = octets })) None
 unfolding options_from last_of
 address_alone a b c d e f = record {
-  options = All-cons IsOption (1 ∷ 1 ∷ a ∷ b ∷ c ∷ d ∷ e ∷ f ∷ []) [] (record { header = omega arith; some = omega arith; fits = omega arith; allowed = refl }) (All-nil IsOption);
+  options = All-cons IsOption (1 ∷ 1 ∷ a ∷ b ∷ c ∷ d ∷ e ∷ f ∷ []) []
+      (record { header = omega arith; some = omega arith; fits = omega arith; allowed = refl }) (All-nil IsOption);
   lladdr_is = refl;
   prefix_is = refl;
 }
@@ -66,8 +71,10 @@ address_and_prefix : (a b c d e f : ℕ) (p : NdiscPrefixInformation) → IsPref
     let octets = a ∷ b ∷ c ∷ d ∷ e ∷ f ∷ [] in Again (1 ∷ 1 ∷ (octets ++ prefix_text p)) (Some (record { 0 = octets })) (Some p)
 unfolding options_from last_of prefix_text address_text
 address_and_prefix a b c d e f p h = record {
-  options = All-cons IsOption (1 ∷ 1 ∷ a ∷ b ∷ c ∷ d ∷ e ∷ f ∷ prefix_text p) (prefix_text p ∷ []) (record { header = omega arith; some = omega arith; fits = omega arith; allowed = refl })
-      (All-cons IsOption (prefix_text p) [] (record { header = omega arith; some = omega arith; fits = omega arith; allowed = refl }) (All-nil IsOption));
+  options = All-cons IsOption (1 ∷ 1 ∷ a ∷ b ∷ c ∷ d ∷ e ∷ f ∷ prefix_text p) (prefix_text p ∷ [])
+      (record { header = omega arith; some = omega arith; fits = omega arith; allowed = refl })
+      (All-cons IsOption
+      (prefix_text p) [] (record { header = omega arith; some = omega arith; fits = omega arith; allowed = refl }) (All-nil IsOption));
   lladdr_is = refl;
   prefix_is = ap Some (prefix_again p h);
 }
@@ -75,18 +82,22 @@ address_and_prefix a b c d e f p h = record {
 address_then : (octets : List ℕ) → Six octets → Again (1 ∷ 1 ∷ octets) (Some (record { 0 = octets })) None
 address_then octets s = rw s.is (address_alone s.a s.b s.c s.d s.e s.f)
 
-address_then_prefix : (octets : List ℕ) (p : NdiscPrefixInformation) → Six octets → IsPrefix (Some p) → Again (1 ∷ 1 ∷ (octets ++ prefix_text p)) (Some (record { 0 = octets })) (Some p)
+address_then_prefix : (octets : List ℕ) (p : NdiscPrefixInformation) →
+    Six octets → IsPrefix (Some p) → Again (1 ∷ 1 ∷ (octets ++ prefix_text p)) (Some (record { 0 = octets })) (Some p)
 address_then_prefix octets p s h = rw s.is (address_and_prefix s.a s.b s.c s.d s.e s.f p h)
 
-options_again : (lladdr : Option EthernetAddress) (prefix : Option NdiscPrefixInformation) → IsLinkLayerAddr lladdr → IsPrefix prefix → Again (lladdr_option 1 lladdr ++ prefix_option prefix) lladdr prefix
+options_again : (lladdr : Option EthernetAddress) (prefix : Option NdiscPrefixInformation) →
+    IsLinkLayerAddr lladdr → IsPrefix prefix → Again (lladdr_option 1 lladdr ++ prefix_option prefix) lladdr prefix
 unfolding lladdr_text
 options_again None None six_octets h = nothing_again
 options_again None (Some p) six_octets h = prefix_alone p h
 options_again (Some address) None six_octets h = rw append-nil (address_then address.0 (six address.0 six_octets))
 options_again (Some address) (Some p) six_octets h = address_then_prefix address.0 p (six address.0 six_octets) h
 
-advert_made : (n : ℕ) (hop_limit : ℕ) (flags : NdiscRouterFlags) (t lifetime : ℕ) (l lladdr : Option EthernetAddress) (q prefix : Option NdiscPrefixInformation) →
-    n ≡ flags.0 → t ≡ lifetime → l ≡ lladdr → q ≡ prefix → ◌≡◌ {A = RouterRepr} (RouterAdvert hop_limit (record { 0 = n }) t l q) (RouterAdvert hop_limit flags lifetime lladdr prefix)
+advert_made : (n : ℕ) (hop_limit : ℕ) (flags : NdiscRouterFlags) (t lifetime : ℕ) (l lladdr : Option EthernetAddress)
+    (q prefix : Option NdiscPrefixInformation) →
+    n ≡ flags.0 → t ≡ lifetime → l ≡ lladdr → q ≡ prefix →
+    ◌≡◌ {A = RouterRepr} (RouterAdvert hop_limit (record { 0 = n }) t l q) (RouterAdvert hop_limit flags lifetime lladdr prefix)
 advert_made n hop_limit flags t lifetime l lladdr q prefix en et el eq = rw (en, et, el, eq) refl
 
 -- the octets of a message: its head, and its body
@@ -109,7 +120,8 @@ router_again c (RouterAdvert hop_limit flags lifetime lladdr prefix) h =
     )
 
 -- the length of each option, an even number
-pub lladdr_size : (lladdr : Option EthernetAddress) → IsLinkLayerAddr lladdr → (length (lladdr_option 1 lladdr) ≡ lladdr_len lladdr) × (lladdr_len lladdr % 2 ≡ 0)
+pub lladdr_size : (lladdr : Option EthernetAddress) →
+    IsLinkLayerAddr lladdr → (length (lladdr_option 1 lladdr) ≡ lladdr_len lladdr) × (lladdr_len lladdr % 2 ≡ 0)
 unfolding lladdr_text
 lladdr_size None h = (refl, refl)
 lladdr_size (Some address) h = (omega (arith, h), refl)

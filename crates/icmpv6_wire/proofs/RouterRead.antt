@@ -12,6 +12,8 @@ pub not_solicitation : (octets : List ℕ) → slice_index octets 0 ≡ 133 → 
 not_solicitation octets is none (Solicitation s) = none s.options
 not_solicitation octets is none (Advertisement a) = absurd (let t = a.type in omega (arith, is, t))
 
-pub advert_read : (hop_limit n : ℕ) (flags : NdiscRouterFlags) (t lifetime : ℕ) (l lladdr : Option EthernetAddress) (q prefix : Option NdiscPrefixInformation) →
-    flags.0 ≡ n → t ≡ lifetime → l ≡ lladdr → q ≡ prefix → ◌≡◌ {A = RouterRepr} (RouterAdvert hop_limit flags t l q) (RouterAdvert hop_limit (record { 0 = n }) lifetime lladdr prefix)
+pub advert_read : (hop_limit n : ℕ) (flags : NdiscRouterFlags) (t lifetime : ℕ) (l lladdr : Option EthernetAddress)
+    (q prefix : Option NdiscPrefixInformation) →
+    flags.0 ≡ n → t ≡ lifetime → l ≡ lladdr → q ≡ prefix →
+    ◌≡◌ {A = RouterRepr} (RouterAdvert hop_limit flags t l q) (RouterAdvert hop_limit (record { 0 = n }) lifetime lladdr prefix)
 advert_read hop_limit n flags t lifetime l lladdr q prefix en et el eq = rw (← en, et, el, eq) refl

@@ -1,6 +1,7 @@
--- ICMPv6 (RFC 4443): echo messages, errors with their quotations, and the messages of neighbour discovery, router discovery and
--- MLD.
-use Rattle.std.specs.Prelude.{◌≡◌, ℕ, ◌+◌, ◌<◌, ◌≤◌, ◌^◌, ◌==◌, Bool, IsTrue, List, [], ◌∷◌, ◌++◌, length, drop, slice_index, if◌then◌else◌}
+-- ICMPv6 (RFC 4443): echo messages, errors with their quotations, and the messages of neighbour discovery,
+-- router discovery and MLD.
+use Rattle.std.specs.Prelude.{◌≡◌, ℕ, ◌+◌, ◌<◌, ◌≤◌, ◌^◌, ◌==◌, Bool, IsTrue}
+use Rattle.std.specs.Prelude.{List, [], ◌∷◌, ◌++◌, length, drop, slice_index, if◌then◌else◌}
 use Rattle.std.specs.Borrow.{Bor}
 use Rattle.std.specs.Int.{w16, w32, to_be_bytes}
 use Rattle.wire_base.specs.Checksum.{folded_sum, word_sum, checksum_of}
@@ -17,9 +18,11 @@ use Rattle.group_wire.specs.Mld as mld
 use Rattle.icmpv6_wire.specs.declared.icmpv6.Icmpv6DstUnreachable.{Icmpv6DstUnreachable}
 use Rattle.icmpv6_wire.specs.declared.icmpv6.Icmpv6DstUnreachable.TheVariants.{PortUnreachable, Unknown as OtherReason}
 use Rattle.icmpv6_wire.specs.declared.icmpv6.Icmpv6ParamProblem.{Icmpv6ParamProblem}
-use Rattle.icmpv6_wire.specs.declared.icmpv6.Icmpv6ParamProblem.TheVariants.{UnrecognizedNxtHdr, UnrecognizedOption, Unknown as OtherProblem}
+use Rattle.icmpv6_wire.specs.declared.icmpv6.Icmpv6ParamProblem.TheVariants.{UnrecognizedNxtHdr, UnrecognizedOption}
+use Rattle.icmpv6_wire.specs.declared.icmpv6.Icmpv6ParamProblem.TheVariants.{Unknown as OtherProblem}
 use Rattle.icmpv6_wire.specs.declared.icmpv6.Icmpv6Repr.{Icmpv6Repr}
-use Rattle.icmpv6_wire.specs.declared.icmpv6.Icmpv6Repr.TheVariants.{EchoRequest, EchoReply, DstUnreachable, PktTooBig, TimeExceeded, ParamProblem, Ndisc, Router, Mld}
+use Rattle.icmpv6_wire.specs.declared.icmpv6.Icmpv6Repr.TheVariants.{EchoRequest, EchoReply, DstUnreachable, PktTooBig}
+use Rattle.icmpv6_wire.specs.declared.icmpv6.Icmpv6Repr.TheVariants.{TimeExceeded, ParamProblem, Ndisc, Router, Mld}
 
 -- the reasons by their codes (RFC 4443 3.1)
 abbrev pub unreachable_code : Icmpv6DstUnreachable → ℕ
@@ -67,13 +70,15 @@ pub data IsBody (octets : List ℕ) : Type 0 where
   OfRouters : IsRouter octets → IsBody octets
   Listener : IsMld octets → IsBody octets
 
--- what the checksum covers before the message (RFC 4443 2.3, RFC 8200 8.1): addresses, the message's length, the protocol
+-- what the checksum covers before the message (RFC 4443 2.3, RFC 8200 8.1): addresses, the
+-- message's length, the protocol
 abbrev pub pseudo_header : IpAddress → IpAddress → ℕ → List ℕ
 pseudo_header src dst len = pseudo src dst 58 len
 
 -- the octets may be a message: its checksum is right if the sum with the pseudo-header is all ones
 abbrev pub IsSound : Bool → IpAddress → IpAddress → List ℕ → Type 0
-IsSound checked src dst octets = (8 ≤ length octets) × (IsTrue checked → folded_sum (word_sum (pseudo_header src dst (length octets) ++ octets)) ≡ 65535)
+IsSound checked src dst octets = (8 ≤ length octets)
+    × (IsTrue checked → folded_sum (word_sum (pseudo_header src dst (length octets) ++ octets)) ≡ 65535)
 
 -- the octets are a message
 pub record IsIcmpv6 (checked : Bool) (src dst : IpAddress) (octets : List ℕ) : Type 0 where
@@ -174,7 +179,8 @@ rest_of (Mld message) = mld.rest_of message
 unfoldable pub head_with : ℕ → Icmpv6Repr → List ℕ
 head_with sum r = type_of r ∷ message_code r ∷ (to_be_bytes w16 sum ++ rest_of r)
 
--- the octets between them and the data: a quoted header, written anew from its values, or the message's addresses and options
+-- the octets between them and the data: a quoted header, written anew from its values, or the message's
+-- addresses and options
 abbrev pub body : Icmpv6Repr → List ℕ
 body (EchoRequest ident seq_no) = []
 body (EchoReply ident seq_no) = []
@@ -189,7 +195,8 @@ body (Mld message) = mld.body message
 -- its checksum, or 0 if that is off: that of pseudo-header and message, with 0 in its place
 abbrev pub sum_of : Bool → IpAddress → IpAddress → Icmpv6Repr → List ℕ → ℕ
 sum_of summed src dst r octets =
-    if summed then checksum_of (pseudo_header src dst (header_len r + length octets) ++ (head_with 0 r ++ body r ++ octets)) else 0
+    if summed then
+    checksum_of (pseudo_header src dst (header_len r + length octets) ++ (head_with 0 r ++ body r ++ octets)) else 0
 
 -- the text of a message with its data
 abbrev pub text : Bool → IpAddress → IpAddress → Icmpv6Repr → List ℕ → List ℕ
@@ -202,12 +209,14 @@ IsMessage (EchoReply ident seq_no) octets = (ident < 2 ^ 16) × (seq_no < 2 ^ 16
 IsMessage (DstUnreachable reason header) octets = (unreachable_of (unreachable_code reason) ≡ reason) × IsHeader header
 IsMessage (PktTooBig mtu header) octets = (mtu < 2 ^ 32) × IsHeader header
 IsMessage (TimeExceeded code header) octets = IsHeader header
-IsMessage (ParamProblem reason pointer header) octets = (problem_of (problem_code reason) ≡ reason) × (pointer < 2 ^ 32) × IsHeader header
+IsMessage (ParamProblem reason pointer header) octets = (problem_of (problem_code reason) ≡ reason)
+    × (pointer < 2 ^ 32) × IsHeader header
 IsMessage (Ndisc message) octets = IsNeighbor message × (octets ≡ [])
 IsMessage (Router message) octets = router.IsMessage message × (octets ≡ [])
 IsMessage (Mld message) octets = mld.IsMessage message
 
 -- a text is parsed back as its values and its data, if its checksum is there or isn't verified
 abbrev pub ReadAgain : Type 0
-ReadAgain = (checked summed : Bool) (src dst : IpAddress) (r : Icmpv6Repr) (octets : List ℕ) → IsMessage r octets → (IsTrue checked → IsTrue summed)
+ReadAgain = (checked summed : Bool) (src dst : IpAddress) (r : Icmpv6Repr) (octets : List ℕ) →
+    IsMessage r octets → (IsTrue checked → IsTrue summed)
     → IsIcmpv6 checked src dst (text summed src dst r octets) × (icmpv6_in (text summed src dst r octets) ≡ (r, octets))

@@ -1,5 +1,6 @@
 -- Neighbour solicitation and advertisement (RFC 4861 4.3, 4.4): type, code, checksum, 4 octets, the target, options.
-use Rattle.std.specs.Prelude.{⊤, ◌≡◌, ℕ, ◌≤◌, ◌<◌, ◌^◌, ◌⊎◌, ◌==◌, List, [], length, drop, slice_index, Option, Some, None, if◌then◌else◌}
+use Rattle.std.specs.Prelude.{⊤, ◌≡◌, ℕ, ◌≤◌, ◌<◌, ◌^◌, ◌⊎◌, ◌==◌, List, [], length}
+use Rattle.std.specs.Prelude.{drop, slice_index, Option, Some, None, if◌then◌else◌}
 use Rattle.std.specs.Int.RustNames.{bit_and}
 use Rattle.ip_address.specs.declared.ethernet_address.EthernetAddress.{EthernetAddress}
 use Rattle.ip_address.specs.declared.ipv6.Ipv6Address.{Ipv6Address}
@@ -73,7 +74,8 @@ IsLinkLayerAddr (Some address) = length address.0 ≡ 6
 -- values that a message can have
 abbrev pub IsNeighbor : NdiscRepr → Type 0
 IsNeighbor (NeighborSolicit target lladdr) = (target.bits < 2 ^ 128) × IsLinkLayerAddr lladdr
-IsNeighbor (NeighborAdvert flags target lladdr) = (flags_of flags.0 ≡ flags.0) × (target.bits < 2 ^ 128) × IsLinkLayerAddr lladdr
+IsNeighbor (NeighborAdvert flags target lladdr) = (flags_of flags.0 ≡ flags.0)
+    × (target.bits < 2 ^ 128) × IsLinkLayerAddr lladdr
 
 -- the link-layer address of a message, if it has one
 abbrev pub lladdr_of : NdiscRepr → Option EthernetAddress

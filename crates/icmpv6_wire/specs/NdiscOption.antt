@@ -1,11 +1,13 @@
 -- Options of neighbour discovery (RFC 4861 4.6): type, length in units of eight octets, the rest.
-use Rattle.std.specs.Prelude.{ℕ, zero, suc, ◌*◌, ◌≤◌, ◌==◌, ◌||◌, Bool, true, IsTrue, List, [], ◌∷◌, length, drop, slice_index, slice_range, Option, Some, None, if◌then◌else◌}
+use Rattle.std.specs.Prelude.{ℕ, zero, suc, ◌*◌, ◌≤◌, ◌==◌, ◌||◌, Bool, true, IsTrue, List, [], ◌∷◌}
+use Rattle.std.specs.Prelude.{length, drop, slice_index, slice_range, Option, Some, None, if◌then◌else◌}
 use Rattle.std.specs.Borrow.{Bor}
 use Rattle.std.specs.Option.{option_or}
 use Rattle.std.specs.List.{All}
 use Rattle.ip_address.specs.declared.ethernet_address.EthernetAddress.{EthernetAddress}
 use Rattle.icmpv6_wire.specs.declared.ndisc_option.NdiscOptionType.{NdiscOptionType}
-use Rattle.icmpv6_wire.specs.declared.ndisc_option.NdiscOptionType.TheVariants.{SourceLinkLayerAddr, TargetLinkLayerAddr}
+use Rattle.icmpv6_wire.specs.declared.ndisc_option.NdiscOptionType.TheVariants.{SourceLinkLayerAddr}
+use Rattle.icmpv6_wire.specs.declared.ndisc_option.NdiscOptionType.TheVariants.{TargetLinkLayerAddr}
 
 abbrev pub number_of : NdiscOptionType → ℕ
 number_of SourceLinkLayerAddr = 1
@@ -15,7 +17,8 @@ number_of TargetLinkLayerAddr = 2
 abbrev pub option_len : List ℕ → ℕ
 option_len octets = slice_index octets 1 * 8
 
--- the lengths that a type allows: 1 for an Ethernet link-layer address (types 1 and 2; RFC 2464 6), 4 for a prefix (type 3)
+-- the lengths that a type allows: 1 for an Ethernet link-layer address (types 1 and 2; RFC 2464 6), 4
+-- for a prefix (type 3)
 abbrev pub has_length : ℕ → ℕ → Bool
 has_length type n = if (type == 1) || (type == 2) then n == 1 else if type == 3 then n == 4 else true
 

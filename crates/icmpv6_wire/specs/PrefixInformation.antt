@@ -1,6 +1,7 @@
--- The Prefix Information option (RFC 4861 4.6.2): type and length, the prefix's length, flags, two lifetimes, 4 octets, the
--- prefix.
-use Rattle.std.specs.Prelude.{⊤, ◌≡◌, ℕ, ◌<◌, ◌^◌, ◌==◌, nat_le, Bool, List, [], ◌∷◌, ◌++◌, slice_index, Option, Some, None}
+-- The Prefix Information option (RFC 4861 4.6.2): type and length, the prefix's length, flags, two lifetimes,
+-- 4 octets, the prefix.
+use Rattle.std.specs.Prelude.{⊤, ◌≡◌, ℕ, ◌<◌, ◌^◌, ◌==◌, nat_le, Bool}
+use Rattle.std.specs.Prelude.{List, [], ◌∷◌, ◌++◌, slice_index, Option, Some, None}
 use Rattle.std.specs.Int.{w32, to_be_bytes}
 use Rattle.std.specs.Int.RustNames.{bit_and}
 use Rattle.wire_base.specs.Octets.{u32_at}
@@ -38,7 +39,8 @@ prefix_in octets = last_of prefix_at 3 (options_in octets)
 -- the text of an option with a prefix
 unfoldable pub prefix_text : NdiscPrefixInformation → List ℕ
 prefix_text p =
-    3 ∷ 4 ∷ p.prefix_len ∷ flags_of p.flags.0 ∷ (to_be_bytes w32 p.valid_lifetime ++ to_be_bytes w32 p.preferred_lifetime ++ (0 ∷ 0 ∷ 0 ∷ 0 ∷ address_text p.prefix))
+    3 ∷ 4 ∷ p.prefix_len ∷ flags_of p.flags.0 ∷ (to_be_bytes w32 p.valid_lifetime
+    ++ to_be_bytes w32 p.preferred_lifetime ++ (0 ∷ 0 ∷ 0 ∷ 0 ∷ address_text p.prefix))
 
 -- the option, if there is one, and its length
 abbrev pub prefix_option : Option NdiscPrefixInformation → List ℕ
@@ -52,4 +54,5 @@ prefix_len (Some p) = 32
 -- values that an option can have
 abbrev pub IsPrefix : Option NdiscPrefixInformation → Type 0
 IsPrefix None = ⊤
-IsPrefix (Some p) = (flags_of p.flags.0 ≡ p.flags.0) × (p.valid_lifetime < 2 ^ 32) × (p.preferred_lifetime < 2 ^ 32) × (p.prefix.bits < 2 ^ 128)
+IsPrefix (Some p) = (flags_of p.flags.0 ≡ p.flags.0) × (p.valid_lifetime < 2 ^ 32)
+    × (p.preferred_lifetime < 2 ^ 32) × (p.prefix.bits < 2 ^ 128)

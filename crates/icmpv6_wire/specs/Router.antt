@@ -1,5 +1,7 @@
--- Router solicitation and advertisement (RFC 4861 4.1, 4.2): type, code, checksum, 4 octets, in an advertisement 8 more, options.
-use Rattle.std.specs.Prelude.{◌≡◌, ℕ, ◌+◌, ◌≤◌, ◌<◌, ◌^◌, ◌==◌, List, [], ◌∷◌, ◌++◌, length, drop, slice_index, Option, Some, None, if◌then◌else◌}
+-- Router solicitation and advertisement (RFC 4861 4.1, 4.2): type, code, checksum, 4 octets, in an
+-- advertisement 8 more, options.
+use Rattle.std.specs.Prelude.{◌≡◌, ℕ, ◌+◌, ◌≤◌, ◌<◌, ◌^◌, ◌==◌, List, [], ◌∷◌, ◌++◌}
+use Rattle.std.specs.Prelude.{length, drop, slice_index, Option, Some, None, if◌then◌else◌}
 use Rattle.std.specs.Int.{w16, to_be_bytes}
 use Rattle.std.specs.Int.RustNames.{bit_and}
 use Rattle.wire_base.specs.Octets.{u16_at}
@@ -40,11 +42,12 @@ pub data IsRouter (octets : List ℕ) : Type 0 where
 abbrev pub solicit_in : List ℕ → RouterRepr
 solicit_in octets = RouterSolicit (lladdr_in 1 (drop 8 octets))
 
--- an advertisement's values: hop limit, flags, lifetime in seconds, the link-layer address of its source, a prefix (type 3). The
--- two times of 4 octets each that follow the lifetime are ignored
+-- an advertisement's values: hop limit, flags, lifetime in seconds, the link-layer address of its source, a prefix
+-- (type 3). The two times of 4 octets each that follow the lifetime are ignored
 abbrev pub advert_in : List ℕ → RouterRepr
 advert_in octets =
-    RouterAdvert (slice_index octets 4) (flags_in octets) (u16_at octets 6) (lladdr_in 1 (drop 16 octets)) (prefix_in (drop 16 octets))
+    RouterAdvert (slice_index octets 4) (flags_in octets) (u16_at octets 6)
+    (lladdr_in 1 (drop 16 octets)) (prefix_in (drop 16 octets))
 
 abbrev pub router_in : List ℕ → RouterRepr
 router_in octets = if slice_index octets 0 == 133 then solicit_in octets else advert_in octets

@@ -58,7 +58,8 @@ impl EchoRequest<'_> {
         out: &mut FrameBuffer,
     )
         requires room { length out.old + 8 ≤ 1514 }
-        ensures items { out.new ++ drop 8 self.now.octets.now ≡ out.old ++ spec.text summed src.now dst.now (echo_reply_to self.now.octets.now) (drop 8 self.now.octets.now) }
+        ensures items { out.new ++ drop 8 self.now.octets.now ≡ out.old
+            ++ spec.text summed src.now dst.now (echo_reply_to self.now.octets.now) (drop 8 self.now.octets.now) }
         ensures len { length out.new ≡ length out.old + 8 }
     {
         let reply = Icmpv6Repr::EchoReply {
@@ -77,7 +78,8 @@ fn reply_sum(request: &EchoRequest<'_>, src: &IpAddress, dst: &IpAddress) -> u16
     requires leaves { request.now.rest % 65535 ≡ word_sum (drop 4 request.now.octets.now) % 65535 }
     requires ident { u16_at request.now.octets.now 4 < 2 ^ 16 }
     requires seq_no { u16_at request.now.octets.now 6 < 2 ^ 16 }
-    ensures { result ≡ spec.sum_of true src.now dst.now (echo_reply_to request.now.octets.now) (drop 8 request.now.octets.now) }
+    ensures { result
+        ≡ spec.sum_of true src.now dst.now (echo_reply_to request.now.octets.now) (drop 8 request.now.octets.now) }
 {
     let start = pseudo_header_sum(src, dst, request.octets.len() as u16);
     0xffff - fold(start + 0x8100 + u64::from(request.rest))

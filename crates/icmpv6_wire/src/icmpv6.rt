@@ -182,7 +182,8 @@ impl Icmpv6Repr {
         dst: &IpAddress,
         checked: bool,
     ) -> Option<(Icmpv6Repr, &'a [u8])>
-        ensures { SomeIff (option_map spec.parts result) ((length octets.now < 2 ^ 16) × spec.IsIcmpv6 checked src.now dst.now octets.now) (spec.icmpv6_in octets.now) }
+        ensures { SomeIff (option_map spec.parts result) ((length octets.now < 2 ^ 16)
+            × spec.IsIcmpv6 checked src.now dst.now octets.now) (spec.icmpv6_in octets.now) }
     {
         if octets.len() > 0xffff || !is_sound(octets, src, dst, checked) {
             return None;
@@ -289,7 +290,8 @@ pub fn is_sound(octets: &[u8], src: &IpAddress, dst: &IpAddress, checked: bool) 
 #[tactic(auto, using(crate::proofs::Icmpv6Sums::before))]
 fn sums_up(octets: &[u8], src: &IpAddress, dst: &IpAddress) -> bool
     requires { length octets.now < 2 ^ 16 }
-    ensures { result ≡ (folded_sum (word_sum (spec.pseudo_header src.now dst.now (length octets.now) ++ octets.now)) == 65535) }
+    ensures { result
+        ≡ (folded_sum (word_sum (spec.pseudo_header src.now dst.now (length octets.now) ++ octets.now)) == 65535) }
 {
     let start = pseudo_header_sum(src, dst, octets.len() as u16);
     sum_with(start, octets) == 0xffff
@@ -298,7 +300,8 @@ fn sums_up(octets: &[u8], src: &IpAddress, dst: &IpAddress) -> bool
 /// A number that folds as the sum of the words of a pseudo-header does, in any sum, for a message of `len` octets.
 #[inline(always)]
 pub(crate) fn pseudo_header_sum(src: &IpAddress, dst: &IpAddress, len: u16) -> u64
-    ensures folds { (sum : ℕ) → folded_sum (sum + result) ≡ folded_sum (sum + word_sum (spec.pseudo_header src.now dst.now len)) }
+    ensures folds { (sum : ℕ) →
+        folded_sum (sum + result) ≡ folded_sum (sum + word_sum (spec.pseudo_header src.now dst.now len)) }
     ensures small { result < 2 ^ 40 }
 {
     pseudo_sum(src, dst, 58, len)

@@ -16,7 +16,13 @@ capabilities_of m = record {
   medium = m;
   max_transmission_unit = frame_len m;
   max_burst_size = None;
-  checksum = record { ipv4 = checksum.Both; udp = checksum.Both; tcp = checksum.Both; icmpv4 = checksum.Both; icmpv6 = checksum.Both };
+  checksum = record {
+    ipv4 = checksum.Both;
+    udp = checksum.Both;
+    tcp = checksum.Both;
+    icmpv4 = checksum.Both;
+    icmpv6 = checksum.Both;
+  };
 }
 
 -- nothing is withheld and no transmit token refused

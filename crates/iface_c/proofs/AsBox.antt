@@ -12,7 +12,11 @@ use Rattle.iface_c.specs.contracts.loose.Loose as Loose
 use Rattle.iface_c.specs.contracts.handle.Slot as Transition
 
 abbrev pub E : Bx
-E = record { row = Host.the_row; laws = host.the_row_laws; al = record { row = Heap.the_row; laws = heap.the_row_laws; g = ghosts; d = dict; drops = impl [] tnil dnil } }
+E = record {
+  row = Host.the_row;
+  laws = host.the_row_laws;
+  al = record { row = Heap.the_row; laws = heap.the_row_laws; g = ghosts; d = dict; drops = impl [] tnil dnil };
+}
 
 abbrev pub FromLoose : Slot 0
 FromLoose = plain (λ _. Loose.the_row Host.the_row Heap.the_row ghosts)

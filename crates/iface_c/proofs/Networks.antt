@@ -10,7 +10,8 @@ use Rattle.ip_address.specs.declared.ipv4.Ipv4Address.{Ipv4Address}
 use Rattle.ip_address.specs.declared.ipv6.Ipv6Address.{Ipv6Address}
 use Rattle.iface_c.specs.Addresses.{ipv4_by, ipv6_by, network_of}
 
-pub ipv4_network : (a : Ipv4Address) (n : ℕ) (p : n ≤ 32) → Some (cidr.Ipv4 (record { address = a; prefix_len = n; in_range = p })) ≡ network_of (Ipv4 a) n
+pub ipv4_network : (a : Ipv4Address) (n : ℕ) (p : n ≤ 32) →
+    Some (cidr.Ipv4 (record { address = a; prefix_len = n; in_range = p })) ≡ network_of (Ipv4 a) n
 ipv4_network a n p = by (nat_le n 32) lit≤ (le-leb n 32 p) where
   of : n ≤ 32 → Option IpCidr
   of q = Some (cidr.Ipv4 (record { address = a; prefix_len = n; in_range = q }))
@@ -19,7 +20,8 @@ ipv4_network a n p = by (nat_le n 32) lit≤ (le-leb n 32 p) where
   by true h e = ap of (le_prop p (h tt))
   by false h e = absurd cc
 
-pub ipv6_network : (a : Ipv6Address) (n : ℕ) (p : n ≤ 128) → Some (cidr.Ipv6 (record { address = a; prefix_len = n; in_range = p })) ≡ network_of (Ipv6 a) n
+pub ipv6_network : (a : Ipv6Address) (n : ℕ) (p : n ≤ 128) →
+    Some (cidr.Ipv6 (record { address = a; prefix_len = n; in_range = p })) ≡ network_of (Ipv6 a) n
 ipv6_network a n p = by (nat_le n 128) lit≤ (le-leb n 128 p) where
   of : n ≤ 128 → Option IpCidr
   of q = Some (cidr.Ipv6 (record { address = a; prefix_len = n; in_range = q }))

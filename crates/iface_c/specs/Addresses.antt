@@ -1,5 +1,6 @@
 -- Addresses as C writes them: a version of IP, and octets in the order of the network.
-use Rattle.std.specs.Prelude.{ℕ, ◌≤◌, ◌==◌, nat_le, Bool, true, false, T, slice_index, [], ◌∷◌, ◌++◌, Option, Some, None, if◌then◌else◌}
+use Rattle.std.specs.Prelude.{ℕ, ◌≤◌, ◌==◌, nat_le, Bool, true, false, T, slice_index}
+use Rattle.std.specs.Prelude.{[], ◌∷◌, ◌++◌, Option, Some, None, if◌then◌else◌}
 use Rattle.std.specs.Option.{option_and_then, option_map}
 use Rattle.std.specs.Int.{w32, w128, from_be_bytes, to_be_bytes}
 use Rattle.std.proofs.Common.{lit≤}
@@ -20,7 +21,8 @@ use Rattle.iface_c.specs.declared.addresses.IfaceEndpoint.{IfaceEndpoint}
 -- the address of a version, by its octets
 abbrev pub address_in : IfaceAddress → Option IpAddress
 address_in a =
-    if a.version == 4 then Some (Ipv4 (address_of (slice_index a.octets 0) (slice_index a.octets 1) (slice_index a.octets 2) (slice_index a.octets 3)))
+    if a.version == 4 then Some (Ipv4
+    (address_of (slice_index a.octets 0) (slice_index a.octets 1) (slice_index a.octets 2) (slice_index a.octets 3)))
     else (if a.version == 6 then Some (Ipv6 (record { bits = from_be_bytes w128 a.octets })) else None)
 
 -- an address with a prefix of so many bits, where it has so many
@@ -41,7 +43,8 @@ cidr_in a n = option_and_then (λ (address : IpAddress). network_of address n) (
 
 -- an address as C reads it
 abbrev pub address_for_c : IpAddress → IfaceAddress
-address_for_c (Ipv4 a) = record { version = 4; octets = to_be_bytes w32 a.bits ++ (0 ∷ 0 ∷ 0 ∷ 0 ∷ 0 ∷ 0 ∷ 0 ∷ 0 ∷ 0 ∷ 0 ∷ 0 ∷ 0 ∷ []) }
+address_for_c (Ipv4 a) =
+    record { version = 4; octets = to_be_bytes w32 a.bits ++ (0 ∷ 0 ∷ 0 ∷ 0 ∷ 0 ∷ 0 ∷ 0 ∷ 0 ∷ 0 ∷ 0 ∷ 0 ∷ 0 ∷ []) }
 address_for_c (Ipv6 a) = record { version = 6; octets = to_be_bytes w128 a.bits }
 
 -- one end

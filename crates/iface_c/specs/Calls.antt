@@ -18,7 +18,8 @@ pub record Did (code : ℕ) (Step : Host → Host → Type 0) (old new : Iface) 
   pub done : code ≡ 0 → Changed Step (host_in old) (host_in new)
   pub refused : code ≢ 0 → host_in new ≡ host_in old
 
--- the very host is there as before, or none is; or the host stands for what it stood for, and nothing else of it changed
+-- the very host is there as before, or none is; or the host stands for what it stood for, and
+-- nothing else of it changed
 pub data Keeps (old new : Option Host) : Type 0 where
   Same : new ≡ old → Keeps old new
   Stood : Changed Stays old new → Keeps old new

@@ -17,8 +17,8 @@ settings_with c hardware = record {
   reassembly_timeout = c.reassembly_timeout;
 }
 
--- what most programs want: eight sockets on Ethernet, three seconds of patience, as three solicitations take (RFC 4861 10), and ten
--- for fragments
+-- what most programs want: eight sockets on Ethernet, three seconds of patience, as three solicitations take (RFC 4861
+-- 10), and ten for fragments
 abbrev pub usual : IfaceConfig
 usual = record {
   seed = 0;

@@ -1,7 +1,9 @@
 -- The code of each refusal.
 use Rattle.std.specs.Prelude.{ℕ}
 use Rattle.iface_host.specs.declared.refusal.Refusal.{Refusal}
-use Rattle.iface_host.specs.declared.refusal.Refusal.TheVariants.{NoMemory, BadMtu, NotUnicast, BadMoment, BadAddress, NotThere, TableFull, NoSocket, BadPort, TooLong, QueueFull, Empty, NoRoom, BadTimeout}
+use Rattle.iface_host.specs.declared.refusal.Refusal.TheVariants.{NoMemory, BadMtu, NotUnicast, BadMoment}
+use Rattle.iface_host.specs.declared.refusal.Refusal.TheVariants.{BadAddress, NotThere, TableFull, NoSocket, BadPort}
+use Rattle.iface_host.specs.declared.refusal.Refusal.TheVariants.{TooLong, QueueFull, Empty, NoRoom, BadTimeout}
 
 abbrev pub code_of : Refusal → ℕ
 code_of NoMemory = 4

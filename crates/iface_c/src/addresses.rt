@@ -1,6 +1,7 @@
 //! Addresses, networks, routes and groups.
 ghost use Rattle.std.specs.Prelude.{◌≡◌};
-ghost use Rattle.iface_c.specs.Addresses.{address_in, cidr_in, end_in, listen_end_in, network_of, address_for_c, written_end};
+ghost use Rattle.iface_c.specs.Addresses.{address_in, cidr_in, end_in, listen_end_in};
+ghost use Rattle.iface_c.specs.Addresses.{network_of, address_for_c, written_end};
 
 use ip_wire::{IpAddress, IpCidr, Ipv4Address, Ipv4Cidr, Ipv6Address, Ipv6Cidr};
 use sockets::{IpEndpoint, IpListenEndpoint};

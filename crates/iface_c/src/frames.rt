@@ -21,7 +21,8 @@ pub extern "C" fn iface_receive(
     out: &mut [u8],
     length: &mut usize,
 ) -> u32
-    ensures done { Did result (λ old new. Receives now frame.now length.new out.old out.new old new) handle.old handle.new }
+    ensures done { Did result
+        (λ old new. Receives now frame.now length.new out.old out.new old new) handle.old handle.new }
     ensures kept { result ≢ 0 → (out.new ≡ out.old) × (length.new ≡ length.old) }
 {
     let Some(mut host) = handle.take(alloc) else {

@@ -5,7 +5,8 @@ ghost use Rattle.iface_c.specs.Calls.{Did, Made, Ruled};
 ghost use Rattle.iface_c.specs.Config.{settings_in, usual};
 ghost use Rattle.iface_c.specs.Handle.{host_in};
 ghost use Rattle.iface_c.specs.Hosts.{ShowsAddress};
-ghost use Rattle.iface_host.specs.Calls.{AddsAddress, AddsRoute, JoinsGroup, LeavesGroup, RemovesAddress, RemovesRoute, SetsDefault};
+ghost use Rattle.iface_host.specs.Calls.{AddsAddress, AddsRoute, JoinsGroup, LeavesGroup};
+ghost use Rattle.iface_host.specs.Calls.{RemovesAddress, RemovesRoute, SetsDefault};
 ghost use Rattle.iface_host.specs.Stands.{Follows};
 
 use crate::addresses::IfaceAddress;
@@ -123,7 +124,8 @@ pub extern "C" fn iface_add_address(
     address: &IfaceAddress,
     prefix_len: u8,
 ) -> u32
-    ensures { Ruled result (λ old new. IsSomeAnd (cidr_in address.now prefix_len) (λ cidr. Follows (AddsAddress cidr) old new)) handle.old handle.new }
+    ensures { Ruled result (λ old new.
+        IsSomeAnd (cidr_in address.now prefix_len) (λ cidr. Follows (AddsAddress cidr) old new)) handle.old handle.new }
 {
     let Some(cidr) = address.cidr(prefix_len) else {
         return BAD_ARGUMENT;
@@ -147,7 +149,8 @@ pub extern "C" fn iface_remove_address(
     address: &IfaceAddress,
     prefix_len: u8,
 ) -> u32
-    ensures { Ruled result (λ old new. IsSomeAnd (cidr_in address.now prefix_len) (λ cidr. Follows (RemovesAddress cidr) old new)) handle.old handle.new }
+    ensures { Ruled result (λ old new. IsSomeAnd (cidr_in address.now prefix_len)
+        (λ cidr. Follows (RemovesAddress cidr) old new)) handle.old handle.new }
 {
     let Some(cidr) = address.cidr(prefix_len) else {
         return BAD_ARGUMENT;
@@ -170,7 +173,8 @@ pub extern "C" fn iface_set_default_route(
     alloc: Global,
     gateway: &IfaceAddress,
 ) -> u32
-    ensures { Ruled result (λ old new. IsSomeAnd (address_in gateway.now) (λ via. Follows (SetsDefault via) old new)) handle.old handle.new }
+    ensures { Ruled result (λ old new. IsSomeAnd (address_in gateway.now) (λ via. Follows (SetsDefault via) old new))
+        handle.old handle.new }
 {
     let Some(gateway) = gateway.ip() else {
         return BAD_ARGUMENT;
@@ -195,7 +199,8 @@ pub extern "C" fn iface_add_route(
     prefix_len: u8,
     router: &IfaceAddress,
 ) -> u32
-    ensures { Ruled result (λ old new. IsSomeAnd (cidr_in network.now prefix_len) (λ cidr. IsSomeAnd (address_in router.now) (λ via. Follows (AddsRoute cidr via) old new))) handle.old handle.new }
+    ensures { Ruled result (λ old new. IsSomeAnd (cidr_in network.now prefix_len) (λ cidr.
+        IsSomeAnd (address_in router.now) (λ via. Follows (AddsRoute cidr via) old new))) handle.old handle.new }
 {
     let Some(cidr) = network.cidr(prefix_len) else {
         return BAD_ARGUMENT;
@@ -222,7 +227,8 @@ pub extern "C" fn iface_remove_route(
     network: &IfaceAddress,
     prefix_len: u8,
 ) -> u32
-    ensures { Ruled result (λ old new. IsSomeAnd (cidr_in network.now prefix_len) (λ cidr. Follows (RemovesRoute cidr) old new)) handle.old handle.new }
+    ensures { Ruled result (λ old new. IsSomeAnd (cidr_in network.now prefix_len)
+        (λ cidr. Follows (RemovesRoute cidr) old new)) handle.old handle.new }
 {
     let Some(cidr) = network.cidr(prefix_len) else {
         return BAD_ARGUMENT;
@@ -241,7 +247,8 @@ pub extern "C" fn iface_remove_route(
 /// Joins a group.
 #[unsafe(no_mangle)]
 pub extern "C" fn iface_join_group(handle: &mut Iface, alloc: Global, group: &IfaceAddress) -> u32
-    ensures { Ruled result (λ old new. IsSomeAnd (address_in group.now) (λ joined. Follows (JoinsGroup joined) old new)) handle.old handle.new }
+    ensures { Ruled result (λ old new. IsSomeAnd (address_in group.now) (λ joined. Follows (JoinsGroup joined) old new))
+        handle.old handle.new }
 {
     let Some(group) = group.ip() else {
         return BAD_ARGUMENT;
@@ -260,7 +267,8 @@ pub extern "C" fn iface_join_group(handle: &mut Iface, alloc: Global, group: &If
 /// Leaves a group.
 #[unsafe(no_mangle)]
 pub extern "C" fn iface_leave_group(handle: &mut Iface, alloc: Global, group: &IfaceAddress) -> u32
-    ensures { Ruled result (λ old new. IsSomeAnd (address_in group.now) (λ left. Follows (LeavesGroup left) old new)) handle.old handle.new }
+    ensures { Ruled result (λ old new. IsSomeAnd (address_in group.now) (λ left. Follows (LeavesGroup left) old new))
+        handle.old handle.new }
 {
     let Some(group) = group.ip() else {
         return BAD_ARGUMENT;
@@ -285,7 +293,8 @@ pub extern "C" fn iface_address_at(
     address: &mut IfaceAddress,
     prefix_len: &mut u8,
 ) -> u32
-    ensures shown { Did result (λ old new. ShowsAddress place address.new prefix_len.new old new) handle.old handle.new }
+    ensures shown { Did result
+        (λ old new. ShowsAddress place address.new prefix_len.new old new) handle.old handle.new }
     ensures kept { result ≢ 0 → (address.new ≡ address.old) × (prefix_len.new ≡ prefix_len.old) }
 {
     let Some(host) = handle.take(alloc) else {

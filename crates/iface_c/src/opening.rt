@@ -35,7 +35,8 @@ pub extern "C" fn iface_udp_open(
     octets: u32,
     socket: &mut u32,
 ) -> u32
-    ensures done { Did result (λ old new. IsSomeAnd (listen_end_in local.now) (λ end. Opens (udp end (record { packets = packets; octets = octets })) socket.new old new)) handle.old handle.new }
+    ensures done { Did result (λ old new. IsSomeAnd (listen_end_in local.now) (λ end.
+        Opens (udp end (record { packets = packets; octets = octets })) socket.new old new)) handle.old handle.new }
     ensures kept { result ≢ 0 → socket.new ≡ socket.old }
 {
     let Some(local) = local.listen_end() else {
@@ -70,7 +71,9 @@ pub extern "C" fn iface_raw_open(
     octets: u32,
     socket: &mut u32,
 ) -> u32
-    ensures done { Did result (λ old new. IsSomeAnd (version_in version) (λ v. Opens (raw v (protocol_of protocol) (record { packets = packets; octets = octets })) socket.new old new)) handle.old handle.new }
+    ensures done { Did result (λ old new. IsSomeAnd (version_in version)
+        (λ v. Opens (raw v (protocol_of protocol) (record { packets = packets; octets = octets })) socket.new old new))
+        handle.old handle.new }
     ensures kept { result ≢ 0 → socket.new ≡ socket.old }
 {
     let Some(version) = version_of(version) else {
@@ -105,7 +108,9 @@ pub extern "C" fn iface_icmp_open_ident(
     octets: u32,
     socket: &mut u32,
 ) -> u32
-    ensures done { Did result (λ old new. Opens (icmp (endpoint.Ident ident) (record { packets = packets; octets = octets })) socket.new old new) handle.old handle.new }
+    ensures done { Did result (λ old new.
+        Opens (icmp (endpoint.Ident ident) (record { packets = packets; octets = octets })) socket.new old new)
+        handle.old handle.new }
     ensures kept { result ≢ 0 → socket.new ≡ socket.old }
 {
     let room = Room {
@@ -136,7 +141,9 @@ pub extern "C" fn iface_icmp_open_port(
     octets: u32,
     socket: &mut u32,
 ) -> u32
-    ensures done { Did result (λ old new. Opens (icmp (endpoint.Udp port) (record { packets = packets; octets = octets })) socket.new old new) handle.old handle.new }
+    ensures done { Did result
+        (λ old new. Opens (icmp (endpoint.Udp port) (record { packets = packets; octets = octets })) socket.new old new)
+        handle.old handle.new }
     ensures kept { result ≢ 0 → socket.new ≡ socket.old }
 {
     let room = Room {

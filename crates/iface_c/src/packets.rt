@@ -19,7 +19,8 @@ pub extern "C" fn iface_udp_send(
     remote: &IfaceEndpoint,
     payload: &[u8],
 ) -> u32
-    ensures { Did result (λ old new. IsSomeAnd (end_in remote.now) (λ end. SendsUdp socket end payload.now old new)) handle.old handle.new }
+    ensures { Did result (λ old new. IsSomeAnd (end_in remote.now) (λ end. SendsUdp socket end payload.now old new))
+        handle.old handle.new }
 {
     let Some(remote) = remote.end() else {
         return BAD_ARGUMENT;
@@ -44,7 +45,8 @@ pub extern "C" fn iface_icmp_send(
     remote: &IfaceAddress,
     message: &[u8],
 ) -> u32
-    ensures { Did result (λ old new. IsSomeAnd (address_in remote.now) (λ address. SendsIcmp socket address message.now old new)) handle.old handle.new }
+    ensures { Did result (λ old new. IsSomeAnd (address_in remote.now)
+        (λ address. SendsIcmp socket address message.now old new)) handle.old handle.new }
 {
     let Some(remote) = remote.ip() else {
         return BAD_ARGUMENT;
@@ -91,7 +93,8 @@ pub extern "C" fn iface_udp_receive(
     out: &mut [u8],
     length: &mut usize,
 ) -> u32
-    ensures done { Did result (λ old new. ReceivesUdp socket remote.new length.new out.new old new) handle.old handle.new }
+    ensures done { Did result
+        (λ old new. ReceivesUdp socket remote.new length.new out.new old new) handle.old handle.new }
     ensures kept { result ≢ 0 → (remote.new ≡ remote.old) × (out.new ≡ out.old) × (length.new ≡ length.old) }
 {
     let Some(mut host) = handle.take(alloc) else {
@@ -119,7 +122,8 @@ pub extern "C" fn iface_icmp_receive(
     out: &mut [u8],
     length: &mut usize,
 ) -> u32
-    ensures done { Did result (λ old new. ReceivesIcmp socket remote.new length.new out.new old new) handle.old handle.new }
+    ensures done { Did result
+        (λ old new. ReceivesIcmp socket remote.new length.new out.new old new) handle.old handle.new }
     ensures kept { result ≢ 0 → (remote.new ≡ remote.old) × (out.new ≡ out.old) × (length.new ≡ length.old) }
 {
     let Some(mut host) = handle.take(alloc) else {

@@ -14,11 +14,13 @@ use Rattle.iface_send.proofs.Processing.{dropped}
 -- a packet is learnt from, and answered if it asks
 pub arp_learnt : (own : EthernetAddress) (H K : Host) (payload : List ℕ) (r : ArpRepr) (neighbors : Neighbors) (reply : Option Reply) →
     IsArp payload × (r ≡ arp_in payload) → is_for_us H r ≡ true →
-    Fills H.neighbors neighbors (Ipv4 r.source_protocol_addr) (record { hardware_addr = hardware.Ethernet r.source_hardware_addr; expires_at = expiry_from H.moment }) →
+    Fills H.neighbors neighbors (Ipv4 r.source_protocol_addr)
+    (record { hardware_addr = hardware.Ethernet r.source_hardware_addr; expires_at = expiry_from H.moment }) →
     K ≡ with_neighbors H neighbors → reply ≡ answer_by r.operation own r → ProcessesArp own H payload reply [] K
 arp_learnt own H K payload r neighbors reply is hears fills same answers =
     Learnt is.0 (rw is.1 at hears) (record { neighbors = neighbors; filled = rw is.1 at fills; same = same }) (rw is.1 at answers) refl
 
 -- a packet that isn't listened to
-pub arp_not_accepted : (own : EthernetAddress) (H : Host) (payload : List ℕ) (r : ArpRepr) → IsArp payload × (r ≡ arp_in payload) → is_for_us H r ≡ false → ProcessesArp own H payload None [] H
+pub arp_not_accepted : (own : EthernetAddress) (H : Host) (payload : List ℕ) (r : ArpRepr) →
+    IsArp payload × (r ≡ arp_in payload) → is_for_us H r ≡ false → ProcessesArp own H payload None [] H
 arp_not_accepted own H payload r is deaf = NotForUs is.0 (rw is.1 at deaf) (dropped H)

@@ -10,16 +10,20 @@ use Rattle.icmpv6_wire.specs.declared.ndisc.NdiscRepr.TheVariants.{NeighborSolic
 use Rattle.host_machine.specs.State.Note.{Note}
 use Rattle.host_machine.specs.State.Host.{Host}
 use Rattle.host_machine.specs.Receiving.Reply.{Reply, Ip}
-use Rattle.host_machine.specs.Receiving.Ndisc.{ProcessesNdisc, ProcessesNdiscMessage, FromNeighbor, Learns, Solicited, advertisement_of, is_target, has_no_unicast, usable_lladdr}
+use Rattle.host_machine.specs.Receiving.Ndisc.{ProcessesNdisc, ProcessesNdiscMessage, FromNeighbor, Learns}
+use Rattle.host_machine.specs.Receiving.Ndisc.{Solicited, advertisement_of, is_target, has_no_unicast, usable_lladdr}
 
 -- it counts on a link with hardware addresses, if no router passed it on
 pub from_neighbor : (own : EthernetAddress) (r : Ipv6Repr) (message m : NdiscRepr) (H K : Host) (reply : Option Reply) (notes : List Note) →
-    H.hardware_addr ≡ hardware.Ethernet own → (r.hop_limit == 255) ≡ true → message ≡ m → ProcessesNdiscMessage own r H reply notes K m → ProcessesNdisc r message H reply notes K
+    H.hardware_addr ≡ hardware.Ethernet own → (r.hop_limit == 255) ≡ true → message ≡ m →
+    ProcessesNdiscMessage own r H reply notes K m → ProcessesNdisc r message H reply notes K
 from_neighbor own r message m H K reply notes addressed near is hears = FromNeighbor own near addressed (rw is hears)
 
 -- a solicitation teaches where its sender is, and is answered if it asks for the host
-pub solicited_by : (own : EthernetAddress) (r : Ipv6Repr) (H K : Host) (target : Ipv6Address) (lladdr address : Option EthernetAddress) (asked : Bool) (reply : Option Reply) →
+pub solicited_by : (own : EthernetAddress) (r : Ipv6Repr) (H K : Host) (target : Ipv6Address)
+    (lladdr address : Option EthernetAddress) (asked : Bool) (reply : Option Reply) →
     has_no_unicast lladdr target ≡ false → address ≡ usable_lladdr lladdr target → Learns address r.src_addr H K → asked ≡ is_target H r target →
-    reply ≡ (if asked then Some (Ip (advertisement_of own r target)) else None) → ProcessesNdiscMessage own r H reply [] K (NeighborSolicit target lladdr)
+    reply ≡ (if asked then Some (Ip (advertisement_of own r target)) else None) →
+    ProcessesNdiscMessage own r H reply [] K (NeighborSolicit target lladdr)
 solicited_by own r H K target lladdr address asked reply specified tells learns asks answers =
     Solicited target lladdr specified (rw tells at learns) (rw asks at answers) refl

@@ -25,7 +25,8 @@ pub fn process_arp(
 )
     requires empty { out.old ≡ [] }
     requires own { (host_of context.old no_sockets).hardware_addr ≡ HardwareAddress.Ethernet own }
-    ensures { (sockets : SocketSet) → RefinesReplying out.new (λ H. ProcessesArp own H payload.now) (host_of context.old sockets) (host_of context.new sockets) }
+    ensures { (sockets : SocketSet) → RefinesReplying out.new (λ H. ProcessesArp own H payload.now)
+        (host_of context.old sockets) (host_of context.new sockets) }
 {
     let Some(packet) = ArpRepr::parse(payload) else {
         return;
@@ -56,7 +57,8 @@ fn is_for_us(context: &Context, packet: &ArpRepr) -> bool
 /// Builds the reply to a request; a reply is not answered.
 fn answer(context: &Context, own: EthernetAddress, packet: &ArpRepr, out: &mut FrameBuffer)
     requires { out.old ≡ [] }
-    ensures { RefinesBuilding out.new (Responds (answer_by packet.now.operation own packet.now)) context.now context.now }
+    ensures { RefinesBuilding out.new
+        (Responds (answer_by packet.now.operation own packet.now)) context.now context.now }
 {
     match packet.operation {
         ArpOperation::Request => emit_arp(&reply_to(own, packet), out),

@@ -35,7 +35,8 @@ pub fn process_ndisc(
 )
     requires empty { out.old ≡ [] }
     requires from_one { ipv6.is_unicast header.now.src_addr ≡ true }
-    ensures { (sockets : SocketSet) → RefinesReplying out.new (λ H. spec.ProcessesNdisc header.now message.now H) (host_of context.old sockets) (host_of context.new sockets) }
+    ensures { (sockets : SocketSet) → RefinesReplying out.new (λ H. spec.ProcessesNdisc header.now message.now H)
+        (host_of context.old sockets) (host_of context.new sockets) }
 {
     let HardwareAddress::Ethernet(own) = context.hardware_addr() else {
         return;
@@ -67,7 +68,9 @@ fn process_advertisement(
 )
     requires from_one { ipv6.is_unicast header.now.src_addr ≡ true }
     requires on_ethernet { medium_of (host_of context.old no_sockets).hardware_addr ≡ medium.Ethernet }
-    ensures { (slots : Slots) (sockets : SocketSet) → spec.Learns (spec.advertised_lladdr (host_in context.old slots sockets) header.now flags.now target_addr.now lladdr.now) header.now.src_addr (host_in context.old slots sockets) (host_in context.new slots sockets) }
+    ensures { (slots : Slots) (sockets : SocketSet) → spec.Learns
+        (spec.advertised_lladdr (host_in context.old slots sockets) header.now flags.now target_addr.now lladdr.now)
+        header.now.src_addr (host_in context.old slots sockets) (host_in context.new slots sockets) }
 {
     let address = advertised_lladdr(context, header, flags, target_addr, lladdr);
     learn(context, header.src_addr, address);
@@ -82,7 +85,8 @@ fn advertised_lladdr(
     lladdr: &Option<EthernetAddress>,
 ) -> Option<EthernetAddress>
     requires from_one { ipv6.is_unicast header.now.src_addr ≡ true }
-    ensures told { result ≡ spec.advertised_lladdr (host_of context.now no_sockets) header.now flags.now target_addr.now lladdr.now }
+    ensures told { result
+        ≡ spec.advertised_lladdr (host_of context.now no_sockets) header.now flags.now target_addr.now lladdr.now }
     ensures unicast { IfSome result (λ a. ethernet.is_unicast a ≡ true) }
 {
     let overrides = flags.contains(NdiscNeighborFlags::OVERRIDE);
@@ -106,7 +110,9 @@ fn process_solicitation(
     requires empty { out.old ≡ [] }
     requires from_one { ipv6.is_unicast header.now.src_addr ≡ true }
     requires on_ethernet { medium_of (host_of context.old no_sockets).hardware_addr ≡ medium.Ethernet }
-    ensures { (sockets : SocketSet) → RefinesReplying out.new (λ H reply notes new. spec.ProcessesNdiscMessage own header.now H reply notes new (NeighborSolicit target_addr.now lladdr.now)) (host_of context.old sockets) (host_of context.new sockets) }
+    ensures { (sockets : SocketSet) →
+        RefinesReplying out.new (λ H reply notes new. spec.ProcessesNdiscMessage own header.now H reply notes new
+        (NeighborSolicit target_addr.now lladdr.now)) (host_of context.old sockets) (host_of context.new sockets) }
 {
     if has_no_unicast(lladdr, target_addr) {
         return;
@@ -124,7 +130,8 @@ fn learn(context: &mut Context, neighbor: Ipv6Address, address: Option<EthernetA
     requires one { ipv6.is_unicast neighbor ≡ true }
     requires on_ethernet { medium_of (host_of context.old no_sockets).hardware_addr ≡ medium.Ethernet }
     requires unicast { IfSome address (λ a. ethernet.is_unicast a ≡ true) }
-    ensures { (slots : Slots) (sockets : SocketSet) → spec.Learns address neighbor (host_in context.old slots sockets) (host_in context.new slots sockets) }
+    ensures { (slots : Slots) (sockets : SocketSet) →
+        spec.Learns address neighbor (host_in context.old slots sockets) (host_in context.new slots sockets) }
 {
     let Some(address) = address else {
         return;
@@ -177,7 +184,8 @@ fn advertisement_of(
     header: &Ipv6Repr,
     target: &Ipv6Address,
 ) -> PacketV6<NeighborAdvert>
-    ensures { value.Ipv6 (value_of.packet_v6 value_of.neighbor_advert result) ≡ spec.advertisement_of own header.now target.now }
+    ensures { value.Ipv6 (value_of.packet_v6 value_of.neighbor_advert result)
+        ≡ spec.advertisement_of own header.now target.now }
 {
     PacketV6 {
         src_addr: *target,

@@ -13,7 +13,8 @@ use ip_wire::{HardwareAddress, IpRepr};
 /// is unicast.
 #[inline(always)]
 pub fn renew_sender(context: &mut Context, source: HardwareAddress, header: &IpRepr)
-    ensures { (slots : Slots) (sockets : SocketSet) → host_in context.new slots sockets ≡ sender_renewed source header.now (host_in context.old slots sockets) }
+    ensures { (slots : Slots) (sockets : SocketSet) →
+        host_in context.new slots sockets ≡ sender_renewed source header.now (host_in context.old slots sockets) }
 {
     if context.is_unicast(&header.dst_addr()) {
         renew_neighbor(context, header.src_addr(), source);

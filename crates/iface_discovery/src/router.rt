@@ -19,7 +19,8 @@ use net_base::time::Duration;
 /// to all-nodes or to a link-local address (RFC 4861 6.1.2). Solicitations are for routers and are ignored.
 pub fn process_router(context: &mut Context, header: &Ipv6Repr, message: &RouterRepr)
     ensures { (slots : Slots) (sockets : SocketSet) → host_in context.new slots sockets
-        ≡ spec.with_slaac (host_in context.old slots sockets) (spec.after_advertisement message.now (host_in context.old slots sockets) header.now) }
+        ≡ spec.with_slaac (host_in context.old slots sockets)
+        (spec.after_advertisement message.now (host_in context.old slots sockets) header.now) }
 {
     match message {
         RouterRepr::RouterSolicit { .. } => {}

@@ -29,10 +29,13 @@ none_waits (f ∷ fs) e = absurd (omega arith)
 pub stood : (s : Settings) (i : Interface) (o : Waiting) → o ≡ empty (capabilities_of s) →
     ((sockets : SocketSet) → interface.StandsFor i sockets (first_host o.capabilities s.hardware_addr s.random_seed s.slaac (pos 0) sockets)) →
     (sockets : SocketSet) → interface.StandsFor i sockets (first_host (capabilities_of s) s.hardware_addr s.random_seed s.slaac (pos 0) sockets)
-stood s i o is stands sockets = subst (λ (w : Waiting). interface.StandsFor i sockets (first_host w.capabilities s.hardware_addr s.random_seed s.slaac (pos 0) sockets)) is (stands sockets)
+stood s i o is stands sockets =
+    subst (λ (w : Waiting). interface.StandsFor i sockets (first_host w.capabilities s.hardware_addr s.random_seed s.slaac (pos 0) sockets))
+    is (stands sockets)
 
 -- fragments wait as long as they are to, from each host that an interface stood for
-pub timed : (i i' : Interface) (timeout : ℕ) (sockets : SocketSet) (H : Machine) → interface.StandsFor i sockets H → interface.Refinement (SetsReassemblyTimeout timeout (Ok tt)) H (interface.StandsFor i' sockets) →
+pub timed : (i i' : Interface) (timeout : ℕ) (sockets : SocketSet) (H : Machine) →
+    interface.StandsFor i sockets H → interface.Refinement (SetsReassemblyTimeout timeout (Ok tt)) H (interface.StandsFor i' sockets) →
     interface.StandsFor i' sockets (record H { reassembly_timeout = timeout })
 timed i i' timeout sockets H stands led = by led.follows where
   by : SetsReassemblyTimeout timeout (Ok tt) H led.host → interface.StandsFor i' sockets (record H { reassembly_timeout = timeout })
@@ -40,29 +43,35 @@ timed i i' timeout sockets H stands led = by led.follows where
   by (OverDay over answers is) = absurd cc
 
 -- a frame was taken at the moment that was tested
-pub received : (t t' : ℤ) → t' ≡ t → (frame : List ℕ) (n : ℕ) (before after : List ℕ) (old : Host) (i : Interface) (s : Sockets (Bor (Unit {0}))) (shown result : Option (List ℕ)) → result ≡ shown →
+pub received : (t t' : ℤ) → t' ≡ t → (frame : List ℕ) (n : ℕ) (before after : List ℕ) (old : Host) (i : Interface) (s : Sockets (Bor (Unit {0})))
+    (shown result : Option (List ℕ)) → result ≡ shown →
     IsWritten shown n before after → HostRefinesReceiving t' frame result (interface.StandsFor old.interface old.sockets) (interface.StandsFor i s) →
     Receives t frame n before after old (record old { interface = i; sockets = s })
 received t t' same frame n before after old i s shown result is w r = record {
   shown = shown;
   written = w;
   received =
-      let at_t = subst (λ (m : ℤ). HostRefinesReceiving m frame result (interface.StandsFor old.interface old.sockets) (interface.StandsFor i s)) same r in
-      subst (λ (x : Option (List ℕ)). HostRefinesReceiving t frame x (interface.StandsFor old.interface old.sockets) (interface.StandsFor i s)) is at_t;
+      let at_t =
+      subst (λ (m : ℤ). HostRefinesReceiving m frame result (interface.StandsFor old.interface old.sockets) (interface.StandsFor i s)) same r in
+      subst
+      (λ (x : Option (List ℕ)). HostRefinesReceiving t frame x (interface.StandsFor old.interface old.sockets) (interface.StandsFor i s)) is at_t;
   rest = refl;
 }
 
 -- a poll with the room that was reserved
-pub rounded : (t : ℤ) (old : Host) (room : Waiting) → room ≡ with_room true old.outbox → (left : Bool) → left ≡ is_piece_left old → (before after : Planned (Bor (Unit {0}))) → before ≡ before_round t old.ip_mtu left (planned old) →
+pub rounded : (t : ℤ) (old : Host) (room : Waiting) → room ≡ with_room true old.outbox → (left : Bool) →
+    left ≡ is_piece_left old → (before after : Planned (Bor (Unit {0}))) → before ≡ before_round t old.ip_mtu left (planned old) →
     (answer : PollResult) (i : Interface) (polled : Sockets (Bor (Unit {0}))) (o : Waiting) →
-    HostRefinesTelling Tells room o (Polls t 1 answer) (interface.StandsFor old.interface before.sockets) (interface.StandsFor i polled) → after ≡ after_round t (record { plan = before.plan; sockets = polled }) →
+    HostRefinesTelling Tells room o (Polls t 1 answer) (interface.StandsFor old.interface before.sockets) (interface.StandsFor i polled) →
+    after ≡ after_round t (record { plan = before.plan; sockets = polled }) →
     Round t old (record old { interface = i; sockets = after.sockets; outbox = o; schedule = after.plan })
 rounded t old room is left left_is before after prepared answer i polled o went ended = record {
   before = before;
   polled = polled;
   answer = answer;
   prepared = prepared ∙ ap (λ (b : Bool). before_round t old.ip_mtu b (planned old)) left_is;
-  went = subst (λ (w : Waiting). HostRefinesTelling Tells w o (Polls t 1 answer) (interface.StandsFor old.interface before.sockets) (interface.StandsFor i polled)) is went;
+  went = subst (λ (w : Waiting).
+      HostRefinesTelling Tells w o (Polls t 1 answer) (interface.StandsFor old.interface before.sockets) (interface.StandsFor i polled)) is went;
   ended = ended;
   rest = refl;
 }
@@ -70,7 +79,8 @@ rounded t old room is left left_is before after prepared answer i polled o went 
 -- when something is due, where no frame waits
 pub due : (t t' : ℤ) → t' ≡ t → (old : Host) (i : Interface) (end : Option ℤ) → old.outbox.frames ≡ [] →
     ((H : Machine) → interface.StandsFor old.interface old.sockets H → IsLeast (Due (at H t')) end) →
-    ((H : Machine) → interface.StandsFor old.interface old.sockets H → interface.StandsFor i old.sockets (at H t')) → IsDue t end old (record old { interface = i })
+    ((H : Machine) → interface.StandsFor old.interface old.sockets H → interface.StandsFor i old.sockets (at H t')) →
+    IsDue t end old (record old { interface = i })
 due t t' same old i end empty least moved = record {
   led = λ H h. subst (λ (m : ℤ). interface.StandsFor i old.sockets (at H m)) same (moved H h);
   least = λ e H h. subst (λ (m : ℤ). IsLeast (Due (at H m)) end) same (least H h);
@@ -80,7 +90,8 @@ due t t' same old i end empty least moved = record {
 
 -- and where one does
 pub due_at_once : (t t' : ℤ) → t' ≡ t → (old : Host) (i : Interface) → (length old.outbox.frames ≡ 0 → ⊥) →
-    ((H : Machine) → interface.StandsFor old.interface old.sockets H → interface.StandsFor i old.sockets (at H t')) → IsDue t (Some (pos 0)) old (record old { interface = i })
+    ((H : Machine) → interface.StandsFor old.interface old.sockets H → interface.StandsFor i old.sockets (at H t')) →
+    IsDue t (Some (pos 0)) old (record old { interface = i })
 due_at_once t t' same old i waits moved = record {
   led = λ H h. subst (λ (m : ℤ). interface.StandsFor i old.sockets (at H m)) same (moved H h);
   least = λ e. absurd (waits (ap length e));
@@ -89,6 +100,7 @@ due_at_once t t' same old i waits moved = record {
 }
 
 -- a round, and the first of its frames
-pub made : (t t' : ℤ) → t' ≡ t → (n : ℕ) (before after : List ℕ) (old mid : Host) (o : Waiting) → old.outbox.frames ≡ [] → Round t' old mid → HandsFirst mid.outbox n before after o →
+pub made : (t t' : ℤ) → t' ≡ t → (n : ℕ) (before after : List ℕ) (old mid : Host) (o : Waiting) →
+    old.outbox.frames ≡ [] → Round t' old mid → HandsFirst mid.outbox n before after o →
     NextIs t n before after old (record mid { outbox = o })
 made t t' same n before after old mid o empty went hands = Made mid empty (subst (λ (m : ℤ). Round m old mid) same went) hands refl

@@ -1,5 +1,6 @@
 -- Places of a host's sockets: one that gets what it has stays as it was, and one with a socket is there.
-use Rattle.std.specs.Prelude.{ℕ, ◌≡◌, ◌<◌, zero, suc, true, false, cond, is_some, List, [], ◌∷◌, ◌++◌, length, slice_get, slice_set, Option, Some, IsSome, refl}
+use Rattle.std.specs.Prelude.{ℕ, ◌≡◌, ◌<◌, zero, suc, true, false, cond, is_some, List, [], ◌∷◌}
+use Rattle.std.specs.Prelude.{◌++◌, length, slice_get, slice_set, Option, Some, IsSome, refl}
 use Rattle.std.specs.Option.{option_and_then}
 use Rattle.std.proofs.Common.{sym, ap, ◌∙◌, arith}
 use mathlib.Core.Bool.{true≢false}
@@ -14,7 +15,8 @@ use Rattle.socket_set.specs.SocketSet.{Sockets, socket_at}
 use Rattle.iface_host.specs.Sockets.{Socket, with_socket}
 use Rattle.iface_host.specs.declared.host.Host.{Host}
 
-set_same : {A : Type 0} (xs : List (Option A)) (i : ℕ) (x : A) → option_and_then (λ (p : Option A). p) (slice_get xs i) ≡ Some x → slice_set xs i (Some x) ≡ xs
+set_same : {A : Type 0} (xs : List (Option A)) (i : ℕ) (x : A) →
+    option_and_then (λ (p : Option A). p) (slice_get xs i) ≡ Some x → slice_set xs i (Some x) ≡ xs
 set_same [] i x e = refl
 set_same (p ∷ ps) zero x e = ap (λ q. q ∷ ps) (sym e)
 set_same (p ∷ ps) (suc i) x e = ap (λ qs. p ∷ qs) (set_same ps i x e)
@@ -26,7 +28,8 @@ host_same h i x e = ap (λ places. record h { sockets = record h.sockets { place
 put_full : {M : Type 0} (q : Queued M) (m : M) (octets : List ℕ) → false ≡ is_room q (length octets) → put q m octets ≡ q
 put_full q m octets full = ap (λ b. record q { packets = cond b (q.packets ++ (m, octets) ∷ []) q.packets }) (sym full)
 
-pub raw_full : (h : Host) (i : ℕ) (s : raws.RawSocket) (packet : List ℕ) → socket_at h.sockets i ≡ Some (Raw s) → false ≡ is_room s.tx (length packet) →
+pub raw_full : (h : Host) (i : ℕ) (s : raws.RawSocket) (packet : List ℕ) →
+    socket_at h.sockets i ≡ Some (Raw s) → false ≡ is_room s.tx (length packet) →
     with_socket h i (Some (Raw (raws.socket_after_send packet s))) ≡ h
 raw_full h i s packet here full =
     ap (λ q. with_socket h i (Some (Raw (record s { tx = q })))) (put_full s.tx tt packet full) ∙ host_same h i (Raw s) here

@@ -21,11 +21,13 @@ abbrev with_interface : Host → Interface → Host
 with_interface host i = record host { interface = i }
 
 -- a rule of the interface's is the host's
-pub followed : (old : Host) (i : Interface) (Rule : Machine → Machine → Type 0) → interface.HostRefines old.interface i Rule → Follows Rule old (with_interface old i)
+pub followed : (old : Host) (i : Interface) (Rule : Machine → Machine → Type 0) →
+    interface.HostRefines old.interface i Rule → Follows Rule old (with_interface old i)
 followed old i Rule f = record { led = λ H h. f old.sockets H h; rest = refl }
 
 -- a rule that leaves the machine's host as it is
-pub stayed : (old : Host) (i : Interface) (Rule : Machine → Machine → Type 0) → ((H H' : Machine) → Rule H H' → H' ≡ H) → interface.HostRefines old.interface i Rule →
+pub stayed : (old : Host) (i : Interface) (Rule : Machine → Machine → Type 0) →
+    ((H H' : Machine) → Rule H H' → H' ≡ H) → interface.HostRefines old.interface i Rule →
     Stays old (with_interface old i)
 stayed old i Rule same f = record {
   led = λ H h. let l = f old.sockets H h in record { host = l.host; follows = same H l.host l.follows; stands = l.stands };
@@ -36,7 +38,8 @@ pub untouched : (old : Host) → Stays old old
 untouched old = record { led = λ H h. record { host = H; follows = refl; stands = h }; rest = refl }
 
 -- a change of every host
-pub changed : (old : Host) (i : Interface) (change : Machine → Machine) → Becomes old.interface i change → Follows (λ H H'. H' ≡ change H) old (with_interface old i)
+pub changed : (old : Host) (i : Interface) (change : Machine → Machine) →
+    Becomes old.interface i change → Follows (λ H H'. H' ≡ change H) old (with_interface old i)
 changed old i change b = record { led = λ H h. record { host = change H; follows = refl; stands = b old.sockets H h }; rest = refl }
 
 pub join_refused : (a : IpAddress) (e : MulticastError) (H H' : Machine) → machine.JoinsGroup a (Err e) H H' → H' ≡ H
@@ -53,7 +56,8 @@ addresses_refused list e H H' (Accepted a answers same) = absurd cc
 addresses_refused list e H H' (Refused a answers same) = same
 
 -- a default route that is refused changes no table
-pub default_refused : (is_kind : Route → Bool) (routes : List Route) (route : Route) (e : RouteTableFull) → Err e ≡ old_or_full is_kind routes → with_default is_kind routes route ≡ routes
+pub default_refused : (is_kind : Route → Bool) (routes : List Route) (route : Route) (e : RouteTableFull) →
+    Err e ≡ old_or_full is_kind routes → with_default is_kind routes route ≡ routes
 default_refused is_kind routes route e answers = by (is_refused is_kind routes) refl where
   by : (b : Bool) → is_refused is_kind routes ≡ b → with_default is_kind routes route ≡ routes
   by true is = rw is refl
@@ -73,19 +77,23 @@ default_stays old i is_kind route e answers b = record {
 }
 
 -- another list of addresses, which is made of the one before
-pub updated : (old : Host) (i : Interface) (f : List IpCidr → List IpCidr) (list : List IpCidr) → ((sockets : SocketSet) → list ≡ f (host_with old.interface sockets).ip_addrs) →
-    interface.HostRefines old.interface i (UpdatesIpAddrs list (Ok tt)) → Follows (λ H. UpdatesIpAddrs (f H.ip_addrs) (Ok tt) H) old (with_interface old i)
+pub updated : (old : Host) (i : Interface) (f : List IpCidr → List IpCidr) (list : List IpCidr) →
+    ((sockets : SocketSet) → list ≡ f (host_with old.interface sockets).ip_addrs) →
+    interface.HostRefines old.interface i (UpdatesIpAddrs list (Ok tt)) →
+    Follows (λ H. UpdatesIpAddrs (f H.ip_addrs) (Ok tt) H) old (with_interface old i)
 updated old i f list made u = record {
   led = λ H h. let l = u old.sockets H h in record {
     host = l.host;
-    follows = subst (λ (cidrs : List IpCidr). UpdatesIpAddrs cidrs (Ok tt) H l.host) (made old.sockets ∙ ap (λ (K : Machine). f K.ip_addrs) (sym h.same)) l.follows;
+    follows = subst (λ (cidrs : List IpCidr). UpdatesIpAddrs cidrs (Ok tt) H l.host)
+        (made old.sockets ∙ ap (λ (K : Machine). f K.ip_addrs) (sym h.same)) l.follows;
     stands = l.stands;
   };
   rest = refl;
 }
 
 -- other routes, which are made of those before
-pub routed : (old : Host) (i : Interface) (f : List Route → List Route) (list : List Route) → ((sockets : SocketSet) → list ≡ f (host_with old.interface sockets).routes) →
+pub routed : (old : Host) (i : Interface) (f : List Route → List Route) (list : List Route) →
+    ((sockets : SocketSet) → list ≡ f (host_with old.interface sockets).routes) →
     Becomes old.interface i (λ H. record H { routes = list }) → Follows (λ H H'. H' ≡ record H { routes = f H.routes }) old (with_interface old i)
 routed old i f list made b = record {
   led = λ H h. record {

@@ -37,8 +37,8 @@ planned host = record { plan = host.schedule; sockets = host.sockets }
 abbrev pub is_piece_left : Host → Bool
 is_piece_left host = not (is_nil (host_with host.interface no_sockets).left)
 
--- the machine polls, by one call of each kind, with room for one frame reserved, over the sockets as they are before the round; what
--- it sends waits behind what waited
+-- the machine polls, by one call of each kind, with room for one frame reserved, over the sockets as they are before
+-- the round; what it sends waits behind what waited
 pub record Round (t : ℤ) (old new : Host) : Type 0 where
   pub before : Planned (Bor (Unit {0}))
   pub polled : Sockets (Bor (Unit {0}))
@@ -47,12 +47,15 @@ pub record Round (t : ℤ) (old new : Host) : Type 0 where
   pub went : HostRefinesTelling Tells (with_room true old.outbox) new.outbox (Polls t 1 answer)
       (interface.StandsFor old.interface before.sockets) (interface.StandsFor new.interface polled)
   pub ended : planned new ≡ after_round t (record { plan = before.plan; sockets = polled })
-  pub rest : new ≡ record old { interface = new.interface; sockets = new.sockets; outbox = new.outbox; schedule = new.schedule }
+  pub rest : new
+      ≡ record old { interface = new.interface; sockets = new.sockets; outbox = new.outbox; schedule = new.schedule }
 
 -- the first frame that waits is handed over; where none waits, a round is made before
 pub data NextIs (t : ℤ) (n : ℕ) (before after : List ℕ) (old new : Host) : Type 0 where
-  Waited : old.outbox.frames ≢ [] → HandsFirst old.outbox n before after new.outbox → new ≡ record old { outbox = new.outbox } → NextIs t n before after old new
-  Made : (mid : Host) → old.outbox.frames ≡ [] → Round t old mid → HandsFirst mid.outbox n before after new.outbox → new ≡ record mid { outbox = new.outbox } →
+  Waited : old.outbox.frames ≢ [] → HandsFirst old.outbox n before after new.outbox →
+      new ≡ record old { outbox = new.outbox } → NextIs t n before after old new
+  Made : (mid : Host) → old.outbox.frames ≡ [] → Round t old mid → HandsFirst mid.outbox n before after new.outbox →
+      new ≡ record mid { outbox = new.outbox } →
       NextIs t n before after old new
 
 -- the least instant at which something of the machine is due, at the moment that is set; 0 where a frame waits

@@ -3,7 +3,8 @@ use Rattle.std.specs.Prelude.{ℕ, ◌≡◌, Bool, true, false, List, [], ◌�
 use Rattle.net_base.specs.declared.phy.DeviceCapabilities.{DeviceCapabilities}
 use Rattle.net_base.specs.Device.{Event, count_after_refusal, refusals_after, sent_frames}
 
--- what the device can do, the frames that wait, how often leave was refused, and whether room for one more frame is reserved
+-- what the device can do, the frames that wait, how often leave was refused, and whether room for one
+-- more frame is reserved
 pub record Waiting : Type 0 where
   pub capabilities : DeviceCapabilities
   pub frames : List (List ℕ)
@@ -26,10 +27,12 @@ pub record Tells (old : Waiting) (events : List Event) (new : Waiting) : Type 0 
   pub frames : new.frames ≡ old.frames ++ sent_frames events
   pub refusals : new.refusals ≡ refusals_after old.refusals events
 
--- the first of some frames, of so many octets, was written to the front of a buffer, and the others are left; where there is none, nothing
+-- the first of some frames, of so many octets, was written to the front of a buffer, and the others are left; where
+-- there is none, nothing
 abbrev pub IsFirst : List (List ℕ) → ℕ → List ℕ → List ℕ → List (List ℕ) → Type 0
 IsFirst [] n before after rest = (n ≡ 0) × (after ≡ before) × (rest ≡ [])
-IsFirst (frame ∷ frames) n before after rest = (n ≡ length frame) × (take n after ≡ frame) × (drop n after ≡ drop n before) × (rest ≡ frames)
+IsFirst (frame ∷ frames) n before after rest = (n ≡ length frame) × (take n after ≡ frame)
+    × (drop n after ≡ drop n before) × (rest ≡ frames)
 
 -- whether room is reserved once the first of some frames was handed over, whose room is free then
 abbrev pub room_after : List (List ℕ) → Bool → Bool

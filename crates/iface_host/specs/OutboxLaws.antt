@@ -1,7 +1,8 @@
 -- What an outbox tells is told of one list of events after another.
 use Rattle.std.specs.Prelude.{ℕ, ◌≡◌, true, false, List, [], ◌∷◌, ◌++◌, refl}
 use Rattle.std.proofs.Common.{sym, ap, ◌∙◌, append_assoc, append-nil}
-use Rattle.net_base.specs.Device.{Event, Received, Asked, Sent, Frame, Nothing, Withheld, count_after_refusal, refusals_after, sent_frames}
+use Rattle.net_base.specs.Device.{Event, Received, Asked, Sent, Frame, Nothing, Withheld}
+use Rattle.net_base.specs.Device.{count_after_refusal, refusals_after, sent_frames}
 use Rattle.iface_host.specs.Outbox.{Waiting, Tells}
 
 sent_join : (xs ys : List Event) → sent_frames (xs ++ ys) ≡ sent_frames xs ++ sent_frames ys
@@ -25,7 +26,9 @@ told_nothing o = record { capabilities = refl; frames = sym (append-nil o.frames
 pub told_on : {a b c : Waiting} (xs ys : List Event) → Tells a xs b → Tells b ys c → Tells a (xs ++ ys) c
 told_on {a} {b} {c} xs ys first second = record {
   capabilities = second.capabilities ∙ first.capabilities;
-  frames = second.frames ∙ ap (λ (fs : List (List ℕ)). fs ++ sent_frames ys) first.frames ∙ append_assoc a.frames (sent_frames xs) (sent_frames ys)
+  frames = second.frames ∙ ap (λ (fs : List (List ℕ)). fs ++ sent_frames ys) first.frames
+      ∙ append_assoc a.frames (sent_frames xs) (sent_frames ys)
       ∙ ap (λ (fs : List (List ℕ)). a.frames ++ fs) (sym (sent_join xs ys));
-  refusals = second.refusals ∙ ap (λ (n : ℕ). refusals_after n ys) first.refusals ∙ sym (refusals_join a.refusals xs ys);
+  refusals = second.refusals ∙ ap (λ (n : ℕ). refusals_after n ys) first.refusals
+      ∙ sym (refusals_join a.refusals xs ys);
 }

@@ -1,5 +1,6 @@
 -- Why calls on sockets are refused: the first of the reasons that holds, in their order.
-use Rattle.std.specs.Prelude.{ℕ, ◌≡◌, ◌+◌, ◌==◌, ◌&&◌, nat_le, nat_lt, max, Bool, is_some, List, length, Option, Some, None, if◌then◌else◌}
+use Rattle.std.specs.Prelude.{ℕ, ◌≡◌, ◌+◌, ◌==◌, ◌&&◌, nat_le, nat_lt, max, Bool}
+use Rattle.std.specs.Prelude.{is_some, List, length, Option, Some, None, if◌then◌else◌}
 use Rattle.std.specs.Option.{option_and_then}
 use Rattle.ip_address.specs.Ip.{is_unspecified}
 use Rattle.ip_address.specs.Protocol.{version_of}
@@ -17,7 +18,8 @@ use Rattle.iface_host.specs.Names.{handle_named}
 use Rattle.iface_host.specs.Sockets.{Socket}
 use Rattle.iface_host.specs.declared.host.Host.{Host}
 use Rattle.iface_host.specs.declared.refusal.Refusal.{Refusal}
-use Rattle.iface_host.specs.declared.refusal.Refusal.TheVariants.{BadAddress, BadPort, Empty, NoMemory, NoRoom, NoSocket, QueueFull, TableFull, TooLong}
+use Rattle.iface_host.specs.declared.refusal.Refusal.TheVariants.{BadAddress, BadPort, Empty, NoMemory, NoRoom}
+use Rattle.iface_host.specs.declared.refusal.Refusal.TheVariants.{NoSocket, QueueFull, TableFull, TooLong}
 
 -- the socket of a kind that a number names, if it names one
 abbrev pub kind_at : {S : Type 0} → (Socket → Option S) → Host → ℕ → Option S
@@ -34,15 +36,19 @@ of_packet room None = Some Empty
 of_packet room (Some p) = if nat_lt room (length p.1) then Some NoRoom else None
 
 abbrev pub udp_unreceived : Host → ℕ → ℕ → Option Refusal
-udp_unreceived host n room = of_socket (λ (s : UdpSocket). of_packet room (first_of s.rx.packets)) (kind_at down_udp host n)
+udp_unreceived host n room =
+    of_socket (λ (s : UdpSocket). of_packet room (first_of s.rx.packets)) (kind_at down_udp host n)
 
 abbrev pub icmp_unreceived : Host → ℕ → ℕ → Option Refusal
-icmp_unreceived host n room = of_socket (λ (s : IcmpSocket). of_packet room (first_of s.rx.packets)) (kind_at down_icmp host n)
+icmp_unreceived host n room =
+    of_socket (λ (s : IcmpSocket). of_packet room (first_of s.rx.packets)) (kind_at down_icmp host n)
 
 abbrev pub raw_unreceived : Host → ℕ → ℕ → Option Refusal
-raw_unreceived host n room = of_socket (λ (s : RawSocket). of_packet room (first_of s.rx.packets)) (kind_at down_raw host n)
+raw_unreceived host n room =
+    of_socket (λ (s : RawSocket). of_packet room (first_of s.rx.packets)) (kind_at down_raw host n)
 
--- a payload of so many octets behind a header of so many isn't too long to be sent in a packet of a version: over IPv4 it may go in pieces
+-- a payload of so many octets behind a header of so many isn't too long to be sent in a packet of a version: over
+-- IPv4 it may go in pieces
 abbrev pub may_send : ℕ → IpVersion → ℕ → ℕ → Bool
 may_send mtu Ipv4 header len = nat_le len 65495 && nat_le (len + header + 20) (max mtu 4096)
 may_send mtu Ipv6 header len = nat_le len 65495 && nat_le (len + header + 40) mtu
@@ -56,19 +62,22 @@ raw_unsent host n len = of_socket (λ (s : RawSocket). if_full (is_room s.tx len
 abbrev pub icmp_unsent : Host → ℕ → IpAddress → ℕ → Option Refusal
 icmp_unsent host n remote len =
     if is_unspecified remote then Some BadAddress
-    else (if may_send host.ip_mtu (version_of remote) 0 len then of_socket (λ (s : IcmpSocket). if_full (is_room s.tx len)) (kind_at down_icmp host n) else Some TooLong)
+    else (if may_send host.ip_mtu (version_of remote) 0 len
+    then of_socket (λ (s : IcmpSocket). if_full (is_room s.tx len)) (kind_at down_icmp host n) else Some TooLong)
 
 abbrev pub udp_unsent : Host → ℕ → IpEndpoint → ℕ → Option Refusal
 udp_unsent host n remote len =
     if remote.port == 0 then Some BadPort
     else (if is_unspecified remote.addr then Some BadAddress
     else (if may_send host.ip_mtu (version_of remote.addr) 8 len
-    then of_socket (λ (s : UdpSocket). if s.endpoint.port == 0 then Some BadPort else if_full (is_room s.tx len)) (kind_at down_udp host n)
+    then of_socket (λ (s : UdpSocket). if s.endpoint.port == 0 then Some BadPort else if_full (is_room s.tx len))
+    (kind_at down_udp host n)
     else Some TooLong))
 
 -- no socket, of whatever kind, is named
 abbrev pub close_refusal : Host → ℕ → Option Refusal
-close_refusal host n = if is_some (option_and_then (socket_at host.sockets) (handle_named host.names n)) then None else Some NoSocket
+close_refusal host n =
+    if is_some (option_and_then (socket_at host.sockets) (handle_named host.names n)) then None else Some NoSocket
 
 -- a socket found no memory for its queues, or no number
 pub data IsForRoom (refusal : Refusal) : Type 0 where

@@ -1,5 +1,6 @@
 -- Sockets by their numbers: how they are opened and closed, and what they send and receive.
-use Rattle.std.specs.Prelude.{ℕ, ◌+◌, nat_lt, ◌≡◌, ◌≤◌, true, List, [], length, take, slice_set, Option, Some, None, IsSome, if◌then◌else◌}
+use Rattle.std.specs.Prelude.{ℕ, ◌+◌, nat_lt, ◌≡◌, ◌≤◌, true, List, [], length, take}
+use Rattle.std.specs.Prelude.{slice_set, Option, Some, None, IsSome, if◌then◌else◌}
 use Rattle.egress_schedule.specs.Plan.{idle, with_watch}
 use Rattle.std.specs.Borrow.{Bor}
 use Rattle.ip_address.specs.declared.ip.IpAddress.{IpAddress}
@@ -32,7 +33,8 @@ abbrev pub udp : IpListenEndpoint → Room → Socket
 udp local room = Udp (record { endpoint = local; hop_limit = 64; rx = queue_of room; tx = queue_of room })
 
 abbrev pub raw : IpVersion → IpProtocol → Room → Socket
-raw version protocol room = Raw (record { version = version; protocol = protocol; rx = queue_of room; tx = queue_of room })
+raw version protocol room =
+    Raw (record { version = version; protocol = protocol; rx = queue_of room; tx = queue_of room })
 
 abbrev pub icmp : Endpoint → Room → Socket
 icmp endpoint room = Icmp (record { endpoint = endpoint; hop_limit = 64; rx = queue_of room; tx = queue_of room })
@@ -64,7 +66,8 @@ pub record Closes (n : ℕ) (old new : Host) : Type 0 where
 
 -- a packet of so many octets may have to be cut, if it is longer than the link's packets
 abbrev pub with_packet : ℕ → Host → Host
-with_packet len host = if nat_lt host.ip_mtu len then record host { schedule = record host.schedule { may_have_long = true } } else host
+with_packet len host =
+    if nat_lt host.ip_mtu len then record host { schedule = record host.schedule { may_have_long = true } } else host
 
 -- a packet is queued, for which there is room
 pub record SendsUdp (n : ℕ) (remote : IpEndpoint) (payload : List ℕ) (old new : Host) : Type 0 where
@@ -72,21 +75,24 @@ pub record SendsUdp (n : ℕ) (remote : IpEndpoint) (payload : List ℕ) (old ne
   pub socket : udps.UdpSocket
   pub names : Names n old handle (Udp socket)
   pub room : is_room socket.tx (length payload) ≡ true
-  pub after : new ≡ with_packet (28 + length payload) (with_socket old handle (Some (Udp (udps.socket_after_send remote payload socket))))
+  pub after : new ≡ with_packet (28 + length payload)
+      (with_socket old handle (Some (Udp (udps.socket_after_send remote payload socket))))
 
 pub record SendsIcmp (n : ℕ) (remote : IpAddress) (message : List ℕ) (old new : Host) : Type 0 where
   pub handle : ℕ
   pub socket : icmps.IcmpSocket
   pub names : Names n old handle (Icmp socket)
   pub room : is_room socket.tx (length message) ≡ true
-  pub after : new ≡ with_packet (20 + length message) (with_socket old handle (Some (Icmp (icmps.socket_after_send remote message socket))))
+  pub after : new ≡ with_packet (20 + length message)
+      (with_socket old handle (Some (Icmp (icmps.socket_after_send remote message socket))))
 
 pub record SendsRaw (n : ℕ) (packet : List ℕ) (old new : Host) : Type 0 where
   pub handle : ℕ
   pub socket : raws.RawSocket
   pub names : Names n old handle (Raw socket)
   pub room : is_room socket.tx (length packet) ≡ true
-  pub after : new ≡ with_packet (length packet) (with_socket old handle (Some (Raw (raws.socket_after_send packet socket))))
+  pub after : new
+      ≡ with_packet (length packet) (with_socket old handle (Some (Raw (raws.socket_after_send packet socket))))
 
 -- the first packet that came is read: it stands in the front of a buffer, which it fits
 pub record ReceivesUdp (n : ℕ) (remote : IpEndpoint) (len : ℕ) (out : List ℕ) (old new : Host) : Type 0 where

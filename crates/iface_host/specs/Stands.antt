@@ -32,12 +32,13 @@ capabilities_of s = record {
 abbrev pub free_storage : Storage (Bor (Unit {0}))
 free_storage = record { socket = None; wait = None }
 
--- it was just made: it stands for the machine's first host at moment 0, whose fragments wait as long as they are to; its places are
--- free, its numbers name none, no frame waits, and no socket does
+-- it was just made: it stands for the machine's first host at moment 0, whose fragments wait as long as they are to;
+-- its places are free, its numbers name none, no frame waits, and no socket does
 pub record IsFirst (s : Settings) (host : Host) : Type 0 where
-  pub stands : StandsFor host (record (first_host (capabilities_of s) s.hardware_addr s.random_seed s.slaac (pos 0) host.sockets) {
-    reassembly_timeout = s.reassembly_timeout;
-  })
+  pub stands : StandsFor host
+      (record (first_host (capabilities_of s) s.hardware_addr s.random_seed s.slaac (pos 0) host.sockets) {
+        reassembly_timeout = s.reassembly_timeout;
+      })
   pub some_time : 0 < s.reassembly_timeout
   pub within_day : s.reassembly_timeout ≤ 86_400_000_000
   pub ip_mtu : host.ip_mtu ≡ ip_mtu_of (capabilities_of s)
@@ -46,7 +47,8 @@ pub record IsFirst (s : Settings) (host : Host) : Type 0 where
   pub outbox : host.outbox ≡ empty (capabilities_of s)
   pub schedule : host.schedule ≡ first_plan s.patience s.sockets
 
--- nothing but the interface changed, and by a rule: from each host that it stood for, the rule leads to one that it stands for
+-- nothing but the interface changed, and by a rule: from each host that it stood for, the rule leads to
+-- one that it stands for
 pub record Follows (Rule : Machine → Machine → Type 0) (old new : Host) : Type 0 where
   pub led : (H : Machine) → StandsFor old H → Refinement Rule H (StandsFor new)
   pub rest : new ≡ record old { interface = new.interface }

@@ -51,8 +51,8 @@ pub struct Host {
 
 impl Host {
     /// A host with no address, no route and no socket, at moment 0. `NotUnicast` and `BadMtu` come as
-    /// [`NewError`] says, `BadTimeout` if fragments are to wait no time, or longer than a day, `NoMemory` if the memory for the
-    /// places of its sockets is refused.
+    /// [`NewError`] says, `BadTimeout` if fragments are to wait no time, or longer than a day, `NoMemory` if the memory
+    /// for the places of its sockets is refused.
     pub fn new(alloc: Global, settings: &Settings) -> Result<Host, Refusal>
         ensures { IfOk result (λ host. IsFirst settings.now host) }
     {

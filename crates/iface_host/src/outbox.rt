@@ -1,5 +1,6 @@
 //! The frames that were sent and wait to be handed over.
-ghost use Rattle.std.specs.Prelude.{◌≡◌, ◌≤◌, [], ◌∷◌, ◌++◌, true, false, length, take, drop, MatchOption, OnOk, OnErr, Some};
+ghost use Rattle.std.specs.Prelude.{◌≡◌, ◌≤◌, [], ◌∷◌, ◌++◌, true, false, length};
+ghost use Rattle.std.specs.Prelude.{take, drop, MatchOption, OnOk, OnErr, Some};
 ghost use Rattle.iface_host.specs.Outbox.{with_refusal_counted, empty, with_room, HandsFirst};
 
 use net_base::phy::{Device, DeviceCapabilities, FRAME_BUFFER_SIZE, PacketMeta};
@@ -30,10 +31,17 @@ impl Model for Outbox {
 
     ghost Value = { Waiting };
 
-    ghost view = { λ o. record { capabilities = o.capabilities; frames = map (λ v. v.items) o.frames.items; refusals = o.refusals; has_room = is_some o.room } };
+    ghost view = { λ o. record {
+      capabilities = o.capabilities;
+      frames = map (λ v. v.items) o.frames.items;
+      refusals = o.refusals;
+      has_room = is_some o.room;
+    } };
 
-    ghost invariant = { λ o. All (λ v. vec_len v ≤ 1514) o.frames.items × All (λ v. 1514 ≤ vec_capacity v) o.frames.items
-        × (deque_len o.frames ≤ deque_capacity o.frames) × ForSome o.room (λ v. (v.items ≡ []) × (1514 ≤ vec_capacity v) × (deque_len o.frames < deque_capacity o.frames)) };
+    ghost invariant = { λ o. All (λ v. vec_len v ≤ 1514) o.frames.items
+        × All (λ v. 1514 ≤ vec_capacity v) o.frames.items
+        × (deque_len o.frames ≤ deque_capacity o.frames) × ForSome o.room
+        (λ v. (v.items ≡ []) × (1514 ≤ vec_capacity v) × (deque_len o.frames < deque_capacity o.frames)) };
 }
 
 impl Outbox {

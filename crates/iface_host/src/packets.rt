@@ -2,7 +2,8 @@
 ghost use Rattle.std.specs.Prelude.{◌≡◌, ◌≤◌, true, IfOk, OnOk, OnErr, length};
 ghost use Rattle.std.specs.Result.{result_err};
 ghost use Rattle.iface_host.specs.Refusals as refusals;
-ghost use Rattle.iface_host.specs.Sockets.{ReceivesIcmp, ReceivesRaw, ReceivesUdp, SendsIcmp, SendsRaw, SendsUdp, with_packet};
+ghost use Rattle.iface_host.specs.Sockets.{ReceivesIcmp, ReceivesRaw, ReceivesUdp};
+ghost use Rattle.iface_host.specs.Sockets.{SendsIcmp, SendsRaw, SendsUdp, with_packet};
 
 use crate::host::Host;
 use crate::outbox::write_front;

@@ -1,7 +1,8 @@
 //! The routes of a host.
 ghost use Rattle.std.specs.Prelude.{◌≡◌, ◌≤◌, OnOk, OnErr, length};
 ghost use Rattle.host_machine.specs.State.Host.{SocketSet};
-ghost use Rattle.iface_tables.specs.Route.{ipv4_gateway, ipv6_gateway, is_ipv4_gateway, is_ipv6_gateway, old_or_full, with_default};
+ghost use Rattle.iface_tables.specs.Route.{ipv4_gateway, ipv6_gateway, is_ipv4_gateway};
+ghost use Rattle.iface_tables.specs.Route.{is_ipv6_gateway, old_or_full, with_default};
 ghost use Rattle.interface.specs.Stands.{Becomes, host_with};
 ghost use Rattle.std.specs.List.{position_or_len};
 ghost use Rattle.iface_host.specs.Calls.{is_to, AddsRoute, RemovesRoute, SetsDefault};
@@ -103,8 +104,10 @@ fn add_default_ipv4_route(
     interface: &mut Interface,
     gateway: Ipv4Address,
 ) -> Result<Option<Route>, RouteTableFull>
-    ensures answer { (sockets : SocketSet) → result ≡ old_or_full is_ipv4_gateway (host_with interface.old sockets).routes }
-    ensures table { Becomes interface.old interface.new (λ H. record H { routes = with_default is_ipv4_gateway H.routes (ipv4_gateway gateway) }) }
+    ensures answer { (sockets : SocketSet) →
+        result ≡ old_or_full is_ipv4_gateway (host_with interface.old sockets).routes }
+    ensures table { Becomes interface.old interface.new
+        (λ H. record H { routes = with_default is_ipv4_gateway H.routes (ipv4_gateway gateway) }) }
 {
     interface.routes_mut().add_default_ipv4_route(gateway)
 }
@@ -114,8 +117,10 @@ fn add_default_ipv6_route(
     interface: &mut Interface,
     gateway: Ipv6Address,
 ) -> Result<Option<Route>, RouteTableFull>
-    ensures answer { (sockets : SocketSet) → result ≡ old_or_full is_ipv6_gateway (host_with interface.old sockets).routes }
-    ensures table { Becomes interface.old interface.new (λ H. record H { routes = with_default is_ipv6_gateway H.routes (ipv6_gateway gateway) }) }
+    ensures answer { (sockets : SocketSet) →
+        result ≡ old_or_full is_ipv6_gateway (host_with interface.old sockets).routes }
+    ensures table { Becomes interface.old interface.new
+        (λ H. record H { routes = with_default is_ipv6_gateway H.routes (ipv6_gateway gateway) }) }
 {
     interface.routes_mut().add_default_ipv6_route(gateway)
 }

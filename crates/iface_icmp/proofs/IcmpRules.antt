@@ -20,22 +20,28 @@ use Rattle.icmpv6_wire.specs.declared.icmpv6.Icmpv6Repr.{Icmpv6Repr}
 use Rattle.iface_send.proofs.Processing.{dropped}
 
 -- a message is given to each socket that takes it, and answered
-pub icmpv4_taken : (H : Host) (r : Ipv4Repr) (octets contents : List ℕ) (message : Icmpv4Repr) (checked : Bool) (places : List Storage) (reply : Option Reply) →
+pub icmpv4_taken : (H : Host) (r : Ipv4Repr) (octets contents : List ℕ) (message : Icmpv4Repr) (checked : Bool)
+    (places : List Storage) (reply : Option Reply) →
     checked ≡ is_rx H.capabilities.checksum.icmpv4 → IsIcmpv4 checked octets × ((message, contents) ≡ icmpv4_in octets) →
-    places ≡ to_each (icmp.accepts (Ipv4Message message) contents) (icmp.storage_after_delivery (Ipv4 r.src_addr) octets) H.sockets.places → reply ≡ icmpv4.answer_to H.ip_addrs r message contents →
+    places ≡ to_each (icmp.accepts (Ipv4Message message) contents) (icmp.storage_after_delivery (Ipv4 r.src_addr) octets) H.sockets.places →
+    reply ≡ icmpv4.answer_to H.ip_addrs r message contents →
     icmpv4.ProcessesIcmpv4 r H octets reply [] (with_places H places)
 icmpv4_taken H r octets contents message checked places reply tests is delivered replies =
     let same_message : message ≡ (icmpv4_in octets).0 = ap (λ (p : Icmpv4Repr × List ℕ). p.0) is.1 in
     let same_contents : contents ≡ (icmpv4_in octets).1 = ap (λ (p : Icmpv4Repr × List ℕ). p.1) is.1 in
-    icmpv4.Taken (rw tests at is.0) (rw (same_message, same_contents) at replies) refl (ap (with_places H) (rw (same_message, same_contents) at delivered))
+    icmpv4.Taken (rw tests at is.0)
+    (rw (same_message, same_contents) at replies) refl (ap (with_places H) (rw (same_message, same_contents) at delivered))
 
 -- octets that are no message
-pub icmpv4_malformed : (H : Host) (r : Ipv4Repr) (octets : List ℕ) (checked : Bool) → checked ≡ is_rx H.capabilities.checksum.icmpv4 → (IsIcmpv4 checked octets → ⊥) → icmpv4.ProcessesIcmpv4 r H octets None [] H
+pub icmpv4_malformed : (H : Host) (r : Ipv4Repr) (octets : List ℕ) (checked : Bool) →
+    checked ≡ is_rx H.capabilities.checksum.icmpv4 → (IsIcmpv4 checked octets → ⊥) → icmpv4.ProcessesIcmpv4 r H octets None [] H
 icmpv4_malformed H r octets checked tests none = icmpv4.Malformed (rw tests at none) (dropped H)
 
 -- a message of IPv6 is given to each socket that takes it, and does what it does
-pub icmpv6_taken : (H K : Host) (r : Ipv6Repr) (octets contents : List ℕ) (message : Icmpv6Repr) (checked : Bool) (places : List Storage) (reply : Option Reply) (notes : List Note) →
-    checked ≡ is_rx H.capabilities.checksum.icmpv6 → IsIcmpv6 checked (Ipv6 r.src_addr) (Ipv6 r.dst_addr) octets × ((message, contents) ≡ icmpv6_in octets) →
+pub icmpv6_taken : (H K : Host) (r : Ipv6Repr) (octets contents : List ℕ) (message : Icmpv6Repr) (checked : Bool) (places : List Storage)
+    (reply : Option Reply) (notes : List Note) →
+    checked ≡ is_rx H.capabilities.checksum.icmpv6 → IsIcmpv6 checked (Ipv6 r.src_addr) (Ipv6 r.dst_addr) octets
+    × ((message, contents) ≡ icmpv6_in octets) →
     places ≡ to_each (icmp.accepts (Ipv6Message message) contents) (icmp.storage_after_delivery (Ipv6 r.src_addr) octets) H.sockets.places →
     icmpv6.ProcessesMessage r message contents (with_places H places) reply notes K → icmpv6.ProcessesIcmpv6 r H octets reply notes K
 icmpv6_taken H K r octets contents message checked places reply notes tests is delivered takes =

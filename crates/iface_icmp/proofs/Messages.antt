@@ -4,11 +4,13 @@ use Rattle.std.proofs.lemmas.Bool.{ne_eqb}
 use Rattle.std.specs.Prelude.{◌==◌, if◌then◌else◌}
 use Rattle.ipv6_wire.specs.declared.ipv6_packet.Ipv6Repr.{Ipv6Repr}
 use Rattle.icmpv6_wire.specs.declared.icmpv6.Icmpv6Repr.{Icmpv6Repr}
-use Rattle.icmpv6_wire.specs.declared.icmpv6.Icmpv6Repr.TheVariants.{EchoRequest, EchoReply, DstUnreachable, PktTooBig, TimeExceeded, ParamProblem, Ndisc, Router, Mld}
+use Rattle.icmpv6_wire.specs.declared.icmpv6.Icmpv6Repr.TheVariants.{EchoRequest, EchoReply, DstUnreachable, PktTooBig}
+use Rattle.icmpv6_wire.specs.declared.icmpv6.Icmpv6Repr.TheVariants.{TimeExceeded, ParamProblem, Ndisc, Router, Mld}
 use Rattle.icmpv6_wire.specs.declared.ndisc.NdiscRepr.{NdiscRepr}
 use Rattle.icmpv6_wire.specs.declared.router.RouterRepr.{RouterRepr}
 use Rattle.group_wire.specs.declared.mld.MldRepr.{MldRepr}
-use Rattle.icmpv6_wire.specs.Icmpv6.{IsBody, Request, Reply as EchoedReply, Error, Neighbor, OfRouters, Listener, code_in, echo_request_in, icmpv6_in, problem_of, type_in, unreachable_of}
+use Rattle.icmpv6_wire.specs.Icmpv6.{IsBody, Request, Reply as EchoedReply, Error, Neighbor, OfRouters, Listener}
+use Rattle.icmpv6_wire.specs.Icmpv6.{code_in, echo_request_in, icmpv6_in, problem_of, type_in, unreachable_of}
 use Rattle.icmpv6_wire.specs.Ndisc.{IsNdisc, ndisc_in}
 use Rattle.icmpv6_wire.specs.Router.{Solicitation, Advertisement, router_in}
 use Rattle.group_wire.specs.Mld.{IsQuery, IsReport, mld_in}
@@ -23,23 +25,27 @@ use Rattle.host_machine.specs.Sending.Slaac.{after_advertisement, with_slaac}
 use Rattle.iface_send.proofs.Processing.{dropped}
 
 -- an echo request is answered
-pub echoed : (r : Ipv6Repr) (message : Icmpv6Repr) (contents : List ℕ) (ident seq_no : ℕ) (H : Host) (reply : Option Reply) → message ≡ EchoRequest ident seq_no →
+pub echoed : (r : Ipv6Repr) (message : Icmpv6Repr) (contents : List ℕ) (ident seq_no : ℕ) (H : Host) (reply : Option Reply) →
+    message ≡ EchoRequest ident seq_no →
     reply ≡ Some (message_back H.ip_addrs r (EchoReply ident seq_no) contents) → ProcessesMessage r message contents H reply [] H
 echoed r message contents ident seq_no H reply is answers = rw is (answers, refl, refl)
 
 -- one of routers may teach
-pub of_routers : (r : Ipv6Repr) (message : Icmpv6Repr) (contents : List ℕ) (m : RouterRepr) (H K : Host) → message ≡ Router m → K ≡ with_slaac H (after_advertisement m H r) →
+pub of_routers : (r : Ipv6Repr) (message : Icmpv6Repr) (contents : List ℕ) (m : RouterRepr) (H K : Host) →
+    message ≡ Router m → K ≡ with_slaac H (after_advertisement m H r) →
     ProcessesMessage r message contents H None [] K
 of_routers r message contents m H K is teaches = rw is (refl, refl, teaches)
 
 -- and one of groups
-pub of_groups : (r : Ipv6Repr) (message : Icmpv6Repr) (contents : List ℕ) (m : MldRepr) (H K : Host) (reply : Option Reply) (notes : List Note) → message ≡ Mld m →
+pub of_groups : (r : Ipv6Repr) (message : Icmpv6Repr) (contents : List ℕ) (m : MldRepr) (H K : Host) (reply : Option Reply) (notes : List Note) →
+    message ≡ Mld m →
     ProcessesMld r m H reply notes K → ProcessesMessage r message contents H reply notes K
 of_groups r message contents m H K reply notes is takes = rw is takes
 
 -- nothing else does anything
 pub unheeded : (r : Ipv6Repr) (message : Icmpv6Repr) (contents : List ℕ) (H : Host) → ((ident seq_no : ℕ) → message ≡ EchoRequest ident seq_no → ⊥) →
-    ((m : NdiscRepr) → message ≡ Ndisc m → ⊥) → ((m : RouterRepr) → message ≡ Router m → ⊥) → ((m : MldRepr) → message ≡ Mld m → ⊥) → ProcessesMessage r message contents H None [] H
+    ((m : NdiscRepr) → message ≡ Ndisc m → ⊥) → ((m : RouterRepr) → message ≡ Router m → ⊥) → ((m : MldRepr) → message ≡ Mld m → ⊥) →
+    ProcessesMessage r message contents H None [] H
 unheeded r (EchoRequest ident seq_no) contents H no_request no_neighbor no_routers no_groups = absurd (no_request ident seq_no refl)
 unheeded r (Ndisc m) contents H no_request no_neighbor no_routers no_groups = absurd (no_neighbor m refl)
 unheeded r (Router m) contents H no_request no_neighbor no_routers no_groups = absurd (no_routers m refl)
@@ -60,7 +66,8 @@ of_request octets type =
 abbrev IsOfNeighbors : List ℕ → Type 0
 IsOfNeighbors octets = (type_in octets ≡ 135) ⊎ (type_in octets ≡ 136)
 
-pub of_neighbors : (octets : List ℕ) (m : NdiscRepr) → IsOfNeighbors octets → m ≡ ndisc_in octets → ◌≡◌ {A = Icmpv6Repr × List ℕ} (Ndisc m, []) (icmpv6_in octets)
+pub of_neighbors : (octets : List ℕ) (m : NdiscRepr) →
+    IsOfNeighbors octets → m ≡ ndisc_in octets → ◌≡◌ {A = Icmpv6Repr × List ℕ} (Ndisc m, []) (icmpv6_in octets)
 of_neighbors octets m (inl type) is =
     let a : (type_in octets == 128) ≡ false = ne_eqb (type_in octets) 128 (λ e. omega (arith, e, type)) in
     let b : (type_in octets == 129) ≡ false = ne_eqb (type_in octets) 129 (λ e. omega (arith, e, type)) in
@@ -125,7 +132,8 @@ by_types octets a b c d e f g h i j k =
     if h then (Mld (mld_in octets).0, (mld_in octets).1) else
     (error_by octets i j k, (quoted_in (drop 8 octets)).1)
 
-by_another_type : (octets : List ℕ) (m : NdiscRepr) (a b c d e f g h i j k : Bool) → c ≡ false → d ≡ false → (by_types octets a b c d e f g h i j k).0 ≢ Ndisc m
+by_another_type : (octets : List ℕ) (m : NdiscRepr) (a b c d e f g h i j k : Bool) →
+    c ≡ false → d ≡ false → (by_types octets a b c d e f g h i j k).0 ≢ Ndisc m
 by_another_type octets m true b c d e f g h i j k no_c no_d is = cc
 by_another_type octets m false true c d e f g h i j k no_c no_d is = cc
 by_another_type octets m false false true d e f g h i j k no_c no_d is = cc
@@ -142,4 +150,5 @@ by_another_type octets m false false false false false false false false false f
 pub no_neighbor : (octets : List ℕ) (m : NdiscRepr) → type_in octets ≢ 135 → type_in octets ≢ 136 → (icmpv6_in octets).0 ≢ Ndisc m
 no_neighbor octets m no_solicitation no_advertisement is =
     let t = type_in octets in
-    by_another_type octets m (t == 128) (t == 129) (t == 135) (t == 136) (t == 133) (t == 134) (t == 130) (t == 143) (t == 1) (t == 2) (t == 3) (ne_eqb t 135 no_solicitation) (ne_eqb t 136 no_advertisement) is
+    by_another_type octets m (t == 128) (t == 129) (t == 135) (t == 136) (t == 133) (t == 134) (t == 130) (t == 143) (t == 1) (t == 2) (t == 3)
+    (ne_eqb t 135 no_solicitation) (ne_eqb t 136 no_advertisement) is

@@ -1,5 +1,6 @@
 -- Places that a walk passes over, as their sockets have other own ports.
-use Rattle.std.proofs.Common.{◌≡◌, ◌⊎◌, ℕ, suc, ◌+◌, ◌<◌, ◌≤◌, Bool, false, List, [], ◌∷◌, length, slice_get, Option, Some, None, inl, inr, refl, sym, ap, ◌∙◌, arith}
+use Rattle.std.proofs.Common.{◌≡◌, ◌⊎◌, ℕ, suc, ◌+◌, ◌<◌, ◌≤◌, Bool, false, List, [], ◌∷◌, length}
+use Rattle.std.proofs.Common.{slice_get, Option, Some, None, inl, inr, refl, sym, ap, ◌∙◌, arith}
 use Rattle.std.specs.Prelude.{◌≢◌, IfSome}
 use Rattle.std.specs.List.{list_any}
 use Rattle.std.specs.Option.{option_and_then}
@@ -41,7 +42,8 @@ not_icmp message contents (Some (Udp s)) other = refl
 not_icmp message contents (Some (Tcp s)) other = refl
 
 -- it accepts no datagram to that port
-pub not_udp : (own : List IpCidr) (r : IpRepr) (ports : UdpRepr) (place : Storage) → IsElsewhere (Some ports.dst_port) place → udp.accepts own r ports place ≡ false
+pub not_udp : (own : List IpCidr) (r : IpRepr) (ports : UdpRepr) (place : Storage) →
+    IsElsewhere (Some ports.dst_port) place → udp.accepts own r ports place ≡ false
 not_udp own r ports None other = refl
 not_udp own r ports (Some (Raw s)) other = refl
 not_udp own r ports (Some (Icmp s)) other = refl
@@ -73,7 +75,8 @@ module _ (test : Storage → Bool) (places : List Storage) where
   none_passed to passed = after 0 to (λ k other within here. absurd (omega (arith, within))) passed
 
   -- and goes on behind a place that doesn't meet the test
-  pub one_passed : (index to : ℕ) → NoneBefore index → test (at_place places index) ≡ false → ((k : ℕ) → index + 1 ≤ k → k < to → test (at_place places k) ≡ false) → NoneBefore to
+  pub one_passed : (index to : ℕ) → NoneBefore index → test (at_place places index) ≡ false →
+      ((k : ℕ) → index + 1 ≤ k → k < to → test (at_place places k) ≡ false) → NoneBefore to
   one_passed index to before this passed = after index to before (λ k late within. by k within (cases_lt index k) late) where
     by : (k : ℕ) → k < to → ((index < k) ⊎ (k ≤ index)) → index ≤ k → test (at_place places k) ≡ false
     by k within (inl past) late = passed k (omega (arith, past)) within
@@ -87,27 +90,33 @@ nobody test (p ∷ ps) n all none =
     rw this (nobody test ps (length ps) refl (λ k other within here. none (suc k) other (omega (arith, all, within)) here))
 
 pub none_accepts_at_all : (test : Storage → Bool) (set : SocketSet) → ((k : ℕ) → test (socket_at set k) ≡ false) → list_any test set.places ≡ false
-none_accepts_at_all test set none = nobody test set.places (length set.places) refl (none_passed test set.places (length set.places) (λ k from to. none k))
+none_accepts_at_all test set none =
+    nobody test set.places (length set.places) refl (none_passed test set.places (length set.places) (λ k from to. none k))
 
-module _ (port : Option ℕ) (test : Storage → Bool) (deliver : Storage → Storage) (misses : (place : Storage) → IsElsewhere port place → test place ≡ false) where
+module _ (port : Option ℕ) (test : Storage → Bool) (deliver : Storage → Storage)
+    (misses : (place : Storage) → IsElsewhere port place → test place ≡ false) where
   -- a place that is passed over stays as it was
   stays : (place : Storage) → IsElsewhere port place → to_this test deliver place ≡ place
   stays place other = rw (misses place other) refl
 
   -- places that were passed over in a set that was changed up to them
-  passed_as_before : (old now : SocketSet) (i j k : ℕ) → now ≡ with_places old (mapped (to_this test deliver) i old.places) → ((k : ℕ) → i ≤ k → k < j → IsElsewhere port (socket_at now k)) → i ≤ k → k < j →
+  passed_as_before : (old now : SocketSet) (i j k : ℕ) → now ≡ with_places old (mapped (to_this test deliver) i old.places) →
+      ((k : ℕ) → i ≤ k → k < j → IsElsewhere port (socket_at now k)) → i ≤ k → k < j →
       IsElsewhere port (at_place old.places k)
   passed_as_before old now i j k is passed from to =
       rw (is, at_later (to_this test deliver) old.places i k from) at (passed k from to)
 
   -- so a walk goes on behind them
-  pub walk_passed : (old now : SocketSet) (i j : ℕ) → i ≤ j → now ≡ with_places old (mapped (to_this test deliver) i old.places) → ((k : ℕ) → i ≤ k → k < j → IsElsewhere port (socket_at now k)) →
+  pub walk_passed : (old now : SocketSet) (i j : ℕ) → i ≤ j → now ≡ with_places old (mapped (to_this test deliver) i old.places) →
+      ((k : ℕ) → i ≤ k → k < j → IsElsewhere port (socket_at now k)) →
       now ≡ with_places old (mapped (to_this test deliver) j old.places)
   walk_passed old now i j later is passed =
-      is ∙ ap (with_places old) (mapped_passed (to_this test deliver) old.places i j later (λ k from to. stays (at_place old.places k) (passed_as_before old now i j k is passed from to)))
+      is ∙ ap (with_places old) (mapped_passed (to_this test deliver) old.places i j later
+      (λ k from to. stays (at_place old.places k) (passed_as_before old now i j k is passed from to)))
 
   -- and so far nobody more meets the test
-  pub test_passed : (old now : SocketSet) (i j : ℕ) (so : Bool) → i ≤ j → now ≡ with_places old (mapped (to_this test deliver) i old.places) → ((k : ℕ) → i ≤ k → k < j → IsElsewhere port (socket_at now k)) →
+  pub test_passed : (old now : SocketSet) (i j : ℕ) (so : Bool) → i ≤ j → now ≡ with_places old (mapped (to_this test deliver) i old.places) →
+      ((k : ℕ) → i ≤ k → k < j → IsElsewhere port (socket_at now k)) →
       so ≡ any_of test i old.places → so ≡ any_of test j old.places
   test_passed old now i j so later is passed was =
       was ∙ any_passed test old.places i j later (λ k from to. misses (at_place old.places k) (passed_as_before old now i j k is passed from to))

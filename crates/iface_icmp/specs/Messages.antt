@@ -6,7 +6,7 @@ use Rattle.ipv6_wire.specs.declared.ipv6_packet.Ipv6Repr.{Ipv6Repr}
 use Rattle.icmpv6_wire.specs.Icmpv6.{IsSound}
 use Rattle.host_machine.specs.State.Host.{Host}
 
--- the payload of a packet with this header has at least the length of a message's header, and its checksum is right if that is
--- verified
+-- the payload of a packet with this header has at least the length of a message's header, and its checksum is
+-- right if that is verified
 abbrev pub MayBeMessage : Host → Ipv6Repr → List ℕ → Type 0
 MayBeMessage H r octets = IsSound (is_rx H.capabilities.checksum.icmpv6) (Ipv6 r.src_addr) (Ipv6 r.dst_addr) octets

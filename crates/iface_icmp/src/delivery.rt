@@ -19,7 +19,8 @@ pub(crate) fn deliver(
     contents: &[u8],
     octets: &[u8],
 )
-    ensures { sockets.new ≡ with_places sockets.old (to_each (accepts message.now contents.now) (storage_after_delivery remote octets.now) sockets.old.places) }
+    ensures { sockets.new ≡ with_places sockets.old
+        (to_each (accepts message.now contents.now) (storage_after_delivery remote octets.now) sockets.old.places) }
 {
     if !by_index::may_have_portless(sockets) {
         return;
@@ -37,7 +38,8 @@ fn deliver_to_accepting(
     contents: &[u8],
     octets: &[u8],
 )
-    ensures { sockets.new ≡ with_places sockets.old (to_each (accepts message.now contents.now) (storage_after_delivery remote octets.now) sockets.old.places) }
+    ensures { sockets.new ≡ with_places sockets.old
+        (to_each (accepts message.now contents.now) (storage_after_delivery remote octets.now) sockets.old.places) }
 {
     if is_accepted(sockets, message, contents) {
         deliver_to_each(sockets, remote, message, contents, octets);
@@ -77,7 +79,8 @@ fn deliver_to_each(
     contents: &[u8],
     octets: &[u8],
 )
-    ensures { sockets.new ≡ with_places sockets.old (to_each (accepts message.now contents.now) (storage_after_delivery remote octets.now) sockets.old.places) }
+    ensures { sockets.new ≡ with_places sockets.old
+        (to_each (accepts message.now contents.now) (storage_after_delivery remote octets.now) sockets.old.places) }
 {
     let mut index = by_index::next_at(sockets, 0, None);
     while index < by_index::places(sockets) {
@@ -95,7 +98,8 @@ fn deliver_at(
     contents: &[u8],
     octets: &[u8],
 )
-    ensures heard { sockets.new ≡ with_place sockets.old index (to_this (accepts message.now contents.now) (storage_after_delivery remote octets.now) (socket_at sockets.old index)) }
+    ensures heard { sockets.new ≡ with_place sockets.old index (to_this (accepts message.now contents.now)
+        (storage_after_delivery remote octets.now) (socket_at sockets.old index)) }
     ensures len { length sockets.new.places ≡ length sockets.old.places }
 {
     let Some(socket) = by_index::kind_mut::<icmp::Socket<'_>, _>(sockets, index) else {

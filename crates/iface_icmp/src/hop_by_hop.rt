@@ -23,7 +23,9 @@ pub fn answer_unknown_option(
     out: &mut FrameBuffer,
 )
     requires { out.old ≡ [] }
-    ensures { RefinesBuilding out.new (Responds (unknown_option failure (host_of context.old no_sockets).ip_addrs header.now payload.now)) context.old context.new }
+    ensures { RefinesBuilding out.new
+        (Responds (unknown_option failure (host_of context.old no_sockets).ip_addrs header.now payload.now))
+        context.old context.new }
 {
     let is_answered = match failure {
         Ipv6OptionFailureType::Skip | Ipv6OptionFailureType::Discard => false,

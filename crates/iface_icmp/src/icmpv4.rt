@@ -36,7 +36,8 @@ pub fn process_icmpv4(
 )
     requires empty { out.old ≡ [] }
     requires short { length octets.now < 2 ^ 16 }
-    ensures { RefinesReplying out.new (λ H. spec.ProcessesIcmpv4 header.now H octets.now) (host_of context.old sockets.old) (host_of context.new sockets.new) }
+    ensures { RefinesReplying out.new (λ H. spec.ProcessesIcmpv4 header.now H octets.now)
+        (host_of context.old sockets.old) (host_of context.new sockets.new) }
 {
     let checked = context.capabilities().checksum.icmpv4.rx();
     let Some((message, contents)) = Icmpv4Repr::parse(octets, checked) else {
@@ -63,7 +64,9 @@ fn answer(
     requires empty { out.old ≡ [] }
     requires short { length octets.now < 2 ^ 16 }
     requires read { IsIcmpv4 checked octets.now × ((message.now, contents.now) ≡ icmpv4_in octets.now) }
-    ensures { RefinesBuilding out.new (Responds (spec.answer_to (host_of context.old no_sockets).ip_addrs header.now message.now contents.now)) context.old context.new }
+    ensures { RefinesBuilding out.new
+        (Responds (spec.answer_to (host_of context.old no_sockets).ip_addrs header.now message.now contents.now))
+        context.old context.new }
 {
     let Icmpv4Repr::EchoRequest { ident, seq_no } = message else {
         return;
@@ -95,7 +98,8 @@ pub fn icmpv4_unreachable(
 )
     requires empty { out.old ≡ [] }
     requires quotable { 20 + header.now.payload_len < 2 ^ 16 }
-    ensures { RefinesBuilding out.new (Responds (spec.unreachable handled_by_raw_socket (host_of context.old no_sockets).ip_addrs reason header.now payload.now)) context.old context.new }
+    ensures { RefinesBuilding out.new (Responds (spec.unreachable handled_by_raw_socket
+        (host_of context.old no_sockets).ip_addrs reason header.now payload.now)) context.old context.new }
 {
     if handled_by_raw_socket {
         return;
@@ -131,7 +135,9 @@ fn send_icmpv4_reply<P: Payload>(
     requires empty { out.old ≡ [] }
     requires quoted { QuotesPacket message }
     requires carried { P.carried payload ≡ value.Icmpv4 message (P.after payload) }
-    ensures { RefinesBuilding out.new (Responds (spec.icmpv4_reply (host_of context.old no_sockets).ip_addrs header.now message (P.after payload))) context.old context.new }
+    ensures { RefinesBuilding out.new
+        (Responds (spec.icmpv4_reply (host_of context.old no_sockets).ip_addrs header.now message (P.after payload)))
+        context.old context.new }
 {
     let Some(src_addr) = reply_source(context, header, &message) else {
         return;

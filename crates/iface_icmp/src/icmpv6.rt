@@ -50,7 +50,8 @@ pub fn process_icmpv6(
     requires empty { out.old ≡ [] }
     requires short { length octets.now < 2 ^ 16 }
     requires from_one { is_unicast header.now.src_addr ≡ true }
-    ensures { RefinesReplying out.new (λ H. spec.ProcessesIcmpv6 header.now H octets.now) (host_of context.old sockets.old) (host_of context.new sockets.new) }
+    ensures { RefinesReplying out.new (λ H. spec.ProcessesIcmpv6 header.now H octets.now)
+        (host_of context.old sockets.old) (host_of context.new sockets.new) }
 {
     let src_addr = IpAddress::Ipv6(header.src_addr);
     let dst_addr = IpAddress::Ipv6(header.dst_addr);
@@ -82,7 +83,8 @@ fn process_echo_request(
     requires empty { out.old ≡ [] }
     requires short { length octets.now < 2 ^ 16 }
     requires request { IsEchoRequest (ip.Ipv6 header.now.src_addr) (ip.Ipv6 header.now.dst_addr) octets.now }
-    ensures { RefinesReplying out.new (λ H. spec.ProcessesIcmpv6 header.now H octets.now) (host_of context.old sockets.old) (host_of context.new sockets.new) }
+    ensures { RefinesReplying out.new (λ H. spec.ProcessesIcmpv6 header.now H octets.now)
+        (host_of context.old sockets.old) (host_of context.new sockets.new) }
 {
     let src_addr = IpAddress::Ipv6(header.src_addr);
     let dst_addr = IpAddress::Ipv6(header.dst_addr);
@@ -109,7 +111,8 @@ fn process_neighbor(
     requires sound { MayBeMessage (host_of context.old no_sockets) header.now octets.now }
     requires kind { (type_in octets.now ≡ 135) ⊎ (type_in octets.now ≡ 136) }
     requires from_one { is_unicast header.now.src_addr ≡ true }
-    ensures { RefinesReplying out.new (λ H. spec.ProcessesIcmpv6 header.now H octets.now) (host_of context.old sockets.old) (host_of context.new sockets.new) }
+    ensures { RefinesReplying out.new (λ H. spec.ProcessesIcmpv6 header.now H octets.now)
+        (host_of context.old sockets.old) (host_of context.new sockets.new) }
 {
     let Some(message) = NdiscRepr::parse(octets) else {
         return;
@@ -138,7 +141,8 @@ fn process_other(
     requires sound { MayBeMessage (host_of context.old no_sockets) header.now octets.now }
     requires no_solicitation { type_in octets.now ≢ 135 }
     requires no_advertisement { type_in octets.now ≢ 136 }
-    ensures { RefinesReplying out.new (λ H. spec.ProcessesIcmpv6 header.now H octets.now) (host_of context.old sockets.old) (host_of context.new sockets.new) }
+    ensures { RefinesReplying out.new (λ H. spec.ProcessesIcmpv6 header.now H octets.now)
+        (host_of context.old sockets.old) (host_of context.new sockets.new) }
 {
     let Some((message, contents)) = parse_sound(octets) else {
         return;
@@ -165,7 +169,9 @@ fn process_message(
 )
     requires empty { out.old ≡ [] }
     requires no_neighbor { (m : NdiscRepr) → message.now ≢ Ndisc m }
-    ensures { (sockets : SocketSet) → RefinesReplying out.new (λ H. spec.ProcessesMessage header.now message.now contents.now H) (host_of context.old sockets) (host_of context.new sockets) }
+    ensures { (sockets : SocketSet) →
+        RefinesReplying out.new (λ H. spec.ProcessesMessage header.now message.now contents.now H)
+        (host_of context.old sockets) (host_of context.new sockets) }
 {
     match message {
         Icmpv6Repr::EchoRequest { ident, seq_no } => {
@@ -191,7 +197,8 @@ pub(crate) fn icmpv6_unreachable(
     out: &mut FrameBuffer,
 )
     requires { out.old ≡ [] }
-    ensures { RefinesBuilding out.new (Responds (spec.port_unreachable handled_by_raw_socket (host_of context.old no_sockets).ip_addrs header.now payload.now)) context.old context.new }
+    ensures { RefinesBuilding out.new (Responds (spec.port_unreachable handled_by_raw_socket
+        (host_of context.old no_sockets).ip_addrs header.now payload.now)) context.old context.new }
 {
     if handled_by_raw_socket {
         return;
@@ -215,7 +222,9 @@ pub fn parameter_problem(
     out: &mut FrameBuffer,
 )
     requires { out.old ≡ [] }
-    ensures { RefinesBuilding out.new (Responds (Some (spec.problem (host_of context.old no_sockets).ip_addrs reason header.now payload.now))) context.old context.new }
+    ensures { RefinesBuilding out.new
+        (Responds (Some (spec.problem (host_of context.old no_sockets).ip_addrs reason header.now payload.now)))
+        context.old context.new }
 {
     let message = Icmpv6Repr::ParamProblem {
         reason,
@@ -242,7 +251,9 @@ fn send_message(
     out: &mut FrameBuffer,
 )
     requires { out.old ≡ [] }
-    ensures { RefinesBuilding out.new (Responds (Some (spec.message_back (host_of context.old no_sockets).ip_addrs header.now message octets.now))) context.old context.new }
+    ensures { RefinesBuilding out.new
+        (Responds (Some (spec.message_back (host_of context.old no_sockets).ip_addrs header.now message octets.now)))
+        context.old context.new }
 {
     let packet = Packet::Ipv6(PacketV6 {
         src_addr: reply_source(context, header),
@@ -263,7 +274,9 @@ fn send_icmpv6_reply<P: Payload>(
 )
     requires empty { out.old ≡ [] }
     requires writable { IsWritablePayload (P.carried payload) }
-    ensures { RefinesBuilding out.new (Responds (Some (payload_back (host_of context.old no_sockets).ip_addrs header.now (P.carried payload)))) context.old context.new }
+    ensures { RefinesBuilding out.new
+        (Responds (Some (payload_back (host_of context.old no_sockets).ip_addrs header.now (P.carried payload))))
+        context.old context.new }
 {
     let packet = PacketV6 {
         src_addr: reply_source(context, header),

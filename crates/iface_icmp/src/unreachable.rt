@@ -24,7 +24,8 @@ pub fn send_port_unreachable(
 )
     requires empty { out.old ≡ [] }
     requires quotable { TellsLength header.now }
-    ensures { RefinesBuilding out.new (Responds (port_unreachable handled_by_raw_socket (host_of context.old no_sockets).ip_addrs header.now payload.now)) context.old context.new }
+    ensures { RefinesBuilding out.new (Responds (port_unreachable handled_by_raw_socket
+        (host_of context.old no_sockets).ip_addrs header.now payload.now)) context.old context.new }
 {
     match header {
         IpRepr::Ipv4(header) => {

@@ -14,10 +14,12 @@ abbrev record_for : Ipv6Address → List ℕ
 record_for a = record_text (record { record_type = ModeIsExclude; mcast_addr = a })
 
 -- what is left behind a group of the one family, and of the other
-after_v6 : (gs : List Group) (i : ℕ) (d : Group) (a : Ipv6Address) → i < length gs → (get_or gs i d).addr ≡ Ipv6 a → ipv6_groups (drop i gs) ≡ a ∷ ipv6_groups (drop (i + 1) gs)
+after_v6 : (gs : List Group) (i : ℕ) (d : Group) (a : Ipv6Address) →
+    i < length gs → (get_or gs i d).addr ≡ Ipv6 a → ipv6_groups (drop i gs) ≡ a ∷ ipv6_groups (drop (i + 1) gs)
 after_v6 gs i d a within is = at_drop_more ipv6_groups gs i d within ∙ rw is refl
 
-after_v4 : (gs : List Group) (i : ℕ) (d : Group) (a : Ipv4Address) → i < length gs → (get_or gs i d).addr ≡ Ipv4 a → ipv6_groups (drop i gs) ≡ ipv6_groups (drop (i + 1) gs)
+after_v4 : (gs : List Group) (i : ℕ) (d : Group) (a : Ipv4Address) →
+    i < length gs → (get_or gs i d).addr ≡ Ipv4 a → ipv6_groups (drop i gs) ≡ ipv6_groups (drop (i + 1) gs)
 after_v4 gs i d a within is = at_drop_more ipv6_groups gs i d within ∙ rw is refl
 
 -- what holds of the records of the first groups
@@ -28,7 +30,8 @@ Pushed gs i records count =
     × (length records ≡ count * 20)
     × (count ≤ i)
 
-pub one_pushed : (gs : List Group) (i count : ℕ) (d : Group) (a : Ipv6Address) (records more : List ℕ) → i < length gs → (get_or gs i d).addr ≡ Ipv6 a → more ≡ records ++ record_for a → length more ≡ length records + 20 →
+pub one_pushed : (gs : List Group) (i count : ℕ) (d : Group) (a : Ipv6Address) (records more : List ℕ) →
+    i < length gs → (get_or gs i d).addr ≡ Ipv6 a → more ≡ records ++ record_for a → length more ≡ length records + 20 →
     Pushed gs i records count → Pushed gs (i + 1) more (count + 1)
 one_pushed gs i count d a records more within is pushed len p =
     let after = after_v6 gs i d a within is in (
@@ -38,6 +41,7 @@ one_pushed gs i count d a records more within is pushed len p =
       (let so = p.3 in omega (arith, so)),
     )
 
-pub none_pushed : (gs : List Group) (i count : ℕ) (d : Group) (a : Ipv4Address) (records : List ℕ) → i < length gs → (get_or gs i d).addr ≡ Ipv4 a → Pushed gs i records count → Pushed gs (i + 1) records count
+pub none_pushed : (gs : List Group) (i count : ℕ) (d : Group) (a : Ipv4Address) (records : List ℕ) →
+    i < length gs → (get_or gs i d).addr ≡ Ipv4 a → Pushed gs i records count → Pushed gs (i + 1) records count
 none_pushed gs i count d a records within is p =
     let after = after_v4 gs i d a within is in (rw after at p.0, rw after at p.1, p.2, (let so = p.3 in omega (arith, so)))

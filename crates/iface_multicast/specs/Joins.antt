@@ -10,7 +10,8 @@ use Rattle.host_machine.specs.Sending.Packet.{Packet}
 use Rattle.iface_send.specs.Offered.{IsOffered}
 
 -- a group is reported; it counts as reported unless a transmit token was refused
-pub record IsReported (packet_for : List IpCidr → IpAddress → Option Packet) (after_report : List Group → IpAddress → List Group) (a : IpAddress) (granted : Bool)
+pub record IsReported (packet_for : List IpCidr → IpAddress → Option Packet)
+    (after_report : List Group → IpAddress → List Group) (a : IpAddress) (granted : Bool)
     (H : Host) (told : List Event) (notes : List Note) (new : Host) : Type 0 where
   pub mid : Host
   pub offered : IsOffered (packet_for H.ip_addrs a) granted H told notes mid

@@ -33,7 +33,8 @@ use sockets::SocketContext;
 /// for one of them schedules delayed reports, which replace those scheduled before. Nothing else has an effect, and
 /// nothing is sent immediately.
 pub fn process_igmp(context: &mut Context, header: &Ipv4Repr, octets: &[u8])
-    ensures { (slots : Slots) (sockets : SocketSet) → reports.ProcessesIgmp header.now (host_in context.old slots sockets) octets.now None [] (host_in context.new slots sockets) }
+    ensures { (slots : Slots) (sockets : SocketSet) → reports.ProcessesIgmp header.now
+        (host_in context.old slots sockets) octets.now None [] (host_in context.new slots sockets) }
 {
     let Some(message) = IgmpRepr::parse(octets) else {
         return;
@@ -75,7 +76,8 @@ pub fn igmp_poll_at(context: &Context) -> Option<Instant>
 
 /// Processes a message by its values: only a query has an effect.
 fn process_igmp_message(context: &mut Context, dst_addr: &Ipv4Address, message: &IgmpRepr)
-    ensures { (slots : Slots) (sockets : SocketSet) → host_in context.new slots sockets ≡ reports.host_after_igmp (host_in context.old slots sockets) dst_addr.now message.now }
+    ensures { (slots : Slots) (sockets : SocketSet) → host_in context.new slots sockets
+        ≡ reports.host_after_igmp (host_in context.old slots sockets) dst_addr.now message.now }
 {
     match message {
         IgmpRepr::MembershipQuery {
@@ -96,7 +98,8 @@ fn igmp_report_for(
     max_resp_code: u8,
     group: &Ipv4Address,
 ) -> IgmpReportState
-    ensures value { result ≡ reports.igmp_report_for (host_of context.now no_sockets) dst_addr.now max_resp_code group.now }
+    ensures value { result
+        ≡ reports.igmp_report_for (host_of context.now no_sockets) dst_addr.now max_resp_code group.now }
     ensures paced { interval_of result < 3600000000 }
 {
     let version = query_version(max_resp_code);
@@ -157,7 +160,8 @@ pub(crate) fn igmp_packet(
     dst_addr: Ipv4Address,
     message: IgmpRepr,
 ) -> Option<Packet<'static>>
-    ensures value { option_map value_of.packet result ≡ multicast.igmp_packet (host_of context.now no_sockets).ip_addrs dst_addr message }
+    ensures value { option_map value_of.packet result
+        ≡ multicast.igmp_packet (host_of context.now no_sockets).ip_addrs dst_addr message }
     ensures writable { IfSome result (λ p. IsWritable (value_of.packet p)) }
 {
     let src_addr = context.ipv4_addr()?;
@@ -175,7 +179,8 @@ pub(crate) fn igmp_report(
     version: IgmpVersion,
     group: &Ipv4Address,
 ) -> Option<Packet<'static>>
-    ensures value { option_map value_of.packet result ≡ multicast.igmp_report (host_of context.now no_sockets).ip_addrs version group.now }
+    ensures value { option_map value_of.packet result
+        ≡ multicast.igmp_report (host_of context.now no_sockets).ip_addrs version group.now }
     ensures writable { IfSome result (λ p. IsWritable (value_of.packet p)) }
 {
     let message = IgmpRepr::MembershipReport {

@@ -66,9 +66,11 @@ fn report_join<D: Device>(
     out: &mut FrameBuffer,
     group: &IpAddress,
 ) -> bool
-    ensures told { RefinesTelling D.tells device.old device.new (HasPart (IsReported spec.join_packet join_reported group.now result) context.old) context.new }
+    ensures told { RefinesTelling D.tells device.old device.new
+        (HasPart (IsReported spec.join_packet join_reported group.now result) context.old) context.new }
     ensures fewer { result ≡ true → first_in Joining (host_of context.old no_sockets).groups ≡ Some group.now →
-        count_in Joining (host_of context.old no_sockets).groups ≡ count_in Joining (host_of context.new no_sockets).groups + 1 }
+        count_in Joining (host_of context.old no_sockets).groups
+        ≡ count_in Joining (host_of context.new no_sockets).groups + 1 }
 {
     let granted = send_join(context, device, out, group);
     if granted {
@@ -85,9 +87,11 @@ fn report_leave<D: Device>(
     out: &mut FrameBuffer,
     group: &IpAddress,
 ) -> bool
-    ensures told { RefinesTelling D.tells device.old device.new (HasPart (IsReported spec.leave_packet leave_reported group.now result) context.old) context.new }
+    ensures told { RefinesTelling D.tells device.old device.new
+        (HasPart (IsReported spec.leave_packet leave_reported group.now result) context.old) context.new }
     ensures fewer { result ≡ true → first_in Leaving (host_of context.old no_sockets).groups ≡ Some group.now →
-        count_in Leaving (host_of context.old no_sockets).groups ≡ count_in Leaving (host_of context.new no_sockets).groups + 1 }
+        count_in Leaving (host_of context.old no_sockets).groups
+        ≡ count_in Leaving (host_of context.new no_sockets).groups + 1 }
 {
     let granted = send_leave(context, device, out, group);
     if granted {
@@ -104,7 +108,9 @@ fn send_join<D: Device>(
     out: &mut FrameBuffer,
     group: &IpAddress,
 ) -> bool
-    ensures told { RefinesTelling D.tells device.old device.new (HasPart (IsOffered (spec.join_packet (host_of context.old no_sockets).ip_addrs group.now) result) context.old) context.new }
+    ensures told { RefinesTelling D.tells device.old device.new
+        (HasPart (IsOffered (spec.join_packet (host_of context.old no_sockets).ip_addrs group.now) result) context.old)
+        context.new }
     ensures groups { (host_of context.new no_sockets).groups ≡ (host_of context.old no_sockets).groups }
 {
     match group {
@@ -126,7 +132,9 @@ fn send_leave<D: Device>(
     out: &mut FrameBuffer,
     group: &IpAddress,
 ) -> bool
-    ensures told { RefinesTelling D.tells device.old device.new (HasPart (IsOffered (spec.leave_packet (host_of context.old no_sockets).ip_addrs group.now) result) context.old) context.new }
+    ensures told { RefinesTelling D.tells device.old device.new
+        (HasPart (IsOffered (spec.leave_packet (host_of context.old no_sockets).ip_addrs group.now) result) context.old)
+        context.new }
     ensures groups { (host_of context.new no_sockets).groups ≡ (host_of context.old no_sockets).groups }
 {
     match group {
@@ -149,7 +157,8 @@ fn send_if_some<D: Device>(
     packet: &Option<Packet<'_>>,
 ) -> bool
     requires { IfSome packet.now (λ p. IsWritable (value_of.packet p)) }
-    ensures told { RefinesTelling D.tells device.old device.new (HasPart (IsOffered (option_map value_of.packet packet.now) result) context.old) context.new }
+    ensures told { RefinesTelling D.tells device.old device.new
+        (HasPart (IsOffered (option_map value_of.packet packet.now) result) context.old) context.new }
     ensures groups { (host_of context.new no_sockets).groups ≡ (host_of context.old no_sockets).groups }
 {
     match packet {

@@ -35,7 +35,8 @@ const RECORDS_LEN: usize = 160;
 /// for all groups of the interface or for one of them, schedules a report after a random delay. It replaces the one
 /// scheduled before. Nothing else has an effect, and nothing is sent immediately.
 pub fn process_mld(context: &mut Context, header: &Ipv6Repr, message: &MldRepr)
-    ensures { (slots : Slots) (sockets : SocketSet) → reports.ProcessesMld header.now message.now (host_in context.old slots sockets) None [] (host_in context.new slots sockets) }
+    ensures { (slots : Slots) (sockets : SocketSet) → reports.ProcessesMld header.now message.now
+        (host_in context.old slots sockets) None [] (host_in context.new slots sockets) }
 {
     match message {
         MldRepr::Query {
@@ -76,7 +77,8 @@ fn process_mld_query(
     max_resp_code: u16,
     group: &Ipv6Address,
 )
-    ensures { (slots : Slots) (sockets : SocketSet) → host_in context.new slots sockets ≡ reports.host_after_mld_query (host_in context.old slots sockets) header.now max_resp_code group.now }
+    ensures { (slots : Slots) (sockets : SocketSet) → host_in context.new slots sockets
+        ≡ reports.host_after_mld_query (host_in context.old slots sockets) header.now max_resp_code group.now }
 {
     if !is_near(header) {
         return;
@@ -98,7 +100,9 @@ fn is_near(header: &Ipv6Repr) -> bool
 fn delay(context: &mut Context, max_resp_code: u16) -> Duration
     ensures value { result ≡ reports.delay max_resp_code (host_of context.old no_sockets).random }
     ensures within_two_minutes { result < 120000000 }
-    ensures drawn { (sockets : SocketSet) → host_of context.new sockets ≡ record (host_of context.old sockets) { random = reports.random_after_draw max_resp_code (host_of context.old no_sockets).random } }
+    ensures drawn { (sockets : SocketSet) → host_of context.new sockets ≡ record (host_of context.old sockets) {
+      random = reports.random_after_draw max_resp_code (host_of context.old no_sockets).random;
+    } }
 {
     if max_resp_code == 0 {
         return Duration::ZERO;
@@ -154,7 +158,9 @@ pub(crate) fn send_record<D: Device>(
     record_type: MldRecordType,
     group: &Ipv6Address,
 ) -> bool
-    ensures told { RefinesTelling D.tells device.old device.new (HasPart (IsOffered (Some (multicast.mld_report (host_of context.old no_sockets).ip_addrs record_type (group.now ∷ []))) result) context.old) context.new }
+    ensures told { RefinesTelling D.tells device.old device.new (HasPart
+        (IsOffered (Some (multicast.mld_report (host_of context.old no_sockets).ip_addrs record_type (group.now ∷ [])))
+        result) context.old) context.new }
     ensures groups { (host_of context.new no_sockets).groups ≡ (host_of context.old no_sockets).groups }
 {
     let record = MldAddressRecordRepr {
@@ -168,7 +174,12 @@ pub(crate) fn send_record<D: Device>(
 
 /// An MLD report with `count` records, to all MLDv2 routers (RFC 3810 5.2).
 fn mld_packet<'p>(context: &Context, count: u16, records: &'p [u8]) -> Packet<'p>
-    ensures value { value_of.packet result ≡ value.Ipv6 (record { src_addr = multicast.mld_source (host_of context.now no_sockets).ip_addrs; dst_addr = multicast.mld_routers; hop_limit = 1; payload = value.Mld count records.now }) }
+    ensures value { value_of.packet result ≡ value.Ipv6 (record {
+      src_addr = multicast.mld_source (host_of context.now no_sockets).ip_addrs;
+      dst_addr = multicast.mld_routers;
+      hop_limit = 1;
+      payload = value.Mld count records.now;
+    }) }
     ensures writable { IsWritable (value_of.packet result) }
 {
     Packet::Ipv6(PacketV6 {
@@ -198,7 +209,8 @@ fn push_records(
 ) -> u16
     requires { records.old.items ≡ [] }
     ensures count { result ≡ length (reports.reported_groups (host_of context.now no_sockets) report.now) }
-    ensures items { records.new.items ≡ multicast.records_of ModeIsExclude (reports.reported_groups (host_of context.now no_sockets) report.now) }
+    ensures items { records.new.items
+        ≡ multicast.records_of ModeIsExclude (reports.reported_groups (host_of context.now no_sockets) report.now) }
 {
     match report {
         MldReportState::Inactive => 0,
@@ -230,7 +242,8 @@ fn push_all(groups: &[Group], records: &mut ArrayVec<u8, RECORDS_LEN>) -> u16
 /// Appends the record of a group that is reported in answer to a query.
 fn push_record(records: &mut ArrayVec<u8, RECORDS_LEN>, group: Ipv6Address)
     requires { length records.old.items + 20 ≤ 160 }
-    ensures items { records.new.items ≡ records.old.items ++ record_text (record { record_type = ModeIsExclude; mcast_addr = group }) }
+    ensures items { records.new.items
+        ≡ records.old.items ++ record_text (record { record_type = ModeIsExclude; mcast_addr = group }) }
     ensures len { length records.new.items ≡ length records.old.items + 20 }
 {
     let record = MldAddressRecordRepr {

@@ -70,10 +70,12 @@ octets_after (Mld count records) = records.now
 
 -- packets, given the values of their payloads
 abbrev pub packet_v4 : {P : Type 0} → (P → value.IpPayload) → PacketV4 P → value.PacketV4
-packet_v4 carried p = record { src_addr = p.src_addr; dst_addr = p.dst_addr; hop_limit = p.hop_limit; payload = carried p.payload }
+packet_v4 carried p =
+    record { src_addr = p.src_addr; dst_addr = p.dst_addr; hop_limit = p.hop_limit; payload = carried p.payload }
 
 abbrev pub packet_v6 : {P : Type 0} → (P → value.IpPayload) → PacketV6 P → value.PacketV6
-packet_v6 carried p = record { src_addr = p.src_addr; dst_addr = p.dst_addr; hop_limit = p.hop_limit; payload = carried p.payload }
+packet_v6 carried p =
+    record { src_addr = p.src_addr; dst_addr = p.dst_addr; hop_limit = p.hop_limit; payload = carried p.payload }
 
 abbrev pub packet : Packet → value.Packet
 packet (Ipv4 p) = value.Ipv4 (packet_v4 payload p)

@@ -79,7 +79,8 @@ impl<P: Payload> PacketV4<P> {
     /// A reply with this payload to a packet with this header, as [`Packet::back`] makes it.
     #[inline(always)]
     pub fn back(header: &Ipv4Repr, payload: P) -> PacketV4<P>
-        ensures { value.Ipv4 (value_of.packet_v4 P.carried result) ≡ value.sent_back (repr.Ipv4 header.now) (P.carried payload) }
+        ensures { value.Ipv4 (value_of.packet_v4 P.carried result)
+            ≡ value.sent_back (repr.Ipv4 header.now) (P.carried payload) }
     {
         PacketV4 {
             src_addr: header.dst_addr,
@@ -109,7 +110,8 @@ impl<P: Payload> PacketV6<P> {
     /// A reply with this payload to a packet with this header, as [`Packet::back`] makes it.
     #[inline(always)]
     pub fn back(header: &Ipv6Repr, payload: P) -> PacketV6<P>
-        ensures { value.Ipv6 (value_of.packet_v6 P.carried result) ≡ value.sent_back (repr.Ipv6 header.now) (P.carried payload) }
+        ensures { value.Ipv6 (value_of.packet_v6 P.carried result)
+            ≡ value.sent_back (repr.Ipv6 header.now) (P.carried payload) }
     {
         PacketV6 {
             src_addr: header.dst_addr,

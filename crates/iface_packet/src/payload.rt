@@ -53,7 +53,8 @@ pub trait Payload: Copy {
         requires writable { IsWritablePayload (carried self.now) }
         requires short { payload_len (carried self.now) < 2 ^ 16 }
         requires room { length out.old + payload_len (carried self.now) ≤ 1514 + length (after self.now) }
-        ensures items { out.new ++ after self.now ≡ out.old ++ payload_text capabilities.now header.now (carried self.now) }
+        ensures items { out.new ++ after self.now
+            ≡ out.old ++ payload_text capabilities.now header.now (carried self.now) }
         ensures len { length out.new + length (after self.now) ≡ length out.old + payload_len (carried self.now) }
         ensures ports { HasPorts (carried self.now) };
 
@@ -543,7 +544,8 @@ impl NeighborAdvert {
     /// The ICMPv6 message of the advertisement.
     #[inline(always)]
     fn message(&self) -> Icmpv6Repr
-        ensures { result ≡ icmpv6.Ndisc (ndisc.NeighborAdvert self.now.flags self.now.target_addr (Some self.now.lladdr)) }
+        ensures { result
+            ≡ icmpv6.Ndisc (ndisc.NeighborAdvert self.now.flags self.now.target_addr (Some self.now.lladdr)) }
     {
         Icmpv6Repr::Ndisc(NdiscRepr::NeighborAdvert {
             flags: self.flags,
@@ -571,7 +573,8 @@ fn emit_tcp_header(
 )
     requires short { 20 + length octets.now < 2 ^ 16 }
     requires room { length out.old + 20 ≤ 1514 }
-    ensures items { out.new ++ octets.now ≡ out.old ++ payload_text capabilities.now header.now (value.Tcp segment.now octets.now) }
+    ensures items { out.new ++ octets.now
+        ≡ out.old ++ payload_text capabilities.now header.now (value.Tcp segment.now octets.now) }
     ensures len { length out.new ≡ length out.old + 20 }
 {
     let (src, dst) = (header.src_addr(), header.dst_addr());
@@ -591,7 +594,8 @@ fn emit_mld_header(
 )
     requires short { 16 + length records.now < 2 ^ 16 }
     requires room { length out.old + 16 ≤ 1514 }
-    ensures items { out.new ++ records.now ≡ out.old ++ payload_text capabilities.now header.now (value.Mld count records.now) }
+    ensures items { out.new ++ records.now
+        ≡ out.old ++ payload_text capabilities.now header.now (value.Mld count records.now) }
     ensures len { length out.new ≡ length out.old + 16 }
 {
     router_alert().emit(out);

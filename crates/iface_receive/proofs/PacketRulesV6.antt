@@ -27,15 +27,18 @@ ipv6_malformed source H octets none = ipv6.Malformed none (dropped H)
 
 -- a packet is read, and taken
 pub ipv6_read : (source : HardwareAddress) (H K : Host) (octets payload : List ℕ) (r : Ipv6Repr) (reply : Option Reply) (notes : List Note) →
-    IsIpv6 octets × ((r, payload) ≡ ipv6_in octets) → ipv6.ProcessesPacket source r H payload reply notes K → ProcessesIpv6 source H octets reply notes K
+    IsIpv6 octets × ((r, payload) ≡ ipv6_in octets) → ipv6.ProcessesPacket source r H payload reply notes K →
+    ProcessesIpv6 source H octets reply notes K
 ipv6_read source H K octets payload r reply notes is takes =
     let same_header : r ≡ (ipv6_in octets).0 = ap (λ (p : Ipv6Repr × List ℕ). p.0) is.1 in
     let same_payload : payload ≡ (ipv6_in octets).1 = ap (λ (p : Ipv6Repr × List ℕ). p.1) is.1 in
     ipv6.Read is.0 (rw (same_header, same_payload) at takes)
 
 -- options are read, and skipped
-pub options_skipped : (source : HardwareAddress) (H K : Host) (r : Ipv6Repr) (payload rest : List ℕ) (o : Ipv6HopByHopRepr) (failure : Ipv6OptionFailureType) (reply : Option Reply) (notes : List Note) →
-    IsHopByHop payload × ((o, rest) ≡ hop_by_hop_in payload) → failure ≡ first_failure o.options.items → failure ≡ Skip → ipv6.ProcessesDatagramV6 source r o.next_header H rest reply notes K →
+pub options_skipped : (source : HardwareAddress) (H K : Host) (r : Ipv6Repr) (payload rest : List ℕ) (o : Ipv6HopByHopRepr)
+    (failure : Ipv6OptionFailureType) (reply : Option Reply) (notes : List Note) →
+    IsHopByHop payload × ((o, rest) ≡ hop_by_hop_in payload) → failure ≡ first_failure o.options.items → failure ≡ Skip →
+    ipv6.ProcessesDatagramV6 source r o.next_header H rest reply notes K →
     ipv6.ProcessesHopByHop source r H payload reply notes K
 options_skipped source H K r payload rest o failure reply notes is fails skips takes =
     let same_options : o ≡ (hop_by_hop_in payload).0 = ap (λ (p : Ipv6HopByHopRepr × List ℕ). p.0) is.1 in
@@ -43,7 +46,8 @@ options_skipped source H K r payload rest o failure reply notes is fails skips t
     ipv6.Skipped is.0 (rw same_options at (sym fails ∙ skips)) (rw (same_options, same_rest) at takes)
 
 -- or one ends the packet
-pub options_discarded : (source : HardwareAddress) (H : Host) (r : Ipv6Repr) (payload rest : List ℕ) (o : Ipv6HopByHopRepr) (failure : Ipv6OptionFailureType) →
+pub options_discarded : (source : HardwareAddress) (H : Host) (r : Ipv6Repr) (payload rest : List ℕ)
+    (o : Ipv6HopByHopRepr) (failure : Ipv6OptionFailureType) →
     IsHopByHop payload × ((o, rest) ≡ hop_by_hop_in payload) → failure ≡ first_failure o.options.items → failure ≢ Skip →
     ipv6.ProcessesHopByHop source r H payload (ipv6.unknown_option failure H.ip_addrs r payload) [] H
 options_discarded source H r payload rest o failure is fails ends =
@@ -51,7 +55,8 @@ options_discarded source H r payload rest o failure is fails ends =
     ipv6.Discarded failure is.0 (rw same_options at (sym fails)) ends refl refl refl
 
 -- a payload is taken by its protocol
-pub taken_by_protocol_v6 : (p q : IpProtocol) (raw : Bool) (r : Ipv6Repr) (H K : Host) (octets : List ℕ) (reply : Option Reply) (notes : List Note) → p ≡ q →
+pub taken_by_protocol_v6 : (p q : IpProtocol) (raw : Bool) (r : Ipv6Repr) (H K : Host) (octets : List ℕ)
+    (reply : Option Reply) (notes : List Note) → p ≡ q →
     ipv6.ProcessesProtocol q raw r H octets reply notes K → ipv6.ProcessesProtocol p raw r H octets reply notes K
 taken_by_protocol_v6 p q raw r H K octets reply notes is takes = rw is takes
 
@@ -64,9 +69,12 @@ protocol_refused_v6 p raw r H octets (inr (inr (inl is))) = rw is (record { repl
 protocol_refused_v6 p raw r H octets (inr (inr (inr unknown))) = rw unknown.1 (record { replied = refl; unnoted = refl; unchanged = refl })
 
 -- a payload for the host is heard by raw sockets, and its sender renewed
-pub payload_accepted : (source : HardwareAddress) (H heard_by renewed K : Host) (r : Ipv6Repr) (p : IpProtocol) (payload : List ℕ) (handled_by_raw_socket : Bool) (reply : Option Reply) (notes : List Note) →
-    is_for_host H (Ipv6 r.dst_addr) ≡ true → handled_by_raw_socket ≡ is_taken (repr.Ipv6 r) H → heard_by ≡ host_after_raw_delivery (repr.Ipv6 r) payload H → renewed ≡ sender_renewed source (repr.Ipv6 r) heard_by →
+pub payload_accepted : (source : HardwareAddress) (H heard_by renewed K : Host) (r : Ipv6Repr) (p : IpProtocol) (payload : List ℕ)
+    (handled_by_raw_socket : Bool) (reply : Option Reply) (notes : List Note) →
+    is_for_host H (Ipv6 r.dst_addr) ≡ true → handled_by_raw_socket ≡ is_taken (repr.Ipv6 r) H →
+    heard_by ≡ host_after_raw_delivery (repr.Ipv6 r) payload H → renewed ≡ sender_renewed source (repr.Ipv6 r) heard_by →
     ipv6.ProcessesProtocol p handled_by_raw_socket r renewed payload reply notes K → ipv6.ProcessesDatagramV6 source r p H payload reply notes K
 payload_accepted source H heard_by renewed K r p payload handled_by_raw_socket reply notes ours taken hears renews takes =
-    let mid : renewed ≡ sender_renewed source (repr.Ipv6 r) (host_after_raw_delivery (repr.Ipv6 r) payload H) = renews ∙ ap (sender_renewed source (repr.Ipv6 r)) hears in
+    let mid : renewed ≡ sender_renewed source (repr.Ipv6 r) (host_after_raw_delivery (repr.Ipv6 r) payload H) = renews
+    ∙ ap (sender_renewed source (repr.Ipv6 r)) hears in
     ipv6.Accepted ours (rw (mid, taken) at takes)

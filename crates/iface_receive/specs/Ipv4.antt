@@ -20,11 +20,15 @@ abbrev pub end_of_slots : Context → ℤ
 end_of_slots c = c.moment +ℤ pos c.reassembly_timeout
 
 -- the payload of a whole packet is its own, and no assembler changes; a fragment is added to those received before
-pub data Datagram (ends : ℤ) (r : Ipv4Repr) (f : Ipv4Fragment) (payload : List ℕ) (result : Option (List ℕ)) (old new : List (Assembly FragKey)) : Type 0 where
+pub data Datagram (ends : ℤ) (r : Ipv4Repr) (f : Ipv4Fragment) (payload : List ℕ) (result : Option (List ℕ))
+    (old new : List (Assembly FragKey)) : Type 0 where
   Own : is_fragment f ≡ false → result ≡ Some payload → new ≡ old → Datagram ends r f payload result old new
-  Together : is_fragment f ≡ true → ((slots : Slots) → StandForSlots old slots → Reassembled ends (key_in r f) (fragment_in f payload) result slots new) →
+  Together : is_fragment f ≡ true → ((slots : Slots) →
+      StandForSlots old slots → Reassembled ends (key_in r f) (fragment_in f payload) result slots new) →
       Datagram ends r f payload result old new
 
 -- that, once the borrow of the octets has ended
-abbrev pub RestsDatagram : MutBor (List (Assembly FragKey)) → ℤ → Ipv4Repr → Ipv4Fragment → List ℕ → Option (Bor (List ℕ)) → Fml
-RestsDatagram s ends r f payload result = Rests (set.the_row key.the_row) s (λ places. Datagram ends r f payload (option_map (λ b. b.now) result) s.now places)
+abbrev pub RestsDatagram : MutBor (List (Assembly FragKey)) → ℤ → Ipv4Repr → Ipv4Fragment →
+    List ℕ → Option (Bor (List ℕ)) → Fml
+RestsDatagram s ends r f payload result = Rests (set.the_row key.the_row) s
+    (λ places. Datagram ends r f payload (option_map (λ b. b.now) result) s.now places)

@@ -1,6 +1,7 @@
 //! How an interface processes frames, by their link-layer header (RFC 894, RFC 1122 2.4).
 ghost use Rattle.std.specs.Prelude.{◌≡◌, ◌<◌, [], length};
-ghost use Rattle.host_machine.specs.Receiving.Ethernet.{ProcessesFrame, ProcessesEthernet, ProcessesIp, ProcessesEthertype, is_for};
+ghost use Rattle.host_machine.specs.Receiving.Ethernet.{ProcessesFrame, ProcessesEthernet};
+ghost use Rattle.host_machine.specs.Receiving.Ethernet.{ProcessesIp, ProcessesEthertype, is_for};
 ghost use Rattle.host_machine.specs.State.Host.{no_sockets};
 ghost use Rattle.iface_send.specs.Stands.{host_of};
 ghost use Rattle.iface_send.specs.Refines.{HostRefinesReplying, StandsFor};
@@ -26,7 +27,8 @@ pub fn process_frame(
 )
     requires empty { out.old ≡ [] }
     requires some { 0 < length frame.now }
-    ensures { HostRefinesReplying out.new (λ H. ProcessesFrame H.hardware_addr H frame.now) (StandsFor context.old fragments.old sockets.old) (StandsFor context.new fragments.new sockets.new) }
+    ensures { HostRefinesReplying out.new (λ H. ProcessesFrame H.hardware_addr H frame.now)
+        (StandsFor context.old fragments.old sockets.old) (StandsFor context.new fragments.new sockets.new) }
 {
     match context.hardware_addr() {
         HardwareAddress::Ethernet(own) => process_ethernet(
@@ -48,7 +50,8 @@ pub fn process_ip(
 )
     requires empty { out.old ≡ [] }
     requires some { 0 < length packet.now }
-    ensures { HostRefinesReplying out.new (λ H. ProcessesIp H packet.now) (StandsFor context.old fragments.old sockets.old) (StandsFor context.new fragments.new sockets.new) }
+    ensures { HostRefinesReplying out.new (λ H. ProcessesIp H packet.now)
+        (StandsFor context.old fragments.old sockets.old) (StandsFor context.new fragments.new sockets.new) }
 {
     let source = HardwareAddress::Ip;
     match packet[0] / 16 {
@@ -72,7 +75,8 @@ pub fn process_ethernet(
 )
     requires empty { out.old ≡ [] }
     requires own { (host_of context.old no_sockets).hardware_addr ≡ HardwareAddress.Ethernet own }
-    ensures { HostRefinesReplying out.new (λ H. ProcessesEthernet own H frame.now) (StandsFor context.old fragments.old sockets.old) (StandsFor context.new fragments.new sockets.new) }
+    ensures { HostRefinesReplying out.new (λ H. ProcessesEthernet own H frame.now)
+        (StandsFor context.old fragments.old sockets.old) (StandsFor context.new fragments.new sockets.new) }
 {
     let Some((header, payload)) = EthernetRepr::parse(frame) else {
         return;
@@ -95,7 +99,9 @@ fn process_ethertype(
 )
     requires empty { out.old ≡ [] }
     requires own { (host_of context.old no_sockets).hardware_addr ≡ HardwareAddress.Ethernet own }
-    ensures { HostRefinesReplying out.new (λ H. ProcessesEthertype own header.now.src_addr H header.now.ethertype payload.now) (StandsFor context.old fragments.old sockets.old) (StandsFor context.new fragments.new sockets.new) }
+    ensures { HostRefinesReplying out.new
+        (λ H. ProcessesEthertype own header.now.src_addr H header.now.ethertype payload.now)
+        (StandsFor context.old fragments.old sockets.old) (StandsFor context.new fragments.new sockets.new) }
 {
     match header.ethertype {
         EthernetProtocol::Arp => {

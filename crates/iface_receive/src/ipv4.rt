@@ -39,7 +39,8 @@ pub fn process_ipv4(
     out: &mut FrameBuffer,
 )
     requires { out.old ≡ [] }
-    ensures { HostRefinesReplying out.new (λ H. ProcessesIpv4 source H octets.now) (StandsFor context.old fragments.old sockets.old) (StandsFor context.new fragments.new sockets.new) }
+    ensures { HostRefinesReplying out.new (λ H. ProcessesIpv4 source H octets.now)
+        (StandsFor context.old fragments.old sockets.old) (StandsFor context.new fragments.new sockets.new) }
 {
     let checked = context.capabilities().checksum.ipv4.rx();
     let Some((header, fragment, payload)) = Ipv4Repr::parse(octets, checked) else {
@@ -67,7 +68,8 @@ fn datagram<'p>(
     payload: &'p [u8],
 ) -> Option<&'p [u8]>
     requires { length payload.now + 20 < 2 ^ 16 }
-    ensures* rests { sem 𝓛 (RestsDatagram fragments.entry (end_of_slots context.now) header.now fragment.now payload.now result) }
+    ensures* rests { sem 𝓛
+        (RestsDatagram fragments.entry (end_of_slots context.now) header.now fragment.now payload.now result) }
     ensures short { IfSome result (λ octets. length octets.now + 20 < 2 ^ 16) }
 {
     if !fragment.is_fragment() {
@@ -85,7 +87,8 @@ fn rebuilt<'s>(
     fragment: Ipv4Fragment,
     payload: &[u8],
 ) -> Option<&'s [u8]>
-    ensures* rests { sem 𝓛 (RestsReassembled fragments.entry (end_of_slots context.now) (spec.key_in header fragment) (spec.fragment_in fragment payload.now) result) }
+    ensures* rests { sem 𝓛 (RestsReassembled fragments.entry (end_of_slots context.now) (spec.key_in header fragment)
+        (spec.fragment_in fragment payload.now) result) }
     ensures short { IfSome result (λ octets. length octets.now ≤ 4096) }
 {
     let key = FragKey::new(&header, fragment.identification);
@@ -119,7 +122,8 @@ fn process_datagram(
     requires empty { out.old ≡ [] }
     requires short { length payload.now < 2 ^ 16 }
     requires quotable { 20 + header.now.payload_len < 2 ^ 16 }
-    ensures { RefinesReplying out.new (λ H. ProcessesDatagram source header.now H payload.now) (host_of context.old sockets.old) (host_of context.new sockets.new) }
+    ensures { RefinesReplying out.new (λ H. ProcessesDatagram source header.now H payload.now)
+        (host_of context.old sockets.old) (host_of context.new sockets.new) }
 {
     let packet = IpRepr::Ipv4(*header);
     let handled_by_raw_socket = raw::deliver(context, sockets, &packet, payload);
@@ -157,7 +161,9 @@ fn process_protocol(
     requires empty { out.old ≡ [] }
     requires short { length payload.now < 2 ^ 16 }
     requires quotable { 20 + header.now.payload_len < 2 ^ 16 }
-    ensures { RefinesReplying out.new (λ H. ProcessesProtocol header.now.next_header handled_by_raw_socket header.now H payload.now) (host_of context.old sockets.old) (host_of context.new sockets.new) }
+    ensures { RefinesReplying out.new
+        (λ H. ProcessesProtocol header.now.next_header handled_by_raw_socket header.now H payload.now)
+        (host_of context.old sockets.old) (host_of context.new sockets.new) }
 {
     match header.next_header {
         IpProtocol::Icmp => process_icmpv4(context, sockets, header, payload, out),

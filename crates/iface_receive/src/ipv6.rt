@@ -35,7 +35,8 @@ pub fn process_ipv6(
     out: &mut FrameBuffer,
 )
     requires { out.old ≡ [] }
-    ensures { RefinesReplying out.new (λ H. spec.ProcessesIpv6 source H octets.now) (host_of context.old sockets.old) (host_of context.new sockets.new) }
+    ensures { RefinesReplying out.new (λ H. spec.ProcessesIpv6 source H octets.now) (host_of context.old sockets.old)
+        (host_of context.new sockets.new) }
 {
     let Some((header, payload)) = Ipv6Repr::parse(octets) else {
         return;
@@ -65,7 +66,8 @@ fn process_hop_by_hop(
     requires short { length payload.now < 2 ^ 16 }
     requires tells { header.now.payload_len < 2 ^ 16 }
     requires from_one { is_unicast header.now.src_addr ≡ true }
-    ensures { RefinesReplying out.new (λ H. spec.ProcessesHopByHop source header.now H payload.now) (host_of context.old sockets.old) (host_of context.new sockets.new) }
+    ensures { RefinesReplying out.new (λ H. spec.ProcessesHopByHop source header.now H payload.now)
+        (host_of context.old sockets.old) (host_of context.new sockets.new) }
 {
     let Some((options, rest)) = Ipv6HopByHopRepr::parse(payload) else {
         return;
@@ -93,7 +95,8 @@ fn process_datagram_v6(
     requires short { length payload.now < 2 ^ 16 }
     requires tells { header.now.payload_len < 2 ^ 16 }
     requires from_one { is_unicast header.now.src_addr ≡ true }
-    ensures { RefinesReplying out.new (λ H. spec.ProcessesDatagramV6 source header.now protocol H payload.now) (host_of context.old sockets.old) (host_of context.new sockets.new) }
+    ensures { RefinesReplying out.new (λ H. spec.ProcessesDatagramV6 source header.now protocol H payload.now)
+        (host_of context.old sockets.old) (host_of context.new sockets.new) }
 {
     let packet = IpRepr::Ipv6(*header);
     if !context.is_for_host(&packet.dst_addr()) {
@@ -127,7 +130,9 @@ fn process_protocol(
     requires short { length payload.now < 2 ^ 16 }
     requires tells { header.now.payload_len < 2 ^ 16 }
     requires from_one { is_unicast header.now.src_addr ≡ true }
-    ensures { RefinesReplying out.new (λ H. spec.ProcessesProtocol protocol handled_by_raw_socket header.now H payload.now) (host_of context.old sockets.old) (host_of context.new sockets.new) }
+    ensures { RefinesReplying out.new
+        (λ H. spec.ProcessesProtocol protocol handled_by_raw_socket header.now H payload.now)
+        (host_of context.old sockets.old) (host_of context.new sockets.new) }
 {
     match protocol {
         IpProtocol::Icmpv6 => process_icmpv6(context, sockets, header, payload, out),
@@ -169,7 +174,8 @@ fn unrecognized_next_header(
     out: &mut FrameBuffer,
 )
     requires { out.old ≡ [] }
-    ensures { RefinesBuilding out.new (Responds (spec.unrecognized_next_header handled_by_raw_socket (host_of context.old no_sockets).ip_addrs header.now payload.now)) context.old context.new }
+    ensures { RefinesBuilding out.new (Responds (spec.unrecognized_next_header handled_by_raw_socket
+        (host_of context.old no_sockets).ip_addrs header.now payload.now)) context.old context.new }
 {
     if !handled_by_raw_socket {
         let reason = Icmpv6ParamProblem::UnrecognizedNxtHdr;

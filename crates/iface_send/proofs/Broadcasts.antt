@@ -14,7 +14,8 @@ use Rattle.host_machine.specs.State.Addresses.{is_broadcast_of, is_broadcast_v4,
 -- a number that doesn't end in two ones isn't the last of a network
 unlike : (n : Ipv4Cidr) (a : Ipv4Address) → (a.bits % 4 == 3) ≡ false → is_broadcast_of (cidr.Ipv4 n) a ≡ false
 unlike n a other = by (nat_lt n.prefix_len 31) refl where
-  by : (b : Bool) → nat_lt n.prefix_len 31 ≡ b → is_that (if b then Some (record { bits = last_of 32 n.prefix_len n.address.bits }) else None) a ≡ false
+  by : (b : Bool) → nat_lt n.prefix_len 31 ≡ b →
+      is_that (if b then Some (record { bits = last_of 32 n.prefix_len n.address.bits }) else None) a ≡ false
   by false is = refl
   by true is = grind (arith, nat_tests, ends_in_ones n.address.bits n.prefix_len (grind (arith, nat_tests, is)), other)
 

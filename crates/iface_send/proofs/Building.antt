@@ -19,22 +19,36 @@ one_frame (octet ∷ octets) some = refl
 
 module _ {Rule : Host → List (List ℕ) → List Note → Host → Type 0} where
   -- nothing was built
-  pub nothing : {buffer : List ℕ} {old new : Context} → buffer ≡ [] → ((slots : Slots) (sockets : SocketSet) → Rule (host_in old slots sockets) [] [] (host_in new slots sockets)) → RefinesBuilding buffer Rule old new
+  pub nothing : {buffer : List ℕ} {old new : Context} →
+      buffer ≡ [] → ((slots : Slots) (sockets : SocketSet) → Rule (host_in old slots sockets) [] [] (host_in new slots sockets)) →
+      RefinesBuilding buffer Rule old new
   nothing empty follows = record { notes = []; follows = λ slots sockets. rw empty (follows slots sockets) }
 
   -- one frame was built
   pub one : {buffer : List ℕ} {old new : Context} (frame : List ℕ) (notes : List Note) → buffer ≡ frame → 0 < length buffer →
-      ((slots : Slots) (sockets : SocketSet) → Rule (host_in old slots sockets) (frame ∷ []) notes (host_in new slots sockets)) → RefinesBuilding buffer Rule old new
-  one {buffer} frame notes is some follows = record { notes = notes; follows = λ slots sockets. rw (one_frame buffer some, is) (follows slots sockets) }
+      ((slots : Slots) (sockets : SocketSet) → Rule (host_in old slots sockets) (frame ∷ []) notes (host_in new slots sockets)) →
+      RefinesBuilding buffer Rule old new
+  one {buffer} frame notes is some follows =
+      record { notes = notes; follows = λ slots sockets. rw (one_frame buffer some, is) (follows slots sockets) }
 
   -- what was built by another rule
-  pub by_rule : {Other : Host → List (List ℕ) → List Note → Host → Type 0} {buffer : List ℕ} {first old new : Context} → RefinesBuilding buffer Other first new →
-      ((slots : Slots) (sockets : SocketSet) (frames : List (List ℕ)) (notes : List Note) → Other (host_in first slots sockets) frames notes (host_in new slots sockets) → Rule (host_in old slots sockets) frames notes (host_in new slots sockets)) →
+  pub by_rule : {Other : Host → List (List ℕ) → List Note → Host → Type 0} {buffer : List ℕ} {first old new : Context} →
+      RefinesBuilding buffer Other first new →
+      ((slots : Slots) (sockets : SocketSet) (frames : List (List ℕ)) (notes : List Note) →
+      Other (host_in first slots sockets) frames notes (host_in new slots sockets) →
+      Rule (host_in old slots sockets) frames notes (host_in new slots sockets)) →
       RefinesBuilding buffer Rule old new
-  by_rule {Other} {buffer} built follows = record { notes = built.notes; follows = λ slots sockets. follows slots sockets (frames_in buffer) built.notes (built.follows slots sockets) }
+  by_rule {Other} {buffer} built follows =
+      record { notes = built.notes; follows = λ slots sockets. follows slots sockets (frames_in buffer) built.notes (built.follows slots sockets) }
 
   -- what was built by another rule, with a note before its own
-  pub noting : {Other : Host → List (List ℕ) → List Note → Host → Type 0} {buffer : List ℕ} {first old new : Context} (note : Note) → RefinesBuilding buffer Other first new →
-      ((slots : Slots) (sockets : SocketSet) (frames : List (List ℕ)) (notes : List Note) → Other (host_in first slots sockets) frames notes (host_in new slots sockets) → Rule (host_in old slots sockets) frames (note ∷ notes) (host_in new slots sockets)) →
+  pub noting : {Other : Host → List (List ℕ) → List Note → Host → Type 0} {buffer : List ℕ} {first old new : Context} (note : Note) →
+      RefinesBuilding buffer Other first new →
+      ((slots : Slots) (sockets : SocketSet) (frames : List (List ℕ)) (notes : List Note) →
+      Other (host_in first slots sockets) frames notes (host_in new slots sockets) →
+      Rule (host_in old slots sockets) frames (note ∷ notes) (host_in new slots sockets)) →
       RefinesBuilding buffer Rule old new
-  noting {Other} {buffer} note built follows = record { notes = note ∷ built.notes; follows = λ slots sockets. follows slots sockets (frames_in buffer) built.notes (built.follows slots sockets) }
+  noting {Other} {buffer} note built follows = record {
+    notes = note ∷ built.notes;
+    follows = λ slots sockets. follows slots sockets (frames_in buffer) built.notes (built.follows slots sockets);
+  }

@@ -16,15 +16,20 @@ true_is_false e f = absurd (let g = sym e ∙ f in cc)
 
 module _ {D : Type 0} {tells : D → List Event → D → Type 0} where
   -- a packet that is offered
-  pub no_packet : {d : D} {packet : Option Packet} {granted : Bool} (c : Context) → tells d [] d → packet ≡ None → granted ≡ true → RefinesTelling tells d d (HasPart (IsOffered packet granted) c) c
+  pub no_packet : {d : D} {packet : Option Packet} {granted : Bool} (c : Context) →
+      tells d [] d → packet ≡ None → granted ≡ true → RefinesTelling tells d d (HasPart (IsOffered packet granted) c) c
   no_packet c quiet none is = record { told = []; notes = []; tells_it = quiet; follows = λ slots sockets. NoPacket none is refl refl refl }
 
-  pub not_granted : {d e : D} {packet : Option Packet} {granted : Bool} (c : Context) (p : Packet) → tells d (Asked c.moment false ∷ []) e → packet ≡ Some p → granted ≡ false →
+  pub not_granted : {d e : D} {packet : Option Packet} {granted : Bool} (c : Context) (p : Packet) →
+      tells d (Asked c.moment false ∷ []) e → packet ≡ Some p → granted ≡ false →
       RefinesTelling tells d e (HasPart (IsOffered packet granted) c) c
-  not_granted c p asks some is = record { told = Asked c.moment false ∷ []; notes = []; tells_it = asks; follows = λ slots sockets. NotGranted p some is refl refl refl }
+  not_granted c p asks some is =
+      record { told = Asked c.moment false ∷ []; notes = []; tells_it = asks; follows = λ slots sockets. NotGranted p some is refl refl refl }
 
-  pub goes : {d m e : D} {buffer : List ℕ} {packet : Option Packet} {granted : Bool} (c c' : Context) → ((a b c : D) (xs ys : List Event) → tells a xs b → tells b ys c → tells a (xs ++ ys) c) →
-      (p : Packet) (o : Outcome) → tells d (Asked c.moment true ∷ []) m → RefinesBuilding buffer (Dispatches p o) c c' → tells m (sends (frames_in buffer)) e → packet ≡ Some p → granted ≡ true →
+  pub goes : {d m e : D} {buffer : List ℕ} {packet : Option Packet} {granted : Bool} (c c' : Context) →
+      ((a b c : D) (xs ys : List Event) → tells a xs b → tells b ys c → tells a (xs ++ ys) c) →
+      (p : Packet) (o : Outcome) → tells d (Asked c.moment true ∷ []) m → RefinesBuilding buffer (Dispatches p o) c c' →
+      tells m (sends (frames_in buffer)) e → packet ≡ Some p → granted ≡ true →
       RefinesTelling tells d e (HasPart (IsOffered packet granted) c) c'
   goes {d} {m} {e} {buffer} c c' tells_on p o asks built sends_it some is = record {
     told = Asked c.moment true ∷ sends (frames_in buffer);

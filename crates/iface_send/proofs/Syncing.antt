@@ -8,7 +8,8 @@ use Rattle.host_machine.specs.State.Host.{Host}
 use Rattle.host_machine.specs.Sending.Multicast.{after_address_change}
 use Rattle.host_machine.specs.Sending.Slaac.{with_slaac_applied}
 
-pub in_line_by : (H K L M : Host) (list : List IpCidr) (routes : List Route) → list ≡ synced_addrs H.hardware_addr H.moment H.slaac.prefixes H.ip_addrs →
+pub in_line_by : (H K L M : Host) (list : List IpCidr) (routes : List Route) →
+    list ≡ synced_addrs H.hardware_addr H.moment H.slaac.prefixes H.ip_addrs →
     routes ≡ synced_routes H.moment H.slaac.routers H.routes → K ≡ after_address_change H list → L ≡ record K { routes = routes } →
     M ≡ record L { slaac = slaac_after_update L.slaac L.moment; slaac_updated_at = L.moment } → M ≡ with_slaac_applied H
 in_line_by H K L M list routes addresses stored k l m = rw (m, l, k, addresses, stored) refl

@@ -21,4 +21,5 @@ pub record EmitsNextPiece (H : Host) (frames : List (List ℕ)) (notes : List No
 
 -- the turn of the pending fragments, whatever the slots and the sockets are
 abbrev pub PieceHasTurn : Context → List Event → List Note → Context → Type 0
-PieceHasTurn old told notes new = (slots : Slots) (sockets : SocketSet) → Ipv4Egress (host_in old slots sockets) told notes (host_in new slots sockets)
+PieceHasTurn old told notes new = (slots : Slots) (sockets : SocketSet) →
+    Ipv4Egress (host_in old slots sockets) told notes (host_in new slots sockets)

@@ -56,7 +56,8 @@ pub fn process_advertisement(
 )
     requires { IsLifetime router_lifetime }
     ensures { (sockets : SocketSet) → host_of context.new sockets ≡ with_slaac (host_of context.old sockets)
-        (slaac_after_message (host_of context.old no_sockets).slaac router.now router_lifetime prefix (host_of context.old no_sockets).moment) }
+        (slaac_after_message (host_of context.old no_sockets).slaac router.now router_lifetime prefix
+        (host_of context.old no_sockets).moment) }
 {
     let now = context.moment;
     context
@@ -77,7 +78,8 @@ pub fn rs_sent(context: &mut Context)
 /// expired. Then, as with any change of addresses, all neighbours are forgotten, and solicited-node groups are left and
 /// joined. What has expired is forgotten.
 pub fn sync_slaac(context: &mut Context)
-    ensures { (slots : Slots) (sockets : SocketSet) → host_in context.new slots sockets ≡ after_sync (host_in context.old slots sockets) }
+    ensures { (slots : Slots) (sockets : SocketSet) →
+        host_in context.new slots sockets ≡ after_sync (host_in context.old slots sockets) }
 {
     if context.slaac.sync_required(context.moment) {
         apply_slaac(context);
@@ -115,7 +117,8 @@ fn finish_sync(context: &mut Context)
 
 /// Replaces the routes.
 fn set_routes(context: &mut Context, routes: ArrayVec<Route, IFACE_MAX_ROUTE_COUNT>)
-    ensures { (sockets : SocketSet) → host_of context.new sockets ≡ record (host_of context.old sockets) { routes = routes.items } }
+    ensures { (sockets : SocketSet) →
+        host_of context.new sockets ≡ record (host_of context.old sockets) { routes = routes.items } }
 {
     context.routes.update(move |_| routes);
 }

@@ -55,8 +55,10 @@ pub struct Context {
     pub ghost cut_to_fit: { 20 + fragmenter.size ≤ ip_mtu_of capabilities },
     pub ghost of_medium: { medium_of hardware_addr ≡ capabilities.medium },
     pub ghost own: { IsOf capabilities.medium hardware_addr } by { IsOf-prop capabilities.medium hardware_addr },
-    pub ghost neighbors: { AreOf capabilities.medium neighbor_cache } by { AreOf-prop capabilities.medium neighbor_cache },
-    pub ghost pending: { AllByRecursion (IsPart capabilities.medium) fragmenter.pieces } by { are_parts-prop capabilities.medium fragmenter.pieces },
+    pub ghost neighbors: { AreOf capabilities.medium
+        neighbor_cache } by { AreOf-prop capabilities.medium neighbor_cache },
+    pub ghost pending: { AllByRecursion (IsPart capabilities.medium)
+        fragmenter.pieces } by { are_parts-prop capabilities.medium fragmenter.pieces },
 }
 
 impl Context {
@@ -221,7 +223,8 @@ impl Context {
     /// Whether an address is one of the interface's groups, a broadcast address, or ::1.
     #[inline(never)]
     fn is_for_group_or_itself(&self, address: IpAddress) -> bool
-        ensures { result ≡ (addresses.has_multicast_group (host_of self.now no_sockets) address || addresses.is_broadcast (host_of self.now no_sockets).ip_addrs address || addresses.is_loopback address) }
+        ensures { result ≡ (addresses.has_multicast_group (host_of self.now no_sockets) address
+            || addresses.is_broadcast (host_of self.now no_sockets).ip_addrs address || addresses.is_loopback address) }
     {
         self.has_multicast_group(&address) || self.is_broadcast(&address) || is_loopback(&address)
     }
@@ -314,7 +317,8 @@ impl Context {
     /// Draws the next random 16-bit word, for values that need not be secret.
     pub fn rand_u16(&mut self) -> u16
         ensures word { result ≡ next (host_of self.old no_sockets).random / 2 ^ 48 }
-        ensures drawn { (sockets : SocketSet) → host_of self.new sockets ≡ record (host_of self.old sockets) { random = next (host_of self.old no_sockets).random } }
+        ensures drawn { (sockets : SocketSet) → host_of self.new sockets
+            ≡ record (host_of self.old sockets) { random = next (host_of self.old no_sockets).random } }
     {
         self.rand.rand_u16()
     }
@@ -322,7 +326,8 @@ impl Context {
     /// Draws the next random 32-bit word, for values that need not be secret.
     pub fn rand_u32(&mut self) -> u32
         ensures word { result ≡ next (host_of self.old no_sockets).random / 2 ^ 32 }
-        ensures drawn { (sockets : SocketSet) → host_of self.new sockets ≡ record (host_of self.old sockets) { random = next (host_of self.old no_sockets).random } }
+        ensures drawn { (sockets : SocketSet) → host_of self.new sockets
+            ≡ record (host_of self.old sockets) { random = next (host_of self.old no_sockets).random } }
     {
         self.rand.rand_u32()
     }

@@ -79,7 +79,8 @@ fn dispatch_ethernet<Q: AnyPacket>(
     requires empty { out.old ≡ [] }
     requires specified { is_unspecified (spec.destination_of (Q.stands_for packet.now)) ≡ false }
     requires writable { IsWritable (Q.stands_for packet.now) }
-    ensures { RefinesBuilding out.new (spec.DispatchesEthernet identification own (Q.stands_for packet.now) result) context.old context.new }
+    ensures { RefinesBuilding out.new
+        (spec.DispatchesEthernet identification own (Q.stands_for packet.now) result) context.old context.new }
 {
     let dst_addr = packet.dst_addr();
     if let Some(many) = multicast_hardware_addr(context, &dst_addr) {
@@ -106,7 +107,8 @@ fn dispatch_by_hop<Q: AnyPacket>(
     requires empty { out.old ≡ [] }
     requires hop { is_unicast hop.now ≡ true }
     requires writable { IsWritable (Q.stands_for packet.now) }
-    ensures { RefinesBuilding out.new (spec.DispatchesByHop identification own (Q.stands_for packet.now) hop.now result) context.old context.new }
+    ensures { RefinesBuilding out.new
+        (spec.DispatchesByHop identification own (Q.stands_for packet.now) hop.now result) context.old context.new }
 {
     match context.neighbor_cache.lookup(hop, context.moment) {
         Answer::Found(destination) => {
@@ -230,7 +232,8 @@ fn emit_packet<Q: AnyPacket>(
     requires of_medium { IsOf context.old.capabilities.medium destination.now }
     requires empty { out.old ≡ [] }
     requires writable { IsWritable (Q.stands_for packet.now) }
-    ensures { RefinesBuilding out.new (spec.Emits identification (Q.stands_for packet.now) destination.now (Ok tt)) context.old context.new }
+    ensures { RefinesBuilding out.new
+        (spec.Emits identification (Q.stands_for packet.now) destination.now (Ok tt)) context.old context.new }
 {
     let total_len = packet.total_len();
     if total_len <= context.capabilities.ip_mtu() {
@@ -262,7 +265,8 @@ fn emit_long_packet(
     requires empty { out.old ≡ [] }
     requires writable { IsWritable (value_of.packet packet.now) }
     requires long { ip_mtu_of context.old.capabilities < value.total_len (value_of.packet packet.now) }
-    ensures { RefinesBuilding out.new (spec.Emits identification (value_of.packet packet.now) destination.now (Ok tt)) context.old context.new }
+    ensures { RefinesBuilding out.new
+        (spec.Emits identification (value_of.packet packet.now) destination.now (Ok tt)) context.old context.new }
 {
     let total_len = packet.total_len();
     if let Packet::Ipv4(packet) = packet {
@@ -350,7 +354,8 @@ fn group_address_v6(group: &Ipv6Address) -> EthernetAddress
 /// Whether the next hop to an address is a neighbour with a known hardware address, so that a packet needs no
 /// discovery. An address that isn't unicast has no next hop.
 pub fn has_neighbor(context: &Context, address: &IpAddress) -> bool
-    ensures { (slots : Slots) (sockets : SocketSet) → spec.HasNeighbor (host_in context.now slots sockets) address.now result }
+    ensures { (slots : Slots) (sockets : SocketSet) →
+        spec.HasNeighbor (host_in context.now slots sockets) address.now result }
 {
     if !address.is_unicast() {
         return false;
@@ -366,7 +371,8 @@ pub fn has_neighbor(context: &Context, address: &IpAddress) -> bool
 #[inline(always)]
 fn next_hop(context: &Context, address: &IpAddress) -> Option<IpAddress>
     requires { is_unicast address.now ≡ true }
-    ensures hop { (slots : Slots) (sockets : SocketSet) → spec.IsNextHop (host_in context.now slots sockets) address.now result }
+    ensures hop { (slots : Slots) (sockets : SocketSet) →
+        spec.IsNextHop (host_in context.now slots sockets) address.now result }
     ensures unicast { IfSome result (λ hop. is_unicast hop ≡ true) }
 {
     if context.in_same_network(address) {

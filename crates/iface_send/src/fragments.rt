@@ -86,9 +86,11 @@ pub(crate) fn emit_fragmented(
     requires of_medium { IsOf context.old.capabilities.medium destination.now }
     requires empty { out.old ≡ [] }
     requires writable { IsWritablePayload (value_of.payload packet.now.payload) }
-    requires long { ip_mtu_of context.old.capabilities < value.total_len (value.Ipv4 (value_of.packet_v4 value_of.payload packet.now)) }
+    requires long { ip_mtu_of context.old.capabilities
+        < value.total_len (value.Ipv4 (value_of.packet_v4 value_of.payload packet.now)) }
     requires fits { value.total_len (value.Ipv4 (value_of.packet_v4 value_of.payload packet.now)) ≤ 4096 }
-    ensures { RefinesBuilding out.new (spec.Emits identification (value.Ipv4 (value_of.packet_v4 value_of.payload packet.now)) destination.now (Ok tt)) context.old context.new }
+    ensures { RefinesBuilding out.new (spec.Emits identification
+        (value.Ipv4 (value_of.packet_v4 value_of.payload packet.now)) destination.now (Ok tt)) context.old context.new }
 {
     fragment_packet(context, identification, destination, packet, out);
     out.clear();
@@ -108,12 +110,15 @@ fn fragment_packet(
     requires empty { scratch.old ≡ [] }
     requires writable { IsWritablePayload (value_of.payload packet.now.payload) }
     requires some { 20 < value.total_len (value.Ipv4 (value_of.packet_v4 value_of.payload packet.now)) }
-    requires long { ip_mtu_of context.old.capabilities < value.total_len (value.Ipv4 (value_of.packet_v4 value_of.payload packet.now)) }
+    requires long { ip_mtu_of context.old.capabilities
+        < value.total_len (value.Ipv4 (value_of.packet_v4 value_of.payload packet.now)) }
     requires fits { value.total_len (value.Ipv4 (value_of.packet_v4 value_of.payload packet.now)) ≤ 4096 }
     ensures left { (sockets : SocketSet) → host_of context.new sockets ≡ with_left (host_of context.old sockets)
-        (pieces_of (spec.datagram_of (host_of context.old sockets) destination.now identification (value_of.packet_v4 value_of.payload packet.now))) }
+        (pieces_of (spec.datagram_of (host_of context.old sockets) destination.now identification
+        (value_of.packet_v4 value_of.payload packet.now))) }
     ensures some { is_nil (host_of context.new no_sockets).left ≡ false }
-    ensures fits { HasForm (spec.datagram_of (host_of context.old no_sockets) destination.now identification (value_of.packet_v4 value_of.payload packet.now)) }
+    ensures fits { HasForm (spec.datagram_of (host_of context.old no_sockets) destination.now identification
+        (value_of.packet_v4 value_of.payload packet.now)) }
     ensures ports { HasPorts (value_of.payload packet.now.payload) }
 {
     let header = packet.header();

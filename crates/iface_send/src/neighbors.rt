@@ -12,7 +12,8 @@ use ip_wire::{HardwareAddress, IpAddress};
 /// Whether a neighbour is known at the interface's moment. Its address must be unicast.
 pub fn is_known(context: &Context, protocol_addr: &IpAddress) -> bool
     requires { is_unicast protocol_addr.now ≡ true }
-    ensures { result ≡ is_found (answer_of (host_of context.now no_sockets).neighbors protocol_addr.now (host_of context.now no_sockets).moment) }
+    ensures { result ≡ is_found (answer_of (host_of context.now no_sockets).neighbors protocol_addr.now
+        (host_of context.now no_sockets).moment) }
 {
     context
         .neighbor_cache
@@ -29,8 +30,11 @@ pub fn fill_neighbor(
     requires protocol { is_unicast protocol_addr ≡ true }
     requires link { hardware.is_unicast hardware_addr ≡ true }
     requires of_medium { hardware.medium_of hardware_addr ≡ (host_of context.old no_sockets).capabilities.medium }
-    ensures neighbors { Fills (host_of context.old no_sockets).neighbors (host_of context.new no_sockets).neighbors protocol_addr (record { hardware_addr = hardware_addr; expires_at = expiry_from (host_of context.old no_sockets).moment }) }
-    ensures same { (sockets : SocketSet) → host_of context.new sockets ≡ with_neighbors (host_of context.old sockets) (host_of context.new no_sockets).neighbors }
+    ensures neighbors { Fills (host_of context.old no_sockets).neighbors
+        (host_of context.new no_sockets).neighbors protocol_addr
+        (record { hardware_addr = hardware_addr; expires_at = expiry_from (host_of context.old no_sockets).moment }) }
+    ensures same { (sockets : SocketSet) → host_of context.new sockets
+        ≡ with_neighbors (host_of context.old sockets) (host_of context.new no_sockets).neighbors }
 {
     context
         .neighbor_cache
@@ -45,7 +49,9 @@ pub fn renew_neighbor(
     protocol_addr: IpAddress,
     hardware_addr: HardwareAddress,
 )
-    ensures { (sockets : SocketSet) → host_of context.new sockets ≡ with_neighbors (host_of context.old sockets) (after_renewal (host_of context.old no_sockets).neighbors protocol_addr hardware_addr (expiry_from (host_of context.old no_sockets).moment)) }
+    ensures { (sockets : SocketSet) → host_of context.new sockets
+        ≡ with_neighbors (host_of context.old sockets) (after_renewal (host_of context.old no_sockets).neighbors
+        protocol_addr hardware_addr (expiry_from (host_of context.old no_sockets).moment)) }
 {
     context
         .neighbor_cache

@@ -92,7 +92,8 @@ pub fn set_moment(context: &mut Context, now: Instant)
 
 /// Replaces the addresses, forgets all neighbours, and leaves and joins solicited-node groups to match the addresses.
 pub fn set_ip_addrs(context: &mut Context, list: ArrayVec<IpCidr, IFACE_MAX_ADDR_COUNT>)
-    ensures { (sockets : SocketSet) → host_of context.new sockets ≡ after_address_change (host_of context.old sockets) list.items }
+    ensures { (sockets : SocketSet) →
+        host_of context.new sockets ≡ after_address_change (host_of context.old sockets) list.items }
 {
     context.ip_addrs = list;
     context.neighbor_cache.flush();
@@ -105,7 +106,8 @@ pub fn set_ip_addrs(context: &mut Context, list: ArrayVec<IpCidr, IFACE_MAX_ADDR
 
 /// Turns AnyIP on or off: whether addresses that are routed to the interface count as its own.
 pub fn set_any_ip(context: &mut Context, any_ip: bool)
-    ensures { (sockets : SocketSet) → host_of context.new sockets ≡ record (host_of context.old sockets) { any_ip = any_ip } }
+    ensures { (sockets : SocketSet) →
+        host_of context.new sockets ≡ record (host_of context.old sockets) { any_ip = any_ip } }
 {
     context.any_ip = any_ip;
 }
@@ -113,7 +115,8 @@ pub fn set_any_ip(context: &mut Context, any_ip: bool)
 /// Sets the reassembly timeout of slots that are taken from now on, at most a day.
 pub fn set_reassembly_timeout(context: &mut Context, timeout: Duration)
     requires { timeout ≤ 86400000000 }
-    ensures { (sockets : SocketSet) → host_of context.new sockets ≡ record (host_of context.old sockets) { reassembly_timeout = timeout } }
+    ensures { (sockets : SocketSet) →
+        host_of context.new sockets ≡ record (host_of context.old sockets) { reassembly_timeout = timeout } }
 {
     context.reassembly_timeout = timeout;
 }
@@ -122,7 +125,8 @@ pub fn set_reassembly_timeout(context: &mut Context, timeout: Duration)
 pub fn set_hardware_addr(context: &mut Context, hardware_addr: HardwareAddress)
     requires of_medium { medium_of hardware_addr ≡ (host_of context.old no_sockets).capabilities.medium }
     requires own { IsOf (host_of context.old no_sockets).capabilities.medium hardware_addr }
-    ensures { (sockets : SocketSet) → host_of context.new sockets ≡ record (host_of context.old sockets) { hardware_addr = hardware_addr } }
+    ensures { (sockets : SocketSet) →
+        host_of context.new sockets ≡ record (host_of context.old sockets) { hardware_addr = hardware_addr } }
 {
     context.hardware_addr = hardware_addr;
 }

@@ -34,7 +34,8 @@ pub fn send_packet<D: Device>(
     packet: &Packet<'_>,
 ) -> bool
     requires { IsWritable (value_of.packet packet.now) }
-    ensures told { RefinesTelling D.tells device.old device.new (HasPart (IsOffered (Some (value_of.packet packet.now)) result) context.old) context.new }
+    ensures told { RefinesTelling D.tells device.old device.new
+        (HasPart (IsOffered (Some (value_of.packet packet.now)) result) context.old) context.new }
     ensures groups { (host_of context.new no_sockets).groups ≡ (host_of context.old no_sockets).groups }
 {
     if !device.transmit(context.now()) {

@@ -18,8 +18,10 @@ idle_not_due H i x idle d =
     absurd cc
 
 -- so the least of some places is that of idle ones behind them too
-pub below_passed : (H : Host) (from to : ℕ) (a : Option ℤ) → from ≤ to → ((i : ℕ) → from ≤ i → i < to → IsIdle H.sockets i) → IsLeast (DueBelow H from) a → IsLeast (DueBelow H to) a
-below_passed H from to a after idle least = least_same (DueBelow H from) (DueBelow H to) a (λ x d. (d.0, (let before = d.1 in omega arith), d.2)) (λ x d. back x d (cases_lt d.0 from)) least where
-  back : (x : ℤ) (d : DueBelow H to x) → ((d.0 < from) ⊎ (from ≤ d.0)) → DueBelow H from x
-  back x d (inl before) = (d.0, before, d.2)
-  back x d (inr past) = absurd (idle_not_due H d.0 x (idle d.0 past d.1) d.2)
+pub below_passed : (H : Host) (from to : ℕ) (a : Option ℤ) → from ≤ to → ((i : ℕ) → from ≤ i → i < to → IsIdle H.sockets i) →
+    IsLeast (DueBelow H from) a → IsLeast (DueBelow H to) a
+below_passed H from to a after idle least = least_same (DueBelow H from) (DueBelow H to) a (λ x d. (d.0, (let before = d.1 in omega arith), d.2))
+    (λ x d. back x d (cases_lt d.0 from)) least where
+      back : (x : ℤ) (d : DueBelow H to x) → ((d.0 < from) ⊎ (from ≤ d.0)) → DueBelow H from x
+      back x d (inl before) = (d.0, before, d.2)
+      back x d (inr past) = absurd (idle_not_due H d.0 x (idle d.0 past d.1) d.2)

@@ -1,5 +1,6 @@
 -- What datagrams and segments bring about, over plain variables.
-use Rattle.std.proofs.Common.{◌≡◌, ℕ, zero, suc, Bool, true, false, List, [], ◌∷◌, slice_get, slice_set, Option, Some, None, length, ◌<◌, refl, ap, sym, ◌∙◌, arith}
+use Rattle.std.proofs.Common.{◌≡◌, ℕ, zero, suc, Bool, true, false, List, [], ◌∷◌, slice_get}
+use Rattle.std.proofs.Common.{slice_set, Option, Some, None, length, ◌<◌, refl, ap, sym, ◌∙◌, arith}
 use Rattle.std.specs.Option.{option_map}
 use Rattle.net_base.specs.Checksum.{is_rx}
 use Rattle.ip_wire.specs.declared.ip_packet.IpRepr.{IpRepr}
@@ -22,7 +23,8 @@ use Rattle.iface_icmp.proofs.SocketIteration.{at_place}
 -- a datagram is given to the first socket that accepts it
 pub udp_delivered : (raw : Bool) (H : Host) (r : IpRepr) (octets payload : List ℕ) (ports : UdpRepr) (checked : Bool) (places : List Storage) →
     checked ≡ is_rx H.capabilities.checksum.udp → IsUdp checked (src_addr r) (dst_addr r) octets × ((ports, payload) ≡ udp_in octets) →
-    DeliversFirst (udp.accepts H.ip_addrs r ports) (udp.storage_after_delivery r ports payload) H.sockets.places places → ProcessesUdp raw r H octets None [] (with_places H places)
+    DeliversFirst (udp.accepts H.ip_addrs r ports) (udp.storage_after_delivery r ports payload) H.sockets.places places →
+    ProcessesUdp raw r H octets None [] (with_places H places)
 udp_delivered raw H r octets payload ports checked places tests is delivered =
     let same_ports : ports ≡ (udp_in octets).0 = ap (λ (p : UdpRepr × List ℕ). p.0) is.1 in
     let same_payload : payload ≡ (udp_in octets).1 = ap (λ (p : UdpRepr × List ℕ). p.1) is.1 in
@@ -34,7 +36,8 @@ pub udp_malformed : (raw : Bool) (H : Host) (r : IpRepr) (octets : List ℕ) (ch
 udp_malformed raw H r octets checked tests none = udp.Malformed (rw tests at none) (dropped H)
 
 -- or nobody accepts it
-pub udp_not_accepted : (raw : Bool) (H : Host) (r : IpRepr) (octets payload : List ℕ) (ports : UdpRepr) (checked : Bool) (places : List Storage) (reply : Option Reply) →
+pub udp_not_accepted : (raw : Bool) (H : Host) (r : IpRepr) (octets payload : List ℕ) (ports : UdpRepr) (checked : Bool)
+    (places : List Storage) (reply : Option Reply) →
     checked ≡ is_rx H.capabilities.checksum.udp → IsUdp checked (src_addr r) (dst_addr r) octets × ((ports, payload) ≡ udp_in octets) →
     NoneAccepts (udp.accepts H.ip_addrs r ports) H.sockets.places → places ≡ H.sockets.places → reply ≡ port_unreachable raw H.ip_addrs r octets →
     ProcessesUdp raw r H octets reply [] (with_places H places)
@@ -48,38 +51,54 @@ there (p ∷ ps) zero within = refl
 there (p ∷ ps) (suc i) within = there ps i (omega arith)
 
 -- the socket at an index is the first that accepts a segment
-pub segment_taken : (r : IpRepr) (t : TcpRepr) (payload : List ℕ) (old now new : List Storage) (i : ℕ) (taken : Bool) (answer : Option TcpRepr) → now ≡ old → i < length old →
-    ((k : ℕ) (other : Storage) → k < i → slice_get old k ≡ Some other → tcp.accepts r t other ≡ false) → taken ≡ tcp.accepts r t (at_place now i) → taken ≡ true →
-    new ≡ slice_set now i (tcp.storage_after_delivery r t payload (at_place now i)) → answer ≡ tcp.socket_reply t payload (at_place now i) → IsTaken r t payload old new answer
+pub segment_taken : (r : IpRepr) (t : TcpRepr) (payload : List ℕ) (old now new : List Storage) (i : ℕ) (taken : Bool) (answer : Option TcpRepr) →
+    now ≡ old → i < length old →
+    ((k : ℕ) (other : Storage) → k < i → slice_get old k ≡ Some other → tcp.accepts r t other ≡ false) →
+    taken ≡ tcp.accepts r t (at_place now i) → taken ≡ true →
+    new ≡ slice_set now i (tcp.storage_after_delivery r t payload (at_place now i)) →
+    answer ≡ tcp.socket_reply t payload (at_place now i) → IsTaken r t payload old new answer
 segment_taken r t payload old now new i taken answer same within before accepts is delivered replied = record {
   index = i;
   place = at_place old i;
-  first = record { is_there = there old i within; accepts = ap (λ ps. tcp.accepts r t (at_place ps i)) (sym same) ∙ sym accepts ∙ is; none_before = before };
+  first = record {
+    is_there = there old i within;
+    accepts = ap (λ ps. tcp.accepts r t (at_place ps i)) (sym same) ∙ sym accepts ∙ is;
+    none_before = before;
+  };
   changed = rw same at delivered;
   answers = rw same at replied;
 }
 
 -- a segment is given to the first socket that accepts it, and may be answered
-pub tcp_delivered : (raw : Bool) (H : Host) (r : IpRepr) (octets payload : List ℕ) (t : TcpRepr) (checked : Bool) (places : List Storage) (answer : Option TcpRepr) (reply : Option Reply) →
-    tcp.is_between_unspecified r ≡ false → checked ≡ is_rx H.capabilities.checksum.tcp → IsTcp checked (src_addr r) (dst_addr r) octets × ((t, payload) ≡ tcp_in octets) →
-    IsTaken r t payload H.sockets.places places answer → reply ≡ option_map (tcp.segment_back r) answer → tcp.ProcessesTcp raw r H octets reply [] (with_places H places)
+pub tcp_delivered : (raw : Bool) (H : Host) (r : IpRepr) (octets payload : List ℕ) (t : TcpRepr) (checked : Bool) (places : List Storage)
+    (answer : Option TcpRepr) (reply : Option Reply) →
+    tcp.is_between_unspecified r ≡ false → checked ≡ is_rx H.capabilities.checksum.tcp →
+    IsTcp checked (src_addr r) (dst_addr r) octets × ((t, payload) ≡ tcp_in octets) →
+    IsTaken r t payload H.sockets.places places answer → reply ≡ option_map (tcp.segment_back r) answer →
+    tcp.ProcessesTcp raw r H octets reply [] (with_places H places)
 tcp_delivered raw H r octets payload t checked places answer reply specified tests is taken replies =
     let same_header : t ≡ (tcp_in octets).0 = ap (λ (p : TcpRepr × List ℕ). p.0) is.1 in
     let same_payload : payload ≡ (tcp_in octets).1 = ap (λ (p : TcpRepr × List ℕ). p.1) is.1 in
     let whole : IsTaken r (tcp_in octets).0 (tcp_in octets).1 H.sockets.places places answer = rw (same_header, same_payload) at taken in
-    tcp.Delivered whole.index whole.place specified (rw tests at is.0) whole.first (replies ∙ ap (option_map (tcp.segment_back r)) whole.answers) refl (ap (with_places H) whole.changed)
+    tcp.Delivered whole.index whole.place specified
+    (rw tests at is.0) whole.first (replies ∙ ap (option_map (tcp.segment_back r)) whole.answers) refl (ap (with_places H) whole.changed)
 
 -- or nobody accepts it
-pub tcp_not_accepted : (raw : Bool) (H : Host) (r : IpRepr) (octets payload : List ℕ) (t : TcpRepr) (checked : Bool) (places : List Storage) (answer : Option TcpRepr) (reply : Option Reply) →
-    tcp.is_between_unspecified r ≡ false → checked ≡ is_rx H.capabilities.checksum.tcp → IsTcp checked (src_addr r) (dst_addr r) octets × ((t, payload) ≡ tcp_in octets) →
-    NoneAccepts (tcp.accepts r t) H.sockets.places → places ≡ H.sockets.places → answer ≡ tcp.reset_for raw t payload → reply ≡ option_map (tcp.segment_back r) answer →
+pub tcp_not_accepted : (raw : Bool) (H : Host) (r : IpRepr) (octets payload : List ℕ) (t : TcpRepr) (checked : Bool) (places : List Storage)
+    (answer : Option TcpRepr) (reply : Option Reply) →
+    tcp.is_between_unspecified r ≡ false → checked ≡ is_rx H.capabilities.checksum.tcp →
+    IsTcp checked (src_addr r) (dst_addr r) octets × ((t, payload) ≡ tcp_in octets) →
+    NoneAccepts (tcp.accepts r t) H.sockets.places → places ≡ H.sockets.places → answer ≡ tcp.reset_for raw t payload →
+    reply ≡ option_map (tcp.segment_back r) answer →
     tcp.ProcessesTcp raw r H octets reply [] (with_places H places)
 tcp_not_accepted raw H r octets payload t checked places answer reply specified tests is nobody same answers replies =
     let same_header : t ≡ (tcp_in octets).0 = ap (λ (p : TcpRepr × List ℕ). p.0) is.1 in
     let same_payload : payload ≡ (tcp_in octets).1 = ap (λ (p : TcpRepr × List ℕ). p.1) is.1 in
-    tcp.NotAccepted specified (rw tests at is.0) (rw same_header at nobody) (rw (same_header, same_payload) at (replies ∙ ap (option_map (tcp.segment_back r)) answers)) refl (ap (with_places H) same)
+    tcp.NotAccepted specified (rw tests at is.0) (rw same_header at nobody)
+    (rw (same_header, same_payload) at (replies ∙ ap (option_map (tcp.segment_back r)) answers)) refl (ap (with_places H) same)
 
 -- octets that are no segment
-pub tcp_malformed : (raw : Bool) (H : Host) (r : IpRepr) (octets : List ℕ) (checked : Bool) → tcp.is_between_unspecified r ≡ false → checked ≡ is_rx H.capabilities.checksum.tcp →
+pub tcp_malformed : (raw : Bool) (H : Host) (r : IpRepr) (octets : List ℕ) (checked : Bool) →
+    tcp.is_between_unspecified r ≡ false → checked ≡ is_rx H.capabilities.checksum.tcp →
     (IsTcp checked (src_addr r) (dst_addr r) octets → ⊥) → tcp.ProcessesTcp raw r H octets None [] H
 tcp_malformed raw H r octets checked specified tests none = tcp.Malformed specified (rw tests at none) (dropped H)

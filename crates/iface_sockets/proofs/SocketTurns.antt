@@ -1,5 +1,6 @@
 -- The turns of sockets, from their parts.
-use Rattle.std.proofs.Common.{◌≡◌, ℕ, ◌+◌, ◌-◌, ◌<◌, Bool, true, false, List, [], ◌∷◌, ◌++◌, length, ◌≤◌, refl, sym, ap, ◌∙◌, subst, zero, suc, ◌⊎◌, inl, inr, get_or, arith, Option, Some, None, Ok, Err}
+use Rattle.std.proofs.Common.{◌≡◌, ℕ, ◌+◌, ◌-◌, ◌<◌, Bool, true, false, List, [], ◌∷◌, ◌++◌, length, ◌≤◌, refl, sym}
+use Rattle.std.proofs.Common.{ap, ◌∙◌, subst, zero, suc, ◌⊎◌, inl, inr, get_or, arith, Option, Some, None, Ok, Err}
 use Rattle.std.specs.Prelude.{not, IfSome, IsSome, IsNone, ℤ, ◌||◌, is_ok, slice_get, slice_set}
 use Rattle.std.specs.Option.{option_map, option_and_then}
 use Rattle.std.proofs.lemmas.List.{set-get_or, set-set}
@@ -22,7 +23,9 @@ use Rattle.host_machine.specs.State.Addresses.{source_for}
 use Rattle.host_machine.specs.Sending.Packet as value
 use Rattle.host_machine.specs.Sending.Frame.{frames_in, sends}
 use Rattle.host_machine.specs.Sending.Dispatch.{Outcome, Dispatches, HasNeighbor, destination_of}
-use Rattle.host_machine.specs.Sending.Egress.{SocketTurn, packet_of, packet_from, socket_after_asking, turn_of, is_done, is_exhausted, Silent, Refused, Sent, Free, Waits, Served, wait_after, Begins, Goes, Stops, Stopped, Whole, Serves, Walks, SocketEgress}
+use Rattle.host_machine.specs.Sending.Egress.{SocketTurn, packet_of, packet_from, socket_after_asking, turn_of, is_done}
+use Rattle.host_machine.specs.Sending.Egress.{is_exhausted, Silent, Refused, Sent, Free, Waits, Served, wait_after}
+use Rattle.host_machine.specs.Sending.Egress.{Begins, Goes, Stops, Stopped, Whole, Serves, Walks, SocketEgress}
 use Rattle.iface_send.specs.declared.context.Context.{Context}
 use Rattle.iface_send.specs.Refines.{RefinesBuilding, RefinesTelling}
 use Rattle.iface_send.specs.Stands.{host_in, host_of}
@@ -47,20 +50,24 @@ kept_turn p (Ok done) is = absurd cc
 kept_turn p (Err error) is = refl
 
 -- what a socket is told of its packet
-module _ {s s' : Socket} {packet : Option value.Packet} {t : Turn} {H new : Host} {told_it : List Event} {notes : List Note} (is : packet_from H s ≡ packet) where
-  was_gone : t ≡ Done → s' ≡ socket_after_told true (socket_after_asking H s) → OfferTurn packet t H told_it notes new → SocketTurn s t s' H told_it notes new
+module _ {s s' : Socket} {packet : Option value.Packet} {t : Turn} {H new : Host} {told_it : List Event}
+    {notes : List Note} (is : packet_from H s ≡ packet) where
+  was_gone : t ≡ Done → s' ≡ socket_after_told true (socket_after_asking H s) →
+      OfferTurn packet t H told_it notes new → SocketTurn s t s' H told_it notes new
   was_gone gone tells_it (NoPacket none idle o n e) = absurd cc
   was_gone gone tells_it (NotGiven p some refused o n e) = absurd cc
   was_gone gone tells_it (Given p (Ok done) frames some d turns o) = Sent p (Ok done) frames (is ∙ some) d turns o tells_it
   was_gone gone tells_it (Given p (Err error) frames some d turns o) = absurd cc
 
-  was_kept : (a : IpAddress) → t ≡ Deferred a → s' ≡ socket_after_told false (socket_after_asking H s) → OfferTurn packet t H told_it notes new → SocketTurn s t s' H told_it notes new
+  was_kept : (a : IpAddress) → t ≡ Deferred a → s' ≡ socket_after_told false (socket_after_asking H s) →
+      OfferTurn packet t H told_it notes new → SocketTurn s t s' H told_it notes new
   was_kept a kept tells_it (NoPacket none idle o n e) = absurd cc
   was_kept a kept tells_it (NotGiven p some refused o n e) = absurd cc
   was_kept a kept tells_it (Given p (Ok done) frames some d turns o) = absurd cc
   was_kept a kept tells_it (Given p (Err error) frames some d turns o) = Sent p (Err error) frames (is ∙ some) d turns o tells_it
 
-  was_idle : (t ≡ Idle) ⊎ (t ≡ Exhausted) → s' ≡ socket_after_asking H s → OfferTurn packet t H told_it notes new → SocketTurn s t s' H told_it notes new
+  was_idle : (t ≡ Idle) ⊎ (t ≡ Exhausted) → s' ≡ socket_after_asking H s →
+      OfferTurn packet t H told_it notes new → SocketTurn s t s' H told_it notes new
   was_idle rests settles (NoPacket none idle o n e) = Silent (is ∙ none) idle o n e settles
   was_idle rests settles (NotGiven p some refused o n e) = Refused p (is ∙ some) refused o n e settles
   was_idle (inl idle) settles (Given p (Ok done) frames some d turns o) = absurd cc
@@ -69,18 +76,24 @@ module _ {s s' : Socket} {packet : Option value.Packet} {t : Turn} {H new : Host
   was_idle (inr refused) settles (Given p (Err error) frames some d turns o) = absurd cc
 
 module _ {D : Type 0} {tells : D → List Event → D → Type 0} where
-  pub silent : {d : D} (c : Context) {s s' : Socket} → tells d [] d → packet_from (host_of c no_sockets) s ≡ None → s' ≡ socket_after_asking (host_of c no_sockets) s → RefinesTelling tells d d (HasTurn s Idle s' c) c
+  pub silent : {d : D} (c : Context) {s s' : Socket} → tells d [] d → packet_from (host_of c no_sockets) s ≡ None →
+      s' ≡ socket_after_asking (host_of c no_sockets) s → RefinesTelling tells d d (HasTurn s Idle s' c) c
   silent c quiet none settles = record { told = []; notes = []; tells_it = quiet; follows = λ slots sockets. Silent none refl refl refl refl settles }
 
   -- of what is offered
-  pub no_packet : {d : D} (c : Context) {packet : Option value.Packet} → tells d [] d → packet ≡ None → RefinesTelling tells d d (OfferHasTurn packet Idle c) c
+  pub no_packet : {d : D} (c : Context) {packet : Option value.Packet} →
+      tells d [] d → packet ≡ None → RefinesTelling tells d d (OfferHasTurn packet Idle c) c
   no_packet c quiet none = record { told = []; notes = []; tells_it = quiet; follows = λ slots sockets. NoPacket none refl refl refl refl }
 
-  pub not_given : {d e : D} (c : Context) (p : value.Packet) → tells d (Asked c.moment false ∷ []) e → RefinesTelling tells d e (OfferHasTurn (Some p) Exhausted c) c
-  not_given c p asks = record { told = Asked c.moment false ∷ []; notes = []; tells_it = asks; follows = λ slots sockets. NotGiven p refl refl refl refl refl }
+  pub not_given : {d e : D} (c : Context) (p : value.Packet) →
+      tells d (Asked c.moment false ∷ []) e → RefinesTelling tells d e (OfferHasTurn (Some p) Exhausted c) c
+  not_given c p asks =
+      record { told = Asked c.moment false ∷ []; notes = []; tells_it = asks; follows = λ slots sockets. NotGiven p refl refl refl refl refl }
 
-  given : {d m e : D} {buffer : List ℕ} (c c' : Context) {t : Turn} → ((a b c : D) (xs ys : List Event) → tells a xs b → tells b ys c → tells a (xs ++ ys) c) →
-      (p : value.Packet) (o : Outcome) → tells d (Asked c.moment true ∷ []) m → RefinesBuilding buffer (Dispatches p o) c c' → tells m (sends (frames_in buffer)) e → t ≡ turn_of p o → RefinesTelling tells d e (OfferHasTurn (Some p) t c) c'
+  given : {d m e : D} {buffer : List ℕ} (c c' : Context) {t : Turn} →
+      ((a b c : D) (xs ys : List Event) → tells a xs b → tells b ys c → tells a (xs ++ ys) c) →
+      (p : value.Packet) (o : Outcome) → tells d (Asked c.moment true ∷ []) m → RefinesBuilding buffer (Dispatches p o) c c' →
+      tells m (sends (frames_in buffer)) e → t ≡ turn_of p o → RefinesTelling tells d e (OfferHasTurn (Some p) t c) c'
   given {d} {m} {e} {buffer} c c' tells_on p o asks built sends_it turns = record {
     told = Asked c.moment true ∷ sends (frames_in buffer);
     notes = built.notes;
@@ -88,27 +101,48 @@ module _ {D : Type 0} {tells : D → List Event → D → Type 0} where
     follows = λ slots sockets. Given p o (frames_in buffer) refl (built.follows slots sockets) turns refl;
   }
 
-  pub given_gone : {d m e : D} {buffer : List ℕ} (c c' : Context) → ((a b c : D) (xs ys : List Event) → tells a xs b → tells b ys c → tells a (xs ++ ys) c) →
-      (p : value.Packet) (o : Outcome) (gone : Bool) → tells d (Asked c.moment true ∷ []) m → RefinesBuilding buffer (Dispatches p o) c c' → tells m (sends (frames_in buffer)) e → gone ≡ is_ok o → gone ≡ true →
+  pub given_gone : {d m e : D} {buffer : List ℕ} (c c' : Context) →
+      ((a b c : D) (xs ys : List Event) → tells a xs b → tells b ys c → tells a (xs ++ ys) c) →
+      (p : value.Packet) (o : Outcome) (gone : Bool) → tells d (Asked c.moment true ∷ []) m → RefinesBuilding buffer (Dispatches p o) c c' →
+      tells m (sends (frames_in buffer)) e → gone ≡ is_ok o → gone ≡ true →
       RefinesTelling tells d e (OfferHasTurn (Some p) Done c) c'
   given_gone c c' tells_on p o gone asks built sends_it is_it is = given c c' tells_on p o asks built sends_it (gone_turn p o (sym is_it ∙ is))
 
-  pub given_kept : {d m e : D} {buffer : List ℕ} (c c' : Context) {a : IpAddress} → ((a b c : D) (xs ys : List Event) → tells a xs b → tells b ys c → tells a (xs ++ ys) c) →
-      (p : value.Packet) (o : Outcome) (gone : Bool) → tells d (Asked c.moment true ∷ []) m → RefinesBuilding buffer (Dispatches p o) c c' → tells m (sends (frames_in buffer)) e → gone ≡ is_ok o → gone ≡ false →
+  pub given_kept : {d m e : D} {buffer : List ℕ} (c c' : Context) {a : IpAddress} →
+      ((a b c : D) (xs ys : List Event) → tells a xs b → tells b ys c → tells a (xs ++ ys) c) →
+      (p : value.Packet) (o : Outcome) (gone : Bool) → tells d (Asked c.moment true ∷ []) m → RefinesBuilding buffer (Dispatches p o) c c' →
+      tells m (sends (frames_in buffer)) e → gone ≡ is_ok o → gone ≡ false →
       a ≡ destination_of p → RefinesTelling tells d e (OfferHasTurn (Some p) (Deferred a) c) c'
-  given_kept c c' tells_on p o gone asks built sends_it is_it is goes_to = given c c' tells_on p o asks built sends_it (ap Deferred goes_to ∙ kept_turn p o (sym is_it ∙ is))
+  given_kept c c' tells_on p o gone asks built sends_it is_it is goes_to =
+      given c c' tells_on p o asks built sends_it (ap Deferred goes_to ∙ kept_turn p o (sym is_it ∙ is))
 
   -- of the socket that offered it
-  module _ {d e : D} (c c' : Context) {s s' asked_so : Socket} {packet : Option value.Packet} {t : Turn} (is : packet_from (host_of c no_sockets) s ≡ packet) (settles : asked_so ≡ socket_after_asking (host_of c no_sockets) s)
+  module _ {d e : D} (c c' : Context) {s s' asked_so : Socket} {packet : Option value.Packet} {t : Turn}
+      (is : packet_from (host_of c no_sockets) s ≡ packet) (settles : asked_so ≡ socket_after_asking (host_of c no_sockets) s)
       (offer : RefinesTelling tells d e (OfferHasTurn packet t c) c') where
     turned_gone : t ≡ Done → s' ≡ socket_after_told true asked_so → RefinesTelling tells d e (HasTurn s t s' c) c'
-    turned_gone gone tells_it = record { told = offer.told; notes = offer.notes; tells_it = offer.tells_it; follows = λ slots sockets. was_gone is gone (rw (← settles) tells_it) (offer.follows slots sockets) }
+    turned_gone gone tells_it = record {
+      told = offer.told;
+      notes = offer.notes;
+      tells_it = offer.tells_it;
+      follows = λ slots sockets. was_gone is gone (rw (← settles) tells_it) (offer.follows slots sockets);
+    }
 
     turned_kept : (a : IpAddress) → t ≡ Deferred a → s' ≡ socket_after_told false asked_so → RefinesTelling tells d e (HasTurn s t s' c) c'
-    turned_kept a kept tells_it = record { told = offer.told; notes = offer.notes; tells_it = offer.tells_it; follows = λ slots sockets. was_kept is a kept (rw (← settles) tells_it) (offer.follows slots sockets) }
+    turned_kept a kept tells_it = record {
+      told = offer.told;
+      notes = offer.notes;
+      tells_it = offer.tells_it;
+      follows = λ slots sockets. was_kept is a kept (rw (← settles) tells_it) (offer.follows slots sockets);
+    }
 
     turned_idle : (t ≡ Idle) ⊎ (t ≡ Exhausted) → s' ≡ asked_so → RefinesTelling tells d e (HasTurn s t s' c) c'
-    turned_idle rests same = record { told = offer.told; notes = offer.notes; tells_it = offer.tells_it; follows = λ slots sockets. was_idle is rests (same ∙ settles) (offer.follows slots sockets) }
+    turned_idle rests same = record {
+      told = offer.told;
+      notes = offer.notes;
+      tells_it = offer.tells_it;
+      follows = λ slots sockets. was_idle is rests (same ∙ settles) (offer.follows slots sockets);
+    }
 
     -- which was told of its packet
     pub turned_told : (gone : Bool) → outcome_of t ≡ Some gone → s' ≡ socket_after_told gone asked_so → RefinesTelling tells d e (HasTurn s t s' c) c'
@@ -148,13 +182,16 @@ free_slot (Some None) is inside = refl
 free_slot (Some (Some t)) is inside = absurd cc
 
 -- what a closure of this kind is told, the host is told
-told_as : {P Q : IpAddress → Bool → Type 0} (w : Wait) (known : Bool) → ((a : IpAddress) (k : Bool) → P a k → Q a k) → IsAnswerFor P w known → IsAnswerFor Q w known
+told_as : {P Q : IpAddress → Bool → Type 0} (w : Wait) (known : Bool) →
+    ((a : IpAddress) (k : Bool) → P a k → Q a k) → IsAnswerFor P w known → IsAnswerFor Q w known
 told_as None known tells is = is
 told_as (Some wait) known tells is = tells wait.0 known is
 
 -- it is decided whether the socket of a place may be asked
-pub decided : {P : IpAddress → Bool → Type 0} (c : Context) (sockets new : SocketSet) (i : ℕ) (permitted : Bool) → ((slots : Slots) (a : IpAddress) (k : Bool) → P a k → HasNeighbor (host_in c slots sockets) a k) →
-    (IsSome (socket_at sockets i) → (known : Bool) × IsAnswerFor P (wait_at sockets i) known × (permitted ≡ is_permitted (wait_at sockets i) known c.moment) × (new ≡ with_wait sockets i (after_asking (wait_at sockets i) known))) →
+pub decided : {P : IpAddress → Bool → Type 0} (c : Context) (sockets new : SocketSet) (i : ℕ) (permitted : Bool) →
+    ((slots : Slots) (a : IpAddress) (k : Bool) → P a k → HasNeighbor (host_in c slots sockets) a k) →
+    (IsSome (socket_at sockets i) → (known : Bool) × IsAnswerFor P (wait_at sockets i) known
+    × (permitted ≡ is_permitted (wait_at sockets i) known c.moment) × (new ≡ with_wait sockets i (after_asking (wait_at sockets i) known))) →
     (IsNone (socket_at sockets i) → (permitted ≡ false) × (new ≡ sockets)) → IsPermitted c sockets i permitted new
 decided {P} c sockets new i permitted knows asked none = by (socket_at sockets i) refl where
   by : (o : Option Socket) → socket_at sockets i ≡ o → IsPermitted c sockets i permitted new
@@ -170,7 +207,8 @@ waits_on (Some wait) true t is = absurd cc
 waits_on (Some wait) false t is = refl
 
 -- the wait after it was decided stands at its place
-decided_wait : (ws : List Wait) (i : ℕ) (known : Bool) → get_or (slice_set ws i (after_asking (get_or ws i None) known)) i None ≡ after_asking (get_or ws i None) known
+decided_wait : (ws : List Wait) (i : ℕ) (known : Bool) →
+    get_or (slice_set ws i (after_asking (get_or ws i None) known)) i None ≡ after_asking (get_or ws i None) known
 decided_wait [] i known = refl
 decided_wait (w ∷ ws) zero known = refl
 decided_wait (w ∷ ws) (suc i) known = decided_wait ws i known
@@ -191,7 +229,8 @@ waits_back (w ∷ ws) zero is = ap (λ (v : Wait). v ∷ ws) (sym is)
 waits_back (w ∷ ws) (suc i) is = ap (λ (rest : List Wait). w ∷ rest) (waits_back ws i is)
 
 -- a place that may be asked has a socket
-there : (c : Context) (sockets mid : SocketSet) (i : ℕ) (permitted : Bool) → permitted ≡ true → IsPermitted c sockets i permitted mid → socket_at mid i ≡ None → ⊥
+there : (c : Context) (sockets mid : SocketSet) (i : ℕ) (permitted : Bool) →
+    permitted ≡ true → IsPermitted c sockets i permitted mid → socket_at mid i ≡ None → ⊥
 there c sockets mid i permitted allowed (NoSocket none isn_t same) free = absurd cc
 there c sockets mid i permitted allowed (OfSocket s known some knows is same) free =
     let both : Some s ≡ None = sym some ∙ sym (ap (λ (x : SocketSet). socket_at x i) same) ∙ free in
@@ -199,21 +238,40 @@ there c sockets mid i permitted allowed (OfSocket s known some knows is same) fr
 
 module _ {D : Type 0} {tells : D → List Event → D → Type 0} where
   -- a place that isn't asked has its turn for nothing
-  pub not_asked : {d : D} (c : Context) (slots : Slots) (sockets new : SocketSet) (i : ℕ) (permitted : Bool) → tells d [] d → i < length sockets.places → permitted ≡ false →
+  pub not_asked : {d : D} (c : Context) (slots : Slots) (sockets new : SocketSet) (i : ℕ) (permitted : Bool) →
+      tells d [] d → i < length sockets.places → permitted ≡ false →
       IsPermitted c sockets i permitted new → RefinesTelling tells d d (Serves i Idle (host_in c slots sockets)) (host_in c slots new)
   not_asked c slots sockets new i permitted quiet within refused (NoSocket none isn_t same) =
-      rw same (record { told = []; notes = []; tells_it = quiet; follows = Free (free_slot (slice_get sockets.places i) none (inside sockets.places i within)) refl refl refl refl })
+      rw same (record {
+        told = [];
+        notes = [];
+        tells_it = quiet;
+        follows = Free (free_slot (slice_get sockets.places i) none (inside sockets.places i within)) refl refl refl refl;
+      })
   not_asked c slots sockets new i permitted quiet within refused (OfSocket s known some knows is same) =
       let not_permitted : is_permitted (wait_at sockets i) known c.moment ≡ false = sym is ∙ refused in
-      let unchanged : new ≡ sockets = same ∙ ap (with_wait sockets i) (waits_on (wait_at sockets i) known c.moment not_permitted) ∙ ap (λ (ws : List Wait). record sockets { waits = ws }) (set-get_or sockets.waits i None) in
-      rw unchanged (record { told = []; notes = []; tells_it = quiet; follows = Waits s known (taken_place (slice_get sockets.places i) s some) (knows slots) not_permitted refl refl refl refl })
+      let unchanged : new ≡ sockets = same ∙ ap (with_wait sockets i) (waits_on (wait_at sockets i) known c.moment not_permitted)
+      ∙ ap (λ (ws : List Wait). record sockets { waits = ws }) (set-get_or sockets.waits i None) in
+      rw unchanged (record {
+        told = [];
+        notes = [];
+        tells_it = quiet;
+        follows = Waits s known (taken_place (slice_get sockets.places i) s some) (knows slots) not_permitted refl refl refl refl;
+      })
 
   -- a place whose socket doesn't wait and has nothing to send has its turn for nothing
-  pub idle_served : {d : D} (c : Context) (slots : Slots) (sockets : SocketSet) (i : ℕ) → tells d [] d → i < length sockets.places → IsIdle sockets i →
+  pub idle_served : {d : D} (c : Context) (slots : Slots) (sockets : SocketSet) (i : ℕ) →
+      tells d [] d → i < length sockets.places → IsIdle sockets i →
       RefinesTelling tells d d (Serves i Idle (host_in c slots sockets)) (host_in c slots sockets)
   idle_served {d} c slots sockets i quiet within rests = by (socket_at sockets i) refl rests where
-    by : (o : Option Socket) → socket_at sockets i ≡ o → IfSome o (λ s. (kinds.poll_at s ≡ Ingress) × (wait_at sockets i ≡ None)) → RefinesTelling tells d d (Serves i Idle (host_in c slots sockets)) (host_in c slots sockets)
-    by None none rests = record { told = []; notes = []; tells_it = quiet; follows = Free (free_slot (slice_get sockets.places i) none (inside sockets.places i within)) refl refl refl refl }
+    by : (o : Option Socket) → socket_at sockets i ≡ o → IfSome o (λ s. (kinds.poll_at s ≡ Ingress) × (wait_at sockets i ≡ None)) →
+        RefinesTelling tells d d (Serves i Idle (host_in c slots sockets)) (host_in c slots sockets)
+    by None none rests = record {
+      told = [];
+      notes = [];
+      tells_it = quiet;
+      follows = Free (free_slot (slice_get sockets.places i) none (inside sockets.places i within)) refl refl refl refl;
+    }
     by (Some s) some rests =
         let no_wait = rests.1 in
         let q = socket_quiet (source_for c.ip_addrs.items) s c.moment c.timely.low (rw rests.0 tt) in
@@ -229,7 +287,8 @@ module _ {D : Type 0} {tells : D → List Event → D → Type 0} where
         }
 
   -- the socket of a place had its turn, and waits or not from then on
-  was_asked : {d e : D} (c c' : Context) (s s' : Socket) (t : Turn) (slots : Slots) (sockets mid new : SocketSet) (i : ℕ) (permitted : Bool) → permitted ≡ true →
+  was_asked : {d e : D} (c c' : Context) (s s' : Socket) (t : Turn) (slots : Slots) (sockets mid new : SocketSet) (i : ℕ) (permitted : Bool) →
+      permitted ≡ true →
       IsPermitted c sockets i permitted mid → Some s ≡ socket_at mid i → RefinesTelling tells d e (HasTurn s t s' c) c' →
       new ≡ with_wait (with_place mid i (Some s')) i (wait_after t c.moment (wait_at (with_place mid i (Some s')) i)) →
       RefinesTelling tells d e (Serves i t (host_in c slots sockets)) (host_in c' slots new)
@@ -248,15 +307,20 @@ module _ {D : Type 0} {tells : D → List Event → D → Type 0} where
         told = turned.told;
         notes = turned.notes;
         tells_it = turned.tells_it;
-        follows = Served s s' known (host_in c' slots sockets) (taken_place (slice_get sockets.places i) s at_place) (knows slots) (sym is ∙ allowed) (turned.follows slots sockets) (ap (host_in c' slots) whole);
+        follows = Served s s' known (host_in c' slots sockets) (taken_place (slice_get sockets.places i) s at_place) (knows slots) (sym is ∙ allowed)
+            (turned.follows slots sockets) (ap (host_in c' slots) whole);
       }
 
   -- and so, whatever its kind
-  pub was_served : {d e : D} (c c' : Context) (t : Turn) (slots : Slots) (sockets mid turned new : SocketSet) (i : ℕ) (permitted : Bool) → permitted ≡ true → IsPermitted c sockets i permitted mid →
-      IfSome (socket_at mid i) (λ s. (after : Socket) × RefinesTelling tells d e (HasTurn s t after c) c' × (turned ≡ with_place mid i (Some after))) →
-      new ≡ with_wait turned i (wait_after t c.moment (wait_at turned i)) → RefinesTelling tells d e (Serves i t (host_in c slots sockets)) (host_in c' slots new)
+  pub was_served : {d e : D} (c c' : Context) (t : Turn) (slots : Slots) (sockets mid turned new : SocketSet) (i : ℕ) (permitted : Bool) →
+      permitted ≡ true → IsPermitted c sockets i permitted mid →
+      IfSome (socket_at mid i)
+      (λ s. (after : Socket) × RefinesTelling tells d e (HasTurn s t after c) c' × (turned ≡ with_place mid i (Some after))) →
+      new ≡ with_wait turned i (wait_after t c.moment (wait_at turned i)) →
+      RefinesTelling tells d e (Serves i t (host_in c slots sockets)) (host_in c' slots new)
   was_served {d} {e} c c' t slots sockets mid turned new i permitted allowed decided had changed = by (socket_at mid i) refl had where
-    by : (o : Option Socket) → socket_at mid i ≡ o → IfSome o (λ s. (after : Socket) × RefinesTelling tells d e (HasTurn s t after c) c' × (turned ≡ with_place mid i (Some after))) →
+    by : (o : Option Socket) → socket_at mid i ≡ o →
+        IfSome o (λ s. (after : Socket) × RefinesTelling tells d e (HasTurn s t after c) c' × (turned ≡ with_place mid i (Some after))) →
         RefinesTelling tells d e (Serves i t (host_in c slots sockets)) (host_in c' slots new)
     by None none had = absurd (there c sockets mid i permitted allowed decided none)
     by (Some s) some had =
@@ -266,7 +330,8 @@ module _ {D : Type 0} {tells : D → List Event → D → Type 0} where
   pub none_served : {d : D} (H : Host) → tells d [] d → RefinesTelling tells d d (Walks H 0 true false) H
   none_served H quiet = record { told = []; notes = []; tells_it = quiet; follows = Begins }
 
-  pub one_served : {d m e : D} {old mid new : Host} {n : ℕ} {changed : Bool} → ((a b c : D) (xs ys : List Event) → tells a xs b → tells b ys c → tells a (xs ++ ys) c) →
+  pub one_served : {d m e : D} {old mid new : Host} {n : ℕ} {changed : Bool} →
+      ((a b c : D) (xs ys : List Event) → tells a xs b → tells b ys c → tells a (xs ++ ys) c) →
       (t : Turn) → RefinesTelling tells d m (Walks old n true changed) mid → RefinesTelling tells m e (Serves n t mid) new → is_exhausted t ≡ false →
       RefinesTelling tells d e (Walks old (n + 1) true (changed || is_done t)) new
   one_served {d} {m} {e} {new = new} tells_on t so one granted = record {
@@ -277,9 +342,12 @@ module _ {D : Type 0} {tells : D → List Event → D → Type 0} where
   }
 
   -- over idle places a walk goes on for nothing
-  pub idle_passed : {d m : D} {old : Host} {changed : Bool} → ((a b c : D) (xs ys : List Event) → tells a xs b → tells b ys c → tells a (xs ++ ys) c) → tells m [] m →
-      (c : Context) (slots : Slots) (sockets : SocketSet) (from to : ℕ) → from ≤ to → to ≤ length sockets.places → ((i : ℕ) → from ≤ i → i < to → IsIdle sockets i) →
-      RefinesTelling tells d m (Walks old from true changed) (host_in c slots sockets) → RefinesTelling tells d m (Walks old to true changed) (host_in c slots sockets)
+  pub idle_passed : {d m : D} {old : Host} {changed : Bool} →
+      ((a b c : D) (xs ys : List Event) → tells a xs b → tells b ys c → tells a (xs ++ ys) c) → tells m [] m →
+      (c : Context) (slots : Slots) (sockets : SocketSet) (from to : ℕ) →
+      from ≤ to → to ≤ length sockets.places → ((i : ℕ) → from ≤ i → i < to → IsIdle sockets i) →
+      RefinesTelling tells d m (Walks old from true changed) (host_in c slots sockets) →
+      RefinesTelling tells d m (Walks old to true changed) (host_in c slots sockets)
   idle_passed {d} {m} {old} {changed} tells_on quiet c slots sockets from to behind within idle so = walk (to - from) from (omega arith) idle so where
     at : ℕ → Type 0
     at n = RefinesTelling tells d m (Walks old n true changed) (host_in c slots sockets)
@@ -288,10 +356,12 @@ module _ {D : Type 0} {tells : D → List Event → D → Type 0} where
     walk zero n is idle so = subst at (omega (arith, is)) so
     walk (suc k) n is idle so =
         let one = idle_served c slots sockets n quiet (omega (arith, is)) (idle n (omega arith) (omega (arith, is))) in
-        let next : at (n + 1) = subst (λ (b : Bool). RefinesTelling tells d m (Walks old (n + 1) true b) (host_in c slots sockets)) (or_false changed) (one_served tells_on Idle so one refl) in
+        let next : at (n + 1) = subst (λ (b : Bool). RefinesTelling tells d m (Walks old (n + 1) true b) (host_in c slots sockets))
+        (or_false changed) (one_served tells_on Idle so one refl) in
         walk k (n + 1) (omega (arith, is)) (λ i after. idle i (omega (arith, after))) next
 
-  pub one_refused : {d m e : D} {old mid new : Host} {n : ℕ} {changed : Bool} → ((a b c : D) (xs ys : List Event) → tells a xs b → tells b ys c → tells a (xs ++ ys) c) →
+  pub one_refused : {d m e : D} {old mid new : Host} {n : ℕ} {changed : Bool} →
+      ((a b c : D) (xs ys : List Event) → tells a xs b → tells b ys c → tells a (xs ++ ys) c) →
       (t : Turn) → RefinesTelling tells d m (Walks old n true changed) mid → RefinesTelling tells m e (Serves n t mid) new → is_exhausted t ≡ true →
       RefinesTelling tells d e (SocketEgress old changed) new
   one_refused {d} {m} {e} {new = new} {n = n} tells_on t so one is = record {
@@ -301,7 +371,8 @@ module _ {D : Type 0} {tells : D → List Event → D → Type 0} where
     follows = Stopped (n + 1) (Stops t one.told one.notes new so.follows one.follows is);
   }
 
-  pub all_served : {d e : D} {old new : Host} {n : ℕ} {changed : Bool} → RefinesTelling tells d e (Walks old n true changed) new → n ≡ length old.sockets.places → RefinesTelling tells d e (SocketEgress old changed) new
+  pub all_served : {d e : D} {old new : Host} {n : ℕ} {changed : Bool} → RefinesTelling tells d e (Walks old n true changed) new →
+      n ≡ length old.sockets.places → RefinesTelling tells d e (SocketEgress old changed) new
   all_served {old = old} {new = new} {changed = changed} so all = record {
     told = so.told;
     notes = so.notes;

@@ -7,7 +7,8 @@ use Rattle.host_machine.specs.Receiving.Delivery.{IsFirst}
 use Rattle.host_machine.specs.Receiving.Tcp.{accepts, storage_after_delivery, socket_reply}
 
 -- the first socket that accepts it got it, and gave this answer
-pub record IsTaken (r : IpRepr) (t : TcpRepr) (payload : List ℕ) (old new : List Storage) (answer : Option TcpRepr) : Type 0 where
+pub record IsTaken (r : IpRepr) (t : TcpRepr) (payload : List ℕ) (old new : List Storage)
+    (answer : Option TcpRepr) : Type 0 where
   pub index : ℕ
   pub place : Storage
   pub first : IsFirst (accepts r t) old index place

@@ -28,7 +28,8 @@ pub(crate) fn give_icmp_turn<D: Device>(
     device: &mut D,
     out: &mut FrameBuffer,
 ) -> Turn
-    ensures { RefinesTelling D.tells device.old device.new (HasTurn (kinds.up_icmp socket.old) result (kinds.up_icmp socket.new) context.old) context.new }
+    ensures { RefinesTelling D.tells device.old device.new
+        (HasTurn (kinds.up_icmp socket.old) result (kinds.up_icmp socket.new) context.old) context.new }
 {
     let Some(message) = socket.offer(context) else {
         return Turn::Idle;

@@ -38,7 +38,8 @@ pub(crate) fn send_if<D: Device>(
     packet: Option<Packet<'_>>,
 ) -> Turn
     requires { IfSome packet (λ p. IsWritable (value_of.packet p)) }
-    ensures { RefinesTelling D.tells device.old device.new (OfferHasTurn (option_map value_of.packet packet.entry) result context.old) context.new }
+    ensures { RefinesTelling D.tells device.old device.new
+        (OfferHasTurn (option_map value_of.packet packet.entry) result context.old) context.new }
 {
     match packet {
         Some(packet) => send(context, device, out, &packet),
@@ -55,7 +56,8 @@ pub(crate) fn send<D: Device, Q: AnyPacket>(
     packet: &Q,
 ) -> Turn
     requires { IsWritable (Q.stands_for packet.now) }
-    ensures { RefinesTelling D.tells device.old device.new (OfferHasTurn (Some (Q.stands_for packet.now)) result context.old) context.new }
+    ensures { RefinesTelling D.tells device.old device.new
+        (OfferHasTurn (Some (Q.stands_for packet.now)) result context.old) context.new }
 {
     if !device.transmit(context.now()) {
         return Turn::Exhausted;
@@ -78,7 +80,8 @@ pub(crate) fn packet_between<'p>(
     payload: IpPayload<'p>,
 ) -> Option<Packet<'p>>
     requires { IsWritablePayload (value_of.payload payload) }
-    ensures value { option_map value_of.packet result ≡ egress.packet_between src_addr.now dst_addr.now hop_limit (value_of.payload payload.entry) }
+    ensures value { option_map value_of.packet result
+        ≡ egress.packet_between src_addr.now dst_addr.now hop_limit (value_of.payload payload.entry) }
     ensures writable { IfSome result (λ p. IsWritable (value_of.packet p)) }
 {
     match (src_addr, dst_addr) {

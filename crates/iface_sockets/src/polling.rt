@@ -15,8 +15,8 @@ use slaac::earlier_of;
 use socket_set::{SocketSet, by_index};
 use sockets::{PollAt, SocketContext};
 
-/// The earliest instant at which a socket has work: its own instant, or the end of its wait. Idle sockets, which have no
-/// instant, are skipped. `None` if no socket has one.
+/// The earliest instant at which a socket has work: its own instant, or the end of its wait. Idle sockets, which have
+/// no instant, are skipped. `None` if no socket has one.
 pub fn sockets_poll_at(context: &Context, sockets: &SocketSet<'_>) -> Option<Instant>
     ensures { (slots : Slots) → IsLeast (SocketsDue (host_in context.now slots sockets.now)) result }
 {
@@ -29,7 +29,8 @@ pub fn sockets_poll_at(context: &Context, sockets: &SocketSet<'_>) -> Option<Ins
             index,
             now,
             |address: IpAddress| -> bool
-                ensures { (slots : Slots) (others : SocketSet) → HasNeighbor (host_in context.exit.now slots others) address result }
+                ensures { (slots : Slots) (others : SocketSet) →
+                    HasNeighbor (host_in context.exit.now slots others) address result }
             { has_neighbor(context, &address) },
         );
         least = earlier_of(least, instant_of(own));

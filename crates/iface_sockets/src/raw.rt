@@ -35,7 +35,8 @@ pub fn deliver(
 ) -> bool
     requires { TellsLength header.now }
     ensures taken { result ≡ is_taken header.now (host_of context.now sockets.old) }
-    ensures heard { host_of context.now sockets.new ≡ host_after_raw_delivery header.now payload.now (host_of context.now sockets.old) }
+    ensures heard { host_of context.now sockets.new
+        ≡ host_after_raw_delivery header.now payload.now (host_of context.now sockets.old) }
 {
     if !by_index::may_have_portless(sockets) {
         return false;
@@ -54,7 +55,8 @@ fn deliver_to_accepting(
 ) -> bool
     requires { TellsLength header.now }
     ensures taken { result ≡ is_taken header.now (host_of context.now sockets.old) }
-    ensures heard { host_of context.now sockets.new ≡ host_after_raw_delivery header.now payload.now (host_of context.now sockets.old) }
+    ensures heard { host_of context.now sockets.new
+        ≡ host_after_raw_delivery header.now payload.now (host_of context.now sockets.old) }
 {
     if !is_accepted(sockets, header) {
         return false;
@@ -96,7 +98,8 @@ fn deliver_to_each(
 ) -> bool
     requires { TellsLength header.now }
     ensures taken { result ≡ is_taken header.now (host_of context.now sockets.old) }
-    ensures heard { host_of context.now sockets.new ≡ host_after_raw_delivery header.now payload.now (host_of context.now sockets.old) }
+    ensures heard { host_of context.now sockets.new
+        ≡ host_after_raw_delivery header.now payload.now (host_of context.now sockets.old) }
 {
     let summed = context.capabilities().checksum.ipv4.tx();
     let mut taken = false;
@@ -118,7 +121,8 @@ fn deliver_at(
 ) -> bool
     requires { TellsLength header.now }
     ensures taken { result ≡ takes header.now (socket_at sockets.old index) }
-    ensures heard { sockets.new ≡ with_place sockets.old index (to_this (takes header.now) (storage_after_delivery summed header.now payload.now) (socket_at sockets.old index)) }
+    ensures heard { sockets.new ≡ with_place sockets.old index (to_this (takes header.now)
+        (storage_after_delivery summed header.now payload.now) (socket_at sockets.old index)) }
     ensures len { length sockets.new.places ≡ length sockets.old.places }
 {
     let Some(socket) = by_index::kind_mut::<raw::Socket<'_>, _>(sockets, index) else {
@@ -139,7 +143,8 @@ pub(crate) fn give_raw_turn<D: Device>(
     device: &mut D,
     out: &mut FrameBuffer,
 ) -> Turn
-    ensures { RefinesTelling D.tells device.old device.new (HasTurn (kinds.up_raw socket.old) result (kinds.up_raw socket.new) context.old) context.new }
+    ensures { RefinesTelling D.tells device.old device.new
+        (HasTurn (kinds.up_raw socket.old) result (kinds.up_raw socket.new) context.old) context.new }
 {
     let Some(packet) = socket.offer() else {
         return Turn::Idle;

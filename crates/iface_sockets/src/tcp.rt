@@ -43,7 +43,8 @@ pub fn process_tcp(
 )
     requires empty { out.old ≡ [] }
     requires short { length octets.now < 2 ^ 16 }
-    ensures { RefinesReplying out.new (λ H. spec.ProcessesTcp handled_by_raw_socket header.now H octets.now) (host_of context.old sockets.old) (host_of context.new sockets.new) }
+    ensures { RefinesReplying out.new (λ H. spec.ProcessesTcp handled_by_raw_socket header.now H octets.now)
+        (host_of context.old sockets.old) (host_of context.new sockets.new) }
 {
     if is_between_unspecified(header) {
         return;
@@ -93,7 +94,8 @@ fn send_tcp_reply(
     out: &mut FrameBuffer,
 )
     requires { out.old ≡ [] }
-    ensures { RefinesBuilding out.new (Responds (option_map (spec.segment_back header.now) repr)) context.old context.new }
+    ensures { RefinesBuilding out.new
+        (Responds (option_map (spec.segment_back header.now) repr)) context.old context.new }
 {
     let Some(repr) = repr else {
         return;
@@ -122,7 +124,8 @@ fn deliver(
     payload: &[u8],
 ) -> (bool, Option<TcpRepr>)
     requires { length payload.now < 2 ^ 16 }
-    ensures taken { result.0 ≡ true → IsTaken header.now repr.now payload.now sockets.old.places sockets.new.places result.1 }
+    ensures taken { result.0 ≡ true →
+        IsTaken header.now repr.now payload.now sockets.old.places sockets.new.places result.1 }
     ensures nobody { result.0 ≡ false → NoneAccepts (spec.accepts header.now repr.now) sockets.old.places }
     ensures kept { result.0 ≡ false → sockets.new ≡ sockets.old }
     ensures waits { sockets.new ≡ with_places sockets.old sockets.new.places }
@@ -134,8 +137,10 @@ fn deliver(
 /// The index of the first socket that accepts a segment, or the number of indices if there is none.
 #[inline(always)]
 fn find_socket(sockets: &SocketSet<'_>, header: &IpRepr, repr: &TcpRepr) -> usize
-    ensures none_before { (k : ℕ) (other : Storage) → k < result → slice_get sockets.now.places k ≡ Some other → spec.accepts header.now repr.now other ≡ false }
-    ensures found { result < length sockets.now.places → spec.accepts header.now repr.now (socket_at sockets.now result) ≡ true }
+    ensures none_before { (k : ℕ) (other : Storage) → k < result → slice_get sockets.now.places k ≡ Some other →
+        spec.accepts header.now repr.now other ≡ false }
+    ensures found { result < length sockets.now.places →
+        spec.accepts header.now repr.now (socket_at sockets.now result) ≡ true }
     ensures within { result ≤ length sockets.now.places }
 {
     let port = Some(repr.dst_port);
@@ -168,8 +173,8 @@ fn accepts_at(sockets: &SocketSet<'_>, index: usize, header: &IpRepr, repr: &Tcp
     socket.accepts(&source, &destination)
 }
 
-/// Delivers a segment to the socket at an index, which accepts it. Returns its answer, or `false` and no answer if there
-/// is no such index.
+/// Delivers a segment to the socket at an index, which accepts it. Returns its answer, or `false` and no answer if
+/// there is no such index.
 fn deliver_at(
     sockets: &mut SocketSet<'_>,
     index: usize,
@@ -178,10 +183,13 @@ fn deliver_at(
     payload: &[u8],
 ) -> (bool, Option<TcpRepr>)
     requires short { length payload.now < 2 ^ 16 }
-    requires found { index < length sockets.old.places → spec.accepts header.now repr.now (socket_at sockets.old index) ≡ true }
+    requires found { index < length sockets.old.places →
+        spec.accepts header.now repr.now (socket_at sockets.old index) ≡ true }
     ensures accepted { result.0 ≡ spec.accepts header.now repr.now (socket_at sockets.old index) }
-    ensures delivered { result.0 ≡ true → sockets.new.places ≡ slice_set sockets.old.places index (spec.storage_after_delivery header.now repr.now payload.now (socket_at sockets.old index)) }
-    ensures replied { result.0 ≡ true → result.1 ≡ spec.socket_reply repr.now payload.now (socket_at sockets.old index) }
+    ensures delivered { result.0 ≡ true → sockets.new.places ≡ slice_set sockets.old.places index
+        (spec.storage_after_delivery header.now repr.now payload.now (socket_at sockets.old index)) }
+    ensures replied { result.0 ≡ true →
+        result.1 ≡ spec.socket_reply repr.now payload.now (socket_at sockets.old index) }
     ensures kept { result.0 ≡ false → sockets.new ≡ sockets.old }
     ensures waits { sockets.new ≡ with_places sockets.old sockets.new.places }
 {
@@ -199,7 +207,8 @@ pub(crate) fn give_tcp_turn<D: Device>(
     device: &mut D,
     out: &mut FrameBuffer,
 ) -> Turn
-    ensures { RefinesTelling D.tells device.old device.new (HasTurn (kinds.up_tcp socket.old) result (kinds.up_tcp socket.new) context.old) context.new }
+    ensures { RefinesTelling D.tells device.old device.new
+        (HasTurn (kinds.up_tcp socket.old) result (kinds.up_tcp socket.new) context.old) context.new }
 {
     let Some(segment) = socket.offer(context) else {
         return Turn::Idle;

@@ -37,7 +37,8 @@ pub fn socket_egress<D: Device>(
     out: &mut FrameBuffer,
     sockets: &mut SocketSet<'_>,
 ) -> bool
-    ensures { (slots : Slots) → RefinesTelling D.tells device.old device.new (spec.SocketEgress (host_in context.old slots sockets.old) result) (host_in context.new slots sockets.new) }
+    ensures { (slots : Slots) → RefinesTelling D.tells device.old device.new
+        (spec.SocketEgress (host_in context.old slots sockets.old) result) (host_in context.new slots sockets.new) }
 {
     let mut changed = false;
     let mut index = by_index::next_busy(sockets, 0);
@@ -62,7 +63,8 @@ fn serve<D: Device>(
     index: usize,
 ) -> Turn
     requires { index < length sockets.old.places }
-    ensures told { (slots : Slots) → RefinesTelling D.tells device.old device.new (spec.Serves index result (host_in context.old slots sockets.old)) (host_in context.new slots sockets.new) }
+    ensures told { (slots : Slots) → RefinesTelling D.tells device.old device.new
+        (spec.Serves index result (host_in context.old slots sockets.old)) (host_in context.new slots sockets.new) }
     ensures places { length sockets.new.places ≡ length sockets.old.places }
 {
     if by_index::rest(sockets, index) {
@@ -81,7 +83,8 @@ fn serve_busy<D: Device>(
     index: usize,
 ) -> Turn
     requires { index < length sockets.old.places }
-    ensures told { (slots : Slots) → RefinesTelling D.tells device.old device.new (spec.Serves index result (host_in context.old slots sockets.old)) (host_in context.new slots sockets.new) }
+    ensures told { (slots : Slots) → RefinesTelling D.tells device.old device.new
+        (spec.Serves index result (host_in context.old slots sockets.old)) (host_in context.new slots sockets.new) }
     ensures places { length sockets.new.places ≡ length sockets.old.places }
 {
     let now = context.now();
@@ -103,7 +106,8 @@ fn is_permitted(context: &Context, sockets: &mut SocketSet<'_>, index: usize) ->
         index,
         context.now(),
         |address: IpAddress| -> bool
-            ensures { (slots : Slots) (others : SocketSet) → HasNeighbor (host_in context.exit.now slots others) address result }
+            ensures { (slots : Slots) (others : SocketSet) →
+                HasNeighbor (host_in context.exit.now slots others) address result }
         { has_neighbor(context, &address) },
     )
 }
@@ -128,7 +132,9 @@ fn give_turn<D: Device>(
     device: &mut D,
     out: &mut FrameBuffer,
 ) -> Turn
-    ensures { IfSome (socket_at sockets.old index) (λ before. (after : Socket) × RefinesTelling D.tells device.old device.new (HasTurn before result after context.old) context.new × (sockets.new ≡ with_place sockets.old index (Some after))) }
+    ensures { IfSome (socket_at sockets.old index) (λ before. (after : Socket)
+        × RefinesTelling D.tells device.old device.new (HasTurn before result after context.old) context.new
+        × (sockets.new ≡ with_place sockets.old index (Some after))) }
 {
     if let Some(udp) = by_index::kind_mut::<udp::Socket<'_>, _>(sockets, index) {
         return give_udp_turn(udp, context, device, out);

@@ -40,7 +40,8 @@ pub fn process_udp(
 )
     requires empty { out.old ≡ [] }
     requires quotable { TellsLength header.now }
-    ensures { RefinesReplying out.new (λ H. ProcessesUdp handled_by_raw_socket header.now H octets.now) (host_of context.old sockets.old) (host_of context.new sockets.new) }
+    ensures { RefinesReplying out.new (λ H. ProcessesUdp handled_by_raw_socket header.now H octets.now)
+        (host_of context.old sockets.old) (host_of context.new sockets.new) }
 {
     let checked = context.capabilities().checksum.udp.rx();
     let source = header.src_addr();
@@ -63,8 +64,11 @@ fn deliver(
     ports: &UdpRepr,
     payload: &[u8],
 ) -> bool
-    ensures delivered { result ≡ true → DeliversFirst (accepts (host_of context.now no_sockets).ip_addrs header.now ports.now) (storage_after_delivery header.now ports.now payload.now) sockets.old.places sockets.new.places }
-    ensures nobody { result ≡ false → NoneAccepts (accepts (host_of context.now no_sockets).ip_addrs header.now ports.now) sockets.old.places }
+    ensures delivered { result ≡ true →
+        DeliversFirst (accepts (host_of context.now no_sockets).ip_addrs header.now ports.now)
+        (storage_after_delivery header.now ports.now payload.now) sockets.old.places sockets.new.places }
+    ensures nobody { result ≡ false →
+        NoneAccepts (accepts (host_of context.now no_sockets).ip_addrs header.now ports.now) sockets.old.places }
     ensures kept { result ≡ false → sockets.new ≡ sockets.old }
     ensures waits { sockets.new ≡ with_places sockets.old sockets.new.places }
 {
@@ -81,8 +85,10 @@ fn find_socket(
     header: &IpRepr,
     ports: &UdpRepr,
 ) -> usize
-    ensures none_before { (k : ℕ) (other : Storage) → k < result → slice_get sockets.now.places k ≡ Some other → accepts (host_of context.now no_sockets).ip_addrs header.now ports.now other ≡ false }
-    ensures found { result < length sockets.now.places → accepts (host_of context.now no_sockets).ip_addrs header.now ports.now (socket_at sockets.now result) ≡ true }
+    ensures none_before { (k : ℕ) (other : Storage) → k < result → slice_get sockets.now.places k ≡ Some other →
+        accepts (host_of context.now no_sockets).ip_addrs header.now ports.now other ≡ false }
+    ensures found { result < length sockets.now.places →
+        accepts (host_of context.now no_sockets).ip_addrs header.now ports.now (socket_at sockets.now result) ≡ true }
     ensures within { result ≤ length sockets.now.places }
 {
     if accepts_at(context, sockets, 0, header, ports) {
@@ -104,8 +110,10 @@ fn find_among_several(
     header: &IpRepr,
     ports: &UdpRepr,
 ) -> usize
-    ensures none_before { (k : ℕ) (other : Storage) → k < result → slice_get sockets.now.places k ≡ Some other → accepts (host_of context.now no_sockets).ip_addrs header.now ports.now other ≡ false }
-    ensures found { result < length sockets.now.places → accepts (host_of context.now no_sockets).ip_addrs header.now ports.now (socket_at sockets.now result) ≡ true }
+    ensures none_before { (k : ℕ) (other : Storage) → k < result → slice_get sockets.now.places k ≡ Some other →
+        accepts (host_of context.now no_sockets).ip_addrs header.now ports.now other ≡ false }
+    ensures found { result < length sockets.now.places →
+        accepts (host_of context.now no_sockets).ip_addrs header.now ports.now (socket_at sockets.now result) ≡ true }
     ensures within { result ≤ length sockets.now.places }
 {
     let port = Some(ports.dst_port);
@@ -128,7 +136,8 @@ fn accepts_at(
     header: &IpRepr,
     ports: &UdpRepr,
 ) -> bool
-    ensures { result ≡ accepts (host_of context.now no_sockets).ip_addrs header.now ports.now (socket_at sockets.now index) }
+    ensures { result
+        ≡ accepts (host_of context.now no_sockets).ip_addrs header.now ports.now (socket_at sockets.now index) }
 {
     match by_index::kind::<udp::Socket<'_>, _>(sockets, index) {
         Some(socket) => socket.accepts(context, &header.dst_addr(), ports.dst_port),
@@ -146,9 +155,12 @@ fn deliver_at(
     ports: &UdpRepr,
     payload: &[u8],
 ) -> bool
-    requires found { index < length sockets.old.places → accepts (host_of context.now no_sockets).ip_addrs header.now ports.now (socket_at sockets.old index) ≡ true }
-    ensures accepted { result ≡ accepts (host_of context.now no_sockets).ip_addrs header.now ports.now (socket_at sockets.old index) }
-    ensures delivered { result ≡ true → sockets.new.places ≡ slice_set sockets.old.places index (storage_after_delivery header.now ports.now payload.now (socket_at sockets.old index)) }
+    requires found { index < length sockets.old.places →
+        accepts (host_of context.now no_sockets).ip_addrs header.now ports.now (socket_at sockets.old index) ≡ true }
+    ensures accepted { result
+        ≡ accepts (host_of context.now no_sockets).ip_addrs header.now ports.now (socket_at sockets.old index) }
+    ensures delivered { result ≡ true → sockets.new.places ≡ slice_set sockets.old.places index
+        (storage_after_delivery header.now ports.now payload.now (socket_at sockets.old index)) }
     ensures kept { result ≡ false → sockets.new ≡ sockets.old }
     ensures waits { sockets.new ≡ with_places sockets.old sockets.new.places }
 {
@@ -171,7 +183,8 @@ pub(crate) fn give_udp_turn<D: Device>(
     device: &mut D,
     out: &mut FrameBuffer,
 ) -> Turn
-    ensures { RefinesTelling D.tells device.old device.new (HasTurn (kinds.up_udp socket.old) result (kinds.up_udp socket.new) context.old) context.new }
+    ensures { RefinesTelling D.tells device.old device.new
+        (HasTurn (kinds.up_udp socket.old) result (kinds.up_udp socket.new) context.old) context.new }
 {
     let Some(datagram) = socket.offer(context) else {
         return Turn::Idle;
@@ -190,7 +203,8 @@ fn send_datagram<D: Device>(
     out: &mut FrameBuffer,
     datagram: &udp::Packet<'_>,
 ) -> Turn
-    ensures { RefinesTelling D.tells device.old device.new (OfferHasTurn (egress.packet_of (kinds.UdpOffer (udp.value_of datagram.now))) result context.old) context.new }
+    ensures { RefinesTelling D.tells device.old device.new
+        (OfferHasTurn (egress.packet_of (kinds.UdpOffer (udp.value_of datagram.now))) result context.old) context.new }
 {
     let hop_limit = datagram.hop_limit;
     let payload = Datagram {

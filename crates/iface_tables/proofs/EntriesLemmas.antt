@@ -48,7 +48,8 @@ module _ {K X : Type 0} (R : K → K → Ordering) where
   pub find-there : (k : K) (es : List (K × X)) (d : K × X) → index_of R k es < length es → find R k es ≡ Some (get_or es (index_of R k es) d).1
   find-there k [] d h = absurd (omega arith)
   find-there k (e ∷ es) d h =
-      elim (eq_by_cmp R k e.0) as (λ b. cond b 0 (index_of R k es + 1) < suc (length es) → cond b (Some e.1) (find R k es) ≡ Some (get_or (e ∷ es) (cond b 0 (index_of R k es + 1)) d).1) [
+      elim (eq_by_cmp R k e.0) as (λ b. cond b 0 (index_of R k es + 1) < suc (length es) →
+      cond b (Some e.1) (find R k es) ≡ Some (get_or (e ∷ es) (cond b 0 (index_of R k es + 1)) d).1) [
         | true ↦ λ h. refl
         | false ↦ λ h. rw add-one (find-there k es d (omega arith))
       ] h
@@ -70,7 +71,8 @@ module _ {K X : Type 0} {R : K → K → Ordering} (o : IsTotalOrder R) (same : 
   pub key-there : (k : K) (es : List (K × X)) (d : K × X) → index_of R k es < length es → (get_or es (index_of R k es) d).0 ≡ k
   key-there k [] d h = absurd (omega arith)
   key-there k (e ∷ es) d h =
-      elim (eq_by_cmp R k e.0) as (λ b. eq_by_cmp R k e.0 ≡ b → cond b 0 (index_of R k es + 1) < suc (length es) → (get_or (e ∷ es) (cond b 0 (index_of R k es + 1)) d).0 ≡ k) [
+      elim (eq_by_cmp R k e.0) as (λ b. eq_by_cmp R k e.0 ≡ b → cond b 0 (index_of R k es + 1) < suc (length es) →
+      (get_or (e ∷ es) (cond b 0 (index_of R k es + 1)) d).0 ≡ k) [
         | true ↦ λ t h. sym (tied o same k e.0 t)
         | false ↦ λ t h. rw add-one (key-there k es d (omega arith))
       ] refl h
@@ -78,11 +80,17 @@ module _ {K X : Type 0} {R : K → K → Ordering} (o : IsTotalOrder R) (same : 
   -- a key that is not there is not at a place
   not_at : (k : K) (es : List (K × X)) (i : ℕ) (d : K × X) → find R k es ≡ None → i < length es → eq_by_cmp R k (get_or es i d).0 ≡ false
   not_at k [] i d none h = absurd (omega arith)
-  not_at k (e ∷ es) zero d none h = elim (eq_by_cmp R k e.0) as (λ b. cond b (Some e.1) (find R k es) ≡ None → b ≡ false) [ true ↦ λ n. cc | false ↦ λ n. refl ] none
-  not_at k (e ∷ es) (suc i) d none h = elim (eq_by_cmp R k e.0) as (λ b. cond b (Some e.1) (find R k es) ≡ None → eq_by_cmp R k (get_or es i d).0 ≡ false) [ true ↦ λ n. cc | false ↦ λ n. not_at k es i d n (omega arith) ] none
+  not_at k (e ∷ es) zero d none h =
+      elim (eq_by_cmp R k e.0) as (λ b. cond b (Some e.1) (find R k es) ≡ None → b ≡ false) [ true ↦ λ n. cc | false ↦ λ n. refl ] none
+  not_at k (e ∷ es) (suc i) d none h =
+      elim (eq_by_cmp R k e.0) as (λ b. cond b (Some e.1) (find R k es) ≡ None → eq_by_cmp R k (get_or es i d).0 ≡ false) [
+        | true ↦ λ n. cc
+        | false ↦ λ n. not_at k es i d n (omega arith)
+      ] none
 
   -- taking an entry out
-  pub find-remove : (q : K) (es : List (K × X)) (i : ℕ) (d : K × X) → i < length es → AreKeysDistinct R es → find R q (remove es i) ≡ cond (eq_by_cmp R q (get_or es i d).0) None (find R q es)
+  pub find-remove : (q : K) (es : List (K × X)) (i : ℕ) (d : K × X) →
+      i < length es → AreKeysDistinct R es → find R q (remove es i) ≡ cond (eq_by_cmp R q (get_or es i d).0) None (find R q es)
   find-remove q [] i d h distinct = absurd (omega arith)
   find-remove q (e ∷ es) zero d h distinct =
       elim (eq_by_cmp R q e.0) as (λ b. eq_by_cmp R q e.0 ≡ b → find R q es ≡ cond b None (cond b (Some e.1) (find R q es))) [
@@ -94,9 +102,11 @@ module _ {K X : Type 0} {R : K → K → Ordering} (o : IsTotalOrder R) (same : 
       ∙ swapped (eq_by_cmp R q e.0) (eq_by_cmp R q (get_or es i d).0) (Some e.1) None (find R q es)
       (λ a b. not_true _ (not_at e.0 es i d distinct.0 (omega arith)) (rw (← tied o same q e.0 a) b))
 
-  pub from_entries-remove : (es : List (K × X)) (i : ℕ) (d : K × X) → i < length es → AreKeysDistinct R es → from_entries {R = R} (remove es i) ≡ map.remove (from_entries es) (get_or es i d).0
+  pub from_entries-remove : (es : List (K × X)) (i : ℕ) (d : K × X) →
+      i < length es → AreKeysDistinct R es → from_entries {R = R} (remove es i) ≡ map.remove (from_entries es) (get_or es i d).0
   from_entries-remove es i d h distinct = same_map o same _ _ (λ q.
-      get-from_entries o _ q ∙ find-remove q es i d h distinct ∙ sym (get-remove o (from_entries es) _ q ∙ ap (cond (eq_by_cmp R q (get_or es i d).0) None) (get-from_entries o es q)))
+      get-from_entries o _ q ∙ find-remove q es i d h distinct
+      ∙ sym (get-remove o (from_entries es) _ q ∙ ap (cond (eq_by_cmp R q (get_or es i d).0) None) (get-from_entries o es q)))
 
   either_none : (b : Bool) (x : Option X) → x ≡ None → cond b None x ≡ None
   either_none true x h = refl
@@ -105,7 +115,8 @@ module _ {K X : Type 0} {R : K → K → Ordering} (o : IsTotalOrder R) (same : 
   pub distinct_after-remove : (es : List (K × X)) (i : ℕ) → i < length es → AreKeysDistinct R es → AreKeysDistinct R (remove es i)
   distinct_after-remove [] i h d = absurd (omega arith)
   distinct_after-remove (e ∷ es) zero h d = d.1
-  distinct_after-remove (e ∷ es) (suc i) h d = (find-remove e.0 es i e (omega arith) d.1 ∙ either_none _ _ d.0, distinct_after-remove es i (omega arith) d.1)
+  distinct_after-remove (e ∷ es) (suc i) h d =
+      (find-remove e.0 es i e (omega arith) d.1 ∙ either_none _ _ d.0, distinct_after-remove es i (omega arith) d.1)
 
   -- the map has as many keys as there are entries
   pub len-from_entries : (es : List (K × X)) → AreKeysDistinct R es → map.len (from_entries {R = R} es) ≡ length es
@@ -121,16 +132,21 @@ module _ {K X : Type 0} {R : K → K → Ordering} (o : IsTotalOrder R) (same : 
       ap (λ b. cond b (Some e.1) (find R (get_or es i d).0 es)) (other o same e.0 (get_or es i d).0 (not_at e.0 es i d distinct.0 (omega arith)))
       ∙ find-at es i d (omega arith) distinct.1
 
-  pub absent_after-remove : (q : K) (es : List (K × X)) (i : ℕ) (d : K × X) → i < length es → AreKeysDistinct R es → find R q es ≡ None → find R q (remove es i) ≡ None
+  pub absent_after-remove : (q : K) (es : List (K × X)) (i : ℕ) (d : K × X) →
+      i < length es → AreKeysDistinct R es → find R q es ≡ None → find R q (remove es i) ≡ None
   absent_after-remove q es i d h distinct none = find-remove q es i d h distinct ∙ either_none _ _ none
 
   -- a key that is not there does not tie with the first one, and is not behind it
   absent_first : (k : K) (e : K × X) (es : List (K × X)) → find R k (e ∷ es) ≡ None → (eq_by_cmp R k e.0 ≡ false) × (find R k es ≡ None)
   absent_first k e es none =
-      elim (eq_by_cmp R k e.0) as (λ b. cond b (Some e.1) (find R k es) ≡ None → (b ≡ false) × (find R k es ≡ None)) [ true ↦ λ n. cc | false ↦ λ n. (refl, n) ] none
+      elim (eq_by_cmp R k e.0) as (λ b. cond b (Some e.1) (find R k es) ≡ None → (b ≡ false) × (find R k es ≡ None)) [
+        | true ↦ λ n. cc
+        | false ↦ λ n. (refl, n)
+      ] none
 
   -- putting an entry of another key among those that are there
-  pub find-put : (q k : K) (v : X) (es : List (K × X)) (p : ℕ) → find R k es ≡ None → find R q (put es p (k, v)) ≡ cond (eq_by_cmp R q k) (Some v) (find R q es)
+  pub find-put : (q k : K) (v : X) (es : List (K × X)) (p : ℕ) →
+      find R k es ≡ None → find R q (put es p (k, v)) ≡ cond (eq_by_cmp R q k) (Some v) (find R q es)
   find-put q k v es zero none = refl
   find-put q k v [] (suc p) none = refl
   find-put q k v (e ∷ es) (suc p) none =
@@ -139,16 +155,21 @@ module _ {K X : Type 0} {R : K → K → Ordering} (o : IsTotalOrder R) (same : 
       ∙ swapped (eq_by_cmp R q e.0) (eq_by_cmp R q k) (Some e.1) (Some v) (find R q es)
       (λ a b. not_true _ first.0 (rw (← tied o same q k b, ← tied o same q e.0 a) (tied_itself o same q)))
 
-  pub from_entries-put : (k : K) (v : X) (es : List (K × X)) (p : ℕ) → find R k es ≡ None → from_entries {R = R} (put es p (k, v)) ≡ insert (from_entries es) k v
+  pub from_entries-put : (k : K) (v : X) (es : List (K × X)) (p : ℕ) →
+      find R k es ≡ None → from_entries {R = R} (put es p (k, v)) ≡ insert (from_entries es) k v
   from_entries-put k v es p none = same_map o same _ _ (λ q.
-      get-from_entries o _ q ∙ find-put q k v es p none ∙ sym (get-insert o (from_entries es) k v q ∙ ap (cond (eq_by_cmp R q k) (Some v)) (get-from_entries o es q)))
+      get-from_entries o _ q ∙ find-put q k v es p none
+      ∙ sym (get-insert o (from_entries es) k v q ∙ ap (cond (eq_by_cmp R q k) (Some v)) (get-from_entries o es q)))
 
-  pub distinct_after-put : (k : K) (v : X) (es : List (K × X)) (p : ℕ) → find R k es ≡ None → AreKeysDistinct R es → AreKeysDistinct R (put es p (k, v))
+  pub distinct_after-put : (k : K) (v : X) (es : List (K × X)) (p : ℕ) →
+      find R k es ≡ None → AreKeysDistinct R es → AreKeysDistinct R (put es p (k, v))
   distinct_after-put k v es zero none d = (none, d)
   distinct_after-put k v [] (suc p) none d = (refl, tt)
   distinct_after-put k v (e ∷ es) (suc p) none d =
-      let first = absent_first k e es none in
-      (find-put e.0 k v es p first.1 ∙ ap (λ b. cond b (Some v) (find R e.0 es)) (other o same k e.0 first.0) ∙ d.0, distinct_after-put k v es p first.1 d.1)
+      let first = absent_first k e es none in (
+        find-put e.0 k v es p first.1 ∙ ap (λ b. cond b (Some v) (find R e.0 es)) (other o same k e.0 first.0) ∙ d.0,
+        distinct_after-put k v es p first.1 d.1,
+      )
 
   -- an entry of a key that was taken out is one that is written over
   pub put_over : (m : map.FinMap R X) (k : K) (v : X) → insert (map.remove m k) k v ≡ insert m k v

@@ -2,7 +2,8 @@
 use Rattle.std.proofs.Common.{rules, ◌≡◌, ◌≢◌, ℕ, ◌<◌, ◌≤◌, List, [], ◌∷◌, ◌++◌, length, get_or, refl, sym, ap, subst, ◌∙◌, arith, suc}
 use Rattle.std.proofs.lemmas.Bool.Decides.{nat_tests}
 use Rattle.ip_address.specs.Hardware.{IsOf}
-use Rattle.std.specs.Prelude.{IfSome, Option, is_some, slice_get, nat_lt, IsTrue, if◌then◌else◌, Bool, ◌==◌, ℤ, pos, ◌≤ℤ◌, true, false, cond, Some, None}
+use Rattle.std.specs.Prelude.{IfSome, Option, is_some, slice_get, nat_lt, IsTrue, if◌then◌else◌}
+use Rattle.std.specs.Prelude.{Bool, ◌==◌, ℤ, pos, ◌≤ℤ◌, true, false, cond, Some, None}
 use Rattle.std.specs.List.{remove}
 use Rattle.std.specs.Ordering.{nat_cmp, eq_by_cmp}
 use Rattle.std.specs.Cmp.{IsTotalOrder, nat_cmp_total}
@@ -20,7 +21,9 @@ use Rattle.ip_address.specs.contracts.hardware.HardwareAddressPartialEq.TheImpl 
 use Rattle.ip_address.specs.declared.hardware.HardwareAddress.{HardwareAddress}
 use Rattle.ip_address.specs.declared.hardware.HardwareAddress.TheVariants.{Ip, Ethernet}
 use Rattle.iface_tables.specs.declared.neighbor.Neighbor.{Neighbor}
-use Rattle.iface_tables.proofs.EntriesLemmas.{index_of-le, find-absent, find-there, key-there, from_entries-remove, from_entries-put, len-from_entries, distinct_after-remove, distinct_after-put, find-at, absent_after-remove, put_over, tied_itself}
+use Rattle.iface_tables.proofs.EntriesLemmas.{index_of-le, find-absent, find-there, key-there, from_entries-remove}
+use Rattle.iface_tables.proofs.EntriesLemmas.{from_entries-put, len-from_entries, distinct_after-remove}
+use Rattle.iface_tables.proofs.EntriesLemmas.{distinct_after-put, find-at, absent_after-remove, put_over, tied_itself}
 use Rattle.iface_tables.proofs.SettleLemmas.{element_of, taken, remove_last}
 
 -- `==` of hardware addresses is their equality
@@ -35,7 +38,8 @@ address_total = then_total (on_total (λ a. (address_key a).0) nat_cmp_total) (o
 
 pub address_same : IsAntisymmetric address_cmp
 address_same a b h =
-    sym (address_of_key-address_key a) ∙ ap address_of_key (exact_pairs nat_cmp nat_cmp exact_unsigned exact_unsigned (address_key a) (address_key b) h) ∙ address_of_key-address_key b
+    sym (address_of_key-address_key a)
+    ∙ ap address_of_key (exact_pairs nat_cmp nat_cmp exact_unsigned exact_unsigned (address_key a) (address_key b) h) ∙ address_of_key-address_key b
 
 -- what the map that the entries make has at an address
 pub known_at : (es : List (IpAddress × Neighbor)) (a : IpAddress) → map.get (from_entries {R = address_cmp} es) a ≡ find address_cmp a es
@@ -53,7 +57,8 @@ none_found : (es : List (IpAddress × Neighbor)) (a : IpAddress) (i : ℕ) → i
 none_found es a i e past = let le = index_of-le address_cmp a es in find-absent address_cmp a es (omega arith)
 
 -- what holds of each entry holds of one that is found
-found_has : (P : Neighbor → Type 0) (es : List (IpAddress × Neighbor)) (b : IpAddress) (n : Neighbor) → ((k : ℕ) (d : IpAddress × Neighbor) → k < length es → P (get_or es k d).1) → find address_cmp b es ≡ Some n → P n
+found_has : (P : Neighbor → Type 0) (es : List (IpAddress × Neighbor)) (b : IpAddress) (n : Neighbor) →
+    ((k : ℕ) (d : IpAddress × Neighbor) → k < length es → P (get_or es k d).1) → find address_cmp b es ≡ Some n → P n
 found_has P [] b n each is = absurd (not_none n (sym is))
 found_has P (e ∷ es) b n each is =
     elim (eq_by_cmp address_cmp b e.0) as (λ t. cond t (Some e.1) (find address_cmp b es) ≡ Some n → P n) [
@@ -62,29 +67,36 @@ found_has P (e ∷ es) b n each is =
     ] is
 
 -- the entry at the front is one of least end
-least_first : (es : List (IpAddress × Neighbor)) (d : IpAddress × Neighbor) → 0 < length es → IsKept es → IsLeastEnd (from_entries es) (get_or es 0 d).0
+least_first : (es : List (IpAddress × Neighbor)) (d : IpAddress × Neighbor) →
+    0 < length es → IsKept es → IsLeastEnd (from_entries es) (get_or es 0 d).0
 least_first es d some kept = record {
   entry = (get_or es 0 d).1;
   is_there = known_at es _ ∙ find-at address_total address_same es 0 d some kept.distinct;
-  least = λ b n is. found_has (λ m. (get_or es 0 d).1.expires_at ≤ℤ m.expires_at) es b n (λ k e k_in. rw (get_or_default es 0 d e some) (kept.by_end 0 k e (omega arith) k_in)) (sym (known_at es b) ∙ is);
+  least = λ b n is. found_has (λ m. (get_or es 0 d).1.expires_at ≤ℤ m.expires_at) es b n
+      (λ k e k_in. rw (get_or_default es 0 d e some) (kept.by_end 0 k e (omega arith) k_in)) (sym (known_at es b) ∙ is);
 }
 
 -- the other entries, where one is taken out
 others_kept : (es : List (IpAddress × Neighbor)) (i : ℕ) → i < length es → IsKept es → IsKept (remove es i)
-others_kept es i within kept = record { distinct = distinct_after-remove address_total address_same es i within kept.distinct; by_end = taken es i kept.by_end within }
+others_kept es i within kept =
+    record { distinct = distinct_after-remove address_total address_same es i within kept.distinct; by_end = taken es i kept.by_end within }
 
 -- a neighbour at an address that is there goes to its place
-pub place_there : (es : List (IpAddress × Neighbor)) (a : IpAddress) (d : IpAddress × Neighbor) (i : ℕ) → IsKept es → i ≡ index_of address_cmp a es → i < length es → HasPlace es es a i
+pub place_there : (es : List (IpAddress × Neighbor)) (a : IpAddress) (d : IpAddress × Neighbor) (i : ℕ) →
+    IsKept es → i ≡ index_of address_cmp a es → i < length es → HasPlace es es a i
 place_there es a d i kept at within =
     let here : index_of address_cmp a es < length es = rw at at within in
     let key : (get_or es i d).0 ≡ a = rw at (key-there address_total address_same a es d here) in
     let is : find address_cmp a es ≡ Some (get_or es (index_of address_cmp a es) d).1 = find-there address_cmp a es d here in
-    let rest : from_entries (remove es i) ≡ map.remove (from_entries es) a = from_entries-remove address_total address_same es i d within kept.distinct ∙ ap (map.remove (from_entries es)) key in
-    let over : (n : Neighbor) → map.insert (from_entries (remove es i)) a n ≡ map.insert (from_entries es) a n = λ n. ap (λ m. map.insert m a n) rest ∙ put_over address_total address_same (from_entries es) a n in
+    let rest : from_entries (remove es i) ≡ map.remove (from_entries es) a =
+    from_entries-remove address_total address_same es i d within kept.distinct ∙ ap (map.remove (from_entries es)) key in
+    let over : (n : Neighbor) → map.insert (from_entries (remove es i)) a n ≡ map.insert (from_entries es) a n = λ n. ap (λ m. map.insert m a n) rest
+    ∙ put_over address_total address_same (from_entries es) a n in
     record {
       within = within;
       kept = others_kept es i within kept;
-      absent = ap (λ m. map.get m a) rest ∙ get-remove address_total (from_entries es) a a ∙ ap (λ b. cond b None (map.get {R = address_cmp} (from_entries es) a)) (tied_itself address_total address_same a);
+      absent = ap (λ m. map.get m a) rest ∙ get-remove address_total (from_entries es) a a
+          ∙ ap (λ b. cond b None (map.get {R = address_cmp} (from_entries es) a)) (tied_itself address_total address_same a);
       puts = λ n. record {
         there = λ _. over n;
         room = λ _. over n;
@@ -93,7 +105,8 @@ place_there es a d i kept at within =
     }
 
 -- one at a new address goes to the front of a full table
-pub place_front : (es : List (IpAddress × Neighbor)) (a : IpAddress) (d : IpAddress × Neighbor) (i : ℕ) → IsKept es → i ≡ index_of address_cmp a es → length es ≤ i → length es ≡ 4 → HasPlace es es a 0
+pub place_front : (es : List (IpAddress × Neighbor)) (a : IpAddress) (d : IpAddress × Neighbor) (i : ℕ) →
+    IsKept es → i ≡ index_of address_cmp a es → length es ≤ i → length es ≡ 4 → HasPlace es es a 0
 place_front es a d i kept at past four =
     let none = none_found es a i at past in
     let some : 0 < length es = omega arith in
@@ -105,12 +118,17 @@ place_front es a d i kept at past four =
       puts = λ n. record {
         there = λ t. let u = rw (known_at es a, none) at t in cc;
         room = λ h. absurd (omega (arith, len));
-        full = λ _ _. ((get_or es 0 d).0, least_first es d some kept, ap (λ m. map.insert m a n) (from_entries-remove address_total address_same es 0 d some kept.distinct));
+        full = λ _ _. (
+          (get_or es 0 d).0,
+          least_first es d some kept,
+          ap (λ m. map.insert m a n) (from_entries-remove address_total address_same es 0 d some kept.distinct),
+        );
       };
     }
 
 -- or behind all others, where there is room
-pub place_after : (es : List (IpAddress × Neighbor)) (a : IpAddress) (e : IpAddress × Neighbor) (i : ℕ) → IsKept es → i ≡ index_of address_cmp a es → length es ≤ i → length es < 4 → HasPlace es (es ++ e ∷ []) a i
+pub place_after : (es : List (IpAddress × Neighbor)) (a : IpAddress) (e : IpAddress × Neighbor) (i : ℕ) →
+    IsKept es → i ≡ index_of address_cmp a es → length es ≤ i → length es < 4 → HasPlace es (es ++ e ∷ []) a i
 place_after es a e i kept at past room =
     let none = none_found es a i at past in
     let le = index_of-le address_cmp a es in
@@ -125,11 +143,15 @@ place_after es a e i kept at past room =
     }
 
 -- a neighbour that has settled at its place was put
-pub put_settled : (old mid new : List (IpAddress × Neighbor)) (a : IpAddress) (n : Neighbor) (i : ℕ) → HasPlace old mid a i → IsSettled (remove mid i) (a, n) new → PutsIn old new a n
+pub put_settled : (old mid new : List (IpAddress × Neighbor)) (a : IpAddress) (n : Neighbor) (i : ℕ) →
+    HasPlace old mid a i → IsSettled (remove mid i) (a, n) new → PutsIn old new a n
 put_settled old mid new a n i h s =
     let none : find address_cmp a (remove mid i) ≡ None = sym (known_at (remove mid i) a) ∙ h.absent in
     record {
-      kept = record { distinct = rw s.is (distinct_after-put address_total address_same a n (remove mid i) s.place none h.kept.distinct); by_end = s.by_end };
+      kept = record {
+        distinct = rw s.is (distinct_after-put address_total address_same a n (remove mid i) s.place none h.kept.distinct);
+        by_end = s.by_end;
+      };
       puts = rw (s.is, from_entries-put address_total address_same a n (remove mid i) s.place none) (h.puts n);
     }
 
@@ -139,17 +161,22 @@ pub record RenewsIn (es fs : List (IpAddress × Neighbor)) (a : IpAddress) (h : 
   pub renews : from_entries fs ≡ renewed_from (find address_cmp a es) (from_entries es) a h end
 
 -- the entry at an address's place is the one that is found
-found_is : (es : List (IpAddress × Neighbor)) (a : IpAddress) (e : IpAddress × Neighbor) (i : ℕ) → i ≡ index_of address_cmp a es → i < length es → e ≡ get_or es i e → find address_cmp a es ≡ Some e.1
+found_is : (es : List (IpAddress × Neighbor)) (a : IpAddress) (e : IpAddress × Neighbor) (i : ℕ) →
+    i ≡ index_of address_cmp a es → i < length es → e ≡ get_or es i e → find address_cmp a es ≡ Some e.1
 found_is es a e i at within is = find-there address_cmp a es e (rw at at within) ∙ ap (λ (d : IpAddress × Neighbor). Some d.1) (sym (rw at at is))
 
 -- the entry at an address's place has it, and its own hardware address
-pub has_address : (es : List (IpAddress × Neighbor)) (a : IpAddress) (e : IpAddress × Neighbor) (i : ℕ) → i ≡ index_of address_cmp a es → i < length es → e ≡ get_or es i e
+pub has_address : (es : List (IpAddress × Neighbor)) (a : IpAddress) (e : IpAddress × Neighbor) (i : ℕ) →
+    i ≡ index_of address_cmp a es → i < length es → e ≡ get_or es i e
     → IfSome (slice_get es i) (λ x. (x.0 ≡ a) × (x.1.hardware_addr ≡ e.1.hardware_addr))
 has_address es a e i at within is =
     let key : (get_or es i e).0 ≡ a = rw at (key-there address_total address_same a es e (rw at at within)) in
-    element_of (λ x. (x.0 ≡ a) × (x.1.hardware_addr ≡ e.1.hardware_addr)) es i e within (key, ap (λ (x : IpAddress × Neighbor). x.1.hardware_addr) (sym is))
+    element_of (λ x. (x.0 ≡ a) × (x.1.hardware_addr ≡ e.1.hardware_addr)) es i e within
+    (key, ap (λ (x : IpAddress × Neighbor). x.1.hardware_addr) (sym is))
 
-pub renewed_there : (es fs : List (IpAddress × Neighbor)) (a : IpAddress) (h : HardwareAddress) (end : ℤ) (e : IpAddress × Neighbor) (i : ℕ) → IsKept es → i ≡ index_of address_cmp a es → i < length es → e ≡ get_or es i e → is_same e.1.hardware_addr h ≡ true → IsSettled (remove es i) (a, record e.1 { expires_at = end }) fs → RenewsIn es fs a h end
+pub renewed_there : (es fs : List (IpAddress × Neighbor)) (a : IpAddress) (h : HardwareAddress) (end : ℤ) (e : IpAddress × Neighbor) (i : ℕ) →
+    IsKept es → i ≡ index_of address_cmp a es → i < length es → e ≡ get_or es i e → is_same e.1.hardware_addr h ≡ true →
+    IsSettled (remove es i) (a, record e.1 { expires_at = end }) fs → RenewsIn es fs a h end
 renewed_there es fs a h end e i kept at within is same settled =
     let n : Neighbor = record e.1 { expires_at = end } in
     let f = found_is es a e i at within is in
@@ -157,10 +184,13 @@ renewed_there es fs a h end e i kept at within is same settled =
     let there : IsTrue (map.contains_key (from_entries {R = address_cmp} es) a) = rw (known_at es a, f) refl in
     record { kept = put.kept; renews = rw (f, same) (put.puts.there there) }
 
-pub renewed_other : (es : List (IpAddress × Neighbor)) (a : IpAddress) (h : HardwareAddress) (end : ℤ) (e : IpAddress × Neighbor) (i : ℕ) → i ≡ index_of address_cmp a es → i < length es → e ≡ get_or es i e → is_same e.1.hardware_addr h ≡ false → from_entries es ≡ renewed_from (find address_cmp a es) (from_entries es) a h end
+pub renewed_other : (es : List (IpAddress × Neighbor)) (a : IpAddress) (h : HardwareAddress) (end : ℤ) (e : IpAddress × Neighbor) (i : ℕ) →
+    i ≡ index_of address_cmp a es → i < length es → e ≡ get_or es i e → is_same e.1.hardware_addr h ≡ false →
+    from_entries es ≡ renewed_from (find address_cmp a es) (from_entries es) a h end
 renewed_other es a h end e i at within is other = rw (found_is es a e i at within is, other) refl
 
-pub renewed_none : (es : List (IpAddress × Neighbor)) (a : IpAddress) (h : HardwareAddress) (end : ℤ) (i : ℕ) → i ≡ index_of address_cmp a es → length es ≤ i → from_entries es ≡ renewed_from (find address_cmp a es) (from_entries es) a h end
+pub renewed_none : (es : List (IpAddress × Neighbor)) (a : IpAddress) (h : HardwareAddress) (end : ℤ) (i : ℕ) →
+    i ≡ index_of address_cmp a es → length es ≤ i → from_entries es ≡ renewed_from (find address_cmp a es) (from_entries es) a h end
 renewed_none es a h end i at past = rw (none_found es a i at past) refl
 
 -- what a test for a full table says
@@ -171,7 +201,8 @@ four_of_full b n e t = grind (arith, nat_tests)
 abbrev EachOf : Medium → FinMap address_cmp Neighbor → Type 0
 EachOf m k = (a : IpAddress) (n : Neighbor) → map.get k a ≡ Some n → IsOf m n.hardware_addr
 
-inserted_of : (m : Medium) (k : FinMap address_cmp Neighbor) (a : IpAddress) (n : Neighbor) → IsOf m n.hardware_addr → EachOf m k → EachOf m (map.insert k a n)
+inserted_of : (m : Medium) (k : FinMap address_cmp Neighbor) (a : IpAddress) (n : Neighbor) →
+    IsOf m n.hardware_addr → EachOf m k → EachOf m (map.insert k a n)
 inserted_of m k a n of all b e is = by (eq_by_cmp address_cmp b a) (sym (get-insert address_total k a n b) ∙ is) where
   by : (t : Bool) → cond t (Some n) (map.get k b) ≡ Some e → IsOf m e.hardware_addr
   by true h = let same : n ≡ e = cc in subst (λ (x : Neighbor). IsOf m x.hardware_addr) same of
@@ -184,12 +215,14 @@ removed_of m k a all b e is = by (eq_by_cmp address_cmp b a) (sym (get-remove ad
   by false h = all b e h
 
 -- what is put keeps the medium
-pub put_of : (m : Medium) (old new : FinMap address_cmp Neighbor) (a : IpAddress) (n : Neighbor) → IsOf m n.hardware_addr → Puts old new a n → EachOf m old → EachOf m new
+pub put_of : (m : Medium) (old new : FinMap address_cmp Neighbor) (a : IpAddress) (n : Neighbor) →
+    IsOf m n.hardware_addr → Puts old new a n → EachOf m old → EachOf m new
 put_of m old new a n of p all = by (map.get old a) refl where
   room : (k : ℕ) → map.len old ≡ k → map.get old a ≡ None → EachOf m new
   room k is none = elim (nat_lt k 4) as (λ b. nat_lt k 4 ≡ b → EachOf m new) [
     | true ↦ λ t. let h : map.len old < 4 = grind (arith, nat_tests) in rw (p.room h) (inserted_of m old a n of all)
-    | false ↦ λ t. let h : 4 ≤ map.len old = grind (arith, nat_tests) in let f = p.full none h in rw f.2 (inserted_of m (map.remove old f.0) a n of (removed_of m old f.0 all))
+    | false ↦ λ t. let h : 4 ≤ map.len old = grind (arith, nat_tests) in let f = p.full none h in
+        rw f.2 (inserted_of m (map.remove old f.0) a n of (removed_of m old f.0 all))
   ] refl
 
   by : (o : Option Neighbor) → map.get old a ≡ o → EachOf m new
@@ -211,6 +244,7 @@ none_in m a n is = let bad : None ≡ Some n = rw get-empty at is in absurd cc
 
 -- a list in which one entry was renewed
 pub renewed_in : (m : Medium) (es fs : List (IpAddress × Neighbor)) (a : IpAddress) (h : HardwareAddress) (end : ℤ) →
-    from_entries {R = address_cmp} fs ≡ renewed_from (find address_cmp a es) (from_entries es) a h end → EachOf m (from_entries es) → EachOf m (from_entries {R = address_cmp} fs)
+    from_entries {R = address_cmp} fs ≡ renewed_from (find address_cmp a es) (from_entries es) a h end → EachOf m (from_entries es) →
+    EachOf m (from_entries {R = address_cmp} fs)
 renewed_in m es fs a h end e all =
     rw (e, ← known_at es a) (renewed_of m (record { known = from_entries es; silent_until = pos 0 }) a h end all)

@@ -8,7 +8,8 @@ use Rattle.iface_tables.specs.Route.{BestIsFound, IsBest, IsRouter, best, matche
 use Rattle.iface_tables.proofs.RouteLemmas.{routers_are_one, some_is}
 
 -- a route in front that doesn't match changes nothing
-behind : (r : Route) (rs : List Route) (a : IpAddress) (t : ℤ) (found : Option Route) → matches r a t ≡ false → IsBest rs a t found → IsBest (r ∷ rs) a t found
+behind : (r : Route) (rs : List Route) (a : IpAddress) (t : ℤ) (found : Option Route) →
+    matches r a t ≡ false → IsBest rs a t found → IsBest (r ∷ rs) a t found
 behind r rs a t None dead b = λ k. by k where
   by : (k : ℕ) (other : Route) → slice_get (r ∷ rs) k ≡ Some other → matches other a t ≡ false
   by zero other there = ap (λ x. matches x a t) (sym (some_is r other there)) ∙ dead
@@ -23,7 +24,8 @@ behind r rs a t (Some found) dead b = (
   },
 ) where
   longest : (k : ℕ) (other : Route) → slice_get (r ∷ rs) k ≡ Some other → matches other a t ≡ true → prefix_len other ≤ prefix_len found
-  longest zero other there m = absurd (let same = some_is r other there in let stays : matches other a t ≡ false = ap (λ x. matches x a t) (sym same) ∙ dead in cc)
+  longest zero other there m =
+      absurd (let same = some_is r other there in let stays : matches other a t ≡ false = ap (λ x. matches x a t) (sym same) ∙ dead in cc)
   longest (suc k) other there m = b.1.longest k other there m
 
   last : (k : ℕ) (other : Route) → suc b.0 < k → slice_get (r ∷ rs) k ≡ Some other → matches other a t ≡ true → prefix_len other < prefix_len found
@@ -42,7 +44,8 @@ alone r rs a t yes' b = (0, record { is_there = refl; is_match = yes'; longest =
   last (suc k) other after there m = absurd (let stays : matches other a t ≡ false = b k other there in cc)
 
 -- one in front that is more specific than the best behind it
-before : (r : Route) (rs : List Route) (a : IpAddress) (t : ℤ) (o : Route) → matches r a t ≡ true → prefix_len o < prefix_len r → IsBest rs a t (Some o) → IsBest (r ∷ rs) a t (Some r)
+before : (r : Route) (rs : List Route) (a : IpAddress) (t : ℤ) (o : Route) →
+    matches r a t ≡ true → prefix_len o < prefix_len r → IsBest rs a t (Some o) → IsBest (r ∷ rs) a t (Some r)
 before r rs a t o yes' more b = (0, record { is_there = refl; is_match = yes'; longest = longest; last = last }) where
   longest : (k : ℕ) (other : Route) → slice_get (r ∷ rs) k ≡ Some other → matches other a t ≡ true → prefix_len other ≤ prefix_len r
   longest zero other there m = let same : prefix_len r ≡ prefix_len other = ap prefix_len (some_is r other there) in omega (arith, same)
@@ -53,7 +56,8 @@ before r rs a t o yes' more b = (0, record { is_there = refl; is_match = yes'; l
   last (suc k) other after there m = let l = b.1.longest k other there m in omega (arith, l, more)
 
 -- one in front that isn't
-after : (r : Route) (rs : List Route) (a : IpAddress) (t : ℤ) (o : Route) → prefix_len r ≤ prefix_len o → IsBest rs a t (Some o) → IsBest (r ∷ rs) a t (Some o)
+after : (r : Route) (rs : List Route) (a : IpAddress) (t : ℤ) (o : Route) →
+    prefix_len r ≤ prefix_len o → IsBest rs a t (Some o) → IsBest (r ∷ rs) a t (Some o)
 after r rs a t o less b = (
   suc b.0,
   record {
@@ -72,7 +76,8 @@ after r rs a t o less b = (
   last (suc k) other after there m = b.1.last k other (omega (arith, after)) there m
 
 -- one in front that matches
-in_front : (r : Route) (rs : List Route) (a : IpAddress) (t : ℤ) (found : Option Route) → matches r a t ≡ true → IsBest rs a t found → IsBest (r ∷ rs) a t (Some (more_specific r found))
+in_front : (r : Route) (rs : List Route) (a : IpAddress) (t : ℤ) (found : Option Route) →
+    matches r a t ≡ true → IsBest rs a t found → IsBest (r ∷ rs) a t (Some (more_specific r found))
 in_front r rs a t None yes' b = alone r rs a t yes' b
 in_front r rs a t (Some o) yes' b = by (nat_le (prefix_len r) (prefix_len o)) refl where
   by : (x : Bool) → nat_le (prefix_len r) (prefix_len o) ≡ x → IsBest (r ∷ rs) a t (Some (if x then o else r))

@@ -1,5 +1,6 @@
 -- The best route: how it moves with one more route behind, and that it is the only one.
-use Rattle.std.proofs.Common.{◌≡◌, ◌≢◌, ◌<◌, ◌≤◌, inl, inr, ℕ, zero, suc, ◌+◌, Bool, true, false, List, [], ◌∷◌, ◌++◌, length, get_or, refl, sym, ap, ◌∙◌, arith}
+use Rattle.std.proofs.Common.{◌≡◌, ◌≢◌, ◌<◌, ◌≤◌, inl, inr, ℕ, zero, suc, ◌+◌, Bool, true, false}
+use Rattle.std.proofs.Common.{List, [], ◌∷◌, ◌++◌, length, get_or, refl, sym, ap, ◌∙◌, arith}
 use Rattle.std.specs.Prelude.{ℤ, nat_le, Option, Some, None, Ok, Err, slice_get}
 use Rattle.std.proofs.Common.{lit≤}
 use Rattle.std.specs.List.{position_or_len, remove}
@@ -16,7 +17,8 @@ use Rattle.std.proofs.lemmas.Bool.Decides.{nat_tests}
 use Rattle.std.proofs.lemmas.Option.{slice_get_cases, slice_get_read, slice_get_within}
 use Rattle.ip_address.specs.declared.ip.IpAddress.{IpAddress}
 use Rattle.iface_tables.specs.declared.route.Route.{Route}
-use Rattle.iface_tables.specs.Route.{AreLive, IsBest, IsBestAt, Replaces, RouterIsOne, cidrs, first, ipv4_gateway, ipv6_gateway, is_live, matches, prefix_len, route_at, router_of}
+use Rattle.iface_tables.specs.Route.{AreLive, IsBest, IsBestAt, Replaces, RouterIsOne, cidrs, first, ipv4_gateway}
+use Rattle.iface_tables.specs.Route.{ipv6_gateway, is_live, matches, prefix_len, route_at, router_of}
 use Rattle.iface_tables.specs.RouteTrie.{IsBestPlace, IsCandidate, has_place}
 use Rattle.iface_tables.proofs.RouteTrieLemmas.{both}
 
@@ -35,7 +37,8 @@ prefix_there (x ∷ rs) zero r h = ap (λ (y : Route). Some y.cidr) (some_is x r
 prefix_there (x ∷ rs) (suc k) r h = prefix_there rs k r h
 
 -- a route that matches is one to be chosen from
-chosen_from : (rs : List Route) (a : IpAddress) (t : ℤ) (live : ℕ) (k : ℕ) (r : Route) → AreLive rs t live → slice_get rs k ≡ Some r → matches r a t ≡ true
+chosen_from : (rs : List Route) (a : IpAddress) (t : ℤ) (live : ℕ) (k : ℕ) (r : Route) →
+    AreLive rs t live → slice_get rs k ≡ Some r → matches r a t ≡ true
     → IsCandidate (cidrs rs) a live k (prefix_len r)
 chosen_from rs a t live k r alive there match =
     let m = both (contains r.cidr a) (is_live r t) match in
@@ -57,14 +60,16 @@ best_at rs a t live (Some place) alive best =
       is_there = at.1;
       is_match = match;
       longest = λ k other there m. (let h = best.2 k (prefix_len other) (chosen_from rs a t live k other alive there m) in omega (arith, h.0, len));
-      last = λ k other after there m. (let h = best.2 k (prefix_len other) (chosen_from rs a t live k other alive there m) in omega (arith, h.1 after, len));
+      last = λ k other after there m.
+          (let h = best.2 k (prefix_len other) (chosen_from rs a t live k other alive there m) in omega (arith, h.1 after, len));
     } in
     rw at.1 (place, is)
 
 -- one place more is looked at
 pub live_more : (rs : List Route) (t : ℤ) (mask new i : ℕ) (x : Route) → i < length rs → x ≡ get_or rs i x → has_place new i ≡ is_live x t
     → ((k : ℕ) → k ≢ i → has_place new k ≡ has_place mask k)
-    → ((k : ℕ) (r : Route) → k < i → slice_get rs k ≡ Some r → has_place mask k ≡ is_live r t) → (k : ℕ) (r : Route) → k < i + 1 → slice_get rs k ≡ Some r
+    → ((k : ℕ) (r : Route) → k < i → slice_get rs k ≡ Some r → has_place mask k ≡ is_live r t) → (k : ℕ) (r : Route) →
+    k < i + 1 → slice_get rs k ≡ Some r
     → has_place new k ≡ is_live r t
 live_more rs t mask new i x within is tested kept done k r lt there =
     elim (cases_eq k i) [
@@ -87,8 +92,10 @@ best_is_one rs a t (Some r) (Some s) b c =
     elim (cases_order b.0 c.0) [
       | inl same ↦ sym b.1.is_there ∙ ap (slice_get rs) same ∙ c.1.is_there
       | inr rest ↦ elim rest [
-        | inl before ↦ absurd (let l = b.1.last c.0 s before c.1.is_there c.1.is_match in let m = c.1.longest b.0 r b.1.is_there b.1.is_match in omega (arith, l, m))
-        | inr after ↦ absurd (let l = c.1.last b.0 r after b.1.is_there b.1.is_match in let m = b.1.longest c.0 s c.1.is_there c.1.is_match in omega (arith, l, m))
+        | inl before ↦ absurd
+            (let l = b.1.last c.0 s before c.1.is_there c.1.is_match in let m = c.1.longest b.0 r b.1.is_there b.1.is_match in omega (arith, l, m))
+        | inr after ↦ absurd
+            (let l = c.1.last b.0 r after b.1.is_there b.1.is_match in let m = b.1.longest c.0 s c.1.is_there c.1.is_match in omega (arith, l, m))
       ]
     ]
 
@@ -107,18 +114,39 @@ remove_past (r ∷ rs) zero h = absurd (omega arith)
 remove_past (r ∷ rs) (suc i) h = ap (λ l. r ∷ l) (remove_past rs i (omega arith))
 
 -- a default route, whatever shows that its prefix is not too long
-pub ipv4_gateway_by : (h : 0 ≤ 32) (g : Ipv4Address) → record { cidr = cidr.Ipv4 (record { address = record { bits = 0 }; prefix_len = 0; in_range = h }); via_router = Ipv4 g; preferred_until = None; expires_at = None } ≡ ipv4_gateway g
+pub ipv4_gateway_by : (h : 0 ≤ 32) (g : Ipv4Address) → record {
+  cidr = cidr.Ipv4 (record { address = record { bits = 0 }; prefix_len = 0; in_range = h });
+  via_router = Ipv4 g;
+  preferred_until = None;
+  expires_at = None;
+} ≡ ipv4_gateway g
 ipv4_gateway_by h g =
-    let of : 0 ≤ 32 → Route = λ p. record { cidr = cidr.Ipv4 (record { address = record { bits = 0 }; prefix_len = 0; in_range = p }); via_router = Ipv4 g; preferred_until = None; expires_at = None } in
+    let of : 0 ≤ 32 → Route = λ p. record {
+      cidr = cidr.Ipv4 (record { address = record { bits = 0 }; prefix_len = 0; in_range = p });
+      via_router = Ipv4 g;
+      preferred_until = None;
+      expires_at = None;
+    } in
     ap of (le_prop h (lit≤ tt))
 
-pub ipv6_gateway_by : (h : 0 ≤ 128) (g : Ipv6Address) → record { cidr = cidr.Ipv6 (record { address = record { bits = 0 }; prefix_len = 0; in_range = h }); via_router = Ipv6 g; preferred_until = None; expires_at = None } ≡ ipv6_gateway g
+pub ipv6_gateway_by : (h : 0 ≤ 128) (g : Ipv6Address) → record {
+  cidr = cidr.Ipv6 (record { address = record { bits = 0 }; prefix_len = 0; in_range = h });
+  via_router = Ipv6 g;
+  preferred_until = None;
+  expires_at = None;
+} ≡ ipv6_gateway g
 ipv6_gateway_by h g =
-    let of : 0 ≤ 128 → Route = λ p. record { cidr = cidr.Ipv6 (record { address = record { bits = 0 }; prefix_len = 0; in_range = p }); via_router = Ipv6 g; preferred_until = None; expires_at = None } in
+    let of : 0 ≤ 128 → Route = λ p. record {
+      cidr = cidr.Ipv6 (record { address = record { bits = 0 }; prefix_len = 0; in_range = p });
+      via_router = Ipv6 g;
+      preferred_until = None;
+      expires_at = None;
+    } in
     ap of (le_prop h (lit≤ tt))
 
 -- the first of a kind made room
-pub replaces_first : (is_kind : Route → Bool) (rs : List Route) (r old : Route) (i : ℕ) → i ≡ position_or_len is_kind rs → Some old ≡ slice_get rs i → Replaces is_kind rs r (Ok (Some old)) (remove rs i ++ r ∷ [])
+pub replaces_first : (is_kind : Route → Bool) (rs : List Route) (r old : Route) (i : ℕ) →
+    i ≡ position_or_len is_kind rs → Some old ≡ slice_get rs i → Replaces is_kind rs r (Ok (Some old)) (remove rs i ++ r ∷ [])
 replaces_first is_kind rs r old i at is =
     let f : first is_kind rs ≡ Some old = first_is is_kind rs ∙ ap (slice_get rs) (sym at) ∙ sym is in
     record { answers = rw f refl; leaves = rw (f, at) refl }
@@ -132,7 +160,8 @@ none_first : (is_kind : Route → Bool) (rs : List Route) (i : ℕ) → i ≡ po
 none_first is_kind rs i at is = first_is is_kind rs ∙ ap (slice_get rs) (sym at) ∙ sym is
 
 -- and there is room
-pub replaces_none : (is_kind : Route → Bool) (rs : List Route) (r : Route) (i : ℕ) → i ≡ position_or_len is_kind rs → None ≡ slice_get rs i → length (remove rs i) < 4 → Replaces is_kind rs r (Ok None) (remove rs i ++ r ∷ [])
+pub replaces_none : (is_kind : Route → Bool) (rs : List Route) (r : Route) (i : ℕ) →
+    i ≡ position_or_len is_kind rs → None ≡ slice_get rs i → length (remove rs i) < 4 → Replaces is_kind rs r (Ok None) (remove rs i ++ r ∷ [])
 replaces_none is_kind rs r i at is room =
     let f = none_first is_kind rs i at is in
     let kept = remove_none rs i is in
@@ -143,7 +172,8 @@ replaces_none is_kind rs r i at is room =
     small n h = grind (arith, nat_tests)
 
 -- or none
-pub replaces_nothing : (is_kind : Route → Bool) (rs : List Route) (r : Route) (i : ℕ) → i ≡ position_or_len is_kind rs → None ≡ slice_get rs i → length (remove rs i) ≡ 4 → Replaces is_kind rs r (Err (record {})) (remove rs i)
+pub replaces_nothing : (is_kind : Route → Bool) (rs : List Route) (r : Route) (i : ℕ) →
+    i ≡ position_or_len is_kind rs → None ≡ slice_get rs i → length (remove rs i) ≡ 4 → Replaces is_kind rs r (Err (record {})) (remove rs i)
 replaces_nothing is_kind rs r i at is full =
     let f = none_first is_kind rs i at is in
     let kept = remove_none rs i is in

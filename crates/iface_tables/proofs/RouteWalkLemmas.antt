@@ -1,5 +1,6 @@
 -- The walk along an address: after i bits it is at the node of the first i bits of the address.
-use Rattle.std.proofs.Common.{◌≡◌, ◌≢◌, ◌<◌, ◌≤◌, inl, inr, ℕ, suc, ◌+◌, ◌-◌, ◌*◌, ◌/◌, ◌%◌, ◌^◌, Bool, true, false, cond, List, length, get_or, lit≤, refl, sym, ap, subst, ◌∙◌, arith, pow-add}
+use Rattle.std.proofs.Common.{◌≡◌, ◌≢◌, ◌<◌, ◌≤◌, inl, inr, ℕ, suc, ◌+◌, ◌-◌, ◌*◌, ◌/◌, ◌%◌, ◌^◌, Bool, true, false}
+use Rattle.std.proofs.Common.{cond, List, length, get_or, lit≤, refl, sym, ap, subst, ◌∙◌, arith, pow-add}
 use Rattle.std.specs.Prelude.{Option, Some, None, slice_get, slice_index, nat_le, ◌==◌}
 use Rattle.std.specs.Bool.{OnFalse, OnTrue}
 use Rattle.std.specs.Int.{bit_at}
@@ -19,7 +20,8 @@ use Rattle.ip_address.specs.declared.cidr.IpCidr.TheVariants as cidr
 use Rattle.iface_tables.specs.declared.route_trie.Beginning.{Beginning}
 use Rattle.iface_tables.specs.declared.route_trie.Network.{Network}
 use Rattle.iface_tables.specs.declared.route_trie.Node.{Node}
-use Rattle.iface_tables.specs.RouteTrie.{AreNextBits, IsAt, IsBestBelow, IsBestPlace, IsCandidate, IsLastOf, IsLongest, IsNodeOf, IsTrieOf, begins, has_place, host_of, is_marked, longer_of, network_of, number, index_of, root_of, shares, start_of}
+use Rattle.iface_tables.specs.RouteTrie.{AreNextBits, IsAt, IsBestBelow, IsBestPlace, IsCandidate, IsLastOf, IsLongest, IsNodeOf, IsTrieOf}
+use Rattle.iface_tables.specs.RouteTrie.{begins, has_place, host_of, is_marked, longer_of, network_of, number, index_of, root_of, shares, start_of}
 use Rattle.iface_tables.proofs.RouteMaskLemmas.{both_have, each_has, empty_has, empty_is}
 use Rattle.iface_tables.proofs.RouteTrieLemmas.{both, first_passes, le_of_test, none_passes, number_cases, short, test_of_le}
 
@@ -35,7 +37,8 @@ pub longer_start : (p : Network) (i : ℕ) → i < p.width → longer_of (start_
 longer_start p i lt =
     let j : p.width - i ≡ suc (p.width - 1 - i) = omega arith in
     let k : p.width - (i + 1) ≡ p.width - 1 - i = omega arith in
-    let e : 2 * (p.bits / 2 ^ (p.width - i)) + p.bits / 2 ^ (p.width - 1 - i) % 2 ≡ p.bits / 2 ^ (p.width - (i + 1)) = rw (j, k) (next_bit p.bits (p.width - 1 - i)) in
+    let e : 2 * (p.bits / 2 ^ (p.width - i)) + p.bits / 2 ^ (p.width - 1 - i) % 2 ≡ p.bits / 2 ^ (p.width - (i + 1)) =
+    rw (j, k) (next_bit p.bits (p.width - 1 - i)) in
     ap (λ (x : ℕ). record { width = p.width; len = i + 1; leading = x }) e
 
 -- no bit
@@ -106,7 +109,8 @@ shares_fewer c a m n le h =
     whole c a m (record {
       width = p.width;
       len = omega (arith, p.len);
-      same = fewer (network_of c).bits (network_of c).width m n le long ∙ ap (λ (q : ℕ). q / 2 ^ (n - m)) p.same ∙ sym (fewer (host_of a).bits (host_of a).width m n le wide);
+      same = fewer (network_of c).bits (network_of c).width m n le long ∙ ap (λ (q : ℕ). q / 2 ^ (n - m)) p.same
+          ∙ sym (fewer (host_of a).bits (host_of a).width m n le wide);
     })
 
 -- ---- prefixes of an address
@@ -119,7 +123,8 @@ contains_is (cidr.Ipv4 n) (Ipv6 a) = refl
 contains_is (cidr.Ipv6 n) (Ipv4 a) = refl
 
 -- a marked prefix has the address, and as many bits
-marked : (a : IpAddress) (n : ℕ) (o : Option IpCidr) → is_marked (start_of (host_of a) n) o ≡ true → (c : IpCidr) × (o ≡ Some c) × (contains c a ≡ true) × (prefix_len_of c ≡ n)
+marked : (a : IpAddress) (n : ℕ) (o : Option IpCidr) →
+    is_marked (start_of (host_of a) n) o ≡ true → (c : IpCidr) × (o ≡ Some c) × (contains c a ≡ true) × (prefix_len_of c ≡ n)
 marked a n None h = cc
 marked a n (Some c) h =
     let t = both ((network_of c).len == n) _ h in
@@ -137,7 +142,8 @@ mark_of a n c has len =
 -- a candidate with as many bits as the node is marked there, and the other way round
 is_marked_there : (cidrs : List IpCidr) (a : IpAddress) (live : ℕ) (n k : ℕ) (node : Node) → IsNodeOf cidrs (start_of (host_of a) n) node
     → IsCandidate cidrs a live k n → has_place node.places k ≡ true
-is_marked_there cidrs a live n k node is cand = is.marks k ∙ ap (is_marked (start_of (host_of a) n)) cand.is_there ∙ mark_of a n cand.prefix cand.is_match cand.len
+is_marked_there cidrs a live n k node is cand = is.marks k ∙ ap (is_marked (start_of (host_of a) n)) cand.is_there
+    ∙ mark_of a n cand.prefix cand.is_match cand.len
 
 is_candidate : (cidrs : List IpCidr) (a : IpAddress) (live : ℕ) (n k : ℕ) (node : Node) → IsNodeOf cidrs (start_of (host_of a) n) node
     → has_place node.places k ≡ true → has_place live k ≡ true → IsCandidate cidrs a live k n
@@ -145,7 +151,8 @@ is_candidate cidrs a live n k node is mark alive =
     let m = marked a n (slice_get cidrs k) (sym (is.marks k) ∙ mark) in
     record { prefix = m.0; is_there = m.1; is_match = m.2; is_live = alive; len = m.3 }
 
-no_candidate : (cidrs : List IpCidr) (a : IpAddress) (live i k : ℕ) (node : Node) → IsNodeOf cidrs (start_of (host_of a) i) node → bit_and node.places live ≡ 0
+no_candidate : (cidrs : List IpCidr) (a : IpAddress) (live i k : ℕ) (node : Node) →
+    IsNodeOf cidrs (start_of (host_of a) i) node → bit_and node.places live ≡ 0
     → IsCandidate cidrs a live k i → ⊥
 no_candidate cidrs a live i k node is none cand =
     let h : has_place 0 k ≡ true = subst (λ (m : ℕ). has_place m k ≡ true) none (both_have node.places live k
@@ -197,7 +204,8 @@ best_more : (cidrs : List IpCidr) (a : IpAddress) (live i : ℕ) (node : Node) (
     → (best : Option ℕ) → IsLastOf (cond (bit_and node.places live == 0) mask (bit_and node.places live)) best → IsBestBelow cidrs a live (i + 1) best
 best_more cidrs a live i node mask is old best last =
     elim (cases_eq (bit_and node.places live) 0) [
-      | inl none ↦ keeps_best cidrs a live i node best is none (old best (subst (λ (m : ℕ). IsLastOf m best) (ap (λ t. cond t mask (bit_and node.places live))
+      | inl none ↦
+          keeps_best cidrs a live i node best is none (old best (subst (λ (m : ℕ). IsLastOf m best) (ap (λ t. cond t mask (bit_and node.places live))
           (eq-eqb _ _ none)) last))
       | inr some ↦ takes_best cidrs a live i node best is some (subst (λ (m : ℕ). IsLastOf m best) (ap (λ t. cond t mask (bit_and node.places live))
           (ne_eqb _ _ some)) last)
@@ -228,7 +236,8 @@ within cidrs a live i none k n cand =
     omega (arith, le, cand.len)
 
 -- what stands where the walk ends
-pub ends_best : (cidrs : List IpCidr) (a : IpAddress) (live : ℕ) (i : ℕ) (best : Option ℕ) → NoneShares cidrs a i → IsBestBelow cidrs a live (i + 1) best
+pub ends_best : (cidrs : List IpCidr) (a : IpAddress) (live : ℕ) (i : ℕ) (best : Option ℕ) →
+    NoneShares cidrs a i → IsBestBelow cidrs a live (i + 1) best
     → IsBestPlace cidrs a live best
 ends_best cidrs a live i None none best = λ k n cand. best k n cand (within cidrs a live i none k n cand)
 ends_best cidrs a live i (Some place) none best = (best.0, best.1, λ k m cand. best.2 k m cand (within cidrs a live i none k m cand))
@@ -281,7 +290,8 @@ pub child_at : {cidrs : List IpCidr} {a : IpAddress} {live : ℕ} (i j : ℕ) {c
 child_at {cidrs} {a} i j {leading = leading} bits {node} at next lt is =
     let few = next.few in
     let within = next.within in
-    let bit : bits / 2 ^ 63 ≡ bit_at (host_of a).bits ((host_of a).width - 1 - (i + j)) = ap (λ (b : ℕ). b / 2 ^ 63) is ∙ top_bit leading j (omega arith)
+    let bit : bits / 2 ^ 63 ≡ bit_at (host_of a).bits ((host_of a).width - 1 - (i + j)) =
+    ap (λ (b : ℕ). b / 2 ^ 63) is ∙ top_bit leading j (omega arith)
     ∙ next.same j lt in
     child_is cidrs (host_of a) (i + j) (bits / 2 ^ 63) node at.node_is (omega arith) bit
 
@@ -310,7 +320,8 @@ step cidrs ns a live n child node next mask steps trie at is some read =
       counted = (let c = at.counted in omega arith);
     }
 
-pub one_further : {cidrs : List IpCidr} {ns : List Node} {a : IpAddress} {live : ℕ} (i j : ℕ) {child : ℕ} {node next : Node} {mask more steps counted : ℕ}
+pub one_further : {cidrs : List IpCidr} {ns : List Node} {a : IpAddress} {live : ℕ} (i j : ℕ) {child : ℕ}
+    {node next : Node} {mask more steps counted : ℕ}
     → IsTrieOf ns cidrs → IsAt cidrs a live (i + j) node mask steps
     → child ≡ number cidrs (start_of (host_of a) (i + j + 1)) → child ≢ 0 → next ≡ get_or ns child next
     → more ≡ cond (bit_and next.places live == 0) mask (bit_and next.places live) → counted ≡ steps + 1
@@ -329,7 +340,8 @@ root_is cidrs a live node is = record {
   counted = refl;
 }
 
-pub ipv4_root : {cidrs : List IpCidr} {ns : List Node} (x : Ipv4Address) {live : ℕ} {node : Node} {mask none steps : ℕ} → IsTrieOf ns cidrs → x.bits < 2 ^ 32
+pub ipv4_root : {cidrs : List IpCidr} {ns : List Node} (x : Ipv4Address) {live : ℕ} {node : Node} {mask none steps : ℕ} →
+    IsTrieOf ns cidrs → x.bits < 2 ^ 32
     → node ≡ get_or ns 0 node → mask ≡ bit_and node.places live → none ≡ 0 → steps ≡ none + 1 → IsAt cidrs (Ipv4 x) live 0 node mask steps
 ipv4_root {cidrs} {ns} x {live} {node} trie fits read best first count =
     let p = host_of (Ipv4 x) in
@@ -337,7 +349,8 @@ ipv4_root {cidrs} {ns} x {live} {node} trie fits read best first count =
     subst (λ (b : Beginning). IsNodeOf cidrs b (get_or ns 0 node)) (start_none p fits) (trie.ipv4 node) in
     rw (best, count, first) (root_is cidrs (Ipv4 x) live node (subst (IsNodeOf cidrs (start_of p 0)) (sym read) at))
 
-pub ipv6_root : {cidrs : List IpCidr} {ns : List Node} (x : Ipv6Address) {live : ℕ} {node : Node} {mask none steps : ℕ} → IsTrieOf ns cidrs → x.bits < 2 ^ 128
+pub ipv6_root : {cidrs : List IpCidr} {ns : List Node} (x : Ipv6Address) {live : ℕ} {node : Node} {mask none steps : ℕ} →
+    IsTrieOf ns cidrs → x.bits < 2 ^ 128
     → node ≡ get_or ns 1 node → mask ≡ bit_and node.places live → none ≡ 0 → steps ≡ none + 1 → IsAt cidrs (Ipv6 x) live 0 node mask steps
 ipv6_root {cidrs} {ns} x {live} {node} trie fits read best first count =
     let p = host_of (Ipv6 x) in
@@ -353,7 +366,8 @@ at_middle i count true on w = absurd (true≢false on)
 at_middle {cidrs} {a} {live} i count {node} {mask} {steps} false on w = subst (λ (n : ℕ). IsAt cidrs a live n node mask steps) w.3 w.1
 
 -- at the last bit
-pub at_end : {cidrs : List IpCidr} {a : IpAddress} {live : ℕ} (i count : ℕ) {node : Node} {mask steps : ℕ} (over : Bool) → (host_of a).width ≤ i + count
+pub at_end : {cidrs : List IpCidr} {a : IpAddress} {live : ℕ} (i count : ℕ) {node : Node} {mask steps : ℕ} (over : Bool) →
+    (host_of a).width ≤ i + count
     → ((n : ℕ) × IsAt cidrs a live n node mask steps × OnTrue over (IsLongest cidrs a n) × OnFalse over (n ≡ i + count))
     → (n : ℕ) × IsAt cidrs a live n node mask steps × IsLongest cidrs a n
 at_end i count true last w = (w.0, w.1, w.2)

@@ -1,5 +1,6 @@
 -- An entry that moves to where it stands by its end: lists without one element and with one more, and their order.
-use Rattle.std.proofs.Common.{◌≡◌, ℕ, zero, suc, ◌+◌, ◌-◌, ◌<◌, ◌≤◌, inl, inr, List, [], ◌∷◌, ◌++◌, length, get_or, drop, refl, sym, ap, ◌∙◌, subst, arith, add-one}
+use Rattle.std.proofs.Common.{◌≡◌, ℕ, zero, suc, ◌+◌, ◌-◌, ◌<◌, ◌≤◌, inl, inr, List, [], ◌∷◌, ◌++◌}
+use Rattle.std.proofs.Common.{length, get_or, drop, refl, sym, ap, ◌∙◌, subst, arith, add-one}
 use Rattle.std.specs.Prelude.{true, false, ℤ, ◌≤ℤ◌, IfSome, slice_get, slice_set}
 use Rattle.std.specs.List.{insert, refill, remove}
 use Rattle.std.specs.Ordering.{int_cmp, is_le, is_lt}
@@ -10,7 +11,8 @@ use Rattle.std.proofs.lemmas.Cmp.{int_ranked}
 use Rattle.std.proofs.lemmas.Int.{ints}
 use Rattle.std.proofs.lemmas.List.{get_or_default, take-append-le}
 use Rattle.std.proofs.Math.Seq.{take-length}
-use Rattle.std.proofs.lemmas.List.Edits.{get_or-insert_below, get_or-insert_at, get_or-insert_above, get_or-remove_below, get_or-remove_above, length-insert, length-remove}
+use Rattle.std.proofs.lemmas.List.Edits.{get_or-insert_below, get_or-insert_at, get_or-insert_above}
+use Rattle.std.proofs.lemmas.List.Edits.{get_or-remove_below, get_or-remove_above, length-insert, length-remove}
 use Rattle.ip_address.specs.declared.ip.IpAddress.{IpAddress}
 use Rattle.iface_tables.specs.declared.neighbor.Neighbor.{Neighbor}
 use Rattle.iface_tables.specs.Neighbor.{IsByEnd, IsSettled}
@@ -78,20 +80,23 @@ abbrev pub AreAfter : List (IpAddress × Neighbor) → ℕ → ℤ → Type 0
 AreAfter es i end = (k : ℕ) (d : IpAddress × Neighbor) → i ≤ k → k < length es → end ≤ℤ end_at es k d
 
 -- one test tells it of all, by their order
-pub all_before : (es : List (IpAddress × Neighbor)) (i : ℕ) (end : ℤ) (x : IpAddress × Neighbor) → IsByEnd es → i < length es → end_at es i x ≤ℤ end → AreBefore es (i + 1) end
+pub all_before : (es : List (IpAddress × Neighbor)) (i : ℕ) (end : ℤ) (x : IpAddress × Neighbor) →
+    IsByEnd es → i < length es → end_at es i x ≤ℤ end → AreBefore es (i + 1) end
 all_before es i end x by within le k d lt =
     let a : end_at es k d ≤ℤ end_at es i d = by k i d (omega arith) within in
     let b : end_at es i d ≤ℤ end = rw (get_or_default es i d x within, end_at) le in
     omega (arith, ints, a, b)
 
-pub all_after : (es : List (IpAddress × Neighbor)) (i : ℕ) (end : ℤ) (x : IpAddress × Neighbor) → IsByEnd es → i < length es → end ≤ℤ end_at es i x → AreAfter es i end
+pub all_after : (es : List (IpAddress × Neighbor)) (i : ℕ) (end : ℤ) (x : IpAddress × Neighbor) →
+    IsByEnd es → i < length es → end ≤ℤ end_at es i x → AreAfter es i end
 all_after es i end x by within le k d from lt =
     let a : end_at es i d ≤ℤ end_at es k d = by i k d from lt in
     let b : end ≤ℤ end_at es i d = rw (get_or_default es i d x within, end_at) le in
     omega (arith, ints, a, b)
 
 -- an entry that is put where the order asks leaves it
-inserted : (es : List (IpAddress × Neighbor)) (p : ℕ) (e : IpAddress × Neighbor) → IsByEnd es → p ≤ length es → AreBefore es p e.1.expires_at → AreAfter es p e.1.expires_at → IsByEnd (insert es p e)
+inserted : (es : List (IpAddress × Neighbor)) (p : ℕ) (e : IpAddress × Neighbor) →
+    IsByEnd es → p ≤ length es → AreBefore es p e.1.expires_at → AreAfter es p e.1.expires_at → IsByEnd (insert es p e)
 inserted es p e by within less more i j d le lt =
     elim (cases_order j p) [
       | inl at ↦ elim (cases_lt i j) [
@@ -99,7 +104,8 @@ inserted es p e by within less more i j d le lt =
         | inr same ↦ let s : i ≡ j = omega arith in rw s (omega (arith, ints))
       ]
       | inr rest ↦ elim rest [
-        | inl front ↦ rw (get_or-insert_below es p e d i (omega arith) within, get_or-insert_below es p e d j front within) (by i j d le (omega arith))
+        | inl front ↦
+            rw (get_or-insert_below es p e d i (omega arith) within, get_or-insert_below es p e d j front within) (by i j d le (omega arith))
         | inr back ↦
             let n = length-insert es p e within in
             let s : j ≡ (j - 1) + 1 = omega arith in
@@ -107,43 +113,51 @@ inserted es p e by within less more i j d le lt =
               | inl at ↦ rw (at, get_or-insert_at es p e d within) (more (j - 1) d (omega arith) (omega (arith, n)))
               | inr other ↦ elim other [
                 | inl below ↦ rw (get_or-insert_below es p e d i below within) (by i (j - 1) d (omega arith) (omega (arith, n)))
-                | inr above ↦ let u : i ≡ (i - 1) + 1 = omega arith in rw (u, get_or-insert_above es p e d (i - 1) (omega arith) within) (by (i - 1) (j - 1) d (omega arith) (omega (arith, n)))
+                | inr above ↦ let u : i ≡ (i - 1) + 1 = omega arith in
+                    rw (u, get_or-insert_above es p e d (i - 1) (omega arith) within) (by (i - 1) (j - 1) d (omega arith) (omega (arith, n)))
               ]
             ])
       ]
     ]
 
 -- what the entries beside a gap tell of the others
-pub after_gap : (es others : List (IpAddress × Neighbor)) (h : ℕ) (end : ℤ) (x : IpAddress × Neighbor) → remove es h ≡ others → h + 1 < length es → IsByEnd others → end ≤ℤ end_at es (h + 1) x → AreAfter others h end
+pub after_gap : (es others : List (IpAddress × Neighbor)) (h : ℕ) (end : ℤ) (x : IpAddress × Neighbor) →
+    remove es h ≡ others → h + 1 < length es → IsByEnd others → end ≤ℤ end_at es (h + 1) x → AreAfter others h end
 after_gap es others h end x same lt by le =
     let n = length-remove es h (omega arith) in
     let within : h < length others = omega (arith, n, ap length same) in
     let e : get_or others h x ≡ get_or es (h + 1) x = ap (λ l. get_or l h x) (sym same) ∙ get_or-remove_above es h x h (omega arith) (omega arith) in
     all_after others h end x by within (rw (e, end_at) le)
 
-pub after_end : (es others : List (IpAddress × Neighbor)) (h : ℕ) (end : ℤ) → remove es h ≡ others → h < length es → length es ≤ h + 1 → AreAfter others h end
+pub after_end : (es others : List (IpAddress × Neighbor)) (h : ℕ) (end : ℤ) →
+    remove es h ≡ others → h < length es → length es ≤ h + 1 → AreAfter others h end
 after_end es others h end same lt le k d from below =
     let n = length-remove es h lt in
     absurd (omega (arith, n, ap length same))
 
-pub front_of_gap : (es others : List (IpAddress × Neighbor)) (h : ℕ) (x : IpAddress × Neighbor) → remove es h ≡ others → 0 < h → h < length es → end_at others (h - 1) x ≡ end_at es (h - 1) x
+pub front_of_gap : (es others : List (IpAddress × Neighbor)) (h : ℕ) (x : IpAddress × Neighbor) →
+    remove es h ≡ others → 0 < h → h < length es → end_at others (h - 1) x ≡ end_at es (h - 1) x
 front_of_gap es others h x same pos lt =
     ap (λ (e : IpAddress × Neighbor). e.1.expires_at) (ap (λ l. get_or l (h - 1) x) (sym same) ∙ get_or-remove_below es h x (h - 1) (omega arith) lt)
 
-pub before_gap : (es others : List (IpAddress × Neighbor)) (h : ℕ) (end : ℤ) (x : IpAddress × Neighbor) → remove es h ≡ others → 0 < h → h < length es → IsByEnd others → end_at es (h - 1) x ≤ℤ end → AreBefore others h end
+pub before_gap : (es others : List (IpAddress × Neighbor)) (h : ℕ) (end : ℤ) (x : IpAddress × Neighbor) →
+    remove es h ≡ others → 0 < h → h < length es → IsByEnd others → end_at es (h - 1) x ≤ℤ end → AreBefore others h end
 before_gap es others h end x same pos lt by le k d below =
     let n = length-remove es h lt in
     let within : h - 1 < length others = omega (arith, n, ap length same) in
     all_before others (h - 1) end x by within (rw (front_of_gap es others h x same pos lt) le) k d (omega arith)
 
-pub after_front : (es others : List (IpAddress × Neighbor)) (h : ℕ) (end : ℤ) (x : IpAddress × Neighbor) → remove es h ≡ others → 0 < h → h < length es → IsByEnd others → end ≤ℤ end_at es (h - 1) x → AreAfter others (h - 1) end
+pub after_front : (es others : List (IpAddress × Neighbor)) (h : ℕ) (end : ℤ) (x : IpAddress × Neighbor) →
+    remove es h ≡ others → 0 < h → h < length es → IsByEnd others → end ≤ℤ end_at es (h - 1) x → AreAfter others (h - 1) end
 after_front es others h end x same pos lt by le =
     let n = length-remove es h lt in
     let within : h - 1 < length others = omega (arith, n, ap length same) in
     all_after others (h - 1) end x by within (rw (front_of_gap es others h x same pos lt) le)
 
 -- a list with a gap that has found its place
-pub settled : (es : List (IpAddress × Neighbor)) (others : List (IpAddress × Neighbor)) (h : ℕ) (e : IpAddress × Neighbor) → h < length es → remove es h ≡ others → IsByEnd others → AreBefore others h e.1.expires_at → AreAfter others h e.1.expires_at → IsSettled others e (slice_set es h e)
+pub settled : (es : List (IpAddress × Neighbor)) (others : List (IpAddress × Neighbor)) (h : ℕ) (e : IpAddress × Neighbor) →
+    h < length es → remove es h ≡ others → IsByEnd others → AreBefore others h e.1.expires_at →
+    AreAfter others h e.1.expires_at → IsSettled others e (slice_set es h e)
 settled es others h e within same by less more =
     let n = length-remove es h within in
     let le : h ≤ length others = omega (arith, n, ap length same) in
@@ -175,10 +189,12 @@ module _ {X : Type 0} where
   refilled xs ws n = rw (← n) (take-append-le (length ws) ws (drop (length ws) xs) (omega arith) ∙ take-length ws)
 
 -- the last entry stays where it is, if it ends no sooner than it did
-pub stays_last : (es : List (IpAddress × Neighbor)) (p : ℕ) (e x : IpAddress × Neighbor) → IsByEnd es → p + 1 ≡ length es → end_at es p x ≤ℤ e.1.expires_at → IsSettled (remove es p) e (slice_set es p e)
+pub stays_last : (es : List (IpAddress × Neighbor)) (p : ℕ) (e x : IpAddress × Neighbor) →
+    IsByEnd es → p + 1 ≡ length es → end_at es p x ≤ℤ e.1.expires_at → IsSettled (remove es p) e (slice_set es p e)
 stays_last es p e x by last later =
     let within : p < length es = omega (arith, last) in
-    settled es (remove es p) p e within refl (taken es p by within) (earlier within) (after_end es (remove es p) p e.1.expires_at refl within (omega (arith, last))) where
+    settled es (remove es p) p e within refl (taken es p by within) (earlier within)
+    (after_end es (remove es p) p e.1.expires_at refl within (omega (arith, last))) where
       earlier : p < length es → AreBefore (remove es p) p e.1.expires_at
       earlier within k d below =
           let a : end_at es k d ≤ℤ end_at es p d = by k p d (omega (arith, below)) within in
@@ -187,16 +203,19 @@ stays_last es p e x by last later =
           subst (λ (y : IpAddress × Neighbor). y.1.expires_at ≤ℤ e.1.expires_at) (sym same) (omega (arith, ints, a, b))
 
 -- what holds of the element at a place
-pub of_element : (P : IpAddress × Neighbor → Type 0) (es : List (IpAddress × Neighbor)) (p : ℕ) (d : IpAddress × Neighbor) → p < length es → IfSome (slice_get es p) P → P (get_or es p d)
+pub of_element : (P : IpAddress × Neighbor → Type 0) (es : List (IpAddress × Neighbor)) (p : ℕ) (d : IpAddress × Neighbor) →
+    p < length es → IfSome (slice_get es p) P → P (get_or es p d)
 of_element P [] p d h of = absurd (omega arith)
 of_element P (e ∷ es) zero d h of = of
 of_element P (e ∷ es) (suc p) d h of = of_element P es p d (omega arith) of
 
-pub element_of : (P : IpAddress × Neighbor → Type 0) (es : List (IpAddress × Neighbor)) (p : ℕ) (d : IpAddress × Neighbor) → p < length es → P (get_or es p d) → IfSome (slice_get es p) P
+pub element_of : (P : IpAddress × Neighbor → Type 0) (es : List (IpAddress × Neighbor)) (p : ℕ) (d : IpAddress × Neighbor) →
+    p < length es → P (get_or es p d) → IfSome (slice_get es p) P
 element_of P [] p d h of = absurd (omega arith)
 element_of P (e ∷ es) zero d h of = of
 element_of P (e ∷ es) (suc p) d h of = element_of P es p d (omega arith) of
 
 -- an entry of which only the end is another
-pub of_another_end : (e : IpAddress × Neighbor) (a : IpAddress) (n : Neighbor) → (e.0 ≡ a) × (e.1.hardware_addr ≡ n.hardware_addr) → ◌≡◌ {A = IpAddress × Neighbor} (e.0, record e.1 { expires_at = n.expires_at }) (a, n)
+pub of_another_end : (e : IpAddress × Neighbor) (a : IpAddress) (n : Neighbor) →
+    (e.0 ≡ a) × (e.1.hardware_addr ≡ n.hardware_addr) → ◌≡◌ {A = IpAddress × Neighbor} (e.0, record e.1 { expires_at = n.expires_at }) (a, n)
 of_another_end e a n same = rw (same.0, same.1) refl

@@ -1,5 +1,6 @@
 -- Neighbours (RFC 826, RFC 4861): a finite map from their addresses, and one silence for all discoveries.
-use Rattle.std.specs.Prelude.{◌≡◌, ℕ, ◌<◌, ◌≤◌, ℤ, pos, ◌+ℤ◌, ◌≤ℤ◌, Bool, true, false, IsTrue, List, length, slice_index_or, Option, Some, None, if◌then◌else◌, refl}
+use Rattle.std.specs.Prelude.{◌≡◌, ℕ, ◌<◌, ◌≤◌, ℤ, pos, ◌+ℤ◌, ◌≤ℤ◌, Bool, true, false, IsTrue}
+use Rattle.std.specs.Prelude.{List, length, slice_index_or, Option, Some, None, if◌then◌else◌, refl}
 use Rattle.std.specs.List.{insert, remove}
 use Rattle.std.specs.Ordering.{int_cmp, is_lt}
 use Rattle.std.specs.FinMap as map
@@ -37,7 +38,8 @@ answer_without_entry silent_until t = if is_before t silent_until then RateLimit
 -- the answer of a lookup at t with this entry: a neighbour is known before its expiry
 abbrev pub answer_from : Option Neighbor → ℤ → ℤ → Answer
 answer_from None silent_until t = answer_without_entry silent_until t
-answer_from (Some n) silent_until t = if is_before t n.expires_at then Found n.hardware_addr else answer_without_entry silent_until t
+answer_from (Some n) silent_until t =
+    if is_before t n.expires_at then Found n.hardware_addr else answer_without_entry silent_until t
 
 -- the answer of a lookup of a at t
 abbrev pub answer_of : Neighbors → IpAddress → ℤ → Answer
@@ -59,7 +61,8 @@ pub record IsLeastEnd (m : FinMap address_cmp Neighbor) (v : IpAddress) : Type 0
 pub record Puts (old new : FinMap address_cmp Neighbor) (a : IpAddress) (n : Neighbor) : Type 0 where
   pub there : IsTrue (map.contains_key old a) → new ≡ map.insert old a n
   pub room : map.len old < 4 → new ≡ map.insert old a n
-  pub full : map.get old a ≡ None → 4 ≤ map.len old → (v : IpAddress) × IsLeastEnd old v × (new ≡ map.insert (map.remove old v) a n)
+  pub full : map.get old a ≡ None → 4 ≤ map.len old →
+      (v : IpAddress) × IsLeastEnd old v × (new ≡ map.insert (map.remove old v) a n)
 
 -- each known neighbour has an address of that medium
 abbrev pub AreOf : Medium → Neighbors → Type 0
@@ -81,9 +84,11 @@ is_same (Ethernet x) Ip = false
 is_same (Ethernet x) (Ethernet y) = bytes_eq x.0 y.0
 
 -- the entries after the entry at a gets this expiry, if it has the hardware address h
-abbrev pub renewed_from : Option Neighbor → FinMap address_cmp Neighbor → IpAddress → HardwareAddress → ℤ → FinMap address_cmp Neighbor
+abbrev pub renewed_from : Option Neighbor → FinMap address_cmp Neighbor → IpAddress →
+    HardwareAddress → ℤ → FinMap address_cmp Neighbor
 renewed_from None m a h end = m
-renewed_from (Some n) m a h end = if is_same n.hardware_addr h then map.insert m a (record n { expires_at = end }) else m
+renewed_from (Some n) m a h end =
+    if is_same n.hardware_addr h then map.insert m a (record n { expires_at = end }) else m
 
 -- the neighbours after the entry at a gets this expiry, if it has the hardware address h
 abbrev pub after_renewal : Neighbors → IpAddress → HardwareAddress → ℤ → Neighbors
@@ -91,7 +96,8 @@ after_renewal c a h end = record c { known = renewed_from (map.get c.known a) c.
 
 -- by rising expiry: none expires after a later one in the list
 abbrev pub IsByEnd : List (IpAddress × Neighbor) → Type 0
-IsByEnd es = (i j : ℕ) (d : IpAddress × Neighbor) → i ≤ j → j < length es → (slice_index_or es i d).1.expires_at ≤ℤ (slice_index_or es j d).1.expires_at
+IsByEnd es = (i j : ℕ) (d : IpAddress × Neighbor) →
+    i ≤ j → j < length es → (slice_index_or es i d).1.expires_at ≤ℤ (slice_index_or es j d).1.expires_at
 
 -- the order of stored entries: no address twice, and by rising expiry
 pub record IsKept (es : List (IpAddress × Neighbor)) : Type 0 where
@@ -99,14 +105,15 @@ pub record IsKept (es : List (IpAddress × Neighbor)) : Type 0 where
   pub by_end : IsByEnd es
 
 -- an entry was inserted among others, and all are by rising expiry
-pub record IsSettled (others : List (IpAddress × Neighbor)) (entry : IpAddress × Neighbor) (new : List (IpAddress × Neighbor)) : Type 0 where
+pub record IsSettled (others : List (IpAddress × Neighbor)) (entry : IpAddress × Neighbor)
+    (new : List (IpAddress × Neighbor)) : Type 0 where
   pub place : ℕ
   pub within : place ≤ length others
   pub is : new ≡ insert others place entry
   pub by_end : IsByEnd new
 
--- the entry at an index of new may be overwritten by a neighbour at a: the others are those of old without a, or without one with
--- the earliest expiry
+-- the entry at an index of new may be overwritten by a neighbour at a: the others are those of old without a, or
+-- without one with the earliest expiry
 pub record HasPlace (old new : List (IpAddress × Neighbor)) (a : IpAddress) (place : ℕ) : Type 0 where
   pub within : place < length new
   pub kept : IsKept (remove new place)
@@ -123,6 +130,7 @@ neighbor_code =
 -- a cache by its parts
 abbrev pub neighbors_code : Coded Neighbors
 neighbors_code =
-    code_by (FinMap address_cmp Neighbor × ℤ) (coded× (map.code address_code neighbor_code) coded_ℤ) (λ c. (c.known, c.silent_until))
+    code_by (FinMap address_cmp Neighbor × ℤ) (coded× (map.code address_code neighbor_code) coded_ℤ)
+    (λ c. (c.known, c.silent_until))
     (λ p. record { known = p.0; silent_until = p.1 })
     (λ _. refl)

@@ -1,5 +1,6 @@
 -- Routes (RFC 1122 3.3.1, RFC 4632 5.1): of those that match an address, the one with the longest prefix is used.
-use Rattle.std.specs.Prelude.{◌≡◌, ℕ, ◌<◌, ◌≤◌, ◌==◌, ◌&&◌, nat_le, ℤ, Bool, true, false, is_none, if◌then◌else◌, List, [], ◌∷◌, ◌++◌, length, map, slice_get, Option, Some, None, Result, Ok, Err}
+use Rattle.std.specs.Prelude.{◌≡◌, ℕ, ◌<◌, ◌≤◌, ◌==◌, ◌&&◌, nat_le, ℤ, Bool, true, false, is_none, if◌then◌else◌}
+use Rattle.std.specs.Prelude.{List, [], ◌∷◌, ◌++◌, length, map, slice_get, Option, Some, None, Result, Ok, Err}
 use Rattle.std.specs.List.{find, position_or_len, remove}
 use Rattle.std.specs.Ordering.{int_cmp, is_le}
 use Rattle.std.proofs.Common.{lit≤}
@@ -40,8 +41,10 @@ prefix_len r = prefix_len_of r.cidr
 pub record IsBestAt (rs : List Route) (a : IpAddress) (t : ℤ) (place : ℕ) (r : Route) : Type 0 where
   pub is_there : slice_get rs place ≡ Some r
   pub is_match : matches r a t ≡ true
-  pub longest : (k : ℕ) (other : Route) → slice_get rs k ≡ Some other → matches other a t ≡ true → prefix_len other ≤ prefix_len r
-  pub last : (k : ℕ) (other : Route) → place < k → slice_get rs k ≡ Some other → matches other a t ≡ true → prefix_len other < prefix_len r
+  pub longest : (k : ℕ) (other : Route) →
+      slice_get rs k ≡ Some other → matches other a t ≡ true → prefix_len other ≤ prefix_len r
+  pub last : (k : ℕ) (other : Route) → place < k → slice_get rs k ≡ Some other →
+      matches other a t ≡ true → prefix_len other < prefix_len r
 
 -- the best route to an address at t, or none if none matches
 abbrev pub IsBest : List Route → IpAddress → ℤ → Option Route → Type 0
@@ -73,7 +76,8 @@ BestIsFound = (rs : List Route) (a : IpAddress) (t : ℤ) → IsBest rs a t (bes
 
 -- the best route has only one gateway
 abbrev pub RouterIsOne : Type 0
-RouterIsOne = (rs : List Route) (a : IpAddress) (t : ℤ) (x y : Option IpAddress) → IsRouter rs a t x → IsRouter rs a t y → x ≡ y
+RouterIsOne = (rs : List Route) (a : IpAddress) (t : ℤ) (x y : Option IpAddress) →
+    IsRouter rs a t x → IsRouter rs a t y → x ≡ y
 
 -- the prefixes of routes, in the same order
 abbrev pub cidrs : List Route → List IpCidr
@@ -97,10 +101,12 @@ whole_ipv6 = Ipv6 (record { address = record { bits = 0 }; prefix_len = 0; in_ra
 
 -- the default route via a gateway, without expiry (RFC 1122 3.3.1.1)
 abbrev pub ipv4_gateway : Ipv4Address → Route
-ipv4_gateway gateway = record { cidr = whole_ipv4; via_router = address.Ipv4 gateway; preferred_until = None; expires_at = None }
+ipv4_gateway gateway =
+    record { cidr = whole_ipv4; via_router = address.Ipv4 gateway; preferred_until = None; expires_at = None }
 
 abbrev pub ipv6_gateway : Ipv6Address → Route
-ipv6_gateway gateway = record { cidr = whole_ipv6; via_router = address.Ipv6 gateway; preferred_until = None; expires_at = None }
+ipv6_gateway gateway =
+    record { cidr = whole_ipv6; via_router = address.Ipv6 gateway; preferred_until = None; expires_at = None }
 
 -- exactly ::/0
 abbrev pub is_whole_ipv6 : IpCidr → Bool
@@ -136,6 +142,7 @@ abbrev pub with_default : (Route → Bool) → List Route → Route → List Rou
 with_default is_kind rs r = if is_refused is_kind rs then rs else without_first is_kind rs ++ r ∷ []
 
 -- a route replaces the first of its kind
-pub record Replaces (is_kind : Route → Bool) (old : List Route) (r : Route) (answer : Result (Option Route) RouteTableFull) (new : List Route) : Type 0 where
+pub record Replaces (is_kind : Route → Bool) (old : List Route) (r : Route)
+    (answer : Result (Option Route) RouteTableFull) (new : List Route) : Type 0 where
   pub answers : answer ≡ old_or_full is_kind old
   pub leaves : new ≡ with_default is_kind old r

@@ -1,6 +1,7 @@
--- A binary trie of prefixes (RFC 4632 5.1): a node for each beginning of a stored prefix, with links to the two that are one bit
--- longer.
-use Rattle.std.specs.Prelude.{◌≡◌, ℕ, ◌+◌, ◌-◌, ◌*◌, ◌/◌, ◌^◌, ◌<◌, ◌≤◌, ◌==◌, ◌&&◌, nat_le, nat_lt, Bool, true, false, if◌then◌else◌, List, length, slice_get, slice_index, slice_index_or, Option, Some, None}
+-- A binary trie of prefixes (RFC 4632 5.1): a node for each beginning of a stored prefix, with links to the two
+-- that are one bit longer.
+use Rattle.std.specs.Prelude.{◌≡◌, ℕ, ◌+◌, ◌-◌, ◌*◌, ◌/◌, ◌^◌, ◌<◌, ◌≤◌, ◌==◌, ◌&&◌, nat_le, nat_lt, Bool, true, false}
+use Rattle.std.specs.Prelude.{if◌then◌else◌, List, length, slice_get, slice_index, slice_index_or, Option, Some, None}
 use Rattle.std.specs.Int.{bit_at}
 use Rattle.std.specs.List.{position_or_len}
 use Rattle.ip_address.specs.Cidr.{contains, prefix_len_of}
@@ -50,8 +51,8 @@ is_marked b (Some c) = is_whole b (network_of c)
 abbrev pub index_of : List IpCidr → Beginning → ℕ
 index_of cidrs b = position_or_len (λ c. begins b (network_of c)) cidrs
 
--- the number of the node of a beginning of this many bits, by the first prefix with it: there are 128 for each prefix, after two
--- roots
+-- the number of the node of a beginning of this many bits, by the first prefix with it: there are 128 for each
+-- prefix, after two roots
 abbrev pub number_at : ℕ → ℕ → ℕ → ℕ
 number_at count place len = if nat_lt place count then 1 + 128 * place + len else 0
 
@@ -78,11 +79,13 @@ pub record IsTrieOf (nodes : List Node) (cidrs : List IpCidr) : Type 0 where
   pub few : length cidrs ≤ 4
   pub ipv4 : (d : Node) → IsNodeOf cidrs (root_of 32) (slice_index_or nodes 0 d)
   pub ipv6 : (d : Node) → IsNodeOf cidrs (root_of 128) (slice_index_or nodes 1 d)
-  pub others : (b : Beginning) (d : Node) → 0 < b.len → 0 < number cidrs b → IsNodeOf cidrs b (slice_index_or nodes (number cidrs b) d)
+  pub others : (b : Beginning) (d : Node) →
+      0 < b.len → 0 < number cidrs b → IsNodeOf cidrs b (slice_index_or nodes (number cidrs b) d)
 
 -- the nodes of the prefix at an index are those of its beginnings
 abbrev pub HasNodes : List Node → List IpCidr → ℕ → Type 0
-HasNodes nodes cidrs place = (c : IpCidr) (m : ℕ) (d : Node) → slice_get cidrs place ≡ Some c → m < (network_of c).len → IsNodeOf cidrs (start_of (network_of c) (m + 1)) (slice_index_or nodes (2 + 128 * place + m) d)
+HasNodes nodes cidrs place = (c : IpCidr) (m : ℕ) (d : Node) → slice_get cidrs place ≡ Some c → m < (network_of c).len →
+    IsNodeOf cidrs (start_of (network_of c) (m + 1)) (slice_index_or nodes (2 + 128 * place + m) d)
 
 -- the prefix at an index is live, has n bits, and the address begins with them
 pub record IsCandidate (cidrs : List IpCidr) (a : IpAddress) (live : ℕ) (place n : ℕ) : Type 0 where
@@ -95,7 +98,8 @@ pub record IsCandidate (cidrs : List IpCidr) (a : IpAddress) (live : ℕ) (place
 -- of the live prefixes of an address the longest; of equal ones the last
 abbrev pub IsBestPlace : List IpCidr → IpAddress → ℕ → Option ℕ → Type 0
 IsBestPlace cidrs a live None = (k n : ℕ) → IsCandidate cidrs a live k n → ⊥
-IsBestPlace cidrs a live (Some place) = (n : ℕ) × IsCandidate cidrs a live place n × ((k m : ℕ) → IsCandidate cidrs a live k m → (m ≤ n) × (place < k → m < n))
+IsBestPlace cidrs a live (Some place) = (n : ℕ) × IsCandidate cidrs a live place n
+    × ((k m : ℕ) → IsCandidate cidrs a live k m → (m ≤ n) × (place < k → m < n))
 
 -- the best index of those with fewer than i bits
 abbrev pub IsBestBelow : List IpCidr → IpAddress → ℕ → ℕ → Option ℕ → Type 0
@@ -112,8 +116,8 @@ pub record IsLongest (cidrs : List IpCidr) (a : IpAddress) (n : ℕ) : Type 0 wh
   pub shared : 0 < n → (k : ℕ) × (c : IpCidr) × (slice_get cidrs k ≡ Some c) × (shares c a n ≡ true)
   pub most : (k m : ℕ) (c : IpCidr) → slice_get cidrs k ≡ Some c → shares c a m ≡ true → m ≤ n
 
--- a walk has followed i bits of an address, by 1 + i nodes: it is at the node of these bits, and the last index in its mask is
--- the best so far
+-- a walk has followed i bits of an address, by 1 + i nodes: it is at the node of these bits, and the last index in its
+-- mask is the best so far
 pub record IsAt (cidrs : List IpCidr) (a : IpAddress) (live i : ℕ) (node : Node) (mask steps : ℕ) : Type 0 where
   pub node_is : IsNodeOf cidrs (start_of (host_of a) i) node
   pub best_is : (place : Option ℕ) → IsLastOf mask place → IsBestBelow cidrs a live (i + 1) place

@@ -13,7 +13,8 @@ ghost use Rattle.ip_address.specs.Hardware.{medium_of};
 ghost use Rattle.iface_tables.specs.Entries as entry;
 ghost use Rattle.iface_tables.specs.Entries.{AreKeysDistinct};
 ghost use Rattle.iface_tables.specs.Neighbor as spec;
-ghost use Rattle.iface_tables.specs.Neighbor.{AreOf, Puts, Fills, HasPlace, IsByEnd, IsKept, IsSettled, after_renewal, renewed_from, answer_of, expiry_from};
+ghost use Rattle.iface_tables.specs.Neighbor.{AreOf, Puts, Fills, HasPlace, IsByEnd, IsKept, IsSettled};
+ghost use Rattle.iface_tables.specs.Neighbor.{after_renewal, renewed_from, answer_of, expiry_from};
 
 use arrayvec::ArrayVec;
 use ip_wire::{HardwareAddress, IpAddress};
@@ -125,7 +126,8 @@ impl Cache {
         requires protocol { ip.is_unicast protocol_addr ≡ true }
         requires link { hardware.is_unicast hardware_addr ≡ true }
         requires moment { IsMoment timestamp }
-        ensures fills { Fills self.old self.new protocol_addr (record { hardware_addr = hardware_addr; expires_at = expiry_from timestamp }) }
+        ensures fills { Fills self.old self.new protocol_addr
+            (record { hardware_addr = hardware_addr; expires_at = expiry_from timestamp }) }
         ensures of { AreOf (medium_of hardware_addr) self.old → AreOf (medium_of hardware_addr) self.new }
     {
         let expires_at = timestamp + Cache::ENTRY_LIFETIME;
@@ -142,7 +144,8 @@ impl Cache {
     )
         requires protocol { ip.is_unicast protocol_addr ≡ true }
         requires link { hardware.is_unicast hardware_addr ≡ true }
-        ensures fills { Fills self.old self.new protocol_addr (record { hardware_addr = hardware_addr; expires_at = expires_at }) }
+        ensures fills { Fills self.old self.new protocol_addr
+            (record { hardware_addr = hardware_addr; expires_at = expires_at }) }
         ensures of { AreOf (medium_of hardware_addr) self.old → AreOf (medium_of hardware_addr) self.new }
     {
         // It has as many octets as the addresses of its medium.
@@ -278,7 +281,8 @@ fn settle_renewed(
 )
     requires within { place < length entries.old }
     requires order { IsByEnd entries.old }
-    requires same { IfSome (slice_get entries.old place) (λ e. (e.0 ≡ address) × (e.1.hardware_addr ≡ neighbor.hardware_addr)) }
+    requires same { IfSome (slice_get entries.old place)
+        (λ e. (e.0 ≡ address) × (e.1.hardware_addr ≡ neighbor.hardware_addr)) }
     ensures { IsSettled (remove entries.old place) (address, neighbor) entries.new }
 {
     if place + 1 == entries.len() && entries[place].1.expires_at <= neighbor.expires_at {
@@ -333,7 +337,8 @@ fn renew_in(
 )
     requires { IsKept entries.old.items }
     ensures kept { IsKept entries.new.items }
-    ensures renews { map.from_entries entries.new.items ≡ renewed_from (find address_cmp address.now entries.old.items) (map.from_entries entries.old.items) address.now hardware_addr.now expires_at }
+    ensures renews { map.from_entries entries.new.items ≡ renewed_from (find address_cmp address.now entries.old.items)
+        (map.from_entries entries.old.items) address.now hardware_addr.now expires_at }
 {
     let place = index_of(entries.as_slice(), address);
     if place >= entries.len() {

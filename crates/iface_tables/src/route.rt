@@ -4,7 +4,9 @@ ghost use Rattle.std.specs.List.{position_or_len, remove};
 ghost use Rattle.ip_address.specs.Ip as ip;
 ghost use Rattle.iface_tables.specs.declared.route.Route.{Route};
 ghost use Rattle.iface_tables.specs.Route as spec;
-ghost use Rattle.iface_tables.specs.Route.{AreLive, BestIsFound, IsRouter, Replaces, RouterIsOne, Storage, cidrs, first, is_live, old_or_full, route_at, router_of, with_default, without_first};
+ghost use Rattle.iface_tables.specs.Route.{AreLive, BestIsFound, IsRouter, Replaces, RouterIsOne};
+ghost use Rattle.iface_tables.specs.Route.{Storage, cidrs, first, is_live, old_or_full};
+ghost use Rattle.iface_tables.specs.Route.{route_at, router_of, with_default, without_first};
 ghost use Rattle.iface_tables.specs.RouteTrie.{IsLongest, IsTrieOf};
 
 use crate::route_trie::{RouteTrie, Steps};
@@ -162,7 +164,8 @@ impl Routes {
     where
         F: FnOnce(ArrayVec<Route, IFACE_MAX_ROUTE_COUNT>) -> ArrayVec<Route, IFACE_MAX_ROUTE_COUNT>,
         requires { (routes : Storage) → routes.items ≡ self.old → F.pre f routes }
-        ensures { (old : Storage) × (new : Storage) × (old.items ≡ self.old) × F.post f old new × (self.new ≡ new.items) }
+        ensures { (old : Storage) × (new : Storage) × (old.items ≡ self.old)
+            × F.post f old new × (self.new ≡ new.items) }
     {
         let old = self.storage.take();
         self.storage = f(old);
@@ -356,7 +359,8 @@ fn replace(
     place: usize,
     route: Route,
 ) -> Result<Option<Route>, RouteTableFull>
-    ensures { (is_kind : Route → Bool) → place ≡ position_or_len is_kind routes.old.items → Replaces is_kind routes.old.items route result routes.new.items }
+    ensures { (is_kind : Route → Bool) → place ≡ position_or_len is_kind routes.old.items →
+        Replaces is_kind routes.old.items route result routes.new.items }
 {
     if let Some(old) = take_out(routes, place) {
         routes.push(route);

@@ -3,14 +3,17 @@
 //! It has a root for each family and, for each stored prefix, a node for each of its beginnings that no earlier prefix
 //! has. A node links to the two beginnings that are one bit longer. It has a mask of the indices of the prefixes that
 //! equal it; the lowest bit is index 0.
-ghost use Rattle.std.specs.Prelude.{◌≡◌, ℕ, ◌+◌, ◌-◌, ◌*◌, ◌/◌, ◌%◌, ◌^◌, ◌<◌, ◌≤◌, ◌==◌, cond, List, [], length, slice_get, slice_index, slice_index_or};
+ghost use Rattle.std.specs.Prelude.{◌≡◌, ℕ, ◌+◌, ◌-◌, ◌*◌, ◌/◌, ◌%◌, ◌^◌, ◌<◌, ◌≤◌, ◌==◌, cond};
+ghost use Rattle.std.specs.Prelude.{List, [], length, slice_get, slice_index, slice_index_or};
 ghost use Rattle.std.specs.Int.RustNames.{bit_and};
 ghost use Rattle.std.specs.Bool.{OnFalse, OnTrue};
 ghost use Rattle.ip_address.specs.declared.cidr.IpCidr.{IpCidr};
 ghost use Rattle.ip_address.specs.declared.ip.IpAddress.{IpAddress};
 ghost use Rattle.iface_tables.specs.declared.route_trie.Node.{Node};
 ghost use Rattle.iface_tables.specs.RouteTrie as spec;
-ghost use Rattle.iface_tables.specs.RouteTrie.{AreNextBits, HasNodes, IsAt, IsBestPlace, IsLastOf, IsLongest, IsNodeOf, IsTrieOf, begins, has_place, is_marked, is_whole, longer_of, number, index_of, root_of, start_of};
+ghost use Rattle.iface_tables.specs.RouteTrie.{AreNextBits, HasNodes, IsAt, IsBestPlace, IsLastOf};
+ghost use Rattle.iface_tables.specs.RouteTrie.{IsLongest, IsNodeOf, IsTrieOf, begins, has_place, is_marked};
+ghost use Rattle.iface_tables.specs.RouteTrie.{is_whole, longer_of, number, index_of, root_of, start_of};
 
 use ip_wire::{IpAddress, IpCidr};
 use std::marker::Model;
@@ -115,8 +118,10 @@ impl RouteTrie {
     /// walk reads the root, and a node for each further bit that a prefix shares with the address.
     pub fn walk(&self, address: &IpAddress, live: u32) -> (Option<usize>, Steps)
         requires { (cidrs : List IpCidr) × IsTrieOf self.now.nodes cidrs }
-        ensures best { (cidrs : List IpCidr) → IsTrieOf self.now.nodes cidrs → IsBestPlace cidrs address.now live result.0 }
-        ensures count { (cidrs : List IpCidr) → IsTrieOf self.now.nodes cidrs → (n : ℕ) × IsLongest cidrs address.now n × (result.1 ≡ 1 + n) }
+        ensures best { (cidrs : List IpCidr) →
+            IsTrieOf self.now.nodes cidrs → IsBestPlace cidrs address.now live result.0 }
+        ensures count { (cidrs : List IpCidr) →
+            IsTrieOf self.now.nodes cidrs → (n : ℕ) × IsLongest cidrs address.now n × (result.1 ≡ 1 + n) }
     {
         let mut steps = Steps { count: 0 };
         let end = self.end_of(address, live, &mut steps);
@@ -129,7 +134,8 @@ impl RouteTrie {
         requires trie { (cidrs : List IpCidr) × IsTrieOf self.now.nodes cidrs }
         requires first { steps.old ≡ 0 }
         ensures { (cidrs : List IpCidr) → IsTrieOf self.now.nodes cidrs
-            → (n : ℕ) × IsAt cidrs address.now live n result.node result.best steps.new × IsLongest cidrs address.now n }
+            → (n : ℕ) × IsAt cidrs address.now live n result.node result.best steps.new
+            × IsLongest cidrs address.now n }
     {
         match address {
             IpAddress::Ipv4(address) => {
@@ -388,7 +394,8 @@ fn fill(nodes: &mut [Node; ROUTE_TRIE_NODE_COUNT], cidrs: &[IpCidr], place: usiz
     requires few { length cidrs.now ≤ ROUTE_TRIE_PLACE_COUNT }
     requires within { place < length cidrs.now }
     ensures filled { HasNodes nodes.new cidrs.now place }
-    ensures kept { (k : ℕ) (d : Node) → k ≤ 1 + 128 * place → slice_index_or nodes.new k d ≡ slice_index_or nodes.old k d }
+    ensures kept { (k : ℕ) (d : Node) →
+        k ≤ 1 + 128 * place → slice_index_or nodes.new k d ≡ slice_index_or nodes.old k d }
 {
     let network = network_of(&cidrs[place]);
     for i in 0..network.len {

@@ -19,9 +19,11 @@ use Rattle.iface_send.specs.Refines.{StandsFor, RefinesTelling}
 use Rattle.iface_send.specs.Offered.{HasPart}
 use Rattle.interface.specs.Refines.{RefinementTelling}
 
-module _ {D : Type 0} {tells : D → List Event → D → Type 0} (tells_on : (a b c : D) (xs ys : List Event) → tells a xs b → tells b ys c → tells a (xs ++ ys) c) where
+module _ {D : Type 0} {tells : D → List Event → D → Type 0}
+    (tells_on : (a b c : D) (xs ys : List Event) → tells a xs b → tells b ys c → tells a (xs ++ ys) c) where
   -- one part, and then the others
-  both : {d m e : D} (first others : Part) (H mid new : Host) → RefinesTelling tells d m (first H) mid → RefinesTelling tells m e (others mid) new → RefinesTelling tells d e (Both first others H) new
+  both : {d m e : D} (first others : Part) (H mid new : Host) → RefinesTelling tells d m (first H) mid → RefinesTelling tells m e (others mid) new →
+      RefinesTelling tells d e (Both first others H) new
   both {d} {m} {e} first others H mid new one two = record {
     told = one.told ++ two.told;
     notes = one.notes ++ two.notes;
@@ -40,24 +42,33 @@ module _ {D : Type 0} {tells : D → List Event → D → Type 0} (tells_on : (a
   }
 
   -- a part over what an interface keeps, with these slots and sockets
-  over : {d e : D} (part : Part) (c c' : Context) (slots : Slots) (s : SocketSet) → RefinesTelling tells d e (HasPart part c) c' → RefinesTelling tells d e (part (host_in c slots s)) (host_in c' slots s)
+  over : {d e : D} (part : Part) (c c' : Context) (slots : Slots) (s : SocketSet) →
+      RefinesTelling tells d e (HasPart part c) c' → RefinesTelling tells d e (part (host_in c slots s)) (host_in c' slots s)
   over part c c' slots s one = record { told = one.told; notes = one.notes; tells_it = one.tells_it; follows = one.follows slots s }
 
   -- one call that sends at its moment: the pieces, what is asked of routers, the groups, the reports, and then the sockets
-  pub egressed : {d d0 d1 d2 d3 d4 d5 e : D} (c c0 c1 c2 c3 c4 c5 c6 : Context) (places : List (Assembly FragKey)) (s s' : SocketSet) (t : ℤ) (H : Host) (slots : Slots) (changed : Bool) (answer : PollResult) →
-      StandForSlots places slots → at H t ≡ host_in c slots s → RefinesTelling tells d d0 (HasPart Ipv4Egress c) c0 → RefinesTelling tells d0 d1 (HasPart NdiscRsEgress c0) c1 → RefinesTelling tells d1 d2 (HasPart JoinsEgress c1) c2 →
-      RefinesTelling tells d2 d3 (HasPart LeavesEgress c2) c3 → RefinesTelling tells d3 d4 (HasPart IgmpEgress c3) c4 → RefinesTelling tells d4 d5 (HasPart MldEgress c4) c5 →
-      RefinesTelling tells d5 e (SocketEgress (host_in c5 slots s) changed) (host_in c6 slots s') → answer ≡ answer_of changed → RefinementTelling tells d e (Egress t answer H) (StandsFor c6 places s')
+  pub egressed : {d d0 d1 d2 d3 d4 d5 e : D} (c c0 c1 c2 c3 c4 c5 c6 : Context) (places : List (Assembly FragKey)) (s s' : SocketSet) (t : ℤ)
+      (H : Host) (slots : Slots) (changed : Bool) (answer : PollResult) →
+      StandForSlots places slots → at H t ≡ host_in c slots s → RefinesTelling tells d d0 (HasPart Ipv4Egress c) c0 →
+      RefinesTelling tells d0 d1 (HasPart NdiscRsEgress c0) c1 → RefinesTelling tells d1 d2 (HasPart JoinsEgress c1) c2 →
+      RefinesTelling tells d2 d3 (HasPart LeavesEgress c2) c3 → RefinesTelling tells d3 d4 (HasPart IgmpEgress c3) c4 →
+      RefinesTelling tells d4 d5 (HasPart MldEgress c4) c5 →
+      RefinesTelling tells d5 e (SocketEgress (host_in c5 slots s) changed) (host_in c6 slots s') → answer ≡ answer_of changed →
+      RefinementTelling tells d e (Egress t answer H) (StandsFor c6 places s')
   egressed c c0 c1 c2 c3 c4 c5 c6 places s s' t H slots changed answer stand same piece solicits joins leaves igmp mld served answers =
       let whole : Context → Host = λ c. host_in c slots s in
       let last : Part = λ old told notes new. SocketEgress old changed told notes new in
       let end : Host = host_in c6 slots s' in
       let reports = both MldEgress last (whole c4) (whole c5) end (over MldEgress c4 c5 slots s mld) served in
       let both_reports = both IgmpEgress (Both MldEgress last) (whole c3) (whole c4) end (over IgmpEgress c3 c4 slots s igmp) reports in
-      let leaving = both LeavesEgress (Both IgmpEgress (Both MldEgress last)) (whole c2) (whole c3) end (over LeavesEgress c2 c3 slots s leaves) both_reports in
-      let joining = both JoinsEgress (Both LeavesEgress (Both IgmpEgress (Both MldEgress last))) (whole c1) (whole c2) end (over JoinsEgress c1 c2 slots s joins) leaving in
-      let soliciting = both NdiscRsEgress (Both JoinsEgress (Both LeavesEgress (Both IgmpEgress (Both MldEgress last)))) (whole c0) (whole c1) end (over NdiscRsEgress c0 c1 slots s solicits) joining in
-      let round = both Ipv4Egress (Both NdiscRsEgress (Both JoinsEgress (Both LeavesEgress (Both IgmpEgress (Both MldEgress last))))) (whole c) (whole c0) end (over Ipv4Egress c c0 slots s piece) soliciting in record {
+      let leaving =
+      both LeavesEgress (Both IgmpEgress (Both MldEgress last)) (whole c2) (whole c3) end (over LeavesEgress c2 c3 slots s leaves) both_reports in
+      let joining = both JoinsEgress (Both LeavesEgress (Both IgmpEgress (Both MldEgress last))) (whole c1)
+      (whole c2) end (over JoinsEgress c1 c2 slots s joins) leaving in
+      let soliciting = both NdiscRsEgress (Both JoinsEgress (Both LeavesEgress (Both IgmpEgress (Both MldEgress last)))) (whole c0)
+      (whole c1) end (over NdiscRsEgress c0 c1 slots s solicits) joining in
+      let round = both Ipv4Egress (Both NdiscRsEgress (Both JoinsEgress (Both LeavesEgress (Both IgmpEgress (Both MldEgress last))))) (whole c)
+      (whole c0) end (over Ipv4Egress c c0 slots s piece) soliciting in record {
         told = round.told;
         notes = round.notes;
         host = host_in c6 slots s';

@@ -21,11 +21,13 @@ use Rattle.slaac.specs.Slaac.{initial_state}
 use Rattle.host_machine.specs.State.Config.{refusal_of, same_medium, first_host, first_id}
 
 -- no reason to refuse holds
-pub not_refused : (c : DeviceCapabilities) (h : HardwareAddress) → same_medium (medium_of h) c.medium ≡ true → is_unicast h ≡ true → 576 ≤ ip_mtu_of c → c.max_transmission_unit ≤ 1514 → refusal_of c h ≡ None
+pub not_refused : (c : DeviceCapabilities) (h : HardwareAddress) →
+    same_medium (medium_of h) c.medium ≡ true → is_unicast h ≡ true → 576 ≤ ip_mtu_of c → c.max_transmission_unit ≤ 1514 → refusal_of c h ≡ None
 not_refused c h same unicast low high = rw (same, unicast) (grind (arith, nat_tests))
 
 -- the interface is made
-pub made : (c d : DeviceCapabilities) (h : HardwareAddress) (seed id random : ℕ) (slaac : Bool) (t : ℤ) (context : Context) (places : List (Assembly FragKey)) → c ≡ d → id ≡ first_id seed → random ≡ next seed → refusal_of c h ≡ None →
+pub made : (c d : DeviceCapabilities) (h : HardwareAddress) (seed id random : ℕ) (slaac : Bool) (t : ℤ) (context : Context)
+    (places : List (Assembly FragKey)) → c ≡ d → id ≡ first_id seed → random ≡ next seed → refusal_of c h ≡ None →
     StandForSlots places map.empty → ((sockets : SocketSet) → host_of context sockets ≡ record {
       capabilities = c;
       hardware_addr = h;

@@ -31,7 +31,8 @@ pub or_false : (b : Bool) → b ≡ (b || false)
 or_false true = refl
 or_false false = refl
 
-module _ {D : Type 0} (tells : D → List Event → D → Type 0) (tells_on : (a b c : D) (xs ys : List Event) → tells a xs b → tells b ys c → tells a (xs ++ ys) c)
+module _ {D : Type 0} (tells : D → List Event → D → Type 0)
+    (tells_on : (a b c : D) (xs ys : List Event) → tells a xs b → tells b ys c → tells a (xs ++ ys) c)
     {A : Type 0} (call : A → Host → List Event → List Note → Host → Type 0) (nothing : A) (changes : A → Bool) where
   abbrev pub Repeated : D → D → Host → ℕ → Bool → (Host → Type 0) → Type 0
   Repeated d m H n changed stands = RefinementTelling tells d m (λ told notes K. Repeats call nothing changes H n told notes K changed) stands
@@ -40,7 +41,8 @@ module _ {D : Type 0} (tells : D → List Event → D → Type 0) (tells_on : (a
   begins d H stands quiet h = record { told = []; notes = []; host = H; tells_it = quiet; steps = Begins; stands = h }
 
   pub again : (d m e : D) (H : Host) (n : ℕ) (changed changed' : Bool) (mid after : Host → Type 0) (answer : A) →
-      Repeated d m H n changed mid → answer ≢ nothing → HostRefinesTelling tells m e (call answer) mid after → changed' ≡ (changed || changes answer) → Repeated d e H (n + 1) changed' after
+      Repeated d m H n changed mid → answer ≢ nothing → HostRefinesTelling tells m e (call answer) mid after →
+      changed' ≡ (changed || changes answer) → Repeated d e H (n + 1) changed' after
   again d m e H n changed changed' mid after answer so_far some goes same =
       let next = goes so_far.host so_far.stands in rw same (record {
         told = so_far.told ++ next.told;
@@ -51,11 +53,20 @@ module _ {D : Type 0} (tells : D → List Event → D → Type 0) (tells_on : (a
         stands = next.stands;
       })
 
-  pub spent : (d m : D) (H : Host) (n : ℕ) (changed : Bool) (stands : Host → Type 0) → Repeated d m H n changed stands → RefinementTelling tells d m (Until call nothing changes n changed H) stands
-  spent d m H n changed stands so_far = record { told = so_far.told; notes = so_far.notes; host = so_far.host; tells_it = so_far.tells_it; steps = Spent so_far.steps; stands = so_far.stands }
+  pub spent : (d m : D) (H : Host) (n : ℕ) (changed : Bool) (stands : Host → Type 0) →
+      Repeated d m H n changed stands → RefinementTelling tells d m (Until call nothing changes n changed H) stands
+  spent d m H n changed stands so_far = record {
+    told = so_far.told;
+    notes = so_far.notes;
+    host = so_far.host;
+    tells_it = so_far.tells_it;
+    steps = Spent so_far.steps;
+    stands = so_far.stands;
+  }
 
   pub done : (d m e : D) (H : Host) (n budget : ℕ) (changed : Bool) (mid after : Host → Type 0) →
-      Repeated d m H n changed mid → n < budget → HostRefinesTelling tells m e (call nothing) mid after → RefinementTelling tells d e (Until call nothing changes budget changed H) after
+      Repeated d m H n changed mid → n < budget → HostRefinesTelling tells m e (call nothing) mid after →
+      RefinementTelling tells d e (Until call nothing changes budget changed H) after
   done d m e H n budget changed mid after so_far below goes =
       let next = goes so_far.host so_far.stands in record {
         told = so_far.told ++ next.told;
@@ -66,9 +77,12 @@ module _ {D : Type 0} (tells : D → List Event → D → Type 0) (tells_on : (a
         stands = next.stands;
       }
 
-pub polled_whole : {D : Type 0} (tells : D → List Event → D → Type 0) (tells_on : (a b c : D) (xs ys : List Event) → tells a xs b → tells b ys c → tells a (xs ++ ys) c) →
+pub polled_whole : {D : Type 0} (tells : D → List Event → D → Type 0)
+    (tells_on : (a b c : D) (xs ys : List Event) → tells a xs b → tells b ys c → tells a (xs ++ ys) c) →
     (d m e : D) (t : ℤ) (budget : ℕ) (received went : Bool) (answer : PollResult) (mid after : Host → Type 0) (H : Host) →
-    RefinementTelling tells d m (Receives t budget received (after_maintenance (at H t))) mid → HostRefinesTelling tells m e (Sends t budget went) mid after → answer ≡ answer_of (received || went) → RefinementTelling tells d e (Polls t budget answer H) after
+    RefinementTelling tells d m (Receives t budget received (after_maintenance (at H t))) mid →
+    HostRefinesTelling tells m e (Sends t budget went) mid after → answer ≡ answer_of (received || went) →
+    RefinementTelling tells d e (Polls t budget answer H) after
 polled_whole tells tells_on d m e t budget received went answer mid after H first goes answers =
     let second = goes first.host first.stands in record {
       told = first.told ++ second.told;

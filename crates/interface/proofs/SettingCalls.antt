@@ -16,7 +16,8 @@ use Rattle.interface.specs.Stands.{Refinement}
 
 module _ (c c' : Context) (places : List (Assembly FragKey)) (sockets : SocketSet) (H : Host) (h : StandsFor c places sockets H) where
   -- each host is changed so
-  pub becomes : (change : Host → Host) → host_of c' sockets ≡ change (host_of c sockets) → ((K : Host) (slots : Slots) → with_slots (change K) slots ≡ change (with_slots K slots)) → StandsFor c' places sockets (change H)
+  pub becomes : (change : Host → Host) → host_of c' sockets ≡ change (host_of c sockets) →
+      ((K : Host) (slots : Slots) → with_slots (change K) slots ≡ change (with_slots K slots)) → StandsFor c' places sockets (change H)
   becomes change sets apart = record {
     slots = h.slots;
     stand = h.stand;
@@ -24,7 +25,8 @@ module _ (c c' : Context) (places : List (Assembly FragKey)) (sockets : SocketSe
   }
 
   -- by a rule that allows the change
-  pub led : {Rule : Host → Host → Type 0} (change : Host → Host) → host_of c' sockets ≡ change (host_of c sockets) → ((K : Host) (slots : Slots) → with_slots (change K) slots ≡ change (with_slots K slots)) →
+  pub led : {Rule : Host → Host → Type 0} (change : Host → Host) →
+      host_of c' sockets ≡ change (host_of c sockets) → ((K : Host) (slots : Slots) → with_slots (change K) slots ≡ change (with_slots K slots)) →
       Rule H (change H) → Refinement Rule H (StandsFor c' places sockets)
   led change sets apart follows = record { host = change H; follows = follows; stands = becomes change sets apart }
 
@@ -33,13 +35,15 @@ pub kept : {Rule : Host → Host → Type 0} {after : Host → Type 0} (H : Host
 kept H stands follows = record { host = H; follows = follows; stands = stands }
 
 -- a join that is answered so is taken, or finds no place
-pub has_place : (groups : List Group) (a : IpAddress) (r : Result (Unit {0}) GroupTableFull) → r ≡ done_or_full groups a → r ≡ Ok tt → is_refused groups a ≡ false
+pub has_place : (groups : List Group) (a : IpAddress) (r : Result (Unit {0}) GroupTableFull) →
+    r ≡ done_or_full groups a → r ≡ Ok tt → is_refused groups a ≡ false
 has_place groups a r answers ok = by (is_refused groups a) refl where
   by : (b : Bool) → is_refused groups a ≡ b → is_refused groups a ≡ false
   by true is = absurd (let e = rw is at (sym answers ∙ ok) in cc)
   by false is = is
 
-pub has_none : (groups : List Group) (a : IpAddress) (r : Result (Unit {0}) GroupTableFull) (error : GroupTableFull) → r ≡ done_or_full groups a → r ≡ Err error → is_refused groups a ≡ true
+pub has_none : (groups : List Group) (a : IpAddress) (r : Result (Unit {0}) GroupTableFull) (error : GroupTableFull) →
+    r ≡ done_or_full groups a → r ≡ Err error → is_refused groups a ≡ true
 has_none groups a r error answers err = by (is_refused groups a) refl where
   by : (b : Bool) → is_refused groups a ≡ b → is_refused groups a ≡ true
   by true is = is

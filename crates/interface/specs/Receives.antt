@@ -12,7 +12,8 @@ frames_shown None = []
 frames_shown (Some frame) = frame ∷ []
 
 -- one ingress step, in which just this frame is received, and just the returned one sent
-pub record RefinementReceiving (t : ℤ) (frame : List ℕ) (shown : Option (List ℕ)) (H : Host) (after : Host → Type 0) : Type 0 where
+pub record RefinementReceiving (t : ℤ) (frame : List ℕ) (shown : Option (List ℕ)) (H : Host)
+    (after : Host → Type 0) : Type 0 where
   pub notes : List Note
   pub host : Host
   pub steps : Ingress t (answer_to (Frame frame)) H (Received t (Frame frame) ∷ sends (frames_shown shown)) notes host

@@ -37,4 +37,5 @@ pub record Refinement (Rule : Host → Host → Type 0) (H : Host) (after : Host
   pub stands : after host
 
 abbrev pub HostRefines : Interface → Interface → (Host → Host → Type 0) → Type 0
-HostRefines old new Rule = (sockets : SocketSet) (H : Host) → StandsFor old sockets H → Refinement Rule H (StandsFor new sockets)
+HostRefines old new Rule = (sockets : SocketSet) (H : Host) →
+    StandsFor old sockets H → Refinement Rule H (StandsFor new sockets)

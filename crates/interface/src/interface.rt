@@ -117,7 +117,8 @@ impl Interface {
         requires { IsMoment now }
         ensures made { MatchResult result
             (λ interface. (refusal_of (D.capable device.old) config.hardware_addr ≡ None)
-            × ((sockets : SocketSet) → StandsFor interface sockets (first_host (D.capable device.old) config.hardware_addr config.random_seed config.slaac now sockets)))
+            × ((sockets : SocketSet) → StandsFor interface sockets
+            (first_host (D.capable device.old) config.hardware_addr config.random_seed config.slaac now sockets)))
             (λ error. refusal_of (D.capable device.old) config.hardware_addr ≡ Some error) }
         ensures device { device.new ≡ device.old }
     {
@@ -213,7 +214,8 @@ impl Interface {
     /// The source address for an IPv4 destination: the first address of the interface whose network contains the
     /// destination, otherwise the first IPv4 address.
     pub fn get_source_address_ipv4(&self, dst_addr: &Ipv4Address) -> Option<Ipv4Address>
-        ensures { (sockets : SocketSet) → result ≡ addresses.source_v4 (host_with self.now sockets).ip_addrs dst_addr.now }
+        ensures { (sockets : SocketSet) →
+            result ≡ addresses.source_v4 (host_with self.now sockets).ip_addrs dst_addr.now }
     {
         self.context.get_source_address_ipv4(dst_addr)
     }
@@ -231,7 +233,8 @@ impl Interface {
     /// (RFC 6724 5, rules 1, 2 and 8). For a link-local destination only link-local addresses are candidates. Without a
     /// candidate it is the first IPv6 address of the interface, and ::1 if there is none.
     pub fn get_source_address_ipv6(&self, dst_addr: &Ipv6Address) -> Ipv6Address
-        ensures { (sockets : SocketSet) → result ≡ selection.source_v6 (host_with self.now sockets).ip_addrs dst_addr.now }
+        ensures { (sockets : SocketSet) →
+            result ≡ selection.source_v6 (host_with self.now sockets).ip_addrs dst_addr.now }
     {
         self.context.get_source_address_ipv6(dst_addr)
     }
@@ -247,7 +250,8 @@ impl Interface {
     /// The source address for a destination: [`Interface::get_source_address_ipv4`] or
     /// [`Interface::get_source_address_ipv6`], by its family.
     pub fn get_source_address(&self, dst_addr: &IpAddress) -> Option<IpAddress>
-        ensures { (sockets : SocketSet) → result ≡ addresses.source_for (host_with self.now sockets).ip_addrs dst_addr.now }
+        ensures { (sockets : SocketSet) →
+            result ≡ addresses.source_for (host_with self.now sockets).ip_addrs dst_addr.now }
     {
         self.context.get_source_address(dst_addr)
     }
@@ -256,7 +260,8 @@ impl Interface {
     /// 1112), of all-nodes (ff02::1, RFC 4291 2.8), and of the solicited-node groups of its addresses other than ::1.
     /// Besides, it is a member of the groups that it joined and hasn't left since.
     pub fn has_multicast_group(&self, address: &IpAddress) -> bool
-        ensures { (sockets : SocketSet) → result ≡ addresses.has_multicast_group (host_with self.now sockets) address.now }
+        ensures { (sockets : SocketSet) →
+            result ≡ addresses.has_multicast_group (host_with self.now sockets) address.now }
     {
         self.context.has_multicast_group(address)
     }
@@ -363,9 +368,11 @@ impl Interface {
     pub fn update_ip_addrs<F>(&mut self, f: F) -> Result<(), AddrError>
     where
         F: FnOnce(ArrayVec<IpCidr, IFACE_MAX_ADDR_COUNT>) -> ArrayVec<IpCidr, IFACE_MAX_ADDR_COUNT>,
-        requires { (given : Addresses) → ((sockets : SocketSet) → given.items ≡ (host_with self.old sockets).ip_addrs) → F.pre f given }
+        requires { (given : Addresses) →
+            ((sockets : SocketSet) → given.items ≡ (host_with self.old sockets).ip_addrs) → F.pre f given }
         ensures { (given : Addresses) × (list : Addresses) × F.post f given list
-            × ((sockets : SocketSet) → given.items ≡ (host_with self.old sockets).ip_addrs) × HostRefines self.old self.new (UpdatesIpAddrs list.items result) }
+            × ((sockets : SocketSet) → given.items ≡ (host_with self.old sockets).ip_addrs)
+            × HostRefines self.old self.new (UpdatesIpAddrs list.items result) }
     {
         let list = f(copied(self.context.ip_addrs()));
         if !are_assignable(list.as_slice()) {
@@ -384,7 +391,8 @@ impl Interface {
         sockets: &mut SocketSet<'_>,
     ) -> PollIngressSingleResult
         requires { IsMoment timestamp }
-        ensures { HostRefinesTelling D.tells device.old device.new (Ingress timestamp result) (StandsFor self.old sockets.old) (StandsFor self.new sockets.new) }
+        ensures { HostRefinesTelling D.tells device.old device.new (Ingress timestamp result)
+            (StandsFor self.old sockets.old) (StandsFor self.new sockets.new) }
     {
         self.expire_slots(timestamp);
         let Some((len, _)) = device.receive(timestamp, &mut self.receive_buffer) else {
@@ -417,7 +425,8 @@ impl Interface {
         sockets: &mut SocketSet<'_>,
     ) -> Option<&[u8]>
         requires { IsMoment timestamp }
-        ensures* received { sem 𝓛 (Rests the_row self.entry (λ new. HostRefinesReceiving timestamp frame.now (option_map (λ f. f.now) result) (StandsFor self.old sockets.old) (StandsFor new sockets.new))) }
+        ensures* received { sem 𝓛 (Rests the_row self.entry (λ new. HostRefinesReceiving timestamp frame.now
+            (option_map (λ f. f.now) result) (StandsFor self.old sockets.old) (StandsFor new sockets.new))) }
         ensures short { IfSome result (λ f. length f.now ≤ 1514) }
     {
         self.expire_slots(timestamp);
@@ -478,7 +487,8 @@ impl Interface {
         budget: usize,
     ) -> PollResult
         requires { IsMoment timestamp }
-        ensures { HostRefinesTelling D.tells device.old device.new (Polls timestamp budget result) (StandsFor self.old sockets.old) (StandsFor self.new sockets.new) }
+        ensures { HostRefinesTelling D.tells device.old device.new (Polls timestamp budget result)
+            (StandsFor self.old sockets.old) (StandsFor self.new sockets.new) }
     {
         self.poll_maintenance(timestamp);
         let received = self.receive_until(timestamp, device, sockets, budget);
@@ -517,7 +527,8 @@ impl Interface {
         budget: usize,
     ) -> bool
         requires { IsMoment timestamp }
-        ensures { HostRefinesTelling D.tells device.old device.new (Receives timestamp budget result) (StandsFor self.old sockets.old) (StandsFor self.new sockets.new) }
+        ensures { HostRefinesTelling D.tells device.old device.new (Receives timestamp budget result)
+            (StandsFor self.old sockets.old) (StandsFor self.new sockets.new) }
     {
         let mut changed = false;
         for _ in 0..budget {
@@ -539,7 +550,8 @@ impl Interface {
         budget: usize,
     ) -> bool
         requires { IsMoment timestamp }
-        ensures { HostRefinesTelling D.tells device.old device.new (Sends timestamp budget result) (StandsFor self.old sockets.old) (StandsFor self.new sockets.new) }
+        ensures { HostRefinesTelling D.tells device.old device.new (Sends timestamp budget result)
+            (StandsFor self.old sockets.old) (StandsFor self.new sockets.new) }
     {
         let mut changed = false;
         for _ in 0..budget {
@@ -557,7 +569,8 @@ impl Interface {
     pub fn poll_at(&mut self, timestamp: Instant, sockets: &SocketSet<'_>) -> Option<Instant>
         requires { IsMoment timestamp }
         ensures least { (H : Host) → StandsFor self.old sockets.now H → IsLeast (Due (at H timestamp)) result }
-        ensures moment { (H : Host) → StandsFor self.old sockets.now H → StandsFor self.new sockets.now (at H timestamp) }
+        ensures moment { (H : Host) → StandsFor self.old sockets.now H →
+            StandsFor self.new sockets.now (at H timestamp) }
     {
         set_moment(&mut self.context, timestamp);
         poll_at(&self.context, sockets)
@@ -566,8 +579,10 @@ impl Interface {
     /// Sets the moment, and returns the time left until the instant of [`Interface::poll_at`]; zero if it has passed.
     pub fn poll_delay(&mut self, timestamp: Instant, sockets: &SocketSet<'_>) -> Option<Duration>
         requires { IsMoment timestamp }
-        ensures rest { (H : Host) → StandsFor self.old sockets.now H → (end : Option ℤ) × IsLeast (Due (at H timestamp)) end × IsRest timestamp end result }
-        ensures moment { (H : Host) → StandsFor self.old sockets.now H → StandsFor self.new sockets.now (at H timestamp) }
+        ensures rest { (H : Host) → StandsFor self.old sockets.now H →
+            (end : Option ℤ) × IsLeast (Due (at H timestamp)) end × IsRest timestamp end result }
+        ensures moment { (H : Host) → StandsFor self.old sockets.now H →
+            StandsFor self.new sockets.now (at H timestamp) }
     {
         let end = self.poll_at(timestamp, sockets)?;
         if end <= timestamp {
@@ -587,7 +602,9 @@ fn take_frame(
     frame: &[u8],
     out: &mut FrameBuffer,
 )
-    ensures { HostRefinesReplying out.new (λ H. Takes H (Frame frame.now)) (processed.StandsFor context.old fragments.old sockets.old) (processed.StandsFor context.new fragments.new sockets.new) }
+    ensures { HostRefinesReplying out.new (λ H. Takes H (Frame frame.now))
+        (processed.StandsFor context.old fragments.old sockets.old)
+        (processed.StandsFor context.new fragments.new sockets.new) }
 {
     out.clear();
     if !frame.is_empty() {

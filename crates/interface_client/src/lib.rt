@@ -34,7 +34,8 @@ pub fn keeps_its_addresses(
 ) -> Result<(), AddrError>
     requires { are_assignable list.now.items ≡ false }
     ensures refused { result ≡ Err addr_error.NotUnicast }
-    ensures kept { (sockets : SocketSet) → (host_with interface.new sockets).ip_addrs ≡ (host_with interface.old sockets).ip_addrs }
+    ensures kept { (sockets : SocketSet) →
+        (host_with interface.new sockets).ip_addrs ≡ (host_with interface.old sockets).ip_addrs }
 {
     interface.stands_for_a_host();
     put_ip_addrs(interface, list)
@@ -47,7 +48,8 @@ pub fn joins_no_other_address(
 ) -> Result<(), MulticastError>
     requires { is_multicast address ≡ false }
     ensures refused { result ≡ Err multicast_error.Unaddressable }
-    ensures kept { (sockets : SocketSet) → (host_with interface.new sockets).groups ≡ (host_with interface.old sockets).groups }
+    ensures kept { (sockets : SocketSet) →
+        (host_with interface.new sockets).groups ≡ (host_with interface.old sockets).groups }
 {
     interface.stands_for_a_host();
     interface.join_multicast_group(address)

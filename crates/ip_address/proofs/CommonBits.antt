@@ -1,5 +1,6 @@
 -- How many leading bits agree.
-use Rattle.std.proofs.Common.{◌≡◌, ℕ, zero, suc, ◌+◌, ◌*◌, ◌/◌, ◌%◌, ◌<◌, ◌≤◌, ◌^◌, ◌≢◌, Bool, true, false, cond, eqb, refl, sym, ap, ◌∙◌, one-add, pow-suc, arith}
+use Rattle.std.proofs.Common.{◌≡◌, ℕ, zero, suc, ◌+◌, ◌*◌, ◌/◌, ◌%◌, ◌<◌, ◌≤◌, ◌^◌, ◌≢◌}
+use Rattle.std.proofs.Common.{Bool, true, false, cond, eqb, refl, sym, ap, ◌∙◌, one-add, pow-suc, arith}
 use Rattle.std.specs.Int.Bits.{bit_xor}
 use Rattle.std.specs.Int.Count.{count_leading_zeros}
 use Rattle.std.specs.List.{common_prefix_len}
@@ -25,7 +26,8 @@ record Leads (w r x : ℕ) : Type 0 where
   below : x < 2 ^ after
   above : 2 ^ after ≤ 2 * x + 1
 
-step_by : (w a b : ℕ) (t : Bool) → eqb (a / 2 ^ w % 2) (b / 2 ^ w % 2) ≡ t → Leads w (agreed w a b) (bit_xor a b % 2 ^ w) → Leads (suc w) (cond t (1 + agreed w a b) 0) (bit_xor a b % 2 ^ suc w)
+step_by : (w a b : ℕ) (t : Bool) → eqb (a / 2 ^ w % 2) (b / 2 ^ w % 2) ≡ t → Leads w (agreed w a b) (bit_xor a b % 2 ^ w) →
+    Leads (suc w) (cond t (1 + agreed w a b) 0) (bit_xor a b % 2 ^ suc w)
 step_by w a b true e h =
     let same : a / 2 ^ w % 2 ≡ b / 2 ^ w % 2 = eqb-true _ _ e in
     let bit : bit_xor a b / 2 ^ w % 2 ≡ 0 = bit_at_xor a b w ∙ omega (arith, same) in

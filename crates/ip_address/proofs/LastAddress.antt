@@ -12,7 +12,8 @@ or_ones a k =
     let some = pow_pos k in
     let low : a % 2 ^ k < 2 ^ k = mod_below a (2 ^ k) some in
     let ones : 2 ^ k - 1 < 2 ^ k = omega (arith, some) in
-    let parts : bit_or (a / 2 ^ k * 2 ^ k + a % 2 ^ k) (0 * 2 ^ k + (2 ^ k - 1)) ≡ bit_or (a / 2 ^ k) 0 * 2 ^ k + bit_or (a % 2 ^ k) (2 ^ k - 1) = or_block k (a / 2 ^ k) 0 (a % 2 ^ k) (2 ^ k - 1) low ones in
+    let parts : bit_or (a / 2 ^ k * 2 ^ k + a % 2 ^ k) (0 * 2 ^ k + (2 ^ k - 1)) ≡ bit_or (a / 2 ^ k) 0 * 2 ^ k + bit_or (a % 2 ^ k) (2 ^ k - 1) =
+    or_block k (a / 2 ^ k) 0 (a % 2 ^ k) (2 ^ k - 1) low ones in
     let all : bit_or (a % 2 ^ k) (2 ^ k - 1) ≡ 2 ^ k - 1 = omega (arith, or_lt k (a % 2 ^ k) (2 ^ k - 1) low ones, le_or_r (a % 2 ^ k) (2 ^ k - 1)) in
     let high : bit_or (a / 2 ^ k) 0 ≡ a / 2 ^ k = or_zero_r (a / 2 ^ k) in
     let one : 0 * 2 ^ k + (2 ^ k - 1) ≡ 2 ^ k - 1 = omega arith in

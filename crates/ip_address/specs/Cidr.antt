@@ -35,7 +35,8 @@ prefix_len_of (cidr.Ipv6 n) = n.prefix_len
 
 -- the broadcast address of the network, its last one (RFC 922); none for 31 or 32 bits, where that is a host (RFC 3021)
 abbrev pub broadcast_of : Ipv4Cidr → Option Ipv4Address
-broadcast_of n = if nat_lt n.prefix_len 31 then Some (record { bits = last_of 32 n.prefix_len n.address.bits }) else None
+broadcast_of n =
+    if nat_lt n.prefix_len 31 then Some (record { bits = last_of 32 n.prefix_len n.address.bits }) else None
 
 -- 0.0.0.0/0, the network of all IPv4 addresses
 abbrev pub is_whole_ipv4 : IpCidr → Bool

@@ -45,4 +45,5 @@ hardware_of-octets_of Ip = refl
 hardware_of-octets_of (Ethernet e) = refl
 
 abbrev pub hardware_code : Coded HardwareAddress
-hardware_code = code_by (Option (List ℕ)) (coded_option (coded_list coded_ℕ)) octets_of hardware_of hardware_of-octets_of
+hardware_code =
+    code_by (Option (List ℕ)) (coded_option (coded_list coded_ℕ)) octets_of hardware_of hardware_of-octets_of

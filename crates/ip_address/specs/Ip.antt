@@ -45,4 +45,5 @@ address_code = code_by (ℕ × ℕ) (coded× coded_ℕ coded_ℕ) address_key ad
 
 -- by family, and then by number
 abbrev pub address_cmp : IpAddress → IpAddress → Ordering
-address_cmp a b = ordering_then (nat_cmp (address_key a).0 (address_key b).0) (nat_cmp (address_key a).1 (address_key b).1)
+address_cmp a b =
+    ordering_then (nat_cmp (address_key a).0 (address_key b).0) (nat_cmp (address_key a).1 (address_key b).1)

@@ -1,6 +1,7 @@
--- The address that a host forms from a prefix of its link (RFC 4862 5.5.3): the prefix, and an interface identifier (RFC 4291
--- 2.5.1).
-use Rattle.std.specs.Prelude.{ℕ, ◌+◌, ◌*◌, ◌/◌, ◌^◌, ◌==◌, List, [], ◌∷◌, slice_index, Option, Some, None, if◌then◌else◌}
+-- The address that a host forms from a prefix of its link (RFC 4862 5.5.3): the prefix, and an interface
+-- identifier (RFC 4291 2.5.1).
+use Rattle.std.specs.Prelude.{ℕ, ◌+◌, ◌*◌, ◌/◌, ◌^◌, ◌==◌, List, [], ◌∷◌}
+use Rattle.std.specs.Prelude.{slice_index, Option, Some, None, if◌then◌else◌}
 use Rattle.std.specs.Int.{w64, from_be_bytes}
 use Rattle.std.specs.Int.RustNames.{bit_xor}
 use Rattle.std.proofs.Common.{lit≤}
@@ -9,11 +10,12 @@ use Rattle.ip_address.specs.declared.ethernet_address.EthernetAddress.{EthernetA
 use Rattle.ip_address.specs.declared.hardware.HardwareAddress.{HardwareAddress}
 use Rattle.ip_address.specs.declared.hardware.HardwareAddress.TheVariants.{Ethernet, Ip}
 
--- the interface identifier from an Ethernet address (RFC 2464 4): ff:fe in its middle, and the universal/local bit of its first
--- octet inverted
+-- the interface identifier from an Ethernet address (RFC 2464 4): ff:fe in its middle, and the universal/local bit of
+-- its first octet inverted
 unfoldable pub identifier : EthernetAddress → List ℕ
 identifier e =
-    bit_xor (slice_index e.0 0) 2 ∷ slice_index e.0 1 ∷ slice_index e.0 2 ∷ 0xff ∷ 0xfe ∷ slice_index e.0 3 ∷ slice_index e.0 4 ∷ slice_index e.0 5 ∷ []
+    bit_xor (slice_index e.0 0) 2 ∷ slice_index e.0 1 ∷ slice_index e.0 2 ∷ 0xff ∷ 0xfe ∷ slice_index e.0 3
+    ∷ slice_index e.0 4 ∷ slice_index e.0 5 ∷ []
 
 -- the first 64 bits of the prefix, and then the identifier
 abbrev pub cidr_with_identifier : Ipv6Cidr → EthernetAddress → Ipv6Cidr

@@ -1,5 +1,6 @@
 -- Prefixes of numbers with a fixed number of bits.
-use Rattle.std.specs.Prelude.{◌≡◌, ◌↔◌, ℕ, zero, suc, ◌+◌, ◌*◌, ◌-◌, ◌/◌, ◌%◌, ◌^◌, ◌<◌, ◌≤◌, ◌==◌, nat_eq, min, Bool, true, List, [], ◌∷◌, take}
+use Rattle.std.specs.Prelude.{◌≡◌, ◌↔◌, ℕ, zero, suc, ◌+◌, ◌*◌, ◌-◌, ◌/◌, ◌%◌, ◌^◌, ◌<◌}
+use Rattle.std.specs.Prelude.{◌≤◌, ◌==◌, nat_eq, min, Bool, true, List, [], ◌∷◌, take}
 use Rattle.std.specs.List.{common_prefix_len}
 
 -- the w bits of a number, the highest first
@@ -21,4 +22,5 @@ last_of w n a = a / 2 ^ (w - n) * 2 ^ (w - n) + (2 ^ (w - n) - 1)
 
 -- the first n bits agree exactly if the two lists of bits begin alike
 abbrev pub AgreesByBits : Type 0
-AgreesByBits = (w n a b : ℕ) → n ≤ w → a < 2 ^ w → b < 2 ^ w → (agrees w n a b ≡ true) ↔ (take n (bits w a) ≡ take n (bits w b))
+AgreesByBits = (w n a b : ℕ) → n ≤ w → a < 2 ^ w → b < 2 ^ w →
+    (agrees w n a b ≡ true) ↔ (take n (bits w a) ≡ take n (bits w b))

@@ -1,5 +1,6 @@
 -- A packet is read as it was written.
-use Rattle.std.proofs.Common.{◌≡◌, ℕ, ◌+◌, ◌-◌, ◌*◌, ◌/◌, ◌%◌, ◌<◌, ◌^◌, Bool, true, false, cond, IsTrue, List, ◌++◌, length, refl, ap, eqb, length-append, arith}
+use Rattle.std.proofs.Common.{◌≡◌, ℕ, ◌+◌, ◌-◌, ◌*◌, ◌/◌, ◌%◌, ◌<◌, ◌^◌, Bool, true, false, cond}
+use Rattle.std.proofs.Common.{IsTrue, List, ◌++◌, length, refl, ap, eqb, length-append, arith}
 use Rattle.std.specs.Prelude.{slice_range}
 use Rattle.std.proofs.lemmas.Nat.{from_be_bytes-to_be_bytes_4}
 use Rattle.std.proofs.lemmas.List.{take_at}
@@ -7,7 +8,8 @@ use Rattle.wire_base.specs.Checksum.{folded_sum, word_sum}
 use Rattle.ip_address.specs.Protocol.{protocol_of, number_of}
 use Rattle.ip_wire.specs.declared.ipv4_packet.Ipv4Repr.{Ipv4Repr}
 use Rattle.ip_wire.specs.declared.ipv4_packet.Ipv4Fragment.{Ipv4Fragment}
-use Rattle.ip_wire.specs.Ipv4Packet.{IsHeader, header_in, fragment_in, front, back, header_with, fragment_word, header_text, total_len, IsQuoted, quoted_in, ReadAgain}
+use Rattle.ip_wire.specs.Ipv4Packet.{IsHeader, header_in, fragment_in, front, back, header_with}
+use Rattle.ip_wire.specs.Ipv4Packet.{fragment_word, header_text, total_len, IsQuoted, quoted_in, ReadAgain}
 use Rattle.wire_base.proofs.Sums.{checksum-sums_up}
 
 bit_14 : (d m : Bool) (n : ℕ) → n < 0x2000 → eqb ((cond d 0x4000 0 + cond m 0x2000 0 + n) / 0x4000 % 2) 1 ≡ d
@@ -61,7 +63,8 @@ all_of e f g = cc
 pub total : (n : ℕ) → n < 2 ^ 16 → n / 256 % 256 * 256 + n % 256 ≡ n
 total n lt = omega arith
 
-pub header_again : (summed : Bool) (r : Ipv4Repr) (f : Ipv4Fragment) (payload : List ℕ) → IsHeader r f → header_in (header_text summed r f ++ payload) ≡ r
+pub header_again : (summed : Bool) (r : Ipv4Repr) (f : Ipv4Fragment) (payload : List ℕ) →
+    IsHeader r f → header_in (header_text summed r f ++ payload) ≡ r
 unfolding front back header_with
 header_again summed r f payload h =
     header_made r f _ _ _ h
@@ -69,7 +72,8 @@ header_again summed r f payload h =
     (from_be_bytes-to_be_bytes_4 r.dst_addr.bits h.destination)
     (total (20 + r.payload_len) h.payload_len)
 
-fragment_again : (summed : Bool) (r : Ipv4Repr) (f : Ipv4Fragment) (payload : List ℕ) → IsHeader r f → fragment_in (header_text summed r f ++ payload) ≡ f
+fragment_again : (summed : Bool) (r : Ipv4Repr) (f : Ipv4Fragment) (payload : List ℕ) →
+    IsHeader r f → fragment_in (header_text summed r f ++ payload) ≡ f
 unfolding front back header_with
 fragment_again summed r f payload h =
     fragment_made r f _ _ h

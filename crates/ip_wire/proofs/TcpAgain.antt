@@ -20,7 +20,8 @@ place : (c : ℕ) (r : TcpRepr) → c < 2 ^ 16 → word_sum (header_with c r) �
 unfolding header_with word_sum
 place c r lt = omega (arith, total c lt)
 
-sums : (src dst : IpAddress) (r : TcpRepr) (payload : List ℕ) → folded_sum (word_sum (pseudo src dst 6 (20 + length payload) ++ text true src dst r payload)) ≡ 65535
+sums : (src dst : IpAddress) (r : TcpRepr) (payload : List ℕ) →
+    folded_sum (word_sum (pseudo src dst 6 (20 + length payload) ++ text true src dst r payload)) ≡ 65535
 unfolding header_with
 sums src dst r payload =
     let n : ℕ = 20 + length payload in
@@ -53,12 +54,15 @@ ack_bit control.Syn = (refl, refl)
 ack_bit control.Fin = (refl, refl)
 ack_bit control.Rst = (refl, refl)
 
-ack_again : (c : TcpControl) (a : Option TcpSeqNumber) (n : ℕ) → n ≡ ack_bits a → cond (eqb (ack (flags_of c + ack_flag a)) 1) (Some (record { bits = n })) None ≡ a
+ack_again : (c : TcpControl) (a : Option TcpSeqNumber) (n : ℕ) →
+    n ≡ ack_bits a → cond (eqb (ack (flags_of c + ack_flag a)) 1) (Some (record { bits = n })) None ≡ a
 ack_again c None n e = let b = (ack_bit c).0 in rw b refl
 ack_again c (Some m) n e = let b = (ack_bit c).1 in rw (b, e) refl
 
-made : (r : TcpRepr) (s d q w : ℕ) (c : TcpControl) (a : Option TcpSeqNumber) (payload : List ℕ) → s ≡ r.src_port → d ≡ r.dst_port → c ≡ r.control → q ≡ r.seq_number.bits → a ≡ r.ack_number → w ≡ r.window_len
-    → ◌≡◌ {A = TcpRepr × List ℕ} (record { src_port = s; dst_port = d; control = c; seq_number = record { bits = q }; ack_number = a; window_len = w }, payload) (r, payload)
+made : (r : TcpRepr) (s d q w : ℕ) (c : TcpControl) (a : Option TcpSeqNumber) (payload : List ℕ) →
+    s ≡ r.src_port → d ≡ r.dst_port → c ≡ r.control → q ≡ r.seq_number.bits → a ≡ r.ack_number → w ≡ r.window_len
+    → ◌≡◌ {A = TcpRepr × List ℕ}
+    (record { src_port = s; dst_port = d; control = c; seq_number = record { bits = q }; ack_number = a; window_len = w }, payload) (r, payload)
 made r s d q w c a payload es ed ec eq ea ew = rw (es, ed, ec, eq, ea, ew) refl
 
 pub read_again : ReadAgain

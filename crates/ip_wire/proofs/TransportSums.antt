@@ -24,19 +24,24 @@ header_len : (payload_len : ℕ) (r : UdpRepr) → length (udp.header_with 0 r p
 unfolding udp.header_with
 header_len payload_len r = refl
 
-pub datagram_sum : (src dst : IpAddress) (payload_len start : ℕ) (r : UdpRepr) (payload : List ℕ) → r.src_port < 2 ^ 16 → r.dst_port < 2 ^ 16 → 8 + payload_len < 2 ^ 16
+pub datagram_sum : (src dst : IpAddress) (payload_len start : ℕ) (r : UdpRepr) (payload : List ℕ) →
+    r.src_port < 2 ^ 16 → r.dst_port < 2 ^ 16 → 8 + payload_len < 2 ^ 16
     → ((sum : ℕ) → folded_sum (sum + start) ≡ folded_sum (sum + word_sum (pseudo src dst 17 (8 + payload_len))))
-    → checksum_of (pseudo src dst 17 (8 + payload_len) ++ (udp.header_with 0 r payload_len ++ payload)) ≡ 65535 - folded_sum (start + (r.src_port + r.dst_port) + (8 + payload_len) + word_sum payload)
+    → checksum_of (pseudo src dst 17 (8 + payload_len) ++ (udp.header_with 0 r payload_len ++ payload))
+    ≡ 65535 - folded_sum (start + (r.src_port + r.dst_port) + (8 + payload_len) + word_sum payload)
 datagram_sum src dst payload_len start r payload ls ld ll starts =
     let words = header_words 0 payload_len r refl ls ld ll in
-    let grouped : start + (r.src_port + r.dst_port + (8 + payload_len)) + word_sum payload ≡ start + (r.src_port + r.dst_port) + (8 + payload_len) + word_sum payload = omega arith in
-    parts src dst 17 (8 + payload_len) 4 start (r.src_port + r.dst_port + (8 + payload_len)) (udp.header_with 0 r payload_len) payload (header_len payload_len r) starts (λ sum. ap (λ (t : ℕ). folded_sum (sum + t)) (sym words))
+    let grouped : start + (r.src_port + r.dst_port + (8 + payload_len)) + word_sum payload
+    ≡ start + (r.src_port + r.dst_port) + (8 + payload_len) + word_sum payload = omega arith in
+    parts src dst 17 (8 + payload_len) 4 start (r.src_port + r.dst_port + (8 + payload_len))
+    (udp.header_with 0 r payload_len) payload (header_len payload_len r) starts (λ sum. ap (λ (t : ℕ). folded_sum (sum + t)) (sym words))
     ∙ ap (λ (t : ℕ). 65535 - folded_sum t) grouped
 
 pub ruleset datagrams = (datagram_sum)
 
 pub segment_sum : (src dst : IpAddress) (len sum start head : ℕ) (r : TcpRepr) (payload : List ℕ)
-    → ((s : ℕ) → folded_sum (s + start) ≡ folded_sum (s + word_sum (pseudo src dst 6 len))) → ((s : ℕ) → folded_sum (s + head) ≡ folded_sum (s + word_sum (tcp.header_with sum r)))
+    → ((s : ℕ) → folded_sum (s + start) ≡ folded_sum (s + word_sum (pseudo src dst 6 len))) →
+    ((s : ℕ) → folded_sum (s + head) ≡ folded_sum (s + word_sum (tcp.header_with sum r)))
     → checksum_of (pseudo src dst 6 len ++ (tcp.header_with sum r ++ payload)) ≡ 65535 - folded_sum (start + head + word_sum payload)
 unfolding tcp.header_with
 segment_sum src dst len sum start head r payload starts heads = parts src dst 6 len 10 start head (tcp.header_with sum r) payload refl starts heads

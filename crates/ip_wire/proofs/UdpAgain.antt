@@ -21,7 +21,8 @@ not_zero_small : (n : ℕ) (t : Bool) → n < 2 ^ 16 → cond t 65535 n < 2 ^ 16
 not_zero_small n true lt = omega arith
 not_zero_small n false lt = lt
 
-sums : (src dst : IpAddress) (r : UdpRepr) (payload : List ℕ) → folded_sum (word_sum (pseudo src dst 17 (8 + length payload) ++ text true src dst r payload)) ≡ 65535
+sums : (src dst : IpAddress) (r : UdpRepr) (payload : List ℕ) →
+    folded_sum (word_sum (pseudo src dst 17 (8 + length payload) ++ text true src dst r payload)) ≡ 65535
 unfolding header_with
 sums src dst r payload =
     let n : ℕ = 8 + length payload in

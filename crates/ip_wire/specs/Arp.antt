@@ -1,5 +1,6 @@
 -- ARP (RFC 826), for IPv4 over Ethernet.
-use Rattle.std.specs.Prelude.{◌≡◌, ℕ, ◌≤◌, ◌<◌, ◌^◌, ◌⊎◌, ◌==◌, List, [], ◌∷◌, ◌++◌, length, take, slice_index, if◌then◌else◌}
+use Rattle.std.specs.Prelude.{◌≡◌, ℕ, ◌≤◌, ◌<◌, ◌^◌, ◌⊎◌, ◌==◌, List, [], ◌∷◌}
+use Rattle.std.specs.Prelude.{◌++◌, length, take, slice_index, if◌then◌else◌}
 use Rattle.std.specs.Int.{w16, w32, to_be_bytes}
 use Rattle.wire_base.specs.Octets.{u16_at, u32_at, AreOctets}
 use Rattle.ip_wire.specs.Ethernet.{address_at}
@@ -11,8 +12,8 @@ abbrev pub number_of : ArpOperation → ℕ
 number_of Request = 1
 number_of Reply = 2
 
--- the octets begin with a packet: hardware type 1 (Ethernet), protocol 0x0800 (IPv4), addresses of 6 and 4 octets, a request or a
--- reply
+-- the octets begin with a packet: hardware type 1 (Ethernet), protocol 0x0800 (IPv4), addresses of 6 and 4
+-- octets, a request or a reply
 pub record IsArp (octets : List ℕ) : Type 0 where
   pub whole : 28 ≤ length octets
   pub hardware : u16_at octets 0 ≡ 1

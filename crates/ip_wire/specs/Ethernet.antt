@@ -1,5 +1,6 @@
 -- Ethernet II (IEEE 802.3, RFC 894): destination, source, type, payload.
-use Rattle.std.specs.Prelude.{◌≡◌, ℕ, ◌+◌, ◌<◌, ◌≤◌, ◌^◌, ◌==◌, Bool, List, ◌++◌, length, drop, slice_range, if◌then◌else◌}
+use Rattle.std.specs.Prelude.{◌≡◌, ℕ, ◌+◌, ◌<◌, ◌≤◌, ◌^◌, ◌==◌, Bool, List}
+use Rattle.std.specs.Prelude.{◌++◌, length, drop, slice_range, if◌then◌else◌}
 use Rattle.std.specs.Borrow.{Bor}
 use Rattle.wire_base.specs.Octets.{u16_at, AreOctets}
 use Rattle.std.specs.Int.{w16, to_be_bytes}
@@ -59,4 +60,5 @@ ReadAgain = (r : EthernetRepr) (payload : List ℕ) → IsHeader r → ethernet_
 
 -- a frame is the text of its header, and what follows it
 abbrev pub WrittenAgain : Type 0
-WrittenAgain = (frame : List ℕ) → AreOctets frame → 14 ≤ length frame → header_text (header_in frame) ++ drop 14 frame ≡ frame
+WrittenAgain = (frame : List ℕ) → AreOctets frame → 14 ≤ length frame →
+    header_text (header_in frame) ++ drop 14 frame ≡ frame

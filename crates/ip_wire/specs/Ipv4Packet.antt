@@ -1,5 +1,6 @@
 -- IPv4 packets (RFC 791 3.1): a header of twenty octets, its options, the payload.
-use Rattle.std.specs.Prelude.{◌≡◌, ℕ, ◌+◌, ◌-◌, ◌*◌, ◌/◌, ◌%◌, ◌<◌, ◌≤◌, ◌^◌, ◌==◌, ◌||◌, not, Bool, true, false, IsTrue, List, [], ◌∷◌, ◌++◌, length, take, drop, slice_index, slice_range, if◌then◌else◌}
+use Rattle.std.specs.Prelude.{◌≡◌, ℕ, ◌+◌, ◌-◌, ◌*◌, ◌/◌, ◌%◌, ◌<◌, ◌≤◌, ◌^◌, ◌==◌, ◌||◌, not, Bool, true, false}
+use Rattle.std.specs.Prelude.{IsTrue, List, [], ◌∷◌, ◌++◌, length, take, drop, slice_index, slice_range, if◌then◌else◌}
 use Rattle.std.specs.Borrow.{Bor}
 use Rattle.std.specs.Int.{w16, w32, to_be_bytes}
 use Rattle.wire_base.specs.Checksum.{folded_sum, word_sum, checksum_of}
@@ -80,7 +81,8 @@ fragment_word f = (if f.dont_fragment then 0x4000 else 0) + (if f.more_fragments
 -- the text of a header: before its checksum, with one, and after it
 unfoldable pub front : Ipv4Repr → Ipv4Fragment → List ℕ
 front r f =
-    0x45 ∷ 0 ∷ (to_be_bytes w16 (20 + r.payload_len) ++ to_be_bytes w16 f.identification ++ to_be_bytes w16 (fragment_word f)
+    0x45 ∷ 0
+    ∷ (to_be_bytes w16 (20 + r.payload_len) ++ to_be_bytes w16 f.identification ++ to_be_bytes w16 (fragment_word f)
     ++ r.hop_limit ∷ number_of r.next_header ∷ [])
 
 unfoldable pub back : Ipv4Repr → List ℕ
@@ -108,5 +110,7 @@ pub record IsHeader (r : Ipv4Repr) (f : Ipv4Fragment) : Type 0 where
 
 -- a text is parsed back as its values, whatever follows it, if its checksum is there or isn't verified
 abbrev pub ReadAgain : Type 0
-ReadAgain = (checked summed : Bool) (r : Ipv4Repr) (f : Ipv4Fragment) (payload more : List ℕ) → IsHeader r f → length payload ≡ r.payload_len → (IsTrue checked → IsTrue summed)
-    → IsIpv4 checked (header_text summed r f ++ payload ++ more) × (ipv4_in (header_text summed r f ++ payload ++ more) ≡ (r, f, payload))
+ReadAgain = (checked summed : Bool) (r : Ipv4Repr) (f : Ipv4Fragment) (payload more : List ℕ) →
+    IsHeader r f → length payload ≡ r.payload_len → (IsTrue checked → IsTrue summed)
+    → IsIpv4 checked (header_text summed r f ++ payload ++ more)
+    × (ipv4_in (header_text summed r f ++ payload ++ more) ≡ (r, f, payload))

@@ -1,5 +1,6 @@
 -- TCP segments (RFC 9293 3.1).
-use Rattle.std.specs.Prelude.{◌≡◌, ◌≢◌, ℕ, ◌+◌, ◌*◌, ◌/◌, ◌%◌, ◌<◌, ◌≤◌, ◌^◌, ◌==◌, Bool, true, IsTrue, Option, Some, None, List, [], ◌∷◌, ◌++◌, length, drop, slice_index, if◌then◌else◌}
+use Rattle.std.specs.Prelude.{◌≡◌, ◌≢◌, ℕ, ◌+◌, ◌*◌, ◌/◌, ◌%◌, ◌<◌, ◌≤◌, ◌^◌, ◌==◌, Bool, true, IsTrue}
+use Rattle.std.specs.Prelude.{Option, Some, None, List, [], ◌∷◌, ◌++◌, length, drop, slice_index, if◌then◌else◌}
 use Rattle.std.specs.Borrow.{Bor}
 use Rattle.std.specs.Int.{w16, w32, to_be_bytes}
 use Rattle.wire_base.specs.Checksum.{folded_sum, word_sum, checksum_of}
@@ -90,12 +91,15 @@ ack_bits (Some n) = n.bits
 -- the text of a header of five words, with a checksum; the urgent pointer is 0
 unfoldable pub header_with : ℕ → TcpRepr → List ℕ
 header_with sum r =
-    to_be_bytes w16 r.src_port ++ to_be_bytes w16 r.dst_port ++ to_be_bytes w32 r.seq_number.bits ++ to_be_bytes w32 (ack_bits r.ack_number)
-    ++ 0x50 ∷ (flags_of r.control + ack_flag r.ack_number) ∷ (to_be_bytes w16 r.window_len ++ to_be_bytes w16 sum ++ 0 ∷ 0 ∷ [])
+    to_be_bytes w16 r.src_port ++ to_be_bytes w16 r.dst_port ++ to_be_bytes w32 r.seq_number.bits
+    ++ to_be_bytes w32 (ack_bits r.ack_number)
+    ++ 0x50 ∷ (flags_of r.control + ack_flag r.ack_number)
+    ∷ (to_be_bytes w16 r.window_len ++ to_be_bytes w16 sum ++ 0 ∷ 0 ∷ [])
 
 -- its checksum, or 0 if that is off: that of pseudo-header and segment, with 0 in its place
 abbrev pub sum_of : Bool → IpAddress → IpAddress → TcpRepr → List ℕ → ℕ
-sum_of summed src dst r payload = if summed then checksum_of (pseudo src dst 6 (20 + length payload) ++ (header_with 0 r ++ payload)) else 0
+sum_of summed src dst r payload =
+    if summed then checksum_of (pseudo src dst 6 (20 + length payload) ++ (header_with 0 r ++ payload)) else 0
 
 -- the text of a segment
 abbrev pub text : Bool → IpAddress → IpAddress → TcpRepr → List ℕ → List ℕ
@@ -113,5 +117,6 @@ pub record IsHeader (r : TcpRepr) : Type 0 where
 
 -- a text with its checksum is parsed back as its values
 abbrev pub ReadAgain : Type 0
-ReadAgain = (checked : Bool) (src dst : IpAddress) (r : TcpRepr) (payload : List ℕ) → IsHeader r → 20 + length payload < 2 ^ 16
+ReadAgain = (checked : Bool) (src dst : IpAddress) (r : TcpRepr) (payload : List ℕ) →
+    IsHeader r → 20 + length payload < 2 ^ 16
     → IsTcp checked src dst (text true src dst r payload) × (tcp_in (text true src dst r payload) ≡ (r, payload))

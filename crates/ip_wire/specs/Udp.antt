@@ -1,5 +1,6 @@
 -- UDP (RFC 768): ports, length, checksum, payload.
-use Rattle.std.specs.Prelude.{◌≡◌, ◌≢◌, ℕ, ◌+◌, ◌<◌, ◌≤◌, ◌^◌, ◌==◌, ◌&&◌, Bool, true, false, IsTrue, List, ◌++◌, length, take, slice_range, if◌then◌else◌}
+use Rattle.std.specs.Prelude.{◌≡◌, ◌≢◌, ℕ, ◌+◌, ◌<◌, ◌≤◌, ◌^◌, ◌==◌, ◌&&◌, Bool, true, false}
+use Rattle.std.specs.Prelude.{IsTrue, List, ◌++◌, length, take, slice_range, if◌then◌else◌}
 use Rattle.std.specs.Borrow.{Bor}
 use Rattle.std.specs.Int.{w16, to_be_bytes}
 use Rattle.wire_base.specs.Checksum.{folded_sum, word_sum, checksum_of}
@@ -23,11 +24,13 @@ pub record IsUdp (checked : Bool) (src dst : IpAddress) (octets : List ℕ) : Ty
   pub header_fits : 8 ≤ udp_len octets
   pub fits : udp_len octets ≤ length octets
   pub port : u16_at octets 2 ≢ 0
-  pub sum : IsTrue checked → is_unsummed dst octets ≡ false → folded_sum (word_sum (pseudo src dst 17 (udp_len octets) ++ take (udp_len octets) octets)) ≡ 65535
+  pub sum : IsTrue checked → is_unsummed dst octets ≡ false →
+      folded_sum (word_sum (pseudo src dst 17 (udp_len octets) ++ take (udp_len octets) octets)) ≡ 65535
 
 -- its ports, and its payload, which ends at its length
 abbrev pub udp_in : List ℕ → UdpRepr × List ℕ
-udp_in octets = (record { src_port = u16_at octets 0; dst_port = u16_at octets 2 }, slice_range octets 8 (udp_len octets))
+udp_in octets =
+    (record { src_port = u16_at octets 0; dst_port = u16_at octets 2 }, slice_range octets 8 (udp_len octets))
 
 -- ports and a payload, apart from where that is in memory
 abbrev pub parts : UdpRepr × Bor (List ℕ) → UdpRepr × List ℕ
@@ -35,7 +38,8 @@ parts p = (p.0, p.1.now)
 
 -- the text of a header with a checksum, before this many octets of payload
 unfoldable pub header_with : ℕ → UdpRepr → ℕ → List ℕ
-header_with sum r payload_len = to_be_bytes w16 r.src_port ++ to_be_bytes w16 r.dst_port ++ to_be_bytes w16 (8 + payload_len) ++ to_be_bytes w16 sum
+header_with sum r payload_len =
+    to_be_bytes w16 r.src_port ++ to_be_bytes w16 r.dst_port ++ to_be_bytes w16 (8 + payload_len) ++ to_be_bytes w16 sum
 
 -- a computed 0 is sent as all ones
 abbrev pub not_zero : ℕ → ℕ
@@ -44,7 +48,8 @@ not_zero n = if n == 0 then 65535 else n
 -- its checksum, or 0 if that is off: that of pseudo-header and datagram, with 0 in its place
 abbrev pub sum_of : Bool → IpAddress → IpAddress → UdpRepr → List ℕ → ℕ
 sum_of summed src dst r payload =
-    if summed then not_zero (checksum_of (pseudo src dst 17 (8 + length payload) ++ (header_with 0 r (length payload) ++ payload))) else 0
+    if summed then not_zero
+    (checksum_of (pseudo src dst 17 (8 + length payload) ++ (header_with 0 r (length payload) ++ payload))) else 0
 
 -- the text of a datagram
 abbrev pub text : Bool → IpAddress → IpAddress → UdpRepr → List ℕ → List ℕ
@@ -58,5 +63,7 @@ pub record IsHeader (r : UdpRepr) : Type 0 where
 
 -- a text with its checksum is parsed back as its values, whatever follows it
 abbrev pub ReadAgain : Type 0
-ReadAgain = (checked : Bool) (src dst : IpAddress) (r : UdpRepr) (payload more : List ℕ) → IsHeader r → 8 + length payload < 2 ^ 16
-    → IsUdp checked src dst (text true src dst r payload ++ more) × (udp_in (text true src dst r payload ++ more) ≡ (r, payload))
+ReadAgain = (checked : Bool) (src dst : IpAddress) (r : UdpRepr) (payload more : List ℕ) →
+    IsHeader r → 8 + length payload < 2 ^ 16
+    → IsUdp checked src dst (text true src dst r payload ++ more)
+    × (udp_in (text true src dst r payload ++ more) ≡ (r, payload))

@@ -110,7 +110,8 @@ impl TcpRepr {
         dst: &IpAddress,
         checked: bool,
     ) -> Option<(TcpRepr, &'a [u8])>
-        ensures { SomeIff (option_map spec.parts result) ((length packet.now < 2 ^ 16) × spec.IsTcp checked src.now dst.now packet.now) (spec.tcp_in packet.now) }
+        ensures { SomeIff (option_map spec.parts result)
+            ((length packet.now < 2 ^ 16) × spec.IsTcp checked src.now dst.now packet.now) (spec.tcp_in packet.now) }
     {
         if packet.len() < HEADER_LEN || packet.len() > 0xffff {
             return None;

@@ -38,7 +38,8 @@ impl UdpRepr {
         dst: &IpAddress,
         checked: bool,
     ) -> Option<(UdpRepr, &'a [u8])>
-        ensures { SomeIff (option_map spec.parts result) (spec.IsUdp checked src.now dst.now packet.now) (spec.udp_in packet.now) }
+        ensures { SomeIff (option_map spec.parts result)
+            (spec.IsUdp checked src.now dst.now packet.now) (spec.udp_in packet.now) }
     {
         if packet.len() < HEADER_LEN {
             return None;
@@ -118,7 +119,8 @@ fn is_unsummed(packet: &[u8], dst: &IpAddress) -> bool
 #[tactic(auto, using(crate::proofs::TransportSums::before))]
 fn sums_up(datagram: &[u8], src: &IpAddress, dst: &IpAddress) -> bool
     requires { length datagram.now < 2 ^ 16 }
-    ensures { result ≡ (folded_sum (word_sum (pseudo src.now dst.now 17 (length datagram.now) ++ datagram.now)) == 65535) }
+    ensures { result
+        ≡ (folded_sum (word_sum (pseudo src.now dst.now 17 (length datagram.now) ++ datagram.now)) == 65535) }
 {
     let start = pseudo_sum(src, dst, 17, datagram.len() as u16);
     sum_with(start, datagram) == 0xffff

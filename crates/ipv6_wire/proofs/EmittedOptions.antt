@@ -1,5 +1,6 @@
 -- The options of a header, written one after the other.
-use Rattle.std.proofs.Common.{◌≡◌, ℕ, zero, suc, ◌+◌, ◌<◌, ◌≤◌, List, [], ◌∷◌, ◌++◌, length, get_or, take, drop, replicate, refl, sym, ap, ◌∙◌, add-one, length-append, arith}
+use Rattle.std.proofs.Common.{◌≡◌, ℕ, zero, suc, ◌+◌, ◌<◌, ◌≤◌, List, [], ◌∷◌, ◌++◌, length, get_or}
+use Rattle.std.proofs.Common.{take, drop, replicate, refl, sym, ap, ◌∙◌, add-one, length-append, arith}
 use Rattle.std.specs.List.{flat_map}
 use Rattle.std.proofs.Math.Seq.{drop-cons}
 use Rattle.std.proofs.Math.ListN.{drop_of_length-le}
@@ -33,11 +34,13 @@ written out options i d lt =
 
 -- there is room for the first option that is to be written, if there is for all
 pub room : (out old all : List ℕ) (options : List Ipv6OptionRepr) (i : ℕ) (d : Ipv6OptionRepr) → i < length options
-    → out ++ flat_map option_text (drop i options) ≡ old ++ all → length old + length all ≤ 1514 → length out + length (option_text (get_or options i d)) ≤ 1514
+    → out ++ flat_map option_text (drop i options) ≡ old ++ all → length old + length all ≤ 1514 →
+    length out + length (option_text (get_or options i d)) ≤ 1514
 room out old all options i d lt is fits =
     let one = option_text (get_or options i d) in
     let rest = flat_map option_text (drop (i + 1) options) in
     let here : length out + length (flat_map option_text (drop i options)) ≡ length old + length all
     = sym (length-append out (flat_map option_text (drop i options))) ∙ ap length is ∙ length-append old all in
-    let parts : length (flat_map option_text (drop i options)) ≡ length one + length rest = ap length (texts-drop options i d lt) ∙ length-append one rest in
+    let parts : length (flat_map option_text (drop i options)) ≡ length one + length rest =
+    ap length (texts-drop options i d lt) ∙ length-append one rest in
     omega (arith, here, parts, fits)

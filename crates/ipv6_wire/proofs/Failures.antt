@@ -7,7 +7,8 @@ use Rattle.ipv6_wire.specs.declared.hop_by_hop.Ipv6OptionFailureType.TheVariants
 use Rattle.ipv6_wire.specs.declared.hop_by_hop.Ipv6OptionRepr.{Ipv6OptionRepr}
 use Rattle.ipv6_wire.specs.HopByHop.{failure_of, or_else, first_failure}
 
-first_failure-drop : (options : List Ipv6OptionRepr) (i : ℕ) (d : Ipv6OptionRepr) → i < length options → first_failure (drop i options) ≡ or_else (failure_of (get_or options i d)) (first_failure (drop (i + 1) options))
+first_failure-drop : (options : List Ipv6OptionRepr) (i : ℕ) (d : Ipv6OptionRepr) →
+    i < length options → first_failure (drop i options) ≡ or_else (failure_of (get_or options i d)) (first_failure (drop (i + 1) options))
 unfolding first_failure
 first_failure-drop options i d lt = rw (add-one, drop-cons options i d lt) refl
 
@@ -18,12 +19,16 @@ or_else-asked DiscardSendAll later asked = refl
 or_else-asked DiscardSendUnicast later asked = refl
 
 -- an option that is skipped leaves it to those behind it
-pub skipped : (options : List Ipv6OptionRepr) (i : ℕ) (d : Ipv6OptionRepr) → i < length options → failure_of (get_or options i d) ≡ Skip → first_failure (drop i options) ≡ first_failure (drop (i + 1) options)
-skipped options i d lt skip = first_failure-drop options i d lt ∙ ap (λ (f : Ipv6OptionFailureType). or_else f (first_failure (drop (i + 1) options))) skip
+pub skipped : (options : List Ipv6OptionRepr) (i : ℕ) (d : Ipv6OptionRepr) →
+    i < length options → failure_of (get_or options i d) ≡ Skip → first_failure (drop i options) ≡ first_failure (drop (i + 1) options)
+skipped options i d lt skip = first_failure-drop options i d lt
+    ∙ ap (λ (f : Ipv6OptionFailureType). or_else f (first_failure (drop (i + 1) options))) skip
 
 -- another one decides
-pub decided : (options : List Ipv6OptionRepr) (i : ℕ) (d : Ipv6OptionRepr) → i < length options → (failure_of (get_or options i d) ≡ Skip → ⊥) → first_failure (drop i options) ≡ failure_of (get_or options i d)
-decided options i d lt asked = first_failure-drop options i d lt ∙ or_else-asked (failure_of (get_or options i d)) (first_failure (drop (i + 1) options)) asked
+pub decided : (options : List Ipv6OptionRepr) (i : ℕ) (d : Ipv6OptionRepr) →
+    i < length options → (failure_of (get_or options i d) ≡ Skip → ⊥) → first_failure (drop i options) ≡ failure_of (get_or options i d)
+decided options i d lt asked = first_failure-drop options i d lt
+    ∙ or_else-asked (failure_of (get_or options i d)) (first_failure (drop (i + 1) options)) asked
 
 -- where none is left, all are skipped
 pub all_skipped : (options : List Ipv6OptionRepr) (i : ℕ) → length options ≤ i → first_failure (drop i options) ≡ Skip

@@ -1,12 +1,14 @@
 -- A header of options is read as it was written.
-use Rattle.std.proofs.Common.{◌≡◌, ℕ, zero, suc, ◌+◌, ◌-◌, ◌<◌, ◌≤◌, Bool, true, false, cond, eqb, List, [], ◌∷◌, ◌++◌, length, drop, refl, sym, ap, ◌∙◌, length-append, arith}
+use Rattle.std.proofs.Common.{◌≡◌, ℕ, zero, suc, ◌+◌, ◌-◌, ◌<◌, ◌≤◌, Bool, true, false, cond, eqb}
+use Rattle.std.proofs.Common.{List, [], ◌∷◌, ◌++◌, length, drop, refl, sym, ap, ◌∙◌, length-append, arith}
 use Rattle.std.specs.List.{flat_map, All}
 use Rattle.std.proofs.lemmas.List.{drop_at, take_at, length-replicate}
 use Rattle.ip_address.specs.declared.protocol.IpProtocol.{IpProtocol}
 use Rattle.ipv6_wire.specs.declared.hop_by_hop.Ipv6OptionRepr.{Ipv6OptionRepr}
 use Rattle.ipv6_wire.specs.declared.hop_by_hop.Ipv6OptionRepr.TheVariants.{Pad1, PadN, RouterAlert, Unknown}
 use Rattle.ipv6_wire.specs.declared.hop_by_hop.Ipv6HopByHopRepr.{Ipv6HopByHopRepr}
-use Rattle.ipv6_wire.specs.HopByHop.{option_len, IsOption, option_in, options_in, AreOptions, header_len, options_part, option_text, option_texts, text, IsSomeOption, ReadAgain}
+use Rattle.ipv6_wire.specs.HopByHop.{option_len, IsOption, option_in, options_in, AreOptions, header_len}
+use Rattle.ipv6_wire.specs.HopByHop.{options_part, option_text, option_texts, text, IsSomeOption, ReadAgain}
 use Rattle.ipv6_wire.proofs.Ipv6Again.{total}
 use Rattle.ipv6_wire.proofs.Options.{none_left, one_before, one_more}
 
@@ -44,7 +46,8 @@ some_octets (RouterAlert value) rest = omega arith
 some_octets (Unknown type len) rest = omega arith
 
 -- one option, and those behind it
-one_again : (n : ℕ) (o : Ipv6OptionRepr) (options : List Ipv6OptionRepr) (rest : List ℕ) → IsSomeOption o → AreOptions n rest × (options_in n rest ≡ options)
+one_again : (n : ℕ) (o : Ipv6OptionRepr) (options : List Ipv6OptionRepr) (rest : List ℕ) →
+    IsSomeOption o → AreOptions n rest × (options_in n rest ≡ options)
     → AreOptions (suc n) (option_text o ++ rest) × (options_in (suc n) (option_text o ++ rest) ≡ o ∷ options)
 one_again n o options rest some after =
     let octets = option_text o ++ rest in
@@ -61,9 +64,11 @@ all_again : (n : ℕ) (options : List Ipv6OptionRepr) → length options ≤ n �
 all_again n [] few all = none_left n [] refl
 all_again zero (o ∷ os) few all = absurd (omega (arith, few))
 all_again (suc n) (o ∷ os) few all =
-    one_again n o os (flat_map option_text os) (all 0 o (omega arith)) (all_again n os (omega (arith, few)) (λ k d lt. all (suc k) d (omega (arith, lt))))
+    one_again n o os (flat_map option_text os) (all 0 o (omega arith))
+    (all_again n os (omega (arith, few)) (λ k d lt. all (suc k) d (omega (arith, lt))))
 
-made : (r : Ipv6HopByHopRepr) (p : IpProtocol) (options : List Ipv6OptionRepr) (more rest : List ℕ) → p ≡ r.next_header → options ≡ r.options.items → rest ≡ more
+made : (r : Ipv6HopByHopRepr) (p : IpProtocol) (options : List Ipv6OptionRepr) (more rest : List ℕ) →
+    p ≡ r.next_header → options ≡ r.options.items → rest ≡ more
     → ◌≡◌ {A = Ipv6HopByHopRepr × List ℕ} (record { next_header = p; options = record { items = options } }, rest) (r, more)
 made r p options more rest ep eo e = rw (ep, eo, e) refl
 

@@ -18,8 +18,10 @@ joined_16 : (x0 x1 x2 x3 x4 x5 x6 x7 x8 x9 x10 x11 x12 x13 x14 x15 n p1 p2 p3 p4
     → p4 ≡ x11 + p5 * 256 → p5 ≡ x10 + p6 * 256 → p6 ≡ x9 + p7 * 256 → p7 ≡ x8 + p8 * 256
     → p8 ≡ x7 + p9 * 256 → p9 ≡ x6 + p10 * 256 → p10 ≡ x5 + p11 * 256 → p11 ≡ x4 + p12 * 256
     → p12 ≡ x3 + p13 * 256 → p13 ≡ x2 + p14 * 256 → p14 ≡ x1 + p15 * 256 → p15 ≡ x0
-    → x0 * 256 ^ 15 + x1 * 256 ^ 14 + x2 * 256 ^ 13 + x3 * 256 ^ 12 + x4 * 256 ^ 11 + x5 * 256 ^ 10 + x6 * 256 ^ 9 + x7 * 256 ^ 8 + x8 * 256 ^ 7 + x9 * 256 ^ 6 + x10 * 256 ^ 5 + x11 * 256 ^ 4 + x12 * 256 ^ 3 + x13 * 256 ^ 2 + x14 * 256 + x15 ≡ n
-joined_16 x0 x1 x2 x3 x4 x5 x6 x7 x8 x9 x10 x11 x12 x13 x14 x15 n p1 p2 p3 p4 p5 p6 p7 p8 p9 p10 p11 p12 p13 p14 p15 e0 e1 e2 e3 e4 e5 e6 e7 e8 e9 e10 e11 e12 e13 e14 e15 = omega arith
+    → x0 * 256 ^ 15 + x1 * 256 ^ 14 + x2 * 256 ^ 13 + x3 * 256 ^ 12 + x4 * 256 ^ 11 + x5 * 256 ^ 10 + x6 * 256 ^ 9 + x7 * 256 ^ 8 + x8 * 256 ^ 7
+    + x9 * 256 ^ 6 + x10 * 256 ^ 5 + x11 * 256 ^ 4 + x12 * 256 ^ 3 + x13 * 256 ^ 2 + x14 * 256 + x15 ≡ n
+joined_16 x0 x1 x2 x3 x4 x5 x6 x7 x8 x9 x10 x11 x12 x13 x14 x15 n p1 p2 p3 p4 p5 p6 p7 p8 p9 p10 p11 p12 p13 p14 p15 e0 e1 e2 e3 e4 e5 e6
+    e7 e8 e9 e10 e11 e12 e13 e14 e15 = omega arith
 
 -- a number is read from its sixteen octets
 from_be_bytes-to_be_bytes_16 : (n : ℕ) → n < 2 ^ 128 → from_be_bytes w128 (to_be_bytes w128 n) ≡ n
@@ -27,7 +29,9 @@ from_be_bytes-to_be_bytes_16 n fits =
     let low : n ≡ n % 256 + n / 256 * 256 = omega arith in
     let high : n / 256 ^ 15 ≡ n / 256 ^ 15 % 256 = omega arith in
     joined_16 _ _ _ _ _ _ _ _ _ _ _ _ _ _ _ _ n _ _ _ _ _ _ _ _ _ _ _ _ _ _ _ low
-    (byte_and_rest n 256) (byte_and_rest n (256 ^ 2)) (byte_and_rest n (256 ^ 3)) (byte_and_rest n (256 ^ 4)) (byte_and_rest n (256 ^ 5)) (byte_and_rest n (256 ^ 6)) (byte_and_rest n (256 ^ 7)) (byte_and_rest n (256 ^ 8)) (byte_and_rest n (256 ^ 9)) (byte_and_rest n (256 ^ 10)) (byte_and_rest n (256 ^ 11)) (byte_and_rest n (256 ^ 12)) (byte_and_rest n (256 ^ 13)) (byte_and_rest n (256 ^ 14)) high
+    (byte_and_rest n 256) (byte_and_rest n (256 ^ 2)) (byte_and_rest n (256 ^ 3)) (byte_and_rest n (256 ^ 4)) (byte_and_rest n (256 ^ 5))
+    (byte_and_rest n (256 ^ 6)) (byte_and_rest n (256 ^ 7)) (byte_and_rest n (256 ^ 8)) (byte_and_rest n (256 ^ 9)) (byte_and_rest n (256 ^ 10))
+    (byte_and_rest n (256 ^ 11)) (byte_and_rest n (256 ^ 12)) (byte_and_rest n (256 ^ 13)) (byte_and_rest n (256 ^ 14)) high
 
 made : (a : Ipv6Address) (n : ℕ) → n ≡ a.bits → ◌≡◌ {A = Ipv6Address} (record { bits = n }) a
 made a n e = rw e refl

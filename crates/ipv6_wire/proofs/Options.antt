@@ -1,5 +1,6 @@
 -- The options of a header, read one after the other.
-use Rattle.std.proofs.Common.{◌≡◌, ℕ, zero, suc, ◌+◌, ◌-◌, ◌<◌, ◌≤◌, List, [], ◌∷◌, ◌++◌, length, drop, refl, sym, ap, ◌∙◌, length-append, append-nil, arith}
+use Rattle.std.proofs.Common.{◌≡◌, ℕ, zero, suc, ◌+◌, ◌-◌, ◌<◌, ◌≤◌, List, [], ◌∷◌, ◌++◌}
+use Rattle.std.proofs.Common.{length, drop, refl, sym, ap, ◌∙◌, length-append, append-nil, arith}
 use Rattle.std.proofs.lemmas.List.{append_assoc}
 use Rattle.arrayvec.specs.ArrayVec.{ArrayVec}
 use Rattle.ipv6_wire.specs.declared.hop_by_hop.Ipv6OptionRepr.{Ipv6OptionRepr}
@@ -44,7 +45,8 @@ no_more zero left none = (tt, refl)
 no_more (suc n) left none = absurd (omega (arith, none))
 
 -- the first option of what is left is read
-one : (octets : List ℕ) (options : List Ipv6OptionRepr) (left : List ℕ) → Reads octets options left → 0 < length left → length options < 4 → IsOption left
+one : (octets : List ℕ) (options : List Ipv6OptionRepr) (left : List ℕ) →
+    Reads octets options left → 0 < length left → length options < 4 → IsOption left
     → Reads octets (options ++ option_in left ∷ []) (drop (option_len left) left)
 one octets options left reads some few is =
     let n : ℕ = 4 - length (options ++ option_in left ∷ []) in
@@ -60,21 +62,24 @@ one octets options left reads some few is =
     }
 
 pub one_read : (octets : List ℕ) (options : List Ipv6OptionRepr) (left : List ℕ) (option : Ipv6OptionRepr) (after : List ℕ)
-    → Reads octets options left → 0 < length left → length options < 4 → IsOption left × ((option, after) ≡ first_option left) → Reads octets (options ++ option ∷ []) after
+    → Reads octets options left → 0 < length left → length options < 4 → IsOption left × ((option, after) ≡ first_option left) →
+    Reads octets (options ++ option ∷ []) after
 one_read octets options left option after reads some few is =
     let first : option ≡ option_in left = ap (λ (p : Ipv6OptionRepr × List ℕ). p.0) is.1 in
     let rest : after ≡ drop (option_len left) left = ap (λ (p : Ipv6OptionRepr × List ℕ). p.1) is.1 in
     rw (first, rest) (one octets options left reads some few is.0)
 
 -- an option that runs out isn't one of those
-pub runs_out : (octets : List ℕ) (options : List Ipv6OptionRepr) (left : List ℕ) → Reads octets options left → 0 < length left → length options < 4 → AreOptions 4 octets → IsOption left
+pub runs_out : (octets : List ℕ) (options : List Ipv6OptionRepr) (left : List ℕ) →
+    Reads octets options left → 0 < length left → length options < 4 → AreOptions 4 octets → IsOption left
 runs_out octets options left reads some few all =
     let n : ℕ = 3 - length options in
     let next : 4 - length options ≡ suc n = omega (arith, few) in
     let here = reads.into all in
     (one_left n left some (rw (sym next) here)).0
 
-made : (options : ArrayVec Ipv6OptionRepr) (xs : List Ipv6OptionRepr) → options.items ≡ xs → ◌≡◌ {A = ArrayVec Ipv6OptionRepr} options (record { items = xs })
+made : (options : ArrayVec Ipv6OptionRepr) (xs : List Ipv6OptionRepr) →
+    options.items ≡ xs → ◌≡◌ {A = ArrayVec Ipv6OptionRepr} options (record { items = xs })
 made options xs e = ap (λ (ys : List Ipv6OptionRepr). let v : ArrayVec Ipv6OptionRepr = record { items = ys } in v) e
 
 -- where no option is left to be read, all are
@@ -82,5 +87,6 @@ pub all_read : (octets : List ℕ) (options : ArrayVec Ipv6OptionRepr) (left : L
     → AreOptions (4 - length options.items) left × (options_in (4 - length options.items) left ≡ [])
     → AreOptions 4 octets × (options ≡ record { items = options_in 4 octets })
 all_read octets options left reads end =
-    let items : options.items ≡ options_in 4 octets = sym (reads.values ∙ ap (λ (xs : List Ipv6OptionRepr). options.items ++ xs) end.1 ∙ append-nil options.items) in
+    let items : options.items ≡ options_in 4 octets =
+    sym (reads.values ∙ ap (λ (xs : List Ipv6OptionRepr). options.items ++ xs) end.1 ∙ append-nil options.items) in
     (reads.back end.0, made options (options_in 4 octets) items)

@@ -1,12 +1,14 @@
 -- The hop-by-hop options of IPv6 (RFC 8200 4.2, 4.3), and the Router Alert option (RFC 2711 2.1).
-use Rattle.std.specs.Prelude.{◌≡◌, ℕ, zero, suc, ◌+◌, ◌-◌, ◌*◌, ◌/◌, ◌%◌, ◌^◌, ◌<◌, ◌≤◌, ◌==◌, ◌&&◌, List, [], ◌∷◌, ◌++◌, length, drop, slice_index, slice_range, replicate, if◌then◌else◌}
+use Rattle.std.specs.Prelude.{◌≡◌, ℕ, zero, suc, ◌+◌, ◌-◌, ◌*◌, ◌/◌, ◌%◌, ◌^◌, ◌<◌, ◌≤◌, ◌==◌, ◌&&◌, List, [], ◌∷◌}
+use Rattle.std.specs.Prelude.{◌++◌, length, drop, slice_index, slice_range, replicate, if◌then◌else◌}
 use Rattle.std.specs.Borrow.{Bor}
 use Rattle.std.specs.Int.{w16, to_be_bytes}
 use Rattle.std.specs.List.{flat_map, All}
 use Rattle.wire_base.specs.Octets.{u16_at}
 use Rattle.ip_address.specs.Protocol.{protocol_of, number_of}
 use Rattle.ipv6_wire.specs.declared.hop_by_hop.Ipv6OptionFailureType.{Ipv6OptionFailureType}
-use Rattle.ipv6_wire.specs.declared.hop_by_hop.Ipv6OptionFailureType.TheVariants.{Skip, Discard, DiscardSendAll, DiscardSendUnicast}
+use Rattle.ipv6_wire.specs.declared.hop_by_hop.Ipv6OptionFailureType.TheVariants.{Skip, Discard, DiscardSendAll}
+use Rattle.ipv6_wire.specs.declared.hop_by_hop.Ipv6OptionFailureType.TheVariants.{DiscardSendUnicast}
 use Rattle.ipv6_wire.specs.declared.hop_by_hop.Ipv6OptionRepr.{Ipv6OptionRepr}
 use Rattle.ipv6_wire.specs.declared.hop_by_hop.Ipv6OptionRepr.TheVariants.{Pad1, PadN, RouterAlert, Unknown}
 use Rattle.ipv6_wire.specs.declared.hop_by_hop.Ipv6HopByHopRepr.{Ipv6HopByHopRepr}
@@ -15,14 +17,16 @@ use Rattle.ipv6_wire.specs.declared.hop_by_hop.Ipv6HopByHopRepr.{Ipv6HopByHopRep
 abbrev pub option_len : List ℕ → ℕ
 option_len octets = if slice_index octets 0 == 0 then 1 else 2 + slice_index octets 1
 
--- the first option isn't cut off: the last of its octets is there (a missing length counts as 0, so that a bare type is cut off)
+-- the first option isn't cut off: the last of its octets is there (a missing length counts as 0, so that a
+-- bare type is cut off)
 abbrev pub IsOption : List ℕ → Type 0
 IsOption octets = option_len octets ≤ length octets
 
 -- an option by its type and its length; a Router Alert has length 2
 abbrev pub option_of : ℕ → ℕ → ℕ → Ipv6OptionRepr
 option_of type len value =
-    if type == 0 then Pad1 else if type == 1 then PadN len else if type == 5 && len == 2 then RouterAlert value else Unknown type len
+    if type == 0 then Pad1 else if type == 1 then PadN len else
+    if type == 5 && len == 2 then RouterAlert value else Unknown type len
 
 abbrev pub option_in : List ℕ → Ipv6OptionRepr
 option_in octets = option_of (slice_index octets 0) (slice_index octets 1) (u16_at octets 2)
@@ -64,7 +68,10 @@ pub record IsHopByHop (octets : List ℕ) : Type 0 where
 -- its values, and what follows it
 abbrev pub hop_by_hop_in : List ℕ → Ipv6HopByHopRepr × List ℕ
 hop_by_hop_in octets = (
-  record { next_header = protocol_of (slice_index octets 0); options = record { items = options_in 4 (options_part octets) } },
+  record {
+    next_header = protocol_of (slice_index octets 0);
+    options = record { items = options_in 4 (options_part octets) };
+  },
   drop (header_len octets) octets,
 )
 
@@ -73,7 +80,8 @@ parts p = (p.0, p.1.now)
 
 -- how a packet with an option of an unrecognized type is treated, by the two highest bits
 abbrev pub failure_by : ℕ → Ipv6OptionFailureType
-failure_by bits = if bits == 0 then Skip else if bits == 1 then Discard else if bits == 2 then DiscardSendAll else DiscardSendUnicast
+failure_by bits = if bits == 0 then Skip else if bits == 1 then Discard else
+    if bits == 2 then DiscardSendAll else DiscardSendUnicast
 
 -- a known option is skipped
 abbrev pub failure_of : Ipv6OptionRepr → Ipv6OptionFailureType
@@ -129,4 +137,5 @@ pub record IsHeader (r : Ipv6HopByHopRepr) : Type 0 where
 
 -- a text is parsed back as its values, and what follows it as that
 abbrev pub ReadAgain : Type 0
-ReadAgain = (r : Ipv6HopByHopRepr) (more : List ℕ) → IsHeader r → IsHopByHop (text r ++ more) × (hop_by_hop_in (text r ++ more) ≡ (r, more))
+ReadAgain = (r : Ipv6HopByHopRepr) (more : List ℕ) →
+    IsHeader r → IsHopByHop (text r ++ more) × (hop_by_hop_in (text r ++ more) ≡ (r, more))

@@ -1,5 +1,6 @@
 -- IPv6 packets (RFC 8200 3): a header of forty octets, the payload.
-use Rattle.std.specs.Prelude.{◌≡◌, ℕ, ◌+◌, ◌/◌, ◌<◌, ◌≤◌, ◌^◌, List, [], ◌∷◌, ◌++◌, length, drop, slice_index, slice_range}
+use Rattle.std.specs.Prelude.{◌≡◌, ℕ, ◌+◌, ◌/◌, ◌<◌, ◌≤◌, ◌^◌, List, [], ◌∷◌}
+use Rattle.std.specs.Prelude.{◌++◌, length, drop, slice_index, slice_range}
 use Rattle.std.specs.Borrow.{Bor}
 use Rattle.std.specs.Int.{w16, w128, to_be_bytes, from_be_bytes}
 use Rattle.wire_base.specs.Octets.{u16_at}
@@ -75,4 +76,5 @@ ReadAgain = (r : Ipv6Repr) (payload more : List ℕ) → IsHeader r → length p
 
 -- a quoted header is parsed back as its values, and what follows it as that
 abbrev pub QuotedAgain : Type 0
-QuotedAgain = (r : Ipv6Repr) (octets : List ℕ) → IsHeader r → IsQuoted (header_text r ++ octets) × (quoted_in (header_text r ++ octets) ≡ (r, octets))
+QuotedAgain = (r : Ipv6Repr) (octets : List ℕ) →
+    IsHeader r → IsQuoted (header_text r ++ octets) × (quoted_in (header_text r ++ octets) ≡ (r, octets))

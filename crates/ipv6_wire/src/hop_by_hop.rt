@@ -48,7 +48,8 @@ impl Ipv6OptionRepr {
     ///
     /// `None` exactly if the option is cut off: there are no octets, or its length or its data exceeds them.
     fn parse(octets: &[u8]) -> Option<(Ipv6OptionRepr, &[u8])>
-        ensures { SomeIff (option_map spec.option_parts result) (spec.IsOption octets.now) (spec.first_option octets.now) }
+        ensures { SomeIff (option_map spec.option_parts result)
+            (spec.IsOption octets.now) (spec.first_option octets.now) }
     {
         let option_type = *octets.first()?;
         if option_type == 0 {

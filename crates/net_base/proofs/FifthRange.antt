@@ -10,7 +10,8 @@ use Rattle.net_base.specs.RangesLaws.{FifthTouchesNone, TouchesNone}
 absorbed_len : (m : Range) (rs : List Range) → length (absorb m rs) ≤ length rs + 1
 absorbed_len m [] = omega arith
 absorbed_len m (r ∷ rs) = by (nat_le r.start m.end) (absorbed_len (range_union m r) rs) where
-  by : (b : Bool) → length (absorb (range_union m r) rs) ≤ length rs + 1 → length (cond b (absorb (range_union m r) rs) (m ∷ r ∷ rs)) ≤ length (r ∷ rs) + 1
+  by : (b : Bool) → length (absorb (range_union m r) rs) ≤ length rs + 1 →
+      length (cond b (absorb (range_union m r) rs) (m ∷ r ∷ rs)) ≤ length (r ∷ rs) + 1
   by true few = omega (arith, few)
   by false few = omega arith
 
@@ -26,26 +27,32 @@ before_all start end from (r ∷ rs) separate before =
 touches_or : (start end from : ℕ) (rs : List Range) → AreSeparate from rs → TouchesNone start end rs ⊎ (length (put_range start end rs) ≤ length rs)
 touches_or start end from [] separate = inl tt
 touches_or start end from (r ∷ rs) separate = by (nat_le start r.end) refl (touches_or start end (r.end + 1) rs separate.2) where
-  merges : (b : Bool) → nat_le r.start end ≡ b → TouchesNone start end (r ∷ rs) ⊎ (length (cond b (absorb (range_union (record { start = start; end = end }) r) rs) (record { start = start; end = end } ∷ r ∷ rs)) ≤ length (r ∷ rs))
+  merges : (b : Bool) → nat_le r.start end ≡ b → TouchesNone start end (r ∷ rs)
+      ⊎ (length (cond b (absorb (range_union (record { start = start; end = end }) r) rs) (record { start = start; end = end } ∷ r ∷ rs))
+      ≤ length (r ∷ rs))
   merges true e = inr (omega (arith, absorbed_len (range_union (record { start = start; end = end }) r) rs))
   merges false e =
       let before : end < r.start = grind (arith, nat_tests, e) in
       let some = separate.1 in
       inl (inr before, before_all start end (r.end + 1) rs separate.2 (omega (arith, some, before)))
 
-  follows : r.end < start → TouchesNone start end rs ⊎ (length (put_range start end rs) ≤ length rs) → TouchesNone start end (r ∷ rs) ⊎ (length (r ∷ put_range start end rs) ≤ length (r ∷ rs))
+  follows : r.end < start → TouchesNone start end rs ⊎ (length (put_range start end rs) ≤ length rs) →
+      TouchesNone start end (r ∷ rs) ⊎ (length (r ∷ put_range start end rs) ≤ length (r ∷ rs))
   follows behind (inl none) = inl (inl behind, none)
   follows behind (inr few) = inr (omega (arith, few))
 
-  by : (b : Bool) → nat_le start r.end ≡ b → TouchesNone start end rs ⊎ (length (put_range start end rs) ≤ length rs) → TouchesNone start end (r ∷ rs) ⊎ (length (cond b (absorb (record { start = start; end = end }) (r ∷ rs)) (r ∷ put_range start end rs)) ≤ length (r ∷ rs))
+  by : (b : Bool) → nat_le start r.end ≡ b → TouchesNone start end rs ⊎ (length (put_range start end rs) ≤ length rs) → TouchesNone start end (r ∷ rs)
+      ⊎ (length (cond b (absorb (record { start = start; end = end }) (r ∷ rs)) (r ∷ put_range start end rs)) ≤ length (r ∷ rs))
   by true e rest = merges (nat_le r.start end) refl
   by false e rest = follows (grind (arith, nat_tests, e)) rest
 
 -- a range that touches none adds one
-adds_one : (start end from : ℕ) (rs : List Range) → start < end → AreSeparate from rs → TouchesNone start end rs → length (put_range start end rs) ≡ length rs + 1
+adds_one : (start end from : ℕ) (rs : List Range) → start < end → AreSeparate from rs → TouchesNone start end rs →
+    length (put_range start end rs) ≡ length rs + 1
 adds_one start end from [] order separate none = refl
 adds_one start end from (r ∷ rs) order separate none = by none.0 (adds_one start end (r.end + 1) rs order separate.2 none.1) where
-  by : (r.end < start) ⊎ (end < r.start) → length (put_range start end rs) ≡ length rs + 1 → length (put_range start end (r ∷ rs)) ≡ length (r ∷ rs) + 1
+  by : (r.end < start) ⊎ (end < r.start) → length (put_range start end rs) ≡ length rs + 1 →
+      length (put_range start end (r ∷ rs)) ≡ length (r ∷ rs) + 1
   by (inl behind) one =
       let test : nat_le start r.end ≡ false = grind (arith, nat_tests, behind) in
       rw test (omega (arith, one))
@@ -58,7 +65,11 @@ adds_one start end from (r ∷ rs) order separate none = by none.0 (adds_one sta
 pub fifth_touches_none : FifthTouchesNone
 fifth_touches_none start end rs separate few order =
     let test : nat_lt start end ≡ true = grind (arith, nat_tests, order) in
-    rw test (λ more. only more (touches_or start end 0 rs separate), λ both. let four = both.0 in let one = adds_one start end 0 rs order separate both.1 in omega (arith, four, one)) where
-      only : 4 < length (put_range start end rs) → TouchesNone start end rs ⊎ (length (put_range start end rs) ≤ length rs) → (length rs ≡ 4) × TouchesNone start end rs
+    rw test (
+      λ more. only more (touches_or start end 0 rs separate),
+      λ both. let four = both.0 in let one = adds_one start end 0 rs order separate both.1 in omega (arith, four, one),
+    ) where
+      only : 4 < length (put_range start end rs) → TouchesNone start end rs ⊎ (length (put_range start end rs) ≤ length rs) →
+          (length rs ≡ 4) × TouchesNone start end rs
       only more (inl none) = let one = adds_one start end 0 rs order separate none in (omega (arith, one, more, few), none)
       only more (inr less) = absurd (omega (arith, more, less, few))

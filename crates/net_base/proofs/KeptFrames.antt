@@ -20,7 +20,8 @@ sent_first (Sent id frame) events = refl
 still : (a b : Memory) → b.queued ≡ a.queued → b.sent ≡ a.sent → (a.queued ≡ b.queued) × (b.sent ≡ a.sent ++ [])
 still a b queue sent = (sym queue, sent ∙ sym (append-nil a.sent))
 
-kept_move : (event : Event) (a b : Memory) → Moves event a b → (a.queued ≡ handed_frames (event ∷ []) ++ b.queued) × (b.sent ≡ a.sent ++ frames_sent (event ∷ []))
+kept_move : (event : Event) (a b : Memory) →
+    Moves event a b → (a.queued ≡ handed_frames (event ∷ []) ++ b.queued) × (b.sent ≡ a.sent ++ frames_sent (event ∷ []))
 kept_move (Received t (Frame frame)) a b move = (move.first, ap (λ (d : Memory). d.sent) move.after ∙ sym (append-nil a.sent))
 kept_move (Received t Nothing) a b move = still a b (ap (λ (d : Memory). d.queued) move.after) (ap (λ (d : Memory). d.sent) move.after)
 kept_move (Received t Withheld) a b move = still a b (ap (λ (d : Memory). d.queued) move.after) (ap (λ (d : Memory). d.sent) move.after)
@@ -34,8 +35,12 @@ kept {a} {b = c} (Goes {b = b} {event = event} {events = events} move told) =
     let first = kept_move event a b move in
     let rest = kept told in
     record {
-      queue = first.0 ∙ ap (λ (q : List (List ℕ)). handed_frames (event ∷ []) ++ q) rest.queue ∙ sym (append_assoc (handed_frames (event ∷ [])) (handed_frames events) c.queued) ∙ ap (λ (h : List (List ℕ)). h ++ c.queued) (sym (handed_first event events));
-      sent = rest.sent ∙ ap (λ (s : List (List ℕ)). s ++ frames_sent events) first.1 ∙ append_assoc a.sent (frames_sent (event ∷ [])) (frames_sent events) ∙ ap (λ (s : List (List ℕ)). a.sent ++ s) (sym (sent_first event events));
+      queue = first.0 ∙ ap (λ (q : List (List ℕ)). handed_frames (event ∷ []) ++ q) rest.queue
+          ∙ sym (append_assoc (handed_frames (event ∷ [])) (handed_frames events) c.queued)
+          ∙ ap (λ (h : List (List ℕ)). h ++ c.queued) (sym (handed_first event events));
+      sent = rest.sent ∙ ap (λ (s : List (List ℕ)). s ++ frames_sent events) first.1
+          ∙ append_assoc a.sent (frames_sent (event ∷ [])) (frames_sent events)
+          ∙ ap (λ (s : List (List ℕ)). a.sent ++ s) (sym (sent_first event events));
     }
 
 pub frames_are_kept : FramesAreKept

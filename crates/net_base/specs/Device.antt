@@ -1,15 +1,15 @@
 -- The events of a network device.
 use Rattle.std.specs.Prelude.{ℕ, ℤ, ◌+◌, ◌-◌, ◌^◌, ◌==◌, Bool, true, false, List, [], ◌∷◌, if◌then◌else◌}
 
--- what a device delivered when it was asked for a frame: the octets of one, nothing since there was none, or nothing although
--- there was one
+-- what a device delivered when it was asked for a frame: the octets of one, nothing since there was none, or nothing
+-- although there was one
 pub data Reception : Type 0 where
   Frame : (octets : List ℕ) → Reception
   Nothing : Reception
   Withheld : Reception
 
--- asked for a frame at a moment, it delivered this; asked for a transmit token at a moment, it granted or refused it; a frame was
--- sent, with its metadata
+-- asked for a frame at a moment, it delivered this; asked for a transmit token at a moment, it granted or refused it; a
+-- frame was sent, with its metadata
 pub data Event : Type 0 where
   Received : (moment : ℤ) (reception : Reception) → Event
   Asked : (moment : ℤ) (given : Bool) → Event

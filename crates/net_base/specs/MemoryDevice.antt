@@ -1,10 +1,11 @@
 -- A device in memory: its state, and what it may do at each event.
 use Rattle.std.specs.Prelude.{ℕ, ◌≡◌, ◌≢◌, Bool, true, false, List, [], ◌∷◌, ◌++◌, drop}
 use Rattle.net_base.specs.declared.phy.DeviceCapabilities.{DeviceCapabilities}
-use Rattle.net_base.specs.Device.{Event, Received, Asked, Sent, Frame, Nothing, Withheld, count_after_refusal, handed_frames, sent_frames as frames_sent}
+use Rattle.net_base.specs.Device.{Event, Received, Asked, Sent, Frame, Nothing, Withheld}
+use Rattle.net_base.specs.Device.{count_after_refusal, handed_frames, sent_frames as frames_sent}
 
--- its capabilities, the frames queued, the frames sent, the answers to the next requests for a transmit token (true refuses), the
--- refusal count, and whether room for a frame to send is reserved
+-- its capabilities, the frames queued, the frames sent, the answers to the next requests for a transmit token (true
+-- refuses), the refusal count, and whether room for a frame to send is reserved
 pub record Memory : Type 0 where
   pub capabilities : DeviceCapabilities
   pub queued : List (List ℕ)
@@ -83,9 +84,11 @@ Moves (Sent id frame) old new = Sends frame old new
 -- what it may do at these events, one after another
 pub data Tells : Memory → List Event → Memory → Type 0 where
   Stays : {d : Memory} → Tells d [] d
-  Goes : {a b c : Memory} {event : Event} {events : List Event} → Moves event a b → Tells b events c → Tells a (event ∷ events) c
+  Goes : {a b c : Memory} {event : Event} {events : List Event} →
+      Moves event a b → Tells b events c → Tells a (event ∷ events) c
 
--- the frames that were queued are those delivered and those still queued, in order; those sent are listed after those sent before
+-- the frames that were queued are those delivered and those still queued, in order; those sent are listed
+-- after those sent before
 pub record KeepsFrames (old : Memory) (events : List Event) (new : Memory) : Type 0 where
   pub queue : old.queued ≡ handed_frames events ++ new.queued
   pub sent : new.sent ≡ old.sent ++ frames_sent events

@@ -19,7 +19,8 @@ refusals_move (Asked t false) a b move = ap (λ (d : Memory). d.refusals) move.a
 refusals_move (Sent id frame) a b move = ap (λ (d : Memory). d.refusals) move.after
 
 -- the refusal count after one event and more
-refusals_first : (n : ℕ) (event : Event) (events : List Event) → refusals_after n (event ∷ events) ≡ refusals_after (refusals_after n (event ∷ [])) events
+refusals_first : (n : ℕ) (event : Event) (events : List Event) →
+    refusals_after n (event ∷ events) ≡ refusals_after (refusals_after n (event ∷ [])) events
 refusals_first n (Received t (Frame frame)) events = refl
 refusals_first n (Received t Nothing) events = refl
 refusals_first n (Received t Withheld) events = refl
@@ -30,4 +31,5 @@ refusals_first n (Sent id frame) events = refl
 pub told_refusals : {a b : Memory} {xs : List Event} → Tells a xs b → b.refusals ≡ refusals_after a.refusals xs
 told_refusals Stays = refl
 told_refusals {a} (Goes {b = b} {event = event} {events = events} move rest) =
-    told_refusals rest ∙ ap (λ (n : ℕ). refusals_after n events) (refusals_move event a b move) ∙ sym (refusals_first a.refusals event events)
+    told_refusals rest ∙ ap (λ (n : ℕ). refusals_after n events) (refusals_move event a b move)
+    ∙ sym (refusals_first a.refusals event events)

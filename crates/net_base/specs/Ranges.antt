@@ -1,9 +1,10 @@
 -- Covered offsets as ranges in order, apart from each other.
-use Rattle.std.specs.Prelude.{◌≡◌, ℕ, ◌+◌, ◌<◌, ◌≤◌, min, max, nat_lt, nat_le, ◌&&◌, ◌||◌, Bool, false, cond, List, [], ◌∷◌, length, drop, slice_index_or, ◌==◌}
+use Rattle.std.specs.Prelude.{◌≡◌, ℕ, ◌+◌, ◌<◌, ◌≤◌, min, max, nat_lt, nat_le, ◌&&◌, ◌||◌}
+use Rattle.std.specs.Prelude.{Bool, false, cond, List, [], ◌∷◌, length, drop, slice_index_or, ◌==◌}
 use Rattle.net_base.specs.declared.assembler.Range.{Range}
 
--- no range is empty, the first starts at `from` or later, and each starts above the end of the one before, so that none touches
--- another
+-- no range is empty, the first starts at `from` or later, and each starts above the end of the one before, so
+-- that none touches another
 abbrev pub AreSeparate : ℕ → List Range → Type 0
 AreSeparate from [] = Unit {0}
 AreSeparate from (r ∷ rs) = (from ≤ r.start) × (r.start < r.end) × AreSeparate (r.end + 1) rs
@@ -29,7 +30,8 @@ absorb m (r ∷ rs) = cond (nat_le r.start m.end) (absorb (range_union m r) rs) 
 -- the ranges with the offsets from start to below end covered too
 abbrev pub put_range : ℕ → ℕ → List Range → List Range
 put_range start end [] = record { start = start; end = end } ∷ []
-put_range start end (r ∷ rs) = cond (nat_le start r.end) (absorb (record { start = start; end = end }) (r ∷ rs)) (r ∷ put_range start end rs)
+put_range start end (r ∷ rs) =
+    cond (nat_le start r.end) (absorb (record { start = start; end = end }) (r ∷ rs)) (r ∷ put_range start end rs)
 
 abbrev pub add_range : ℕ → ℕ → List Range → List Range
 add_range start end rs = cond (nat_lt start end) (put_range start end rs) rs
@@ -42,7 +44,8 @@ front (r ∷ rs) = cond (r.start == 0) r.end 0
 -- a range that ends at `end` meets the one at index i
 pub record IsMet (rs : List Range) (i end : ℕ) : Type 0 where
   pub within : i < length rs
-  pub takes : (m : Range) (d : Range) → m.end ≡ end → absorb m (drop i rs) ≡ absorb (range_union m (slice_index_or rs i d)) (drop (i + 1) rs)
+  pub takes : (m : Range) (d : Range) →
+      m.end ≡ end → absorb m (drop i rs) ≡ absorb (range_union m (slice_index_or rs i d)) (drop (i + 1) rs)
 
 -- a range that ends at `end` stays apart before index i
 pub record IsApart (rs : List Range) (i end : ℕ) : Type 0 where

@@ -8,7 +8,8 @@ abbrev pub TouchesNone : ℕ → ℕ → List Range → Type 0
 TouchesNone start end [] = Unit {0}
 TouchesNone start end (r ∷ rs) = ((r.end < start) ⊎ (end < r.start)) × TouchesNone start end rs
 
--- of at most four ranges more than four come, with a range that isn't empty, exactly if there are four and it touches none of them
+-- of at most four ranges more than four come, with a range that isn't empty, exactly if there are four and
+-- it touches none of them
 abbrev pub FifthTouchesNone : Type 0
 FifthTouchesNone =
     (start end : ℕ) (rs : List Range) → AreSeparate 0 rs → length rs ≤ 4 → start < end →

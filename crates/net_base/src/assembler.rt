@@ -1,7 +1,9 @@
 //! Sets of covered offsets, such as those of the octets received of a datagram (RFC 791 3.2).
-ghost use Rattle.std.specs.Prelude.{◌≡◌, ◌↔◌, ◌≤◌, ◌<◌, ◌+◌, ℕ, ◌^◌, [], ◌∷◌, ◌++◌, IsTrue, false, IsOk, IsErr, IfOk, OnOk, OnErr, length, List};
+ghost use Rattle.std.specs.Prelude.{◌≡◌, ◌↔◌, ◌≤◌, ◌<◌, ◌+◌, ℕ, ◌^◌, [], ◌∷◌, ◌++◌, IsTrue};
+ghost use Rattle.std.specs.Prelude.{false, IsOk, IsErr, IfOk, OnOk, OnErr, length, List};
 ghost use Rattle.net_base.specs.RangesLaws.{FifthTouchesNone};
-ghost use Rattle.net_base.specs.Ranges.{add_range, front, AreSeparate, range_union, places_before, IsMet, IsApart, IsUnion};
+ghost use Rattle.net_base.specs.Ranges.{add_range, front, AreSeparate, range_union};
+ghost use Rattle.net_base.specs.Ranges.{places_before, IsMet, IsApart, IsUnion};
 
 use arrayvec::ArrayVec;
 use std::marker::Model;

@@ -42,9 +42,17 @@ impl Model for MemoryDevice {
 
     ghost Value = { Memory };
 
-    ghost view = { λ a. record { capabilities = a.capabilities; queued = map (λ v. v.items) a.queue.items; sent = map (λ v. v.items) a.sent.items; refuse = a.refuse.items; refusals = a.refusals; has_room = is_some a.room } };
+    ghost view = { λ a. record {
+      capabilities = a.capabilities;
+      queued = map (λ v. v.items) a.queue.items;
+      sent = map (λ v. v.items) a.sent.items;
+      refuse = a.refuse.items;
+      refusals = a.refusals;
+      has_room = is_some a.room;
+    } };
 
-    ghost invariant = { λ a. All (λ v. vec_len v ≤ 1514) a.queue.items × All (λ v. vec_len v ≤ 1514) a.sent.items × ForSome a.room (λ v. (v.items ≡ []) × (1514 ≤ vec_capacity v) × (vec_len a.sent < vec_capacity a.sent)) };
+    ghost invariant = { λ a. All (λ v. vec_len v ≤ 1514) a.queue.items × All (λ v. vec_len v ≤ 1514) a.sent.items
+        × ForSome a.room (λ v. (v.items ≡ []) × (1514 ≤ vec_capacity v) × (vec_len a.sent < vec_capacity a.sent)) };
 }
 
 impl MemoryDevice {
@@ -54,7 +62,14 @@ impl MemoryDevice {
 
     /// A device in which nothing is queued, sent or refused. It allocates nothing.
     pub fn new(alloc: Global, capabilities: DeviceCapabilities) -> Self
-        ensures { result ≡ record { capabilities = capabilities; queued = []; sent = []; refuse = []; refusals = 0; has_room = false } }
+        ensures { result ≡ record {
+          capabilities = capabilities;
+          queued = [];
+          sent = [];
+          refuse = [];
+          refusals = 0;
+          has_room = false;
+        } }
     {
         MemoryDevice {
             alloc,
@@ -136,7 +151,9 @@ impl MemoryDevice {
 
     // Takes the first frame in the queue.
     fn take_frame(&mut self) -> Option<Vec<u8>>
-        ensures { MatchOption result ((self.old.queued ≡ []) × (self.new ≡ self.old)) (λ frame. (vec_len frame ≤ 1514) × (self.old.queued ≡ frame.items ∷ self.new.queued) × (self.new ≡ record self.old { queued = self.new.queued })) }
+        ensures { MatchOption result ((self.old.queued ≡ []) × (self.new ≡ self.old))
+            (λ frame. (vec_len frame ≤ 1514) × (self.old.queued ≡ frame.items ∷ self.new.queued)
+            × (self.new ≡ record self.old { queued = self.new.queued })) }
     {
         self.queue.pop_front()
     }
@@ -200,7 +217,8 @@ impl Device for MemoryDevice {
 
     fn receive(&mut self, now: Instant, buffer: &mut [u8]) -> Option<(usize, PacketMeta)>
         requires { length buffer.old ≡ 1514 }
-        ensures told { MatchOption result (HandsNone Tells now self.old self.new) (λ r. Tells self.old (Received now (Frame (take r.0 buffer.new)) ∷ []) self.new) }
+        ensures told { MatchOption result (HandsNone Tells now self.old self.new)
+            (λ r. Tells self.old (Received now (Frame (take r.0 buffer.new)) ∷ []) self.new) }
         ensures fits { IfSome result (λ r. r.0 ≤ 1514) }
         ensures permission { OnSome result (self.new.has_room ≡ true) }
         ensures meta { IfSome result (λ r. r.1 ≡ PacketMeta.EMPTY) }

@@ -1,5 +1,6 @@
 //! Network devices: their capabilities, and the trait that an interface drives.
-ghost use Rattle.std.specs.Prelude.{◌≡◌, ◌≤◌, ℕ, Bool, true, List, [], ◌∷◌, ◌++◌, length, take, IfSome, OnSome, MatchOption};
+ghost use Rattle.std.specs.Prelude.{◌≡◌, ◌≤◌, ℕ, Bool, true, List, [], ◌∷◌, ◌++◌};
+ghost use Rattle.std.specs.Prelude.{length, take, IfSome, OnSome, MatchOption};
 ghost use Rattle.net_base.specs.Device.{Event, Received, Frame, Asked, Sent, HandsNone, refusals_after};
 
 use crate::time::Instant;
@@ -139,7 +140,8 @@ pub trait Device {
     /// the frame's length and metadata. `now` is the moment of the call.
     fn receive(&mut self, now: Instant, buffer: &mut [u8]) -> Option<(usize, PacketMeta)>
         requires { length buffer.old ≡ 1514 }
-        ensures told { MatchOption result (HandsNone tells now self.old self.new) (λ r. tells self.old (Received now (Frame (take r.0 buffer.new)) ∷ []) self.new) }
+        ensures told { MatchOption result (HandsNone tells now self.old self.new)
+            (λ r. tells self.old (Received now (Frame (take r.0 buffer.new)) ∷ []) self.new) }
         ensures fits { IfSome result (λ r. r.0 ≤ 1514) }
         ensures permission { OnSome result (may_transmit self.new ≡ true) };
 

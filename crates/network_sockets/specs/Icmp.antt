@@ -1,5 +1,6 @@
 -- ICMP sockets (RFC 792, RFC 4443).
-use Rattle.std.specs.Prelude.{ℕ, ◌==◌, ◌&&◌, ◌||◌, nat_le, nat_lt, Bool, true, false, cond, if◌then◌else◌, is_none, List, length, Option, Some, None}
+use Rattle.std.specs.Prelude.{ℕ, ◌==◌, ◌&&◌, ◌||◌, nat_le, nat_lt, Bool, true, false, cond}
+use Rattle.std.specs.Prelude.{if◌then◌else◌, is_none, List, length, Option, Some, None}
 use Rattle.std.specs.Borrow.{Bor}
 use Rattle.std.specs.Option.{option_and_then, option_map}
 use Rattle.control_wire.specs.Icmpv4.{type_in, code_in, icmpv4_in}
@@ -32,7 +33,8 @@ use Rattle.network_sockets.specs.declared.icmp.Packet.{Packet}
 use Rattle.network_sockets.specs.declared.icmp.SendError.{SendError}
 use Rattle.network_sockets.specs.declared.icmp.SendError.TheVariants as error
 
--- which messages it accepts, the hop limit of packets sent, and the messages received and to send, each with the remote address
+-- which messages it accepts, the hop limit of packets sent, and the messages received and to send, each
+-- with the remote address
 pub record IcmpSocket : Type 0 where
   pub endpoint : Endpoint
   pub hop_limit : ℕ
@@ -49,7 +51,13 @@ pub record Sent : Type 0 where
 
 -- a packet, apart from where its payload is in memory
 abbrev pub value_of : Packet → Sent
-value_of p = record { src_addr = p.src_addr; dst_addr = p.dst_addr; hop_limit = p.hop_limit; repr = p.repr; payload = p.payload.now }
+value_of p = record {
+  src_addr = p.src_addr;
+  dst_addr = p.dst_addr;
+  hop_limit = p.hop_limit;
+  repr = p.repr;
+  payload = p.payload.now;
+}
 
 -- echo messages with the identifier
 abbrev pub is_echo_of_v4 : ℕ → Icmpv4Repr → Bool
@@ -75,7 +83,8 @@ is_echo_of n (icmp.Ipv6 r) = is_echo_of_v6 n r
 
 -- a quoted UDP datagram from the port, of which at least eight octets are there
 abbrev pub is_datagram_from : ℕ → IpRepr → List ℕ → Bool
-is_datagram_from port header quoted = (number_of (next_header header) == 17) && nat_le 8 (length quoted) && (port == u16_at quoted 0)
+is_datagram_from port header quoted =
+    (number_of (next_header header) == 17) && nat_le 8 (length quoted) && (port == u16_at quoted 0)
 
 -- the reason is an unreachable port
 abbrev pub is_port_unreachable_v4 : Icmpv4DstUnreachable → Bool
@@ -89,13 +98,15 @@ is_port_unreachable_v6 (v6_reason.Unknown n) = false
 
 -- port unreachable errors that quote UDP from the port
 abbrev pub is_unreachable_from_v4 : ℕ → Icmpv4Repr → List ℕ → Bool
-is_unreachable_from_v4 port (v4.DstUnreachable reason header) quoted = is_port_unreachable_v4 reason && is_datagram_from port (ip.Ipv4 header) quoted
+is_unreachable_from_v4 port (v4.DstUnreachable reason header) quoted =
+    is_port_unreachable_v4 reason && is_datagram_from port (ip.Ipv4 header) quoted
 is_unreachable_from_v4 port (v4.EchoRequest ident seq_no) quoted = false
 is_unreachable_from_v4 port (v4.EchoReply ident seq_no) quoted = false
 is_unreachable_from_v4 port (v4.TimeExceeded code header) quoted = false
 
 abbrev pub is_unreachable_from_v6 : ℕ → Icmpv6Repr → List ℕ → Bool
-is_unreachable_from_v6 port (v6.DstUnreachable reason header) quoted = is_port_unreachable_v6 reason && is_datagram_from port (ip.Ipv6 header) quoted
+is_unreachable_from_v6 port (v6.DstUnreachable reason header) quoted =
+    is_port_unreachable_v6 reason && is_datagram_from port (ip.Ipv6 header) quoted
 is_unreachable_from_v6 port (v6.EchoRequest ident seq_no) quoted = false
 is_unreachable_from_v6 port (v6.EchoReply ident seq_no) quoted = false
 is_unreachable_from_v6 port (v6.PktTooBig mtu header) quoted = false
@@ -130,8 +141,8 @@ socket_after_done s = record s { rx = queue_after_pop s.rx }
 abbrev pub socket_after_send : IpAddress → List ℕ → IcmpSocket → IcmpSocket
 socket_after_send remote message s = record s { tx = put s.tx remote message }
 
--- the first reason not to queue a message, if there is one: an unspecified address; a message longer than the payload of an IPv4 packet
--- with a TCP header; lack of room
+-- the first reason not to queue a message, if there is one: an unspecified address; a message longer than the payload
+-- of an IPv4 packet with a TCP header; lack of room
 abbrev pub refusal : IpAddress → ℕ → Bool → Option SendError
 refusal remote len fits =
     if is_unspecified remote then Some error.UnspecifiedAddress else if nat_lt 65495 len then Some error.TooLong
@@ -148,7 +159,8 @@ poll_at s = cond (is_none (first_of s.tx.packets)) Ingress Now
 -- octets are an echo message, request or reply, by these types, with code 0; the checksum isn't verified
 abbrev pub is_echo : ℕ → ℕ → List ℕ → Bool
 is_echo request reply octets =
-    nat_le 8 (length octets) && nat_lt (length octets) 65536 && ((type_in octets == request) || (type_in octets == reply)) && (code_in octets == 0)
+    nat_le 8 (length octets) && nat_lt (length octets) 65536
+    && ((type_in octets == request) || (type_in octets == reply)) && (code_in octets == 0)
 
 -- values and octets, apart from where those are in memory
 abbrev pub parts : IcmpRepr × Bor (List ℕ) → IcmpRepr × List ℕ
@@ -156,16 +168,20 @@ parts p = (p.0, p.1.now)
 
 -- octets as an echo message to a peer, by the ICMP of the peer's family, and its data
 abbrev pub echo_to : IpAddress → List ℕ → Option (IcmpRepr × List ℕ)
-echo_to (address.Ipv4 a) octets = cond (is_echo 8 0 octets) (Some (icmp.Ipv4 (icmpv4_in octets).0, (icmpv4_in octets).1)) None
-echo_to (address.Ipv6 a) octets = cond (is_echo 128 129 octets) (Some (icmp.Ipv6 (icmpv6_in octets).0, (icmpv6_in octets).1)) None
+echo_to (address.Ipv4 a) octets =
+    cond (is_echo 8 0 octets) (Some (icmp.Ipv4 (icmpv4_in octets).0, (icmpv4_in octets).1)) None
+echo_to (address.Ipv6 a) octets =
+    cond (is_echo 128 129 octets) (Some (icmp.Ipv6 (icmpv6_in octets).0, (icmpv6_in octets).1)) None
 
 -- a message to send to a peer, with this source address
 abbrev pub packet_to_send : IcmpSocket → IpAddress → IcmpRepr × List ℕ → IpAddress → Sent
-packet_to_send s peer m src = record { src_addr = src; dst_addr = peer; hop_limit = s.hop_limit; repr = m.0; payload = m.1 }
+packet_to_send s peer m src =
+    record { src_addr = src; dst_addr = peer; hop_limit = s.hop_limit; repr = m.0; payload = m.1 }
 
 -- a message to send, if it is an echo message and has a source address
 abbrev pub sent_if : (IpAddress → Option IpAddress) → IcmpSocket → IpAddress × List ℕ → Option Sent
-sent_if source s p = option_and_then (λ m. option_map (packet_to_send s p.0 m) (source_of source None p.0)) (echo_to p.0 p.1)
+sent_if source s p =
+    option_and_then (λ m. option_map (packet_to_send s p.0 m) (source_of source None p.0)) (echo_to p.0 p.1)
 
 -- the first message to send, if it is an echo message and has a source address
 abbrev pub offered_packet : (IpAddress → Option IpAddress) → IcmpSocket → Option Sent

@@ -1,5 +1,6 @@
 -- Raw sockets, which send and receive whole packets of one protocol.
-use Rattle.std.specs.Prelude.{ℕ, ◌/◌, ◌==◌, ◌&&◌, nat_le, Bool, true, false, cond, is_none, List, ◌++◌, length, slice_index, slice_range, Option, Some, None}
+use Rattle.std.specs.Prelude.{ℕ, ◌/◌, ◌==◌, ◌&&◌, nat_le, Bool, true, false, cond, is_none}
+use Rattle.std.specs.Prelude.{List, ◌++◌, length, slice_index, slice_range, Option, Some, None}
 use Rattle.std.specs.Option.{option_and_then}
 use Rattle.ip_wire.specs.Ipv4Packet.{header_len, total_len}
 use Rattle.ip_wire.specs.Ipv4Packet as ipv4
@@ -75,13 +76,18 @@ is_ipv4 octets =
 
 -- octets begin with an IPv6 packet (RFC 8200 3)
 abbrev pub is_ipv6 : List ℕ → Bool
-is_ipv6 octets = nat_le 40 (length octets) && (slice_index octets 0 / 16 == 6) && nat_le (ipv6.end octets) (length octets)
+is_ipv6 octets = nat_le 40 (length octets) && (slice_index octets 0 / 16 == 6)
+    && nat_le (ipv6.end octets) (length octets)
 
 abbrev pub ipv4_in : List ℕ → Sent
-ipv4_in octets = record { header = repr.Ipv4 (ipv4.header_in octets); payload = slice_range octets (header_len octets) (total_len octets) }
+ipv4_in octets = record {
+  header = repr.Ipv4 (ipv4.header_in octets);
+  payload = slice_range octets (header_len octets) (total_len octets);
+}
 
 abbrev pub ipv6_in : List ℕ → Sent
-ipv6_in octets = record { header = repr.Ipv6 (ipv6.header_in octets); payload = slice_range octets 40 (ipv6.end octets) }
+ipv6_in octets =
+    record { header = repr.Ipv6 (ipv6.header_in octets); payload = slice_range octets 40 (ipv6.end octets) }
 
 -- the packet of an IP version that the octets begin with
 abbrev pub packet_in : IpVersion → List ℕ → Option Sent

@@ -72,7 +72,12 @@ impl<L> Model for SocketOf<L> {
 
     ghost Value = { IcmpSocket };
 
-    ghost view = { λ s. record { endpoint = s.endpoint; hop_limit = s.hop_limit; rx = s.buffers.rx; tx = s.buffers.tx } };
+    ghost view = { λ s. record {
+      endpoint = s.endpoint;
+      hop_limit = s.hop_limit;
+      rx = s.buffers.rx;
+      tx = s.buffers.tx;
+    } };
 }
 
 impl<L: Drop> SocketOf<L> {
@@ -173,7 +178,8 @@ impl<L: Drop> SocketOf<L> {
     /// address is unspecified, the message has more than 65,495 octets, or it doesn't fit; the first of these is
     /// returned. Then the socket stays unchanged.
     pub fn try_send(&mut self, remote: IpAddress, message: &[u8]) -> Result<(), SendError>
-        ensures refused { result_err result ≡ spec.refusal remote (length message.now) (is_room self.old.tx (length message.now)) }
+        ensures refused { result_err result
+            ≡ spec.refusal remote (length message.now) (is_room self.old.tx (length message.now)) }
         ensures ok { OnOk result (self.new ≡ spec.socket_after_send remote message.now self.old) }
         ensures err { OnErr result (self.new ≡ self.old) }
     {

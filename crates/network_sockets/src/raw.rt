@@ -97,7 +97,8 @@ impl<L: Drop> SocketOf<L> {
     /// `summed`. The packet is dropped if there is no room for it, or if its header can't tell its length: an IPv4
     /// packet has at most 65,535 octets with its header of 20 (RFC 791 3.1).
     pub fn process(&mut self, header: &IpRepr, payload: &[u8], summed: bool)
-        ensures taken { TellsLength header.now → self.new ≡ spec.socket_after_delivery summed header.now payload.now self.old }
+        ensures taken { TellsLength header.now →
+            self.new ≡ spec.socket_after_delivery summed header.now payload.now self.old }
         ensures dropped { (TellsLength header.now → ⊥) → self.new ≡ self.old }
     {
         match header {

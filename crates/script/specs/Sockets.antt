@@ -10,4 +10,5 @@ empty_queue = record { packets = []; most = 4; limit = 4096 }
 
 -- a UDP socket that listens at a port of any address
 abbrev pub listening_socket : ℕ → UdpSocket
-listening_socket port = record { endpoint = record { addr = None; port = port }; hop_limit = 64; rx = empty_queue; tx = empty_queue }
+listening_socket port =
+    record { endpoint = record { addr = None; port = port }; hop_limit = 64; rx = empty_queue; tx = empty_queue }

@@ -1,5 +1,6 @@
 -- The meaning of the words of a line.
-use Rattle.std.specs.Prelude.{◌≡◌, ◌≤◌, ℕ, ℤ, pos, ◌^◌, ◌==◌, ◌&&◌, nat_lt, nat_le, Bool, if◌then◌else◌, List, codes, length, map, take, slice_index, Option, Some, None, Result, Ok, Err}
+use Rattle.std.specs.Prelude.{◌≡◌, ◌≤◌, ℕ, ℤ, pos, ◌^◌, ◌==◌, ◌&&◌, nat_lt, nat_le, Bool, if◌then◌else◌, List}
+use Rattle.std.specs.Prelude.{codes, length, map, take, slice_index, Option, Some, None, Result, Ok, Err}
 use Rattle.std.specs.List.{list_all, slice_split, before_first, after_first}
 use Rattle.std.specs.Option.{option_map, option_and_then}
 use Rattle.std.specs.Char.{is_ascii_digit}
@@ -27,7 +28,8 @@ is_slash octet = octet == 47
 
 -- one or more decimal digits of a number that is at most `most`
 abbrev pub is_number_up_to : ℕ → List ℕ → Bool
-is_number_up_to most digits = nat_lt 0 (length digits) && (list_all is_ascii_digit digits && nat_le (digits_value 10 digits) most)
+is_number_up_to most digits =
+    nat_lt 0 (length digits) && (list_all is_ascii_digit digits && nat_le (digits_value 10 digits) most)
 
 -- the number that they spell
 abbrev pub number_up_to : ℕ → List ℕ → Option ℕ
@@ -51,7 +53,8 @@ budget_in digits = number_up_to 4294967295 digits
 
 -- the address of four octets
 abbrev pub of_four : Result (List ℕ) FromHexError → Option Ipv4Address
-of_four (Ok octets) = Some (address_of (slice_index octets 0) (slice_index octets 1) (slice_index octets 2) (slice_index octets 3))
+of_four (Ok octets) =
+    Some (address_of (slice_index octets 0) (slice_index octets 1) (slice_index octets 2) (slice_index octets 3))
 of_four (Err e) = None
 
 -- the address of sixteen octets
@@ -69,7 +72,8 @@ ipv6_in digits = of_sixteen (decode_sized digits 16)
 
 -- the address that hex digits spell: eight of IPv4, or thirty-two of IPv6
 abbrev pub address_in : List ℕ → Option IpAddress
-address_in digits = if length digits == 8 then option_map ip.Ipv4 (ipv4_in digits) else option_map ip.Ipv6 (ipv6_in digits)
+address_in digits = if length digits == 8 then option_map ip.Ipv4 (ipv4_in digits)
+    else option_map ip.Ipv6 (ipv6_in digits)
 
 -- the maximum prefix length of an address's family
 abbrev pub address_len : IpAddress → ℕ
@@ -98,7 +102,8 @@ SpellNoNetworks words = (networks : List IpCidr) → length networks ≤ 4 → S
 
 -- a moment and a budget, separated by one space
 abbrev pub SpellPoll : List ℕ → ℤ → ℕ → Type 0
-SpellPoll words t budget = (moment_in (before_first is_space words) ≡ Some t) × (budget_in (after_first is_space words) ≡ Some budget)
+SpellPoll words t budget = (moment_in (before_first is_space words) ≡ Some t)
+    × (budget_in (after_first is_space words) ≡ Some budget)
 
 abbrev pub SpellNoPoll : List ℕ → Type 0
 SpellNoPoll words = (t : ℤ) (budget : ℕ) → SpellPoll words t budget → ⊥

@@ -1,5 +1,6 @@
 //! The meaning of a line.
-ghost use Rattle.std.specs.Prelude.{◌≡◌, ◌<◌, ◌≤◌, ◌*◌, ◌==◌, ◌↔◌, length, take, None, Ok, Some, IfNone, IfSome, IsSome, MatchOption};
+ghost use Rattle.std.specs.Prelude.{◌≡◌, ◌<◌, ◌≤◌, ◌*◌, ◌==◌, ◌↔◌, length, take, None};
+ghost use Rattle.std.specs.Prelude.{Ok, Some, IfNone, IfSome, IsSome, MatchOption};
 ghost use Rattle.std.specs.List.{before_first, after_first, position_or_len};
 ghost use Rattle.hex.specs.Hex.{decode_of};
 ghost use Rattle.net_base.specs.Time.{IsMoment};
@@ -7,7 +8,8 @@ ghost use Rattle.host_machine.specs.Polling.Step.{IsTimely};
 ghost use Rattle.script.specs.Commands.{IsTimelyLine};
 ghost use Rattle.script.specs.Commands as commands;
 ghost use Rattle.script.specs.Hex.{IsHexUpTo};
-ghost use Rattle.script.specs.Text.{Say, SpellNetworks, SpellNoNetworks, SpellNoPoll, SpellPoll, address_in, budget_in, ipv4_in, ipv6_in, is_space, moment_in, network_in, number_up_to, parts_of, port_in};
+ghost use Rattle.script.specs.Text.{Say, SpellNetworks, SpellNoNetworks, SpellNoPoll, SpellPoll, address_in, budget_in};
+ghost use Rattle.script.specs.Text.{ipv4_in, ipv6_in, is_space, moment_in, network_in, number_up_to, parts_of, port_in};
 
 use arrayvec::ArrayVec;
 use interface::Command;
@@ -132,7 +134,8 @@ pub fn parse(text: &[u8], buffer: &mut [u8; FRAME_ROOM]) -> Option<Line>
 fn split_at(text: &[u8], separator: u8) -> (&[u8], Option<&[u8]>)
     ensures before { result.0.now ≡ before_first (λ octet. octet == separator) text.now }
     ensures after { MatchOption result.1 (position_or_len (λ octet. octet == separator) text.now ≡ length text.now)
-        (λ rest. (position_or_len (λ octet. octet == separator) text.now < length text.now) × (rest.now ≡ after_first (λ octet. octet == separator) text.now)) }
+        (λ rest. (position_or_len (λ octet. octet == separator) text.now < length text.now)
+        × (rest.now ≡ after_first (λ octet. octet == separator) text.now)) }
 {
     match text.iter().position(|octet| *octet == separator) {
         Some(at) => (&text[..at], Some(&text[at + 1..])),

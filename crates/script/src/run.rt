@@ -2,7 +2,8 @@
 ghost use Rattle.std.specs.Prelude.{◌≡◌, ◌≤◌, length, Some, None, OnOk, MatchResult};
 ghost use Rattle.std.specs.Io.KnownBytes.{Appends};
 ghost use Rattle.script.specs.Commands.{IsTimelyLine};
-ghost use Rattle.script.specs.Printed.{frame_line, ingress_text, multicast_text, next_text, poll_text, push_text, text_line, text_of};
+ghost use Rattle.script.specs.Printed.{frame_line, ingress_text, multicast_text};
+ghost use Rattle.script.specs.Printed.{next_text, poll_text, push_text, text_line, text_of};
 ghost use Rattle.script.specs.declared.run.Stop.TheVariants as why;
 ghost use Rattle.script.specs.Status as spec;
 
@@ -161,7 +162,8 @@ fn run_line<W: Write>(
 
 /// The text for a frame that arrived, or was too long.
 fn pushed(outcome: Result<(), PushError>) -> Result<&'static str, Stop>
-    ensures { MatchResult result (λ text. push_text outcome ≡ Some text.now) (λ stop. (stop ≡ why.NoMemory) × (push_text outcome ≡ None)) }
+    ensures { MatchResult result (λ text. push_text outcome ≡ Some text.now)
+        (λ stop. (stop ≡ why.NoMemory) × (push_text outcome ≡ None)) }
 {
     match outcome {
         Ok(()) => Ok("ok"),
@@ -281,7 +283,8 @@ const FRAME_LINE: usize = 2 * FRAME_BUFFER_SIZE + 4;
 
 /// Writes a frame of at most [`FRAME_BUFFER_SIZE`] octets, as every frame sent is: `tx`, and the octets in hex.
 fn write_frame<W: Write>(frame: &[u8], output: &mut W) -> Result<(), Stop>
-    ensures { length frame.now ≤ FRAME_BUFFER_SIZE → OnOk result (Appends (W.contents output.old) (W.contents output.new) (frame_line frame.now)) }
+    ensures { length frame.now ≤ FRAME_BUFFER_SIZE →
+        OnOk result (Appends (W.contents output.old) (W.contents output.new) (frame_line frame.now)) }
 {
     let line = line_of(frame);
     output.write_all(line.as_slice())?;

@@ -46,13 +46,16 @@ sooner_none : (a : Option ℤ) → earlier_of a None ≡ a
 sooner_none None = refl
 sooner_none (Some a) = refl
 
-of_three : (a b c : ℤ) (p q : Bool) → is_lt (int_cmp b a) ≡ p → is_lt (int_cmp c b) ≡ q → earlier_of (Some a) (earlier_of (Some b) (Some c)) ≡ earlier_of (earlier_of (Some a) (Some b)) (Some c)
+of_three : (a b c : ℤ) (p q : Bool) → is_lt (int_cmp b a) ≡ p → is_lt (int_cmp c b) ≡ q →
+    earlier_of (Some a) (earlier_of (Some b) (Some c)) ≡ earlier_of (earlier_of (Some a) (Some b)) (Some c)
 of_three a b c true true p q =
-    let r : is_lt (int_cmp c a) ≡ true = is_before_of c a (let m = before_by b a p in let n = before_by c b q in omega (arith, ints)) in rw (p, q, r) refl
+    let r : is_lt (int_cmp c a) ≡ true = is_before_of c a (let m = before_by b a p in let n = before_by c b q in omega (arith, ints)) in
+    rw (p, q, r) refl
 of_three a b c true false p q = rw (p, q, p) refl
 of_three a b c false true p q = rw (p, q) refl
 of_three a b c false false p q =
-    let r : is_lt (int_cmp c a) ≡ false = isn_t_before_of c a (let m = not_before b a p in let n = not_before c b q in omega (arith, ints)) in rw (p, q, p, r) refl
+    let r : is_lt (int_cmp c a) ≡ false = isn_t_before_of c a (let m = not_before b a p in let n = not_before c b q in omega (arith, ints)) in
+    rw (p, q, p, r) refl
 
 pub sooner_assoc : (a b c : Option ℤ) → earlier_of a (earlier_of b c) ≡ earlier_of (earlier_of a b) c
 sooner_assoc None b c = refl

@@ -1,6 +1,7 @@
 -- What is learnt from router advertisements, and when routers are solicited (RFC 4861 6.3, RFC 4862 5.5).
-use Rattle.std.specs.Prelude.{ℕ, ◌-◌, ◌*◌, ◌<◌, ◌^◌, ◌≤◌, ◌==◌, nat_le, nat_lt, ℤ, pos, ◌+ℤ◌, Bool, true, false, not, ◌&&◌, ◌||◌, if◌then◌else◌}
-use Rattle.std.specs.Prelude.{T, List, [], ◌∷◌, ◌++◌, length, map, filter, Option, Some, None, slice_set}
+use Rattle.std.specs.Prelude.{ℕ, ◌-◌, ◌*◌, ◌<◌, ◌^◌, ◌≤◌, ◌==◌, nat_le, nat_lt, ℤ, pos, ◌+ℤ◌}
+use Rattle.std.specs.Prelude.{Bool, true, false, not, ◌&&◌, ◌||◌, if◌then◌else◌, T, List, [], ◌∷◌}
+use Rattle.std.specs.Prelude.{◌++◌, length, map, filter, Option, Some, None, slice_set}
 use Rattle.std.specs.List.{list_any, position_or_len}
 use Rattle.std.specs.Ordering.{int_cmp, is_lt, is_le}
 use Rattle.std.proofs.Common.{lit≤}
@@ -16,8 +17,8 @@ use Rattle.slaac.specs.declared.slaac.PrefixInfo.{PrefixInfo}
 use Rattle.slaac.specs.declared.slaac.Prefix.{Prefix}
 use Rattle.slaac.specs.declared.slaac.Route.{Route}
 
--- the known prefixes and routers, the phase of router discovery, when the next solicitation may be sent and how many are left,
--- and whether what is known changed
+-- the known prefixes and routers, the phase of router discovery, when the next solicitation may be sent and how many
+-- are left, and whether what is known changed
 pub record SlaacState : Type 0 where
   pub prefixes : List Prefix
   pub routers : List Route
@@ -67,7 +68,10 @@ IsLifetime d = d < seconds (2 ^ 32)
 
 -- the ends of the lifetimes of a prefix that is advertised at t (RFC 4862 5.5.3)
 abbrev pub info_from : NdiscPrefixInformation → ℤ → PrefixInfo
-info_from p t = record { preferred_until = t +ℤ pos (seconds p.preferred_lifetime); valid_until = t +ℤ pos (seconds p.valid_lifetime) }
+info_from p t = record {
+  preferred_until = t +ℤ pos (seconds p.preferred_lifetime);
+  valid_until = t +ℤ pos (seconds p.valid_lifetime);
+}
 
 -- the ends of the lifetimes of a prefix that is withdrawn: it is no longer valid
 abbrev pub info_withdrawn : PrefixInfo
@@ -81,10 +85,11 @@ cidr_by a n false h = None
 abbrev pub cidr_from : Ipv6Address → ℕ → Option Ipv6Cidr
 cidr_from a n = cidr_by a n (nat_le n 128) lit≤
 
--- whether addresses may be formed from a prefix: its flag says so, its lifetimes are in order, and unless it is withdrawn it
--- isn't link-local (RFC 4862 5.5.3)
+-- whether addresses may be formed from a prefix: its flag says so, its lifetimes are in order, and unless it is
+-- withdrawn it isn't link-local (RFC 4862 5.5.3)
 abbrev pub makes_addresses : NdiscPrefixInformation → Bool
-makes_addresses p = is_valid_prefix_info p && is_for_addresses p.flags && ((p.valid_lifetime == 0) || not (is_link_local p.prefix))
+makes_addresses p = is_valid_prefix_info p && is_for_addresses p.flags
+    && ((p.valid_lifetime == 0) || not (is_link_local p.prefix))
 
 -- the prefix that is learnt, if any: one from which addresses may be formed, of at most 128 bits
 abbrev pub advertised_prefix : NdiscPrefixInformation → Option Ipv6Cidr
@@ -97,17 +102,19 @@ with_info ps c info = slice_set ps (prefix_index ps c) (record { cidr = c; info 
 -- the prefixes with a valid one: a new one is appended, or ignored if there is no room
 abbrev pub with_prefix : List Prefix → Ipv6Cidr → PrefixInfo → List Prefix
 with_prefix ps c info =
-    if knows_prefix ps c then with_info ps c info else if is_prefix_full ps then ps else ps ++ record { cidr = c; info = info } ∷ []
+    if knows_prefix ps c then with_info ps c info else
+    if is_prefix_full ps then ps else ps ++ record { cidr = c; info = info } ∷ []
 
 -- the prefixes after one, if known, is withdrawn
 abbrev pub prefixes_after_withdrawal : List Prefix → Ipv6Cidr → List Prefix
 prefixes_after_withdrawal ps c = if knows_prefix ps c then with_info ps c info_withdrawn else ps
 
--- the prefixes after an advertisement: a valid lifetime of zero withdraws the prefix, any other sets its lifetimes (RFC 4862
--- 5.5.3)
+-- the prefixes after an advertisement: a valid lifetime of zero withdraws the prefix, any other sets its
+-- lifetimes (RFC 4862 5.5.3)
 abbrev pub prefixes_by : Option Ipv6Cidr → List Prefix → NdiscPrefixInformation → ℤ → List Prefix
 prefixes_by None ps p t = ps
-prefixes_by (Some c) ps p t = if p.valid_lifetime == 0 then prefixes_after_withdrawal ps c else with_prefix ps c (info_from p t)
+prefixes_by (Some c) ps p t =
+    if p.valid_lifetime == 0 then prefixes_after_withdrawal ps c else with_prefix ps c (info_from p t)
 
 abbrev pub prefixes_after : Option NdiscPrefixInformation → List Prefix → ℤ → List Prefix
 prefixes_after None ps t = ps
@@ -116,7 +123,8 @@ prefixes_after (Some p) ps t = prefixes_by (advertised_prefix p) ps p t
 -- whether an advertised prefix is news: a known one is withdrawn, or a new one has room. A renewal is not
 abbrev pub is_prefix_news_by : Option Ipv6Cidr → List Prefix → NdiscPrefixInformation → Bool
 is_prefix_news_by None ps p = false
-is_prefix_news_by (Some c) ps p = if p.valid_lifetime == 0 then knows_prefix ps c else not (knows_prefix ps c || is_prefix_full ps)
+is_prefix_news_by (Some c) ps p =
+    if p.valid_lifetime == 0 then knows_prefix ps c else not (knows_prefix ps c || is_prefix_full ps)
 
 abbrev pub is_prefix_news : Option NdiscPrefixInformation → List Prefix → Bool
 is_prefix_news None ps = false
@@ -157,19 +165,21 @@ with_end rs router end = slice_set rs (router_index rs router) (default_route ro
 -- the routers with a valid one: a new one is appended, if there is room
 abbrev pub with_router : List Route → Ipv6Address → ℤ → List Route
 with_router rs router end =
-    if knows_router rs router then with_end rs router end else if is_router_full rs then rs else rs ++ default_route router end ∷ []
+    if knows_router rs router then with_end rs router end else
+    if is_router_full rs then rs else rs ++ default_route router end ∷ []
 
 -- the routers after one, if known, is withdrawn
 abbrev pub without_router : List Route → Ipv6Address → List Route
 without_router rs router = if knows_router rs router then with_end rs router (pos 0) else rs
 
--- the routers after an advertisement: its router is valid for this lifetime; a lifetime of zero withdraws it (RFC 4861 6.3.4)
+-- the routers after an advertisement: its router is valid for this lifetime; a lifetime of zero
+-- withdraws it (RFC 4861 6.3.4)
 abbrev pub routers_after : List Route → Ipv6Address → ℕ → ℤ → List Route
 routers_after rs router lifetime t =
     if lifetime == 0 then without_router rs router else with_router rs router (t +ℤ pos lifetime)
 
--- whether the router of an advertisement is news: a known one is withdrawn, or a new one is there, whether there is room for it
--- or not
+-- whether the router of an advertisement is news: a known one is withdrawn, or a new one is there, whether there
+-- is room for it or not
 abbrev pub is_router_news : List Route → Ipv6Address → ℕ → Bool
 is_router_news rs router lifetime = if lifetime == 0 then knows_router rs router else not (knows_router rs router)
 
@@ -193,7 +203,8 @@ slaac_after_message s router lifetime prefix t = record {
 
 -- whether something that is known has expired by t
 abbrev pub has_ended : SlaacState → ℤ → Bool
-has_ended s t = list_any (λ p. not (is_prefix_valid t p)) s.prefixes || list_any (λ r. not (is_route_valid t r)) s.routers
+has_ended s t = list_any (λ p. not (is_prefix_valid t p)) s.prefixes
+    || list_any (λ r. not (is_route_valid t r)) s.routers
 
 -- whether a sync of addresses and routes is required: what is known changed, or some of it has expired
 abbrev pub sync_required : SlaacState → ℤ → Bool
@@ -201,7 +212,11 @@ sync_required s t = s.changed || has_ended s t
 
 -- the state after a sync: what is valid at t, in its order
 abbrev pub slaac_after_update : SlaacState → ℤ → SlaacState
-slaac_after_update s t = record s { prefixes = filter (is_prefix_valid t) s.prefixes; routers = filter (is_route_valid t) s.routers; changed = false }
+slaac_after_update s t = record s {
+  prefixes = filter (is_prefix_valid t) s.prefixes;
+  routers = filter (is_route_valid t) s.routers;
+  changed = false;
+}
 
 -- whether router discovery goes on
 abbrev pub is_searching : Phase → Bool
@@ -224,7 +239,8 @@ slaac_after_sent s t = record s { phase = phase.Discovering; retry_at = t +ℤ p
 
 -- the state after a solicitation at t. If it wasn't due yet nothing changes; if none was left, discovery ends
 abbrev pub rs_sent : SlaacState → ℤ → SlaacState
-rs_sent s t = if is_its_time s t then if s.left == 0 then record s { phase = phase.None } else slaac_after_sent s t else s
+rs_sent s t =
+    if is_its_time s t then if s.left == 0 then record s { phase = phase.None } else slaac_after_sent s t else s
 
 -- when the next solicitation may be sent, if one may
 abbrev pub retry_at : SlaacState → Option ℤ

@@ -1,6 +1,7 @@
--- How a host's addresses and routes follow what it learnt (RFC 4862 5.5.3, 5.5.4, RFC 4861 6.3.4): those of what is valid are
--- added, those of what has expired are removed.
-use Rattle.std.specs.Prelude.{◌&&◌, not, nat_le, ℤ, Bool, false, List, [], ◌∷◌, ◌++◌, length, filter, Option, Some, None, if◌then◌else◌}
+-- How a host's addresses and routes follow what it learnt (RFC 4862 5.5.3, 5.5.4, RFC 4861 6.3.4): those of what is
+-- valid are added, those of what has expired are removed.
+use Rattle.std.specs.Prelude.{◌&&◌, not, nat_le, ℤ, Bool, false, List, [], ◌∷◌, ◌++◌}
+use Rattle.std.specs.Prelude.{length, filter, Option, Some, None, if◌then◌else◌}
 use Rattle.std.specs.List.{list_any}
 use Rattle.ip_address.specs.Ipv6.{is_unicast}
 use Rattle.ip_address.specs.declared.cidr.Ipv6Cidr.{Ipv6Cidr}
@@ -23,12 +24,14 @@ is_cidr c (Ipv6 n) = is_same n c
 -- the addresses with one more: it is appended if it is unicast and isn't there yet, while there is room
 abbrev pub with_addr : Option Ipv6Cidr → List IpCidr → List IpCidr
 with_addr None own = own
-with_addr (Some c) own = if is_unicast c.address && not (list_any (is_cidr c) own) && not (nat_le 4 (length own)) then own ++ Ipv6 c ∷ [] else own
+with_addr (Some c) own = if is_unicast c.address && not (list_any (is_cidr c) own)
+    && not (nat_le 4 (length own)) then own ++ Ipv6 c ∷ [] else own
 
 -- the addresses with that of each prefix that is valid at t appended in order
 abbrev pub with_addrs : HardwareAddress → ℤ → List Prefix → List IpCidr → List IpCidr
 with_addrs h t [] own = own
-with_addrs h t (p ∷ ps) own = with_addrs h t ps (if is_prefix_valid t p then with_addr (from_link_prefix p.cidr h) own else own)
+with_addrs h t (p ∷ ps) own =
+    with_addrs h t ps (if is_prefix_valid t p then with_addr (from_link_prefix p.cidr h) own else own)
 
 -- whether an address is the one formed from a prefix
 abbrev pub is_made : Option Ipv6Cidr → Ipv6Cidr → Bool
@@ -56,11 +59,13 @@ is_route r s = leads_as r s.cidr s.via_router
 
 -- a route as it is stored: without expiry, until it is removed
 abbrev pub stored_route : Route → StoredRoute
-stored_route r = record { cidr = Ipv6 r.cidr; via_router = address.Ipv6 r.via_router; preferred_until = None; expires_at = None }
+stored_route r =
+    record { cidr = Ipv6 r.cidr; via_router = address.Ipv6 r.via_router; preferred_until = None; expires_at = None }
 
 -- the routes with one more: it is appended if it isn't there yet, while there is room
 abbrev pub with_route : Route → List StoredRoute → List StoredRoute
-with_route r routes = if list_any (is_route r) routes then routes else if nat_le 4 (length routes) then routes else routes ++ stored_route r ∷ []
+with_route r routes = if list_any (is_route r) routes then routes else
+    if nat_le 4 (length routes) then routes else routes ++ stored_route r ∷ []
 
 -- the routes with each one that is valid at t appended in order
 abbrev pub with_routes : ℤ → List Route → List StoredRoute → List StoredRoute

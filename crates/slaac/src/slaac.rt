@@ -4,11 +4,13 @@ ghost use Rattle.std.specs.Prelude.{◌≡◌, ◌+◌, ◌<◌, ◌≤◌, ◌|
 ghost use Rattle.std.specs.List.{list_any, filter};
 ghost use Rattle.net_base.specs.Time.{IsMoment};
 ghost use Rattle.slaac.specs.Slaac as spec;
-ghost use Rattle.slaac.specs.Slaac.{is_before, is_prefix_valid, is_route_valid, knows_prefix, knows_router, advertised_prefix};
+ghost use Rattle.slaac.specs.Slaac.{is_before, is_prefix_valid, is_route_valid};
+ghost use Rattle.slaac.specs.Slaac.{knows_prefix, knows_router, advertised_prefix};
 ghost use Rattle.slaac.specs.Instants.{earliest_of};
-ghost use Rattle.slaac.specs.Slaac.{prefix_ends, route_ends, IsLifetime, default_route, whole, with_prefix, prefixes_after_withdrawal};
-ghost use Rattle.slaac.specs.Slaac.{prefixes_after, is_prefix_news, routers_after, is_router_news, with_router, with_end};
-ghost use Rattle.slaac.specs.Slaac.{prefix_index, router_index, slaac_after_message, slaac_after_update, initial_state, info_from, info_withdrawn};
+ghost use Rattle.slaac.specs.Slaac.{prefix_ends, route_ends, IsLifetime, default_route, whole, with_prefix};
+ghost use Rattle.slaac.specs.Slaac.{prefixes_after_withdrawal, prefixes_after, is_prefix_news, routers_after};
+ghost use Rattle.slaac.specs.Slaac.{is_router_news, with_router, with_end, prefix_index, router_index};
+ghost use Rattle.slaac.specs.Slaac.{slaac_after_message, slaac_after_update, initial_state, info_from, info_withdrawn};
 
 use crate::instants::earlier_of;
 use arrayvec::ArrayVec;
@@ -173,7 +175,14 @@ impl Model for Slaac {
 
     ghost Value = { SlaacState };
 
-    ghost view = { λ s. record { prefixes = s.prefix.items; routers = s.routes.items; phase = s.phase; retry_at = s.retry_rs_at; left = s.num_solicitations; changed = s.sync_required } };
+    ghost view = { λ s. record {
+      prefixes = s.prefix.items;
+      routers = s.routes.items;
+      phase = s.phase;
+      retry_at = s.retry_rs_at;
+      left = s.num_solicitations;
+      changed = s.sync_required;
+    } };
 }
 
 impl Slaac {

@@ -150,7 +150,8 @@ fn is_of_ended(
     prefixes: &[Prefix],
     now: Instant,
 ) -> bool
-    ensures { result ≡ list_any (λ p. not (is_prefix_valid now p) && spec.is_made (made.from_link_prefix p.cidr hardware_addr.now) cidr.now) prefixes.now }
+    ensures { result ≡ list_any (λ p. not (is_prefix_valid now p)
+        && spec.is_made (made.from_link_prefix p.cidr hardware_addr.now) cidr.now) prefixes.now }
 {
     for prefix in prefixes {
         if !prefix.info.is_valid(now)

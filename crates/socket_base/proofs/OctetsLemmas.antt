@@ -18,4 +18,5 @@ pub moved_to_front : (xs : List ℕ) (s e : ℕ) → s ≤ e → e ≤ length xs
 moved_to_front xs s e order bound =
     let rest = length-drop s xs in
     let same : e - s ≡ 0 + (e - s) = omega arith in
-    ap (λ (n : ℕ). take n (copy_within xs s e 0)) same ∙ take-paste xs 0 (drop s xs) (e - s) (omega arith) (omega (arith, order, bound, rest)) ∙ between_is xs s e
+    ap (λ (n : ℕ). take n (copy_within xs s e 0)) same
+    ∙ take-paste xs 0 (drop s xs) (e - s) (omega arith) (omega (arith, order, bound, rest)) ∙ between_is xs s e

@@ -25,7 +25,8 @@ impl Model for Octets {
 
     ghost view = { λ o. record { octets = drop o.start (take o.end o.items.items); limit = o.limit } };
 
-    ghost invariant = { λ o. (o.start ≤ o.end) × (o.end ≤ o.start + o.limit) × (o.end ≤ vec_len o.items) × (vec_len o.items ≡ o.limit + o.limit) × (vec_capacity o.items ≡ o.limit + o.limit) };
+    ghost invariant = { λ o. (o.start ≤ o.end) × (o.end ≤ o.start + o.limit) × (o.end ≤ vec_len o.items)
+        × (vec_len o.items ≡ o.limit + o.limit) × (vec_capacity o.items ≡ o.limit + o.limit) };
 }
 
 impl Octets {

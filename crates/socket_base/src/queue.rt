@@ -1,5 +1,6 @@
 //! Queues of packets.
-ghost use Rattle.std.specs.Prelude.{◌≡◌, ◌==◌, ◌+◌, ◌≤◌, ◌<◌, ◌↔◌, [], ◌∷◌, ◌++◌, length, drop, IfSome, IfOk, IsOk, OnOk, OnErr};
+ghost use Rattle.std.specs.Prelude.{◌≡◌, ◌==◌, ◌+◌, ◌≤◌, ◌<◌, ◌↔◌, [], ◌∷◌, ◌++◌};
+ghost use Rattle.std.specs.Prelude.{length, drop, IfSome, IfOk, IsOk, OnOk, OnErr};
 ghost use Rattle.std.specs.VecDeque.{deque_len, deque_capacity};
 ghost use Rattle.socket_base.specs.Queue.{octets_in, first_of, is_room};
 
@@ -50,9 +51,14 @@ impl<M> Model for Queue<M> {
 
     ghost Value = { Queued M };
 
-    ghost view = { λ q. record { packets = cut q.entries.items q.octets.octets; most = q.most; limit = q.octets.limit } };
+    ghost view = { λ q. record {
+      packets = cut q.entries.items q.octets.octets;
+      most = q.most;
+      limit = q.octets.limit;
+    } };
 
-    ghost invariant = { λ q. (total q.entries.items ≡ length q.octets.octets) × (deque_len q.entries ≤ q.most) × (deque_capacity q.entries ≡ q.most) };
+    ghost invariant = { λ q. (total q.entries.items ≡ length q.octets.octets) × (deque_len q.entries ≤ q.most)
+        × (deque_capacity q.entries ≡ q.most) };
 }
 
 impl<M: Drop> Queue<M> {
@@ -74,8 +80,10 @@ impl<M: Drop> Queue<M> {
     /// free than it has; then the queue stays unchanged.
     #[inline(always)]
     pub fn push(&mut self, meta: M, octets: &[u8]) -> Result<(), Full>
-        ensures ok { OnOk result (self.new ≡ record self.old { packets = self.old.packets ++ (meta, octets.now) ∷ [] }) }
-        ensures fits { IsOk result ↔ ((length self.old.packets < self.old.most) × (octets_in self.old.packets + length octets.now ≤ self.old.limit)) }
+        ensures ok { OnOk result
+            (self.new ≡ record self.old { packets = self.old.packets ++ (meta, octets.now) ∷ [] }) }
+        ensures fits { IsOk result ↔ ((length self.old.packets < self.old.most)
+            × (octets_in self.old.packets + length octets.now ≤ self.old.limit)) }
         ensures full { OnErr result (self.new ≡ self.old) }
     {
         self.push_parts(meta, octets, &[])
@@ -85,8 +93,10 @@ impl<M: Drop> Queue<M> {
     #[inline(always)]
     #[tactic(auto, using(crate::proofs::QueueLemmas::cut_append_parts, crate::proofs::QueueLemmas::total_append, crate::proofs::QueueLemmas::length_cut, crate::proofs::QueueLemmas::octets_in_cut))]
     pub fn push_parts(&mut self, meta: M, front: &[u8], back: &[u8]) -> Result<(), Full>
-        ensures ok { OnOk result (self.new ≡ record self.old { packets = self.old.packets ++ (meta, front.now ++ back.now) ∷ [] }) }
-        ensures fits { IsOk result ↔ ((length self.old.packets < self.old.most) × (octets_in self.old.packets + (length front.now + length back.now) ≤ self.old.limit)) }
+        ensures ok { OnOk result
+            (self.new ≡ record self.old { packets = self.old.packets ++ (meta, front.now ++ back.now) ∷ [] }) }
+        ensures fits { IsOk result ↔ ((length self.old.packets < self.old.most)
+            × (octets_in self.old.packets + (length front.now + length back.now) ≤ self.old.limit)) }
         ensures full { OnErr result (self.new ≡ self.old) }
     {
         let len = front.len() + back.len();

@@ -1,6 +1,7 @@
 -- Marks of places, bit by bit.
 use lib.Pow.{pow-add}
-use Rattle.std.proofs.Common.{◌≡◌, ℕ, ◌+◌, ◌-◌, ◌*◌, ◌/◌, ◌%◌, ◌^◌, ◌<◌, ◌≤◌, List, [], ◌∷◌, length, get_or, zero, suc, refl, sym, ap, ◌∙◌, ◌⊎◌, inl, inr, arith, w64}
+use Rattle.std.proofs.Common.{◌≡◌, ℕ, ◌+◌, ◌-◌, ◌*◌, ◌/◌, ◌%◌, ◌^◌, ◌<◌, ◌≤◌, List, [], ◌∷◌, length}
+use Rattle.std.proofs.Common.{get_or, zero, suc, refl, sym, ap, ◌∙◌, ◌⊎◌, inl, inr, arith, w64}
 use Rattle.std.specs.Prelude.{◌≢◌, ◌↔◌, slice_set}
 use Rattle.std.specs.Int.{bit_at, trailing_zeros}
 use Rattle.std.proofs.Math.Nat.{div-div-eq-div-mul}
@@ -46,7 +47,8 @@ module _ (words : List ℕ) where
 
   -- a mark whose bit was cleared
   pub mark_cleared : (i word : ℕ) → i < 1024 → i / 64 < length words → bit_at word (i % 64) ≡ 0 → IsClear (slice_set words (i / 64) word) i
-  mark_cleared i word marked within none = record { marked = marked; clear = ap (λ (w : ℕ). bit_at w (i % 64)) (get_or-set_same words (i / 64) word 0 within) ∙ none }
+  mark_cleared i word marked within none =
+      record { marked = marked; clear = ap (λ (w : ℕ). bit_at w (i % 64)) (get_or-set_same words (i / 64) word 0 within) ∙ none }
 
   -- the marks of others, where only one bit of a word may have changed
   mark_other : (k word i : ℕ) → k / 64 < length words → ((j : ℕ) → j < 64 → j ≢ k % 64 → bit_at word j ≡ bit_at (get_or words (k / 64) 0) j) → i ≢ k →
@@ -72,7 +74,8 @@ module _ (words : List ℕ) (from at k rest : ℕ) (is : from ≡ 64 * at + k) (
   -- no bit is left
   pub none_left : (i : ℕ) → at < 16 → rest ≡ 0 → from ≤ i → i < 64 * (at + 1) → IsClear words i
   none_left i within none after before =
-      let bit : bit_at (get_or words at 0) (k + (i - from)) ≡ 0 = sym (bits (i - from)) ∙ ap (λ (w : ℕ). bit_at w (i - from)) none ∙ bit_at-zero (i - from) in
+      let bit : bit_at (get_or words at 0) (k + (i - from)) ≡ 0 = sym (bits (i - from))
+      ∙ ap (λ (w : ℕ). bit_at w (i - from)) none ∙ bit_at-zero (i - from) in
       record { marked = omega arith; clear = mark_is words i at (k + (i - from)) (omega arith) (omega arith) ∙ bit }
 
   -- the lowest bit that is left
@@ -82,7 +85,8 @@ module _ (words : List ℕ) (from at k rest : ℕ) (is : from ≡ 64 * at + k) (
     by (inl within) = within
     by (inr past) =
         let lowest = bit_at-trailing_zeros w64 rest some rest_fits in
-        absurd (zero_one (bit_at_above (get_or words at 0) 64 (k + trailing_zeros w64 rest) fits past) (sym (bits (trailing_zeros w64 rest)) ∙ lowest.1))
+        absurd
+        (zero_one (bit_at_above (get_or words at 0) 64 (k + trailing_zeros w64 rest) fits past) (sym (bits (trailing_zeros w64 rest)) ∙ lowest.1))
 
   pub lowest_set : (i : ℕ) → i ≡ from + trailing_zeros w64 rest → get_or words at 0 < 2 ^ 64 → 0 < rest → rest < 2 ^ 64 → IsClear words i → ⊥
   lowest_set i here fits some rest_fits clear =
@@ -91,7 +95,8 @@ module _ (words : List ℕ) (from at k rest : ℕ) (is : from ≡ 64 * at + k) (
       zero_one (sym (mark_is words i at (k + tz) (omega arith) (lowest_within fits some rest_fits)) ∙ clear.clear) (sym (bits tz) ∙ lowest.1)
 
   -- the places before it
-  pub below_lowest : (i : ℕ) → at < 16 → get_or words at 0 < 2 ^ 64 → 0 < rest → rest < 2 ^ 64 → from ≤ i → i < from + trailing_zeros w64 rest → IsClear words i
+  pub below_lowest : (i : ℕ) → at < 16 → get_or words at 0 < 2 ^ 64 → 0 < rest → rest < 2 ^ 64 → from ≤ i →
+      i < from + trailing_zeros w64 rest → IsClear words i
   below_lowest i within fits some rest_fits after before =
       let lowest = bit_at-trailing_zeros w64 rest some rest_fits in
       let last = lowest_within fits some rest_fits in

@@ -39,12 +39,14 @@ module _ {L : Type 0} where
   abbrev pub Tells : ℕ → Option (SocketOf L) → Type 0
   Tells key place = IfSome place (λ socket. key ≡ key_of (own_port socket))
 
-  elsewhere : (key : ℕ) (port : Option ℕ) (place : Option (SocketOf L)) → key ≢ key_of port → Tells key place → IfSome place (λ socket. own_port socket ≢ port)
+  elsewhere : (key : ℕ) (port : Option ℕ) (place : Option (SocketOf L)) →
+      key ≢ key_of port → Tells key place → IfSome place (λ socket. own_port socket ≢ port)
   elsewhere key port None other tells = tt
   elsewhere key port (Some socket) other tells = λ same. other (tells ∙ ap key_of same)
 
   -- a place that is no candidate has no socket at a port of the key
-  pub passed_elsewhere : (keys : List ℕ) (set : Sockets L) (port : Option ℕ) (i : ℕ) → AreKeysOf keys set → is_candidate keys (key_of port) i ≡ false → IfSome (socket_at set i) (λ socket. own_port socket ≢ port)
+  pub passed_elsewhere : (keys : List ℕ) (set : Sockets L) (port : Option ℕ) (i : ℕ) →
+      AreKeysOf keys set → is_candidate keys (key_of port) i ≡ false → IfSome (socket_at set i) (λ socket. own_port socket ≢ port)
   passed_elsewhere keys set port i holds isn_t =
       let is = neither (key_at keys i) (key_of port) isn_t in
       elsewhere (key_at keys i) port (socket_at set i) is.1 (holds i is.0)

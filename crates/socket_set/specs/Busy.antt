@@ -14,7 +14,8 @@ pub record IsClear (words : List ℕ) (i : ℕ) : Type 0 where
   pub marked : i < 1024
   pub clear : mark_of words i ≡ 0
 
--- nothing is to be asked of the socket at an index, if there is one: it has nothing to send, now or at a later moment, and doesn't wait
+-- nothing is to be asked of the socket at an index, if there is one: it has nothing to send, now or at a later
+-- moment, and doesn't wait
 abbrev pub IsIdle : {L : Type 0} → Sockets L → ℕ → Type 0
 IsIdle set i = IfSome (socket_at set i) (λ socket. (poll_at socket ≡ Ingress) × (wait_at set i ≡ None))
 

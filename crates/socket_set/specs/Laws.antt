@@ -10,7 +10,8 @@ pub record IsSameAt {L : Type 0} (old new : Sockets L) (i : ℕ) : Type 0 where
 
 -- a socket is added: each other index than its own keeps what it has
 abbrev pub OthersStayAtAdd : Type 0 → Type 0
-OthersStayAtAdd L = (s : Sockets L) (socket : SocketOf L) (room i : ℕ) → i ≢ first_free s.places → IsSameAt s (set_after_add s socket room) i
+OthersStayAtAdd L = (s : Sockets L) (socket : SocketOf L) (room i : ℕ) →
+    i ≢ first_free s.places → IsSameAt s (set_after_add s socket room) i
 
 -- a socket is removed: each other index keeps what it has
 abbrev pub OthersStayAtRemove : Type 0 → Type 0

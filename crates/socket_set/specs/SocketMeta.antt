@@ -1,4 +1,5 @@
--- The wait of a socket: the neighbour that one of its packets needs, and the moment until which it is not asked for again.
+-- The wait of a socket: the neighbour that one of its packets needs, and the moment until which it
+-- is not asked for again.
 use Rattle.std.specs.Prelude.{◌≡◌, ℤ, Bool, true, ◌||◌, if◌then◌else◌, Option, Some, None, refl}
 use Rattle.std.specs.Ordering.{int_cmp, is_ge}
 use Rattle.ip_address.specs.declared.ip.IpAddress.{IpAddress}

@@ -1,5 +1,6 @@
 -- Sets of sockets: places in order, each with a socket or free, and with the wait of its socket.
-use Rattle.std.specs.Prelude.{ℕ, ◌+◌, nat_lt, Bool, true, false, cond, is_none, codes, List, [], ◌∷◌, ◌++◌, length, map, get_or, slice_get, slice_set, if◌then◌else◌, Option, Some, None}
+use Rattle.std.specs.Prelude.{ℕ, ◌+◌, nat_lt, Bool, true, false, cond, is_none, codes, List, [], ◌∷◌, ◌++◌}
+use Rattle.std.specs.Prelude.{length, map, get_or, slice_get, slice_set, if◌then◌else◌, Option, Some, None}
 use Rattle.std.specs.Fmt.{decimal}
 use Rattle.std.specs.Option.{option_and_then}
 use Rattle.sockets.specs.declared.socket.SocketOf.{SocketOf}
@@ -12,8 +13,8 @@ pub record Storage (L : Type 0) : Type 0 where
   pub socket : Option (SocketOf L)
   pub wait : Wait
 
--- what stands at each place, the wait of each place's socket, whether more places may be made, and for how many of them memory is
--- reserved
+-- what stands at each place, the wait of each place's socket, whether more places may be made, and for how many of
+-- them memory is reserved
 pub record Sockets (L : Type 0) : Type 0 where
   pub places : List (Option (SocketOf L))
   pub waits : List Wait
@@ -23,7 +24,8 @@ pub record Sockets (L : Type 0) : Type 0 where
 module _ {L : Type 0} where
   -- a set over these places
   abbrev pub over : List (Storage L) → Bool → ℕ → Sockets L
-  over stored grows room = record { places = map (λ p. p.socket) stored; waits = map (λ p. p.wait) stored; grows = grows; room = room }
+  over stored grows room =
+      record { places = map (λ p. p.socket) stored; waits = map (λ p. p.wait) stored; grows = grows; room = room }
 
   -- the socket at an index, if there is one
   abbrev pub socket_at : Sockets L → ℕ → Option (SocketOf L)
@@ -58,7 +60,8 @@ module _ {L : Type 0} where
   abbrev pub with_wait : Sockets L → ℕ → Wait → Sockets L
   with_wait s i wait = record s { waits = slice_set s.waits i wait }
 
-  -- the set with a socket at the least free index, or at a new one behind all, for which memory may be reserved; it does not wait
+  -- the set with a socket at the least free index, or at a new one behind all, for which memory may be
+  -- reserved; it does not wait
   abbrev pub set_after_add : Sockets L → SocketOf L → (room : ℕ) → Sockets L
   set_after_add s socket room =
       if has_free s

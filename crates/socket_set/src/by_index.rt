@@ -54,7 +54,8 @@ pub fn kind_mut<T: AnySocketOf<L>, L: Drop>(
     sockets: &mut SocketSetOf<L>,
     index: usize,
 ) -> Option<&mut T>
-    ensures* lends { sem 𝓛 (LendsIf (set_row L.row) T.row sockets.entry result (λ w. with_place sockets.old index (Some (T.up w))) sockets.old) }
+    ensures* lends { sem 𝓛 (LendsIf (set_row L.row) T.row sockets.entry result
+        (λ w. with_place sockets.old index (Some (T.up w))) sockets.old) }
     ensures value { option_copied_mut result ≡ option_and_then T.down (socket_at sockets.old index) }
     ensures whole { IfSome (option_copied_mut result) (λ s. socket_at sockets.old index ≡ Some (T.up s)) }
 {
@@ -64,7 +65,8 @@ pub fn kind_mut<T: AnySocketOf<L>, L: Drop>(
 /// The socket at an index, of whatever kind. `None` exactly for a free place or an index out of
 /// range; then the set stays as it was.
 pub fn socket_mut<L: Drop>(sockets: &mut SocketSetOf<L>, index: usize) -> Option<&mut SocketOf<L>>
-    ensures* lends { sem 𝓛 (LendsIf (set_row L.row) (socket_row L.row) sockets.entry result (λ w. with_place sockets.old index (Some w)) sockets.old) }
+    ensures* lends { sem 𝓛 (LendsIf (set_row L.row) (socket_row L.row) sockets.entry result
+        (λ w. with_place sockets.old index (Some w)) sockets.old) }
     ensures value { option_copied_mut result ≡ socket_at sockets.old index }
 {
     sockets.socket_mut(index)
@@ -100,8 +102,10 @@ pub fn egress_permitted<L: Drop, F: Fn(IpAddress) -> bool>(
     has_neighbor: F,
 ) -> bool
     requires { F.IsAlwaysCallable has_neighbor }
-    ensures socket { IsSome (socket_at sockets.old index) → (known : Bool) × IsAnswerFor (F.post has_neighbor) (wait_at sockets.old index) known
-        × (result ≡ is_permitted (wait_at sockets.old index) known timestamp) × (sockets.new ≡ with_wait sockets.old index (after_asking (wait_at sockets.old index) known)) }
+    ensures socket { IsSome (socket_at sockets.old index) →
+        (known : Bool) × IsAnswerFor (F.post has_neighbor) (wait_at sockets.old index) known
+        × (result ≡ is_permitted (wait_at sockets.old index) known timestamp)
+        × (sockets.new ≡ with_wait sockets.old index (after_asking (wait_at sockets.old index) known)) }
     ensures nobody { IsNone (socket_at sockets.old index) → (result ≡ false) × (sockets.new ≡ sockets.old) }
 {
     sockets.egress_permitted(index, timestamp, has_neighbor)
@@ -158,7 +162,8 @@ pub fn poll_at<L: Drop, F: Fn(IpAddress) -> bool>(
     has_neighbor: F,
 ) -> PollAt
     requires { F.IsAlwaysCallable has_neighbor }
-    ensures socket { IfSome (socket_at sockets.now index) (λ s. (known : Bool) × IsAnswerFor (F.post has_neighbor) (wait_at sockets.now index) known
+    ensures socket { IfSome (socket_at sockets.now index)
+        (λ s. (known : Bool) × IsAnswerFor (F.post has_neighbor) (wait_at sockets.now index) known
         × (result ≡ poll_at_of (wait_at sockets.now index) known timestamp (own_poll_at s))) }
     ensures nobody { IsNone (socket_at sockets.now index) → result ≡ Ingress }
 {

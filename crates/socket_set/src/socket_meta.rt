@@ -109,7 +109,8 @@ impl Meta {
         timestamp: Instant,
     ) -> PollAt
         requires { F.IsAlwaysCallable has_neighbor }
-        ensures { (known : Bool) × IsAnswerFor (F.post has_neighbor) self.now known × (result ≡ spec.poll_at self.now known timestamp socket_poll_at) }
+        ensures { (known : Bool) × IsAnswerFor (F.post has_neighbor) self.now known
+            × (result ≡ spec.poll_at self.now known timestamp socket_poll_at) }
     {
         match self.neighbor_state {
             NeighborState::Active => socket_poll_at,
@@ -135,7 +136,8 @@ impl Meta {
         has_neighbor: F,
     ) -> bool
         requires { F.IsAlwaysCallable has_neighbor }
-        ensures { (known : Bool) × IsAnswerFor (F.post has_neighbor) self.old known × (result ≡ is_permitted self.old known timestamp) × (self.new ≡ after_asking self.old known) }
+        ensures { (known : Bool) × IsAnswerFor (F.post has_neighbor) self.old known
+            × (result ≡ is_permitted self.old known timestamp) × (self.new ≡ after_asking self.old known) }
     {
         let state = self.neighbor_state;
         match state {

@@ -1,5 +1,6 @@
 //! Sets of sockets, each with a handle.
-ghost use Rattle.std.specs.Prelude.{◌≡◌, ◌≢◌, ◌<◌, ◌≤◌, ℕ, Bool, true, false, not, Some, None, IsOk, IsErr, IsSome, IsNone, IfSome, IfOk, IfErr, OnOk, OnErr, is_some, length, map, vec_capacity};
+ghost use Rattle.std.specs.Prelude.{◌≡◌, ◌≢◌, ◌<◌, ◌≤◌, ℕ, Bool, true, false, not, Some, None, IsOk, IsErr, IsSome};
+ghost use Rattle.std.specs.Prelude.{IsNone, IfSome, IfOk, IfErr, OnOk, OnErr, is_some, length, map, vec_capacity};
 ghost use Rattle.std.specs.Option.{option_copied, option_copied_mut, option_and_then};
 ghost use Rattle.net_base.specs.Time.{IsMoment, silence_from};
 ghost use Rattle.sockets.specs.Kinds.{own_port, poll_at as own_poll_at};
@@ -7,7 +8,8 @@ ghost use Rattle.socket_base.specs.declared.poll_at.PollAt.TheVariants.{Ingress}
 ghost use Rattle.socket_set.specs.Busy.{IsIdle};
 ghost use Rattle.socket_set.specs.Keys.{AllHavePorts, key_of};
 ghost use Rattle.socket_set.specs.SocketMeta.{poll_at as poll_at_of, IsAnswerFor, after_asking, is_permitted};
-ghost use Rattle.socket_set.specs.SocketSet.{set_after_add, first_free, given_back, handles, has_free, is_full, over, pairs, socket_at, wait_at, wait_of, with_place, with_wait};
+ghost use Rattle.socket_set.specs.SocketSet.{set_after_add, first_free, given_back, handles, has_free, is_full};
+ghost use Rattle.socket_set.specs.SocketSet.{over, pairs, socket_at, wait_at, wait_of, with_place, with_wait};
 
 use crate::busy::BusyMarks;
 use crate::iter::{HandlesOf, IterOf};
@@ -83,7 +85,8 @@ impl<L> SocketStorageOf<L> {
 
     // The same, for writing.
     fn socket_mut(&mut self) -> Option<&mut SocketOf<L>>
-        ensures* lends { sem 𝓛 (LendsIf (storage_row L.row) (socket_row L.row) self.entry result (λ w. record self.old { socket = Some w }) self.old) }
+        ensures* lends { sem 𝓛 (LendsIf (storage_row L.row) (socket_row L.row) self.entry result
+            (λ w. record self.old { socket = Some w }) self.old) }
         ensures value { option_copied_mut result ≡ self.old.socket }
     {
         self.inner.as_mut()
@@ -96,10 +99,12 @@ impl<L: Drop> SocketStorageOf<L> {
 
     // The socket, if it is of a kind, for writing.
     fn kind_mut<T: AnySocketOf<L>>(&mut self) -> Option<&mut T>
-        ensures* lends { sem 𝓛 (LendsIf (storage_row L.row) T.row self.entry result (λ w. record self.old { socket = Some (T.up w) }) self.old) }
+        ensures* lends { sem 𝓛 (LendsIf (storage_row L.row) T.row self.entry result
+            (λ w. record self.old { socket = Some (T.up w) }) self.old) }
         ensures value { option_copied_mut result ≡ option_and_then T.down self.old.socket }
         ensures whole { IfSome (option_copied_mut result) (λ s. self.old.socket ≡ Some (T.up s)) }
-        ensures ports { IfSome (option_copied_mut result) (λ s. (other : T) → IfSome self.old.socket (λ old. is_some (own_port (T.up other)) ≡ is_some (own_port old))) }
+        ensures ports { IfSome (option_copied_mut result) (λ s. (other : T) →
+            IfSome self.old.socket (λ old. is_some (own_port (T.up other)) ≡ is_some (own_port old))) }
     {
         let socket = self.socket_mut()?;
         T::downcast_mut(socket)
@@ -140,7 +145,8 @@ impl<L: Drop> SocketStorageOf<L> {
     // When its socket wants to be asked for a packet.
     fn poll_at<F: Fn(IpAddress) -> bool>(&self, timestamp: Instant, has_neighbor: F) -> PollAt
         requires { F.IsAlwaysCallable has_neighbor }
-        ensures socket { IfSome self.now.socket (λ s. (known : Bool) × IsAnswerFor (F.post has_neighbor) self.now.wait known
+        ensures socket { IfSome self.now.socket
+            (λ s. (known : Bool) × IsAnswerFor (F.post has_neighbor) self.now.wait known
             × (result ≡ poll_at_of self.now.wait known timestamp (own_poll_at s))) }
         ensures nobody { IsNone self.now.socket → result ≡ Ingress }
     {
@@ -239,9 +245,10 @@ impl<L> Model for SocketSetOf<L> {
 
     ghost view = { λ s. over s.sockets.items s.grows (vec_capacity s.sockets) };
 
-    // Where a mark is clear, the place is idle; each key that isn't 0 is that of its place's socket; and where no socket
-    // without ports may be there, none is.
-    ghost invariant = { λ s. AreTrue s.busy (over s.sockets.items s.grows (vec_capacity s.sockets)) × AreKeysOf s.keys (over s.sockets.items s.grows (vec_capacity s.sockets))
+    // Where a mark is clear, the place is idle; each key that isn't 0 is that of its place's socket; and where no
+    // socket without ports may be there, none is.
+    ghost invariant = { λ s. AreTrue s.busy (over s.sockets.items s.grows (vec_capacity s.sockets))
+        × AreKeysOf s.keys (over s.sockets.items s.grows (vec_capacity s.sockets))
         × (s.portless ≡ false → AllHavePorts (over s.sockets.items s.grows (vec_capacity s.sockets))) };
 }
 
@@ -376,7 +383,8 @@ impl<L: Drop> SocketSetOf<L> {
     /// The same, for writing. At `None` the set stays as it was. Who only reads takes [`SocketSetOf::get`]: a
     /// socket that was lent for writing is looked at again by the next frame and the next round of sending.
     pub fn get_mut<T: AnySocketOf<L>>(&mut self, handle: SocketHandle) -> Option<&mut T>
-        ensures* lends { sem 𝓛 (LendsIf (set_row L.row) T.row self.entry result (λ w. with_place self.old handle (Some (T.up w))) self.old) }
+        ensures* lends { sem 𝓛 (LendsIf (set_row L.row) T.row self.entry result
+            (λ w. with_place self.old handle (Some (T.up w))) self.old) }
         ensures value { option_copied_mut result ≡ option_and_then T.down (socket_at self.old handle) }
         ensures whole { IfSome (option_copied_mut result) (λ s. socket_at self.old handle ≡ Some (T.up s)) }
     {
@@ -413,7 +421,8 @@ impl<L: Drop> SocketSetOf<L> {
 
     /// The same, for writing. At `None` the set stays as it was.
     pub(crate) fn kind_mut<T: AnySocketOf<L>>(&mut self, index: usize) -> Option<&mut T>
-        ensures* lends { sem 𝓛 (LendsIf (set_row L.row) T.row self.entry result (λ w. with_place self.old index (Some (T.up w))) self.old) }
+        ensures* lends { sem 𝓛 (LendsIf (set_row L.row) T.row self.entry result
+            (λ w. with_place self.old index (Some (T.up w))) self.old) }
         ensures value { option_copied_mut result ≡ option_and_then T.down (socket_at self.old index) }
         ensures whole { IfSome (option_copied_mut result) (λ s. socket_at self.old index ≡ Some (T.up s)) }
     {
@@ -428,7 +437,8 @@ impl<L: Drop> SocketSetOf<L> {
     /// The socket at an index, of whatever kind. `None` exactly for a free place or an index out of
     /// range; then the set stays as it was.
     pub(crate) fn socket_mut(&mut self, index: usize) -> Option<&mut SocketOf<L>>
-        ensures* lends { sem 𝓛 (LendsIf (set_row L.row) (socket_row L.row) self.entry result (λ w. with_place self.old index (Some w)) self.old) }
+        ensures* lends { sem 𝓛 (LendsIf (set_row L.row) (socket_row L.row) self.entry result
+            (λ w. with_place self.old index (Some w)) self.old) }
         ensures value { option_copied_mut result ≡ socket_at self.old index }
     {
         self.busy.set(index);
@@ -472,8 +482,10 @@ impl<L: Drop> SocketSetOf<L> {
         has_neighbor: F,
     ) -> bool
         requires { F.IsAlwaysCallable has_neighbor }
-        ensures socket { IsSome (socket_at self.old index) → (known : Bool) × IsAnswerFor (F.post has_neighbor) (wait_at self.old index) known
-            × (result ≡ is_permitted (wait_at self.old index) known timestamp) × (self.new ≡ with_wait self.old index (after_asking (wait_at self.old index) known)) }
+        ensures socket { IsSome (socket_at self.old index) →
+            (known : Bool) × IsAnswerFor (F.post has_neighbor) (wait_at self.old index) known
+            × (result ≡ is_permitted (wait_at self.old index) known timestamp)
+            × (self.new ≡ with_wait self.old index (after_asking (wait_at self.old index) known)) }
         ensures nobody { IsNone (socket_at self.old index) → (result ≡ false) × (self.new ≡ self.old) }
     {
         let Some(storage) = self.sockets.get_mut(index) else {
@@ -544,7 +556,8 @@ impl<L: Drop> SocketSetOf<L> {
         has_neighbor: F,
     ) -> PollAt
         requires { F.IsAlwaysCallable has_neighbor }
-        ensures socket { IfSome (socket_at self.now index) (λ s. (known : Bool) × IsAnswerFor (F.post has_neighbor) (wait_at self.now index) known
+        ensures socket { IfSome (socket_at self.now index)
+            (λ s. (known : Bool) × IsAnswerFor (F.post has_neighbor) (wait_at self.now index) known
             × (result ≡ poll_at_of (wait_at self.now index) known timestamp (own_poll_at s))) }
         ensures nobody { IsNone (socket_at self.now index) → result ≡ Ingress }
     {

@@ -63,7 +63,8 @@ impl<L: Drop> SocketOf<L> {
     /// returned.
     pub fn offer<C: SocketContext>(&mut self, context: &C) -> Option<Offer<'_>>
         ensures* settles { sem 𝓛 (Settles L.row self.entry (C.moment context.now) (C.source_for context.now)) }
-        ensures value { option_map spec.value_of result ≡ spec.offered_packet (C.moment context.now) (C.source_for context.now) self.old }
+        ensures value { option_map spec.value_of result
+            ≡ spec.offered_packet (C.moment context.now) (C.source_for context.now) self.old }
     {
         match self {
             SocketOf::Raw(raw) => match raw.offer() {
@@ -124,7 +125,8 @@ pub trait AnySocketOf<L>: Sized + Drop {
         ensures* lends { sem 𝓛 (LendsIf (socket_row L.row) Self.row socket.entry result up socket.old) }
         ensures value { option_copied_mut result ≡ down socket.old }
         ensures whole { IfSome (option_copied_mut result) (λ s. socket.old ≡ up s) }
-        ensures ports { IfSome (option_copied_mut result) (λ s. (other : Self) → is_some (own_port (up other)) ≡ is_some (own_port socket.old)) };
+        ensures ports { IfSome (option_copied_mut result)
+            (λ s. (other : Self) → is_some (own_port (up other)) ≡ is_some (own_port socket.old)) };
 }
 
 /// A kind of socket.

@@ -1,5 +1,6 @@
 -- TCP sockets, which hand segments in and out (RFC 9293).
-use Rattle.std.specs.Prelude.{ℕ, ◌+◌, ◌%◌, ◌^◌, ◌==◌, ◌&&◌, ℤ, Bool, true, cond, is_none, List, length, Option, Some, None}
+use Rattle.std.specs.Prelude.{ℕ, ◌+◌, ◌%◌, ◌^◌, ◌==◌, ◌&&◌, ℤ, Bool, true}
+use Rattle.std.specs.Prelude.{cond, is_none, List, length, Option, Some, None}
 use Rattle.std.specs.Option.{option_and_then, option_map}
 use Rattle.std.specs.Ordering.{int_cmp, is_lt}
 use Rattle.ip_address.specs.declared.ip.IpAddress.{IpAddress}
@@ -16,8 +17,8 @@ use Rattle.socket_base.specs.declared.poll_at.PollAt.TheVariants.{Ingress, Time}
 use Rattle.transport_sockets.specs.declared.tcp.Packet.{Packet}
 use Rattle.transport_sockets.specs.declared.tcp.Segment.{Segment}
 
--- its local endpoint; its remote endpoint, if that is fixed; the hop limit of packets sent; the moment before which it sends
--- nothing; whether the connection was aborted; the segments received and to send
+-- its local endpoint; its remote endpoint, if that is fixed; the hop limit of packets sent; the moment before which it
+-- sends nothing; whether the connection was aborted; the segments received and to send
 pub record TcpSocket : Type 0 where
   pub local : IpListenEndpoint
   pub remote : Option IpEndpoint
@@ -37,7 +38,13 @@ pub record Sent : Type 0 where
 
 -- a packet, apart from where its payload is in memory
 abbrev pub value_of : Packet → Sent
-value_of p = record { src_addr = p.src_addr; dst_addr = p.dst_addr; hop_limit = p.hop_limit; repr = p.repr; payload = p.payload.now }
+value_of p = record {
+  src_addr = p.src_addr;
+  dst_addr = p.dst_addr;
+  hop_limit = p.hop_limit;
+  repr = p.repr;
+  payload = p.payload.now;
+}
 
 -- whether an address matches, if one is given
 abbrev pub is_addr_if_given : Option IpAddress → IpAddress → Bool
@@ -55,7 +62,13 @@ accepts s src dst = (s.local.port == dst.port) && is_addr_if_given s.local.addr 
 
 -- what a socket keeps of a segment received from an address
 abbrev pub segment_of : IpAddress → TcpRepr → Segment
-segment_of src r = record { remote = record { addr = src; port = r.src_port }; control = r.control; seq = r.seq_number; ack = r.ack_number; window = r.window_len }
+segment_of src r = record {
+  remote = record { addr = src; port = r.src_port };
+  control = r.control;
+  seq = r.seq_number;
+  ack = r.ack_number;
+  window = r.window_len;
+}
 
 -- the acknowledgement number, or 0
 abbrev pub ack_or_zero : Option TcpSeqNumber → TcpSeqNumber
@@ -72,7 +85,14 @@ reset_ack control.Rst ack seq len = None
 
 -- the reset that answers a segment with this many octets of payload (RFC 9293 3.5.2)
 abbrev pub reset_of : TcpRepr → ℕ → TcpRepr
-reset_of r len = record { src_port = r.dst_port; dst_port = r.src_port; control = control.Rst; seq_number = ack_or_zero r.ack_number; ack_number = reset_ack r.control r.ack_number r.seq_number len; window_len = 0 }
+reset_of r len = record {
+  src_port = r.dst_port;
+  dst_port = r.src_port;
+  control = control.Rst;
+  seq_number = ack_or_zero r.ack_number;
+  ack_number = reset_ack r.control r.ack_number r.seq_number len;
+  window_len = 0;
+}
 
 -- every segment but a reset is answered
 abbrev pub answer_of : TcpControl → TcpRepr → ℕ → Option TcpRepr
@@ -112,11 +132,24 @@ is_held moment s = is_lt (int_cmp moment s.hold)
 
 -- the header of a segment to send
 abbrev pub repr_of : ℕ → Segment → TcpRepr
-repr_of port segment = record { src_port = port; dst_port = segment.remote.port; control = segment.control; seq_number = segment.seq; ack_number = segment.ack; window_len = segment.window }
+repr_of port segment = record {
+  src_port = port;
+  dst_port = segment.remote.port;
+  control = segment.control;
+  seq_number = segment.seq;
+  ack_number = segment.ack;
+  window_len = segment.window;
+}
 
 -- a segment to send, with this source address
 abbrev pub packet_to_send : TcpSocket → Segment × List ℕ → IpAddress → Sent
-packet_to_send s p src = record { src_addr = src; dst_addr = p.0.remote.addr; hop_limit = s.hop_limit; repr = repr_of s.local.port p.0; payload = p.1 }
+packet_to_send s p src = record {
+  src_addr = src;
+  dst_addr = p.0.remote.addr;
+  hop_limit = s.hop_limit;
+  repr = repr_of s.local.port p.0;
+  payload = p.1;
+}
 
 -- the source address of the first segment to send, if any
 abbrev pub first_source : (IpAddress → Option IpAddress) → TcpSocket → Option IpAddress
@@ -124,15 +157,18 @@ first_source source s = option_and_then (λ p. source_of source s.local.addr p.0
 
 -- the first segment to send, if it has a source address
 abbrev pub first : (IpAddress → Option IpAddress) → TcpSocket → Option Sent
-first source s = option_and_then (λ p. option_map (packet_to_send s p) (source_of source s.local.addr p.0.remote.addr)) (first_of s.tx.packets)
+first source s = option_and_then (λ p. option_map (packet_to_send s p) (source_of source s.local.addr p.0.remote.addr))
+    (first_of s.tx.packets)
 
 -- the first segment to send, if the socket no longer holds back and it has a source address
 abbrev pub offered_packet : ℤ → (IpAddress → Option IpAddress) → TcpSocket → Option Sent
 offered_packet moment source s = cond (is_held moment s) None (first source s)
 
--- the socket after it was asked: the first segment is removed if the socket no longer holds back and it has no source address
+-- the socket after it was asked: the first segment is removed if the socket no longer holds back and it
+-- has no source address
 abbrev pub socket_after_offer : ℤ → (IpAddress → Option IpAddress) → TcpSocket → TcpSocket
-socket_after_offer moment source s = cond (is_held moment s) s (cond (is_none (first source s)) (without_first_to_send s) s)
+socket_after_offer moment source s =
+    cond (is_held moment s) s (cond (is_none (first source s)) (without_first_to_send s) s)
 
 -- the socket after the acknowledgement
 abbrev pub socket_after_told : Bool → TcpSocket → TcpSocket

@@ -11,8 +11,8 @@ use Rattle.socket_base.specs.declared.poll_at.PollAt.{PollAt}
 use Rattle.socket_base.specs.declared.poll_at.PollAt.TheVariants.{Now, Ingress}
 use Rattle.transport_sockets.specs.declared.udp.Packet.{Packet}
 
--- the endpoint at which a socket listens, the hop limit of packets sent, and the datagrams received and to send, each with its
--- remote endpoint
+-- the endpoint at which a socket listens, the hop limit of packets sent, and the datagrams received and to send, each
+-- with its remote endpoint
 pub record UdpSocket : Type 0 where
   pub endpoint : IpListenEndpoint
   pub hop_limit : ℕ
@@ -61,7 +61,8 @@ poll_at s = cond (is_none (first_of s.tx.packets)) Ingress Now
 
 -- a datagram to send, with this source address
 abbrev pub datagram : UdpSocket → IpEndpoint × List ℕ → IpAddress → Datagram
-datagram s p src = record { src = record { addr = src; port = s.endpoint.port }; dst = p.0; hop_limit = s.hop_limit; payload = p.1 }
+datagram s p src =
+    record { src = record { addr = src; port = s.endpoint.port }; dst = p.0; hop_limit = s.hop_limit; payload = p.1 }
 
 -- the source address of the first datagram to send, if any
 abbrev pub first_source : (IpAddress → Option IpAddress) → UdpSocket → Option IpAddress
@@ -69,7 +70,8 @@ first_source source s = option_and_then (λ p. source_of source s.endpoint.addr 
 
 -- the first datagram to send, if it has a source address
 abbrev pub offered_packet : (IpAddress → Option IpAddress) → UdpSocket → Option Datagram
-offered_packet source s = option_and_then (λ p. option_map (datagram s p) (source_of source s.endpoint.addr p.0.addr)) (first_of s.tx.packets)
+offered_packet source s =
+    option_and_then (λ p. option_map (datagram s p) (source_of source s.endpoint.addr p.0.addr)) (first_of s.tx.packets)
 
 -- the socket after it was asked: the first datagram is removed if it has no source address
 abbrev pub socket_after_offer : (IpAddress → Option IpAddress) → UdpSocket → UdpSocket

@@ -62,7 +62,15 @@ impl<L> Model for SocketOf<L> {
 
     ghost Value = { TcpSocket };
 
-    ghost view = { λ s. record { local = s.local; remote = s.remote; hop_limit = s.hop_limit; hold = s.hold; is_aborted = s.is_aborted; rx = s.buffers.rx; tx = s.buffers.tx } };
+    ghost view = { λ s. record {
+      local = s.local;
+      remote = s.remote;
+      hop_limit = s.hop_limit;
+      hold = s.hold;
+      is_aborted = s.is_aborted;
+      rx = s.buffers.rx;
+      tx = s.buffers.tx;
+    } };
 }
 
 impl<L: Drop> SocketOf<L> {
@@ -74,7 +82,15 @@ impl<L: Drop> SocketOf<L> {
         rx: Queue<Segment>,
         tx: Queue<Segment>,
     ) -> SocketOf<L>
-        ensures { result ≡ record { local = local; remote = remote; hop_limit = 64; hold = pos 0; is_aborted = false; rx = rx; tx = tx } }
+        ensures { result ≡ record {
+          local = local;
+          remote = remote;
+          hop_limit = 64;
+          hold = pos 0;
+          is_aborted = false;
+          rx = rx;
+          tx = tx;
+        } }
     {
         SocketOf {
             local,
@@ -233,7 +249,8 @@ impl<L: Drop> SocketOf<L> {
     /// address is unspecified, the remote port is 0, the local port is 0, the payload has more than 65,495 octets, or
     /// it doesn't fit; the first of these is returned. Then the socket stays unchanged.
     pub fn try_send(&mut self, segment: Segment, payload: &[u8]) -> Result<(), SendError>
-        ensures refused { result_err result ≡ refusal segment.remote self.old.local.port (length payload.now) (is_room self.old.tx (length payload.now)) }
+        ensures refused { result_err result ≡ refusal segment.remote self.old.local.port (length payload.now)
+            (is_room self.old.tx (length payload.now)) }
         ensures ok { OnOk result (self.new ≡ spec.socket_after_send segment payload.now self.old) }
         ensures err { OnErr result (self.new ≡ self.old) }
     {
@@ -264,7 +281,8 @@ impl<L: Drop> SocketOf<L> {
     /// The first segment to send, if any, with this source address.
     #[inline(always)]
     fn packet(&self, src_addr: IpAddress) -> Option<Packet<'_>>
-        ensures { option_map spec.value_of result ≡ option_map (λ p. spec.packet_to_send self.now p src_addr) (first_of self.now.tx.packets) }
+        ensures { option_map spec.value_of result
+            ≡ option_map (λ p. spec.packet_to_send self.now p src_addr) (first_of self.now.tx.packets) }
     {
         let (segment, payload) = self.buffers.first()?;
         Some(Packet {
@@ -293,7 +311,8 @@ impl<L: Drop> SocketOf<L> {
     /// peer's family the segment is dropped, and `None` returned.
     pub fn offer<C: SocketContext>(&mut self, context: &C) -> Option<Packet<'_>>
         ensures* settles { sem 𝓛 (Settles L.row self.entry (C.moment context.now) (C.source_for context.now)) }
-        ensures value { option_map spec.value_of result ≡ spec.offered_packet (C.moment context.now) (C.source_for context.now) self.old }
+        ensures value { option_map spec.value_of result
+            ≡ spec.offered_packet (C.moment context.now) (C.source_for context.now) self.old }
     {
         if context.now() < self.hold {
             return None;

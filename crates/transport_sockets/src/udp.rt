@@ -44,7 +44,12 @@ impl<L> Model for SocketOf<L> {
 
     ghost Value = { UdpSocket };
 
-    ghost view = { λ s. record { endpoint = s.endpoint; hop_limit = s.hop_limit; rx = s.buffers.rx; tx = s.buffers.tx } };
+    ghost view = { λ s. record {
+      endpoint = s.endpoint;
+      hop_limit = s.hop_limit;
+      rx = s.buffers.rx;
+      tx = s.buffers.tx;
+    } };
 }
 
 impl<L: Drop> SocketOf<L> {
@@ -163,7 +168,8 @@ impl<L: Drop> SocketOf<L> {
     /// address is unspecified, the remote port is 0, the socket's own port is 0, the payload has more than 65,495
     /// octets, or it doesn't fit; the first of these is returned. Then the socket stays unchanged.
     pub fn try_send(&mut self, remote: IpEndpoint, payload: &[u8]) -> Result<(), SendError>
-        ensures refused { result_err result ≡ refusal remote self.old.endpoint.port (length payload.now) (is_room self.old.tx (length payload.now)) }
+        ensures refused { result_err result
+            ≡ refusal remote self.old.endpoint.port (length payload.now) (is_room self.old.tx (length payload.now)) }
         ensures ok { OnOk result (self.new ≡ spec.socket_after_send remote payload.now self.old) }
         ensures err { OnErr result (self.new ≡ self.old) }
     {
@@ -194,7 +200,8 @@ impl<L: Drop> SocketOf<L> {
     /// The first datagram to send, if any, with this source address.
     #[inline(always)]
     fn packet(&self, addr: IpAddress) -> Option<Packet<'_>>
-        ensures { option_map spec.value_of result ≡ option_map (λ p. spec.datagram self.now p addr) (first_of self.now.tx.packets) }
+        ensures { option_map spec.value_of result
+            ≡ option_map (λ p. spec.datagram self.now p addr) (first_of self.now.tx.packets) }
     {
         let (remote, payload) = self.buffers.first()?;
         Some(Packet {

@@ -68,7 +68,8 @@ fn main(rt: HostRuntime) -> Result<()> {
     Ok(())
 }
 
-/// A poll at a moment. Before it the schedule chooses which sockets are asked, and after it gives up what waited too long.
+/// A poll at a moment. Before it the schedule chooses which sockets are asked, and after it gives up
+/// what waited too long.
 fn round(
     now: Instant,
     interface: &mut Interface,

@@ -14,11 +14,13 @@ address_words : (a : IpAddress) (xs : List ℕ) → word_sum (address_octets a +
 address_words (Ipv4 a) xs = word_sum-append (address_octets (Ipv4 a)) xs 2 refl
 address_words (Ipv6 a) xs = word_sum-append (address_octets (Ipv6 a)) xs 8 refl
 
-ending_words : (a : IpAddress) (protocol len : ℕ) (xs : List ℕ) → word_sum (ending a protocol len ++ xs) ≡ word_sum (ending a protocol len) + word_sum xs
+ending_words : (a : IpAddress) (protocol len : ℕ) (xs : List ℕ) →
+    word_sum (ending a protocol len ++ xs) ≡ word_sum (ending a protocol len) + word_sum xs
 ending_words (Ipv4 a) protocol len xs = word_sum-append (ending (Ipv4 a) protocol len) xs 2 refl
 ending_words (Ipv6 a) protocol len xs = word_sum-append (ending (Ipv6 a) protocol len) xs 4 refl
 
-pseudo_words : (src dst : IpAddress) (protocol len : ℕ) → word_sum (pseudo src dst protocol len) ≡ word_sum (address_octets src) + word_sum (address_octets dst) + word_sum (ending dst protocol len)
+pseudo_words : (src dst : IpAddress) (protocol len : ℕ) →
+    word_sum (pseudo src dst protocol len) ≡ word_sum (address_octets src) + word_sum (address_octets dst) + word_sum (ending dst protocol len)
 unfolding pseudo
 pseudo_words src dst protocol len =
     let e = ending dst protocol len in
@@ -27,7 +29,8 @@ pseudo_words src dst protocol len =
     ap word_sum grouped ∙ omega (arith, address_words src (d ++ e), address_words dst e)
 
 -- the pseudo-header has whole words
-words_after : (src dst : IpAddress) (protocol len : ℕ) (xs : List ℕ) → word_sum (pseudo src dst protocol len ++ xs) ≡ word_sum (pseudo src dst protocol len) + word_sum xs
+words_after : (src dst : IpAddress) (protocol len : ℕ) (xs : List ℕ) →
+    word_sum (pseudo src dst protocol len ++ xs) ≡ word_sum (pseudo src dst protocol len) + word_sum xs
 unfolding pseudo
 words_after src dst protocol len xs =
     let e = ending dst protocol len in
@@ -38,7 +41,8 @@ words_after src dst protocol len xs =
     ap word_sum grouped ∙ omega (arith, all, address_words src (d ++ (e ++ xs)), address_words dst (e ++ xs), ending_words dst protocol len xs)
 
 -- part by part
-pub chained : (src dst : IpAddress) (protocol len : ℕ) → folded_sum (word_sum (pseudo src dst protocol len)) ≡ folded_sum (folded_sum (folded_sum (0 + word_sum (address_octets src)) + word_sum (address_octets dst)) + word_sum (ending dst protocol len))
+pub chained : (src dst : IpAddress) (protocol len : ℕ) → folded_sum (word_sum (pseudo src dst protocol len))
+    ≡ folded_sum (folded_sum (folded_sum (0 + word_sum (address_octets src)) + word_sum (address_octets dst)) + word_sum (ending dst protocol len))
 chained src dst protocol len =
     let s = word_sum (address_octets src) in
     let d = word_sum (address_octets dst) in
@@ -88,7 +92,8 @@ numbers6 src dst protocol len ls ld ll =
     let s = address_words6 src.bits ls in
     let d = address_words6 dst.bits ld in
     let l : word_sum (ending (Ipv6 dst) protocol len) ≡ protocol + len = omega arith in
-    let words : word_sum (pseudo (Ipv6 src) (Ipv6 dst) protocol len) ≡ n + k = omega (arith, pseudo_words (Ipv6 src) (Ipv6 dst) protocol len, s, d, l) in
+    let words : word_sum (pseudo (Ipv6 src) (Ipv6 dst) protocol len) ≡ n + k =
+    omega (arith, pseudo_words (Ipv6 src) (Ipv6 dst) protocol len, s, d, l) in
     let qs = quarters_words src.bits ls in
     let qd = quarters_words dst.bits ld in
     ap folded_sum words ∙ sym (folded_shift (quarters src.bits + quarters dst.bits + protocol + len) n k (omega (arith, qs, qd)))
@@ -97,18 +102,24 @@ numbers6 src dst protocol len ls ld ll =
 pub in_sums4 : (sum : ℕ) (src dst : Ipv4Address) (protocol len : ℕ) → src.bits < 2 ^ 32 → dst.bits < 2 ^ 32 → len < 2 ^ 16
     → folded_sum (sum + (src.bits + dst.bits + protocol + len)) ≡ folded_sum (sum + word_sum (pseudo (Ipv4 src) (Ipv4 dst) protocol len))
 in_sums4 sum src dst protocol len ls ld ll =
-    folds_in (src.bits + dst.bits + protocol + len) (word_sum (pseudo (Ipv4 src) (Ipv4 dst) protocol len)) (sym (numbers src dst protocol len ls ld ll)) sum
+    folds_in (src.bits + dst.bits + protocol + len) (word_sum (pseudo (Ipv4 src) (Ipv4 dst) protocol len))
+    (sym (numbers src dst protocol len ls ld ll)) sum
 
 pub in_sums6 : (sum : ℕ) (src dst : Ipv6Address) (protocol len : ℕ) → src.bits < 2 ^ 128 → dst.bits < 2 ^ 128 → len < 2 ^ 16
-    → folded_sum (sum + (quarters src.bits + quarters dst.bits + protocol + len)) ≡ folded_sum (sum + word_sum (pseudo (Ipv6 src) (Ipv6 dst) protocol len))
+    → folded_sum (sum + (quarters src.bits + quarters dst.bits + protocol + len))
+    ≡ folded_sum (sum + word_sum (pseudo (Ipv6 src) (Ipv6 dst) protocol len))
 in_sums6 sum src dst protocol len ls ld ll =
-    folds_in (quarters src.bits + quarters dst.bits + protocol + len) (word_sum (pseudo (Ipv6 src) (Ipv6 dst) protocol len)) (sym (numbers6 src dst protocol len ls ld ll)) sum
+    folds_in (quarters src.bits + quarters dst.bits + protocol + len) (word_sum (pseudo (Ipv6 src) (Ipv6 dst) protocol len))
+    (sym (numbers6 src dst protocol len ls ld ll)) sum
 
 pub in_sums : (sum : ℕ) (src dst : IpAddress) (protocol len : ℕ)
-    → folded_sum (sum + folded_sum (folded_sum (folded_sum (0 + word_sum (address_octets src)) + word_sum (address_octets dst)) + word_sum (ending dst protocol len))) ≡ folded_sum (sum + word_sum (pseudo src dst protocol len))
+    → folded_sum (sum
+    + folded_sum (folded_sum (folded_sum (0 + word_sum (address_octets src)) + word_sum (address_octets dst)) + word_sum (ending dst protocol len)))
+    ≡ folded_sum (sum + word_sum (pseudo src dst protocol len))
 in_sums sum src dst protocol len =
     let p = word_sum (pseudo src dst protocol len) in
-    let f = folded_sum (folded_sum (folded_sum (0 + word_sum (address_octets src)) + word_sum (address_octets dst)) + word_sum (ending dst protocol len)) in
+    let f =
+    folded_sum (folded_sum (folded_sum (0 + word_sum (address_octets src)) + word_sum (address_octets dst)) + word_sum (ending dst protocol len)) in
     let turned : sum + p ≡ p + sum = omega arith in
     let back : f + sum ≡ sum + f = omega arith in
     sym (ap folded_sum turned ∙ sym (folded_again p sum) ∙ ap (λ (t : ℕ). folded_sum (t + sum)) (chained src dst protocol len) ∙ ap folded_sum back)
@@ -116,7 +127,8 @@ in_sums sum src dst protocol len =
 pub ruleset sums = (in_sums4, in_sums6, in_sums)
 
 -- what stands behind it
-pub after : (src dst : IpAddress) (protocol len start : ℕ) (xs : List ℕ) → ((sum : ℕ) → folded_sum (sum + start) ≡ folded_sum (sum + word_sum (pseudo src dst protocol len)))
+pub after : (src dst : IpAddress) (protocol len start : ℕ) (xs : List ℕ) →
+    ((sum : ℕ) → folded_sum (sum + start) ≡ folded_sum (sum + word_sum (pseudo src dst protocol len)))
     → folded_sum (word_sum (pseudo src dst protocol len ++ xs)) ≡ folded_sum (start + word_sum xs)
 after src dst protocol len start xs folds =
     let p = word_sum (pseudo src dst protocol len) in
@@ -133,7 +145,8 @@ header_words src dst protocol len k header payload even =
     omega (arith, one, two)
 
 pub parts : (src dst : IpAddress) (protocol len k start head : ℕ) (header payload : List ℕ) → length header ≡ 2 * k
-    → ((sum : ℕ) → folded_sum (sum + start) ≡ folded_sum (sum + word_sum (pseudo src dst protocol len))) → ((sum : ℕ) → folded_sum (sum + head) ≡ folded_sum (sum + word_sum header))
+    → ((sum : ℕ) → folded_sum (sum + start) ≡ folded_sum (sum + word_sum (pseudo src dst protocol len))) →
+    ((sum : ℕ) → folded_sum (sum + head) ≡ folded_sum (sum + word_sum header))
     → checksum_of (pseudo src dst protocol len ++ (header ++ payload)) ≡ 65535 - folded_sum (start + head + word_sum payload)
 parts src dst protocol len k start head header payload even starts heads =
     let p = word_sum (pseudo src dst protocol len) in
@@ -142,4 +155,5 @@ parts src dst protocol len k start head header payload even starts heads =
     let first : p + h + d ≡ p + d + h = omega arith in
     let second : p + d + head ≡ head + d + p = omega arith in
     let third : head + d + start ≡ start + head + d = omega arith in
-    ap (λ (t : ℕ). 65535 - t) (ap folded_sum (header_words src dst protocol len k header payload even ∙ first) ∙ sym (heads (p + d)) ∙ ap folded_sum second ∙ sym (starts (head + d)) ∙ ap folded_sum third)
+    ap (λ (t : ℕ). 65535 - t) (ap folded_sum (header_words src dst protocol len k header payload even ∙ first) ∙ sym (heads (p + d))
+    ∙ ap folded_sum second ∙ sym (starts (head + d)) ∙ ap folded_sum third)

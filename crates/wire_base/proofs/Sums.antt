@@ -1,5 +1,6 @@
 -- Sums of words, and folding.
-use Rattle.std.proofs.Common.{◌≡◌, ℕ, zero, suc, ◌+◌, ◌-◌, ◌*◌, ◌/◌, ◌%◌, ◌<◌, ◌≤◌, ◌^◌, List, [], ◌∷◌, ◌++◌, length, get_or, drop, refl, sym, ap, ◌∙◌, add-one, drop-cons, append_assoc, arith}
+use Rattle.std.proofs.Common.{◌≡◌, ℕ, zero, suc, ◌+◌, ◌-◌, ◌*◌, ◌/◌, ◌%◌, ◌<◌, ◌≤◌, ◌^◌, List, [], ◌∷◌, ◌++◌}
+use Rattle.std.proofs.Common.{length, get_or, drop, refl, sym, ap, ◌∙◌, add-one, drop-cons, append_assoc, arith}
 use Rattle.wire_base.specs.Checksum.{folded_sum, word_sum, checksum_of, FoldsCarries}
 use Rattle.std.specs.Int.{w16, to_be_bytes}
 use Rattle.wire_base.specs.Octets.{u32_le_at, u64_le_at}
@@ -23,12 +24,14 @@ step : (xs : List ℕ) (i j : ℕ) → j ≡ i + 1 → i < length xs → drop i 
 step xs i j e h = rw (e, add-one, drop-cons xs i 0) refl
 
 -- the words from a place on, by the first of them
-pub word : (xs : List ℕ) (i j k : ℕ) → j ≡ i + 1 → k ≡ j + 1 → k ≤ length xs → word_sum (drop i xs) ≡ get_or xs i 0 * 256 + get_or xs j 0 + word_sum (drop k xs)
+pub word : (xs : List ℕ) (i j k : ℕ) → j ≡ i + 1 → k ≡ j + 1 → k ≤ length xs →
+    word_sum (drop i xs) ≡ get_or xs i 0 * 256 + get_or xs j 0 + word_sum (drop k xs)
 unfolding word_sum
 word xs i j k ej ek h = ap word_sum (step xs i j ej (omega arith) ∙ ap (λ (t : List ℕ). get_or xs i 0 ∷ t) (step xs j k ek (omega arith)))
 
 -- four octets as one little-endian number, times 256, fold as their two words
-pub chunk_folds : (sum : ℕ) (xs : List ℕ) (i j : ℕ) → j ≡ i + 4 → j ≤ length xs → folded_sum (sum + 256 * u32_le_at xs i + word_sum (drop j xs)) ≡ folded_sum (sum + word_sum (drop i xs))
+pub chunk_folds : (sum : ℕ) (xs : List ℕ) (i j : ℕ) →
+    j ≡ i + 4 → j ≤ length xs → folded_sum (sum + 256 * u32_le_at xs i + word_sum (drop j xs)) ≡ folded_sum (sum + word_sum (drop i xs))
 chunk_folds sum xs i j e h =
     let high = word xs i (i + 1) (i + 2) refl (omega arith) (omega arith) in
     let low = word xs (i + 2) (i + 3) j (omega arith) (omega arith) (omega arith) in
@@ -49,7 +52,8 @@ shift_by_32 sum high =
     ∙ folded_shift (sum + 16777216 * high) sum (256 * high) (omega arith)
 
 -- eight octets as one little-endian number, times 256, fold as their four words
-pub octets_fold : (sum : ℕ) (xs : List ℕ) (i j : ℕ) → j ≡ i + 8 → j ≤ length xs → folded_sum (sum + 256 * u64_le_at xs i + word_sum (drop j xs)) ≡ folded_sum (sum + word_sum (drop i xs))
+pub octets_fold : (sum : ℕ) (xs : List ℕ) (i j : ℕ) →
+    j ≡ i + 8 → j ≤ length xs → folded_sum (sum + 256 * u64_le_at xs i + word_sum (drop j xs)) ≡ folded_sum (sum + word_sum (drop i xs))
 octets_fold sum xs i j e h =
     let low = u32_le_at xs i in
     let high = u32_le_at xs (i + 4) in
@@ -65,13 +69,15 @@ abbrev pub block_sum : List ℕ → ℕ → ℕ
 block_sum octets at = u64_le_at octets at + u64_le_at octets (at + 8) + u64_le_at octets (at + 16) + u64_le_at octets (at + 24)
 
 -- times 256, it folds as their words
-pub block_folds : (sum : ℕ) (xs : List ℕ) (i j : ℕ) → j ≡ i + 32 → j ≤ length xs → folded_sum (sum + 256 * block_sum xs i + word_sum (drop j xs)) ≡ folded_sum (sum + word_sum (drop i xs))
+pub block_folds : (sum : ℕ) (xs : List ℕ) (i j : ℕ) →
+    j ≡ i + 32 → j ≤ length xs → folded_sum (sum + 256 * block_sum xs i + word_sum (drop j xs)) ≡ folded_sum (sum + word_sum (drop i xs))
 block_folds sum xs i j e h =
     let a = u64_le_at xs i in
     let b = u64_le_at xs (i + 8) in
     let c = u64_le_at xs (i + 16) in
     let d = u64_le_at xs (i + 24) in
-    let parts : sum + 256 * block_sum xs i + word_sum (drop j xs) ≡ sum + 256 * a + 256 * b + 256 * c + 256 * d + word_sum (drop j xs) = omega arith in
+    let parts : sum + 256 * block_sum xs i + word_sum (drop j xs) ≡ sum + 256 * a + 256 * b + 256 * c + 256 * d + word_sum (drop j xs) =
+    omega arith in
     ap folded_sum parts
     ∙ octets_fold (sum + 256 * a + 256 * b + 256 * c) xs (i + 24) j (omega (arith, e)) h
     ∙ octets_fold (sum + 256 * a + 256 * b) xs (i + 16) (i + 24) (omega arith) (omega (arith, e, h))
@@ -79,12 +85,15 @@ block_folds sum xs i j e h =
     ∙ octets_fold sum xs i (i + 8) refl (omega (arith, e, h))
 
 -- the parts of a number, times 256, fold as the number does
-pub parts_fold : (sum number rest : ℕ) → folded_sum (sum + 256 * (number % 2 ^ 32 + number / 2 ^ 32 % 2 ^ 32 + number / 2 ^ 32 / 2 ^ 32) + rest) ≡ folded_sum (sum + 256 * number + rest)
+pub parts_fold : (sum number rest : ℕ) →
+    folded_sum (sum + 256 * (number % 2 ^ 32 + number / 2 ^ 32 % 2 ^ 32 + number / 2 ^ 32 / 2 ^ 32) + rest) ≡ folded_sum (sum + 256 * number + rest)
 parts_fold sum number rest =
     let low = number % 2 ^ 32 in
     let upper = number / 2 ^ 32 in
-    let here : sum + 256 * (low + upper % 2 ^ 32 + upper / 2 ^ 32) + rest ≡ sum + rest + 256 * low + 256 * (upper % 2 ^ 32) + 256 * (upper / 2 ^ 32) = omega arith in
-    let middle : sum + rest + 256 * low + 256 * (upper % 2 ^ 32) + 1099511627776 * (upper / 2 ^ 32) ≡ sum + rest + 256 * low + 256 * upper = omega arith in
+    let here : sum + 256 * (low + upper % 2 ^ 32 + upper / 2 ^ 32) + rest ≡ sum + rest + 256 * low + 256 * (upper % 2 ^ 32) + 256 * (upper / 2 ^ 32) =
+    omega arith in
+    let middle : sum + rest + 256 * low + 256 * (upper % 2 ^ 32) + 1099511627776 * (upper / 2 ^ 32) ≡ sum + rest + 256 * low + 256 * upper =
+    omega arith in
     let there : sum + rest + 256 * low + 1099511627776 * upper ≡ sum + 256 * number + rest = omega arith in
     ap folded_sum here ∙ sym (shift_by_32 (sum + rest + 256 * low + 256 * (upper % 2 ^ 32)) (upper / 2 ^ 32)) ∙ ap folded_sum middle
     ∙ sym (shift_by_32 (sum + rest + 256 * low) upper) ∙ ap folded_sum there
@@ -147,7 +156,8 @@ summed_up (suc n) c e =
     ap folded_sum here ∙ folded_sum-more 65534 (65534 + 65535 * (n / 65535)) (n / 65535) refl
 
 -- octets with their checksum between them sum up to all ones
-pub checksum-sums_up : (xs ys : List ℕ) → length xs % 2 ≡ 0 → folded_sum (word_sum (xs ++ to_be_bytes w16 (checksum_of (xs ++ 0 ∷ 0 ∷ ys)) ++ ys)) ≡ 65535
+pub checksum-sums_up : (xs ys : List ℕ) →
+    length xs % 2 ≡ 0 → folded_sum (word_sum (xs ++ to_be_bytes w16 (checksum_of (xs ++ 0 ∷ 0 ∷ ys)) ++ ys)) ≡ 65535
 unfolding word_sum
 checksum-sums_up xs ys even =
     let c = checksum_of (xs ++ 0 ∷ 0 ∷ ys) in
@@ -156,7 +166,8 @@ checksum-sums_up xs ys even =
     let c-is : c ≡ 65535 - folded_sum s = ap (λ (t : ℕ). 65535 - folded_sum t) e in
     let small : c / 256 % 256 * 256 + c % 256 ≡ c = omega (arith, c-is) in
     let grouped : xs ++ to_be_bytes w16 c ++ ys ≡ xs ++ (to_be_bytes w16 c ++ ys) = append_assoc xs (to_be_bytes w16 c) ys in
-    let f : word_sum (xs ++ to_be_bytes w16 c ++ ys) ≡ s + c = ap word_sum grouped ∙ omega (arith, small, word_sum-append xs (to_be_bytes w16 c ++ ys) (length xs / 2) (omega arith)) in
+    let f : word_sum (xs ++ to_be_bytes w16 c ++ ys) ≡ s + c = ap word_sum grouped
+    ∙ omega (arith, small, word_sum-append xs (to_be_bytes w16 c ++ ys) (length xs / 2) (omega arith)) in
     ap folded_sum f ∙ summed_up s c c-is
 
 -- folding adds the carries to the lower 16 bits

@@ -43,7 +43,8 @@ fn long_sum_with(start: u64, octets: &[u8]) -> u16
 fn with_odd_block(swapped: u128, octets: &[u8], count: usize) -> u128
     requires within { 32 * count ≤ length octets.now }
     requires small { swapped < 2 ^ 95 }
-    ensures folds { (sum : ℕ) → spec.folded_sum (sum + 256 * result + spec.word_sum (drop (32 * count) octets.now)) ≡ spec.folded_sum (sum + 256 * swapped + spec.word_sum (drop (64 * (count / 2)) octets.now)) }
+    ensures folds { (sum : ℕ) → spec.folded_sum (sum + 256 * result + spec.word_sum (drop (32 * count) octets.now))
+        ≡ spec.folded_sum (sum + 256 * swapped + spec.word_sum (drop (64 * (count / 2)) octets.now)) }
     ensures small { result < 2 ^ 96 }
 {
     if count % 2 == 0 {
@@ -56,8 +57,10 @@ fn with_odd_block(swapped: u128, octets: &[u8], count: usize) -> u128
 #[inline(always)]
 fn blocks_sum(octets: &[u8], at: usize) -> u128
     requires { at + 64 ≤ length octets.now }
-    ensures value { result ≡ u64_le_at octets.now at + u64_le_at octets.now (at + 8) + u64_le_at octets.now (at + 16) + u64_le_at octets.now (at + 24)
-        + (u64_le_at octets.now (at + 32) + u64_le_at octets.now (at + 32 + 8) + u64_le_at octets.now (at + 32 + 16) + u64_le_at octets.now (at + 32 + 24)) }
+    ensures value { result ≡ u64_le_at octets.now at + u64_le_at octets.now (at + 8)
+        + u64_le_at octets.now (at + 16) + u64_le_at octets.now (at + 24)
+        + (u64_le_at octets.now (at + 32) + u64_le_at octets.now (at + 32 + 8) + u64_le_at octets.now (at + 32 + 16)
+        + u64_le_at octets.now (at + 32 + 24)) }
     ensures small { result < 2 ^ 67 }
 {
     block_sum(octets, at) + block_sum(octets, at + 32)
@@ -67,7 +70,8 @@ fn blocks_sum(octets: &[u8], at: usize) -> u128
 #[inline(always)]
 fn block_sum(octets: &[u8], at: usize) -> u128
     requires { at + 32 ≤ length octets.now }
-    ensures value { result ≡ u64_le_at octets.now at + u64_le_at octets.now (at + 8) + u64_le_at octets.now (at + 16) + u64_le_at octets.now (at + 24) }
+    ensures value { result ≡ u64_le_at octets.now at + u64_le_at octets.now (at + 8) + u64_le_at octets.now (at + 16)
+        + u64_le_at octets.now (at + 24) }
     ensures small { result < 2 ^ 66 }
 {
     u128::from(u64_le_at(octets, at))

@@ -11,7 +11,8 @@ use ip_address::IpAddress;
 #[inline(always)]
 #[tactic(auto, using(crate::proofs::Pseudos::sums))]
 pub fn pseudo_sum(src: &IpAddress, dst: &IpAddress, protocol: u8, len: u16) -> u64
-    ensures folds { (sum : ℕ) → folded_sum (sum + result) ≡ folded_sum (sum + word_sum (spec.pseudo src.now dst.now protocol len)) }
+    ensures folds { (sum : ℕ) →
+        folded_sum (sum + result) ≡ folded_sum (sum + word_sum (spec.pseudo src.now dst.now protocol len)) }
     ensures small { result < 2 ^ 40 }
 {
     if let (IpAddress::Ipv4(src), IpAddress::Ipv4(dst)) = (src, dst) {

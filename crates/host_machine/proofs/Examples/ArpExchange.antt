@@ -31,7 +31,14 @@ request_answered = record {
     takes = rw (no_slots (pos 0)) (Accepted (lit≤ tt) refl (Learnt
         (record { whole = lit≤ tt; hardware = refl; protocol = refl; hardware_len = refl; protocol_len = refl; operation = inl refl })
         refl
-        (record { neighbors = example.neighbors_with_sender; filled = record { puts = record { there = λ h. refl; room = λ h. refl; full = λ none four. absurd (omega (arith, len-empty address_cmp Neighbor)) }; silence = refl }; same = refl })
+        (record {
+          neighbors = example.neighbors_with_sender;
+          filled = record {
+            puts = record { there = λ h. refl; room = λ h. refl; full = λ none four. absurd (omega (arith, len-empty address_cmp Neighbor)) };
+            silence = refl;
+          };
+          same = refl;
+        })
         refl refl));
     responds = (refl, refl, refl);
     all_notes = refl;
@@ -41,7 +48,8 @@ request_answered = record {
 }
 
 -- the host that it leads to takes nothing where there is no frame, and has nothing to send
-pub nothing_taken : Ingress (pos 0) ingress.None (example.host 0x1405 example.neighbors_with_sender) (Received (pos 0) Nothing ∷ []) [] (example.host 0x1405 example.neighbors_with_sender)
+pub nothing_taken : Ingress (pos 0) ingress.None (example.host 0x1405 example.neighbors_with_sender)
+    (Received (pos 0) Nothing ∷ []) [] (example.host 0x1405 example.neighbors_with_sender)
 nothing_taken = record {
   reception = Nothing;
   frames = [];
@@ -58,5 +66,6 @@ nothing_taken = record {
   answers = refl;
 }
 
-pub nothing_sent : Egress (pos 0) poll.None (example.host 0x1405 example.neighbors_with_sender) [] [] (example.host 0x1405 example.neighbors_with_sender)
+pub nothing_sent :
+    Egress (pos 0) poll.None (example.host 0x1405 example.neighbors_with_sender) [] [] (example.host 0x1405 example.neighbors_with_sender)
 nothing_sent = record { changed = false; round = no_piece refl refl refl refl refl refl (Whole Begins); answers = refl }

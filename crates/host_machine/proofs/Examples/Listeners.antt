@@ -4,7 +4,8 @@ use Rattle.host_machine.specs.State.Host.{Storage}
 use Rattle.host_machine.specs.Receiving.Delivery.{NoneAccepts}
 
 -- a place before the second one is the first
-pub first_is_free : (test : Storage → Bool) (places : List Storage) → test None ≡ false → (k : ℕ) (other : Storage) → k < 1 → slice_get (None ∷ places) k ≡ Some other → test other ≡ false
+pub first_is_free : (test : Storage → Bool) (places : List Storage) → test None ≡ false → (k : ℕ) (other : Storage) →
+    k < 1 → slice_get (None ∷ places) k ≡ Some other → test other ≡ false
 first_is_free test places free zero other before there = let same : None ≡ other = cc in rw (← same) free
 first_is_free test places free (suc k) other before there = absurd (omega (arith, before))
 

@@ -33,7 +33,10 @@ pieces_two (suc (suc k)) l = absurd (omega arith)
 pub ten_rebuilt : IsRebuilt (with_one waiting_slot.got two) ten
 ten_rebuilt =
     rw all_two (complete 8 ten (one ∷ two ∷ []) (lit≤ tt) (lit≤ tt)
-    (parts_of 8 ten (one ∷ two ∷ []) (lit≤ tt) (record { number = 0; below = lit≤ tt; is = refl }, (record { number = 1; below = lit≤ tt; is = refl }, tt))) pieces_two)
+    (parts_of 8 ten (one ∷ two ∷ []) (lit≤ tt) (
+      record { number = 0; below = lit≤ tt; is = refl },
+      (record { number = 1; below = lit≤ tt; is = refl }, tt),
+    )) pieces_two)
 
 pub none_yet : map.get (host 0x1405 (no_neighbors (pos 0))).slots key ≡ None
 none_yet = get-empty key_cmp key

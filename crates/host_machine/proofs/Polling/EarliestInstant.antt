@@ -18,7 +18,9 @@ use Rattle.sockets.specs.Kinds as kinds
 use Rattle.host_machine.specs.State.Host.{Host, Storage}
 use Rattle.host_machine.specs.Sending.Dispatch.{IsNextHop, OnLink, ByRouter, is_known_hop, if_unicast, HasNeighbor, OfNoHost, OfHost}
 use Rattle.host_machine.specs.State.Host.{Socket}
-use Rattle.host_machine.specs.Polling.Due.{Due, OfPiece, OfSync, OfSolicitation, OfPrefix, OfRouter, OfJoin, OfLeave, OfIgmpReport, OfMldReport, OfSocket, AtOnce, SocketDue, SocketsDue, IsLeast, instant_of, at_once, groups_poll_at, routers_poll_at, sync_poll_at, group_poll_at}
+use Rattle.host_machine.specs.Polling.Due.{Due, OfPiece, OfSync, OfSolicitation, OfPrefix, OfRouter, OfJoin, OfLeave}
+use Rattle.host_machine.specs.Polling.Due.{OfIgmpReport, OfMldReport, OfSocket, AtOnce, SocketDue, SocketsDue, IsLeast}
+use Rattle.host_machine.specs.Polling.Due.{instant_of, at_once, groups_poll_at, routers_poll_at, sync_poll_at, group_poll_at}
 use Rattle.group_table.specs.declared.groups.GroupState.TheVariants.{Joining, Leaving}
 use Rattle.slaac.specs.Instants.{earliest_of, earlier_of}
 use Rattle.slaac.specs.Slaac.{prefix_ends, route_ends}
@@ -30,7 +32,8 @@ pub hop_is_one : {H : Host} {a : IpAddress} {x y : Option IpAddress} → IsNextH
 hop_is_one (OnLink i e) (OnLink j f) = e ∙ sym f
 hop_is_one (OnLink i e) (ByRouter router j r f) = absurd cc
 hop_is_one (ByRouter router i r e) (OnLink j f) = absurd cc
-hop_is_one {H} {a} (ByRouter r i is e) (ByRouter s j it f) = e ∙ ap (option_and_then if_unicast) (routers_are_one H.routes a H.moment r s is it) ∙ sym f
+hop_is_one {H} {a} (ByRouter r i is e) (ByRouter s j it f) = e
+    ∙ ap (option_and_then if_unicast) (routers_are_one H.routes a H.moment r s is it) ∙ sym f
 
 pub known_is_one : {H : Host} {a : IpAddress} {x y : Bool} → HasNeighbor H a x → HasNeighbor H a y → x ≡ y
 known_is_one (OfNoHost n e) (OfNoHost m f) = e ∙ sym f
@@ -38,7 +41,8 @@ known_is_one (OfNoHost n e) (OfHost hop m i f) = absurd cc
 known_is_one (OfHost hop n i e) (OfNoHost m f) = absurd cc
 known_is_one {H} (OfHost hop n i e) (OfHost other m j f) = e ∙ ap (is_known_hop H) (hop_is_one i j) ∙ sym f
 
-told_is_one : (H : Host) (w : Wait) (x y : Bool) (t : ℤ) (own : PollAt) → IsAnswerFor (HasNeighbor H) w x → IsAnswerFor (HasNeighbor H) w y → poll_at w x t own ≡ poll_at w y t own
+told_is_one : (H : Host) (w : Wait) (x y : Bool) (t : ℤ) (own : PollAt) →
+    IsAnswerFor (HasNeighbor H) w x → IsAnswerFor (HasNeighbor H) w y → poll_at w x t own ≡ poll_at w y t own
 told_is_one H None x y t own a b = refl
 told_is_one H (Some w) x y t own a b = ap (λ known. poll_at (Some w) known t own) (known_is_one a b)
 
@@ -47,13 +51,15 @@ least_one : {P : ℤ → Type 0} (end : Option ℤ) → ((x : ℤ) → end ≡ S
 least_one None there only = λ x p. absurd (let e = only x p in cc)
 least_one (Some m) there only = (there m refl, λ x p. let e = only x p in let same : m ≡ x = cc in rw same (omega (arith, ints)))
 
-pub socket_least : (H : Host) (i : ℕ) (s : Socket) (known : Bool) → slice_get H.sockets.places i ≡ Some (Some s) → IsAnswerFor (HasNeighbor H) (wait_at H.sockets i) known →
+pub socket_least : (H : Host) (i : ℕ) (s : Socket) (known : Bool) →
+    slice_get H.sockets.places i ≡ Some (Some s) → IsAnswerFor (HasNeighbor H) (wait_at H.sockets i) known →
     IsLeast (SocketDue H i) (instant_of (poll_at (wait_at H.sockets i) known H.moment (kinds.poll_at s)))
 socket_least H i s known here told =
     least_one (instant_of (poll_at (wait_at H.sockets i) known H.moment (kinds.poll_at s)))
     (λ x e. record { socket = s; known = known; here = here; told = told; instant = e })
     (λ x d. let same : s ≡ d.socket = one (sym here ∙ d.here) in
-    ap instant_of (told_is_one H (wait_at H.sockets i) known d.known H.moment (kinds.poll_at s) told d.told) ∙ ap (λ z. instant_of (poll_at (wait_at H.sockets i) d.known H.moment (kinds.poll_at z))) same ∙ d.instant) where
+    ap instant_of (told_is_one H (wait_at H.sockets i) known d.known H.moment (kinds.poll_at s) told d.told)
+    ∙ ap (λ z. instant_of (poll_at (wait_at H.sockets i) d.known H.moment (kinds.poll_at z))) same ∙ d.instant) where
       one : {x y : Socket} → Some (Some x) ≡ Some (Some y) → x ≡ y
       one e = cc
 
@@ -61,8 +67,10 @@ pub no_socket_least : (H : Host) (i : ℕ) → socket_at H.sockets i ≡ None �
 no_socket_least H i none = λ x d. let there : socket_at H.sockets i ≡ Some d.socket = ap (option_and_then (λ place. place)) d.here in absurd cc
 
 -- what a socket answers that is asked at a moment, with what is told of the destination that it waits for
-pub own_least : (H : Host) (i : ℕ) (answer : PollAt) (post : IpAddress → Bool → Type 0) → ((a : IpAddress) (known : Bool) → post a known → HasNeighbor H a known) →
-    (IfSome (socket_at H.sockets i) (λ s. (known : Bool) × IsAnswerFor post (wait_at H.sockets i) known × (answer ≡ poll_at (wait_at H.sockets i) known H.moment (kinds.poll_at s)))) →
+pub own_least : (H : Host) (i : ℕ) (answer : PollAt) (post : IpAddress → Bool → Type 0) →
+    ((a : IpAddress) (known : Bool) → post a known → HasNeighbor H a known) →
+    (IfSome (socket_at H.sockets i) (λ s. (known : Bool) × IsAnswerFor post (wait_at H.sockets i) known
+    × (answer ≡ poll_at (wait_at H.sockets i) known H.moment (kinds.poll_at s)))) →
     (IsNone (socket_at H.sockets i) → answer ≡ Ingress) → IsLeast (SocketDue H i) (instant_of answer)
 own_least H i answer post tells some none = by (slice_get H.sockets.places i) refl some none where
   told : (w : Wait) (known : Bool) → IsAnswerFor post w known → IsAnswerFor (HasNeighbor H) w known
@@ -70,20 +78,26 @@ own_least H i answer post tells some none = by (slice_get H.sockets.places i) re
   told (Some w) known t = tells w.0 known t
 
   by : (place : Option Storage) → slice_get H.sockets.places i ≡ place →
-      (IfSome (option_and_then (λ p. p) place) (λ s. (known : Bool) × IsAnswerFor post (wait_at H.sockets i) known × (answer ≡ poll_at (wait_at H.sockets i) known H.moment (kinds.poll_at s)))) →
+      (IfSome (option_and_then (λ p. p) place) (λ s. (known : Bool) × IsAnswerFor post (wait_at H.sockets i) known
+      × (answer ≡ poll_at (wait_at H.sockets i) known H.moment (kinds.poll_at s)))) →
       (IsNone (option_and_then (λ (p : Storage). p) place) → answer ≡ Ingress) → IsLeast (SocketDue H i) (instant_of answer)
   by None is some none = rw (none refl) (no_socket_least H i (ap (option_and_then (λ (p : Storage). p)) is))
   by (Some None) is some none = rw (none refl) (no_socket_least H i (ap (option_and_then (λ (p : Storage). p)) is))
   by (Some (Some s)) is some none = rw some.2 (socket_least H i s some.0 is (told (wait_at H.sockets i) some.0 some.1))
 
 -- the sooner of the least of two sets is the least of both
-sooner_by : (P Q R : ℤ → Type 0) (a b : ℤ) → IsLeast P (Some a) → IsLeast Q (Some b) → ((x : ℤ) → R x → P x ⊎ Q x) → ((x : ℤ) → P x → R x) → ((x : ℤ) → Q x → R x) →
+sooner_by : (P Q R : ℤ → Type 0) (a b : ℤ) → IsLeast P (Some a) → IsLeast Q (Some b) → ((x : ℤ) → R x → P x ⊎ Q x) →
+    ((x : ℤ) → P x → R x) → ((x : ℤ) → Q x → R x) →
     (o : Ordering) → MatchOrdering o (b <ℤ a) (b ≡ a) (a <ℤ b) → IsLeast R (if is_lt o then Some b else Some a)
-sooner_by P Q R a b p q parts one two Less m = (two b q.0, λ x r. elim (parts x r) [ inl here ↦ (let l = p.1 x here in omega (arith, ints)) | inr here ↦ q.1 x here ])
-sooner_by P Q R a b p q parts one two Equal m = (one a p.0, λ x r. elim (parts x r) [ inl here ↦ p.1 x here | inr here ↦ (let l = q.1 x here in rw (← m) l) ])
-sooner_by P Q R a b p q parts one two Greater m = (one a p.0, λ x r. elim (parts x r) [ inl here ↦ p.1 x here | inr here ↦ (let l = q.1 x here in omega (arith, ints)) ])
+sooner_by P Q R a b p q parts one two Less m =
+    (two b q.0, λ x r. elim (parts x r) [ inl here ↦ (let l = p.1 x here in omega (arith, ints)) | inr here ↦ q.1 x here ])
+sooner_by P Q R a b p q parts one two Equal m =
+    (one a p.0, λ x r. elim (parts x r) [ inl here ↦ p.1 x here | inr here ↦ (let l = q.1 x here in rw (← m) l) ])
+sooner_by P Q R a b p q parts one two Greater m =
+    (one a p.0, λ x r. elim (parts x r) [ inl here ↦ p.1 x here | inr here ↦ (let l = q.1 x here in omega (arith, ints)) ])
 
-pub least_or : (P Q R : ℤ → Type 0) (a b : Option ℤ) → IsLeast P a → IsLeast Q b → ((x : ℤ) → R x → P x ⊎ Q x) → ((x : ℤ) → P x → R x) → ((x : ℤ) → Q x → R x) → IsLeast R (earlier_of a b)
+pub least_or : (P Q R : ℤ → Type 0) (a b : Option ℤ) → IsLeast P a → IsLeast Q b → ((x : ℤ) → R x → P x ⊎ Q x) → ((x : ℤ) → P x → R x) →
+    ((x : ℤ) → Q x → R x) → IsLeast R (earlier_of a b)
 least_or P Q R None None p q parts one two = λ x r. elim (parts x r) [ inl here ↦ p x here | inr here ↦ q x here ]
 least_or P Q R None (Some b) p q parts one two = (two b q.0, λ x r. elim (parts x r) [ inl here ↦ absurd (p x here) | inr here ↦ q.1 x here ])
 least_or P Q R (Some a) None p q parts one two = (one a p.0, λ x r. elim (parts x r) [ inl here ↦ p.1 x here | inr here ↦ absurd (q x here) ])
@@ -96,12 +110,14 @@ DueBelow H n x = (i : ℕ) × (i < n) × SocketDue H i x
 pub below_none : (H : Host) → IsLeast (DueBelow H 0) None
 below_none H = λ x d. absurd (let l = d.1 in omega arith)
 
-pub below_more : (H : Host) (n : ℕ) (a b : Option ℤ) → IsLeast (DueBelow H n) a → IsLeast (SocketDue H n) b → IsLeast (DueBelow H (n + 1)) (earlier_of a b)
+pub below_more : (H : Host) (n : ℕ) (a b : Option ℤ) → IsLeast (DueBelow H n) a → IsLeast (SocketDue H n) b →
+    IsLeast (DueBelow H (n + 1)) (earlier_of a b)
 below_more H n a b p q =
     least_or (DueBelow H n) (SocketDue H n) (DueBelow H (n + 1)) a b p q parts
     (λ x d. (d.0, (let l = d.1 in omega arith), d.2)) (λ x d. (n, (omega arith), d)) where
       parts : (x : ℤ) → DueBelow H (n + 1) x → DueBelow H n x ⊎ SocketDue H n x
-      parts x d = elim (cases_eq d.0 n) [ inl same ↦ inr (subst (λ i. SocketDue H i x) same d.2) | inr other ↦ inl (d.0, (let l = d.1 in omega arith), d.2) ]
+      parts x d =
+          elim (cases_eq d.0 n) [ inl same ↦ inr (subst (λ i. SocketDue H i x) same d.2) | inr other ↦ inl (d.0, (let l = d.1 in omega arith), d.2) ]
 
 within : {A : Type 0} (xs : List A) (i : ℕ) (x : A) → slice_get xs i ≡ Some x → i < length xs
 within [] i x e = absurd cc
@@ -143,7 +159,8 @@ IsThere xs x = (i : ℕ) × (slice_get xs i ≡ Some x)
 there_least : (xs : List ℤ) → IsLeast (IsThere xs) (earliest_of xs)
 there_least [] = λ x d. absurd (let e = d.1 in cc)
 there_least (y ∷ ys) =
-    least_or (λ x. Some y ≡ Some x) (IsThere ys) (IsThere (y ∷ ys)) (Some y) (earliest_of ys) (exact_least (Some y)) (there_least ys) (λ x d. parts x d.0 d.1) (λ x e. (0, e)) (λ x d. (suc d.0, d.1)) where
+    least_or (λ x. Some y ≡ Some x) (IsThere ys) (IsThere (y ∷ ys)) (Some y) (earliest_of ys) (exact_least (Some y)) (there_least ys)
+    (λ x d. parts x d.0 d.1) (λ x e. (0, e)) (λ x d. (suc d.0, d.1)) where
       parts : (x : ℤ) (i : ℕ) → slice_get (y ∷ ys) i ≡ Some x → (Some y ≡ Some x) ⊎ IsThere ys x
       parts x zero e = inl e
       parts x (suc i) e = inr (i, e)
@@ -151,7 +168,8 @@ there_least (y ∷ ys) =
 -- all sources
 abbrev Sources : Host → ℤ → Type 0
 Sources H = Or (AtOnce H.left) (Or (λ x. sync_poll_at H ≡ Some x) (Or (λ x. rs_poll_at H ≡ Some x)
-    (Or (Or (IsThere (prefix_ends H.slaac.prefixes H.moment)) (IsThere (route_ends H.slaac.routers H.moment))) (Or (λ x. group_poll_at Joining H ≡ Some x) (Or (λ x. group_poll_at Leaving H ≡ Some x) (Or (λ x. igmp_poll_at H ≡ Some x) (Or (λ x. mld_timeout_of H.mld_report ≡ Some x)
+    (Or (Or (IsThere (prefix_ends H.slaac.prefixes H.moment)) (IsThere (route_ends H.slaac.routers H.moment))) (Or (λ x. group_poll_at Joining H
+    ≡ Some x) (Or (λ x. group_poll_at Leaving H ≡ Some x) (Or (λ x. igmp_poll_at H ≡ Some x) (Or (λ x. mld_timeout_of H.mld_report ≡ Some x)
     (SocketsDue H))))))))
 
 is_due : (H : Host) (x : ℤ) → Sources H x → Due H x
@@ -186,7 +204,9 @@ pub soonest_least : (H : Host) (a : Option ℤ) → IsLeast (SocketsDue H) a →
 soonest_least H a p =
     least_same (Sources H) (Due H) (soonest H a) (is_due H) (is_source H)
     (or_least _ _ _ _ (once_least H.left) (or_least _ _ _ _ (exact_least (sync_poll_at H)) (or_least _ _ _ _ (exact_least (rs_poll_at H))
-    (or_least _ _ _ _ (or_least _ _ _ _ (there_least (prefix_ends H.slaac.prefixes H.moment)) (there_least (route_ends H.slaac.routers H.moment))) (or_least _ _ _ _ (exact_least (group_poll_at Joining H)) (or_least _ _ _ _ (exact_least (group_poll_at Leaving H)) (or_least _ _ _ _ (exact_least (igmp_poll_at H))
+    (or_least _ _ _ _ (or_least _ _ _ _ (there_least (prefix_ends H.slaac.prefixes H.moment)) (there_least (route_ends H.slaac.routers H.moment)))
+    (or_least _ _ _ _ (exact_least (group_poll_at Joining H))
+    (or_least _ _ _ _ (exact_least (group_poll_at Leaving H)) (or_least _ _ _ _ (exact_least (igmp_poll_at H))
     (or_least _ _ _ _ (exact_least (mld_timeout_of H.mld_report)) p))))))))
 
 pub due_least : (H : Host) (a : Option ℤ) → IsLeast (DueBelow H (length H.sockets.places)) a → IsLeast (Due H) (soonest H a)

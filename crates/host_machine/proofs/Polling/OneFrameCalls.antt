@@ -15,35 +15,43 @@ use Rattle.host_machine.specs.Receiving.Response.{Responds}
 use Rattle.host_machine.specs.Polling.Ingress.{Ingress}
 use Rattle.host_machine.proofs.Receiving.Malformed.{handed_frames-sends, sent_frames-sends}
 
-emitted : {id : ℕ} {p : Packet} {h : HardwareAddress} {outcome : Outcome} {H new : Host} {frames : List (List ℕ)} {notes : List Note} → Emits id p h outcome H frames notes new → length frames ≤ 1
+emitted : {id : ℕ} {p : Packet} {h : HardwareAddress} {outcome : Outcome} {H new : Host} {frames : List (List ℕ)} {notes : List Note} →
+    Emits id p h outcome H frames notes new → length frames ≤ 1
 emitted (dispatch.Whole fits formed o f n e) = rw f (lit≤ tt)
 emitted (dispatch.InPieces q first rest is long short pieces fits formed o f n e) = rw f (lit≤ tt)
 emitted (dispatch.TooLong long longer o u) = rw u.silent (lit≤ tt)
 
-discovered : {hop : _} {own : _} {outcome : Outcome} {H new : Host} {frames : List (List ℕ)} {notes : List Note} → Discovers own hop outcome H frames notes new → length frames ≤ 1
+discovered : {hop : _} {own : _} {outcome : Outcome} {H new : Host} {frames : List (List ℕ)} {notes : List Note} →
+    Discovers own hop outcome H frames notes new → length frames ≤ 1
 discovered (dispatch.Asked target source h s o f n e) = rw f (lit≤ tt)
 discovered (dispatch.NoSource target h s o u) = rw u.silent (lit≤ tt)
 discovered (dispatch.Solicited target h o f n e) = rw f (lit≤ tt)
 
-by_hop : {id : ℕ} {own : _} {p : Packet} {hop : _} {outcome : Outcome} {H new : Host} {frames : List (List ℕ)} {notes : List Note} → DispatchesByHop id own p hop outcome H frames notes new → length frames ≤ 1
+by_hop : {id : ℕ} {own : _} {p : Packet} {hop : _} {outcome : Outcome} {H new : Host} {frames : List (List ℕ)} {notes : List Note} →
+    DispatchesByHop id own p hop outcome H frames notes new → length frames ≤ 1
 by_hop (dispatch.Known h k e) = emitted e
 by_hop (dispatch.Silent s o u) = rw u.silent (lit≤ tt)
 by_hop (dispatch.Unknown u d) = discovered d
 
-over_ethernet : {id : ℕ} {own : _} {p : Packet} {outcome : Outcome} {H new : Host} {frames : List (List ℕ)} {notes : List Note} → DispatchesEthernet id own p outcome H frames notes new → length frames ≤ 1
+over_ethernet : {id : ℕ} {own : _} {p : Packet} {outcome : Outcome} {H new : Host} {frames : List (List ℕ)} {notes : List Note} →
+    DispatchesEthernet id own p outcome H frames notes new → length frames ≤ 1
 over_ethernet (dispatch.ToMulticast h m e) = emitted e
 over_ethernet (dispatch.NoHop m n o u) = rw u.silent (lit≤ tt)
 over_ethernet (dispatch.ByHop hop m n s) = by_hop s
 
-over : (id : ℕ) (h : HardwareAddress) (p : Packet) (outcome : Outcome) (H : Host) (frames : List (List ℕ)) (notes : List Note) (new : Host) → SendsOver id h p outcome H frames notes new → length frames ≤ 1
+over : (id : ℕ) (h : HardwareAddress) (p : Packet) (outcome : Outcome) (H : Host) (frames : List (List ℕ)) (notes : List Note) (new : Host) →
+    SendsOver id h p outcome H frames notes new → length frames ≤ 1
 over id (hardware.Ethernet own) p outcome H frames notes new s = over_ethernet s
 over id hardware.Ip p outcome H frames notes new s = emitted s
 
-dispatched : {p : Packet} {outcome : Outcome} {H new : Host} {frames : List (List ℕ)} {notes : List Note} → Dispatches p outcome H frames notes new → length frames ≤ 1
+dispatched : {p : Packet} {outcome : Outcome} {H new : Host} {frames : List (List ℕ)} {notes : List Note} →
+    Dispatches p outcome H frames notes new → length frames ≤ 1
 dispatched (dispatch.ToUnspecified n o u) = rw u.silent (lit≤ tt)
-dispatched {p} {outcome} {H} {new} {frames} {notes} (dispatch.ToSpecified more s d n) = over H.ipv4_id H.hardware_addr p outcome (with_next_id H) frames more new d
+dispatched {p} {outcome} {H} {new} {frames} {notes} (dispatch.ToSpecified more s d n) =
+    over H.ipv4_id H.hardware_addr p outcome (with_next_id H) frames more new d
 
-responded : (reply : Option Reply) (H : Host) (frames : List (List ℕ)) (notes : List Note) (new : Host) → Responds reply H frames notes new → length frames ≤ 1
+responded : (reply : Option Reply) (H : Host) (frames : List (List ℕ)) (notes : List Note) (new : Host) →
+    Responds reply H frames notes new → length frames ≤ 1
 responded None H frames notes new r = rw r.0 (lit≤ tt)
 responded (Some (Arp packet)) H frames notes new r = rw r.0 (lit≤ tt)
 responded (Some (Ip packet)) H frames notes new r = dispatched r.1

@@ -18,32 +18,41 @@ module _ (Law : Part) (nothing : (H : Host) → Law H [] [] H)
       ((old new : Host) (told : List Event) (notes : List Note) → two old told notes new → Law old told notes new) →
       (old new : Host) (told : List Event) (notes : List Note) → Both one two old told notes new → Law old told notes new
   both first second old new told notes b =
-      rw (b.events, b.all_notes) (on old b.mid new b.told_one b.told_two b.notes_one b.notes_two (first old b.mid b.told_one b.notes_one b.begins) (second b.mid new b.told_two b.notes_two b.ends))
+      rw (b.events, b.all_notes) (on old b.mid new b.told_one b.told_two b.notes_one b.notes_two (first old b.mid b.told_one b.notes_one b.begins)
+      (second b.mid new b.told_two b.notes_two b.ends))
 
   -- calls of one kind, one after the other
   module _ {A : Type 0} {call : A → Host → List Event → List Note → Host → Type 0} {none : A} {changes : A → Bool}
       (called : (answer : A) (old new : Host) (told : List Event) (notes : List Note) → call answer old told notes new → Law old told notes new) where
-    repeated : {old new : Host} {n : ℕ} {told : List Event} {notes : List Note} {changed : Bool} → Repeats call none changes old n told notes new changed → Law old told notes new
+    repeated : {old new : Host} {n : ℕ} {told : List Event} {notes : List Note} {changed : Bool} →
+        Repeats call none changes old n told notes new changed → Law old told notes new
     repeated {old} Begins = nothing old
-    repeated {old} {new} (Again {told_so = ts} {notes_so = so} {mid = mid} answer told notes _ r c some) = on old mid new ts told so notes (repeated r) (called answer mid new told notes c)
+    repeated {old} {new} (Again {told_so = ts} {notes_so = so} {mid = mid} answer told notes _ r c some) =
+        on old mid new ts told so notes (repeated r) (called answer mid new told notes c)
 
-    pub until : {budget : ℕ} {changed : Bool} {old new : Host} {told : List Event} {notes : List Note} → Until call none changes budget changed old told notes new → Law old told notes new
+    pub until : {budget : ℕ} {changed : Bool} {old new : Host} {told : List Event} {notes : List Note} →
+        Until call none changes budget changed old told notes new → Law old told notes new
     until (Spent r) = repeated r
     until {old = old} {new = new} (Done n told_so told_last notes_so notes_last mid l r c t e) =
         rw (t, e) (on old mid new told_so told_last notes_so notes_last (repeated r) (called none mid new told_last notes_last c))
 
   -- of a poll, behind its maintenance
   pub worked : (t : ℤ) →
-      ((answer : PollIngressSingleResult) (old new : Host) (told : List Event) (notes : List Note) → Ingress t answer old told notes new → Law old told notes new) →
+      ((answer : PollIngressSingleResult) (old new : Host) (told : List Event) (notes : List Note) →
+      Ingress t answer old told notes new → Law old told notes new) →
       ((answer : PollResult) (old new : Host) (told : List Event) (notes : List Note) → Egress t answer old told notes new → Law old told notes new) →
-      {budget : ℕ} {answer : PollResult} {old new : Host} {told : List Event} {notes : List Note} → Polls t budget answer old told notes new → Law (after_maintenance (at old t)) told notes new
+      {budget : ℕ} {answer : PollResult} {old new : Host} {told : List Event} {notes : List Note} →
+      Polls t budget answer old told notes new → Law (after_maintenance (at old t)) told notes new
   worked t ingress egress {old = old} {new = new} p =
-      rw (p.events, p.all_notes) (on (after_maintenance (at old t)) p.mid new p.told_receiving p.told_sending p.notes_receiving p.notes_sending (until ingress p.receives) (until egress p.sends))
+      rw (p.events, p.all_notes) (on (after_maintenance (at old t)) p.mid new p.told_receiving p.told_sending p.notes_receiving p.notes_sending
+      (until ingress p.receives) (until egress p.sends))
 
   -- and of the whole of it
   pub polled : (t : ℤ) → ((H : Host) → Law H [] [] (after_maintenance (at H t))) →
-      ((answer : PollIngressSingleResult) (old new : Host) (told : List Event) (notes : List Note) → Ingress t answer old told notes new → Law old told notes new) →
+      ((answer : PollIngressSingleResult) (old new : Host) (told : List Event) (notes : List Note) →
+      Ingress t answer old told notes new → Law old told notes new) →
       ((answer : PollResult) (old new : Host) (told : List Event) (notes : List Note) → Egress t answer old told notes new → Law old told notes new) →
-      {budget : ℕ} {answer : PollResult} {old new : Host} {told : List Event} {notes : List Note} → Polls t budget answer old told notes new → Law old told notes new
+      {budget : ℕ} {answer : PollResult} {old new : Host} {told : List Event} {notes : List Note} →
+      Polls t budget answer old told notes new → Law old told notes new
   polled t maintains ingress egress {old = old} {new = new} {told = told} {notes = notes} p =
       on old (after_maintenance (at old t)) new [] told [] notes (maintains old) (worked t ingress egress p)

@@ -36,7 +36,8 @@ run_laws {first} {last} {transitions} r = record {
   quiet = run_quiet r;
 }
 
-did_on : {O : Type 0} {did : O → ℕ → SocketSet → SocketSet → O → Type 0} {o m p : O} {xs ys : List Act} → Did did o xs m → Did did m ys p → Did did o (xs ++ ys) p
+did_on : {O : Type 0} {did : O → ℕ → SocketSet → SocketSet → O → Type 0} {o m p : O} {xs ys : List Act} →
+    Did did o xs m → Did did m ys p → Did did o (xs ++ ys) p
 did_on NoAct more = more
 did_on (ThenAct a d) more = ThenAct a (did_on d more)
 
@@ -55,7 +56,8 @@ module _ {D O : Type 0} (tells : D → List Event → D → Type 0) (did : O →
     laws = run_laws Ends;
   }
 
-  pub ran_on : (d m e : D) (o p q : O) (commands more_commands : List Command) (answers more_answers : List Answer) (H : Host) (mid after : Host → Type 0) →
+  pub ran_on : (d m e : D) (o p q : O) (commands more_commands : List Command) (answers more_answers : List Answer)
+      (H : Host) (mid after : Host → Type 0) →
       Ran tells did d m o p commands answers H mid → ((K : Host) → mid K → Ran tells did m e p q more_commands more_answers K after) →
       Ran tells did d e o q (commands ++ more_commands) (answers ++ more_answers) H after
   ran_on d m e o p q commands more_commands answers more_answers H mid after ran goes =

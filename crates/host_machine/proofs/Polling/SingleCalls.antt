@@ -31,13 +31,15 @@ pub notes_in-append : (ps qs : List Transition) → notes_in (ps ++ qs) ≡ note
 notes_in-append [] qs = refl
 notes_in-append (p ∷ ps) qs = ap (λ t. p.notes ++ t) (notes_in-append ps qs) ∙ sym (append_assoc p.notes (notes_in ps) (notes_in qs))
 
-all_on : (R : Command → Type 0) (ps qs : List Transition) → AllByRecursion (λ p. R p.command) ps → AllByRecursion (λ p. R p.command) qs → AllByRecursion (λ p. R p.command) (ps ++ qs)
+all_on : (R : Command → Type 0) (ps qs : List Transition) → AllByRecursion (λ p. R p.command) ps → AllByRecursion (λ p. R p.command) qs →
+    AllByRecursion (λ p. R p.command) (ps ++ qs)
 all_on R [] qs a b = b
 all_on R (p ∷ ps) qs a b = (a.0, all_on R ps qs a.1 b)
 
 -- what is so of the commands of a run is so of the single calls, if it is of those of a poll
 module _ (Q R : Command → Type 0) (single : (c : Command) → IsSingle c → Q c → R c)
-    (polls : (t : ℤ) (budget : ℕ) → Q (command.Poll t budget) → R (command.PollMaintenance t) × R (command.PollIngressSingle t) × R (command.PollEgress t)) where
+    (polls : (t : ℤ) (budget : ℕ) →
+    Q (command.Poll t budget) → R (command.PollMaintenance t) × R (command.PollIngressSingle t) × R (command.PollEgress t)) where
   -- single calls from a host to a host, by which this is told, done and noted
   pub record Singles (old : Host) (told : List Event) (acts : List Act) (notes : List Note) (new : Host) : Type 0 where
     pub transitions : List Transition
@@ -50,7 +52,8 @@ module _ (Q R : Command → Type 0) (single : (c : Command) → IsSingle c → Q
   no_call : (H : Host) → Singles H [] [] [] H
   no_call H = record { transitions = []; run = Ends; are = tt; all_told = refl; all_acts = refl; all_notes = refl }
 
-  one_call : {c : Command} {a : Answer} {old new : Host} {told : List Event} {acts : List Act} {notes : List Note} → R c → Step c a old told acts notes new → Singles old told acts notes new
+  one_call : {c : Command} {a : Answer} {old new : Host} {told : List Event} {acts : List Act} {notes : List Note} →
+      R c → Step c a old told acts notes new → Singles old told acts notes new
   one_call {c} {a} {old} {new} {told} {acts} {notes} is s = record {
     transitions = record { command = c; answer = a; told = told; acts = acts; notes = notes; before = old; after = new } ∷ [];
     run = Then s Ends;
@@ -60,7 +63,8 @@ module _ (Q R : Command → Type 0) (single : (c : Command) → IsSingle c → Q
     all_notes = append-nil notes;
   }
 
-  calls_on : (a b c : Host) (ts us : List Event) (ds es : List Act) (xs ys : List Note) → Singles a ts ds xs b → Singles b us es ys c → Singles a (ts ++ us) (ds ++ es) (xs ++ ys) c
+  calls_on : (a b c : Host) (ts us : List Event) (ds es : List Act) (xs ys : List Note) →
+      Singles a ts ds xs b → Singles b us es ys c → Singles a (ts ++ us) (ds ++ es) (xs ++ ys) c
   calls_on a b c ts us ds es xs ys one two = record {
     transitions = one.transitions ++ two.transitions;
     run = run_on one.run two.run;
@@ -70,7 +74,8 @@ module _ (Q R : Command → Type 0) (single : (c : Command) → IsSingle c → Q
     all_notes = notes_in-append one.transitions two.transitions ∙ rw (one.all_notes, two.all_notes) refl;
   }
 
-  singles : {c : Command} {a : Answer} {old new : Host} {told : List Event} {acts : List Act} {notes : List Note} → Q c → Step c a old told acts notes new → Singles old told acts notes new
+  singles : {c : Command} {a : Answer} {old new : Host} {told : List Event} {acts : List Act} {notes : List Note} →
+      Q c → Step c a old told acts notes new → Singles old told acts notes new
   singles q (step.Polled {t} {budget} {result} {old} {new} {told} {notes} p) =
       polled (λ old told notes new. Singles old told [] notes new) no_call (λ a b c ts us xs ys one two. calls_on a b c ts us [] [] xs ys one two)
       t (λ H. one_call {c = command.PollMaintenance t} (polls t budget q).0 step.PolledMaintenance)
@@ -79,9 +84,11 @@ module _ (Q R : Command → Type 0) (single : (c : Command) → IsSingle c → Q
       p
   singles q other = one_call (single _ tt q) other
 
-  pub all_singles : {first last : Host} {transitions : List Transition} → AllByRecursion (λ p. Q p.command) transitions → Run first transitions last → Singles first (events_in transitions) (acts_in transitions) (notes_in transitions) last
+  pub all_singles : {first last : Host} {transitions : List Transition} → AllByRecursion (λ p. Q p.command) transitions → Run first transitions last →
+      Singles first (events_in transitions) (acts_in transitions) (notes_in transitions) last
   all_singles {first} q Ends = no_call first
-  all_singles q (Then {told = told} {acts = acts} {notes = notes} {transitions = ps} s r) = calls_on _ _ _ told (events_in ps) acts (acts_in ps) notes (notes_in ps) (singles q.0 s) (all_singles q.1 r)
+  all_singles q (Then {told = told} {acts = acts} {notes = notes} {transitions = ps} s r) =
+      calls_on _ _ _ told (events_in ps) acts (acts_in ps) notes (notes_in ps) (singles q.0 s) (all_singles q.1 r)
 
 any_command : (ps : List Transition) → AllByRecursion (λ p. Unit {0}) ps
 any_command [] = tt

@@ -43,9 +43,11 @@ sent_line s t = by (is_its_time s t) (s.left == 0) where
 routers_line : {H new : Host} {told : List Event} {notes : List Note} → NdiscRsEgress H told notes new → line_of new.slaac ≡ line_of H.slaac
 routers_line (slaac.NotDue d e m y) = ap (λ (K : Host). line_of K.slaac) y
 routers_line (slaac.NotGranted p d e m y) = ap (λ (K : Host). line_of K.slaac) y
-routers_line (slaac.Goes p o f mid d s e y) = ap (λ (K : Host). line_of K.slaac) y ∙ sent_line mid.slaac mid.moment ∙ ap (λ (K : Host). line_of K.slaac) (dispatched_gone s)
+routers_line (slaac.Goes p o f mid d s e y) = ap (λ (K : Host). line_of K.slaac) y ∙ sent_line mid.slaac mid.moment
+    ∙ ap (λ (K : Host). line_of K.slaac) (dispatched_gone s)
 
-egress_line : {t : ℤ} {answer : PollResult} {old new : Host} {told : List Event} {notes : List Note} → Egress t answer old told notes new → line_of new.slaac ≡ line_of old.slaac
+egress_line : {t : ℤ} {answer : PollResult} {old new : Host} {told : List Event} {notes : List Note} →
+    Egress t answer old told notes new → line_of new.slaac ≡ line_of old.slaac
 egress_line e =
     let a = e.round in
     let b = a.ends in
@@ -53,8 +55,10 @@ egress_line e =
     let d = c.ends in
     let f = d.ends in
     let g = f.ends in
-    ap (λ (K : Host). line_of K.slaac) (all_kept g.ends) ∙ ap (λ (K : Host). line_of K.slaac) (mld_kept g.begins) ∙ ap (λ (K : Host). line_of K.slaac) (igmp_kept f.begins)
-    ∙ ap (λ (K : Host). line_of K.slaac) (groups_kept Leaving leave_packet leave_reported d.begins) ∙ ap (λ (K : Host). line_of K.slaac) (groups_kept Joining join_packet join_reported c.begins)
+    ap (λ (K : Host). line_of K.slaac) (all_kept g.ends) ∙ ap (λ (K : Host). line_of K.slaac) (mld_kept g.begins)
+    ∙ ap (λ (K : Host). line_of K.slaac) (igmp_kept f.begins)
+    ∙ ap (λ (K : Host). line_of K.slaac) (groups_kept Leaving leave_packet leave_reported d.begins)
+    ∙ ap (λ (K : Host). line_of K.slaac) (groups_kept Joining join_packet join_reported c.begins)
     ∙ routers_line b.begins ∙ ap (λ (K : Host). line_of K.slaac) (piece_gone a.begins)
 
 -- calls that receive, without a frame
@@ -74,36 +78,43 @@ none_of (x ∷ xs) ys e = absurd cc
 nothing_handed : (xs ys : List Event) → handed_frames (xs ++ ys) ≡ [] → (handed_frames xs ≡ []) × (handed_frames ys ≡ [])
 nothing_handed xs ys e = none_of (handed_frames xs) (handed_frames ys) (sym (handed_frames-append xs ys) ∙ e)
 
-taken_line : (t : ℤ) (H : Host) (r : Reception) (es : List Event) (reply : Option Reply) (notes : List Note) (new : Host) → Takes H r reply notes new → handed_frames (Received t r ∷ es) ≡ [] → IsDropped H reply notes new
+taken_line : (t : ℤ) (H : Host) (r : Reception) (es : List Event) (reply : Option Reply) (notes : List Note) (new : Host) →
+    Takes H r reply notes new → handed_frames (Received t r ∷ es) ≡ [] → IsDropped H reply notes new
 taken_line t H Nothing es reply notes new k e = k
 taken_line t H Withheld es reply notes new k e = k
 taken_line t H (Frame f) es reply notes new k e = absurd cc
 
-ingress_line : {t : ℤ} {answer : PollIngressSingleResult} {old new : Host} {told : List Event} {notes : List Note} → Ingress t answer old told notes new → handed_frames told ≡ [] → line_of new.slaac ≡ line_of old.slaac
+ingress_line : {t : ℤ} {answer : PollIngressSingleResult} {old new : Host} {told : List Event} {notes : List Note} →
+    Ingress t answer old told notes new → handed_frames told ≡ [] → line_of new.slaac ≡ line_of old.slaac
 ingress_line {t} {answer} {old} {new} {told} {notes} i none =
-    let d = taken_line t (without_expired old t) i.reception (sends i.frames) i.response.reply i.response.notes_taking i.response.taken i.response.takes (sym (ap handed_frames i.events) ∙ none) in
+    let d = taken_line t (without_expired old t) i.reception (sends i.frames) i.response.reply i.response.notes_taking i.response.taken
+    i.response.takes (sym (ap handed_frames i.events) ∙ none) in
     let r = nothing_responded d.silent i.response.responds in
     ap (λ (K : Host). line_of K.slaac) (r.2 ∙ d.unchanged)
 
-receives_line : {t : ℤ} {old new : Host} {n : ℕ} {told : List Event} {notes : List Note} {changed : Bool} → Repeats (Ingress t) ingress.None may_change old n told notes new changed → handed_frames told ≡ [] →
+receives_line : {t : ℤ} {old new : Host} {n : ℕ} {told : List Event} {notes : List Note} {changed : Bool} →
+    Repeats (Ingress t) ingress.None may_change old n told notes new changed → handed_frames told ≡ [] →
     line_of new.slaac ≡ line_of old.slaac
 receives_line polling.Begins none = refl
 receives_line (polling.Again {told_so = so} answer told notes new r call other) none =
     let parts = nothing_handed so told none in
     ingress_line call parts.1 ∙ receives_line r parts.0
 
-received_line : {t : ℤ} {budget : ℕ} {changed : Bool} {old new : Host} {told : List Event} {notes : List Note} → Until (Ingress t) ingress.None may_change budget changed old told notes new → handed_frames told ≡ [] →
+received_line : {t : ℤ} {budget : ℕ} {changed : Bool} {old new : Host} {told : List Event} {notes : List Note} →
+    Until (Ingress t) ingress.None may_change budget changed old told notes new → handed_frames told ≡ [] →
     line_of new.slaac ≡ line_of old.slaac
 received_line (polling.Spent r) none = receives_line r none
 received_line (polling.Done n so last notes_so notes_last mid less r call e f) none =
     let parts = nothing_handed so last (sym (ap handed_frames e) ∙ none) in
     ingress_line call parts.1 ∙ receives_line r parts.0
 
-sends_line : {t : ℤ} {old new : Host} {n : ℕ} {told : List Event} {notes : List Note} {changed : Bool} → Repeats (Egress t) result.None is_changed old n told notes new changed → line_of new.slaac ≡ line_of old.slaac
+sends_line : {t : ℤ} {old new : Host} {n : ℕ} {told : List Event} {notes : List Note} {changed : Bool} →
+    Repeats (Egress t) result.None is_changed old n told notes new changed → line_of new.slaac ≡ line_of old.slaac
 sends_line polling.Begins = refl
 sends_line (polling.Again answer told notes new r call other) = egress_line call ∙ sends_line r
 
-sent_all_line : {t : ℤ} {budget : ℕ} {changed : Bool} {old new : Host} {told : List Event} {notes : List Note} → Until (Egress t) result.None is_changed budget changed old told notes new →
+sent_all_line : {t : ℤ} {budget : ℕ} {changed : Bool} {old new : Host} {told : List Event} {notes : List Note} →
+    Until (Egress t) result.None is_changed budget changed old told notes new →
     line_of new.slaac ≡ line_of old.slaac
 sent_all_line (polling.Spent r) = sends_line r
 sent_all_line (polling.Done n so last notes_so notes_last mid less r call e f) = egress_line call ∙ sends_line r
@@ -135,12 +146,14 @@ polls_sync_slaac t budget answer old new told notes p none =
 
 -- The last call
 
-ends_in : {t : ℤ} {old new : Host} {n : ℕ} {told : List Event} {notes : List Note} {changed : Bool} → Repeats (Egress t) result.None is_changed old n told notes new changed → 1 ≤ n → EndsIn t told new
+ends_in : {t : ℤ} {old new : Host} {n : ℕ} {told : List Event} {notes : List Note} {changed : Bool} →
+    Repeats (Egress t) result.None is_changed old n told notes new changed → 1 ≤ n → EndsIn t told new
 ends_in polling.Begins some = absurd (omega (arith, some))
 ends_in (polling.Again {told_so = so} {mid = mid} answer told notes new r call other) some =
     record { mid = mid; answer = answer; front = so; told_last = told; notes_last = notes; call = call; behind = refl }
 
-until_ends_in : {t : ℤ} {budget : ℕ} {changed : Bool} {old new : Host} {told : List Event} {notes : List Note} → Until (Egress t) result.None is_changed budget changed old told notes new → 1 ≤ budget → EndsIn t told new
+until_ends_in : {t : ℤ} {budget : ℕ} {changed : Bool} {old new : Host} {told : List Event} {notes : List Note} →
+    Until (Egress t) result.None is_changed budget changed old told notes new → 1 ≤ budget → EndsIn t told new
 until_ends_in (polling.Spent r) some = ends_in r some
 until_ends_in (polling.Done n so last notes_so notes_last mid less r call e f) some =
     record { mid = mid; answer = result.None; front = so; told_last = last; notes_last = notes_last; call = call; behind = e }
@@ -166,30 +179,36 @@ HasWaits H = length H.sockets.waits ≡ length H.sockets.places
 waits_as : (H K : Host) → K.sockets ≡ H.sockets → HasWaits H → HasWaits K
 waits_as H K e h = ap (λ s. length s.waits) e ∙ h ∙ sym (ap (λ s. length s.places) e)
 
-egress_waits : {t : ℤ} {answer : PollResult} {old new : Host} {told : List Event} {notes : List Note} → Egress t answer old told notes new → HasWaits old → HasWaits new
+egress_waits : {t : ℤ} {answer : PollResult} {old new : Host} {told : List Event} {notes : List Note} →
+    Egress t answer old told notes new → HasWaits old → HasWaits new
 egress_waits {old = old} e h =
     let k = to_sockets e in
     let whole = (all_untouched k.sends_them).1 in
     let mid : HasWaits k.mid = waits_as old k.mid (ap (λ (K : Host). K.sockets) k.way) h in
     whole.waits ∙ mid ∙ sym whole.places
 
-sends_waits : {t : ℤ} {old new : Host} {n : ℕ} {told : List Event} {notes : List Note} {changed : Bool} → Repeats (Egress t) result.None is_changed old n told notes new changed → HasWaits old → HasWaits new
+sends_waits : {t : ℤ} {old new : Host} {n : ℕ} {told : List Event} {notes : List Note} {changed : Bool} →
+    Repeats (Egress t) result.None is_changed old n told notes new changed → HasWaits old → HasWaits new
 sends_waits polling.Begins h = h
 sends_waits (polling.Again answer told notes new r call other) h = egress_waits call (sends_waits r h)
 
-ingress_waits : {t : ℤ} {answer : PollIngressSingleResult} {old new : Host} {told : List Event} {notes : List Note} → Ingress t answer old told notes new → handed_frames told ≡ [] → HasWaits old → HasWaits new
+ingress_waits : {t : ℤ} {answer : PollIngressSingleResult} {old new : Host} {told : List Event} {notes : List Note} →
+    Ingress t answer old told notes new → handed_frames told ≡ [] → HasWaits old → HasWaits new
 ingress_waits {t} {answer} {old} {new} i none h =
-    let d = taken_line t (without_expired old t) i.reception (sends i.frames) i.response.reply i.response.notes_taking i.response.taken i.response.takes (sym (ap handed_frames i.events) ∙ none) in
+    let d = taken_line t (without_expired old t) i.reception (sends i.frames) i.response.reply i.response.notes_taking i.response.taken
+    i.response.takes (sym (ap handed_frames i.events) ∙ none) in
     let r = nothing_responded d.silent i.response.responds in
     waits_as old new (ap (λ (K : Host). K.sockets) (r.2 ∙ d.unchanged)) h
 
-receives_waits : {t : ℤ} {old new : Host} {n : ℕ} {told : List Event} {notes : List Note} {changed : Bool} → Repeats (Ingress t) ingress.None may_change old n told notes new changed → handed_frames told ≡ [] → HasWaits old → HasWaits new
+receives_waits : {t : ℤ} {old new : Host} {n : ℕ} {told : List Event} {notes : List Note} {changed : Bool} →
+    Repeats (Ingress t) ingress.None may_change old n told notes new changed → handed_frames told ≡ [] → HasWaits old → HasWaits new
 receives_waits polling.Begins none h = h
 receives_waits (polling.Again {told_so = so} answer told notes new r call other) none h =
     let parts = nothing_handed so told none in
     ingress_waits call parts.1 (receives_waits r parts.0 h)
 
-received_waits : {t : ℤ} {budget : ℕ} {changed : Bool} {old new : Host} {told : List Event} {notes : List Note} → Until (Ingress t) ingress.None may_change budget changed old told notes new → handed_frames told ≡ [] → HasWaits old → HasWaits new
+received_waits : {t : ℤ} {budget : ℕ} {changed : Bool} {old new : Host} {told : List Event} {notes : List Note} →
+    Until (Ingress t) ingress.None may_change budget changed old told notes new → handed_frames told ≡ [] → HasWaits old → HasWaits new
 received_waits (polling.Spent r) none h = receives_waits r none h
 received_waits (polling.Done n so last notes_so notes_last mid less r call e f) none h =
     let parts = nothing_handed so last (sym (ap handed_frames e) ∙ none) in
@@ -201,20 +220,25 @@ synced_waits H h = by (sync_required H.slaac H.moment) where
   by true = h
   by false = h
 
-last_grants : {t : ℤ} {answer : PollResult} {mid new : Host} (front last : List Event) {told : List Event} {notes : List Note} (x : ℤ) → Egress t answer mid last notes new → told ≡ front ++ last → all_granted told ≡ true → HasWaits mid →
+last_grants : {t : ℤ} {answer : PollResult} {mid new : Host} (front last : List Event) {told : List Event} {notes : List Note} (x : ℤ) →
+    Egress t answer mid last notes new → told ≡ front ++ last → all_granted told ≡ true → HasWaits mid →
     Due (at new t) x → x ≤ℤ t → (m : Host) × IsStillDue (at m t) (at new t)
 last_grants {t} {answer} {mid} {new} front last {told} {notes} x e is all h named le =
     (mid, little_stays_due t answer mid new last notes x e (given_parts front last (sym (ap all_granted is) ∙ all)).1 h named le)
 
-repeats_grants : {t : ℤ} {old new : Host} {n : ℕ} {told : List Event} {notes : List Note} {changed : Bool} (x : ℤ) → Repeats (Egress t) result.None is_changed old n told notes new changed → 1 ≤ n → all_granted told ≡ true → HasWaits old →
+repeats_grants : {t : ℤ} {old new : Host} {n : ℕ} {told : List Event} {notes : List Note} {changed : Bool} (x : ℤ) →
+    Repeats (Egress t) result.None is_changed old n told notes new changed → 1 ≤ n → all_granted told ≡ true → HasWaits old →
     Due (at new t) x → x ≤ℤ t → (m : Host) × IsStillDue (at m t) (at new t)
 repeats_grants x polling.Begins some all h named le = absurd (omega (arith, some))
-repeats_grants x (polling.Again {told_so = so} answer told notes new r call other) some all h named le = last_grants so told x call refl all (sends_waits r h) named le
+repeats_grants x (polling.Again {told_so = so} answer told notes new r call other) some all h named le =
+    last_grants so told x call refl all (sends_waits r h) named le
 
-until_grants : {t : ℤ} {budget : ℕ} {changed : Bool} {old new : Host} {told : List Event} {notes : List Note} (x : ℤ) → Until (Egress t) result.None is_changed budget changed old told notes new → 1 ≤ budget → all_granted told ≡ true →
+until_grants : {t : ℤ} {budget : ℕ} {changed : Bool} {old new : Host} {told : List Event} {notes : List Note} (x : ℤ) →
+    Until (Egress t) result.None is_changed budget changed old told notes new → 1 ≤ budget → all_granted told ≡ true →
     HasWaits old → Due (at new t) x → x ≤ℤ t → (m : Host) × IsStillDue (at m t) (at new t)
 until_grants x (polling.Spent r) some all h named le = repeats_grants x r some all h named le
-until_grants x (polling.Done n so last notes_so notes_last mid less r call e f) some all h named le = last_grants so last x call e all (sends_waits r h) named le
+until_grants x (polling.Done n so last notes_so notes_last mid less r call e f) some all h named le =
+    last_grants so last x call e all (sends_waits r h) named le
 
 pub polls_leave_little : PollsLeaveLittle
 polls_leave_little t budget answer old new told notes x p some none all h named le =

@@ -46,13 +46,15 @@ record Agree {A : Type 0} (a b : A) (x y : Host) : Type 0 where
 both : {A : Type 0} {a b c : A} {x y z : Host} → a ≡ c → x ≡ z → b ≡ c → y ≡ z → Agree a b x y
 both a x b y = record { answer_is = a ∙ sym b; host_is = x ∙ sym y }
 
-updates_once : {list : List IpCidr} {a b : Result (Unit {0}) AddrError} {H x y : Host} → UpdatesIpAddrs list a H x → UpdatesIpAddrs list b H y → Agree a b x y
+updates_once : {list : List IpCidr} {a b : Result (Unit {0}) AddrError} {H x y : Host} →
+    UpdatesIpAddrs list a H x → UpdatesIpAddrs list b H y → Agree a b x y
 updates_once (step.Accepted t a x) (step.Accepted t' b y) = both a x b y
 updates_once (step.Accepted t a x) (step.Refused t' b y) = absurd cc
 updates_once (step.Refused t a x) (step.Accepted t' b y) = absurd cc
 updates_once (step.Refused t a x) (step.Refused t' b y) = both a x b y
 
-hardware_once : {h : HardwareAddress} {a b : Result (Unit {0}) HardwareError} {H x y : Host} → SetsHardwareAddr h a H x → SetsHardwareAddr h b H y → Agree a b x y
+hardware_once : {h : HardwareAddress} {a b : Result (Unit {0}) HardwareError} {H x y : Host} →
+    SetsHardwareAddr h a H x → SetsHardwareAddr h b H y → Agree a b x y
 hardware_once (step.Taken t of a x) (step.Taken t' of' b y) = both a x b y
 hardware_once (step.Taken t of a x) (step.NotTaken e t' b y) = absurd cc
 hardware_once (step.NotTaken e t a x) (step.Taken t' of b y) = absurd cc
@@ -61,7 +63,8 @@ hardware_once (step.NotTaken e t a x) (step.NotTaken f t' b y) =
     let one : e ≡ f = cc in
     both a x (rw one b) y
 
-timeout_once : {timeout : ℕ} {a b : Result (Unit {0}) TimeoutError} {H x y : Host} → SetsReassemblyTimeout timeout a H x → SetsReassemblyTimeout timeout b H y → Agree a b x y
+timeout_once : {timeout : ℕ} {a b : Result (Unit {0}) TimeoutError} {H x y : Host} →
+    SetsReassemblyTimeout timeout a H x → SetsReassemblyTimeout timeout b H y → Agree a b x y
 timeout_once (step.WithinDay t a x) (step.WithinDay t' b y) = both a x b y
 timeout_once (step.WithinDay t a x) (step.OverDay t' b y) = absurd (omega (arith, t, t'))
 timeout_once (step.OverDay t a x) (step.WithinDay t' b y) = absurd (omega (arith, t, t'))
@@ -91,7 +94,8 @@ quiet answer one = record { answer_is = ap answer one.answer_is; told_is = refl;
 same : {A : Type 0} {a : A} {x : Host} → IsOneCall a a [] [] [] [] x x
 same = record { answer_is = refl; told_is = refl; notes_are = refl; host_is = refl }
 
-named : {A B : Type 0} {a b : A} {t t' : List Event} {n n' : List Note} {x y : Host} (answer : A → B) → IsOneCall a b t t' n n' x y → IsOneCall (answer a) (answer b) t t' n n' x y
+named : {A B : Type 0} {a b : A} {t t' : List Event} {n n' : List Note} {x y : Host} (answer : A → B) →
+    IsOneCall a b t t' n n' x y → IsOneCall (answer a) (answer b) t t' n n' x y
 named answer one = record { answer_is = ap answer one.answer_is; told_is = one.told_is; notes_are = one.notes_are; host_is = one.host_is }
 
 -- the sockets that the owner leaves
@@ -108,12 +112,16 @@ idle : {a b : Answer} {t t' : List Event} {n n' : List Note} {x y : Host} → Is
 idle one = record { call_is = one; acts_are = refl }
 
 -- with what is given, which leaves and what is done behind them
-pub step_on : (command : Command) (answer answer' : Answer) (old new new' : Host) (told told' : List Event) (acts acts' : List Act) (notes notes' : List Note)
-    (rest rest' : List Reception) (more more' : List Bool) (others others' : List Act) → Step command answer old told acts notes new → Step command answer' old told' acts' notes' new' →
+pub step_on : (command : Command) (answer answer' : Answer) (old new new' : Host) (told told' : List Event)
+    (acts acts' : List Act) (notes notes' : List Note)
+    (rest rest' : List Reception) (more more' : List Bool) (others others' : List Act) →
+    Step command answer old told acts notes new → Step command answer' old told' acts' notes' new' →
     receptions told ++ rest ≡ receptions told' ++ rest' → grants told ++ more ≡ grants told' ++ more' → acts ++ others ≡ acts' ++ others' →
     IsOneStep answer answer' told told' acts acts' notes notes' new new' ⊎ StepsDiffer old new new' told told' notes notes' command
-step_on c a a' old x x' t t' d d' n n' r r' m m' o o' (step.UpdatedIpAddrs u) (step.UpdatedIpAddrs v) given leave act = inl (idle (quiet answer.UpdateIpAddrs (updates_once u v)))
-step_on c a a' old x x' t t' d d' n n' r r' m m' o o' (step.PolledIngressSingle {t = k} {result = e} i) (step.PolledIngressSingle {result = f} j) given leave act =
+step_on c a a' old x x' t t' d d' n n' r r' m m' o o' (step.UpdatedIpAddrs u) (step.UpdatedIpAddrs v) given leave act =
+    inl (idle (quiet answer.UpdateIpAddrs (updates_once u v)))
+step_on c a a' old x x' t t' d d' n n' r r' m m' o o' (step.PolledIngressSingle {t = k} {result = e} i)
+    (step.PolledIngressSingle {result = f} j) given leave act =
     elim (ingress_on k e f old t t' n n' x x' r r' i j given) [
       | inl one ↦ inl (idle (named answer.PollIngressSingle one))
       | inr differ ↦ inr (InIngress differ)
@@ -126,7 +134,8 @@ step_on c a a' old x x' t t' d d' n n' r r' m m' o o' (step.Polled {t = k} {budg
       | inr differ ↦ inr (InPoll differ)
     ]
 step_on c a a' old x x' t t' d d' n n' r r' m m' o o' step.PolledMaintenance step.PolledMaintenance given leave act = inl (idle same)
-step_on c a a' old x x' t t' d d' n n' r r' m m' o o' (step.PolledAt {t = k} {end = e} l) (step.PolledAt {end = f} l') given leave act = inl (idle (quiet answer.PollAt (record { answer_is = least_once (Due (at old k)) e f l l'; host_is = refl })))
+step_on c a a' old x x' t t' d d' n n' r r' m m' o o' (step.PolledAt {t = k} {end = e} l) (step.PolledAt {end = f} l') given leave act =
+    inl (idle (quiet answer.PollAt (record { answer_is = least_once (Due (at old k)) e f l l'; host_is = refl })))
 step_on c a a' old x x' t t' d d' n n' r r' m m' o o' (step.PolledDelay {t = k} e l s) (step.PolledDelay f l' s') given leave act =
     let end : e ≡ f = least_once (Due (at old k)) e f l l' in
     inl (idle (quiet answer.PollDelay (record { answer_is = rest_once s (rw end s'); host_is = refl })))
@@ -135,11 +144,15 @@ step_on c a a' old x x' t t' d d' n n' r r' m m' o o' step.AddedDefaultIpv4Route
 step_on c a a' old x x' t t' d d' n n' r r' m m' o o' step.RemovedDefaultIpv4Route step.RemovedDefaultIpv4Route given leave act = inl (idle same)
 step_on c a a' old x x' t t' d d' n n' r r' m m' o o' step.AddedDefaultIpv6Route step.AddedDefaultIpv6Route given leave act = inl (idle same)
 step_on c a a' old x x' t t' d d' n n' r r' m m' o o' step.RemovedDefaultIpv6Route step.RemovedDefaultIpv6Route given leave act = inl (idle same)
-step_on c a a' old x x' t t' d d' n n' r r' m m' o o' (step.JoinedGroup j) (step.JoinedGroup k) given leave act = inl (idle (quiet answer.JoinMulticastGroup (joins_once j k)))
-step_on c a a' old x x' t t' d d' n n' r r' m m' o o' (step.LeftGroup j) (step.LeftGroup k) given leave act = inl (idle (quiet answer.LeaveMulticastGroup (leaves_once j k)))
+step_on c a a' old x x' t t' d d' n n' r r' m m' o o' (step.JoinedGroup j) (step.JoinedGroup k) given leave act =
+    inl (idle (quiet answer.JoinMulticastGroup (joins_once j k)))
+step_on c a a' old x x' t t' d d' n n' r r' m m' o o' (step.LeftGroup j) (step.LeftGroup k) given leave act =
+    inl (idle (quiet answer.LeaveMulticastGroup (leaves_once j k)))
 step_on c a a' old x x' t t' d d' n n' r r' m m' o o' step.TookAnyIp step.TookAnyIp given leave act = inl (idle same)
-step_on c a a' old x x' t t' d d' n n' r r' m m' o o' (step.TookHardwareAddr s) (step.TookHardwareAddr u) given leave act = inl (idle (quiet answer.SetHardwareAddr (hardware_once s u)))
-step_on c a a' old x x' t t' d d' n n' r r' m m' o o' (step.TookReassemblyTimeout s) (step.TookReassemblyTimeout u) given leave act = inl (idle (quiet answer.SetReassemblyTimeout (timeout_once s u)))
+step_on c a a' old x x' t t' d d' n n' r r' m m' o o' (step.TookHardwareAddr s) (step.TookHardwareAddr u) given leave act =
+    inl (idle (quiet answer.SetHardwareAddr (hardware_once s u)))
+step_on c a a' old x x' t t' d d' n n' r r' m m' o o' (step.TookReassemblyTimeout s) (step.TookReassemblyTimeout u) given leave act =
+    inl (idle (quiet answer.SetReassemblyTimeout (timeout_once s u)))
 step_on c a a' old x x' t t' d d' n n' r r' m m' o o' (step.OwnerActed {number = number} sockets) (step.OwnerActed others) given leave act =
     let sockets_are : sockets ≡ others = ap (left_by sockets) act in
     inl (record {

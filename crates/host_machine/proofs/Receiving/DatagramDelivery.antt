@@ -1,5 +1,6 @@
 -- A datagram that comes for a socket is in its queue, and one for a closed port brings the error.
-use Rattle.std.proofs.Common.{◌≡◌, ◌≢◌, ◌⊎◌, inl, inr, ℕ, zero, suc, ◌+◌, ◌≤◌, ◌==◌, Bool, true, false, List, [], ◌∷◌, ◌++◌, refl, sym, ◌∙◌, ap, subst, Option, Some, None, arith, length}
+use Rattle.std.proofs.Common.{◌≡◌, ◌≢◌, ◌⊎◌, inl, inr, ℕ, zero, suc, ◌+◌, ◌≤◌, ◌==◌, Bool, true, false}
+use Rattle.std.proofs.Common.{List, [], ◌∷◌, ◌++◌, refl, sym, ◌∙◌, ap, subst, Option, Some, None, arith, length}
 use Rattle.std.proofs.lemmas.Bool.Decides.{nat_tests}
 use Rattle.std.proofs.lemmas.List.{length-take}
 use Rattle.std.proofs.lemmas.Option.{slice_get-map}
@@ -46,7 +47,8 @@ first_is_one {test} {places} {i} {j} {p} {q} f g = by (nat_lt i j) (nat_lt j i) 
 
 -- places that are changed so that the test stays
 module _ (test : Storage → Bool) (change : Storage → Storage) (same : (p : Storage) → test (change p) ≡ test p) (places : List Storage) where
-  before_change : (k : ℕ) (other : Storage) → slice_get (map change places) k ≡ Some other → (P : Storage → Type 0) → ((p : Storage) → slice_get places k ≡ Some p → P (change p)) → P other
+  before_change : (k : ℕ) (other : Storage) → slice_get (map change places) k ≡ Some other → (P : Storage → Type 0) →
+      ((p : Storage) → slice_get places k ≡ Some p → P (change p)) → P other
   before_change k other is P all = by (slice_get places k) refl where
     by : (o : Option Storage) → slice_get places k ≡ o → P other
     by None e = let bad : None ≡ Some other = sym (slice_get-map change places k ∙ ap (option_map change) e) ∙ is in absurd cc
@@ -70,7 +72,8 @@ raw_apart : (own : List IpCidr) (q r : IpRepr) (ports : UdpRepr) (summed : Bool)
     accepts own r ports (to_this (raw.takes q) (raw.storage_after_delivery summed q payload) p) ≡ accepts own r ports p
 raw_apart own q r ports summed payload None = refl
 raw_apart own q r ports summed payload (Some (Raw s)) = by (raw.takes q (Some (Raw s))) where
-  by : (b : Bool) → accepts own r ports (if b then raw.storage_after_delivery summed q payload (Some (Raw s)) else Some (Raw s)) ≡ accepts own r ports (Some (Raw s))
+  by : (b : Bool) → accepts own r ports (if b then raw.storage_after_delivery summed q payload (Some (Raw s)) else Some (Raw s))
+      ≡ accepts own r ports (Some (Raw s))
   by true = refl
   by false = refl
 raw_apart own q r ports summed payload (Some (Icmp s)) = refl
@@ -81,7 +84,8 @@ raw_apart own q r ports summed payload (Some (Tcp s)) = refl
 same_bits : (n : ℕ) → (n == n) ≡ true
 same_bits n = grind (arith, nat_tests)
 
-hears : (own : List IpCidr) (r : Ipv4Repr) (ports : UdpRepr) (s : UdpSocket) → s.endpoint.port ≡ ports.dst_port → (s.endpoint.addr ≡ None) ⊎ (s.endpoint.addr ≡ Some (Ipv4 r.dst_addr)) →
+hears : (own : List IpCidr) (r : Ipv4Repr) (ports : UdpRepr) (s : UdpSocket) →
+    s.endpoint.port ≡ ports.dst_port → (s.endpoint.addr ≡ None) ⊎ (s.endpoint.addr ≡ Some (Ipv4 r.dst_addr)) →
     accepts own (repr.Ipv4 r) ports (Some (Udp s)) ≡ true
 hears own r ports s port (inl any) = rw (port, any, same_bits ports.dst_port) refl
 hears own r ports s port (inr one) = rw (port, one, same_bits ports.dst_port, same_bits r.dst_addr.bits) refl
@@ -93,30 +97,36 @@ other_bits m n ne = by (m == n) refl where
   by false e = refl
 
 -- a place at which no UDP socket listens at the port
-deaf : (own : List IpCidr) (r : Ipv4Repr) (ports : UdpRepr) (p : Storage) → ((s : UdpSocket) → p ≡ Some (Udp s) → s.endpoint.port ≢ ports.dst_port) → accepts own (repr.Ipv4 r) ports p ≡ false
+deaf : (own : List IpCidr) (r : Ipv4Repr) (ports : UdpRepr) (p : Storage) →
+    ((s : UdpSocket) → p ≡ Some (Udp s) → s.endpoint.port ≢ ports.dst_port) → accepts own (repr.Ipv4 r) ports p ≡ false
 deaf own r ports None other = refl
 deaf own r ports (Some (Raw s)) other = refl
 deaf own r ports (Some (Icmp s)) other = refl
 deaf own r ports (Some (Udp s)) other = rw (other_bits s.endpoint.port ports.dst_port (other s refl)) refl
 deaf own r ports (Some (Tcp s)) other = refl
 
-is_first : (H : Host) (r : Ipv4Repr) (ports : UdpRepr) (octets : List ℕ) (i : ℕ) (s : UdpSocket) → IsAcceptedBy H r ports octets i s → IsFirst (accepts H.ip_addrs (repr.Ipv4 r) ports) H.sockets.places i (Some (Udp s))
+is_first : (H : Host) (r : Ipv4Repr) (ports : UdpRepr) (octets : List ℕ) (i : ℕ) (s : UdpSocket) →
+    IsAcceptedBy H r ports octets i s → IsFirst (accepts H.ip_addrs (repr.Ipv4 r) ports) H.sockets.places i (Some (Udp s))
 is_first H r ports octets i s h = record {
   is_there = h.here;
   accepts = hears H.ip_addrs r ports s h.port h.addr;
   none_before = λ k other less is. deaf H.ip_addrs r ports other (λ x e. h.first k x less (is ∙ ap (λ p. Some p) e));
 }
 
-none_accepts : (H : Host) (r : Ipv4Repr) (ports : UdpRepr) → ((k : ℕ) (other : UdpSocket) → slice_get H.sockets.places k ≡ Some (Some (Udp other)) → other.endpoint.port ≢ ports.dst_port) →
+none_accepts : (H : Host) (r : Ipv4Repr) (ports : UdpRepr) →
+    ((k : ℕ) (other : UdpSocket) → slice_get H.sockets.places k ≡ Some (Some (Udp other)) → other.endpoint.port ≢ ports.dst_port) →
     NoneAccepts (accepts H.ip_addrs (repr.Ipv4 r) ports) H.sockets.places
 none_accepts H r ports none k other is = deaf H.ip_addrs r ports other (λ x e. none k x (is ∙ ap (λ p. Some p) e))
 
-record WasDelivered (r : IpRepr) (ports : UdpRepr) (octets : List ℕ) (i : ℕ) (s : UdpSocket) (H : Host) (reply : Option Reply) (new : Host) : Type 0 where
+record WasDelivered (r : IpRepr) (ports : UdpRepr) (octets : List ℕ) (i : ℕ) (s : UdpSocket) (H : Host)
+    (reply : Option Reply) (new : Host) : Type 0 where
   silent : reply ≡ None
   host_is : new ≡ with_places H (slice_set H.sockets.places i (storage_after_delivery r ports octets (Some (Udp s))))
 
-udp_delivered : {handled_by_raw_socket : Bool} {r : IpRepr} {H new : Host} {payload : List ℕ} {reply : Option Reply} {notes : List Note} (ports : UdpRepr) (octets : List ℕ) (i : ℕ) (s : UdpSocket) →
-    ProcessesUdp handled_by_raw_socket r H payload reply notes new → IsDatagram H r payload → udp_in payload ≡ (ports, octets) → IsFirst (accepts H.ip_addrs r ports) H.sockets.places i (Some (Udp s)) →
+udp_delivered : {handled_by_raw_socket : Bool} {r : IpRepr} {H new : Host} {payload : List ℕ} {reply : Option Reply} {notes : List Note}
+    (ports : UdpRepr) (octets : List ℕ) (i : ℕ) (s : UdpSocket) →
+    ProcessesUdp handled_by_raw_socket r H payload reply notes new → IsDatagram H r payload → udp_in payload ≡ (ports, octets) →
+    IsFirst (accepts H.ip_addrs r ports) H.sockets.places i (Some (Udp s)) →
     WasDelivered r ports octets i s H reply new
 udp_delivered ports octets i s (udp.Malformed m d) is values first = absurd (m is)
 udp_delivered {r = r} {H = H} {new = new} ports octets i s (udp.Delivered places d f rep n e) is values first =
@@ -127,7 +137,8 @@ udp_delivered {r = r} {H = H} {new = new} ports octets i s (udp.Delivered places
     let same : g.place ≡ Some (Udp s) = cc in
     record {
       silent = rep;
-      host_is = e ∙ ap (with_places H) (g.changed ∙ ap (λ k. slice_set H.sockets.places k (storage_after_delivery r ports octets g.place)) at_one ∙ ap (λ p. slice_set H.sockets.places i (storage_after_delivery r ports octets p)) same);
+      host_is = e ∙ ap (with_places H) (g.changed ∙ ap (λ k. slice_set H.sockets.places k (storage_after_delivery r ports octets g.place)) at_one
+          ∙ ap (λ p. slice_set H.sockets.places i (storage_after_delivery r ports octets p)) same);
     }
 udp_delivered {r = r} {H = H} {payload = payload} ports octets i s (udp.NotAccepted d none rep n e) is values first =
     let refused : accepts H.ip_addrs r (udp_in payload).0 (Some (Udp s)) ≡ false = none i (Some (Udp s)) first.is_there in
@@ -159,16 +170,22 @@ datagrams_queued own t frame r ports octets i s old new told w d heard_by =
     let any = packet_served k d.in_packet in
     let message : ProcessesUdp (raw.is_taken (repr.Ipv4 r) H) (repr.Ipv4 r) mid d.payload k.reply k.notes k.taken =
     subst (λ q. ProcessesProtocol q (raw.is_taken (repr.Ipv4 r) H) r mid d.payload k.reply k.notes k.taken) d.protocol_is any in
-    let heard : Storage → Storage = to_this (raw.takes (repr.Ipv4 r)) (raw.storage_after_delivery (is_tx old.capabilities.checksum.ipv4) (repr.Ipv4 r) d.payload) in
+    let heard : Storage →
+    Storage = to_this (raw.takes (repr.Ipv4 r)) (raw.storage_after_delivery (is_tx old.capabilities.checksum.ipv4) (repr.Ipv4 r) d.payload) in
     let first : IsFirst (accepts old.ip_addrs (repr.Ipv4 r) ports) mid.sockets.places i (Some (Udp s)) =
-    first_still (accepts old.ip_addrs (repr.Ipv4 r) ports) heard (raw_apart old.ip_addrs (repr.Ipv4 r) (repr.Ipv4 r) ports (is_tx old.capabilities.checksum.ipv4) d.payload) old.sockets.places (is_first old r ports octets i s heard_by) in
+    first_still (accepts old.ip_addrs (repr.Ipv4 r) ports) heard (raw_apart old.ip_addrs (repr.Ipv4 r)
+    (repr.Ipv4 r) ports (is_tx old.capabilities.checksum.ipv4) d.payload) old.sockets.places (is_first old r ports octets i s heard_by) in
     let was = udp_delivered ports octets i s message d.is_datagram d.values first in
     let went : Responds None k.taken k.frames k.more new = subst (λ x. Responds x k.taken k.frames k.more new) was.silent k.responds in
-    let places : new.sockets.places ≡ slice_set mid.sockets.places i (storage_after_delivery (repr.Ipv4 r) ports octets (Some (Udp s))) = ap (λ (K : Host). K.sockets.places) (went.2 ∙ was.host_is) in (
+    let places : new.sockets.places ≡ slice_set mid.sockets.places i (storage_after_delivery (repr.Ipv4 r) ports octets (Some (Udp s))) =
+    ap (λ (K : Host). K.sockets.places) (went.2 ∙ was.host_is) in (
       record {
-        got = ap (λ ps. slice_get ps i) places ∙ there mid.sockets.places i (Some (Udp s)) (storage_after_delivery (repr.Ipv4 r) ports octets (Some (Udp s))) first.is_there
-            ∙ ap (λ packets. Some (Some (Udp (record s { rx = record s.rx { packets = packets } })))) (has_room (repr.Ipv4 r) ports octets s _ heard_by.room);
-        others = λ j other ne is. ap (λ ps. slice_get ps j) places ∙ apart mid.sockets.places i j (storage_after_delivery (repr.Ipv4 r) ports octets (Some (Udp s))) ne
+        got = ap (λ ps. slice_get ps i) places
+            ∙ there mid.sockets.places i (Some (Udp s)) (storage_after_delivery (repr.Ipv4 r) ports octets (Some (Udp s))) first.is_there
+            ∙ ap (λ packets. Some (Some (Udp (record s { rx = record s.rx { packets = packets } }))))
+            (has_room (repr.Ipv4 r) ports octets s _ heard_by.room);
+        others = λ j other ne is. ap (λ ps. slice_get ps j) places
+            ∙ apart mid.sockets.places i j (storage_after_delivery (repr.Ipv4 r) ports octets (Some (Udp s))) ne
             ∙ slice_get-map heard old.sockets.places j ∙ ap (option_map heard) is;
       },
       k.sends_them ∙ went.0,
@@ -184,8 +201,10 @@ record WasRefused (handled_by_raw_socket : Bool) (r : IpRepr) (payload : List �
   replies : reply ≡ port_unreachable handled_by_raw_socket H.ip_addrs r payload
   host_is : new ≡ H
 
-udp_refused : {handled_by_raw_socket : Bool} {r : IpRepr} {H new : Host} {payload : List ℕ} {reply : Option Reply} {notes : List Note} (ports : UdpRepr) (octets : List ℕ) →
-    ProcessesUdp handled_by_raw_socket r H payload reply notes new → IsDatagram H r payload → udp_in payload ≡ (ports, octets) → NoneAccepts (accepts H.ip_addrs r ports) H.sockets.places →
+udp_refused : {handled_by_raw_socket : Bool} {r : IpRepr} {H new : Host} {payload : List ℕ} {reply : Option Reply}
+    {notes : List Note} (ports : UdpRepr) (octets : List ℕ) →
+    ProcessesUdp handled_by_raw_socket r H payload reply notes new → IsDatagram H r payload → udp_in payload ≡ (ports, octets) →
+    NoneAccepts (accepts H.ip_addrs r ports) H.sockets.places →
     WasRefused handled_by_raw_socket r payload H reply new
 udp_refused ports octets (udp.Malformed m d) is values nobody = absurd (m is)
 udp_refused {r = r} {H = H} {payload = payload} ports octets (udp.Delivered places d f rep n e) is values nobody =
@@ -199,19 +218,29 @@ ports_told own t frame r ports octets h old new told w d nobody not_accepted rea
     let H : Host = without_expired old t in
     let source : HardwareAddress = hardware.Ethernet (header_in frame).src_addr in
     let mid : Host = met source r d.payload H in
-    let error : Packet = packet.Ipv4 (record { src_addr = r.dst_addr; dst_addr = r.src_addr; hop_limit = 64; payload = Icmpv4 (DstUnreachable PortUnreachable r) (take 528 d.payload) }) in
+    let error : Packet = packet.Ipv4 (record {
+      src_addr = r.dst_addr;
+      dst_addr = r.src_addr;
+      hop_limit = 64;
+      payload = Icmpv4 (DstUnreachable PortUnreachable r) (take 528 d.payload);
+    }) in
     let any = packet_served k d.in_packet in
     let message : ProcessesUdp (raw.is_taken (repr.Ipv4 r) H) (repr.Ipv4 r) mid d.payload k.reply k.notes k.taken =
     subst (λ q. ProcessesProtocol q (raw.is_taken (repr.Ipv4 r) H) r mid d.payload k.reply k.notes k.taken) d.protocol_is any in
-    let heard : Storage → Storage = to_this (raw.takes (repr.Ipv4 r)) (raw.storage_after_delivery (is_tx old.capabilities.checksum.ipv4) (repr.Ipv4 r) d.payload) in
+    let heard : Storage →
+    Storage = to_this (raw.takes (repr.Ipv4 r)) (raw.storage_after_delivery (is_tx old.capabilities.checksum.ipv4) (repr.Ipv4 r) d.payload) in
     let none : NoneAccepts (accepts old.ip_addrs (repr.Ipv4 r) ports) mid.sockets.places =
-    none_still (accepts old.ip_addrs (repr.Ipv4 r) ports) heard (raw_apart old.ip_addrs (repr.Ipv4 r) (repr.Ipv4 r) ports (is_tx old.capabilities.checksum.ipv4) d.payload) old.sockets.places (none_accepts old r ports nobody) in
+    none_still (accepts old.ip_addrs (repr.Ipv4 r) ports) heard (raw_apart old.ip_addrs (repr.Ipv4 r)
+    (repr.Ipv4 r) ports (is_tx old.capabilities.checksum.ipv4) d.payload) old.sockets.places (none_accepts old r ports nobody) in
     let was = udp_refused ports octets message d.is_datagram d.values none in
-    let replies : k.reply ≡ Some (Ip error) = was.replies ∙ ap (λ b. port_unreachable b old.ip_addrs (repr.Ipv4 r) d.payload) not_accepted ∙ rw (d.in_packet.sender, d.in_packet.receiver) refl in
+    let replies : k.reply ≡ Some (Ip error) = was.replies ∙ ap (λ b. port_unreachable b old.ip_addrs (repr.Ipv4 r) d.payload) not_accepted
+    ∙ rw (d.in_packet.sender, d.in_packet.receiver) refl in
     let one = one_of old.ip_addrs r.src_addr d.in_packet.sender in
     let there_it : Responds (Some (Ip error)) k.taken k.frames k.more new = subst (λ x. Responds x k.taken k.frames k.more new) replies k.responds in
-    let went : Responds (Some (Ip error)) mid k.frames k.more new = subst (λ K. Responds (Some (Ip error)) K k.frames k.more new) was.host_is there_it in
-    let way = reached_still {H = H} source r d.payload (record { hop = reach.hop; next = hop_as {H = at old t} {K = H} refl refl refl reach.next; known = reach.known }) in
+    let went : Responds (Some (Ip error)) mid k.frames k.more new =
+    subst (λ K. Responds (Some (Ip error)) K k.frames k.more new) was.host_is there_it in
+    let way = reached_still {H = H} source r d.payload
+    (record { hop = reach.hop; next = hop_as {H = at old t} {K = H} refl refl refl reach.next; known = reach.known }) in
     let few : length (take 528 d.payload) ≤ 528 = take_few 528 d.payload in
     let short : 20 + (28 + length (take 528 d.payload)) ≤ ip_mtu_of old.capabilities = omega (arith, fits, few) in
     let gone = goes_whole {p = error} own h went.1 w.on_ethernet one.specified one.not_multicast way short in

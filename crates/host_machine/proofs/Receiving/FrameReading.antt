@@ -49,26 +49,33 @@ two_ways : (b : Bool) → b ≡ true → b ≡ false → ⊥
 two_ways b h k = cc
 
 -- an ARP frame brings no fragment
-pub arp_other : (m : Medium) (r : ArpRepr) → IsOf m (hardware.Ethernet r.source_hardware_addr) → IsOf m (hardware.Ethernet r.target_hardware_addr) → BringsNone m (arp_frame r)
+pub arp_other : (m : Medium) (r : ArpRepr) → IsOf m (hardware.Ethernet r.source_hardware_addr) →
+    IsOf m (hardware.Ethernet r.target_hardware_addr) → BringsNone m (arp_frame r)
 arp_other medium.Ethernet r s t H key f is b =
-    let e = ethernet_again.read_again (record { src_addr = r.source_hardware_addr; dst_addr = r.target_hardware_addr; ethertype = protocol.Arp }) (arp.text r) (record { destination = t; source = s; number = omega arith; protocol = refl }) in
+    let e = ethernet_again.read_again (record { src_addr = r.source_hardware_addr; dst_addr = r.target_hardware_addr; ethertype = protocol.Arp })
+    (arp.text r) (record { destination = t; source = s; number = omega arith; protocol = refl }) in
     let type : (header_in (arp_frame r)).ethertype ≡ protocol.Arp = ap (λ (x : EthernetRepr × List ℕ). x.0.ethertype) e in
     not_ipv4 (sym type ∙ (on_ethernet is b).0)
 arp_other medium.Ip r s t H key f is b = absurd s
 
 -- what stands behind the header of an IPv4 frame
-behind : (own destination : EthernetAddress) (rest : List ℕ) → length own.0 ≡ 6 → length destination.0 ≡ 6 → drop 14 (header_text (record { src_addr = own; dst_addr = destination; ethertype = protocol.Ipv4 }) ++ rest) ≡ rest
+behind : (own destination : EthernetAddress) (rest : List ℕ) → length own.0 ≡ 6 → length destination.0 ≡ 6 →
+    drop 14 (header_text (record { src_addr = own; dst_addr = destination; ethertype = protocol.Ipv4 }) ++ rest) ≡ rest
 behind own destination rest s t =
-    let e = ethernet_again.read_again (record { src_addr = own; dst_addr = destination; ethertype = protocol.Ipv4 }) rest (record { destination = t; source = s; number = omega arith; protocol = refl }) in
+    let e = ethernet_again.read_again (record { src_addr = own; dst_addr = destination; ethertype = protocol.Ipv4 }) rest
+    (record { destination = t; source = s; number = omega arith; protocol = refl }) in
     ap (λ (x : EthernetRepr × List ℕ). x.1) e
 
 no_address : (a : EthernetAddress) → hardware.Ethernet a ≡ hardware.Ip → ⊥
 no_address a e = cc
 
 -- the packet that a host takes out of a frame is the one that stands behind the frame's header
-pub same_packet : (m : Medium) (own far mine : HardwareAddress) (text packet : List ℕ) → IsOf m own → IsOf m far → IsOf m mine → Carries mine (link_header own far protocol.Ipv4 ++ text) packet → packet ≡ text
-same_packet medium.Ethernet (hardware.Ethernet own) (hardware.Ethernet far) (hardware.Ethernet mine) text packet s t u (OverEthernet a e w for type is) = is ∙ behind own far text s t
-same_packet medium.Ethernet (hardware.Ethernet own) (hardware.Ethernet far) (hardware.Ethernet mine) text packet s t u (AsItStands e v is) = absurd (no_address mine e)
+pub same_packet : (m : Medium) (own far mine : HardwareAddress) (text packet : List ℕ) →
+    IsOf m own → IsOf m far → IsOf m mine → Carries mine (link_header own far protocol.Ipv4 ++ text) packet → packet ≡ text
+same_packet medium.Ethernet (hardware.Ethernet own) (hardware.Ethernet far) (hardware.Ethernet mine) text packet s t u
+    (OverEthernet a e w for type is) = is ∙ behind own far text s t
+same_packet medium.Ethernet (hardware.Ethernet own) (hardware.Ethernet far) (hardware.Ethernet mine) text packet s t u (AsItStands e v is) =
+    absurd (no_address mine e)
 same_packet medium.Ethernet (hardware.Ethernet own) (hardware.Ethernet far) hardware.Ip text packet s t u c = absurd u
 same_packet medium.Ethernet (hardware.Ethernet own) hardware.Ip mine text packet s t u c = absurd t
 same_packet medium.Ethernet hardware.Ip far mine text packet s t u c = absurd s
@@ -82,11 +89,15 @@ same_packet medium.Ip hardware.Ip hardware.Ip hardware.Ip text packet s t u (AsI
 not_six : protocol.Ipv6 ≡ protocol.Ipv4 → ⊥
 not_six e = cc
 
-pub other_packet : (m : Medium) (own far mine : HardwareAddress) (text packet : List ℕ) → IsOf m own → IsOf m far → IsOf m mine → (version_in text ≡ 4 → ⊥) → Carries mine (link_header own far protocol.Ipv6 ++ text) packet → ⊥
-other_packet medium.Ethernet (hardware.Ethernet own) (hardware.Ethernet far) (hardware.Ethernet mine) text packet s t u other (OverEthernet a e w for type is) =
-    let again = ethernet_again.read_again (record { src_addr = own; dst_addr = far; ethertype = protocol.Ipv6 }) text (record { destination = t; source = s; number = omega arith; protocol = refl }) in
+pub other_packet : (m : Medium) (own far mine : HardwareAddress) (text packet : List ℕ) →
+    IsOf m own → IsOf m far → IsOf m mine → (version_in text ≡ 4 → ⊥) → Carries mine (link_header own far protocol.Ipv6 ++ text) packet → ⊥
+other_packet medium.Ethernet (hardware.Ethernet own) (hardware.Ethernet far)
+    (hardware.Ethernet mine) text packet s t u other (OverEthernet a e w for type is) =
+    let again = ethernet_again.read_again (record { src_addr = own; dst_addr = far; ethertype = protocol.Ipv6 }) text
+    (record { destination = t; source = s; number = omega arith; protocol = refl }) in
     not_six (sym (ap (λ (x : EthernetRepr × List ℕ). x.0.ethertype) again) ∙ type)
-other_packet medium.Ethernet (hardware.Ethernet own) (hardware.Ethernet far) (hardware.Ethernet mine) text packet s t u other (AsItStands e v is) = absurd (no_address mine e)
+other_packet medium.Ethernet (hardware.Ethernet own) (hardware.Ethernet far) (hardware.Ethernet mine) text packet s t u other (AsItStands e v is) =
+    absurd (no_address mine e)
 other_packet medium.Ethernet (hardware.Ethernet own) (hardware.Ethernet far) hardware.Ip text packet s t u other c = absurd u
 other_packet medium.Ethernet (hardware.Ethernet own) hardware.Ip mine text packet s t u other c = absurd t
 other_packet medium.Ethernet hardware.Ip far mine text packet s t u other c = absurd s
@@ -107,10 +118,12 @@ whole_is summed r rest = refl
 
 pub whole_other : (m : Medium) (H : Host) (h : HardwareAddress) (p : Packet) → IsOf m H.hardware_addr → IsOf m h → BringsNone m (ip_frame H h p)
 whole_other m H h (packet.Ipv4 p) own far K key f mine b =
-    let e : b.packet ≡ packet_text H.capabilities (packet.Ipv4 p) = same_packet m H.hardware_addr h K.hardware_addr (packet_text H.capabilities (packet.Ipv4 p)) b.packet own far mine b.carried in
+    let e : b.packet ≡ packet_text H.capabilities (packet.Ipv4 p) =
+    same_packet m H.hardware_addr h K.hardware_addr (packet_text H.capabilities (packet.Ipv4 p)) b.packet own far mine b.carried in
     let part = subst (λ octets. is_fragment (ipv4_in octets).1 ≡ true) e b.part in
     two_ways _ part (whole_is (is_tx H.capabilities.checksum.ipv4) (packet.header_v4 p) _)
-whole_other m H h (packet.Ipv6 p) own far K key f mine b = other_packet m H.hardware_addr h K.hardware_addr (packet_text H.capabilities (packet.Ipv6 p)) b.packet own far mine (version_six (packet.header_v6 p) _) b.carried
+whole_other m H h (packet.Ipv6 p) own far K key f mine b = other_packet m H.hardware_addr h K.hardware_addr
+    (packet_text H.capabilities (packet.Ipv6 p)) b.packet own far mine (version_six (packet.header_v6 p) _) b.carried
 
 -- a protocol is written by its number, and read as one with that number
 pub number_again : (n : ℕ) → number_of (protocol_of n) ≡ n
@@ -126,19 +139,24 @@ number_again n = by0 (n == 0) refl where
   by4 true e = same 17 e
   by4 false e = by5 (n == 58) refl
 
-  by3 : (b : Bool) → (n == 6) ≡ b → number_of (if b then kind.Tcp else if n == 17 then kind.Udp else if n == 58 then kind.Icmpv6 else kind.Unknown n) ≡ n
+  by3 : (b : Bool) →
+      (n == 6) ≡ b → number_of (if b then kind.Tcp else if n == 17 then kind.Udp else if n == 58 then kind.Icmpv6 else kind.Unknown n) ≡ n
   by3 true e = same 6 e
   by3 false e = by4 (n == 17) refl
 
-  by2 : (b : Bool) → (n == 2) ≡ b → number_of (if b then kind.Igmp else if n == 6 then kind.Tcp else if n == 17 then kind.Udp else if n == 58 then kind.Icmpv6 else kind.Unknown n) ≡ n
+  by2 : (b : Bool) → (n == 2) ≡ b →
+      number_of (if b then kind.Igmp else if n == 6 then kind.Tcp else if n == 17 then kind.Udp else if n == 58 then kind.Icmpv6 else kind.Unknown n)
+      ≡ n
   by2 true e = same 2 e
   by2 false e = by3 (n == 6) refl
 
-  by1 : (b : Bool) → (n == 1) ≡ b → number_of (if b then kind.Icmp else if n == 2 then kind.Igmp else if n == 6 then kind.Tcp else if n == 17 then kind.Udp else if n == 58 then kind.Icmpv6 else kind.Unknown n) ≡ n
+  by1 : (b : Bool) → (n == 1) ≡ b → number_of (if b then kind.Icmp else if n == 2 then kind.Igmp else if n == 6 then kind.Tcp else
+      if n == 17 then kind.Udp else if n == 58 then kind.Icmpv6 else kind.Unknown n) ≡ n
   by1 true e = same 1 e
   by1 false e = by2 (n == 2) refl
 
-  by0 : (b : Bool) → (n == 0) ≡ b → number_of (if b then kind.HopByHop else if n == 1 then kind.Icmp else if n == 2 then kind.Igmp else if n == 6 then kind.Tcp else if n == 17 then kind.Udp else if n == 58 then kind.Icmpv6 else kind.Unknown n) ≡ n
+  by0 : (b : Bool) → (n == 0) ≡ b → number_of (if b then kind.HopByHop else if n == 1 then kind.Icmp else if n == 2 then kind.Igmp else
+      if n == 6 then kind.Tcp else if n == 17 then kind.Udp else if n == 58 then kind.Icmpv6 else kind.Unknown n) ≡ n
   by0 true e = same 0 e
   by0 false e = by1 (n == 1) refl
 
@@ -164,30 +182,38 @@ twice true = refl
 twice false = refl
 
 -- a piece is read as it was written
-pub piece_reads : (m : Medium) (H : Host) (p : Piece) → IsOf m H.hardware_addr → IsWritten m p → (K : Host) (key : FragKey) (f : Fragment) → IsOf m K.hardware_addr → Brings K (piece_frame H p) key f →
+pub piece_reads : (m : Medium) (H : Host) (p : Piece) → IsOf m H.hardware_addr → IsWritten m p → (K : Host) (key : FragKey) (f : Fragment) →
+    IsOf m K.hardware_addr → Brings K (piece_frame H p) key f →
     (key ≡ key_of p.header p.identification) × (f ≡ p.fragment)
 piece_reads m H p own w K key f mine b = (
-  b.key_is ∙ ap (λ (x : Ipv4Repr × Ipv4Fragment × List ℕ). key_in x.0 x.1) values ∙ ap (λ n. key_by n) (number_again (number_of p.header.next_header)),
+  b.key_is ∙ ap (λ (x : Ipv4Repr × Ipv4Fragment × List ℕ). key_in x.0 x.1) values
+      ∙ ap (λ n. key_by n) (number_again (number_of p.header.next_header)),
   b.fragment_is ∙ ap (λ (x : Ipv4Repr × Ipv4Fragment × List ℕ). fragment_in x.1 x.2) values ∙ same,
 ) where
   key_by : ℕ → FragKey
   key_by n = record { identification = p.identification; src_addr = p.header.src_addr; dst_addr = p.header.dst_addr; protocol = n }
 
-  written : ipv4_in (ipv4.header_text (is_tx H.capabilities.checksum.ipv4) (read_header (piece_header p)) (piece_fragment p) ++ p.fragment.octets) ≡ (read_header (piece_header p), piece_fragment p, p.fragment.octets)
-  written = subst (λ os. ipv4_in os ≡ (read_header (piece_header p), piece_fragment p, p.fragment.octets)) (append-nil (ipv4.header_text (is_tx H.capabilities.checksum.ipv4) (read_header (piece_header p)) (piece_fragment p) ++ p.fragment.octets))
-      (ipv4_again.read_again false (is_tx H.capabilities.checksum.ipv4) (read_header (piece_header p)) (piece_fragment p) p.fragment.octets [] w.header refl (λ x. absurd cc)).1
+  written : ipv4_in (ipv4.header_text (is_tx H.capabilities.checksum.ipv4) (read_header (piece_header p)) (piece_fragment p) ++ p.fragment.octets)
+      ≡ (read_header (piece_header p), piece_fragment p, p.fragment.octets)
+  written = subst (λ os. ipv4_in os ≡ (read_header (piece_header p), piece_fragment p, p.fragment.octets))
+      (append-nil (ipv4.header_text (is_tx H.capabilities.checksum.ipv4) (read_header (piece_header p)) (piece_fragment p) ++ p.fragment.octets))
+      (ipv4_again.read_again false (is_tx H.capabilities.checksum.ipv4) (read_header (piece_header p))
+      (piece_fragment p) p.fragment.octets [] w.header refl (λ x. absurd cc)).1
 
   read : ipv4_in (piece_text H.capabilities p) ≡ (read_header (piece_header p), piece_fragment p, p.fragment.octets)
-  read = subst (λ t. ipv4_in (t ++ p.fragment.octets) ≡ (read_header (piece_header p), piece_fragment p, p.fragment.octets)) (text_same (is_tx H.capabilities.checksum.ipv4) (piece_header p) (piece_fragment p)) written
+  read = subst (λ t. ipv4_in (t ++ p.fragment.octets) ≡ (read_header (piece_header p), piece_fragment p, p.fragment.octets))
+      (text_same (is_tx H.capabilities.checksum.ipv4) (piece_header p) (piece_fragment p)) written
 
   values : ipv4_in b.packet ≡ (read_header (piece_header p), piece_fragment p, p.fragment.octets)
-  values = ap ipv4_in (same_packet m H.hardware_addr p.destination K.hardware_addr (piece_text H.capabilities p) b.packet own w.destination mine b.carried) ∙ read
+  values = ap ipv4_in
+      (same_packet m H.hardware_addr p.destination K.hardware_addr (piece_text H.capabilities p) b.packet own w.destination mine b.carried) ∙ read
 
   same : fragment_in (piece_fragment p) p.fragment.octets ≡ p.fragment
   same = rw (w.eights, twice) refl
 
 -- the frame of a packet carries it to a host that it is for
-header_len : (own destination : EthernetAddress) (rest : List ℕ) → length own.0 ≡ 6 → length destination.0 ≡ 6 → 14 ≤ length (header_text (record { src_addr = own; dst_addr = destination; ethertype = protocol.Ipv4 }) ++ rest)
+header_len : (own destination : EthernetAddress) (rest : List ℕ) → length own.0 ≡ 6 → length destination.0 ≡ 6 →
+    14 ≤ length (header_text (record { src_addr = own; dst_addr = destination; ethertype = protocol.Ipv4 }) ++ rest)
 header_len own destination rest s t =
     let a = length-append (destination.0 ++ own.0 ++ to_be_bytes w16 0x0800) rest in
     let b = length-append (destination.0 ++ own.0) (to_be_bytes w16 0x0800) in
@@ -195,10 +221,12 @@ header_len own destination rest s t =
     let d : length (to_be_bytes w16 0x0800) ≡ 2 = refl in
     omega arith
 
-carries : (m : Medium) (own far mine : HardwareAddress) (text : List ℕ) → IsOf m own → IsOf m far → IsOf m mine → reaches far mine ≡ true → version_in text ≡ 4 →
+carries : (m : Medium) (own far mine : HardwareAddress) (text : List ℕ) →
+    IsOf m own → IsOf m far → IsOf m mine → reaches far mine ≡ true → version_in text ≡ 4 →
     Carries mine (link_header own far protocol.Ipv4 ++ text) text
 carries medium.Ethernet (hardware.Ethernet own) (hardware.Ethernet far) (hardware.Ethernet mine) text s t u for v =
-    let again = ethernet_again.read_again (record { src_addr = own; dst_addr = far; ethertype = protocol.Ipv4 }) text (record { destination = t; source = s; number = omega arith; protocol = refl }) in
+    let again = ethernet_again.read_again (record { src_addr = own; dst_addr = far; ethertype = protocol.Ipv4 }) text
+    (record { destination = t; source = s; number = omega arith; protocol = refl }) in
     OverEthernet mine refl (header_len own far text s t) (ap (λ (x : EthernetRepr × List ℕ). is_for mine x.0.dst_addr) again ∙ for)
     (ap (λ (x : EthernetRepr × List ℕ). x.0.ethertype) again) (sym (behind own far text s t))
 carries medium.Ethernet (hardware.Ethernet own) (hardware.Ethernet far) hardware.Ip text s t u for v = absurd u
@@ -210,26 +238,33 @@ carries medium.Ip hardware.Ip hardware.Ip (hardware.Ethernet mine) text s t u fo
 carries medium.Ip hardware.Ip hardware.Ip hardware.Ip text s t u for v = AsItStands refl v refl
 
 -- and a host brings a piece in, if it is for it and from one host, and its checksum is there where it is tested
-pub piece_brings : (m : Medium) (H K : Host) (p : Piece) → IsOf m H.hardware_addr → IsOf m K.hardware_addr → IsWritten m p → is_fragment (piece_fragment p) ≡ true →
+pub piece_brings : (m : Medium) (H K : Host) (p : Piece) →
+    IsOf m H.hardware_addr → IsOf m K.hardware_addr → IsWritten m p → is_fragment (piece_fragment p) ≡ true →
     reaches p.destination K.hardware_addr ≡ true → may_be_source K.ip_addrs p.header.src_addr ≡ true →
-    (IsTrue (is_rx K.capabilities.checksum.ipv4) → IsTrue (is_tx H.capabilities.checksum.ipv4)) → Brings K (piece_frame H p) (key_of p.header p.identification) p.fragment
+    (IsTrue (is_rx K.capabilities.checksum.ipv4) → IsTrue (is_tx H.capabilities.checksum.ipv4)) →
+    Brings K (piece_frame H p) (key_of p.header p.identification) p.fragment
 piece_brings m H K p own mine w part for source sums = record {
   packet = piece_text H.capabilities p;
   carried = carries m H.hardware_addr p.destination K.hardware_addr (piece_text H.capabilities p) own w.destination mine for is_ipv4.version;
   ipv4 = is_ipv4;
   source = ap (λ (x : Ipv4Repr × Ipv4Fragment × List ℕ). may_be_source K.ip_addrs x.0.src_addr) values ∙ source;
   part = ap (λ (x : Ipv4Repr × Ipv4Fragment × List ℕ). is_fragment x.1) values ∙ part;
-  key_is = sym (ap (λ (x : Ipv4Repr × Ipv4Fragment × List ℕ). key_in x.0 x.1) values ∙ ap (λ n. key_by n) (number_again (number_of p.header.next_header)));
+  key_is =
+      sym (ap (λ (x : Ipv4Repr × Ipv4Fragment × List ℕ). key_in x.0 x.1) values ∙ ap (λ n. key_by n) (number_again (number_of p.header.next_header)));
   fragment_is = sym (ap (λ (x : Ipv4Repr × Ipv4Fragment × List ℕ). fragment_in x.1 x.2) values ∙ rw (w.eights, twice) refl);
 } where
   key_by : ℕ → FragKey
   key_by n = record { identification = p.identification; src_addr = p.header.src_addr; dst_addr = p.header.dst_addr; protocol = n }
 
-  read : ipv4.IsIpv4 (is_rx K.capabilities.checksum.ipv4) (ipv4.header_text (is_tx H.capabilities.checksum.ipv4) (read_header (piece_header p)) (piece_fragment p) ++ p.fragment.octets ++ [])
-      × (ipv4_in (ipv4.header_text (is_tx H.capabilities.checksum.ipv4) (read_header (piece_header p)) (piece_fragment p) ++ p.fragment.octets ++ []) ≡ (read_header (piece_header p), piece_fragment p, p.fragment.octets))
-  read = ipv4_again.read_again (is_rx K.capabilities.checksum.ipv4) (is_tx H.capabilities.checksum.ipv4) (read_header (piece_header p)) (piece_fragment p) p.fragment.octets [] w.header refl sums
+  read : ipv4.IsIpv4 (is_rx K.capabilities.checksum.ipv4)
+      (ipv4.header_text (is_tx H.capabilities.checksum.ipv4) (read_header (piece_header p)) (piece_fragment p) ++ p.fragment.octets ++ [])
+      × (ipv4_in (ipv4.header_text (is_tx H.capabilities.checksum.ipv4) (read_header (piece_header p)) (piece_fragment p) ++ p.fragment.octets ++ [])
+      ≡ (read_header (piece_header p), piece_fragment p, p.fragment.octets))
+  read = ipv4_again.read_again (is_rx K.capabilities.checksum.ipv4) (is_tx H.capabilities.checksum.ipv4) (read_header (piece_header p))
+      (piece_fragment p) p.fragment.octets [] w.header refl sums
 
-  text : ipv4.header_text (is_tx H.capabilities.checksum.ipv4) (read_header (piece_header p)) (piece_fragment p) ++ p.fragment.octets ++ [] ≡ piece_text H.capabilities p
+  text : ipv4.header_text (is_tx H.capabilities.checksum.ipv4) (read_header (piece_header p)) (piece_fragment p) ++ p.fragment.octets ++ []
+      ≡ piece_text H.capabilities p
   text = append-nil (ipv4.header_text (is_tx H.capabilities.checksum.ipv4) (read_header (piece_header p)) (piece_fragment p) ++ p.fragment.octets)
       ∙ ap (λ (t : List ℕ). t ++ p.fragment.octets) (text_same (is_tx H.capabilities.checksum.ipv4) (piece_header p) (piece_fragment p))
 

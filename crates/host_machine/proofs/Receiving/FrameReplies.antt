@@ -1,5 +1,6 @@
 -- Frames that ask for something are answered in the call that takes them.
-use Rattle.std.proofs.Common.{◌≡◌, ℕ, ◌+◌, ◌<◌, ◌≤◌, Bool, true, false, List, [], ◌∷◌, refl, sym, ◌∙◌, ap, subst, Option, Some, None, arith, length, drop}
+use Rattle.std.proofs.Common.{◌≡◌, ℕ, ◌+◌, ◌<◌, ◌≤◌, Bool, true, false, List, [], ◌∷◌, refl}
+use Rattle.std.proofs.Common.{sym, ◌∙◌, ap, subst, Option, Some, None, arith, length, drop}
 use Rattle.std.proofs.lemmas.Bool.Decides.{nat_tests}
 use Rattle.std.proofs.lemmas.Int.{ints}
 use Rattle.std.specs.Prelude.{ℤ, pos, ◌+ℤ◌, ◌<ℤ◌, not, ◌||◌, ◌&&◌, cond, is_some, nat_lt, IsTrue, Ok, if◌then◌else◌}
@@ -61,12 +62,14 @@ use Rattle.host_machine.specs.Receiving.Ipv4.{ProcessesIpv4, ProcessesPacket, Pr
 use Rattle.host_machine.specs.Receiving.Ipv4 as ip
 use Rattle.host_machine.specs.Receiving.Ethernet.{is_for, ProcessesEthernet, ProcessesFrame, ProcessesEthertype}
 use Rattle.host_machine.specs.Receiving.Ethernet as ethernet
-use Rattle.host_machine.specs.Sending.Dispatch.{Outcome, IsNextHop, OnLink, ByRouter, Emits, DispatchesByHop, DispatchesEthernet, SendsOver, Dispatches, destination_of, group_address_v4, with_next_id, multicast_hardware_addr}
+use Rattle.host_machine.specs.Sending.Dispatch.{Outcome, IsNextHop, OnLink, ByRouter, Emits, DispatchesByHop, DispatchesEthernet, SendsOver}
+use Rattle.host_machine.specs.Sending.Dispatch.{Dispatches, destination_of, group_address_v4, with_next_id, multicast_hardware_addr}
 use Rattle.host_machine.specs.Sending.Dispatch as dispatch
 use Rattle.host_machine.specs.Receiving.Response.{Responds}
 use Rattle.host_machine.specs.Polling.Ingress.{Ingress}
 use Rattle.host_machine.specs.Polling.Ingress as ingress
-use Rattle.host_machine.specs.Laws.Service.{RequestFramesAreRead, request_frame, ArpRequestsAreAnswered, HasPacketV4, IsReached, IsTaken, PingsAreAnswered, Takes}
+use Rattle.host_machine.specs.Laws.Service.{RequestFramesAreRead, request_frame, ArpRequestsAreAnswered}
+use Rattle.host_machine.specs.Laws.Service.{HasPacketV4, IsReached, IsTaken, PingsAreAnswered, Takes}
 use Rattle.host_machine.proofs.Receiving.Malformed.{handed_frames-received, handed_frames-sends, sent_frames-sends}
 use Rattle.host_machine.proofs.Polling.EarliestInstant.{hop_is_one}
 
@@ -74,7 +77,8 @@ pub clash : {b : Bool} → b ≡ true → b ≡ false → ⊥
 clash one other = absurd cc
 
 -- the frame that was handed over is the one that is taken
-frame_taken : (moment : ℤ) (H : Host) (r : Reception) (frame : List ℕ) (reply : Option Reply) (notes : List Note) (new : Host) → ingress.Takes H r reply notes new →
+frame_taken : (moment : ℤ) (H : Host) (r : Reception) (frame : List ℕ) (reply : Option Reply) (notes : List Note) (new : Host) →
+    ingress.Takes H r reply notes new →
     handed_frames (Received moment r ∷ []) ≡ frame ∷ [] → 14 ≤ length frame → ProcessesFrame H.hardware_addr H frame reply notes new
 frame_taken moment H Nothing frame reply notes new t e long = absurd cc
 frame_taken moment H Withheld frame reply notes new t e long = absurd cc
@@ -86,7 +90,8 @@ frame_taken moment H (Frame (octet ∷ octets)) frame reply notes new t e long =
     let same : octet ∷ octets ≡ frame = cc in
     subst (λ f. ProcessesFrame H.hardware_addr H f reply notes new) same t
 
-payload_taken : {own : EthernetAddress} {H new : Host} {frame : List ℕ} {reply : Option Reply} {notes : List Note} (type : EthernetProtocol) → ProcessesEthernet own H frame reply notes new →
+payload_taken : {own : EthernetAddress} {H new : Host} {frame : List ℕ} {reply : Option Reply} {notes : List Note} (type : EthernetProtocol) →
+    ProcessesEthernet own H frame reply notes new →
     IsTaken own type frame → ProcessesEthertype own (header_in frame).src_addr H type (drop 14 frame) reply notes new
 payload_taken type (ethernet.Malformed m d) i = absurd (m i.whole)
 payload_taken type (ethernet.NotForUs l f d) i = absurd (clash i.to_host f)
@@ -94,7 +99,8 @@ payload_taken {own} {H} {new} {frame} {reply} {notes} type (ethernet.Accepted l 
     subst (λ p. ProcessesEthertype own (header_in frame).src_addr H p (drop 14 frame) reply notes new) i.of_type t
 
 -- what was done with a frame that was taken, and how that was responded to
-pub record WasTaken (own : EthernetAddress) (t : ℤ) (type : EthernetProtocol) (frame : List ℕ) (old : Host) (told : List Event) (new : Host) : Type 0 where
+pub record WasTaken (own : EthernetAddress) (t : ℤ) (type : EthernetProtocol) (frame : List ℕ) (old : Host)
+    (told : List Event) (new : Host) : Type 0 where
   pub reply : Option Reply
   pub taken : Host
   pub notes : List Note
@@ -104,12 +110,15 @@ pub record WasTaken (own : EthernetAddress) (t : ℤ) (type : EthernetProtocol) 
   pub responds : Responds reply taken frames more new
   pub sends_them : sent_frames told ≡ frames
 
-pub taken_of : {own : EthernetAddress} {t : ℤ} {frame : List ℕ} {old new : Host} {told : List Event} (type : EthernetProtocol) → Takes own t frame old told new → IsTaken own type frame →
+pub taken_of : {own : EthernetAddress} {t : ℤ} {frame : List ℕ} {old new : Host} {told : List Event} (type : EthernetProtocol) →
+    Takes own t frame old told new → IsTaken own type frame →
     WasTaken own t type frame old told new
 taken_of {own} {t} {frame} {old} {new} {told} type w is =
     let i = w.call in
-    let only : handed_frames (Received t i.reception ∷ []) ≡ frame ∷ [] = sym (handed_frames-received t i.reception (sends i.frames) (handed_frames-sends i.frames)) ∙ sym (ap handed_frames i.events) ∙ w.took in
-    let any = frame_taken t (without_expired old t) i.reception frame i.response.reply i.response.notes_taking i.response.taken i.response.takes only is.whole in
+    let only : handed_frames (Received t i.reception ∷ []) ≡ frame ∷ [] =
+    sym (handed_frames-received t i.reception (sends i.frames) (handed_frames-sends i.frames)) ∙ sym (ap handed_frames i.events) ∙ w.took in
+    let any = frame_taken t
+    (without_expired old t) i.reception frame i.response.reply i.response.notes_taking i.response.taken i.response.takes only is.whole in
     let on : ProcessesEthernet own (without_expired old t) frame i.response.reply i.response.notes_taking i.response.taken =
     subst (λ h. ProcessesFrame h (without_expired old t) frame i.response.reply i.response.notes_taking i.response.taken) w.on_ethernet any in
     record {
@@ -137,18 +146,21 @@ filled_in {old} {new} {a} {n} f = by (map.get old.known a) refl where
   room : (k : ℕ) → map.len old.known ≡ k → map.get old.known a ≡ None → map.get new.known a ≡ Some n
   room k is none = elim (nat_lt k 4) as (λ b. nat_lt k 4 ≡ b → map.get new.known a ≡ Some n) [
     | true ↦ λ t. let h : map.len old.known < 4 = grind (arith, nat_tests) in rw (f.puts.room h) (got_itself old.known a n)
-    | false ↦ λ t. let h : 4 ≤ map.len old.known = grind (arith, nat_tests) in let g = f.puts.full none h in rw g.2 (got_itself (map.remove old.known g.0) a n)
+    | false ↦ λ t. let h : 4 ≤ map.len old.known = grind (arith, nat_tests) in let g = f.puts.full none h in
+        rw g.2 (got_itself (map.remove old.known g.0) a n)
   ] refl
 
   by : (o : Option Neighbor) → map.get old.known a ≡ o → map.get new.known a ≡ Some n
   by None is = room (map.len old.known) refl is
   by (Some x) is = let t : IsTrue (is_some (map.get old.known a)) = rw is refl in rw (f.puts.there t) (got_itself old.known a n)
 
-pub learnt_found : {old new : Neighbors} {a : IpAddress} {h : HardwareAddress} (t : ℤ) → Fills old new a (record { hardware_addr = h; expires_at = expiry_from t }) → answer_of new a t ≡ Found h
+pub learnt_found : {old new : Neighbors} {a : IpAddress} {h : HardwareAddress} (t : ℤ) →
+    Fills old new a (record { hardware_addr = h; expires_at = expiry_from t }) → answer_of new a t ≡ Found h
 learnt_found {old} {new} {a} {h} t f = rw (filled_in f, is_ahead t) refl
 
 -- who is known is known still where another one, or the same, is renewed
-pub renewed_found : (n : Neighbors) (a b : IpAddress) (source h : HardwareAddress) (t : ℤ) → answer_of n b t ≡ Found h → answer_of (after_renewal n a source (expiry_from t)) b t ≡ Found h
+pub renewed_found : (n : Neighbors) (a b : IpAddress) (source h : HardwareAddress) (t : ℤ) →
+    answer_of n b t ≡ Found h → answer_of (after_renewal n a source (expiry_from t)) b t ≡ Found h
 renewed_found n a b source h t found = by (map.get n.known a) refl where
   -- the entry of b, where it is the renewed one
   hardware_is : (e : Neighbor) → answer_from (Some e) n.silent_until t ≡ Found h → e.hardware_addr ≡ h
@@ -158,19 +170,24 @@ renewed_found n a b source h t found = by (map.get n.known a) refl where
     at_end false true q = absurd cc
     at_end false false q = absurd cc
 
-  inserted : (e : Neighbor) → map.get n.known a ≡ Some e → answer_from (map.get (map.insert n.known a (record e { expires_at = expiry_from t })) b) n.silent_until t ≡ Found h
+  inserted : (e : Neighbor) →
+      map.get n.known a ≡ Some e → answer_from (map.get (map.insert n.known a (record e { expires_at = expiry_from t })) b) n.silent_until t ≡ Found h
   inserted e is = rw (get-insert address_total n.known a (record e { expires_at = expiry_from t }) b) (on (eq_by_cmp address_cmp b a) refl) where
     same : eq_by_cmp address_cmp b a ≡ true → map.get n.known b ≡ Some e
     same one = ap (map.get n.known) (tied address_total address_same b a one) ∙ is
 
-    on : (c : Bool) → eq_by_cmp address_cmp b a ≡ c → answer_from (cond c (Some (record e { expires_at = expiry_from t })) (map.get n.known b)) n.silent_until t ≡ Found h
-    on true one = let here : answer_from (Some e) n.silent_until t ≡ Found h = subst (λ o. answer_from o n.silent_until t ≡ Found h) (same one) found in rw (is_ahead t, hardware_is e here) refl
+    on : (c : Bool) → eq_by_cmp address_cmp b a ≡ c →
+        answer_from (cond c (Some (record e { expires_at = expiry_from t })) (map.get n.known b)) n.silent_until t ≡ Found h
+    on true one = let here : answer_from (Some e) n.silent_until t ≡ Found h =
+        subst (λ o. answer_from o n.silent_until t ≡ Found h) (same one) found in rw (is_ahead t, hardware_is e here) refl
     on false apart = found
 
-  by : (o : Option Neighbor) → map.get n.known a ≡ o → answer_from (map.get (renewed_from o n.known a source (expiry_from t)) b) n.silent_until t ≡ Found h
+  by : (o : Option Neighbor) →
+      map.get n.known a ≡ o → answer_from (map.get (renewed_from o n.known a source (expiry_from t)) b) n.silent_until t ≡ Found h
   by None is = found
   by (Some e) is = here (is_same e.hardware_addr source) where
-    here : (c : Bool) → answer_from (map.get (if c then map.insert n.known a (record e { expires_at = expiry_from t }) else n.known) b) n.silent_until t ≡ Found h
+    here : (c : Bool) →
+        answer_from (map.get (if c then map.insert n.known a (record e { expires_at = expiry_from t }) else n.known) b) n.silent_until t ≡ Found h
     here true = inserted e is
     here false = found
 
@@ -180,7 +197,8 @@ record ArpAnswered (own : EthernetAddress) (r : ArpRepr) (H : Host) (reply : Opt
   learns : LearnsSender H r new
   replies : reply ≡ Some (Arp (reply_to own r))
 
-arp_answered : {own : EthernetAddress} {H new : Host} {payload : List ℕ} {reply : Option Reply} {notes : List Note} (r : ArpRepr) → ProcessesArp own H payload reply notes new → IsArp payload → arp_in payload ≡ r →
+arp_answered : {own : EthernetAddress} {H new : Host} {payload : List ℕ} {reply : Option Reply} {notes : List Note} (r : ArpRepr) →
+    ProcessesArp own H payload reply notes new → IsArp payload → arp_in payload ≡ r →
     is_for_us H r ≡ true → r.operation ≡ operation.Request → ArpAnswered own r H reply new
 arp_answered r (arp.Malformed m d) is values hears asks = absurd (m is)
 arp_answered {H = H} r (arp.NotForUs p l d) is values hears asks = absurd (clash (ap (is_for_us H) values ∙ hears) l)
@@ -194,8 +212,10 @@ arp_served own t frame r old new told w a =
     let k = taken_of protocol.Arp w a.taken in
     let hears : is_for_us (without_expired old t) r ≡ true = rw (a.target, a.sender, a.sender_hardware, a.near) refl in
     let answered = arp_answered r k.takes a.is_packet a.values hears a.request in
-    let went : Responds (Some (Arp (reply_to own r))) k.taken k.frames k.more new = subst (λ x. Responds x k.taken k.frames k.more new) answered.replies k.responds in
-    let known : answer_of answered.learns.neighbors (Ipv4 r.source_protocol_addr) t ≡ Found (hardware.Ethernet r.source_hardware_addr) = learnt_found t answered.learns.filled in
+    let went : Responds (Some (Arp (reply_to own r))) k.taken k.frames k.more new =
+    subst (λ x. Responds x k.taken k.frames k.more new) answered.replies k.responds in
+    let known : answer_of answered.learns.neighbors (Ipv4 r.source_protocol_addr) t ≡ Found (hardware.Ethernet r.source_hardware_addr) =
+    learnt_found t answered.learns.filled in
     (k.sends_them ∙ went.0, rw (went.2, answered.learns.same) known)
 
 -- a packet to one host
@@ -206,14 +226,17 @@ pub record GoesWhole (p : Packet) (h : HardwareAddress) (outcome : Outcome) (H :
   pub outcome_is : outcome ≡ Ok tt
   pub host_is : new ≡ with_next_id H
 
-emits_whole : {id : ℕ} {p : Packet} {h : HardwareAddress} {outcome : Outcome} {H new : Host} {frames : List (List ℕ)} {notes : List Note} → Emits id p h outcome (with_next_id H) frames notes new →
+emits_whole : {id : ℕ} {p : Packet} {h : HardwareAddress} {outcome : Outcome} {H new : Host} {frames : List (List ℕ)} {notes : List Note} →
+    Emits id p h outcome (with_next_id H) frames notes new →
     total_len p ≤ ip_mtu_of H.capabilities → GoesWhole p h outcome H frames new
 emits_whole (dispatch.Whole fits formed o f n e) short = record { frames_are = f; outcome_is = o; host_is = e }
 emits_whole (dispatch.InPieces q first rest is long may pieces fits formed o f n e) short = absurd (omega (arith, short, long))
 emits_whole (dispatch.TooLong long may o u) short = absurd (omega (arith, short, long))
 
-by_hop_whole : {id : ℕ} {own : EthernetAddress} {p : Packet} {hop : IpAddress} {outcome : Outcome} {H new : Host} {frames : List (List ℕ)} {notes : List Note} (h : HardwareAddress) →
-    DispatchesByHop id own p hop outcome (with_next_id H) frames notes new → answer_of H.neighbors hop H.moment ≡ Found h → total_len p ≤ ip_mtu_of H.capabilities → GoesWhole p h outcome H frames new
+by_hop_whole : {id : ℕ} {own : EthernetAddress} {p : Packet} {hop : IpAddress} {outcome : Outcome} {H new : Host}
+    {frames : List (List ℕ)} {notes : List Note} (h : HardwareAddress) →
+    DispatchesByHop id own p hop outcome (with_next_id H) frames notes new → answer_of H.neighbors hop H.moment ≡ Found h →
+    total_len p ≤ ip_mtu_of H.capabilities → GoesWhole p h outcome H frames new
 by_hop_whole {id} {own} {p} {hop} {outcome} {H} {new} {frames} {notes} h (dispatch.Known h' k e) known short =
     let found : Found h' ≡ Found h = sym k ∙ known in
     let same : h' ≡ h = cc in
@@ -226,8 +249,10 @@ same_hop : {H : Host} {a : IpAddress} {hop : Option IpAddress} → IsNextHop H a
 same_hop (OnLink i e) = OnLink i e
 same_hop (ByRouter router i is e) = ByRouter router i is e
 
-ethernet_whole : {id : ℕ} {own : EthernetAddress} {p : Packet} {outcome : Outcome} {H new : Host} {frames : List (List ℕ)} {notes : List Note} (h : HardwareAddress) →
-    DispatchesEthernet id own p outcome (with_next_id H) frames notes new → multicast_hardware_addr H.ip_addrs (destination_of p) ≡ None → IsReached H (destination_of p) h → total_len p ≤ ip_mtu_of H.capabilities →
+ethernet_whole : {id : ℕ} {own : EthernetAddress} {p : Packet} {outcome : Outcome} {H new : Host} {frames : List (List ℕ)}
+    {notes : List Note} (h : HardwareAddress) →
+    DispatchesEthernet id own p outcome (with_next_id H) frames notes new → multicast_hardware_addr H.ip_addrs (destination_of p) ≡ None →
+    IsReached H (destination_of p) h → total_len p ≤ ip_mtu_of H.capabilities →
     GoesWhole p h outcome H frames new
 ethernet_whole h (dispatch.ToMulticast h' m e) one r short = absurd cc
 ethernet_whole {H = H} h (dispatch.NoHop m n o u) one r short = let none : None ≡ Some r.hop = hop_is_one n (same_hop r.next) in absurd cc
@@ -236,12 +261,15 @@ ethernet_whole {id} {own} {p} {outcome} {H} {new} {frames} {notes} h (dispatch.B
     let same : hop ≡ r.hop = cc in
     by_hop_whole {hop = r.hop} h (subst (λ x. DispatchesByHop id own p x outcome (with_next_id H) frames notes new) same s) r.known short
 
-pub goes_whole : {p : Packet} {outcome : Outcome} {H new : Host} {frames : List (List ℕ)} {notes : List Note} (own : EthernetAddress) (h : HardwareAddress) →
-    Dispatches p outcome H frames notes new → H.hardware_addr ≡ hardware.Ethernet own → is_unspecified (destination_of p) ≡ false → multicast_hardware_addr H.ip_addrs (destination_of p) ≡ None →
+pub goes_whole : {p : Packet} {outcome : Outcome} {H new : Host} {frames : List (List ℕ)} {notes : List Note}
+    (own : EthernetAddress) (h : HardwareAddress) →
+    Dispatches p outcome H frames notes new → H.hardware_addr ≡ hardware.Ethernet own → is_unspecified (destination_of p) ≡ false →
+    multicast_hardware_addr H.ip_addrs (destination_of p) ≡ None →
     IsReached H (destination_of p) h → total_len p ≤ ip_mtu_of H.capabilities → GoesWhole p h outcome H frames new
 goes_whole own h (dispatch.ToUnspecified n o u) on specified one r short = absurd cc
 goes_whole {p} {outcome} {H} {new} {frames} {notes} own h (dispatch.ToSpecified more s d n) on specified one r short =
-    let over : DispatchesEthernet H.ipv4_id own p outcome (with_next_id H) frames more new = subst (λ x. SendsOver H.ipv4_id x p outcome (with_next_id H) frames more new) on d in
+    let over : DispatchesEthernet H.ipv4_id own p outcome (with_next_id H) frames more new =
+    subst (λ x. SendsOver H.ipv4_id x p outcome (with_next_id H) frames more new) on d in
     ethernet_whole h over one r short
 
 -- an address of one host is neither nobody's nor that of many
@@ -270,25 +298,30 @@ one_of own a is =
     let host = none_true (ipv4.is_broadcast a) (ipv4.is_multicast a) (ipv4.is_unspecified a) parts.0 in
     let all : is_broadcast_v4 own a ≡ false = not_true (is_broadcast_v4 own a) parts.1 in
     record { specified = host.2; not_multicast = on (is_broadcast_v4 own a) (ipv4.is_multicast a) all host.1 } where
-      on : (b m : Bool) → b ≡ false → m ≡ false → (if b then Some ethernet_address.broadcast else if m then Some (group_address_v4 a) else None) ≡ None
+      on : (b m : Bool) →
+          b ≡ false → m ≡ false → (if b then Some ethernet_address.broadcast else if m then Some (group_address_v4 a) else None) ≡ None
       on false false e f = refl
       on true m e f = absurd cc
       on false true e f = absurd cc
 
 -- the next hop is the same where the addresses, the routes and the moment are
-pub hop_as : {H K : Host} {a : IpAddress} {hop : Option IpAddress} → K.ip_addrs ≡ H.ip_addrs → K.routes ≡ H.routes → K.moment ≡ H.moment → IsNextHop H a hop → IsNextHop K a hop
+pub hop_as : {H K : Host} {a : IpAddress} {hop : Option IpAddress} →
+    K.ip_addrs ≡ H.ip_addrs → K.routes ≡ H.routes → K.moment ≡ H.moment → IsNextHop H a hop → IsNextHop K a hop
 hop_as {H} {K} {a} addrs routes moment (OnLink i e) = OnLink (ap (λ x. in_same_network x a) addrs ∙ i) e
 hop_as {H} {K} {a} addrs routes moment (ByRouter router i is e) =
-    ByRouter router (ap (λ x. in_same_network x a) addrs ∙ i) (subst (λ x. IsRouter K.routes a x router) (sym moment) (subst (λ x. IsRouter x a H.moment router) (sym routes) is)) e
+    ByRouter router (ap (λ x. in_same_network x a) addrs ∙ i)
+    (subst (λ x. IsRouter K.routes a x router) (sym moment) (subst (λ x. IsRouter x a H.moment router) (sym routes) is)) e
 
 -- IPv4
 
 -- the host that a packet for it leaves, before its protocol is looked at: raw sockets heard it, and its sender is renewed
 abbrev pub met : HardwareAddress → Ipv4Repr → List ℕ → Host → Host
-met source r payload H = with_neighbors (raw.host_after_raw_delivery (repr.Ipv4 r) payload H) (after_renewal H.neighbors (Ipv4 r.src_addr) source (expiry_from H.moment))
+met source r payload H =
+    with_neighbors (raw.host_after_raw_delivery (repr.Ipv4 r) payload H) (after_renewal H.neighbors (Ipv4 r.src_addr) source (expiry_from H.moment))
 
 -- the way to an address stays known
-pub reached_still : {H : Host} {a : IpAddress} {h : HardwareAddress} (source : HardwareAddress) (r : Ipv4Repr) (payload : List ℕ) → IsReached H a h → IsReached (met source r payload H) a h
+pub reached_still : {H : Host} {a : IpAddress} {h : HardwareAddress} (source : HardwareAddress) (r : Ipv4Repr) (payload : List ℕ) →
+    IsReached H a h → IsReached (met source r payload H) a h
 reached_still {H} {a} {h} source r payload i = record {
   hop = i.hop;
   next = hop_as {H = H} {K = met source r payload H} refl refl refl i.next;
@@ -299,43 +332,55 @@ renewal : (source : HardwareAddress) (r : Ipv4Repr) (K : Host) → is_unicast_v4
     sender_renewed source (repr.Ipv4 r) K ≡ with_neighbors K (after_renewal K.neighbors (Ipv4 r.src_addr) source (expiry_from K.moment))
 renewal source r K one = rw one refl
 
-whole_taken : {source : HardwareAddress} {H new : Host} {payload : List ℕ} {reply : Option Reply} {notes : List Note} (r : Ipv4Repr) → ProcessesDatagram source r H payload reply notes new →
+whole_taken : {source : HardwareAddress} {H new : Host} {payload : List ℕ} {reply : Option Reply} {notes : List Note} (r : Ipv4Repr) →
+    ProcessesDatagram source r H payload reply notes new →
     is_for_host H (Ipv4 r.dst_addr) ≡ true → is_unicast_v4 H.ip_addrs r.dst_addr ≡ true →
     ProcessesProtocol r.next_header (raw.is_taken (repr.Ipv4 r) H) r (met source r payload H) payload reply notes new
 whole_taken r (ip.NotForUs n d) for_us one = absurd (clash for_us n)
 whole_taken {source} {H} {new} {payload} {reply} {notes} r (ip.Accepted f t) for_us one =
-    subst (λ K. ProcessesProtocol r.next_header (raw.is_taken (repr.Ipv4 r) H) r K payload reply notes new) (renewal source r (raw.host_after_raw_delivery (repr.Ipv4 r) payload H) one) t
+    subst (λ K. ProcessesProtocol r.next_header (raw.is_taken (repr.Ipv4 r) H) r K payload reply notes new)
+    (renewal source r (raw.host_after_raw_delivery (repr.Ipv4 r) payload H) one) t
 
-packet_taken : {source : HardwareAddress} {H new : Host} {payload : List ℕ} {reply : Option Reply} {notes : List Note} (r : Ipv4Repr) (f : Ipv4Fragment) →
-    ProcessesPacket source r f H payload reply notes new → may_be_source H.ip_addrs r.src_addr ≡ true → is_fragment f ≡ false → ProcessesDatagram source r H payload reply notes new
+packet_taken : {source : HardwareAddress} {H new : Host} {payload : List ℕ} {reply : Option Reply}
+    {notes : List Note} (r : Ipv4Repr) (f : Ipv4Fragment) →
+    ProcessesPacket source r f H payload reply notes new → may_be_source H.ip_addrs r.src_addr ≡ true → is_fragment f ≡ false →
+    ProcessesDatagram source r H payload reply notes new
 packet_taken r f (ip.FromNoHost s d) may whole = absurd (clash may s)
 packet_taken r f (ip.Part s p t e) may whole = absurd (clash p whole)
 packet_taken r f (ip.Completed octets mid first rest s p t w e) may whole = absurd (clash p whole)
 packet_taken r f (ip.Whole s w t) may whole = t
 
-ipv4_taken : {source : HardwareAddress} {H new : Host} {octets : List ℕ} {reply : Option Reply} {notes : List Note} (r : Ipv4Repr) (payload : List ℕ) → ProcessesIpv4 source H octets reply notes new →
-    IsIpv4 (is_rx H.capabilities.checksum.ipv4) octets → (ipv4_in octets).0 ≡ r → is_fragment (ipv4_in octets).1 ≡ false → (ipv4_in octets).2 ≡ payload →
+ipv4_taken : {source : HardwareAddress} {H new : Host} {octets : List ℕ} {reply : Option Reply} {notes : List Note} (r : Ipv4Repr)
+    (payload : List ℕ) → ProcessesIpv4 source H octets reply notes new →
+    IsIpv4 (is_rx H.capabilities.checksum.ipv4) octets → (ipv4_in octets).0 ≡ r →
+    is_fragment (ipv4_in octets).1 ≡ false → (ipv4_in octets).2 ≡ payload →
     may_be_source H.ip_addrs r.src_addr ≡ true → ProcessesDatagram source r H payload reply notes new
 ipv4_taken r payload (ip.Malformed m d) is header whole behind may = absurd (m is)
 ipv4_taken {source} {H} {new} {octets} {reply} {notes} r payload (ip.Read i t) is header whole behind may =
-    let at_header : ProcessesPacket source r (ipv4_in octets).1 H (ipv4_in octets).2 reply notes new = subst (λ x. ProcessesPacket source x (ipv4_in octets).1 H (ipv4_in octets).2 reply notes new) header t in
-    let at_payload : ProcessesPacket source r (ipv4_in octets).1 H payload reply notes new = subst (λ x. ProcessesPacket source r (ipv4_in octets).1 H x reply notes new) behind at_header in
+    let at_header : ProcessesPacket source r (ipv4_in octets).1 H (ipv4_in octets).2 reply notes new =
+    subst (λ x. ProcessesPacket source x (ipv4_in octets).1 H (ipv4_in octets).2 reply notes new) header t in
+    let at_payload : ProcessesPacket source r (ipv4_in octets).1 H payload reply notes new =
+    subst (λ x. ProcessesPacket source r (ipv4_in octets).1 H x reply notes new) behind at_header in
     packet_taken r (ipv4_in octets).1 at_payload may whole
 
 -- what is done with a packet for the host that came whole
-pub packet_served : {own : EthernetAddress} {t : ℤ} {frame : List ℕ} {old new : Host} {told : List Event} {r : Ipv4Repr} {payload : List ℕ} (w : WasTaken own t protocol.Ipv4 frame old told new) →
+pub packet_served : {own : EthernetAddress} {t : ℤ} {frame : List ℕ} {old new : Host} {told : List Event} {r : Ipv4Repr} {payload : List ℕ}
+    (w : WasTaken own t protocol.Ipv4 frame old told new) →
     HasPacketV4 own old frame r payload →
-    ProcessesProtocol r.next_header (raw.is_taken (repr.Ipv4 r) (without_expired old t)) r (met (hardware.Ethernet (header_in frame).src_addr) r payload (without_expired old t)) payload w.reply w.notes w.taken
+    ProcessesProtocol r.next_header (raw.is_taken (repr.Ipv4 r) (without_expired old t)) r
+    (met (hardware.Ethernet (header_in frame).src_addr) r payload (without_expired old t)) payload w.reply w.notes w.taken
 packet_served {own} {t} {frame} {old} {new} {told} {r} {payload} w p =
     let may : may_be_source old.ip_addrs r.src_addr ≡ true = rw p.sender refl in
     let for_us : is_for_host (without_expired old t) (Ipv4 r.dst_addr) ≡ true = rw p.given refl in
     whole_taken r (ipv4_taken r payload w.takes p.is_packet p.header p.whole p.behind may) for_us p.receiver
 
 record EchoAnswered (r : Ipv4Repr) (ident seq_no : ℕ) (octets payload : List ℕ) (H : Host) (reply : Option Reply) (new : Host) : Type 0 where
-  replies : reply ≡ Some (Ip (packet.Ipv4 (record { src_addr = r.dst_addr; dst_addr = r.src_addr; hop_limit = 64; payload = Icmpv4 (EchoReply ident seq_no) octets })))
+  replies : reply ≡ Some
+      (Ip (packet.Ipv4 (record { src_addr = r.dst_addr; dst_addr = r.src_addr; hop_limit = 64; payload = Icmpv4 (EchoReply ident seq_no) octets })))
   host_is : new ≡ icmp.host_after_delivery r payload H
 
-echo_answered : {H new : Host} {payload : List ℕ} {reply : Option Reply} {notes : List Note} (r : Ipv4Repr) (ident seq_no : ℕ) (octets : List ℕ) → ProcessesIcmpv4 r H payload reply notes new →
+echo_answered : {H new : Host} {payload : List ℕ} {reply : Option Reply} {notes : List Note} (r : Ipv4Repr) (ident seq_no : ℕ) (octets : List ℕ) →
+    ProcessesIcmpv4 r H payload reply notes new →
     IsIcmpv4 (is_rx H.capabilities.checksum.icmpv4) payload → icmpv4_in payload ≡ (EchoRequest ident seq_no, octets) →
     is_unicast_v4 H.ip_addrs r.src_addr ≡ true → is_unicast_v4 H.ip_addrs r.dst_addr ≡ true → EchoAnswered r ident seq_no octets payload H reply new
 echo_answered r ident seq_no octets (icmp.Malformed m d) is values from to = absurd (m is)
@@ -354,12 +399,29 @@ pings_served own t frame r ident seq_no octets h old new told w p reach fits =
     subst (λ q. ProcessesProtocol q (raw.is_taken (repr.Ipv4 r) (without_expired old t)) r mid p.payload k.reply k.notes k.taken) p.protocol_is any in
     let answered = echo_answered r ident seq_no octets message p.is_message p.values p.in_packet.sender p.in_packet.receiver in
     let one = one_of old.ip_addrs r.src_addr p.in_packet.sender in
-    let there : Responds (Some (Ip (packet.Ipv4 (record { src_addr = r.dst_addr; dst_addr = r.src_addr; hop_limit = 64; payload = Icmpv4 (EchoReply ident seq_no) octets })))) k.taken k.frames k.more new =
+    let there : Responds (Some (Ip (packet.Ipv4 (record {
+      src_addr = r.dst_addr;
+      dst_addr = r.src_addr;
+      hop_limit = 64;
+      payload = Icmpv4 (EchoReply ident seq_no) octets;
+    })))) k.taken k.frames k.more new =
     subst (λ x. Responds x k.taken k.frames k.more new) answered.replies k.responds in
-    let went : Responds (Some (Ip (packet.Ipv4 (record { src_addr = r.dst_addr; dst_addr = r.src_addr; hop_limit = 64; payload = Icmpv4 (EchoReply ident seq_no) octets })))) (icmp.host_after_delivery r p.payload mid) k.frames k.more new =
-    subst (λ K. Responds (Some (Ip (packet.Ipv4 (record { src_addr = r.dst_addr; dst_addr = r.src_addr; hop_limit = 64; payload = Icmpv4 (EchoReply ident seq_no) octets })))) K k.frames k.more new) answered.host_is there in
-    let way = reached_still {H = without_expired old t} source r p.payload (record { hop = reach.hop; next = hop_as {H = at old t} {K = without_expired old t} refl refl refl reach.next; known = reach.known }) in
-    let way_on : IsReached (icmp.host_after_delivery r p.payload mid) (Ipv4 r.src_addr) h = record { hop = way.hop; next = hop_as {H = mid} {K = icmp.host_after_delivery r p.payload mid} refl refl refl way.next; known = way.known } in
+    let went : Responds (Some (Ip (packet.Ipv4 (record {
+      src_addr = r.dst_addr;
+      dst_addr = r.src_addr;
+      hop_limit = 64;
+      payload = Icmpv4 (EchoReply ident seq_no) octets;
+    })))) (icmp.host_after_delivery r p.payload mid) k.frames k.more new =
+    subst (λ K. Responds (Some (Ip (packet.Ipv4 (record {
+      src_addr = r.dst_addr;
+      dst_addr = r.src_addr;
+      hop_limit = 64;
+      payload = Icmpv4 (EchoReply ident seq_no) octets;
+    })))) K k.frames k.more new) answered.host_is there in
+    let way = reached_still {H = without_expired old t} source r p.payload
+    (record { hop = reach.hop; next = hop_as {H = at old t} {K = without_expired old t} refl refl refl reach.next; known = reach.known }) in
+    let way_on : IsReached (icmp.host_after_delivery r p.payload mid) (Ipv4 r.src_addr) h =
+    record { hop = way.hop; next = hop_as {H = mid} {K = icmp.host_after_delivery r p.payload mid} refl refl refl way.next; known = way.known } in
     let short : 20 + (8 + length octets) ≤ ip_mtu_of old.capabilities = omega (arith, fits) in
     let gone = goes_whole own h went.1 w.on_ethernet one.specified one.not_multicast way_on short in
     k.sends_them ∙ gone.frames_are
@@ -371,8 +433,10 @@ header_long d s rest e f = search (arith, length-append)
 
 pub request_frames_read : RequestFramesAreRead
 request_frames_read own source destination addrs r padding s d for_us packet asks target sender hardware near =
-    let e = ethernet_again.read_again (record { src_addr = source; dst_addr = destination; ethertype = protocol.Arp }) (arp_text.text r ++ padding) (record { destination = d; source = s; number = lit≤ tt; protocol = refl }) in
-    let header : header_in (request_frame source destination r padding) ≡ record { src_addr = source; dst_addr = destination; ethertype = protocol.Arp } = ap (λ x. x.0) e in
+    let e = ethernet_again.read_again (record { src_addr = source; dst_addr = destination; ethertype = protocol.Arp }) (arp_text.text r ++ padding)
+    (record { destination = d; source = s; number = lit≤ tt; protocol = refl }) in
+    let header : header_in (request_frame source destination r padding)
+    ≡ record { src_addr = source; dst_addr = destination; ethertype = protocol.Arp } = ap (λ x. x.0) e in
     let behind : drop 14 (request_frame source destination r padding) ≡ arp_text.text r ++ padding = ap (λ x. x.1) e in
     let again = arp_again.read_again r padding packet in
     record {

@@ -35,7 +35,8 @@ use Rattle.host_machine.specs.Receiving.Raw as raw
 use Rattle.host_machine.specs.Receiving.Renewal.{sender_renewed}
 use Rattle.host_machine.specs.Receiving.Icmpv6.{IsMessage, ProcessesIcmpv6, ProcessesMessage, message_back}
 use Rattle.host_machine.specs.Receiving.Icmpv6 as v6
-use Rattle.host_machine.specs.Receiving.Ndisc.{ProcessesNdiscMessage, Learns, LearnsNeighbor, ProcessesNdisc, advertisement_of, is_target, answer_by, solicited_flag, has_no_unicast, usable_lladdr}
+use Rattle.host_machine.specs.Receiving.Ndisc.{ProcessesNdiscMessage, Learns, LearnsNeighbor, ProcessesNdisc, advertisement_of}
+use Rattle.host_machine.specs.Receiving.Ndisc.{is_target, answer_by, solicited_flag, has_no_unicast, usable_lladdr}
 use Rattle.host_machine.specs.Receiving.Ndisc as ndisc
 use Rattle.host_machine.specs.Receiving.Ipv6.{ProcessesIpv6, ProcessesPacket, ProcessesDatagramV6, ProcessesProtocol}
 use Rattle.host_machine.specs.Receiving.Ipv6 as ip
@@ -49,46 +50,59 @@ use Rattle.host_machine.proofs.Sending.GrantedEgress.{unicast_for}
 abbrev met : HardwareAddress → Ipv6Repr → List ℕ → Host → Host
 met source r payload H = sender_renewed source (repr.Ipv6 r) (raw.host_after_raw_delivery (repr.Ipv6 r) payload H)
 
-packet_taken : {source : HardwareAddress} {H new : Host} {payload : List ℕ} {reply : Option Reply} {notes : List Note} (r : Ipv6Repr) → ProcessesPacket source r H payload reply notes new →
-    ipv6.is_unicast r.src_addr ≡ true → r.next_header ≡ ip_protocol.Icmpv6 → is_for_host H (Ipv6 r.dst_addr) ≡ true → ProcessesIcmpv6 r (met source r payload H) payload reply notes new
+packet_taken : {source : HardwareAddress} {H new : Host} {payload : List ℕ} {reply : Option Reply} {notes : List Note} (r : Ipv6Repr) →
+    ProcessesPacket source r H payload reply notes new →
+    ipv6.is_unicast r.src_addr ≡ true → r.next_header ≡ ip_protocol.Icmpv6 → is_for_host H (Ipv6 r.dst_addr) ≡ true →
+    ProcessesIcmpv6 r (met source r payload H) payload reply notes new
 packet_taken r (ip.FromNoHost s d) sender icmp_is for_us = absurd (clash sender s)
 packet_taken r (ip.WithOptions u z t) sender icmp_is for_us = absurd (let bad : 58 ≡ 0 = sym (ap number_of icmp_is) ∙ z in omega (arith, bad))
 packet_taken {source} {H} {new} {payload} {reply} {notes} r (ip.Bare u z t) sender icmp_is for_us =
     accepted (subst (λ p. ProcessesDatagramV6 source r p H payload reply notes new) icmp_is t) where
-      accepted : ProcessesDatagramV6 source r ip_protocol.Icmpv6 H payload reply notes new → ProcessesIcmpv6 r (met source r payload H) payload reply notes new
+      accepted : ProcessesDatagramV6 source r ip_protocol.Icmpv6 H payload reply notes new →
+          ProcessesIcmpv6 r (met source r payload H) payload reply notes new
       accepted (ip.NotForUs n d) = absurd (clash for_us n)
       accepted (ip.Accepted f on) = on
 
-ipv6_taken : {source : HardwareAddress} {H new : Host} {octets : List ℕ} {reply : Option Reply} {notes : List Note} (r : Ipv6Repr) (payload : List ℕ) → ProcessesIpv6 source H octets reply notes new →
+ipv6_taken : {source : HardwareAddress} {H new : Host} {octets : List ℕ} {reply : Option Reply} {notes : List Note} (r : Ipv6Repr)
+    (payload : List ℕ) → ProcessesIpv6 source H octets reply notes new →
     IsIpv6 octets → ipv6_in octets ≡ (r, payload) → ProcessesPacket source r H payload reply notes new
 ipv6_taken r payload (ip.Malformed m d) is values = absurd (m is)
-ipv6_taken {source} {H} {new} {octets} {reply} {notes} r payload (ip.Read i t) is values = subst (λ v. ProcessesPacket source v.0 H v.1 reply notes new) values t
+ipv6_taken {source} {H} {new} {octets} {reply} {notes} r payload (ip.Read i t) is values =
+    subst (λ v. ProcessesPacket source v.0 H v.1 reply notes new) values t
 
 -- what is done with a message for the host
-message_served : {own : EthernetAddress} {t : ℤ} {frame : List ℕ} {old new : Host} {told : List Event} {r : Ipv6Repr} {payload : List ℕ} (w : WasTaken own t protocol.Ipv6 frame old told new) →
+message_served : {own : EthernetAddress} {t : ℤ} {frame : List ℕ} {old new : Host} {told : List Event} {r : Ipv6Repr} {payload : List ℕ}
+    (w : WasTaken own t protocol.Ipv6 frame old told new) →
     HasPacketV6 own old frame r payload → r.next_header ≡ ip_protocol.Icmpv6 → is_for_host (without_expired old t) (Ipv6 r.dst_addr) ≡ true →
     ProcessesIcmpv6 r (met (hardware.Ethernet (header_in frame).src_addr) r payload (without_expired old t)) payload w.reply w.notes w.taken
-message_served {r = r} {payload = payload} w p icmp_is for_us = packet_taken r (ipv6_taken r payload w.takes p.is_packet p.values) p.sender icmp_is for_us
+message_served {r = r} {payload = payload} w p icmp_is for_us =
+    packet_taken r (ipv6_taken r payload w.takes p.is_packet p.values) p.sender icmp_is for_us
 
 -- a host without what is known of neighbours
 abbrev apart : Host → Neighbors → Host
 apart H n = record H { neighbors = n }
 
-met_apart : (source : HardwareAddress) (r : Ipv6Repr) (payload : List ℕ) (H : Host) (n : Neighbors) → apart (met source r payload H) n ≡ apart (raw.host_after_raw_delivery (repr.Ipv6 r) payload H) n
+met_apart : (source : HardwareAddress) (r : Ipv6Repr) (payload : List ℕ) (H : Host) (n : Neighbors) →
+    apart (met source r payload H) n ≡ apart (raw.host_after_raw_delivery (repr.Ipv6 r) payload H) n
 met_apart source r payload H n = by (is_unicast H.ip_addrs (Ipv6 r.dst_addr)) where
-  by : (b : Bool) → apart (if b then with_neighbors (raw.host_after_raw_delivery (repr.Ipv6 r) payload H) (after_renewal H.neighbors (Ipv6 r.src_addr) source (expiry_from H.moment)) else raw.host_after_raw_delivery (repr.Ipv6 r) payload H) n
+  by : (b : Bool) → apart (if b then with_neighbors (raw.host_after_raw_delivery (repr.Ipv6 r) payload H)
+      (after_renewal H.neighbors (Ipv6 r.src_addr) source (expiry_from H.moment)) else raw.host_after_raw_delivery (repr.Ipv6 r) payload H) n
       ≡ apart (raw.host_after_raw_delivery (repr.Ipv6 r) payload H) n
   by true = refl
   by false = refl
 
-met_found : (source : HardwareAddress) (r : Ipv6Repr) (payload : List ℕ) (H : Host) (a : IpAddress) (h : HardwareAddress) → answer_of H.neighbors a H.moment ≡ Found h → answer_of (met source r payload H).neighbors a H.moment ≡ Found h
+met_found : (source : HardwareAddress) (r : Ipv6Repr) (payload : List ℕ) (H : Host) (a : IpAddress) (h : HardwareAddress) →
+    answer_of H.neighbors a H.moment ≡ Found h → answer_of (met source r payload H).neighbors a H.moment ≡ Found h
 met_found source r payload H a h found = by (is_unicast H.ip_addrs (Ipv6 r.dst_addr)) where
-  by : (b : Bool) → answer_of (if b then with_neighbors (raw.host_after_raw_delivery (repr.Ipv6 r) payload H) (after_renewal H.neighbors (Ipv6 r.src_addr) source (expiry_from H.moment)) else raw.host_after_raw_delivery (repr.Ipv6 r) payload H).neighbors a H.moment ≡ Found h
+  by : (b : Bool) → answer_of (if b then with_neighbors (raw.host_after_raw_delivery (repr.Ipv6 r) payload H)
+      (after_renewal H.neighbors (Ipv6 r.src_addr) source (expiry_from H.moment)) else raw.host_after_raw_delivery (repr.Ipv6 r) payload H).neighbors
+      a H.moment ≡ Found h
   by true = renewed_found H.neighbors (Ipv6 r.src_addr) a source h H.moment found
   by false = found
 
 -- a message, by its values, at the host that ICMP sockets left
-message_taken : {r : Ipv6Repr} {H new : Host} {payload : List ℕ} {reply : Option Reply} {notes : List Note} → ProcessesIcmpv6 r H payload reply notes new → IsMessage H r payload →
+message_taken : {r : Ipv6Repr} {H new : Host} {payload : List ℕ} {reply : Option Reply} {notes : List Note} →
+    ProcessesIcmpv6 r H payload reply notes new → IsMessage H r payload →
     ProcessesMessage r (icmpv6_in payload).0 (icmpv6_in payload).1 (v6.host_after_delivery r payload H) reply notes new
 message_taken (v6.Malformed m d) is = absurd (m is)
 message_taken (v6.Taken i t) is = t
@@ -99,10 +113,12 @@ pings_v6_served own t frame r ident seq_no octets h old new told w p reach fits 
     let H : Host = without_expired old t in
     let source : HardwareAddress = hardware.Ethernet (header_in frame).src_addr in
     let mid : Host = met source r p.payload H in
-    let echo : Packet = packet.Ipv6 (record { src_addr = r.dst_addr; dst_addr = r.src_addr; hop_limit = 64; payload = Icmpv6 (icmp.EchoReply ident seq_no) octets }) in
+    let echo : Packet =
+    packet.Ipv6 (record { src_addr = r.dst_addr; dst_addr = r.src_addr; hop_limit = 64; payload = Icmpv6 (icmp.EchoReply ident seq_no) octets }) in
     let for_us : is_for_host H (Ipv6 r.dst_addr) ≡ true = rw p.given refl in
     let any = message_served k p.in_packet p.protocol_is for_us in
-    let same : apart mid old.neighbors ≡ apart (raw.host_after_raw_delivery (repr.Ipv6 r) p.payload H) old.neighbors = met_apart source r p.payload H old.neighbors in
+    let same : apart mid old.neighbors ≡ apart (raw.host_after_raw_delivery (repr.Ipv6 r) p.payload H) old.neighbors =
+    met_apart source r p.payload H old.neighbors in
     let capabilities : mid.capabilities ≡ old.capabilities = ap (λ (K : Host). K.capabilities) same in
     let addrs : mid.ip_addrs ≡ old.ip_addrs = ap (λ (K : Host). K.ip_addrs) same in
     let message = message_taken any (subst (λ (K : Host). IsMessage K r p.payload) (sym same) p.is_message) in
@@ -110,7 +126,8 @@ pings_v6_served own t frame r ident seq_no octets h old new told w p reach fits 
     subst (λ v. ProcessesMessage r v.0 v.1 (v6.host_after_delivery r p.payload mid) k.reply k.notes k.taken) p.values message in
     let replies : k.reply ≡ Some (Ip echo) = answered.0 ∙ rw p.receiver refl in
     let there : Responds (Some (Ip echo)) k.taken k.frames k.more new = subst (λ x. Responds x k.taken k.frames k.more new) replies k.responds in
-    let went : Responds (Some (Ip echo)) (v6.host_after_delivery r p.payload mid) k.frames k.more new = subst (λ K. Responds (Some (Ip echo)) K k.frames k.more new) answered.2 there in
+    let went : Responds (Some (Ip echo)) (v6.host_after_delivery r p.payload mid) k.frames k.more new =
+    subst (λ K. Responds (Some (Ip echo)) K k.frames k.more new) answered.2 there in
     let one = unicast_for old.ip_addrs (Ipv6 r.src_addr) p.in_packet.sender in
     let K : Host = v6.host_after_delivery r p.payload mid in
     let moment : K.moment ≡ t = ap (λ (x : Host). x.moment) same in
@@ -119,8 +136,10 @@ pings_v6_served own t frame r ident seq_no octets h old new told w p reach fits 
       next = hop_as {H = at old t} {K = K} addrs (ap (λ (x : Host). x.routes) same) moment reach.next;
       known = ap (λ m. answer_of K.neighbors reach.hop m) moment ∙ met_found source r p.payload H reach.hop h reach.known;
     } in
-    let short : 40 + (8 + length octets) ≤ ip_mtu_of K.capabilities = subst (λ c. 40 + (8 + length octets) ≤ ip_mtu_of c) (sym capabilities) (omega (arith, fits)) in
-    let gone = goes_whole {p = echo} own h went.1 (ap (λ (x : Host). x.hardware_addr) same ∙ w.on_ethernet) one.specified one.not_multicast way short in
+    let short : 40 + (8 + length octets) ≤ ip_mtu_of K.capabilities =
+    subst (λ c. 40 + (8 + length octets) ≤ ip_mtu_of c) (sym capabilities) (omega (arith, fits)) in
+    let gone =
+    goes_whole {p = echo} own h went.1 (ap (λ (x : Host). x.hardware_addr) same ∙ w.on_ethernet) one.specified one.not_multicast way short in
     k.sends_them ∙ gone.frames_are ∙ ap (λ (x : Host). ip_frame x h echo ∷ []) same
 
 -- Solicitations
@@ -141,19 +160,27 @@ both_of true false e = absurd cc
 both_of false y e = absurd cc
 
 -- what a solicitation brings about
-record Advertises (own : EthernetAddress) (r : Ipv6Repr) (target : Ipv6Address) (h : EthernetAddress) (H : Host) (reply : Option Reply) (new : Host) : Type 0 where
+record Advertises (own : EthernetAddress) (r : Ipv6Repr) (target : Ipv6Address) (h : EthernetAddress) (H : Host)
+    (reply : Option Reply) (new : Host) : Type 0 where
   learns : LearnsNeighbor H r.src_addr h new
   replies : reply ≡ Some (Ip (advertisement_of own r target))
 
-hears : {own : EthernetAddress} {r : Ipv6Repr} {H new : Host} {reply : Option Reply} {notes : List Note} (target : Ipv6Address) (h : EthernetAddress) →
-    ProcessesNdiscMessage own r H reply notes new (NeighborSolicit target (Some h)) → ethernet.is_unicast h ≡ true → ipv6.is_unicast target ≡ true → is_target H r target ≡ true → Advertises own r target h H reply new
+hears : {own : EthernetAddress} {r : Ipv6Repr} {H new : Host} {reply : Option Reply} {notes : List Note}
+    (target : Ipv6Address) (h : EthernetAddress) →
+    ProcessesNdiscMessage own r H reply notes new (NeighborSolicit target (Some h)) → ethernet.is_unicast h ≡ true → ipv6.is_unicast target ≡ true →
+    is_target H r target ≡ true → Advertises own r target h H reply new
 hears target h (ndisc.NoUnicast _ _ tells d) one two asks = absurd (let bad : false ≡ true = rw (one, two) at tells in cc)
 hears {own} {r} {H} {new} target h (ndisc.Solicited _ _ tells learns rep n) one two asks =
     let told : usable_lladdr (Some h) target ≡ Some h = rw (one, two) refl in
-    record { learns = subst (λ o. Learns o r.src_addr H new) told learns; replies = rep ∙ ap (λ b. if b then Some (Ip (advertisement_of own r target)) else None) asks }
+    record {
+      learns = subst (λ o. Learns o r.src_addr H new) told learns;
+      replies = rep ∙ ap (λ b. if b then Some (Ip (advertisement_of own r target)) else None) asks;
+    }
 
-ndisc_hears : {own : EthernetAddress} {r : Ipv6Repr} {H new : Host} {reply : Option Reply} {notes : List Note} (target : Ipv6Address) (h : EthernetAddress) → ProcessesNdisc r (NeighborSolicit target (Some h)) H reply notes new →
-    r.hop_limit ≡ 255 → H.hardware_addr ≡ hardware.Ethernet own → ethernet.is_unicast h ≡ true → ipv6.is_unicast target ≡ true → is_target H r target ≡ true → Advertises own r target h H reply new
+ndisc_hears : {own : EthernetAddress} {r : Ipv6Repr} {H new : Host} {reply : Option Reply} {notes : List Note} (target : Ipv6Address)
+    (h : EthernetAddress) → ProcessesNdisc r (NeighborSolicit target (Some h)) H reply notes new →
+    r.hop_limit ≡ 255 → H.hardware_addr ≡ hardware.Ethernet own → ethernet.is_unicast h ≡ true → ipv6.is_unicast target ≡ true →
+    is_target H r target ≡ true → Advertises own r target h H reply new
 ndisc_hears target h (ndisc.FromAfar far d) near on one two asks = absurd (let bad : (255 == 255) ≡ false = sym (ap (λ n. n == 255) near) ∙ far in cc)
 ndisc_hears target h (ndisc.WithoutAddresses none d) near on one two asks = absurd cc
 ndisc_hears {own} {r} {H} {new} {reply} {notes} target h (ndisc.FromNeighbor other far is m) near on one two asks =
@@ -161,13 +188,17 @@ ndisc_hears {own} {r} {H} {new} {reply} {notes} target h (ndisc.FromNeighbor oth
     let same : other ≡ own = cc in
     hears target h (subst (λ x. ProcessesNdiscMessage x r H reply notes new (NeighborSolicit target (Some h))) same m) one two asks
 
-for_host_of : (H : Host) (a : Ipv6Address) → (has_solicited_node H.ip_addrs a || (is_assigned H.ip_addrs (Ipv6 a) && not (ipv6.is_loopback a))) ≡ true → is_for_host H (Ipv6 a) ≡ true
+for_host_of : (H : Host) (a : Ipv6Address) →
+    (has_solicited_node H.ip_addrs a || (is_assigned H.ip_addrs (Ipv6 a) && not (ipv6.is_loopback a))) ≡ true → is_for_host H (Ipv6 a) ≡ true
 for_host_of H a e = by (has_solicited_node H.ip_addrs a) refl e where
-  by : (b : Bool) → has_solicited_node H.ip_addrs a ≡ b → (b || (is_assigned H.ip_addrs (Ipv6 a) && not (ipv6.is_loopback a))) ≡ true → is_for_host H (Ipv6 a) ≡ true
-  by true f g = for_us_by (has_ip_addr H (Ipv6 a)) (a.bits == ipv6.all_nodes.bits) (has_solicited_node H.ip_addrs a) (is_member H.groups (Ipv6 a)) (is_broadcast H.ip_addrs (Ipv6 a)) (is_loopback (Ipv6 a)) f
+  by : (b : Bool) → has_solicited_node H.ip_addrs a ≡ b →
+      (b || (is_assigned H.ip_addrs (Ipv6 a) && not (ipv6.is_loopback a))) ≡ true → is_for_host H (Ipv6 a) ≡ true
+  by true f g = for_us_by (has_ip_addr H (Ipv6 a)) (a.bits == ipv6.all_nodes.bits) (has_solicited_node H.ip_addrs a) (is_member H.groups (Ipv6 a))
+      (is_broadcast H.ip_addrs (Ipv6 a)) (is_loopback (Ipv6 a)) f
   by false f g =
       let given : is_assigned H.ip_addrs (Ipv6 a) ≡ true = (both_of (is_assigned H.ip_addrs (Ipv6 a)) (not (ipv6.is_loopback a)) g).0 in
-      first_or (is_assigned H.ip_addrs (Ipv6 a)) (H.any_ip && is_routed_here H (Ipv6 a)) (has_multicast_group H (Ipv6 a)) (is_broadcast H.ip_addrs (Ipv6 a)) (is_loopback (Ipv6 a)) given
+      first_or (is_assigned H.ip_addrs (Ipv6 a)) (H.any_ip && is_routed_here H (Ipv6 a)) (has_multicast_group H (Ipv6 a))
+      (is_broadcast H.ip_addrs (Ipv6 a)) (is_loopback (Ipv6 a)) given
 
 and_both : (x y : Bool) → x ≡ true → y ≡ true → (x && y) ≡ true
 and_both x y e f = rw (e, f) refl
@@ -185,19 +216,23 @@ solicitations_served own t frame r target h old new told w s fits =
     let K : Host = v6.host_after_delivery r s.payload mid in
     let advert : Packet = advertisement_of own r target in
     let any = message_served k s.in_packet s.protocol_is (for_host_of H r.dst_addr s.for_host) in
-    let same : apart mid old.neighbors ≡ apart (raw.host_after_raw_delivery (repr.Ipv6 r) s.payload H) old.neighbors = met_apart source r s.payload H old.neighbors in
+    let same : apart mid old.neighbors ≡ apart (raw.host_after_raw_delivery (repr.Ipv6 r) s.payload H) old.neighbors =
+    met_apart source r s.payload H old.neighbors in
     let message = message_taken any (subst (λ (x : Host). IsMessage x r s.payload) (sym same) s.is_message) in
     let asked : ProcessesNdisc r (NeighborSolicit target (Some h)) K k.reply k.notes k.taken =
     subst (λ m. ProcessesMessage r m (icmpv6_in s.payload).1 K k.reply k.notes k.taken) s.values message in
     let asks_it : is_target H r target ≡ true =
-    and_both (has_solicited_node old.ip_addrs r.dst_addr || (is_assigned old.ip_addrs (Ipv6 r.dst_addr) && not (ipv6.is_loopback r.dst_addr))) (has_ip_addr H (Ipv6 target)) s.for_host
+    and_both (has_solicited_node old.ip_addrs r.dst_addr || (is_assigned old.ip_addrs (Ipv6 r.dst_addr) && not (ipv6.is_loopback r.dst_addr)))
+    (has_ip_addr H (Ipv6 target)) s.for_host
     (or_left (is_assigned old.ip_addrs (Ipv6 target)) (old.any_ip && is_routed_here H (Ipv6 target)) s.target_is_own) in
     let asks : is_target K r target ≡ true = ap (λ (x : Host). is_target x r target) same ∙ asks_it in
     let on : K.hardware_addr ≡ hardware.Ethernet own = ap (λ (x : Host). x.hardware_addr) same ∙ w.on_ethernet in
     let adv = ndisc_hears target h asked s.by_neighbor on s.hardware s.target_is_one asks in
     let after : Host = with_neighbors K adv.learns.neighbors in
-    let there : Responds (Some (Ip advert)) k.taken k.frames k.more new = subst (λ x. Responds x k.taken k.frames k.more new) adv.replies k.responds in
-    let went : Responds (Some (Ip advert)) after k.frames k.more new = subst (λ x. Responds (Some (Ip advert)) x k.frames k.more new) adv.learns.same there in
+    let there : Responds (Some (Ip advert)) k.taken k.frames k.more new =
+    subst (λ x. Responds x k.taken k.frames k.more new) adv.replies k.responds in
+    let went : Responds (Some (Ip advert)) after k.frames k.more new =
+    subst (λ x. Responds (Some (Ip advert)) x k.frames k.more new) adv.learns.same there in
     let moment : K.moment ≡ t = ap (λ (x : Host). x.moment) same in
     let known : answer_of adv.learns.neighbors (Ipv6 r.src_addr) K.moment ≡ Found (hardware.Ethernet h) = learnt_found K.moment adv.learns.filled in
     let near : in_same_network K.ip_addrs (Ipv6 r.src_addr) ≡ true = ap (λ (x : Host). in_same_network x.ip_addrs (Ipv6 r.src_addr)) same ∙ s.near in

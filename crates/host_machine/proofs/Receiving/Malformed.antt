@@ -29,7 +29,8 @@ use Rattle.host_machine.specs.Polling.Ingress.{Takes, Ingress}
 use Rattle.host_machine.specs.Laws.Steps.{IsMalformed, IsMalformedFrame}
 use Rattle.host_machine.specs.Laws.Steps as law
 
-arp_dropped : {own : EthernetAddress} {H new : Host} {payload : List ℕ} {reply : Option Reply} {notes : List Note} → ProcessesArp own H payload reply notes new → (IsArp payload → ⊥) → IsDropped H reply notes new
+arp_dropped : {own : EthernetAddress} {H new : Host} {payload : List ℕ} {reply : Option Reply} {notes : List Note} →
+    ProcessesArp own H payload reply notes new → (IsArp payload → ⊥) → IsDropped H reply notes new
 arp_dropped (arp.Malformed m d) other = d
 arp_dropped (arp.NotForUs a l d) other = d
 arp_dropped (arp.Learnt a l learns r n) other = absurd (other a)
@@ -51,7 +52,8 @@ IsNone H protocol.Ipv4 payload = IsIpv4 (is_rx H.capabilities.checksum.ipv4) pay
 IsNone H protocol.Ipv6 payload = IsIpv6 payload → ⊥
 IsNone H (protocol.Unknown n) payload = Unit {0}
 
-payload_dropped : (own source : EthernetAddress) (H : Host) (p : EthernetProtocol) (payload : List ℕ) (reply : Option Reply) (notes : List Note) (new : Host) →
+payload_dropped : (own source : EthernetAddress) (H : Host) (p : EthernetProtocol) (payload : List ℕ)
+    (reply : Option Reply) (notes : List Note) (new : Host) →
     ProcessesEthertype own source H p payload reply notes new → IsNone H p payload → IsDropped H reply notes new
 payload_dropped own source H protocol.Arp payload reply notes new t other = arp_dropped t other
 payload_dropped own source H protocol.Ipv4 payload reply notes new t other = ipv4_dropped t other
@@ -82,7 +84,9 @@ handed_by (Frame f) = f ∷ []
 handed_by Nothing = []
 handed_by Withheld = []
 
-taken_dropped : (moment : ℤ) (H : Host) (r : Reception) (frame : List ℕ) (reply : Option Reply) (notes : List Note) (new : Host) → Takes H r reply notes new → handed_frames (Received moment r ∷ []) ≡ frame ∷ [] → IsMalformed H.hardware_addr H.capabilities.checksum frame → IsDropped H reply notes new
+taken_dropped : (moment : ℤ) (H : Host) (r : Reception) (frame : List ℕ) (reply : Option Reply) (notes : List Note) (new : Host) →
+    Takes H r reply notes new → handed_frames (Received moment r ∷ []) ≡ frame ∷ [] →
+    IsMalformed H.hardware_addr H.capabilities.checksum frame → IsDropped H reply notes new
 taken_dropped moment H Nothing frame reply notes new t e bad = t
 taken_dropped moment H Withheld frame reply notes new t e bad = t
 taken_dropped moment H (Frame []) frame reply notes new t e bad = t
@@ -94,7 +98,8 @@ pub handed_frames-sends : (frames : List (List ℕ)) → handed_frames (sends fr
 handed_frames-sends [] = refl
 handed_frames-sends (f ∷ fs) = handed_frames-sends fs
 
-pub handed_frames-received : (moment : ℤ) (r : Reception) (es : List Event) → handed_frames es ≡ [] → handed_frames (Received moment r ∷ es) ≡ handed_frames (Received moment r ∷ [])
+pub handed_frames-received : (moment : ℤ) (r : Reception) (es : List Event) →
+    handed_frames es ≡ [] → handed_frames (Received moment r ∷ es) ≡ handed_frames (Received moment r ∷ [])
 handed_frames-received moment (Frame f) es e = ap (λ fs. f ∷ fs) e
 handed_frames-received moment Nothing es e = e
 handed_frames-received moment Withheld es e = e
@@ -103,13 +108,17 @@ pub sent_frames-sends : (frames : List (List ℕ)) → sent_frames (sends frames
 sent_frames-sends [] = refl
 sent_frames-sends (f ∷ fs) = ap (λ t. f ∷ t) (sent_frames-sends fs)
 
-pub nothing_responded : {H new : Host} {reply : Option Reply} {frames : List (List ℕ)} {notes : List Note} → reply ≡ None → Responds reply H frames notes new → (frames ≡ []) × (notes ≡ []) × (new ≡ H)
+pub nothing_responded : {H new : Host} {reply : Option Reply} {frames : List (List ℕ)} {notes : List Note} →
+    reply ≡ None → Responds reply H frames notes new → (frames ≡ []) × (notes ≡ []) × (new ≡ H)
 nothing_responded {H} {new} {reply} {frames} {notes} e r = rw e at r
 
 pub malformed : (t : ℤ) (answer : PollIngressSingleResult) (old new : Host) (told : List Event) (notes : List Note) (frame : List ℕ) →
-    Ingress t answer old told notes new → handed_frames told ≡ frame ∷ [] → IsMalformed old.hardware_addr old.capabilities.checksum frame → (sent_frames told ≡ []) × (notes ≡ []) × (new ≡ without_expired old t)
+    Ingress t answer old told notes new → handed_frames told ≡ frame ∷ [] → IsMalformed old.hardware_addr old.capabilities.checksum frame →
+    (sent_frames told ≡ []) × (notes ≡ []) × (new ≡ without_expired old t)
 malformed t answer old new told notes frame i is bad =
-    let only : handed_frames (Received t i.reception ∷ []) ≡ frame ∷ [] = sym (handed_frames-received t i.reception (sends i.frames) (handed_frames-sends i.frames)) ∙ sym (ap handed_frames i.events) ∙ is in
-    let d = taken_dropped t (without_expired old t) i.reception frame i.response.reply i.response.notes_taking i.response.taken i.response.takes only bad in
+    let only : handed_frames (Received t i.reception ∷ []) ≡ frame ∷ [] =
+    sym (handed_frames-received t i.reception (sends i.frames) (handed_frames-sends i.frames)) ∙ sym (ap handed_frames i.events) ∙ is in
+    let d =
+    taken_dropped t (without_expired old t) i.reception frame i.response.reply i.response.notes_taking i.response.taken i.response.takes only bad in
     let r = nothing_responded d.silent i.response.responds in
     (ap sent_frames i.events ∙ sent_frames-sends i.frames ∙ r.0, i.response.all_notes ∙ rw (d.unnoted, r.1) refl, r.2 ∙ d.unchanged)

@@ -1,5 +1,6 @@
 -- The pieces of a payload, and what is put together of them.
-use Rattle.std.proofs.Common.{◌≡◌, ℕ, zero, suc, ◌+◌, ◌-◌, ◌*◌, ◌/◌, ◌%◌, ◌<◌, ◌≤◌, min, List, [], ◌∷◌, ◌++◌, length, get_or, take, drop, refl, sym, ◌∙◌, ap, arith, length-take, length-drop, Option, Some, None, inl, inr}
+use Rattle.std.proofs.Common.{◌≡◌, ℕ, zero, suc, ◌+◌, ◌-◌, ◌*◌, ◌/◌, ◌%◌, ◌<◌, ◌≤◌, min, List, [], ◌∷◌, ◌++◌, length, get_or}
+use Rattle.std.proofs.Common.{take, drop, refl, sym, ◌∙◌, ap, arith, length-take, length-drop, Option, Some, None, inl, inr}
 use Rattle.std.specs.Prelude.{Bool, true, false, ◌⊎◌, ◌&&◌, ◌||◌, nat_le, nat_lt, if◌then◌else◌}
 use Rattle.std.specs.List.{AllByRecursion, Contains}
 use Rattle.std.proofs.lemmas.Bool.Decides.{nat_tests}
@@ -66,8 +67,11 @@ piece_in m payload f (k, l, e) =
 
 pub in_cut : (m : ℕ) (payload : List ℕ) (k : ℕ) → k < count m (length payload) → Contains (cut m payload) (piece_at m payload k)
 in_cut m payload k l =
-    let z : 0 + k ≡ k = omega arith in
-    (k, omega (arith, length-pieces_from m payload 0 (count m (length payload))), pieces_at m payload 0 (count m (length payload)) k (piece_at m payload k) l ∙ ap (λ i. piece_at m payload i) z)
+    let z : 0 + k ≡ k = omega arith in (
+      k,
+      omega (arith, length-pieces_from m payload 0 (count m (length payload))),
+      pieces_at m payload 0 (count m (length payload)) k (piece_at m payload k) l ∙ ap (λ i. piece_at m payload i) z,
+    )
 
 -- how many pieces there are
 count_above : (m n : ℕ) → 0 < m → n ≤ count m n * m
@@ -183,7 +187,8 @@ end_bare payload (f ∷ fs) all = rw (out, end_bare payload fs all.1) refl where
     by : (a b n : ℕ) → b ≤ n → (nat_le a n && nat_lt n b) ≡ false
     by a b n h = grind (arith, nat_tests)
 
-octets_by : (payload : List ℕ) (f : Fragment) (p : ℕ) (b : Bool) (x : ℕ) → (has_place f p || b) ≡ true → IsPartOf payload f → (b ≡ true → x ≡ get_or payload p 0) →
+octets_by : (payload : List ℕ) (f : Fragment) (p : ℕ) (b : Bool) (x : ℕ) →
+    (has_place f p || b) ≡ true → IsPartOf payload f → (b ≡ true → x ≡ get_or payload p 0) →
     (if b then x else get_or f.octets (p - f.offset) 0) ≡ get_or payload p 0
 octets_by payload f p true x c part rest = rest refl
 octets_by payload f p false x c part rest = part.octets p (here (has_place f p) c) where
@@ -208,30 +213,35 @@ total_from-append t (x ∷ xs) ys = total_from-append (total_with t x) xs ys
 abbrev pub IsTotal : ℕ → Option ℕ → Type 0
 IsTotal n t = (x : ℕ) → t ≡ Some x → x ≡ n
 
-pub total_stays : (payload : List ℕ) (t : Option ℕ) (f : Fragment) → IsPartOf payload f → IsTotal (length payload) t → IsTotal (length payload) (total_with t f)
+pub total_stays : (payload : List ℕ) (t : Option ℕ) (f : Fragment) →
+    IsPartOf payload f → IsTotal (length payload) t → IsTotal (length payload) (total_with t f)
 total_stays payload t f part is = by f.is_last refl where
   by : (b : Bool) → f.is_last ≡ b → IsTotal (length payload) (if b then Some (end_of f) else t)
   by true e = λ x h. let w = part.last e in let v : end_of f ≡ x = cc in omega arith
   by false e = is
 
-pub total_is : (payload : List ℕ) (t : Option ℕ) (fs : List Fragment) → AreParts payload fs → IsTotal (length payload) t → IsTotal (length payload) (total_from t fs)
+pub total_is : (payload : List ℕ) (t : Option ℕ) (fs : List Fragment) →
+    AreParts payload fs → IsTotal (length payload) t → IsTotal (length payload) (total_from t fs)
 total_is payload t [] all is = is
 total_is payload t (f ∷ fs) all is = total_is payload (total_with t f) fs all.1 (total_stays payload t f all.0 is)
 
-total_kept : (payload : List ℕ) (t : Option ℕ) (f : Fragment) → IsPartOf payload f → t ≡ Some (length payload) → total_with t f ≡ Some (length payload)
+total_kept : (payload : List ℕ) (t : Option ℕ) (f : Fragment) →
+    IsPartOf payload f → t ≡ Some (length payload) → total_with t f ≡ Some (length payload)
 total_kept payload t f part is = by f.is_last refl where
   by : (b : Bool) → f.is_last ≡ b → (if b then Some (end_of f) else t) ≡ Some (length payload)
   by true e = ap (λ (n : ℕ). Some n) (part.last e)
   by false e = is
 
-total_known : (payload : List ℕ) (t : Option ℕ) (fs : List Fragment) → AreParts payload fs → t ≡ Some (length payload) → total_from t fs ≡ Some (length payload)
+total_known : (payload : List ℕ) (t : Option ℕ) (fs : List Fragment) →
+    AreParts payload fs → t ≡ Some (length payload) → total_from t fs ≡ Some (length payload)
 total_known payload t [] all is = is
 total_known payload t (f ∷ fs) all is = total_known payload (total_with t f) fs all.1 (total_kept payload t f all.0 is)
 
 total_with-last : (t : Option ℕ) (f : Fragment) → f.is_last ≡ true → total_with t f ≡ Some (end_of f)
 total_with-last t f e = rw e refl
 
-pub total_found : (payload : List ℕ) (t : Option ℕ) (fs : List Fragment) (g : Fragment) → AreParts payload fs → IsIn g fs → g.is_last ≡ true → total_from t fs ≡ Some (length payload)
+pub total_found : (payload : List ℕ) (t : Option ℕ) (fs : List Fragment) (g : Fragment) →
+    AreParts payload fs → IsIn g fs → g.is_last ≡ true → total_from t fs ≡ Some (length payload)
 total_found payload t [] g all i e = absurd i
 total_found payload t (f ∷ fs) g all (inl same) e =
     let l : f.is_last ≡ true = rw (← same) e in
@@ -239,7 +249,8 @@ total_found payload t (f ∷ fs) g all (inl same) e =
 total_found payload t (f ∷ fs) g all (inr i) e = total_found payload (total_with t f) fs g all.1 i e
 
 -- what is rebuilt of parts of a payload is the payload
-pub rebuilds_payload : (payload : List ℕ) (g : Got) (octets : List ℕ) → IsTotal (length payload) g.total → AreParts payload g.fragments → IsRebuilt g octets → octets ≡ payload
+pub rebuilds_payload : (payload : List ℕ) (g : Got) (octets : List ℕ) →
+    IsTotal (length payload) g.total → AreParts payload g.fragments → IsRebuilt g octets → octets ≡ payload
 rebuilds_payload payload g octets total parts r =
     let len : length octets ≡ length payload = total (length octets) r.whole.total in
     ext_get_or 0 octets payload len (λ p l. r.octets_at p l ∙ octets_of payload g.fragments p parts (r.whole.below p l))
@@ -251,21 +262,25 @@ no_total : (n : ℕ) → IsTotal n None
 no_total n = λ x e. absurd cc
 
 -- where every piece is there, the payload is rebuilt
-pub complete : (m : ℕ) (payload : List ℕ) (fs : List Fragment) → 0 < m → 0 < length payload → AreParts payload fs → ((k : ℕ) → k < count m (length payload) → IsIn (piece_at m payload k) fs) → IsRebuilt (all_got fs) payload
+pub complete : (m : ℕ) (payload : List ℕ) (fs : List Fragment) → 0 < m → 0 < length payload → AreParts payload fs →
+    ((k : ℕ) → k < count m (length payload) → IsIn (piece_at m payload k) fs) → IsRebuilt (all_got fs) payload
 complete m payload fs pos some parts there = record {
   whole = record {
     total = let last = piece_for m payload (length payload - 1) pos (omega arith) in
-        total_found payload None fs (piece_at m payload last.number) parts (there last.number last.below) (is_last_piece m payload last.number (omega (arith, last.to)));
+        total_found payload None fs (piece_at m payload last.number) parts (there last.number last.below)
+        (is_last_piece m payload last.number (omega (arith, last.to)));
     below = each;
     at = end_bare payload fs parts;
   };
   octets_at = λ p l. sym (octets_of payload fs p parts (each p l));
 } where
   each : (p : ℕ) → p < length payload → is_covered fs p ≡ true
-  each p l = let h = piece_for m payload p pos l in covered_by fs (piece_at m payload h.number) p (there h.number h.below) (piece_has m payload p h.number l h.from h.to)
+  each p l = let h = piece_for m payload p pos l in
+      covered_by fs (piece_at m payload h.number) p (there h.number h.below) (piece_has m payload p h.number l h.from h.to)
 
 -- where piece k is missing, its first place isn't covered
-pub missing : (m : ℕ) (payload : List ℕ) (fs : List Fragment) (k : ℕ) → AllByRecursion (IsPiece m payload) fs → (IsIn (piece_at m payload k) fs → ⊥) → is_covered fs (k * m) ≡ false
+pub missing : (m : ℕ) (payload : List ℕ) (fs : List Fragment) (k : ℕ) →
+    AllByRecursion (IsPiece m payload) fs → (IsIn (piece_at m payload k) fs → ⊥) → is_covered fs (k * m) ≡ false
 missing m payload [] k all none = refl
 missing m payload (f ∷ fs) k all none = rw (out, missing m payload fs k all.1 (λ i. none (inr i))) refl where
   out : has_place f (k * m) ≡ false
@@ -277,7 +292,8 @@ missing m payload (f ∷ fs) k all none = rw (out, missing m payload fs k all.1 
         absurd (none (inl (sym (e ∙ ap (λ i. piece_at m payload i) same))))
     by false h = refl
 
-pub incomplete : (m : ℕ) (payload : List ℕ) (fs : List Fragment) (f : Fragment) → 0 < m → AllByRecursion (IsPiece m payload) fs → AreParts payload fs → IsPiece m payload f → (IsIn f fs → ⊥) →
+pub incomplete : (m : ℕ) (payload : List ℕ) (fs : List Fragment) (f : Fragment) →
+    0 < m → AllByRecursion (IsPiece m payload) fs → AreParts payload fs → IsPiece m payload f → (IsIn f fs → ⊥) →
     (octets : List ℕ) → IsRebuilt (all_got fs) octets → ⊥
 incomplete m payload fs f pos all parts piece none octets r =
     let len : length octets ≡ length payload = total_is payload None fs parts (no_total (length payload)) (length octets) r.whole.total in

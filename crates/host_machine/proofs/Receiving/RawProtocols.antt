@@ -86,19 +86,22 @@ module _ (spoken : ℕ → Bool) where
   tcp_speaks r t payload (Some (Tcp s)) = refl
 
   -- packets that are heard, and delivered
-  pub raw_heard : (r : IpRepr) (payload : List ℕ) (H : Host) → NoSpeaker H.sockets.places → NoSpeaker (raw.host_after_raw_delivery r payload H).sockets.places
+  pub raw_heard : (r : IpRepr) (payload : List ℕ) (H : Host) →
+      NoSpeaker H.sockets.places → NoSpeaker (raw.host_after_raw_delivery r payload H).sockets.places
   raw_heard r payload H none = to_each_speaks (raw.takes r) _ (raw_speaks _ r payload) H.sockets.places none
 
   pub icmp_heard : (message : IcmpRepr) (contents : List ℕ) (remote : IpAddress) (octets : List ℕ) (H : Host) → NoSpeaker H.sockets.places →
       NoSpeaker (icmp.host_after_delivery message contents remote octets H).sockets.places
-  icmp_heard message contents remote octets H none = to_each_speaks (icmp.accepts message contents) _ (icmp_speaks remote octets) H.sockets.places none
+  icmp_heard message contents remote octets H none =
+      to_each_speaks (icmp.accepts message contents) _ (icmp_speaks remote octets) H.sockets.places none
 
   pub udp_delivered : (test : Storage → Bool) (r : IpRepr) (ports : UdpRepr) (payload : List ℕ) (old new : List Storage) →
       DeliversFirst test (udp.storage_after_delivery r ports payload) old new → NoSpeaker old → NoSpeaker new
   udp_delivered test r ports payload old new d none =
       rw d.changed (set_speaks old d.index _ (rw udp_speaks (get_speaks old d.index d.place d.first.is_there none)) none)
 
-  pub tcp_delivered : (r : IpRepr) (t : TcpRepr) (payload : List ℕ) (places : List Storage) (i : ℕ) (p : Storage) → slice_get places i ≡ Some p → NoSpeaker places →
+  pub tcp_delivered : (r : IpRepr) (t : TcpRepr) (payload : List ℕ) (places : List Storage) (i : ℕ) (p : Storage) →
+      slice_get places i ≡ Some p → NoSpeaker places →
       NoSpeaker (slice_set places i (tcp.storage_after_delivery r t payload p))
   tcp_delivered r t payload places i p there none = set_speaks places i _ (rw tcp_speaks (get_speaks places i p there none)) none
 
@@ -142,8 +145,10 @@ attends_then a b = record { nobody = λ spoken none. b.nobody spoken (a.nobody s
 pub raw_attends : (r : IpRepr) (payload : List ℕ) (H : Host) → Attends H (raw.host_after_raw_delivery r payload H)
 raw_attends r payload H = record { nobody = λ spoken none. raw_heard spoken r payload H none; moment = refl }
 
-pub icmp_attends : (message : IcmpRepr) (contents : List ℕ) (remote : IpAddress) (octets : List ℕ) (H : Host) → Attends H (icmp.host_after_delivery message contents remote octets H)
-icmp_attends message contents remote octets H = record { nobody = λ spoken none. icmp_heard spoken message contents remote octets H none; moment = refl }
+pub icmp_attends : (message : IcmpRepr) (contents : List ℕ) (remote : IpAddress) (octets : List ℕ) (H : Host) →
+    Attends H (icmp.host_after_delivery message contents remote octets H)
+icmp_attends message contents remote octets H =
+    record { nobody = λ spoken none. icmp_heard spoken message contents remote octets H none; moment = refl }
 
 pub sender_attends : (source : HardwareAddress) (r : IpRepr) (H : Host) → Attends H (sender_renewed source r H)
 sender_attends source r H = by (is_unicast H.ip_addrs (dst_addr r)) where

@@ -53,7 +53,8 @@ use Rattle.host_machine.specs.Laws.Determined.{OtherMadeRoom, IsOneReception, Re
 use Rattle.host_machine.proofs.Receiving.RoomMade.{filled_once}
 
 -- two that do the same as a third
-agree : {r r' o : Option Reply} {n n' ns : List Note} {x x' K : Host} → r ≡ o → n ≡ ns → x ≡ K → r' ≡ o → n' ≡ ns → x' ≡ K → IsOneReception r r' n n' x x'
+agree : {r r' o : Option Reply} {n n' ns : List Note} {x x' K : Host} →
+    r ≡ o → n ≡ ns → x ≡ K → r' ≡ o → n' ≡ ns → x' ≡ K → IsOneReception r r' n n' x x'
 agree r n x r' n' x' = record { reply_is = r ∙ sym r'; noted_is = n ∙ sym n'; taken_is = inl (x ∙ sym x') }
 
 dropped : {r r' : Option Reply} {n n' : List Note} {H x x' : Host} → IsDropped H r n x → IsDropped H r' n' x' → IsOneReception r r' n n' x x'
@@ -73,25 +74,29 @@ first_is_one {test} {places} {i} {j} {p} {q} f g = by (nat_lt i j) (nat_lt j i) 
 none_is_first : {test : Storage → Bool} {places : List Storage} {i : ℕ} {p : Storage} → NoneAccepts test places → IsFirst test places i p → ⊥
 none_is_first {test} {places} {i} {p} none f = let refused = none i p f.is_there in let taken = f.accepts in absurd cc
 
-delivered_once : {test : Storage → Bool} {deliver : Storage → Storage} {old new new' : List Storage} → DeliversFirst test deliver old new → DeliversFirst test deliver old new' → new ≡ new'
+delivered_once : {test : Storage → Bool} {deliver : Storage → Storage} {old new new' : List Storage} →
+    DeliversFirst test deliver old new → DeliversFirst test deliver old new' → new ≡ new'
 delivered_once {test} {deliver} {old} d e =
     let at_one : d.index ≡ e.index = first_is_one d.first e.first in
     let there : Some d.place ≡ Some e.place = sym d.first.is_there ∙ rw at_one e.first.is_there in
     let same : d.place ≡ e.place = cc in
     d.changed ∙ rw (at_one, same) (sym e.changed)
 
-udp_once : {handled_by_raw_socket : Bool} {r : IpRepr} {H x x' : Host} {octets : List ℕ} {o o' : Option Reply} {n n' : List Note} → ProcessesUdp handled_by_raw_socket r H octets o n x → ProcessesUdp handled_by_raw_socket r H octets o' n' x' → IsOneReception o o' n n' x x'
+udp_once : {handled_by_raw_socket : Bool} {r : IpRepr} {H x x' : Host} {octets : List ℕ} {o o' : Option Reply} {n n' : List Note} →
+    ProcessesUdp handled_by_raw_socket r H octets o n x → ProcessesUdp handled_by_raw_socket r H octets o' n' x' → IsOneReception o o' n n' x x'
 udp_once (udp.Malformed m d) (udp.Malformed m' e) = dropped d e
 udp_once (udp.Malformed m d) (udp.Delivered places u f o n x) = absurd (m u)
 udp_once (udp.Malformed m d) (udp.NotAccepted u none o n x) = absurd (m u)
 udp_once (udp.Delivered places u f o n x) (udp.Malformed m d) = absurd (m u)
-udp_once {H = H} (udp.Delivered places u f o n x) (udp.Delivered places' u' f' o' n' x') = agree o n x o' n' (x' ∙ ap (with_places H) (delivered_once f' f))
+udp_once {H = H} (udp.Delivered places u f o n x) (udp.Delivered places' u' f' o' n' x') =
+    agree o n x o' n' (x' ∙ ap (with_places H) (delivered_once f' f))
 udp_once (udp.Delivered places u f o n x) (udp.NotAccepted u' none o' n' x') = absurd (none_is_first none f.first)
 udp_once (udp.NotAccepted u none o n x) (udp.Malformed m d) = absurd (m u)
 udp_once (udp.NotAccepted u none o n x) (udp.Delivered places u' f o' n' x') = absurd (none_is_first none f.first)
 udp_once (udp.NotAccepted u none o n x) (udp.NotAccepted u' none' o' n' x') = agree o n x o' n' x'
 
-tcp_once : {handled_by_raw_socket : Bool} {r : IpRepr} {H x x' : Host} {octets : List ℕ} {o o' : Option Reply} {n n' : List Note} → ProcessesTcp handled_by_raw_socket r H octets o n x → ProcessesTcp handled_by_raw_socket r H octets o' n' x' → IsOneReception o o' n n' x x'
+tcp_once : {handled_by_raw_socket : Bool} {r : IpRepr} {H x x' : Host} {octets : List ℕ} {o o' : Option Reply} {n n' : List Note} →
+    ProcessesTcp handled_by_raw_socket r H octets o n x → ProcessesTcp handled_by_raw_socket r H octets o' n' x' → IsOneReception o o' n n' x x'
 tcp_once (tcp.BetweenUnspecified b d) (tcp.BetweenUnspecified b' e) = dropped d e
 tcp_once (tcp.BetweenUnspecified b d) (tcp.Malformed c m e) = absurd cc
 tcp_once (tcp.BetweenUnspecified b d) (tcp.Delivered i p c t f o n x) = absurd cc
@@ -113,23 +118,28 @@ tcp_once (tcp.NotAccepted c t none o n x) (tcp.Malformed c' m d) = absurd (m t)
 tcp_once (tcp.NotAccepted c t none o n x) (tcp.Delivered i p c' t' f o' n' x') = absurd (none_is_first none f)
 tcp_once (tcp.NotAccepted c t none o n x) (tcp.NotAccepted c' t' none' o' n' x') = agree o n x o' n' x'
 
-icmpv4_once : {r : Ipv4Repr} {H x x' : Host} {octets : List ℕ} {o o' : Option Reply} {n n' : List Note} → ProcessesIcmpv4 r H octets o n x → ProcessesIcmpv4 r H octets o' n' x' → IsOneReception o o' n n' x x'
+icmpv4_once : {r : Ipv4Repr} {H x x' : Host} {octets : List ℕ} {o o' : Option Reply} {n n' : List Note} →
+    ProcessesIcmpv4 r H octets o n x → ProcessesIcmpv4 r H octets o' n' x' → IsOneReception o o' n n' x x'
 icmpv4_once (icmpv4.Malformed m d) (icmpv4.Malformed m' e) = dropped d e
 icmpv4_once (icmpv4.Malformed m d) (icmpv4.Taken i o n x) = absurd (m i)
 icmpv4_once (icmpv4.Taken i o n x) (icmpv4.Malformed m d) = absurd (m i)
 icmpv4_once (icmpv4.Taken i o n x) (icmpv4.Taken i' o' n' x') = agree o n x o' n' x'
 
-igmp_once : {r : Ipv4Repr} {H x x' : Host} {octets : List ℕ} {o o' : Option Reply} {n n' : List Note} → reports.ProcessesIgmp r H octets o n x → reports.ProcessesIgmp r H octets o' n' x' → IsOneReception o o' n n' x x'
+igmp_once : {r : Ipv4Repr} {H x x' : Host} {octets : List ℕ} {o o' : Option Reply} {n n' : List Note} →
+    reports.ProcessesIgmp r H octets o n x → reports.ProcessesIgmp r H octets o' n' x' → IsOneReception o o' n n' x x'
 igmp_once (reports.Malformed m d) (reports.Malformed m' e) = dropped d e
 igmp_once (reports.Malformed m d) (reports.Taken i o n x) = absurd (m i)
 igmp_once (reports.Taken i o n x) (reports.Malformed m d) = absurd (m i)
 igmp_once (reports.Taken i o n x) (reports.Taken i' o' n' x') = agree o n x o' n' x'
 
-refused_v4 : {handled_by_raw_socket : Bool} {r : Ipv4Repr} {H x x' : Host} {octets : List ℕ} {o o' : Option Reply} {n n' : List Note} → ipv4.IsRefused handled_by_raw_socket r H octets o n x → ipv4.IsRefused handled_by_raw_socket r H octets o' n' x' → IsOneReception o o' n n' x x'
+refused_v4 : {handled_by_raw_socket : Bool} {r : Ipv4Repr} {H x x' : Host} {octets : List ℕ} {o o' : Option Reply} {n n' : List Note} →
+    ipv4.IsRefused handled_by_raw_socket r H octets o n x → ipv4.IsRefused handled_by_raw_socket r H octets o' n' x' → IsOneReception o o' n n' x x'
 refused_v4 d e = agree d.replied d.unnoted d.unchanged e.replied e.unnoted e.unchanged
 
-protocol_v4 : (p : IpProtocol) (handled_by_raw_socket : Bool) (r : Ipv4Repr) (H : Host) (octets : List ℕ) {o o' : Option Reply} {n n' : List Note} {x x' : Host} →
-    ipv4.ProcessesProtocol p handled_by_raw_socket r H octets o n x → ipv4.ProcessesProtocol p handled_by_raw_socket r H octets o' n' x' → IsOneReception o o' n n' x x'
+protocol_v4 : (p : IpProtocol) (handled_by_raw_socket : Bool) (r : Ipv4Repr) (H : Host) (octets : List ℕ)
+    {o o' : Option Reply} {n n' : List Note} {x x' : Host} →
+    ipv4.ProcessesProtocol p handled_by_raw_socket r H octets o n x →
+    ipv4.ProcessesProtocol p handled_by_raw_socket r H octets o' n' x' → IsOneReception o o' n n' x x'
 protocol_v4 protocol.Icmp handled_by_raw_socket r H octets t u = icmpv4_once t u
 protocol_v4 protocol.Udp handled_by_raw_socket r H octets t u = udp_once t u
 protocol_v4 protocol.Tcp handled_by_raw_socket r H octets t u = tcp_once t u
@@ -155,20 +165,26 @@ record OneSlot (slot slot' : Slot) (first first' : List SlotNote) : Type 0 where
   slot_is : slot ≡ slot'
   first_is : first ≡ first'
 
-enters_once : {ends : ℤ} {key : FragKey} {slots : Slots} {slot slot' : Slot} {first first' : List SlotNote} → Enters ends key slots slot first → Enters ends key slots slot' first' → OneSlot slot slot' first first'
-enters_once {slot = slot} {slot' = slot'} (Stood s n) (Stood s' n') = let found : Some slot ≡ Some slot' = sym s ∙ s' in record { slot_is = cc; first_is = n ∙ sym n' }
+enters_once : {ends : ℤ} {key : FragKey} {slots : Slots} {slot slot' : Slot} {first first' : List SlotNote} →
+    Enters ends key slots slot first → Enters ends key slots slot' first' → OneSlot slot slot' first first'
+enters_once {slot = slot} {slot' = slot'} (Stood s n) (Stood s' n') = let found : Some slot ≡ Some slot' = sym s ∙ s' in
+    record { slot_is = cc; first_is = n ∙ sym n' }
 enters_once (Stood s n) (Taken none few is n') = absurd cc
 enters_once (Taken none few is n) (Stood s n') = absurd cc
 enters_once (Taken none few is n) (Taken none' few' is' n') = record { slot_is = is ∙ sym is'; first_is = n ∙ sym n' }
 
 -- a slot that is entered is there, or may be taken
-no_slot_enters : {ends : ℤ} {key : FragKey} {slots : Slots} {slot : Slot} {first : List SlotNote} → finite.get slots key ≡ None → 2 ≤ finite.len slots → Enters ends key slots slot first → ⊥
+no_slot_enters : {ends : ℤ} {key : FragKey} {slots : Slots} {slot : Slot} {first : List SlotNote} →
+    finite.get slots key ≡ None → 2 ≤ finite.len slots → Enters ends key slots slot first → ⊥
 no_slot_enters none full (Stood s n) = absurd cc
 no_slot_enters none full (Taken free few is n) = absurd (omega (arith, full, few))
 
-reassembled_once : {ends : ℤ} {key : FragKey} {f : Fragment} {result result' : Option (List ℕ)} {slots new new' : Slots} {notes notes' : List SlotNote} →
-    Reassembles ends key f result slots notes new → Reassembles ends key f result' slots notes' new' → OneFragment result result' notes notes' new new'
-reassembled_once (NoSlot none full o n x) (NoSlot none' full' o' n' x') = record { result_is = o ∙ sym o'; notes_are = n ∙ sym n'; slots_are = x ∙ sym x' }
+reassembled_once : {ends : ℤ} {key : FragKey} {f : Fragment} {result result' : Option (List ℕ)}
+    {slots new new' : Slots} {notes notes' : List SlotNote} →
+    Reassembles ends key f result slots notes new → Reassembles ends key f result' slots notes' new' →
+    OneFragment result result' notes notes' new new'
+reassembled_once (NoSlot none full o n x) (NoSlot none' full' o' n' x') =
+    record { result_is = o ∙ sym o'; notes_are = n ∙ sym n'; slots_are = x ∙ sym x' }
 reassembled_once (NoSlot none full o n x) (Unfit slot first e fit o' n' x') = absurd (no_slot_enters none full e)
 reassembled_once (NoSlot none full o n x) (Waits slot first e fit wait o' n' x') = absurd (no_slot_enters none full e)
 reassembled_once (NoSlot none full o n x) (Rebuilt slot first octets e fit whole o' n' x') = absurd (no_slot_enters none full e)
@@ -181,10 +197,12 @@ reassembled_once (Waits slot first e fit wait o n x) (NoSlot none full o' n' x')
 reassembled_once (Waits slot first e fit wait o n x) (Unfit slot' first' e' fit' o' n' x') = let s = (enters_once e e').slot_is in absurd cc
 reassembled_once (Waits slot first e fit wait o n x) (Waits slot' first' e' fit' wait' o' n' x') = let s = enters_once e e' in
     record { result_is = o ∙ sym o'; notes_are = n ∙ rw s.first_is (sym n'); slots_are = x ∙ rw s.slot_is (sym x') }
-reassembled_once (Waits slot first e fit wait o n x) (Rebuilt slot' first' octets e' fit' whole o' n' x') = let s = (enters_once e e').slot_is in absurd (wait octets (rw s whole))
+reassembled_once (Waits slot first e fit wait o n x) (Rebuilt slot' first' octets e' fit' whole o' n' x') = let s = (enters_once e e').slot_is in
+    absurd (wait octets (rw s whole))
 reassembled_once (Rebuilt slot first octets e fit whole o n x) (NoSlot none full o' n' x') = absurd (no_slot_enters none full e)
 reassembled_once (Rebuilt slot first octets e fit whole o n x) (Unfit slot' first' e' fit' o' n' x') = let s = (enters_once e e').slot_is in absurd cc
-reassembled_once (Rebuilt slot first octets e fit whole o n x) (Waits slot' first' e' fit' wait o' n' x') = let s = (enters_once e e').slot_is in absurd (wait octets (rw (← s) whole))
+reassembled_once (Rebuilt slot first octets e fit whole o n x) (Waits slot' first' e' fit' wait o' n' x') = let s = (enters_once e e').slot_is in
+    absurd (wait octets (rw (← s) whole))
 reassembled_once (Rebuilt slot first octets e fit whole o n x) (Rebuilt slot' first' octets' e' fit' whole' o' n' x') =
     let s = enters_once e e' in
     let same : octets ≡ octets' = rebuilt_once _ octets octets' whole (rw s.slot_is whole') in
@@ -199,20 +217,28 @@ record OneTaking (result result' : Option (List ℕ)) (notes notes' : List Note)
 fragment_once : {key : FragKey} {f : Fragment} {result result' : Option (List ℕ)} {H new new' : Host} {notes notes' : List Note} →
     TakesFragment key f result H notes new → TakesFragment key f result' H notes' new' → OneTaking result result' notes notes' new new'
 fragment_once {H = H} t u = let one = reassembled_once t.reassembles u.reassembles in
-    record { result_is = one.result_is; notes_are = t.noted ∙ ap (map OfSlots) one.notes_are ∙ sym u.noted; host_is = t.changed ∙ ap (with_slots H) one.slots_are ∙ sym u.changed }
+    record {
+      result_is = one.result_is;
+      notes_are = t.noted ∙ ap (map OfSlots) one.notes_are ∙ sym u.noted;
+      host_is = t.changed ∙ ap (with_slots H) one.slots_are ∙ sym u.changed;
+    }
 
-packet_once : {source : HardwareAddress} {r : Ipv4Repr} {f : Ipv4Fragment} {H x x' : Host} {payload : List ℕ} {o o' : Option Reply} {n n' : List Note} →
+packet_once : {source : HardwareAddress} {r : Ipv4Repr} {f : Ipv4Fragment} {H x x' : Host}
+    {payload : List ℕ} {o o' : Option Reply} {n n' : List Note} →
     ipv4.ProcessesPacket source r f H payload o n x → ipv4.ProcessesPacket source r f H payload o' n' x' → IsOneReception o o' n n' x x'
 packet_once (ipv4.FromNoHost s d) (ipv4.FromNoHost s' e) = dropped d e
 packet_once (ipv4.FromNoHost s d) (ipv4.Part s' g t o) = absurd cc
 packet_once (ipv4.FromNoHost s d) (ipv4.Completed octets mid first rest s' g t w n) = absurd cc
 packet_once (ipv4.FromNoHost s d) (ipv4.Whole s' g t) = absurd cc
 packet_once (ipv4.Part s g t o) (ipv4.FromNoHost s' d) = absurd cc
-packet_once (ipv4.Part s g t o) (ipv4.Part s' g' t' o') = let one = fragment_once t t' in record { reply_is = o ∙ sym o'; noted_is = one.notes_are; taken_is = inl one.host_is }
-packet_once (ipv4.Part s g t o) (ipv4.Completed octets mid first rest s' g' t' w n) = let one : None ≡ Some octets = (fragment_once t t').result_is in absurd cc
+packet_once (ipv4.Part s g t o) (ipv4.Part s' g' t' o') = let one = fragment_once t t' in
+    record { reply_is = o ∙ sym o'; noted_is = one.notes_are; taken_is = inl one.host_is }
+packet_once (ipv4.Part s g t o) (ipv4.Completed octets mid first rest s' g' t' w n) = let one : None ≡ Some octets = (fragment_once t t').result_is in
+    absurd cc
 packet_once (ipv4.Part s g t o) (ipv4.Whole s' g' t') = absurd cc
 packet_once (ipv4.Completed octets mid first rest s g t w n) (ipv4.FromNoHost s' d) = absurd cc
-packet_once (ipv4.Completed octets mid first rest s g t w n) (ipv4.Part s' g' t' o) = let one : Some octets ≡ None = (fragment_once t t').result_is in absurd cc
+packet_once (ipv4.Completed octets mid first rest s g t w n) (ipv4.Part s' g' t' o) = let one : Some octets ≡ None = (fragment_once t t').result_is in
+    absurd cc
 packet_once {n = n} {n' = n'} (ipv4.Completed octets mid first rest s g t w e) (ipv4.Completed octets' mid' first' rest' s' g' t' w' e') =
     let one = fragment_once t t' in
     let results : Some octets ≡ Some octets' = one.result_is in
@@ -225,14 +251,16 @@ packet_once (ipv4.Whole s g t) (ipv4.Part s' g' t' o) = absurd cc
 packet_once (ipv4.Whole s g t) (ipv4.Completed octets mid first rest s' g' t' w n) = absurd cc
 packet_once (ipv4.Whole s g t) (ipv4.Whole s' g' t') = whole_once t t'
 
-ipv4_once : {source : HardwareAddress} {H x x' : Host} {octets : List ℕ} {o o' : Option Reply} {n n' : List Note} → ipv4.ProcessesIpv4 source H octets o n x → ipv4.ProcessesIpv4 source H octets o' n' x' → IsOneReception o o' n n' x x'
+ipv4_once : {source : HardwareAddress} {H x x' : Host} {octets : List ℕ} {o o' : Option Reply} {n n' : List Note} →
+    ipv4.ProcessesIpv4 source H octets o n x → ipv4.ProcessesIpv4 source H octets o' n' x' → IsOneReception o o' n n' x x'
 ipv4_once (ipv4.Malformed m d) (ipv4.Malformed m' e) = dropped d e
 ipv4_once (ipv4.Malformed m d) (ipv4.Read i t) = absurd (m i)
 ipv4_once (ipv4.Read i t) (ipv4.Malformed m d) = absurd (m i)
 ipv4_once (ipv4.Read i t) (ipv4.Read i' t') = packet_once t t'
 
 -- neighbours that are learnt
-learnt_once : (o : Option EthernetAddress) (a : Ipv6Address) (H : Host) {x x' : Host} → Learns o a H x → Learns o a H x' → (x ≡ x') ⊎ OtherMadeRoom x x'
+learnt_once : (o : Option EthernetAddress) (a : Ipv6Address) (H : Host) {x x' : Host} →
+    Learns o a H x → Learns o a H x' → (x ≡ x') ⊎ OtherMadeRoom x x'
 learnt_once None a H e e' = inl (e ∙ sym e')
 learnt_once (Some h) a H l m = filled_once H l.filled m.filled l.same m.same
 
@@ -246,7 +274,8 @@ heard_once (ndisc.Solicited target lladdr some l o n) (ndisc.NoUnicast _ _ none 
 heard_once {own} {r} {message} {H} (ndisc.Solicited target lladdr some l o n) (ndisc.Solicited _ _ some' l' o' n') =
     record { reply_is = o ∙ sym o'; noted_is = n ∙ sym n'; taken_is = learnt_once (usable_lladdr lladdr target) r.src_addr H l l' }
 
-ndisc_once : {r : Ipv6Repr} {message : NdiscRepr} {H x x' : Host} {o o' : Option Reply} {n n' : List Note} → ProcessesNdisc r message H o n x → ProcessesNdisc r message H o' n' x' → IsOneReception o o' n n' x x'
+ndisc_once : {r : Ipv6Repr} {message : NdiscRepr} {H x x' : Host} {o o' : Option Reply} {n n' : List Note} →
+    ProcessesNdisc r message H o n x → ProcessesNdisc r message H o' n' x' → IsOneReception o o' n n' x x'
 ndisc_once (ndisc.FromAfar far d) (ndisc.FromAfar far' e) = dropped d e
 ndisc_once (ndisc.FromAfar far d) (ndisc.WithoutAddresses mine e) = dropped d e
 ndisc_once (ndisc.FromAfar far d) (ndisc.FromNeighbor own near mine h) = absurd cc
@@ -260,11 +289,13 @@ ndisc_once (ndisc.FromNeighbor own near mine h) (ndisc.FromNeighbor own' near' m
     let same : own ≡ own' = cc in
     heard_once h (rw same h')
 
-mld_once : (r : Ipv6Repr) (m : MldRepr) (H : Host) {x x' : Host} {o o' : Option Reply} {n n' : List Note} → reports.ProcessesMld r m H o n x → reports.ProcessesMld r m H o' n' x' → IsOneReception o o' n n' x x'
+mld_once : (r : Ipv6Repr) (m : MldRepr) (H : Host) {x x' : Host} {o o' : Option Reply} {n n' : List Note} →
+    reports.ProcessesMld r m H o n x → reports.ProcessesMld r m H o' n' x' → IsOneReception o o' n n' x x'
 mld_once r (Query code group) H t u = agree t.0 t.1 t.2 u.0 u.1 u.2
 mld_once r (Report count) H t u = dropped t u
 
-message_once : (r : Ipv6Repr) (m : Icmpv6Repr) (octets : List ℕ) (H : Host) {x x' : Host} {o o' : Option Reply} {n n' : List Note} → ProcessesMessage r m octets H o n x → ProcessesMessage r m octets H o' n' x' →
+message_once : (r : Ipv6Repr) (m : Icmpv6Repr) (octets : List ℕ) (H : Host) {x x' : Host} {o o' : Option Reply} {n n' : List Note} →
+    ProcessesMessage r m octets H o n x → ProcessesMessage r m octets H o' n' x' →
     IsOneReception o o' n n' x x'
 message_once r (icmp.EchoRequest ident seq_no) octets H t u = agree t.0 t.1 t.2 u.0 u.1 u.2
 message_once r (icmp.Ndisc message) octets H t u = ndisc_once t u
@@ -276,17 +307,22 @@ message_once r (icmp.PktTooBig mtu header) octets H t u = dropped t u
 message_once r (icmp.TimeExceeded code header) octets H t u = dropped t u
 message_once r (icmp.ParamProblem reason pointer header) octets H t u = dropped t u
 
-icmpv6_once : {r : Ipv6Repr} {H x x' : Host} {octets : List ℕ} {o o' : Option Reply} {n n' : List Note} → ProcessesIcmpv6 r H octets o n x → ProcessesIcmpv6 r H octets o' n' x' → IsOneReception o o' n n' x x'
+icmpv6_once : {r : Ipv6Repr} {H x x' : Host} {octets : List ℕ} {o o' : Option Reply} {n n' : List Note} →
+    ProcessesIcmpv6 r H octets o n x → ProcessesIcmpv6 r H octets o' n' x' → IsOneReception o o' n n' x x'
 icmpv6_once (icmpv6.Malformed m d) (icmpv6.Malformed m' e) = dropped d e
 icmpv6_once (icmpv6.Malformed m d) (icmpv6.Taken i t) = absurd (m i)
 icmpv6_once (icmpv6.Taken i t) (icmpv6.Malformed m d) = absurd (m i)
-icmpv6_once {r} {H} {x} {x'} {octets} (icmpv6.Taken i t) (icmpv6.Taken i' u) = message_once r (icmpv6_in octets).0 (icmpv6_in octets).1 (icmpv6.host_after_delivery r octets H) t u
+icmpv6_once {r} {H} {x} {x'} {octets} (icmpv6.Taken i t) (icmpv6.Taken i' u) =
+    message_once r (icmpv6_in octets).0 (icmpv6_in octets).1 (icmpv6.host_after_delivery r octets H) t u
 
-refused_v6 : {handled_by_raw_socket : Bool} {r : Ipv6Repr} {H x x' : Host} {octets : List ℕ} {o o' : Option Reply} {n n' : List Note} → ipv6.IsRefused handled_by_raw_socket r H octets o n x → ipv6.IsRefused handled_by_raw_socket r H octets o' n' x' → IsOneReception o o' n n' x x'
+refused_v6 : {handled_by_raw_socket : Bool} {r : Ipv6Repr} {H x x' : Host} {octets : List ℕ} {o o' : Option Reply} {n n' : List Note} →
+    ipv6.IsRefused handled_by_raw_socket r H octets o n x → ipv6.IsRefused handled_by_raw_socket r H octets o' n' x' → IsOneReception o o' n n' x x'
 refused_v6 d e = agree d.replied d.unnoted d.unchanged e.replied e.unnoted e.unchanged
 
-protocol_v6 : (p : IpProtocol) (handled_by_raw_socket : Bool) (r : Ipv6Repr) (H : Host) (octets : List ℕ) {o o' : Option Reply} {n n' : List Note} {x x' : Host} →
-    ipv6.ProcessesProtocol p handled_by_raw_socket r H octets o n x → ipv6.ProcessesProtocol p handled_by_raw_socket r H octets o' n' x' → IsOneReception o o' n n' x x'
+protocol_v6 : (p : IpProtocol) (handled_by_raw_socket : Bool) (r : Ipv6Repr) (H : Host) (octets : List ℕ)
+    {o o' : Option Reply} {n n' : List Note} {x x' : Host} →
+    ipv6.ProcessesProtocol p handled_by_raw_socket r H octets o n x →
+    ipv6.ProcessesProtocol p handled_by_raw_socket r H octets o' n' x' → IsOneReception o o' n n' x x'
 protocol_v6 protocol.Icmpv6 handled_by_raw_socket r H octets t u = icmpv6_once t u
 protocol_v6 protocol.Udp handled_by_raw_socket r H octets t u = udp_once t u
 protocol_v6 protocol.Tcp handled_by_raw_socket r H octets t u = tcp_once t u
@@ -302,7 +338,8 @@ payload_v6 (ipv6.NotForUs u d) (ipv6.Accepted v t) = absurd cc
 payload_v6 (ipv6.Accepted u t) (ipv6.NotForUs v d) = absurd cc
 payload_v6 {source} {r} {p} {H} {x} {x'} {payload} (ipv6.Accepted u t) (ipv6.Accepted v s) = protocol_v6 p _ r _ payload t s
 
-options_v6 : {source : HardwareAddress} {r : Ipv6Repr} {H x x' : Host} {payload : List ℕ} {o o' : Option Reply} {n n' : List Note} → ipv6.ProcessesHopByHop source r H payload o n x → ipv6.ProcessesHopByHop source r H payload o' n' x' →
+options_v6 : {source : HardwareAddress} {r : Ipv6Repr} {H x x' : Host} {payload : List ℕ} {o o' : Option Reply} {n n' : List Note} →
+    ipv6.ProcessesHopByHop source r H payload o n x → ipv6.ProcessesHopByHop source r H payload o' n' x' →
     IsOneReception o o' n n' x x'
 options_v6 (ipv6.MalformedOptions m d) (ipv6.MalformedOptions m' e) = dropped d e
 options_v6 (ipv6.MalformedOptions m d) (ipv6.Skipped i s t) = absurd (m i)
@@ -315,7 +352,8 @@ options_v6 (ipv6.Discarded failure i f other o n x) (ipv6.Skipped i' s t) = absu
 options_v6 (ipv6.Discarded failure i f other o n x) (ipv6.Discarded failure' i' f' other' o' n' x') =
     let same : failure ≡ failure' = sym f ∙ f' in agree o n x (rw same o') n' x'
 
-packet_v6 : {source : HardwareAddress} {r : Ipv6Repr} {H x x' : Host} {payload : List ℕ} {o o' : Option Reply} {n n' : List Note} → ipv6.ProcessesPacket source r H payload o n x → ipv6.ProcessesPacket source r H payload o' n' x' →
+packet_v6 : {source : HardwareAddress} {r : Ipv6Repr} {H x x' : Host} {payload : List ℕ} {o o' : Option Reply} {n n' : List Note} →
+    ipv6.ProcessesPacket source r H payload o n x → ipv6.ProcessesPacket source r H payload o' n' x' →
     IsOneReception o o' n n' x x'
 packet_v6 (ipv6.FromNoHost s d) (ipv6.FromNoHost s' e) = dropped d e
 packet_v6 (ipv6.FromNoHost s d) (ipv6.WithOptions s' z t) = absurd cc
@@ -327,13 +365,15 @@ packet_v6 (ipv6.Bare s z t) (ipv6.FromNoHost s' d) = absurd cc
 packet_v6 (ipv6.Bare s other t) (ipv6.WithOptions s' z t') = absurd (other z)
 packet_v6 (ipv6.Bare s z t) (ipv6.Bare s' z' t') = payload_v6 t t'
 
-ipv6_once : {source : HardwareAddress} {H x x' : Host} {octets : List ℕ} {o o' : Option Reply} {n n' : List Note} → ipv6.ProcessesIpv6 source H octets o n x → ipv6.ProcessesIpv6 source H octets o' n' x' → IsOneReception o o' n n' x x'
+ipv6_once : {source : HardwareAddress} {H x x' : Host} {octets : List ℕ} {o o' : Option Reply} {n n' : List Note} →
+    ipv6.ProcessesIpv6 source H octets o n x → ipv6.ProcessesIpv6 source H octets o' n' x' → IsOneReception o o' n n' x x'
 ipv6_once (ipv6.Malformed m d) (ipv6.Malformed m' e) = dropped d e
 ipv6_once (ipv6.Malformed m d) (ipv6.Read i t) = absurd (m i)
 ipv6_once (ipv6.Read i t) (ipv6.Malformed m d) = absurd (m i)
 ipv6_once (ipv6.Read i t) (ipv6.Read i' t') = packet_v6 t t'
 
-arp_once : {own : EthernetAddress} {H x x' : Host} {payload : List ℕ} {o o' : Option Reply} {n n' : List Note} → ProcessesArp own H payload o n x → ProcessesArp own H payload o' n' x' → IsOneReception o o' n n' x x'
+arp_once : {own : EthernetAddress} {H x x' : Host} {payload : List ℕ} {o o' : Option Reply} {n n' : List Note} →
+    ProcessesArp own H payload o n x → ProcessesArp own H payload o' n' x' → IsOneReception o o' n n' x x'
 arp_once (arp.Malformed m d) (arp.Malformed m' e) = dropped d e
 arp_once (arp.Malformed m d) (arp.NotForUs i l e) = absurd (m i)
 arp_once (arp.Malformed m d) (arp.Learnt i l s o n) = absurd (m i)
@@ -345,14 +385,16 @@ arp_once (arp.Learnt i l s o n) (arp.NotForUs i' l' d) = absurd cc
 arp_once {H = H} (arp.Learnt i l s o n) (arp.Learnt i' l' s' o' n') =
     record { reply_is = o ∙ sym o'; noted_is = n ∙ sym n'; taken_is = filled_once H s.filled s'.filled s.same s'.same }
 
-payload_once : (own source : EthernetAddress) (H : Host) (p : EthernetProtocol) (payload : List ℕ) {o o' : Option Reply} {n n' : List Note} {x x' : Host} → ProcessesEthertype own source H p payload o n x →
+payload_once : (own source : EthernetAddress) (H : Host) (p : EthernetProtocol) (payload : List ℕ) {o o' : Option Reply} {n n' : List Note}
+    {x x' : Host} → ProcessesEthertype own source H p payload o n x →
     ProcessesEthertype own source H p payload o' n' x' → IsOneReception o o' n n' x x'
 payload_once own source H ethertype.Arp payload t u = arp_once t u
 payload_once own source H ethertype.Ipv4 payload t u = ipv4_once t u
 payload_once own source H ethertype.Ipv6 payload t u = ipv6_once t u
 payload_once own source H (ethertype.Unknown number) payload t u = dropped t u
 
-ethernet_once : {own : EthernetAddress} {H x x' : Host} {frame : List ℕ} {o o' : Option Reply} {n n' : List Note} → ProcessesEthernet own H frame o n x → ProcessesEthernet own H frame o' n' x' → IsOneReception o o' n n' x x'
+ethernet_once : {own : EthernetAddress} {H x x' : Host} {frame : List ℕ} {o o' : Option Reply} {n n' : List Note} →
+    ProcessesEthernet own H frame o n x → ProcessesEthernet own H frame o' n' x' → IsOneReception o o' n n' x x'
 ethernet_once (ethernet.Malformed m d) (ethernet.Malformed m' e) = dropped d e
 ethernet_once (ethernet.Malformed m d) (ethernet.NotForUs l f e) = absurd (m l)
 ethernet_once (ethernet.Malformed m d) (ethernet.Accepted l f t) = absurd (m l)
@@ -363,7 +405,8 @@ ethernet_once (ethernet.Accepted l f t) (ethernet.Malformed m d) = absurd (m l)
 ethernet_once (ethernet.Accepted l f t) (ethernet.NotForUs l' f' d) = absurd cc
 ethernet_once {own} {H} {x} {x'} {frame} (ethernet.Accepted l f t) (ethernet.Accepted l' f' t') = payload_once own _ H _ _ t t'
 
-frame_once : (h : HardwareAddress) (H : Host) (frame : List ℕ) {o o' : Option Reply} {n n' : List Note} {x x' : Host} → ProcessesFrame h H frame o n x → ProcessesFrame h H frame o' n' x' → IsOneReception o o' n n' x x'
+frame_once : (h : HardwareAddress) (H : Host) (frame : List ℕ) {o o' : Option Reply} {n n' : List Note} {x x' : Host} →
+    ProcessesFrame h H frame o n x → ProcessesFrame h H frame o' n' x' → IsOneReception o o' n n' x x'
 frame_once (hardware.Ethernet own) H frame t u = ethernet_once t u
 frame_once hardware.Ip H frame (ethernet.Ipv4 v t) (ethernet.Ipv4 v' t') = ipv4_once t t'
 frame_once hardware.Ip H frame (ethernet.Ipv4 v t) (ethernet.Ipv6 v' t') = absurd cc

@@ -35,11 +35,14 @@ cache : FinMap address_cmp Neighbor → ℤ → Neighbors
 cache known silent_until = record { known = known; silent_until = silent_until }
 
 -- the host after a neighbour was learnt, by the entries that it has then
-learnt_by : (H : Host) {x : Host} {a : IpAddress} {n : Neighbor} {one : Neighbors} (known : FinMap address_cmp Neighbor) → Fills H.neighbors one a n → one.known ≡ known → x ≡ with_neighbors H one →
+learnt_by : (H : Host) {x : Host} {a : IpAddress} {n : Neighbor} {one : Neighbors} (known : FinMap address_cmp Neighbor) →
+    Fills H.neighbors one a n → one.known ≡ known → x ≡ with_neighbors H one →
     x ≡ with_neighbors H (record H.neighbors { known = known })
-learnt_by H {x} {a} {n} {one} known f e is = is ∙ ap (λ k. with_neighbors H (record { known = k; silent_until = one.silent_until })) e ∙ ap (λ s. with_neighbors H (record { known = known; silent_until = s })) f.silence
+learnt_by H {x} {a} {n} {one} known f e is = is ∙ ap (λ k. with_neighbors H (record { known = k; silent_until = one.silent_until })) e
+    ∙ ap (λ s. with_neighbors H (record { known = known; silent_until = s })) f.silence
 
-pub filled_once : (H : Host) {x x' : Host} {a : IpAddress} {n : Neighbor} {one two : Neighbors} → Fills H.neighbors one a n → Fills H.neighbors two a n → x ≡ with_neighbors H one → x' ≡ with_neighbors H two →
+pub filled_once : (H : Host) {x x' : Host} {a : IpAddress} {n : Neighbor} {one two : Neighbors} →
+    Fills H.neighbors one a n → Fills H.neighbors two a n → x ≡ with_neighbors H one → x' ≡ with_neighbors H two →
     (x ≡ x') ⊎ OtherMadeRoom x x'
 filled_once H {x} {x'} {a} {n} {one} {two} f g is is' = by (map.get H.neighbors.known a) refl where
   same : (known : FinMap address_cmp Neighbor) → one.known ≡ known → two.known ≡ known → (x ≡ x') ⊎ OtherMadeRoom x x'
@@ -48,9 +51,11 @@ filled_once H {x} {x'} {a} {n} {one} {two} f g is is' = by (map.get H.neighbors.
   full : map.get H.neighbors.known a ≡ None → 4 ≤ map.len H.neighbors.known → (x ≡ x') ⊎ OtherMadeRoom x x'
   full none many = made (f.puts.full none many) (g.puts.full none many) where
     made : ((v : IpAddress) × IsLeastEnd H.neighbors.known v × (one.known ≡ map.insert (map.remove H.neighbors.known v) a n)) →
-        ((w : IpAddress) × IsLeastEnd H.neighbors.known w × (two.known ≡ map.insert (map.remove H.neighbors.known w) a n)) → (x ≡ x') ⊎ OtherMadeRoom x x'
+        ((w : IpAddress) × IsLeastEnd H.neighbors.known w × (two.known ≡ map.insert (map.remove H.neighbors.known w) a n)) →
+        (x ≡ x') ⊎ OtherMadeRoom x x'
     made p q = elim (one_or_other p.0 q.0) [
-      | inl v_is_w ↦ same (map.insert (map.remove H.neighbors.known p.0) a n) p.2 (q.2 ∙ ap (λ v. map.insert (map.remove H.neighbors.known v) a n) (sym v_is_w))
+      | inl v_is_w ↦
+          same (map.insert (map.remove H.neighbors.known p.0) a n) p.2 (q.2 ∙ ap (λ v. map.insert (map.remove H.neighbors.known v) a n) (sym v_is_w))
       | inr apart ↦ inr (record {
         before = H;
         address = a;
@@ -69,7 +74,8 @@ filled_once H {x} {x'} {a} {n} {one} {two} f g is is' = by (map.get H.neighbors.
 
   room : (k : ℕ) → map.len H.neighbors.known ≡ k → map.get H.neighbors.known a ≡ None → (x ≡ x') ⊎ OtherMadeRoom x x'
   room k len none = elim (nat_lt k 4) as (λ b. nat_lt k 4 ≡ b → (x ≡ x') ⊎ OtherMadeRoom x x') [
-    | true ↦ λ t. let few : map.len H.neighbors.known < 4 = grind (arith, nat_tests) in same (map.insert H.neighbors.known a n) (f.puts.room few) (g.puts.room few)
+    | true ↦ λ t. let few : map.len H.neighbors.known < 4 = grind (arith, nat_tests) in
+        same (map.insert H.neighbors.known a n) (f.puts.room few) (g.puts.room few)
     | false ↦ λ t. let many : 4 ≤ map.len H.neighbors.known = grind (arith, nat_tests) in full none many
   ] refl
 

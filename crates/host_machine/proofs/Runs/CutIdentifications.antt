@@ -16,7 +16,8 @@ use Rattle.host_machine.specs.State.Note.{Note, CutNote, Cut, PieceSent, cut_not
 use Rattle.host_machine.specs.State.Host.{Host}
 use Rattle.host_machine.specs.Sending.Packet.{Packet}
 use Rattle.host_machine.specs.Receiving.Reply.{Reply, Arp, Ip}
-use Rattle.host_machine.specs.Sending.Dispatch.{Outcome, IsUnsent, Emits, Discovers, DispatchesByHop, DispatchesEthernet, SendsOver, Dispatches, with_next_id}
+use Rattle.host_machine.specs.Sending.Dispatch.{Outcome, IsUnsent, Emits, Discovers, DispatchesByHop}
+use Rattle.host_machine.specs.Sending.Dispatch.{DispatchesEthernet, SendsOver, Dispatches, with_next_id}
 use Rattle.host_machine.specs.Sending.Dispatch as dispatch
 use Rattle.host_machine.specs.Receiving.Reassembly.{TakesFragment}
 use Rattle.host_machine.specs.Receiving.Response.{Responds}
@@ -61,55 +62,68 @@ module _ (id : ℕ) where
   unsent : {H new : Host} {frames : List (List ℕ)} {more : List Note} → IsUnsent H frames more new → Behind more
   unsent u = rw u.unnoted (NotThis id NoneOfNone)
 
-  emitted : {p : Packet} {h : HardwareAddress} {outcome : Outcome} {H new : Host} {frames : List (List ℕ)} {more : List Note} → Emits id p h outcome H frames more new → Behind more
+  emitted : {p : Packet} {h : HardwareAddress} {outcome : Outcome} {H new : Host} {frames : List (List ℕ)} {more : List Note} →
+      Emits id p h outcome H frames more new → Behind more
   emitted (dispatch.Whole fits formed o f n e) = rw n (NotThis id NoneOfNone)
   emitted (dispatch.InPieces q first rest of long short pieces fits formed o f n e) = rw n (OneOf id NoneOfNone)
   emitted (dispatch.TooLong long longer o u) = unsent u
 
-  discovered : {own : EthernetAddress} {hop : IpAddress} {outcome : Outcome} {H new : Host} {frames : List (List ℕ)} {more : List Note} → Discovers own hop outcome H frames more new → Behind more
+  discovered : {own : EthernetAddress} {hop : IpAddress} {outcome : Outcome} {H new : Host} {frames : List (List ℕ)} {more : List Note} →
+      Discovers own hop outcome H frames more new → Behind more
   discovered (dispatch.Asked target source h s o f n e) = rw n (NotThis id NoneOfNone)
   discovered (dispatch.NoSource target h s o u) = unsent u
   discovered (dispatch.Solicited target h o f n e) = rw n (NotThis id (NotThis _ NoneOfNone))
 
-  by_hop : {own : EthernetAddress} {p : Packet} {hop : IpAddress} {outcome : Outcome} {H new : Host} {frames : List (List ℕ)} {more : List Note} → DispatchesByHop id own p hop outcome H frames more new → Behind more
+  by_hop : {own : EthernetAddress} {p : Packet} {hop : IpAddress} {outcome : Outcome} {H new : Host} {frames : List (List ℕ)} {more : List Note} →
+      DispatchesByHop id own p hop outcome H frames more new → Behind more
   by_hop (dispatch.Known h k e) = emitted e
   by_hop (dispatch.Silent s o u) = unsent u
   by_hop (dispatch.Unknown u d) = discovered d
 
-  over_ethernet : {own : EthernetAddress} {p : Packet} {outcome : Outcome} {H new : Host} {frames : List (List ℕ)} {more : List Note} → DispatchesEthernet id own p outcome H frames more new → Behind more
+  over_ethernet : {own : EthernetAddress} {p : Packet} {outcome : Outcome} {H new : Host} {frames : List (List ℕ)} {more : List Note} →
+      DispatchesEthernet id own p outcome H frames more new → Behind more
   over_ethernet (dispatch.ToMulticast h m e) = emitted e
   over_ethernet (dispatch.NoHop m n o u) = unsent u
   over_ethernet (dispatch.ByHop hop m n s) = by_hop s
 
-  over : (h : HardwareAddress) (p : Packet) (outcome : Outcome) (H : Host) (frames : List (List ℕ)) (more : List Note) (new : Host) → SendsOver id h p outcome H frames more new → Behind more
+  over : (h : HardwareAddress) (p : Packet) (outcome : Outcome) (H : Host) (frames : List (List ℕ)) (more : List Note) (new : Host) →
+      SendsOver id h p outcome H frames more new → Behind more
   over (hardware.Ethernet own) p outcome H frames more new s = over_ethernet s
   over hardware.Ip p outcome H frames more new s = emitted s
 
-dispatched : {p : Packet} {outcome : Outcome} {H new : Host} {frames : List (List ℕ)} {notes : List Note} → Dispatches p outcome H frames notes new → Carried notes
+dispatched : {p : Packet} {outcome : Outcome} {H new : Host} {frames : List (List ℕ)} {notes : List Note} →
+    Dispatches p outcome H frames notes new → Carried notes
 dispatched (dispatch.ToUnspecified n o u) = none_noted u.unnoted
-dispatched {p} {outcome} {H} {new} {frames} {notes} (dispatch.ToSpecified more s d n) = rw n (over H.ipv4_id H.hardware_addr p outcome (with_next_id H) frames more new d)
+dispatched {p} {outcome} {H} {new} {frames} {notes} (dispatch.ToSpecified more s d n) =
+    rw n (over H.ipv4_id H.hardware_addr p outcome (with_next_id H) frames more new d)
 
-fragments : (H : Host) (key : FragKey) (f : Fragment) (result : Option (List ℕ)) (notes : List Note) (new : Host) → TakesFragment key f result H notes new → Carried notes
+fragments : (H : Host) (key : FragKey) (f : Fragment) (result : Option (List ℕ)) (notes : List Note) (new : Host) →
+    TakesFragment key f result H notes new → Carried notes
 fragments H key f result notes new t = rw (t.noted, cut_notes-slots, identifications-slots) NoneOfNone
 
-responds : (reply : Option Reply) (H : Host) (frames : List (List ℕ)) (notes : List Note) (new : Host) → Responds reply H frames notes new → Carried notes
+responds : (reply : Option Reply) (H : Host) (frames : List (List ℕ)) (notes : List Note) (new : Host) →
+    Responds reply H frames notes new → Carried notes
 responds None H frames notes new r = none_noted r.1
 responds (Some (Arp packet)) H frames notes new r = none_noted r.1
 responds (Some (Ip packet)) H frames notes new r = dispatched r.1
 
-ingress : (t : ℤ) (answer : PollIngressSingleResult) (old new : Host) (told : List Event) (notes : List Note) → Ingress t answer old told notes new → Carried notes
+ingress : (t : ℤ) (answer : PollIngressSingleResult) (old new : Host) (told : List Event) (notes : List Note) →
+    Ingress t answer old told notes new → Carried notes
 ingress t answer old new told notes i =
     let r = i.response in
     rw r.all_notes (on old old new [] [] r.notes_taking r.notes_responding
-    (taken (λ old frames notes new. Carried notes) (λ old new k. NoneOfNone) (λ a b c fs gs xs ys one two. on a b c [] [] xs ys one two) fragments _ i.reception r.reply r.notes_taking r.taken r.takes)
+    (taken (λ old frames notes new. Carried notes) (λ old new k. NoneOfNone)
+    (λ a b c fs gs xs ys one two. on a b c [] [] xs ys one two) fragments _ i.reception r.reply r.notes_taking r.taken r.takes)
     (responds r.reply r.taken i.frames r.notes_responding new r.responds))
 
 -- over a whole run
 pub run_carried : {first last : Host} {transitions : List Transition} → Run first transitions last → Carried (notes_in transitions)
 run_carried Ends = NoneOfNone
 run_carried (Then {old = old} {mid = mid} {told = told} {notes = notes} {transitions = ps} s r) =
-    let one : Carried notes = stepped CarriedOver (λ old new k none. NoneOfNone) on (λ H. NoneOfNone) (λ p outcome H new frames notes may d. dispatched d) (λ H p rest e. NoneOfNone) ingress
-    (λ H t. NoneOfNone) (λ H list. NoneOfNone) (λ H h of. NoneOfNone) (λ H timeout. NoneOfNone) CarriedOver (λ old new told notes law. law) (λ H sockets. NoneOfNone) s in
+    let one : Carried notes = stepped CarriedOver (λ old new k none. NoneOfNone) on (λ H. NoneOfNone)
+    (λ p outcome H new frames notes may d. dispatched d) (λ H p rest e. NoneOfNone) ingress
+    (λ H t. NoneOfNone) (λ H list. NoneOfNone) (λ H h of. NoneOfNone)
+    (λ H timeout. NoneOfNone) CarriedOver (λ old new told notes law. law) (λ H sockets. NoneOfNone) s in
     on old mid mid told [] notes (notes_in ps) one (run_carried r)
 
 -- where all of a list are distinct, so are some of it
@@ -130,7 +144,8 @@ apart d e other = by (same_key (key_of_cut d) (key_of_cut e)) refl where
   by true same = absurd (other (ap (λ (k : FragKey). k.identification) (same_is (key_of_cut d) (key_of_cut e) same)))
   by false same = refl
 
-others : (d : Datagram) (ns : List CutNote) → HasNone d.identification (cut_identifications ns) → AllByRecursion (λ e. same_key (key_of_cut d) (key_of_cut e) ≡ false) (cuts ns)
+others : (d : Datagram) (ns : List CutNote) → HasNone d.identification (cut_identifications ns) →
+    AllByRecursion (λ e. same_key (key_of_cut d) (key_of_cut e) ≡ false) (cuts ns)
 others d [] none = tt
 others d (Cut e ∷ ns) none = (apart d e none.0, others d ns none.1)
 others d (PieceSent p ∷ ns) none = others d ns none

@@ -53,7 +53,8 @@ missing_passed silent t unknown =
     (λ before. absurd (limited (rw (← int_cmp_is t silent Less before) at unknown)))
     (λ passed. passed)
 
-found_or_passed : (o : Ordering) (n : Neighbor) (silent t : ℤ) → (if is_lt o then Found n.hardware_addr else answer_without_entry silent t) ≡ NotFound → silent ≤ℤ t
+found_or_passed : (o : Ordering) (n : Neighbor) (silent t : ℤ) →
+    (if is_lt o then Found n.hardware_addr else answer_without_entry silent t) ≡ NotFound → silent ≤ℤ t
 found_or_passed Less n silent t unknown = absurd cc
 found_or_passed Equal n silent t unknown = missing_passed silent t unknown
 found_or_passed Greater n silent t unknown = missing_passed silent t unknown
@@ -62,17 +63,22 @@ pub silence_passed : (e : Option Neighbor) (silent t : ℤ) → answer_from e si
 silence_passed None silent t unknown = missing_passed silent t unknown
 silence_passed (Some n) silent t unknown = found_or_passed (int_cmp t n.expires_at) n silent t unknown
 
-asked : (H : Host) (hop : IpAddress) → answer_of H.neighbors hop H.moment ≡ NotFound → SpacedOver H [] (OfDiscovery (Ask H.moment) ∷ []) (with_neighbors H (with_silence H.neighbors H))
-asked H hop unknown = record { spaced = (silence_passed (map.get H.neighbors.known hop) H.neighbors.silent_until H.moment unknown, tt); is_after = refl }
+asked : (H : Host) (hop : IpAddress) → answer_of H.neighbors hop H.moment ≡ NotFound →
+    SpacedOver H [] (OfDiscovery (Ask H.moment) ∷ []) (with_neighbors H (with_silence H.neighbors H))
+asked H hop unknown =
+    record { spaced = (silence_passed (map.get H.neighbors.known hop) H.neighbors.silent_until H.moment unknown, tt); is_after = refl }
 
 on : (a b c : Host) (fs gs : List (List ℕ)) (xs ys : List Note) → SpacedOver a fs xs b → SpacedOver b gs ys c → SpacedOver a (fs ++ gs) (xs ++ ys) c
-on a b c fs gs xs ys one two = rw asks-append (times_on a.neighbors.silent_until b.neighbors.silent_until c.neighbors.silent_until (asks xs) (asks ys) one two)
+on a b c fs gs xs ys one two =
+    rw asks-append (times_on a.neighbors.silent_until b.neighbors.silent_until c.neighbors.silent_until (asks xs) (asks ys) one two)
 
-fragments : (H : Host) (key : FragKey) (f : Fragment) (result : Option (List ℕ)) (notes : List Note) (new : Host) → TakesFragment key f result H notes new → SpacedOver H [] notes new
+fragments : (H : Host) (key : FragKey) (f : Fragment) (result : Option (List ℕ)) (notes : List Note) (new : Host) →
+    TakesFragment key f result H notes new → SpacedOver H [] notes new
 fragments H key f result notes new t = rw (t.noted, t.changed, asks-slots t.slot_notes) (record { spaced = tt; is_after = refl })
 
 -- over a whole run
-pub run_spaced : {first last : Host} {transitions : List Transition} → Run first transitions last → AreSpaced first.neighbors.silent_until (asks (notes_in transitions))
+pub run_spaced : {first last : Host} {transitions : List Transition} →
+    Run first transitions last → AreSpaced first.neighbors.silent_until (asks (notes_in transitions))
 run_spaced r =
     (walk SpacedOver keeps on
     (λ H own source target mine. record { spaced = tt; is_after = refl })

@@ -33,8 +33,11 @@ use Rattle.host_machine.specs.Laws.Arrivals.{arrivals_under, rebuilt, slot_notes
 use Rattle.host_machine.specs.Laws.Frames.{Brings, Bring, NoFrame, OneBrings, NoneBrings, all_arrivals, receiving_host, ArrivesInFrames}
 use Rattle.host_machine.proofs.State.Keys.{key_total, same_is}
 use Rattle.host_machine.proofs.Runs.ReassemblyOrigin.{test_same}
-use Rattle.host_machine.proofs.Receiving.Pieces.{IsIn, is_in, contains_in, in_left, IsPiece, piece_in, in_cut, count_below, IsPartOf, part_of, AreParts, parts_of, IsTotal, total_is, total_from, total_from-append, all_got, rebuilds_payload, complete, incomplete}
-use Rattle.host_machine.proofs.Receiving.SlotEffects.{StepView, NoPart, APart, step_view, ingress_view, egress_still, egress_hands_none, handed_frames-append}
+use Rattle.host_machine.proofs.Receiving.Pieces.{IsIn, is_in, contains_in, in_left, IsPiece, piece_in, in_cut, count_below}
+use Rattle.host_machine.proofs.Receiving.Pieces.{IsPartOf, part_of, AreParts, parts_of, IsTotal, total_is, total_from}
+use Rattle.host_machine.proofs.Receiving.Pieces.{total_from-append, all_got, rebuilds_payload, complete, incomplete}
+use Rattle.host_machine.proofs.Receiving.SlotEffects.{StepView, NoPart, APart, step_view, ingress_view}
+use Rattle.host_machine.proofs.Receiving.SlotEffects.{egress_still, egress_hands_none, handed_frames-append}
 use Rattle.host_machine.proofs.State.NotesBySubject.{slot_notes-append}
 use Rattle.host_machine.proofs.Receiving.Malformed.{handed_frames-sends, handed_frames-received}
 use Rattle.host_machine.proofs.Polling.PollCalls.{worked}
@@ -45,7 +48,9 @@ pub arrivals_under-append : (key : FragKey) (xs ys : List SlotNote) → arrivals
 arrivals_under-append key [] ys = refl
 arrivals_under-append key (Take k ∷ xs) ys = arrivals_under-append key xs ys
 arrivals_under-append key (Arrival k f ∷ xs) ys = by (same_key key k) (arrivals_under-append key xs ys) where
-  by : (b : Bool) → arrivals_under key (xs ++ ys) ≡ arrivals_under key xs ++ arrivals_under key ys → (if b then f ∷ arrivals_under key (xs ++ ys) else arrivals_under key (xs ++ ys)) ≡ (if b then f ∷ arrivals_under key xs else arrivals_under key xs) ++ arrivals_under key ys
+  by : (b : Bool) → arrivals_under key (xs ++ ys) ≡ arrivals_under key xs ++ arrivals_under key ys →
+      (if b then f ∷ arrivals_under key (xs ++ ys) else arrivals_under key (xs ++ ys))
+      ≡ (if b then f ∷ arrivals_under key xs else arrivals_under key xs) ++ arrivals_under key ys
   by true e = ap (λ fs. f ∷ fs) e
   by false e = e
 arrivals_under-append key (Rebuild k octets ∷ xs) ys = arrivals_under-append key xs ys
@@ -55,31 +60,39 @@ rebuilt-append key [] ys = refl
 rebuilt-append key (Take k ∷ xs) ys = rebuilt-append key xs ys
 rebuilt-append key (Arrival k f ∷ xs) ys = rebuilt-append key xs ys
 rebuilt-append key (Rebuild k octets ∷ xs) ys = by (same_key key k) (rebuilt-append key xs ys) where
-  by : (b : Bool) → rebuilt key (xs ++ ys) ≡ rebuilt key xs ++ rebuilt key ys → (if b then octets ∷ rebuilt key (xs ++ ys) else rebuilt key (xs ++ ys)) ≡ (if b then octets ∷ rebuilt key xs else rebuilt key xs) ++ rebuilt key ys
+  by : (b : Bool) → rebuilt key (xs ++ ys) ≡ rebuilt key xs ++ rebuilt key ys →
+      (if b then octets ∷ rebuilt key (xs ++ ys) else rebuilt key (xs ++ ys))
+      ≡ (if b then octets ∷ rebuilt key xs else rebuilt key xs) ++ rebuilt key ys
   by true e = ap (λ os. octets ∷ os) e
   by false e = e
 
 -- entering a slot brings nothing
-entered_arrival : {ends : ℤ} {slots : Slots} {k : FragKey} {slot : Slot} {first : List SlotNote} (key : FragKey) → Enters ends k slots slot first → arrivals_under key first ≡ []
+entered_arrival : {ends : ℤ} {slots : Slots} {k : FragKey} {slot : Slot} {first : List SlotNote} (key : FragKey) →
+    Enters ends k slots slot first → arrivals_under key first ≡ []
 entered_arrival key (Stood s n) = ap (arrivals_under key) n
 entered_arrival key (Taken none room s n) = ap (arrivals_under key) n
 
-entered_rebuilt : {ends : ℤ} {slots : Slots} {k : FragKey} {slot : Slot} {first : List SlotNote} (key : FragKey) → Enters ends k slots slot first → rebuilt key first ≡ []
+entered_rebuilt : {ends : ℤ} {slots : Slots} {k : FragKey} {slot : Slot} {first : List SlotNote} (key : FragKey) →
+    Enters ends k slots slot first → rebuilt key first ≡ []
 entered_rebuilt key (Stood s n) = ap (rebuilt key) n
 entered_rebuilt key (Taken none room s n) = ap (rebuilt key) n
 
-arrivals_after : {ends : ℤ} {slots : Slots} {k : FragKey} {slot : Slot} {first : List SlotNote} (key : FragKey) (rest : List SlotNote) → Enters ends k slots slot first → arrivals_under key (first ++ rest) ≡ arrivals_under key rest
+arrivals_after : {ends : ℤ} {slots : Slots} {k : FragKey} {slot : Slot} {first : List SlotNote} (key : FragKey) (rest : List SlotNote) →
+    Enters ends k slots slot first → arrivals_under key (first ++ rest) ≡ arrivals_under key rest
 arrivals_after {first = first} key rest e = arrivals_under-append key first rest ∙ rw (entered_arrival key e) refl
 
-rebuilt_after : {ends : ℤ} {slots : Slots} {k : FragKey} {slot : Slot} {first : List SlotNote} (key : FragKey) (rest : List SlotNote) → Enters ends k slots slot first → rebuilt key (first ++ rest) ≡ rebuilt key rest
+rebuilt_after : {ends : ℤ} {slots : Slots} {k : FragKey} {slot : Slot} {first : List SlotNote} (key : FragKey) (rest : List SlotNote) →
+    Enters ends k slots slot first → rebuilt key (first ++ rest) ≡ rebuilt key rest
 rebuilt_after {first = first} key rest e = rebuilt-append key first rest ∙ rw (entered_rebuilt key e) refl
 
 -- the fragment that comes is the one
-pub arrivals_of : {ends : ℤ} {slots new : Slots} {k : FragKey} {f : Fragment} {result : Option (List ℕ)} {notes : List SlotNote} (key : FragKey) → Reassembles ends k f result slots notes new → arrivals_under key notes ≡ (if same_key key k then f ∷ [] else [])
+pub arrivals_of : {ends : ℤ} {slots new : Slots} {k : FragKey} {f : Fragment} {result : Option (List ℕ)} {notes : List SlotNote} (key : FragKey) →
+    Reassembles ends k f result slots notes new → arrivals_under key notes ≡ (if same_key key k then f ∷ [] else [])
 arrivals_of key (NoSlot none full r n e) = ap (arrivals_under key) n
 arrivals_of {k = k} {f = f} key (Unfit slot first enters u r n e) = ap (arrivals_under key) n ∙ arrivals_after key (Arrival k f ∷ []) enters
 arrivals_of {k = k} {f = f} key (Waits slot first enters u w r n e) = ap (arrivals_under key) n ∙ arrivals_after key (Arrival k f ∷ []) enters
-arrivals_of {k = k} {f = f} key (Rebuilt slot first octets enters u w r n e) = ap (arrivals_under key) n ∙ arrivals_after key (Arrival k f ∷ Rebuild k octets ∷ []) enters
+arrivals_of {k = k} {f = f} key (Rebuilt slot first octets enters u w r n e) = ap (arrivals_under key) n
+    ∙ arrivals_after key (Arrival k f ∷ Rebuild k octets ∷ []) enters
 
 -- a fragment under another key changes nothing
 pub record Aside (key : FragKey) (slots : Slots) (notes : List SlotNote) (new : Slots) : Type 0 where
@@ -92,25 +105,37 @@ inserted slots k key s other = get-insert key_total slots k s key ∙ rw other r
 pub removed : (slots : Slots) (k key : FragKey) → same_key key k ≡ false → map.get (map.remove slots k) key ≡ map.get slots key
 removed slots k key other = get-remove key_total slots k key ∙ rw other refl
 
-pub aside : {ends : ℤ} {slots new : Slots} {k : FragKey} {f : Fragment} {result : Option (List ℕ)} {notes : List SlotNote} (key : FragKey) → same_key key k ≡ false → Reassembles ends k f result slots notes new → Aside key slots notes new
+pub aside : {ends : ℤ} {slots new : Slots} {k : FragKey} {f : Fragment} {result : Option (List ℕ)} {notes : List SlotNote} (key : FragKey) →
+    same_key key k ≡ false → Reassembles ends k f result slots notes new → Aside key slots notes new
 aside key other (NoSlot none full r n e) = record { none = ap (rebuilt key) n; same = ap (λ x. map.get x key) e }
 aside {slots = slots} {k = k} {f = f} key other (Unfit slot first enters u r n e) =
-    record { none = ap (rebuilt key) n ∙ rebuilt_after key (Arrival k f ∷ []) enters; same = ap (λ x. map.get x key) e ∙ inserted slots k key _ other }
+    record {
+      none = ap (rebuilt key) n ∙ rebuilt_after key (Arrival k f ∷ []) enters;
+      same = ap (λ x. map.get x key) e ∙ inserted slots k key _ other;
+    }
 aside {slots = slots} {k = k} {f = f} key other (Waits slot first enters u w r n e) =
-    record { none = ap (rebuilt key) n ∙ rebuilt_after key (Arrival k f ∷ []) enters; same = ap (λ x. map.get x key) e ∙ inserted slots k key _ other }
+    record {
+      none = ap (rebuilt key) n ∙ rebuilt_after key (Arrival k f ∷ []) enters;
+      same = ap (λ x. map.get x key) e ∙ inserted slots k key _ other;
+    }
 aside {slots = slots} {k = k} {f = f} key other (Rebuilt slot first octets enters u w r n e) =
-    record { none = ap (rebuilt key) n ∙ rebuilt_after key (Arrival k f ∷ Rebuild k octets ∷ []) enters ∙ rw other refl; same = ap (λ x. map.get x key) e ∙ removed slots k key other }
+    record {
+      none = ap (rebuilt key) n ∙ rebuilt_after key (Arrival k f ∷ Rebuild k octets ∷ []) enters ∙ rw other refl;
+      same = ap (λ x. map.get x key) e ∙ removed slots k key other;
+    }
 
 -- the slot of the key has what came so far
 pub data Holding (key : FragKey) (slots : Slots) (so_far : List Fragment) : Type 0 where
   Empty : so_far ≡ [] → map.get slots key ≡ None → Holding key slots so_far
   Full : (s : Slot) → map.get slots key ≡ Some s → s.got ≡ all_got so_far → Holding key slots so_far
 
-pub holding_same : {key : FragKey} {slots others : Slots} {so_far : List Fragment} → map.get others key ≡ map.get slots key → Holding key slots so_far → Holding key others so_far
+pub holding_same : {key : FragKey} {slots others : Slots} {so_far : List Fragment} →
+    map.get others key ≡ map.get slots key → Holding key slots so_far → Holding key others so_far
 holding_same e (Empty n g) = Empty n (e ∙ g)
 holding_same e (Full s g h) = Full s (e ∙ g) h
 
-entered_got : {ends : ℤ} {slots : Slots} {key : FragKey} {slot : Slot} {first : List SlotNote} {so_far : List Fragment} → Holding key slots so_far → Enters ends key slots slot first → slot.got ≡ all_got so_far
+entered_got : {ends : ℤ} {slots : Slots} {key : FragKey} {slot : Slot} {first : List SlotNote} {so_far : List Fragment} →
+    Holding key slots so_far → Enters ends key slots slot first → slot.got ≡ all_got so_far
 entered_got {slot = slot} (Empty n g) (Stood s e) = let bad : None ≡ Some slot = sym g ∙ s in absurd cc
 entered_got (Empty n g) (Taken none room s e) = ap (λ (x : Slot). x.got) s ∙ rw n refl
 entered_got {slot = slot} (Full s g h) (Stood s' e) = let same : s ≡ slot = by (sym g ∙ s') in ap (λ (x : Slot). x.got) (sym same) ∙ h where
@@ -121,7 +146,8 @@ entered_got (Full s g h) (Taken none room s' e) = let bad : None ≡ Some s = sy
 -- a part of the payload is fit
 fits : (payload : List ℕ) (t : Option ℕ) (f : Fragment) → length payload ≤ 4096 → IsTotal (length payload) t → IsPartOf payload f → is_fit t f ≡ true
 fits payload t f short total part =
-    both (nat_le (end_of f) 4096) (if f.is_last then allows t (end_of f) else true) (below (end_of f) (omega (arith, part.within))) (last f.is_last refl) where
+    both (nat_le (end_of f) 4096) (if f.is_last then allows t (end_of f) else true)
+    (below (end_of f) (omega (arith, part.within))) (last f.is_last refl) where
       both : (a b : Bool) → a ≡ true → b ≡ true → (a && b) ≡ true
       both a b x y = rw (x, y) refl
 
@@ -138,19 +164,24 @@ fits payload t f short total part =
       last true e = allowed t total (part.last e)
       last false e = refl
 
-more_got : (so_far : List Fragment) (f : Fragment) → is_fit (total_from None so_far) f ≡ true → keeps_few so_far f ≡ true → with_one (all_got so_far) f ≡ all_got (so_far ++ f ∷ [])
-more_got so_far f fit few = rw (fit, few) (ap (λ (t : Option ℕ). record { total = t; fragments = so_far ++ f ∷ [] }) (sym (total_from-append None so_far (f ∷ []))))
+more_got : (so_far : List Fragment) (f : Fragment) → is_fit (total_from None so_far) f ≡ true → keeps_few so_far f ≡ true →
+    with_one (all_got so_far) f ≡ all_got (so_far ++ f ∷ [])
+more_got so_far f fit few =
+    rw (fit, few) (ap (λ (t : Option ℕ). record { total = t; fragments = so_far ++ f ∷ [] }) (sym (total_from-append None so_far (f ∷ []))))
 
 -- what one piece leads to: it is kept, or the datagram is rebuilt
 data After (key : FragKey) (f : Fragment) (so_far : List Fragment) (notes : List SlotNote) (new : Slots) : Type 0 where
-  Kept : ((octets : List ℕ) → IsRebuilt (all_got (so_far ++ f ∷ [])) octets → ⊥) → rebuilt key notes ≡ [] → Holding key new (so_far ++ f ∷ []) → After key f so_far notes new
+  Kept : ((octets : List ℕ) → IsRebuilt (all_got (so_far ++ f ∷ [])) octets → ⊥) → rebuilt key notes ≡ [] →
+      Holding key new (so_far ++ f ∷ []) → After key f so_far notes new
   Done : (octets : List ℕ) → IsRebuilt (all_got (so_far ++ f ∷ [])) octets → rebuilt key notes ≡ octets ∷ [] → After key f so_far notes new
 
 pub no_total : (n : ℕ) → IsTotal n None
 no_total n = λ x e. absurd cc
 
-one_piece : (payload : List ℕ) (ends : ℤ) (slots : Slots) (key : FragKey) (f : Fragment) (result : Option (List ℕ)) (notes : List SlotNote) (new : Slots) (so_far : List Fragment) → length payload ≤ 4096 → AreParts payload so_far → IsPartOf payload f →
-    keeps_few so_far f ≡ true → Holding key slots so_far → (map.get slots key ≡ None → map.len slots < 2) → Reassembles ends key f result slots notes new → After key f so_far notes new
+one_piece : (payload : List ℕ) (ends : ℤ) (slots : Slots) (key : FragKey) (f : Fragment) (result : Option (List ℕ)) (notes : List SlotNote)
+    (new : Slots) (so_far : List Fragment) → length payload ≤ 4096 → AreParts payload so_far → IsPartOf payload f →
+    keeps_few so_far f ≡ true → Holding key slots so_far → (map.get slots key ≡ None → map.len slots < 2) →
+    Reassembles ends key f result slots notes new → After key f so_far notes new
 one_piece payload ends slots key f result notes new so_far short parts part few holding room r = by r where
   fit : is_fit (total_from None so_far) f ≡ true
   fit = fits payload (total_from None so_far) f short (total_is payload None so_far parts (no_total (length payload))) part
@@ -170,7 +201,8 @@ one_piece payload ends slots key f result notes new so_far short parts part few 
   by (Waits slot first enters u w r n e) =
       let g = got_more slot (entered_got holding enters) in
       Kept (λ octets is. w octets (rw g is)) (ap (rebuilt key) n ∙ rebuilt_after key (Arrival key f ∷ []) enters)
-      (Full (record slot { got = with_one slot.got f }) (ap (λ x. map.get x key) e ∙ get-insert key_total slots key _ key ∙ rw (test_same key) refl) g)
+      (Full (record slot { got = with_one slot.got f })
+      (ap (λ x. map.get x key) e ∙ get-insert key_total slots key _ key ∙ rw (test_same key) refl) g)
   by (Rebuilt slot first octets enters u w r n e) =
       let g = got_more slot (entered_got holding enters) in
       Done octets (rw g at w) (ap (rebuilt key) n ∙ rebuilt_after key (Arrival key f ∷ Rebuild key octets ∷ []) enters ∙ rw (test_same key) refl)
@@ -188,7 +220,8 @@ pub all_push : {X : Type 0} (P : X → Type 0) (xs ys : List X) → AllByRecursi
 all_push P [] ys a b = b
 all_push P (x ∷ xs) ys a b = (a.0, all_push P xs ys a.1 b)
 
-pub comes_next : (m : ℕ) (payload : List ℕ) (so_far coming : List Fragment) (g f : Fragment) → Coming m payload so_far (g ∷ coming) f → Coming m payload (so_far ++ g ∷ []) coming f
+pub comes_next : (m : ℕ) (payload : List ℕ) (so_far coming : List Fragment) (g f : Fragment) →
+    Coming m payload so_far (g ∷ coming) f → Coming m payload (so_far ++ g ∷ []) coming f
 comes_next m payload so_far coming g f c =
     let e : (so_far ++ g ∷ []) ++ coming ≡ so_far ++ (g ∷ coming) = append_assoc so_far (g ∷ []) coming in
     record {
@@ -219,22 +252,26 @@ live_slots : (p : Transition) (t : ℤ) → p.command ≡ command.PollIngressSin
 live_slots p t e = ap (λ c. slots_then c p.before.slots) e
 
 module _ (m : ℕ) (payload : List ℕ) (key : FragKey) (pos : 0 < m) (short : length payload ≤ 4096) where
-  pub not_yet : (so_far coming : List Fragment) (f : Fragment) → Coming m payload so_far coming f → (octets : List ℕ) → IsRebuilt (all_got so_far) octets → ⊥
+  pub not_yet : (so_far coming : List Fragment) (f : Fragment) → Coming m payload so_far coming f → (octets : List ℕ) →
+      IsRebuilt (all_got so_far) octets → ⊥
   not_yet so_far coming f c =
       incomplete m payload so_far f pos c.so_far_are (parts_of m payload so_far pos c.so_far_are) c.last_is (λ i. c.none (in_left so_far coming f i))
 
   -- where the slots are those of the step's beginning
-  start : {p : Transition} {t : ℤ} {so_far : List Fragment} → p.command ≡ command.PollIngressSingle t → IsServed key p → Holding key p.before.slots so_far → Holding key (live_at t p.before.slots) so_far
+  start : {p : Transition} {t : ℤ} {so_far : List Fragment} → p.command ≡ command.PollIngressSingle t → IsServed key p →
+      Holding key p.before.slots so_far → Holding key (live_at t p.before.slots) so_far
   start {p} {t} e served h = holding_same (sym (ap (λ s. map.get s key) (live_slots p t e)) ∙ served.kept) h
 
-  room : {p : Transition} {t : ℤ} {f : Fragment} → p.command ≡ command.PollIngressSingle t → IsServed key p → arrivals_under key (slot_notes p.notes) ≡ f ∷ [] → map.get (live_at t p.before.slots) key ≡ None →
+  room : {p : Transition} {t : ℤ} {f : Fragment} → p.command ≡ command.PollIngressSingle t → IsServed key p →
+      arrivals_under key (slot_notes p.notes) ≡ f ∷ [] → map.get (live_at t p.before.slots) key ≡ None →
       map.len (live_at t p.before.slots) < 2
   room {p} {t} {f} e served one none =
       let some : 0 < length (arrivals_under key (slot_notes p.notes)) = rw one (omega arith) in
       let before : map.get p.before.slots key ≡ None = sym served.kept ∙ ap (λ s. map.get s key) (live_slots p t e) ∙ none in
       subst (λ s. map.len s < 2) (live_slots p t e) (served.room some before)
 
-  pub last_piece : (p : Transition) (so_far : List Fragment) (f : Fragment) → StepView p.command p.before p.told p.notes p.after → Holding key p.before.slots so_far → Coming m payload so_far [] f → IsServed key p →
+  pub last_piece : (p : Transition) (so_far : List Fragment) (f : Fragment) →
+      StepView p.command p.before p.told p.notes p.after → Holding key p.before.slots so_far → Coming m payload so_far [] f → IsServed key p →
       arrivals_under key (slot_notes p.notes) ≡ f ∷ [] → rebuilt key (slot_notes p.notes) ≡ payload ∷ []
   last_piece p so_far f (NoPart none n s) holding c served one = absurd (nothing_came f (sym (ap (arrivals_under key) n) ∙ one))
   last_piece p so_far f (APart t frame k g result e h b r) holding c served one = by (same_key key k) refl (sym (arrivals_of key r) ∙ one) where
@@ -248,18 +285,22 @@ module _ (m : ℕ) (payload : List ℕ) (key : FragKey) (pos : 0 < m) (short : l
     all = parts_of m payload (so_far ++ f ∷ []) pos (all_push (IsPiece m payload) so_far (f ∷ []) c.so_far_are (c.last_is, tt))
 
     whole : IsRebuilt (all_got (so_far ++ f ∷ [])) payload
-    whole = complete m payload (so_far ++ f ∷ []) pos some all (λ j l. subst (λ xs. IsIn (piece_at m payload j) (xs ++ f ∷ [])) (append-nil so_far) (c.all j l))
+    whole = complete m payload (so_far ++ f ∷ []) pos some all
+        (λ j l. subst (λ xs. IsIn (piece_at m payload j) (xs ++ f ∷ [])) (append-nil so_far) (c.all j l))
 
     ending : After key f so_far (slot_notes p.notes) p.after.slots → rebuilt key (slot_notes p.notes) ≡ payload ∷ []
     ending (Kept none unnoted hold) = absurd (none payload whole)
     ending (Done octets is noted) =
         noted ∙ ap (λ (os : List ℕ). os ∷ [])
-        (rebuilds_payload payload (all_got (so_far ++ f ∷ [])) octets (total_is payload None (so_far ++ f ∷ []) all (no_total (length payload))) all is)
+        (rebuilds_payload payload
+        (all_got (so_far ++ f ∷ [])) octets (total_is payload None (so_far ++ f ∷ []) all (no_total (length payload))) all is)
 
     by : (x : Bool) → same_key key k ≡ x → (if x then g ∷ [] else []) ≡ f ∷ [] → rebuilt key (slot_notes p.notes) ≡ payload ∷ []
     by true is same =
-        let r' : Reassembles (slot_end t p.before.reassembly_timeout) key f result (live_at t p.before.slots) (slot_notes p.notes) p.after.slots = rw (same_is key k is, ← same_fragment g f same) r in
-        ending (one_piece payload (slot_end t p.before.reassembly_timeout) (live_at t p.before.slots) key f result (slot_notes p.notes) p.after.slots so_far short parts (part_of m payload f pos c.last_is) c.few.0 (start e served holding) (room e served one) r')
+        let r' : Reassembles (slot_end t p.before.reassembly_timeout) key f result (live_at t p.before.slots) (slot_notes p.notes) p.after.slots =
+        rw (same_is key k is, ← same_fragment g f same) r in
+        ending (one_piece payload (slot_end t p.before.reassembly_timeout) (live_at t p.before.slots) key f result (slot_notes p.notes)
+        p.after.slots so_far short parts (part_of m payload f pos c.last_is) c.few.0 (start e served holding) (room e served one) r')
     by false is same = absurd (nothing_came f same)
 
   -- one step before the last piece
@@ -267,7 +308,8 @@ module _ (m : ℕ) (payload : List ℕ) (key : FragKey) (pos : 0 < m) (short : l
     pub none : rebuilt key (slot_notes p.notes) ≡ []
     pub holding : Holding key p.after.slots (so_far ++ arrivals_under key (slot_notes p.notes))
 
-  pub one_step : (p : Transition) (so_far coming : List Fragment) (f : Fragment) → StepView p.command p.before p.told p.notes p.after → Holding key p.before.slots so_far →
+  pub one_step : (p : Transition) (so_far coming : List Fragment) (f : Fragment) →
+      StepView p.command p.before p.told p.notes p.after → Holding key p.before.slots so_far →
       Coming m payload so_far (arrivals_under key (slot_notes p.notes) ++ coming) f → IsServed key p → Went p so_far
   one_step p so_far coming f (NoPart none n s) holding c served = record {
     none = ap (rebuilt key) n;
@@ -277,7 +319,8 @@ module _ (m : ℕ) (payload : List ℕ) (key : FragKey) (pos : 0 < m) (short : l
     parts : AreParts payload so_far
     parts = parts_of m payload so_far pos c.so_far_are
 
-    ending : arrivals_under key (slot_notes p.notes) ≡ g ∷ [] → Coming m payload so_far (g ∷ coming) f → After key g so_far (slot_notes p.notes) p.after.slots → Went p so_far
+    ending : arrivals_under key (slot_notes p.notes) ≡ g ∷ [] → Coming m payload so_far (g ∷ coming) f →
+        After key g so_far (slot_notes p.notes) p.after.slots → Went p so_far
     ending one c' (Kept none unnoted hold) = record { none = unnoted; holding = rw one hold }
     ending one c' (Done octets is noted) = absurd (not_yet (so_far ++ g ∷ []) coming f (comes_next m payload so_far coming g f c') octets is)
 
@@ -285,19 +328,25 @@ module _ (m : ℕ) (payload : List ℕ) (key : FragKey) (pos : 0 < m) (short : l
     by true is =
         let one : arrivals_under key (slot_notes p.notes) ≡ g ∷ [] = arrivals_of key r ∙ rw is refl in
         let c' : Coming m payload so_far (g ∷ coming) f = rw one at c in
-        let r' : Reassembles (slot_end t p.before.reassembly_timeout) key g result (live_at t p.before.slots) (slot_notes p.notes) p.after.slots = rw (same_is key k is) r in
-        ending one c' (one_piece payload (slot_end t p.before.reassembly_timeout) (live_at t p.before.slots) key g result (slot_notes p.notes) p.after.slots so_far short parts (part_of m payload g pos c'.coming_are.0) c'.few.0 (start e served holding) (room e served one) r')
+        let r' : Reassembles (slot_end t p.before.reassembly_timeout) key g result (live_at t p.before.slots) (slot_notes p.notes) p.after.slots =
+        rw (same_is key k is) r in
+        ending one c' (one_piece payload (slot_end t p.before.reassembly_timeout) (live_at t p.before.slots) key g result (slot_notes p.notes)
+        p.after.slots so_far short parts (part_of m payload g pos c'.coming_are.0) c'.few.0 (start e served holding) (room e served one) r')
     by false is =
         let one : arrivals_under key (slot_notes p.notes) ≡ [] = arrivals_of key r ∙ rw is refl in
         let a = aside key is r in
         record { none = a.none; holding = rw (one, append-nil) (holding_same a.same (start e served holding)) }
 
-  pub coming_on : (cs so_far coming : List Fragment) (f : Fragment) → Coming m payload so_far (cs ++ coming) f → Coming m payload (so_far ++ cs) coming f
+  pub coming_on : (cs so_far coming : List Fragment) (f : Fragment) →
+      Coming m payload so_far (cs ++ coming) f → Coming m payload (so_far ++ cs) coming f
   coming_on [] so_far coming f c = rw append-nil c
-  coming_on (g ∷ cs) so_far coming f c = subst (λ xs. Coming m payload xs coming f) (append_assoc so_far (g ∷ []) cs) (coming_on cs (so_far ++ g ∷ []) coming f (comes_next m payload so_far (cs ++ coming) g f c))
+  coming_on (g ∷ cs) so_far coming f c = subst (λ xs. Coming m payload xs coming f) (append_assoc so_far (g ∷ []) cs)
+      (coming_on cs (so_far ++ g ∷ []) coming f (comes_next m payload so_far (cs ++ coming) g f c))
 
-  go : (transitions : List Transition) (p : Transition) (H last : Host) (so_far : List Fragment) (f : Fragment) → Run H (transitions ++ p ∷ []) last → Holding key H.slots so_far →
-      Coming m payload so_far (arrivals_under key (slot_notes_in transitions)) f → arrivals_under key (slot_notes p.notes) ≡ f ∷ [] → AllByRecursion (IsServed key) (transitions ++ p ∷ []) →
+  go : (transitions : List Transition) (p : Transition) (H last : Host) (so_far : List Fragment) (f : Fragment) →
+      Run H (transitions ++ p ∷ []) last → Holding key H.slots so_far →
+      Coming m payload so_far (arrivals_under key (slot_notes_in transitions)) f → arrivals_under key (slot_notes p.notes) ≡ f ∷ [] →
+      AllByRecursion (IsServed key) (transitions ++ p ∷ []) →
       (rebuilt key (slot_notes_in transitions) ≡ []) × (rebuilt key (slot_notes p.notes) ≡ payload ∷ [])
   go [] p H last so_far f run holding c one served =
       let h = run_head run in
@@ -305,15 +354,22 @@ module _ (m : ℕ) (payload : List ℕ) (key : FragKey) (pos : 0 < m) (short : l
       (refl, last_piece p so_far f (step_view served.0.single s) (rw h.began holding) c served.0 one)
   go (q ∷ transitions) p H last so_far f run holding c one served =
       let h = run_head run in
-      let parts : slot_notes (q.notes ++ notes_in transitions) ≡ slot_notes q.notes ++ slot_notes (notes_in transitions) = slot_notes-append q.notes (notes_in transitions) in
-      let arrivals_are : arrivals_under key (slot_notes (q.notes ++ notes_in transitions)) ≡ arrivals_under key (slot_notes q.notes) ++ arrivals_under key (slot_notes (notes_in transitions)) = ap (arrivals_under key) parts ∙ arrivals_under-append key (slot_notes q.notes) (slot_notes (notes_in transitions)) in
-      let c' : Coming m payload so_far (arrivals_under key (slot_notes q.notes) ++ arrivals_under key (slot_notes (notes_in transitions))) f = rw arrivals_are at c in
+      let parts : slot_notes (q.notes ++ notes_in transitions) ≡ slot_notes q.notes ++ slot_notes (notes_in transitions) =
+      slot_notes-append q.notes (notes_in transitions) in
+      let arrivals_are : arrivals_under key (slot_notes (q.notes ++ notes_in transitions))
+      ≡ arrivals_under key (slot_notes q.notes) ++ arrivals_under key (slot_notes (notes_in transitions)) = ap (arrivals_under key) parts
+      ∙ arrivals_under-append key (slot_notes q.notes) (slot_notes (notes_in transitions)) in
+      let c' : Coming m payload so_far (arrivals_under key (slot_notes q.notes) ++ arrivals_under key (slot_notes (notes_in transitions))) f =
+      rw arrivals_are at c in
       let s : Step q.command q.answer q.before q.told q.acts q.notes q.after = rw h.began h.step in
-      let w = one_step q so_far (arrivals_under key (slot_notes (notes_in transitions))) f (step_view served.0.single s) (rw h.began holding) c' served.0 in
-      let rest = go transitions p q.after last (so_far ++ arrivals_under key (slot_notes q.notes)) f h.run w.holding (coming_on (arrivals_under key (slot_notes q.notes)) so_far (arrivals_under key (slot_notes (notes_in transitions))) f c') one served.1 in
+      let w =
+      one_step q so_far (arrivals_under key (slot_notes (notes_in transitions))) f (step_view served.0.single s) (rw h.began holding) c' served.0 in
+      let rest = go transitions p q.after last (so_far ++ arrivals_under key (slot_notes q.notes)) f h.run w.holding
+      (coming_on (arrivals_under key (slot_notes q.notes)) so_far (arrivals_under key (slot_notes (notes_in transitions))) f c') one served.1 in
       (ap (rebuilt key) parts ∙ rebuilt-append key (slot_notes q.notes) (slot_notes (notes_in transitions)) ∙ rw (w.none, rest.0) refl, rest.1)
 
-pub pieces_are : (m : ℕ) (payload : List ℕ) (fs : List Fragment) → AllByRecursion (Contains (cut m payload)) fs → AllByRecursion (IsPiece m payload) fs
+pub pieces_are : (m : ℕ) (payload : List ℕ) (fs : List Fragment) →
+    AllByRecursion (Contains (cut m payload)) fs → AllByRecursion (IsPiece m payload) fs
 pieces_are m payload [] all = tt
 pieces_are m payload (f ∷ fs) all = (piece_in m payload f all.0, pieces_are m payload fs all.1)
 
@@ -340,15 +396,18 @@ all_arrivals-append (Take k ∷ xs) ys = all_arrivals-append xs ys
 all_arrivals-append (Arrival k f ∷ xs) ys = ap (λ cs. (k, f) ∷ cs) (all_arrivals-append xs ys)
 all_arrivals-append (Rebuild k octets ∷ xs) ys = all_arrivals-append xs ys
 
-all_arrivals_after : {ends : ℤ} {slots : Slots} {k : FragKey} {slot : Slot} {first : List SlotNote} (rest : List SlotNote) → Enters ends k slots slot first → all_arrivals (first ++ rest) ≡ all_arrivals rest
+all_arrivals_after : {ends : ℤ} {slots : Slots} {k : FragKey} {slot : Slot} {first : List SlotNote} (rest : List SlotNote) →
+    Enters ends k slots slot first → all_arrivals (first ++ rest) ≡ all_arrivals rest
 all_arrivals_after rest (Stood s n) = ap (λ ns. all_arrivals (ns ++ rest)) n
 all_arrivals_after rest (Taken none room s n) = ap (λ ns. all_arrivals (ns ++ rest)) n
 
-pub all_arrivals_of : {ends : ℤ} {slots new : Slots} {k : FragKey} {f : Fragment} {result : Option (List ℕ)} {notes : List SlotNote} → Reassembles ends k f result slots notes new → all_arrivals notes ≡ (k, f) ∷ []
+pub all_arrivals_of : {ends : ℤ} {slots new : Slots} {k : FragKey} {f : Fragment} {result : Option (List ℕ)} {notes : List SlotNote} →
+    Reassembles ends k f result slots notes new → all_arrivals notes ≡ (k, f) ∷ []
 all_arrivals_of (NoSlot none full r n e) = ap all_arrivals n
 all_arrivals_of {k = k} {f = f} (Unfit slot first enters u r n e) = ap all_arrivals n ∙ all_arrivals_after (Arrival k f ∷ []) enters
 all_arrivals_of {k = k} {f = f} (Waits slot first enters u w r n e) = ap all_arrivals n ∙ all_arrivals_after (Arrival k f ∷ []) enters
-all_arrivals_of {k = k} {f = f} (Rebuilt slot first octets enters u w r n e) = ap all_arrivals n ∙ all_arrivals_after (Arrival k f ∷ Rebuild k octets ∷ []) enters
+all_arrivals_of {k = k} {f = f} (Rebuilt slot first octets enters u w r n e) = ap all_arrivals n
+    ∙ all_arrivals_after (Arrival k f ∷ Rebuild k octets ∷ []) enters
 
 -- who the host is stays while it polls
 pub record Alike (old new : Host) : Type 0 where
@@ -361,18 +420,30 @@ abbrev AlikeOver : Host → List (List ℕ) → List Note → Host → Type 0
 AlikeOver old frames notes new = Alike old new
 
 alike : {H new : Host} → rest_of new ≡ rest_of H → Alike H new
-alike e = record { hardware = ap (λ (K : Host). K.hardware_addr) e; capabilities = ap (λ (K : Host). K.capabilities) e; addresses = ap (λ (K : Host). K.ip_addrs) e; timeout = ap (λ (K : Host). K.reassembly_timeout) e }
+alike e = record {
+  hardware = ap (λ (K : Host). K.hardware_addr) e;
+  capabilities = ap (λ (K : Host). K.capabilities) e;
+  addresses = ap (λ (K : Host). K.ip_addrs) e;
+  timeout = ap (λ (K : Host). K.reassembly_timeout) e;
+}
 
 alike_on : {a b c : Host} → Alike a b → Alike b c → Alike a c
-alike_on x y = record { hardware = y.hardware ∙ x.hardware; capabilities = y.capabilities ∙ x.capabilities; addresses = y.addresses ∙ x.addresses; timeout = y.timeout ∙ x.timeout }
+alike_on x y = record {
+  hardware = y.hardware ∙ x.hardware;
+  capabilities = y.capabilities ∙ x.capabilities;
+  addresses = y.addresses ∙ x.addresses;
+  timeout = y.timeout ∙ x.timeout;
+}
 
-fragments_alike : (H : Host) (key : FragKey) (f : Fragment) (result : Option (List ℕ)) (notes : List Note) (new : Host) → TakesFragment key f result H notes new → Alike H new
+fragments_alike : (H : Host) (key : FragKey) (f : Fragment) (result : Option (List ℕ)) (notes : List Note) (new : Host) →
+    TakesFragment key f result H notes new → Alike H new
 fragments_alike H key f result notes new t = rw t.changed (record { hardware = refl; capabilities = refl; addresses = refl; timeout = refl })
 
 itself : (H : Host) → Alike H H
 itself H = record { hardware = refl; capabilities = refl; addresses = refl; timeout = refl }
 
-pub ingress_alike : {t : ℤ} {answer : PollIngressSingleResult} {old new : Host} {told : List Event} {notes : List Note} → Ingress t answer old told notes new → Alike old new
+pub ingress_alike : {t : ℤ} {answer : PollIngressSingleResult} {old new : Host} {told : List Event} {notes : List Note} →
+    Ingress t answer old told notes new → Alike old new
 ingress_alike i =
     ingress AlikeOver (λ old new k. alike k.same) (λ a b c fs gs xs ys one two. alike_on one two)
     (λ H own source target mine. itself H)
@@ -386,7 +457,8 @@ ingress_alike i =
     (λ H r. itself H)
     i
 
-pub egress_alike : {t : ℤ} {answer : PollResult} {old new : Host} {told : List Event} {notes : List Note} → Egress t answer old told notes new → Alike old new
+pub egress_alike : {t : ℤ} {answer : PollResult} {old new : Host} {told : List Event} {notes : List Note} →
+    Egress t answer old told notes new → Alike old new
 egress_alike e =
     egressed AlikeOver (λ old new k. alike k.same) (λ a b c fs gs xs ys one two. alike_on one two)
     (λ H own source target mine. itself H)
@@ -432,12 +504,15 @@ comes_on a b c ts us xs ys one two = record {
   alike = alike_on one.alike two.alike;
 }
 
-none_brought : (H : Host) (t : ℤ) (r : Reception) → ((frame : List ℕ) (key : FragKey) (f : Fragment) → handed_frames (Received t r ∷ []) ≡ frame ∷ [] → Brings H frame key f → ⊥) → Bring H (handed_frames (Received t r ∷ [])) []
+none_brought : (H : Host) (t : ℤ) (r : Reception) →
+    ((frame : List ℕ) (key : FragKey) (f : Fragment) → handed_frames (Received t r ∷ []) ≡ frame ∷ [] → Brings H frame key f → ⊥) →
+    Bring H (handed_frames (Received t r ∷ [])) []
 none_brought H t (Frame g) none = NoneBrings g (λ key f b. none g key f refl b) NoFrame
 none_brought H t Nothing none = NoFrame
 none_brought H t Withheld none = NoFrame
 
-ingress_bring : {t : ℤ} {answer : PollIngressSingleResult} {old new : Host} {told : List Event} {notes : List Note} → Ingress t answer old told notes new → Bring old (handed_frames told) (all_arrivals (slot_notes notes))
+ingress_bring : {t : ℤ} {answer : PollIngressSingleResult} {old new : Host} {told : List Event} {notes : List Note} →
+    Ingress t answer old told notes new → Bring old (handed_frames told) (all_arrivals (slot_notes notes))
 ingress_bring {t} {answer} {old} {new} {told} {notes} i = by (ingress_view i) where
   hands : handed_frames told ≡ handed_frames (Received t i.reception ∷ [])
   hands = ap handed_frames i.events ∙ handed_frames-received t i.reception (sends i.frames) (handed_frames-sends i.frames)
@@ -446,14 +521,19 @@ ingress_bring {t} {answer} {old} {new} {told} {notes} i = by (ingress_view i) wh
   by (NoPart none n s) = rw (hands, n) (none_brought old t i.reception (λ frame key f is b. none frame key f (hands ∙ is) b))
   by (APart u frame k g result e h b r) = rw (h, all_arrivals_of r) (OneBrings frame k g b NoFrame)
 
-silent_bring : (H : Host) (told : List Event) (notes : List Note) → handed_frames told ≡ [] → slot_notes notes ≡ [] → Bring H (handed_frames told) (all_arrivals (slot_notes notes))
+silent_bring : (H : Host) (told : List Event) (notes : List Note) →
+    handed_frames told ≡ [] → slot_notes notes ≡ [] → Bring H (handed_frames told) (all_arrivals (slot_notes notes))
 silent_bring H told notes h n = rw (h, n) NoFrame
 
-comes : {c : Command} {a : Answer} {old new : Host} {told : List Event} {acts : List Act} {notes : List Note} → Step c a old told acts notes new → Bring (receiving_host c old) (handed_frames told) (all_arrivals (slot_notes notes))
+comes : {c : Command} {a : Answer} {old new : Host} {told : List Event} {acts : List Act} {notes : List Note} →
+    Step c a old told acts notes new → Bring (receiving_host c old) (handed_frames told) (all_arrivals (slot_notes notes))
 comes (step.Polled {t} p) =
     (worked Comes (λ H. record { bring = NoFrame; alike = itself H }) comes_on t
     (λ answer old new told notes i. record { bring = ingress_bring i; alike = ingress_alike i })
-    (λ answer old new told notes e. record { bring = silent_bring old told notes (egress_hands_none e) (egress_still e).silent; alike = egress_alike e })
+    (λ answer old new told notes e. record {
+      bring = silent_bring old told notes (egress_hands_none e) (egress_still e).silent;
+      alike = egress_alike e;
+    })
     p).bring
 comes (step.PolledIngressSingle i) = ingress_bring i
 comes {old = old} {told = told} {notes = notes} (step.PolledEgress e) = silent_bring old told notes (egress_hands_none e) (egress_still e).silent

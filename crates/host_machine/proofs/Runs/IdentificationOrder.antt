@@ -29,14 +29,17 @@ counts_on n m k (x ∷ xs) ys a b =
     let rest = counts_on ((n + 1) % 2 ^ 16) m k xs ys (record { counted = a.counted.1; is_after = a.is_after }) b in
     record { counted = (a.counted.0, rest.counted); is_after = rest.is_after }
 
-on : (a b c : Host) (fs gs : List (List ℕ)) (xs ys : List Note) → CountedOver a fs xs b → CountedOver b gs ys c → CountedOver a (fs ++ gs) (xs ++ ys) c
+on : (a b c : Host) (fs gs : List (List ℕ)) (xs ys : List Note) →
+    CountedOver a fs xs b → CountedOver b gs ys c → CountedOver a (fs ++ gs) (xs ++ ys) c
 on a b c fs gs xs ys one two = rw identifications-append (counts_on a.ipv4_id b.ipv4_id c.ipv4_id (identifications xs) (identifications ys) one two)
 
-fragments : (H : Host) (key : FragKey) (f : Fragment) (result : Option (List ℕ)) (notes : List Note) (new : Host) → TakesFragment key f result H notes new → CountedOver H [] notes new
+fragments : (H : Host) (key : FragKey) (f : Fragment) (result : Option (List ℕ)) (notes : List Note) (new : Host) →
+    TakesFragment key f result H notes new → CountedOver H [] notes new
 fragments H key f result notes new t = rw (t.noted, t.changed, identifications-slots t.slot_notes) (record { counted = tt; is_after = refl })
 
 -- over a whole run
-pub run_counted : {first last : Host} {transitions : List Transition} → Run first transitions last → AreCounted first.ipv4_id (identifications (notes_in transitions))
+pub run_counted : {first last : Host} {transitions : List Transition} →
+    Run first transitions last → AreCounted first.ipv4_id (identifications (notes_in transitions))
 run_counted r =
     (walk CountedOver (λ old new k. record { counted = tt; is_after = ap (λ (K : Host). K.ipv4_id) k.same }) on
     (λ H own source target mine. record { counted = tt; is_after = refl })

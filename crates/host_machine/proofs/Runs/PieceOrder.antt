@@ -43,7 +43,8 @@ record Goes (c : DeviceCapabilities) (left : List Piece) (notes : List CutNote) 
 abbrev OrderedOver : Host → List (List ℕ) → List Note → Host → Type 0
 OrderedOver old frames notes new = Goes old.capabilities old.left (cut_notes notes) new.capabilities new.left
 
-order_on : (size : ℕ) (left : List Piece) (xs ys : List CutNote) → InOrder size left xs → InOrder size (left_after left xs) ys → InOrder size left (xs ++ ys)
+order_on : (size : ℕ) (left : List Piece) (xs ys : List CutNote) →
+    InOrder size left xs → InOrder size (left_after left xs) ys → InOrder size left (xs ++ ys)
 order_on size left [] ys a b = b
 order_on size left (Cut d ∷ xs) ys a b = (a.0, order_on size (pieces_of d) xs ys a.1 b)
 order_on size left (PieceSent p ∷ xs) ys a b = (a.0, order_on size (rest_of left) xs ys a.1 b)
@@ -53,20 +54,25 @@ left_after-append left [] ys = refl
 left_after-append left (Cut d ∷ xs) ys = left_after-append (pieces_of d) xs ys
 left_after-append left (PieceSent p ∷ xs) ys = left_after-append (rest_of left) xs ys
 
-goes_on : (c c' c'' : DeviceCapabilities) (l l' l'' : List Piece) (xs ys : List CutNote) → Goes c l xs c' l' → Goes c' l' ys c'' l'' → Goes c l (xs ++ ys) c'' l''
+goes_on : (c c' c'' : DeviceCapabilities) (l l' l'' : List Piece) (xs ys : List CutNote) →
+    Goes c l xs c' l' → Goes c' l' ys c'' l'' → Goes c l (xs ++ ys) c'' l''
 goes_on c c' c'' l l' l'' xs ys a b = record {
   order = order_on (piece_size c) l xs ys a.order (rw (← a.is_left, ← a.same) b.order);
   is_left = b.is_left ∙ ap (λ m. left_after m ys) a.is_left ∙ sym (left_after-append l xs ys);
   same = b.same ∙ a.same;
 }
 
-on : (a b c : Host) (fs gs : List (List ℕ)) (xs ys : List Note) → OrderedOver a fs xs b → OrderedOver b gs ys c → OrderedOver a (fs ++ gs) (xs ++ ys) c
-on a b c fs gs xs ys one two = rw cut_notes-append (goes_on a.capabilities b.capabilities c.capabilities a.left b.left c.left (cut_notes xs) (cut_notes ys) one two)
+on : (a b c : Host) (fs gs : List (List ℕ)) (xs ys : List Note) →
+    OrderedOver a fs xs b → OrderedOver b gs ys c → OrderedOver a (fs ++ gs) (xs ++ ys) c
+on a b c fs gs xs ys one two =
+    rw cut_notes-append (goes_on a.capabilities b.capabilities c.capabilities a.left b.left c.left (cut_notes xs) (cut_notes ys) one two)
 
-fragments : (H : Host) (key : FragKey) (f : Fragment) (result : Option (List ℕ)) (notes : List Note) (new : Host) → TakesFragment key f result H notes new → OrderedOver H [] notes new
+fragments : (H : Host) (key : FragKey) (f : Fragment) (result : Option (List ℕ)) (notes : List Note) (new : Host) →
+    TakesFragment key f result H notes new → OrderedOver H [] notes new
 fragments H key f result notes new t = rw (t.noted, t.changed, cut_notes-slots t.slot_notes) (record { order = tt; is_left = refl; same = refl })
 
-cuts : (H : Host) (h : HardwareAddress) (id : ℕ) (p : PacketV4) (first : Piece) (rest : List Piece) → pieces_of (datagram_of H h id p) ≡ first ∷ rest → HasForm (datagram_of H h id p) → Reached H h →
+cuts : (H : Host) (h : HardwareAddress) (id : ℕ) (p : PacketV4) (first : Piece) (rest : List Piece) →
+    pieces_of (datagram_of H h id p) ≡ first ∷ rest → HasForm (datagram_of H h id p) → Reached H h →
     Goes H.capabilities H.left (Cut (datagram_of H h id p) ∷ PieceSent first ∷ []) H.capabilities rest
 cuts H h id p first rest e form reached = record {
   order = (refl, rw e (refl, tt));
@@ -81,7 +87,8 @@ record Begins (size : ℕ) (left : List Piece) (notes : List CutNote) : Type 0 w
   first : IsBeginning (sent_of_this notes) left
   all : AreBeginnings size notes
 
-next_begins : (size : ℕ) (left : List Piece) (p : Piece) (notes : List CutNote) → IsNext left p → Begins size (rest_of left) notes → Begins size left (PieceSent p ∷ notes)
+next_begins : (size : ℕ) (left : List Piece) (p : Piece) (notes : List CutNote) →
+    IsNext left p → Begins size (rest_of left) notes → Begins size left (PieceSent p ∷ notes)
 next_begins size [] p notes n b = absurd n
 next_begins size (q ∷ left) p notes n b = record { first = (b.first.0, rw n (ap (λ ps. p ∷ ps) b.first.1)); all = b.all }
 
@@ -91,9 +98,11 @@ begins size left (Cut d ∷ notes) o = let b = begins size (pieces_of d) notes o
 begins size left (PieceSent p ∷ notes) o = next_begins size left p notes o.0 (begins size (rest_of left) notes o.1)
 
 -- over a whole run
-run_goes : {first last : Host} {transitions : List Transition} → Run first transitions last → Goes first.capabilities first.left (cut_notes (notes_in transitions)) last.capabilities last.left
+run_goes : {first last : Host} {transitions : List Transition} →
+    Run first transitions last → Goes first.capabilities first.left (cut_notes (notes_in transitions)) last.capabilities last.left
 run_goes r =
-    walk OrderedOver (λ old new k. record { order = tt; is_left = ap (λ (K : Host). K.left) k.same; same = ap (λ (K : Host). K.capabilities) k.same }) on
+    walk OrderedOver
+    (λ old new k. record { order = tt; is_left = ap (λ (K : Host). K.left) k.same; same = ap (λ (K : Host). K.capabilities) k.same }) on
     (λ H own source target mine. record { order = tt; is_left = refl; same = refl })
     (λ H hop unknown. record { order = tt; is_left = refl; same = refl })
     (λ H. record { order = tt; is_left = refl; same = refl })
@@ -108,8 +117,12 @@ run_goes r =
     (λ H timeout. record { order = tt; is_left = refl; same = refl })
     r
 
-pub run_first : {first last : Host} {transitions : List Transition} → Run first transitions last → IsBeginning (sent_of_this (cut_notes (notes_in transitions))) first.left
-run_first {first} {last} {transitions} r = (begins (piece_size first.capabilities) first.left (cut_notes (notes_in transitions)) (run_goes r).order).first
+pub run_first : {first last : Host} {transitions : List Transition} →
+    Run first transitions last → IsBeginning (sent_of_this (cut_notes (notes_in transitions))) first.left
+run_first {first} {last} {transitions} r =
+    (begins (piece_size first.capabilities) first.left (cut_notes (notes_in transitions)) (run_goes r).order).first
 
-pub run_ordered : {first last : Host} {transitions : List Transition} → Run first transitions last → AreBeginnings (piece_size first.capabilities) (cut_notes (notes_in transitions))
-run_ordered {first} {last} {transitions} r = (begins (piece_size first.capabilities) first.left (cut_notes (notes_in transitions)) (run_goes r).order).all
+pub run_ordered : {first last : Host} {transitions : List Transition} →
+    Run first transitions last → AreBeginnings (piece_size first.capabilities) (cut_notes (notes_in transitions))
+run_ordered {first} {last} {transitions} r =
+    (begins (piece_size first.capabilities) first.left (cut_notes (notes_in transitions)) (run_goes r).order).all

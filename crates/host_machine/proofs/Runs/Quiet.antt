@@ -32,11 +32,13 @@ use Rattle.host_machine.specs.Sending.Dispatch.{HasNeighbor, OfNoHost, OfHost, I
 use Rattle.host_machine.specs.Receiving.Reply.{IsDropped}
 use Rattle.host_machine.specs.Polling.Ingress.{Ingress, Takes, answer_to}
 use Rattle.host_machine.specs.Sending.Parts.{Part, Both}
-use Rattle.host_machine.specs.Sending.Egress.{Round, Ipv4Egress, packet_of, packet_from, socket_after_asking, with_socket, wait_after, SocketTurn, Silent, Refused, Serves, Free, Waits, Served, is_done, Walks, SocketEgress, Whole, Stopped, Egress}
+use Rattle.host_machine.specs.Sending.Egress.{Round, Ipv4Egress, packet_of, packet_from, socket_after_asking, with_socket, wait_after, SocketTurn}
+use Rattle.host_machine.specs.Sending.Egress.{Silent, Refused, Serves, Free, Waits, Served, is_done, Walks, SocketEgress, Whole, Stopped, Egress}
 use Rattle.host_machine.specs.Sending.Egress as egress
 use Rattle.host_machine.specs.Polling.Polling.{after_maintenance, Repeats, Until, Spent, Done, Polls}
 use Rattle.host_machine.specs.Polling.Polling as polling
-use Rattle.host_machine.specs.Polling.Due.{Due, OfPiece, OfSync, OfSolicitation, OfPrefix, OfRouter, OfJoin, OfLeave, OfIgmpReport, OfMldReport, OfSocket, AtOnce, SocketDue, IsLeast, instant_of, group_poll_at}
+use Rattle.host_machine.specs.Polling.Due.{Due, OfPiece, OfSync, OfSolicitation, OfPrefix, OfRouter, OfJoin, OfLeave, OfIgmpReport}
+use Rattle.host_machine.specs.Polling.Due.{OfMldReport, OfSocket, AtOnce, SocketDue, IsLeast, instant_of, group_poll_at}
 use Rattle.std.specs.Ordering.{int_cmp, is_le, is_lt}
 use Rattle.ip_address.specs.declared.cidr.IpCidr.{IpCidr}
 use Rattle.group_table.specs.declared.groups.Group.{Group}
@@ -67,7 +69,12 @@ with_waits H waits = record H { sockets = record H.sockets { waits = waits } }
 
 -- with what may change while nothing is disturbed, as another host has it
 abbrev altered : Host → Host → Host
-altered H K = record H { slots = K.slots; reassembly_timeout = K.reassembly_timeout; igmp_report = K.igmp_report; sockets = record H.sockets { waits = K.sockets.waits } }
+altered H K = record H {
+  slots = K.slots;
+  reassembly_timeout = K.reassembly_timeout;
+  igmp_report = K.igmp_report;
+  sockets = record H.sockets { waits = K.sockets.waits };
+}
 
 -- what is due, as seen at t0, is due after s
 abbrev NoneDue : Host → ℤ → ℤ → Type 0
@@ -134,7 +141,8 @@ record Waiting (w : Wait) (known : Bool) (t : ℤ) (own : PollAt) : Type 0 where
 must_wait : (w : Wait) (known : Bool) (t : ℤ) (own : PollAt) → is_permitted w known t ≡ false → Waiting w known t own
 must_wait None known t own not = absurd cc
 must_wait (Some w) true t own not = absurd cc
-must_wait (Some w) false t own not = record { end = w.1; due = rw not refl; unknown = refl; waits = λ s before. rw (← int_cmp_is s w.1 Less before) refl }
+must_wait (Some w) false t own not =
+    record { end = w.1; due = rw not refl; unknown = refl; waits = λ s before. rw (← int_cmp_is s w.1 Less before) refl }
 
 known_may : (w : Wait) (known : Bool) (t : ℤ) → known ≡ true → is_permitted w known t ≡ true
 known_may None known t is = refl
@@ -145,16 +153,25 @@ before_own s None after = tt
 before_own s (Some x) after = after x refl
 
 -- who is known now was known at t0
-no_longer : (w : Wait) (known was : Bool) (s : ℤ) → (known ≡ true → was ≡ true) → was ≡ false → is_permitted w false s ≡ false → is_permitted w known s ≡ true → ⊥
+no_longer : (w : Wait) (known was : Bool) (s : ℤ) → (known ≡ true → was ≡ true) → was ≡ false →
+    is_permitted w false s ≡ false → is_permitted w known s ≡ true → ⊥
 no_longer w true was s stays unknown not may = let e : was ≡ true = stays refl in absurd cc
 no_longer w false was s stays unknown not may = absurd cc
 
 -- a socket that is asked has nothing to send, and stays as it is
-asked_by : (H : Host) (t0 : ℤ) (i : ℕ) (s : Socket) (known : Bool) → Rests t0 H → slice_get H.sockets.places i ≡ Some (Some s) → (k : Knew H t0 (wait_at H.sockets i) known) →
-    is_permitted (wait_at H.sockets i) known H.moment ≡ true → (b : Bool) → is_permitted (wait_at H.sockets i) k.was t0 ≡ b → (packet_from H s ≡ None) × (socket_after_asking H s ≡ s)
+asked_by : (H : Host) (t0 : ℤ) (i : ℕ) (s : Socket) (known : Bool) →
+    Rests t0 H → slice_get H.sockets.places i ≡ Some (Some s) → (k : Knew H t0 (wait_at H.sockets i) known) →
+    is_permitted (wait_at H.sockets i) known H.moment ≡ true → (b : Bool) →
+    is_permitted (wait_at H.sockets i) k.was t0 ≡ b → (packet_from H s ≡ None) × (socket_after_asking H s ≡ s)
 asked_by H t0 i s known r here k may true might =
     let low : pos 0 ≤ℤ H.moment = omega (arith, ints, r.low, r.from) in
-    let own = before_own H.moment (instant_of (socket.poll_at s)) (λ x e. r.none x (OfSocket i (record { socket = s; known = k.was; here = here; told = k.told; instant = ap instant_of (may_send (wait_at H.sockets i) k.was t0 (socket.poll_at s) might) ∙ e }))) in
+    let own = before_own H.moment (instant_of (socket.poll_at s)) (λ x e. r.none x (OfSocket i (record {
+      socket = s;
+      known = k.was;
+      here = here;
+      told = k.told;
+      instant = ap instant_of (may_send (wait_at H.sockets i) k.was t0 (socket.poll_at s) might) ∙ e;
+    }))) in
     let q = socket_quiet (source_for H.ip_addrs) s H.moment low own in
     (ap (option_and_then packet_of) q.0, q.1)
 asked_by H t0 i s known r here k may false not =
@@ -182,7 +199,8 @@ known_on : (H : Host) (K : Host) (t0 : ℤ) {a : IpAddress} {known : Bool} → H
 known_on H K t0 (OfNoHost none e) = OfNoHost none e
 known_on H K t0 (OfHost hop one n e) = OfHost hop one (hop_on H K t0 n) e
 
-told_on : (H : Host) (K : Host) (t0 : ℤ) (w : Wait) (known : Bool) → IsAnswerFor (HasNeighbor (at (altered H K) t0)) w known → IsAnswerFor (HasNeighbor (at H t0)) w known
+told_on : (H : Host) (K : Host) (t0 : ℤ) (w : Wait) (known : Bool) →
+    IsAnswerFor (HasNeighbor (at (altered H K) t0)) w known → IsAnswerFor (HasNeighbor (at H t0)) w known
 told_on H K t0 None known told = tt
 told_on H K t0 (Some w) known told = known_on H K t0 told
 
@@ -190,7 +208,8 @@ due_by : (H : Host) (t0 : ℤ) (i : ℕ) (was : Bool) → was ≡ true → IsAns
     (x : ℤ) (j : ℕ) → SocketDue (at (with_waits H (slice_set H.sockets.waits i None)) t0) j x → (j ≡ i) ⊎ (j ≡ i → ⊥) → SocketDue (at H t0) j x
 due_by H t0 i was is told x j d (inl same) =
     let gone : get_or (slice_set H.sockets.waits i None) j None ≡ None = rw same (cleared H.sockets.waits i) in
-    let own : instant_of (socket.poll_at d.socket) ≡ Some x = sym (ap (λ w. instant_of (poll_at w d.known t0 (socket.poll_at d.socket))) gone) ∙ d.instant in
+    let own : instant_of (socket.poll_at d.socket) ≡ Some x =
+    sym (ap (λ w. instant_of (poll_at w d.known t0 (socket.poll_at d.socket))) gone) ∙ d.instant in
     record {
       socket = d.socket;
       known = was;
@@ -204,7 +223,8 @@ due_by H t0 i was is told x j d (inr other) =
       socket = d.socket;
       known = d.known;
       here = d.here;
-      told = subst (λ w. IsAnswerFor (HasNeighbor (at H t0)) w d.known) kept (told_on H (with_waits H (slice_set H.sockets.waits i None)) t0 (get_or (slice_set H.sockets.waits i None) j None) d.known d.told);
+      told = subst (λ w. IsAnswerFor (HasNeighbor (at H t0)) w d.known) kept
+          (told_on H (with_waits H (slice_set H.sockets.waits i None)) t0 (get_or (slice_set H.sockets.waits i None) j None) d.known d.told);
       instant = sym (ap (λ w. instant_of (poll_at w d.known t0 (socket.poll_at d.socket))) kept) ∙ d.instant;
     }
 
@@ -226,13 +246,15 @@ due_altered H t0 x K of_socket of_report (OfSocket j d) = OfSocket j (of_socket 
 
 due_cleared : (H : Host) (t0 : ℤ) (i : ℕ) (was : Bool) → was ≡ true → IsAnswerFor (HasNeighbor (at H t0)) (wait_at H.sockets i) was →
     (x : ℤ) → Due (at (with_waits H (slice_set H.sockets.waits i None)) t0) x → Due (at H t0) x
-due_cleared H t0 i was is told x d = due_altered H t0 x (with_waits H (slice_set H.sockets.waits i None)) (λ j d. due_by H t0 i was is told x j d (cases_eq j i)) (λ e. e) d
+due_cleared H t0 i was is told x d =
+    due_altered H t0 x (with_waits H (slice_set H.sockets.waits i None)) (λ j d. due_by H t0 i was is told x j d (cases_eq j i)) (λ e. e) d
 
 -- where slots expire, or another timeout is set
 abbrev timed : Host → Slots → ℕ → Host
 timed H slots timeout = record H { slots = slots; reassembly_timeout = timeout }
 
-socket_still : (H : Host) (t0 : ℤ) (slots : Slots) (timeout : ℕ) (x : ℤ) (j : ℕ) → SocketDue (at (timed H slots timeout) t0) j x → SocketDue (at H t0) j x
+socket_still : (H : Host) (t0 : ℤ) (slots : Slots) (timeout : ℕ) (x : ℤ) (j : ℕ) →
+    SocketDue (at (timed H slots timeout) t0) j x → SocketDue (at H t0) j x
 socket_still H t0 slots timeout x j d = record {
   socket = d.socket;
   known = d.known;
@@ -270,7 +292,8 @@ asked_stays H t0 i true k =
     subst (λ w. Stays t0 H (with_waits H (slice_set H.sockets.waits i w)) []) (sym gone)
     (record { moment = refl; routes = refl; places = refl; due = due_cleared H t0 i k.was (k.stays refl) k.told; silent = refl })
 asked_stays H t0 i false k =
-    let kept : slice_set H.sockets.waits i (after_asking (wait_at H.sockets i) false) ≡ H.sockets.waits = ap (slice_set H.sockets.waits i) (unended (wait_at H.sockets i)) ∙ set-get_or H.sockets.waits i None in
+    let kept : slice_set H.sockets.waits i (after_asking (wait_at H.sockets i) false) ≡ H.sockets.waits =
+    ap (slice_set H.sockets.waits i) (unended (wait_at H.sockets i)) ∙ set-get_or H.sockets.waits i None in
     stays t0 (ap (with_waits H) kept) refl
 
 -- the turn of a place
@@ -285,12 +308,14 @@ record Passes (s : Socket) (turn : Turn) (s' : Socket) (old new : Host) (told : 
   unchanged : new ≡ old
   same : s' ≡ s
 
-passes : {s s' : Socket} {turn : Turn} {H new : Host} {told : List Event} {notes : List Note} → packet_from H s ≡ None → socket_after_asking H s ≡ s → SocketTurn s turn s' H told notes new → Passes s turn s' H new told
+passes : {s s' : Socket} {turn : Turn} {H new : Host} {told : List Event} {notes : List Note} →
+    packet_from H s ≡ None → socket_after_asking H s ≡ s → SocketTurn s turn s' H told notes new → Passes s turn s' H new told
 passes none same (Silent p t o n e r) = record { idle = t; untold = o; unchanged = e; same = r ∙ same }
 passes none same (Refused p some t o n e r) = absurd cc
 passes none same (egress.Sent p outcome frames some d t o r) = absurd cc
 
-serves_quiet : {H new : Host} {i : ℕ} {turn : Turn} {told : List Event} {notes : List Note} {t0 : ℤ} → Rests t0 H → Serves i turn H told notes new → Idles t0 turn H new told
+serves_quiet : {H new : Host} {i : ℕ} {turn : Turn} {told : List Event} {notes : List Note} {t0 : ℤ} →
+    Rests t0 H → Serves i turn H told notes new → Idles t0 turn H new told
 serves_quiet {t0 = t0} r (Free s t o n e) = record { idle = t; stays = stays t0 e (ap sent_frames o) }
 serves_quiet {t0 = t0} r (Waits s known here told p t o n e) = record { idle = t; stays = stays t0 e (ap sent_frames o) }
 serves_quiet {H} {new} {i} {turn} {t0 = t0} r (Served s s' known mid here told may turned e) =
@@ -300,12 +325,14 @@ serves_quiet {H} {new} {i} {turn} {t0 = t0} r (Served s s' known mid here told m
     let after = after_asking (wait_at H.sockets i) known in
     let there : slice_set H.sockets.places i (Some s) ≡ H.sockets.places = set_there H.sockets.places i (Some s) here in
     let whole : new ≡ with_waits H (slice_set H.sockets.waits i after) =
-    e ∙ ap (λ (K : Host). with_socket K i s' (wait_after turn H.moment after)) p.unchanged ∙ ap (λ (z : Socket). with_socket H i z (wait_after turn H.moment after)) p.same
+    e ∙ ap (λ (K : Host). with_socket K i s' (wait_after turn H.moment after)) p.unchanged
+    ∙ ap (λ (z : Socket). with_socket H i z (wait_after turn H.moment after)) p.same
     ∙ ap (λ (z : Turn). with_socket H i s (wait_after z H.moment after)) p.idle
     ∙ ap (λ (places : List Storage). record H { sockets = record H.sockets { places = places; waits = slice_set H.sockets.waits i after } }) there in
     record {
       idle = p.idle;
-      stays = subst (λ (es : List Event). Stays t0 H new es) (sym p.untold) (subst (λ (K : Host). Stays t0 H K []) (sym whole) (asked_stays H t0 i known k));
+      stays = subst (λ (es : List Event). Stays t0 H new es) (sym p.untold)
+          (subst (λ (K : Host). Stays t0 H K []) (sym whole) (asked_stays H t0 i known k));
     }
 
 -- the turns of all
@@ -313,7 +340,8 @@ record Walked (t0 : ℤ) (changed : Bool) (old new : Host) (told : List Event) :
   unchanged : changed ≡ false
   stays : Stays t0 old new told
 
-walked_quiet : {H new : Host} {n : ℕ} {granted changed : Bool} {told : List Event} {notes : List Note} {t0 : ℤ} → Rests t0 H → Walks H n granted changed told notes new → Walked t0 changed H new told
+walked_quiet : {H new : Host} {n : ℕ} {granted changed : Bool} {told : List Event} {notes : List Note} {t0 : ℤ} →
+    Rests t0 H → Walks H n granted changed told notes new → Walked t0 changed H new told
 walked_quiet {t0 = t0} r egress.Begins = record { unchanged = refl; stays = stays t0 refl refl }
 walked_quiet r (egress.Goes turn told notes new w s t) =
     let so_far = walked_quiet r w in
@@ -324,7 +352,8 @@ walked_quiet r (egress.Stops turn told notes new w s t) =
     let here = serves_quiet (rests_on so_far.stays r) s in
     record { unchanged = so_far.unchanged; stays = stays_on so_far.stays here.stays }
 
-sockets_quiet : {H new : Host} {changed : Bool} {told : List Event} {notes : List Note} {t0 : ℤ} → Rests t0 H → SocketEgress H changed told notes new → Walked t0 changed H new told
+sockets_quiet : {H new : Host} {changed : Bool} {told : List Event} {notes : List Note} {t0 : ℤ} →
+    Rests t0 H → SocketEgress H changed told notes new → Walked t0 changed H new told
 sockets_quiet r (Whole w) = walked_quiet r w
 sockets_quiet r (Stopped n w) = walked_quiet r w
 
@@ -349,17 +378,23 @@ piece_still t0 old new told notes r (egress.NotGranted piece rest l t n e) = abs
 piece_still t0 old new told notes r (egress.PieceGoes piece rest l t n e) = absurd (at_once r (OfPiece (waits l)))
 
 -- nobody is told of a group where none is in that state
-untold : {state : GroupState} {packet_for : List IpCidr → IpAddress → Option Packet} {after_report : List Group → IpAddress → List Group} {old new : Host} {granted : Bool} {told : List Event} {notes : List Note} →
+untold : {state : GroupState} {packet_for : List IpCidr → IpAddress → Option Packet} {after_report : List Group → IpAddress → List Group}
+    {old new : Host} {granted : Bool} {told : List Event} {notes : List Note} →
     first_in state old.groups ≡ None → multicast.ReportsEach state packet_for after_report old granted told notes new → (new ≡ old) × (told ≡ [])
 untold none multicast.Begins = (refl, refl)
-untold {state} none (multicast.Silently {mid = mid} a w f p) = let before = untold none w in absurd (let same : first_in state mid.groups ≡ None = rw before.0 none in cc)
-untold {state} none (multicast.Refused {mid = mid} a p w f q) = let before = untold none w in absurd (let same : first_in state mid.groups ≡ None = rw before.0 none in cc)
-untold {state} none (multicast.Reported {mid = mid} a p outcome frames more new w f q d) = let before = untold none w in absurd (let same : first_in state mid.groups ≡ None = rw before.0 none in cc)
+untold {state} none (multicast.Silently {mid = mid} a w f p) = let before = untold none w in
+    absurd (let same : first_in state mid.groups ≡ None = rw before.0 none in cc)
+untold {state} none (multicast.Refused {mid = mid} a p w f q) = let before = untold none w in
+    absurd (let same : first_in state mid.groups ≡ None = rw before.0 none in cc)
+untold {state} none (multicast.Reported {mid = mid} a p outcome frames more new w f q d) = let before = untold none w in
+    absurd (let same : first_in state mid.groups ≡ None = rw before.0 none in cc)
 
-all_still : {state : GroupState} {packet_for : List IpCidr → IpAddress → Option Packet} {after_report : List Group → IpAddress → List Group} (t0 : ℤ) →
+all_still : {state : GroupState} {packet_for : List IpCidr → IpAddress → Option Packet}
+    {after_report : List Group → IpAddress → List Group} (t0 : ℤ) →
     ((H : Host) → group_poll_at state H ≡ Some (pos 0) → Due H (pos 0)) → IsStill t0 (multicast.ReportsAll state packet_for after_report)
 all_still {state} {packet_for} {after_report} t0 is_due old new told notes r p = by (first_in state old.groups) refl where
-  of : (granted : Bool) → multicast.ReportsEach state packet_for after_report old granted told notes new → first_in state old.groups ≡ None → Stays t0 old new told
+  of : (granted : Bool) → multicast.ReportsEach state packet_for after_report old granted told notes new →
+      first_in state old.groups ≡ None → Stays t0 old new told
   of granted w none = let u = untold none w in stays t0 u.0 (ap sent_frames u.1)
 
   walk : multicast.ReportsAll state packet_for after_report old told notes new → first_in state old.groups ≡ None → Stays t0 old new told
@@ -372,7 +407,8 @@ all_still {state} {packet_for} {after_report} t0 is_due old new told notes r p =
 
 -- a moment that has come isn't before the instant
 come : (t now : ℤ) → has_passed (Some t) now ≡ true → now <ℤ t → ⊥
-come t now h before = absurd (let e : is_lt (int_cmp now t) ≡ true = rw (← int_cmp_is now t Less before) refl in let g : has_passed (Some t) now ≡ false = rw e refl in cc)
+come t now h before = absurd
+    (let e : is_lt (int_cmp now t) ≡ true = rw (← int_cmp_is now t Less before) refl in let g : has_passed (Some t) now ≡ false = rw e refl in cc)
 
 -- nothing is due whose moment has come
 not_come : {t0 : ℤ} {H : Host} (o : Option ℤ) → Rests t0 H → ((x : ℤ) → o ≡ Some x → Due (at H t0) x) → has_passed o H.moment ≡ true → ⊥
@@ -389,13 +425,16 @@ igmp_still t0 old new told notes r (reports.NoFurtherGroup h g t n e) = rw (e, t
   silent = refl;
 })
 igmp_still t0 old new told notes r (reports.NoAddress next h g a t n e) = stays t0 e (ap sent_frames t)
-igmp_still t0 old new told notes r (reports.NotGranted p h q t n e) = absurd (not_come (igmp_timeout_of old.igmp_report) r (λ x i. OfIgmpReport (rw q i)) h)
-igmp_still t0 old new told notes r (reports.Sent p outcome frames mid h q d t e) = absurd (not_come (igmp_timeout_of old.igmp_report) r (λ x i. OfIgmpReport (rw q i)) h)
+igmp_still t0 old new told notes r (reports.NotGranted p h q t n e) =
+    absurd (not_come (igmp_timeout_of old.igmp_report) r (λ x i. OfIgmpReport (rw q i)) h)
+igmp_still t0 old new told notes r (reports.Sent p outcome frames mid h q d t e) =
+    absurd (not_come (igmp_timeout_of old.igmp_report) r (λ x i. OfIgmpReport (rw q i)) h)
 
 mld_still : (t0 : ℤ) → IsStill t0 MldEgress
 mld_still t0 old new told notes r (reports.NotYet h t n e) = stays t0 e (ap sent_frames t)
 mld_still t0 old new told notes r (reports.GivenUp h t n e) = absurd (not_come (mld_timeout_of old.mld_report) r (λ x i. OfMldReport i) h)
-mld_still t0 old new told notes r (reports.ReportGoes outcome frames mid h d t e) = absurd (not_come (mld_timeout_of old.mld_report) r (λ x i. OfMldReport i) h)
+mld_still t0 old new told notes r (reports.ReportGoes outcome frames mid h d t e) =
+    absurd (not_come (mld_timeout_of old.mld_report) r (λ x i. OfMldReport i) h)
 
 -- a solicitation that is due, whose moment has come
 record Soliciting (H : Host) : Type 0 where
@@ -431,7 +470,8 @@ both_still {t0} first second old new told notes r b =
 
 -- the same of what ends with the sockets
 abbrev IsWalked : ℤ → Bool → Part → Type 0
-IsWalked t0 changed part = (old new : Host) (told : List Event) (notes : List Note) → Rests t0 old → part old told notes new → Walked t0 changed old new told
+IsWalked t0 changed part = (old new : Host) (told : List Event) (notes : List Note) →
+    Rests t0 old → part old told notes new → Walked t0 changed old new told
 
 both_walked : {t0 : ℤ} {changed : Bool} {one two : Part} → IsStill t0 one → IsWalked t0 changed two → IsWalked t0 changed (Both one two)
 both_walked {t0} {changed} still walked old new told notes r b =
@@ -441,12 +481,19 @@ both_walked {t0} {changed} still walked old new told notes r b =
 
 round_quiet : (t0 : ℤ) (changed : Bool) → IsWalked t0 changed (Round changed)
 round_quiet t0 changed =
-    both_walked (piece_still t0) (both_walked (solicitation_still t0) (both_walked (all_still t0 (λ H e. OfJoin e)) (both_walked (all_still t0 (λ H e. OfLeave e)) (both_walked (igmp_still t0) (both_walked (mld_still t0)
+    both_walked (piece_still t0) (both_walked (solicitation_still t0) (both_walked (all_still t0 (λ H e. OfJoin e))
+    (both_walked (all_still t0 (λ H e. OfLeave e)) (both_walked (igmp_still t0) (both_walked (mld_still t0)
     (λ old new told notes r w. sockets_quiet r w))))))
 
 -- slots that have ended are dropped
 swept_still : (t0 : ℤ) (H : Host) → Stays t0 H (without_expired H H.moment) []
-swept_still t0 H = record { moment = refl; routes = refl; places = refl; due = λ x d. due_timed H t0 x (live_at H.moment H.slots) H.reassembly_timeout d; silent = refl }
+swept_still t0 H = record {
+  moment = refl;
+  routes = refl;
+  places = refl;
+  due = λ x d. due_timed H t0 x (live_at H.moment H.slots) H.reassembly_timeout d;
+  silent = refl;
+}
 
 -- what had not ended at t0 has not ended before its end
 holds_on : {A : Type 0} (end : A → ℤ) (xs : List A) (t0 t : ℤ) → list_any (λ x. not (is_before t0 (end x))) xs ≡ false →
@@ -454,7 +501,9 @@ holds_on : {A : Type 0} (end : A → ℤ) (xs : List A) (t0 t : ℤ) → list_an
 holds_on end [] t0 t none later = refl
 holds_on {A} end (x ∷ xs) t0 t none later = by (is_before t0 (end x)) refl (holds_on end xs t0 t) where
   by : (b : Bool) → is_before t0 (end x) ≡ b →
-      (list_any (λ (z : A). not (is_before t0 (end z))) xs ≡ false → ((i : ℕ) (y : ℤ) → slice_get (filter (is_before t0) (map end xs)) i ≡ Some y → t <ℤ y) → list_any (λ (z : A). not (is_before t (end z))) xs ≡ false) →
+      (list_any (λ (z : A). not (is_before t0 (end z))) xs ≡ false →
+      ((i : ℕ) (y : ℤ) → slice_get (filter (is_before t0) (map end xs)) i ≡ Some y → t <ℤ y) →
+      list_any (λ (z : A). not (is_before t (end z))) xs ≡ false) →
       list_any (λ (z : A). not (is_before t (end z))) (x ∷ xs) ≡ false
   by true e rest =
       let here : is_before t (end x) ≡ true = rw (← int_cmp_is t (end x) Less (later 0 (end x) (rw e refl))) refl in
@@ -472,7 +521,8 @@ no_sync {t0} H r = by (sync_required H.slaac t0) refl where
   by true e = absurd (at_once r (OfSync (rw e refl)))
   by false e =
       let first = neither H.slaac.changed (has_ended H.slaac t0) e in
-      let rest = neither (list_any (λ p. not (is_prefix_valid t0 p)) H.slaac.prefixes) (list_any (λ r. not (is_route_valid t0 r)) H.slaac.routers) first.1 in
+      let rest =
+      neither (list_any (λ p. not (is_prefix_valid t0 p)) H.slaac.prefixes) (list_any (λ r. not (is_route_valid t0 r)) H.slaac.routers) first.1 in
       let prefixes = holds_on (λ (p : Prefix). p.info.valid_until) H.slaac.prefixes t0 H.moment rest.0 (λ i x is. r.none x (OfPrefix i is)) in
       let routers = holds_on (λ (q : Router). q.valid_until) H.slaac.routers t0 H.moment rest.1 (λ i x is. r.none x (OfRouter i is)) in
       rw (first.0, prefixes, routers) refl
@@ -480,25 +530,32 @@ no_sync {t0} H r = by (sync_required H.slaac t0) refl where
 maintained_quiet : {t0 : ℤ} (H : Host) → Rests t0 H → Stays t0 H (after_maintenance H) []
 maintained_quiet {t0} H r = rw (no_sync H r) (swept_still t0 H)
 
-egress_quiet : {t t0 : ℤ} {answer : PollResult} {old new : Host} {told : List Event} {notes : List Note} → Rests t0 (at old t) → Egress t answer old told notes new → Calls t0 result.None answer (at old t) new told
+egress_quiet : {t t0 : ℤ} {answer : PollResult} {old new : Host} {told : List Event} {notes : List Note} →
+    Rests t0 (at old t) → Egress t answer old told notes new → Calls t0 result.None answer (at old t) new told
 egress_quiet {t} {t0} {answer} {old} {new} {told} {notes} r e =
     let w = round_quiet t0 e.changed (at old t) new told notes r e.round in
     record { answers = e.answers ∙ ap egress.answer_of w.unchanged; stays = w.stays }
 
 -- a call that receives, where no frame is handed over
-received_nothing : {t : ℤ} {answer : PollIngressSingleResult} {old new : Host} {told : List Event} {notes : List Note} (t0 : ℤ) (i : Ingress t answer old told notes new) →
-    IsDropped (without_expired old t) i.response.reply i.response.notes_taking i.response.taken → answer_to i.reception ≡ ingress.None → Calls t0 ingress.None answer (at old t) new told
+received_nothing : {t : ℤ} {answer : PollIngressSingleResult} {old new : Host} {told : List Event} {notes : List Note}
+    (t0 : ℤ) (i : Ingress t answer old told notes new) →
+    IsDropped (without_expired old t) i.response.reply i.response.notes_taking i.response.taken → answer_to i.reception ≡ ingress.None →
+    Calls t0 ingress.None answer (at old t) new told
 received_nothing {t} {old = old} t0 i d e =
     let r = nothing_responded d.silent i.response.responds in
     record { answers = i.answers ∙ e; stays = stays_on (swept_still t0 (at old t)) (stays t0 (r.2 ∙ d.unchanged) (rw (i.events, r.0) refl)) }
 
-ingress_by : {t : ℤ} {answer : PollIngressSingleResult} {old new : Host} {told : List Event} {notes : List Note} (t0 : ℤ) → handed_frames told ≡ [] → (i : Ingress t answer old told notes new) →
+ingress_by : {t : ℤ} {answer : PollIngressSingleResult} {old new : Host} {told : List Event} {notes : List Note} (t0 : ℤ) →
+    handed_frames told ≡ [] → (i : Ingress t answer old told notes new) →
     (reception : Reception) → i.reception ≡ reception → Calls t0 ingress.None answer (at old t) new told
 ingress_by t0 none i (Frame f) is = let some = rw (i.events, is) at none in absurd cc
-ingress_by {t} {old = old} t0 none i Nothing is = received_nothing t0 i (subst (λ r. Takes (without_expired old t) r i.response.reply i.response.notes_taking i.response.taken) is i.response.takes) (ap answer_to is)
-ingress_by {t} {old = old} t0 none i Withheld is = received_nothing t0 i (subst (λ r. Takes (without_expired old t) r i.response.reply i.response.notes_taking i.response.taken) is i.response.takes) (ap answer_to is)
+ingress_by {t} {old = old} t0 none i Nothing is = received_nothing t0 i
+    (subst (λ r. Takes (without_expired old t) r i.response.reply i.response.notes_taking i.response.taken) is i.response.takes) (ap answer_to is)
+ingress_by {t} {old = old} t0 none i Withheld is = received_nothing t0 i
+    (subst (λ r. Takes (without_expired old t) r i.response.reply i.response.notes_taking i.response.taken) is i.response.takes) (ap answer_to is)
 
-ingress_quiet : {t : ℤ} {answer : PollIngressSingleResult} {old new : Host} {told : List Event} {notes : List Note} (t0 : ℤ) → handed_frames told ≡ [] → Ingress t answer old told notes new → Calls t0 ingress.None answer (at old t) new told
+ingress_quiet : {t : ℤ} {answer : PollIngressSingleResult} {old new : Host} {told : List Event} {notes : List Note} (t0 : ℤ) →
+    handed_frames told ≡ [] → Ingress t answer old told notes new → Calls t0 ingress.None answer (at old t) new told
 ingress_quiet t0 none i = ingress_by t0 none i i.reception refl
 
 handed_frames-left : (xs ys : List Event) → handed_frames (xs ++ ys) ≡ [] → handed_frames xs ≡ []
@@ -519,43 +576,55 @@ handed_frames-right (Sent id f ∷ xs) ys e = handed_frames-right xs ys e
 
 -- such calls until one has nothing to do: that is the first one
 module _ {A : Type 0} (call : A → Host → List Event → List Note → Host → Type 0) (nothing : A) (changes : A → Bool) (t0 : ℤ) (H : Host)
-    (calls : (answer : A) (told : List Event) (notes : List Note) (new : Host) → handed_frames told ≡ [] → call answer H told notes new → Calls t0 nothing answer H new told) where
+    (calls : (answer : A) (told : List Event) (notes : List Note) (new : Host) →
+    handed_frames told ≡ [] → call answer H told notes new → Calls t0 nothing answer H new told) where
   record NoCall (changed : Bool) (new : Host) (told : List Event) : Type 0 where
     unchanged : changed ≡ false
     untold : told ≡ []
     same : new ≡ H
 
-  repeated_quiet : {n : ℕ} {changed : Bool} {new : Host} {told : List Event} {notes : List Note} → handed_frames told ≡ [] → Repeats call nothing changes H n told notes new changed → NoCall changed new told
+  repeated_quiet : {n : ℕ} {changed : Bool} {new : Host} {told : List Event} {notes : List Note} →
+      handed_frames told ≡ [] → Repeats call nothing changes H n told notes new changed → NoCall changed new told
   repeated_quiet none polling.Begins = record { unchanged = refl; untold = refl; same = refl }
   repeated_quiet none (polling.Again {told_so = so} {mid = mid} answer told notes new r c some) =
       let first = repeated_quiet (handed_frames-left so told none) r in
       let here : call answer H told notes new = subst (λ (K : Host). call answer K told notes new) first.same c in
       absurd (some (calls answer told notes new (handed_frames-right so told none) here).answers)
 
-  until_quiet : {budget : ℕ} {changed : Bool} {new : Host} {told : List Event} {notes : List Note} → handed_frames told ≡ [] → Until call nothing changes budget changed H told notes new → Walked t0 changed H new told
-  until_quiet none (Spent r) = let first = repeated_quiet none r in record { unchanged = first.unchanged; stays = stays t0 first.same (ap sent_frames first.untold) }
+  until_quiet : {budget : ℕ} {changed : Bool} {new : Host} {told : List Event} {notes : List Note} →
+      handed_frames told ≡ [] → Until call nothing changes budget changed H told notes new → Walked t0 changed H new told
+  until_quiet none (Spent r) = let first = repeated_quiet none r in
+      record { unchanged = first.unchanged; stays = stays t0 first.same (ap sent_frames first.untold) }
   until_quiet {new = new} none (Done n told_so told_last notes_so notes_last mid l r c t e) =
       let parts = rw t at none in
       let first = repeated_quiet (handed_frames-left told_so told_last parts) r in
       let here : call nothing H told_last notes_last new = subst (λ (K : Host). call nothing K told_last notes_last new) first.same c in
       let last = calls nothing told_last notes_last new (handed_frames-right told_so told_last parts) here in
-      record { unchanged = first.unchanged; stays = subst (λ (es : List Event). Stays t0 H new es) (sym (t ∙ ap (λ es. es ++ told_last) first.untold)) last.stays }
+      record {
+        unchanged = first.unchanged;
+        stays = subst (λ (es : List Event). Stays t0 H new es) (sym (t ∙ ap (λ es. es ++ told_last) first.untold)) last.stays;
+      }
 
-polls_quiet : {t t0 : ℤ} {budget : ℕ} {answer : PollResult} {old new : Host} {told : List Event} {notes : List Note} → Rests t0 (at old t) → handed_frames told ≡ [] → Polls t budget answer old told notes new → Calls t0 result.None answer (at old t) new told
+polls_quiet : {t t0 : ℤ} {budget : ℕ} {answer : PollResult} {old new : Host} {told : List Event} {notes : List Note} →
+    Rests t0 (at old t) → handed_frames told ≡ [] → Polls t budget answer old told notes new → Calls t0 result.None answer (at old t) new told
 polls_quiet {t} {t0} {budget} {answer} {old} {new} {told} r none p =
     let parts = rw p.events at none in
     let K : Host = after_maintenance (at old t) in
     let begun : Stays t0 (at old t) K [] = maintained_quiet (at old t) r in
     let same : at K t ≡ K = ap (at K) (sym begun.moment) in
-    let receives : (answer : PollIngressSingleResult) (told : List Event) (notes : List Note) (new : Host) → handed_frames told ≡ [] → Ingress t answer K told notes new → Calls t0 ingress.None answer K new told =
+    let receives : (answer : PollIngressSingleResult) (told : List Event) (notes : List Note) (new : Host) →
+    handed_frames told ≡ [] → Ingress t answer K told notes new → Calls t0 ingress.None answer K new told =
     λ answer told notes new e i. subst (λ (K : Host). Calls t0 ingress.None answer K new told) same (ingress_quiet t0 e i) in
-    let taken = until_quiet (Ingress t) ingress.None polling.may_change t0 K receives (handed_frames-left p.told_receiving p.told_sending parts) p.receives in
+    let taken =
+    until_quiet (Ingress t) ingress.None polling.may_change t0 K receives (handed_frames-left p.told_receiving p.told_sending parts) p.receives in
     let first : Walked t0 p.received (at old t) p.mid p.told_receiving = record { unchanged = taken.unchanged; stays = stays_on begun taken.stays } in
     let moment : at p.mid t ≡ p.mid = ap (at p.mid) (sym first.stays.moment) in
     let rests : Rests t0 (at p.mid t) = subst (Rests t0) (sym moment) (rests_on first.stays r) in
-    let calls : (answer : PollResult) (told : List Event) (notes : List Note) (new : Host) → handed_frames told ≡ [] → Egress t answer p.mid told notes new → Calls t0 result.None answer p.mid new told =
+    let calls : (answer : PollResult) (told : List Event) (notes : List Note) (new : Host) →
+    handed_frames told ≡ [] → Egress t answer p.mid told notes new → Calls t0 result.None answer p.mid new told =
     λ answer told notes new e sends. subst (λ (K : Host). Calls t0 result.None answer K new told) moment (egress_quiet rests sends) in
-    let second = until_quiet (Egress t) result.None polling.is_changed t0 p.mid calls (handed_frames-right p.told_receiving p.told_sending parts) p.sends in
+    let second =
+    until_quiet (Egress t) result.None polling.is_changed t0 p.mid calls (handed_frames-right p.told_receiving p.told_sending parts) p.sends in
     record {
       answers = p.answers ∙ rw (first.unchanged, second.unchanged) refl;
       stays = subst (λ (es : List Event). Stays t0 (at old t) new es) (sym p.events) (stays_on first.stays second.stays);
@@ -568,7 +637,8 @@ record Still (t0 : ℤ) (answer : Answer) (old new : Host) (told : List Event) :
   places : new.sockets.places ≡ old.sockets.places
   due : (x : ℤ) → Due (at new t0) x → Due (at old t0) x
 
-still : {t t0 : ℤ} {old new : Host} {told : List Event} (answer : Answer) → AnswersNone answer → Stays t0 (at old t) new told → Still t0 answer old new told
+still : {t t0 : ℤ} {old new : Host} {told : List Event} (answer : Answer) →
+    AnswersNone answer → Stays t0 (at old t) new told → Still t0 answer old new told
 still answer answers s = record { answers = answers; silent = s.silent; places = s.places; due = s.due }
 
 unchanged : {t0 : ℤ} {old new : Host} (answer : Answer) → AnswersNone answer → new ≡ old → Still t0 answer old new []
@@ -579,7 +649,8 @@ unchanged {t0} {old} {new} answer answers e = record {
   due = λ x d. subst (λ (K : Host). Due (at K t0) x) e d;
 }
 
-timeout_still : {t0 : ℤ} {timeout : ℕ} {result : _} {old new : Host} (given : Answer) → AnswersNone given → step.SetsReassemblyTimeout timeout result old new → Still t0 given old new []
+timeout_still : {t0 : ℤ} {timeout : ℕ} {result : _} {old new : Host} (given : Answer) →
+    AnswersNone given → step.SetsReassemblyTimeout timeout result old new → Still t0 given old new []
 timeout_still {t0} {timeout} {old = old} given answers (step.WithinDay l r e) =
     rw e (record { answers = answers; silent = refl; places = refl; due = λ x d. due_timed old t0 x old.slots timeout d })
 timeout_still given answers (step.OverDay l r e) = unchanged given answers e
@@ -595,13 +666,19 @@ due_from H t0 (Some end) least = λ s before x d. let from : end ≤ℤ x = leas
 rests : {t0 s : ℤ} {end : Option ℤ} (H : Host) → pos 0 ≤ℤ t0 → DueFrom end H t0 → IsWithin t0 end H.routes s → Rests t0 (at H s)
 rests {s = s} H low due within = record { low = low; from = within.from; last = within.routes_last; none = due s within.before }
 
-step_quiet : {command : Command} {answer : Answer} {old new : Host} {told : List Event} {acts : List Act} {notes : List Note} (t0 : ℤ) (end : Option ℤ) → pos 0 ≤ℤ t0 → DueFrom end old t0 →
-    IsCalm t0 end command (record { command = command; answer = answer; told = told; acts = acts; notes = notes; before = old; after = new }) → handed_frames told ≡ [] →
+step_quiet : {command : Command} {answer : Answer} {old new : Host} {told : List Event} {acts : List Act} {notes : List Note} (t0 : ℤ)
+    (end : Option ℤ) → pos 0 ≤ℤ t0 → DueFrom end old t0 →
+    IsCalm t0 end command (record { command = command; answer = answer; told = told; acts = acts; notes = notes; before = old; after = new }) →
+    handed_frames told ≡ [] →
     Step command answer old told acts notes new → Still t0 answer old new told
-step_quiet t0 end low due calm none (step.PolledIngressSingle {result = result} i) = let c = ingress_quiet t0 none i in still (answer.PollIngressSingle result) c.answers c.stays
-step_quiet t0 end low due calm none (step.PolledEgress {result = result} {old = old} e) = let c = egress_quiet (rests old low due calm) e in still (answer.PollEgress result) c.answers c.stays
-step_quiet t0 end low due calm none (step.Polled {result = result} {old = old} p) = let c = polls_quiet (rests old low due calm) none p in still (answer.Poll result) c.answers c.stays
-step_quiet t0 end low due calm none (step.PolledMaintenance {t} {old}) = still answer.PollMaintenance tt (maintained_quiet (at old t) (rests old low due calm))
+step_quiet t0 end low due calm none (step.PolledIngressSingle {result = result} i) = let c = ingress_quiet t0 none i in
+    still (answer.PollIngressSingle result) c.answers c.stays
+step_quiet t0 end low due calm none (step.PolledEgress {result = result} {old = old} e) = let c = egress_quiet (rests old low due calm) e in
+    still (answer.PollEgress result) c.answers c.stays
+step_quiet t0 end low due calm none (step.Polled {result = result} {old = old} p) = let c = polls_quiet (rests old low due calm) none p in
+    still (answer.Poll result) c.answers c.stays
+step_quiet t0 end low due calm none (step.PolledMaintenance {t} {old}) =
+    still answer.PollMaintenance tt (maintained_quiet (at old t) (rests old low due calm))
 step_quiet t0 end low due calm none (step.PolledAt {end = given} least) = still (answer.PollAt given) tt (stays t0 refl refl)
 step_quiet t0 end low due calm none (step.PolledDelay {rest = rest} given least r) = still (answer.PollDelay rest) tt (stays t0 refl refl)
 step_quiet t0 end low due calm none (step.UpdatedIpAddrs {result = result} u) = unchanged (answer.UpdateIpAddrs result) tt calm
@@ -618,7 +695,8 @@ step_quiet t0 end low due calm none (step.TookReassemblyTimeout {result = result
 step_quiet t0 end low due calm none (step.OwnerActed sockets) = unchanged answer.Owner tt calm
 
 -- a run from where `poll_at` answered, as far as nothing disturbs it
-quiet_while : {first last : Host} {transitions : List Transition} (t0 : ℤ) (end : Option ℤ) → pos 0 ≤ℤ t0 → DueFrom end first t0 → Run first transitions last → QuietWhile t0 end transitions
+quiet_while : {first last : Host} {transitions : List Transition} (t0 : ℤ) (end : Option ℤ) →
+    pos 0 ≤ℤ t0 → DueFrom end first t0 → Run first transitions last → QuietWhile t0 end transitions
 quiet_while t0 end low due Ends = tt
 quiet_while t0 end low due (Then s r) = λ undisturbed.
     let q = step_quiet t0 end low due undisturbed.calm undisturbed.no_frame s in (
@@ -626,7 +704,8 @@ quiet_while t0 end low due (Then s r) = λ undisturbed.
       quiet_while t0 end low (λ s before x d. due s before x (q.due x d)) r,
     )
 
-quiet_after : {command : Command} {answer : Answer} {old mid last : Host} {told : List Event} {acts : List Act} {notes : List Note} {transitions : List Transition} →
+quiet_after : {command : Command} {answer : Answer} {old mid last : Host} {told : List Event} {acts : List Act}
+    {notes : List Note} {transitions : List Transition} →
     Step command answer old told acts notes mid → Run mid transitions last → QuietAfter command answer transitions
 quiet_after (step.PolledAt {t} {end} {old} least) r = λ low. quiet_while t end low (due_from (at old t) t end least) r
 quiet_after other r = tt

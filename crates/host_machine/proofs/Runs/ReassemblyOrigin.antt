@@ -48,8 +48,10 @@ tells_on h xs ys mid slots a b = record { rebuilt = rebuilt_on h xs ys a.rebuilt
 keeps : (old new : Host) → Keeps old new → RebuiltOver old [] [] new
 keeps old new k = λ h t. record { rebuilt = tt; tracks = let e : new.slots ≡ old.slots = ap (λ (K : Host). K.slots) k.same in rw e t }
 
-on : (a b c : Host) (fs gs : List (List ℕ)) (xs ys : List Note) → RebuiltOver a fs xs b → RebuiltOver b gs ys c → RebuiltOver a (fs ++ gs) (xs ++ ys) c
-on a b c fs gs xs ys one two = λ h t. let first = one h t in rw slot_notes-append (tells_on h (slot_notes xs) (slot_notes ys) b.slots c.slots first (two (history h (slot_notes xs)) first.tracks))
+on : (a b c : Host) (fs gs : List (List ℕ)) (xs ys : List Note) →
+    RebuiltOver a fs xs b → RebuiltOver b gs ys c → RebuiltOver a (fs ++ gs) (xs ++ ys) c
+on a b c fs gs xs ys one two = λ h t. let first = one h t in
+    rw slot_notes-append (tells_on h (slot_notes xs) (slot_notes ys) b.slots c.slots first (two (history h (slot_notes xs)) first.tracks))
 
 pub test_same : (k : FragKey) → same_key k k ≡ true
 test_same k = (eq_by_cmp_equiv key_total).refl k
@@ -61,11 +63,14 @@ put_at : (h : History) (slots : Slots) (key k : FragKey) (slot s : Slot) (g : Go
 put_at h slots key k slot s g true is others here e = let same : slot ≡ s = cc in here ∙ ap (λ (x : Slot). x.got) same
 put_at h slots key k slot s g false is others here e = others k s is e
 
-put_tracks : (h : History) (slots : Slots) (key : FragKey) (slot : Slot) (g : Got) → ((j : FragKey) (s' : Slot) → same_key j key ≡ false → map.get slots j ≡ Some s' → h j ≡ s'.got) → g ≡ slot.got →
+put_tracks : (h : History) (slots : Slots) (key : FragKey) (slot : Slot) (g : Got) →
+    ((j : FragKey) (s' : Slot) → same_key j key ≡ false → map.get slots j ≡ Some s' → h j ≡ s'.got) → g ≡ slot.got →
     Tracks (map.insert slots key slot) (put h key g)
-put_tracks h slots key slot g others here = λ k s e. put_at h slots key k slot s g (same_key k key) refl others here (sym (get-insert key_total slots key slot k) ∙ e)
+put_tracks h slots key slot g others here =
+    λ k s e. put_at h slots key k slot s g (same_key k key) refl others here (sym (get-insert key_total slots key slot k) ∙ e)
 
-others_of : (h : History) (slots : Slots) (key : FragKey) (g : Got) → Tracks slots h → (j : FragKey) (s' : Slot) → same_key j key ≡ false → map.get slots j ≡ Some s' → put h key g j ≡ s'.got
+others_of : (h : History) (slots : Slots) (key : FragKey) (g : Got) → Tracks slots h → (j : FragKey) (s' : Slot) →
+    same_key j key ≡ false → map.get slots j ≡ Some s' → put h key g j ≡ s'.got
 others_of h slots key g t j s' f e = rw f (t j s' e)
 
 -- the history once a slot is entered: nothing else changes, and the key has what the slot has
@@ -74,7 +79,8 @@ record Entered (h : History) (first : List SlotNote) (slots : Slots) (key : Frag
   others : (j : FragKey) (s' : Slot) → same_key j key ≡ false → map.get slots j ≡ Some s' → history h first j ≡ s'.got
   here : history h first key ≡ slot.got
 
-entered : (ends : ℤ) (slots : Slots) (key : FragKey) (slot : Slot) (first : List SlotNote) (h : History) → Tracks slots h → Enters ends key slots slot first → Entered h first slots key slot
+entered : (ends : ℤ) (slots : Slots) (key : FragKey) (slot : Slot) (first : List SlotNote) (h : History) →
+    Tracks slots h → Enters ends key slots slot first → Entered h first slots key slot
 entered ends slots key slot first h t (Stood stood n) = rw n (record { rebuilt = tt; others = λ j s' f e. t j s' e; here = t key slot stood })
 entered ends slots key slot first h t (Taken none room is n) =
     rw (n, is) (record { rebuilt = tt; others = others_of h slots key no_fragments t; here = rw (test_same key) refl })
@@ -82,7 +88,8 @@ entered ends slots key slot first h t (Taken none room is n) =
 with_here : (h : History) (key : FragKey) (f : Fragment) (got : Got) → h key ≡ got → with_one (h key) f ≡ with_one got f
 with_here h key f got e = ap (λ g. with_one g f) e
 
-arrival_tells : (h : History) (slots : Slots) (key : FragKey) (slot slot' : Slot) (f : Fragment) (first : List SlotNote) → Entered h first slots key slot → with_one slot.got f ≡ slot'.got →
+arrival_tells : (h : History) (slots : Slots) (key : FragKey) (slot slot' : Slot) (f : Fragment) (first : List SlotNote) →
+    Entered h first slots key slot → with_one slot.got f ≡ slot'.got →
     Tells h (first ++ Arrival key f ∷ []) (map.insert slots key slot')
 arrival_tells h slots key slot slot' f first e is = record {
   rebuilt = rebuilt_on h first (Arrival key f ∷ []) e.rebuilt tt;
@@ -92,7 +99,8 @@ arrival_tells h slots key slot slot' f first e is = record {
 unfit_same : (g : Got) (f : Fragment) → is_fit g.total f ≡ false → with_one g f ≡ g
 unfit_same g f e = rw e refl
 
-removed : (h : History) (slots : Slots) (key : FragKey) (g : Got) → ((j : FragKey) (s' : Slot) → same_key j key ≡ false → map.get slots j ≡ Some s' → h j ≡ s'.got) →
+removed : (h : History) (slots : Slots) (key : FragKey) (g : Got) →
+    ((j : FragKey) (s' : Slot) → same_key j key ≡ false → map.get slots j ≡ Some s' → h j ≡ s'.got) →
     Tracks (map.remove slots key) (put h key g)
 removed h slots key g others = λ k s e. by k s (same_key k key) refl (sym (get-remove key_total slots key k) ∙ e) where
   by : (k : FragKey) (s : Slot) (b : Bool) → same_key k key ≡ b → cond b None (map.get slots k) ≡ Some s → (if b then g else h k) ≡ s.got
@@ -100,11 +108,13 @@ removed h slots key g others = λ k s e. by k s (same_key k key) refl (sym (get-
   by k s false is e = others k s is e
 
 -- what a fragment leads to
-reassembled : (ends : ℤ) (slots : Slots) (key : FragKey) (f : Fragment) (result : Option (List ℕ)) (notes : List SlotNote) (new : Slots) → Reassembles ends key f result slots notes new →
+reassembled : (ends : ℤ) (slots : Slots) (key : FragKey) (f : Fragment) (result : Option (List ℕ)) (notes : List SlotNote) (new : Slots) →
+    Reassembles ends key f result slots notes new →
     (h : History) → Tracks slots h → Tells h notes new
 reassembled ends slots key f result notes new (NoSlot none full r n e) = λ h t.
     rw (n, e) (record { rebuilt = tt; tracks = λ k s at. by h t k s at (same_key k key) refl }) where
-      by : (h : History) → Tracks slots h → (k : FragKey) (s : Slot) → map.get slots k ≡ Some s → (b : Bool) → same_key k key ≡ b → (if b then with_one (h key) f else h k) ≡ s.got
+      by : (h : History) → Tracks slots h → (k : FragKey) (s : Slot) → map.get slots k ≡ Some s → (b : Bool) →
+          same_key k key ≡ b → (if b then with_one (h key) f else h k) ≡ s.got
       by h t k s at true is = let e : map.get slots k ≡ None = rw (same_is k key is) none in absurd cc
       by h t k s at false is = t k s at
 reassembled ends slots key f result notes new (Unfit slot first enters u r n e) = λ h t.
@@ -113,13 +123,15 @@ reassembled ends slots key f result notes new (Waits slot first enters u w r n e
     rw (n, e) (arrival_tells h slots key slot _ f first (entered ends slots key slot first h t enters) refl)
 reassembled ends slots key f result notes new (Rebuilt slot first octets enters u w r n e) = λ h t.
     let started = entered ends slots key slot first h t enters in
-    let same : put (history h first) key (with_one (history h first key) f) key ≡ with_one slot.got f = rw (test_same key) (with_here (history h first) key f slot.got started.here) in
+    let same : put (history h first) key (with_one (history h first key) f) key ≡ with_one slot.got f =
+    rw (test_same key) (with_here (history h first) key f slot.got started.here) in
     rw (n, e) (record {
       rebuilt = rebuilt_on h first (Arrival key f ∷ Rebuild key octets ∷ []) started.rebuilt (rw same w, tt);
       tracks = rw history-append (removed (history h first) slots key _ started.others);
     })
 
-fragments : (H : Host) (key : FragKey) (f : Fragment) (result : Option (List ℕ)) (notes : List Note) (new : Host) → TakesFragment key f result H notes new → RebuiltOver H [] notes new
+fragments : (H : Host) (key : FragKey) (f : Fragment) (result : Option (List ℕ)) (notes : List Note) (new : Host) →
+    TakesFragment key f result H notes new → RebuiltOver H [] notes new
 fragments H key f result notes new t = λ h tracks.
     rw (t.noted, t.changed, slot_notes-slots t.slot_notes) (reassembled _ H.slots key f result t.slot_notes t.slots t.reassembles h tracks)
 
@@ -134,7 +146,8 @@ abbrev nothing_told : {h : History} {slots : Slots} → Tracks slots h → Tells
 nothing_told t = record { rebuilt = tt; tracks = t }
 
 -- over a whole run
-pub run_rebuilt : {first last : Host} {transitions : List Transition} → Run first transitions last → AreRebuilt (first_history first) (slot_notes (notes_in transitions))
+pub run_rebuilt : {first last : Host} {transitions : List Transition} →
+    Run first transitions last → AreRebuilt (first_history first) (slot_notes (notes_in transitions))
 run_rebuilt {first} r =
     (walk RebuiltOver keeps on
     (λ H own source target mine. λ h t. record { rebuilt = tt; tracks = t })
@@ -142,7 +155,10 @@ run_rebuilt {first} r =
     (λ H. λ h t. record { rebuilt = tt; tracks = t })
     (λ H h p reached. λ h' t. record { rebuilt = tt; tracks = t })
     (λ H h id p first rest e form reached. λ h' t. record { rebuilt = tt; tracks = t })
-    (λ H t. λ h tracks. record { rebuilt = tt; tracks = λ k s e. tracks k s (live_then t (map.get H.slots k) s (not (has_ended t (map.get H.slots k))) (sym (get-live_at t H.slots k) ∙ e)) })
+    (λ H t. λ h tracks. record {
+      rebuilt = tt;
+      tracks = λ k s e. tracks k s (live_then t (map.get H.slots k) s (not (has_ended t (map.get H.slots k))) (sym (get-live_at t H.slots k) ∙ e));
+    })
     fragments
     (λ H p rest e. λ h t. record { rebuilt = tt; tracks = t })
     (λ H r'. λ h t. record { rebuilt = tt; tracks = t })

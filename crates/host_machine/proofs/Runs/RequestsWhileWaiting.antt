@@ -1,5 +1,6 @@
 -- As long as a datagram waits for its next hop, requests go.
-use Rattle.std.proofs.Common.{◌≡◌, ℕ, ◌+◌, ◌<◌, ◌==◌, Bool, true, false, List, [], ◌∷◌, ◌++◌, refl, sym, ◌∙◌, ap, subst, append_assoc, Option, Some, None, arith}
+use Rattle.std.proofs.Common.{◌≡◌, ℕ, ◌+◌, ◌<◌, ◌==◌, Bool, true, false, List, [], ◌∷◌, ◌++◌}
+use Rattle.std.proofs.Common.{refl, sym, ◌∙◌, ap, subst, append_assoc, Option, Some, None, arith}
 use Rattle.std.proofs.lemmas.Bool.Decides.{nat_tests}
 use Rattle.std.proofs.lemmas.Option.{slice_get_within}
 use Rattle.std.specs.Prelude.{ℤ, is_some, slice_get}
@@ -25,7 +26,8 @@ use Rattle.host_machine.specs.State.Note.{Note, OfIdentification, Identify, asks
 use Rattle.host_machine.specs.State.Host.{Host, Socket, at, no_sockets}
 use Rattle.host_machine.specs.State.Addresses.{is_unicast, source_for}
 use Rattle.host_machine.specs.Sending.Packet.{Packet}
-use Rattle.host_machine.specs.Sending.Dispatch.{Outcome, IsNextHop, IsUnsent, Emits, Discovers, DispatchesByHop, DispatchesEthernet, SendsOver, Dispatches, destination_of, with_next_id, multicast_hardware_addr}
+use Rattle.host_machine.specs.Sending.Dispatch.{Outcome, IsNextHop, IsUnsent, Emits, Discovers, DispatchesByHop, DispatchesEthernet}
+use Rattle.host_machine.specs.Sending.Dispatch.{SendsOver, Dispatches, destination_of, with_next_id, multicast_hardware_addr}
 use Rattle.host_machine.specs.Sending.Dispatch as dispatch
 use Rattle.host_machine.specs.Sending.Multicast.{ReportsEach, ReportsAll, join_packet, leave_packet}
 use Rattle.host_machine.specs.Sending.Multicast as multicast
@@ -39,7 +41,8 @@ use Rattle.host_machine.specs.Laws.Service.{IsToBeAskedFor, MayBeAsked, Requests
 use Rattle.host_machine.proofs.State.NotesBySubject.{asks-append}
 use Rattle.host_machine.proofs.Polling.EarliestInstant.{hop_is_one}
 use Rattle.host_machine.proofs.Receiving.FrameReplies.{clash, hop_as}
-use Rattle.host_machine.proofs.Sending.GrantedEgress.{SameAt, first_packet, given_parts, groups_way, igmp_way, may_as, mld_way, unicast_for, permitted, piece_way, routers_way, same_at, sans, stopped, tells_way, Untouched, untouched}
+use Rattle.host_machine.proofs.Sending.GrantedEgress.{SameAt, first_packet, given_parts, groups_way, igmp_way, may_as, mld_way, unicast_for}
+use Rattle.host_machine.proofs.Sending.GrantedEgress.{permitted, piece_way, routers_way, same_at, sans, stopped, tells_way, Untouched, untouched}
 
 -- what is known of neighbours stays, and so does the silence; or a request went
 data Asking (t : ℤ) (old : Host) (notes : List Note) (new : Host) : Type 0 where
@@ -83,28 +86,35 @@ kept e = Kept (ap (λ (K : Host). K.neighbors) e)
 unsent : {H new : Host} {frames : List (List ℕ)} {notes : List Note} → IsUnsent H frames notes new → Asking H.moment H notes new
 unsent u = kept u.unchanged
 
-emitted : {id : ℕ} {p : Packet} {h : HardwareAddress} {outcome : Outcome} {H new : Host} {frames : List (List ℕ)} {notes : List Note} → Emits id p h outcome H frames notes new → Asking H.moment H notes new
+emitted : {id : ℕ} {p : Packet} {h : HardwareAddress} {outcome : Outcome} {H new : Host} {frames : List (List ℕ)} {notes : List Note} →
+    Emits id p h outcome H frames notes new → Asking H.moment H notes new
 emitted (dispatch.Whole fits formed o f n e) = kept e
 emitted (dispatch.InPieces q first rest is long short pieces fits formed o f n e) = Kept (ap (λ (K : Host). K.neighbors) e)
 emitted (dispatch.TooLong long longer o u) = unsent u
 
-discovered : {own : EthernetAddress} {hop : IpAddress} {outcome : Outcome} {H new : Host} {frames : List (List ℕ)} {notes : List Note} → Discovers own hop outcome H frames notes new → Asking H.moment H notes new
-discovered (dispatch.Asked target source h s o f n e) = AskedNow (record { front = []; back = []; noted = ap asks n; silence = ap (λ (K : Host). K.neighbors.silent_until) e })
+discovered : {own : EthernetAddress} {hop : IpAddress} {outcome : Outcome} {H new : Host} {frames : List (List ℕ)} {notes : List Note} →
+    Discovers own hop outcome H frames notes new → Asking H.moment H notes new
+discovered (dispatch.Asked target source h s o f n e) =
+    AskedNow (record { front = []; back = []; noted = ap asks n; silence = ap (λ (K : Host). K.neighbors.silent_until) e })
 discovered (dispatch.NoSource target h s o u) = unsent u
-discovered (dispatch.Solicited target h o f n e) = AskedNow (record { front = []; back = []; noted = ap asks n; silence = ap (λ (K : Host). K.neighbors.silent_until) e })
+discovered (dispatch.Solicited target h o f n e) =
+    AskedNow (record { front = []; back = []; noted = ap asks n; silence = ap (λ (K : Host). K.neighbors.silent_until) e })
 
-by_hop : {id : ℕ} {own : EthernetAddress} {p : Packet} {hop : IpAddress} {outcome : Outcome} {H new : Host} {frames : List (List ℕ)} {notes : List Note} →
+by_hop : {id : ℕ} {own : EthernetAddress} {p : Packet} {hop : IpAddress} {outcome : Outcome} {H new : Host}
+    {frames : List (List ℕ)} {notes : List Note} →
     DispatchesByHop id own p hop outcome H frames notes new → Asking H.moment H notes new
 by_hop (dispatch.Known h k e) = emitted e
 by_hop (dispatch.Silent s o u) = unsent u
 by_hop (dispatch.Unknown u d) = discovered d
 
-ethernet : {id : ℕ} {own : EthernetAddress} {p : Packet} {outcome : Outcome} {H new : Host} {frames : List (List ℕ)} {notes : List Note} → DispatchesEthernet id own p outcome H frames notes new → Asking H.moment H notes new
+ethernet : {id : ℕ} {own : EthernetAddress} {p : Packet} {outcome : Outcome} {H new : Host} {frames : List (List ℕ)} {notes : List Note} →
+    DispatchesEthernet id own p outcome H frames notes new → Asking H.moment H notes new
 ethernet (dispatch.ToMulticast h m e) = emitted e
 ethernet (dispatch.NoHop m n o u) = unsent u
 ethernet (dispatch.ByHop hop m n s) = by_hop s
 
-over : (id : ℕ) (h : HardwareAddress) (p : Packet) (outcome : Outcome) (H : Host) (frames : List (List ℕ)) (notes : List Note) (new : Host) → SendsOver id h p outcome H frames notes new → Asking H.moment H notes new
+over : (id : ℕ) (h : HardwareAddress) (p : Packet) (outcome : Outcome) (H : Host) (frames : List (List ℕ)) (notes : List Note) (new : Host) →
+    SendsOver id h p outcome H frames notes new → Asking H.moment H notes new
 over id (hardware.Ethernet own) p outcome H frames notes new s = ethernet s
 over id hardware.Ip p outcome H frames notes new s = emitted s
 
@@ -113,10 +123,12 @@ noted_after : {t : ℤ} {old new : Host} (first : Note) (more : List Note) → A
 noted_after first more (Kept e) = Kept e
 noted_after first more (AskedNow w) = AskedNow (then_was (first ∷ []) more w)
 
-dispatched : {p : Packet} {outcome : Outcome} {H new : Host} {frames : List (List ℕ)} {notes : List Note} → Dispatches p outcome H frames notes new → Asking H.moment H notes new
+dispatched : {p : Packet} {outcome : Outcome} {H new : Host} {frames : List (List ℕ)} {notes : List Note} →
+    Dispatches p outcome H frames notes new → Asking H.moment H notes new
 dispatched (dispatch.ToUnspecified n o u) = unsent u
 dispatched {p} {outcome} {H} {new} {frames} {notes} (dispatch.ToSpecified more s d n) =
-    asking_as refl (sym n) (noted_after (OfIdentification (Identify H.ipv4_id)) more (on (over H.ipv4_id H.hardware_addr p outcome (with_next_id H) frames more new d))) where
+    asking_as refl (sym n) (noted_after (OfIdentification (Identify H.ipv4_id)) more
+    (on (over H.ipv4_id H.hardware_addr p outcome (with_next_id H) frames more new d))) where
       on : {m : List Note} → Asking H.moment (with_next_id H) m new → Asking H.moment H m new
       on (Kept e) = Kept e
       on (AskedNow w) = AskedNow w
@@ -124,7 +136,8 @@ dispatched {p} {outcome} {H} {new} {frames} {notes} (dispatch.ToSpecified more s
 -- a host that another one becomes whose neighbours are the same
 on_host : {t : ℤ} {old mid new : Host} {notes : List Note} → new.neighbors ≡ mid.neighbors → Asking t old notes mid → Asking t old notes new
 on_host e (Kept f) = Kept (e ∙ f)
-on_host e (AskedNow w) = AskedNow (record { front = w.front; back = w.back; noted = w.noted; silence = ap (λ (n : Neighbors). n.silent_until) e ∙ w.silence })
+on_host e (AskedNow w) =
+    AskedNow (record { front = w.front; back = w.back; noted = w.noted; silence = ap (λ (n : Neighbors). n.silent_until) e ∙ w.silence })
 
 piece_asks : {H new : Host} {told : List Event} {notes : List Note} → Ipv4Egress H told notes new → Asking H.moment H notes new
 piece_asks (egress.NoPiece l e m y) = kept y
@@ -137,7 +150,8 @@ routers_asks (slaac.NotGranted p d e m y) = kept y
 routers_asks (slaac.Goes p o f mid d s e y) = on_host (ap (λ (K : Host). K.neighbors) y) (dispatched s)
 
 module _ (state : GroupState) (packet_for : List IpCidr → IpAddress → Option Packet) (after_report : List Group → IpAddress → List Group) where
-  tells_asks : {old new : Host} {granted : Bool} {told : List Event} {notes : List Note} → ReportsEach state packet_for after_report old granted told notes new → Asking old.moment old notes new
+  tells_asks : {old new : Host} {granted : Bool} {told : List Event} {notes : List Note} →
+      ReportsEach state packet_for after_report old granted told notes new → Asking old.moment old notes new
   tells_asks multicast.Begins = Kept refl
   tells_asks (multicast.Silently a w i none) = on_host refl (tells_asks w)
   tells_asks (multicast.Refused a p w i some) = tells_asks w
@@ -145,7 +159,8 @@ module _ (state : GroupState) (packet_for : List IpCidr → IpAddress → Option
       let moment : mid.moment ≡ old.moment = ap (λ (K : Host). K.moment) (tells_way state packet_for after_report w) in
       on_host refl (asking_then so more (tells_asks w) (asking_as moment refl (dispatched d)))
 
-  groups_asks : {old new : Host} {told : List Event} {notes : List Note} → ReportsAll state packet_for after_report old told notes new → Asking old.moment old notes new
+  groups_asks : {old new : Host} {told : List Event} {notes : List Note} →
+      ReportsAll state packet_for after_report old told notes new → Asking old.moment old notes new
   groups_asks (multicast.All w none) = tells_asks w
   groups_asks (multicast.UpToRefusal w) = tells_asks w
 
@@ -161,37 +176,48 @@ mld_asks (reports.NotYet d e m y) = kept y
 mld_asks (reports.GivenUp d e m y) = Kept (ap (λ (K : Host). K.neighbors) y)
 mld_asks (reports.ReportGoes o f mid d s e y) = on_host (ap (λ (K : Host). K.neighbors) y) (dispatched s)
 
-turn_asks : {s s' : Socket} {turn : Turn} {H new : Host} {told : List Event} {notes : List Note} → SocketTurn s turn s' H told notes new → Asking H.moment H notes new
+turn_asks : {s s' : Socket} {turn : Turn} {H new : Host} {told : List Event} {notes : List Note} →
+    SocketTurn s turn s' H told notes new → Asking H.moment H notes new
 turn_asks (egress.Silent p d e m y z) = kept y
 turn_asks (egress.Refused q p d e m y z) = kept y
 turn_asks (egress.Sent q o f p g d e z) = dispatched g
 
-serves_asks : {i : ℕ} {turn : Turn} {H new : Host} {told : List Event} {notes : List Note} → Serves i turn H told notes new → Asking H.moment H notes new
+serves_asks : {i : ℕ} {turn : Turn} {H new : Host} {told : List Event} {notes : List Note} →
+    Serves i turn H told notes new → Asking H.moment H notes new
 serves_asks (egress.Free f d e m y) = kept y
 serves_asks (egress.Waits s known f l w d e m y) = kept y
 serves_asks (egress.Served s s' known mid f l w z y) = on_host (ap (λ (K : Host). K.neighbors) y) (turn_asks z)
 
-walks_asks : {old new : Host} {n : ℕ} {granted changed : Bool} {told : List Event} {notes : List Note} → Walks old n granted changed told notes new → Asking old.moment old notes new
+walks_asks : {old new : Host} {n : ℕ} {granted changed : Bool} {told : List Event} {notes : List Note} →
+    Walks old n granted changed told notes new → Asking old.moment old notes new
 walks_asks egress.Begins = Kept refl
-walks_asks (egress.Goes {notes_so = so} turn told_it notes new w s e) = asking_then so notes (walks_asks w) (asking_as (ap (λ (K : Host). K.moment) (untouched w).rest) refl (serves_asks s))
-walks_asks (egress.Stops {notes_so = so} turn told_it notes new w s e) = asking_then so notes (walks_asks w) (asking_as (ap (λ (K : Host). K.moment) (untouched w).rest) refl (serves_asks s))
+walks_asks (egress.Goes {notes_so = so} turn told_it notes new w s e) =
+    asking_then so notes (walks_asks w) (asking_as (ap (λ (K : Host). K.moment) (untouched w).rest) refl (serves_asks s))
+walks_asks (egress.Stops {notes_so = so} turn told_it notes new w s e) =
+    asking_then so notes (walks_asks w) (asking_as (ap (λ (K : Host). K.moment) (untouched w).rest) refl (serves_asks s))
 
 -- A dispatch to a hop that is to be asked for
 
-asks_hop : {own : EthernetAddress} {hop : IpAddress} {outcome : Outcome} {H new : Host} {frames : List (List ℕ)} {notes : List Note} → Discovers own hop outcome H frames notes new →
+asks_hop : {own : EthernetAddress} {hop : IpAddress} {outcome : Outcome} {H new : Host} {frames : List (List ℕ)} {notes : List Note} →
+    Discovers own hop outcome H frames notes new →
     is_some (source_for H.ip_addrs hop) ≡ true → WasAsked H.moment notes new
-asks_hop (dispatch.Asked target source h s o f n e) from = record { front = []; back = []; noted = ap asks n; silence = ap (λ (K : Host). K.neighbors.silent_until) e }
+asks_hop (dispatch.Asked target source h s o f n e) from =
+    record { front = []; back = []; noted = ap asks n; silence = ap (λ (K : Host). K.neighbors.silent_until) e }
 asks_hop {H = H} (dispatch.NoSource target h s o u) from =
-    absurd (let bad : false ≡ true = sym (ap (λ a. is_some (source_for H.ip_addrs a)) h ∙ ap (λ x. is_some (option_map (λ v. Ipv4 v) x)) s) ∙ from in cc)
-asks_hop (dispatch.Solicited target h o f n e) from = record { front = []; back = []; noted = ap asks n; silence = ap (λ (K : Host). K.neighbors.silent_until) e }
+    absurd
+    (let bad : false ≡ true = sym (ap (λ a. is_some (source_for H.ip_addrs a)) h ∙ ap (λ x. is_some (option_map (λ v. Ipv4 v) x)) s) ∙ from in cc)
+asks_hop (dispatch.Solicited target h o f n e) from =
+    record { front = []; back = []; noted = ap asks n; silence = ap (λ (K : Host). K.neighbors.silent_until) e }
 
-asks_by_hop : {id : ℕ} {own : EthernetAddress} {p : Packet} {hop : IpAddress} {outcome : Outcome} {H new : Host} {frames : List (List ℕ)} {notes : List Note} → DispatchesByHop id own p hop outcome H frames notes new →
+asks_by_hop : {id : ℕ} {own : EthernetAddress} {p : Packet} {hop : IpAddress} {outcome : Outcome} {H new : Host} {frames : List (List ℕ)}
+    {notes : List Note} → DispatchesByHop id own p hop outcome H frames notes new →
     answer_of H.neighbors hop H.moment ≡ NotFound → is_some (source_for H.ip_addrs hop) ≡ true → WasAsked H.moment notes new
 asks_by_hop (dispatch.Known h k e) unknown from = absurd cc
 asks_by_hop (dispatch.Silent s o u) unknown from = absurd cc
 asks_by_hop (dispatch.Unknown u d) unknown from = asks_hop d from
 
-asks_ethernet : {id : ℕ} {own : EthernetAddress} {p : Packet} {outcome : Outcome} {H new : Host} {frames : List (List ℕ)} {notes : List Note} (hop : IpAddress) → DispatchesEthernet id own p outcome H frames notes new →
+asks_ethernet : {id : ℕ} {own : EthernetAddress} {p : Packet} {outcome : Outcome} {H new : Host} {frames : List (List ℕ)} {notes : List Note}
+    (hop : IpAddress) → DispatchesEthernet id own p outcome H frames notes new →
     multicast_hardware_addr H.ip_addrs (destination_of p) ≡ None → IsToBeAskedFor H (destination_of p) hop → WasAsked H.moment notes new
 asks_ethernet hop (dispatch.ToMulticast h m e) one a = absurd cc
 asks_ethernet hop (dispatch.NoHop m n o u) one a = let none : None ≡ Some hop = hop_is_one n a.next in absurd cc
@@ -200,17 +226,23 @@ asks_ethernet {id} {own} {p} {outcome} {H} {new} {frames} {notes} hop (dispatch.
     let same : other ≡ hop = cc in
     asks_by_hop (subst (λ x. DispatchesByHop id own p x outcome H frames notes new) same s) a.unknown a.asker
 
-asks_dispatch : {p : Packet} {outcome : Outcome} {H new : Host} {frames : List (List ℕ)} {notes : List Note} (own : EthernetAddress) (hop : IpAddress) → Dispatches p outcome H frames notes new →
-    H.hardware_addr ≡ hardware.Ethernet own → is_unspecified (destination_of p) ≡ false → multicast_hardware_addr H.ip_addrs (destination_of p) ≡ None → IsToBeAskedFor H (destination_of p) hop → WasAsked H.moment notes new
+asks_dispatch : {p : Packet} {outcome : Outcome} {H new : Host} {frames : List (List ℕ)} {notes : List Note} (own : EthernetAddress)
+    (hop : IpAddress) → Dispatches p outcome H frames notes new →
+    H.hardware_addr ≡ hardware.Ethernet own → is_unspecified (destination_of p) ≡ false →
+    multicast_hardware_addr H.ip_addrs (destination_of p) ≡ None → IsToBeAskedFor H (destination_of p) hop → WasAsked H.moment notes new
 asks_dispatch own hop (dispatch.ToUnspecified n o u) on specified one a = absurd cc
 asks_dispatch {p} {outcome} {H} {new} {frames} {notes} own hop (dispatch.ToSpecified more s d n) on specified one a =
-    let sends : DispatchesEthernet H.ipv4_id own p outcome (with_next_id H) frames more new = subst (λ x. SendsOver H.ipv4_id x p outcome (with_next_id H) frames more new) on d in
-    let same : IsToBeAskedFor (with_next_id H) (destination_of p) hop = record { next = hop_as {H = H} {K = with_next_id H} refl refl refl a.next; unknown = a.unknown; asker = a.asker } in
+    let sends : DispatchesEthernet H.ipv4_id own p outcome (with_next_id H) frames more new =
+    subst (λ x. SendsOver H.ipv4_id x p outcome (with_next_id H) frames more new) on d in
+    let same : IsToBeAskedFor (with_next_id H) (destination_of p) hop =
+    record { next = hop_as {H = H} {K = with_next_id H} refl refl refl a.next; unknown = a.unknown; asker = a.asker } in
     let w : WasAsked H.moment more new = asks_ethernet {H = with_next_id H} hop sends one same in
     subst (λ ns. WasAsked H.moment ns new) (sym n) (then_was (OfIdentification (Identify H.ipv4_id) ∷ []) more w)
 
-asks_turn : {s s' : Socket} {turn : Turn} {H new : Host} {told_it : List Event} {notes : List Note} (own : EthernetAddress) (p : Packet) (hop : IpAddress) → SocketTurn s turn s' H told_it notes new →
-    packet_from H s ≡ Some p → all_granted told_it ≡ true → H.hardware_addr ≡ hardware.Ethernet own → is_unicast H.ip_addrs (destination_of p) ≡ true → IsToBeAskedFor H (destination_of p) hop → WasAsked H.moment notes new
+asks_turn : {s s' : Socket} {turn : Turn} {H new : Host} {told_it : List Event} {notes : List Note} (own : EthernetAddress) (p : Packet)
+    (hop : IpAddress) → SocketTurn s turn s' H told_it notes new →
+    packet_from H s ≡ Some p → all_granted told_it ≡ true → H.hardware_addr ≡ hardware.Ethernet own →
+    is_unicast H.ip_addrs (destination_of p) ≡ true → IsToBeAskedFor H (destination_of p) hop → WasAsked H.moment notes new
 asks_turn own p hop (egress.Silent none d e m y z) is all on one a = absurd cc
 asks_turn own p hop (egress.Refused q some d e m y z) is all on one a = absurd (clash all (ap all_granted e))
 asks_turn {s} {s'} {turn} {H} {new} {told_it} {notes} own p hop (egress.Sent q o f some g d e z) is all on one a =
@@ -220,8 +252,10 @@ asks_turn {s} {s'} {turn} {H} {new} {told_it} {notes} own p hop (egress.Sent q o
     let host = unicast_for H.ip_addrs (destination_of p) one in
     asks_dispatch own hop it on host.specified host.not_multicast a
 
-asks_serve : {i : ℕ} {turn : Turn} {H new : Host} {told_it : List Event} {notes : List Note} (own : EthernetAddress) (s : UdpSocket) (p : Packet) (hop : IpAddress) → Serves i turn H told_it notes new →
-    slice_get H.sockets.places i ≡ Some (Some (Udp s)) → MayBeAsked H i → packet_from H (Udp s) ≡ Some p → all_granted told_it ≡ true → H.hardware_addr ≡ hardware.Ethernet own →
+asks_serve : {i : ℕ} {turn : Turn} {H new : Host} {told_it : List Event} {notes : List Note} (own : EthernetAddress) (s : UdpSocket) (p : Packet)
+    (hop : IpAddress) → Serves i turn H told_it notes new →
+    slice_get H.sockets.places i ≡ Some (Some (Udp s)) → MayBeAsked H i → packet_from H (Udp s) ≡ Some p →
+    all_granted told_it ≡ true → H.hardware_addr ≡ hardware.Ethernet own →
     is_unicast H.ip_addrs (destination_of p) ≡ true → IsToBeAskedFor H (destination_of p) hop → WasAsked H.moment notes new
 asks_serve own s p hop (egress.Free f d e m y) here may is all on one a = absurd cc
 asks_serve {i} {turn} {H} own s p hop (egress.Waits s' known f l w d e m y) here may is all on one a = absurd (clash (permitted H i may known l) w)
@@ -239,10 +273,13 @@ asked_as {H} {K} {a} {hop} e n i = record {
   asker = ap (λ (x : Host). is_some (source_for x.ip_addrs hop)) e ∙ i.asker;
 }
 
-module _ (own : EthernetAddress) (s : UdpSocket) (p : Packet) (hop : IpAddress) (i : ℕ) (old : Host) (here : slice_get old.sockets.places i ≡ Some (Some (Udp s))) (may : MayBeAsked old i)
-    (is : packet_from old (Udp s) ≡ Some p) (on : old.hardware_addr ≡ hardware.Ethernet own) (one : is_unicast old.ip_addrs (destination_of p) ≡ true) (a : IsToBeAskedFor old (destination_of p) hop) where
+module _ (own : EthernetAddress) (s : UdpSocket) (p : Packet) (hop : IpAddress) (i : ℕ) (old : Host)
+    (here : slice_get old.sockets.places i ≡ Some (Some (Udp s))) (may : MayBeAsked old i)
+    (is : packet_from old (Udp s) ≡ Some p) (on : old.hardware_addr ≡ hardware.Ethernet own) (one : is_unicast old.ip_addrs (destination_of p) ≡ true)
+    (a : IsToBeAskedFor old (destination_of p) hop) where
   -- at its turn
-  now : {mid new : Host} {n : ℕ} {changed : Bool} {told_so told_it : List Event} {so notes : List Note} {turn : Turn} → Walks old n true changed told_so so mid → Serves n turn mid told_it notes new → i ≡ n →
+  now : {mid new : Host} {n : ℕ} {changed : Bool} {told_so told_it : List Event} {so notes : List Note} {turn : Turn} →
+      Walks old n true changed told_so so mid → Serves n turn mid told_it notes new → i ≡ n →
       all_granted told_it ≡ true → WasAsked old.moment (so ++ notes) new
   now {mid} {new} {n} {changed} {told_so} {told_it} {so} {notes} {turn} w v same all = by (walks_asks w) where
     u : Untouched n old mid
@@ -257,38 +294,50 @@ module _ (own : EthernetAddress) (s : UdpSocket) (p : Packet) (hop : IpAddress) 
         let it : Serves i turn mid told_it notes new = subst (λ k. Serves k turn mid told_it notes new) (sym same) v in
         let stays = u.later i (omega (arith, same)) in
         let asked : WasAsked mid.moment notes new =
-        asks_serve own s p hop it (stays.place ∙ here) (may_as i u.rest stays may) (ap (λ (x : Host). packet_from x (Udp s)) u.rest ∙ is) all (ap (λ (x : Host). x.hardware_addr) u.rest ∙ on)
+        asks_serve own s p hop it (stays.place ∙ here) (may_as i u.rest stays may)
+        (ap (λ (x : Host). packet_from x (Udp s)) u.rest ∙ is) all (ap (λ (x : Host). x.hardware_addr) u.rest ∙ on)
         (ap (λ (x : Host). is_unicast x.ip_addrs (destination_of p)) u.rest ∙ one) (asked_as u.rest e a) in
         then_was so notes (subst (λ t. WasAsked t notes new) moment asked)
 
-  one_more : {mid new : Host} {n : ℕ} {changed : Bool} {told_so told_it : List Event} {so notes : List Note} {turn : Turn} → Walks old n true changed told_so so mid → Serves n turn mid told_it notes new →
-      (i < n → all_granted told_so ≡ true → WasAsked old.moment so mid) → i < n + 1 → all_granted (told_so ++ told_it) ≡ true → WasAsked old.moment (so ++ notes) new
+  one_more : {mid new : Host} {n : ℕ} {changed : Bool} {told_so told_it : List Event} {so notes : List Note} {turn : Turn} →
+      Walks old n true changed told_so so mid → Serves n turn mid told_it notes new →
+      (i < n → all_granted told_so ≡ true → WasAsked old.moment so mid) → i < n + 1 →
+      all_granted (told_so ++ told_it) ≡ true → WasAsked old.moment (so ++ notes) new
   one_more {mid} {new} {n} {changed} {told_so} {told_it} {so} {notes} {turn} w v earlier less all = by (i == n) refl where
     by : (b : Bool) → (i == n) ≡ b → WasAsked old.moment (so ++ notes) new
     by true same = now w v (grind (arith, nat_tests)) (given_parts told_so told_it all).1
-    by false other = was_then so notes (earlier (grind (arith, nat_tests)) (given_parts told_so told_it all).0) (asking_as (ap (λ (K : Host). K.moment) (untouched w).rest) refl (serves_asks v))
+    by false other = was_then so notes (earlier (grind (arith, nat_tests)) (given_parts told_so told_it all).0)
+        (asking_as (ap (λ (K : Host). K.moment) (untouched w).rest) refl (serves_asks v))
 
-  walk_asks : {new : Host} {n : ℕ} {granted changed : Bool} {told : List Event} {notes : List Note} → Walks old n granted changed told notes new → i < n → all_granted told ≡ true → WasAsked old.moment notes new
+  walk_asks : {new : Host} {n : ℕ} {granted changed : Bool} {told : List Event} {notes : List Note} →
+      Walks old n granted changed told notes new → i < n → all_granted told ≡ true → WasAsked old.moment notes new
   walk_asks egress.Begins less all = absurd (omega (arith, less))
   walk_asks (egress.Goes turn told_it notes new w v e) less all = one_more w v (λ l g. walk_asks w l g) less all
   walk_asks (egress.Stops turn told_it notes new w v e) less all = one_more w v (λ l g. walk_asks w l g) less all
 
-  sockets_ask : {new : Host} {changed : Bool} {told : List Event} {notes : List Note} → SocketEgress old changed told notes new → all_granted told ≡ true → WasAsked old.moment notes new
+  sockets_ask : {new : Host} {changed : Bool} {told : List Event} {notes : List Note} →
+      SocketEgress old changed told notes new → all_granted told ≡ true → WasAsked old.moment notes new
   sockets_ask (egress.Whole w) all = walk_asks w (slice_get_within old.sockets.places i (Some (Udp s)) here) all
   sockets_ask (egress.Stopped n w) all = absurd (stopped w refl all)
 
-sockets_asks : {old new : Host} {changed : Bool} {told : List Event} {notes : List Note} → SocketEgress old changed told notes new → Asking old.moment old notes new
+sockets_asks : {old new : Host} {changed : Bool} {told : List Event} {notes : List Note} →
+    SocketEgress old changed told notes new → Asking old.moment old notes new
 sockets_asks (egress.Whole w) = walks_asks w
 sockets_asks (egress.Stopped n w) = walks_asks w
 
-finish : {t : ℤ} {new : Host} {changed : Bool} {told : List Event} {notes : List Note} (own : EthernetAddress) (s : UdpSocket) (p : Packet) (hop : IpAddress) (i : ℕ) (old mid : Host) (so : List Note) →
-    SocketEgress mid changed told notes new → all_granted told ≡ true → mid.moment ≡ t → sans mid ≡ sans old → SameAt i old mid → slice_get old.sockets.places i ≡ Some (Some (Udp s)) → MayBeAsked old i →
-    packet_from old (Udp s) ≡ Some p → old.hardware_addr ≡ hardware.Ethernet own → is_unicast old.ip_addrs (destination_of p) ≡ true → IsToBeAskedFor old (destination_of p) hop →
+finish : {t : ℤ} {new : Host} {changed : Bool} {told : List Event} {notes : List Note} (own : EthernetAddress) (s : UdpSocket) (p : Packet)
+    (hop : IpAddress) (i : ℕ) (old mid : Host) (so : List Note) →
+    SocketEgress mid changed told notes new → all_granted told ≡ true → mid.moment ≡ t → sans mid ≡ sans old → SameAt i old mid →
+    slice_get old.sockets.places i ≡ Some (Some (Udp s)) → MayBeAsked old i →
+    packet_from old (Udp s) ≡ Some p → old.hardware_addr ≡ hardware.Ethernet own → is_unicast old.ip_addrs (destination_of p) ≡ true →
+    IsToBeAskedFor old (destination_of p) hop →
     Asking t old so mid → WasAsked t (so ++ notes) new
-finish {t} {new} {changed} {told} {notes} own s p hop i old mid so v all moment e same here may is on one a (AskedNow w) = was_then so notes w (asking_as moment refl (sockets_asks v))
+finish {t} {new} {changed} {told} {notes} own s p hop i old mid so v all moment e same here may is on one a (AskedNow w) =
+    was_then so notes w (asking_as moment refl (sockets_asks v))
 finish {t} {new} {changed} {told} {notes} own s p hop i old mid so v all moment e same here may is on one a (Kept n) =
     let asked : WasAsked mid.moment notes new =
-    sockets_ask own s p hop i mid (same.place ∙ here) (may_as i e same may) (ap (λ (x : Host). packet_from x (Udp s)) e ∙ is) (ap (λ (x : Host). x.hardware_addr) e ∙ on)
+    sockets_ask own s p hop i mid (same.place ∙ here) (may_as i e same may) (ap (λ (x : Host). packet_from x (Udp s)) e ∙ is)
+    (ap (λ (x : Host). x.hardware_addr) e ∙ on)
     (ap (λ (x : Host). is_unicast x.ip_addrs (destination_of p)) e ∙ one) (asked_as e n a) v all in
     then_was so notes (subst (λ x. WasAsked x notes new) moment asked)
 
@@ -310,7 +359,8 @@ requests_go own t answer old new told_all notes i s p hop rest e all on first ma
     let m4 : b4.mid.moment ≡ t = ap (λ (K : Host). K.moment) (groups_way Leaving leave_packet leave_reported b4.begins) ∙ m3 in
     let m5 : b5.mid.moment ≡ t = ap (λ (K : Host). K.moment) (igmp_way b5.begins) ∙ m4 in
     let m6 : b6.mid.moment ≡ t = ap (λ (K : Host). K.moment) (mld_way b6.begins) ∙ m5 in
-    let way = mld_way b6.begins ∙ igmp_way b5.begins ∙ groups_way Leaving leave_packet leave_reported b4.begins ∙ groups_way Joining join_packet join_reported b3.begins ∙ routers_way b2.begins ∙ piece_way b1.begins in
+    let way = mld_way b6.begins ∙ igmp_way b5.begins ∙ groups_way Leaving leave_packet leave_reported b4.begins
+    ∙ groups_way Joining join_packet join_reported b3.begins ∙ routers_way b2.begins ∙ piece_way b1.begins in
     let g1 = given_parts b1.told_one b1.told_two (sym (ap all_granted b1.events) ∙ all) in
     let g2 = given_parts b2.told_one b2.told_two (sym (ap all_granted b2.events) ∙ g1.1) in
     let g3 = given_parts b3.told_one b3.told_two (sym (ap all_granted b3.events) ∙ g2.1) in
@@ -320,7 +370,8 @@ requests_go own t answer old new told_all notes i s p hop rest e all on first ma
     let before : Asking t (at old t) (b1.notes_one ++ (b2.notes_one ++ (b3.notes_one ++ (b4.notes_one ++ (b5.notes_one ++ b6.notes_one))))) b6.mid =
     asking_then b1.notes_one (b2.notes_one ++ (b3.notes_one ++ (b4.notes_one ++ (b5.notes_one ++ b6.notes_one)))) (piece_asks b1.begins)
     (asking_then b2.notes_one (b3.notes_one ++ (b4.notes_one ++ (b5.notes_one ++ b6.notes_one))) (asking_as m1 refl (routers_asks b2.begins))
-    (asking_then b3.notes_one (b4.notes_one ++ (b5.notes_one ++ b6.notes_one)) (asking_as m2 refl (groups_asks Joining join_packet join_reported b3.begins))
+    (asking_then b3.notes_one (b4.notes_one ++ (b5.notes_one ++ b6.notes_one))
+    (asking_as m2 refl (groups_asks Joining join_packet join_reported b3.begins))
     (asking_then b4.notes_one (b5.notes_one ++ b6.notes_one) (asking_as m3 refl (groups_asks Leaving leave_packet leave_reported b4.begins))
     (asking_then b5.notes_one b6.notes_one (asking_as m4 refl (igmp_asks b5.begins)) (asking_as m5 refl (mld_asks b6.begins)))))) in
     let sockets_are : b6.mid.sockets ≡ old.sockets = ap (λ (K : Host). K.sockets) way in
@@ -328,7 +379,8 @@ requests_go own t answer old new told_all notes i s p hop rest e all on first ma
     let same : SameAt i (at old t) b6.mid = same_at {k = i} {old = at old t} {new = b6.mid} sockets_are in
     let last : Asking t (at old t) (b1.notes_one ++ (b2.notes_one ++ (b3.notes_one ++ (b4.notes_one ++ (b5.notes_one ++ b6.notes_one))))) b6.mid →
     WasAsked t ((b1.notes_one ++ (b2.notes_one ++ (b3.notes_one ++ (b4.notes_one ++ (b5.notes_one ++ b6.notes_one))))) ++ b6.notes_two) new =
-    finish own s p hop i (at old t) b6.mid (b1.notes_one ++ (b2.notes_one ++ (b3.notes_one ++ (b4.notes_one ++ (b5.notes_one ++ b6.notes_one))))) b6.ends g6.1 m6 rest_is same first.here may
+    finish own s p hop i (at old t) b6.mid (b1.notes_one ++ (b2.notes_one ++ (b3.notes_one ++ (b4.notes_one ++ (b5.notes_one ++ b6.notes_one)))))
+    b6.ends g6.1 m6 rest_is same first.here may
     (first_packet (at old t) i s p rest first) on one a in
     subst (λ ns. WasAsked t ns new) (sym
     (up b1.notes_one (b2.notes_one ++ (b3.notes_one ++ (b4.notes_one ++ (b5.notes_one ++ b6.notes_one)))) b6.notes_two b1.all_notes

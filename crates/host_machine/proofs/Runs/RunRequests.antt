@@ -66,7 +66,8 @@ asked_last t (Received now reception ∷ es) = asked_last now es
 asked_last t (Asked now given ∷ es) = asked_last now es
 asked_last t (Sent id frame ∷ es) = asked_last t es
 
-requests-append : (m : Medium) (t : ℤ) (xs ys : List Event) → requests_at m (sent_at t (xs ++ ys)) ≡ requests_at m (sent_at t xs) ++ requests_at m (sent_at (asked_last t xs) ys)
+requests-append : (m : Medium) (t : ℤ) (xs ys : List Event) →
+    requests_at m (sent_at t (xs ++ ys)) ≡ requests_at m (sent_at t xs) ++ requests_at m (sent_at (asked_last t xs) ys)
 requests-append m t [] ys = refl
 requests-append m t (Received now reception ∷ xs) ys = requests-append m now xs ys
 requests-append m t (Asked now given ∷ xs) ys = requests-append m now xs ys
@@ -132,10 +133,12 @@ refused : (H : Host) → AskedOver H (Asked H.moment false ∷ []) [] H
 refused H = λ sound none. record { asks = record { noted = λ t. refl; same = refl; sound = sound }; nobody = none }
 
 -- the frames of a dispatch
-at_dispatch : (p : Packet) (outcome : Outcome) (H : Host) (frames : List (List ℕ)) (notes : List Note) → IsReal H → may_ask (payload_of p) ≡ false → SendsOneThing p outcome H frames notes →
+at_dispatch : (p : Packet) (outcome : Outcome) (H : Host) (frames : List (List ℕ)) (notes : List Note) →
+    IsReal H → may_ask (payload_of p) ≡ false → SendsOneThing p outcome H frames notes →
     (t : ℤ) → requests_at H.capabilities.medium (sent_at t (Asked H.moment true ∷ sends frames)) ≡ asks notes
 at_dispatch p outcome H frames notes real none (laws.Nothing f a c) t = rw (f, a) refl
-at_dispatch p outcome H frames notes real none (ThePacket h to o f a c) t = rw (f, a, quiet_packet H.capabilities.medium H H.hardware_addr h p refl real.own to none) refl
+at_dispatch p outcome H frames notes real none (ThePacket h to o f a c) t =
+    rw (f, a, quiet_packet H.capabilities.medium H H.hardware_addr h p refl real.own to none) refl
 at_dispatch p outcome H frames notes real none (ItsFirstPiece h q first rest to of pieces o f a c) t =
     let went = (pieces_go H.capabilities.medium (datagram_of H h H.ipv4_id q) (first ∷ rest) pieces to).0 in
     rw (f, a, quiet_piece H.capabilities.medium H H.hardware_addr first refl real.own went) refl
@@ -155,14 +158,20 @@ sound_keeps old new k = λ s.
     let l : new.left ≡ old.left = ap (λ (K : Host). K.left) k.same in
     record { same = c; sound = record { real = k.real s.real; left = rw (c, l) s.left } }
 
-sound_on : (a b c : Host) (fs gs : List (List ℕ)) (xs ys : List Note) → SoundOver a fs xs b → SoundOver b gs ys c → SoundOver a (fs ++ gs) (xs ++ ys) c
+sound_on : (a b c : Host) (fs gs : List (List ℕ)) (xs ys : List Note) →
+    SoundOver a fs xs b → SoundOver b gs ys c → SoundOver a (fs ++ gs) (xs ++ ys) c
 sound_on a b c fs gs xs ys one two = λ s. let x = one s in let y = two x.sound in record { same = y.same ∙ x.same; sound = y.sound }
 
 -- where addresses and what is left stay
-sound_still : (H new : Host) → new.capabilities ≡ H.capabilities → new.hardware_addr ≡ H.hardware_addr → new.neighbors.known ≡ H.neighbors.known → new.left ≡ H.left → IsSound H → Sounds H new
-sound_still H new c h n l s = record { same = c; sound = record { real = record { own = rw (c, h) s.real.own; neighbors = rw (c, n) s.real.neighbors }; left = rw (c, l) s.left } }
+sound_still : (H new : Host) → new.capabilities ≡ H.capabilities → new.hardware_addr ≡ H.hardware_addr → new.neighbors.known ≡ H.neighbors.known →
+    new.left ≡ H.left → IsSound H → Sounds H new
+sound_still H new c h n l s = record {
+  same = c;
+  sound = record { real = record { own = rw (c, h) s.real.own; neighbors = rw (c, n) s.real.neighbors }; left = rw (c, l) s.left };
+}
 
-sound_cuts : (H : Host) (h : HardwareAddress) (id : ℕ) (p : PacketV4) (first : Piece) (rest : List Piece) → pieces_of (datagram_of H h id p) ≡ first ∷ rest → HasForm (datagram_of H h id p) → Reached H h →
+sound_cuts : (H : Host) (h : HardwareAddress) (id : ℕ) (p : PacketV4) (first : Piece) (rest : List Piece) →
+    pieces_of (datagram_of H h id p) ≡ first ∷ rest → HasForm (datagram_of H h id p) → Reached H h →
     SoundOver H (piece_frame H first ∷ []) (OfCuts (Cut (datagram_of H h id p)) ∷ OfCuts (PieceSent first) ∷ []) (with_left H rest)
 sound_cuts H h id p first rest pieces form reached = λ s. record {
   same = refl;
@@ -172,7 +181,8 @@ sound_cuts H h id p first rest pieces form reached = λ s. record {
   };
 }
 
-dispatch_sound : {p : Packet} {outcome : Outcome} {H new : Host} {frames : List (List ℕ)} {notes : List Note} → Dispatches p outcome H frames notes new → SoundOver H frames notes new
+dispatch_sound : {p : Packet} {outcome : Outcome} {H new : Host} {frames : List (List ℕ)} {notes : List Note} →
+    Dispatches p outcome H frames notes new → SoundOver H frames notes new
 dispatch_sound d = dispatched SoundOver sound_keeps sound_on
     (λ H own source target mine. λ s. sound_still H H refl refl refl refl s)
     (λ H hop unknown. λ s. sound_still H _ refl refl refl refl s)
@@ -180,7 +190,8 @@ dispatch_sound d = dispatched SoundOver sound_keeps sound_on
     (λ H h p reached. λ s. sound_still H H refl refl refl refl s)
     sound_cuts d
 
-dispatches : (p : Packet) (outcome : Outcome) (H new : Host) (frames : List (List ℕ)) (notes : List Note) → MaySend H p → Dispatches p outcome H frames notes new →
+dispatches : (p : Packet) (outcome : Outcome) (H new : Host) (frames : List (List ℕ)) (notes : List Note) →
+    MaySend H p → Dispatches p outcome H frames notes new →
     AskedOver H (Asked H.moment true ∷ sends frames) notes new
 dispatches p outcome H new frames notes may d = λ s none.
     let after = dispatch_sound d s in record {
@@ -192,7 +203,8 @@ dispatches p outcome H new frames notes may d = λ s none.
       nobody = rw (dispatched_sockets d) none;
     }
 
-pieces : (H : Host) (p : Piece) (rest : List Piece) → H.left ≡ p ∷ rest → AskedOver H (Asked H.moment true ∷ sends (piece_frame H p ∷ [])) (OfCuts (PieceSent p) ∷ []) (with_left H rest)
+pieces : (H : Host) (p : Piece) (rest : List Piece) →
+    H.left ≡ p ∷ rest → AskedOver H (Asked H.moment true ∷ sends (piece_frame H p ∷ [])) (OfCuts (PieceSent p) ∷ []) (with_left H rest)
 pieces H p rest e = λ s none.
     let well : AllByRecursion (λ (q : Piece). IsOf H.capabilities.medium q.destination) (p ∷ rest) = rw e at s.left in record {
       asks = record {
@@ -204,38 +216,45 @@ pieces H p rest e = λ s none.
     }
 
 -- a frame that is taken leaves nobody who speaks, too, and takes no time
-arp_attends : {own : EthernetAddress} {H new : Host} {payload : List ℕ} {reply : Option Reply} {notes : List Note} → ProcessesArp own H payload reply notes new → Attends H new
+arp_attends : {own : EthernetAddress} {H new : Host} {payload : List ℕ} {reply : Option Reply} {notes : List Note} →
+    ProcessesArp own H payload reply notes new → Attends H new
 arp_attends (arp.Malformed m d) = attends d.unchanged
 arp_attends (arp.NotForUs a l d) = attends d.unchanged
 arp_attends (arp.Learnt a l learns r n) = attends_by learns.same (record { nobody = λ spoken none. none; moment = refl })
 
-fragment_attends : {key : FragKey} {f : Fragment} {result : Option (List ℕ)} {H new : Host} {notes : List Note} → TakesFragment key f result H notes new → Attends H new
+fragment_attends : {key : FragKey} {f : Fragment} {result : Option (List ℕ)} {H new : Host} {notes : List Note} →
+    TakesFragment key f result H notes new → Attends H new
 fragment_attends t = attends_by t.changed (record { nobody = λ spoken none. none; moment = refl })
 
-packet_attends : {source : HardwareAddress} {r : Ipv4Repr} {f : Ipv4Fragment} {H new : Host} {payload : List ℕ} {reply : Option Reply} {notes : List Note} → ProcessesPacket source r f H payload reply notes new →
+packet_attends : {source : HardwareAddress} {r : Ipv4Repr} {f : Ipv4Fragment} {H new : Host} {payload : List ℕ} {reply : Option Reply}
+    {notes : List Note} → ProcessesPacket source r f H payload reply notes new →
     Attends H new
 packet_attends (ipv4.FromNoHost s d) = attends d.unchanged
 packet_attends (ipv4.Part s g t e) = fragment_attends t
 packet_attends (ipv4.Completed octets mid first rest s g t w n) = attends_then (fragment_attends t) (whole_plain w).attends
 packet_attends (ipv4.Whole s g t) = (whole_plain t).attends
 
-ipv4_attends : {source : HardwareAddress} {H new : Host} {octets : List ℕ} {reply : Option Reply} {notes : List Note} → ProcessesIpv4 source H octets reply notes new → Attends H new
+ipv4_attends : {source : HardwareAddress} {H new : Host} {octets : List ℕ} {reply : Option Reply} {notes : List Note} →
+    ProcessesIpv4 source H octets reply notes new → Attends H new
 ipv4_attends (ipv4.Malformed m d) = attends d.unchanged
 ipv4_attends (ipv4.Read i t) = packet_attends t
 
-payload_attends : (own source : EthernetAddress) (H : Host) (p : EthernetProtocol) (payload : List ℕ) (reply : Option Reply) (notes : List Note) (new : Host) → ProcessesEthertype own source H p payload reply notes new →
+payload_attends : (own source : EthernetAddress) (H : Host) (p : EthernetProtocol) (payload : List ℕ) (reply : Option Reply) (notes : List Note)
+    (new : Host) → ProcessesEthertype own source H p payload reply notes new →
     Attends H new
 payload_attends own source H protocol.Arp payload reply notes new t = arp_attends t
 payload_attends own source H protocol.Ipv4 payload reply notes new t = ipv4_attends t
 payload_attends own source H protocol.Ipv6 payload reply notes new t = (ipv6_plain t).attends
 payload_attends own source H (protocol.Unknown n) payload reply notes new t = attends t.unchanged
 
-ethernet_attends : {own : EthernetAddress} {H new : Host} {frame : List ℕ} {reply : Option Reply} {notes : List Note} → ProcessesEthernet own H frame reply notes new → Attends H new
+ethernet_attends : {own : EthernetAddress} {H new : Host} {frame : List ℕ} {reply : Option Reply} {notes : List Note} →
+    ProcessesEthernet own H frame reply notes new → Attends H new
 ethernet_attends (ethernet.Malformed m d) = attends d.unchanged
 ethernet_attends (ethernet.NotForUs l f d) = attends d.unchanged
 ethernet_attends {own} {H} {new} {frame} {reply} {notes} (ethernet.Accepted l f t) = payload_attends own _ H _ _ reply notes new t
 
-frame_attends : (h : HardwareAddress) (H : Host) (frame : List ℕ) (reply : Option Reply) (notes : List Note) (new : Host) → ProcessesFrame h H frame reply notes new → Attends H new
+frame_attends : (h : HardwareAddress) (H : Host) (frame : List ℕ) (reply : Option Reply) (notes : List Note) (new : Host) →
+    ProcessesFrame h H frame reply notes new → Attends H new
 frame_attends (hardware.Ethernet own) H frame reply notes new t = ethernet_attends t
 frame_attends hardware.Ip H frame reply notes new (ethernet.Ipv4 v t) = ipv4_attends t
 frame_attends hardware.Ip H frame reply notes new (ethernet.Ipv6 v t) = (ipv6_plain t).attends
@@ -260,16 +279,21 @@ takes_untold H r reply notes new t =
     H r reply notes new t
 
 -- the reply to what was taken, behind the question that brought it
-responds : (reply : Option Reply) (H : Host) (frames : List (List ℕ)) (notes : List Note) (new : Host) (t : ℤ) → H.moment ≡ t → GoodReply H.capabilities.medium reply → Responds reply H frames notes new →
+responds : (reply : Option Reply) (H : Host) (frames : List (List ℕ)) (notes : List Note) (new : Host) (t : ℤ) →
+    H.moment ≡ t → GoodReply H.capabilities.medium reply → Responds reply H frames notes new →
     IsSound H → NoSocketSpeaks H → (requests_at H.capabilities.medium (sent_at t (sends frames)) ≡ asks notes) × Sounds H new × NoSocketSpeaks new
 responds None H frames notes new t at good r s none = (rw (r.0, r.1) refl, rw r.2 (sound_still H H refl refl refl refl s), rw r.2 none)
 responds (Some (Arp packet)) H frames notes new t at good r s none =
     (rw (r.0, r.1, quiet_reply H.capabilities.medium packet good.0 good.1 good.2) refl, rw r.2 (sound_still H H refl refl refl refl s), rw r.2 none)
 responds (Some (Ip packet)) H frames notes new t at good r s none =
-    let one = sends_one packet r.0 H new frames notes s.real r.1 in
-    (rw (← at) (at_dispatch packet r.0 H frames notes s.real (own_asks (payload_of packet) good) one (pos 0)), dispatch_sound r.1 s, rw (dispatched_sockets r.1) none)
+    let one = sends_one packet r.0 H new frames notes s.real r.1 in (
+      rw (← at) (at_dispatch packet r.0 H frames notes s.real (own_asks (payload_of packet) good) one (pos 0)),
+      dispatch_sound r.1 s,
+      rw (dispatched_sockets r.1) none,
+    )
 
-ingress : {t : ℤ} {answer : PollIngressSingleResult} {old new : Host} {told : List Event} {notes : List Note} → Ingress t answer old told notes new → AskedOver old told notes new
+ingress : {t : ℤ} {answer : PollIngressSingleResult} {old new : Host} {told : List Event} {notes : List Note} →
+    Ingress t answer old told notes new → AskedOver old told notes new
 ingress {t} {answer} {old} {new} {told} {notes} i = λ s none.
     let r = i.response in
     let began : IsReal (without_expired old t) = record { own = s.real.own; neighbors = s.real.neighbors } in
@@ -318,12 +342,14 @@ lasts H timeout = λ s none. record {
 acts : (H : Host) (sockets : SocketSet) → StepAsks H [] [] (record H { sockets = sockets })
 acts H sockets = λ s none. stays H _ refl refl (record { own = s.real.own; neighbors = s.real.neighbors }) s
 
-step_asks : {command : Command} {answer : Answer} {old new : Host} {told : List Event} {done : List Act} {notes : List Note} → Step command answer old told done notes new → StepAsks old told notes new
+step_asks : {command : Command} {answer : Answer} {old new : Host} {told : List Event} {done : List Act} {notes : List Note} →
+    Step command answer old told done notes new → StepAsks old told notes new
 step_asks s = stepped AskedOver keeps on refused dispatches pieces (λ t answer old new told notes i. ingress i) sweeps moves sets lasts
     StepAsks (λ old new told notes law. λ sound none. (law sound none).asks) acts s
 
 -- over a whole run
-all_asked : {first last : Host} {transitions : List Transition} → Run first transitions last → IsSound first → AllByRecursion (λ p. NoSocketSpeaks p.before) transitions → Asks first (events_in transitions) (notes_in transitions) last
+all_asked : {first last : Host} {transitions : List Transition} → Run first transitions last → IsSound first →
+    AllByRecursion (λ p. NoSocketSpeaks p.before) transitions → Asks first (events_in transitions) (notes_in transitions) last
 all_asked {first} Ends sound all = record { noted = λ t. refl; same = refl; sound = sound }
 all_asked (Then {told = told} {notes = notes} {transitions = ps} s r) sound all =
     let one = step_asks s sound all.0 in

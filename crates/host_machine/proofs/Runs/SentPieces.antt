@@ -52,7 +52,8 @@ use Rattle.host_machine.specs.Receiving.Ipv6.{ProcessesIpv6}
 use Rattle.host_machine.specs.Receiving.Ipv4 as ipv4
 use Rattle.host_machine.specs.Receiving.Ethernet.{ProcessesEthertype, ProcessesEthernet, ProcessesFrame}
 use Rattle.host_machine.specs.Receiving.Ethernet as ethernet
-use Rattle.host_machine.specs.Sending.Dispatch.{Outcome, Dispatches, multicast_hardware_addr, group_address_v4, datagram_of, with_next_id, with_silence}
+use Rattle.host_machine.specs.Sending.Dispatch.{Outcome, Dispatches, multicast_hardware_addr}
+use Rattle.host_machine.specs.Sending.Dispatch.{group_address_v4, datagram_of, with_next_id, with_silence}
 use Rattle.host_machine.specs.Receiving.Response.{Responds}
 use Rattle.host_machine.specs.Polling.Ingress.{Takes, Ingress}
 use Rattle.host_machine.specs.Polling.Step.{Act, Step, UpdatesIpAddrs}
@@ -87,7 +88,8 @@ abbrev pub ShownOver : Host → List (List ℕ) → List Note → Host → Type 
 ShownOver old frames notes new = IsReal old → Shown old frames notes new
 
 -- where the addresses stay
-stays : (old : Host) (frames : List (List ℕ)) (notes : List Note) (new : Host) → Shows old.capabilities.medium frames (cut_notes notes) → new.capabilities ≡ old.capabilities → new.hardware_addr ≡ old.hardware_addr →
+stays : (old : Host) (frames : List (List ℕ)) (notes : List Note) (new : Host) →
+    Shows old.capabilities.medium frames (cut_notes notes) → new.capabilities ≡ old.capabilities → new.hardware_addr ≡ old.hardware_addr →
     new.neighbors.known ≡ old.neighbors.known → IsReal old → Shown old frames notes new
 stays old frames notes new s c h n r = record {
   shows = s;
@@ -110,19 +112,23 @@ of_all : (m : Medium) (own : EthernetAddress) → IsOf m (hardware.Ethernet own)
 of_all medium.Ethernet own of = refl
 of_all medium.Ip own of = of
 
-asked : (H : Host) (hop : IpAddress) → answer_of H.neighbors hop H.moment ≡ NotFound → ShownOver H [] (OfDiscovery (Ask H.moment) ∷ []) (with_neighbors H (with_silence H.neighbors H))
+asked : (H : Host) (hop : IpAddress) → answer_of H.neighbors hop H.moment ≡ NotFound →
+    ShownOver H [] (OfDiscovery (Ask H.moment) ∷ []) (with_neighbors H (with_silence H.neighbors H))
 asked H hop unknown = λ r. stays H _ _ _ Nothing refl refl refl r
 
-requests : (H : Host) (own : EthernetAddress) (source target : Ipv4Address) → H.hardware_addr ≡ hardware.Ethernet own → ShownOver H (arp_frame (request_for own source target) ∷ []) [] H
+requests : (H : Host) (own : EthernetAddress) (source target : Ipv4Address) →
+    H.hardware_addr ≡ hardware.Ethernet own → ShownOver H (arp_frame (request_for own source target) ∷ []) [] H
 requests H own source target mine = λ r.
     let of : IsOf H.capabilities.medium (hardware.Ethernet own) = rw mine at r.own in
-    stays H _ _ _ (OtherFrame (arp_frame (request_for own source target)) (arp_other H.capabilities.medium (request_for own source target) of (of_all H.capabilities.medium own of)) Nothing) refl refl refl r
+    stays H _ _ _ (OtherFrame (arp_frame (request_for own source target))
+    (arp_other H.capabilities.medium (request_for own source target) of (of_all H.capabilities.medium own of)) Nothing) refl refl refl r
 
 identifies : (H : Host) → ShownOver H [] (OfIdentification (Identify H.ipv4_id) ∷ []) (with_next_id H)
 identifies H = λ r. stays H _ _ _ Nothing refl refl refl r
 
 -- where a frame goes is an address of the medium
-found_of : (m : Medium) (o : Option Neighbor) (silent t : ℤ) (h : HardwareAddress) → ((e : Neighbor) → o ≡ Some e → IsOf m e.hardware_addr) → answer_from o silent t ≡ Found h → IsOf m h
+found_of : (m : Medium) (o : Option Neighbor) (silent t : ℤ) (h : HardwareAddress) →
+    ((e : Neighbor) → o ≡ Some e → IsOf m e.hardware_addr) → answer_from o silent t ≡ Found h → IsOf m h
 found_of m None silent t h all e = by (is_before t silent) e where
   by : (b : Bool) → (if b then RateLimited else NotFound) ≡ Found h → IsOf m h
   by true q = absurd cc
@@ -138,28 +144,38 @@ found_of m (Some n) silent t h all e = by (is_before t n.expires_at) e where
 
 group_six : (own : List IpCidr) (a : IpAddress) (e : EthernetAddress) → multicast_hardware_addr own a ≡ Some e → length e.0 ≡ 6
 group_six own (ip.Ipv4 a) e is = by (is_broadcast_v4 own a) (ipv4_address.is_multicast a) is where
-  by : (b c : Bool) → (if b then Some (record { 0 = 255 ∷ 255 ∷ 255 ∷ 255 ∷ 255 ∷ 255 ∷ [] }) else if c then Some (group_address_v4 a) else None) ≡ Some e → length e.0 ≡ 6
-  by true c q = let same : ◌≡◌ {A = EthernetAddress} (record { 0 = 255 ∷ 255 ∷ 255 ∷ 255 ∷ 255 ∷ 255 ∷ [] }) e = cc in subst (λ (x : EthernetAddress). length x.0 ≡ 6) same refl
+  by : (b c : Bool) → (if b then Some (record { 0 = 255 ∷ 255 ∷ 255 ∷ 255 ∷ 255 ∷ 255 ∷ [] }) else if c then Some (group_address_v4 a) else None)
+      ≡ Some e → length e.0 ≡ 6
+  by true c q = let same : ◌≡◌ {A = EthernetAddress} (record { 0 = 255 ∷ 255 ∷ 255 ∷ 255 ∷ 255 ∷ 255 ∷ [] }) e = cc in
+      subst (λ (x : EthernetAddress). length x.0 ≡ 6) same refl
   by false true q = let same : group_address_v4 a ≡ e = cc in subst (λ (x : EthernetAddress). length x.0 ≡ 6) same refl
   by false false q = absurd cc
 group_six own (ip.Ipv6 a) e is = by (ipv6_address.is_multicast a) is where
-  by : (c : Bool) → (if c then Some (record { 0 = 0x33 ∷ 0x33 ∷ a.bits / 2 ^ 24 % 256 ∷ a.bits / 2 ^ 16 % 256 ∷ a.bits / 2 ^ 8 % 256 ∷ a.bits % 256 ∷ [] }) else None) ≡ Some e → length e.0 ≡ 6
-  by true q = let same : ◌≡◌ {A = EthernetAddress} (record { 0 = 0x33 ∷ 0x33 ∷ a.bits / 2 ^ 24 % 256 ∷ a.bits / 2 ^ 16 % 256 ∷ a.bits / 2 ^ 8 % 256 ∷ a.bits % 256 ∷ [] }) e = cc in subst (λ (x : EthernetAddress). length x.0 ≡ 6) same refl
+  by : (c : Bool) → (if c then Some (record {
+    0 = 0x33 ∷ 0x33 ∷ a.bits / 2 ^ 24 % 256 ∷ a.bits / 2 ^ 16 % 256 ∷ a.bits / 2 ^ 8 % 256 ∷ a.bits % 256 ∷ [];
+  }) else None) ≡ Some e → length e.0 ≡ 6
+  by true q = let same : ◌≡◌ {A = EthernetAddress}
+      (record { 0 = 0x33 ∷ 0x33 ∷ a.bits / 2 ^ 24 % 256 ∷ a.bits / 2 ^ 16 % 256 ∷ a.bits / 2 ^ 8 % 256 ∷ a.bits % 256 ∷ [] }) e = cc in
+      subst (λ (x : EthernetAddress). length x.0 ≡ 6) same refl
   by false q = absurd cc
 
-group_of : (m : Medium) (own : EthernetAddress) (list : List IpCidr) (a : IpAddress) (e : EthernetAddress) → IsOf m (hardware.Ethernet own) → multicast_hardware_addr list a ≡ Some e → IsOf m (hardware.Ethernet e)
+group_of : (m : Medium) (own : EthernetAddress) (list : List IpCidr) (a : IpAddress) (e : EthernetAddress) →
+    IsOf m (hardware.Ethernet own) → multicast_hardware_addr list a ≡ Some e → IsOf m (hardware.Ethernet e)
 group_of medium.Ethernet own list a e of is = group_six list a e is
 group_of medium.Ip own list a e of is = absurd of
 
 pub reached_of : (H : Host) (h : HardwareAddress) → IsReal H → Reached H h → IsOf H.capabilities.medium h
-reached_of H h r (ByNeighbor hop k) = found_of H.capabilities.medium (map.get H.neighbors.known hop) H.neighbors.silent_until H.moment h (λ e is. r.neighbors hop e is) k
+reached_of H h r (ByNeighbor hop k) =
+    found_of H.capabilities.medium (map.get H.neighbors.known hop) H.neighbors.silent_until H.moment h (λ e is. r.neighbors hop e is) k
 reached_of H h r (ByGroup own a e mine many is) = rw is (group_of H.capabilities.medium own H.ip_addrs a e (rw mine at r.own) many)
 reached_of H h r (WithoutAddresses mine is) = rw is (rw mine at r.own)
 
 whole : (H : Host) (h : HardwareAddress) (p : Packet) → Reached H h → ShownOver H (ip_frame H h p ∷ []) [] H
-whole H h p reached = λ r. stays H _ _ _ (OtherFrame (ip_frame H h p) (whole_other H.capabilities.medium H h p r.own (reached_of H h r reached)) Nothing) refl refl refl r
+whole H h p reached = λ r.
+    stays H _ _ _ (OtherFrame (ip_frame H h p) (whole_other H.capabilities.medium H h p r.own (reached_of H h r reached)) Nothing) refl refl refl r
 
-cuts : (H : Host) (h : HardwareAddress) (id : ℕ) (p : PacketV4) (first : Piece) (rest : List Piece) → pieces_of (datagram_of H h id p) ≡ first ∷ rest → HasForm (datagram_of H h id p) → Reached H h →
+cuts : (H : Host) (h : HardwareAddress) (id : ℕ) (p : PacketV4) (first : Piece) (rest : List Piece) →
+    pieces_of (datagram_of H h id p) ≡ first ∷ rest → HasForm (datagram_of H h id p) → Reached H h →
     ShownOver H (piece_frame H first ∷ []) (OfCuts (Cut (datagram_of H h id p)) ∷ OfCuts (PieceSent first) ∷ []) (with_left H rest)
 cuts H h id p first rest e form reached = λ r.
     stays H _ _ _ (OneCut (datagram_of H h id p) (reached_of H h r reached) (OnePiece H first r.own Nothing)) refl refl refl r
@@ -167,17 +183,20 @@ cuts H h id p first rest e form reached = λ r.
 sweeps : (H : Host) (t : ℤ) → ShownOver H [] [] (without_expired H t)
 sweeps H t = λ r. stays H [] [] _ Nothing refl refl refl r
 
-fragments : (H : Host) (key : FragKey) (f : Fragment) (result : Option (List ℕ)) (notes : List Note) (new : Host) → TakesFragment key f result H notes new → ShownOver H [] notes new
+fragments : (H : Host) (key : FragKey) (f : Fragment) (result : Option (List ℕ)) (notes : List Note) (new : Host) →
+    TakesFragment key f result H notes new → ShownOver H [] notes new
 fragments H key f result notes new t = λ r. rw (t.noted, t.changed) (stays H [] _ _ (rw (cut_notes-slots t.slot_notes) Nothing) refl refl refl r)
 
-pieces : (H : Host) (p : Piece) (rest : List Piece) → H.left ≡ p ∷ rest → ShownOver H (piece_frame H p ∷ []) (OfCuts (PieceSent p) ∷ []) (with_left H rest)
+pieces : (H : Host) (p : Piece) (rest : List Piece) →
+    H.left ≡ p ∷ rest → ShownOver H (piece_frame H p ∷ []) (OfCuts (PieceSent p) ∷ []) (with_left H rest)
 pieces H p rest e = λ r. stays H _ _ _ (OnePiece H p r.own Nothing) refl refl refl r
 
 -- an ARP reply goes between addresses of the medium, and a packet has a message of the host's own
 abbrev pub GoodReply : Medium → Option Reply → Type 0
 GoodReply m None = Unit {0}
 GoodReply m (Some (Ip p)) = is_own (payload_of p) ≡ true
-GoodReply m (Some (Arp r)) = IsOf m (hardware.Ethernet r.source_hardware_addr) × IsOf m (hardware.Ethernet r.target_hardware_addr) × (r.operation ≡ operation.Reply)
+GoodReply m (Some (Arp r)) = IsOf m (hardware.Ethernet r.source_hardware_addr)
+    × IsOf m (hardware.Ethernet r.target_hardware_addr) × (r.operation ≡ operation.Reply)
 
 module _ (kind : Medium) where
   no_reply : {reply : Option Reply} → reply ≡ None → GoodReply kind reply
@@ -192,84 +211,104 @@ module _ (kind : Medium) where
   ip_good (Some (Ip p)) i = i
   ip_good (Some (Arp r)) i = absurd i
 
-  reply_good : (op : ArpOperation) (own : EthernetAddress) (r : ArpRepr) → IsOf kind (hardware.Ethernet own) → IsOf kind (hardware.Ethernet r.source_hardware_addr) → GoodReply kind (answer_by op own r)
+  reply_good : (op : ArpOperation) (own : EthernetAddress) (r : ArpRepr) →
+      IsOf kind (hardware.Ethernet own) → IsOf kind (hardware.Ethernet r.source_hardware_addr) → GoodReply kind (answer_by op own r)
   reply_good operation.Request own r s t = (s, t, refl)
   reply_good operation.Reply own r s t = tt
 
-  arp_good : {own : EthernetAddress} {H new : Host} {payload : List ℕ} {reply : Option Reply} {notes : List Note} → IsOf kind (hardware.Ethernet own) → ProcessesArp own H payload reply notes new → GoodReply kind reply
+  arp_good : {own : EthernetAddress} {H new : Host} {payload : List ℕ} {reply : Option Reply} {notes : List Note} →
+      IsOf kind (hardware.Ethernet own) → ProcessesArp own H payload reply notes new → GoodReply kind reply
   arp_good of (arp.Malformed m d) = drop_good d
   arp_good of (arp.NotForUs a l d) = drop_good d
-  arp_good {own} {H} {new} {payload} of (arp.Learnt a l learns r n) = rw r (reply_good (arp_in payload).operation own (arp_in payload) of (arp_source_of kind own payload of a))
+  arp_good {own} {H} {new} {payload} of (arp.Learnt a l learns r n) =
+      rw r (reply_good (arp_in payload).operation own (arp_in payload) of (arp_source_of kind own payload of a))
 
-  whole_good : {source : HardwareAddress} {r : Ipv4Repr} {H new : Host} {payload : List ℕ} {reply : Option Reply} {notes : List Note} → ProcessesDatagram source r H payload reply notes new → GoodReply kind reply
+  whole_good : {source : HardwareAddress} {r : Ipv4Repr} {H new : Host} {payload : List ℕ} {reply : Option Reply} {notes : List Note} →
+      ProcessesDatagram source r H payload reply notes new → GoodReply kind reply
   whole_good t = ip_good _ (whole_plain t).by_ip
 
-  ipv6_good : {source : HardwareAddress} {H new : Host} {octets : List ℕ} {reply : Option Reply} {notes : List Note} → ProcessesIpv6 source H octets reply notes new → GoodReply kind reply
+  ipv6_good : {source : HardwareAddress} {H new : Host} {octets : List ℕ} {reply : Option Reply} {notes : List Note} →
+      ProcessesIpv6 source H octets reply notes new → GoodReply kind reply
   ipv6_good t = ip_good _ (ipv6_plain t).by_ip
 
-  packet_good : {source : HardwareAddress} {r : Ipv4Repr} {f : Ipv4Fragment} {H new : Host} {payload : List ℕ} {reply : Option Reply} {notes : List Note} → ProcessesPacket source r f H payload reply notes new → GoodReply kind reply
+  packet_good : {source : HardwareAddress} {r : Ipv4Repr} {f : Ipv4Fragment} {H new : Host} {payload : List ℕ} {reply : Option Reply}
+      {notes : List Note} → ProcessesPacket source r f H payload reply notes new → GoodReply kind reply
   packet_good (ipv4.FromNoHost s d) = drop_good d
   packet_good (ipv4.Part s g t e) = no_reply e
   packet_good (ipv4.Completed octets mid first rest s g t w n) = whole_good w
   packet_good (ipv4.Whole s g t) = whole_good t
 
-  ipv4_good : {source : HardwareAddress} {H new : Host} {octets : List ℕ} {reply : Option Reply} {notes : List Note} → ProcessesIpv4 source H octets reply notes new → GoodReply kind reply
+  ipv4_good : {source : HardwareAddress} {H new : Host} {octets : List ℕ} {reply : Option Reply} {notes : List Note} →
+      ProcessesIpv4 source H octets reply notes new → GoodReply kind reply
   ipv4_good (ipv4.Malformed m d) = drop_good d
   ipv4_good (ipv4.Read i t) = packet_good t
 
-  payload_good : (own source : EthernetAddress) (H : Host) (p : EthernetProtocol) (payload : List ℕ) (reply : Option Reply) (notes : List Note) (new : Host) → IsOf kind (hardware.Ethernet own) →
+  payload_good : (own source : EthernetAddress) (H : Host) (p : EthernetProtocol) (payload : List ℕ) (reply : Option Reply) (notes : List Note)
+      (new : Host) → IsOf kind (hardware.Ethernet own) →
       ProcessesEthertype own source H p payload reply notes new → GoodReply kind reply
   payload_good own source H protocol.Arp payload reply notes new of t = arp_good of t
   payload_good own source H protocol.Ipv4 payload reply notes new of t = ipv4_good t
   payload_good own source H protocol.Ipv6 payload reply notes new of t = ipv6_good t
   payload_good own source H (protocol.Unknown n) payload reply notes new of t = drop_good t
 
-  ethernet_good : {own : EthernetAddress} {H new : Host} {frame : List ℕ} {reply : Option Reply} {notes : List Note} → IsOf kind (hardware.Ethernet own) → ProcessesEthernet own H frame reply notes new → GoodReply kind reply
+  ethernet_good : {own : EthernetAddress} {H new : Host} {frame : List ℕ} {reply : Option Reply} {notes : List Note} →
+      IsOf kind (hardware.Ethernet own) → ProcessesEthernet own H frame reply notes new → GoodReply kind reply
   ethernet_good of (ethernet.Malformed m d) = drop_good d
   ethernet_good of (ethernet.NotForUs l f d) = drop_good d
   ethernet_good {own} {H} {new} {frame} {reply} {notes} of (ethernet.Accepted l f t) = payload_good own _ H _ _ reply notes new of t
 
-  frame_good : (h : HardwareAddress) (H : Host) (frame : List ℕ) (reply : Option Reply) (notes : List Note) (new : Host) → IsOf kind h → ProcessesFrame h H frame reply notes new → GoodReply kind reply
+  frame_good : (h : HardwareAddress) (H : Host) (frame : List ℕ) (reply : Option Reply) (notes : List Note) (new : Host) →
+      IsOf kind h → ProcessesFrame h H frame reply notes new → GoodReply kind reply
   frame_good (hardware.Ethernet own) H frame reply notes new of t = ethernet_good of t
   frame_good hardware.Ip H frame reply notes new of (ethernet.Ipv4 v t) = ipv4_good t
   frame_good hardware.Ip H frame reply notes new of (ethernet.Ipv6 v t) = ipv6_good t
   frame_good hardware.Ip H frame reply notes new of (ethernet.OtherVersion v w d) = drop_good d
 
-pub takes_good : (H : Host) (r : Reception) (reply : Option Reply) (notes : List Note) (new : Host) → IsReal H → Takes H r reply notes new → GoodReply H.capabilities.medium reply
+pub takes_good : (H : Host) (r : Reception) (reply : Option Reply) (notes : List Note) (new : Host) →
+    IsReal H → Takes H r reply notes new → GoodReply H.capabilities.medium reply
 takes_good H NoFrame reply notes new real t = drop_good H.capabilities.medium t
 takes_good H Withheld reply notes new real t = drop_good H.capabilities.medium t
 takes_good H (Frame []) reply notes new real t = drop_good H.capabilities.medium t
-takes_good H (Frame (octet ∷ octets)) reply notes new real t = frame_good H.capabilities.medium H.hardware_addr H (octet ∷ octets) reply notes new real.own t
+takes_good H (Frame (octet ∷ octets)) reply notes new real t =
+    frame_good H.capabilities.medium H.hardware_addr H (octet ∷ octets) reply notes new real.own t
 
-pub dispatch_real : {p : Packet} {outcome : Outcome} {H new : Host} {frames : List (List ℕ)} {notes : List Note} → Dispatches p outcome H frames notes new → ShownOver H frames notes new
+pub dispatch_real : {p : Packet} {outcome : Outcome} {H new : Host} {frames : List (List ℕ)} {notes : List Note} →
+    Dispatches p outcome H frames notes new → ShownOver H frames notes new
 dispatch_real d = dispatched ShownOver keeps on requests asked identifies whole cuts d
 
 silent : {old new : Host} {frames : List (List ℕ)} {notes : List Note} → frames ≡ [] → notes ≡ [] → new ≡ old → ShownOver old frames notes new
 silent {old} f n e = λ real. rw (f, n, e) (stays old [] [] old Nothing refl refl refl real)
 
-responds : (reply : Option Reply) (H : Host) (frames : List (List ℕ)) (notes : List Note) (new : Host) → GoodReply H.capabilities.medium reply → Responds reply H frames notes new → ShownOver H frames notes new
+responds : (reply : Option Reply) (H : Host) (frames : List (List ℕ)) (notes : List Note) (new : Host) →
+    GoodReply H.capabilities.medium reply → Responds reply H frames notes new → ShownOver H frames notes new
 responds None H frames notes new good r = silent r.0 r.1 r.2
 responds (Some (Arp packet)) H frames notes new good r = λ real.
-    rw (r.0, r.1, r.2) (stays H _ [] H (OtherFrame (arp_frame packet) (arp_other H.capabilities.medium packet good.0 good.1) Nothing) refl refl refl real)
+    rw (r.0, r.1, r.2)
+    (stays H _ [] H (OtherFrame (arp_frame packet) (arp_other H.capabilities.medium packet good.0 good.1) Nothing) refl refl refl real)
 responds (Some (Ip packet)) H frames notes new good r = dispatch_real r.1
 
 -- what is taken leaves hardware addresses of the medium
-pub takes_real : (H : Host) (r : Reception) (reply : Option Reply) (notes : List Note) (new : Host) → Takes H r reply notes new → ShownOver H [] notes new
+pub takes_real : (H : Host) (r : Reception) (reply : Option Reply) (notes : List Note) (new : Host) →
+    Takes H r reply notes new → ShownOver H [] notes new
 takes_real H r reply notes new t = taken ShownOver keeps on fragments H r reply notes new t
 
-ingress : {t : ℤ} {answer : PollIngressSingleResult} {old new : Host} {told : List Event} {notes : List Note} → Ingress t answer old told notes new → ShownOver old (sent_frames told) notes new
+ingress : {t : ℤ} {answer : PollIngressSingleResult} {old new : Host} {told : List Event} {notes : List Note} →
+    Ingress t answer old told notes new → ShownOver old (sent_frames told) notes new
 ingress {t} {answer} {old} {new} {told} {notes} i = λ real.
     let began = (sweeps old t real).real in
     let r = i.response in
     let first = takes_real (without_expired old t) i.reception r.reply r.notes_taking r.taken r.takes in
     let good = takes_good (without_expired old t) i.reception r.reply r.notes_taking r.taken began r.takes in
     let same = (first began).same in
-    let second = responds r.reply r.taken i.frames r.notes_responding new (subst (λ (d : DeviceCapabilities). GoodReply d.medium r.reply) (sym same) good) r.responds in
-    rw (i.events, r.all_notes, sent_frames-sends i.frames) (on old (without_expired old t) new [] i.frames [] (r.notes_taking ++ r.notes_responding) (sweeps old t)
+    let second = responds r.reply r.taken i.frames r.notes_responding new
+    (subst (λ (d : DeviceCapabilities). GoodReply d.medium r.reply) (sym same) good) r.responds in
+    rw (i.events, r.all_notes, sent_frames-sends i.frames)
+    (on old (without_expired old t) new [] i.frames [] (r.notes_taking ++ r.notes_responding) (sweeps old t)
     (on (without_expired old t) r.taken new [] i.frames r.notes_taking r.notes_responding first second) real)
 
 updates : {list : List IpCidr} {answer : _} {old new : Host} → UpdatesIpAddrs list answer old new → ShownOver old [] [] new
-updates {old = old} (step.Accepted a r e) = λ real. rw e (record { shows = Nothing; same = refl; real = record { own = real.own; neighbors = none_of old.capabilities.medium old.neighbors } })
+updates {old = old} (step.Accepted a r e) = λ real.
+    rw e (record { shows = Nothing; same = refl; real = record { own = real.own; neighbors = none_of old.capabilities.medium old.neighbors } })
 updates (step.Refused a r e) = silent refl refl e
 
 sets : {h : HardwareAddress} {answer : _} {old new : Host} → step.SetsHardwareAddr h answer old new → ShownOver old [] [] new
@@ -282,11 +321,13 @@ lasts (step.OverDay l r e) = silent refl refl e
 
 -- addresses and routes in line with what was learnt
 syncs : (H : Host) (b : Bool) → ShownOver H [] [] (if b then with_slaac_applied H else H)
-syncs H true = λ real. record { shows = Nothing; same = refl; real = record { own = real.own; neighbors = none_of H.capabilities.medium H.neighbors } }
+syncs H true =
+    λ real. record { shows = Nothing; same = refl; real = record { own = real.own; neighbors = none_of H.capabilities.medium H.neighbors } }
 syncs H false = silent refl refl refl
 
 pub maintains : (H : Host) (t : ℤ) → ShownOver H [] [] (after_maintenance (at H t))
-maintains H t = on H (without_expired H t) (after_maintenance (at H t)) [] [] [] [] (sweeps H t) (syncs (without_expired H t) (sync_required H.slaac t))
+maintains H t =
+    on H (without_expired H t) (after_maintenance (at H t)) [] [] [] [] (sweeps H t) (syncs (without_expired H t) (sync_required H.slaac t))
 
 -- over the calls of a poll
 abbrev Told : Part
@@ -298,11 +339,13 @@ begins H = λ real. stays H [] [] H Nothing refl refl refl real
 follows : (a b c : Host) (ts us : List Event) (xs ys : List Note) → Told a ts xs b → Told b us ys c → Told a (ts ++ us) (xs ++ ys) c
 follows a b c ts us xs ys one two = rw sent_frames-append (on a b c (sent_frames ts) (sent_frames us) xs ys one two)
 
-pub stepped : {command : Command} {answer : Answer} {old new : Host} {told : List Event} {acts : List Act} {notes : List Note} → Step command answer old told acts notes new → IsReal old → Shown old (sent_frames told) notes new
+pub stepped : {command : Command} {answer : Answer} {old new : Host} {told : List Event} {acts : List Act} {notes : List Note} →
+    Step command answer old told acts notes new → IsReal old → Shown old (sent_frames told) notes new
 stepped (step.UpdatedIpAddrs u) real = updates u real
 stepped (step.PolledIngressSingle i) real = ingress i real
 stepped (step.PolledEgress e) real = egressed ShownOver keeps on requests asked identifies whole cuts pieces e real
-stepped (step.Polled {t} p) real = polled Told begins follows t (λ H. maintains H t) (λ answer old new told notes i. ingress i) (λ answer old new told notes e. egressed ShownOver keeps on requests asked identifies whole cuts pieces e) p real
+stepped (step.Polled {t} p) real = polled Told begins follows t (λ H. maintains H t) (λ answer old new told notes i. ingress i)
+    (λ answer old new told notes e. egressed ShownOver keeps on requests asked identifies whole cuts pieces e) p real
 stepped (step.PolledMaintenance {t} {old}) real = maintains old t real
 stepped {old = old} (step.JoinedGroup j) real = let g = join_groups j in rw g.1 (stays old [] [] _ Nothing refl refl refl real)
 stepped {old = old} (step.LeftGroup j) real = let g = leave_groups j in rw g.1 (stays old [] [] _ Nothing refl refl refl real)
@@ -311,7 +354,8 @@ stepped (step.TookReassemblyTimeout s) real = lasts s real
 stepped {old = old} other real = stays old [] [] _ Nothing refl refl refl real
 
 -- over a whole run
-all_shown : {first last : Host} {transitions : List Transition} → Run first transitions last → IsReal first → Shown first (sent_frames (events_in transitions)) (notes_in transitions) last
+all_shown : {first last : Host} {transitions : List Transition} →
+    Run first transitions last → IsReal first → Shown first (sent_frames (events_in transitions)) (notes_in transitions) last
 all_shown {first} Ends real = stays first [] [] first Nothing refl refl refl real
 all_shown (Then {told = told} {notes = notes} {transitions = ps} s r) real =
     rw sent_frames-append (on _ _ _ (sent_frames told) (sent_frames (events_in ps)) notes (notes_in ps) (λ x. stepped s x) (λ x. all_shown r x) real)

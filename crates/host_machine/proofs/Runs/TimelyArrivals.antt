@@ -1,5 +1,6 @@
 -- Where all pieces of a payload come within the time of a slot, beside those of one other datagram at most, the payload is rebuilt.
-use Rattle.std.proofs.Common.{◌≡◌, ◌⊎◌, ℕ, ◌+◌, ◌<◌, ◌≤◌, List, [], ◌∷◌, ◌++◌, length, append_assoc, refl, sym, ◌∙◌, ap, subst, arith, inl, inr, Option, Some, None}
+use Rattle.std.proofs.Common.{◌≡◌, ◌⊎◌, ℕ, ◌+◌, ◌<◌, ◌≤◌, List, [], ◌∷◌, ◌++◌, length, append_assoc}
+use Rattle.std.proofs.Common.{refl, sym, ◌∙◌, ap, subst, arith, inl, inr, Option, Some, None}
 use Rattle.std.proofs.lemmas.List.{append-nil}
 use Rattle.std.proofs.lemmas.Int.{ints}
 use Rattle.std.specs.Prelude.{ℤ, pos, ◌+ℤ◌, ◌≤ℤ◌, Bool, true, false, not, cond, int_lt, if◌then◌else◌}
@@ -25,14 +26,17 @@ use Rattle.host_machine.specs.Polling.Step.{Act, Step}
 use Rattle.host_machine.specs.Polling.Step as step
 use Rattle.host_machine.specs.Polling.Run.{Transition, Run, notes_in}
 use Rattle.host_machine.specs.Laws.Unfolded.{IsSingle}
-use Rattle.host_machine.specs.Laws.Arrivals.{arrivals_under, rebuilt, slot_notes_in, expiry_time_of, live_by, slots_then, IsServed, IsInTime, PiecesArriveInTime}
+use Rattle.host_machine.specs.Laws.Arrivals.{arrivals_under, rebuilt, slot_notes_in, expiry_time_of}
+use Rattle.host_machine.specs.Laws.Arrivals.{live_by, slots_then, IsServed, IsInTime, PiecesArriveInTime}
 use Rattle.host_machine.specs.Laws.Frames.{all_arrivals}
 use Rattle.host_machine.proofs.State.Keys.{key_total, key_exact, same_is, get-live_at}
 use Rattle.host_machine.proofs.Runs.ReassemblyOrigin.{test_same, live_then}
 use Rattle.host_machine.proofs.Receiving.Pieces.{is_in, contains_in, in_cut, IsPiece}
 use Rattle.host_machine.proofs.State.NotesBySubject.{slot_notes-append}
 use Rattle.host_machine.proofs.Receiving.SlotEffects.{StepView, NoPart, APart, step_view}
-use Rattle.host_machine.proofs.Runs.FragmentArrivals.{arrivals_under-append, rebuilt-append, arrivals_of, last_piece, one_step, all_arrivals_of, all_arrivals-append, Holding, Empty, Coming, coming_on, run_head, pieces_are, all_left, ingress_alike, egress_alike}
+use Rattle.host_machine.proofs.Runs.FragmentArrivals.{arrivals_under-append, rebuilt-append, arrivals_of, last_piece}
+use Rattle.host_machine.proofs.Runs.FragmentArrivals.{one_step, all_arrivals_of, all_arrivals-append, Holding, Empty, Coming}
+use Rattle.host_machine.proofs.Runs.FragmentArrivals.{coming_on, run_head, pieces_are, all_left, ingress_alike, egress_alike}
 use Rattle.host_machine.proofs.Polling.SingleCalls.{all_singles}
 
 -- notes without fragments that came
@@ -50,12 +54,17 @@ same_head x y xs ys e = cc
 same_tail : (x y : SlotNote) (xs ys : List SlotNote) → x ∷ xs ≡ y ∷ ys → xs ≡ ys
 same_tail x y xs ys e = cc
 
-behind : (xs ys before after : List SlotNote) (key : FragKey) (f : Fragment) → NoArrivals xs → xs ++ ys ≡ before ++ Arrival key f ∷ after → Behind xs ys before after key f
+behind : (xs ys before after : List SlotNote) (key : FragKey) (f : Fragment) →
+    NoArrivals xs → xs ++ ys ≡ before ++ Arrival key f ∷ after → Behind xs ys before after key f
 behind [] ys before after key f none e = record { more = before; is = refl; rest = e }
 behind (x ∷ xs) ys [] after key f none e = absurd (none.0 key f (same_head x (Arrival key f) (xs ++ ys) after e))
 behind (x ∷ xs) ys (b ∷ before) after key f none e =
     let r = behind xs ys before after key f none.1 (same_tail x b (xs ++ ys) (before ++ Arrival key f ∷ after) e) in
-    record { more = r.more; is = ap (λ ns. b ∷ ns) r.is ∙ ap (λ n. n ∷ (xs ++ r.more)) (sym (same_head x b (xs ++ ys) (before ++ Arrival key f ∷ after) e)); rest = r.rest }
+    record {
+      more = r.more;
+      is = ap (λ ns. b ∷ ns) r.is ∙ ap (λ n. n ∷ (xs ++ r.more)) (sym (same_head x b (xs ++ ys) (before ++ Arrival key f ∷ after) e));
+      rest = r.rest;
+    }
 
 -- how what one fragment does is noted
 abbrev rebuilds : FragKey → Option (List ℕ) → List SlotNote
@@ -80,15 +89,20 @@ entered : {ends : ℤ} {slots : Slots} {k : FragKey} {slot : Slot} {first : List
 entered (Stood s n) = rw n (record { none = tt; unbuilt = λ j. refl })
 entered {k = k} (Taken free room s n) = rw n (record { none = (λ j g e. absurd cc, tt); unbuilt = λ j. refl })
 
-noted : {ends : ℤ} {slots new : Slots} {k : FragKey} {g : Fragment} {result : Option (List ℕ)} {notes : List SlotNote} → Reassembles ends k g result slots notes new → Noted k g result notes
+noted : {ends : ℤ} {slots new : Slots} {k : FragKey} {g : Fragment} {result : Option (List ℕ)} {notes : List SlotNote} →
+    Reassembles ends k g result slots notes new → Noted k g result notes
 noted (NoSlot none full r n e) = rw (r, n) (record { first = []; none = tt; unbuilt = λ j. refl; are = refl })
-noted (Unfit slot first enters u r n e) = let x = entered enters in rw (r, n) (record { first = first; none = x.none; unbuilt = x.unbuilt; are = refl })
-noted (Waits slot first enters u w r n e) = let x = entered enters in rw (r, n) (record { first = first; none = x.none; unbuilt = x.unbuilt; are = refl })
-noted (Rebuilt slot first octets enters u w r n e) = let x = entered enters in rw (r, n) (record { first = first; none = x.none; unbuilt = x.unbuilt; are = refl })
+noted (Unfit slot first enters u r n e) = let x = entered enters in
+    rw (r, n) (record { first = first; none = x.none; unbuilt = x.unbuilt; are = refl })
+noted (Waits slot first enters u w r n e) = let x = entered enters in
+    rw (r, n) (record { first = first; none = x.none; unbuilt = x.unbuilt; are = refl })
+noted (Rebuilt slot first octets enters u w r n e) = let x = entered enters in
+    rw (r, n) (record { first = first; none = x.none; unbuilt = x.unbuilt; are = refl })
 
 -- the fragment that is looked for comes at this place, or later
 data Split (notes rest before after : List SlotNote) (key : FragKey) (f : Fragment) : Type 0 where
-  Here : (result : Option (List ℕ)) → arrivals_under key notes ≡ f ∷ [] → rebuilt key notes ≡ rebuilt key (rebuilds key result) → rebuilt key before ≡ [] → arrivals_under key before ≡ [] →
+  Here : (result : Option (List ℕ)) → arrivals_under key notes ≡ f ∷ [] → rebuilt key notes ≡ rebuilt key (rebuilds key result) →
+      rebuilt key before ≡ [] → arrivals_under key before ≡ [] →
       after ≡ rebuilds key result ++ rest → Split notes rest before after key f
   Later : (more : List SlotNote) → before ≡ notes ++ more → rest ≡ more ++ Arrival key f ∷ after → Split notes rest before after key f
 
@@ -104,15 +118,20 @@ none_noted key (Rebuild k os ∷ xs) none = none_noted key xs none.1
 one_fragment : (k key : FragKey) (g f : Fragment) → k ≡ key → g ≡ f → (if same_key key k then g ∷ [] else []) ≡ f ∷ []
 one_fragment k key g f e h = rw (e, h, test_same key) refl
 
-split_here : {ends : ℤ} {slots new : Slots} {k : FragKey} {g : Fragment} {result : Option (List ℕ)} (notes rest before after : List SlotNote) (key : FragKey) (f : Fragment) → Reassembles ends k g result slots notes new →
-    (x : Noted k g result notes) → (k ≡ key) × (g ≡ f) → before ≡ x.first ++ [] → after ≡ rebuilds k result ++ rest → Split notes rest before after key f
+split_here : {ends : ℤ} {slots new : Slots} {k : FragKey} {g : Fragment} {result : Option (List ℕ)} (notes rest before after : List SlotNote)
+    (key : FragKey) (f : Fragment) → Reassembles ends k g result slots notes new →
+    (x : Noted k g result notes) → (k ≡ key) × (g ≡ f) → before ≡ x.first ++ [] →
+    after ≡ rebuilds k result ++ rest → Split notes rest before after key f
 split_here {k = k} {g = g} {result = result} notes rest before after key f r x same b e =
     let none : arrivals_under key x.first ≡ [] = none_noted key x.first x.none in
-    let are : rebuilt key notes ≡ rebuilt key (rebuilds k result) = ap (rebuilt key) x.are ∙ rebuilt-append key x.first (Arrival k g ∷ rebuilds k result) ∙ rw x.unbuilt refl in
+    let are : rebuilt key notes ≡ rebuilt key (rebuilds k result) = ap (rebuilt key) x.are
+    ∙ rebuilt-append key x.first (Arrival k g ∷ rebuilds k result) ∙ rw x.unbuilt refl in
     Here result (arrivals_of key r ∙ one_fragment k key g f same.0 same.1) (are ∙ ap (λ j. rebuilt key (rebuilds j result)) same.0)
-    (ap (rebuilt key) (b ∙ append-nil x.first) ∙ x.unbuilt key) (ap (arrivals_under key) (b ∙ append-nil x.first) ∙ none) (e ∙ ap (λ j. rebuilds j result ++ rest) same.0)
+    (ap (rebuilt key) (b ∙ append-nil x.first) ∙ x.unbuilt key) (ap (arrivals_under key) (b ∙ append-nil x.first) ∙ none)
+    (e ∙ ap (λ j. rebuilds j result ++ rest) same.0)
 
-split : {ends : ℤ} {slots new : Slots} {k : FragKey} {g : Fragment} {result : Option (List ℕ)} (notes rest before after : List SlotNote) (key : FragKey) (f : Fragment) → Reassembles ends k g result slots notes new →
+split : {ends : ℤ} {slots new : Slots} {k : FragKey} {g : Fragment} {result : Option (List ℕ)} (notes rest before after : List SlotNote)
+    (key : FragKey) (f : Fragment) → Reassembles ends k g result slots notes new →
     notes ++ rest ≡ before ++ Arrival key f ∷ after → Split notes rest before after key f
 split {k = k} {g = g} {result = result} notes rest before after key f r e = by one.more one.is one.rest where
   x : Noted k g result notes
@@ -124,12 +143,17 @@ split {k = k} {g = g} {result = result} notes rest before after key f r e = by o
   one : Behind x.first (Arrival k g ∷ (rebuilds k result ++ rest)) before after key f
   one = behind x.first (Arrival k g ∷ (rebuilds k result ++ rest)) before after key f x.none whole
 
-  by : (more : List SlotNote) → before ≡ x.first ++ more → Arrival k g ∷ (rebuilds k result ++ rest) ≡ more ++ Arrival key f ∷ after → Split notes rest before after key f
-  by [] b h = split_here notes rest before after key f r x (same_arrivals k key g f (same_head (Arrival k g) (Arrival key f) (rebuilds k result ++ rest) after h)) b (sym (same_tail (Arrival k g) (Arrival key f) (rebuilds k result ++ rest) after h))
+  by : (more : List SlotNote) →
+      before ≡ x.first ++ more → Arrival k g ∷ (rebuilds k result ++ rest) ≡ more ++ Arrival key f ∷ after → Split notes rest before after key f
+  by [] b h = split_here notes rest before after key f r x
+      (same_arrivals k key g f (same_head (Arrival k g) (Arrival key f) (rebuilds k result ++ rest) after h)) b
+      (sym (same_tail (Arrival k g) (Arrival key f) (rebuilds k result ++ rest) after h))
   by (y ∷ more) b h =
-      let two = behind (rebuilds k result) rest more after key f (rebuilds_none k result) (same_tail (Arrival k g) y (rebuilds k result ++ rest) (more ++ Arrival key f ∷ after) h) in
+      let two = behind (rebuilds k result) rest more after key f (rebuilds_none k result)
+      (same_tail (Arrival k g) y (rebuilds k result ++ rest) (more ++ Arrival key f ∷ after) h) in
       let head : Arrival k g ≡ y = same_head (Arrival k g) y (rebuilds k result ++ rest) (more ++ Arrival key f ∷ after) h in
-      Later two.more (b ∙ ap (λ ns. x.first ++ ns) (ap (λ z. z ∷ more) (sym head) ∙ ap (λ ns. Arrival k g ∷ ns) two.is) ∙ sym (append_assoc x.first (Arrival k g ∷ rebuilds k result) two.more) ∙ ap (λ ns. ns ++ two.more) (sym x.are)) two.rest
+      Later two.more (b ∙ ap (λ ns. x.first ++ ns) (ap (λ z. z ∷ more) (sym head) ∙ ap (λ ns. Arrival k g ∷ ns) two.is)
+      ∙ sym (append_assoc x.first (Arrival k g ∷ rebuilds k result) two.more) ∙ ap (λ ns. ns ++ two.more) (sym x.are)) two.rest
 
 -- one key at most: at most one slot
 abbrev no_slot : Slots
@@ -144,7 +168,8 @@ few_slots slots other only = by (map.get slots other) refl where
   empty : (q : FragKey) → map.get no_slot q ≡ None
   empty q = get-empty key_cmp q
 
-  one : (s : Slot) → map.get slots other ≡ Some s → (q : FragKey) (b : Bool) → same_key q other ≡ b → (o : Option Slot) → map.get slots q ≡ o → map.get slots q ≡ cond b (Some s) None
+  one : (s : Slot) → map.get slots other ≡ Some s → (q : FragKey) (b : Bool) → same_key q other ≡ b → (o : Option Slot) →
+      map.get slots q ≡ o → map.get slots q ≡ cond b (Some s) None
   one s is q true e o at = let same : q ≡ other = same_is q other e in rw same is
   one s is q false e None at = at
   one s is q false e (Some x) at =
@@ -160,8 +185,10 @@ few_slots slots other only = by (map.get slots other) refl where
       let same : slots ≡ no_slot = same_map key_total key_exact slots no_slot (λ q. nothing e q (map.get slots q) refl ∙ sym (empty q)) in
       let zero : map.len slots ≡ 0 = rw same (len-empty key_cmp Slot) in omega arith
   by (Some s) e =
-      let same : slots ≡ map.insert no_slot other s = same_map key_total key_exact slots (map.insert no_slot other s) (λ q. one s e q (same_key q other) refl (map.get slots q) refl ∙ sym (get-insert key_total no_slot other s q ∙ rw get-empty refl)) in
-      let l : map.len slots ≡ cond (map.contains_key no_slot other) 0 (0 + 1) = rw (same, len-insert key_total no_slot other s, len-empty key_cmp Slot) refl in
+      let same : slots ≡ map.insert no_slot other s = same_map key_total key_exact slots (map.insert no_slot other s)
+      (λ q. one s e q (same_key q other) refl (map.get slots q) refl ∙ sym (get-insert key_total no_slot other s q ∙ rw get-empty refl)) in
+      let l : map.len slots ≡ cond (map.contains_key no_slot other) 0 (0 + 1) =
+      rw (same, len-insert key_total no_slot other s, len-empty key_cmp Slot) refl in
       rw l (count (map.contains_key no_slot other))
 
 -- a sweep takes slots away, and no slot that ends later
@@ -196,9 +223,13 @@ module _ (key other : FragKey) (t0 end : ℤ) where
   moved f m span = record { keys = λ k s e. f.keys k s (m.fewer k s e); ends = λ s e. f.ends s (m.fewer key s e); span = span }
 
   sweeps : {slots : Slots} {timeout : ℕ} (t : ℤ) → Fits slots timeout → t ≤ℤ end → Moves slots (live_at t slots)
-  sweeps {slots} t f l = record { fewer = λ k s e. in_live t slots k s e; same = stays t slots key (λ s e. let later : end ≤ℤ s.ends = f.ends s e in omega (arith, ints)) }
+  sweeps {slots} t f l = record {
+    fewer = λ k s e. in_live t slots k s e;
+    same = stays t slots key (λ s e. let later : end ≤ℤ s.ends = f.ends s e in omega (arith, ints));
+  }
 
-  swept_by : {slots : Slots} {timeout : ℕ} (o : Option ℤ) → Fits slots timeout → ((t : ℤ) → o ≡ Some t → (t0 ≤ℤ t) × (t ≤ℤ end)) → Moves slots (live_by o slots)
+  swept_by : {slots : Slots} {timeout : ℕ} (o : Option ℤ) →
+      Fits slots timeout → ((t : ℤ) → o ≡ Some t → (t0 ≤ℤ t) × (t ≤ℤ end)) → Moves slots (live_by o slots)
   swept_by None f in_time = record { fewer = λ k s e. e; same = refl }
   swept_by (Some t) f in_time = sweeps t f (in_time t refl).1
 
@@ -209,11 +240,13 @@ module _ (key other : FragKey) (t0 end : ℤ) where
     by k s e (inl same) = let bad : None ≡ Some s = sym none ∙ rw same at e in absurd cc
     by k s e (inr same) = same
 
-  entered_ends : {ends : ℤ} {slots : Slots} {timeout : ℕ} {slot : Slot} {first : List SlotNote} → Fits slots timeout → end ≤ℤ ends → Enters ends key slots slot first → end ≤ℤ slot.ends
+  entered_ends : {ends : ℤ} {slots : Slots} {timeout : ℕ} {slot : Slot} {first : List SlotNote} →
+      Fits slots timeout → end ≤ℤ ends → Enters ends key slots slot first → end ≤ℤ slot.ends
   entered_ends {slot = slot} f late (Stood s n) = f.ends slot s
   entered_ends f late (Taken free room s n) = rw s late
 
-  put : {ends : ℤ} {slots new : Slots} {timeout : ℕ} {k : FragKey} {slot : Slot} (slot' : Slot) {first : List SlotNote} → Fits slots timeout → (k ≡ key) ⊎ (k ≡ other) → end ≤ℤ ends → Enters ends k slots slot first →
+  put : {ends : ℤ} {slots new : Slots} {timeout : ℕ} {k : FragKey} {slot : Slot} (slot' : Slot) {first : List SlotNote} →
+      Fits slots timeout → (k ≡ key) ⊎ (k ≡ other) → end ≤ℤ ends → Enters ends k slots slot first →
       slot'.ends ≡ slot.ends → new ≡ map.insert slots k slot' → Fits new timeout
   put {ends} {slots} {new} {timeout} {k} {slot} slot' {first} f which late enters is e = record {
     keys = λ j s at. by_key j s (same_key j k) refl (sym (get-insert key_total slots k slot' j) ∙ sym (ap (λ x. map.get x j) e) ∙ at);
@@ -241,7 +274,8 @@ module _ (key other : FragKey) (t0 end : ℤ) where
     left j s true at = absurd cc
     left j s false at = at
 
-  fits_after : {ends : ℤ} {slots new : Slots} {timeout : ℕ} {k : FragKey} {g : Fragment} {result : Option (List ℕ)} {notes : List SlotNote} → Fits slots timeout → (k ≡ key) ⊎ (k ≡ other) → end ≤ℤ ends →
+  fits_after : {ends : ℤ} {slots new : Slots} {timeout : ℕ} {k : FragKey} {g : Fragment} {result : Option (List ℕ)} {notes : List SlotNote} →
+      Fits slots timeout → (k ≡ key) ⊎ (k ≡ other) → end ≤ℤ ends →
       Reassembles ends k g result slots notes new → Fits new timeout
   fits_after f which late (NoSlot none full r n e) = rw e f
   fits_after f which late (Unfit slot first enters u r n e) = put _ f which late enters refl e
@@ -256,7 +290,8 @@ module _ (key other : FragKey) (t0 end : ℤ) where
 
   -- a timeout stays, or is set
   abbrev Timeout : Command → Host → Host → Type 0
-  Timeout c old new = (new.reassembly_timeout ≡ old.reassembly_timeout) ⊎ ((timeout : ℕ) × (c ≡ command.SetReassemblyTimeout timeout) × (new.reassembly_timeout ≡ timeout))
+  Timeout c old new = (new.reassembly_timeout ≡ old.reassembly_timeout)
+      ⊎ ((timeout : ℕ) × (c ≡ command.SetReassemblyTimeout timeout) × (new.reassembly_timeout ≡ timeout))
 
   updated : {list : _} {answer : _} {old new : Host} → step.UpdatesIpAddrs list answer old new → new.reassembly_timeout ≡ old.reassembly_timeout
   updated (step.Accepted a r e) = ap (λ (K : Host). K.reassembly_timeout) e
@@ -270,7 +305,8 @@ module _ (key other : FragKey) (t0 end : ℤ) where
   kept H true = refl
   kept H false = refl
 
-  timeout_of : {c : Command} {a : Answer} {old new : Host} {told : List Event} {acts : List Act} {notes : List Note} → IsSingle c → Step c a old told acts notes new → Timeout c old new
+  timeout_of : {c : Command} {a : Answer} {old new : Host} {told : List Event} {acts : List Act} {notes : List Note} →
+      IsSingle c → Step c a old told acts notes new → Timeout c old new
   timeout_of single (step.UpdatedIpAddrs u) = inl (updated u)
   timeout_of single (step.PolledIngressSingle i) = inl (ingress_alike i).timeout
   timeout_of single (step.PolledEgress e) = inl (egress_alike e).timeout
@@ -279,12 +315,14 @@ module _ (key other : FragKey) (t0 end : ℤ) where
   timeout_of single (step.JoinedGroup j) = inl (ap (λ (K : Host). K.reassembly_timeout) (join_groups j).1)
   timeout_of single (step.LeftGroup j) = inl (ap (λ (K : Host). K.reassembly_timeout) (leave_groups j).1)
   timeout_of single (step.TookHardwareAddr s) = inl (address_set s)
-  timeout_of single (step.TookReassemblyTimeout {timeout = timeout} (step.WithinDay l r e)) = inr (timeout, refl, ap (λ (K : Host). K.reassembly_timeout) e)
+  timeout_of single (step.TookReassemblyTimeout {timeout = timeout} (step.WithinDay l r e)) =
+      inr (timeout, refl, ap (λ (K : Host). K.reassembly_timeout) e)
   timeout_of single (step.TookReassemblyTimeout (step.OverDay l r e)) = inl (ap (λ (K : Host). K.reassembly_timeout) e)
   timeout_of single other = inl refl
 
   -- one place
-  module _ (q : Transition) (fits : Fits q.before.slots q.before.reassembly_timeout) (in_time : IsInTime t0 end q.command) (timeout : Timeout q.command q.before q.after) where
+  module _ (q : Transition) (fits : Fits q.before.slots q.before.reassembly_timeout) (in_time : IsInTime t0 end q.command)
+      (timeout : Timeout q.command q.before q.after) where
     slots_move : Moves q.before.slots (slots_then q.command q.before.slots)
     slots_move = swept_by (expiry_time_of q.command) fits in_time.polls
 
@@ -299,11 +337,13 @@ module _ (key other : FragKey) (t0 end : ℤ) where
     span_after (inl e) = rw e fits.span
     span_after (inr x) = rw x.2 (in_time.timeouts x.0 x.1)
 
-    no_set : (t : ℤ) → q.command ≡ command.PollIngressSingle t → Timeout q.command q.before q.after → q.after.reassembly_timeout ≡ q.before.reassembly_timeout
+    no_set : (t : ℤ) → q.command ≡ command.PollIngressSingle t → Timeout q.command q.before q.after →
+        q.after.reassembly_timeout ≡ q.before.reassembly_timeout
     no_set t is (inl e) = e
     no_set t is (inr x) = let bad : command.PollIngressSingle t ≡ command.SetReassemblyTimeout x.0 = sym is ∙ x.1 in absurd cc
 
-    fits_on : (more : List SlotNote) → StepView q.command q.before q.told q.notes q.after → AllByRecursion Which (all_arrivals (slot_notes q.notes ++ more)) → Fits q.after.slots q.after.reassembly_timeout
+    fits_on : (more : List SlotNote) → StepView q.command q.before q.told q.notes q.after →
+        AllByRecursion Which (all_arrivals (slot_notes q.notes ++ more)) → Fits q.after.slots q.after.reassembly_timeout
     fits_on more (NoPart none n s) allowed = moved fits (subst (λ x. Moves q.before.slots x) (sym s) slots_move) (span_after timeout)
     fits_on more (APart t frame k g result c h b r) allowed =
         let within = in_time.polls t (ap expiry_time_of c) in
@@ -314,7 +354,8 @@ module _ (key other : FragKey) (t0 end : ℤ) where
         let late : end ≤ℤ (t +ℤ pos q.before.reassembly_timeout) = omega (arith, ints) in
         rw (no_set t c timeout) (fits_after (moved fits (sweeps t fits within.1) fits.span) which.0 late r)
 
-split_at : (q : Transition) (rest before after : List SlotNote) (key : FragKey) (f : Fragment) → StepView q.command q.before q.told q.notes q.after → slot_notes q.notes ++ rest ≡ before ++ Arrival key f ∷ after →
+split_at : (q : Transition) (rest before after : List SlotNote) (key : FragKey) (f : Fragment) →
+    StepView q.command q.before q.told q.notes q.after → slot_notes q.notes ++ rest ≡ before ++ Arrival key f ∷ after →
     Split (slot_notes q.notes) rest before after key f
 split_at q rest before after key f (NoPart none n s) e = Later before (ap (λ ns. ns ++ before) (sym n)) (ap (λ ns. ns ++ rest) (sym n) ∙ e)
 split_at q rest before after key f (APart t frame k g result c h b r) e = split (slot_notes q.notes) rest before after key f r e
@@ -326,7 +367,8 @@ no_notes (b ∷ before) after n e = cc
 abbrev IsNext : FragKey → List ℕ → List SlotNote → Type 0
 IsNext key payload after = (rest : List SlotNote) × (after ≡ Rebuild key payload ∷ rest)
 
-next_is : (key : FragKey) (payload : List ℕ) (rest after : List SlotNote) (result : Option (List ℕ)) → rebuilt key (rebuilds key result) ≡ payload ∷ [] → after ≡ rebuilds key result ++ rest → IsNext key payload after
+next_is : (key : FragKey) (payload : List ℕ) (rest after : List SlotNote) (result : Option (List ℕ)) →
+    rebuilt key (rebuilds key result) ≡ payload ∷ [] → after ≡ rebuilds key result ++ rest → IsNext key payload after
 next_is key payload rest after None e a = absurd cc
 next_is key payload rest after (Some octets) e a =
     let one : octets ∷ [] ≡ payload ∷ [] = rw (test_same key) at e in
@@ -334,13 +376,16 @@ next_is key payload rest after (Some octets) e a =
     (rest, a ∙ ap (λ os. Rebuild key os ∷ rest) same)
 
 module _ (m : ℕ) (payload : List ℕ) (key other : FragKey) (t0 end : ℤ) (some : 0 < m) (short : length payload ≤ 4096) where
-  goes : (transitions : List Transition) (H last : Host) (so_far : List Fragment) (before after : List SlotNote) (f : Fragment) → Run H transitions last → AllByRecursion (λ p. IsReady key other t0 end p.command) transitions →
-      Fits key other t0 end H.slots H.reassembly_timeout → Holding key H.slots so_far → Coming m payload so_far (arrivals_under key before) f → AllByRecursion (Which key other t0 end) (all_arrivals before) →
+  goes : (transitions : List Transition) (H last : Host) (so_far : List Fragment) (before after : List SlotNote) (f : Fragment) →
+      Run H transitions last → AllByRecursion (λ p. IsReady key other t0 end p.command) transitions →
+      Fits key other t0 end H.slots H.reassembly_timeout → Holding key H.slots so_far → Coming m payload so_far (arrivals_under key before) f →
+      AllByRecursion (Which key other t0 end) (all_arrivals before) →
       slot_notes_in transitions ≡ before ++ Arrival key f ∷ after → (rebuilt key before ≡ []) × IsNext key payload after
   goes [] H last so_far before after f run ready fits holding c allowed e = absurd (no_notes before after (Arrival key f) e)
   goes (q ∷ transitions) H last so_far before after f run ready fits holding c allowed e =
       by (split_at q (slot_notes_in transitions) before after key f view (sym (slot_notes-append q.notes (notes_in transitions)) ∙ e))
-      (λ so_far more fits holding c allowed e. goes transitions q.after last so_far more after f (run_head run).run ready.1 fits holding c allowed e) where
+      (λ so_far more fits holding c allowed e.
+      goes transitions q.after last so_far more after f (run_head run).run ready.1 fits holding c allowed e) where
         s : Step q.command q.answer q.before q.told q.acts q.notes q.after
         s = let h = run_head run in rw h.began h.step
 
@@ -360,24 +405,32 @@ module _ (m : ℕ) (payload : List ℕ) (key other : FragKey) (t0 end : ℤ) (so
         serves = served key other t0 end q fits_here ready.0.1 timeout ready.0.0
 
         by : Split (slot_notes q.notes) (slot_notes_in transitions) before after key f →
-            ((so_far : List Fragment) (more : List SlotNote) → Fits key other t0 end q.after.slots q.after.reassembly_timeout → Holding key q.after.slots so_far → Coming m payload so_far (arrivals_under key more) f →
-            AllByRecursion (Which key other t0 end) (all_arrivals more) → slot_notes_in transitions ≡ more ++ Arrival key f ∷ after → (rebuilt key more ≡ []) × IsNext key payload after) →
+            ((so_far : List Fragment) (more : List SlotNote) → Fits key other t0 end q.after.slots q.after.reassembly_timeout →
+            Holding key q.after.slots so_far → Coming m payload so_far (arrivals_under key more) f →
+            AllByRecursion (Which key other t0 end) (all_arrivals more) → slot_notes_in transitions ≡ more ++ Arrival key f ∷ after →
+            (rebuilt key more ≡ []) × IsNext key payload after) →
             (rebuilt key before ≡ []) × IsNext key payload after
         by (Here result one are none no_arrival a) go_on =
             let c' : Coming m payload so_far [] f = rw no_arrival at c in
             let last : rebuilt key (slot_notes q.notes) ≡ payload ∷ [] = last_piece m payload key some short q so_far f view hold c' serves one in
             (none, next_is key payload (slot_notes_in transitions) after result (sym are ∙ last) a)
         by (Later more b rest) go_on =
-            let arrivals_are : arrivals_under key before ≡ arrivals_under key (slot_notes q.notes) ++ arrivals_under key more = ap (arrivals_under key) b ∙ arrivals_under-append key (slot_notes q.notes) more in
+            let arrivals_are : arrivals_under key before ≡ arrivals_under key (slot_notes q.notes) ++ arrivals_under key more =
+            ap (arrivals_under key) b ∙ arrivals_under-append key (slot_notes q.notes) more in
             let c' : Coming m payload so_far (arrivals_under key (slot_notes q.notes) ++ arrivals_under key more) f = rw arrivals_are at c in
             let all : AllByRecursion (Which key other t0 end) (all_arrivals (slot_notes q.notes ++ more)) = rw b at allowed in
-            let parts : AllByRecursion (Which key other t0 end) (all_arrivals (slot_notes q.notes) ++ all_arrivals more) = rw all_arrivals-append at all in
+            let parts : AllByRecursion (Which key other t0 end) (all_arrivals (slot_notes q.notes) ++ all_arrivals more) =
+            rw all_arrivals-append at all in
             let w = one_step m payload key some short q so_far (arrivals_under key more) f view hold c' serves in
-            let later = go_on (so_far ++ arrivals_under key (slot_notes q.notes)) more (fits_on key other t0 end q fits_here ready.0.1 timeout more view all) w.holding
-            (coming_on m payload key some short (arrivals_under key (slot_notes q.notes)) so_far (arrivals_under key more) f c') (all_left (Which key other t0 end) (all_arrivals (slot_notes q.notes)) (all_arrivals more) parts).1 rest in
+            let later = go_on (so_far ++ arrivals_under key (slot_notes q.notes)) more
+            (fits_on key other t0 end q fits_here ready.0.1 timeout more view all) w.holding
+            (coming_on m payload key some short (arrivals_under key (slot_notes q.notes)) so_far (arrivals_under key more) f c')
+            (all_left (Which key other t0 end) (all_arrivals (slot_notes q.notes)) (all_arrivals more) parts).1 rest in
             (ap (rebuilt key) b ∙ rebuilt-append key (slot_notes q.notes) more ∙ rw (w.none, later.0) refl, later.1)
 
-poll_in_time : (key other : FragKey) (t0 end t : ℤ) (budget : ℕ) → IsInTime t0 end (command.Poll t budget) → IsReady key other t0 end (command.PollMaintenance t) × IsReady key other t0 end (command.PollIngressSingle t) × IsReady key other t0 end (command.PollEgress t)
+poll_in_time : (key other : FragKey) (t0 end t : ℤ) (budget : ℕ) →
+    IsInTime t0 end (command.Poll t budget) → IsReady key other t0 end (command.PollMaintenance t)
+    × IsReady key other t0 end (command.PollIngressSingle t) × IsReady key other t0 end (command.PollEgress t)
 poll_in_time key other t0 end t budget q = (
   (tt, record { polls = λ u e. q.polls u e; timeouts = λ timeout e. absurd cc }),
   (tt, record { polls = λ u e. q.polls u e; timeouts = λ timeout e. absurd cc }),
@@ -385,7 +438,8 @@ poll_in_time key other t0 end t budget q = (
 )
 
 pub pieces_in_time : PiecesArriveInTime
-pieces_in_time first last transitions before after key other t0 end m payload f run some short notes in_time span empty only allowed pieces all none few =
+pieces_in_time first last transitions before after key other t0 end m payload f run some short notes in_time
+    span empty only allowed pieces all none few =
     let s = all_singles (IsInTime t0 end) (IsReady key other t0 end) (λ c is q. (is, q)) (poll_in_time key other t0 end) in_time run in
     let are = all_left (IsPiece m payload) (arrivals_under key before) (f ∷ []) (pieces_are m payload _ pieces) in
     let coming : Coming m payload [] (arrivals_under key before) f = record {
@@ -397,5 +451,6 @@ pieces_in_time first last transitions before after key other t0 end m payload f 
       few = few;
     } in
     let r = goes m payload key other t0 end some short s.transitions first last [] before after f s.run s.are
-    (record { keys = λ k x e. inr (only k x e); ends = λ x e. absurd (let bad : None ≡ Some x = sym empty ∙ e in cc); span = span }) (Empty refl empty) coming allowed (ap slot_notes s.all_notes ∙ notes) in
+    (record { keys = λ k x e. inr (only k x e); ends = λ x e. absurd (let bad : None ≡ Some x = sym empty ∙ e in cc); span = span })
+    (Empty refl empty) coming allowed (ap slot_notes s.all_notes ∙ notes) in
     (r.0, r.1.0, r.1.1)

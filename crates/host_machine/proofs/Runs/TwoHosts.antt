@@ -1,5 +1,6 @@
 -- What one host rebuilds of what another one cut.
-use Rattle.std.proofs.Common.{◌≡◌, ℕ, zero, suc, ◌+◌, ◌-◌, ◌*◌, ◌/◌, ◌<◌, ◌≤◌, List, [], ◌∷◌, ◌++◌, length, map, refl, sym, ◌∙◌, ap, subst, arith, Option, None, inl, inr}
+use Rattle.std.proofs.Common.{◌≡◌, ℕ, zero, suc, ◌+◌, ◌-◌, ◌*◌, ◌/◌, ◌<◌, ◌≤◌, List, [], ◌∷◌, ◌++◌}
+use Rattle.std.proofs.Common.{length, map, refl, sym, ◌∙◌, ap, subst, arith, Option, None, inl, inr}
 use native.Mathlib.Nat.{mul_assoc}
 use Rattle.std.specs.Prelude.{Bool, true, false, not, nat_le, ◌⊎◌, ◌==◌, ◌||◌, if◌then◌else◌}
 use Rattle.std.proofs.lemmas.Bool.Decides.{nat_tests}
@@ -35,7 +36,8 @@ use Rattle.host_machine.proofs.State.NotesBySubject.{cut_notes-append, cut_notes
 use Rattle.host_machine.proofs.Runs.Walk.{walk}
 use Rattle.host_machine.proofs.Runs.ReassemblyOrigin.{run_rebuilt, test_same}
 use Rattle.host_machine.proofs.Runs.PieceOrder.{run_ordered, run_first}
-use Rattle.host_machine.proofs.Receiving.Pieces.{IsIn, is_in, contains_in, IsPiece, piece_in, IsPartOf, part_of, AreParts, IsTotal, total_stays, rebuilds_payload}
+use Rattle.host_machine.proofs.Receiving.Pieces.{IsIn, is_in, contains_in, IsPiece, piece_in, IsPartOf}
+use Rattle.host_machine.proofs.Receiving.Pieces.{part_of, AreParts, IsTotal, total_stays, rebuilds_payload}
 use Rattle.host_machine.proofs.Receiving.SlotEffects.{handed_frames-append}
 use Rattle.host_machine.proofs.Runs.FragmentArrivals.{run_arrivals, receiving_hardware, all_arrivals-append, all_push}
 use Rattle.host_machine.proofs.Receiving.FrameReading.{IsWritten, protocol_again, piece_reads, piece_brings}
@@ -53,10 +55,12 @@ cuts-append [] ys = refl
 cuts-append (Cut d ∷ xs) ys = ap (λ ds. d ∷ ds) (cuts-append xs ys)
 cuts-append (PieceSent p ∷ xs) ys = cuts-append xs ys
 
-formed_on : (xs ys : List Note) → AllByRecursion HasForm (cuts (cut_notes xs)) → AllByRecursion HasForm (cuts (cut_notes ys)) → AllByRecursion HasForm (cuts (cut_notes (xs ++ ys)))
+formed_on : (xs ys : List Note) → AllByRecursion HasForm (cuts (cut_notes xs)) → AllByRecursion HasForm (cuts (cut_notes ys)) →
+    AllByRecursion HasForm (cuts (cut_notes (xs ++ ys)))
 formed_on xs ys a b = rw (cut_notes-append, cuts-append) (all_push HasForm (cuts (cut_notes xs)) (cuts (cut_notes ys)) a b)
 
-fragments : (H : Host) (key : FragKey) (f : Fragment) (result : Option (List ℕ)) (notes : List Note) (new : Host) → TakesFragment key f result H notes new → FormedOver H [] notes new
+fragments : (H : Host) (key : FragKey) (f : Fragment) (result : Option (List ℕ)) (notes : List Note) (new : Host) →
+    TakesFragment key f result H notes new → FormedOver H [] notes new
 fragments H key f result notes new t = rw (t.noted, cut_notes-slots t.slot_notes) tt
 
 pub run_forms : {first last : Host} {transitions : List Transition} → Run first transitions last → AllByRecursion HasForm (cuts_in transitions)
@@ -116,11 +120,13 @@ record FromCut (size : ℕ) (p : Piece) (ds : List Datagram) : Type 0 where
   size_is : datagram.size ≡ size
   piece : IsIn p (pieces_of datagram)
 
-cut_here : {size : ℕ} {p : Piece} {ds : List Datagram} (left : List Piece) (d : Datagram) → d.size ≡ size → FromCut size p ds ⊎ IsIn p (pieces_of d) → FromCut size p (d ∷ ds) ⊎ IsIn p left
+cut_here : {size : ℕ} {p : Piece} {ds : List Datagram} (left : List Piece) (d : Datagram) →
+    d.size ≡ size → FromCut size p ds ⊎ IsIn p (pieces_of d) → FromCut size p (d ∷ ds) ⊎ IsIn p left
 cut_here left d e (inl c) = inl (record { datagram = c.datagram; is_there = inr c.is_there; size_is = c.size_is; piece = c.piece })
 cut_here left d e (inr i) = inl (record { datagram = d; is_there = inl refl; size_is = e; piece = i })
 
-from_cut : (size : ℕ) (left : List Piece) (notes : List CutNote) (p : Piece) → IsBeginning (sent_of_this notes) left → AreBeginnings size notes → IsIn p (pieces_sent notes) → FromCut size p (cuts notes) ⊎ IsIn p left
+from_cut : (size : ℕ) (left : List Piece) (notes : List CutNote) (p : Piece) →
+    IsBeginning (sent_of_this notes) left → AreBeginnings size notes → IsIn p (pieces_sent notes) → FromCut size p (cuts notes) ⊎ IsIn p left
 from_cut size left [] p first all i = absurd i
 from_cut size left (Cut d ∷ notes) p first all i = cut_here left d all.0 (from_cut size (pieces_of d) notes p all.1 all.2 i)
 from_cut size left (PieceSent q ∷ notes) p first all (inl e) = inr (subst (λ l. IsIn p l) first.1 (inl e))
@@ -143,7 +149,8 @@ eights k y =
 pub size_positive : (n : ℕ) → 576 ≤ n → 0 < (n - 20) / 8 * 8
 size_positive n l = omega arith
 
-pub written : (m : Medium) (d : Datagram) (y : ℕ) (f : Fragment) → HasForm d → GoesTo m d → d.size ≡ y * 8 → 0 < d.size → IsPiece d.size d.payload f → IsWritten m (piece_of d f)
+pub written : (m : Medium) (d : Datagram) (y : ℕ) (f : Fragment) →
+    HasForm d → GoesTo m d → d.size ≡ y * 8 → 0 < d.size → IsPiece d.size d.payload f → IsWritten m (piece_of d f)
 written m d y f form far is pos piece =
     let part = part_of d.size d.payload f pos piece in
     let within = part.within in
@@ -158,7 +165,8 @@ written m d y f form far is pos piece =
         identification = form.identification;
         offset = omega arith;
       };
-      eights = let e : f.offset ≡ piece.number * (y * 8) = ap (λ (x : Fragment). x.offset) piece.is ∙ ap (λ n. piece.number * n) is in rw e (eights piece.number y);
+      eights = let e : f.offset ≡ piece.number * (y * 8) = ap (λ (x : Fragment). x.offset) piece.is ∙ ap (λ n. piece.number * n) is in
+          rw e (eights piece.number y);
     }
 
 -- where a fragment that came was cut
@@ -177,15 +185,18 @@ all_in P (y ∷ xs) x all (inr i) = all_in P xs x all.1 i
 abbrev AreCutBy : List Datagram → List (FragKey × Fragment) → Type 0
 AreCutBy ds cs = AllByRecursion (λ c. CutBy ds c.0 c.1) cs
 
-module _ (m : Medium) (size y : ℕ) (is : size ≡ y * 8) (pos : 0 < size) (ds : List Datagram) (forms : AllByRecursion HasForm ds) (far : AllByRecursion (GoesTo m) ds) where
-  read : (H : Host) (p : Piece) → IsOf m H.hardware_addr → FromCut size p ds → (K : Host) (key : FragKey) (f : Fragment) → IsOf m K.hardware_addr → Brings K (piece_frame H p) key f → CutBy ds key f
+module _ (m : Medium) (size y : ℕ) (is : size ≡ y * 8) (pos : 0 < size) (ds : List Datagram) (forms : AllByRecursion HasForm ds)
+    (far : AllByRecursion (GoesTo m) ds) where
+  read : (H : Host) (p : Piece) → IsOf m H.hardware_addr → FromCut size p ds → (K : Host) (key : FragKey) (f : Fragment) →
+      IsOf m K.hardware_addr → Brings K (piece_frame H p) key f → CutBy ds key f
   read H p own c K key f mine b =
       let d = c.datagram in
       let r = in_map (piece_of d) (cut d.size d.payload) p c.piece in
       let piece = piece_in d.size d.payload r.0 (contains_in (cut d.size d.payload) r.0 r.1) in
       let size' : d.size ≡ y * 8 = c.size_is ∙ is in
       let pos' : 0 < d.size = rw c.size_is pos in
-      let w : IsWritten m (piece_of d r.0) = written m d y r.0 (all_in HasForm ds d forms c.is_there) (all_in (GoesTo m) ds d far c.is_there) size' pos' piece in
+      let w : IsWritten m (piece_of d r.0) =
+      written m d y r.0 (all_in HasForm ds d forms c.is_there) (all_in (GoesTo m) ds d far c.is_there) size' pos' piece in
       let w' : IsWritten m p = rw r.2 w in
       let reads = piece_reads m H p own w' K key f mine b in
       record {
@@ -197,31 +208,38 @@ module _ (m : Medium) (size y : ℕ) (is : size ≡ y * 8) (pos : 0 < size) (ds 
       }
 
   -- at each place of the other run
-  module _ (all : List (List ℕ)) (notes : List CutNote) (shows : Shows m all notes) (same : cuts notes ≡ ds) (left : List Piece) (empty : left ≡ []) (first : IsBeginning (sent_of_this notes) left) (order : AreBeginnings size notes) where
+  module _ (all : List (List ℕ)) (notes : List CutNote) (shows : Shows m all notes) (same : cuts notes ≡ ds) (left : List Piece) (empty : left ≡ [])
+      (first : IsBeginning (sent_of_this notes) left) (order : AreBeginnings size notes) where
     none_left : (p : Piece) → FromCut size p (cuts notes) ⊎ IsIn p left → FromCut size p ds
     none_left p (inl c) = rw same at c
     none_left p (inr i) = absurd (rw empty at i)
 
-    brought : (g : List ℕ) (K : Host) (key : FragKey) (f : Fragment) → IsOf m K.hardware_addr → Origin m g (pieces_sent notes) → Brings K g key f → CutBy ds key f
+    brought : (g : List ℕ) (K : Host) (key : FragKey) (f : Fragment) →
+        IsOf m K.hardware_addr → Origin m g (pieces_sent notes) → Brings K g key f → CutBy ds key f
     brought g K key f mine (FromPiece H p own e i) b = read H p own (none_left p (from_cut size left notes p first order i)) K key f mine (rw e at b)
     brought g K key f mine (NoPiece n) b = absurd (n K key f mine b)
 
-    all_brought : {H : Host} {frames : List (List ℕ)} {cs : List (FragKey × Fragment)} → IsOf m H.hardware_addr → Bring H frames cs → AllByRecursion (Contains all) frames → AreCutBy ds cs
+    all_brought : {H : Host} {frames : List (List ℕ)} {cs : List (FragKey × Fragment)} →
+        IsOf m H.hardware_addr → Bring H frames cs → AllByRecursion (Contains all) frames → AreCutBy ds cs
     all_brought mine NoFrame was = tt
-    all_brought {H} mine (OneBrings frame key f b more) was = (brought frame H key f mine (origin frame shows (is_in all frame was.0)) b, all_brought mine more was.1)
+    all_brought {H} mine (OneBrings frame key f b more) was =
+        (brought frame H key f mine (origin frame shows (is_in all frame was.0)) b, all_brought mine more was.1)
     all_brought mine (NoneBrings frame none more) was = all_brought mine more was.1
 
     -- the medium stays
     each_arrival : {H last : Host} {qs : List Transition} → Run H qs last → H.capabilities.medium ≡ m → IsReal H →
-        AllByRecursion ArrivesInFrames qs → AllByRecursion (Contains all) (handed_frames (events_in qs)) → AreCutBy ds (all_arrivals (slot_notes_in qs))
+        AllByRecursion ArrivesInFrames qs → AllByRecursion (Contains all) (handed_frames (events_in qs)) →
+        AreCutBy ds (all_arrivals (slot_notes_in qs))
     each_arrival Ends medium_is real comes was = tt
     each_arrival {H} (Then {command = command} {told = told} {notes = noted} {transitions = qs} s r) medium_is real comes was =
         let one = stepped s real in
         let mine : IsOf m (receiving_host command H).hardware_addr = rw receiving_hardware (rw medium_is at real.own) in
-        let parted : AllByRecursion (Contains all) (handed_frames told ++ handed_frames (events_in qs)) = subst (AllByRecursion (Contains all)) (handed_frames-append told (events_in qs)) was in
+        let parted : AllByRecursion (Contains all) (handed_frames told ++ handed_frames (events_in qs)) =
+        subst (AllByRecursion (Contains all)) (handed_frames-append told (events_in qs)) was in
         let halves = all_parted (Contains all) (handed_frames told) (handed_frames (events_in qs)) parted in
         let later = each_arrival r (ap (λ (c : DeviceCapabilities). c.medium) one.same ∙ medium_is) one.real comes.1 halves.1 in
-        rw (slot_notes-append, all_arrivals-append) (all_push (λ c. CutBy ds c.0 c.1) (all_arrivals (slot_notes noted)) (all_arrivals (slot_notes_in qs)) (all_brought mine comes.0 halves.0) later) where
+        rw (slot_notes-append, all_arrivals-append) (all_push (λ c. CutBy ds c.0 c.1) (all_arrivals (slot_notes noted))
+        (all_arrivals (slot_notes_in qs)) (all_brought mine comes.0 halves.0) later) where
           all_parted : {X : Type 0} (P : X → Type 0) (xs ys : List X) → AllByRecursion P (xs ++ ys) → AllByRecursion P xs × AllByRecursion P ys
           all_parted P [] ys a = (tt, a)
           all_parted P (x ∷ xs) ys a = let r = all_parted P xs ys a.1 in ((a.0, r.0), r.1)
@@ -233,12 +251,15 @@ apart x e f k = two_ways _ (test_same (key_of_cut x)) (subst (λ z. same_key (ke
 same_datagram : (ds : List Datagram) (d e : Datagram) → HaveOwnKeys ds → IsIn d ds → IsIn e ds → key_of_cut d ≡ key_of_cut e → d ≡ e
 same_datagram [] d e own i j k = absurd i
 same_datagram (x ∷ ds) d e own (inl a) (inl b) k = a ∙ sym b
-same_datagram (x ∷ ds) d e own (inl a) (inr j) k = absurd (apart x e (all_in (λ z. same_key (key_of_cut x) (key_of_cut z) ≡ false) ds e own.0 j) (rw a at k))
-same_datagram (x ∷ ds) d e own (inr i) (inl b) k = absurd (apart x d (all_in (λ z. same_key (key_of_cut x) (key_of_cut z) ≡ false) ds d own.0 i) (sym (rw b at k)))
+same_datagram (x ∷ ds) d e own (inl a) (inr j) k =
+    absurd (apart x e (all_in (λ z. same_key (key_of_cut x) (key_of_cut z) ≡ false) ds e own.0 j) (rw a at k))
+same_datagram (x ∷ ds) d e own (inr i) (inl b) k =
+    absurd (apart x d (all_in (λ z. same_key (key_of_cut x) (key_of_cut z) ≡ false) ds d own.0 i) (sym (rw b at k)))
 same_datagram (x ∷ ds) d e own (inr i) (inr j) k = same_datagram ds d e own.1 i j k
 
 -- what comes under one of their keys is a part of that packet
-parts_under : (ds : List Datagram) (d : Datagram) (notes : List SlotNote) → HaveOwnKeys ds → IsIn d ds → AreCutBy ds (all_arrivals notes) → AreParts d.payload (arrivals_under (key_of_cut d) notes)
+parts_under : (ds : List Datagram) (d : Datagram) (notes : List SlotNote) →
+    HaveOwnKeys ds → IsIn d ds → AreCutBy ds (all_arrivals notes) → AreParts d.payload (arrivals_under (key_of_cut d) notes)
 parts_under ds d [] own i all = tt
 parts_under ds d (Take k ∷ notes) own i all = parts_under ds d notes own i all
 parts_under ds d (Arrival k f ∷ notes) own i all = by (same_key (key_of_cut d) k) refl (parts_under ds d notes own i all.1) where
@@ -248,7 +269,8 @@ parts_under ds d (Arrival k f ∷ notes) own i all = by (same_key (key_of_cut d)
       let same : d ≡ c.datagram = same_datagram ds d c.datagram own i c.is_there (e ∙ c.key_is) in
       rw same (part_of c.datagram.size c.datagram.payload f c.positive c.piece)
 
-  by : (b : Bool) → same_key (key_of_cut d) k ≡ b → AreParts d.payload (arrivals_under (key_of_cut d) notes) → AreParts d.payload (if b then f ∷ arrivals_under (key_of_cut d) notes else arrivals_under (key_of_cut d) notes)
+  by : (b : Bool) → same_key (key_of_cut d) k ≡ b → AreParts d.payload (arrivals_under (key_of_cut d) notes) →
+      AreParts d.payload (if b then f ∷ arrivals_under (key_of_cut d) notes else arrivals_under (key_of_cut d) notes)
   by true e rest = (here (same_is (key_of_cut d) k e), rest)
   by false e rest = rest
 parts_under ds d (Rebuild k octets ∷ notes) own i all = parts_under ds d notes own i all
@@ -268,30 +290,35 @@ one_more payload g f part of = by (is_fit g.total f) where
   few true = push_part payload g.fragments f of.parts part
   few false = of.parts
 
-  by : (b : Bool) → AreOf payload (if b then record { total = total_with g.total f; fragments = if keeps_few g.fragments f then g.fragments ++ f ∷ [] else g.fragments } else g)
+  by : (b : Bool) → AreOf payload
+      (if b then record { total = total_with g.total f; fragments = if keeps_few g.fragments f then g.fragments ++ f ∷ [] else g.fragments } else g)
   by true = record { total = total_stays payload g.total f part of.total; parts = few (keeps_few g.fragments f) }
   by false = of
 
 nothing_of : (payload : List ℕ) → AreOf payload no_fragments
 nothing_of payload = record { total = λ x e. absurd cc; parts = tt }
 
-only : (payload : List ℕ) (key : FragKey) (h : History) (notes : List SlotNote) → AreRebuilt h notes → AreOf payload (h key) → AreParts payload (arrivals_under key notes) → AllByRecursion (λ octets. octets ≡ payload) (rebuilt key notes)
+only : (payload : List ℕ) (key : FragKey) (h : History) (notes : List SlotNote) → AreRebuilt h notes → AreOf payload (h key) →
+    AreParts payload (arrivals_under key notes) → AllByRecursion (λ octets. octets ≡ payload) (rebuilt key notes)
 only payload key h [] r of all = tt
 only payload key h (Take k ∷ notes) r of all = only payload key (put h k no_fragments) notes r (by (same_key key k)) all where
   by : (b : Bool) → AreOf payload (if b then no_fragments else h key)
   by true = nothing_of payload
   by false = of
-only payload key h (Arrival k f ∷ notes) r of all = by (same_key key k) refl all (λ now rest. only payload key (put h k (with_one (h k) f)) notes r now rest) where
-  by : (b : Bool) → same_key key k ≡ b → AreParts payload (if b then f ∷ arrivals_under key notes else arrivals_under key notes) →
-      (AreOf payload (put h k (with_one (h k) f) key) → AreParts payload (arrivals_under key notes) → AllByRecursion (λ octets. octets ≡ payload) (rebuilt key notes)) →
-      AllByRecursion (λ octets. octets ≡ payload) (rebuilt key notes)
-  by true e all' more =
-      let same : key ≡ k = same_is key k e in
-      let now : AreOf payload (put h k (with_one (h k) f) key) = rw (e, ← same) (one_more payload (h key) f all'.0 of) in
-      more now all'.1
-  by false e all' more = let now : AreOf payload (put h k (with_one (h k) f) key) = rw e of in more now all'
+only payload key h (Arrival k f ∷ notes) r of all = by (same_key key k) refl all
+    (λ now rest. only payload key (put h k (with_one (h k) f)) notes r now rest) where
+      by : (b : Bool) → same_key key k ≡ b → AreParts payload (if b then f ∷ arrivals_under key notes else arrivals_under key notes) →
+          (AreOf payload (put h k (with_one (h k) f) key) → AreParts payload (arrivals_under key notes) →
+          AllByRecursion (λ octets. octets ≡ payload) (rebuilt key notes)) →
+          AllByRecursion (λ octets. octets ≡ payload) (rebuilt key notes)
+      by true e all' more =
+          let same : key ≡ k = same_is key k e in
+          let now : AreOf payload (put h k (with_one (h k) f) key) = rw (e, ← same) (one_more payload (h key) f all'.0 of) in
+          more now all'.1
+      by false e all' more = let now : AreOf payload (put h k (with_one (h k) f) key) = rw e of in more now all'
 only payload key h (Rebuild k octets ∷ notes) r of all = by (same_key key k) refl (only payload key h notes r.1 of all) where
-  by : (b : Bool) → same_key key k ≡ b → AllByRecursion (λ os. os ≡ payload) (rebuilt key notes) → AllByRecursion (λ os. os ≡ payload) (if b then octets ∷ rebuilt key notes else rebuilt key notes)
+  by : (b : Bool) → same_key key k ≡ b → AllByRecursion (λ os. os ≡ payload) (rebuilt key notes) →
+      AllByRecursion (λ os. os ≡ payload) (if b then octets ∷ rebuilt key notes else rebuilt key notes)
   by true e rest =
       let same : key ≡ k = same_is key k e in
       let is : IsRebuilt (h key) octets = rw same r.0 in
@@ -309,8 +336,10 @@ pub run_rebuilds : RebuildsWhatWasCut
 run_rebuilds a a' b b' ps qs ra rb may were own free =
     let c = a.capabilities in
     let shows = run_shows a a' ps ra may.a_real in
-    let came_all = each_arrival c.medium (piece_size c) ((ip_mtu_of c - 20) / 8) refl (size_positive (ip_mtu_of c) may.mtu) (cuts_in ps) (run_forms ra) (go_to shows)
-    (sent_frames (events_in ps)) (cut_notes (notes_in ps)) shows refl a.left may.left (run_first ra) (run_ordered ra) rb may.one_medium may.b_real (run_arrivals rb) were in
+    let came_all =
+    each_arrival c.medium (piece_size c) ((ip_mtu_of c - 20) / 8) refl (size_positive (ip_mtu_of c) may.mtu) (cuts_in ps) (run_forms ra) (go_to shows)
+    (sent_frames (events_in ps)) (cut_notes (notes_in ps)) shows refl a.left may.left (run_first ra)
+    (run_ordered ra) rb may.one_medium may.b_real (run_arrivals rb) were in
     each (λ d. AllByRecursion (λ octets. octets ≡ d.payload) (rebuilt (key_of_cut d) (slot_notes_in qs))) (cuts_in ps) (λ d i.
     only d.payload (key_of_cut d) (first_history b) (slot_notes_in qs) (run_rebuilt rb)
     (began_of d.payload b (key_of_cut d) (all_in (λ e. finite.get b.slots (key_of_cut e) ≡ None) (cuts_in ps) d free i))
@@ -318,15 +347,18 @@ run_rebuilds a a' b b' ps qs ra rb may were own free =
 
 -- a fragment in a frame that a run sent is of a packet that the run cut
 pub frame_is_cut : (a a' : Host) (ps : List Transition) → Run a ps a' → IsReal a → 576 ≤ ip_mtu_of a.capabilities → a.left ≡ [] →
-    (K : Host) → IsOf a.capabilities.medium K.hardware_addr → (frame : List ℕ) → Contains (sent_frames (events_in ps)) frame → (key : FragKey) (f : Fragment) → Brings K frame key f → CutBy (cuts_in ps) key f
+    (K : Host) → IsOf a.capabilities.medium K.hardware_addr → (frame : List ℕ) →
+    Contains (sent_frames (events_in ps)) frame → (key : FragKey) (f : Fragment) → Brings K frame key f → CutBy (cuts_in ps) key f
 frame_is_cut a a' ps ra real mtu left K mine frame there key f b =
     let c = a.capabilities in
     let shows = run_shows a a' ps ra real in
     brought c.medium (piece_size c) ((ip_mtu_of c - 20) / 8) refl (size_positive (ip_mtu_of c) mtu) (cuts_in ps) (run_forms ra) (go_to shows)
-    (sent_frames (events_in ps)) (cut_notes (notes_in ps)) shows refl a.left left (run_first ra) (run_ordered ra) frame K key f mine (origin frame shows (is_in (sent_frames (events_in ps)) frame there)) b
+    (sent_frames (events_in ps)) (cut_notes (notes_in ps)) shows refl a.left left (run_first ra) (run_ordered ra) frame K key f mine
+    (origin frame shows (is_in (sent_frames (events_in ps)) frame there)) b
 
 -- a piece of two or more is a part
-pub is_part : (y : ℕ) (d : Datagram) (f : Fragment) → d.size ≡ y * 8 → 0 < d.size → d.size < length d.payload → IsPiece d.size d.payload f → is_fragment (piece_fragment (piece_of d f)) ≡ true
+pub is_part : (y : ℕ) (d : Datagram) (f : Fragment) → d.size ≡ y * 8 → 0 < d.size → d.size < length d.payload → IsPiece d.size d.payload f →
+    is_fragment (piece_fragment (piece_of d f)) ≡ true
 is_part y d f size pos more piece = rw piece.is (by piece.number) where
   above : (a b : ℕ) → b < a → nat_le a b ≡ false
   above a b l = grind (arith, nat_tests)
@@ -346,7 +378,8 @@ is_part y d f size pos more piece = rw piece.is (by piece.number) where
   by (suc k) =
       let l : 1 * d.size ≤ suc k * d.size = mul-le 1 d.size (suc k) d.size (omega arith) (omega arith) in
       let big : 8 ≤ suc k * d.size = omega arith in
-      or_true (not (nat_le (length d.payload) (suc k * d.size + d.size))) (not (suc k * d.size / 8 == 0)) (positive (suc k * d.size / 8) (omega arith))
+      or_true (not (nat_le (length d.payload) (suc k * d.size + d.size))) (not (suc k * d.size / 8 == 0))
+      (positive (suc k * d.size / 8) (omega arith))
 
 pub pieces_read : PiecesAreRead
 pieces_read m a b d y f own mine far form size pos more there for source sums =

@@ -13,23 +13,28 @@ use Rattle.host_machine.specs.State.Host.{Host, with_left}
 use Rattle.host_machine.specs.Sending.Packet.{Packet, PacketV4}
 use Rattle.host_machine.specs.Sending.Packet as packet
 use Rattle.host_machine.specs.Sending.Frame.{piece_frame}
-use Rattle.host_machine.specs.Sending.Dispatch.{Outcome, IsNextHop, IsUnsent, Emits, Discovers, DispatchesByHop, DispatchesEthernet, SendsOver, Dispatches, datagram_of, with_next_id, if_unicast, multicast_hardware_addr, destination_of}
+use Rattle.host_machine.specs.Sending.Dispatch.{Outcome, IsNextHop, IsUnsent, Emits, Discovers, DispatchesByHop, DispatchesEthernet, SendsOver}
+use Rattle.host_machine.specs.Sending.Dispatch.{Dispatches, datagram_of, with_next_id, if_unicast, multicast_hardware_addr, destination_of}
 use Rattle.host_machine.specs.Sending.Dispatch as dispatch
 use Rattle.host_machine.proofs.Polling.EarliestInstant.{hop_is_one}
 use Rattle.host_machine.specs.Laws.Determined.{IsOneDispatch, DispatchIsDetermined}
 
 -- two that do the same as a third
-agree : {o o' c : Outcome} {f f' fs : List (List ℕ)} {n n' ns : List Note} {x x' K : Host} → o ≡ c → f ≡ fs → n ≡ ns → x ≡ K → o' ≡ c → f' ≡ fs → n' ≡ ns → x' ≡ K → IsOneDispatch o o' f f' n n' x x'
+agree : {o o' c : Outcome} {f f' fs : List (List ℕ)} {n n' ns : List Note} {x x' K : Host} →
+    o ≡ c → f ≡ fs → n ≡ ns → x ≡ K → o' ≡ c → f' ≡ fs → n' ≡ ns → x' ≡ K → IsOneDispatch o o' f f' n n' x x'
 agree o f n x o' f' n' x' = record { outcome_is = o ∙ sym o'; frames_are = f ∙ sym f'; notes_are = n ∙ sym n'; host_is = x ∙ sym x' }
 
-both_unsent : {o o' c : Outcome} {f f' : List (List ℕ)} {n n' : List Note} {H x x' : Host} → o ≡ c → o' ≡ c → IsUnsent H f n x → IsUnsent H f' n' x' → IsOneDispatch o o' f f' n n' x x'
+both_unsent : {o o' c : Outcome} {f f' : List (List ℕ)} {n n' : List Note} {H x x' : Host} →
+    o ≡ c → o' ≡ c → IsUnsent H f n x → IsUnsent H f' n' x' → IsOneDispatch o o' f f' n n' x x'
 both_unsent o o' u v = agree o u.silent u.unnoted u.unchanged o' v.silent v.unnoted v.unchanged
 
 -- the pieces of one cut
-cut_once : (id : ℕ) (h : HardwareAddress) (H : Host) {x x' : Host} {o o' : Outcome} {f f' : List (List ℕ)} {n n' : List Note} (q : PacketV4) (first first' : Piece) (rest rest' : List Piece) →
+cut_once : (id : ℕ) (h : HardwareAddress) (H : Host) {x x' : Host} {o o' : Outcome} {f f' : List (List ℕ)} {n n' : List Note} (q : PacketV4)
+    (first first' : Piece) (rest rest' : List Piece) →
     pieces_of (datagram_of H h id q) ≡ first ∷ rest → pieces_of (datagram_of H h id q) ≡ first' ∷ rest' → o ≡ Ok tt → o' ≡ Ok tt →
     f ≡ piece_frame H first ∷ [] → f' ≡ piece_frame H first' ∷ [] → n ≡ OfCuts (Cut (datagram_of H h id q)) ∷ OfCuts (PieceSent first) ∷ [] →
-    n' ≡ OfCuts (Cut (datagram_of H h id q)) ∷ OfCuts (PieceSent first') ∷ [] → x ≡ with_left H rest → x' ≡ with_left H rest' → IsOneDispatch o o' f f' n n' x x'
+    n' ≡ OfCuts (Cut (datagram_of H h id q)) ∷ OfCuts (PieceSent first') ∷ [] → x ≡ with_left H rest →
+    x' ≡ with_left H rest' → IsOneDispatch o o' f f' n n' x x'
 cut_once id h H q first first' rest rest' pieces pieces' o o' f f' n n' x x' =
     let lists : first ∷ rest ≡ first' ∷ rest' = sym pieces ∙ pieces' in
     let one : first ≡ first' = cc in
@@ -39,10 +44,13 @@ cut_once id h H q first first' rest rest' pieces pieces' o o' f f' n n' x x' =
 emits_once : {id : ℕ} {p : Packet} {h : HardwareAddress} {o o' : Outcome} {H x x' : Host} {f f' : List (List ℕ)} {n n' : List Note} →
     Emits id p h o H f n x → Emits id p h o' H f' n' x' → IsOneDispatch o o' f f' n n' x x'
 emits_once (dispatch.Whole fits formed o f n x) (dispatch.Whole fits' formed' o' f' n' x') = agree o f n x o' f' n' x'
-emits_once (dispatch.Whole fits formed o f n x) (dispatch.InPieces q first rest of long short pieces form formed' o' f' n' x') = absurd (omega (arith, fits, long))
+emits_once (dispatch.Whole fits formed o f n x) (dispatch.InPieces q first rest of long short pieces form formed' o' f' n' x') =
+    absurd (omega (arith, fits, long))
 emits_once (dispatch.Whole fits formed o f n x) (dispatch.TooLong long longer o' u) = absurd (omega (arith, fits, long))
-emits_once (dispatch.InPieces q first rest of long short pieces form formed o f n x) (dispatch.Whole fits formed' o' f' n' x') = absurd (omega (arith, fits, long))
-emits_once {id} {p} {h} {H = H} (dispatch.InPieces q first rest of long short pieces form formed o f n x) (dispatch.InPieces q' first' rest' of' long' short' pieces' form' formed' o' f' n' x') =
+emits_once (dispatch.InPieces q first rest of long short pieces form formed o f n x) (dispatch.Whole fits formed' o' f' n' x') =
+    absurd (omega (arith, fits, long))
+emits_once {id} {p} {h} {H = H} (dispatch.InPieces q first rest of long short pieces form formed o f n x)
+    (dispatch.InPieces q' first' rest' of' long' short' pieces' form' formed' o' f' n' x') =
     let lists : packet.Ipv4 q ≡ packet.Ipv4 q' = sym of ∙ of' in
     let same : q ≡ q' = cc in
     cut_once id h H q first first' rest rest' pieces (rw same pieces') o o' f f' n (rw same n') x x'
@@ -71,7 +79,8 @@ discovers_once (dispatch.Solicited target h o f n x) (dispatch.Solicited target'
     let same : target ≡ target' = cc in
     agree o f n x o' (rw same f') n' x'
 
-by_hop_once : {id : ℕ} {own : EthernetAddress} {p : Packet} {hop : IpAddress} {o o' : Outcome} {H x x' : Host} {f f' : List (List ℕ)} {n n' : List Note} →
+by_hop_once : {id : ℕ} {own : EthernetAddress} {p : Packet} {hop : IpAddress} {o o' : Outcome} {H x x' : Host}
+    {f f' : List (List ℕ)} {n n' : List Note} →
     DispatchesByHop id own p hop o H f n x → DispatchesByHop id own p hop o' H f' n' x' → IsOneDispatch o o' f f' n n' x x'
 by_hop_once (dispatch.Known h k e) (dispatch.Known h' k' e') =
     let found : Found h ≡ Found h' = sym k ∙ k' in

@@ -1,8 +1,10 @@
 -- What is due is done by a call that sends and is given each leave.
-use Rattle.std.proofs.Common.{◌≡◌, ◌⊎◌, inl, inr, ℕ, zero, suc, ◌-◌, ◌<◌, ◌==◌, Bool, true, false, List, [], ◌∷◌, ◌++◌, length, take, refl, sym, ◌∙◌, ap, subst, Option, Some, None, arith}
+use Rattle.std.proofs.Common.{◌≡◌, ◌⊎◌, inl, inr, ℕ, zero, suc, ◌-◌, ◌<◌, ◌==◌, Bool, true, false, List, [], ◌∷◌}
+use Rattle.std.proofs.Common.{◌++◌, length, take, refl, sym, ◌∙◌, ap, subst, Option, Some, None, arith}
 use Rattle.std.proofs.lemmas.Int.{ints}
 use Rattle.std.proofs.lemmas.Option.{slice_get_within}
-use Rattle.std.specs.Prelude.{map, filter, ℤ, pos, ◌+ℤ◌, ◌≤ℤ◌, ◌<ℤ◌, slice_get, ◌&&◌, not, cond, nat_lt, find, slice_set, slice_index_or, option_map, if◌then◌else◌}
+use Rattle.std.specs.Prelude.{map, filter, ℤ, pos, ◌+ℤ◌, ◌≤ℤ◌, ◌<ℤ◌, slice_get, ◌&&◌, not, cond}
+use Rattle.std.specs.Prelude.{nat_lt, find, slice_set, slice_index_or, option_map, if◌then◌else◌}
 use Rattle.std.specs.Cmp.{int_ranks}
 use Rattle.std.specs.List.{list_all}
 use Rattle.std.specs.Option.{option_and_then}
@@ -17,12 +19,14 @@ use Rattle.group_wire.specs.declared.igmp.IgmpVersion.{IgmpVersion}
 use Rattle.group_table.specs.declared.groups.Group.{Group}
 use Rattle.group_table.specs.declared.groups.GroupState.{GroupState}
 use Rattle.group_table.specs.declared.groups.GroupState.TheVariants.{Joining, Joined, Leaving}
-use Rattle.group_table.specs.Groups.{first_in, is_same_state, join_reported, leave_reported, leave_reported_from, new_group, index_of, state_of, taken_out}
+use Rattle.group_table.specs.Groups.{first_in, is_same_state, join_reported, leave_reported}
+use Rattle.group_table.specs.Groups.{leave_reported_from, new_group, index_of, state_of, taken_out}
 use Rattle.group_table.specs.declared.report.IgmpReportState.{IgmpReportState}
 use Rattle.group_table.specs.declared.report.IgmpReportState.TheVariants as igmp
 use Rattle.group_table.specs.declared.report.MldReportState.TheVariants as mld
 use Rattle.slaac.specs.declared.slaac.Phase.TheVariants as phase
-use Rattle.slaac.specs.Slaac.{is_before, sync_required, SlaacState, is_its_time, is_searching, initial_state, retry_at, rs_required, rs_sent, slaac_after_sent}
+use Rattle.slaac.specs.Slaac.{is_before, sync_required, SlaacState, is_its_time, is_searching}
+use Rattle.slaac.specs.Slaac.{initial_state, retry_at, rs_required, rs_sent, slaac_after_sent}
 use Rattle.host_machine.specs.State.Note.{Note}
 use Rattle.host_machine.specs.State.Host.{Host, Socket, at, no_sockets}
 use Rattle.host_machine.specs.declared.results.Turn.{Turn}
@@ -31,7 +35,8 @@ use Rattle.host_machine.specs.Sending.Packet.{Packet}
 use Rattle.host_machine.specs.Sending.Frame.{piece_frame}
 use Rattle.host_machine.specs.Sending.Multicast.{ReportsEach, ReportsAll, JoinsEgress, LeavesEgress, igmp_report, join_packet, leave_packet}
 use Rattle.host_machine.specs.Sending.Multicast as multicast
-use Rattle.host_machine.specs.Sending.Reports.{IgmpEgress, MldEgress, has_passed, igmp_poll_at, later_of, mld_timeout_of, next_group, next_report, igmp_report_after, igmp_timeout_of}
+use Rattle.host_machine.specs.Sending.Reports.{IgmpEgress, MldEgress, has_passed, igmp_poll_at, later_of, mld_timeout_of}
+use Rattle.host_machine.specs.Sending.Reports.{next_group, next_report, igmp_report_after, igmp_timeout_of}
 use Rattle.host_machine.specs.Sending.Reports as reports
 use Rattle.host_machine.specs.Sending.Slaac.{NdiscRsEgress, due_solicitation, router_solicitation, rs_poll_at, with_slaac}
 use Rattle.host_machine.specs.Sending.Slaac as slaac
@@ -41,7 +46,8 @@ use Rattle.host_machine.specs.Polling.Due.{Due, SocketDue, sync_poll_at}
 use Rattle.host_machine.specs.Polling.Due as due
 use Rattle.host_machine.specs.Sending.Egress.{Ipv4Egress, SocketTurn, Serves, Walks, SocketEgress, Egress}
 use Rattle.host_machine.specs.Sending.Egress as egress
-use Rattle.host_machine.specs.Laws.Service.{IsDone, IsStillDue, LittleStaysDue, StillLine, StillPiece, StillReport, StillSocket, DueIsDone, HasOneLess, IsFurther, IsLater, NextGroup, NoMore, PiecesGo, all_granted}
+use Rattle.host_machine.specs.Laws.Service.{IsDone, IsStillDue, LittleStaysDue, StillLine, StillPiece, StillReport, StillSocket}
+use Rattle.host_machine.specs.Laws.Service.{DueIsDone, HasOneLess, IsFurther, IsLater, NextGroup, NoMore, PiecesGo, all_granted}
 use Rattle.host_machine.proofs.Receiving.FrameReplies.{clash}
 use Rattle.host_machine.proofs.Sending.QueueDecrease.{served_less}
 use Rattle.host_machine.proofs.Sending.GrantedEgress.{all_untouched, dispatched_gone, each_turn, given_parts, gone_of, sent_frames-append, to_sockets}
@@ -52,9 +58,12 @@ pub pieces_go : PiecesGo
 pieces_go t answer old new told notes piece rest e all left =
     let a = e.round in
     let given = given_parts a.told_one a.told_two (sym (ap all_granted a.events) ∙ all) in
-    let front = goes a.begins given.0 in
-    (front.0 ++ sent_frames a.told_two, ap sent_frames a.events ∙ sent_frames-append a.told_one a.told_two ∙ ap (λ x. x ++ sent_frames a.told_two) front.1) where
-      goes : {H : Host} {told : List Event} {notes : List Note} → Ipv4Egress (at old t) told notes H → all_granted told ≡ true → (others : List (List ℕ)) × (sent_frames told ≡ piece_frame old piece ∷ others)
+    let front = goes a.begins given.0 in (
+      front.0 ++ sent_frames a.told_two,
+      ap sent_frames a.events ∙ sent_frames-append a.told_one a.told_two ∙ ap (λ x. x ++ sent_frames a.told_two) front.1,
+    ) where
+      goes : {H : Host} {told : List Event} {notes : List Note} → Ipv4Egress (at old t) told notes H → all_granted told ≡ true →
+          (others : List (List ℕ)) × (sent_frames told ≡ piece_frame old piece ∷ others)
       goes (egress.NoPiece l e m y) is = absurd (let lists : [] ≡ piece ∷ rest = sym l ∙ left in cc)
       goes (egress.NotGranted p others l e m y) is = absurd (clash is (ap all_granted e))
       goes (egress.PieceGoes p others l e m y) is =
@@ -103,7 +112,8 @@ has_come_by x t le = ap (λ b. if b then false else true) (le_not_lt x t le)
 
 -- Solicitations
 
-required_later : (t : ℤ) (o : Option Packet) (a b c : Bool) (r : ℤ) → is_le (int_cmp r t) ≡ b → (if (a && b) && c then o else None) ≡ None → IsLater t (option_and_then (λ p. if a && c then Some r else None) o)
+required_later : (t : ℤ) (o : Option Packet) (a b c : Bool) (r : ℤ) →
+    is_le (int_cmp r t) ≡ b → (if (a && b) && c then o else None) ≡ None → IsLater t (option_and_then (λ p. if a && c then Some r else None) o)
 required_later t None a b c r e none = tt
 required_later t (Some p) false b c r e none = tt
 required_later t (Some p) true b false r e none = tt
@@ -120,7 +130,8 @@ sent_later s t is = by (is_its_time s t) (nat_lt 0 s.left) is where
   at_zero true = tt
   at_zero false = one_left (nat_lt 0 (s.left - 1))
 
-  by : (b c : Bool) → (b && c) ≡ true → IsLater t (retry_at (if b then (if s.left == 0 then record s { phase = phase.None } else slaac_after_sent s t) else s))
+  by : (b c : Bool) →
+      (b && c) ≡ true → IsLater t (retry_at (if b then (if s.left == 0 then record s { phase = phase.None } else slaac_after_sent s t) else s))
   by true c e = at_zero (s.left == 0)
   by false c e = absurd cc
 
@@ -134,17 +145,21 @@ and_later : (t : ℤ) (o : Option Packet) (r : Option ℤ) → IsLater t r → I
 and_later t None r l = tt
 and_later t (Some p) r l = l
 
-solicited_later : {H new : Host} {told : List Event} {notes : List Note} → NdiscRsEgress H told notes new → all_granted told ≡ true → IsLater H.moment (rs_poll_at new)
+solicited_later : {H new : Host} {told : List Event} {notes : List Note} →
+    NdiscRsEgress H told notes new → all_granted told ≡ true → IsLater H.moment (rs_poll_at new)
 solicited_later {H} (slaac.NotDue d e m y) all =
     subst (λ (K : Host). IsLater H.moment (rs_poll_at K)) (sym y)
-    (required_later H.moment (router_solicitation H) (is_searching H.slaac.phase) (is_le (int_cmp H.slaac.retry_at H.moment)) (nat_lt 0 H.slaac.left) H.slaac.retry_at refl d)
+    (required_later H.moment (router_solicitation H) (is_searching H.slaac.phase) (is_le (int_cmp H.slaac.retry_at H.moment))
+    (nat_lt 0 H.slaac.left) H.slaac.retry_at refl d)
 solicited_later (slaac.NotGranted p d e m y) all = absurd (clash all (ap all_granted e))
 solicited_later {H} (slaac.Goes p o f mid d s e y) all =
     let learnt : mid.slaac ≡ H.slaac = ap (λ (K : Host). K.slaac) (dispatched_gone s) in
     let moment : mid.moment ≡ H.moment = ap (λ (K : Host). K.moment) (dispatched_gone s) in
     let same : rs_sent mid.slaac mid.moment ≡ rs_sent H.slaac H.moment = ap (λ l. rs_sent l mid.moment) learnt ∙ ap (λ t. rs_sent H.slaac t) moment in
-    let later : IsLater H.moment (retry_at (rs_sent mid.slaac mid.moment)) = subst (λ l. IsLater H.moment (retry_at l)) (sym same) (sent_later H.slaac H.moment (is_required H p d)) in
-    subst (λ (K : Host). IsLater H.moment (rs_poll_at K)) (sym y) (and_later H.moment (router_solicitation (with_slaac mid (rs_sent mid.slaac mid.moment))) (retry_at (rs_sent mid.slaac mid.moment)) later)
+    let later : IsLater H.moment (retry_at (rs_sent mid.slaac mid.moment)) =
+    subst (λ l. IsLater H.moment (retry_at l)) (sym same) (sent_later H.slaac H.moment (is_required H p d)) in
+    subst (λ (K : Host). IsLater H.moment (rs_poll_at K)) (sym y)
+    (and_later H.moment (router_solicitation (with_slaac mid (rs_sent mid.slaac mid.moment))) (retry_at (rs_sent mid.slaac mid.moment)) later)
 
 -- what is kept beside what the part changes
 abbrev learnt_apart : Host → Host
@@ -157,8 +172,10 @@ routers_kept (slaac.Goes p o f mid d s e y) = ap learnt_apart y ∙ ap (λ (K : 
 
 -- Reports of MLD
 
-mld_later : {H new : Host} {told : List Event} {notes : List Note} → MldEgress H told notes new → all_granted told ≡ true → IsLater H.moment (mld_timeout_of new.mld_report)
-mld_later {H} (reports.NotYet d e m y) all = subst (λ (K : Host). IsLater H.moment (mld_timeout_of K.mld_report)) (sym y) (come_later (mld_timeout_of H.mld_report) H.moment d)
+mld_later : {H new : Host} {told : List Event} {notes : List Note} →
+    MldEgress H told notes new → all_granted told ≡ true → IsLater H.moment (mld_timeout_of new.mld_report)
+mld_later {H} (reports.NotYet d e m y) all =
+    subst (λ (K : Host). IsLater H.moment (mld_timeout_of K.mld_report)) (sym y) (come_later (mld_timeout_of H.mld_report) H.moment d)
 mld_later (reports.GivenUp d e m y) all = absurd (clash all (ap all_granted e))
 mld_later {H} (reports.ReportGoes o f mid d s e y) all = subst (λ (K : Host). IsLater H.moment (mld_timeout_of K.mld_report)) (sym y) tt
 
@@ -177,7 +194,8 @@ timeout_is H x = by (next_report H) where
   by (Some p) e = e
 
 some_instant : (H : Host) (x : ℤ) → igmp_poll_at H ≡ Some x → ipv4_addr H.ip_addrs ≡ None → ⊥
-some_instant H x e none = let bad : None ≡ Some x = sym (ap (λ o. option_and_then (λ (p : Packet). igmp_timeout_of H.igmp_report) o) (no_address H none)) ∙ e in absurd cc
+some_instant H x e none = let bad : None ≡ Some x =
+    sym (ap (λ o. option_and_then (λ (p : Packet). igmp_timeout_of H.igmp_report) o) (no_address H none)) ∙ e in absurd cc
 
 igmp_by : {r r' : IgmpReportState} {k k' : IgmpReportState} → (r ≡ k) ⊎ (r ≡ igmp.Inactive) → r' ≡ r → k ≡ k' → (r' ≡ k') ⊎ (r' ≡ igmp.Inactive)
 igmp_by (inl e) f g = inl (f ∙ e ∙ g)
@@ -193,7 +211,8 @@ is_further : {r r' : IgmpReportState} (now : ℤ) → (r' ≡ igmp_report_after 
 is_further {r} {r'} now (inl e) = subst (IsFurther r) (sym e) (further r now)
 is_further {r} {r'} now (inr e) = subst (IsFurther r) (sym e) NoMore
 
-igmp_went : {H new : Host} {told : List Event} {notes : List Note} (x : ℤ) → IgmpEgress H told notes new → all_granted told ≡ true → igmp_timeout_of H.igmp_report ≡ Some x → x ≤ℤ H.moment →
+igmp_went : {H new : Host} {told : List Event} {notes : List Note} (x : ℤ) →
+    IgmpEgress H told notes new → all_granted told ≡ true → igmp_timeout_of H.igmp_report ≡ Some x → x ≤ℤ H.moment →
     (ipv4_addr H.ip_addrs ≡ None → ⊥) → (new.igmp_report ≡ igmp_report_after H.igmp_report H.moment) ⊎ (new.igmp_report ≡ igmp.Inactive)
 igmp_went {H} x (reports.NotDue d e m y) all timeout le some = absurd (clash (ap (λ o. has_passed o H.moment) timeout ∙ has_come_by x H.moment le) d)
 igmp_went x (reports.NoFurtherGroup d g e m y) all timeout le some = inr (ap (λ (K : Host). K.igmp_report) y)
@@ -211,14 +230,16 @@ module _ (s : GroupState) where
   lacks_none : (gs : List Group) → lacks gs ≡ true → first_in s gs ≡ None
   lacks_none [] e = refl
   lacks_none (g ∷ gs) e = by (is_same_state g.state s) (λ f. lacks_none gs f) e where
-    by : (b : Bool) → (lacks gs ≡ true → first_in s gs ≡ None) → (not b && lacks gs) ≡ true → option_map (λ (x : Group). x.addr) (cond b (Some g) (find (λ (x : Group). is_same_state x.state s) gs)) ≡ None
+    by : (b : Bool) → (lacks gs ≡ true → first_in s gs ≡ None) → (not b && lacks gs) ≡ true →
+        option_map (λ (x : Group). x.addr) (cond b (Some g) (find (λ (x : Group). is_same_state x.state s) gs)) ≡ None
     by true others f = absurd cc
     by false others f = others f
 
   none_lacks : (gs : List Group) → first_in s gs ≡ None → lacks gs ≡ true
   none_lacks [] e = refl
   none_lacks (g ∷ gs) e = by (is_same_state g.state s) (λ f. none_lacks gs f) e where
-    by : (b : Bool) → (first_in s gs ≡ None → lacks gs ≡ true) → option_map (λ (x : Group). x.addr) (cond b (Some g) (find (λ (x : Group). is_same_state x.state s) gs)) ≡ None → (not b && lacks gs) ≡ true
+    by : (b : Bool) → (first_in s gs ≡ None → lacks gs ≡ true) →
+        option_map (λ (x : Group). x.addr) (cond b (Some g) (find (λ (x : Group). is_same_state x.state s) gs)) ≡ None → (not b && lacks gs) ≡ true
     by true others f = absurd cc
     by false others f = others f
 
@@ -233,13 +254,15 @@ module _ (s : GroupState) where
   all_set : (gs : List Group) (i : ℕ) (v : Group) → lacks gs ≡ true → not (is_same_state v.state s) ≡ true → lacks (slice_set gs i v) ≡ true
   all_set [] i v e f = refl
   all_set (g ∷ gs) zero v e f = and_both _ _ f (both_of (not (is_same_state g.state s)) (lacks gs) e).1
-  all_set (g ∷ gs) (suc i) v e f = and_both _ _ (both_of (not (is_same_state g.state s)) (lacks gs) e).0 (all_set gs i v (both_of (not (is_same_state g.state s)) (lacks gs) e).1 f)
+  all_set (g ∷ gs) (suc i) v e f = and_both _ _
+      (both_of (not (is_same_state g.state s)) (lacks gs) e).0 (all_set gs i v (both_of (not (is_same_state g.state s)) (lacks gs) e).1 f)
 
   all_take : (n : ℕ) (gs : List Group) → lacks gs ≡ true → lacks (take n gs) ≡ true
   all_take zero [] e = refl
   all_take (suc n) [] e = refl
   all_take zero (g ∷ gs) e = refl
-  all_take (suc n) (g ∷ gs) e = and_both _ _ (both_of (not (is_same_state g.state s)) (lacks gs) e).0 (all_take n gs (both_of (not (is_same_state g.state s)) (lacks gs) e).1)
+  all_take (suc n) (g ∷ gs) e =
+      and_both _ _ (both_of (not (is_same_state g.state s)) (lacks gs) e).0 (all_take n gs (both_of (not (is_same_state g.state s)) (lacks gs) e).1)
 
   at_ok : (gs : List Group) (k : ℕ) (d : Group) → lacks gs ≡ true → k < length gs → not (is_same_state (slice_index_or gs k d).state s) ≡ true
   at_ok [] k d e less = absurd (omega (arith, less))
@@ -250,7 +273,8 @@ module _ (s : GroupState) where
   out_lacks [] a e = all_take (length {A = Group} [] - 1) [] refl
   out_lacks (g ∷ gs) a e =
       let last = at_ok (g ∷ gs) (length (g ∷ gs) - 1) (new_group a) e (omega arith) in
-      all_take (length (g ∷ gs) - 1) (slice_set (g ∷ gs) (index_of (g ∷ gs) a) (slice_index_or (g ∷ gs) (length (g ∷ gs) - 1) (new_group a))) (all_set (g ∷ gs) (index_of (g ∷ gs) a) (slice_index_or (g ∷ gs) (length (g ∷ gs) - 1) (new_group a)) e last)
+      all_take (length (g ∷ gs) - 1) (slice_set (g ∷ gs) (index_of (g ∷ gs) a) (slice_index_or (g ∷ gs) (length (g ∷ gs) - 1) (new_group a)))
+      (all_set (g ∷ gs) (index_of (g ∷ gs) a) (slice_index_or (g ∷ gs) (length (g ∷ gs) - 1) (new_group a)) e last)
 
   leave_lacks : (gs : List Group) (a : IpAddress) → lacks gs ≡ true → lacks (leave_reported gs a) ≡ true
   leave_lacks gs a e = by (state_of gs a) where
@@ -261,7 +285,8 @@ module _ (s : GroupState) where
     by (Some Leaving) = out_lacks gs a e
 
 -- no leave makes a join
-leaves_lack : {old new : Host} {granted : Bool} {told : List Event} {notes : List Note} → ReportsEach Leaving leave_packet leave_reported old granted told notes new → lacks Joining old.groups ≡ true → lacks Joining new.groups ≡ true
+leaves_lack : {old new : Host} {granted : Bool} {told : List Event} {notes : List Note} →
+    ReportsEach Leaving leave_packet leave_reported old granted told notes new → lacks Joining old.groups ≡ true → lacks Joining new.groups ≡ true
 leaves_lack multicast.Begins e = e
 leaves_lack (multicast.Silently {mid = mid} a w i none) e = leave_lacks Joining mid.groups a (leaves_lack w e)
 leaves_lack (multicast.Refused a p w i some) e = leaves_lack w e
@@ -270,30 +295,35 @@ leaves_lack (multicast.Reported {mid = mid} a p o f more new w i some d) e =
     leave_lacks Joining new.groups a (subst (λ gs. lacks Joining gs ≡ true) (sym same) (leaves_lack w e))
 
 module _ (state : GroupState) (packet_for : List IpCidr → IpAddress → Option Packet) (after_report : List Group → IpAddress → List Group) where
-  tells_given : {old new : Host} {granted : Bool} {told : List Event} {notes : List Note} → ReportsEach state packet_for after_report old granted told notes new → granted ≡ false → all_granted told ≡ true → ⊥
+  tells_given : {old new : Host} {granted : Bool} {told : List Event} {notes : List Note} →
+      ReportsEach state packet_for after_report old granted told notes new → granted ≡ false → all_granted told ≡ true → ⊥
   tells_given multicast.Begins ended all = absurd cc
   tells_given (multicast.Silently a w i none) ended all = absurd cc
   tells_given (multicast.Refused {told = so} {mid = mid} a p w i some) ended all = clash (given_parts so (Asked mid.moment false ∷ []) all).1 refl
   tells_given (multicast.Reported a p o f more new w i some d) ended all = absurd cc
 
-  none_left : {old new : Host} {told : List Event} {notes : List Note} → ReportsAll state packet_for after_report old told notes new → all_granted told ≡ true → first_in state new.groups ≡ None
+  none_left : {old new : Host} {told : List Event} {notes : List Note} →
+      ReportsAll state packet_for after_report old told notes new → all_granted told ≡ true → first_in state new.groups ≡ None
   none_left (multicast.All w none) all = none
   none_left (multicast.UpToRefusal w) all = absurd (tells_given w refl all)
 
   abbrev pub groups_apart : Host → Host
   groups_apart H = record (gone_of H) { groups = [] }
 
-  tells_kept : {old new : Host} {granted : Bool} {told : List Event} {notes : List Note} → ReportsEach state packet_for after_report old granted told notes new → groups_apart new ≡ groups_apart old
+  tells_kept : {old new : Host} {granted : Bool} {told : List Event} {notes : List Note} →
+      ReportsEach state packet_for after_report old granted told notes new → groups_apart new ≡ groups_apart old
   tells_kept multicast.Begins = refl
   tells_kept (multicast.Silently a w i none) = tells_kept w
   tells_kept (multicast.Refused a p w i some) = tells_kept w
   tells_kept (multicast.Reported a p o f more new w i some d) = ap (λ (K : Host). record K { groups = [] }) (dispatched_gone d) ∙ tells_kept w
 
-  pub groups_kept : {old new : Host} {told : List Event} {notes : List Note} → ReportsAll state packet_for after_report old told notes new → groups_apart new ≡ groups_apart old
+  pub groups_kept : {old new : Host} {told : List Event} {notes : List Note} →
+      ReportsAll state packet_for after_report old told notes new → groups_apart new ≡ groups_apart old
   groups_kept (multicast.All w none) = tells_kept w
   groups_kept (multicast.UpToRefusal w) = tells_kept w
 
-leaves_reported_lack : {old new : Host} {told : List Event} {notes : List Note} → LeavesEgress old told notes new → lacks Joining old.groups ≡ true → lacks Joining new.groups ≡ true
+leaves_reported_lack : {old new : Host} {told : List Event} {notes : List Note} →
+    LeavesEgress old told notes new → lacks Joining old.groups ≡ true → lacks Joining new.groups ≡ true
 leaves_reported_lack (multicast.All w none) e = leaves_lack w e
 leaves_reported_lack (multicast.UpToRefusal w) e = leaves_lack w e
 
@@ -320,22 +350,26 @@ mld_kept (reports.ReportGoes o f mid d s e y) = ap mld_apart y ∙ ap (λ (K : H
 abbrev pub sockets_apart : Host → Host
 sockets_apart H = record (gone_of H) { sockets = no_sockets }
 
-turn_gone : {s s' : Socket} {turn : Turn} {H new : Host} {told : List Event} {notes : List Note} → SocketTurn s turn s' H told notes new → gone_of new ≡ gone_of H
+turn_gone : {s s' : Socket} {turn : Turn} {H new : Host} {told : List Event} {notes : List Note} →
+    SocketTurn s turn s' H told notes new → gone_of new ≡ gone_of H
 turn_gone (egress.Silent p d e m y z) = ap gone_of y
 turn_gone (egress.Refused q p d e m y z) = ap gone_of y
 turn_gone (egress.Sent q o f p g d e z) = dispatched_gone g
 
-serves_kept : {i : ℕ} {turn : Turn} {H new : Host} {told : List Event} {notes : List Note} → Serves i turn H told notes new → sockets_apart new ≡ sockets_apart H
+serves_kept : {i : ℕ} {turn : Turn} {H new : Host} {told : List Event} {notes : List Note} →
+    Serves i turn H told notes new → sockets_apart new ≡ sockets_apart H
 serves_kept (egress.Free f d e m y) = ap sockets_apart y
 serves_kept (egress.Waits s known f l w d e m y) = ap sockets_apart y
 serves_kept (egress.Served s s' known mid f l w z y) = ap sockets_apart y ∙ ap (λ (K : Host). record K { sockets = no_sockets }) (turn_gone z)
 
-walks_kept : {old new : Host} {n : ℕ} {granted changed : Bool} {told : List Event} {notes : List Note} → Walks old n granted changed told notes new → sockets_apart new ≡ sockets_apart old
+walks_kept : {old new : Host} {n : ℕ} {granted changed : Bool} {told : List Event} {notes : List Note} →
+    Walks old n granted changed told notes new → sockets_apart new ≡ sockets_apart old
 walks_kept egress.Begins = refl
 walks_kept (egress.Goes turn told_it notes new w s e) = serves_kept s ∙ walks_kept w
 walks_kept (egress.Stops turn told_it notes new w s e) = serves_kept s ∙ walks_kept w
 
-pub all_kept : {old new : Host} {changed : Bool} {told : List Event} {notes : List Note} → SocketEgress old changed told notes new → sockets_apart new ≡ sockets_apart old
+pub all_kept : {old new : Host} {changed : Bool} {told : List Event} {notes : List Note} →
+    SocketEgress old changed told notes new → sockets_apart new ≡ sockets_apart old
 all_kept (egress.Whole w) = walks_kept w
 all_kept (egress.Stopped n w) = walks_kept w
 
@@ -360,33 +394,42 @@ due_done t answer old new told notes e all kept =
     let no_sooner : IsLater a.mid.moment (rs_poll_at b.mid) = solicited_later b.begins given_b.0 in
     let instant : rs_poll_at new ≡ rs_poll_at b.mid =
     ap rs_poll_at (all_kept g.ends) ∙ ap rs_poll_at (mld_kept g.begins) ∙ ap rs_poll_at (igmp_kept f.begins)
-    ∙ ap rs_poll_at (groups_kept Leaving leave_packet leave_reported d.begins) ∙ ap rs_poll_at (groups_kept Joining join_packet join_reported c.begins) in
+    ∙ ap rs_poll_at (groups_kept Leaving leave_packet leave_reported d.begins)
+    ∙ ap rs_poll_at (groups_kept Joining join_packet join_reported c.begins) in
     -- groups
-    let no_join : lacks Joining d.mid.groups ≡ true = leaves_reported_lack d.begins (none_lacks Joining c.mid.groups (none_left Joining join_packet join_reported c.begins given_c.0)) in
+    let no_join : lacks Joining d.mid.groups ≡ true =
+    leaves_reported_lack d.begins (none_lacks Joining c.mid.groups (none_left Joining join_packet join_reported c.begins given_c.0)) in
     let not_granted : first_in Leaving d.mid.groups ≡ None = none_left Leaving leave_packet leave_reported d.begins given_d.0 in
-    let groups : new.groups ≡ d.mid.groups = ap (λ (K : Host). K.groups) (all_kept g.ends) ∙ ap (λ (K : Host). K.groups) (mld_kept g.begins) ∙ ap (λ (K : Host). K.groups) (igmp_kept f.begins) in
+    let groups : new.groups ≡ d.mid.groups = ap (λ (K : Host). K.groups) (all_kept g.ends) ∙ ap (λ (K : Host). K.groups) (mld_kept g.begins)
+    ∙ ap (λ (K : Host). K.groups) (igmp_kept f.begins) in
     -- reports
     let moment_f : f.mid.moment ≡ t =
-    ap (λ (K : Host). K.moment) (igmp_kept f.begins) ∙ ap (λ (K : Host). K.moment) (groups_kept Leaving leave_packet leave_reported d.begins) ∙ ap (λ (K : Host). K.moment) (groups_kept Joining join_packet join_reported c.begins)
+    ap (λ (K : Host). K.moment) (igmp_kept f.begins) ∙ ap (λ (K : Host). K.moment) (groups_kept Leaving leave_packet leave_reported d.begins)
+    ∙ ap (λ (K : Host). K.moment) (groups_kept Joining join_packet join_reported c.begins)
     ∙ ap (λ (K : Host). K.moment) (routers_kept b.begins) ∙ moment_a in
     let mld_is : IsLater f.mid.moment (mld_timeout_of g.mid.mld_report) = mld_later g.begins given_g.0 in
     let mld_same : new.mld_report ≡ g.mid.mld_report = ap (λ (K : Host). K.mld_report) (all_kept g.ends) in
     let igmp_before : d.mid.igmp_report ≡ old.igmp_report =
-    ap (λ (K : Host). K.igmp_report) (groups_kept Leaving leave_packet leave_reported d.begins) ∙ ap (λ (K : Host). K.igmp_report) (groups_kept Joining join_packet join_reported c.begins)
+    ap (λ (K : Host). K.igmp_report) (groups_kept Leaving leave_packet leave_reported d.begins)
+    ∙ ap (λ (K : Host). K.igmp_report) (groups_kept Joining join_packet join_reported c.begins)
     ∙ ap (λ (K : Host). K.igmp_report) (routers_kept b.begins) ∙ ap (λ (K : Host). K.igmp_report) (piece_gone a.begins) in
     let addrs_before : d.mid.ip_addrs ≡ old.ip_addrs =
-    ap (λ (K : Host). K.ip_addrs) (groups_kept Leaving leave_packet leave_reported d.begins) ∙ ap (λ (K : Host). K.ip_addrs) (groups_kept Joining join_packet join_reported c.begins)
+    ap (λ (K : Host). K.ip_addrs) (groups_kept Leaving leave_packet leave_reported d.begins)
+    ∙ ap (λ (K : Host). K.ip_addrs) (groups_kept Joining join_packet join_reported c.begins)
     ∙ ap (λ (K : Host). K.ip_addrs) (routers_kept b.begins) ∙ ap (λ (K : Host). K.ip_addrs) (piece_gone a.begins) in
     let moment_d : d.mid.moment ≡ t =
-    ap (λ (K : Host). K.moment) (groups_kept Leaving leave_packet leave_reported d.begins) ∙ ap (λ (K : Host). K.moment) (groups_kept Joining join_packet join_reported c.begins)
+    ap (λ (K : Host). K.moment) (groups_kept Leaving leave_packet leave_reported d.begins)
+    ∙ ap (λ (K : Host). K.moment) (groups_kept Joining join_packet join_reported c.begins)
     ∙ ap (λ (K : Host). K.moment) (routers_kept b.begins) ∙ moment_a in
-    let igmp_after : new.igmp_report ≡ f.mid.igmp_report = ap (λ (K : Host). K.igmp_report) (all_kept g.ends) ∙ ap (λ (K : Host). K.igmp_report) (mld_kept g.begins) in
+    let igmp_after : new.igmp_report ≡ f.mid.igmp_report = ap (λ (K : Host). K.igmp_report) (all_kept g.ends)
+    ∙ ap (λ (K : Host). K.igmp_report) (mld_kept g.begins) in
     record {
       joins = ap (option_map (λ x. pos 0)) (ap (first_in Joining) groups ∙ lacks_none Joining d.mid.groups no_join);
       leaves_reported = ap (option_map (λ x. pos 0)) (ap (first_in Leaving) groups ∙ not_granted);
       solicitation = subst (λ o. IsLater t o) (sym instant) (subst (λ m. IsLater m (rs_poll_at b.mid)) moment_a no_sooner);
       mld = subst (λ m. IsLater t (mld_timeout_of m)) (sym mld_same) (subst (λ m. IsLater m (mld_timeout_of g.mid.mld_report)) moment_f mld_is);
-      igmp = λ x due le. is_further t (igmp_by (igmp_went {H = d.mid} x f.begins given_f.0 (ap igmp_timeout_of igmp_before ∙ timeout_is (at old t) x due) (subst (λ m. x ≤ℤ m) (sym moment_d) le)
+      igmp = λ x due le. is_further t (igmp_by (igmp_went {H = d.mid} x f.begins given_f.0
+          (ap igmp_timeout_of igmp_before ∙ timeout_is (at old t) x due) (subst (λ m. x ≤ℤ m) (sym moment_d) le)
           (λ none. some_instant (at old t) x due (sym (ap ipv4_addr addrs_before) ∙ none))) igmp_after
           (ap (λ r. igmp_report_after r d.mid.moment) igmp_before ∙ ap (λ m. igmp_report_after old.igmp_report m) moment_d));
       sockets = λ i x due le. fewer i x due le;
@@ -402,10 +445,12 @@ due_done t answer old new told notes e all kept =
           let mid_places : length k.mid.sockets.places ≡ length old.sockets.places = ap (λ s. length s.places) sockets_are in
           let a = each_turn k.sends_them last_given i (omega (arith, places, here, mid_places)) in
           let waits : length a.mid.sockets.waits ≡ length old.sockets.waits = a.waits ∙ ap (λ s. length s.waits) sockets_are in
-          let given_it : all_granted a.told_it ≡ true = (given_parts a.told_it a.back (given_parts a.front (a.told_it ++ a.back) (sym (ap all_granted a.split) ∙ last_given)).1).0 in
+          let given_it : all_granted a.told_it ≡ true =
+          (given_parts a.told_it a.back (given_parts a.front (a.told_it ++ a.back) (sym (ap all_granted a.split) ∙ last_given)).1).0 in
           let moment : a.mid.moment ≡ t = ap (λ (K : Host). K.moment) a.rest ∙ ap (λ (K : Host). K.moment) k.way in
           let same : slice_get a.mid.sockets.places i ≡ slice_get old.sockets.places i = a.same.place ∙ ap (λ s. slice_get s.places i) sockets_are in
-          let one = served_less new x a.served given_it (omega (arith, places, here, waits, kept)) (whole.rest ∙ sym a.rest) a.stays due (subst (λ m. x ≤ℤ m) (sym moment) le) in
+          let one = served_less new x a.served given_it (omega (arith, places, here, waits, kept))
+          (whole.rest ∙ sym a.rest) a.stays due (subst (λ m. x ≤ℤ m) (sym moment) le) in
           record { before = one.before; after = one.after; was = sym same ∙ one.was; is = a.stays.place ∙ one.is; less = one.less }
 
 -- What stays due
@@ -424,7 +469,8 @@ sync_is H x = by (sync_required H.slaac H.moment) where
 listed_later : (t x : ℤ) (xs : List ℤ) (i : ℕ) → slice_get (filter (is_before t) xs) i ≡ Some x → t <ℤ x
 listed_later t x [] i e = absurd (let bad : None ≡ Some x = e in cc)
 listed_later t x (y ∷ ys) i e = by (is_before t y) refl i e (λ k f. listed_later t x ys k f) where
-  by : (b : Bool) → is_before t y ≡ b → (k : ℕ) → slice_get (cond b (y ∷ filter (is_before t) ys) (filter (is_before t) ys)) k ≡ Some x → ((j : ℕ) → slice_get (filter (is_before t) ys) j ≡ Some x → t <ℤ x) → t <ℤ x
+  by : (b : Bool) → is_before t y ≡ b → (k : ℕ) → slice_get (cond b (y ∷ filter (is_before t) ys) (filter (is_before t) ys)) k ≡ Some x →
+      ((j : ℕ) → slice_get (filter (is_before t) ys) j ≡ Some x → t <ℤ x) → t <ℤ x
   by true f zero g others = let same : y ≡ x = cc in subst (λ z. t <ℤ z) same (lt_of t y f)
   by true f (suc k) g others = others k g
   by false f k g others = others k g

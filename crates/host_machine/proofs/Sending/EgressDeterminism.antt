@@ -1,6 +1,7 @@
 -- What a call that sends does is determined by the host and by the leaves that the device gives: of each part of a round, with the answers to what is
 -- asked behind it, and so of the whole.
-use Rattle.std.proofs.Common.{◌≡◌, ℕ, ◌+◌, ◌<◌, List, [], ◌∷◌, ◌++◌, length, refl, sym, ◌∙◌, ap, append_assoc, subst, Option, Some, None, arith, inl, inr, zero, suc}
+use Rattle.std.proofs.Common.{◌≡◌, ℕ, ◌+◌, ◌<◌, List, [], ◌∷◌, ◌++◌, length, refl, sym, ◌∙◌, ap}
+use Rattle.std.proofs.Common.{append_assoc, subst, Option, Some, None, arith, inl, inr, zero, suc}
 use Rattle.std.proofs.lemmas.Bool.{cases_eq}
 use Rattle.std.proofs.lemmas.Bool.Decides.{nat_tests}
 use Rattle.std.proofs.lemmas.List.{append-nil, length-set}
@@ -36,7 +37,8 @@ use Rattle.host_machine.specs.Sending.Slaac as slaac
 use Rattle.host_machine.specs.Sending.Slaac.{NdiscRsEgress, with_slaac}
 use Rattle.slaac.specs.Slaac.{rs_sent}
 use Rattle.host_machine.specs.Sending.Egress as egress
-use Rattle.host_machine.specs.Sending.Egress.{SocketTurn, Serves, Walks, SocketEgress, Ipv4Egress, Round, Egress, answer_of, socket_after_asking, is_exhausted, is_done, packet_from, turn_of, wait_after, with_socket}
+use Rattle.host_machine.specs.Sending.Egress.{SocketTurn, Serves, Walks, SocketEgress, Ipv4Egress, Round, Egress, answer_of}
+use Rattle.host_machine.specs.Sending.Egress.{socket_after_asking, is_exhausted, is_done, packet_from, turn_of, wait_after, with_socket}
 use Rattle.host_machine.specs.Laws.Determined.{IsOneDispatch, IsOneCall, EgressIsDetermined}
 use Rattle.host_machine.proofs.Sending.DispatchDeterminism.{dispatches_once}
 use Rattle.host_machine.proofs.Sending.PartDeterminism.{IsOnce, IsOncePart, Splits, split, behind, before, both_once, joined}
@@ -65,18 +67,22 @@ agree : {t t' ts : List Event} {n n' ns : List Note} {x x' K : Host} → t ≡ t
 agree t n x t' n' x' = record { answer_is = refl; told_is = t ∙ sym t'; notes_are = n ∙ sym n'; host_is = x ∙ sym x' }
 
 -- leave isn't both refused and given
-refused_or_given : {t t' es : List Event} {s s' : ℤ} (rest rest' : List Bool) → t ≡ Asked s false ∷ [] → t' ≡ Asked s' true ∷ es → grants t ++ rest ≡ grants t' ++ rest' → ⊥
+refused_or_given : {t t' es : List Event} {s s' : ℤ} (rest rest' : List Bool) →
+    t ≡ Asked s false ∷ [] → t' ≡ Asked s' true ∷ es → grants t ++ rest ≡ grants t' ++ rest' → ⊥
 refused_or_given {t} {t'} {es} {s} {s'} rest rest' r g same =
     let bad : false ∷ rest ≡ true ∷ (grants es ++ rest') = rw (r, g) at same in
     absurd cc
 
 -- one packet is dispatched once
-gone_once : {p q : Packet} {o o' : Outcome} {H x x' : Host} {f f' : List (List ℕ)} {n n' : List Note} → p ≡ q → Dispatches p o H f n x → Dispatches q o' H f' n' x' → IsOneDispatch o o' f f' n n' x x'
+gone_once : {p q : Packet} {o o' : Outcome} {H x x' : Host} {f f' : List (List ℕ)} {n n' : List Note} →
+    p ≡ q → Dispatches p o H f n x → Dispatches q o' H f' n' x' → IsOneDispatch o o' f f' n n' x x'
 gone_once {p} {q} {o} {o'} {H} {x} {x'} {f} {f'} {n} {n'} same d d' = dispatches_once p o o' H x x' f f' n n' d (rw same d')
 
 -- where one packet goes with leave, and the host after it is that of the dispatch, changed
-sent_once : {p q : Packet} {o o' : Outcome} {H x x' y y' : Host} {f f' : List (List ℕ)} {n n' : List Note} {t t' : List Event} (change : Host → Host) →
-    p ≡ q → Dispatches p o H f n x → Dispatches q o' H f' n' x' → t ≡ Asked H.moment true ∷ sends f → t' ≡ Asked H.moment true ∷ sends f' → y ≡ change x → y' ≡ change x' →
+sent_once : {p q : Packet} {o o' : Outcome} {H x x' y y' : Host} {f f' : List (List ℕ)} {n n' : List Note}
+    {t t' : List Event} (change : Host → Host) →
+    p ≡ q → Dispatches p o H f n x → Dispatches q o' H f' n' x' → t ≡ Asked H.moment true ∷ sends f →
+    t' ≡ Asked H.moment true ∷ sends f' → y ≡ change x → y' ≡ change x' →
     IsOnePart t t' n n' y y'
 sent_once {H = H} change same d d' t t' y y' =
     let one = gone_once same d d' in record {
@@ -91,10 +97,13 @@ piece_once u v H t t' n n' x x' rest rest' (egress.NoPiece l e m y) (egress.NoPi
 piece_once u v H t t' n n' x x' rest rest' (egress.NoPiece l e m y) (egress.NotGranted piece others l' e' m' y') same = absurd cc
 piece_once u v H t t' n n' x x' rest rest' (egress.NoPiece l e m y) (egress.PieceGoes piece others l' e' m' y') same = absurd cc
 piece_once u v H t t' n n' x x' rest rest' (egress.NotGranted piece others l e m y) (egress.NoPiece l' e' m' y') same = absurd cc
-piece_once u v H t t' n n' x x' rest rest' (egress.NotGranted piece others l e m y) (egress.NotGranted piece' others' l' e' m' y') same = agree e m y e' m' y'
-piece_once u v H t t' n n' x x' rest rest' (egress.NotGranted piece others l e m y) (egress.PieceGoes piece' others' l' e' m' y') same = absurd (refused_or_given rest rest' e e' same)
+piece_once u v H t t' n n' x x' rest rest' (egress.NotGranted piece others l e m y) (egress.NotGranted piece' others' l' e' m' y') same =
+    agree e m y e' m' y'
+piece_once u v H t t' n n' x x' rest rest' (egress.NotGranted piece others l e m y) (egress.PieceGoes piece' others' l' e' m' y') same =
+    absurd (refused_or_given rest rest' e e' same)
 piece_once u v H t t' n n' x x' rest rest' (egress.PieceGoes piece others l e m y) (egress.NoPiece l' e' m' y') same = absurd cc
-piece_once u v H t t' n n' x x' rest rest' (egress.PieceGoes piece others l e m y) (egress.NotGranted piece' others' l' e' m' y') same = absurd (refused_or_given rest' rest e' e (sym same))
+piece_once u v H t t' n n' x x' rest rest' (egress.PieceGoes piece others l e m y) (egress.NotGranted piece' others' l' e' m' y') same =
+    absurd (refused_or_given rest' rest e' e (sym same))
 piece_once u v H t t' n n' x x' rest rest' (egress.PieceGoes piece others l e m y) (egress.PieceGoes piece' others' l' e' m' y') same =
     let lists : piece ∷ others ≡ piece' ∷ others' = sym l ∙ l' in
     let one : piece ≡ piece' = cc in
@@ -107,9 +116,11 @@ routers_once u v H t t' n n' x x' rest rest' (slaac.NotDue d e m y) (slaac.NotGr
 routers_once u v H t t' n n' x x' rest rest' (slaac.NotDue d e m y) (slaac.Goes p o f mid d' s e' y') same = absurd cc
 routers_once u v H t t' n n' x x' rest rest' (slaac.NotGranted p d e m y) (slaac.NotDue d' e' m' y') same = absurd cc
 routers_once u v H t t' n n' x x' rest rest' (slaac.NotGranted p d e m y) (slaac.NotGranted q d' e' m' y') same = agree e m y e' m' y'
-routers_once u v H t t' n n' x x' rest rest' (slaac.NotGranted p d e m y) (slaac.Goes q o f mid d' s e' y') same = absurd (refused_or_given rest rest' e e' same)
+routers_once u v H t t' n n' x x' rest rest' (slaac.NotGranted p d e m y) (slaac.Goes q o f mid d' s e' y') same =
+    absurd (refused_or_given rest rest' e e' same)
 routers_once u v H t t' n n' x x' rest rest' (slaac.Goes p o f mid d s e y) (slaac.NotDue d' e' m' y') same = absurd cc
-routers_once u v H t t' n n' x x' rest rest' (slaac.Goes p o f mid d s e y) (slaac.NotGranted q d' e' m' y') same = absurd (refused_or_given rest' rest e' e (sym same))
+routers_once u v H t t' n n' x x' rest rest' (slaac.Goes p o f mid d s e y) (slaac.NotGranted q d' e' m' y') same =
+    absurd (refused_or_given rest' rest e' e (sym same))
 routers_once u v H t t' n n' x x' rest rest' (slaac.Goes p o f mid d s e y) (slaac.Goes q o' f' mid' d' s' e' y') same =
     let both : Some p ≡ Some q = sym d ∙ d' in
     let one : p ≡ q = cc in
@@ -119,7 +130,8 @@ routers_once u v H t t' n n' x x' rest rest' (slaac.Goes p o f mid d s e y) (sla
 no_group : (H : Host) {p : Packet} → next_group H H.igmp_report ≡ None → next_report H ≡ Some p → ⊥
 no_group H {p} none some = let bad : None ≡ Some p = rw none at some in absurd cc
 
-no_address : (H : Host) {next : IgmpVersion × Ipv4Address} {p : Packet} → next_group H H.igmp_report ≡ Some next → ipv4_addr H.ip_addrs ≡ None → next_report H ≡ Some p → ⊥
+no_address : (H : Host) {next : IgmpVersion × Ipv4Address} {p : Packet} →
+    next_group H H.igmp_report ≡ Some next → ipv4_addr H.ip_addrs ≡ None → next_report H ≡ Some p → ⊥
 no_address H {next} {p} group none some = let bad : None ≡ Some p = rw (group, none) at some in absurd cc
 
 igmp_once : IsOnceAlone IgmpEgress
@@ -132,21 +144,28 @@ igmp_once u v H t t' n n' x x' rest rest' (reports.NoFurtherGroup d g e m y) (re
 igmp_once u v H t t' n n' x x' rest rest' (reports.NoFurtherGroup d g e m y) (reports.NoFurtherGroup d' g' e' m' y') same = agree e m y e' m' y'
 igmp_once u v H t t' n n' x x' rest rest' (reports.NoFurtherGroup d g e m y) (reports.NoAddress next' d' g' a' e' m' y') same = absurd cc
 igmp_once u v H t t' n n' x x' rest rest' (reports.NoFurtherGroup d g e m y) (reports.NotGranted p' d' r' e' m' y') same = absurd (no_group H g r')
-igmp_once u v H t t' n n' x x' rest rest' (reports.NoFurtherGroup d g e m y) (reports.Sent p' o' f' mid' d' r' s' e' y') same = absurd (no_group H g r')
+igmp_once u v H t t' n n' x x' rest rest' (reports.NoFurtherGroup d g e m y) (reports.Sent p' o' f' mid' d' r' s' e' y') same =
+    absurd (no_group H g r')
 igmp_once u v H t t' n n' x x' rest rest' (reports.NoAddress next d g a e m y) (reports.NotDue d' e' m' y') same = absurd cc
 igmp_once u v H t t' n n' x x' rest rest' (reports.NoAddress next d g a e m y) (reports.NoFurtherGroup d' g' e' m' y') same = absurd cc
 igmp_once u v H t t' n n' x x' rest rest' (reports.NoAddress next d g a e m y) (reports.NoAddress next' d' g' a' e' m' y') same = agree e m y e' m' y'
-igmp_once u v H t t' n n' x x' rest rest' (reports.NoAddress next d g a e m y) (reports.NotGranted p' d' r' e' m' y') same = absurd (no_address H g a r')
-igmp_once u v H t t' n n' x x' rest rest' (reports.NoAddress next d g a e m y) (reports.Sent p' o' f' mid' d' r' s' e' y') same = absurd (no_address H g a r')
+igmp_once u v H t t' n n' x x' rest rest' (reports.NoAddress next d g a e m y) (reports.NotGranted p' d' r' e' m' y') same =
+    absurd (no_address H g a r')
+igmp_once u v H t t' n n' x x' rest rest' (reports.NoAddress next d g a e m y) (reports.Sent p' o' f' mid' d' r' s' e' y') same =
+    absurd (no_address H g a r')
 igmp_once u v H t t' n n' x x' rest rest' (reports.NotGranted p d r e m y) (reports.NotDue d' e' m' y') same = absurd cc
 igmp_once u v H t t' n n' x x' rest rest' (reports.NotGranted p d r e m y) (reports.NoFurtherGroup d' g' e' m' y') same = absurd (no_group H g' r)
-igmp_once u v H t t' n n' x x' rest rest' (reports.NotGranted p d r e m y) (reports.NoAddress next' d' g' a' e' m' y') same = absurd (no_address H g' a' r)
+igmp_once u v H t t' n n' x x' rest rest' (reports.NotGranted p d r e m y) (reports.NoAddress next' d' g' a' e' m' y') same =
+    absurd (no_address H g' a' r)
 igmp_once u v H t t' n n' x x' rest rest' (reports.NotGranted p d r e m y) (reports.NotGranted p' d' r' e' m' y') same = agree e m y e' m' y'
-igmp_once u v H t t' n n' x x' rest rest' (reports.NotGranted p d r e m y) (reports.Sent p' o' f' mid' d' r' s' e' y') same = absurd (refused_or_given rest rest' e e' same)
+igmp_once u v H t t' n n' x x' rest rest' (reports.NotGranted p d r e m y) (reports.Sent p' o' f' mid' d' r' s' e' y') same =
+    absurd (refused_or_given rest rest' e e' same)
 igmp_once u v H t t' n n' x x' rest rest' (reports.Sent p o f mid d r s e y) (reports.NotDue d' e' m' y') same = absurd cc
 igmp_once u v H t t' n n' x x' rest rest' (reports.Sent p o f mid d r s e y) (reports.NoFurtherGroup d' g' e' m' y') same = absurd (no_group H g' r)
-igmp_once u v H t t' n n' x x' rest rest' (reports.Sent p o f mid d r s e y) (reports.NoAddress next' d' g' a' e' m' y') same = absurd (no_address H g' a' r)
-igmp_once u v H t t' n n' x x' rest rest' (reports.Sent p o f mid d r s e y) (reports.NotGranted p' d' r' e' m' y') same = absurd (refused_or_given rest' rest e' e (sym same))
+igmp_once u v H t t' n n' x x' rest rest' (reports.Sent p o f mid d r s e y) (reports.NoAddress next' d' g' a' e' m' y') same =
+    absurd (no_address H g' a' r)
+igmp_once u v H t t' n n' x x' rest rest' (reports.Sent p o f mid d r s e y) (reports.NotGranted p' d' r' e' m' y') same =
+    absurd (refused_or_given rest' rest e' e (sym same))
 igmp_once u v H t t' n n' x x' rest rest' (reports.Sent p o f mid d r s e y) (reports.Sent p' o' f' mid' d' r' s' e' y') same =
     let both : Some p ≡ Some p' = sym r ∙ r' in
     let one : p ≡ p' = cc in
@@ -158,39 +177,54 @@ mld_once u v H t t' n n' x x' rest rest' (reports.NotYet d e m y) (reports.Given
 mld_once u v H t t' n n' x x' rest rest' (reports.NotYet d e m y) (reports.ReportGoes o f mid d' s e' y') same = absurd cc
 mld_once u v H t t' n n' x x' rest rest' (reports.GivenUp d e m y) (reports.NotYet d' e' m' y') same = absurd cc
 mld_once u v H t t' n n' x x' rest rest' (reports.GivenUp d e m y) (reports.GivenUp d' e' m' y') same = agree e m y e' m' y'
-mld_once u v H t t' n n' x x' rest rest' (reports.GivenUp d e m y) (reports.ReportGoes o f mid d' s e' y') same = absurd (refused_or_given rest rest' e e' same)
+mld_once u v H t t' n n' x x' rest rest' (reports.GivenUp d e m y) (reports.ReportGoes o f mid d' s e' y') same =
+    absurd (refused_or_given rest rest' e e' same)
 mld_once u v H t t' n n' x x' rest rest' (reports.ReportGoes o f mid d s e y) (reports.NotYet d' e' m' y') same = absurd cc
-mld_once u v H t t' n n' x x' rest rest' (reports.ReportGoes o f mid d s e y) (reports.GivenUp d' e' m' y') same = absurd (refused_or_given rest' rest e' e (sym same))
+mld_once u v H t t' n n' x x' rest rest' (reports.ReportGoes o f mid d s e y) (reports.GivenUp d' e' m' y') same =
+    absurd (refused_or_given rest' rest e' e (sym same))
 mld_once u v H t t' n n' x x' rest rest' (reports.ReportGoes o f mid d s e y) (reports.ReportGoes o' f' mid' d' s' e' y') same =
     sent_once (λ m. with_mld_report m mld.Inactive) refl s s' e e' y y'
 
 -- groups of which routers are told
 
--- the same from its front: no group is in the state; or its first one is passed over, or leave for it is refused, or it is told of, and then the others
-data Telling (state : GroupState) (packet_for : List IpCidr → IpAddress → Option Packet) (after_report : List Group → IpAddress → List Group) : Host → List Event → List Note → Host → Type 0 where
-  Ended : {H new : Host} {told : List Event} {notes : List Note} → first_in state H.groups ≡ None → told ≡ [] → notes ≡ [] → new ≡ H → Telling state packet_for after_report H told notes new
-  Skipped : {H new : Host} {told : List Event} {notes : List Note} (a : IpAddress) → first_in state H.groups ≡ Some a → packet_for H.ip_addrs a ≡ None →
-      Telling state packet_for after_report (with_groups H (after_report H.groups a)) told notes new → Telling state packet_for after_report H told notes new
-  Withheld : {H new : Host} {told : List Event} {notes : List Note} (a : IpAddress) (p : Packet) → first_in state H.groups ≡ Some a → packet_for H.ip_addrs a ≡ Some p →
+-- the same from its front: no group is in the state; or its first one is passed over, or leave for it is refused, or it is told
+-- of, and then the others
+data Telling (state : GroupState) (packet_for : List IpCidr → IpAddress → Option Packet) (after_report : List Group → IpAddress → List Group) : Host →
+    List Event → List Note → Host → Type 0 where
+  Ended : {H new : Host} {told : List Event} {notes : List Note} → first_in state H.groups ≡ None → told ≡ [] → notes ≡ [] → new ≡ H →
+      Telling state packet_for after_report H told notes new
+  Skipped : {H new : Host} {told : List Event} {notes : List Note} (a : IpAddress) →
+      first_in state H.groups ≡ Some a → packet_for H.ip_addrs a ≡ None →
+      Telling state packet_for after_report (with_groups H (after_report H.groups a)) told notes new →
+      Telling state packet_for after_report H told notes new
+  Withheld : {H new : Host} {told : List Event} {notes : List Note} (a : IpAddress) (p : Packet) →
+      first_in state H.groups ≡ Some a → packet_for H.ip_addrs a ≡ Some p →
       told ≡ Asked H.moment false ∷ [] → notes ≡ [] → new ≡ H → Telling state packet_for after_report H told notes new
-  Said : {H new : Host} {told : List Event} {notes : List Note} (a : IpAddress) (p : Packet) (outcome : Outcome) (frames : List (List ℕ)) (more : List Note) (mid : Host)
-      (told_on : List Event) (notes_on : List Note) → first_in state H.groups ≡ Some a → packet_for H.ip_addrs a ≡ Some p → Dispatches p outcome H frames more mid →
-      Telling state packet_for after_report (with_groups mid (after_report mid.groups a)) told_on notes_on new → told ≡ (Asked H.moment true ∷ sends frames) ++ told_on → notes ≡ more ++ notes_on →
+  Said : {H new : Host} {told : List Event} {notes : List Note} (a : IpAddress) (p : Packet) (outcome : Outcome)
+      (frames : List (List ℕ)) (more : List Note) (mid : Host)
+      (told_on : List Event) (notes_on : List Note) →
+      first_in state H.groups ≡ Some a → packet_for H.ip_addrs a ≡ Some p → Dispatches p outcome H frames more mid →
+      Telling state packet_for after_report (with_groups mid (after_report mid.groups a)) told_on notes_on new →
+      told ≡ (Asked H.moment true ∷ sends frames) ++ told_on → notes ≡ more ++ notes_on →
       Telling state packet_for after_report H told notes new
 
 module _ (state : GroupState) (packet_for : List IpCidr → IpAddress → Option Packet) (after_report : List Group → IpAddress → List Group) where
-  onward : {old mid new : Host} {told more t : List Event} {notes ns n : List Note} → ReportsEach state packet_for after_report old true told notes mid → Telling state packet_for after_report mid more ns new →
+  onward : {old mid new : Host} {told more t : List Event} {notes ns n : List Note} →
+      ReportsEach state packet_for after_report old true told notes mid → Telling state packet_for after_report mid more ns new →
       t ≡ told ++ more → n ≡ notes ++ ns → Telling state packet_for after_report old t n new
   onward multicast.Begins on e f = rw (e, f) on
   onward (multicast.Silently a w i none) on e f = onward w (Skipped a i none on) e f
   onward {more = more} {ns = ns} (multicast.Reported {told = so} {notes = noted} a p outcome frames further mid w i some d) on e f =
       onward w (Said a p outcome frames further mid more ns i some d on refl refl) (e ∙ append_assoc so _ more) (f ∙ append_assoc noted further ns)
 
-  telling : {old new : Host} {told : List Event} {notes : List Note} → ReportsAll state packet_for after_report old told notes new → Telling state packet_for after_report old told notes new
+  telling : {old new : Host} {told : List Event} {notes : List Note} →
+      ReportsAll state packet_for after_report old told notes new → Telling state packet_for after_report old told notes new
   telling {told = told} {notes = notes} (multicast.All w none) = onward w (Ended none refl refl refl) (sym (append-nil told)) (sym (append-nil notes))
-  telling {notes = notes} (multicast.UpToRefusal (multicast.Refused a p w i some)) = onward w (Withheld a p i some refl refl refl) refl (sym (append-nil notes))
+  telling {notes = notes} (multicast.UpToRefusal (multicast.Refused a p w i some)) =
+      onward w (Withheld a p i some refl refl refl) refl (sym (append-nil notes))
 
-  telling_once : {H x x' : Host} {t t' : List Event} {n n' : List Note} (rest rest' : List Bool) → Telling state packet_for after_report H t n x → Telling state packet_for after_report H t' n' x' →
+  telling_once : {H x x' : Host} {t t' : List Event} {n n' : List Note} (rest rest' : List Bool) →
+      Telling state packet_for after_report H t n x → Telling state packet_for after_report H t' n' x' →
       grants t ++ rest ≡ grants t' ++ rest' → IsOnePart t t' n n' x x'
   telling_once rest rest' (Ended i e m y) (Ended i' e' m' y') same = agree e m y e' m' y'
   telling_once rest rest' (Ended i e m y) (Skipped a i' s' w') same = absurd cc
@@ -206,10 +240,12 @@ module _ (state : GroupState) (packet_for : List IpCidr → IpAddress → Option
   telling_once rest rest' (Withheld a p i s e m y) (Ended i' e' m' y') same = absurd cc
   telling_once rest rest' (Withheld a p i s e m y) (Skipped b i' s' w') same = absurd cc
   telling_once rest rest' (Withheld a p i s e m y) (Withheld b q i' s' e' m' y') same = agree e m y e' m' y'
-  telling_once rest rest' (Withheld a p i s e m y) (Said b q o f more mid on noted i' s' d' w' e' m') same = absurd (refused_or_given rest rest' e e' same)
+  telling_once rest rest' (Withheld a p i s e m y) (Said b q o f more mid on noted i' s' d' w' e' m') same =
+      absurd (refused_or_given rest rest' e e' same)
   telling_once rest rest' (Said a p o f more mid on noted i s d w e m) (Ended i' e' m' y') same = absurd cc
   telling_once rest rest' (Said a p o f more mid on noted i s d w e m) (Skipped b i' s' w') same = absurd cc
-  telling_once rest rest' (Said a p o f more mid on noted i s d w e m) (Withheld b q i' s' e' m' y') same = absurd (refused_or_given rest' rest e' e (sym same))
+  telling_once rest rest' (Said a p o f more mid on noted i s d w e m) (Withheld b q i' s' e' m' y') same =
+      absurd (refused_or_given rest' rest e' e (sym same))
   telling_once {H} rest rest' (Said a p o f more mid on noted i s d w e m) (Said b q o' f' more' mid' on' noted' i' s' d' w' e' m') same =
       let both : Some a ≡ Some b = sym i ∙ i' in
       let group : a ≡ b = cc in
@@ -231,11 +267,13 @@ module _ (state : GroupState) (packet_for : List IpCidr → IpAddress → Option
 
 -- sockets
 
-told_same : (H : Host) (w : Wait) (known known' : Bool) (t : ℤ) → IsAnswerFor (HasNeighbor H) w known → IsAnswerFor (HasNeighbor H) w known' → is_permitted w known t ≡ is_permitted w known' t
+told_same : (H : Host) (w : Wait) (known known' : Bool) (t : ℤ) → IsAnswerFor (HasNeighbor H) w known → IsAnswerFor (HasNeighbor H) w known' →
+    is_permitted w known t ≡ is_permitted w known' t
 told_same H None known known' t a b = refl
 told_same H (Some w) known known' t a b = ap (λ k. is_permitted (Some w) k t) (known_is_one a b)
 
-asked_same : (H : Host) (w : Wait) (known known' : Bool) → IsAnswerFor (HasNeighbor H) w known → IsAnswerFor (HasNeighbor H) w known' → after_asking w known ≡ after_asking w known'
+asked_same : (H : Host) (w : Wait) (known known' : Bool) → IsAnswerFor (HasNeighbor H) w known → IsAnswerFor (HasNeighbor H) w known' →
+    after_asking w known ≡ after_asking w known'
 asked_same H None known known' a b = refl
 asked_same H (Some w) known known' a b = ap (after_asking (Some w)) (known_is_one a b)
 
@@ -247,11 +285,14 @@ record IsOneTurn (turn turn' : Turn) (s s' : Socket) (t t' : List Event) (n n' :
   notes_are : n ≡ n'
   host_is : x ≡ x'
 
-alike : {turn turn' d : Turn} {s s' z : Socket} {t t' ts : List Event} {n n' ns : List Note} {x x' K : Host} → turn ≡ d → t ≡ ts → n ≡ ns → x ≡ K → s ≡ z → turn' ≡ d → t' ≡ ts → n' ≡ ns → x' ≡ K → s' ≡ z →
+alike : {turn turn' d : Turn} {s s' z : Socket} {t t' ts : List Event} {n n' ns : List Note} {x x' K : Host} →
+    turn ≡ d → t ≡ ts → n ≡ ns → x ≡ K → s ≡ z → turn' ≡ d → t' ≡ ts → n' ≡ ns → x' ≡ K → s' ≡ z →
     IsOneTurn turn turn' s s' t t' n n' x x'
-alike d t n x s d' t' n' x' s' = record { turn_is = d ∙ sym d'; socket_is = s ∙ sym s'; told_is = t ∙ sym t'; notes_are = n ∙ sym n'; host_is = x ∙ sym x' }
+alike d t n x s d' t' n' x' s' =
+    record { turn_is = d ∙ sym d'; socket_is = s ∙ sym s'; told_is = t ∙ sym t'; notes_are = n ∙ sym n'; host_is = x ∙ sym x' }
 
-turn_once : {s r r' : Socket} {turn turn' : Turn} {H x x' : Host} {t t' : List Event} {n n' : List Note} (rest rest' : List Bool) → SocketTurn s turn r H t n x → SocketTurn s turn' r' H t' n' x' →
+turn_once : {s r r' : Socket} {turn turn' : Turn} {H x x' : Host} {t t' : List Event} {n n' : List Note} (rest rest' : List Bool) →
+    SocketTurn s turn r H t n x → SocketTurn s turn' r' H t' n' x' →
     grants t ++ rest ≡ grants t' ++ rest' → IsOneTurn turn turn' r r' t t' n n' x x'
 turn_once rest rest' (egress.Silent p d e m y z) (egress.Silent p' d' e' m' y' z') same = alike d e m y z d' e' m' y' z'
 turn_once rest rest' (egress.Silent p d e m y z) (egress.Refused q p' d' e' m' y' z') same = absurd cc
@@ -273,11 +314,13 @@ turn_once {s} {H = H} rest rest' (egress.Sent q o f p g d e z) (egress.Sent q' o
     }
 
 -- a place without a turn
-idle : {turn turn' : Turn} {t t' : List Event} {n n' : List Note} {x x' H : Host} → turn ≡ Idle → t ≡ [] → n ≡ [] → x ≡ H → turn' ≡ Idle → t' ≡ [] → n' ≡ [] → x' ≡ H → IsOneCall turn turn' t t' n n' x x'
+idle : {turn turn' : Turn} {t t' : List Event} {n n' : List Note} {x x' H : Host} →
+    turn ≡ Idle → t ≡ [] → n ≡ [] → x ≡ H → turn' ≡ Idle → t' ≡ [] → n' ≡ [] → x' ≡ H → IsOneCall turn turn' t t' n n' x x'
 idle d t n x d' t' n' x' = record { answer_is = d ∙ sym d'; told_is = t ∙ sym t'; notes_are = n ∙ sym n'; host_is = x ∙ sym x' }
 
 -- a socket that may send, or may not
-clash : (H : Host) (i : ℕ) (known known' : Bool) → IsAnswerFor (HasNeighbor H) (wait_at H.sockets i) known → IsAnswerFor (HasNeighbor H) (wait_at H.sockets i) known' →
+clash : (H : Host) (i : ℕ) (known known' : Bool) → IsAnswerFor (HasNeighbor H) (wait_at H.sockets i) known →
+    IsAnswerFor (HasNeighbor H) (wait_at H.sockets i) known' →
     is_permitted (wait_at H.sockets i) known H.moment ≡ false → is_permitted (wait_at H.sockets i) known' H.moment ≡ true → ⊥
 clash H i known known' is is' kept may = let one = told_same H (wait_at H.sockets i) known known' H.moment is is' in absurd cc
 
@@ -286,10 +329,13 @@ serves_once i turn turn' H t t' n n' x x' rest rest' (egress.Free f d e m y) (eg
 serves_once i turn turn' H t t' n n' x x' rest rest' (egress.Free f d e m y) (egress.Waits s k f' l w d' e' m' y') same = absurd cc
 serves_once i turn turn' H t t' n n' x x' rest rest' (egress.Free f d e m y) (egress.Served s r k mid f' l w z y') same = absurd cc
 serves_once i turn turn' H t t' n n' x x' rest rest' (egress.Waits s k f l w d e m y) (egress.Free f' d' e' m' y') same = absurd cc
-serves_once i turn turn' H t t' n n' x x' rest rest' (egress.Waits s k f l w d e m y) (egress.Waits s' k' f' l' w' d' e' m' y') same = idle d e m y d' e' m' y'
-serves_once i turn turn' H t t' n n' x x' rest rest' (egress.Waits s k f l w d e m y) (egress.Served s' r k' mid f' l' w' z y') same = absurd (clash H i k k' l l' w w')
+serves_once i turn turn' H t t' n n' x x' rest rest' (egress.Waits s k f l w d e m y) (egress.Waits s' k' f' l' w' d' e' m' y') same =
+    idle d e m y d' e' m' y'
+serves_once i turn turn' H t t' n n' x x' rest rest' (egress.Waits s k f l w d e m y) (egress.Served s' r k' mid f' l' w' z y') same =
+    absurd (clash H i k k' l l' w w')
 serves_once i turn turn' H t t' n n' x x' rest rest' (egress.Served s r k mid f l w z y) (egress.Free f' d' e' m' y') same = absurd cc
-serves_once i turn turn' H t t' n n' x x' rest rest' (egress.Served s r k mid f l w z y) (egress.Waits s' k' f' l' w' d' e' m' y') same = absurd (clash H i k' k l' l w' w)
+serves_once i turn turn' H t t' n n' x x' rest rest' (egress.Served s r k mid f l w z y) (egress.Waits s' k' f' l' w' d' e' m' y') same =
+    absurd (clash H i k' k l' l w' w)
 serves_once i turn turn' H t t' n n' x x' rest rest' (egress.Served s r k mid f l w z y) (egress.Served s' r' k' mid' f' l' w' z' y') same =
     let both : Some (Some s) ≡ Some (Some s') = sym f ∙ f' in
     let socket : s ≡ s' = cc in
@@ -328,7 +374,8 @@ record LastTurn (old : Host) (k : ℕ) (granted changed : Bool) (told : List Eve
   told_is : Splits told told_so told_last
   notes_are : Splits notes notes_so notes_last
 
-last_turn : {old new : Host} {n : ℕ} {granted changed : Bool} {told : List Event} {notes : List Note} (k : ℕ) → n ≡ k + 1 → Walks old n granted changed told notes new → LastTurn old k granted changed told notes new
+last_turn : {old new : Host} {n : ℕ} {granted changed : Bool} {told : List Event} {notes : List Note} (k : ℕ) →
+    n ≡ k + 1 → Walks old n granted changed told notes new → LastTurn old k granted changed told notes new
 last_turn k e egress.Begins = absurd (omega (arith, e))
 last_turn {old} k e (egress.Goes {n = m} {changed = c} {told_so = so} {notes_so = noted} {mid = mid} turn told notes new w s t) =
     let one : m ≡ k = omega (arith, e) in record {
@@ -371,7 +418,8 @@ record IsNoTurn (old : Host) (granted changed : Bool) (told : List Event) (notes
   unnoted : notes ≡ []
   same : new ≡ old
 
-no_turn : {old new : Host} {n : ℕ} {granted changed : Bool} {told : List Event} {notes : List Note} → n ≡ 0 → Walks old n granted changed told notes new → IsNoTurn old granted changed told notes new
+no_turn : {old new : Host} {n : ℕ} {granted changed : Bool} {told : List Event} {notes : List Note} →
+    n ≡ 0 → Walks old n granted changed told notes new → IsNoTurn old granted changed told notes new
 no_turn e egress.Begins = record { goes = refl; unchanged = refl; untold = refl; unnoted = refl; same = refl }
 no_turn e (egress.Goes turn told notes new w s t) = absurd (omega (arith, e))
 no_turn e (egress.Stops turn told notes new w s t) = absurd (omega (arith, e))
@@ -385,7 +433,8 @@ record IsOneWalk (granted granted' changed changed' : Bool) (t t' : List Event) 
   host_is : x ≡ x'
 
 walks_once : (k : ℕ) {old x x' : Host} {granted granted' changed changed' : Bool} {t t' : List Event} {n n' : List Note} (rest rest' : List Bool) →
-    Walks old k granted changed t n x → Walks old k granted' changed' t' n' x' → grants t ++ rest ≡ grants t' ++ rest' → IsOneWalk granted granted' changed changed' t t' n n' x x'
+    Walks old k granted changed t n x → Walks old k granted' changed' t' n' x' → grants t ++ rest ≡ grants t' ++ rest' →
+    IsOneWalk granted granted' changed changed' t t' n n' x x'
 walks_once zero rest rest' w w' same =
     let a = no_turn refl w in
     let b = no_turn refl w' in record {
@@ -398,7 +447,8 @@ walks_once zero rest rest' w w' same =
 walks_once (suc k) {x = x} {x' = x'} {granted = granted} {granted' = granted'} {changed = changed} {changed' = changed'} rest rest' w w' same =
     let a = last_turn k (omega arith) w in
     let b = last_turn k (omega arith) w' in
-    let so = walks_once k (grants a.told_last ++ rest) (grants b.told_last ++ rest') a.walk b.walk (before grants grants-append rest rest' a.told_is b.told_is same) in
+    let so = walks_once k (grants a.told_last ++ rest) (grants b.told_last ++ rest') a.walk b.walk
+    (before grants grants-append rest rest' a.told_is b.told_is same) in
     let last = serves_once k a.turn b.turn a.mid a.told_last b.told_last a.notes_last b.notes_last x x' rest rest' a.served (rw so.host_is b.served)
     (behind grants grants-append rest rest' a.told_is b.told_is so.told_is same) in record {
       granted_is = a.granted_is ∙ ap (λ d. not (is_exhausted d)) last.answer_is ∙ sym b.granted_is;
@@ -423,7 +473,8 @@ record FirstTurns (old : Host) (k : ℕ) (told : List Event) : Type 0 where
   more : List Event
   told_is : Splits told told_so more
 
-next_turn : {old mid new : Host} {m : ℕ} {c : Bool} {told so last : List Event} {noted notes_last : List Note} {turn : Turn} (k : ℕ) → k < m + 1 → Splits told so last →
+next_turn : {old mid new : Host} {m : ℕ} {c : Bool} {told so last : List Event} {noted notes_last : List Note} {turn : Turn} (k : ℕ) →
+    k < m + 1 → Splits told so last →
     Walks old m true c so noted mid → Serves m turn mid last notes_last new → (k < m → FirstTurns old k so) → FirstTurns old k told
 next_turn {old} {mid} {new} {m} {c} {told} {so} {last} {noted} {notes_last} {turn} k l e w s first = elim (cases_eq k m) [
   | inl same ↦ record {
@@ -456,17 +507,20 @@ next_turn {old} {mid} {new} {m} {c} {told} {so} {last} {noted} {notes_last} {tur
   })
 ]
 
-first_turns : {old new : Host} {n : ℕ} {granted changed : Bool} {told : List Event} {notes : List Note} (k : ℕ) → k < n → Walks old n granted changed told notes new → FirstTurns old k told
+first_turns : {old new : Host} {n : ℕ} {granted changed : Bool} {told : List Event} {notes : List Note} (k : ℕ) →
+    k < n → Walks old n granted changed told notes new → FirstTurns old k told
 first_turns k l egress.Begins = absurd (omega (arith, l))
 first_turns k l (egress.Goes {told_so = so} turn told notes new w s t) = next_turn k l (split so told refl) w s (λ less. first_turns k less w)
 first_turns k l (egress.Stops {told_so = so} turn told notes new w s t) = next_turn k l (split so told refl) w s (λ less. first_turns k less w)
 
 -- where leave was refused at a place, no walk goes on behind it
-stopped_there : {old x x' : Host} {m n : ℕ} {granted changed changed' : Bool} {t t' : List Event} {noted noted' : List Note} (rest rest' : List Bool) → m < n → Walks old m false changed t noted x →
+stopped_there : {old x x' : Host} {m n : ℕ} {granted changed changed' : Bool} {t t' : List Event} {noted noted' : List Note}
+    (rest rest' : List Bool) → m < n → Walks old m false changed t noted x →
     Walks old n granted changed' t' noted' x' → grants t ++ rest ≡ grants t' ++ rest' → ⊥
 stopped_there {old} {m = m} {t = t} rest rest' l w w' same =
     let f = first_turns m l w' in
-    let one = walks_once m ([] ++ rest) (grants f.more ++ rest') w f.walk (before grants grants-append rest rest' (split t [] (sym (append-nil t))) f.told_is same) in
+    let one = walks_once m ([] ++ rest) (grants f.more ++ rest') w f.walk
+    (before grants grants-append rest rest' (split t [] (sym (append-nil t))) f.told_is same) in
     let bad : false ≡ true = one.granted_is in
     absurd cc
 
@@ -476,35 +530,40 @@ served_within {i} {H = H} (egress.Free f d e m y) = slice_get_within H.sockets.p
 served_within {i} {H = H} (egress.Waits s k f l w d e m y) = slice_get_within H.sockets.places i (Some s) f
 served_within {i} {H = H} (egress.Served s r k mid f l w z y) = slice_get_within H.sockets.places i (Some s) f
 
-serves_places : {i : ℕ} {turn : Turn} {H x : Host} {t : List Event} {n : List Note} → Serves i turn H t n x → length x.sockets.places ≡ length H.sockets.places
+serves_places : {i : ℕ} {turn : Turn} {H x : Host} {t : List Event} {n : List Note} →
+    Serves i turn H t n x → length x.sockets.places ≡ length H.sockets.places
 serves_places (egress.Free f d e m y) = ap (λ (K : Host). length K.sockets.places) y
 serves_places (egress.Waits s k f l w d e m y) = ap (λ (K : Host). length K.sockets.places) y
 serves_places {i} (egress.Served s r k mid f l w z y) =
     ap (λ (K : Host). length K.sockets.places) y ∙ length-set mid.sockets.places i (Some r) ∙ ap (λ (S : SocketSet). length S.places) (turn_sockets z)
 
-walk_places : {old new : Host} {n : ℕ} {granted changed : Bool} {told : List Event} {notes : List Note} → Walks old n granted changed told notes new → length new.sockets.places ≡ length old.sockets.places
+walk_places : {old new : Host} {n : ℕ} {granted changed : Bool} {told : List Event} {notes : List Note} →
+    Walks old n granted changed told notes new → length new.sockets.places ≡ length old.sockets.places
 walk_places egress.Begins = refl
 walk_places (egress.Goes turn told notes new w s t) = serves_places s ∙ walk_places w
 walk_places (egress.Stops turn told notes new w s t) = serves_places s ∙ walk_places w
 
 -- a walk of all places isn't one that stopped
-whole_or_stopped : {old x x' : Host} {m : ℕ} {changed changed' : Bool} {t t' : List Event} {n n' : List Note} (rest rest' : List Bool) → Walks old (length old.sockets.places) true changed t n x →
+whole_or_stopped : {old x x' : Host} {m : ℕ} {changed changed' : Bool} {t t' : List Event} {n n' : List Note} (rest rest' : List Bool) →
+    Walks old (length old.sockets.places) true changed t n x →
     Walks old m false changed' t' n' x' → grants t ++ rest ≡ grants t' ++ rest' → ⊥
-whole_or_stopped {old} {x = x} {m = m} {changed} {t = t} {n = n} rest rest' w w' same = by (nat_lt m (length old.sockets.places)) (nat_lt (length old.sockets.places) m) refl refl where
-  by : (a b : Bool) → nat_lt m (length old.sockets.places) ≡ a → nat_lt (length old.sockets.places) m ≡ b → ⊥
-  by true b less more = stopped_there rest' rest (grind (arith, nat_tests)) w' w (sym same)
-  by false true less more =
-      let f = first_turns (length old.sockets.places) (grind (arith, nat_tests)) w' in
-      let there : length old.sockets.places < length f.mid.sockets.places = served_within f.served in
-      let stay : length f.mid.sockets.places ≡ length old.sockets.places = walk_places f.walk in
-      absurd (omega (arith, there, stay))
-  by false false less more =
-      let places : length old.sockets.places ≡ m = grind (arith, nat_tests) in
-      let one = walks_once m rest' rest w' (subst (λ i. Walks old i true changed t n x) places w) (sym same) in
-      let bad : false ≡ true = one.granted_is in
-      absurd cc
+whole_or_stopped {old} {x = x} {m = m} {changed} {t = t} {n = n} rest rest' w w' same = by (nat_lt m (length old.sockets.places))
+    (nat_lt (length old.sockets.places) m) refl refl where
+      by : (a b : Bool) → nat_lt m (length old.sockets.places) ≡ a → nat_lt (length old.sockets.places) m ≡ b → ⊥
+      by true b less more = stopped_there rest' rest (grind (arith, nat_tests)) w' w (sym same)
+      by false true less more =
+          let f = first_turns (length old.sockets.places) (grind (arith, nat_tests)) w' in
+          let there : length old.sockets.places < length f.mid.sockets.places = served_within f.served in
+          let stay : length f.mid.sockets.places ≡ length old.sockets.places = walk_places f.walk in
+          absurd (omega (arith, there, stay))
+      by false false less more =
+          let places : length old.sockets.places ≡ m = grind (arith, nat_tests) in
+          let one = walks_once m rest' rest w' (subst (λ i. Walks old i true changed t n x) places w) (sym same) in
+          let bad : false ≡ true = one.granted_is in
+          absurd cc
 
-stopped_once : {old x x' : Host} (m m' : ℕ) {changed changed' : Bool} {t t' : List Event} {n n' : List Note} (rest rest' : List Bool) → Walks old m false changed t n x →
+stopped_once : {old x x' : Host} (m m' : ℕ) {changed changed' : Bool} {t t' : List Event} {n n' : List Note} (rest rest' : List Bool) →
+    Walks old m false changed t n x →
     Walks old m' false changed' t' n' x' → grants t ++ rest ≡ grants t' ++ rest' → IsOneWalk false false changed changed' t t' n n' x x'
 stopped_once {old} {x} {x'} m m' {changed} {changed'} {t} {t'} {n} {n'} rest rest' w w' same = by (nat_lt m m') (nat_lt m' m) refl refl where
   by : (a b : Bool) → nat_lt m m' ≡ a → nat_lt m' m ≡ b → IsOneWalk false false changed changed' t t' n n' x x'
@@ -515,14 +574,16 @@ stopped_once {old} {x} {x'} m m' {changed} {changed'} {t} {t'} {n} {n'} rest res
       walks_once m rest rest' w (subst (λ i. Walks old i false changed' t' n' x') places w') same
 
 -- the walk, as a part
-walked : {granted changed changed' : Bool} {t t' : List Event} {n n' : List Note} {x x' : Host} → IsOneWalk granted granted changed changed' t t' n n' x x' → IsOneCall changed changed' t t' n n' x x'
+walked : {granted changed changed' : Bool} {t t' : List Event} {n n' : List Note} {x x' : Host} →
+    IsOneWalk granted granted changed changed' t t' n n' x x' → IsOneCall changed changed' t t' n n' x x'
 walked one = record { answer_is = one.changed_is; told_is = one.told_is; notes_are = one.notes_are; host_is = one.host_is }
 
 abbrev Sockets : Bool → Part
 Sockets changed = λ old told notes new. SocketEgress old changed told notes new
 
 sockets_once : IsOnceFor Sockets
-sockets_once c c' H t t' n n' x x' rest rest' (egress.Whole w) (egress.Whole w') same = walked (walks_once (length H.sockets.places) rest rest' w w' same)
+sockets_once c c' H t t' n n' x x' rest rest' (egress.Whole w) (egress.Whole w') same =
+    walked (walks_once (length H.sockets.places) rest rest' w w' same)
 sockets_once c c' H t t' n n' x x' rest rest' (egress.Whole w) (egress.Stopped m w') same = absurd (whole_or_stopped rest rest' w w' same)
 sockets_once c c' H t t' n n' x x' rest rest' (egress.Stopped m w) (egress.Whole w') same = absurd (whole_or_stopped rest' rest w' w (sym same))
 sockets_once c c' H t t' n n' x x' rest rest' (egress.Stopped m w) (egress.Stopped m' w') same = walked (stopped_once m m' rest rest' w w' same)
@@ -530,17 +591,22 @@ sockets_once c c' H t t' n n' x x' rest rest' (egress.Stopped m w) (egress.Stopp
 -- the round
 
 after_leaves : IsOnceFor (λ c. Both IgmpEgress (Both MldEgress (Sockets c)))
-after_leaves = both_once grants grants-append IgmpEgress (λ c. Both MldEgress (Sockets c)) igmp_once (both_once grants grants-append MldEgress Sockets mld_once sockets_once)
+after_leaves = both_once grants grants-append IgmpEgress
+    (λ c. Both MldEgress (Sockets c)) igmp_once (both_once grants grants-append MldEgress Sockets mld_once sockets_once)
 
 after_routers : IsOnceFor (λ c. Both JoinsEgress (Both LeavesEgress (Both IgmpEgress (Both MldEgress (Sockets c)))))
 after_routers =
-    both_once grants grants-append JoinsEgress (λ c. Both LeavesEgress (Both IgmpEgress (Both MldEgress (Sockets c)))) (groups_once Joining join_packet join_reported)
-    (both_once grants grants-append LeavesEgress (λ c. Both IgmpEgress (Both MldEgress (Sockets c))) (groups_once Leaving leave_packet leave_reported) after_leaves)
+    both_once grants grants-append JoinsEgress (λ c. Both LeavesEgress (Both IgmpEgress (Both MldEgress (Sockets c))))
+    (groups_once Joining join_packet join_reported)
+    (both_once grants grants-append LeavesEgress (λ c. Both IgmpEgress (Both MldEgress (Sockets c)))
+    (groups_once Leaving leave_packet leave_reported) after_leaves)
 
 round_once : IsOnceFor Round
 round_once =
-    both_once grants grants-append Ipv4Egress (λ c. Both NdiscRsEgress (Both JoinsEgress (Both LeavesEgress (Both IgmpEgress (Both MldEgress (Sockets c)))))) piece_once
-    (both_once grants grants-append NdiscRsEgress (λ c. Both JoinsEgress (Both LeavesEgress (Both IgmpEgress (Both MldEgress (Sockets c))))) routers_once after_routers)
+    both_once grants grants-append Ipv4Egress
+    (λ c. Both NdiscRsEgress (Both JoinsEgress (Both LeavesEgress (Both IgmpEgress (Both MldEgress (Sockets c)))))) piece_once
+    (both_once grants grants-append NdiscRsEgress
+    (λ c. Both JoinsEgress (Both LeavesEgress (Both IgmpEgress (Both MldEgress (Sockets c))))) routers_once after_routers)
 
 pub egress_on : (t : ℤ) → IsOnceFor (Egress t)
 egress_on t answer answer' old told told' notes notes' new new' rest rest' p q same =
@@ -552,4 +618,5 @@ egress_on t answer answer' old told told' notes notes' new new' rest rest' p q s
     }
 
 pub egress_once : EgressIsDetermined
-egress_once t answer answer' old new new' told told' notes notes' p q same = egress_on t answer answer' old told told' notes notes' new new' [] [] p q (ap (λ z. z ++ []) same)
+egress_once t answer answer' old new new' told told' notes notes' p q same =
+    egress_on t answer answer' old told told' notes notes' new new' [] [] p q (ap (λ z. z ++ []) same)

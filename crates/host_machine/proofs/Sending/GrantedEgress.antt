@@ -1,5 +1,6 @@
 -- What may go goes, in a call that sends and is given each leave.
-use Rattle.std.proofs.Common.{◌≡◌, ℕ, zero, suc, ◌+◌, ◌<◌, ◌≤◌, ◌==◌, Bool, true, false, List, [], ◌∷◌, ◌++◌, length, refl, sym, ◌∙◌, ap, subst, append_assoc, Option, Some, None, arith}
+use Rattle.std.proofs.Common.{◌≡◌, ℕ, zero, suc, ◌+◌, ◌<◌, ◌≤◌, ◌==◌, Bool, true, false, List, [], ◌∷◌, ◌++◌}
+use Rattle.std.proofs.Common.{length, refl, sym, ◌∙◌, ap, subst, append_assoc, Option, Some, None, arith}
 use Rattle.std.proofs.lemmas.Bool.Decides.{nat_tests}
 use Rattle.std.proofs.lemmas.Int.{ints}
 use Rattle.std.proofs.lemmas.List.{append-nil, get_or-set_other, length-set}
@@ -43,7 +44,9 @@ use Rattle.host_machine.specs.State.Addresses.{is_unicast, source_for}
 use Rattle.host_machine.specs.Sending.Packet.{Packet, total_len}
 use Rattle.host_machine.specs.Sending.Packet as packet
 use Rattle.host_machine.specs.Sending.Frame.{ip_frame}
-use Rattle.host_machine.specs.Sending.Dispatch.{Outcome, IsNextHop, HasNeighbor, OfHost, IsUnsent, Emits, Discovers, DispatchesByHop, DispatchesEthernet, SendsOver, Dispatches, destination_of, with_next_id, is_known_hop, multicast_hardware_addr}
+use Rattle.host_machine.specs.Sending.Dispatch.{Outcome, IsNextHop, HasNeighbor, OfHost, IsUnsent, Emits, Discovers}
+use Rattle.host_machine.specs.Sending.Dispatch.{DispatchesByHop, DispatchesEthernet, SendsOver, Dispatches}
+use Rattle.host_machine.specs.Sending.Dispatch.{destination_of, with_next_id, is_known_hop, multicast_hardware_addr}
 use Rattle.host_machine.specs.Sending.Dispatch as dispatch
 use Rattle.host_machine.specs.Sending.Multicast.{ReportsEach, ReportsAll}
 use Rattle.host_machine.specs.Sending.Multicast as multicast
@@ -51,9 +54,11 @@ use Rattle.host_machine.specs.Sending.Reports.{IgmpEgress, MldEgress}
 use Rattle.host_machine.specs.Sending.Reports as reports
 use Rattle.host_machine.specs.Sending.Slaac.{NdiscRsEgress}
 use Rattle.host_machine.specs.Sending.Slaac as slaac
-use Rattle.host_machine.specs.Sending.Egress.{SocketTurn, Serves, Walks, SocketEgress, Ipv4Egress, Round, Egress, socket_after_asking, is_exhausted, packet_between, packet_of, packet_from, turn_of}
+use Rattle.host_machine.specs.Sending.Egress.{SocketTurn, Serves, Walks, SocketEgress, Ipv4Egress, Round, Egress}
+use Rattle.host_machine.specs.Sending.Egress.{socket_after_asking, is_exhausted, packet_between, packet_of, packet_from, turn_of}
 use Rattle.host_machine.specs.Sending.Egress as egress
-use Rattle.host_machine.specs.Laws.Service.{FirstDatagramsGo, HasFirst, IsBetween, OverIpv4, OverIpv6, IsReached, MayBeAsked, NoWait, Over, IsKnown, all_granted}
+use Rattle.host_machine.specs.Laws.Service.{FirstDatagramsGo, HasFirst, IsBetween, OverIpv4, OverIpv6}
+use Rattle.host_machine.specs.Laws.Service.{IsReached, MayBeAsked, NoWait, Over, IsKnown, all_granted}
 use Rattle.host_machine.proofs.Polling.EarliestInstant.{known_is_one}
 use Rattle.host_machine.proofs.Receiving.Malformed.{sent_frames-sends}
 use Rattle.host_machine.proofs.Receiving.FrameReplies.{clash, goes_whole, hop_as, one_of}
@@ -62,7 +67,15 @@ use Rattle.host_machine.proofs.Receiving.FrameReplies.{clash, goes_whole, hop_as
 
 -- what the way of a packet is read from, and the sockets; all else set to one value
 abbrev pub way_of : Host → Host
-way_of H = record H { neighbors = record H.neighbors { silent_until = pos 0 }; ipv4_id = 0; left = []; groups = []; igmp_report = igmp.Inactive; mld_report = mld.Inactive; slaac = initial_state }
+way_of H = record H {
+  neighbors = record H.neighbors { silent_until = pos 0 };
+  ipv4_id = 0;
+  left = [];
+  groups = [];
+  igmp_report = igmp.Inactive;
+  mld_report = mld.Inactive;
+  slaac = initial_state;
+}
 
 -- the same without the sockets
 abbrev pub sans : Host → Host
@@ -87,7 +100,8 @@ discovered_gone (dispatch.Asked target source h s o f n e) = ap gone_of e
 discovered_gone (dispatch.NoSource target h s o u) = unsent_gone u
 discovered_gone (dispatch.Solicited target h o f n e) = ap gone_of e
 
-by_hop_gone : {id : ℕ} {own : EthernetAddress} {p : Packet} {hop : IpAddress} {outcome : Outcome} {H new : Host} {frames : List (List ℕ)} {notes : List Note} →
+by_hop_gone : {id : ℕ} {own : EthernetAddress} {p : Packet} {hop : IpAddress} {outcome : Outcome} {H new : Host}
+    {frames : List (List ℕ)} {notes : List Note} →
     DispatchesByHop id own p hop outcome H frames notes new → gone_of new ≡ gone_of H
 by_hop_gone (dispatch.Known h k e) = emitted_gone e
 by_hop_gone (dispatch.Silent s o u) = unsent_gone u
@@ -104,11 +118,14 @@ over_gone : (id : ℕ) (h : HardwareAddress) (p : Packet) (outcome : Outcome) (H
 over_gone id (hardware.Ethernet own) p outcome H frames notes new s = ethernet_gone s
 over_gone id hardware.Ip p outcome H frames notes new s = emitted_gone s
 
-pub dispatched_gone : {p : Packet} {outcome : Outcome} {H new : Host} {frames : List (List ℕ)} {notes : List Note} → Dispatches p outcome H frames notes new → gone_of new ≡ gone_of H
+pub dispatched_gone : {p : Packet} {outcome : Outcome} {H new : Host} {frames : List (List ℕ)} {notes : List Note} →
+    Dispatches p outcome H frames notes new → gone_of new ≡ gone_of H
 dispatched_gone (dispatch.ToUnspecified n o u) = unsent_gone u
-dispatched_gone {p} {outcome} {H} {new} {frames} {notes} (dispatch.ToSpecified more s d n) = over_gone H.ipv4_id H.hardware_addr p outcome (with_next_id H) frames more new d
+dispatched_gone {p} {outcome} {H} {new} {frames} {notes} (dispatch.ToSpecified more s d n) =
+    over_gone H.ipv4_id H.hardware_addr p outcome (with_next_id H) frames more new d
 
-pub dispatched_way : {p : Packet} {outcome : Outcome} {H new : Host} {frames : List (List ℕ)} {notes : List Note} → Dispatches p outcome H frames notes new → way_of new ≡ way_of H
+pub dispatched_way : {p : Packet} {outcome : Outcome} {H new : Host} {frames : List (List ℕ)} {notes : List Note} →
+    Dispatches p outcome H frames notes new → way_of new ≡ way_of H
 dispatched_way d = ap way_of (dispatched_gone d)
 
 pub piece_way : {H new : Host} {told : List Event} {notes : List Note} → Ipv4Egress H told notes new → way_of new ≡ way_of H
@@ -122,13 +139,15 @@ routers_way (slaac.NotGranted p d e m y) = ap way_of y
 routers_way (slaac.Goes p o f mid d s e y) = ap way_of y ∙ dispatched_way s
 
 module _ (state : GroupState) (packet_for : List IpCidr → IpAddress → Option Packet) (after_report : List Group → IpAddress → List Group) where
-  pub tells_way : {old new : Host} {granted : Bool} {told : List Event} {notes : List Note} → ReportsEach state packet_for after_report old granted told notes new → way_of new ≡ way_of old
+  pub tells_way : {old new : Host} {granted : Bool} {told : List Event} {notes : List Note} →
+      ReportsEach state packet_for after_report old granted told notes new → way_of new ≡ way_of old
   tells_way multicast.Begins = refl
   tells_way (multicast.Silently a w i none) = tells_way w
   tells_way (multicast.Refused a p w i some) = tells_way w
   tells_way (multicast.Reported a p o f more new w i some d) = dispatched_way d ∙ tells_way w
 
-  pub groups_way : {old new : Host} {told : List Event} {notes : List Note} → ReportsAll state packet_for after_report old told notes new → way_of new ≡ way_of old
+  pub groups_way : {old new : Host} {told : List Event} {notes : List Note} →
+      ReportsAll state packet_for after_report old told notes new → way_of new ≡ way_of old
   groups_way (multicast.All w none) = tells_way w
   groups_way (multicast.UpToRefusal w) = tells_way w
 
@@ -144,7 +163,8 @@ mld_way (reports.NotYet d e m y) = ap way_of y
 mld_way (reports.GivenUp d e m y) = ap way_of y
 mld_way (reports.ReportGoes o f mid d s e y) = ap way_of y ∙ dispatched_way s
 
-pub turn_way : {s s' : Socket} {turn : Turn} {H new : Host} {told : List Event} {notes : List Note} → SocketTurn s turn s' H told notes new → way_of new ≡ way_of H
+pub turn_way : {s s' : Socket} {turn : Turn} {H new : Host} {told : List Event} {notes : List Note} →
+    SocketTurn s turn s' H told notes new → way_of new ≡ way_of H
 turn_way (egress.Silent p d e m y z) = ap way_of y
 turn_way (egress.Refused q p d e m y z) = ap way_of y
 turn_way (egress.Sent q o f p g d e z) = dispatched_way g
@@ -189,7 +209,8 @@ pub record ToSockets (old : Host) (told : List Event) (changed : Bool) (new : Ho
   pub behind : IsAfter told told_last
   pub sends_them : SocketEgress mid changed told_last notes_last new
 
-pub to_sockets : {t : ℤ} {answer : PollResult} {old new : Host} {told : List Event} {notes : List Note} → (e : Egress t answer old told notes new) → ToSockets (at old t) told e.changed new
+pub to_sockets : {t : ℤ} {answer : PollResult} {old new : Host} {told : List Event} {notes : List Note} → (e : Egress t answer old told notes new) →
+    ToSockets (at old t) told e.changed new
 to_sockets {t} {answer} {old} {new} {told} {notes} e =
     let a = e.round in
     let b = a.ends in
@@ -202,7 +223,8 @@ to_sockets {t} {answer} {old} {new} {told} {notes} e =
       told_last = g.told_two;
       notes_last = g.notes_two;
       way = mld_way g.begins ∙ igmp_way f.begins ∙ groups_way _ _ _ d.begins ∙ groups_way _ _ _ c.begins ∙ routers_way b.begins ∙ piece_way a.begins;
-      behind = then_after a.told_one a.told_two a.events (then_after b.told_one b.told_two b.events (then_after c.told_one c.told_two c.events (then_after d.told_one d.told_two d.events (then_after f.told_one f.told_two f.events (record { front = g.told_one; is = g.events })))));
+      behind = then_after a.told_one a.told_two a.events (then_after b.told_one b.told_two b.events (then_after c.told_one c.told_two c.events
+          (then_after d.told_one d.told_two d.events (then_after f.told_one f.told_two f.events (record { front = g.told_one; is = g.events })))));
       sends_them = g.ends;
     }
 
@@ -239,15 +261,28 @@ pub record Touches (i : ℕ) (old new : Host) : Type 0 where
   pub others : (k : ℕ) → (k ≡ i → ⊥) → SameAt k old new
 
 pub touches : {i : ℕ} {turn : Turn} {H new : Host} {told : List Event} {notes : List Note} → Serves i turn H told notes new → Touches i H new
-touches (egress.Free f d e m y) = record { rest = ap sans y; places = ap (λ (K : Host). length K.sockets.places) y; waits = ap (λ (K : Host). length K.sockets.waits) y; others = λ k ne. same_at (ap (λ (K : Host). K.sockets) y) }
-touches (egress.Waits s known f l w d e m y) = record { rest = ap sans y; places = ap (λ (K : Host). length K.sockets.places) y; waits = ap (λ (K : Host). length K.sockets.waits) y; others = λ k ne. same_at (ap (λ (K : Host). K.sockets) y) }
+touches (egress.Free f d e m y) = record {
+  rest = ap sans y;
+  places = ap (λ (K : Host). length K.sockets.places) y;
+  waits = ap (λ (K : Host). length K.sockets.waits) y;
+  others = λ k ne. same_at (ap (λ (K : Host). K.sockets) y);
+}
+touches (egress.Waits s known f l w d e m y) = record {
+  rest = ap sans y;
+  places = ap (λ (K : Host). length K.sockets.places) y;
+  waits = ap (λ (K : Host). length K.sockets.waits) y;
+  others = λ k ne. same_at (ap (λ (K : Host). K.sockets) y);
+}
 touches {i} {H = H} (egress.Served s s' known mid f l w z y) = record {
   rest = ap sans y ∙ ap (λ (K : Host). record K { sockets = no_sockets }) (turn_way z);
-  places = ap (λ (K : Host). length K.sockets.places) y ∙ length-set mid.sockets.places i (Some s') ∙ ap (λ (K : Host). length K.sockets.places) (turn_way z);
+  places = ap (λ (K : Host). length K.sockets.places) y ∙ length-set mid.sockets.places i (Some s')
+      ∙ ap (λ (K : Host). length K.sockets.places) (turn_way z);
   waits = ap (λ (K : Host). length K.sockets.waits) y ∙ length-set mid.sockets.waits i _ ∙ ap (λ (K : Host). length K.sockets.waits) (turn_way z);
   others = λ k ne. record {
-    place = ap (λ (K : Host). slice_get K.sockets.places k) y ∙ apart mid.sockets.places i k (Some s') ne ∙ ap (λ (K : Host). slice_get K.sockets.places k) (turn_way z);
-    wait = ap (λ (K : Host). wait_at K.sockets k) y ∙ get_or-set_other mid.sockets.waits i k _ None ne ∙ ap (λ (K : Host). wait_at K.sockets k) (turn_way z);
+    place = ap (λ (K : Host). slice_get K.sockets.places k) y ∙ apart mid.sockets.places i k (Some s') ne
+        ∙ ap (λ (K : Host). slice_get K.sockets.places k) (turn_way z);
+    wait = ap (λ (K : Host). wait_at K.sockets k) y ∙ get_or-set_other mid.sockets.waits i k _ None ne
+        ∙ ap (λ (K : Host). wait_at K.sockets k) (turn_way z);
   };
 }
 
@@ -258,16 +293,27 @@ pub record Untouched (n : ℕ) (old new : Host) : Type 0 where
   pub waits : length new.sockets.waits ≡ length old.sockets.waits
   pub later : (k : ℕ) → n ≤ k → SameAt k old new
 
-pub untouched : {old new : Host} {n : ℕ} {granted changed : Bool} {told : List Event} {notes : List Note} → Walks old n granted changed told notes new → Untouched n old new
+pub untouched : {old new : Host} {n : ℕ} {granted changed : Bool} {told : List Event} {notes : List Note} →
+    Walks old n granted changed told notes new → Untouched n old new
 untouched egress.Begins = record { rest = refl; places = refl; waits = refl; later = λ k le. record { place = refl; wait = refl } }
 untouched (egress.Goes {n = n} turn told_it notes new w s e) =
     let a = untouched w in
     let b = touches s in
-    record { rest = b.rest ∙ a.rest; places = b.places ∙ a.places; waits = b.waits ∙ a.waits; later = λ k le. same_then (a.later k (omega (arith, le))) (b.others k (λ one. omega (arith, le, one))) }
+    record {
+      rest = b.rest ∙ a.rest;
+      places = b.places ∙ a.places;
+      waits = b.waits ∙ a.waits;
+      later = λ k le. same_then (a.later k (omega (arith, le))) (b.others k (λ one. omega (arith, le, one)));
+    }
 untouched (egress.Stops {n = n} turn told_it notes new w s e) =
     let a = untouched w in
     let b = touches s in
-    record { rest = b.rest ∙ a.rest; places = b.places ∙ a.places; waits = b.waits ∙ a.waits; later = λ k le. same_then (a.later k (omega (arith, le))) (b.others k (λ one. omega (arith, le, one))) }
+    record {
+      rest = b.rest ∙ a.rest;
+      places = b.places ∙ a.places;
+      waits = b.waits ∙ a.waits;
+      later = λ k le. same_then (a.later k (omega (arith, le))) (b.others k (λ one. omega (arith, le, one)));
+    }
 
 -- the turn of an index
 pub record AtTurn (old : Host) (i : ℕ) (told : List Event) (new : Host) : Type 0 where
@@ -285,7 +331,8 @@ pub record AtTurn (old : Host) (i : ℕ) (told : List Event) (new : Host) : Type
   pub split : told ≡ front ++ (told_it ++ back)
   pub stays : SameAt i after new
 
-now : {old mid new : Host} {n i : ℕ} {changed : Bool} {told_so told_it : List Event} {notes_so notes : List Note} {turn : Turn} → Walks old n true changed told_so notes_so mid → Serves n turn mid told_it notes new → i ≡ n →
+now : {old mid new : Host} {n i : ℕ} {changed : Bool} {told_so told_it : List Event} {notes_so notes : List Note} {turn : Turn} →
+    Walks old n true changed told_so notes_so mid → Serves n turn mid told_it notes new → i ≡ n →
     AtTurn old i (told_so ++ told_it) new
 now {old} {mid} {new} {n} {i} {changed} {told_so} {told_it} {notes_so} {notes} {turn} w s same =
     let u = untouched w in
@@ -305,7 +352,8 @@ now {old} {mid} {new} {n} {i} {changed} {told_so} {told_it} {notes_so} {notes} {
       stays = record { place = refl; wait = refl };
     }
 
-before_now : {old mid new : Host} {n i : ℕ} {told_so told_it : List Event} {notes : List Note} {turn : Turn} → AtTurn old i told_so mid → Serves n turn mid told_it notes new → (i ≡ n → ⊥) → AtTurn old i (told_so ++ told_it) new
+before_now : {old mid new : Host} {n i : ℕ} {told_so told_it : List Event} {notes : List Note} {turn : Turn} →
+    AtTurn old i told_so mid → Serves n turn mid told_it notes new → (i ≡ n → ⊥) → AtTurn old i (told_so ++ told_it) new
 before_now {told_so = told_so} {told_it = told_it} a s ne = record {
   mid = a.mid;
   after = a.after;
@@ -318,23 +366,27 @@ before_now {told_so = told_so} {told_it = told_it} a s ne = record {
   rest = a.rest;
   waits = a.waits;
   same = a.same;
-  split = ap (λ x. x ++ told_it) a.split ∙ append_assoc a.front (a.told_it ++ a.back) told_it ∙ ap (λ x. a.front ++ x) (append_assoc a.told_it a.back told_it);
+  split = ap (λ x. x ++ told_it) a.split ∙ append_assoc a.front (a.told_it ++ a.back) told_it
+      ∙ ap (λ x. a.front ++ x) (append_assoc a.told_it a.back told_it);
   stays = same_then a.stays ((touches s).others _ ne);
 }
 
-one_more : {old mid new : Host} {n i : ℕ} {changed : Bool} {told_so told_it : List Event} {notes_so notes : List Note} {turn : Turn} → Walks old n true changed told_so notes_so mid → Serves n turn mid told_it notes new →
+one_more : {old mid new : Host} {n i : ℕ} {changed : Bool} {told_so told_it : List Event} {notes_so notes : List Note} {turn : Turn} →
+    Walks old n true changed told_so notes_so mid → Serves n turn mid told_it notes new →
     (i < n → AtTurn old i told_so mid) → i < n + 1 → AtTurn old i (told_so ++ told_it) new
 one_more {old} {mid} {new} {n} {i} {told_so = told_so} {told_it = told_it} w s earlier less = by (i == n) refl where
   by : (b : Bool) → (i == n) ≡ b → AtTurn old i (told_so ++ told_it) new
   by true is = now w s (grind (arith, nat_tests))
   by false is = before_now (earlier (grind (arith, nat_tests))) s (λ one. grind (arith, nat_tests))
 
-pub at_turn : {old new : Host} {n : ℕ} {granted changed : Bool} {told : List Event} {notes : List Note} → Walks old n granted changed told notes new → (i : ℕ) → i < n → AtTurn old i told new
+pub at_turn : {old new : Host} {n : ℕ} {granted changed : Bool} {told : List Event} {notes : List Note} →
+    Walks old n granted changed told notes new → (i : ℕ) → i < n → AtTurn old i told new
 at_turn egress.Begins i less = absurd (omega (arith, less))
 at_turn (egress.Goes {n = n} {told_so = told_so} {mid = mid} turn told_it notes new w s e) i less = one_more w s (λ l. at_turn w i l) less
 at_turn (egress.Stops {n = n} {told_so = told_so} {mid = mid} turn told_it notes new w s e) i less = one_more w s (λ l. at_turn w i l) less
 
-pub all_untouched : {old new : Host} {changed : Bool} {told : List Event} {notes : List Note} → SocketEgress old changed told notes new → (n : ℕ) × Untouched n old new
+pub all_untouched : {old new : Host} {changed : Bool} {told : List Event} {notes : List Note} →
+    SocketEgress old changed told notes new → (n : ℕ) × Untouched n old new
 all_untouched (egress.Whole w) = (_, untouched w)
 all_untouched (egress.Stopped n w) = (n, untouched w)
 
@@ -343,22 +395,26 @@ of_turn : (p : Packet) (o : Outcome) → is_exhausted (turn_of p o) ≡ false
 of_turn p (Ok u) = refl
 of_turn p (Err e) = refl
 
-refused : {s s' : Socket} {turn : Turn} {H new : Host} {told : List Event} {notes : List Note} → SocketTurn s turn s' H told notes new → is_exhausted turn ≡ true → all_granted told ≡ false
+refused : {s s' : Socket} {turn : Turn} {H new : Host} {told : List Event} {notes : List Note} →
+    SocketTurn s turn s' H told notes new → is_exhausted turn ≡ true → all_granted told ≡ false
 refused (egress.Silent p d e m y z) is = absurd (clash is (ap is_exhausted d))
 refused (egress.Refused q p d e m y z) is = ap all_granted e
 refused (egress.Sent q o f p g d e z) is = absurd (clash is (ap is_exhausted d ∙ of_turn q o))
 
-exhausted : {i : ℕ} {turn : Turn} {H new : Host} {told : List Event} {notes : List Note} → Serves i turn H told notes new → is_exhausted turn ≡ true → all_granted told ≡ false
+exhausted : {i : ℕ} {turn : Turn} {H new : Host} {told : List Event} {notes : List Note} →
+    Serves i turn H told notes new → is_exhausted turn ≡ true → all_granted told ≡ false
 exhausted (egress.Free f d e m y) is = absurd (clash is (ap is_exhausted d))
 exhausted (egress.Waits s known f l w d e m y) is = absurd (clash is (ap is_exhausted d))
 exhausted (egress.Served s s' known mid f l w z y) is = refused z is
 
-pub stopped : {old new : Host} {n : ℕ} {granted changed : Bool} {told : List Event} {notes : List Note} → Walks old n granted changed told notes new → granted ≡ false → all_granted told ≡ true → ⊥
+pub stopped : {old new : Host} {n : ℕ} {granted changed : Bool} {told : List Event} {notes : List Note} →
+    Walks old n granted changed told notes new → granted ≡ false → all_granted told ≡ true → ⊥
 stopped egress.Begins ended all = absurd cc
 stopped (egress.Goes turn told_it notes new w s e) ended all = absurd cc
 stopped (egress.Stops {told_so = told_so} turn told_it notes new w s e) ended all = clash (given_parts told_so told_it all).1 (exhausted s e)
 
-pub each_turn : {old new : Host} {changed : Bool} {told : List Event} {notes : List Note} → SocketEgress old changed told notes new → all_granted told ≡ true → (i : ℕ) → i < length old.sockets.places → AtTurn old i told new
+pub each_turn : {old new : Host} {changed : Bool} {told : List Event} {notes : List Note} →
+    SocketEgress old changed told notes new → all_granted told ≡ true → (i : ℕ) → i < length old.sockets.places → AtTurn old i told new
 each_turn (egress.Whole w) all i less = at_turn w i less
 each_turn (egress.Stopped n w) all i less = absurd (stopped w refl all)
 
@@ -373,9 +429,11 @@ or_true : (b c : Bool) → c ≡ true → (b || c) ≡ true
 or_true true c e = refl
 or_true false c e = e
 
-pub permitted : (H : Host) (i : ℕ) → MayBeAsked H i → (known : Bool) → IsAnswerFor (HasNeighbor H) (wait_at H.sockets i) known → is_permitted (wait_at H.sockets i) known H.moment ≡ true
+pub permitted : (H : Host) (i : ℕ) → MayBeAsked H i → (known : Bool) →
+    IsAnswerFor (HasNeighbor H) (wait_at H.sockets i) known → is_permitted (wait_at H.sockets i) known H.moment ≡ true
 permitted H i (NoWait e) known told = rw e refl
-permitted H i (Over a end e le) known told = rw e (or_true known (is_ge (int_cmp H.moment end)) (ranked_ge H.moment end (int_cmp H.moment end) (int_ranks H.moment end) le))
+permitted H i (Over a end e le) known told =
+    rw e (or_true known (is_ge (int_cmp H.moment end)) (ranked_ge H.moment end (int_cmp H.moment end) (int_ranks H.moment end) le))
 permitted H i (IsKnown a end h e one r) known told =
     let knows : HasNeighbor H a known = subst (λ w. IsAnswerFor (HasNeighbor H) w known) e told in
     let is : known ≡ is_known_hop H (Some r.hop) = known_is_one knows (OfHost (Some r.hop) one r.next refl) in
@@ -389,7 +447,8 @@ found_as None silent silent' t {h} found = by (is_before t silent) found where
   by true f = absurd cc
   by false f = absurd cc
 found_as (Some n) silent silent' t {h} found = by (is_before t n.expires_at) (is_before t silent) (is_before t silent') found where
-  by : (b c d : Bool) → (if b then Found n.hardware_addr else (if c then RateLimited else NotFound)) ≡ Found h → (if b then Found n.hardware_addr else (if d then RateLimited else NotFound)) ≡ Found h
+  by : (b c d : Bool) → (if b then Found n.hardware_addr else (if c then RateLimited else NotFound)) ≡ Found h →
+      (if b then Found n.hardware_addr else (if d then RateLimited else NotFound)) ≡ Found h
   by true c d f = f
   by false true d f = absurd cc
   by false false d f = absurd cc
@@ -401,7 +460,8 @@ reached_as {H} {K} {a} {h} e r =
     record {
       hop = r.hop;
       next = hop_as {H = H} {K = K} (ap (λ (x : Host). x.ip_addrs) e) (ap (λ (x : Host). x.routes) e) moment r.next;
-      known = ap (λ m. answer_from (map.get m r.hop) K.neighbors.silent_until K.moment) entries ∙ ap (λ t. answer_from (map.get H.neighbors.known r.hop) K.neighbors.silent_until t) moment
+      known = ap (λ m. answer_from (map.get m r.hop) K.neighbors.silent_until K.moment) entries
+          ∙ ap (λ t. answer_from (map.get H.neighbors.known r.hop) K.neighbors.silent_until t) moment
           ∙ found_as (map.get H.neighbors.known r.hop) H.neighbors.silent_until K.neighbors.silent_until H.moment r.known;
     }
 
@@ -433,8 +493,10 @@ record TurnGoes (H : Host) (s : Socket) (p : Packet) (h : HardwareAddress) (s' :
   frames : sent_frames told_it ≡ ip_frame H h p ∷ []
   socket : s' ≡ socket_after_told true (socket_after_asking H s)
 
-turn_goes : {s s' : Socket} {turn : Turn} {H new : Host} {told_it : List Event} {notes : List Note} (own : EthernetAddress) (p : Packet) (h : HardwareAddress) → SocketTurn s turn s' H told_it notes new →
-    packet_from H s ≡ Some p → all_granted told_it ≡ true → H.hardware_addr ≡ hardware.Ethernet own → is_unicast H.ip_addrs (destination_of p) ≡ true → IsReached H (destination_of p) h →
+turn_goes : {s s' : Socket} {turn : Turn} {H new : Host} {told_it : List Event} {notes : List Note} (own : EthernetAddress) (p : Packet)
+    (h : HardwareAddress) → SocketTurn s turn s' H told_it notes new →
+    packet_from H s ≡ Some p → all_granted told_it ≡ true → H.hardware_addr ≡ hardware.Ethernet own →
+    is_unicast H.ip_addrs (destination_of p) ≡ true → IsReached H (destination_of p) h →
     total_len p ≤ ip_mtu_of H.capabilities → TurnGoes H s p h s' told_it
 turn_goes own p h (egress.Silent none d e m y z) is all on one r short = absurd cc
 turn_goes own p h (egress.Refused q some d e m y z) is all on one r short = absurd (clash all (ap all_granted e))
@@ -455,28 +517,39 @@ between_is : (source remote : IpEndpoint) (hop_limit : ℕ) (octets : List ℕ) 
 between_is source remote hop_limit octets p (OverIpv4 a b e f is) = rw (e, f, is) refl
 between_is source remote hop_limit octets p (OverIpv6 a b e f is) = rw (e, f, is) refl
 
-pub first_packet : (H : Host) (i : ℕ) (s : UdpSocket) (p : Packet) (rest : List (IpEndpoint × List ℕ)) → HasFirst H i s p rest → packet_from H (Udp s) ≡ Some p
-first_packet H i s p rest f = rw (f.first, f.source_is) (between_is (record { addr = f.source; port = s.endpoint.port }) f.remote s.hop_limit f.octets p f.packet_is)
+pub first_packet : (H : Host) (i : ℕ) (s : UdpSocket) (p : Packet) (rest : List (IpEndpoint × List ℕ)) →
+    HasFirst H i s p rest → packet_from H (Udp s) ≡ Some p
+first_packet H i s p rest f =
+    rw (f.first, f.source_is) (between_is (record { addr = f.source; port = s.endpoint.port }) f.remote s.hop_limit f.octets p f.packet_is)
 
-first_left : (H K : Host) (i : ℕ) (s : UdpSocket) (p : Packet) (rest : List (IpEndpoint × List ℕ)) → HasFirst H i s p rest → sans K ≡ sans H → socket_after_told true (socket_after_asking K (Udp s)) ≡ Udp (record s { tx = record s.tx { packets = rest } })
+first_left : (H K : Host) (i : ℕ) (s : UdpSocket) (p : Packet) (rest : List (IpEndpoint × List ℕ)) → HasFirst H i s p rest → sans K ≡ sans H →
+    socket_after_told true (socket_after_asking K (Udp s)) ≡ Udp (record s { tx = record s.tx { packets = rest } })
 first_left H K i s p rest f e =
     let here : socket_after_asking K (Udp s) ≡ socket_after_asking H (Udp s) = ap (λ (x : Host). socket_after_asking x (Udp s)) e in
-    let offers : udp.offered_packet (source_for H.ip_addrs) s ≡ Some (udp.datagram s (f.remote, f.octets) f.source) = rw (f.first, f.source_is) refl in
+    let offers : udp.offered_packet (source_for H.ip_addrs) s ≡ Some (udp.datagram s (f.remote, f.octets) f.source) =
+    rw (f.first, f.source_is) refl in
     let stays : socket_after_asking H (Udp s) ≡ Udp s = ap (λ o. Udp (cond (is_none o) (udp.without_first_to_send s) s)) offers in
     ap (socket_after_told true) (here ∙ stays) ∙ ap (λ packets. Udp (record s { tx = record s.tx { packets = drop 1 packets } })) f.first
 
-served_goes : {i : ℕ} {turn : Turn} {H new : Host} {told_it : List Event} {notes : List Note} (own : EthernetAddress) (s : UdpSocket) (p : Packet) (h : HardwareAddress) → Serves i turn H told_it notes new →
-    slice_get H.sockets.places i ≡ Some (Some (Udp s)) → MayBeAsked H i → packet_from H (Udp s) ≡ Some p → all_granted told_it ≡ true → H.hardware_addr ≡ hardware.Ethernet own →
+served_goes : {i : ℕ} {turn : Turn} {H new : Host} {told_it : List Event} {notes : List Note} (own : EthernetAddress) (s : UdpSocket) (p : Packet)
+    (h : HardwareAddress) → Serves i turn H told_it notes new →
+    slice_get H.sockets.places i ≡ Some (Some (Udp s)) → MayBeAsked H i → packet_from H (Udp s) ≡ Some p →
+    all_granted told_it ≡ true → H.hardware_addr ≡ hardware.Ethernet own →
     is_unicast H.ip_addrs (destination_of p) ≡ true → IsReached H (destination_of p) h → total_len p ≤ ip_mtu_of H.capabilities →
-    (sent_frames told_it ≡ ip_frame H h p ∷ []) × (slice_get new.sockets.places i ≡ Some (Some (socket_after_told true (socket_after_asking H (Udp s)))))
+    (sent_frames told_it ≡ ip_frame H h p ∷ [])
+    × (slice_get new.sockets.places i ≡ Some (Some (socket_after_told true (socket_after_asking H (Udp s)))))
 served_goes own s p h (egress.Free f d e m y) here may is all on one r short = absurd cc
-served_goes {i} {turn} {H} own s p h (egress.Waits s' known f l w d e m y) here may is all on one r short = absurd (clash (permitted H i may known l) w)
+served_goes {i} {turn} {H} own s p h (egress.Waits s' known f l w d e m y) here may is all on one r short =
+    absurd (clash (permitted H i may known l) w)
 served_goes {i} {turn} {H} {new} {told_it} {notes} own s p h (egress.Served s' s'' known mid f l w z y) here may is all on one r short =
     let both : Some (Some s') ≡ Some (Some (Udp s)) = sym f ∙ here in
     let same : s' ≡ Udp s = cc in
     let it = turn_goes own p h (subst (λ x. SocketTurn x turn s'' H told_it notes mid) same z) is all on one r short in
-    let at_mid : slice_get mid.sockets.places i ≡ Some (Some (Udp s)) = ap (λ (K : Host). slice_get K.sockets.places i) (turn_way z) ∙ here in
-    (it.frames, ap (λ (K : Host). slice_get K.sockets.places i) y ∙ there mid.sockets.places i (Some (Udp s)) (Some s'') at_mid ∙ ap (λ x. Some (Some x)) it.socket)
+    let at_mid : slice_get mid.sockets.places i ≡ Some (Some (Udp s)) = ap (λ (K : Host). slice_get K.sockets.places i) (turn_way z) ∙ here in (
+      it.frames,
+      ap (λ (K : Host). slice_get K.sockets.places i) y ∙ there mid.sockets.places i (Some (Udp s)) (Some s'') at_mid
+          ∙ ap (λ x. Some (Some x)) it.socket,
+    )
 
 pub firsts_go : FirstDatagramsGo
 firsts_go own t answer old new told_all notes i s p h rest e all on first may one reach short =
@@ -487,16 +560,21 @@ firsts_go own t answer old new told_all notes i s p h rest e all on first may on
     let a = each_turn k.sends_them last_given i (slice_get_within k.mid.sockets.places i (Some (Udp s)) here_mid) in
     let rest_is : sans a.mid ≡ sans (at old t) = a.rest ∙ ap (λ (K : Host). record K { sockets = no_sockets }) k.way in
     let same : SameAt i (at old t) a.mid = same_then (same_at {k = i} {old = at old t} {new = k.mid} sockets_are) a.same in
-    let given_it : all_granted a.told_it ≡ true = (given_parts a.told_it a.back (given_parts a.front (a.told_it ++ a.back) (sym (ap all_granted a.split) ∙ last_given)).1).0 in
-    let packet_is : packet_from a.mid (Udp s) ≡ Some p = ap (λ (x : Host). packet_from x (Udp s)) rest_is ∙ first_packet (at old t) i s p rest first in
-    let g = served_goes own s p h a.served (same.place ∙ first.here) (may_as i rest_is same may) packet_is given_it (ap (λ (x : Host). x.hardware_addr) rest_is ∙ on)
-    (ap (λ (x : Host). is_unicast x.ip_addrs (destination_of p)) rest_is ∙ one) (reached_as rest_is reach) (subst (λ c. total_len p ≤ ip_mtu_of c) (sym (ap (λ (x : Host). x.capabilities) rest_is)) short) in
+    let given_it : all_granted a.told_it ≡ true =
+    (given_parts a.told_it a.back (given_parts a.front (a.told_it ++ a.back) (sym (ap all_granted a.split) ∙ last_given)).1).0 in
+    let packet_is : packet_from a.mid (Udp s) ≡ Some p = ap (λ (x : Host). packet_from x (Udp s)) rest_is
+    ∙ first_packet (at old t) i s p rest first in
+    let g = served_goes own s p h a.served (same.place ∙ first.here) (may_as i rest_is same may) packet_is given_it
+    (ap (λ (x : Host). x.hardware_addr) rest_is ∙ on)
+    (ap (λ (x : Host). is_unicast x.ip_addrs (destination_of p)) rest_is ∙ one) (reached_as rest_is reach)
+    (subst (λ c. total_len p ≤ ip_mtu_of c) (sym (ap (λ (x : Host). x.capabilities) rest_is)) short) in
     let frame_is : ip_frame a.mid h p ≡ ip_frame old h p = ap (λ (x : Host). ip_frame x h p) rest_is in
     record {
       front = sent_frames k.behind.front ++ sent_frames a.front;
       back = sent_frames a.back;
       frames = ap sent_frames k.behind.is ∙ sent_frames-append k.behind.front k.told_last
-          ∙ ap (λ x. sent_frames k.behind.front ++ x) (ap sent_frames a.split ∙ sent_frames-append a.front (a.told_it ++ a.back) ∙ ap (λ x. sent_frames a.front ++ x) (sent_frames-append a.told_it a.back ∙ ap (λ x. x ++ sent_frames a.back) (g.0 ∙ ap (λ f. f ∷ []) frame_is)))
+          ∙ ap (λ x. sent_frames k.behind.front ++ x) (ap sent_frames a.split ∙ sent_frames-append a.front (a.told_it ++ a.back) ∙ ap
+          (λ x. sent_frames a.front ++ x) (sent_frames-append a.told_it a.back ∙ ap (λ x. x ++ sent_frames a.back) (g.0 ∙ ap (λ f. f ∷ []) frame_is)))
           ∙ sym (append_assoc (sent_frames k.behind.front) (sent_frames a.front) (ip_frame old h p ∷ sent_frames a.back));
       left = a.stays.place ∙ g.1 ∙ ap (λ x. Some (Some x)) (first_left (at old t) a.mid i s p rest first rest_is);
     }

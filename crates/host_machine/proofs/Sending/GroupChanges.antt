@@ -9,6 +9,7 @@ join_groups {old = old} (NoGroup m r e) = (old.groups, e)
 join_groups {old = old} (NoPlace m f r e) = (old.groups, e)
 join_groups (JoinTaken m f r e) = (_, e)
 
-pub leave_groups : {group : _} {answer : _} {old new : Host} → LeavesGroup group answer old new → (groups : List Group) × (new ≡ with_groups old groups)
+pub leave_groups : {group : _} {answer : _} {old new : Host} →
+    LeavesGroup group answer old new → (groups : List Group) × (new ≡ with_groups old groups)
 leave_groups {old = old} (NoGroupEither m r e) = (old.groups, e)
 leave_groups (LeaveTaken m r e) = (_, e)

@@ -23,11 +23,13 @@ module _ {B : Type 0} (seen : List Event → List B) (seen-append : (xs ys : Lis
   pub spread : {t x y : List Event} (rest : List B) → Splits t x y → seen t ++ rest ≡ seen x ++ (seen y ++ rest)
   spread {t} {x} {y} rest e = ap (λ z. seen z ++ rest) e.is ∙ ap (λ z. z ++ rest) (seen-append x y) ∙ append_assoc (seen x) (seen y) rest
 
-  pub before : {t t' x x' y y' : List Event} (rest rest' : List B) → Splits t x y → Splits t' x' y' → seen t ++ rest ≡ seen t' ++ rest' → seen x ++ (seen y ++ rest) ≡ seen x' ++ (seen y' ++ rest')
+  pub before : {t t' x x' y y' : List Event} (rest rest' : List B) →
+      Splits t x y → Splits t' x' y' → seen t ++ rest ≡ seen t' ++ rest' → seen x ++ (seen y ++ rest) ≡ seen x' ++ (seen y' ++ rest')
   before rest rest' e e' same = sym (spread rest e) ∙ same ∙ spread rest' e'
 
   -- and behind the same
-  pub behind : {t t' x x' y y' : List Event} (rest rest' : List B) → Splits t x y → Splits t' x' y' → x ≡ x' → seen t ++ rest ≡ seen t' ++ rest' → seen y ++ rest ≡ seen y' ++ rest'
+  pub behind : {t t' x x' y y' : List Event} (rest rest' : List B) →
+      Splits t x y → Splits t' x' y' → x ≡ x' → seen t ++ rest ≡ seen t' ++ rest' → seen y ++ rest ≡ seen y' ++ rest'
   behind {x = x} {y = y} {y' = y'} rest rest' e e' one same =
       append_cancel_left (seen x) (seen y ++ rest) (seen y' ++ rest') (before rest rest' e e' same ∙ ap (λ z. seen z ++ (seen y' ++ rest')) (sym one))
 
@@ -46,8 +48,10 @@ module _ {B : Type 0} (seen : List Event → List B) (seen-append : (xs ys : Lis
   both_once one two first second a b H told told' notes notes' new new' rest rest' p q same =
       let e = split p.told_one p.told_two p.events in
       let e' = split q.told_one q.told_two q.events in
-      let begun = first tt tt H p.told_one q.told_one p.notes_one q.notes_one p.mid q.mid (seen p.told_two ++ rest) (seen q.told_two ++ rest') p.begins q.begins (before rest rest' e e' same) in
-      let ended = second a b p.mid p.told_two q.told_two p.notes_two q.notes_two new new' rest rest' p.ends (rw begun.host_is q.ends) (behind rest rest' e e' begun.told_is same) in
+      let begun = first tt tt H p.told_one q.told_one p.notes_one q.notes_one p.mid q.mid (seen p.told_two ++ rest)
+      (seen q.told_two ++ rest') p.begins q.begins (before rest rest' e e' same) in
+      let ended = second a b p.mid p.told_two q.told_two p.notes_two q.notes_two new new' rest rest' p.ends (rw begun.host_is q.ends)
+      (behind rest rest' e e' begun.told_is same) in
       record {
         answer_is = ended.answer_is;
         told_is = joined e e' begun.told_is ended.told_is;

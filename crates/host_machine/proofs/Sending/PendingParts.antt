@@ -11,7 +11,8 @@ use Rattle.host_machine.proofs.Receiving.Pieces.{IsIn, contains_in, IsPiece, pie
 use Rattle.host_machine.proofs.Runs.TwoHosts.{is_part}
 
 -- the pieces of a packet that was cut into two or more
-part_is : (m : Medium) (d : Datagram) (y : ℕ) (f : Fragment) → HasForm d → IsOf m d.destination → d.size ≡ y * 8 → 0 < d.size → d.size < length d.payload → IsPiece d.size d.payload f → IsPart m (piece_of d f)
+part_is : (m : Medium) (d : Datagram) (y : ℕ) (f : Fragment) → HasForm d → IsOf m d.destination → d.size ≡ y * 8 → 0 < d.size →
+    d.size < length d.payload → IsPiece d.size d.payload f → IsPart m (piece_of d f)
 part_is m d y f form to size pos more piece =
     let within = (part_of d.size d.payload f pos piece).within in
     let payload = form.payload in
@@ -28,11 +29,14 @@ part_is m d y f form to size pos more piece =
       };
     }
 
-parts_are : (m : Medium) (d : Datagram) (y : ℕ) (fs : List Fragment) → HasForm d → IsOf m d.destination → d.size ≡ y * 8 → 0 < d.size → d.size < length d.payload → ((f : Fragment) → IsIn f fs → IsPiece d.size d.payload f) →
+parts_are : (m : Medium) (d : Datagram) (y : ℕ) (fs : List Fragment) → HasForm d → IsOf m d.destination → d.size ≡ y * 8 → 0 < d.size →
+    d.size < length d.payload → ((f : Fragment) → IsIn f fs → IsPiece d.size d.payload f) →
     AllByRecursion (IsPart m) (map (piece_of d) fs)
 parts_are m d y [] form to size pos more pieces = tt
 parts_are m d y (f ∷ fs) form to size pos more pieces =
     (part_is m d y f form to size pos more (pieces f (inl refl)), parts_are m d y fs form to size pos more (λ g i. pieces g (inr i)))
 
-pub pieces_are : (m : Medium) (d : Datagram) (y : ℕ) → HasForm d → IsOf m d.destination → d.size ≡ y * 8 → 0 < d.size → d.size < length d.payload → AllByRecursion (IsPart m) (pieces_of d)
-pieces_are m d y form to size pos more = parts_are m d y (cut d.size d.payload) form to size pos more (λ f i. piece_in d.size d.payload f (contains_in (cut d.size d.payload) f i))
+pub pieces_are : (m : Medium) (d : Datagram) (y : ℕ) → HasForm d → IsOf m d.destination → d.size ≡ y * 8 → 0 < d.size →
+    d.size < length d.payload → AllByRecursion (IsPart m) (pieces_of d)
+pieces_are m d y form to size pos more =
+    parts_are m d y (cut d.size d.payload) form to size pos more (λ f i. piece_in d.size d.payload f (contains_in (cut d.size d.payload) f i))

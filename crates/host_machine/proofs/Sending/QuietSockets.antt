@@ -51,7 +51,8 @@ tcp_quiet : (source : IpAddress → Option IpAddress) (s : tcp.TcpSocket) (packe
 tcp_quiet source s [] t low before = (either_way _ None, either_way _ (record s { tx = record s.tx { packets = [] } }))
 tcp_quiet source s (p ∷ ps) t low before = (rw (← int_cmp_is t s.hold Less before) refl, rw (← int_cmp_is t s.hold Less before) refl)
 
-pub socket_quiet : (source : IpAddress → Option IpAddress) (s : Socket) (t : ℤ) → pos 0 ≤ℤ t → IsBefore t (instant_of (poll_at s)) → (offered_packet t source s ≡ None) × (socket_after_offer t source s ≡ s)
+pub socket_quiet : (source : IpAddress → Option IpAddress) (s : Socket) (t : ℤ) →
+    pos 0 ≤ℤ t → IsBefore t (instant_of (poll_at s)) → (offered_packet t source s ≡ None) × (socket_after_offer t source s ≡ s)
 socket_quiet source (Raw s) t low before = let q = raw_quiet s s.tx.packets t low before in (ap (option_map RawOffer) q.0, ap Raw q.1)
 socket_quiet source (Icmp s) t low before = let q = icmp_quiet source s s.tx.packets t low before in (ap (option_map IcmpOffer) q.0, ap Icmp q.1)
 socket_quiet source (Udp s) t low before = let q = udp_quiet source s s.tx.packets t low before in (ap (option_map UdpOffer) q.0, ap Udp q.1)

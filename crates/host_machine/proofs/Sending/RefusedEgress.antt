@@ -1,5 +1,6 @@
 -- Where the device gives no leave to send, what waits still waits.
-use Rattle.std.proofs.Common.{◌≡◌, ◌≤◌, ℕ, zero, suc, ◌+◌, Bool, true, false, List, [], ◌∷◌, ◌++◌, refl, sym, ap, ◌∙◌, subst, arith, inl, inr, Option, Some, None}
+use Rattle.std.proofs.Common.{◌≡◌, ◌≤◌, ℕ, zero, suc, ◌+◌, Bool, true, false, List, [], ◌∷◌, ◌++◌}
+use Rattle.std.proofs.Common.{refl, sym, ap, ◌∙◌, subst, arith, inl, inr, Option, Some, None}
 use Rattle.std.specs.Prelude.{ℤ, ◌&&◌, ◌||◌, is_none, slice_get, slice_set}
 use Rattle.std.specs.Option.{option_and_then, option_map}
 use Rattle.std.proofs.lemmas.Bool.{cases_eq}
@@ -26,12 +27,14 @@ use Rattle.host_machine.specs.Sending.Frame.{sends}
 use Rattle.host_machine.specs.Sending.Multicast as groups
 use Rattle.host_machine.specs.Sending.Multicast.{ReportsEach, ReportsAll, igmp_report, join_packet, leave_packet}
 use Rattle.host_machine.specs.Sending.Reports as reports
-use Rattle.host_machine.specs.Sending.Reports.{IgmpEgress, MldEgress, has_passed, next_group, next_report, igmp_timeout_of, with_igmp_report, with_mld_report}
+use Rattle.host_machine.specs.Sending.Reports.{IgmpEgress, MldEgress, has_passed, next_group, next_report}
+use Rattle.host_machine.specs.Sending.Reports.{igmp_timeout_of, with_igmp_report, with_mld_report}
 use Rattle.host_machine.specs.Sending.Slaac as slaac
 use Rattle.host_machine.specs.Sending.Slaac.{NdiscRsEgress}
 use Rattle.host_machine.specs.Sending.Egress as egress
 use Rattle.host_machine.specs.Sending.Parts.{Both, Part}
-use Rattle.host_machine.specs.Sending.Egress.{Ipv4Egress, Serves, SocketTurn, SocketEgress, Walks, answer_of, socket_after_asking, is_done, with_socket, wait_after}
+use Rattle.host_machine.specs.Sending.Egress.{Ipv4Egress, Serves, SocketTurn, SocketEgress, Walks, answer_of}
+use Rattle.host_machine.specs.Sending.Egress.{socket_after_asking, is_done, with_socket, wait_after}
 use Rattle.host_machine.specs.Laws.Refusals.{IsOnlyAsked, NotAsked, WasAsked, RefusalsLoseNothing, grants_any, waiting_igmp, waiting_mld}
 
 -- of two parts neither had leave
@@ -63,7 +66,8 @@ record Idles (told : List Event) (notes : List Note) (new left : Host) : Type 0 
 unasked : {told : List Event} {notes : List Note} {new left : Host} → told ≡ [] → notes ≡ [] → new ≡ left → Idles told notes new left
 unasked t n h = record { silent = ap sent_frames t; unnoted = n; host = h }
 
-refused : {t : ℤ} {told : List Event} {notes : List Note} {new left : Host} → told ≡ Asked t false ∷ [] → notes ≡ [] → new ≡ left → Idles told notes new left
+refused : {t : ℤ} {told : List Event} {notes : List Note} {new left : Host} →
+    told ≡ Asked t false ∷ [] → notes ≡ [] → new ≡ left → Idles told notes new left
 refused t n h = record { silent = ap sent_frames t; unnoted = n; host = h }
 
 piece_waits : {H new : Host} {told : List Event} {notes : List Note} → Ipv4Egress H told notes new → grants_any told ≡ false → Idles told notes new H
@@ -71,7 +75,8 @@ piece_waits (egress.NoPiece l t n h) not_granted = unasked t n h
 piece_waits (egress.NotGranted piece rest l t n h) not_granted = refused t n h
 piece_waits (egress.PieceGoes piece rest l t n h) not_granted = with_grant t not_granted
 
-solicitation_waits : {H new : Host} {told : List Event} {notes : List Note} → NdiscRsEgress H told notes new → grants_any told ≡ false → Idles told notes new H
+solicitation_waits : {H new : Host} {told : List Event} {notes : List Note} →
+    NdiscRsEgress H told notes new → grants_any told ≡ false → Idles told notes new H
 solicitation_waits (slaac.NotDue d t n h) not_granted = unasked t n h
 solicitation_waits (slaac.NotGranted p d t n h) not_granted = refused t n h
 solicitation_waits (slaac.Goes p outcome frames mid d s t h) not_granted = with_grant t not_granted
@@ -86,7 +91,8 @@ record Untold (old : Host) (told : List Event) (notes : List Note) (new : Host) 
 
 module _ (state : GroupState) (packet_for : List IpCidr → IpAddress → Option Packet) (after_report : List Group → IpAddress → List Group)
     (mute : (own : List IpCidr) (a : IpAddress) → packet_for own a ≡ None → ipv4_addr own ≡ None) (old : Host) where
-  tell : {granted : Bool} {told : List Event} {notes : List Note} {new : Host} → ReportsEach state packet_for after_report old granted told notes new → grants_any told ≡ false →
+  tell : {granted : Bool} {told : List Event} {notes : List Note} {new : Host} →
+      ReportsEach state packet_for after_report old granted told notes new → grants_any told ≡ false →
       Untold old told notes new
   tell groups.Begins not_granted = record { silent = refl; unnoted = refl; groups = old.groups; host = refl; same = λ speaks. refl }
   tell (groups.Silently a t first none) not_granted =
@@ -100,11 +106,18 @@ module _ (state : GroupState) (packet_for : List IpCidr → IpAddress → Option
       }
   tell (groups.Refused {told = told} {mid = mid} a p t first some) not_granted =
       let so = tell t (neither told (Asked mid.moment false ∷ []) not_granted).0 in
-      record { silent = both_silent told (Asked mid.moment false ∷ []) so.silent refl; unnoted = so.unnoted; groups = so.groups; host = so.host; same = so.same }
+      record {
+        silent = both_silent told (Asked mid.moment false ∷ []) so.silent refl;
+        unnoted = so.unnoted;
+        groups = so.groups;
+        host = so.host;
+        same = so.same;
+      }
   tell (groups.Reported {told = told} {mid = mid} a p outcome frames more new t first some d) not_granted =
       with_grant {t = mid.moment} {es = sends frames} refl (neither told (Asked mid.moment true ∷ sends frames) not_granted).1
 
-  tell_all : {told : List Event} {notes : List Note} {new : Host} → ReportsAll state packet_for after_report old told notes new → grants_any told ≡ false → Untold old told notes new
+  tell_all : {told : List Event} {notes : List Note} {new : Host} →
+      ReportsAll state packet_for after_report old told notes new → grants_any told ≡ false → Untold old told notes new
   tell_all (groups.All t done) not_granted = tell t not_granted
   tell_all (groups.UpToRefusal t) not_granted = tell t not_granted
 
@@ -122,7 +135,8 @@ mute_leave own (Ipv4 a) none = unmapped _ (ipv4_addr own) none
 mute_leave own (Ipv6 a) none = absurd cc
 
 -- reports
-igmp_stays : (H : Host) → (has_passed (igmp_timeout_of H.igmp_report) H.moment && is_none (next_group H H.igmp_report)) ≡ false → H ≡ with_igmp_report H (waiting_igmp H)
+igmp_stays : (H : Host) → (has_passed (igmp_timeout_of H.igmp_report) H.moment && is_none (next_group H H.igmp_report)) ≡ false →
+    H ≡ with_igmp_report H (waiting_igmp H)
 igmp_stays H no_end = rw no_end refl
 
 some_next : (H : Host) (p : Packet) → next_report H ≡ Some p → is_none (next_group H H.igmp_report) ≡ false
@@ -171,7 +185,8 @@ apart (z ∷ xs) zero (suc k) y other = refl
 apart (z ∷ xs) (suc i) zero y other = refl
 apart (z ∷ xs) (suc i) (suc k) y other = apart xs i k y (λ e. other (ap suc e))
 
-no_socket_served : {old new : Host} {set : SocketSet} {i : ℕ} {turn : Turn} {told : List Event} {notes : List Note} → turn ≡ Idle → told ≡ [] → notes ≡ [] →
+no_socket_served : {old new : Host} {set : SocketSet} {i : ℕ} {turn : Turn} {told : List Event} {notes : List Note} →
+    turn ≡ Idle → told ≡ [] → notes ≡ [] →
     new ≡ with_sockets old set → Served old set i turn told notes new
 no_socket_served {set = set} idle t n h = record {
   silent = ap sent_frames t;
@@ -184,7 +199,8 @@ no_socket_served {set = set} idle t n h = record {
 }
 
 turned : (old : Host) (set : SocketSet) (i : ℕ) (s s' : Socket) (wait : Wait) {turn : Turn} {told : List Event} {notes : List Note} (mid new : Host) →
-    slice_get set.places i ≡ Some (Some s) → mid ≡ with_sockets old set → s' ≡ socket_after_asking old s → new ≡ with_socket mid i s' wait → sent_frames told ≡ [] → notes ≡ [] →
+    slice_get set.places i ≡ Some (Some s) → mid ≡ with_sockets old set → s' ≡ socket_after_asking old s →
+    new ≡ with_socket mid i s' wait → sent_frames told ≡ [] → notes ≡ [] →
     is_done turn ≡ false → Served old set i turn told notes new
 turned old set i s s' wait mid new here m is h silent n none_gone = record {
   silent = silent;
@@ -196,7 +212,8 @@ turned old set i s s' wait mid new here m is h silent n none_gone = record {
   elsewhere = λ k other. apart set.places i k (Some (socket_after_asking old s)) other;
 }
 
-serve : (old : Host) (set : SocketSet) (i : ℕ) {turn : Turn} {told : List Event} {notes : List Note} {new : Host} → Serves i turn (with_sockets old set) told notes new →
+serve : (old : Host) (set : SocketSet) (i : ℕ) {turn : Turn} {told : List Event} {notes : List Note} {new : Host} →
+    Serves i turn (with_sockets old set) told notes new →
     grants_any told ≡ false → Served old set i turn told notes new
 serve old set i (egress.Free f idle t n h) not_granted = no_socket_served idle t n h
 serve old set i (egress.Waits s known here knows p idle t n h) not_granted = no_socket_served idle t n h
@@ -216,7 +233,8 @@ record Walked (old : Host) (n : ℕ) (changed : Bool) (told : List Event) (notes
   queued : (i : ℕ) → IsOnlyAsked old (slice_get old.sockets.places i) (slice_get sockets.places i)
   ahead : (i : ℕ) → n ≤ i → slice_get sockets.places i ≡ slice_get old.sockets.places i
 
-one_more : {old : Host} {n : ℕ} {changed : Bool} {told_so : List Event} {notes_so : List Note} {mid : Host} (turn : Turn) (told_it : List Event) (notes : List Note) (new : Host) →
+one_more : {old : Host} {n : ℕ} {changed : Bool} {told_so : List Event} {notes_so : List Note} {mid : Host} (turn : Turn)
+    (told_it : List Event) (notes : List Note) (new : Host) →
     Walked old n changed told_so notes_so mid → Serves n turn mid told_it notes new → grants_any told_it ≡ false → (went : Bool) → went ≡ false →
     Walked old (n + 1) went (told_so ++ told_it) (notes_so ++ notes) new
 one_more {old} {n} {changed} {told_so} {notes_so} {mid} turn told_it notes new so s not_granted went none =
@@ -235,7 +253,8 @@ one_more {old} {n} {changed} {told_so} {notes_so} {mid} turn told_it notes new s
       ahead = λ i from. one.elsewhere i (λ e. omega (arith, e, from)) ∙ so.ahead i (omega (arith, from));
     }
 
-walk : {old : Host} {n : ℕ} {granted changed : Bool} {told : List Event} {notes : List Note} {new : Host} → Walks old n granted changed told notes new → grants_any told ≡ false →
+walk : {old : Host} {n : ℕ} {granted changed : Bool} {told : List Event} {notes : List Note} {new : Host} →
+    Walks old n granted changed told notes new → grants_any told ≡ false →
     Walked old n changed told notes new
 walk {old} egress.Begins not_granted = record {
   silent = refl;
@@ -249,7 +268,8 @@ walk {old} egress.Begins not_granted = record {
 walk {old} (egress.Goes {n} {changed} {told_so} {notes_so} {mid} turn told_it notes new w s granted) not_granted =
     let parts = neither told_so told_it not_granted in
     let so = walk w parts.0 in
-    let gone : is_done turn ≡ false = (serve old so.sockets n (subst (λ (m : Host). Serves n turn m told_it notes new) so.host s) parts.1).none_gone in
+    let gone : is_done turn ≡ false =
+    (serve old so.sockets n (subst (λ (m : Host). Serves n turn m told_it notes new) so.host s) parts.1).none_gone in
     one_more turn told_it notes new so s parts.1 (changed || is_done turn) (rw (so.unchanged, gone) refl)
 walk {old} (egress.Stops {n} {changed} {told_so} {notes_so} {mid} turn told_it notes new w s stops) not_granted =
     let parts = neither told_so told_it not_granted in
@@ -264,10 +284,12 @@ record AllServed (old : Host) (changed : Bool) (told : List Event) (notes : List
   host : new ≡ with_sockets old sockets
   queued : (i : ℕ) → IsOnlyAsked old (slice_get old.sockets.places i) (slice_get sockets.places i)
 
-all_of : {old : Host} {n : ℕ} {changed : Bool} {told : List Event} {notes : List Note} {new : Host} → Walked old n changed told notes new → AllServed old changed told notes new
+all_of : {old : Host} {n : ℕ} {changed : Bool} {told : List Event} {notes : List Note} {new : Host} →
+    Walked old n changed told notes new → AllServed old changed told notes new
 all_of w = record { silent = w.silent; unnoted = w.unnoted; unchanged = w.unchanged; sockets = w.sockets; host = w.host; queued = w.queued }
 
-sockets_wait : {old : Host} {changed : Bool} {told : List Event} {notes : List Note} {new : Host} → SocketEgress old changed told notes new → grants_any told ≡ false →
+sockets_wait : {old : Host} {changed : Bool} {told : List Event} {notes : List Note} {new : Host} →
+    SocketEgress old changed told notes new → grants_any told ≡ false →
     AllServed old changed told notes new
 sockets_wait (egress.Whole w) not_granted = all_of (walk w not_granted)
 sockets_wait (egress.Stopped n w) not_granted = all_of (walk w not_granted)
@@ -318,8 +340,10 @@ loses_nothing t answer old new told notes e not_granted =
     let e5 = p5.host ∙ ap (λ (m : Host). with_mld_report m (waiting_mld m)) e4 in
     record {
       answers = e.answers ∙ rw p6.unchanged refl;
-      silent = silence b0 p0.silent (silence b1 p1.silent (silence b2 p2.silent (silence b3 p3.silent (silence b4 p4.silent (silence b5 p5.silent p6.silent)))));
-      unnoted = no_notes b0 p0.unnoted (no_notes b1 p1.unnoted (no_notes b2 p2.unnoted (no_notes b3 p3.unnoted (no_notes b4 p4.unnoted (no_notes b5 p5.unnoted p6.unnoted)))));
+      silent = silence b0 p0.silent
+          (silence b1 p1.silent (silence b2 p2.silent (silence b3 p3.silent (silence b4 p4.silent (silence b5 p5.silent p6.silent)))));
+      unnoted = no_notes b0 p0.unnoted
+          (no_notes b1 p1.unnoted (no_notes b2 p2.unnoted (no_notes b3 p3.unnoted (no_notes b4 p4.unnoted (no_notes b5 p5.unnoted p6.unnoted)))));
       waits = record {
         groups = p3.groups;
         sockets = p6.sockets;

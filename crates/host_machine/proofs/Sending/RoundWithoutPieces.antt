@@ -13,7 +13,8 @@ use Rattle.host_machine.specs.Sending.Slaac.{NdiscRsEgress, NotDue as NotAsked, 
 use Rattle.host_machine.specs.Sending.Egress.{NoPiece, SocketEgress, Round}
 
 -- a part that has nothing to do, and then another
-idle : {one two : Part} {old new : Host} {told : List Event} {notes : List Note} → one old [] [] old → two old told notes new → Both one two old told notes new
+idle : {one two : Part} {old new : Host} {told : List Event} {notes : List Note} →
+    one old [] [] old → two old told notes new → Both one two old told notes new
 idle {old = old} {told = told} {notes = notes} first second = record {
   mid = old;
   told_one = [];
@@ -27,11 +28,17 @@ idle {old = old} {told = told} {notes = notes} first second = record {
 }
 
 -- a round behind the piece, of a host that asks no routers and has nothing to tell them of groups
-pub no_groups : {changed : Bool} {old new : Host} {told : List Event} {notes : List Note} → due_solicitation old ≡ None → first_in Joining old.groups ≡ None → first_in Leaving old.groups ≡ None →
-    has_passed (igmp_timeout_of old.igmp_report) old.moment ≡ false → has_passed (mld_timeout_of old.mld_report) old.moment ≡ false → SocketEgress old changed told notes new →
-    Both NdiscRsEgress (Both JoinsEgress (Both LeavesEgress (Both IgmpEgress (Both MldEgress (λ old told_it notes new. SocketEgress old changed told_it notes new))))) old told notes new
-no_groups r j v i m s = idle (NotAsked r refl refl refl) (idle (All Begins j) (idle (All Begins v) (idle (NotDue i refl refl refl) (idle (NotYet m refl refl refl) s))))
+pub no_groups : {changed : Bool} {old new : Host} {told : List Event} {notes : List Note} →
+    due_solicitation old ≡ None → first_in Joining old.groups ≡ None → first_in Leaving old.groups ≡ None →
+    has_passed (igmp_timeout_of old.igmp_report) old.moment ≡ false → has_passed (mld_timeout_of old.mld_report) old.moment ≡ false →
+    SocketEgress old changed told notes new →
+    Both NdiscRsEgress (Both JoinsEgress
+    (Both LeavesEgress (Both IgmpEgress (Both MldEgress (λ old told_it notes new. SocketEgress old changed told_it notes new))))) old told notes new
+no_groups r j v i m s =
+    idle (NotAsked r refl refl refl) (idle (All Begins j) (idle (All Begins v) (idle (NotDue i refl refl refl) (idle (NotYet m refl refl refl) s))))
 
-pub no_piece : {changed : Bool} {old new : Host} {told : List Event} {notes : List Note} → old.left ≡ [] → due_solicitation old ≡ None → first_in Joining old.groups ≡ None → first_in Leaving old.groups ≡ None →
-    has_passed (igmp_timeout_of old.igmp_report) old.moment ≡ false → has_passed (mld_timeout_of old.mld_report) old.moment ≡ false → SocketEgress old changed told notes new → Round changed old told notes new
+pub no_piece : {changed : Bool} {old new : Host} {told : List Event} {notes : List Note} →
+    old.left ≡ [] → due_solicitation old ≡ None → first_in Joining old.groups ≡ None → first_in Leaving old.groups ≡ None →
+    has_passed (igmp_timeout_of old.igmp_report) old.moment ≡ false → has_passed (mld_timeout_of old.mld_report) old.moment ≡ false →
+    SocketEgress old changed told notes new → Round changed old told notes new
 no_piece l r j v i m s = idle (NoPiece l refl refl refl) (no_groups r j v i m s)

@@ -49,7 +49,8 @@ use Rattle.host_machine.specs.State.Host.{Host, Socket, SocketSet, at, without_e
 use Rattle.host_machine.specs.Sending.Packet.{Packet, IpPayload, packet_with, payload_of}
 use Rattle.host_machine.specs.Sending.Packet as packet
 use Rattle.host_machine.specs.Sending.Frame.{piece_frame, sends}
-use Rattle.host_machine.specs.Sending.Dispatch.{Outcome, IsUnsent, Emits, Discovers, DispatchesByHop, DispatchesEthernet, SendsOver, Dispatches, with_next_id}
+use Rattle.host_machine.specs.Sending.Dispatch.{Outcome, IsUnsent, Emits, Discovers, DispatchesByHop}
+use Rattle.host_machine.specs.Sending.Dispatch.{DispatchesEthernet, SendsOver, Dispatches, with_next_id}
 use Rattle.host_machine.specs.Sending.Dispatch as dispatch
 use Rattle.host_machine.specs.Polling.Ingress.{Ingress}
 use Rattle.host_machine.specs.Sending.Multicast as multicast
@@ -57,8 +58,10 @@ use Rattle.host_machine.specs.Sending.Multicast.{without_neighbors, igmp_packet,
 use Rattle.host_machine.specs.Sending.Reports as reports
 use Rattle.host_machine.specs.Sending.Reports.{IgmpEgress, MldEgress, next_group, next_report}
 use Rattle.host_machine.specs.Sending.Slaac as slaac
-use Rattle.host_machine.specs.Sending.Slaac.{NdiscRsEgress, with_slaac_applied, due_solicitation, router_solicitation, solicitation_by, solicitation_from}
-use Rattle.host_machine.specs.Sending.Egress.{SocketTurn, Serves, Walks, SocketEgress, Ipv4Egress, Round, Egress, packet_between, packet_of, packet_from, echo_payload}
+use Rattle.host_machine.specs.Sending.Slaac.{NdiscRsEgress, with_slaac_applied, due_solicitation}
+use Rattle.host_machine.specs.Sending.Slaac.{router_solicitation, solicitation_by, solicitation_from}
+use Rattle.host_machine.specs.Sending.Egress.{SocketTurn, Serves, Walks, SocketEgress, Ipv4Egress, Round}
+use Rattle.host_machine.specs.Sending.Egress.{Egress, packet_between, packet_of, packet_from, echo_payload}
 use Rattle.host_machine.specs.Sending.Egress as egress
 use Rattle.host_machine.specs.Sending.Parts.{Part}
 use Rattle.host_machine.specs.Polling.Polling.{after_maintenance}
@@ -81,20 +84,27 @@ pub data MaySend (H : Host) (p : Packet) : Type 0 where
   Offers : (i : ℕ) (s : Socket) → slice_get H.sockets.places i ≡ Some (Some s) → packet_from H s ≡ Some p → MaySend H p
 
 -- a packet between two addresses carries what it is to
-pub between_is : (a b : IpAddress) (hop_limit : ℕ) (payload : IpPayload) (p : Packet) → packet_between a b hop_limit payload ≡ Some p → payload_of p ≡ payload
-between_is (address.Ipv4 a) (address.Ipv4 b) hop_limit payload p e = let same : packet.Ipv4 (record { src_addr = a; dst_addr = b; hop_limit = hop_limit; payload = payload }) ≡ p = cc in rw (← same) refl
+pub between_is : (a b : IpAddress) (hop_limit : ℕ) (payload : IpPayload) (p : Packet) →
+    packet_between a b hop_limit payload ≡ Some p → payload_of p ≡ payload
+between_is (address.Ipv4 a) (address.Ipv4 b) hop_limit payload p e =
+    let same : packet.Ipv4 (record { src_addr = a; dst_addr = b; hop_limit = hop_limit; payload = payload }) ≡ p = cc in rw (← same) refl
 between_is (address.Ipv4 a) (address.Ipv6 b) hop_limit payload p e = absurd cc
 between_is (address.Ipv6 a) (address.Ipv4 b) hop_limit payload p e = absurd cc
-between_is (address.Ipv6 a) (address.Ipv6 b) hop_limit payload p e = let same : packet.Ipv6 (record { src_addr = a; dst_addr = b; hop_limit = hop_limit; payload = payload }) ≡ p = cc in rw (← same) refl
+between_is (address.Ipv6 a) (address.Ipv6 b) hop_limit payload p e =
+    let same : packet.Ipv6 (record { src_addr = a; dst_addr = b; hop_limit = hop_limit; payload = payload }) ≡ p = cc in rw (← same) refl
 
 -- what ICMP and TCP sockets offer is of the host's own
 echo_is : (m : IcmpRepr) (octets : List ℕ) (payload : IpPayload) → echo_payload m octets ≡ Some payload → is_own payload ≡ true
-echo_is (icmp.Ipv4 (v4.EchoRequest ident seq_no)) octets payload e = let same : packet.Icmpv4 (v4.EchoRequest ident seq_no) octets ≡ payload = cc in rw (← same) refl
-echo_is (icmp.Ipv4 (v4.EchoReply ident seq_no)) octets payload e = let same : packet.Icmpv4 (v4.EchoReply ident seq_no) octets ≡ payload = cc in rw (← same) refl
+echo_is (icmp.Ipv4 (v4.EchoRequest ident seq_no)) octets payload e = let same : packet.Icmpv4 (v4.EchoRequest ident seq_no) octets ≡ payload = cc in
+    rw (← same) refl
+echo_is (icmp.Ipv4 (v4.EchoReply ident seq_no)) octets payload e = let same : packet.Icmpv4 (v4.EchoReply ident seq_no) octets ≡ payload = cc in
+    rw (← same) refl
 echo_is (icmp.Ipv4 (v4.DstUnreachable reason header)) octets payload e = absurd cc
 echo_is (icmp.Ipv4 (v4.TimeExceeded code header)) octets payload e = absurd cc
-echo_is (icmp.Ipv6 (v6.EchoRequest ident seq_no)) octets payload e = let same : packet.Icmpv6 (v6.EchoRequest ident seq_no) octets ≡ payload = cc in rw (← same) refl
-echo_is (icmp.Ipv6 (v6.EchoReply ident seq_no)) octets payload e = let same : packet.Icmpv6 (v6.EchoReply ident seq_no) octets ≡ payload = cc in rw (← same) refl
+echo_is (icmp.Ipv6 (v6.EchoRequest ident seq_no)) octets payload e = let same : packet.Icmpv6 (v6.EchoRequest ident seq_no) octets ≡ payload = cc in
+    rw (← same) refl
+echo_is (icmp.Ipv6 (v6.EchoReply ident seq_no)) octets payload e = let same : packet.Icmpv6 (v6.EchoReply ident seq_no) octets ≡ payload = cc in
+    rw (← same) refl
 echo_is (icmp.Ipv6 (v6.DstUnreachable reason header)) octets payload e = absurd cc
 echo_is (icmp.Ipv6 (v6.PktTooBig mtu header)) octets payload e = absurd cc
 echo_is (icmp.Ipv6 (v6.TimeExceeded code header)) octets payload e = absurd cc
@@ -133,18 +143,21 @@ raw_is (repr.Ipv6 h) octets = refl
 
 spoken_is : (s : RawSocket) (x : Sent) (p : Packet) → option_and_then packet_of (option_map RawOffer (if_spoken s x)) ≡ Some p → IsRaw s p
 spoken_is s x p e = by (number_of s.protocol == number_of (next_header x.header)) refl e where
-  by : (b : Bool) → (number_of s.protocol == number_of (next_header x.header)) ≡ b → option_and_then packet_of (option_map RawOffer (cond b (Some x) None)) ≡ Some p → IsRaw s p
+  by : (b : Bool) → (number_of s.protocol == number_of (next_header x.header)) ≡ b →
+      option_and_then packet_of (option_map RawOffer (cond b (Some x) None)) ≡ Some p → IsRaw s p
   by true test q =
       let same : packet_with x.header (packet.Raw (next_header x.header) x.payload) ≡ p = cc in
       let number : number_of s.protocol ≡ number_of (next_header x.header) = grind (arith, nat_tests) in
       record { protocol = next_header x.header; octets = x.payload; is = ap payload_of (sym same) ∙ raw_is x.header x.payload; same = sym number }
   by false test q = absurd cc
 
-parsed_is : (s : RawSocket) (o : Option Sent) (p : Packet) → option_and_then packet_of (option_map RawOffer (option_and_then (if_spoken s) o)) ≡ Some p → IsRaw s p
+parsed_is : (s : RawSocket) (o : Option Sent) (p : Packet) →
+    option_and_then packet_of (option_map RawOffer (option_and_then (if_spoken s) o)) ≡ Some p → IsRaw s p
 parsed_is s None p e = absurd cc
 parsed_is s (Some x) p e = spoken_is s x p e
 
-pub first_is : (s : RawSocket) (o : Option (Unit {0} × List ℕ)) (p : Packet) → option_and_then packet_of (option_map RawOffer (option_and_then (λ q. raw.packet_to_send s q.1) o)) ≡ Some p → IsRaw s p
+pub first_is : (s : RawSocket) (o : Option (Unit {0} × List ℕ)) (p : Packet) →
+    option_and_then packet_of (option_map RawOffer (option_and_then (λ q. raw.packet_to_send s q.1) o)) ≡ Some p → IsRaw s p
 first_is s None p e = absurd cc
 first_is s (Some q) p e = parsed_is s (packet_in s.version q.1) p e
 
@@ -162,9 +175,12 @@ sent_is H p none (Offers i s there offers) = offered_is H s p offers (get_speaks
 -- messages to routers are of the host's own
 igmp_is : (own : List IpCidr) (dst : Ipv4Address) (m : IgmpRepr) (p : Packet) → igmp_packet own dst m ≡ Some p → is_own (payload_of p) ≡ true
 igmp_is own dst m p e = by (ipv4_addr own) e where
-  by : (o : Option Ipv4Address) → option_map (λ src. packet.Ipv4 (record { src_addr = src; dst_addr = dst; hop_limit = 1; payload = packet.Igmp m })) o ≡ Some p → is_own (payload_of p) ≡ true
+  by : (o : Option Ipv4Address) →
+      option_map (λ src. packet.Ipv4 (record { src_addr = src; dst_addr = dst; hop_limit = 1; payload = packet.Igmp m })) o ≡ Some p →
+      is_own (payload_of p) ≡ true
   by None q = absurd cc
-  by (Some src) q = let same : packet.Ipv4 (record { src_addr = src; dst_addr = dst; hop_limit = 1; payload = packet.Igmp m }) ≡ p = cc in rw (← same) refl
+  by (Some src) q = let same : packet.Ipv4 (record { src_addr = src; dst_addr = dst; hop_limit = 1; payload = packet.Igmp m }) ≡ p = cc in
+      rw (← same) refl
 
 mld_is : (p q : Packet) → is_own (payload_of p) ≡ true → Some p ≡ Some q → is_own (payload_of q) ≡ true
 mld_is p q none e = let same : p ≡ q = cc in rw (← same) none
@@ -179,13 +195,15 @@ leave_is own (address.Ipv6 a) p e = mld_is _ p refl e
 
 pub report_is : (H : Host) (p : Packet) → next_report H ≡ Some p → is_own (payload_of p) ≡ true
 report_is H p e = by (next_group H H.igmp_report) e where
-  by : (o : Option (IgmpVersion × Ipv4Address)) → option_and_then (λ n. multicast.igmp_report H.ip_addrs n.0 n.1) o ≡ Some p → is_own (payload_of p) ≡ true
+  by : (o : Option (IgmpVersion × Ipv4Address)) →
+      option_and_then (λ n. multicast.igmp_report H.ip_addrs n.0 n.1) o ≡ Some p → is_own (payload_of p) ≡ true
   by None q = absurd cc
   by (Some n) q = igmp_is H.ip_addrs n.1 _ p q
 
 pub solicitation_is : (H : Host) (p : Packet) → due_solicitation H ≡ Some p → is_own (payload_of p) ≡ true
 solicitation_is H p e = due (rs_required H.slaac H.moment) e where
-  from : (own : EthernetAddress) (o : Option Ipv6Address) → option_and_then (λ source. Some (solicitation_from own source)) o ≡ Some p → is_own (payload_of p) ≡ true
+  from : (own : EthernetAddress) (o : Option Ipv6Address) →
+      option_and_then (λ source. Some (solicitation_from own source)) o ≡ Some p → is_own (payload_of p) ≡ true
   from own None q = absurd cc
   from own (Some source) q = mld_is (solicitation_from own source) p refl q
 
@@ -217,7 +235,8 @@ discovered_sockets (dispatch.Asked target source h s o f n e) = ap (λ (K : Host
 discovered_sockets (dispatch.NoSource target h s o u) = unsent_sockets u
 discovered_sockets (dispatch.Solicited target h o f n e) = ap (λ (K : Host). K.sockets) e
 
-by_hop_sockets : {id : ℕ} {own : EthernetAddress} {p : Packet} {hop : IpAddress} {outcome : Outcome} {H new : Host} {frames : List (List ℕ)} {notes : List Note} →
+by_hop_sockets : {id : ℕ} {own : EthernetAddress} {p : Packet} {hop : IpAddress} {outcome : Outcome} {H new : Host}
+    {frames : List (List ℕ)} {notes : List Note} →
     DispatchesByHop id own p hop outcome H frames notes new → new.sockets ≡ H.sockets
 by_hop_sockets (dispatch.Known h k e) = emitted_sockets e
 by_hop_sockets (dispatch.Silent s o u) = unsent_sockets u
@@ -237,21 +256,26 @@ over_sockets id hardware.Ip p outcome H frames notes new s = emitted_sockets s
 pub dispatched_sockets : {p : Packet} {outcome : Outcome} {H new : Host} {frames : List (List ℕ)} {notes : List Note} →
     Dispatches p outcome H frames notes new → new.sockets ≡ H.sockets
 dispatched_sockets (dispatch.ToUnspecified n o u) = unsent_sockets u
-dispatched_sockets {p} {outcome} {H} {new} {frames} {notes} (dispatch.ToSpecified more s d n) = over_sockets H.ipv4_id H.hardware_addr p outcome (with_next_id H) frames more new d
+dispatched_sockets {p} {outcome} {H} {new} {frames} {notes} (dispatch.ToSpecified more s d n) =
+    over_sockets H.ipv4_id H.hardware_addr p outcome (with_next_id H) frames more new d
 
 -- and a turn leaves what its socket speaks
-pub turn_sockets : {s s' : Socket} {turn : Turn} {H new : Host} {told_it : List Event} {notes : List Note} → SocketTurn s turn s' H told_it notes new → new.sockets ≡ H.sockets
+pub turn_sockets : {s s' : Socket} {turn : Turn} {H new : Host} {told_it : List Event} {notes : List Note} →
+    SocketTurn s turn s' H told_it notes new → new.sockets ≡ H.sockets
 turn_sockets (egress.Silent p t o n e r) = ap (λ (K : Host). K.sockets) e
 turn_sockets (egress.Refused p q t o n e r) = ap (λ (K : Host). K.sockets) e
 turn_sockets (egress.Sent p outcome frames q d t o r) = dispatched_sockets d
 
-turn_speaks : (spoken : ℕ → Bool) {s s' : Socket} {turn : Turn} {H new : Host} {told_it : List Event} {notes : List Note} → SocketTurn s turn s' H told_it notes new →
+turn_speaks : (spoken : ℕ → Bool) {s s' : Socket} {turn : Turn} {H new : Host} {told_it : List Event} {notes : List Note} →
+    SocketTurn s turn s' H told_it notes new →
     speaks spoken (Some s') ≡ speaks spoken (Some s)
 turn_speaks spoken {s} {s'} {turn} {H} (egress.Silent p t o n e r) = rw r (asked_speaks spoken H.moment (source_for H.ip_addrs) s)
 turn_speaks spoken {s} {s'} {turn} {H} (egress.Refused p q t o n e r) = rw r (asked_speaks spoken H.moment (source_for H.ip_addrs) s)
-turn_speaks spoken {s} {s'} {turn} {H} (egress.Sent p outcome frames q d t o r) = rw (r, told_speaks spoken) (asked_speaks spoken H.moment (source_for H.ip_addrs) s)
+turn_speaks spoken {s} {s'} {turn} {H} (egress.Sent p outcome frames q d t o r) =
+    rw (r, told_speaks spoken) (asked_speaks spoken H.moment (source_for H.ip_addrs) s)
 
-pub served_speaks : (spoken : ℕ → Bool) (i : ℕ) {s s' : Socket} {turn : Turn} {H mid : Host} {told_it : List Event} {notes : List Note} → slice_get H.sockets.places i ≡ Some (Some s) →
+pub served_speaks : (spoken : ℕ → Bool) (i : ℕ) {s s' : Socket} {turn : Turn} {H mid : Host} {told_it : List Event} {notes : List Note} →
+    slice_get H.sockets.places i ≡ Some (Some s) →
     SocketTurn s turn s' H told_it notes mid → NoSpeaker spoken mid.sockets.places → NoSpeaker spoken (slice_set mid.sockets.places i (Some s'))
 served_speaks spoken i {s} {s'} {turn} {H} {mid} there t none =
     let at_mid : slice_get mid.sockets.places i ≡ Some (Some s) = rw (turn_sockets t) there in
@@ -263,10 +287,13 @@ module _ (Law : Part)
     (keeps : (old new : Host) → Keeps old new → (NoSocketSpeaks old → NoSocketSpeaks new) → Law old [] [] new)
     (on : (a b c : Host) (ts us : List Event) (xs ys : List Note) → Law a ts xs b → Law b us ys c → Law a (ts ++ us) (xs ++ ys) c)
     (refused : (H : Host) → Law H (Asked H.moment false ∷ []) [] H)
-    (dispatches : (p : Packet) (outcome : Outcome) (H new : Host) (frames : List (List ℕ)) (notes : List Note) → MaySend H p → Dispatches p outcome H frames notes new →
+    (dispatches : (p : Packet) (outcome : Outcome) (H new : Host) (frames : List (List ℕ)) (notes : List Note) →
+    MaySend H p → Dispatches p outcome H frames notes new →
     Law H (Asked H.moment true ∷ sends frames) notes new)
-    (pieces : (H : Host) (p : Piece) (rest : List Piece) → H.left ≡ p ∷ rest → Law H (Asked H.moment true ∷ sends (piece_frame H p ∷ [])) (OfCuts (PieceSent p) ∷ []) (with_left H rest)) where
-  keeping : {old new : Host} {told : List Event} {notes : List Note} → told ≡ [] → notes ≡ [] → Keeps old new → (NoSocketSpeaks old → NoSocketSpeaks new) → Law old told notes new
+    (pieces : (H : Host) (p : Piece) (rest : List Piece) →
+    H.left ≡ p ∷ rest → Law H (Asked H.moment true ∷ sends (piece_frame H p ∷ [])) (OfCuts (PieceSent p) ∷ []) (with_left H rest)) where
+  keeping : {old new : Host} {told : List Event} {notes : List Note} →
+      told ≡ [] → notes ≡ [] → Keeps old new → (NoSocketSpeaks old → NoSocketSpeaks new) → Law old told notes new
   keeping {old} {new} t n k s = rw (t, n) (keeps old new k s)
 
   still : {H new : Host} {told : List Event} {notes : List Note} → told ≡ [] → notes ≡ [] → new ≡ H → Law H told notes new
@@ -275,30 +302,39 @@ module _ (Law : Part)
   not_given : {H new : Host} {told : List Event} {notes : List Note} → told ≡ Asked H.moment false ∷ [] → notes ≡ [] → new ≡ H → Law H told notes new
   not_given {H} t n e = rw (t, n, e) (refused H)
 
-  before : {old mid new : Host} {told : List Event} {notes : List Note} → Law old told notes mid → Keeps mid new → (NoSocketSpeaks mid → NoSocketSpeaks new) → Law old told notes new
+  before : {old mid new : Host} {told : List Event} {notes : List Note} →
+      Law old told notes mid → Keeps mid new → (NoSocketSpeaks mid → NoSocketSpeaks new) → Law old told notes new
   before {old} {mid} {new} {told} {notes} law k s =
-      subst (λ ns. Law old told ns new) (append-nil notes) (subst (λ ts. Law old ts (notes ++ []) new) (append-nil told) (on old mid new told [] notes [] law (keeps mid new k s)))
+      subst (λ ns. Law old told ns new) (append-nil notes)
+      (subst (λ ts. Law old ts (notes ++ []) new) (append-nil told) (on old mid new told [] notes [] law (keeps mid new k s)))
 
   pub begins : (H : Host) → Law H [] [] H
   begins H = still refl refl refl
 
-  had_turn : (i : ℕ) {s s' : Socket} {turn : Turn} {H new : Host} {told : List Event} {notes : List Note} → slice_get H.sockets.places i ≡ Some (Some s) → SocketTurn s turn s' H told notes new →
+  had_turn : (i : ℕ) {s s' : Socket} {turn : Turn} {H new : Host} {told : List Event} {notes : List Note} →
+      slice_get H.sockets.places i ≡ Some (Some s) → SocketTurn s turn s' H told notes new →
       Law H told notes new
   had_turn i there (egress.Silent p t o n e r) = still o n e
   had_turn i there (egress.Refused p q t o n e r) = not_given o n e
-  had_turn i {s} {s'} {turn} {H} {new} {told} {notes} there (egress.Sent p outcome frames q d t o r) = rw o (dispatches p outcome H new frames notes (Offers i s there q) d)
+  had_turn i {s} {s'} {turn} {H} {new} {told} {notes} there (egress.Sent p outcome frames q d t o r) =
+      rw o (dispatches p outcome H new frames notes (Offers i s there q) d)
 
   served : {i : ℕ} {turn : Turn} {H new : Host} {told : List Event} {notes : List Note} → Serves i turn H told notes new → Law H told notes new
   served (egress.Free s t o n e) = still o n e
   served (egress.Waits s known h k p t o n e) = still o n e
-  served {i} (egress.Served s s' known mid h k p t e) = before (had_turn i h t) (kept_by e (unread refl refl)) (λ none. rw e (served_speaks icmpv6 i h t none))
+  served {i} (egress.Served s s' known mid h k p t e) =
+      before (had_turn i h t) (kept_by e (unread refl refl)) (λ none. rw e (served_speaks icmpv6 i h t none))
 
-  walked : {old new : Host} {n : ℕ} {granted changed : Bool} {told : List Event} {notes : List Note} → Walks old n granted changed told notes new → Law old told notes new
+  walked : {old new : Host} {n : ℕ} {granted changed : Bool} {told : List Event} {notes : List Note} →
+      Walks old n granted changed told notes new → Law old told notes new
   walked egress.Begins = still refl refl refl
-  walked {old} {new} (egress.Goes {told_so = told_so} {notes_so = so} {mid = mid} turn told notes _ w s t) = on old mid new told_so told so notes (walked w) (served s)
-  walked {old} {new} (egress.Stops {told_so = told_so} {notes_so = so} {mid = mid} turn told notes _ w s t) = on old mid new told_so told so notes (walked w) (served s)
+  walked {old} {new} (egress.Goes {told_so = told_so} {notes_so = so} {mid = mid} turn told notes _ w s t) =
+      on old mid new told_so told so notes (walked w) (served s)
+  walked {old} {new} (egress.Stops {told_so = told_so} {notes_so = so} {mid = mid} turn told notes _ w s t) =
+      on old mid new told_so told so notes (walked w) (served s)
 
-  sockets_sent : {old new : Host} {changed : Bool} {told : List Event} {notes : List Note} → SocketEgress old changed told notes new → Law old told notes new
+  sockets_sent : {old new : Host} {changed : Bool} {told : List Event} {notes : List Note} →
+      SocketEgress old changed told notes new → Law old told notes new
   sockets_sent (egress.Whole w) = walked w
   sockets_sent (egress.Stopped n w) = walked w
 
@@ -308,18 +344,23 @@ module _ (Law : Part)
   piece_sent {H} {new} {told} {notes} (egress.PieceGoes piece rest l t n e) = rw (t, n, e) (pieces H piece rest l)
 
   -- groups that are told of
-  module _ {packet_for : List IpCidr → IpAddress → Option Packet} (plain : (own : List IpCidr) (a : IpAddress) (p : Packet) → packet_for own a ≡ Some p → is_own (payload_of p) ≡ true) where
-    groups_reported : {state : GroupState} {after_report : List Group → IpAddress → List Group} {old new : Host} {granted : Bool} {told : List Event} {notes : List Note} →
+  module _ {packet_for : List IpCidr → IpAddress → Option Packet}
+      (plain : (own : List IpCidr) (a : IpAddress) (p : Packet) → packet_for own a ≡ Some p → is_own (payload_of p) ≡ true) where
+    groups_reported : {state : GroupState} {after_report : List Group → IpAddress → List Group} {old new : Host}
+        {granted : Bool} {told : List Event} {notes : List Note} →
         multicast.ReportsEach state packet_for after_report old granted told notes new → Law old told notes new
     groups_reported multicast.Begins = still refl refl refl
     groups_reported (multicast.Silently a w f p) = before (groups_reported w) (unread refl refl) (λ none. none)
     groups_reported {old = old} (multicast.Refused {told = told} {notes = notes} {mid = mid} a p w f q) =
-        subst (λ ns. Law old (told ++ Asked mid.moment false ∷ []) ns mid) (append-nil notes) (on old mid mid told (Asked mid.moment false ∷ []) notes [] (groups_reported w) (refused mid))
-    groups_reported {after_report = after_report} {old = old} (multicast.Reported {told = told} {notes = notes} {mid = mid} a p outcome frames more new w f q d) =
+        subst (λ ns. Law old (told ++ Asked mid.moment false ∷ []) ns mid) (append-nil notes)
+        (on old mid mid told (Asked mid.moment false ∷ []) notes [] (groups_reported w) (refused mid))
+    groups_reported {after_report = after_report} {old = old}
+        (multicast.Reported {told = told} {notes = notes} {mid = mid} a p outcome frames more new w f q d) =
         on old mid (with_groups new (after_report new.groups a)) told (Asked mid.moment true ∷ sends frames) notes more (groups_reported w)
         (before (dispatches p outcome mid new frames more (OfItsOwn (plain mid.ip_addrs a p q)) d) (unread refl refl) (λ none. none))
 
-    all_reported : {state : GroupState} {after_report : List Group → IpAddress → List Group} {old new : Host} {told : List Event} {notes : List Note} →
+    all_reported : {state : GroupState} {after_report : List Group → IpAddress → List Group}
+        {old new : Host} {told : List Event} {notes : List Note} →
         multicast.ReportsAll state packet_for after_report old told notes new → Law old told notes new
     all_reported (multicast.All w n) = groups_reported w
     all_reported (multicast.UpToRefusal w) = groups_reported w
@@ -353,12 +394,15 @@ module _ (Law : Part)
       (both Law begins on (λ o n t ns p. igmp_sent p)
       (both Law begins on (λ o n t ns p. mld_sent p) (λ o n t ns p. sockets_sent p)))))) old new told notes r
 
-  egressed : {t : ℤ} {answer : PollResult} {old new : Host} {told : List Event} {notes : List Note} → Egress t answer old told notes new → Law old told notes new
-  egressed {t} {answer} {old} {new} {told} {notes} e = on old (at old t) new [] told [] notes (keeps old (at old t) (unread refl refl) (λ none. none)) (round e.round)
+  egressed : {t : ℤ} {answer : PollResult} {old new : Host} {told : List Event} {notes : List Note} →
+      Egress t answer old told notes new → Law old told notes new
+  egressed {t} {answer} {old} {new} {told} {notes} e =
+      on old (at old t) new [] told [] notes (keeps old (at old t) (unread refl refl) (λ none. none)) (round e.round)
 
   -- of whole steps: where a frame is taken; where slots that have ended are dropped; where the host gets other addresses, and forgets its
   -- neighbours; where it gets another hardware address; and where it gets another timeout
-  module _ (ingress : (t : ℤ) (answer : PollIngressSingleResult) (old new : Host) (told : List Event) (notes : List Note) → Ingress t answer old told notes new → Law old told notes new)
+  module _ (ingress : (t : ℤ) (answer : PollIngressSingleResult) (old new : Host) (told : List Event) (notes : List Note) →
+      Ingress t answer old told notes new → Law old told notes new)
       (sweeps : (H : Host) (t : ℤ) → Law H [] [] (without_expired H t))
       (moves : (H : Host) (list : List IpCidr) → Law H [] [] (record H { ip_addrs = list; neighbors = without_neighbors H.neighbors }))
       (sets : (H : Host) (h : HardwareAddress) → IsOf H.capabilities.medium h → Law H [] [] (record H { hardware_addr = h }))
@@ -368,20 +412,25 @@ module _ (Law : Part)
     syncs H false = begins H
 
     maintains : (H : Host) (t : ℤ) → Law H [] [] (after_maintenance (at H t))
-    maintains H t = on H (without_expired H t) (after_maintenance (at H t)) [] [] [] [] (sweeps H t) (syncs (without_expired H t) (sync_required H.slaac t))
+    maintains H t =
+        on H (without_expired H t) (after_maintenance (at H t)) [] [] [] [] (sweeps H t) (syncs (without_expired H t) (sync_required H.slaac t))
 
     same : {old new : Host} → Keeps old new → (NoSocketSpeaks old → NoSocketSpeaks new) → Law old [] [] new
     same {old} {new} k s = keeps old new k s
 
     -- what the owner of the sockets does is told apart: who speaks may change
-    module _ (StepLaw : Part) (weaker : (old new : Host) (told : List Event) (notes : List Note) → Law old told notes new → StepLaw old told notes new)
+    module _ (StepLaw : Part)
+        (weaker : (old new : Host) (told : List Event) (notes : List Note) → Law old told notes new → StepLaw old told notes new)
         (acts : (H : Host) (sockets : SocketSet) → StepLaw H [] [] (record H { sockets = sockets })) where
-      pub stepped : {command : Command} {answer : Answer} {old new : Host} {told : List Event} {acts : List step.Act} {notes : List Note} → Step command answer old told acts notes new → StepLaw old told notes new
-      stepped {old = old} (step.UpdatedIpAddrs {list = list} (Accepted a r e)) = rw e (weaker _ _ _ _ (before (moves old list.items) (unread refl refl) (λ none. none)))
+      pub stepped : {command : Command} {answer : Answer} {old new : Host} {told : List Event} {acts : List step.Act} {notes : List Note} →
+          Step command answer old told acts notes new → StepLaw old told notes new
+      stepped {old = old} (step.UpdatedIpAddrs {list = list} (Accepted a r e)) =
+          rw e (weaker _ _ _ _ (before (moves old list.items) (unread refl refl) (λ none. none)))
       stepped (step.UpdatedIpAddrs (Refused a r e)) = weaker _ _ _ _ (still refl refl e)
       stepped (step.PolledIngressSingle i) = weaker _ _ _ _ (ingress _ _ _ _ _ _ i)
       stepped (step.PolledEgress e) = weaker _ _ _ _ (egressed e)
-      stepped (step.Polled {t} p) = weaker _ _ _ _ (polled Law begins on t (λ H. maintains H t) (λ answer old new told notes i. ingress t answer old new told notes i) (λ answer old new told notes e. egressed e) p)
+      stepped (step.Polled {t} p) = weaker _ _ _ _ (polled Law begins on t (λ H. maintains H t)
+          (λ answer old new told notes i. ingress t answer old new told notes i) (λ answer old new told notes e. egressed e) p)
       stepped (step.PolledMaintenance {t} {old}) = weaker _ _ _ _ (maintains old t)
       stepped (step.JoinedGroup j) = let g = join_groups j in rw g.1 (weaker _ _ _ _ (same (unread refl refl) (λ none. none)))
       stepped (step.LeftGroup j) = let g = leave_groups j in rw g.1 (weaker _ _ _ _ (same (unread refl refl) (λ none. none)))

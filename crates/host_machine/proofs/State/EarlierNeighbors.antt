@@ -43,7 +43,8 @@ found_by n silent t0 t true later is found =
     rw (← int_cmp_is t0 n.expires_at Less before) refl
 found_by n silent t0 t false later is found = absurd (not_missing (is_before t silent) found)
 
-found_before : (e : Option Neighbor) (silent t0 t : ℤ) → t0 ≤ℤ t → is_found (answer_from e silent t) ≡ true → is_found (answer_from e silent t0) ≡ true
+found_before : (e : Option Neighbor) (silent t0 t : ℤ) →
+    t0 ≤ℤ t → is_found (answer_from e silent t) ≡ true → is_found (answer_from e silent t0) ≡ true
 found_before None silent t0 t later found = absurd (not_missing (is_before t silent) found)
 found_before (Some n) silent t0 t later found = found_by n silent t0 t (is_before t n.expires_at) later refl found
 
@@ -78,7 +79,8 @@ module _ (rs : List Route) (a : IpAddress) (t0 t : ℤ) (later : t0 ≤ℤ t) (l
   router_before : (router : Option IpAddress) → IsRouter rs a t router → IsRouter rs a t0 router
   router_before router (best, is, e) = (best, best_before best is, e)
 
-hop_is_before : {H : Host} {a : IpAddress} {hop : Option IpAddress} (t0 : ℤ) → t0 ≤ℤ H.moment → RoutesLast H.routes t0 H.moment → IsNextHop H a hop → IsNextHop (at H t0) a hop
+hop_is_before : {H : Host} {a : IpAddress} {hop : Option IpAddress} (t0 : ℤ) →
+    t0 ≤ℤ H.moment → RoutesLast H.routes t0 H.moment → IsNextHop H a hop → IsNextHop (at H t0) a hop
 hop_is_before t0 later last (OnLink own e) = OnLink own e
 hop_is_before {H} {a} t0 later last (ByRouter router other r e) = ByRouter router other (router_before H.routes a t0 H.moment later last router r) e
 
@@ -88,7 +90,8 @@ pub record Knew (H : Host) (t0 : ℤ) (wait : Wait) (known : Bool) : Type 0 wher
   pub told : IsAnswerFor (HasNeighbor (at H t0)) wait was
   pub stays : known ≡ true → was ≡ true
 
-hop_knew : {H : Host} {known : Bool} (a : IpAddress) (end t0 : ℤ) → t0 ≤ℤ H.moment → RoutesLast H.routes t0 H.moment → HasNeighbor H a known → Knew H t0 (Some (a, end)) known
+hop_knew : {H : Host} {known : Bool} (a : IpAddress) (end t0 : ℤ) →
+    t0 ≤ℤ H.moment → RoutesLast H.routes t0 H.moment → HasNeighbor H a known → Knew H t0 (Some (a, end)) known
 hop_knew {H} {known} a end t0 later last (OfNoHost none e) = record { was = known; told = OfNoHost none e; stays = λ k. k }
 hop_knew {H} a end t0 later last (OfHost hop one n e) = record {
   was = is_known_hop (at H t0) hop;
@@ -96,6 +99,7 @@ hop_knew {H} a end t0 later last (OfHost hop one n e) = record {
   stays = λ k. hop_before H t0 hop later (sym e ∙ k);
 }
 
-pub knew : (H : Host) (t0 : ℤ) (wait : Wait) (known : Bool) → t0 ≤ℤ H.moment → RoutesLast H.routes t0 H.moment → IsAnswerFor (HasNeighbor H) wait known → Knew H t0 wait known
+pub knew : (H : Host) (t0 : ℤ) (wait : Wait) (known : Bool) →
+    t0 ≤ℤ H.moment → RoutesLast H.routes t0 H.moment → IsAnswerFor (HasNeighbor H) wait known → Knew H t0 wait known
 knew H t0 None known later last told = record { was = known; told = tt; stays = λ k. k }
 knew H t0 (Some w) known later last told = hop_knew w.0 w.1 t0 later last told

@@ -28,8 +28,10 @@ key_from p = record { identification = p.0; src_addr = record { bits = p.1.0 }; 
 pub key_exact : IsAntisymmetric key_cmp
 unfolding parts key_from
 key_exact a b h =
-    ap key_from (exact_pairs nat_cmp (λ x y. ordering_then (nat_cmp x.0 y.0) (ordering_then (nat_cmp x.1.0 y.1.0) (nat_cmp x.1.1 y.1.1))) exact_unsigned
-    (exact_pairs nat_cmp (λ x y. ordering_then (nat_cmp x.0 y.0) (nat_cmp x.1 y.1)) exact_unsigned (exact_pairs nat_cmp nat_cmp exact_unsigned exact_unsigned)) (parts a) (parts b) h)
+    ap key_from
+    (exact_pairs nat_cmp (λ x y. ordering_then (nat_cmp x.0 y.0) (ordering_then (nat_cmp x.1.0 y.1.0) (nat_cmp x.1.1 y.1.1))) exact_unsigned
+    (exact_pairs nat_cmp (λ x y. ordering_then (nat_cmp x.0 y.0) (nat_cmp x.1 y.1)) exact_unsigned
+    (exact_pairs nat_cmp nat_cmp exact_unsigned exact_unsigned)) (parts a) (parts b) h)
 
 is_equal : (o : Ordering) → is_eq o ≡ true → o ≡ Equal
 is_equal Less e = absurd cc
@@ -39,5 +41,7 @@ is_equal Greater e = absurd cc
 pub same_is : (a b : FragKey) → same_key a b ≡ true → a ≡ b
 same_is a b e = key_exact a b (is_equal (key_cmp a b) e)
 
-pub get-live_at : (t : ℤ) (slots : Slots) (k : FragKey) → map.get (live_at t slots) k ≡ (if not (has_ended t (map.get slots k)) then map.get slots k else None)
-get-live_at t slots k = get-retain_keys slots (λ x. not (has_ended t (map.get slots x))) k (λ x e. ap (λ y. not (has_ended t (map.get slots y))) (sym (key_exact k x e)))
+pub get-live_at : (t : ℤ) (slots : Slots) (k : FragKey) →
+    map.get (live_at t slots) k ≡ (if not (has_ended t (map.get slots k)) then map.get slots k else None)
+get-live_at t slots k =
+    get-retain_keys slots (λ x. not (has_ended t (map.get slots x))) k (λ x e. ap (λ y. not (has_ended t (map.get slots y))) (sym (key_exact k x e)))

@@ -25,7 +25,8 @@ use Rattle.ip_address.specs.declared.hardware.HardwareAddress.TheVariants as har
 abbrev Have : Medium → FinMap address_cmp Neighbor → Type 0
 Have kind m = (a : IpAddress) (e : Neighbor) → map.get m a ≡ Some e → IsOf kind e.hardware_addr
 
-inserted : (kind : Medium) (m : FinMap address_cmp Neighbor) (a : IpAddress) (n : Neighbor) → IsOf kind n.hardware_addr → Have kind m → Have kind (map.insert m a n)
+inserted : (kind : Medium) (m : FinMap address_cmp Neighbor) (a : IpAddress) (n : Neighbor) →
+    IsOf kind n.hardware_addr → Have kind m → Have kind (map.insert m a n)
 inserted kind m a n of all b e is = by (eq_by_cmp address_cmp b a) (sym (get-insert address_total m a n b) ∙ is) where
   by : (t : Bool) → cond t (Some n) (map.get m b) ≡ Some e → IsOf kind e.hardware_addr
   by true h = let same : n ≡ e = cc in subst (λ (x : Neighbor). IsOf kind x.hardware_addr) same of
@@ -37,19 +38,22 @@ removed kind m a all b e is = by (eq_by_cmp address_cmp b a) (sym (get-remove ad
   by true h = absurd cc
   by false h = all b e h
 
-put : (kind : Medium) (old new : FinMap address_cmp Neighbor) (a : IpAddress) (n : Neighbor) → IsOf kind n.hardware_addr → Puts old new a n → Have kind old → Have kind new
+put : (kind : Medium) (old new : FinMap address_cmp Neighbor) (a : IpAddress) (n : Neighbor) →
+    IsOf kind n.hardware_addr → Puts old new a n → Have kind old → Have kind new
 put kind old new a n of p all = by (map.get old a) refl where
   room : (k : ℕ) → map.len old ≡ k → map.get old a ≡ None → Have kind new
   room k is none = elim (nat_lt k 4) as (λ b. nat_lt k 4 ≡ b → Have kind new) [
     | true ↦ λ t. let h : map.len old < 4 = grind (arith, nat_tests) in rw (p.room h) (inserted kind old a n of all)
-    | false ↦ λ t. let h : 4 ≤ map.len old = grind (arith, nat_tests) in let f = p.full none h in rw f.2 (inserted kind (map.remove old f.0) a n of (removed kind old f.0 all))
+    | false ↦ λ t. let h : 4 ≤ map.len old = grind (arith, nat_tests) in let f = p.full none h in
+        rw f.2 (inserted kind (map.remove old f.0) a n of (removed kind old f.0 all))
   ] refl
 
   by : (o : Option Neighbor) → map.get old a ≡ o → Have kind new
   by None is = room (map.len old) refl is
   by (Some x) is = let t : IsTrue (is_some (map.get old a)) = rw is refl in rw (p.there t) (inserted kind old a n of all)
 
-pub filled_of : (kind : Medium) (old new : Neighbors) (a : IpAddress) (n : Neighbor) → IsOf kind n.hardware_addr → Fills old new a n → AreOf kind old → AreOf kind new
+pub filled_of : (kind : Medium) (old new : Neighbors) (a : IpAddress) (n : Neighbor) →
+    IsOf kind n.hardware_addr → Fills old new a n → AreOf kind old → AreOf kind new
 filled_of kind old new a n of f all = put kind old.known new.known a n of f.puts all
 
 pub renewed_of : (kind : Medium) (n : Neighbors) (a : IpAddress) (h : HardwareAddress) (end : ℤ) → AreOf kind n → AreOf kind (after_renewal n a h end)
@@ -76,5 +80,6 @@ of_six medium.Ethernet own h six is = is
 of_six medium.Ip own h six is = absurd six
 
 -- so is the sender's of an ARP packet
-pub arp_source_of : (kind : Medium) (own : EthernetAddress) (octets : List ℕ) → IsOf kind (hardware.Ethernet own) → IsArp octets → IsOf kind (hardware.Ethernet (arp_in octets).source_hardware_addr)
+pub arp_source_of : (kind : Medium) (own : EthernetAddress) (octets : List ℕ) →
+    IsOf kind (hardware.Ethernet own) → IsArp octets → IsOf kind (hardware.Ethernet (arp_in octets).source_hardware_addr)
 arp_source_of kind own octets six a = of_six kind own (arp_in octets).source_hardware_addr six (arp_source_six octets a)

@@ -2,7 +2,8 @@
 use Rattle.std.proofs.Common.{◌≡◌, List, [], ◌∷◌, ◌++◌, refl, ap}
 use Rattle.std.specs.Prelude.{map}
 use Rattle.fragmentation.specs.Reassembly.{SlotNote}
-use Rattle.host_machine.specs.State.Note.{Note, OfDiscovery, OfIdentification, OfSlots, OfCuts, Ask, Identify, asks, identifications, slot_notes, cut_notes}
+use Rattle.host_machine.specs.State.Note.{Note, OfDiscovery, OfIdentification, OfSlots, OfCuts, Ask}
+use Rattle.host_machine.specs.State.Note.{Identify, asks, identifications, slot_notes, cut_notes}
 
 pub asks-append : (xs ys : List Note) → asks (xs ++ ys) ≡ asks xs ++ asks ys
 asks-append [] ys = refl

@@ -18,7 +18,19 @@ use Rattle.host_machine.proofs.State.MediumAddresses.{renewed_of}
 
 -- what no such law reads, set to one value
 abbrev pub rest_of : Host → Host
-rest_of H = record H { moment = pos 0; any_ip = false; routes = []; neighbors = record { known = map.empty; silent_until = H.neighbors.silent_until }; groups = []; igmp_report = igmp.Inactive; mld_report = mld.Inactive; slaac = initial_state; slaac_updated_at = pos 0; random = 0; sockets = no_sockets }
+rest_of H = record H {
+  moment = pos 0;
+  any_ip = false;
+  routes = [];
+  neighbors = record { known = map.empty; silent_until = H.neighbors.silent_until };
+  groups = [];
+  igmp_report = igmp.Inactive;
+  mld_report = mld.Inactive;
+  slaac = initial_state;
+  slaac_updated_at = pos 0;
+  random = 0;
+  sockets = no_sockets;
+}
 
 -- what such laws read of a host stays
 pub record Keeps (old new : Host) : Type 0 where
@@ -53,5 +65,9 @@ heard_kept r payload H = unread refl refl
 pub sender_kept : (source : HardwareAddress) (r : IpRepr) (H : Host) → Keeps H (sender_renewed source r H)
 sender_kept source r H = by (is_unicast H.ip_addrs (dst_addr r)) where
   by : (b : Bool) → Keeps H (if b then with_neighbors H (after_renewal H.neighbors (src_addr r) source (expiry_from H.moment)) else H)
-  by true = record { same = refl; real = λ x. record { own = x.own; neighbors = renewed_of H.capabilities.medium H.neighbors (src_addr r) source (expiry_from H.moment) x.neighbors } }
+  by true = record {
+    same = refl;
+    real =
+        λ x. record { own = x.own; neighbors = renewed_of H.capabilities.medium H.neighbors (src_addr r) source (expiry_from H.moment) x.neighbors };
+  }
   by false = unread refl refl

@@ -17,7 +17,12 @@ part = cidr.Ipv4 (record { address = record { bits = 0x0a050200 }; prefix_len = 
 
 abbrev pub route : IpCidr → ℕ → Option ℤ → Route
 route destination router expires_at =
-    record { cidr = destination; via_router = Ipv4 (record { bits = router }); preferred_until = None; expires_at = expires_at }
+    record {
+      cidr = destination;
+      via_router = Ipv4 (record { bits = router });
+      preferred_until = None;
+      expires_at = expires_at;
+    }
 
 -- the first network via 192.168.69.1 itself until ten seconds, the part of it via 192.168.69.9
 abbrev pub routes : List Route
@@ -25,10 +30,12 @@ routes = route network 0xc0a84501 (Some (pos 10000000)) ∷ route part 0xc0a8450
 
 -- whether an address is the host's own at a moment
 abbrev pub is_own_at : Bool → ℤ → ℕ → Bool
-is_own_at any_ip t a = has_ip_addr (record (example.host 0x1405 (example.no_neighbors (pos 0))) { any_ip = any_ip; moment = t; routes = routes }) (Ipv4 (record { bits = a }))
+is_own_at any_ip t a = has_ip_addr
+    (record (example.host 0x1405 (example.no_neighbors (pos 0))) { any_ip = any_ip; moment = t; routes = routes })
+    (Ipv4 (record { bits = a }))
 
--- 10.5.1.1 is its own until the route expires, and only with AnyIP; 10.5.2.1 is reached via another host; 10.6.0.1 and a group
--- have no such route
+-- 10.5.1.1 is its own until the route expires, and only with AnyIP; 10.5.2.1 is reached via another host; 10.6.0.1 and
+-- a group have no such route
 pub record AddressesAreRoutedHere : Type 0 where
   pub given : is_own_at false (pos 0) 0xc0a84501 ≡ true
   pub without : is_own_at false (pos 0) 0x0a050101 ≡ false

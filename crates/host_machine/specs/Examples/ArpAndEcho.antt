@@ -1,5 +1,5 @@
--- Worked examples: the frames of an ARP request and an echo request, and how the host of 192.168.69.1/24 at 02:00:00:00:00:01
--- processes them.
+-- Worked examples: the frames of an ARP request and an echo request, and how the host of 192.168.69.1/24 at
+-- 02:00:00:00:00:01 processes them.
 use Rattle.std.specs.Prelude.{ℕ, ℤ, pos, false, List, [], ◌∷◌, drop, None}
 use Rattle.std.specs.FinMap as map
 use Rattle.std.proofs.Common.{lit≤}
@@ -27,7 +27,13 @@ device = record {
   medium = medium.Ethernet;
   max_transmission_unit = 1514;
   max_burst_size = None;
-  checksum = record { ipv4 = checksum.Both; udp = checksum.Both; tcp = checksum.Both; icmpv4 = checksum.Both; icmpv6 = checksum.Both };
+  checksum = record {
+    ipv4 = checksum.Both;
+    udp = checksum.Both;
+    tcp = checksum.Both;
+    icmpv4 = checksum.Both;
+    icmpv6 = checksum.Both;
+  };
 }
 
 -- who has 192.168.69.1? Tell 192.168.69.100 at 02:00:00:00:00:02
@@ -54,7 +60,10 @@ abbrev pub sender_hardware : HardwareAddress
 sender_hardware = hardware.Ethernet (record { 0 = 2 ∷ 0 ∷ 0 ∷ 0 ∷ 0 ∷ 2 ∷ [] })
 
 abbrev pub neighbors_with_sender : Neighbors
-neighbors_with_sender = record { known = map.insert map.empty sender (record { hardware_addr = sender_hardware; expires_at = pos 60000000 }); silent_until = pos 0 }
+neighbors_with_sender = record {
+  known = map.insert map.empty sender (record { hardware_addr = sender_hardware; expires_at = pos 60000000 });
+  silent_until = pos 0;
+}
 
 -- the same neighbour after another packet from it
 abbrev pub neighbors_after_renewal : Neighbors
@@ -123,13 +132,15 @@ RequestIsAnswered =
 abbrev pub EchoIsAnswered : Type 0
 EchoIsAnswered =
     Ingress (pos 0) result.SocketStateChanged (host 0x1405 neighbors_with_sender)
-    (Received (pos 0) (Frame echo_request) ∷ Sent 0 echo_reply ∷ []) (identify ∷ []) (host 0x1406 neighbors_after_renewal)
+    (Received (pos 0) (Frame echo_request) ∷ Sent 0 echo_reply ∷ []) (identify ∷ [])
+    (host 0x1406 neighbors_after_renewal)
 
 -- in place of the reply to an unknown sender a discovery request is sent, and the silence begins
 abbrev pub SenderIsDiscovered : Type 0
 SenderIsDiscovered =
     Ingress (pos 0) result.SocketStateChanged (host 0x1405 (no_neighbors (pos 0)))
-    (Received (pos 0) (Frame echo_request) ∷ Sent 0 discovery ∷ []) (identify ∷ OfDiscovery (Ask (pos 0)) ∷ []) (host 0x1406 (no_neighbors (pos 1000000)))
+    (Received (pos 0) (Frame echo_request) ∷ Sent 0 discovery ∷ []) (identify ∷ OfDiscovery (Ask (pos 0)) ∷ [])
+    (host 0x1406 (no_neighbors (pos 1000000)))
 
 -- the host on a medium without hardware addresses
 abbrev pub without_hardware : ℕ → Host
@@ -142,4 +153,5 @@ without_hardware ipv4_id = record (host ipv4_id (no_neighbors (pos 0))) {
 abbrev pub PacketIsAnswered : Type 0
 PacketIsAnswered =
     Ingress (pos 0) result.SocketStateChanged (without_hardware 0x1405)
-    (Received (pos 0) (Frame (drop 14 echo_request)) ∷ Sent 0 (drop 14 echo_reply) ∷ []) (identify ∷ []) (without_hardware 0x1406)
+    (Received (pos 0) (Frame (drop 14 echo_request)) ∷ Sent 0 (drop 14 echo_reply) ∷ [])
+    (identify ∷ []) (without_hardware 0x1406)

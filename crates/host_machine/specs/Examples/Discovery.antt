@@ -26,7 +26,12 @@ host ipv4_id neighbors = record (example.host ipv4_id neighbors) {
 
 -- an empty datagram of its own for fe80::2
 abbrev pub packet : Packet
-packet = Ipv6 (record { src_addr = own; dst_addr = neighbor; hop_limit = 64; payload = Udp (record { src_port = 6969; dst_port = 5000 }) [] })
+packet = Ipv6 (record {
+  src_addr = own;
+  dst_addr = neighbor;
+  hop_limit = 64;
+  payload = Udp (record { src_port = 6969; dst_port = 5000 }) [];
+})
 
 -- fe80::1 at 02:00:00:00:00:01 solicits fe80::2 at its solicited-node group
 abbrev pub solicitation : List ℕ
@@ -43,4 +48,5 @@ solicitation =
 abbrev pub NeighborIsSolicited : Type 0
 NeighborIsSolicited =
     Dispatches packet (Err NeighborPending) (host 0x1405 (example.no_neighbors (pos 0))) (solicitation ∷ [])
-    (example.identify ∷ OfIdentification (Identify 0x1406) ∷ OfDiscovery (Ask (pos 0)) ∷ []) (host 0x1407 (example.no_neighbors (pos 1000000)))
+    (example.identify ∷ OfIdentification (Identify 0x1406) ∷ OfDiscovery (Ask (pos 0)) ∷ [])
+    (host 0x1407 (example.no_neighbors (pos 1000000)))

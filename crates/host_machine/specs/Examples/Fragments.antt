@@ -1,5 +1,5 @@
--- Worked examples of fragments: the frames of a datagram in two fragments, and how the host of 192.168.69.1/24 processes them;
--- and the same datagram sent by the host.
+-- Worked examples of fragments: the frames of a datagram in two fragments, and how the host of 192.168.69.1/24
+-- processes them; and the same datagram sent by the host.
 use Rattle.std.specs.Prelude.{◌≡◌, ℕ, pos, true, false, List, [], ◌∷◌, None, Result, Ok, Err}
 use Rattle.std.specs.FinMap as map
 use Rattle.net_base.specs.Device.{Received, Frame, Asked, Sent}
@@ -36,7 +36,12 @@ last_fragment =
     ∷ 9 ∷ 10 ∷ []
 
 abbrev pub key : FragKey
-key = record { identification = 7; src_addr = record { bits = 0xc0a84564 }; dst_addr = record { bits = 0xc0a84501 }; protocol = 2 }
+key = record {
+  identification = 7;
+  src_addr = record { bits = 0xc0a84564 };
+  dst_addr = record { bits = 0xc0a84501 };
+  protocol = 2;
+}
 
 abbrev pub ten : List ℕ
 ten = 1 ∷ 2 ∷ 3 ∷ 4 ∷ 5 ∷ 6 ∷ 7 ∷ 8 ∷ 9 ∷ 10 ∷ []
@@ -73,7 +78,9 @@ DatagramIsRebuilt =
 
 -- a host whose device carries packets of 28 octets, so that a fragment has eight octets
 abbrev pub narrow_host : ℕ → Host
-narrow_host ipv4_id = record (example.host ipv4_id example.neighbors_after_renewal) { capabilities = record example.device { max_transmission_unit = 42 } }
+narrow_host ipv4_id = record (example.host ipv4_id example.neighbors_after_renewal) {
+  capabilities = record example.device { max_transmission_unit = 42 };
+}
 
 -- the ten octets, by protocol 2, from that host to 192.168.69.100
 abbrev pub ten_to_another : PacketV4
@@ -118,17 +125,21 @@ last_sent =
 abbrev pub half_sent : Host
 half_sent = with_left (narrow_host 8) (piece_of datagram two ∷ [])
 
--- the first fragment is sent and the second is pending; it stays pending while the device grants no transmit token, and is then
--- sent
+-- the first fragment is sent and the second is pending; it stays pending while the device grants no transmit
+-- token, and is then sent
 pub record PacketGoesInPieces : Type 0 where
   pub first : Dispatches packet (Ok tt) (narrow_host 7) (first_sent ∷ [])
-      (OfIdentification (Identify 7) ∷ OfCuts (Cut datagram) ∷ OfCuts (PieceSent (piece_of datagram one)) ∷ []) half_sent
+      (OfIdentification (Identify 7) ∷ OfCuts (Cut datagram) ∷ OfCuts (PieceSent (piece_of datagram one)) ∷ [])
+      half_sent
   pub waits : Egress (pos 0) poll.None half_sent (Asked (pos 0) false ∷ []) [] half_sent
-  pub last : Egress (pos 0) poll.None half_sent (Asked (pos 0) true ∷ Sent 0 last_sent ∷ []) (OfCuts (PieceSent (piece_of datagram two)) ∷ []) (narrow_host 8)
+  pub last : Egress (pos 0) poll.None half_sent (Asked (pos 0) true ∷ Sent 0 last_sent ∷ [])
+      (OfCuts (PieceSent (piece_of datagram two)) ∷ []) (narrow_host 8)
 
 -- a reassembly timeout of a day is accepted; one of a microsecond more is refused, and nothing changes
 pub record TimeoutsAreTested : Type 0 where
-  pub of_a_day : (answer : Result (Unit {0}) TimeoutError) (old new : Host) → SetsReassemblyTimeout 86_400_000_000 answer old new →
+  pub of_a_day : (answer : Result (Unit {0}) TimeoutError) (old new : Host) →
+      SetsReassemblyTimeout 86_400_000_000 answer old new →
       (answer ≡ Ok tt) × (new ≡ record old { reassembly_timeout = 86_400_000_000 })
-  pub longer : (answer : Result (Unit {0}) TimeoutError) (old new : Host) → SetsReassemblyTimeout 86_400_000_001 answer old new →
+  pub longer : (answer : Result (Unit {0}) TimeoutError) (old new : Host) →
+      SetsReassemblyTimeout 86_400_000_001 answer old new →
       (answer ≡ Err TimeoutTooLong) × (new ≡ old)

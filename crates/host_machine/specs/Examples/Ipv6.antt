@@ -1,5 +1,5 @@
--- Worked exchanges over IPv6, computed from the definitions: a neighbour solicits the host of fe80::1/64 and is answered (RFC
--- 4861 7.2.4), and a datagram goes each way.
+-- Worked exchanges over IPv6, computed from the definitions: a neighbour solicits the host of fe80::1/64 and is
+-- answered (RFC 4861 7.2.4), and a datagram goes each way.
 use Rattle.std.specs.Prelude.{ℕ, pos, List, [], ◌∷◌, Ok}
 use Rattle.std.specs.FinMap as map
 use Rattle.net_base.specs.Device.{Received, Frame, Sent}
@@ -42,7 +42,10 @@ abbrev pub sender : IpAddress
 sender = ip.Ipv6 neighbor
 
 abbrev pub neighbors_with_sender : Neighbors
-neighbors_with_sender = record { known = map.insert map.empty sender (record { hardware_addr = example.sender_hardware; expires_at = pos 60000000 }); silent_until = pos 0 }
+neighbors_with_sender = record {
+  known = map.insert map.empty sender (record { hardware_addr = example.sender_hardware; expires_at = pos 60000000 });
+  silent_until = pos 0;
+}
 
 -- the same neighbour after another packet from it
 abbrev pub neighbors_after_renewal : Neighbors
@@ -52,7 +55,8 @@ neighbors_after_renewal = after_renewal neighbors_with_sender sender example.sen
 abbrev pub SolicitationIsAnswered : Type 0
 SolicitationIsAnswered =
     Ingress (pos 0) result.SocketStateChanged (host 0x1405 (example.no_neighbors (pos 0)))
-    (Received (pos 0) (Frame solicitation) ∷ Sent 0 advertisement ∷ []) (example.identify ∷ []) (host 0x1406 neighbors_with_sender)
+    (Received (pos 0) (Frame solicitation) ∷ Sent 0 advertisement ∷ []) (example.identify ∷ [])
+    (host 0x1406 neighbors_with_sender)
 
 -- `hi` from fe80::2, port 5000, to port 6969 of fe80::1
 abbrev pub datagram : List ℕ
@@ -65,7 +69,9 @@ datagram =
 
 -- the socket after the datagram was delivered
 abbrev pub socket_with_datagram : UdpSocket
-socket_with_datagram = record listening_socket { rx = record empty_queue { packets = (record { addr = sender; port = 5000 }, 0x68 ∷ 0x69 ∷ []) ∷ [] } }
+socket_with_datagram = record listening_socket {
+  rx = record empty_queue { packets = (record { addr = sender; port = 5000 }, 0x68 ∷ 0x69 ∷ []) ∷ [] };
+}
 
 -- the datagram is delivered to the socket, and nothing is sent
 abbrev pub DatagramIsDelivered : Type 0
@@ -75,7 +81,12 @@ DatagramIsDelivered =
 
 -- `hi` in the other direction, as a packet, and as its frame
 abbrev pub packet : Packet
-packet = Ipv6 (record { src_addr = own; dst_addr = neighbor; hop_limit = 64; payload = Udp (record { src_port = 6969; dst_port = 5000 }) (0x68 ∷ 0x69 ∷ []) })
+packet = Ipv6 (record {
+  src_addr = own;
+  dst_addr = neighbor;
+  hop_limit = 64;
+  payload = Udp (record { src_port = 6969; dst_port = 5000 }) (0x68 ∷ 0x69 ∷ []);
+})
 
 abbrev pub frame : List ℕ
 frame =
@@ -87,4 +98,5 @@ frame =
 
 -- the packet is sent to the neighbour that is known
 abbrev pub DatagramIsSent : Type 0
-DatagramIsSent = Dispatches packet (Ok tt) (host 0x1405 neighbors_with_sender) (frame ∷ []) (example.identify ∷ []) (host 0x1406 neighbors_with_sender)
+DatagramIsSent = Dispatches packet (Ok tt) (host 0x1405 neighbors_with_sender) (frame ∷ []) (example.identify ∷ [])
+    (host 0x1406 neighbors_with_sender)

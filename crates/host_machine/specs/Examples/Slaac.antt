@@ -1,5 +1,5 @@
--- Worked examples of autoconfiguration, computed from the definitions: how routers are solicited, octet by octet; what is learnt
--- from an advertisement; and how addresses and routes follow.
+-- Worked examples of autoconfiguration, computed from the definitions: how routers are solicited, octet by octet; what
+-- is learnt from an advertisement; and how addresses and routes follow.
 use Rattle.std.specs.Prelude.{◌≡◌, ℕ, pos, true, false, List, [], ◌∷◌}
 use Rattle.std.proofs.Common.{lit≤}
 use Rattle.net_base.specs.Device.{Asked, Sent}
@@ -36,10 +36,11 @@ abbrev pub slaac_after_solicitation : SlaacState
 slaac_after_solicitation = record initial_state { phase = Discovering; retry_at = pos 4000000; left = 2 }
 
 abbrev pub RoutersAreAsked : Type 0
-RoutersAreAsked = NdiscRsEgress (host 0x1405 initial_state) (Asked (pos 0) true ∷ Sent 0 solicitation ∷ []) (example.identify ∷ []) (host 0x1406 slaac_after_solicitation)
+RoutersAreAsked = NdiscRsEgress (host 0x1405 initial_state) (Asked (pos 0) true ∷ Sent 0 solicitation ∷ [])
+    (example.identify ∷ []) (host 0x1406 slaac_after_solicitation)
 
--- the message of an advertisement: a router for 600 s, and 2001:db8::/64 for autoconfiguration, valid for 700 s and preferred for
--- 300 s
+-- the message of an advertisement: a router for 600 s, and 2001:db8::/64 for autoconfiguration, valid for 700 s
+-- and preferred for 300 s
 abbrev pub advertisement : List ℕ
 advertisement =
     0x86 ∷ 0 ∷ 0xc4 ∷ 0xd0 ∷ 0x40 ∷ 0 ∷ 0x02 ∷ 0x58 ∷ 0 ∷ 0 ∷ 0 ∷ 0 ∷ 0 ∷ 0 ∷ 0 ∷ 0
@@ -65,7 +66,10 @@ network bits = record { address = record { bits = bits }; prefix_len = 64; in_ra
 -- what is learnt from it, if it arrives after a second
 abbrev pub slaac_after_advertisement : SlaacState
 slaac_after_advertisement = record {
-  prefixes = record { cidr = network 0x2001_0db8_0000_0000_0000_0000_0000_0000; info = record { preferred_until = pos 301000000; valid_until = pos 701000000 } } ∷ [];
+  prefixes = record {
+    cidr = network 0x2001_0db8_0000_0000_0000_0000_0000_0000;
+    info = record { preferred_until = pos 301000000; valid_until = pos 701000000 };
+  } ∷ [];
   routers = default_route router (pos 601000000) ∷ [];
   phase = Maintaining;
   retry_at = pos 4000000;
@@ -77,10 +81,14 @@ abbrev pub later : Host → Host
 later H = at H (pos 1000000)
 
 pub record AdvertisementsAreApplied : Type 0 where
-  pub learns : after_advertisement (router_in advertisement) (later (host 0x1406 slaac_after_solicitation)) (header router 255) ≡ slaac_after_advertisement
-  pub passed_on : after_advertisement (router_in advertisement) (later (host 0x1406 slaac_after_solicitation)) (header router 254) ≡ slaac_after_solicitation
-  pub from_elsewhere : after_advertisement (router_in advertisement) (later (host 0x1406 slaac_after_solicitation)) (header (record { bits = 0x2001_0db8_0000_0000_0000_0000_0000_0002 }) 255) ≡ slaac_after_solicitation
-  pub unasked_for : after_advertisement (router_in advertisement) (later (record (host 0x1406 initial_state) { slaac_enabled = false })) (header router 255) ≡ initial_state
+  pub learns : after_advertisement (router_in advertisement) (later (host 0x1406 slaac_after_solicitation))
+      (header router 255) ≡ slaac_after_advertisement
+  pub passed_on : after_advertisement (router_in advertisement) (later (host 0x1406 slaac_after_solicitation))
+      (header router 254) ≡ slaac_after_solicitation
+  pub from_elsewhere : after_advertisement (router_in advertisement) (later (host 0x1406 slaac_after_solicitation))
+      (header (record { bits = 0x2001_0db8_0000_0000_0000_0000_0000_0002 }) 255) ≡ slaac_after_solicitation
+  pub unasked_for : after_advertisement (router_in advertisement)
+      (later (record (host 0x1406 initial_state) { slaac_enabled = false })) (header router 255) ≡ initial_state
 
 -- a host that learnt this and knows a neighbour; its own address, and the one formed from the prefix
 abbrev pub follower : Host
@@ -92,8 +100,8 @@ own = network 0xfe80_0000_0000_0000_0000_0000_0000_0001
 abbrev pub assigned_cidr : Ipv6Cidr
 assigned_cidr = network 0x2001_0db8_0000_0000_0000_00ff_fe00_0001
 
--- it gets an address and a route, forgets its neighbours, and keeps what it learnt; the router's route is removed after 600 s,
--- and the address after 700 s
+-- it gets an address and a route, forgets its neighbours, and keeps what it learnt; the router's route is removed after
+-- 600 s, and the address after 700 s
 pub record AddressesFollowPrefixes : Type 0 where
   pub addresses : (after_sync follower).ip_addrs ≡ cidr.Ipv6 own ∷ cidr.Ipv6 assigned_cidr ∷ []
   pub routes : (after_sync follower).routes ≡ ipv6_gateway router ∷ []
@@ -101,6 +109,7 @@ pub record AddressesFollowPrefixes : Type 0 where
   pub learns : (after_sync follower).slaac ≡ record slaac_after_advertisement { changed = false }
   pub moment : (after_sync follower).slaac_updated_at ≡ pos 1000000
   pub without_route : (after_sync (at (after_sync follower) (pos 601000000))).routes ≡ []
-  pub with_address : (after_sync (at (after_sync follower) (pos 601000000))).ip_addrs ≡ cidr.Ipv6 own ∷ cidr.Ipv6 assigned_cidr ∷ []
+  pub with_address : (after_sync (at (after_sync follower) (pos 601000000))).ip_addrs
+      ≡ cidr.Ipv6 own ∷ cidr.Ipv6 assigned_cidr ∷ []
   pub without_address : (after_sync (at (after_sync follower) (pos 701000000))).ip_addrs ≡ cidr.Ipv6 own ∷ []
   pub nothing_new : after_sync (at (after_sync follower) (pos 600999999)) ≡ at (after_sync follower) (pos 600999999)

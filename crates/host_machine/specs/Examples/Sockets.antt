@@ -1,5 +1,5 @@
--- Worked examples with sockets: the frames of a datagram, a segment and a packet of an unknown protocol, and how the host of
--- 192.168.69.1/24 processes them.
+-- Worked examples with sockets: the frames of a datagram, a segment and a packet of an unknown protocol, and how the
+-- host of 192.168.69.1/24 processes them.
 use Rattle.std.specs.Prelude.{◌≡◌, ℕ, ℤ, pos, true, false, List, [], ◌∷◌, drop, Some, None}
 use Rattle.net_base.specs.Device.{Received, Frame, Asked, Sent}
 use Rattle.net_base.specs.declared.phy.Medium.TheVariants as medium
@@ -42,20 +42,22 @@ port_unreachable =
     ∷ 0x45 ∷ 0 ∷ 0 ∷ 0x1e ∷ 0 ∷ 0 ∷ 0x40 ∷ 0 ∷ 0x40 ∷ 0x11 ∷ 0x2f ∷ 0x19 ∷ 192 ∷ 168 ∷ 69 ∷ 100 ∷ 192 ∷ 168 ∷ 69 ∷ 1
     ∷ 0x13 ∷ 0x88 ∷ 0x1b ∷ 0x39 ∷ 0 ∷ 0x0a ∷ 0x5c ∷ 0xf9 ∷ 0x68 ∷ 0x69 ∷ []
 
--- a segment that opens a connection from 192.168.69.100, port 5000, to port 80; its sequence number is 0x01020304, its window
--- 1000
+-- a segment that opens a connection from 192.168.69.100, port 5000, to port 80; its sequence number is
+-- 0x01020304, its window 1000
 abbrev pub opening : List ℕ
 opening =
     0x02 ∷ 0 ∷ 0 ∷ 0 ∷ 0 ∷ 0x01 ∷ 0x02 ∷ 0 ∷ 0 ∷ 0 ∷ 0 ∷ 0x02 ∷ 0x08 ∷ 0
     ∷ 0x45 ∷ 0 ∷ 0 ∷ 0x28 ∷ 0 ∷ 0 ∷ 0x40 ∷ 0 ∷ 0x40 ∷ 0x06 ∷ 0x2f ∷ 0x1a ∷ 192 ∷ 168 ∷ 69 ∷ 100 ∷ 192 ∷ 168 ∷ 69 ∷ 1
-    ∷ 0x13 ∷ 0x88 ∷ 0 ∷ 0x50 ∷ 0x01 ∷ 0x02 ∷ 0x03 ∷ 0x04 ∷ 0 ∷ 0 ∷ 0 ∷ 0 ∷ 0x50 ∷ 0x02 ∷ 0x03 ∷ 0xe8 ∷ 0x88 ∷ 0x66 ∷ 0 ∷ 0 ∷ []
+    ∷ 0x13 ∷ 0x88 ∷ 0 ∷ 0x50 ∷ 0x01 ∷ 0x02 ∷ 0x03 ∷ 0x04 ∷ 0 ∷ 0 ∷ 0 ∷ 0 ∷ 0x50 ∷ 0x02
+    ∷ 0x03 ∷ 0xe8 ∷ 0x88 ∷ 0x66 ∷ 0 ∷ 0 ∷ []
 
 -- the reset, which acknowledges the sequence number after it
 abbrev pub reset : List ℕ
 reset =
     0x02 ∷ 0 ∷ 0 ∷ 0 ∷ 0 ∷ 0x02 ∷ 0x02 ∷ 0 ∷ 0 ∷ 0 ∷ 0 ∷ 0x01 ∷ 0x08 ∷ 0
     ∷ 0x45 ∷ 0 ∷ 0 ∷ 0x28 ∷ 0 ∷ 0 ∷ 0x40 ∷ 0 ∷ 0x40 ∷ 0x06 ∷ 0x2f ∷ 0x1a ∷ 192 ∷ 168 ∷ 69 ∷ 1 ∷ 192 ∷ 168 ∷ 69 ∷ 100
-    ∷ 0 ∷ 0x50 ∷ 0x13 ∷ 0x88 ∷ 0 ∷ 0 ∷ 0 ∷ 0 ∷ 0x01 ∷ 0x02 ∷ 0x03 ∷ 0x05 ∷ 0x50 ∷ 0x14 ∷ 0 ∷ 0 ∷ 0x8c ∷ 0x3b ∷ 0 ∷ 0 ∷ []
+    ∷ 0 ∷ 0x50 ∷ 0x13 ∷ 0x88 ∷ 0 ∷ 0 ∷ 0 ∷ 0 ∷ 0x01 ∷ 0x02 ∷ 0x03 ∷ 0x05 ∷ 0x50
+    ∷ 0x14 ∷ 0 ∷ 0 ∷ 0x8c ∷ 0x3b ∷ 0 ∷ 0 ∷ []
 
 -- `abcd` by protocol 99
 abbrev pub unknown_protocol_frame : List ℕ
@@ -79,26 +81,34 @@ empty_queue = record { packets = []; most = 1; limit = 16 }
 
 -- a UDP socket that listens at port 6969, without a datagram and with this one
 abbrev pub listening_socket : UdpSocket
-listening_socket = record { endpoint = record { addr = None; port = 6969 }; hop_limit = 64; rx = empty_queue; tx = empty_queue }
+listening_socket =
+    record { endpoint = record { addr = None; port = 6969 }; hop_limit = 64; rx = empty_queue; tx = empty_queue }
 
 abbrev pub socket_with_datagram : UdpSocket
-socket_with_datagram = record listening_socket { rx = record empty_queue { packets = (record { addr = example.sender; port = 5000 }, 0x68 ∷ 0x69 ∷ []) ∷ [] } }
+socket_with_datagram = record listening_socket {
+  rx = record empty_queue { packets = (record { addr = example.sender; port = 5000 }, 0x68 ∷ 0x69 ∷ []) ∷ [] };
+}
 
 -- a host with that socket at the second index; the first one is free
 abbrev pub with_socket : UdpSocket → Host → Host
-with_socket s H = record H { sockets = record { places = None ∷ Some (kind.Udp s) ∷ []; waits = None ∷ None ∷ []; grows = false; room = 2 } }
+with_socket s H = record H {
+  sockets = record { places = None ∷ Some (kind.Udp s) ∷ []; waits = None ∷ None ∷ []; grows = false; room = 2 };
+}
 
 -- the datagram is delivered to the socket, and nothing is sent
 abbrev pub DatagramIsDelivered : Type 0
 DatagramIsDelivered =
-    Ingress (pos 0) result.SocketStateChanged (with_socket listening_socket (example.host 0x1405 example.neighbors_with_sender))
-    (Received (pos 0) (Frame datagram) ∷ []) [] (with_socket socket_with_datagram (example.host 0x1405 example.neighbors_after_renewal))
+    Ingress (pos 0) result.SocketStateChanged
+    (with_socket listening_socket (example.host 0x1405 example.neighbors_with_sender))
+    (Received (pos 0) (Frame datagram) ∷ []) []
+    (with_socket socket_with_datagram (example.host 0x1405 example.neighbors_after_renewal))
 
 -- if no socket listens, the error is sent
 abbrev pub DatagramIsRefused : Type 0
 DatagramIsRefused =
     Ingress (pos 0) result.SocketStateChanged (example.host 0x1405 example.neighbors_with_sender)
-    (Received (pos 0) (Frame datagram) ∷ Sent 0 port_unreachable ∷ []) (example.identify ∷ []) (example.host 0x1406 example.neighbors_after_renewal)
+    (Received (pos 0) (Frame datagram) ∷ Sent 0 port_unreachable ∷ []) (example.identify ∷ [])
+    (example.host 0x1406 example.neighbors_after_renewal)
 
 -- a raw socket for UDP over IPv4, without a packet and with the one of the datagram
 abbrev pub listening_raw_socket : RawSocket
@@ -110,32 +120,41 @@ listening_raw_socket = record {
 }
 
 abbrev pub having_heard : RawSocket
-having_heard = record listening_raw_socket { rx = record { packets = (tt, drop 14 datagram) ∷ []; most = 1; limit = 64 } }
+having_heard =
+    record listening_raw_socket { rx = record { packets = (tt, drop 14 datagram) ∷ []; most = 1; limit = 64 } }
 
 abbrev pub with_raw : RawSocket → Host → Host
-with_raw s H = record H { sockets = record { places = Some (kind.Raw s) ∷ []; waits = None ∷ []; grows = false; room = 1 } }
+with_raw s H =
+    record H { sockets = record { places = Some (kind.Raw s) ∷ []; waits = None ∷ []; grows = false; room = 1 } }
 
 -- a raw socket receives the whole packet, and then no error is sent
 abbrev pub RawSocketReceives : Type 0
 RawSocketReceives =
-    Ingress (pos 0) result.SocketStateChanged (with_raw listening_raw_socket (example.host 0x1405 example.neighbors_with_sender))
-    (Received (pos 0) (Frame datagram) ∷ []) [] (with_raw having_heard (example.host 0x1405 example.neighbors_after_renewal))
+    Ingress (pos 0) result.SocketStateChanged
+    (with_raw listening_raw_socket (example.host 0x1405 example.neighbors_with_sender))
+    (Received (pos 0) (Frame datagram) ∷ []) []
+    (with_raw having_heard (example.host 0x1405 example.neighbors_after_renewal))
 
 -- if no socket accepts a connection, it is reset; a UDP socket accepts none
 abbrev pub ConnectionIsReset : Type 0
 ConnectionIsReset =
-    Ingress (pos 0) result.SocketStateChanged (with_socket listening_socket (example.host 0x1405 example.neighbors_with_sender))
-    (Received (pos 0) (Frame opening) ∷ Sent 0 reset ∷ []) (example.identify ∷ []) (with_socket listening_socket (example.host 0x1406 example.neighbors_after_renewal))
+    Ingress (pos 0) result.SocketStateChanged
+    (with_socket listening_socket (example.host 0x1405 example.neighbors_with_sender))
+    (Received (pos 0) (Frame opening) ∷ Sent 0 reset ∷ []) (example.identify ∷ [])
+    (with_socket listening_socket (example.host 0x1406 example.neighbors_after_renewal))
 
 -- for an unknown protocol the error is sent
 abbrev pub ProtocolIsRefused : Type 0
 ProtocolIsRefused =
     Ingress (pos 0) result.SocketStateChanged (example.host 0x1405 example.neighbors_with_sender)
-    (Received (pos 0) (Frame unknown_protocol_frame) ∷ Sent 0 protocol_unreachable ∷ []) (example.identify ∷ []) (example.host 0x1406 example.neighbors_after_renewal)
+    (Received (pos 0) (Frame unknown_protocol_frame) ∷ Sent 0 protocol_unreachable ∷ []) (example.identify ∷ [])
+    (example.host 0x1406 example.neighbors_after_renewal)
 
 -- a UDP socket with `hi` to send to port 5000 of 192.168.69.100
 abbrev pub sending : UdpSocket
-sending = record listening_socket { tx = record empty_queue { packets = (record { addr = example.sender; port = 5000 }, 0x68 ∷ 0x69 ∷ []) ∷ [] } }
+sending = record listening_socket {
+  tx = record empty_queue { packets = (record { addr = example.sender; port = 5000 }, 0x68 ∷ 0x69 ∷ []) ∷ [] };
+}
 
 -- a host at a moment that knows no neighbour, with that socket alone, which waits or not
 abbrev pub with_sending : Wait → ℤ → ℕ → ℤ → Host
@@ -144,30 +163,38 @@ with_sending wait t ipv4_id silent_until = record (example.host ipv4_id (example
   sockets = record { places = Some (kind.Udp sending) ∷ []; waits = wait ∷ []; grows = false; room = 1 };
 }
 
--- a socket whose destination is unknown waits for a second; then it is asked again, and another discovery request is sent
+-- a socket whose destination is unknown waits for a second; then it is asked again, and another
+-- discovery request is sent
 pub record SocketWaits : Type 0 where
   pub asked : Egress (pos 0) poll.None (with_sending None (pos 0) 0x1405 (pos 0))
       (Asked (pos 0) true ∷ Sent 0 example.discovery ∷ []) (example.identify ∷ OfDiscovery (Ask (pos 0)) ∷ [])
       (with_sending (Some (example.sender, pos 1000000)) (pos 0) 0x1406 (pos 1000000))
-  pub waits : Egress (pos 999999) poll.None (with_sending (Some (example.sender, pos 1000000)) (pos 0) 0x1406 (pos 1000000))
+  pub waits :
+      Egress (pos 999999) poll.None (with_sending (Some (example.sender, pos 1000000)) (pos 0) 0x1406 (pos 1000000))
       [] [] (with_sending (Some (example.sender, pos 1000000)) (pos 999999) 0x1406 (pos 1000000))
-  pub asked_again : Egress (pos 1000000) poll.None (with_sending (Some (example.sender, pos 1000000)) (pos 999999) 0x1406 (pos 1000000))
-      (Asked (pos 1000000) true ∷ Sent 0 example.discovery ∷ []) (OfIdentification (Identify 0x1406) ∷ OfDiscovery (Ask (pos 1000000)) ∷ [])
+  pub asked_again : Egress (pos 1000000) poll.None
+      (with_sending (Some (example.sender, pos 1000000)) (pos 999999) 0x1406 (pos 1000000))
+      (Asked (pos 1000000) true ∷ Sent 0 example.discovery ∷ [])
+      (OfIdentification (Identify 0x1406) ∷ OfDiscovery (Ask (pos 1000000)) ∷ [])
       (with_sending (Some (example.sender, pos 2000000)) (pos 1000000) 0x1407 (pos 2000000))
 
--- a segment with the largest window is sent with that of two segments of 1,474 octets, if the device takes bursts of two frames
--- of 1,514
+-- a segment with the largest window is sent with that of two segments of 1,474 octets, if the device takes bursts
+-- of two frames of 1,514
 abbrev pub WindowFitsBurst : Type 0
-WindowFitsBurst = (r : TcpRepr) → r.window_len ≡ 65535 → with_limited_window (record example.device { max_burst_size = Some 2 }) 20 r ≡ record r { window_len = 2948 }
+WindowFitsBurst = (r : TcpRepr) → r.window_len ≡ 65535 →
+    with_limited_window (record example.device { max_burst_size = Some 2 }) 20 r ≡ record r { window_len = 2948 }
 
 -- which configurations are refused, and why; the first identification from seed 0
 pub record ConfigurationsAreTested : Type 0 where
   pub without_address : refusal_of example.device hardware.Ip ≡ Some new_error.MediumMismatch
   pub of_all : refusal_of example.device (hardware.Ethernet broadcast) ≡ Some new_error.NotUnicast
-  pub of_575 : refusal_of (record example.device { max_transmission_unit = 589 }) example.sender_hardware ≡ Some new_error.MtuTooSmall
+  pub of_575 : refusal_of (record example.device { max_transmission_unit = 589 }) example.sender_hardware
+      ≡ Some new_error.MtuTooSmall
   pub of_576 : refusal_of (record example.device { max_transmission_unit = 590 }) example.sender_hardware ≡ None
-  pub of_1515 : refusal_of (record example.device { max_transmission_unit = 1515 }) example.sender_hardware ≡ Some new_error.MtuTooLarge
+  pub of_1515 : refusal_of (record example.device { max_transmission_unit = 1515 }) example.sender_hardware
+      ≡ Some new_error.MtuTooLarge
   pub of_1514 : refusal_of example.device example.sender_hardware ≡ None
   pub address_of_all : hardware_refusal_of example.device (hardware.Ethernet broadcast) ≡ Some hardware_error.NotUnicast
-  pub other_medium : hardware_refusal_of (record example.device { medium = medium.Ip }) example.sender_hardware ≡ Some hardware_error.WrongMedium
+  pub other_medium : hardware_refusal_of (record example.device { medium = medium.Ip }) example.sender_hardware
+      ≡ Some hardware_error.WrongMedium
   pub identification : first_id 0 ≡ 0x1405

@@ -1,5 +1,6 @@
 -- The fragments that arrive under one key in a run, and what is reassembled from a payload's fragments.
-use Rattle.std.specs.Prelude.{◌≡◌, ◌⊎◌, ℕ, ◌<◌, ◌≤◌, ℤ, pos, ◌+ℤ◌, ◌≤ℤ◌, true, List, [], ◌∷◌, ◌++◌, length, Option, Some, None, if◌then◌else◌}
+use Rattle.std.specs.Prelude.{◌≡◌, ◌⊎◌, ℕ, ◌<◌, ◌≤◌, ℤ, pos, ◌+ℤ◌, ◌≤ℤ◌, true}
+use Rattle.std.specs.Prelude.{List, [], ◌∷◌, ◌++◌, length, Option, Some, None, if◌then◌else◌}
 use Rattle.std.specs.List.{AllByRecursion, Contains}
 use Rattle.std.specs.FinMap as map
 use Rattle.fragmentation.specs.declared.key.FragKey.{FragKey}
@@ -9,7 +10,8 @@ use Rattle.fragmentation.specs.Slots.{Slot, Slots, live_at}
 use Rattle.fragmentation.specs.Reassembly.{SlotNote, Take, Arrival, Rebuild}
 use Rattle.fragmentation.specs.Cuts.{cut}
 use Rattle.host_machine.specs.declared.command.Command.{Command}
-use Rattle.host_machine.specs.declared.command.Command.TheVariants.{PollIngressSingle, Poll, PollMaintenance, SetReassemblyTimeout}
+use Rattle.host_machine.specs.declared.command.Command.TheVariants.{PollIngressSingle, Poll}
+use Rattle.host_machine.specs.declared.command.Command.TheVariants.{PollMaintenance, SetReassemblyTimeout}
 use Rattle.host_machine.specs.State.Note.{slot_notes}
 use Rattle.host_machine.specs.State.Host.{Host}
 use Rattle.host_machine.specs.Polling.Run.{Transition, Run, notes_in}
@@ -20,7 +22,8 @@ use Rattle.host_machine.specs.Laws.Unfolded.{IsSingle}
 abbrev pub arrivals_under : FragKey → List SlotNote → List Fragment
 arrivals_under key [] = []
 arrivals_under key (Take k ∷ notes) = arrivals_under key notes
-arrivals_under key (Arrival k f ∷ notes) = if same_key key k then f ∷ arrivals_under key notes else arrivals_under key notes
+arrivals_under key (Arrival k f ∷ notes) =
+    if same_key key k then f ∷ arrivals_under key notes else arrivals_under key notes
 arrivals_under key (Rebuild k octets ∷ notes) = arrivals_under key notes
 
 -- the payloads reassembled under a key, in order
@@ -53,24 +56,27 @@ slots_then c slots = live_by (expiry_time_of c) slots
 pub record IsServed (key : FragKey) (p : Transition) : Type 0 where
   pub single : IsSingle p.command
   pub kept : map.get (slots_then p.command p.before.slots) key ≡ map.get p.before.slots key
-  pub room : 0 < length (arrivals_under key (slot_notes p.notes)) → map.get p.before.slots key ≡ None → map.len (slots_then p.command p.before.slots) < 2
+  pub room : 0 < length (arrivals_under key (slot_notes p.notes)) → map.get p.before.slots key ≡ None →
+      map.len (slots_then p.command p.before.slots) < 2
 
 -- each fragment after these leaves at most four separate ranges
 abbrev pub KeepFew : List Fragment → List Fragment → Type 0
 KeepFew so_far [] = Unit {0}
 KeepFew so_far (f ∷ fs) = (keeps_few so_far f ≡ true) × KeepFew (so_far ++ f ∷ []) fs
 
--- If all fragments of one payload arrive under a key, in any order and with repeats before the last missing one, the payload is
--- reassembled at that one and not before. At first no slot has the key; one is free at the first fragment; the slot isn't
--- dropped; no other fragment arrives under the key; and each fragment leaves at most four separate ranges. A poll is taken as its
--- single calls.
+-- If all fragments of one payload arrive under a key, in any order and with repeats before the last missing one, the
+-- payload is reassembled at that one and not before. At first no slot has the key; one is free at the first fragment;
+-- the slot isn't dropped; no other fragment arrives under the key; and each fragment leaves at most four separate
+-- ranges. A poll is taken as its single calls.
 abbrev pub PiecesAreRebuilt : Type 0
 PiecesAreRebuilt =
-    (first last : Host) (transitions : List Transition) (p : Transition) (key : FragKey) (m : ℕ) (payload : List ℕ) (f : Fragment) →
+    (first last : Host) (transitions : List Transition) (p : Transition) (key : FragKey)
+    (m : ℕ) (payload : List ℕ) (f : Fragment) →
     Run first (transitions ++ p ∷ []) last → 0 < m → length payload ≤ 4096 →
     map.get first.slots key ≡ None → arrivals_under key (slot_notes p.notes) ≡ f ∷ [] →
     AllByRecursion (Contains (cut m payload)) (arrivals_under key (slot_notes_in transitions) ++ f ∷ []) →
-    ((g : Fragment) → Contains (cut m payload) g → Contains (arrivals_under key (slot_notes_in transitions) ++ f ∷ []) g) →
+    ((g : Fragment) → Contains (cut m payload) g →
+    Contains (arrivals_under key (slot_notes_in transitions) ++ f ∷ []) g) →
     (Contains (arrivals_under key (slot_notes_in transitions)) f → ⊥) →
     KeepFew [] (arrivals_under key (slot_notes_in transitions) ++ f ∷ []) →
     AllByRecursion (IsServed key) (transitions ++ p ∷ []) →
@@ -81,12 +87,13 @@ pub record IsInTime (t0 end : ℤ) (c : Command) : Type 0 where
   pub polls : (t : ℤ) → expiry_time_of c ≡ Some t → (t0 ≤ℤ t) × (t ≤ℤ end)
   pub timeouts : (timeout : ℕ) → c ≡ SetReassemblyTimeout timeout → end ≤ℤ (t0 +ℤ pos timeout)
 
--- All fragments of a payload arrive within a time that is no longer than any timeout, beside fragments of at most one other
--- datagram. Then the payload is reassembled when the last missing fragment arrives, which is the next note about slots. Not
--- before. This law goes by moments, and holds for polls too.
+-- All fragments of a payload arrive within a time that is no longer than any timeout, beside fragments of at most one
+-- other datagram. Then the payload is reassembled when the last missing fragment arrives, which is the next note about
+-- slots. Not before. This law goes by moments, and holds for polls too.
 abbrev pub PiecesArriveInTime : Type 0
 PiecesArriveInTime =
-    (first last : Host) (transitions : List Transition) (before after : List SlotNote) (key other : FragKey) (t0 end : ℤ) (m : ℕ) (payload : List ℕ) (f : Fragment) →
+    (first last : Host) (transitions : List Transition) (before after : List SlotNote) (key other : FragKey)
+    (t0 end : ℤ) (m : ℕ) (payload : List ℕ) (f : Fragment) →
     Run first transitions last → 0 < m → length payload ≤ 4096 →
     slot_notes_in transitions ≡ before ++ Arrival key f ∷ after →
     AllByRecursion (λ p. IsInTime t0 end p.command) transitions → end ≤ℤ (t0 +ℤ pos first.reassembly_timeout) →

@@ -21,15 +21,16 @@ use Rattle.host_machine.specs.Receiving.Ethernet.{is_for, version_in}
 use Rattle.host_machine.specs.Receiving.Ipv4.{key_in, fragment_in}
 use Rattle.host_machine.specs.Polling.Run.{Transition}
 
--- a frame that a host accepts carries an IPv4 packet: over Ethernet after the header, if the frame is for the host (RFC 894); on
--- a medium without hardware addresses it is the packet
+-- a frame that a host accepts carries an IPv4 packet: over Ethernet after the header, if the frame is for the host
+-- (RFC 894); on a medium without hardware addresses it is the packet
 pub data Carries (h : HardwareAddress) (frame packet : List ℕ) : Type 0 where
-  OverEthernet : (own : EthernetAddress) → h ≡ hardware.Ethernet own → 14 ≤ length frame → is_for own (header_in frame).dst_addr ≡ true →
+  OverEthernet : (own : EthernetAddress) → h ≡ hardware.Ethernet own → 14 ≤ length frame →
+      is_for own (header_in frame).dst_addr ≡ true →
       (header_in frame).ethertype ≡ protocol.Ipv4 → packet ≡ drop 14 frame → Carries h frame packet
   AsItStands : h ≡ hardware.Ip → version_in frame ≡ 4 → packet ≡ frame → Carries h frame packet
 
--- a frame carries a fragment under a key: the header of its packet is right, the source is valid, and it is a fragment of a
--- datagram
+-- a frame carries a fragment under a key: the header of its packet is right, the source is valid, and it is a
+-- fragment of a datagram
 pub record Brings (H : Host) (frame : List ℕ) (key : FragKey) (f : Fragment) : Type 0 where
   pub packet : List ℕ
   pub carried : Carries H.hardware_addr frame packet
@@ -49,7 +50,8 @@ all_arrivals (Rebuild k octets ∷ notes) = all_arrivals notes
 -- what frames carry that are received one after another: each fragment that one carries, and no other
 pub data Bring (H : Host) : List (List ℕ) → List (FragKey × Fragment) → Type 0 where
   NoFrame : Bring H [] []
-  OneBrings : {frames : List (List ℕ)} {came : List (FragKey × Fragment)} (frame : List ℕ) (key : FragKey) (f : Fragment) →
+  OneBrings : {frames : List (List ℕ)} {came : List (FragKey × Fragment)}
+      (frame : List ℕ) (key : FragKey) (f : Fragment) →
       Brings H frame key f → Bring H frames came → Bring H (frame ∷ frames) ((key, f) ∷ came)
   NoneBrings : {frames : List (List ℕ)} {came : List (FragKey × Fragment)} (frame : List ℕ) →
       ((key : FragKey) (f : Fragment) → Brings H frame key f → ⊥) → Bring H frames came → Bring H (frame ∷ frames) came

@@ -12,10 +12,12 @@ sent_of_this (PieceSent p ∷ notes) = p ∷ sent_of_this notes
 abbrev pub IsBeginning : {X : Type 0} → List X → List X → Type 0
 IsBeginning {X} xs ys = (rest : List X) × (xs ++ rest ≡ ys)
 
--- what is sent after each packet is fragmented, up to the next one, is a prefix of its fragments; and these have this size
+-- what is sent after each packet is fragmented, up to the next one, is a prefix of its fragments;
+-- and these have this size
 abbrev pub AreBeginnings : ℕ → List CutNote → Type 0
 AreBeginnings size [] = Unit {0}
-AreBeginnings size (Cut d ∷ notes) = (d.size ≡ size) × IsBeginning (sent_of_this notes) (pieces_of d) × AreBeginnings size notes
+AreBeginnings size (Cut d ∷ notes) = (d.size ≡ size)
+    × IsBeginning (sent_of_this notes) (pieces_of d) × AreBeginnings size notes
 AreBeginnings size (PieceSent p ∷ notes) = AreBeginnings size notes
 
 -- each identification is the one before plus one, in 16 bits

@@ -1,4 +1,5 @@
--- Between an answer of `poll_at` and its instant there is no work: polls that nothing disturbs send nothing and change no socket.
+-- Between an answer of `poll_at` and its instant there is no work: polls that nothing disturbs send nothing
+-- and change no socket.
 use Rattle.std.specs.Prelude.{◌≡◌, ℕ, ℤ, pos, ◌≤ℤ◌, ◌<ℤ◌, List, [], ◌∷◌, slice_get, Option, Some, None}
 use Rattle.net_base.specs.Device.{handed_frames, sent_frames}
 use Rattle.ip_address.specs.declared.ip.IpAddress.{IpAddress}
@@ -6,7 +7,9 @@ use Rattle.iface_tables.specs.declared.route.Route.{Route}
 use Rattle.sockets.specs.Kinds.{offered_packet, socket_after_offer}
 use Rattle.sockets.specs.Kinds as socket
 use Rattle.host_machine.specs.declared.command.Command.{Command}
-use Rattle.host_machine.specs.declared.command.Command.TheVariants.{PollIngressSingle, PollEgress, Poll, PollMaintenance, PollAt, PollDelay, SetReassemblyTimeout}
+use Rattle.host_machine.specs.declared.command.Command.TheVariants.{PollIngressSingle, PollEgress}
+use Rattle.host_machine.specs.declared.command.Command.TheVariants.{Poll, PollMaintenance, PollAt}
+use Rattle.host_machine.specs.declared.command.Command.TheVariants.{PollDelay, SetReassemblyTimeout}
 use Rattle.host_machine.specs.declared.command.Answer.{Answer}
 use Rattle.host_machine.specs.declared.command.Answer.TheVariants as answer
 use Rattle.host_machine.specs.declared.results.PollIngressSingleResult.TheVariants as ingress
@@ -22,15 +25,18 @@ IsBefore s (Some end) = s <ℤ end
 
 -- from t0 until the end a socket that is asked offers nothing and stays unchanged
 abbrev pub IsQuietUntil : (IpAddress → Option IpAddress) → Socket → (t0 : ℤ) → (end : Option ℤ) → Type 0
-IsQuietUntil source s t0 end = (t : ℤ) → t0 ≤ℤ t → IsBefore t end → (offered_packet t source s ≡ None) × (socket_after_offer t source s ≡ s)
+IsQuietUntil source s t0 end = (t : ℤ) →
+    t0 ≤ℤ t → IsBefore t end → (offered_packet t source s ≡ None) × (socket_after_offer t source s ≡ s)
 
 -- each socket is quiet until the instant that it names itself
 abbrev pub SocketsAreQuiet : Type 0
-SocketsAreQuiet = (source : IpAddress → Option IpAddress) (s : Socket) (t0 : ℤ) → pos 0 ≤ℤ t0 → IsQuietUntil source s t0 (instant_of (socket.poll_at s))
+SocketsAreQuiet = (source : IpAddress → Option IpAddress) (s : Socket) (t0 : ℤ) →
+    pos 0 ≤ℤ t0 → IsQuietUntil source s t0 (instant_of (socket.poll_at s))
 
 -- no route expires from t0 to before s
 abbrev pub RoutesLast : List Route → (t0 s : ℤ) → Type 0
-RoutesLast routes t0 s = (k : ℕ) (r : Route) (end : ℤ) → slice_get routes k ≡ Some r → r.expires_at ≡ Some end → t0 ≤ℤ end → s ≤ℤ end
+RoutesLast routes t0 s = (k : ℕ) (r : Route) (end : ℤ) →
+    slice_get routes k ≡ Some r → r.expires_at ≡ Some end → t0 ≤ℤ end → s ≤ℤ end
 
 -- a moment of a poll within the time from t0 to the end; it may be earlier than one before it
 pub record IsWithin (t0 : ℤ) (end : Option ℤ) (routes : List Route) (s : ℤ) : Type 0 where

@@ -8,7 +8,8 @@ use Rattle.host_machine.specs.State.Note.{asks, identifications, slot_notes, cut
 use Rattle.host_machine.specs.State.Host.{Host, SocketSet}
 use Rattle.host_machine.specs.Sending.Dispatch.{piece_size}
 use Rattle.host_machine.specs.Laws.Rebuilding.{first_history, AreRebuilt}
-use Rattle.host_machine.specs.Laws.Order.{IsBeginning, sent_of_this, AreBeginnings, AreCounted, AreDistinctIfFew, cut_identifications, IsAmong}
+use Rattle.host_machine.specs.Laws.Order.{IsBeginning, sent_of_this, AreBeginnings, AreCounted}
+use Rattle.host_machine.specs.Laws.Order.{AreDistinctIfFew, cut_identifications, IsAmong}
 use Rattle.host_machine.specs.Laws.Real.{IsReal, IsRegular}
 use Rattle.host_machine.specs.Laws.Frames.{ArrivesInFrames}
 use Rattle.host_machine.specs.Laws.Wire.{Shows}
@@ -19,25 +20,39 @@ use Rattle.host_machine.specs.Laws.Quiet.{AreQuiet}
 
 -- the laws that hold of every run
 pub record Laws (first : Host) (transitions : List Transition) : Type 0 where
+  -- frames that request hardware addresses are at least a second apart
   pub requests_spaced : IsRegular first → AllByRecursion (λ p. NoSocketSpeaks p.before) transitions →
-      AreSpaced first.neighbors.silent_until (requests_in first.capabilities.medium transitions)  -- frames that request hardware addresses are at least a second apart
-  pub asks_spaced : AreSpaced first.neighbors.silent_until (asks (notes_in transitions))  -- so are the requests noted
-  pub arrivals_match_frames : AllByRecursion ArrivesInFrames transitions  -- the fragments that arrive are those in the frames received
-  pub rebuilt : AreRebuilt (first_history first) (slot_notes (notes_in transitions))  -- each reassembled datagram is what arrived under its key since its slot was taken
-  pub ordered : AreBeginnings (piece_size first.capabilities) (cut_notes (notes_in transitions))  -- what is sent of each fragmented packet is a prefix of its fragments
-  pub pieces_follow_first : IsBeginning (sent_of_this (cut_notes (notes_in transitions))) first.left  -- so it is with the fragments pending when the run begins
+      AreSpaced first.neighbors.silent_until (requests_in first.capabilities.medium transitions)
+  -- so are the requests noted
+  pub asks_spaced : AreSpaced first.neighbors.silent_until (asks (notes_in transitions))
+  -- the fragments that arrive are those in the frames received
+  pub arrivals_match_frames : AllByRecursion ArrivesInFrames transitions
+  -- each reassembled datagram is what arrived under its key since its slot was taken
+  pub rebuilt : AreRebuilt (first_history first) (slot_notes (notes_in transitions))
+  -- what is sent of each fragmented packet is a prefix of its fragments
+  pub ordered : AreBeginnings (piece_size first.capabilities) (cut_notes (notes_in transitions))
+  -- so it is with the fragments pending when the run begins
+  pub pieces_follow_first : IsBeginning (sent_of_this (cut_notes (notes_in transitions))) first.left
+  -- the frames read as fragments are these fragments
   pub fragments_sent_are_pieces : IsReal first →
-      Shows first.capabilities.medium (sent_frames (events_in transitions)) (cut_notes (notes_in transitions))  -- the frames read as fragments are these fragments
-  pub identifications_follow : AreCounted first.ipv4_id (identifications (notes_in transitions))  -- identifications rise by one, modulo 2 ^ 16
-  pub identifications_distinct : AreDistinctIfFew (identifications (notes_in transitions))  -- fewer than 65,536 are distinct
-  pub cuts_take_identifications : IsAmong (cut_identifications (cut_notes (notes_in transitions))) (identifications (notes_in transitions))  -- each fragmented packet has one of its own
-  pub own_keys : length (identifications (notes_in transitions)) < 2 ^ 16 → HaveOwnKeys (cuts_in transitions)  -- fewer than 65,536 dispatches fragment no two packets under one key
-  pub quiet : AreQuiet transitions  -- from an answer of `poll_at` to its instant, polls that nothing disturbs send nothing and change no socket
+      Shows first.capabilities.medium (sent_frames (events_in transitions)) (cut_notes (notes_in transitions))
+  -- identifications rise by one, modulo 2 ^ 16
+  pub identifications_follow : AreCounted first.ipv4_id (identifications (notes_in transitions))
+  -- fewer than 65,536 are distinct
+  pub identifications_distinct : AreDistinctIfFew (identifications (notes_in transitions))
+  -- each fragmented packet has one of its own
+  pub cuts_take_identifications :
+      IsAmong (cut_identifications (cut_notes (notes_in transitions))) (identifications (notes_in transitions))
+  -- fewer than 65,536 dispatches fragment no two packets under one key
+  pub own_keys : length (identifications (notes_in transitions)) < 2 ^ 16 → HaveOwnKeys (cuts_in transitions)
+  -- from an answer of `poll_at` to its instant, polls that nothing disturbs send nothing and change no socket
+  pub quiet : AreQuiet transitions
 
--- a list of commands was a run: from this host and through these devices and owners, with these answers, to a host that satisfies
--- `after`
+-- a list of commands was a run: from this host and through these devices and owners, with these answers, to a host
+-- that satisfies `after`
 pub record Ran {D O : Type 0} (tells : D → List Event → D → Type 0) (did : O → ℕ → SocketSet → SocketSet → O → Type 0)
-    (device device' : D) (owner owner' : O) (commands : List Command) (answers : List Answer) (first : Host) (after : Host → Type 0) : Type 0 where
+    (device device' : D) (owner owner' : O) (commands : List Command) (answers : List Answer) (first : Host)
+    (after : Host → Type 0) : Type 0 where
   pub transitions : List Transition
   pub last : Host
   pub run : Run first transitions last

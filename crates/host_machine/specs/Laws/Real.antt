@@ -17,17 +17,19 @@ pub record IsReal (H : Host) : Type 0 where
   pub own : IsOf H.capabilities.medium H.hardware_addr
   pub neighbors : AreOf H.capabilities.medium H.neighbors
 
--- a fragment is for an address of the medium; and if it is of UDP, more fragments follow or some precede, and its values fit the
--- fields of a header (RFC 791 3.1)
+-- a fragment is for an address of the medium; and if it is of UDP, more fragments follow or some precede, and its
+-- values fit the fields of a header (RFC 791 3.1)
 pub record IsPart (m : Medium) (p : Piece) : Type 0 where
   pub destination : IsOf m p.destination
   pub part : number_of p.header.next_header ≡ 17 → is_fragment (piece_fragment p) ≡ true
-  pub header : number_of p.header.next_header ≡ 17 → IsHeader (record (piece_header p) { next_header = protocol.Udp }) (piece_fragment p)
+  pub header : number_of p.header.next_header ≡ 17 →
+      IsHeader (record (piece_header p) { next_header = protocol.Udp }) (piece_fragment p)
 
 pub are_parts-prop : (m : Medium) (ps : List Piece) → IsProp (AllByRecursion (IsPart m) ps)
 are_parts-prop m ps = AllByRecursion-prop (IsPart m) (λ p. Prim.hlevel (props, IsOf-prop)) ps
 
--- besides, its packets may have 576 octets (RFC 791 3.2), and its pending fragments are parts of packets, if there are any
+-- besides, its packets may have 576 octets (RFC 791 3.2), and its pending fragments are parts of
+-- packets, if there are any
 pub record IsRegular (H : Host) : Type 0 where
   pub real : IsReal H
   pub mtu : 576 ≤ ip_mtu_of H.capabilities

@@ -1,5 +1,6 @@
 -- A call that sends, on a device that grants no transmit token: what is pending stays pending.
-use Rattle.std.specs.Prelude.{◌≡◌, ℕ, ℤ, ◌&&◌, Bool, false, is_none, List, [], slice_get, Option, Some, None, if◌then◌else◌}
+use Rattle.std.specs.Prelude.{◌≡◌, ℕ, ℤ, ◌&&◌, Bool, false, is_none, List, []}
+use Rattle.std.specs.Prelude.{slice_get, Option, Some, None, if◌then◌else◌}
 use Rattle.std.specs.List.{list_any}
 use Rattle.net_base.specs.Device.{Event, grants, sent_frames}
 use Rattle.group_table.specs.declared.groups.Group.{Group}
@@ -21,7 +22,8 @@ grants_any told = list_any (λ given. given) (grants told)
 
 -- an IGMP report stays pending, unless there is no further group to report
 abbrev pub waiting_igmp : Host → IgmpReportState
-waiting_igmp H = if has_passed (igmp_timeout_of H.igmp_report) H.moment && is_none (next_group H H.igmp_report) then igmp.Inactive else H.igmp_report
+waiting_igmp H = if has_passed (igmp_timeout_of H.igmp_report) H.moment
+    && is_none (next_group H H.igmp_report) then igmp.Inactive else H.igmp_report
 
 -- an MLD report that is due is dropped
 abbrev pub waiting_mld : Host → MldReportState
@@ -30,19 +32,26 @@ waiting_mld H = if has_passed (mld_timeout_of H.mld_report) H.moment then mld.In
 -- an entry whose socket was at most asked
 pub data IsOnlyAsked (H : Host) (before after : Option Storage) : Type 0 where
   NotAsked : after ≡ before → IsOnlyAsked H before after
-  WasAsked : (s : Socket) → before ≡ Some (Some s) → after ≡ Some (Some (socket_after_asking H s)) → IsOnlyAsked H before after
+  WasAsked : (s : Socket) →
+      before ≡ Some (Some s) → after ≡ Some (Some (socket_after_asking H s)) → IsOnlyAsked H before after
 
--- what remains of a host: nothing else changes; the groups of a host with an IPv4 address, which can report each of them, are
--- still unreported; and the socket at each index is unchanged, or as it is after it was asked
+-- what remains of a host: nothing else changes; the groups of a host with an IPv4 address, which can report each of
+-- them, are still unreported; and the socket at each index is unchanged, or as it is after it was asked
 pub record StillWaits (H new : Host) : Type 0 where
   pub groups : List Group
   pub sockets : SocketSet
-  pub host : new ≡ record H { groups = groups; igmp_report = waiting_igmp (with_groups H groups); mld_report = waiting_mld H; sockets = sockets }
+  pub host : new ≡ record H {
+    groups = groups;
+    igmp_report = waiting_igmp (with_groups H groups);
+    mld_report = waiting_mld H;
+    sockets = sockets;
+  }
   pub untold : (ipv4_addr H.ip_addrs ≡ None → ⊥) → groups ≡ H.groups
   pub queued : (i : ℕ) → IsOnlyAsked H (slice_get H.sockets.places i) (slice_get sockets.places i)
 
 -- nothing is sent and nothing noted, and what is pending stays pending
-pub record LosesNothing (H : Host) (answer : PollResult) (told : List Event) (notes : List Note) (new : Host) : Type 0 where
+pub record LosesNothing (H : Host) (answer : PollResult) (told : List Event)
+    (notes : List Note) (new : Host) : Type 0 where
   pub answers : answer ≡ result.None
   pub silent : sent_frames told ≡ []
   pub unnoted : notes ≡ []

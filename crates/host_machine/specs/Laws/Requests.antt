@@ -1,5 +1,6 @@
 -- Which of the frames that a run sends request hardware addresses, and when they are sent.
-use Rattle.std.specs.Prelude.{◌≡◌, ℕ, ℤ, pos, ◌==◌, ◌&&◌, ◌||◌, Bool, true, false, List, [], ◌∷◌, slice_index, if◌then◌else◌}
+use Rattle.std.specs.Prelude.{◌≡◌, ℕ, ℤ, pos, ◌==◌, ◌&&◌, ◌||◌, Bool, true, false}
+use Rattle.std.specs.Prelude.{List, [], ◌∷◌, slice_index, if◌then◌else◌}
 use Rattle.std.specs.List.{AllByRecursion}
 use Rattle.net_base.specs.declared.phy.Medium.{Medium}
 use Rattle.net_base.specs.declared.phy.Medium.TheVariants as medium
@@ -29,7 +30,8 @@ abbrev pub is_request : Medium → List ℕ → Bool
 is_request medium.Ethernet frame = is_arp_request frame || is_solicitation frame
 is_request medium.Ip frame = false
 
--- the frames that were sent, each with the moment at which the device was last asked, for a frame or for a transmit token
+-- the frames that were sent, each with the moment at which the device was last asked, for a frame
+-- or for a transmit token
 abbrev pub sent_at : ℤ → List Event → List (ℤ × List ℕ)
 sent_at t [] = []
 sent_at t (Received now reception ∷ es) = sent_at now es

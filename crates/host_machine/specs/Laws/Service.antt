@@ -1,6 +1,7 @@
--- What a host must do: requests are answered in the call that receives them, packets for a socket are in its queue, and what may
--- be sent is sent.
-use Rattle.std.specs.Prelude.{◌≡◌, ◌≢◌, ℕ, ◌+◌, ◌<◌, ◌≤◌, ℤ, pos, ◌≤ℤ◌, ◌<ℤ◌, ◌⊎◌, ◌||◌, ◌&&◌, not, is_some, Bool, true, false, List, [], ◌∷◌, ◌++◌, length, drop, take, slice_get, Option, Some, None}
+-- What a host must do: requests are answered in the call that receives them, packets for a socket are in its queue, and
+-- what may be sent is sent.
+use Rattle.std.specs.Prelude.{◌≡◌, ◌≢◌, ℕ, ◌+◌, ◌<◌, ◌≤◌, ℤ, pos, ◌≤ℤ◌, ◌<ℤ◌, ◌⊎◌, ◌||◌, ◌&&◌, not, is_some}
+use Rattle.std.specs.Prelude.{Bool, true, false, List, [], ◌∷◌, ◌++◌, length, drop, take, slice_get, Option, Some, None}
 use Rattle.std.specs.List.{list_all}
 use Rattle.net_base.specs.Checksum.{is_rx, ip_mtu_of}
 use Rattle.net_base.specs.Time.{silence_from}
@@ -80,7 +81,8 @@ pub record IsTaken (own : EthernetAddress) (type : EthernetProtocol) (frame : Li
   pub of_type : (header_in frame).ethertype ≡ type
 
 -- a call at t that received this frame, on Ethernet
-pub record Takes (own : EthernetAddress) (t : ℤ) (frame : List ℕ) (old : Host) (told : List Event) (new : Host) : Type 0 where
+pub record Takes (own : EthernetAddress) (t : ℤ) (frame : List ℕ) (old : Host)
+    (told : List Event) (new : Host) : Type 0 where
   pub answer : PollIngressSingleResult
   pub notes : List Note
   pub call : Ingress t answer old told notes new
@@ -89,7 +91,8 @@ pub record Takes (own : EthernetAddress) (t : ℤ) (frame : List ℕ) (old : Hos
 
 -- ARP
 
--- the frame is a request with these values: a unicast sender in a network of the host asks for an address assigned to the host
+-- the frame is a request with these values: a unicast sender in a network of the host asks for an
+-- address assigned to the host
 pub record AsksByArp (own : EthernetAddress) (addrs : List IpCidr) (frame : List ℕ) (r : ArpRepr) : Type 0 where
   pub taken : IsTaken own protocol.Arp frame
   pub is_packet : IsArp (drop 14 frame)
@@ -100,8 +103,8 @@ pub record AsksByArp (own : EthernetAddress) (addrs : List IpCidr) (frame : List
   pub sender_hardware : ethernet.is_unicast r.source_hardware_addr ≡ true
   pub near : in_same_network addrs (Ipv4 r.source_protocol_addr) ≡ true
 
--- the required answer: the sender, at its own hardware address, gets the host's hardware address for the address that it asked
--- for
+-- the required answer: the sender, at its own hardware address, gets the host's hardware address for the
+-- address that it asked for
 abbrev pub arp_answer : EthernetAddress → ArpRepr → ArpRepr
 arp_answer own r = record {
   operation = operation.Reply;
@@ -111,7 +114,8 @@ arp_answer own r = record {
   target_protocol_addr = r.source_protocol_addr;
 }
 
--- the call that receives such a request sends that answer and nothing else, and its sender is a known neighbour afterwards
+-- the call that receives such a request sends that answer and nothing else, and its sender is a
+-- known neighbour afterwards
 abbrev pub ArpRequestsAreAnswered : Type 0
 ArpRequestsAreAnswered =
     (own : EthernetAddress) (t : ℤ) (frame : List ℕ) (r : ArpRepr) (old new : Host) (told : List Event) →
@@ -127,8 +131,10 @@ pub record IsReached (H : Host) (a : IpAddress) (h : HardwareAddress) : Type 0 w
   pub next : IsNextHop H a (Some hop)
   pub known : answer_of H.neighbors hop H.moment ≡ Found h
 
--- the frame carries a whole IPv4 packet with this header and this payload, from a unicast address, to one assigned to the host
-pub record HasPacketV4 (own : EthernetAddress) (H : Host) (frame : List ℕ) (r : Ipv4Repr) (payload : List ℕ) : Type 0 where
+-- the frame carries a whole IPv4 packet with this header and this payload, from a unicast address, to
+-- one assigned to the host
+pub record HasPacketV4 (own : EthernetAddress) (H : Host) (frame : List ℕ)
+    (r : Ipv4Repr) (payload : List ℕ) : Type 0 where
   pub taken : IsTaken own protocol.Ipv4 frame
   pub is_packet : IsIpv4 (is_rx H.capabilities.checksum.ipv4) (drop 14 frame)
   pub header : (ipv4_in (drop 14 frame)).0 ≡ r
@@ -139,61 +145,83 @@ pub record HasPacketV4 (own : EthernetAddress) (H : Host) (frame : List ℕ) (r 
   pub given : is_assigned H.ip_addrs (Ipv4 r.dst_addr) ≡ true
 
 -- an echo request with this identifier, sequence number and data (RFC 792)
-pub record Pings (own : EthernetAddress) (H : Host) (frame : List ℕ) (r : Ipv4Repr) (ident seq_no : ℕ) (octets : List ℕ) : Type 0 where
+pub record Pings (own : EthernetAddress) (H : Host) (frame : List ℕ) (r : Ipv4Repr)
+    (ident seq_no : ℕ) (octets : List ℕ) : Type 0 where
   pub payload : List ℕ
   pub in_packet : HasPacketV4 own H frame r payload
   pub protocol_is : r.next_header ≡ ip_protocol.Icmp
   pub is_message : IsIcmpv4 (is_rx H.capabilities.checksum.icmpv4) payload
   pub values : icmpv4_in payload ≡ (EchoRequest ident seq_no, octets)
 
--- the call that receives it sends the echo reply and nothing else, if the way back is known and the device takes packets so long
+-- the call that receives it sends the echo reply and nothing else, if the way back is known and the device
+-- takes packets so long
 abbrev pub PingsAreAnswered : Type 0
 PingsAreAnswered =
-    (own : EthernetAddress) (t : ℤ) (frame : List ℕ) (r : Ipv4Repr) (ident seq_no : ℕ) (octets : List ℕ) (h : HardwareAddress) (old new : Host) (told : List Event) →
-    Takes own t frame old told new → Pings own old frame r ident seq_no octets → IsReached (at old t) (Ipv4 r.src_addr) h →
+    (own : EthernetAddress) (t : ℤ) (frame : List ℕ) (r : Ipv4Repr) (ident seq_no : ℕ) (octets : List ℕ)
+    (h : HardwareAddress) (old new : Host) (told : List Event) →
+    Takes own t frame old told new → Pings own old frame r ident seq_no octets →
+    IsReached (at old t) (Ipv4 r.src_addr) h →
     28 + length octets ≤ ip_mtu_of old.capabilities →
-    sent_frames told ≡ ip_frame old h (packet.Ipv4 (record { src_addr = r.dst_addr; dst_addr = r.src_addr; hop_limit = 64; payload = Icmpv4 (EchoReply ident seq_no) octets })) ∷ []
+    sent_frames told ≡ ip_frame old h (packet.Ipv4 (record {
+      src_addr = r.dst_addr;
+      dst_addr = r.src_addr;
+      hop_limit = 64;
+      payload = Icmpv4 (EchoReply ident seq_no) octets;
+    })) ∷ []
 
 -- Datagrams
 
 -- the frame carries a datagram (RFC 768) with these ports and this payload
-pub record HasDatagram (own : EthernetAddress) (H : Host) (frame : List ℕ) (r : Ipv4Repr) (ports : UdpRepr) (octets : List ℕ) : Type 0 where
+pub record HasDatagram (own : EthernetAddress) (H : Host) (frame : List ℕ) (r : Ipv4Repr)
+    (ports : UdpRepr) (octets : List ℕ) : Type 0 where
   pub payload : List ℕ
   pub in_packet : HasPacketV4 own H frame r payload
   pub protocol_is : r.next_header ≡ ip_protocol.Udp
   pub is_datagram : IsDatagram H (repr.Ipv4 r) payload
   pub values : udp_in payload ≡ (ports, octets)
 
--- the socket at an index listens at the datagram's port, of any address or of its destination, and has room for it; and no UDP
--- socket before it listens at that port
-pub record IsAcceptedBy (H : Host) (r : Ipv4Repr) (ports : UdpRepr) (octets : List ℕ) (i : ℕ) (s : UdpSocket) : Type 0 where
+-- the socket at an index listens at the datagram's port, of any address or of its destination, and has room for it; and
+-- no UDP socket before it listens at that port
+pub record IsAcceptedBy (H : Host) (r : Ipv4Repr) (ports : UdpRepr) (octets : List ℕ)
+    (i : ℕ) (s : UdpSocket) : Type 0 where
   pub here : slice_get H.sockets.places i ≡ Some (Some (Udp s))
   pub port : s.endpoint.port ≡ ports.dst_port
   pub addr : (s.endpoint.addr ≡ None) ⊎ (s.endpoint.addr ≡ Some (Ipv4 r.dst_addr))
-  pub first : (k : ℕ) (other : UdpSocket) → k < i → slice_get H.sockets.places k ≡ Some (Some (Udp other)) → other.endpoint.port ≢ ports.dst_port
+  pub first : (k : ℕ) (other : UdpSocket) → k < i → slice_get H.sockets.places k ≡ Some (Some (Udp other)) →
+      other.endpoint.port ≢ ports.dst_port
   pub room : is_room s.rx (length octets) ≡ true
 
 -- then the datagram is appended to the socket's queue, with its sender; and no other UDP socket changes
-pub record IsQueued (r : Ipv4Repr) (ports : UdpRepr) (octets : List ℕ) (i : ℕ) (s : UdpSocket) (old new : Host) : Type 0 where
+pub record IsQueued (r : Ipv4Repr) (ports : UdpRepr) (octets : List ℕ) (i : ℕ)
+    (s : UdpSocket) (old new : Host) : Type 0 where
   pub got : slice_get new.sockets.places i
-      ≡ Some (Some (Udp (record s { rx = record s.rx { packets = s.rx.packets ++ (record { addr = Ipv4 r.src_addr; port = ports.src_port }, octets) ∷ [] } })))
-  pub others : (j : ℕ) (other : UdpSocket) → j ≢ i → slice_get old.sockets.places j ≡ Some (Some (Udp other)) → slice_get new.sockets.places j ≡ Some (Some (Udp other))
+      ≡ Some (Some (Udp (record s {
+        rx = record s.rx {
+          packets = s.rx.packets ++ (record { addr = Ipv4 r.src_addr; port = ports.src_port }, octets) ∷ [];
+        };
+      })))
+  pub others : (j : ℕ) (other : UdpSocket) → j ≢ i → slice_get old.sockets.places j ≡ Some (Some (Udp other)) →
+      slice_get new.sockets.places j ≡ Some (Some (Udp other))
 
 -- the call that receives it does that, and sends nothing
 abbrev pub DatagramsAreQueued : Type 0
 DatagramsAreQueued =
-    (own : EthernetAddress) (t : ℤ) (frame : List ℕ) (r : Ipv4Repr) (ports : UdpRepr) (octets : List ℕ) (i : ℕ) (s : UdpSocket) (old new : Host) (told : List Event) →
+    (own : EthernetAddress) (t : ℤ) (frame : List ℕ) (r : Ipv4Repr) (ports : UdpRepr) (octets : List ℕ) (i : ℕ)
+    (s : UdpSocket) (old new : Host) (told : List Event) →
     Takes own t frame old told new → HasDatagram own old frame r ports octets → IsAcceptedBy old r ports octets i s →
     IsQueued r ports octets i s old new × (sent_frames told ≡ [])
 
--- if no socket listens at its port, and no raw socket accepts the packet, the call sends the port unreachable error and nothing
--- else. The error quotes the packet's header and the first octets of its payload (RFC 1122 3.2.2.1, 4.1.3.1)
+-- if no socket listens at its port, and no raw socket accepts the packet, the call sends the port unreachable error and
+-- nothing else. The error quotes the packet's header and the first octets of its payload (RFC 1122 3.2.2.1, 4.1.3.1)
 abbrev pub ClosedPortsAreAnswered : Type 0
 ClosedPortsAreAnswered =
-    (own : EthernetAddress) (t : ℤ) (frame : List ℕ) (r : Ipv4Repr) (ports : UdpRepr) (octets : List ℕ) (h : HardwareAddress) (old new : Host) (told : List Event) →
+    (own : EthernetAddress) (t : ℤ) (frame : List ℕ) (r : Ipv4Repr) (ports : UdpRepr) (octets : List ℕ)
+    (h : HardwareAddress) (old new : Host) (told : List Event) →
     Takes own t frame old told new → (d : HasDatagram own old frame r ports octets) →
-    ((k : ℕ) (other : UdpSocket) → slice_get old.sockets.places k ≡ Some (Some (Udp other)) → other.endpoint.port ≢ ports.dst_port) →
-    raw.is_taken (repr.Ipv4 r) old ≡ false → IsReached (at old t) (Ipv4 r.src_addr) h → 576 ≤ ip_mtu_of old.capabilities →
+    ((k : ℕ) (other : UdpSocket) → slice_get old.sockets.places k ≡ Some (Some (Udp other)) →
+    other.endpoint.port ≢ ports.dst_port) →
+    raw.is_taken (repr.Ipv4 r) old ≡ false → IsReached (at old t) (Ipv4 r.src_addr) h →
+    576 ≤ ip_mtu_of old.capabilities →
     sent_frames told ≡ ip_frame old h (packet.Ipv4 (record {
       src_addr = r.dst_addr;
       dst_addr = r.src_addr;
@@ -207,20 +235,31 @@ ClosedPortsAreAnswered =
 abbrev pub all_granted : List Event → Bool
 all_granted told = list_all (λ given. given) (grants told)
 
--- the socket at an index may be asked: it isn't waiting, its wait has timed out, or the way to the destination that it waits for
--- is known
+-- the socket at an index may be asked: it isn't waiting, its wait has timed out, or the way to the destination that
+-- it waits for is known
 pub data MayBeAsked (H : Host) (i : ℕ) : Type 0 where
   NoWait : wait_at H.sockets i ≡ None → MayBeAsked H i
   Over : (a : IpAddress) (end : ℤ) → wait_at H.sockets i ≡ Some (a, end) → end ≤ℤ H.moment → MayBeAsked H i
-  IsKnown : (a : IpAddress) (end : ℤ) (h : HardwareAddress) → wait_at H.sockets i ≡ Some (a, end) → is_one a ≡ true → IsReached H a h → MayBeAsked H i
+  IsKnown : (a : IpAddress) (end : ℤ) (h : HardwareAddress) →
+      wait_at H.sockets i ≡ Some (a, end) → is_one a ≡ true → IsReached H a h → MayBeAsked H i
 
 -- a packet carries a datagram between two endpoints of one family
 pub data IsBetween (source remote : IpEndpoint) (hop_limit : ℕ) (octets : List ℕ) (p : Packet) : Type 0 where
   OverIpv4 : (a b : Ipv4Address) → source.addr ≡ Ipv4 a → remote.addr ≡ Ipv4 b →
-      p ≡ packet.Ipv4 (record { src_addr = a; dst_addr = b; hop_limit = hop_limit; payload = packet.Udp (record { src_port = source.port; dst_port = remote.port }) octets }) →
+      p ≡ packet.Ipv4 (record {
+        src_addr = a;
+        dst_addr = b;
+        hop_limit = hop_limit;
+        payload = packet.Udp (record { src_port = source.port; dst_port = remote.port }) octets;
+      }) →
       IsBetween source remote hop_limit octets p
   OverIpv6 : (a b : Ipv6Address) → source.addr ≡ Ipv6 a → remote.addr ≡ Ipv6 b →
-      p ≡ packet.Ipv6 (record { src_addr = a; dst_addr = b; hop_limit = hop_limit; payload = packet.Udp (record { src_port = source.port; dst_port = remote.port }) octets }) →
+      p ≡ packet.Ipv6 (record {
+        src_addr = a;
+        dst_addr = b;
+        hop_limit = hop_limit;
+        payload = packet.Udp (record { src_port = source.port; dst_port = remote.port }) octets;
+      }) →
       IsBetween source remote hop_limit octets p
 
 -- the first datagram that the UDP socket at an index has to send, as a packet with a source address; and those after it
@@ -234,20 +273,23 @@ pub record HasFirst (H : Host) (i : ℕ) (s : UdpSocket) (p : Packet) (rest : Li
   pub packet_is : IsBetween (record { addr = source; port = s.endpoint.port }) remote s.hop_limit octets p
 
 -- it was sent: its frame is among those that were sent, and those after it are still in the queue
-pub record Went (H : Host) (i : ℕ) (s : UdpSocket) (p : Packet) (h : HardwareAddress) (rest : List (IpEndpoint × List ℕ)) (told : List Event) (new : Host) : Type 0 where
+pub record Went (H : Host) (i : ℕ) (s : UdpSocket) (p : Packet) (h : HardwareAddress)
+    (rest : List (IpEndpoint × List ℕ)) (told : List Event) (new : Host) : Type 0 where
   pub front : List (List ℕ)
   pub back : List (List ℕ)
   pub frames : sent_frames told ≡ front ++ (ip_frame H h p ∷ back)
   pub left : slice_get new.sockets.places i ≡ Some (Some (Udp (record s { tx = record s.tx { packets = rest } })))
 
--- a call that sends, and is granted every transmit token, sends the first datagram of each UDP socket that may be asked. Its
--- destination must be unicast, the way to it known, and the device must take packets so long
+-- a call that sends, and is granted every transmit token, sends the first datagram of each UDP socket that may be
+-- asked. Its destination must be unicast, the way to it known, and the device must take packets so long
 abbrev pub FirstDatagramsGo : Type 0
 FirstDatagramsGo =
-    (own : EthernetAddress) (t : ℤ) (answer : PollResult) (old new : Host) (told : List Event) (notes : List Note) (i : ℕ) (s : UdpSocket) (p : Packet) (h : HardwareAddress)
+    (own : EthernetAddress) (t : ℤ) (answer : PollResult) (old new : Host) (told : List Event) (notes : List Note)
+    (i : ℕ) (s : UdpSocket) (p : Packet) (h : HardwareAddress)
     (rest : List (IpEndpoint × List ℕ)) →
     Egress t answer old told notes new → all_granted told ≡ true → old.hardware_addr ≡ hardware.Ethernet own →
-    HasFirst (at old t) i s p rest → MayBeAsked (at old t) i → is_unicast old.ip_addrs (destination_of p) ≡ true → IsReached (at old t) (destination_of p) h →
+    HasFirst (at old t) i s p rest → MayBeAsked (at old t) i → is_unicast old.ip_addrs (destination_of p) ≡ true →
+    IsReached (at old t) (destination_of p) h →
     total_len p ≤ ip_mtu_of old.capabilities → Went old i s p h rest told new
 
 -- Discovery
@@ -265,27 +307,32 @@ pub record WasAsked (t : ℤ) (notes : List Note) (new : Host) : Type 0 where
   pub noted : asks notes ≡ front ++ (t ∷ back)
   pub silence : new.neighbors.silent_until ≡ silence_from t
 
--- as long as a datagram waits for its next hop, each call that sends after the silence, and is granted every transmit token,
--- requests the hardware address of some next hop
+-- as long as a datagram waits for its next hop, each call that sends after the silence, and is granted every transmit
+-- token, requests the hardware address of some next hop
 abbrev pub RequestsGo : Type 0
 RequestsGo =
-    (own : EthernetAddress) (t : ℤ) (answer : PollResult) (old new : Host) (told : List Event) (notes : List Note) (i : ℕ) (s : UdpSocket) (p : Packet) (hop : IpAddress)
+    (own : EthernetAddress) (t : ℤ) (answer : PollResult) (old new : Host) (told : List Event) (notes : List Note)
+    (i : ℕ) (s : UdpSocket) (p : Packet) (hop : IpAddress)
     (rest : List (IpEndpoint × List ℕ)) →
     Egress t answer old told notes new → all_granted told ≡ true → old.hardware_addr ≡ hardware.Ethernet own →
-    HasFirst (at old t) i s p rest → MayBeAsked (at old t) i → is_unicast old.ip_addrs (destination_of p) ≡ true → IsToBeAskedFor (at old t) (destination_of p) hop →
+    HasFirst (at old t) i s p rest → MayBeAsked (at old t) i → is_unicast old.ip_addrs (destination_of p) ≡ true →
+    IsToBeAskedFor (at old t) (destination_of p) hop →
     WasAsked t notes new
 
 -- IPv6
 
 -- the frame carries an IPv6 packet with this header and this payload, from a unicast address
-pub record HasPacketV6 (own : EthernetAddress) (H : Host) (frame : List ℕ) (r : Ipv6Repr) (payload : List ℕ) : Type 0 where
+pub record HasPacketV6 (own : EthernetAddress) (H : Host) (frame : List ℕ)
+    (r : Ipv6Repr) (payload : List ℕ) : Type 0 where
   pub taken : IsTaken own protocol.Ipv6 frame
   pub is_packet : IsIpv6 (drop 14 frame)
   pub values : ipv6_in (drop 14 frame) ≡ (r, payload)
   pub sender : ipv6.is_unicast r.src_addr ≡ true
 
--- an echo request with this identifier, sequence number and data (RFC 4443 4.1), to a unicast address assigned to the host
-pub record PingsV6 (own : EthernetAddress) (H : Host) (frame : List ℕ) (r : Ipv6Repr) (ident seq_no : ℕ) (octets : List ℕ) : Type 0 where
+-- an echo request with this identifier, sequence number and data (RFC 4443 4.1), to a unicast
+-- address assigned to the host
+pub record PingsV6 (own : EthernetAddress) (H : Host) (frame : List ℕ) (r : Ipv6Repr)
+    (ident seq_no : ℕ) (octets : List ℕ) : Type 0 where
   pub payload : List ℕ
   pub in_packet : HasPacketV6 own H frame r payload
   pub receiver : ipv6.is_unicast r.dst_addr ≡ true
@@ -296,14 +343,22 @@ pub record PingsV6 (own : EthernetAddress) (H : Host) (frame : List ℕ) (r : Ip
 
 abbrev pub PingsV6AreAnswered : Type 0
 PingsV6AreAnswered =
-    (own : EthernetAddress) (t : ℤ) (frame : List ℕ) (r : Ipv6Repr) (ident seq_no : ℕ) (octets : List ℕ) (h : HardwareAddress) (old new : Host) (told : List Event) →
-    Takes own t frame old told new → PingsV6 own old frame r ident seq_no octets → IsReached (at old t) (Ipv6 r.src_addr) h →
+    (own : EthernetAddress) (t : ℤ) (frame : List ℕ) (r : Ipv6Repr) (ident seq_no : ℕ) (octets : List ℕ)
+    (h : HardwareAddress) (old new : Host) (told : List Event) →
+    Takes own t frame old told new → PingsV6 own old frame r ident seq_no octets →
+    IsReached (at old t) (Ipv6 r.src_addr) h →
     48 + length octets ≤ ip_mtu_of old.capabilities →
-    sent_frames told ≡ ip_frame old h (packet.Ipv6 (record { src_addr = r.dst_addr; dst_addr = r.src_addr; hop_limit = 64; payload = Icmpv6 (icmpv6.EchoReply ident seq_no) octets })) ∷ []
+    sent_frames told ≡ ip_frame old h (packet.Ipv6 (record {
+      src_addr = r.dst_addr;
+      dst_addr = r.src_addr;
+      hop_limit = 64;
+      payload = Icmpv6 (icmpv6.EchoReply ident seq_no) octets;
+    })) ∷ []
 
--- a neighbour in a network of the host solicits an address assigned to it, and gives its own hardware address. The destination is
--- a solicited-node group of the host or an address assigned to it other than ::1 (RFC 4861 7.2.2)
-pub record Solicits (own : EthernetAddress) (H : Host) (frame : List ℕ) (r : Ipv6Repr) (target : Ipv6Address) (h : EthernetAddress) : Type 0 where
+-- a neighbour in a network of the host solicits an address assigned to it, and gives its own hardware address. The
+-- destination is a solicited-node group of the host or an address assigned to it other than ::1 (RFC 4861 7.2.2)
+pub record Solicits (own : EthernetAddress) (H : Host) (frame : List ℕ) (r : Ipv6Repr) (target : Ipv6Address)
+    (h : EthernetAddress) : Type 0 where
   pub payload : List ℕ
   pub in_packet : HasPacketV6 own H frame r payload
   pub protocol_is : r.next_header ≡ ip_protocol.Icmpv6
@@ -313,13 +368,15 @@ pub record Solicits (own : EthernetAddress) (H : Host) (frame : List ℕ) (r : I
   pub by_neighbor : r.hop_limit ≡ 255
   pub hardware : ethernet.is_unicast h ≡ true
   pub target_is_one : ipv6.is_unicast target ≡ true
-  pub for_host : (has_solicited_node H.ip_addrs r.dst_addr || (is_assigned H.ip_addrs (Ipv6 r.dst_addr) && not (ipv6.is_loopback r.dst_addr))) ≡ true
+  pub for_host : (has_solicited_node H.ip_addrs r.dst_addr
+      || (is_assigned H.ip_addrs (Ipv6 r.dst_addr) && not (ipv6.is_loopback r.dst_addr))) ≡ true
   pub target_is_own : is_assigned H.ip_addrs (Ipv6 target) ≡ true
 
 -- it is answered by an advertisement, and its sender is known from then on
 abbrev pub SolicitationsAreAnswered : Type 0
 SolicitationsAreAnswered =
-    (own : EthernetAddress) (t : ℤ) (frame : List ℕ) (r : Ipv6Repr) (target : Ipv6Address) (h : EthernetAddress) (old new : Host) (told : List Event) →
+    (own : EthernetAddress) (t : ℤ) (frame : List ℕ) (r : Ipv6Repr) (target : Ipv6Address) (h : EthernetAddress)
+    (old new : Host) (told : List Event) →
     Takes own t frame old told new → Solicits own old frame r target h → 72 ≤ ip_mtu_of old.capabilities →
     (sent_frames told ≡ ip_frame old (hardware.Ethernet h) (packet.Ipv6 (record {
       src_addr = target;
@@ -354,12 +411,13 @@ pub record HasOneLess (i : ℕ) (old new : Host) : Type 0 where
 -- after an IGMP report the next group is to be reported, or nothing more
 pub data IsFurther : (old new : IgmpReportState) → Type 0 where
   NextGroup : (version : IgmpVersion) (then_at next_at : ℤ) (interval place : ℕ) →
-      IsFurther (igmp.ToGeneralQuery version then_at interval place) (igmp.ToGeneralQuery version next_at interval (place + 1))
+      IsFurther (igmp.ToGeneralQuery version then_at interval place)
+      (igmp.ToGeneralQuery version next_at interval (place + 1))
   NoMore : {old : IgmpReportState} → IsFurther old igmp.Inactive
 
--- what was due at a host's moment is done after a call that sends: no report of a join or a leave, no solicitation and no MLD
--- report is due any more; an IGMP report that was due was sent, and if another one is due that is the next; and a socket that is
--- still due has one packet less to send
+-- what was due at a host's moment is done after a call that sends: no report of a join or a leave, no solicitation and
+-- no MLD report is due any more; an IGMP report that was due was sent, and if another one is due that is the next; and
+-- a socket that is still due has one packet less to send
 pub record IsDone (H new : Host) : Type 0 where
   pub joins : group_poll_at Joining new ≡ None
   pub leaves_reported : group_poll_at Leaving new ≡ None
@@ -372,17 +430,20 @@ pub record IsDone (H new : Host) : Type 0 where
 abbrev pub DueIsDone : Type 0
 DueIsDone =
     (t : ℤ) (answer : PollResult) (old new : Host) (told : List Event) (notes : List Note) →
-    Egress t answer old told notes new → all_granted told ≡ true → length old.sockets.waits ≡ length old.sockets.places → IsDone (at old t) new
+    Egress t answer old told notes new → all_granted told ≡ true →
+    length old.sockets.waits ≡ length old.sockets.places → IsDone (at old t) new
 
 -- the first pending fragment is the first frame that is sent
 
 abbrev pub PiecesGo : Type 0
 PiecesGo =
-    (t : ℤ) (answer : PollResult) (old new : Host) (told : List Event) (notes : List Note) (piece : Piece) (rest : List Piece) →
-    Egress t answer old told notes new → all_granted told ≡ true → old.left ≡ piece ∷ rest → (others : List (List ℕ)) × (sent_frames told ≡ piece_frame old piece ∷ others)
+    (t : ℤ) (answer : PollResult) (old new : Host) (told : List Event) (notes : List Note)
+    (piece : Piece) (rest : List Piece) →
+    Egress t answer old told notes new → all_granted told ≡ true → old.left ≡ piece ∷ rest →
+    (others : List (List ℕ)) × (sent_frames told ≡ piece_frame old piece ∷ others)
 
--- after a poll without frames received, addresses and routes are in sync with what was learnt from routers: no sync is due any
--- more
+-- after a poll without frames received, addresses and routes are in sync with what was learnt from routers:
+-- no sync is due any more
 abbrev pub PollsSyncSlaac : Type 0
 PollsSyncSlaac =
     (t : ℤ) (budget : ℕ) (answer : PollResult) (old new : Host) (told : List Event) (notes : List Note) →
@@ -404,39 +465,45 @@ PollsEndInCalls =
     (t : ℤ) (budget : ℕ) (answer : PollResult) (old new : Host) (told : List Event) (notes : List Note) →
     Polls t budget answer old told notes new → 1 ≤ budget → EndsIn t told new
 
--- what may still be due at a moment after a call that sends: a sync of addresses and routes, which a poll does; a pending
--- fragment; the next IGMP report; and a socket that has one packet less to send
+-- what may still be due at a moment after a call that sends: a sync of addresses and routes, which a poll does; a
+-- pending fragment; the next IGMP report; and a socket that has one packet less to send
 pub data IsStillDue (H new : Host) : Type 0 where
   StillLine : sync_poll_at new ≡ Some (pos 0) → IsStillDue H new
   StillPiece : (piece : Piece) (rest : List Piece) → new.left ≡ piece ∷ rest → IsStillDue H new
   StillReport : (x : ℤ) → igmp_poll_at new ≡ Some x → IsStillDue H new
   StillSocket : (i : ℕ) → HasOneLess i H new → IsStillDue H new
 
--- so whatever `poll_at` names after it, at a moment that has passed, is one of these; and if there is none of them, nothing is
--- due
+-- so whatever `poll_at` names after it, at a moment that has passed, is one of these; and if there is none
+-- of them, nothing is due
 abbrev pub LittleStaysDue : Type 0
 LittleStaysDue =
     (t : ℤ) (answer : PollResult) (old new : Host) (told : List Event) (notes : List Note) (x : ℤ) →
-    Egress t answer old told notes new → all_granted told ≡ true → length old.sockets.waits ≡ length old.sockets.places → Due (at new t) x → x ≤ℤ t → IsStillDue (at old t) (at new t)
+    Egress t answer old told notes new → all_granted told ≡ true →
+    length old.sockets.waits ≡ length old.sockets.places → Due (at new t) x → x ≤ℤ t → IsStillDue (at old t) (at new t)
 
 -- Frames from other hosts
 
 -- the frame of a request to a host, or broadcast, whatever its padding
 abbrev pub request_frame : EthernetAddress → EthernetAddress → ArpRepr → List ℕ → List ℕ
-request_frame source destination r padding = header_text (record { src_addr = source; dst_addr = destination; ethertype = protocol.Arp }) ++ (text r ++ padding)
+request_frame source destination r padding =
+    header_text (record { src_addr = source; dst_addr = destination; ethertype = protocol.Arp }) ++ (text r ++ padding)
 
 -- such a frame is read as that request, so its octets are answered by those of the answer
 abbrev pub RequestFramesAreRead : Type 0
 RequestFramesAreRead =
     (own source destination : EthernetAddress) (addrs : List IpCidr) (r : ArpRepr) (padding : List ℕ) →
-    length source.0 ≡ 6 → length destination.0 ≡ 6 → is_for own destination ≡ true → IsPacket r → r.operation ≡ operation.Request →
-    is_assigned addrs (Ipv4 r.target_protocol_addr) ≡ true → ipv4.is_unicast r.source_protocol_addr ≡ true → ethernet.is_unicast r.source_hardware_addr ≡ true →
-    in_same_network addrs (Ipv4 r.source_protocol_addr) ≡ true → AsksByArp own addrs (request_frame source destination r padding) r
+    length source.0 ≡ 6 → length destination.0 ≡ 6 → is_for own destination ≡ true →
+    IsPacket r → r.operation ≡ operation.Request →
+    is_assigned addrs (Ipv4 r.target_protocol_addr) ≡ true → ipv4.is_unicast r.source_protocol_addr ≡ true →
+    ethernet.is_unicast r.source_hardware_addr ≡ true →
+    in_same_network addrs (Ipv4 r.source_protocol_addr) ≡ true →
+    AsksByArp own addrs (request_frame source destination r padding) r
 
--- after a poll with a budget, without frames received and with every transmit token granted: if something is still due, it is one
--- of these, where packets are counted from some host
+-- after a poll with a budget, without frames received and with every transmit token granted: if something is still due,
+-- it is one of these, where packets are counted from some host
 abbrev pub PollsLeaveLittle : Type 0
 PollsLeaveLittle =
     (t : ℤ) (budget : ℕ) (answer : PollResult) (old new : Host) (told : List Event) (notes : List Note) (x : ℤ) →
-    Polls t budget answer old told notes new → 1 ≤ budget → handed_frames told ≡ [] → all_granted told ≡ true → length old.sockets.waits ≡ length old.sockets.places →
+    Polls t budget answer old told notes new → 1 ≤ budget → handed_frames told ≡ [] → all_granted told ≡ true →
+    length old.sockets.waits ≡ length old.sockets.places →
     Due (at new t) x → x ≤ℤ t → (mid : Host) × IsStillDue (at mid t) (at new t)

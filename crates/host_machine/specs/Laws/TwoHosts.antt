@@ -1,5 +1,5 @@
--- What one host reassembles of what another fragmented, over a link that loses, repeats and reorders frames, but never changes
--- one.
+-- What one host reassembles of what another fragmented, over a link that loses, repeats and reorders frames,
+-- but never changes one.
 use Rattle.std.specs.Prelude.{◌≡◌, ℕ, ◌*◌, ◌<◌, ◌≤◌, Bool, true, false, IsTrue, List, [], ◌∷◌, length, None}
 use Rattle.std.specs.List.{AllByRecursion, Contains}
 use Rattle.std.specs.FinMap as map
@@ -55,28 +55,33 @@ WereSent ps qs = AllByRecursion (Contains (sent_frames (events_in ps))) (handed_
 
 -- whatever is reassembled in a run under the key of one of these packets is that packet's payload
 abbrev pub RebuildsThese : List Datagram → List Transition → Type 0
-RebuildsThese ds qs = AllByRecursion (λ d. AllByRecursion (λ octets. octets ≡ d.payload) (rebuilt (key_of_cut d) (slot_notes_in qs))) ds
+RebuildsThese ds qs =
+    AllByRecursion (λ d. AllByRecursion (λ octets. octets ≡ d.payload) (rebuilt (key_of_cut d) (slot_notes_in qs))) ds
 
--- If a host receives only frames that another host sent, whatever it reassembles under the key of a packet that the other host
--- fragmented is that packet's payload. The other host fragments no two packets under one key, and the receiving host has no slot
--- with such a key at first.
+-- If a host receives only frames that another host sent, whatever it reassembles under the key of a packet that the
+-- other host fragmented is that packet's payload. The other host fragments no two packets under one key, and the
+-- receiving host has no slot with such a key at first.
 abbrev pub RebuildsWhatWasCut : Type 0
 RebuildsWhatWasCut =
     (a a' b b' : Host) (ps qs : List Transition) → Run a ps a' → Run b qs b' → MayExchange a b →
-    WereSent ps qs → HaveOwnKeys (cuts_in ps) → AllByRecursion (λ d. map.get b.slots (key_of_cut d) ≡ None) (cuts_in ps) → RebuildsThese (cuts_in ps) qs
+    WereSent ps qs → HaveOwnKeys (cuts_in ps) →
+    AllByRecursion (λ d. map.get b.slots (key_of_cut d) ≡ None) (cuts_in ps) → RebuildsThese (cuts_in ps) qs
 
--- whether a frame to a hardware address is for a host with another one: on a medium without hardware addresses each frame is
+-- whether a frame to a hardware address is for a host with another one: on a medium without hardware
+-- addresses each frame is
 abbrev pub reaches : HardwareAddress → HardwareAddress → Bool
 reaches (hardware.Ethernet destination) (hardware.Ethernet own) = is_for own destination
 reaches (hardware.Ethernet destination) hardware.Ip = false
 reaches hardware.Ip (hardware.Ethernet own) = false
 reaches hardware.Ip hardware.Ip = true
 
--- The fragments of a packet that a host fragmented into two or more are read by another host on its medium as the fragments of
--- its payload. They must be for that host, with a source that is valid there, and have a checksum if the other host verifies it.
+-- The fragments of a packet that a host fragmented into two or more are read by another host on its medium as the
+-- fragments of its payload. They must be for that host, with a source that is valid there, and have a checksum if the
+-- other host verifies it.
 abbrev pub PiecesAreRead : Type 0
 PiecesAreRead =
-    (m : Medium) (a b : Host) (d : Datagram) (y : ℕ) (f : Fragment) → IsOf m a.hardware_addr → IsOf m b.hardware_addr → IsOf m d.destination →
+    (m : Medium) (a b : Host) (d : Datagram) (y : ℕ) (f : Fragment) →
+    IsOf m a.hardware_addr → IsOf m b.hardware_addr → IsOf m d.destination →
     HasForm d → d.size ≡ y * 8 → 0 < d.size → d.size < length d.payload → Contains (cut d.size d.payload) f →
     reaches d.destination b.hardware_addr ≡ true → may_be_source b.ip_addrs d.header.src_addr ≡ true →
     (IsTrue (is_rx b.capabilities.checksum.ipv4) → IsTrue (is_tx a.capabilities.checksum.ipv4)) →

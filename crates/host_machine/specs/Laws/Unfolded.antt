@@ -22,4 +22,5 @@ pub record Unfolds (first : Host) (transitions : List Transition) (last : Host) 
 
 -- every run unfolds into one: a poll is maintenance, then calls that receive, then calls that send
 abbrev pub RunsUnfold : Type 0
-RunsUnfold = (first last : Host) (transitions : List Transition) → Run first transitions last → Unfolds first transitions last
+RunsUnfold = (first last : Host) (transitions : List Transition) →
+    Run first transitions last → Unfolds first transitions last

@@ -17,14 +17,18 @@ use Rattle.host_machine.specs.Polling.Run.{Transition, Run, events_in, notes_in}
 abbrev pub BringsNone : Medium → List ℕ → Type 0
 BringsNone m frame = (H : Host) (key : FragKey) (f : Fragment) → IsOf m H.hardware_addr → Brings H frame key f → ⊥
 
--- frames sent on a medium, and the notes about fragmented packets: each fragment noted is one frame, in order, from an address of
--- the medium; each fragmented packet is for one; and no host on the medium reads any other frame as a fragment
+-- frames sent on a medium, and the notes about fragmented packets: each fragment noted is one frame, in
+-- order, from an address of the medium; each fragmented packet is for one; and no host on the medium reads
+-- any other frame as a fragment
 pub data Shows (m : Medium) : List (List ℕ) → List CutNote → Type 0 where
   Nothing : Shows m [] []
-  OnePiece : {frames : List (List ℕ)} {notes : List CutNote} (H : Host) (p : Piece) → IsOf m H.hardware_addr → Shows m frames notes →
+  OnePiece : {frames : List (List ℕ)} {notes : List CutNote} (H : Host) (p : Piece) →
+      IsOf m H.hardware_addr → Shows m frames notes →
       Shows m (piece_frame H p ∷ frames) (PieceSent p ∷ notes)
-  OneCut : {frames : List (List ℕ)} {notes : List CutNote} (d : Datagram) → IsOf m d.destination → Shows m frames notes → Shows m frames (Cut d ∷ notes)
-  OtherFrame : {frames : List (List ℕ)} {notes : List CutNote} (frame : List ℕ) → BringsNone m frame → Shows m frames notes → Shows m (frame ∷ frames) notes
+  OneCut : {frames : List (List ℕ)} {notes : List CutNote} (d : Datagram) →
+      IsOf m d.destination → Shows m frames notes → Shows m frames (Cut d ∷ notes)
+  OtherFrame : {frames : List (List ℕ)} {notes : List CutNote} (frame : List ℕ) →
+      BringsNone m frame → Shows m frames notes → Shows m (frame ∷ frames) notes
 
 -- the frames of a run that a host on the same medium reads as fragments are the noted fragments, in order
 abbrev pub FragmentsArePieces : Type 0
@@ -32,8 +36,8 @@ FragmentsArePieces =
     (first last : Host) (transitions : List Transition) → Run first transitions last → IsReal first →
     Shows first.capabilities.medium (sent_frames (events_in transitions)) (cut_notes (notes_in transitions))
 
--- the device's capabilities stay the same, and hardware addresses stay those of its medium, so that a continued run meets the
--- same premises
+-- the device's capabilities stay the same, and hardware addresses stay those of its medium, so that a continued run
+-- meets the same premises
 abbrev pub StaysReal : Type 0
 StaysReal =
     (first last : Host) (transitions : List Transition) → Run first transitions last → IsReal first →

@@ -1,5 +1,6 @@
 -- When a host has to be polled again: the instants at which it has work.
-use Rattle.std.specs.Prelude.{◌≡◌, ℕ, ℤ, pos, ◌+ℤ◌, ◌≤ℤ◌, Bool, List, [], ◌∷◌, slice_get, Option, Some, None, if◌then◌else◌}
+use Rattle.std.specs.Prelude.{◌≡◌, ℕ, ℤ, pos, ◌+ℤ◌, ◌≤ℤ◌, Bool, List, [], ◌∷◌}
+use Rattle.std.specs.Prelude.{slice_get, Option, Some, None, if◌then◌else◌}
 use Rattle.socket_base.specs.declared.poll_at.PollAt.{PollAt}
 use Rattle.socket_base.specs.declared.poll_at.PollAt.TheVariants.{Now, Time, Ingress}
 use Rattle.sockets.specs.Kinds as kinds
@@ -50,7 +51,8 @@ group_poll_at state H = option_map (λ a. pos 0) (first_in state H.groups)
 abbrev pub sync_poll_at : Host → Option ℤ
 sync_poll_at H = if sync_required H.slaac H.moment then Some (pos 0) else None
 
--- an instant at which there is work, as the host sees it at its moment: each thing that a poll may do by itself has its case here
+-- an instant at which there is work, as the host sees it at its moment: each thing that a poll may do by
+-- itself has its case here
 pub data Due (H : Host) (x : ℤ) : Type 0 where
   OfPiece : AtOnce H.left x → Due H x
   OfSync : sync_poll_at H ≡ Some x → Due H x
@@ -81,8 +83,10 @@ pub data IsRest (t : ℤ) : (end : Option ℤ) → (rest : Option ℕ) → Type 
 
 -- the earlier of an instant and of those at which groups have something to report
 abbrev pub groups_poll_at : Host → Option ℤ → Option ℤ
-groups_poll_at H other = earlier_of (group_poll_at Joining H) (earlier_of (group_poll_at Leaving H) (earlier_of (igmp_poll_at H) (earlier_of (mld_timeout_of H.mld_report) other)))
+groups_poll_at H other = earlier_of (group_poll_at Joining H) (earlier_of (group_poll_at Leaving H)
+    (earlier_of (igmp_poll_at H) (earlier_of (mld_timeout_of H.mld_report) other)))
 
 -- the earlier of an instant and of those at which router discovery has work
 abbrev pub routers_poll_at : Host → Option ℤ → Option ℤ
-routers_poll_at H other = earlier_of (sync_poll_at H) (earlier_of (rs_poll_at H) (earlier_of (end_at H.slaac H.moment) other))
+routers_poll_at H other =
+    earlier_of (sync_poll_at H) (earlier_of (rs_poll_at H) (earlier_of (end_at H.slaac H.moment) other))

@@ -24,9 +24,11 @@ answer_to Withheld = result.None
 answer_to (Frame []) = result.PacketProcessed
 answer_to (Frame (octet ∷ octets)) = result.SocketStateChanged
 
-pub record Ingress (t : ℤ) (answer : PollIngressSingleResult) (old : Host) (told : List Event) (notes : List Note) (new : Host) : Type 0 where
+pub record Ingress (t : ℤ) (answer : PollIngressSingleResult) (old : Host) (told : List Event)
+    (notes : List Note) (new : Host) : Type 0 where
   pub reception : Reception
   pub frames : List (List ℕ)
-  pub response : Response (λ H reply noted taken. Takes H reception reply noted taken) (without_expired old t) frames notes new
+  pub response :
+      Response (λ H reply noted taken. Takes H reception reply noted taken) (without_expired old t) frames notes new
   pub events : told ≡ Received t reception ∷ sends frames
   pub answers : answer ≡ answer_to reception

@@ -1,5 +1,5 @@
--- One poll: maintenance, then the calls that receive, then those that send, all at one moment, each kind until one has nothing
--- more to do or the budget is spent.
+-- One poll: maintenance, then the calls that receive, then those that send, all at one moment, each kind until one has
+-- nothing more to do or the budget is spent.
 use Rattle.std.specs.Prelude.{◌≡◌, ◌≢◌, ℕ, ◌<◌, ◌+◌, ℤ, Bool, true, false, ◌||◌, List, [], ◌++◌}
 use Rattle.net_base.specs.Device.{Event}
 use Rattle.host_machine.specs.declared.results.PollIngressSingleResult.{PollIngressSingleResult}
@@ -19,16 +19,20 @@ pub data Repeats {A : Type 0} (call : A → Part) (nothing : A) (changes : A →
   Begins : Repeats call nothing changes old 0 [] [] old false
   Again : {n : ℕ} {told_so : List Event} {notes_so : List Note} {mid : Host} {changed : Bool}
       (answer : A) (told : List Event) (notes : List Note) (new : Host) →
-      Repeats call nothing changes old n told_so notes_so mid changed → call answer mid told notes new → answer ≢ nothing →
+      Repeats call nothing changes old n told_so notes_so mid changed →
+      call answer mid told notes new → answer ≢ nothing →
       Repeats call nothing changes old (n + 1) (told_so ++ told) (notes_so ++ notes) new (changed || changes answer)
 
 -- such calls until one has nothing to do, or the budget is spent
-pub data Until {A : Type 0} (call : A → Part) (nothing : A) (changes : A → Bool) (budget : ℕ) (changed : Bool) (old : Host)
+pub data Until {A : Type 0} (call : A → Part) (nothing : A) (changes : A → Bool)
+    (budget : ℕ) (changed : Bool) (old : Host)
     (told : List Event) (notes : List Note) (new : Host) : Type 0 where
-  Spent : Repeats call nothing changes old budget told notes new changed → Until call nothing changes budget changed old told notes new
+  Spent : Repeats call nothing changes old budget told notes new changed →
+      Until call nothing changes budget changed old told notes new
   Done : (n : ℕ) (told_so told_last : List Event) (notes_so notes_last : List Note) (mid : Host) → n < budget →
       Repeats call nothing changes old n told_so notes_so mid changed → call nothing mid told_last notes_last new →
-      told ≡ told_so ++ told_last → notes ≡ notes_so ++ notes_last → Until call nothing changes budget changed old told notes new
+      told ≡ told_so ++ told_last → notes ≡ notes_so ++ notes_last →
+      Until call nothing changes budget changed old told notes new
 
 abbrev pub may_change : PollIngressSingleResult → Bool
 may_change ingress.None = false
@@ -39,7 +43,8 @@ abbrev pub is_changed : PollResult → Bool
 is_changed result.None = false
 is_changed result.SocketStateChanged = true
 
--- the host after maintenance: expired slots are dropped, and addresses and routes are in sync with what was learnt from routers
+-- the host after maintenance: expired slots are dropped, and addresses and routes are in sync with what
+-- was learnt from routers
 abbrev pub after_maintenance : Host → Host
 after_maintenance H = after_sync (without_expired H H.moment)
 
@@ -51,7 +56,8 @@ Receives t budget = Until (Ingress t) ingress.None may_change budget
 abbrev pub Sends : ℤ → ℕ → Bool → Part
 Sends t budget = Until (Egress t) result.None is_changed budget
 
-pub record Polls (t : ℤ) (budget : ℕ) (answer : PollResult) (old : Host) (told : List Event) (notes : List Note) (new : Host) : Type 0 where
+pub record Polls (t : ℤ) (budget : ℕ) (answer : PollResult) (old : Host) (told : List Event)
+    (notes : List Note) (new : Host) : Type 0 where
   pub mid : Host  -- after the frames were received
   pub received : Bool
   pub went : Bool

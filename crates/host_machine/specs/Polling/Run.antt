@@ -7,8 +7,8 @@ use Rattle.host_machine.specs.State.Note.{Note}
 use Rattle.host_machine.specs.State.Host.{Host, SocketSet}
 use Rattle.host_machine.specs.Polling.Step.{Act, Step}
 
--- one transition of a run: the command with its answer, the device's events, what the owner did, the notes, and the host before
--- and after
+-- one transition of a run: the command with its answer, the device's events, what the owner did, the notes, and the
+-- host before and after
 pub record Transition : Type 0 where
   pub command : Command
   pub answer : Answer
@@ -21,9 +21,18 @@ pub record Transition : Type 0 where
 -- a run from a host to a host, by its transitions in order
 pub data Run : Host → List Transition → Host → Type 0 where
   Ends : {H : Host} → Run H [] H
-  Then : {old mid last : Host} {command : Command} {answer : Answer} {told : List Event} {acts : List Act} {notes : List Note} {transitions : List Transition} →
+  Then : {old mid last : Host} {command : Command} {answer : Answer} {told : List Event} {acts : List Act}
+      {notes : List Note} {transitions : List Transition} →
       Step command answer old told acts notes mid → Run mid transitions last →
-      Run old (record { command = command; answer = answer; told = told; acts = acts; notes = notes; before = old; after = mid } ∷ transitions) last
+      Run old (record {
+        command = command;
+        answer = answer;
+        told = told;
+        acts = acts;
+        notes = notes;
+        before = old;
+        after = mid;
+      } ∷ transitions) last
 
 -- all events, actions and notes, in order
 abbrev pub events_in : List Transition → List Event
@@ -41,7 +50,8 @@ notes_in (p ∷ ps) = p.notes ++ notes_in ps
 -- an owner that did these actions, one after another
 pub data Did {O : Type 0} (did : O → ℕ → SocketSet → SocketSet → O → Type 0) : O → List Act → O → Type 0 where
   NoAct : {o : O} → Did did o [] o
-  ThenAct : {o m p : O} {act : Act} {acts : List Act} → did o act.number act.before act.after m → Did did m acts p → Did did o (act ∷ acts) p
+  ThenAct : {o m p : O} {act : Act} {acts : List Act} →
+      did o act.number act.before act.after m → Did did m acts p → Did did o (act ∷ acts) p
 
 -- no moment is earlier than the end of the silence, and each is at least a second after the one before
 abbrev pub AreSpaced : ℤ → List ℤ → Type 0

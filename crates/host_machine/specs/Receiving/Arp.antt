@@ -15,8 +15,8 @@ use Rattle.host_machine.specs.State.Note.{Note}
 use Rattle.host_machine.specs.State.Host.{Host, has_ip_addr, in_same_network, with_neighbors}
 use Rattle.host_machine.specs.Receiving.Reply.{Reply, Arp, IsDropped}
 
--- a packet is for the host if its target is one of the host's addresses, and its sender is unicast and in one of the host's
--- networks
+-- a packet is for the host if its target is one of the host's addresses, and its sender is unicast and in one
+-- of the host's networks
 abbrev pub is_for_us : Host → ArpRepr → Bool
 is_for_us H r =
     has_ip_addr H (Ipv4 r.target_protocol_addr)
@@ -57,8 +57,11 @@ answer_by operation.Request own r = Some (Arp (reply_to own r))
 answer_by operation.Reply own r = None
 
 -- how the payload of an ARP frame is processed
-pub data ProcessesArp (own : EthernetAddress) (H : Host) (payload : List ℕ) (reply : Option Reply) (notes : List Note) (new : Host) : Type 0 where
+pub data ProcessesArp (own : EthernetAddress) (H : Host) (payload : List ℕ) (reply : Option Reply)
+    (notes : List Note) (new : Host) : Type 0 where
   Malformed : ¬ IsArp payload → IsDropped H reply notes new → ProcessesArp own H payload reply notes new
-  NotForUs : IsArp payload → is_for_us H (arp_in payload) ≡ false → IsDropped H reply notes new → ProcessesArp own H payload reply notes new
+  NotForUs : IsArp payload → is_for_us H (arp_in payload) ≡ false → IsDropped H reply notes new →
+      ProcessesArp own H payload reply notes new
   Learnt : IsArp payload → is_for_us H (arp_in payload) ≡ true → LearnsSender H (arp_in payload) new →
-      reply ≡ answer_by (arp_in payload).operation own (arp_in payload) → notes ≡ [] → ProcessesArp own H payload reply notes new
+      reply ≡ answer_by (arp_in payload).operation own (arp_in payload) → notes ≡ [] →
+      ProcessesArp own H payload reply notes new

@@ -1,5 +1,6 @@
 -- Delivery to sockets.
-use Rattle.std.specs.Prelude.{◌≡◌, ℕ, ◌<◌, Bool, true, false, List, map, slice_get, slice_set, Option, Some, if◌then◌else◌}
+use Rattle.std.specs.Prelude.{◌≡◌, ℕ, ◌<◌, Bool, true, false, List, map}
+use Rattle.std.specs.Prelude.{slice_get, slice_set, Option, Some, if◌then◌else◌}
 use Rattle.std.specs.Option.{option_and_then, option_map_or}
 use Rattle.std.specs.List.{list_any}
 use Rattle.host_machine.specs.State.Host.{Socket, Storage}

@@ -13,8 +13,10 @@ accepts message contents place = holds down_icmp (λ s. socket.accepts s message
 
 -- the entry after its socket got a whole message, from an address
 abbrev pub storage_after_delivery : IpAddress → List ℕ → Storage → Storage
-storage_after_delivery remote octets place = changed down_icmp up_icmp (socket.socket_after_delivery remote octets) place
+storage_after_delivery remote octets place =
+    changed down_icmp up_icmp (socket.socket_after_delivery remote octets) place
 
 -- each ICMP socket that accepts the message gets it
 abbrev pub host_after_delivery : IcmpRepr → List ℕ → IpAddress → List ℕ → Host → Host
-host_after_delivery message contents remote octets H = with_places H (to_each (accepts message contents) (storage_after_delivery remote octets) H.sockets.places)
+host_after_delivery message contents remote octets H =
+    with_places H (to_each (accepts message contents) (storage_after_delivery remote octets) H.sockets.places)

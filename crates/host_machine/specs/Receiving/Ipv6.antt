@@ -1,5 +1,5 @@
--- IPv6, reception of packets (RFC 8200 3, 4): which packets are accepted, what their options ask for, and by which protocol they
--- are processed.
+-- IPv6, reception of packets (RFC 8200 3, 4): which packets are accepted, what their options ask for, and by which
+-- protocol they are processed.
 use Rattle.std.specs.Prelude.{◌≡◌, ◌≢◌, ℕ, Bool, true, false, List, [], Option, Some, None, if◌then◌else◌}
 use Rattle.ip_address.specs.declared.hardware.HardwareAddress.{HardwareAddress}
 use Rattle.ip_address.specs.declared.ip.IpAddress.TheVariants as address
@@ -12,7 +12,8 @@ use Rattle.ipv6_wire.specs.declared.ipv6_packet.Ipv6Repr.{Ipv6Repr}
 use Rattle.ipv6_wire.specs.Ipv6Packet.{IsIpv6, ipv6_in}
 use Rattle.ipv6_wire.specs.HopByHop.{IsHopByHop, hop_by_hop_in, first_failure}
 use Rattle.ipv6_wire.specs.declared.hop_by_hop.Ipv6OptionFailureType.{Ipv6OptionFailureType}
-use Rattle.ipv6_wire.specs.declared.hop_by_hop.Ipv6OptionFailureType.TheVariants.{Skip, Discard, DiscardSendAll, DiscardSendUnicast}
+use Rattle.ipv6_wire.specs.declared.hop_by_hop.Ipv6OptionFailureType.TheVariants.{Skip, Discard, DiscardSendAll}
+use Rattle.ipv6_wire.specs.declared.hop_by_hop.Ipv6OptionFailureType.TheVariants.{DiscardSendUnicast}
 use Rattle.icmpv6_wire.specs.declared.icmpv6.Icmpv6ParamProblem.TheVariants.{UnrecognizedNxtHdr, UnrecognizedOption}
 use Rattle.ip_wire.specs.declared.ip_packet.IpRepr.TheVariants as repr
 use Rattle.host_machine.specs.State.Note.{Note}
@@ -25,64 +26,88 @@ use Rattle.host_machine.specs.Receiving.Tcp.{ProcessesTcp}
 use Rattle.host_machine.specs.Receiving.Raw.{host_after_raw_delivery, is_taken}
 use Rattle.host_machine.specs.Receiving.Renewal.{sender_renewed}
 
--- the answer to a packet of an unknown protocol: a parameter problem, unless a raw socket accepted the packet (RFC 4443 3.4)
+-- the answer to a packet of an unknown protocol: a parameter problem, unless a raw socket accepted the
+-- packet (RFC 4443 3.4)
 abbrev pub unrecognized_next_header : Bool → List IpCidr → Ipv6Repr → List ℕ → Option Reply
-unrecognized_next_header handled_by_raw_socket own r payload = if handled_by_raw_socket then None else Some (problem own UnrecognizedNxtHdr r payload)
+unrecognized_next_header handled_by_raw_socket own r payload =
+    if handled_by_raw_socket then None else Some (problem own UnrecognizedNxtHdr r payload)
 
 -- a payload of an unknown protocol
-pub record IsRefused (handled_by_raw_socket : Bool) (r : Ipv6Repr) (H : Host) (octets : List ℕ) (reply : Option Reply) (notes : List Note) (new : Host) : Type 0 where
+pub record IsRefused (handled_by_raw_socket : Bool) (r : Ipv6Repr) (H : Host) (octets : List ℕ) (reply : Option Reply)
+    (notes : List Note) (new : Host) : Type 0 where
   pub replied : reply ≡ unrecognized_next_header handled_by_raw_socket H.ip_addrs r octets
   pub unnoted : notes ≡ []
   pub unchanged : new ≡ H
 
--- by the protocol of the payload, from the header or the options, and whether a raw socket accepted the packet; options that
--- don't come first, and protocols of IPv4 alone, count as unknown
+-- by the protocol of the payload, from the header or the options, and whether a raw socket accepted the packet; options
+-- that don't come first, and protocols of IPv4 alone, count as unknown
 abbrev pub ProcessesProtocol : IpProtocol → Bool → Ipv6Repr → Host → List ℕ → Option Reply → List Note → Host → Type 0
-ProcessesProtocol protocol.Icmpv6 handled_by_raw_socket r H octets reply notes new = ProcessesIcmpv6 r H octets reply notes new
-ProcessesProtocol protocol.Udp handled_by_raw_socket r H octets reply notes new = ProcessesUdp handled_by_raw_socket (repr.Ipv6 r) H octets reply notes new
-ProcessesProtocol protocol.Tcp handled_by_raw_socket r H octets reply notes new = ProcessesTcp handled_by_raw_socket (repr.Ipv6 r) H octets reply notes new
-ProcessesProtocol protocol.Icmp handled_by_raw_socket r H octets reply notes new = IsRefused handled_by_raw_socket r H octets reply notes new
-ProcessesProtocol protocol.Igmp handled_by_raw_socket r H octets reply notes new = IsRefused handled_by_raw_socket r H octets reply notes new
-ProcessesProtocol protocol.HopByHop handled_by_raw_socket r H octets reply notes new = IsRefused handled_by_raw_socket r H octets reply notes new
-ProcessesProtocol (protocol.Unknown number) handled_by_raw_socket r H octets reply notes new = IsRefused handled_by_raw_socket r H octets reply notes new
+ProcessesProtocol protocol.Icmpv6 handled_by_raw_socket r H octets reply notes new =
+    ProcessesIcmpv6 r H octets reply notes new
+ProcessesProtocol protocol.Udp handled_by_raw_socket r H octets reply notes new =
+    ProcessesUdp handled_by_raw_socket (repr.Ipv6 r) H octets reply notes new
+ProcessesProtocol protocol.Tcp handled_by_raw_socket r H octets reply notes new =
+    ProcessesTcp handled_by_raw_socket (repr.Ipv6 r) H octets reply notes new
+ProcessesProtocol protocol.Icmp handled_by_raw_socket r H octets reply notes new =
+    IsRefused handled_by_raw_socket r H octets reply notes new
+ProcessesProtocol protocol.Igmp handled_by_raw_socket r H octets reply notes new =
+    IsRefused handled_by_raw_socket r H octets reply notes new
+ProcessesProtocol protocol.HopByHop handled_by_raw_socket r H octets reply notes new =
+    IsRefused handled_by_raw_socket r H octets reply notes new
+ProcessesProtocol (protocol.Unknown number) handled_by_raw_socket r H octets reply notes new =
+    IsRefused handled_by_raw_socket r H octets reply notes new
 
 -- a packet by its header, by the protocol of its payload, and by its payload: raw sockets get those for the host
-pub data ProcessesDatagramV6 (source : HardwareAddress) (r : Ipv6Repr) (p : IpProtocol) (H : Host) (payload : List ℕ) (reply : Option Reply)
+pub data ProcessesDatagramV6 (source : HardwareAddress) (r : Ipv6Repr) (p : IpProtocol) (H : Host)
+    (payload : List ℕ) (reply : Option Reply)
     (notes : List Note) (new : Host) : Type 0 where
-  NotForUs : is_for_host H (address.Ipv6 r.dst_addr) ≡ false → IsDropped H reply notes new → ProcessesDatagramV6 source r p H payload reply notes new
+  NotForUs : is_for_host H (address.Ipv6 r.dst_addr) ≡ false → IsDropped H reply notes new →
+      ProcessesDatagramV6 source r p H payload reply notes new
   Accepted : is_for_host H (address.Ipv6 r.dst_addr) ≡ true →
-      ProcessesProtocol p (is_taken (repr.Ipv6 r) H) r (sender_renewed source (repr.Ipv6 r) (host_after_raw_delivery (repr.Ipv6 r) payload H)) payload
+      ProcessesProtocol p (is_taken (repr.Ipv6 r) H) r
+      (sender_renewed source (repr.Ipv6 r) (host_after_raw_delivery (repr.Ipv6 r) payload H)) payload
       reply notes new → ProcessesDatagramV6 source r p H payload reply notes new
 
--- the answer to an unrecognized option: a parameter problem, quoting from the options on; by its class also to a multicast
--- packet, or not
+-- the answer to an unrecognized option: a parameter problem, quoting from the options on; by its class also to a
+-- multicast packet, or not
 abbrev pub unknown_option : Ipv6OptionFailureType → List IpCidr → Ipv6Repr → List ℕ → Option Reply
 unknown_option Skip own r payload = None
 unknown_option Discard own r payload = None
 unknown_option DiscardSendAll own r payload = Some (problem own UnrecognizedOption r payload)
-unknown_option DiscardSendUnicast own r payload = if is_multicast r.dst_addr then None else Some (problem own UnrecognizedOption r payload)
+unknown_option DiscardSendUnicast own r payload =
+    if is_multicast r.dst_addr then None else Some (problem own UnrecognizedOption r payload)
 
--- a payload with hop-by-hop options: the first one that is unrecognized and not to be skipped ends it, before the destination is
--- tested
-pub data ProcessesHopByHop (source : HardwareAddress) (r : Ipv6Repr) (H : Host) (payload : List ℕ) (reply : Option Reply) (notes : List Note)
+-- a payload with hop-by-hop options: the first one that is unrecognized and not to be skipped ends it, before the
+-- destination is tested
+pub data ProcessesHopByHop (source : HardwareAddress) (r : Ipv6Repr) (H : Host) (payload : List ℕ)
+    (reply : Option Reply) (notes : List Note)
     (new : Host) : Type 0 where
-  MalformedOptions : (IsHopByHop payload → ⊥) → IsDropped H reply notes new → ProcessesHopByHop source r H payload reply notes new
+  MalformedOptions : (IsHopByHop payload → ⊥) → IsDropped H reply notes new →
+      ProcessesHopByHop source r H payload reply notes new
   Skipped : IsHopByHop payload → first_failure (hop_by_hop_in payload).0.options.items ≡ Skip →
       ProcessesDatagramV6 source r (hop_by_hop_in payload).0.next_header H (hop_by_hop_in payload).1 reply notes new →
       ProcessesHopByHop source r H payload reply notes new
-  Discarded : (failure : Ipv6OptionFailureType) → IsHopByHop payload → first_failure (hop_by_hop_in payload).0.options.items ≡ failure →
-      failure ≢ Skip → reply ≡ unknown_option failure H.ip_addrs r payload → notes ≡ [] → new ≡ H → ProcessesHopByHop source r H payload reply notes new
+  Discarded : (failure : Ipv6OptionFailureType) →
+      IsHopByHop payload → first_failure (hop_by_hop_in payload).0.options.items ≡ failure →
+      failure ≢ Skip → reply ≡ unknown_option failure H.ip_addrs r payload → notes ≡ [] → new ≡ H →
+      ProcessesHopByHop source r H payload reply notes new
 
 -- a packet by its header and its payload: its source must be unicast
-pub data ProcessesPacket (source : HardwareAddress) (r : Ipv6Repr) (H : Host) (payload : List ℕ) (reply : Option Reply) (notes : List Note)
+pub data ProcessesPacket (source : HardwareAddress) (r : Ipv6Repr) (H : Host) (payload : List ℕ)
+    (reply : Option Reply) (notes : List Note)
     (new : Host) : Type 0 where
-  FromNoHost : is_unicast r.src_addr ≡ false → IsDropped H reply notes new → ProcessesPacket source r H payload reply notes new
-  WithOptions : is_unicast r.src_addr ≡ true → number_of r.next_header ≡ 0 → ProcessesHopByHop source r H payload reply notes new →
+  FromNoHost : is_unicast r.src_addr ≡ false → IsDropped H reply notes new →
       ProcessesPacket source r H payload reply notes new
-  Bare : is_unicast r.src_addr ≡ true → number_of r.next_header ≢ 0 → ProcessesDatagramV6 source r r.next_header H payload reply notes new →
+  WithOptions : is_unicast r.src_addr ≡ true → number_of r.next_header ≡ 0 →
+      ProcessesHopByHop source r H payload reply notes new →
+      ProcessesPacket source r H payload reply notes new
+  Bare : is_unicast r.src_addr ≡ true → number_of r.next_header ≢ 0 →
+      ProcessesDatagramV6 source r r.next_header H payload reply notes new →
       ProcessesPacket source r H payload reply notes new
 
 -- how the octets after a frame's header are processed, received from this hardware address
-pub data ProcessesIpv6 (source : HardwareAddress) (H : Host) (octets : List ℕ) (reply : Option Reply) (notes : List Note) (new : Host) : Type 0 where
+pub data ProcessesIpv6 (source : HardwareAddress) (H : Host) (octets : List ℕ) (reply : Option Reply)
+    (notes : List Note) (new : Host) : Type 0 where
   Malformed : (IsIpv6 octets → ⊥) → IsDropped H reply notes new → ProcessesIpv6 source H octets reply notes new
-  Read : IsIpv6 octets → ProcessesPacket source (ipv6_in octets).0 H (ipv6_in octets).1 reply notes new → ProcessesIpv6 source H octets reply notes new
+  Read : IsIpv6 octets → ProcessesPacket source (ipv6_in octets).0 H (ipv6_in octets).1 reply notes new →
+      ProcessesIpv6 source H octets reply notes new

@@ -20,7 +20,8 @@ takes r place = accepts (version_of r) (next_header r) place
 
 -- the entry after its socket got a packet, with its header as it is emitted
 abbrev pub storage_after_delivery : Bool → IpRepr → List ℕ → Storage → Storage
-storage_after_delivery summed r payload place = changed down_raw up_raw (socket.socket_after_delivery summed r payload) place
+storage_after_delivery summed r payload place =
+    changed down_raw up_raw (socket.socket_after_delivery summed r payload) place
 
 -- some raw socket accepts the packet
 abbrev pub is_taken : IpRepr → Host → Bool
@@ -28,4 +29,5 @@ is_taken r H = some_accepts (takes r) H.sockets.places
 
 -- each raw socket that accepts the packet gets it
 abbrev pub host_after_raw_delivery : IpRepr → List ℕ → Host → Host
-host_after_raw_delivery r payload H = with_places H (to_each (takes r) (storage_after_delivery (is_tx H.capabilities.checksum.ipv4) r payload) H.sockets.places)
+host_after_raw_delivery r payload H = with_places H
+    (to_each (takes r) (storage_after_delivery (is_tx H.capabilities.checksum.ipv4) r payload) H.sockets.places)

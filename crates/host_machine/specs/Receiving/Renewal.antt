@@ -7,8 +7,9 @@ use Rattle.iface_tables.specs.Neighbor.{after_renewal, expiry_from}
 use Rattle.host_machine.specs.State.Host.{Host, with_neighbors}
 use Rattle.host_machine.specs.State.Addresses.{is_unicast}
 
--- a neighbour that sends a packet to the host alone, from the hardware address at which it is known, is kept for another 60
--- seconds
+-- a neighbour that sends a packet to the host alone, from the hardware address at which it is known, is kept
+-- for another 60 seconds
 abbrev pub sender_renewed : HardwareAddress → IpRepr → Host → Host
 sender_renewed source r H =
-    if is_unicast H.ip_addrs (dst_addr r) then with_neighbors H (after_renewal H.neighbors (src_addr r) source (expiry_from H.moment)) else H
+    if is_unicast H.ip_addrs (dst_addr r)
+    then with_neighbors H (after_renewal H.neighbors (src_addr r) source (expiry_from H.moment)) else H

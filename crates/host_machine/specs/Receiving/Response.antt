@@ -6,14 +6,16 @@ use Rattle.host_machine.specs.Receiving.Reply.{Reply, Arp, Ip}
 use Rattle.host_machine.specs.Sending.Frame.{arp_frame}
 use Rattle.host_machine.specs.Sending.Dispatch.{Outcome, Dispatches}
 
--- how a reply is sent: an ARP reply directly to the hardware address that asked; a packet is dispatched, whatever the outcome
+-- how a reply is sent: an ARP reply directly to the hardware address that asked; a packet is
+-- dispatched, whatever the outcome
 abbrev pub Responds : Option Reply → Host → List (List ℕ) → List Note → Host → Type 0
 Responds None H frames notes new = (frames ≡ []) × (notes ≡ []) × (new ≡ H)
 Responds (Some (Arp packet)) H frames notes new = (frames ≡ arp_frame packet ∷ []) × (notes ≡ []) × (new ≡ H)
 Responds (Some (Ip packet)) H frames notes new = (outcome : Outcome) × Dispatches packet outcome H frames notes new
 
 -- a rule is applied, and its reply is sent
-pub record Response (Takes : Host → Option Reply → List Note → Host → Type 0) (H : Host) (frames : List (List ℕ)) (notes : List Note)
+pub record Response (Takes : Host → Option Reply → List Note → Host → Type 0) (H : Host)
+    (frames : List (List ℕ)) (notes : List Note)
     (new : Host) : Type 0 where
   pub reply : Option Reply
   pub taken : Host  -- after the rule, before the reply is sent

@@ -33,7 +33,8 @@ accepts r t place = holds down_tcp (λ s. socket.accepts s (source_of r t) (dest
 
 -- the entry after its socket got a segment
 abbrev pub storage_after_delivery : IpRepr → TcpRepr → List ℕ → Storage → Storage
-storage_after_delivery r t payload place = changed down_tcp up_tcp (socket.socket_after_delivery (src_addr r) t payload) place
+storage_after_delivery r t payload place =
+    changed down_tcp up_tcp (socket.socket_after_delivery (src_addr r) t payload) place
 
 -- the answer of its socket
 abbrev pub socket_reply : TcpRepr → List ℕ → Storage → Option TcpRepr
@@ -47,20 +48,28 @@ segment_back r t = Ip (sent_back r (Tcp t []))
 abbrev pub is_between_unspecified : IpRepr → Bool
 is_between_unspecified r = is_unspecified (src_addr r) || is_unspecified (dst_addr r)
 
--- the reset for a segment that no socket accepts, unless a raw socket accepted the packet; a reset is never answered (RFC 9293
--- 3.5.2)
+-- the reset for a segment that no socket accepts, unless a raw socket accepted the packet; a reset is never
+-- answered (RFC 9293 3.5.2)
 abbrev pub reset_for : Bool → TcpRepr → List ℕ → Option TcpRepr
-reset_for handled_by_raw_socket t payload = if handled_by_raw_socket then None else socket.answer_of t.control t (length payload)
+reset_for handled_by_raw_socket t payload =
+    if handled_by_raw_socket then None else socket.answer_of t.control t (length payload)
 
--- how the payload of a packet with this header is processed: the first socket that accepts gets the segment, and may answer it
-pub data ProcessesTcp (handled_by_raw_socket : Bool) (r : IpRepr) (H : Host) (octets : List ℕ) (reply : Option Reply) (notes : List Note) (new : Host) : Type 0 where
-  BetweenUnspecified : is_between_unspecified r ≡ true → IsDropped H reply notes new → ProcessesTcp handled_by_raw_socket r H octets reply notes new
-  Malformed : is_between_unspecified r ≡ false → (IsSegment H r octets → ⊥) → IsDropped H reply notes new → ProcessesTcp handled_by_raw_socket r H octets reply notes new
+-- how the payload of a packet with this header is processed: the first socket that accepts gets the
+-- segment, and may answer it
+pub data ProcessesTcp (handled_by_raw_socket : Bool) (r : IpRepr) (H : Host) (octets : List ℕ) (reply : Option Reply)
+    (notes : List Note) (new : Host) : Type 0 where
+  BetweenUnspecified : is_between_unspecified r ≡ true → IsDropped H reply notes new →
+      ProcessesTcp handled_by_raw_socket r H octets reply notes new
+  Malformed : is_between_unspecified r ≡ false → (IsSegment H r octets → ⊥) → IsDropped H reply notes new →
+      ProcessesTcp handled_by_raw_socket r H octets reply notes new
   Delivered : (index : ℕ) (place : Storage) → is_between_unspecified r ≡ false → IsSegment H r octets →
       IsFirst (accepts r (tcp_in octets).0) H.sockets.places index place →
       reply ≡ option_map (segment_back r) (socket_reply (tcp_in octets).0 (tcp_in octets).1 place) → notes ≡ [] →
-      new ≡ with_places H (slice_set H.sockets.places index (storage_after_delivery r (tcp_in octets).0 (tcp_in octets).1 place)) →
+      new ≡ with_places H
+      (slice_set H.sockets.places index (storage_after_delivery r (tcp_in octets).0 (tcp_in octets).1 place)) →
       ProcessesTcp handled_by_raw_socket r H octets reply notes new
-  NotAccepted : is_between_unspecified r ≡ false → IsSegment H r octets → NoneAccepts (accepts r (tcp_in octets).0) H.sockets.places →
-      reply ≡ option_map (segment_back r) (reset_for handled_by_raw_socket (tcp_in octets).0 (tcp_in octets).1) → notes ≡ [] → new ≡ H →
+  NotAccepted : is_between_unspecified r ≡ false → IsSegment H r octets →
+      NoneAccepts (accepts r (tcp_in octets).0) H.sockets.places →
+      reply ≡ option_map (segment_back r) (reset_for handled_by_raw_socket (tcp_in octets).0 (tcp_in octets).1) →
+      notes ≡ [] → new ≡ H →
       ProcessesTcp handled_by_raw_socket r H octets reply notes new

@@ -30,14 +30,20 @@ accepts own r ports place = holds down_udp (λ s. socket.accepts (is_broadcast o
 
 -- the entry after its socket got a datagram, with its sender
 abbrev pub storage_after_delivery : IpRepr → UdpRepr → List ℕ → Storage → Storage
-storage_after_delivery r ports payload place = changed down_udp up_udp (socket.socket_after_delivery (sender r ports) payload) place
+storage_after_delivery r ports payload place =
+    changed down_udp up_udp (socket.socket_after_delivery (sender r ports) payload) place
 
--- how the payload of a packet with this header is processed: the first socket that accepts gets the datagram's payload, with its
--- sender; without one an error is sent, unless a raw socket accepted the packet
-pub data ProcessesUdp (handled_by_raw_socket : Bool) (r : IpRepr) (H : Host) (octets : List ℕ) (reply : Option Reply) (notes : List Note) (new : Host) : Type 0 where
-  Malformed : (IsDatagram H r octets → ⊥) → IsDropped H reply notes new → ProcessesUdp handled_by_raw_socket r H octets reply notes new
+-- how the payload of a packet with this header is processed: the first socket that accepts gets the datagram's payload,
+-- with its sender; without one an error is sent, unless a raw socket accepted the packet
+pub data ProcessesUdp (handled_by_raw_socket : Bool) (r : IpRepr) (H : Host) (octets : List ℕ) (reply : Option Reply)
+    (notes : List Note) (new : Host) : Type 0 where
+  Malformed : (IsDatagram H r octets → ⊥) → IsDropped H reply notes new →
+      ProcessesUdp handled_by_raw_socket r H octets reply notes new
   Delivered : (places : List Storage) → IsDatagram H r octets →
-      DeliversFirst (accepts H.ip_addrs r (udp_in octets).0) (storage_after_delivery r (udp_in octets).0 (udp_in octets).1) H.sockets.places places →
-      reply ≡ None → notes ≡ [] → new ≡ with_places H places → ProcessesUdp handled_by_raw_socket r H octets reply notes new
+      DeliversFirst (accepts H.ip_addrs r (udp_in octets).0)
+      (storage_after_delivery r (udp_in octets).0 (udp_in octets).1) H.sockets.places places →
+      reply ≡ None → notes ≡ [] → new ≡ with_places H places →
+      ProcessesUdp handled_by_raw_socket r H octets reply notes new
   NotAccepted : IsDatagram H r octets → NoneAccepts (accepts H.ip_addrs r (udp_in octets).0) H.sockets.places →
-      reply ≡ port_unreachable handled_by_raw_socket H.ip_addrs r octets → notes ≡ [] → new ≡ H → ProcessesUdp handled_by_raw_socket r H octets reply notes new
+      reply ≡ port_unreachable handled_by_raw_socket H.ip_addrs r octets → notes ≡ [] → new ≡ H →
+      ProcessesUdp handled_by_raw_socket r H octets reply notes new

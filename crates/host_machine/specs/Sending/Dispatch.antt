@@ -1,5 +1,7 @@
--- Dispatch of one IP packet, with a transmit token (RFC 1122 3.3.1, RFC 826): the next hop, its hardware address, the frame.
-use Rattle.std.specs.Prelude.{◌≡◌, ℕ, ◌+◌, ◌-◌, ◌*◌, ◌/◌, ◌%◌, ◌^◌, ◌≤◌, ◌<◌, nat_le, Bool, true, false, List, [], ◌∷◌, Option, Some, None, Result, Ok, Err, if◌then◌else◌}
+-- Dispatch of one IP packet, with a transmit token (RFC 1122 3.3.1, RFC 826): the next hop, its
+-- hardware address, the frame.
+use Rattle.std.specs.Prelude.{◌≡◌, ℕ, ◌+◌, ◌-◌, ◌*◌, ◌/◌, ◌%◌, ◌^◌, ◌≤◌, ◌<◌, nat_le, Bool, true, false}
+use Rattle.std.specs.Prelude.{List, [], ◌∷◌, Option, Some, None, Result, Ok, Err, if◌then◌else◌}
 use Rattle.std.specs.Option.{option_and_then}
 use Rattle.net_base.specs.Time.{silence_from}
 use Rattle.net_base.specs.declared.phy.DeviceCapabilities.{DeviceCapabilities}
@@ -48,19 +50,22 @@ group_address_v4 g = record { 0 = 0x01 ∷ 0 ∷ 0x5e ∷ g.bits / 2 ^ 16 % 128 
 
 -- the hardware address of an IPv6 group: 33:33 and the group's last four octets (RFC 2464 7)
 abbrev pub group_address_v6 : Ipv6Address → EthernetAddress
-group_address_v6 g = record { 0 = 0x33 ∷ 0x33 ∷ g.bits / 2 ^ 24 % 256 ∷ g.bits / 2 ^ 16 % 256 ∷ g.bits / 2 ^ 8 % 256 ∷ g.bits % 256 ∷ [] }
+group_address_v6 g = record {
+  0 = 0x33 ∷ 0x33 ∷ g.bits / 2 ^ 24 % 256 ∷ g.bits / 2 ^ 16 % 256 ∷ g.bits / 2 ^ 8 % 256 ∷ g.bits % 256 ∷ [];
+}
 
 -- the hardware address for a broadcast or multicast destination, which needs no lookup
 abbrev pub multicast_hardware_addr : List IpCidr → IpAddress → Option EthernetAddress
-multicast_hardware_addr own (Ipv4 a) = if is_broadcast_v4 own a then Some broadcast else if ipv4.is_multicast a then Some (group_address_v4 a) else None
+multicast_hardware_addr own (Ipv4 a) = if is_broadcast_v4 own a then Some broadcast else
+    if ipv4.is_multicast a then Some (group_address_v4 a) else None
 multicast_hardware_addr own (Ipv6 a) = if ipv6.is_multicast a then Some (group_address_v6 a) else None
 
 -- a gateway, if its address is unicast
 abbrev pub if_unicast : IpAddress → Option IpAddress
 if_unicast a = if is_unicast a then Some a else None
 
--- the next hop to an address: itself in a network of the host, otherwise the gateway of the best route, if that is unicast; a
--- worse route isn't tried
+-- the next hop to an address: itself in a network of the host, otherwise the gateway of the best route, if that is
+-- unicast; a worse route isn't tried
 pub data IsNextHop (H : Host) (a : IpAddress) (hop : Option IpAddress) : Type 0 where
   OnLink : in_same_network H.ip_addrs a ≡ true → hop ≡ Some a → IsNextHop H a hop
   ByRouter : (router : Option IpAddress) → in_same_network H.ip_addrs a ≡ false → IsRouter H.routes a H.moment router →
@@ -74,7 +79,8 @@ is_known_hop H (Some hop) = is_found (answer_of H.neighbors hop H.moment)
 -- whether the next hop to an address is a known neighbour; an address that isn't unicast has no next hop
 pub data HasNeighbor (H : Host) (a : IpAddress) (known : Bool) : Type 0 where
   OfNoHost : is_unicast a ≡ false → known ≡ false → HasNeighbor H a known
-  OfHost : (hop : Option IpAddress) → is_unicast a ≡ true → IsNextHop H a hop → known ≡ is_known_hop H hop → HasNeighbor H a known
+  OfHost : (hop : Option IpAddress) → is_unicast a ≡ true → IsNextHop H a hop →
+      known ≡ is_known_hop H hop → HasNeighbor H a known
 
 -- nothing is sent, and nothing changes
 pub record IsUnsent (H : Host) (frames : List (List ℕ)) (notes : List Note) (new : Host) : Type 0 where
@@ -96,23 +102,29 @@ datagram_of H h id p = record {
   size = piece_size H.capabilities;
 }
 
--- a packet may be fragmented: over IPv4, if it has at most 4,096 octets; over IPv6 it isn't fragmented here (RFC 8200 5)
+-- a packet may be fragmented: over IPv4, if it has at most 4,096 octets; over IPv6 it isn't
+-- fragmented here (RFC 8200 5)
 abbrev pub may_be_cut : Packet → Bool
 may_be_cut (packet.Ipv4 p) = nat_le (total_len (packet.Ipv4 p)) 4096
 may_be_cut (packet.Ipv6 p) = false
 
 -- the packet is sent to a hardware address, or dropped: whole, if it fits the device's IP MTU; otherwise, if it may be
--- fragmented, its first fragment is sent and the others become pending, in place of what was; otherwise it is dropped (RFC 791
--- 3.2). The values of a packet that is sent fit the fields of its forms
+-- fragmented, its first fragment is sent and the others become pending, in place of what was; otherwise it is dropped
+-- (RFC 791 3.2). The values of a packet that is sent fit the fields of its forms
 pub data Emits (id : ℕ) (p : Packet) (h : HardwareAddress) (outcome : Outcome) (H : Host) (frames : List (List ℕ))
     (notes : List Note) (new : Host) : Type 0 where
-  Whole : total_len p ≤ ip_mtu_of H.capabilities → (formed : IsFormed p) → outcome ≡ Ok tt → frames ≡ ip_frame H h p ∷ [] → notes ≡ [] → new ≡ H →
+  Whole : total_len p ≤ ip_mtu_of H.capabilities → (formed : IsFormed p) →
+      outcome ≡ Ok tt → frames ≡ ip_frame H h p ∷ [] → notes ≡ [] → new ≡ H →
       Emits id p h outcome H frames notes new
-  InPieces : (q : PacketV4) (first : Piece) (rest : List Piece) → p ≡ packet.Ipv4 q → ip_mtu_of H.capabilities < total_len p →
-      may_be_cut p ≡ true → pieces_of (datagram_of H h id q) ≡ first ∷ rest → (fits : HasForm (datagram_of H h id q)) → (formed : IsFormed p) →
-      outcome ≡ Ok tt → frames ≡ piece_frame H first ∷ [] → notes ≡ OfCuts (Cut (datagram_of H h id q)) ∷ OfCuts (PieceSent first) ∷ [] →
+  InPieces : (q : PacketV4) (first : Piece) (rest : List Piece) →
+      p ≡ packet.Ipv4 q → ip_mtu_of H.capabilities < total_len p →
+      may_be_cut p ≡ true → pieces_of (datagram_of H h id q) ≡ first ∷ rest →
+      (fits : HasForm (datagram_of H h id q)) → (formed : IsFormed p) →
+      outcome ≡ Ok tt → frames ≡ piece_frame H first ∷ [] →
+      notes ≡ OfCuts (Cut (datagram_of H h id q)) ∷ OfCuts (PieceSent first) ∷ [] →
       new ≡ with_left H rest → Emits id p h outcome H frames notes new
-  TooLong : ip_mtu_of H.capabilities < total_len p → may_be_cut p ≡ false → outcome ≡ Ok tt → IsUnsent H frames notes new →
+  TooLong : ip_mtu_of H.capabilities < total_len p → may_be_cut p ≡ false →
+      outcome ≡ Ok tt → IsUnsent H frames notes new →
       Emits id p h outcome H frames notes new
 
 -- no discovery is sent for a second
@@ -123,24 +135,32 @@ with_silence n H = record n { silent_until = silence_from H.moment }
 abbrev pub with_next_id : Host → Host
 with_next_id H = record H { ipv4_id = (H.ipv4_id + 1) % 2 ^ 16 }
 
--- a request for a neighbour, from the source address for it: over IPv4 by ARP (RFC 826, packet generation; RFC 1122 2.3.2.1),
--- over IPv6 by a solicitation, which is a dispatch of its own to a group, and uses an identification (RFC 4861 7.2.2)
-pub data Discovers (own : EthernetAddress) (hop : IpAddress) (outcome : Outcome) (H : Host) (frames : List (List ℕ)) (notes : List Note)
+-- a request for a neighbour, from the source address for it: over IPv4 by ARP (RFC 826, packet generation;
+-- RFC 1122 2.3.2.1), over IPv6 by a solicitation, which is a dispatch of its own to a group, and uses an
+-- identification (RFC 4861 7.2.2)
+pub data Discovers (own : EthernetAddress) (hop : IpAddress) (outcome : Outcome) (H : Host)
+    (frames : List (List ℕ)) (notes : List Note)
     (new : Host) : Type 0 where
-  Asked : (target source : Ipv4Address) → hop ≡ Ipv4 target → source_v4 H.ip_addrs target ≡ Some source → outcome ≡ Err NeighborPending →
-      frames ≡ arp_frame (request_for own source target) ∷ [] → notes ≡ OfDiscovery (Ask H.moment) ∷ [] → new ≡ with_neighbors H (with_silence H.neighbors H) →
+  Asked : (target source : Ipv4Address) →
+      hop ≡ Ipv4 target → source_v4 H.ip_addrs target ≡ Some source → outcome ≡ Err NeighborPending →
+      frames ≡ arp_frame (request_for own source target) ∷ [] → notes ≡ OfDiscovery (Ask H.moment) ∷ [] →
+      new ≡ with_neighbors H (with_silence H.neighbors H) →
       Discovers own hop outcome H frames notes new
-  NoSource : (target : Ipv4Address) → hop ≡ Ipv4 target → source_v4 H.ip_addrs target ≡ None → outcome ≡ Err NoRoute → IsUnsent H frames notes new →
+  NoSource : (target : Ipv4Address) → hop ≡ Ipv4 target → source_v4 H.ip_addrs target ≡ None →
+      outcome ≡ Err NoRoute → IsUnsent H frames notes new →
       Discovers own hop outcome H frames notes new
   Solicited : (target : Ipv6Address) → hop ≡ Ipv6 target → outcome ≡ Err NeighborPending →
-      frames ≡ ip_frame H (hardware.Ethernet (group_address_v6 (solicited_node target))) (solicitation_for own (source_v6 H.ip_addrs target) target) ∷ [] →
+      frames ≡ ip_frame H (hardware.Ethernet (group_address_v6 (solicited_node target)))
+      (solicitation_for own (source_v6 H.ip_addrs target) target) ∷ [] →
       notes ≡ OfIdentification (Identify H.ipv4_id) ∷ OfDiscovery (Ask H.moment) ∷ [] →
       new ≡ with_neighbors (with_next_id H) (with_silence H.neighbors H) → Discovers own hop outcome H frames notes new
 
--- by the lookup of the hop: its address is known; it is unknown during the silence; or it is unknown, and a request is sent
+-- by the lookup of the hop: its address is known; it is unknown during the silence; or it is unknown,
+-- and a request is sent
 pub data DispatchesByHop (id : ℕ) (own : EthernetAddress) (p : Packet) (hop : IpAddress) (outcome : Outcome) (H : Host)
     (frames : List (List ℕ)) (notes : List Note) (new : Host) : Type 0 where
-  Known : (h : HardwareAddress) → answer_of H.neighbors hop H.moment ≡ Found h → Emits id p h outcome H frames notes new →
+  Known : (h : HardwareAddress) → answer_of H.neighbors hop H.moment ≡ Found h →
+      Emits id p h outcome H frames notes new →
       DispatchesByHop id own p hop outcome H frames notes new
   Silent : answer_of H.neighbors hop H.moment ≡ RateLimited → outcome ≡ Err NeighborPending → IsUnsent H frames notes new →
       DispatchesByHop id own p hop outcome H frames notes new
@@ -148,23 +168,31 @@ pub data DispatchesByHop (id : ℕ) (own : EthernetAddress) (p : Packet) (hop : 
       DispatchesByHop id own p hop outcome H frames notes new
 
 -- over Ethernet: directly to a broadcast or multicast destination, otherwise by the next hop
-pub data DispatchesEthernet (id : ℕ) (own : EthernetAddress) (p : Packet) (outcome : Outcome) (H : Host) (frames : List (List ℕ))
+pub data DispatchesEthernet (id : ℕ) (own : EthernetAddress) (p : Packet) (outcome : Outcome)
+    (H : Host) (frames : List (List ℕ))
     (notes : List Note) (new : Host) : Type 0 where
-  ToMulticast : (h : EthernetAddress) → multicast_hardware_addr H.ip_addrs (destination_of p) ≡ Some h → Emits id p (hardware.Ethernet h) outcome H frames notes new →
+  ToMulticast : (h : EthernetAddress) → multicast_hardware_addr H.ip_addrs (destination_of p) ≡ Some h →
+      Emits id p (hardware.Ethernet h) outcome H frames notes new →
       DispatchesEthernet id own p outcome H frames notes new
-  NoHop : multicast_hardware_addr H.ip_addrs (destination_of p) ≡ None → IsNextHop H (destination_of p) None → outcome ≡ Err NoRoute → IsUnsent H frames notes new →
+  NoHop : multicast_hardware_addr H.ip_addrs (destination_of p) ≡ None → IsNextHop H (destination_of p) None →
+      outcome ≡ Err NoRoute → IsUnsent H frames notes new →
       DispatchesEthernet id own p outcome H frames notes new
-  ByHop : (hop : IpAddress) → multicast_hardware_addr H.ip_addrs (destination_of p) ≡ None → IsNextHop H (destination_of p) (Some hop) →
+  ByHop : (hop : IpAddress) → multicast_hardware_addr H.ip_addrs (destination_of p) ≡ None →
+      IsNextHop H (destination_of p) (Some hop) →
       DispatchesByHop id own p hop outcome H frames notes new → DispatchesEthernet id own p outcome H frames notes new
 
 -- by the medium: one without hardware addresses needs no discovery
 abbrev pub SendsOver : ℕ → HardwareAddress → Packet → Outcome → Host → List (List ℕ) → List Note → Host → Type 0
-SendsOver id (hardware.Ethernet own) p outcome H frames notes new = DispatchesEthernet id own p outcome H frames notes new
+SendsOver id (hardware.Ethernet own) p outcome H frames notes new =
+    DispatchesEthernet id own p outcome H frames notes new
 SendsOver id hardware.Ip p outcome H frames notes new = Emits id p hardware.Ip outcome H frames notes new
 
--- each dispatch uses an identification, whatever the outcome, unless the destination is unspecified (0.0.0.0 or ::): then the
--- packet is dropped
-pub data Dispatches (p : Packet) (outcome : Outcome) (H : Host) (frames : List (List ℕ)) (notes : List Note) (new : Host) : Type 0 where
-  ToUnspecified : is_unspecified (destination_of p) ≡ true → outcome ≡ Ok tt → IsUnsent H frames notes new → Dispatches p outcome H frames notes new
-  ToSpecified : (more : List Note) → is_unspecified (destination_of p) ≡ false → SendsOver H.ipv4_id H.hardware_addr p outcome (with_next_id H) frames more new →
+-- each dispatch uses an identification, whatever the outcome, unless the destination is unspecified (0.0.0.0 or ::):
+-- then the packet is dropped
+pub data Dispatches (p : Packet) (outcome : Outcome) (H : Host) (frames : List (List ℕ))
+    (notes : List Note) (new : Host) : Type 0 where
+  ToUnspecified : is_unspecified (destination_of p) ≡ true → outcome ≡ Ok tt → IsUnsent H frames notes new →
+      Dispatches p outcome H frames notes new
+  ToSpecified : (more : List Note) → is_unspecified (destination_of p) ≡ false →
+      SendsOver H.ipv4_id H.hardware_addr p outcome (with_next_id H) frames more new →
       notes ≡ OfIdentification (Identify H.ipv4_id) ∷ more → Dispatches p outcome H frames notes new

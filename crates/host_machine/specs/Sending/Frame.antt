@@ -28,11 +28,16 @@ use Rattle.host_machine.specs.State.Host.{Host}
 use Rattle.ip_wire.specs.declared.ip_packet.IpRepr.{IpRepr}
 use Rattle.ip_wire.specs.IpPacket.{src_addr, dst_addr, header_len}
 use Rattle.ip_wire.specs.IpPacket as ip
-use Rattle.host_machine.specs.Sending.Packet.{IpPayload, Icmpv4, Icmpv6, Udp, Tcp, Raw, Igmp, Mld, Packet, Ipv4, Ipv6, header_of, payload_of}
+use Rattle.host_machine.specs.Sending.Packet.{IpPayload, Icmpv4, Icmpv6, Udp, Tcp, Raw, Igmp}
+use Rattle.host_machine.specs.Sending.Packet.{Mld, Packet, Ipv4, Ipv6, header_of, payload_of}
 
 -- an ARP packet is sent from its sender's hardware address to its target's
 abbrev pub arp_frame : ArpRepr → List ℕ
-arp_frame r = header_text (record { src_addr = r.source_hardware_addr; dst_addr = r.target_hardware_addr; ethertype = protocol.Arp }) ++ text r
+arp_frame r = header_text (record {
+  src_addr = r.source_hardware_addr;
+  dst_addr = r.target_hardware_addr;
+  ethertype = protocol.Arp;
+}) ++ text r
 
 -- a window within the bursts that a device can take: at most that many segments, each as long as its packets allow
 abbrev pub window_within : Option ℕ → ℕ → ℕ → ℕ
@@ -41,23 +46,28 @@ window_within (Some burst) segment window = if nat_le window (burst * segment) t
 
 -- a segment's header after an IP header of this many octets: its window is within the device's bursts
 abbrev pub with_limited_window : DeviceCapabilities → ℕ → TcpRepr → TcpRepr
-with_limited_window c ip_header_len r = record r { window_len = window_within c.max_burst_size (c.max_transmission_unit - (ip_header_len + 20)) r.window_len }
+with_limited_window c ip_header_len r = record r {
+  window_len = window_within c.max_burst_size (c.max_transmission_unit - (ip_header_len + 20)) r.window_len;
+}
 
 -- options that ask routers to examine a packet (RFC 2711), padded to eight octets
 abbrev pub mld_options : Ipv6HopByHopRepr
 mld_options = record { next_header = ip_protocol.Icmpv6; options = record { items = RouterAlert 0 ∷ PadN 0 ∷ [] } }
 
--- a payload, each form with its checksum if the device leaves that to the stack. A checksum covers the pseudo-header, if there is
--- one, and the payload, and no octet after it
+-- a payload, each form with its checksum if the device leaves that to the stack. A checksum covers the pseudo-header,
+-- if there is one, and the payload, and no octet after it
 abbrev pub payload_text : DeviceCapabilities → IpRepr → IpPayload → List ℕ
 payload_text c r (Icmpv4 message octets) = icmpv4.text (is_tx c.checksum.icmpv4) (is_tx c.checksum.ipv4) message octets
-payload_text c r (Icmpv6 message octets) = icmpv6.text (is_tx c.checksum.icmpv6) (src_addr r) (dst_addr r) message octets
+payload_text c r (Icmpv6 message octets) =
+    icmpv6.text (is_tx c.checksum.icmpv6) (src_addr r) (dst_addr r) message octets
 payload_text c r (Udp header octets) = udp.text (is_tx c.checksum.udp) (src_addr r) (dst_addr r) header octets
-payload_text c r (Tcp header octets) = tcp.text (is_tx c.checksum.tcp) (src_addr r) (dst_addr r) (with_limited_window c (header_len r) header) octets
+payload_text c r (Tcp header octets) =
+    tcp.text (is_tx c.checksum.tcp) (src_addr r) (dst_addr r) (with_limited_window c (header_len r) header) octets
 payload_text c r (Raw number octets) = octets
 payload_text c r (Igmp message) = igmp.text message
 payload_text c r (Mld count records) =
-    hop_by_hop.text mld_options ++ icmpv6.text (is_tx c.checksum.icmpv6) (src_addr r) (dst_addr r) (MldMessage (Report count)) records
+    hop_by_hop.text mld_options
+    ++ icmpv6.text (is_tx c.checksum.icmpv6) (src_addr r) (dst_addr r) (MldMessage (Report count)) records
 
 -- a packet: its header, and its payload
 abbrev pub packet_text : DeviceCapabilities → Packet → List ℕ

@@ -95,7 +95,8 @@ abbrev pub is_one_assigned : List IpCidr → Option IpAddress → Bool
 is_one_assigned own None = false
 is_one_assigned own (Some a) = is_assigned own a
 
--- an address that is routed to the host: it is unicast, and the gateway of its best route is an address assigned to the host
+-- an address that is routed to the host: it is unicast, and the gateway of its best route is an
+-- address assigned to the host
 abbrev pub is_routed_here : Host → IpAddress → Bool
 is_routed_here H a = is_unicast a && is_one_assigned H.ip_addrs (router_of (best H.routes a H.moment))
 

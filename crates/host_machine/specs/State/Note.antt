@@ -1,5 +1,5 @@
--- What a step notes besides the device's events, so that laws over runs can refer to it; the notes about slots are beside their
--- rule.
+-- What a step notes besides the device's events, so that laws over runs can refer to it; the notes about slots
+-- are beside their rule.
 use Rattle.std.specs.Prelude.{ℕ, ℤ, List, [], ◌∷◌}
 use Rattle.fragmentation.specs.Reassembly.{SlotNote}
 use Rattle.fragmentation.specs.Cuts.{Datagram, Piece}

@@ -6,11 +6,13 @@ use Rattle.host.proofs.DriveSteps.{driven, ran_more}
 use Rattle.host.proofs.drive.drive.Goals as goal
 
 pub loop-i-init : goal.loop-i-init
-loop-i-init g c = λ H h. no_commands g.D.Device.tells g.O.Owner.did g.met.D.Device.tells_on c.args.device.now c.args.owner.now H _ (g.met.D.Device.tells_nothing c.args.device.now) h
+loop-i-init g c = λ H h. no_commands g.D.Device.tells g.O.Owner.did g.met.D.Device.tells_on c.args.device.now c.args.owner.now H _
+    (g.met.D.Device.tells_nothing c.args.device.now) h
 
 pub loop-i-preserved : goal.loop-i-preserved
 loop-i-preserved g c = λ H h.
-    ran_more g.D.Device.tells g.O.Owner.did g.met.D.Device.tells_on c.args.device.now c.loop-i.device c.step.new.device c.args.owner.now c.loop-i.owner c.step.new.owner
+    ran_more g.D.Device.tells g.O.Owner.did g.met.D.Device.tells_on c.args.device.now c.loop-i.device c.step.new.device
+    c.args.owner.now c.loop-i.owner c.step.new.owner
     (take c.loop-i.i c.args.commands.now) _ c.index-commands-i.result (take c.loop-i.i c.loop-i.answers) _ c.step.result H
     (StandsFor c.loop-i.interface c.loop-i.sockets) (StandsFor c.step.new.interface c.step.new.sockets)
     (rw (← c.index-commands-i.is) at (take_more c.args.commands.now c.loop-i.i c.index-commands-i.result c.loop-i-test.true))

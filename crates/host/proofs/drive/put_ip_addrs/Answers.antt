@@ -7,4 +7,5 @@ use Rattle.host.proofs.drive.put_ip_addrs.Goals as goal
 pub returns : goal.returns
 returns c =
     let same : c.update_ip_addrs.ensures.1.items ≡ c.args.list.now.items = search rules in
-    subst (λ (items : List IpCidr). HostRefines c.args.interface.now c.update_ip_addrs.new.self (UpdatesIpAddrs items c.update_ip_addrs.result)) same c.update_ip_addrs.ensures.4
+    subst (λ (items : List IpCidr). HostRefines c.args.interface.now c.update_ip_addrs.new.self (UpdatesIpAddrs items c.update_ip_addrs.result))
+    same c.update_ip_addrs.ensures.4

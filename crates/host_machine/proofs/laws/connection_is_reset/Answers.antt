@@ -26,19 +26,44 @@ returns c = record {
   reception = Frame opening;
   frames = reset ∷ [];
   response = record {
-    reply = Some (Ip (Ipv4 (record { src_addr = record { bits = 0xc0a84501 }; dst_addr = record { bits = 0xc0a84564 }; hop_limit = 64; payload = packet.Tcp (record { src_port = 80; dst_port = 5000; control = control.Rst; seq_number = record { bits = 0 }; ack_number = Some (record { bits = 0x01020305 }); window_len = 0 }) [] })));
+    reply = Some (Ip (Ipv4 (record {
+      src_addr = record { bits = 0xc0a84501 };
+      dst_addr = record { bits = 0xc0a84564 };
+      hop_limit = 64;
+      payload = packet.Tcp (record {
+        src_port = 80;
+        dst_port = 5000;
+        control = control.Rst;
+        seq_number = record { bits = 0 };
+        ack_number = Some (record { bits = 0x01020305 });
+        window_len = 0;
+      }) [];
+    })));
     taken = with_socket listening_socket (example.host 0x1405 example.neighbors_after_renewal);
     notes_taking = [];
     notes_responding = example.identify ∷ [];
     takes = rw (no_slots (pos 0)) (ethernet.Accepted (lit≤ tt) refl (ipv4.Read
         (record { whole = lit≤ tt; version = refl; header = lit≤ tt; header_fits = lit≤ tt; total_fits = lit≤ tt; sum = λ on. refl })
         (ipv4.Whole refl refl (ipv4.Accepted refl (tcp.NotAccepted refl
-        (record { whole = lit≤ tt; header = lit≤ tt; header_fits = lit≤ tt; source = λ e. absurd (omega (arith, e)); destination = λ e. absurd (omega (arith, e)); flags = lit≤ tt; sum = λ on. refl })
+        (record {
+          whole = lit≤ tt;
+          header = lit≤ tt;
+          header_fits = lit≤ tt;
+          source = λ e. absurd (omega (arith, e));
+          destination = λ e. absurd (omega (arith, e));
+          flags = lit≤ tt;
+          sum = λ on. refl;
+        })
         (none_of_two _ _ _ refl refl) refl refl refl)))));
     responds = (
       Ok tt,
       ToSpecified [] refl (ByHop example.sender refl (OnLink refl refl)
-          (Known example.sender_hardware is_known (Whole (lit≤ tt) (record { source = lit≤ tt; destination = lit≤ tt; len = lit≤ tt; ports = tt }) refl refl refl refl))) refl,
+          (Known example.sender_hardware is_known (Whole (lit≤ tt) (record {
+            source = lit≤ tt;
+            destination = lit≤ tt;
+            len = lit≤ tt;
+            ports = tt;
+          }) refl refl refl refl))) refl,
     );
     all_notes = refl;
   };

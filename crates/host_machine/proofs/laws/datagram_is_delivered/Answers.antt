@@ -27,7 +27,12 @@ returns c = record {
         (record { whole = lit≤ tt; version = refl; header = lit≤ tt; header_fits = lit≤ tt; total_fits = lit≤ tt; sum = λ on. refl })
         (ipv4.Whole refl refl (ipv4.Accepted refl (udp.Delivered (None ∷ Some (kind.Udp socket_with_datagram) ∷ [])
         (record { whole = lit≤ tt; header_fits = lit≤ tt; fits = lit≤ tt; port = λ e. absurd (omega (arith, e)); sum = λ on summed. refl })
-        (record { index = 1; place = Some (kind.Udp listening_socket); first = record { is_there = refl; accepts = refl; none_before = first_is_free _ (Some (kind.Udp listening_socket) ∷ []) refl }; changed = refl })
+        (record {
+          index = 1;
+          place = Some (kind.Udp listening_socket);
+          first = record { is_there = refl; accepts = refl; none_before = first_is_free _ (Some (kind.Udp listening_socket) ∷ []) refl };
+          changed = refl;
+        })
         refl refl refl)))));
     responds = (refl, refl, refl);
     all_notes = refl;

@@ -27,7 +27,18 @@ returns c = record {
   reception = Frame datagram;
   frames = port_unreachable ∷ [];
   response = record {
-    reply = Some (Ip (Ipv4 (record { src_addr = record { bits = 0xc0a84501 }; dst_addr = record { bits = 0xc0a84564 }; hop_limit = 64; payload = packet.Icmpv4 (DstUnreachable PortUnreachable (record { src_addr = record { bits = 0xc0a84564 }; dst_addr = record { bits = 0xc0a84501 }; next_header = protocol.Udp; payload_len = 10; hop_limit = 64 })) (0x13 ∷ 0x88 ∷ 0x1b ∷ 0x39 ∷ 0 ∷ 0x0a ∷ 0x5c ∷ 0xf9 ∷ 0x68 ∷ 0x69 ∷ []) })));
+    reply = Some (Ip (Ipv4 (record {
+      src_addr = record { bits = 0xc0a84501 };
+      dst_addr = record { bits = 0xc0a84564 };
+      hop_limit = 64;
+      payload = packet.Icmpv4 (DstUnreachable PortUnreachable (record {
+        src_addr = record { bits = 0xc0a84564 };
+        dst_addr = record { bits = 0xc0a84501 };
+        next_header = protocol.Udp;
+        payload_len = 10;
+        hop_limit = 64;
+      })) (0x13 ∷ 0x88 ∷ 0x1b ∷ 0x39 ∷ 0 ∷ 0x0a ∷ 0x5c ∷ 0xf9 ∷ 0x68 ∷ 0x69 ∷ []);
+    })));
     taken = example.host 0x1405 example.neighbors_after_renewal;
     notes_taking = [];
     notes_responding = example.identify ∷ [];
@@ -39,7 +50,12 @@ returns c = record {
     responds = (
       Ok tt,
       ToSpecified [] refl (ByHop example.sender refl (OnLink refl refl)
-          (Known example.sender_hardware is_known (Whole (lit≤ tt) (record { source = lit≤ tt; destination = lit≤ tt; len = lit≤ tt; ports = tt }) refl refl refl refl))) refl,
+          (Known example.sender_hardware is_known (Whole (lit≤ tt) (record {
+            source = lit≤ tt;
+            destination = lit≤ tt;
+            len = lit≤ tt;
+            ports = tt;
+          }) refl refl refl refl))) refl,
     );
     all_notes = refl;
   };

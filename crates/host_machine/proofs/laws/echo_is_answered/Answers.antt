@@ -22,17 +22,28 @@ returns c = record {
   reception = Frame example.echo_request;
   frames = example.echo_reply ∷ [];
   response = record {
-    reply = Some (Ip (Ipv4 (record { src_addr = record { bits = 0xc0a84501 }; dst_addr = record { bits = 0xc0a84564 }; hop_limit = 64; payload = packet.Icmpv4 (EchoReply 0x1234 1) (0x61 ∷ 0x62 ∷ 0x63 ∷ 0x64 ∷ []) })));
+    reply = Some (Ip (Ipv4 (record {
+      src_addr = record { bits = 0xc0a84501 };
+      dst_addr = record { bits = 0xc0a84564 };
+      hop_limit = 64;
+      payload = packet.Icmpv4 (EchoReply 0x1234 1) (0x61 ∷ 0x62 ∷ 0x63 ∷ 0x64 ∷ []);
+    })));
     taken = example.host 0x1405 example.neighbors_after_renewal;
     notes_taking = [];
     notes_responding = example.identify ∷ [];
     takes = rw (no_slots (pos 0)) (ethernet.Accepted (lit≤ tt) refl (ipv4.Read
         (record { whole = lit≤ tt; version = refl; header = lit≤ tt; header_fits = lit≤ tt; total_fits = lit≤ tt; sum = λ on. refl })
-        (ipv4.Whole refl refl (ipv4.Accepted refl (icmpv4.Taken (record { whole_header = lit≤ tt; sum = λ on. refl; body = Request refl refl }) refl refl refl)))));
+        (ipv4.Whole refl refl
+        (ipv4.Accepted refl (icmpv4.Taken (record { whole_header = lit≤ tt; sum = λ on. refl; body = Request refl refl }) refl refl refl)))));
     responds = (
       Ok tt,
       ToSpecified [] refl (ByHop example.sender refl (OnLink refl refl)
-          (Known example.sender_hardware is_known (Whole (lit≤ tt) (record { source = lit≤ tt; destination = lit≤ tt; len = lit≤ tt; ports = tt }) refl refl refl refl))) refl,
+          (Known example.sender_hardware is_known (Whole (lit≤ tt) (record {
+            source = lit≤ tt;
+            destination = lit≤ tt;
+            len = lit≤ tt;
+            ports = tt;
+          }) refl refl refl refl))) refl,
     );
     all_notes = refl;
   };

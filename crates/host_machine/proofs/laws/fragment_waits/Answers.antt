@@ -28,7 +28,8 @@ returns c = record {
         (ipv4.Part refl refl (record {
           slots = example.waiting_host.slots;
           slot_notes = Take example.key ∷ Arrival example.key example.one ∷ [];
-          reassembles = Waits (record { got = no_fragments; ends = pos 60000000 }) (Take example.key ∷ []) (Taken none_yet has_room refl refl) refl first_waits refl refl
+          reassembles = Waits (record { got = no_fragments; ends = pos 60000000 }) (Take example.key ∷ [])
+              (Taken none_yet has_room refl refl) refl first_waits refl refl
               (ap (λ (g : Got). map.insert map.empty example.key (record { got = g; ends = pos 60000000 })) (sym first_got));
           noted = refl;
           changed = refl;

@@ -12,4 +12,9 @@ use Rattle.host_machine.proofs.laws.ipv6_datagram_is_sent.Goals as goal
 
 pub returns : goal.returns
 unfolding word_sum pseudo header_text address_text bits header_with
-returns c = ToSpecified [] refl (ByHop sender refl (OnLink refl refl) (Known example.sender_hardware is_learnt_v6 (Whole (lit≤ tt) (record { source = lit≤ tt; destination = lit≤ tt; len = lit≤ tt; ports = (lit≤ tt, lit≤ tt) }) refl refl refl refl))) refl
+returns c = ToSpecified [] refl (ByHop sender refl (OnLink refl refl) (Known example.sender_hardware is_learnt_v6 (Whole (lit≤ tt) (record {
+  source = lit≤ tt;
+  destination = lit≤ tt;
+  len = lit≤ tt;
+  ports = (lit≤ tt, lit≤ tt);
+}) refl refl refl refl))) refl

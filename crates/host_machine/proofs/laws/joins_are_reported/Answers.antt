@@ -16,6 +16,8 @@ use Rattle.host_machine.proofs.laws.joins_are_reported.Goals as goal
 pub returns : goal.returns
 unfolding word_sum pseudo front back header_with header_text address_text option_text head_with text_with record_text
 returns c = record {
-  ipv4 = All (Reported example.group _ (Ok tt) (example.report ∷ []) (identify ∷ []) _ Begins refl refl (ToSpecified [] refl (ToMulticast _ refl (Whole (lit≤ tt) (record { source = lit≤ tt; destination = lit≤ tt; len = lit≤ tt; ports = tt }) refl refl refl refl)) refl)) refl;
-  ipv6 = All (Reported example.group_v6 _ (Ok tt) (example.report_v6 ∷ []) (identify ∷ []) _ Begins refl refl (ToSpecified [] refl (ToMulticast _ refl (Whole (lit≤ tt) (record { source = lit≤ tt; destination = lit≤ tt; len = lit≤ tt; ports = tt }) refl refl refl refl)) refl)) refl;
+  ipv4 = All (Reported example.group _ (Ok tt) (example.report ∷ []) (identify ∷ []) _ Begins refl refl (ToSpecified [] refl (ToMulticast _ refl
+      (Whole (lit≤ tt) (record { source = lit≤ tt; destination = lit≤ tt; len = lit≤ tt; ports = tt }) refl refl refl refl)) refl)) refl;
+  ipv6 = All (Reported example.group_v6 _ (Ok tt) (example.report_v6 ∷ []) (identify ∷ []) _ Begins refl refl (ToSpecified [] refl (ToMulticast _ refl
+      (Whole (lit≤ tt) (record { source = lit≤ tt; destination = lit≤ tt; len = lit≤ tt; ports = tt }) refl refl refl refl)) refl)) refl;
 }

@@ -10,4 +10,5 @@ use Rattle.host_machine.proofs.laws.leave_is_reported.Goals as goal
 
 pub returns : goal.returns
 unfolding word_sum front back header_with text_with
-returns c = All (Reported example.group _ (Ok tt) (example.leave ∷ []) (identify ∷ []) _ Begins refl refl (ToSpecified [] refl (ToMulticast _ refl (Whole (lit≤ tt) (record { source = lit≤ tt; destination = lit≤ tt; len = lit≤ tt; ports = tt }) refl refl refl refl)) refl)) refl
+returns c = All (Reported example.group _ (Ok tt) (example.leave ∷ []) (identify ∷ []) _ Begins refl refl (ToSpecified [] refl (ToMulticast _ refl
+    (Whole (lit≤ tt) (record { source = lit≤ tt; destination = lit≤ tt; len = lit≤ tt; ports = tt }) refl refl refl refl)) refl)) refl

@@ -21,5 +21,6 @@ is_unknown = rw get-empty refl
 
 pub returns : goal.returns
 unfolding word_sum pseudo header_text address_text head_with lladdr_text bits
-returns c = ToSpecified (OfIdentification (Identify 0x1406) ∷ OfDiscovery (Ask (pos 0)) ∷ []) refl (ByHop (Ipv6 example.neighbor) refl (OnLink refl refl)
+returns c =
+    ToSpecified (OfIdentification (Identify 0x1406) ∷ OfDiscovery (Ask (pos 0)) ∷ []) refl (ByHop (Ipv6 example.neighbor) refl (OnLink refl refl)
     (Unknown is_unknown (Solicited example.neighbor refl refl refl refl refl))) refl

@@ -14,9 +14,16 @@ use Rattle.host_machine.proofs.laws.packet_goes_in_pieces.Goals as goal
 pub returns : goal.returns
 unfolding word_sum header_with front back
 returns c = record {
-  first = ToSpecified (OfCuts (Cut example.datagram) ∷ OfCuts (PieceSent (piece_of example.datagram example.one)) ∷ []) refl (ByHop host.sender refl (OnLink refl refl)
-      (Known host.sender_hardware is_known (InPieces example.ten_to_another (piece_of example.datagram example.one) (piece_of example.datagram example.two ∷ []) refl (lit≤ tt) refl refl
-      (record { source_addr = lit≤ tt; destination_addr = lit≤ tt; identification = lit≤ tt; payload = lit≤ tt }) (record { source = lit≤ tt; destination = lit≤ tt; len = lit≤ tt; ports = tt }) refl refl refl refl))) refl;
+  first = ToSpecified (OfCuts (Cut example.datagram) ∷ OfCuts (PieceSent (piece_of example.datagram example.one)) ∷ [])
+      refl (ByHop host.sender refl (OnLink refl refl)
+      (Known host.sender_hardware is_known
+      (InPieces example.ten_to_another (piece_of example.datagram example.one) (piece_of example.datagram example.two ∷ []) refl (lit≤ tt) refl refl
+      (record {
+        source_addr = lit≤ tt;
+        destination_addr = lit≤ tt;
+        identification = lit≤ tt;
+        payload = lit≤ tt;
+      }) (record { source = lit≤ tt; destination = lit≤ tt; len = lit≤ tt; ports = tt }) refl refl refl refl))) refl;
   waits = record {
     changed = false;
     round = record {

@@ -24,16 +24,25 @@ returns c = record {
   reception = Frame (drop 14 example.echo_request);
   frames = drop 14 example.echo_reply ∷ [];
   response = record {
-    reply = Some (Ip (Ipv4 (record { src_addr = record { bits = 0xc0a84501 }; dst_addr = record { bits = 0xc0a84564 }; hop_limit = 64; payload = packet.Icmpv4 (EchoReply 0x1234 1) (0x61 ∷ 0x62 ∷ 0x63 ∷ 0x64 ∷ []) })));
-    taken = record (example.without_hardware 0x1405) { neighbors = after_renewal (example.no_neighbors (pos 0)) example.sender hardware.Ip (pos 60000000) };
+    reply = Some (Ip (Ipv4 (record {
+      src_addr = record { bits = 0xc0a84501 };
+      dst_addr = record { bits = 0xc0a84564 };
+      hop_limit = 64;
+      payload = packet.Icmpv4 (EchoReply 0x1234 1) (0x61 ∷ 0x62 ∷ 0x63 ∷ 0x64 ∷ []);
+    })));
+    taken = record (example.without_hardware 0x1405) {
+      neighbors = after_renewal (example.no_neighbors (pos 0)) example.sender hardware.Ip (pos 60000000);
+    };
     notes_taking = [];
     notes_responding = example.identify ∷ [];
     takes = rw (no_slots (pos 0)) (ethernet.Ipv4 refl (ipv4.Read
         (record { whole = lit≤ tt; version = refl; header = lit≤ tt; header_fits = lit≤ tt; total_fits = lit≤ tt; sum = λ on. refl })
-        (ipv4.Whole refl refl (ipv4.Accepted refl (icmpv4.Taken (record { whole_header = lit≤ tt; sum = λ on. refl; body = Request refl refl }) refl refl refl)))));
+        (ipv4.Whole refl refl
+        (ipv4.Accepted refl (icmpv4.Taken (record { whole_header = lit≤ tt; sum = λ on. refl; body = Request refl refl }) refl refl refl)))));
     responds = (
       Ok tt,
-      ToSpecified [] refl (Whole (lit≤ tt) (record { source = lit≤ tt; destination = lit≤ tt; len = lit≤ tt; ports = tt }) refl refl refl (rw no_neighbor_renewed refl)) refl,
+      ToSpecified [] refl (Whole (lit≤ tt) (record { source = lit≤ tt; destination = lit≤ tt; len = lit≤ tt; ports = tt }) refl refl refl
+          (rw no_neighbor_renewed refl)) refl,
     );
     all_notes = refl;
   };

@@ -24,7 +24,18 @@ returns c = record {
   reception = Frame unknown_protocol_frame;
   frames = protocol_unreachable ∷ [];
   response = record {
-    reply = Some (Ip (Ipv4 (record { src_addr = record { bits = 0xc0a84501 }; dst_addr = record { bits = 0xc0a84564 }; hop_limit = 64; payload = packet.Icmpv4 (DstUnreachable ProtoUnreachable (record { src_addr = record { bits = 0xc0a84564 }; dst_addr = record { bits = 0xc0a84501 }; next_header = (protocol.Unknown 99); payload_len = 4; hop_limit = 64 })) (0x61 ∷ 0x62 ∷ 0x63 ∷ 0x64 ∷ []) })));
+    reply = Some (Ip (Ipv4 (record {
+      src_addr = record { bits = 0xc0a84501 };
+      dst_addr = record { bits = 0xc0a84564 };
+      hop_limit = 64;
+      payload = packet.Icmpv4 (DstUnreachable ProtoUnreachable (record {
+        src_addr = record { bits = 0xc0a84564 };
+        dst_addr = record { bits = 0xc0a84501 };
+        next_header = (protocol.Unknown 99);
+        payload_len = 4;
+        hop_limit = 64;
+      })) (0x61 ∷ 0x62 ∷ 0x63 ∷ 0x64 ∷ []);
+    })));
     taken = example.host 0x1405 example.neighbors_after_renewal;
     notes_taking = [];
     notes_responding = example.identify ∷ [];
@@ -34,7 +45,12 @@ returns c = record {
     responds = (
       Ok tt,
       ToSpecified [] refl (ByHop example.sender refl (OnLink refl refl)
-          (Known example.sender_hardware is_known (Whole (lit≤ tt) (record { source = lit≤ tt; destination = lit≤ tt; len = lit≤ tt; ports = tt }) refl refl refl refl))) refl,
+          (Known example.sender_hardware is_known (Whole (lit≤ tt) (record {
+            source = lit≤ tt;
+            destination = lit≤ tt;
+            len = lit≤ tt;
+            ports = tt;
+          }) refl refl refl refl))) refl,
     );
     all_notes = refl;
   };

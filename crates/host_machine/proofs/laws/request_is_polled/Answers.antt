@@ -33,7 +33,8 @@ returns c = record {
     told_sending = [];
     notes_receiving = [];
     notes_sending = [];
-    receives = rw (no_slots (pos 0)) (polling.Spent (polling.Again ingress.SocketStateChanged _ _ _ polling.Begins request_answered (λ same. absurd cc)));
+    receives =
+        rw (no_slots (pos 0)) (polling.Spent (polling.Again ingress.SocketStateChanged _ _ _ polling.Begins request_answered (λ same. absurd cc)));
     sends = polling.Done 0 [] [] [] [] _ (omega arith) polling.Begins nothing_sent refl refl;
     events = refl;
     all_notes = refl;
@@ -47,7 +48,8 @@ returns c = record {
     told_sending = [];
     notes_receiving = [];
     notes_sending = [];
-    receives = rw (no_slots (pos 0)) (polling.Done 1 (Received (pos 0) (Frame example.request) ∷ Sent 0 example.reply ∷ []) (Received (pos 0) Nothing ∷ []) [] [] (example.host 0x1405 example.neighbors_with_sender) (omega arith)
+    receives = rw (no_slots (pos 0)) (polling.Done 1 (Received (pos 0) (Frame example.request) ∷ Sent 0 example.reply ∷ [])
+        (Received (pos 0) Nothing ∷ []) [] [] (example.host 0x1405 example.neighbors_with_sender) (omega arith)
         (polling.Again ingress.SocketStateChanged _ _ _ polling.Begins request_answered (λ same. absurd cc)) nothing_taken refl refl);
     sends = polling.Done 0 [] [] [] [] _ (omega arith) polling.Begins nothing_sent refl refl;
     events = refl;

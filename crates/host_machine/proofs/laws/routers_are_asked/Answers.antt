@@ -11,4 +11,9 @@ use Rattle.host_machine.proofs.laws.routers_are_asked.Goals as goal
 
 pub returns : goal.returns
 unfolding word_sum pseudo header_text address_text head_with lladdr_text
-returns c = Goes _ (Ok tt) (solicitation ∷ []) _ refl (ToSpecified [] refl (ToMulticast _ refl (Whole (lit≤ tt) (record { source = lit≤ tt; destination = lit≤ tt; len = lit≤ tt; ports = tt }) refl refl refl refl)) refl) refl refl
+returns c = Goes _ (Ok tt) (solicitation ∷ []) _ refl (ToSpecified [] refl (ToMulticast _ refl (Whole (lit≤ tt) (record {
+  source = lit≤ tt;
+  destination = lit≤ tt;
+  len = lit≤ tt;
+  ports = tt;
+}) refl refl refl refl)) refl) refl refl

@@ -24,13 +24,22 @@ returns c = record {
   reception = Frame example.echo_request;
   frames = example.discovery ∷ [];
   response = record {
-    reply = Some (Ip (Ipv4 (record { src_addr = record { bits = 0xc0a84501 }; dst_addr = record { bits = 0xc0a84564 }; hop_limit = 64; payload = packet.Icmpv4 (EchoReply 0x1234 1) (0x61 ∷ 0x62 ∷ 0x63 ∷ 0x64 ∷ []) })));
+    reply = Some (Ip (Ipv4 (record {
+      src_addr = record { bits = 0xc0a84501 };
+      dst_addr = record { bits = 0xc0a84564 };
+      hop_limit = 64;
+      payload = packet.Icmpv4 (EchoReply 0x1234 1) (0x61 ∷ 0x62 ∷ 0x63 ∷ 0x64 ∷ []);
+    })));
     taken = example.host 0x1405 (example.no_neighbors (pos 0));
     notes_taking = [];
     notes_responding = example.identify ∷ OfDiscovery (Ask (pos 0)) ∷ [];
     takes = rw (no_slots (pos 0)) (ethernet.Accepted (lit≤ tt) refl (ipv4.Read
         (record { whole = lit≤ tt; version = refl; header = lit≤ tt; header_fits = lit≤ tt; total_fits = lit≤ tt; sum = λ on. refl })
-        (ipv4.Whole refl refl (ipv4.Accepted refl (icmpv4.Taken (record { whole_header = lit≤ tt; sum = λ on. refl; body = Request refl refl }) refl refl (ap (example.host 0x1405) (sym none_renewed)))))));
+        (ipv4.Whole refl refl (ipv4.Accepted refl (icmpv4.Taken (record {
+          whole_header = lit≤ tt;
+          sum = λ on. refl;
+          body = Request refl refl;
+        }) refl refl (ap (example.host 0x1405) (sym none_renewed)))))));
     responds = (
       Err NeighborPending,
       ToSpecified (OfDiscovery (Ask (pos 0)) ∷ []) refl (ByHop example.sender refl (OnLink refl refl)

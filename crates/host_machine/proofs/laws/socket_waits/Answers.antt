@@ -21,7 +21,12 @@ returns c = record {
     changed = false;
     round = no_piece refl refl refl refl refl refl (Whole (Goes (Deferred example.sender) _ _ _ Begins
         (Served (kind.Udp sending) (kind.Udp sending) false (with_sending None (pos 0) 0x1406 (pos 1000000)) refl tt refl
-        (Sent (Ipv4 (record { src_addr = record { bits = 0xc0a84501 }; dst_addr = record { bits = 0xc0a84564 }; hop_limit = 64; payload = Udp (record { src_port = 6969; dst_port = 5000 }) (0x68 ∷ 0x69 ∷ []) }))
+        (Sent (Ipv4 (record {
+          src_addr = record { bits = 0xc0a84501 };
+          dst_addr = record { bits = 0xc0a84564 };
+          hop_limit = 64;
+          payload = Udp (record { src_port = 6969; dst_port = 5000 }) (0x68 ∷ 0x69 ∷ []);
+        }))
         (Err NeighborPending) (example.discovery ∷ []) refl
         (ToSpecified (OfDiscovery (Ask (pos 0)) ∷ []) refl (ByHop example.sender refl (OnLink refl refl)
         (Unknown is_unknown (Asked (record { bits = 0xc0a84564 }) (record { bits = 0xc0a84501 }) refl refl refl refl refl refl))) refl)
@@ -40,9 +45,15 @@ returns c = record {
   asked_again = record {
     changed = false;
     round = no_piece refl refl refl refl refl refl (Whole (Goes (Deferred example.sender) _ _ _ Begins
-        (Served (kind.Udp sending) (kind.Udp sending) false (with_sending (Some (example.sender, pos 1000000)) (pos 1000000) 0x1407 (pos 2000000)) refl
+        (Served (kind.Udp sending)
+        (kind.Udp sending) false (with_sending (Some (example.sender, pos 1000000)) (pos 1000000) 0x1407 (pos 2000000)) refl
         (OfHost (Some example.sender) refl (OnLink refl refl) (rw is_unknown_later refl)) refl
-        (Sent (Ipv4 (record { src_addr = record { bits = 0xc0a84501 }; dst_addr = record { bits = 0xc0a84564 }; hop_limit = 64; payload = Udp (record { src_port = 6969; dst_port = 5000 }) (0x68 ∷ 0x69 ∷ []) }))
+        (Sent (Ipv4 (record {
+          src_addr = record { bits = 0xc0a84501 };
+          dst_addr = record { bits = 0xc0a84564 };
+          hop_limit = 64;
+          payload = Udp (record { src_port = 6969; dst_port = 5000 }) (0x68 ∷ 0x69 ∷ []);
+        }))
         (Err NeighborPending) (example.discovery ∷ []) refl
         (ToSpecified (OfDiscovery (Ask (pos 1000000)) ∷ []) refl (ByHop example.sender refl (OnLink refl refl)
         (Unknown is_unknown_later (Asked (record { bits = 0xc0a84564 }) (record { bits = 0xc0a84501 }) refl refl refl refl refl refl))) refl)

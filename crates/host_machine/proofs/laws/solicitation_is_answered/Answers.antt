@@ -30,7 +30,13 @@ returns c = record {
   reception = Frame solicitation;
   frames = advertisement ∷ [];
   response = record {
-    reply = Some (Ip (ndisc.advertisement_of (record { 0 = 2 ∷ 0 ∷ 0 ∷ 0 ∷ 0 ∷ 1 ∷ [] }) (record { src_addr = neighbor; dst_addr = record { bits = 0xff02_0000_0000_0000_0000_0001_ff00_0001 }; next_header = protocol.Icmpv6; payload_len = 32; hop_limit = 255 }) own));
+    reply = Some (Ip (ndisc.advertisement_of (record { 0 = 2 ∷ 0 ∷ 0 ∷ 0 ∷ 0 ∷ 1 ∷ [] }) (record {
+      src_addr = neighbor;
+      dst_addr = record { bits = 0xff02_0000_0000_0000_0000_0001_ff00_0001 };
+      next_header = protocol.Icmpv6;
+      payload_len = 32;
+      hop_limit = 255;
+    }) own));
     taken = host 0x1405 neighbors_with_sender;
     notes_taking = [];
     notes_responding = example.identify ∷ [];
@@ -43,13 +49,30 @@ returns c = record {
             whole = lit≤ tt;
             type = inl refl;
             code = refl;
-            options = All-cons IsOption (1 ∷ 1 ∷ 2 ∷ 0 ∷ 0 ∷ 0 ∷ 0 ∷ 2 ∷ []) [] (record { header = lit≤ tt; some = lit≤ tt; fits = lit≤ tt; allowed = refl }) (All-nil IsOption);
+            options = All-cons IsOption (1 ∷ 1 ∷ 2 ∷ 0 ∷ 0 ∷ 0 ∷ 0 ∷ 2 ∷ []) []
+                (record { header = lit≤ tt; some = lit≤ tt; fits = lit≤ tt; allowed = refl }) (All-nil IsOption);
           });
         })
-        (ndisc.FromNeighbor (record { 0 = 2 ∷ 0 ∷ 0 ∷ 0 ∷ 0 ∷ 1 ∷ [] }) refl refl (ndisc.Solicited own (Some (record { 0 = 2 ∷ 0 ∷ 0 ∷ 0 ∷ 0 ∷ 2 ∷ [] })) refl
-        (record { neighbors = neighbors_with_sender; filled = record { puts = record { there = λ h. refl; room = λ h. refl; full = λ none four. absurd (omega (arith, len-empty address_cmp Neighbor)) }; silence = refl }; same = refl })
+        (ndisc.FromNeighbor (record { 0 = 2 ∷ 0 ∷ 0 ∷ 0 ∷ 0 ∷ 1 ∷ [] }) refl refl
+        (ndisc.Solicited own (Some (record { 0 = 2 ∷ 0 ∷ 0 ∷ 0 ∷ 0 ∷ 2 ∷ [] })) refl
+        (record {
+          neighbors = neighbors_with_sender;
+          filled = record {
+            puts = record { there = λ h. refl; room = λ h. refl; full = λ none four. absurd (omega (arith, len-empty address_cmp Neighbor)) };
+            silence = refl;
+          };
+          same = refl;
+        })
         refl refl)))))));
-    responds = (Ok tt, ToSpecified [] refl (ByHop sender refl (OnLink refl refl) (Known example.sender_hardware is_learnt_v6 (Whole (lit≤ tt) (record { source = lit≤ tt; destination = lit≤ tt; len = lit≤ tt; ports = tt }) refl refl refl refl))) refl);
+    responds = (
+      Ok tt,
+      ToSpecified [] refl (ByHop sender refl (OnLink refl refl) (Known example.sender_hardware is_learnt_v6 (Whole (lit≤ tt) (record {
+        source = lit≤ tt;
+        destination = lit≤ tt;
+        len = lit≤ tt;
+        ports = tt;
+      }) refl refl refl refl))) refl,
+    );
     all_notes = refl;
   };
   events = refl;

@@ -6,11 +6,13 @@ use Rattle.host_machine.specs.State.Host.{Host}
 use Rattle.host_machine.specs.Polling.Step.{SetsReassemblyTimeout, WithinDay, OverDay}
 use Rattle.host_machine.proofs.laws.timeouts_are_tested.Goals as goal
 
-of_a_day : (answer : Result (Unit {0}) TimeoutError) (old new : Host) → SetsReassemblyTimeout 86_400_000_000 answer old new → (answer ≡ Ok tt) × (new ≡ record old { reassembly_timeout = 86_400_000_000 })
+of_a_day : (answer : Result (Unit {0}) TimeoutError) (old new : Host) →
+    SetsReassemblyTimeout 86_400_000_000 answer old new → (answer ≡ Ok tt) × (new ≡ record old { reassembly_timeout = 86_400_000_000 })
 of_a_day answer old new (WithinDay l r e) = (r, e)
 of_a_day answer old new (OverDay l r e) = absurd (omega (arith, l))
 
-longer : (answer : Result (Unit {0}) TimeoutError) (old new : Host) → SetsReassemblyTimeout 86_400_000_001 answer old new → (answer ≡ Err TimeoutTooLong) × (new ≡ old)
+longer : (answer : Result (Unit {0}) TimeoutError) (old new : Host) →
+    SetsReassemblyTimeout 86_400_000_001 answer old new → (answer ≡ Err TimeoutTooLong) × (new ≡ old)
 longer answer old new (WithinDay l r e) = absurd (omega (arith, l))
 longer answer old new (OverDay l r e) = (r, e)
 

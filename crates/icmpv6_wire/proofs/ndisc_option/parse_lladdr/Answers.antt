@@ -6,7 +6,8 @@ use Rattle.icmpv6_wire.proofs.ndisc_option.parse_lladdr.Goals as goal
 pub returns-in_err-after : goal.returns-in_err-after
 returns-in_err-after c =
     rw c.from_residual.ensures
-    (refused address_in (number_of c.args.option_type) c.args.octets.now c.loop-rest.rest.now c.loop-rest.found c.loop-rest.invariant (search rules) c.in_err-after.ensures)
+    (refused address_in (number_of c.args.option_type) c.args.octets.now c.loop-rest.rest.now c.loop-rest.found c.loop-rest.invariant
+    (search rules) c.in_err-after.ensures)
 
 pub loop-rest-preserved-then-rest-number : goal.loop-rest-preserved-then-rest-number
 loop-rest-preserved-then-rest-number c =
@@ -23,4 +24,5 @@ loop-rest-preserved c =
     c.in_ok-after.ensures.1
 
 pub returns : goal.returns
-returns c = finished address_in (number_of c.args.option_type) c.args.octets.now c.loop-rest.rest.now c.loop-rest.found c.loop-rest.invariant (search rules)
+returns c =
+    finished address_in (number_of c.args.option_type) c.args.octets.now c.loop-rest.rest.now c.loop-rest.found c.loop-rest.invariant (search rules)

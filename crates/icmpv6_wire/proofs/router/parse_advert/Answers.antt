@@ -14,6 +14,7 @@ pub returns : goal.returns
 returns c =
     let rest = take_rest c.args.message.now 16 in (
       record { whole = search rules; type = c.requires.kind; code = c.requires.code; options = subst AreOptions rest c.in_ok-lladdr.ensures.0 },
-      advert_read _ _ c.flags_of.result c.u16_at.result _ c.in_ok-lladdr.lladdr _ c.in_ok-prefix_info.prefix_info _ c.flags_of.ensures c.u16_at.ensures
+      advert_read _ _ c.flags_of.result c.u16_at.result _ c.in_ok-lladdr.lladdr _
+          c.in_ok-prefix_info.prefix_info _ c.flags_of.ensures c.u16_at.ensures
           (c.in_ok-lladdr.ensures.1 ∙ ap (lladdr_in 1) rest) (c.in_ok-prefix_info.ensures.1 ∙ ap prefix_in rest),
     )

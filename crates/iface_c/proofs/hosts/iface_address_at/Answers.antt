@@ -7,7 +7,8 @@ use Rattle.iface_c.proofs.hosts.iface_address_at.Goals as goal
 
 -- a host that is there before and after
 same_there : (Step : Host → Host → Type 0) (x : Host) {a b : Option Host} → a ≡ Some x → b ≡ Some x → Step x x → Changed Step a b
-same_there Step x {a} {b} p q s = subst (λ (old : Option Host). Changed Step old b) (sym p) (subst (λ (new : Option Host). Changed Step (Some x) new) (sym q) s)
+same_there Step x {a} {b} p q s =
+    subst (λ (old : Option Host). Changed Step old b) (sym p) (subst (λ (new : Option Host). Changed Step (Some x) new) (sym q) s)
 
 pub returns-in-Some-found-clause-shown : goal.returns-in-Some-found-clause-shown
 returns-in-Some-found-clause-shown c =

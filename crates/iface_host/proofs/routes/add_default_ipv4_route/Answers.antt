@@ -7,9 +7,13 @@ use Rattle.interface.proofs.SettingCalls.{becomes}
 use Rattle.iface_host.proofs.routes.add_default_ipv4_route.Goals as goal
 
 pub returns-clause-answer : goal.returns-clause-answer
-returns-clause-answer c = λ sockets. c.add_default_ipv4_route.ensures.answer ∙ ap (λ (routes : List Route). old_or_full is_ipv4_gateway routes) (c.routes_mut.ensures.value sockets)
+returns-clause-answer c = λ sockets. c.add_default_ipv4_route.ensures.answer
+    ∙ ap (λ (routes : List Route). old_or_full is_ipv4_gateway routes) (c.routes_mut.ensures.value sockets)
 
 pub returns-clause-table : goal.returns-clause-table
-returns-clause-table c = λ sockets H h. becomes c.args.interface.now.context (with_routes c.args.interface.now c.add_default_ipv4_route.new.self).context c.args.interface.now.fragments sockets H h (λ K. record K { routes = with_default is_ipv4_gateway K.routes (ipv4_gateway c.args.gateway) })
+returns-clause-table c =
+    λ sockets H h. becomes c.args.interface.now.context (with_routes c.args.interface.now c.add_default_ipv4_route.new.self).context
+    c.args.interface.now.fragments sockets H h (λ K. record K { routes = with_default is_ipv4_gateway K.routes (ipv4_gateway c.args.gateway) })
     (ap (λ (routes : List Route). host_of (with_routes c.args.interface.now routes).context sockets)
-    (c.add_default_ipv4_route.ensures.table ∙ ap (λ (routes : List Route). with_default is_ipv4_gateway routes (ipv4_gateway c.args.gateway)) (c.routes_mut.ensures.value sockets))) (λ K slots. refl)
+    (c.add_default_ipv4_route.ensures.table ∙ ap (λ (routes : List Route). with_default is_ipv4_gateway routes (ipv4_gateway c.args.gateway))
+    (c.routes_mut.ensures.value sockets))) (λ K slots. refl)

@@ -6,7 +6,8 @@ use Rattle.interface.proofs.SettingCalls.{becomes}
 use Rattle.iface_host.proofs.routes.put_routes.Goals as goal
 
 pub returns : goal.returns
-returns c = λ sockets H h. becomes c.args.interface.now.context (with_routes c.args.interface.now c.update.new.self).context c.args.interface.now.fragments sockets H h (λ K. record K { routes = c.args.list.items })
+returns c = λ sockets H h. becomes c.args.interface.now.context (with_routes c.args.interface.now c.update.new.self).context
+    c.args.interface.now.fragments sockets H h (λ K. record K { routes = c.args.list.items })
     (ap (λ (routes : List Route). host_of (with_routes c.args.interface.now routes).context sockets) put) (λ K slots. refl) where
       put : c.update.new.self ≡ c.args.list.items
       put = search rules

@@ -11,7 +11,8 @@ loop-index-init c =
     let next = c.next_at-index.ensures in (
       next.within,
       refl,
-      walk_passed None (accepts c.args.message.now c.args.contents.now) (storage_after_delivery c.args.remote c.args.octets.now) (not_icmp c.args.message.now c.args.contents.now) set set 0 c.next_at-index.result (omega arith) refl next.passed,
+      walk_passed None (accepts c.args.message.now c.args.contents.now) (storage_after_delivery c.args.remote c.args.octets.now)
+          (not_icmp c.args.message.now c.args.contents.now) set set 0 c.next_at-index.result (omega arith) refl next.passed,
     )
 
 pub loop-index-preserved : goal.loop-index-preserved
@@ -25,7 +26,9 @@ loop-index-preserved c =
     let heard = one_heard _ set c.loop-index.sockets now i within c.loop-index.invariant.2 c.deliver_at.ensures.heard in (
       omega (arith, next.within, same),
       same,
-      walk_passed None (accepts c.args.message.now c.args.contents.now) (storage_after_delivery c.args.remote c.args.octets.now) (not_icmp c.args.message.now c.args.contents.now) set now (i + 1) c.next_at-index-in-loop-index.result (next.after (omega (arith, same, within))) heard next.passed,
+      walk_passed None (accepts c.args.message.now c.args.contents.now)
+          (storage_after_delivery c.args.remote c.args.octets.now) (not_icmp c.args.message.now c.args.contents.now) set now
+          (i + 1) c.next_at-index-in-loop-index.result (next.after (omega (arith, same, within))) heard next.passed,
     )
 
 pub returns : goal.returns

@@ -9,7 +9,8 @@ use Rattle.iface_icmp.proofs.delivery.deliver_to_each.Given as goal
 abbrev pub invariant-loop-index : goal.invariant-loop-index
 invariant-loop-index l =
     (l.index ≤ length l.fn.sockets.places) × (length l.sockets.places ≡ length l.fn.sockets.places) ×
-    (l.sockets ≡ with_places l.fn.sockets (mapped (to_this (accepts l.message l.contents) (storage_after_delivery l.remote l.octets)) l.index l.fn.sockets.places))
+    (l.sockets ≡ with_places l.fn.sockets
+    (mapped (to_this (accepts l.message l.contents) (storage_after_delivery l.remote l.octets)) l.index l.fn.sockets.places))
 
 abbrev pub decreases-loop-index : goal.decreases-loop-index
 decreases-loop-index l = length l.sockets.places - l.index

@@ -18,9 +18,12 @@ pub returns : goal.returns
 returns c =
     let octets : List ℕ = c.args.octets.now in
     let request = c.requires.request in
-    let heard : SocketSet = with_places c.args.sockets.now (to_each (accepts (Ipv6Message (echo_request_in octets)) (drop 8 octets)) (storage_after_delivery (Ipv6 c.args.header.now.src_addr) octets) c.args.sockets.now.places) in
+    let heard : SocketSet = with_places c.args.sockets.now (to_each (accepts (Ipv6Message (echo_request_in octets)) (drop 8 octets))
+    (storage_after_delivery (Ipv6 c.args.header.now.src_addr) octets) c.args.sockets.now.places) in
     rw (c.deliver.ensures, c.u16_at.ensures, c.u16_at-2.ensures, take_rest octets 8) (
     answered heard (Some (message_back (host_of c.args.context.now no_sockets).ip_addrs c.args.header.now (echo_reply_to octets) (drop 8 octets)))
-    (λ slots. icmpv6_taken (host_in c.args.context.now slots c.args.sockets.now) (host_in c.args.context.now slots heard) c.args.header.now octets (drop 8 octets) (echo_request_in octets) _ _ _ [] refl
-    (record { whole_header = request.whole_header; sum = λ t. request.sum; body = Request request.type request.code }, of_request octets request.type) refl (refl, refl, refl))
+    (λ slots. icmpv6_taken (host_in c.args.context.now slots c.args.sockets.now) (host_in c.args.context.now slots heard) c.args.header.now octets
+    (drop 8 octets) (echo_request_in octets) _ _ _ [] refl
+    (record { whole_header = request.whole_header; sum = λ t. request.sum; body = Request request.type request.code }, of_request octets request.type)
+    refl (refl, refl, refl))
     (rw c.new-request.ensures at c.send_icmpv6_reply.ensures))

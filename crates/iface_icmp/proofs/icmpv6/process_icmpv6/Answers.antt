@@ -7,5 +7,7 @@ use Rattle.iface_icmp.proofs.icmpv6.process_icmpv6.Goals as goal
 
 pub returns-then-not-is_sound : goal.returns-then-not-is_sound
 returns-then-not-is_sound c =
-    unanswered c.requires.empty (λ slots. icmpv6_malformed (host_in c.args.context.now slots c.args.sockets.now) c.args.header.now c.args.octets.now c.rx-checked.result
-    (c.rx-checked.ensures ∙ ap (λ x. is_rx x.checksum.icmpv6) c.capabilities.ensures) (λ m. c.is_sound.ensures.unsound c.if-not-is_sound.true (m.whole_header, m.sum)))
+    unanswered c.requires.empty
+    (λ slots. icmpv6_malformed (host_in c.args.context.now slots c.args.sockets.now) c.args.header.now c.args.octets.now c.rx-checked.result
+    (c.rx-checked.ensures ∙ ap (λ x. is_rx x.checksum.icmpv6) c.capabilities.ensures)
+    (λ m. c.is_sound.ensures.unsound c.if-not-is_sound.true (m.whole_header, m.sum)))

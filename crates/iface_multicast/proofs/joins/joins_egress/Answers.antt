@@ -11,11 +11,13 @@ loop-group-init g c = none_told Joining join_packet join_reported c.args.context
 pub returns-then-not-report_join : goal.returns-then-not-report_join
 returns-then-not-report_join g c =
     told_until Joining join_packet join_reported c.args.context.now c.report_join.new.context c.report_join.result c.if-not-report_join.true
-    (one_reported Joining join_packet join_reported c.args.context.now c.loop-group.context c.report_join.new.context c.report_join.result c.in-Some.group g.met.D.Device.tells_on c.loop-group.invariant
+    (one_reported Joining join_packet join_reported c.args.context.now c.loop-group.context c.report_join.new.context c.report_join.result
+    c.in-Some.group g.met.D.Device.tells_on c.loop-group.invariant
     (rw c.groups.ensures at (sym c.first_in.ensures.first ∙ c.in-Some.is)) c.report_join.ensures.told)
 
 pub loop-group-preserved : goal.loop-group-preserved
 loop-group-preserved g c =
     rw c.if-not-report_join.false at
-    (one_reported Joining join_packet join_reported c.args.context.now c.loop-group.context c.report_join.new.context c.report_join.result c.in-Some.group g.met.D.Device.tells_on c.loop-group.invariant
+    (one_reported Joining join_packet join_reported c.args.context.now c.loop-group.context c.report_join.new.context c.report_join.result
+    c.in-Some.group g.met.D.Device.tells_on c.loop-group.invariant
     (rw c.groups.ensures at (sym c.first_in.ensures.first ∙ c.in-Some.is)) c.report_join.ensures.told)

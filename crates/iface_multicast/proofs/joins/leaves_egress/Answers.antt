@@ -11,11 +11,13 @@ loop-group-init g c = none_told Leaving leave_packet leave_reported c.args.conte
 pub returns-then-not-report_leave : goal.returns-then-not-report_leave
 returns-then-not-report_leave g c =
     told_until Leaving leave_packet leave_reported c.args.context.now c.report_leave.new.context c.report_leave.result c.if-not-report_leave.true
-    (one_reported Leaving leave_packet leave_reported c.args.context.now c.loop-group.context c.report_leave.new.context c.report_leave.result c.in-Some.group g.met.D.Device.tells_on c.loop-group.invariant
+    (one_reported Leaving leave_packet leave_reported c.args.context.now c.loop-group.context c.report_leave.new.context c.report_leave.result
+    c.in-Some.group g.met.D.Device.tells_on c.loop-group.invariant
     (rw c.groups.ensures at (sym c.first_in.ensures.first ∙ c.in-Some.is)) c.report_leave.ensures.told)
 
 pub loop-group-preserved : goal.loop-group-preserved
 loop-group-preserved g c =
     rw c.if-not-report_leave.false at
-    (one_reported Leaving leave_packet leave_reported c.args.context.now c.loop-group.context c.report_leave.new.context c.report_leave.result c.in-Some.group g.met.D.Device.tells_on c.loop-group.invariant
+    (one_reported Leaving leave_packet leave_reported c.args.context.now c.loop-group.context c.report_leave.new.context c.report_leave.result
+    c.in-Some.group g.met.D.Device.tells_on c.loop-group.invariant
     (rw c.groups.ensures at (sym c.first_in.ensures.first ∙ c.in-Some.is)) c.report_leave.ensures.told)

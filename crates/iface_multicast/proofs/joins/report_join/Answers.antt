@@ -7,9 +7,11 @@ use Rattle.iface_multicast.proofs.joins.report_join.Goals as goal
 
 pub returns-then-granted-clause-told : goal.returns-then-granted-clause-told
 returns-then-granted-clause-told g c =
-    reported_it join_packet join_reported c.args.group.now c.send_join-granted.result c.args.context.now c.send_join-granted.new.context c.join_reported.new.context c.send_join-granted.ensures.told
+    reported_it join_packet join_reported c.args.group.now c.send_join-granted.result c.args.context.now c.send_join-granted.new.context
+    c.join_reported.new.context c.send_join-granted.ensures.told
     (λ slots sockets. rw c.if-granted.true (ap (λ H. with_slots H slots) (c.join_reported.ensures.groups sockets)))
 
 pub returns-else-granted-clause-told : goal.returns-else-granted-clause-told
 returns-else-granted-clause-told g c =
-    reported_it join_packet join_reported c.args.group.now c.send_join-granted.result c.args.context.now c.send_join-granted.new.context c.send_join-granted.new.context c.send_join-granted.ensures.told (λ slots sockets. rw c.if-granted.false refl)
+    reported_it join_packet join_reported c.args.group.now c.send_join-granted.result c.args.context.now c.send_join-granted.new.context
+    c.send_join-granted.new.context c.send_join-granted.ensures.told (λ slots sockets. rw c.if-granted.false refl)

@@ -7,9 +7,11 @@ use Rattle.iface_multicast.proofs.joins.report_leave.Goals as goal
 
 pub returns-then-granted-clause-told : goal.returns-then-granted-clause-told
 returns-then-granted-clause-told g c =
-    reported_it leave_packet leave_reported c.args.group.now c.send_leave-granted.result c.args.context.now c.send_leave-granted.new.context c.leave_reported.new.context c.send_leave-granted.ensures.told
+    reported_it leave_packet leave_reported c.args.group.now c.send_leave-granted.result c.args.context.now c.send_leave-granted.new.context
+    c.leave_reported.new.context c.send_leave-granted.ensures.told
     (λ slots sockets. rw c.if-granted.true (ap (λ H. with_slots H slots) (c.leave_reported.ensures.groups sockets)))
 
 pub returns-else-granted-clause-told : goal.returns-else-granted-clause-told
 returns-else-granted-clause-told g c =
-    reported_it leave_packet leave_reported c.args.group.now c.send_leave-granted.result c.args.context.now c.send_leave-granted.new.context c.send_leave-granted.new.context c.send_leave-granted.ensures.told (λ slots sockets. rw c.if-granted.false refl)
+    reported_it leave_packet leave_reported c.args.group.now c.send_leave-granted.result c.args.context.now c.send_leave-granted.new.context
+    c.send_leave-granted.new.context c.send_leave-granted.ensures.told (λ slots sockets. rw c.if-granted.false refl)

@@ -13,4 +13,5 @@ pub returns-in-Ipv6 : goal.returns-in-Ipv6
 returns-in-Ipv6 c = rw c.in-Ipv6.is (in_place c.process_ipv6.ensures)
 
 pub returns-in-Unknown : goal.returns-in-Unknown
-returns-in-Unknown c = in_place (unanswered c.requires.empty (λ slots. payload_dropped _ c.args.own c.args.header.now.src_addr (host_in c.args.context.now slots c.args.sockets.now) c.args.payload.now (_, c.in-Unknown.is)))
+returns-in-Unknown c = in_place (unanswered c.requires.empty (λ slots. payload_dropped _ c.args.own c.args.header.now.src_addr
+    (host_in c.args.context.now slots c.args.sockets.now) c.args.payload.now (_, c.in-Unknown.is)))

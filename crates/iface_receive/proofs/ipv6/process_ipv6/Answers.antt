@@ -6,18 +6,23 @@ use Rattle.iface_receive.proofs.PacketRulesV6.{ipv6_malformed, ipv6_read}
 use Rattle.iface_receive.proofs.ipv6.process_ipv6.Goals as goal
 
 pub returns-in_default : goal.returns-in_default
-returns-in_default c = unanswered c.requires (λ slots. ipv6_malformed c.args.source (host_in c.args.context.now slots c.args.sockets.now) c.args.octets.now c.in_default.ensures)
+returns-in_default c = unanswered c.requires
+    (λ slots. ipv6_malformed c.args.source (host_in c.args.context.now slots c.args.sockets.now) c.args.octets.now c.in_default.ensures)
 
 pub returns-then-not-is_unicast : goal.returns-then-not-is_unicast
-returns-then-not-is_unicast c = unanswered c.requires (λ slots. ipv6_read c.args.source (host_in c.args.context.now slots c.args.sockets.now) _ c.args.octets.now c.in-Some.payload.now c.in-Some.header _ _
-    c.in-Some.ensures (FromNoHost (sym c.is_unicast.ensures ∙ c.if-not-is_unicast.true) (dropped (host_in c.args.context.now slots c.args.sockets.now))))
+returns-then-not-is_unicast c = unanswered c.requires (λ slots.
+    ipv6_read c.args.source (host_in c.args.context.now slots c.args.sockets.now) _ c.args.octets.now c.in-Some.payload.now c.in-Some.header _ _
+    c.in-Some.ensures
+    (FromNoHost (sym c.is_unicast.ensures ∙ c.if-not-is_unicast.true) (dropped (host_in c.args.context.now slots c.args.sockets.now))))
 
 pub returns-then-number : goal.returns-then-number
 returns-then-number c = by_rule c.process_hop_by_hop.ensures (λ slots reply notes taken takes.
-    ipv6_read c.args.source (host_in c.args.context.now slots c.args.sockets.now) taken c.args.octets.now c.in-Some.payload.now c.in-Some.header reply notes c.in-Some.ensures
+    ipv6_read c.args.source
+    (host_in c.args.context.now slots c.args.sockets.now) taken c.args.octets.now c.in-Some.payload.now c.in-Some.header reply notes c.in-Some.ensures
     (WithOptions (sym c.is_unicast.ensures ∙ c.if-not-is_unicast.false) (sym c.number.ensures ∙ c.if-number.true ∙ c.number-2.ensures) takes))
 
 pub returns : goal.returns
 returns c = by_rule c.process_datagram_v6.ensures (λ slots reply notes taken takes.
-    ipv6_read c.args.source (host_in c.args.context.now slots c.args.sockets.now) taken c.args.octets.now c.in-Some.payload.now c.in-Some.header reply notes c.in-Some.ensures
+    ipv6_read c.args.source
+    (host_in c.args.context.now slots c.args.sockets.now) taken c.args.octets.now c.in-Some.payload.now c.in-Some.header reply notes c.in-Some.ensures
     (Bare (sym c.is_unicast.ensures ∙ c.if-not-is_unicast.false) (λ e. c.if-number.false (c.number.ensures ∙ e ∙ sym c.number-2.ensures)) takes))

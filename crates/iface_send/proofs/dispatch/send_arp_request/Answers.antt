@@ -15,7 +15,8 @@ pub returns : goal.returns
 returns c =
     one (arp_frame (request_for c.args.own c.in-Some.source c.args.target.now)) (OfDiscovery (Ask c.args.context.now.moment) ∷ [])
     (c.emit_arp.ensures.items ∙ ap arp_frame c.request_for.ensures) (omega (arith, c.emit_arp.ensures.len))
-    (λ slots sockets. Asked c.args.target.now c.in-Some.source refl (sym c.get_source_address_ipv4.ensures ∙ c.in-Some.is) refl refl refl (rw c.limit_rate.ensures refl))
+    (λ slots sockets. Asked c.args.target.now c.in-Some.source refl
+    (sym c.get_source_address_ipv4.ensures ∙ c.in-Some.is) refl refl refl (rw c.limit_rate.ensures refl))
 
 pub invariant_of-context : goal.invariant_of-context
 invariant_of-context c =

@@ -19,11 +19,14 @@ pub returns : goal.returns
 returns c =
     let H = host_of c.args.context.now no_sockets in
     let asked = solicitation_for c.args.own (source_v6 c.args.context.now.ip_addrs.items c.args.target.now) c.args.target.now in
-    let packet : value_of.packet c.solicitation_for-packet.result ≡ asked = c.solicitation_for-packet.ensures ∙ ap (λ (source : Ipv6Address). solicitation_for c.args.own source c.args.target.now) c.get_source_address_ipv6-source.ensures in
-    let group : c.group_address_v6-group.result ≡ group_address_v6 (solicited_node c.args.target.now) = c.group_address_v6-group.ensures ∙ ap group_address_v6 c.solicited_node.ensures in
+    let packet : value_of.packet c.solicitation_for-packet.result ≡ asked = c.solicitation_for-packet.ensures
+    ∙ ap (λ (source : Ipv6Address). solicitation_for c.args.own source c.args.target.now) c.get_source_address_ipv6-source.ensures in
+    let group : c.group_address_v6-group.result ≡ group_address_v6 (solicited_node c.args.target.now) = c.group_address_v6-group.ensures
+    ∙ ap group_address_v6 c.solicited_node.ensures in
     one (ip_frame H (hardware.Ethernet (group_address_v6 (solicited_node c.args.target.now))) asked)
     (OfIdentification (Identify c.args.context.now.ipv4_id) ∷ OfDiscovery (Ask c.args.context.now.moment) ∷ [])
-    (c.emit_frame.ensures.items ∙ ap (λ (to : EthernetAddress). ip_frame H (hardware.Ethernet to) (value_of.packet c.solicitation_for-packet.result)) group
+    (c.emit_frame.ensures.items
+    ∙ ap (λ (to : EthernetAddress). ip_frame H (hardware.Ethernet to) (value_of.packet c.solicitation_for-packet.result)) group
     ∙ ap (λ (p : Packet). ip_frame H (hardware.Ethernet (group_address_v6 (solicited_node c.args.target.now))) p) packet)
     (omega (arith, c.emit_frame.ensures.some))
     (λ slots sockets. Solicited c.args.target.now refl refl refl refl (rw c.limit_rate.ensures refl))

@@ -18,13 +18,32 @@ invariant_of-context-clause-pending c =
     let source_fits : c.header-header.result.src_addr.bits < 2 ^ 32 = search rules in
     let destination_fits : c.header-header.result.dst_addr.bits < 2 ^ 32 = search rules in
     let identification_fits : c.args.identification < 2 ^ 16 = search rules in
-    let whole : length d.payload ≡ length c.as_slice.result.now + length c.octets.result.now = length-append c.as_slice.result.now c.octets.result.now in
+    let whole : length d.payload ≡ length c.as_slice.result.now + length c.octets.result.now =
+    length-append c.as_slice.result.now c.octets.result.now in
     let more : d.size < length d.payload =
-    omega (arith, whole, ap length c.as_slice.ensures.value, ap length c.octets.ensures, ap length c.requires.empty, c.emit_header.ensures.len, c.ip_mtu.ensures, c.requires.long) in
+    omega (
+      arith,
+      whole,
+      ap length c.as_slice.ensures.value,
+      ap length c.octets.ensures,
+      ap length c.requires.empty,
+      c.emit_header.ensures.len,
+      c.ip_mtu.ensures,
+      c.requires.long,
+    ) in
     let form : HasForm d = record {
       source_addr = source_fits;
       destination_addr = destination_fits;
       identification = identification_fits;
-      payload = omega (arith, whole, ap length c.as_slice.ensures.value, ap length c.octets.ensures, ap length c.requires.empty, c.emit_header.ensures.len, c.requires.fits);
+      payload = omega (
+        arith,
+        whole,
+        ap length c.as_slice.ensures.value,
+        ap length c.octets.ensures,
+        ap length c.requires.empty,
+        c.emit_header.ensures.len,
+        c.requires.fits,
+      );
     } in
-    rw c.fill.ensures (pieces_are k.capabilities.medium d ((c.ip_mtu.result - 20) / 8) form c.requires.of_medium refl (size_positive c.ip_mtu.result (rw c.ip_mtu.ensures k.long)) more)
+    rw c.fill.ensures (pieces_are k.capabilities.medium d ((c.ip_mtu.result - 20) / 8) form c.requires.of_medium refl
+    (size_positive c.ip_mtu.result (rw c.ip_mtu.ensures k.long)) more)

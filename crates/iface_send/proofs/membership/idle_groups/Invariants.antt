@@ -6,5 +6,6 @@ use Rattle.iface_send.proofs.membership.idle_groups.Given as goal
 
 abbrev pub invariant-loop-group : goal.invariant-loop-group
 invariant-loop-group l =
-    (l.idle.items ++ filter (is_idle l.own) (map (λ (g : Group). g.addr) (drop l.group-index l.groups)) ≡ filter (is_idle l.own) (map (λ (g : Group). g.addr) l.groups))
+    (l.idle.items ++ filter (is_idle l.own) (map (λ (g : Group). g.addr) (drop l.group-index l.groups))
+    ≡ filter (is_idle l.own) (map (λ (g : Group). g.addr) l.groups))
     × (length l.idle.items ≤ l.group-index)

@@ -6,5 +6,7 @@ use Rattle.iface_send.proofs.membership.update_solicited_node_groups.Goals as go
 
 pub returns-in-Ethernet : goal.returns-in-Ethernet
 returns-in-Ethernet c =
-    let idle = c.as_slice-in-Ethernet.ensures.value ∙ c.idle_groups-idle.ensures ∙ ap (λ (gs : List Group). filter (is_idle c.args.own.now) (map (λ (g : Group). g.addr) gs)) c.as_slice.ensures.value in
-    rw c.in-Ethernet.is (c.join_solicited.ensures ∙ ap (λ (gs : List Group). groups_after_joins gs c.args.own.now) (c.leave_all.ensures ∙ ap (groups_after_leaves c.args.groups.now) idle))
+    let idle = c.as_slice-in-Ethernet.ensures.value ∙ c.idle_groups-idle.ensures
+    ∙ ap (λ (gs : List Group). filter (is_idle c.args.own.now) (map (λ (g : Group). g.addr) gs)) c.as_slice.ensures.value in
+    rw c.in-Ethernet.is (c.join_solicited.ensures
+    ∙ ap (λ (gs : List Group). groups_after_joins gs c.args.own.now) (c.leave_all.ensures ∙ ap (groups_after_leaves c.args.groups.now) idle))

@@ -13,6 +13,7 @@ invariant_of-context c =
       cut_to_fit = k.cut_to_fit;
       of_medium = k.of_medium;
       own = k.own;
-      neighbors = subst (λ m. AreOf m c.fill.new.self) c.requires.of_medium (c.fill.ensures.of (subst (λ m. AreOf m k.neighbor_cache) (sym c.requires.of_medium) k.neighbors));
+      neighbors = subst (λ m. AreOf m c.fill.new.self) c.requires.of_medium
+          (c.fill.ensures.of (subst (λ m. AreOf m k.neighbor_cache) (sym c.requires.of_medium) k.neighbors));
       pending = k.pending;
     }

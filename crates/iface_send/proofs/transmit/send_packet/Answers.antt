@@ -7,11 +7,13 @@ use Rattle.iface_send.proofs.Offered.{not_granted, goes}
 use Rattle.iface_send.proofs.transmit.send_packet.Goals as goal
 
 pub returns-then-not-transmit-clause-told : goal.returns-then-not-transmit-clause-told
-returns-then-not-transmit-clause-told g c = not_granted c.args.context.now (value_of.packet c.args.packet.now) (rw (c.now.ensures, c.if-not-transmit.true) at c.transmit.ensures.told) refl refl
+returns-then-not-transmit-clause-told g c = not_granted c.args.context.now (value_of.packet c.args.packet.now)
+    (rw (c.now.ensures, c.if-not-transmit.true) at c.transmit.ensures.told) refl refl
 
 pub returns-clause-told : goal.returns-clause-told
 returns-clause-told g c =
-    goes c.args.context.now c.dispatch.new.context g.met.D.Device.tells_on (value_of.packet c.args.packet.now) c.dispatch.result (rw (c.now.ensures, c.if-not-transmit.false) at c.transmit.ensures.told) c.dispatch.ensures c.send_frame.ensures refl refl
+    goes c.args.context.now c.dispatch.new.context g.met.D.Device.tells_on (value_of.packet c.args.packet.now) c.dispatch.result
+    (rw (c.now.ensures, c.if-not-transmit.false) at c.transmit.ensures.told) c.dispatch.ensures c.send_frame.ensures refl refl
 
 pub returns-clause-groups : goal.returns-clause-groups
 returns-clause-groups g c = groups_stay (c.dispatch.ensures.follows map.empty no_sockets)

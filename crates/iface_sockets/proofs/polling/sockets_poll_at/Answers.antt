@@ -23,7 +23,8 @@ loop-index-preserved c =
           below_passed H next c.next_busy-index-in-loop-index.result c.earlier_of-least.result (idle.after (omega arith)) idle.idle
           (rw (c.earlier_of-least.ensures, c.instant_of.ensures)
           (below_more H c.loop-index.index c.loop-index.least (instant_of c.poll_at-own.result) (c.loop-index.invariant.0 slots)
-          (own_least H c.loop-index.index c.poll_at-own.result _ (λ a known is. is.1 slots c.args.sockets.now) (rw c.now-now.ensures at c.poll_at-own.ensures.socket) c.poll_at-own.ensures.nobody))),
+          (own_least H c.loop-index.index c.poll_at-own.result _ (λ a known is. is.1 slots c.args.sockets.now)
+          (rw c.now-now.ensures at c.poll_at-own.ensures.socket) c.poll_at-own.ensures.nobody))),
       idle.within,
     )
 

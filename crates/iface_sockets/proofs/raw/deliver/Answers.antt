@@ -9,7 +9,8 @@ use Rattle.iface_sockets.proofs.raw.deliver.Goals as goal
 pub returns-then-not-may_have_portless-clause-taken : goal.returns-then-not-may_have_portless-clause-taken
 returns-then-not-may_have_portless-clause-taken c =
     let ported = c.may_have_portless.ensures c.if-not-may_have_portless.true in
-    sym (none_accepts_at_all (takes c.args.header.now) c.args.sockets.now (λ k. not_raw c.args.header.now (socket_at c.args.sockets.now k) (ported k)))
+    sym
+    (none_accepts_at_all (takes c.args.header.now) c.args.sockets.now (λ k. not_raw c.args.header.now (socket_at c.args.sockets.now k) (ported k)))
 
 pub returns-then-not-may_have_portless-clause-heard : goal.returns-then-not-may_have_portless-clause-heard
 returns-then-not-may_have_portless-clause-heard c =

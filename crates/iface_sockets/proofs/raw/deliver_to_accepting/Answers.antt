@@ -4,4 +4,5 @@ use Rattle.iface_icmp.proofs.SocketIteration.{none_delivered}
 use Rattle.iface_sockets.proofs.raw.deliver_to_accepting.Goals as goal
 
 pub returns-then-not-is_accepted-clause-heard : goal.returns-then-not-is_accepted-clause-heard
-returns-then-not-is_accepted-clause-heard c = none_delivered c.args.header.now c.args.payload.now (host_of c.args.context.now c.args.sockets.now) (sym c.is_accepted.ensures ∙ c.if-not-is_accepted.true)
+returns-then-not-is_accepted-clause-heard c = none_delivered c.args.header.now c.args.payload.now (host_of c.args.context.now c.args.sockets.now)
+    (sym c.is_accepted.ensures ∙ c.if-not-is_accepted.true)

@@ -32,7 +32,8 @@ loop-index-preserved c =
     let same : length now.places ≡ length set.places = c.deliver_at-taken.ensures.len ∙ inv.1 in
     let within : i < length set.places = omega (arith, inv.1) in
     let heard = one_heard _ set c.loop-index.sockets now i within inv.2 c.deliver_at-taken.ensures.heard in
-    let tested = one_tested _ _ set.places c.loop-index.sockets.places i c.loop-index.taken c.deliver_at-taken.result within (ap (λ s. s.places) inv.2) inv.3 c.deliver_at-taken.ensures.taken in
+    let tested = one_tested _ _ set.places c.loop-index.sockets.places i c.loop-index.taken c.deliver_at-taken.result within
+    (ap (λ s. s.places) inv.2) inv.3 c.deliver_at-taken.ensures.taken in
     let later = next.after (omega (arith, same, within)) in (
       omega (arith, next.within, same),
       same,

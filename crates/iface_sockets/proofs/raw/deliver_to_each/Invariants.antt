@@ -9,7 +9,8 @@ use Rattle.iface_sockets.proofs.raw.deliver_to_each.Given as goal
 abbrev pub invariant-loop-index : goal.invariant-loop-index
 invariant-loop-index l =
     (l.index ≤ length l.fn.sockets.places) × (length l.sockets.places ≡ length l.fn.sockets.places) ×
-    (l.sockets ≡ with_places l.fn.sockets (mapped (to_this (takes l.header) (storage_after_delivery l.summed l.header l.payload)) l.index l.fn.sockets.places)) ×
+    (l.sockets
+    ≡ with_places l.fn.sockets (mapped (to_this (takes l.header) (storage_after_delivery l.summed l.header l.payload)) l.index l.fn.sockets.places)) ×
     (l.taken ≡ any_of (takes l.header) l.index l.fn.sockets.places)
 
 abbrev pub decreases-loop-index : goal.decreases-loop-index

@@ -9,8 +9,10 @@ pub loop-index-init : goal.loop-index-init
 loop-index-init c =
     let test = takes c.args.header.now in
     let set = c.args.sockets.now in
-    let next = c.next_at-index.ensures in
-    (next.within, none_passed test set.places c.next_at-index.result (λ k from to. not_raw c.args.header.now (socket_at set k) (next.passed k from to)))
+    let next = c.next_at-index.ensures in (
+      next.within,
+      none_passed test set.places c.next_at-index.result (λ k from to. not_raw c.args.header.now (socket_at set k) (next.passed k from to)),
+    )
 
 pub loop-index-preserved : goal.loop-index-preserved
 loop-index-preserved c =
@@ -18,12 +20,14 @@ loop-index-preserved c =
     let set = c.args.sockets.now in
     let next = c.next_at-index-in-loop-index.ensures in (
       next.within,
-      one_passed test set.places c.loop-index.index c.next_at-index-in-loop-index.result c.loop-index.invariant.1 (sym c.accepts_at.ensures ∙ c.if-accepts_at.false)
+      one_passed test set.places c.loop-index.index c.next_at-index-in-loop-index.result c.loop-index.invariant.1
+          (sym c.accepts_at.ensures ∙ c.if-accepts_at.false)
           (λ k from to. not_raw c.args.header.now (socket_at set k) (next.passed k from to)),
     )
 
 pub returns-then-accepts_at : goal.returns-then-accepts_at
-returns-then-accepts_at c = sym (one_meets _ c.args.sockets.now.places c.loop-index.index (omega arith) (sym c.accepts_at.ensures ∙ c.if-accepts_at.true))
+returns-then-accepts_at c =
+    sym (one_meets _ c.args.sockets.now.places c.loop-index.index (omega arith) (sym c.accepts_at.ensures ∙ c.if-accepts_at.true))
 
 pub returns : goal.returns
 returns c =

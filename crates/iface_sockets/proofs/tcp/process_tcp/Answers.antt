@@ -8,22 +8,34 @@ use Rattle.iface_sockets.proofs.PayloadRules.{tcp_delivered, tcp_malformed, tcp_
 use Rattle.iface_sockets.proofs.tcp.process_tcp.Goals as goal
 
 pub returns-then-is_between_unspecified : goal.returns-then-is_between_unspecified
-returns-then-is_between_unspecified c = unanswered c.requires.empty (λ slots. BetweenUnspecified (sym c.is_between_unspecified.ensures ∙ c.if-is_between_unspecified.true) (dropped (host_in c.args.context.now slots c.args.sockets.now)))
+returns-then-is_between_unspecified c = unanswered c.requires.empty (λ slots. BetweenUnspecified
+    (sym c.is_between_unspecified.ensures ∙ c.if-is_between_unspecified.true) (dropped (host_in c.args.context.now slots c.args.sockets.now)))
 
 pub returns-in_default : goal.returns-in_default
 returns-in_default c =
-    unanswered c.requires.empty (λ slots. tcp_malformed c.args.handled_by_raw_socket (host_in c.args.context.now slots c.args.sockets.now) c.args.header.now c.args.octets.now c.rx-checked.result
-    (sym c.is_between_unspecified.ensures ∙ c.if-is_between_unspecified.false) (c.rx-checked.ensures ∙ ap (λ x. is_rx x.checksum.tcp) c.capabilities.ensures) (λ is. (rw (c.src_addr-source.ensures, c.dst_addr-destination.ensures) at c.in_default.ensures) (c.requires.short, is)))
+    unanswered c.requires.empty (λ slots. tcp_malformed c.args.handled_by_raw_socket
+    (host_in c.args.context.now slots c.args.sockets.now) c.args.header.now c.args.octets.now c.rx-checked.result
+    (sym c.is_between_unspecified.ensures ∙ c.if-is_between_unspecified.false)
+    (c.rx-checked.ensures ∙ ap (λ x. is_rx x.checksum.tcp) c.capabilities.ensures)
+    (λ is. (rw (c.src_addr-source.ensures, c.dst_addr-destination.ensures) at c.in_default.ensures) (c.requires.short, is)))
 
 pub returns-then-taken : goal.returns-then-taken
 returns-then-taken c = rw c.deliver-taken.ensures.waits (
-    answered _ _ (λ slots. tcp_delivered c.args.handled_by_raw_socket (host_in c.args.context.now slots c.args.sockets.now) c.args.header.now c.args.octets.now c.in-Some.payload.now c.in-Some.repr c.rx-checked.result
+    answered _ _ (λ slots. tcp_delivered c.args.handled_by_raw_socket (host_in c.args.context.now slots c.args.sockets.now)
+    c.args.header.now c.args.octets.now c.in-Some.payload.now c.in-Some.repr c.rx-checked.result
     c.deliver-taken.new.sockets.places c.deliver-taken.result.1 _ (sym c.is_between_unspecified.ensures ∙ c.if-is_between_unspecified.false)
-    (c.rx-checked.ensures ∙ ap (λ x. is_rx x.checksum.tcp) c.capabilities.ensures) (rw (c.src_addr-source.ensures, c.dst_addr-destination.ensures) at c.in-Some.ensures.0.1, c.in-Some.ensures.1) (c.deliver-taken.ensures.taken c.if-taken.true) refl) c.send_tcp_reply.ensures)
+    (c.rx-checked.ensures ∙ ap (λ x. is_rx x.checksum.tcp) c.capabilities.ensures) (
+      rw (c.src_addr-source.ensures, c.dst_addr-destination.ensures) at c.in-Some.ensures.0.1,
+      c.in-Some.ensures.1,
+    ) (c.deliver-taken.ensures.taken c.if-taken.true) refl) c.send_tcp_reply.ensures)
 
 pub returns : goal.returns
 returns c = rw c.deliver-taken.ensures.waits (
-    answered _ _ (λ slots. tcp_not_accepted c.args.handled_by_raw_socket (host_in c.args.context.now slots c.args.sockets.now) c.args.header.now c.args.octets.now c.in-Some.payload.now c.in-Some.repr c.rx-checked.result
+    answered _ _ (λ slots. tcp_not_accepted c.args.handled_by_raw_socket (host_in c.args.context.now slots c.args.sockets.now)
+    c.args.header.now c.args.octets.now c.in-Some.payload.now c.in-Some.repr c.rx-checked.result
     c.deliver-taken.new.sockets.places c.reset_for-reset.result _ (sym c.is_between_unspecified.ensures ∙ c.if-is_between_unspecified.false)
-    (c.rx-checked.ensures ∙ ap (λ x. is_rx x.checksum.tcp) c.capabilities.ensures) (rw (c.src_addr-source.ensures, c.dst_addr-destination.ensures) at c.in-Some.ensures.0.1, c.in-Some.ensures.1) (c.deliver-taken.ensures.nobody c.if-taken.false)
+    (c.rx-checked.ensures ∙ ap (λ x. is_rx x.checksum.tcp) c.capabilities.ensures) (
+      rw (c.src_addr-source.ensures, c.dst_addr-destination.ensures) at c.in-Some.ensures.0.1,
+      c.in-Some.ensures.1,
+    ) (c.deliver-taken.ensures.nobody c.if-taken.false)
     (ap (λ (s : Sockets _). s.places) (c.deliver-taken.ensures.kept c.if-taken.false)) c.reset_for-reset.ensures refl) c.send_tcp_reply-2.ensures)

@@ -8,7 +8,8 @@ pub loop-index-init : goal.loop-index-init
 loop-index-init g c =
     let idle = c.next_busy-index.ensures in
     let quiet = g.met.D.Device.tells_nothing c.args.device.now in (
-      λ slots. idle_passed g.met.D.Device.tells_on quiet c.args.context.now slots c.args.sockets.now 0 c.next_busy-index.result (omega arith) idle.within idle.idle
+      λ slots. idle_passed g.met.D.Device.tells_on quiet c.args.context.now slots c.args.sockets.now 0 c.next_busy-index.result
+          (omega arith) idle.within idle.idle
           (none_served (host_in c.args.context.now slots c.args.sockets.now) quiet),
       refl,
       idle.within,
@@ -21,15 +22,18 @@ returns g c = λ slots.
 
 pub returns-then-is_exhausted : goal.returns-then-is_exhausted
 returns-then-is_exhausted g c = λ slots.
-    one_refused g.met.D.Device.tells_on c.serve-turn.result (c.loop-index.invariant.0 slots) (c.serve-turn.ensures.told slots) (sym c.is_exhausted.ensures ∙ c.if-is_exhausted.true)
+    one_refused g.met.D.Device.tells_on c.serve-turn.result (c.loop-index.invariant.0 slots) (c.serve-turn.ensures.told slots)
+    (sym c.is_exhausted.ensures ∙ c.if-is_exhausted.true)
 
 pub loop-index-preserved : goal.loop-index-preserved
 loop-index-preserved g c =
     let idle = c.next_busy-index-in-loop-index.ensures in
     let next = c.loop-index.index + 1 in
-    let served = λ (slots : Slots). one_served g.met.D.Device.tells_on c.serve-turn.result (c.loop-index.invariant.0 slots) (c.serve-turn.ensures.told slots) (sym c.is_exhausted.ensures ∙ c.if-is_exhausted.false) in (
+    let served = λ (slots : Slots). one_served g.met.D.Device.tells_on c.serve-turn.result (c.loop-index.invariant.0 slots)
+    (c.serve-turn.ensures.told slots) (sym c.is_exhausted.ensures ∙ c.if-is_exhausted.false) in (
       λ slots. rw c.is_done-changed.ensures
-          (idle_passed g.met.D.Device.tells_on (g.met.D.Device.tells_nothing c.serve-turn.new.device) c.serve-turn.new.context slots c.serve-turn.new.sockets next c.next_busy-index-in-loop-index.result
+          (idle_passed g.met.D.Device.tells_on (g.met.D.Device.tells_nothing c.serve-turn.new.device) c.serve-turn.new.context slots
+          c.serve-turn.new.sockets next c.next_busy-index-in-loop-index.result
           (idle.after (omega (arith, c.serve-turn.ensures.places))) idle.within idle.idle (served slots)),
       c.serve-turn.ensures.places ∙ c.loop-index.invariant.1,
       idle.within,

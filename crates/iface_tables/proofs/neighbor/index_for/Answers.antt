@@ -17,6 +17,7 @@ returns-then-is_full c =
 
 pub returns : goal.returns
 returns c =
-    rw c.push.ensures.items (place_after c.args.entries.now.items c.args.address.now (c.args.address.now, c.args.neighbor.now) c.index_of-place.result c.requires
+    rw c.push.ensures.items
+    (place_after c.args.entries.now.items c.args.address.now (c.args.address.now, c.args.neighbor.now) c.index_of-place.result c.requires
     (c.index_of-place.ensures ∙ ap (index_of address_cmp c.args.address.now) c.as_slice.ensures.value) (omega (arith, c.len.ensures.value))
     (grind (arith, c.is_full.ensures.fits, c.is_full.ensures.value)))

@@ -14,9 +14,11 @@ returns-then-place-len-clause-renews c =
 
 pub returns-then-ne-clause-renews : goal.returns-then-ne-clause-renews
 returns-then-ne-clause-renews c =
-    renewed_other c.args.entries.now.items c.args.address.now c.args.hardware_addr.now c.args.expires_at c.index-as_slice-place.result c.index_of-place.result
+    renewed_other c.args.entries.now.items c.args.address.now c.args.hardware_addr.now c.args.expires_at
+    c.index-as_slice-place.result c.index_of-place.result
     (c.index_of-place.ensures ∙ ap (index_of address_cmp c.args.address.now) c.as_slice.ensures.value) (omega (arith, c.len.ensures.value))
-    (rw c.as_slice-2.ensures.value at c.index-as_slice-place.is) (sym (eq_is_same c.index-as_slice-place.result.1.hardware_addr c.args.hardware_addr.now) ∙ not-true _ (sym c.ne.ensures ∙ c.if-ne.true))
+    (rw c.as_slice-2.ensures.value at c.index-as_slice-place.is)
+    (sym (eq_is_same c.index-as_slice-place.result.1.hardware_addr c.args.hardware_addr.now) ∙ not-true _ (sym c.ne.ensures ∙ c.if-ne.true))
 
 pub settle_renewed-requires-clause-order : goal.settle_renewed-requires-clause-order
 settle_renewed-requires-clause-order c = rw c.as_mut_slice.ensures.value c.requires.by_end
@@ -27,12 +29,17 @@ settle_renewed-requires-clause-same c = rw c.as_mut_slice.ensures.value (
     (c.index_of-place.ensures ∙ ap (index_of address_cmp c.args.address.now) c.as_slice.ensures.value) (omega (arith, c.len.ensures.value))
     (rw c.as_slice-2.ensures.value at c.index-as_slice-place.is))
 
-renewed : (c : goal.After-entries-1) → RenewsIn c.args.entries.now.items (refill (length c.args.entries.now.items) c.args.entries.now.items c.settle_renewed.new.entries) c.args.address.now c.args.hardware_addr.now c.args.expires_at
+renewed : (c : goal.After-entries-1) →
+    RenewsIn c.args.entries.now.items (refill (length c.args.entries.now.items) c.args.entries.now.items c.settle_renewed.new.entries)
+    c.args.address.now c.args.hardware_addr.now c.args.expires_at
 renewed c =
     rw (refilled c.args.entries.now.items c.settle_renewed.new.entries (c.settle_renewed.auto.entries ∙ ap length c.as_mut_slice.ensures.value))
-    (renewed_there c.args.entries.now.items c.settle_renewed.new.entries c.args.address.now c.args.hardware_addr.now c.args.expires_at c.index-as_slice-place.result c.index_of-place.result c.requires
+    (renewed_there c.args.entries.now.items c.settle_renewed.new.entries c.args.address.now c.args.hardware_addr.now c.args.expires_at
+    c.index-as_slice-place.result c.index_of-place.result c.requires
     (c.index_of-place.ensures ∙ ap (index_of address_cmp c.args.address.now) c.as_slice.ensures.value) (omega (arith, c.len.ensures.value))
-    (rw c.as_slice-2.ensures.value at c.index-as_slice-place.is) (sym (eq_is_same c.index-as_slice-place.result.1.hardware_addr c.args.hardware_addr.now) ∙ not-false _ (sym c.ne.ensures ∙ c.if-ne.false)) (rw c.as_mut_slice.ensures.value at c.settle_renewed.ensures))
+    (rw c.as_slice-2.ensures.value at c.index-as_slice-place.is)
+    (sym (eq_is_same c.index-as_slice-place.result.1.hardware_addr c.args.hardware_addr.now) ∙ not-false _ (sym c.ne.ensures ∙ c.if-ne.false))
+    (rw c.as_mut_slice.ensures.value at c.settle_renewed.ensures))
 
 pub returns-clause-kept : goal.returns-clause-kept
 returns-clause-kept c = (renewed c).kept

@@ -12,7 +12,8 @@ loop-place-preserved c =
     let within : l.place < 32 = omega arith in
     elim c.if-is_live.branch [
       | then-is_live w ↦ rw w.live-is (record {
-        done = live_more rs c.args.timestamp l.live _ l.place r.result c.loop-place-test.true r.is (more_has l.live l.place within ∙ sym w.if-is_live.true
+        done = live_more rs c.args.timestamp l.live _ l.place r.result c.loop-place-test.true r.is
+            (more_has l.live l.place within ∙ sym w.if-is_live.true
             ∙ c.is_live.ensures)
             (λ k. more_keeps l.live l.place k within) l.invariant.done;
         rest = more_rest l.live l.place within l.invariant.rest;

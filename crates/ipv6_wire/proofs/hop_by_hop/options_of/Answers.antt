@@ -17,7 +17,8 @@ loop-options-preserved c =
     let options = c.loop-options.options.items in
     let some : 0 < length left = grind (arith, c.loop-options-test.ensures) in
     let few : length options < 4 = grind (arith, c.loop-options.invariant.few, c.if-not-is_full.ensures.value) in
-    rw c.push.ensures.items (one_read c.args.octets.now options left c.in_ok-option.option c.in_ok-option.after.now c.loop-options.invariant some few (c.in_ok-option.ensures))
+    rw c.push.ensures.items (one_read c.args.octets.now options left c.in_ok-option.option c.in_ok-option.after.now c.loop-options.invariant some few
+    (c.in_ok-option.ensures))
 
 pub returns : goal.returns
 returns c =

@@ -5,4 +5,5 @@ use Rattle.script.proofs.line.parse_addrs.Given as goal
 
 abbrev pub invariant-loop : goal.invariant-loop
 invariant-loop l =
-    (map network_in (slice_split is_space l.words) ≡ map parts_of l.list.items ++ map network_in (slice_split is_space l.left)) × (length l.list.items ≡ l.counter)
+    (map network_in (slice_split is_space l.words) ≡ map parts_of l.list.items ++ map network_in (slice_split is_space l.left))
+    × (length l.list.items ≡ l.counter)

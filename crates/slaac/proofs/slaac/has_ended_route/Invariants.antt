@@ -5,4 +5,5 @@ use Rattle.slaac.specs.Slaac.{is_route_valid}
 use Rattle.slaac.proofs.slaac.has_ended_route.Given as goal
 
 abbrev pub invariant-loop-route : goal.invariant-loop-route
-invariant-loop-route l = list_any (λ r. not (is_route_valid l.now r)) (drop l.route-index l.routes) ≡ list_any (λ r. not (is_route_valid l.now r)) l.routes
+invariant-loop-route l =
+    list_any (λ r. not (is_route_valid l.now r)) (drop l.route-index l.routes) ≡ list_any (λ r. not (is_route_valid l.now r)) l.routes

@@ -4,4 +4,5 @@ use Rattle.slaac.specs.Slaac.{prefix_ends}
 use Rattle.slaac.proofs.slaac.least_prefix_end.Given as goal
 
 abbrev pub invariant-loop-prefix : goal.invariant-loop-prefix
-invariant-loop-prefix l = earlier_of l.least (earliest_of (prefix_ends (drop l.prefix-index l.prefixes) l.now)) ≡ earliest_of (prefix_ends l.prefixes l.now)
+invariant-loop-prefix l =
+    earlier_of l.least (earliest_of (prefix_ends (drop l.prefix-index l.prefixes) l.now)) ≡ earliest_of (prefix_ends l.prefixes l.now)

@@ -3,4 +3,5 @@ use Rattle.slaac.specs.Sync.{with_addrs}
 use Rattle.slaac.proofs.sync.add_addrs.Given as goal
 
 abbrev pub invariant-loop-prefix : goal.invariant-loop-prefix
-invariant-loop-prefix l = with_addrs l.hardware_addr l.now (drop l.prefix-index l.prefixes) l.own.items ≡ with_addrs l.hardware_addr l.now l.prefixes l.fn.own.items
+invariant-loop-prefix l =
+    with_addrs l.hardware_addr l.now (drop l.prefix-index l.prefixes) l.own.items ≡ with_addrs l.hardware_addr l.now l.prefixes l.fn.own.items

@@ -6,5 +6,6 @@ use Rattle.slaac.proofs.sync.unended_routes.Given as goal
 
 abbrev pub invariant-loop-route : goal.invariant-loop-route
 invariant-loop-route l =
-    (l.left.items ++ filter (λ (s : Route). not (is_ended_route l.now l.routes s)) (drop l.route-index l.stored) ≡ filter (λ (s : Route). not (is_ended_route l.now l.routes s)) l.stored)
+    (l.left.items ++ filter (λ (s : Route). not (is_ended_route l.now l.routes s)) (drop l.route-index l.stored)
+    ≡ filter (λ (s : Route). not (is_ended_route l.now l.routes s)) l.stored)
     × (length l.left.items ≤ l.route-index)

@@ -12,6 +12,7 @@ loop-i-preserved c = record {
       let before : ℕ = sum + 256 * c.loop-i.swapped in
       let words : c.from-swapped.result ≡ u32_le_at xs (4 * i) = c.from-swapped.ensures ∙ c.u32_le_at.ensures in
       let summed : sum + 256 * (c.loop-i.swapped + u32_le_at xs (4 * i)) ≡ before + 256 * u32_le_at xs (4 * i) = omega arith in
-      rw words (ap (λ (t : ℕ). folded_sum (t + word_sum (drop (4 * (i + 1)) xs))) summed ∙ chunk_folds before xs (4 * i) (4 * (i + 1)) (omega arith) (omega arith) ∙ c.loop-i.invariant.so_far sum);
+      rw words (ap (λ (t : ℕ). folded_sum (t + word_sum (drop (4 * (i + 1)) xs))) summed
+      ∙ chunk_folds before xs (4 * i) (4 * (i + 1)) (omega arith) (omega arith) ∙ c.loop-i.invariant.so_far sum);
   small = search rules;
 }

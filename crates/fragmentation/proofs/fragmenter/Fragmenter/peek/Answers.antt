@@ -12,8 +12,15 @@ returns-clause-near c = omega (arith, near, c.self.invariant.1) where
 
 pub returns-clause-value : goal.returns-clause-value
 returns-clause-value c = rw (sym c.self.view_is) (next_is
-    (record { destination = c.self.inside.destination; header = c.self.inside.header; identification = c.self.inside.identification; payload = take c.self.inside.len c.self.inside.buffer; size = c.self.inside.size })
-    c.self.inside.len c.self.inside.sent c.self.inside.left c.min-end.result c.self.inside.buffer _ some refl room within c.min-end.ensures refl refl refl refl) where
+    (record {
+      destination = c.self.inside.destination;
+      header = c.self.inside.header;
+      identification = c.self.inside.identification;
+      payload = take c.self.inside.len c.self.inside.buffer;
+      size = c.self.inside.size;
+    })
+    c.self.inside.len c.self.inside.sent c.self.inside.left c.min-end.result c.self.inside.buffer _ some refl room
+    within c.min-end.ensures refl refl refl refl) where
       some : c.self.inside.left ≢ 0
       some zero = search rules
 

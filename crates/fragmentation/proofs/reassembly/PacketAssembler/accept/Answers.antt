@@ -12,8 +12,10 @@ returns-clause-gathers gen c = λ g h.
     let took = taken_in c.add.result (c.args.offset + length c.args.octets.now) c.add.ensures.refused.0 fits c.add.ensures.gathers in
     elim c.else-is_last.branch [
       | else-is_last-via-then-is_last+else-is_err w ↦
-          let fit : is_fit g.total f ≡ true = rw h.total at (fit_last w.set_total_size.result c.args.self.now.total f fits w.set_total_size.ensures.refused.1 w.if-is_err.ensures.value w.if-is_last.true) in
-          rw (← one_last g f fit w.if-is_last.true) (took (with_total g (c.args.offset + length c.args.octets.now)) c.args.is_last (rw w.self-is (not_err w.set_total_size.result w.set_total_size.ensures.gathers w.if-is_err.ensures.value g h)))
+          let fit : is_fit g.total f ≡ true = rw h.total at (fit_last w.set_total_size.result c.args.self.now.total f fits
+          w.set_total_size.ensures.refused.1 w.if-is_err.ensures.value w.if-is_last.true) in
+          rw (← one_last g f fit w.if-is_last.true) (took (with_total g (c.args.offset + length c.args.octets.now)) c.args.is_last
+          (rw w.self-is (not_err w.set_total_size.result w.set_total_size.ensures.gathers w.if-is_err.ensures.value g h)))
       | else-is_last-via-else-is_last w ↦
           let fit : is_fit g.total f ≡ true = fit_more g.total f fits w.if-is_last.false in
           rw (← one_kept g f fit w.if-is_last.false) (took g c.args.is_last (rw w.self-is h))

@@ -17,7 +17,11 @@ use Rattle.iface_c.specs.contracts.handle.Slot.{the_row}
 owned_keyless : (a : Global) (p : Ptr) (h : Option Host.the_row.Denot) → Keyless (slot_owns a p h)
 owned_keyless a p None = tt
 owned_keyless a null_ptr (Some x) = (tt, frees.frees a (raw (lone Host.the_row.mir)) null_ptr)
-owned_keyless a (block_ptr b o) (Some x) = (part_keyless Host.the_row host.the_send full_share x b o, frees.frees a (raw (lone Host.the_row.mir)) (block_ptr b o))
+owned_keyless a (block_ptr b o) (Some x) =
+    (part_keyless Host.the_row host.the_send full_share x b o, frees.frees a (raw (lone Host.the_row.mir)) (block_ptr b o))
 
 pub send : IsSend the_row
-send = record { owned = λ d vs. ((λ vss. (tt, (tt, (heap.the_field_send.owned _ vss.1.0, tt)))), owned_keyless d.alloc d.at d.host); leaving = λ k x vs. tt }
+send = record {
+  owned = λ d vs. ((λ vss. (tt, (tt, (heap.the_field_send.owned _ vss.1.0, tt)))), owned_keyless d.alloc d.at d.host);
+  leaving = λ k x vs. tt;
+}

@@ -8,7 +8,8 @@ use Rattle.iface_host.proofs.host.Host.new.Goals as goal
 
 pub returns : goal.returns
 returns c =
-    let outbox_is : c.new-outbox.result ≡ empty (capabilities_of c.args.settings.now) = c.new-outbox.ensures ∙ ap empty c.capabilities-capabilities.ensures in
+    let outbox_is : c.new-outbox.result ≡ empty (capabilities_of c.args.settings.now) = c.new-outbox.ensures
+    ∙ ap empty c.capabilities-capabilities.ensures in
     record {
       stands = c.in_ok-let_fragments_wait.ensures.waits c.fixed.result _
           (stood c.args.settings.now c.in-Ok.interface c.new-outbox.result outbox_is c.in-Ok.ensures.made.1 c.fixed.result);

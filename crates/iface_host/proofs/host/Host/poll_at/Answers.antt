@@ -5,10 +5,12 @@ use Rattle.iface_host.proofs.host.Host.poll_at.Goals as goal
 pub returns-then-len-eq0-clause-due : goal.returns-then-len-eq0-clause-due
 returns-then-len-eq0-clause-due c =
     let same : c.in_ok-now.now ≡ c.args.now = search rules in
-    due c.args.now c.in_ok-now.now same c.args.self.now c.poll_at-due.new.self c.poll_at-due.result (none_waits c.args.self.now.outbox.frames (sym c.len.ensures ∙ c.if-len-eq0.true))
+    due c.args.now c.in_ok-now.now same c.args.self.now c.poll_at-due.new.self c.poll_at-due.result
+    (none_waits c.args.self.now.outbox.frames (sym c.len.ensures ∙ c.if-len-eq0.true))
     c.poll_at-due.ensures.least c.poll_at-due.ensures.moment
 
 pub returns-else-len-eq0-clause-due : goal.returns-else-len-eq0-clause-due
 returns-else-len-eq0-clause-due c =
     let same : c.in_ok-now.now ≡ c.args.now = search rules in
-    due_at_once c.args.now c.in_ok-now.now same c.args.self.now c.poll_at-due.new.self (λ e. c.if-len-eq0.false (c.len.ensures ∙ e)) c.poll_at-due.ensures.moment
+    due_at_once c.args.now c.in_ok-now.now same c.args.self.now c.poll_at-due.new.self
+    (λ e. c.if-len-eq0.false (c.len.ensures ∙ e)) c.poll_at-due.ensures.moment

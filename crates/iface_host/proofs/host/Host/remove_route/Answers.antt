@@ -9,4 +9,5 @@ pub returns-clause-removed : goal.returns-clause-removed
 returns-clause-removed c =
     let without : List Route → List Route = λ routes. remove routes (position_or_len (is_to c.args.cidr) routes) in
     let removed : c.remove.new.self.items ≡ without c.as_slice.result.now = search rules in
-    routed c.args.self.now _ without c.remove.new.self.items (λ sockets. removed ∙ ap without (c.as_slice.ensures.value ∙ c.routes.ensures sockets)) c.put_routes.ensures
+    routed c.args.self.now _ without c.remove.new.self.items
+    (λ sockets. removed ∙ ap without (c.as_slice.ensures.value ∙ c.routes.ensures sockets)) c.put_routes.ensures

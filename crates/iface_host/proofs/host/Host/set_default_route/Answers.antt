@@ -5,7 +5,8 @@ use Rattle.iface_host.proofs.RuleCalls.{changed, default_stays}
 use Rattle.iface_host.proofs.host.Host.set_default_route.Goals as goal
 
 pub returns-in-Ok-clause-set : goal.returns-in-Ok-clause-set
-returns-in-Ok-clause-set c = rw c.in-Ipv4.is (changed c.args.self.now _ (λ (H : Machine). record H { routes = with_default is_ipv4_gateway H.routes (ipv4_gateway c.in-Ipv4.gateway) })
+returns-in-Ok-clause-set c = rw c.in-Ipv4.is
+    (changed c.args.self.now _ (λ (H : Machine). record H { routes = with_default is_ipv4_gateway H.routes (ipv4_gateway c.in-Ipv4.gateway) })
     c.add_default_ipv4_route.ensures.table)
 
 pub returns-in-Err-clause-refused : goal.returns-in-Err-clause-refused
@@ -14,9 +15,11 @@ returns-in-Err-clause-refused c = default_stays c.args.self.now _ is_ipv4_gatewa
 
 pub returns-in-Ok-add_default_ipv6_route-clause-set : goal.returns-in-Ok-add_default_ipv6_route-clause-set
 returns-in-Ok-add_default_ipv6_route-clause-set c =
-    rw c.in-Ipv6.is (changed c.args.self.now _ (λ (H : Machine). record H { routes = with_default is_ipv6_gateway H.routes (ipv6_gateway c.in-Ipv6.gateway) })
+    rw c.in-Ipv6.is
+    (changed c.args.self.now _ (λ (H : Machine). record H { routes = with_default is_ipv6_gateway H.routes (ipv6_gateway c.in-Ipv6.gateway) })
     c.add_default_ipv6_route.ensures.table)
 
 pub returns-in-Err-add_default_ipv6_route-clause-refused : goal.returns-in-Err-add_default_ipv6_route-clause-refused
-returns-in-Err-add_default_ipv6_route-clause-refused c = default_stays c.args.self.now _ is_ipv6_gateway (ipv6_gateway c.in-Ipv6.gateway) c.in-Err-add_default_ipv6_route.field-0
+returns-in-Err-add_default_ipv6_route-clause-refused c =
+    default_stays c.args.self.now _ is_ipv6_gateway (ipv6_gateway c.in-Ipv6.gateway) c.in-Err-add_default_ipv6_route.field-0
     (λ sockets. sym c.in-Err-add_default_ipv6_route.is ∙ c.add_default_ipv6_route.ensures.answer sockets) c.add_default_ipv6_route.ensures.table

@@ -9,6 +9,7 @@ returns-clause-router c =
     let best = c.walk-place.ensures.best (cidrs rs) c.self.invariant in
     rw (← c.self.view_is) (
       route_at rs place,
-      best_at rs c.args.address.now c.args.timestamp c.live_routes_mask-live.result place (rw c.as_slice.ensures.value at c.live_routes_mask-live.ensures) best,
+      best_at rs c.args.address.now c.args.timestamp c.live_routes_mask-live.result place
+          (rw c.as_slice.ensures.value at c.live_routes_mask-live.ensures) best,
       rw c.as_slice-2.ensures.value at c.router_at.ensures,
     )

@@ -17,7 +17,8 @@ returns-in-Ipv4 c = λ cidrs trie.
     let x = c.in-Ipv4.address in
     let e = c.start-root.ensures in
     let fits : x.bits < 2 ^ 32 = search rules in
-    let w = c.walk_on.ensures cidrs (Ipv4 x) 0 trie (ipv4_root x trie fits e.node e.best c.requires.first e.counted) (rw c.from.ensures (ipv4_bits x fits)) in
+    let w =
+    c.walk_on.ensures cidrs (Ipv4 x) 0 trie (ipv4_root x trie fits e.node e.best c.requires.first e.counted) (rw c.from.ensures (ipv4_bits x fits)) in
     rw c.in-Ipv4.is (at_end 0 32 c.walk_on.result.is_over (lit≤ tt) w)
 
 pub walk_on-middle-requires : goal.walk_on-middle-requires

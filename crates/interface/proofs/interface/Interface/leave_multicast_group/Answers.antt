@@ -10,5 +10,6 @@ returns-then-not-is_multicast c = λ sockets H h. kept H h (NoGroupEither (sym c
 
 pub returns : goal.returns
 returns c = λ sockets H h.
-    led c.args.self.now.context c.leave_group.new.context c.args.self.now.fragments sockets H h (λ K. with_groups K (groups_after_leave K.groups c.args.group)) (c.leave_group.ensures sockets) (λ K slots. refl)
+    led c.args.self.now.context c.leave_group.new.context c.args.self.now.fragments sockets H h
+    (λ K. with_groups K (groups_after_leave K.groups c.args.group)) (c.leave_group.ensures sockets) (λ K slots. refl)
     (LeaveTaken (sym c.is_multicast.ensures ∙ c.if-not-is_multicast.false) refl refl)

@@ -16,7 +16,8 @@ returns-then-len-eq0 g c = λ H h.
       told = Received c.args.timestamp (Frame frame) ∷ sends (frames_in c.take_frame.new.out);
       notes = taken.notes;
       host = taken.host;
-      tells_it = g.met.D.Device.tells_on c.args.device.now c.receive.new.self c.send_frame.new.device (Received c.args.timestamp (Frame frame) ∷ []) (sends (frames_in c.take_frame.new.out))
+      tells_it = g.met.D.Device.tells_on c.args.device.now c.receive.new.self c.send_frame.new.device
+          (Received c.args.timestamp (Frame frame) ∷ []) (sends (frames_in c.take_frame.new.out))
           c.in-Some.ensures.told c.send_frame.ensures;
       steps = frame_came c.args.timestamp H frame c.take_frame.new.out _ _ taken (answers_none frame (grind (arith, common_steps)));
       stands = taken.stands;
@@ -29,7 +30,8 @@ returns-else-len-eq0 g c = λ H h.
       told = Received c.args.timestamp (Frame frame) ∷ sends (frames_in c.take_frame.new.out);
       notes = taken.notes;
       host = taken.host;
-      tells_it = g.met.D.Device.tells_on c.args.device.now c.receive.new.self c.send_frame.new.device (Received c.args.timestamp (Frame frame) ∷ []) (sends (frames_in c.take_frame.new.out))
+      tells_it = g.met.D.Device.tells_on c.args.device.now c.receive.new.self c.send_frame.new.device
+          (Received c.args.timestamp (Frame frame) ∷ []) (sends (frames_in c.take_frame.new.out))
           c.in-Some.ensures.told c.send_frame.ensures;
       steps = frame_came c.args.timestamp H frame c.take_frame.new.out _ _ taken (answers_some frame (grind (arith, common_steps)));
       stands = taken.stands;

@@ -10,7 +10,8 @@ returns-then-is_empty c = (
     λ w. tt,
     λ H h.
         frame_received c.args.timestamp H c.args.frame.now c.take_frame.new.out None _
-        (c.take_frame.ensures (without_expired H c.args.timestamp) (c.expire_slots.ensures c.args.sockets.now H h)) (shows_none c.take_frame.new.out (search rules)),
+        (c.take_frame.ensures (without_expired H c.args.timestamp) (c.expire_slots.ensures c.args.sockets.now H h))
+        (shows_none c.take_frame.new.out (search rules)),
   ),
   record { received = tt; short = tt },
 )
@@ -22,7 +23,8 @@ returns-else-is_empty c = (
     λ w. tt,
     λ H h.
         frame_received c.args.timestamp H c.args.frame.now c.take_frame.new.out (Some c.as_slice.result.now) _
-        (c.take_frame.ensures (without_expired H c.args.timestamp) (c.expire_slots.ensures c.args.sockets.now H h)) (shows_some c.take_frame.new.out c.as_slice.result.now (search rules) c.as_slice.ensures.value),
+        (c.take_frame.ensures (without_expired H c.args.timestamp) (c.expire_slots.ensures c.args.sockets.now H h))
+        (shows_some c.take_frame.new.out c.as_slice.result.now (search rules) c.as_slice.ensures.value),
   ),
   record { received = tt; short = c.as_slice.ensures.fits },
 )

@@ -19,6 +19,7 @@ returns g c = (
   c.f-list.result,
   c.f-list.ensures,
   λ sockets. c.copied.ensures ∙ c.ip_addrs.ensures.value,
-  λ sockets H h. led c.args.self.now.context c.set_ip_addrs.new.context c.args.self.now.fragments sockets H h (λ K. after_address_change K c.f-list.result.items) (c.set_ip_addrs.ensures sockets) (λ K slots. refl)
+  λ sockets H h. led c.args.self.now.context c.set_ip_addrs.new.context c.args.self.now.fragments sockets H h
+      (λ K. after_address_change K c.f-list.result.items) (c.set_ip_addrs.ensures sockets) (λ K slots. refl)
       (Accepted (rw (← c.as_slice.ensures.value) (sym c.are_assignable.ensures ∙ c.if-not-are_assignable.false)) refl refl),
 )

@@ -11,4 +11,5 @@ returns-clause-items c =
     let number : c.to_be_bytes.result ≡ to_be_bytes w16 (number_of r.operation) = c.to_be_bytes.ensures ∙ ap (to_be_bytes w16) c.number.ensures in
     c.append.ensures
     ∙ ap (λ (t : List ℕ). c.args.out.now ++ t)
-    (packet_cells c.to_be_bytes.result r.source_hardware_addr.0 c.octets.result r.target_hardware_addr.0 c.octets-2.result (number_of r.operation) r.source_protocol_addr.bits r.target_protocol_addr.bits (search rules) (search rules) number c.octets.ensures c.octets-2.ensures)
+    (packet_cells c.to_be_bytes.result r.source_hardware_addr.0 c.octets.result r.target_hardware_addr.0 c.octets-2.result (number_of r.operation)
+    r.source_protocol_addr.bits r.target_protocol_addr.bits (search rules) (search rules) number c.octets.ensures c.octets-2.ensures)

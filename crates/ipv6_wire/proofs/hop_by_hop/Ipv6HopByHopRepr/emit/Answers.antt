@@ -9,4 +9,5 @@ emit-requires c =
     let value = c.as_slice-option-items.ensures.value in
     let lt : c.loop-option.option-index < length c.args.self.now.options.items = rw (sym value) c.loop-option-test.true in
     let fits : length c.args.out.now + length (text c.args.self.now) ≤ 1514 = omega (arith, c.requires.room) in
-    rw value (room c.loop-option.out c.args.out.now (text c.args.self.now) c.args.self.now.options.items c.loop-option.option-index Pad1 lt c.loop-option.invariant fits)
+    rw value (room c.loop-option.out c.args.out.now
+    (text c.args.self.now) c.args.self.now.options.items c.loop-option.option-index Pad1 lt c.loop-option.invariant fits)

@@ -1,7 +1,8 @@
 use Rattle.std.proofs.Common.{sym, ◌∙◌}
 use Rattle.net_base.proofs.MemoryMoves.{tells_grant, tells_refused, tells_no_room}
 use Rattle.net_base.proofs.memory_device.MemoryDeviceDevice.transmit.Goals as goal
-use Rattle.net_base.proofs.memory_device.MemoryDeviceDevice.transmit.Goals.{then-take_answer-via-then-take_answer, then-take_answer-via-else-take_answer+then-not-reserve}
+use Rattle.net_base.proofs.memory_device.MemoryDeviceDevice.transmit.Goals.{then-take_answer-via-then-take_answer}
+use Rattle.net_base.proofs.memory_device.MemoryDeviceDevice.transmit.Goals.{then-take_answer-via-else-take_answer+then-not-reserve}
 
 pub returns-then-take_answer-clause-told : goal.returns-then-take_answer-clause-told
 returns-then-take_answer-clause-told c =

@@ -13,4 +13,5 @@ pub returns-then-index-lt-MARKED_PLACES-clause-others : goal.returns-then-index-
 returns-then-index-lt-MARKED_PLACES-clause-others c =
     let i = c.args.index in
     let words = c.self.inside.words in
-    rw (← c.self.view_is) (others_stay words i _ (omega arith) (λ j within other. bit_at_clear_other w64 (get_or words (i / 64) 0) (i % 64) (omega arith) j within other))
+    rw (← c.self.view_is)
+    (others_stay words i _ (omega arith) (λ j within other. bit_at_clear_other w64 (get_or words (i / 64) 0) (i % 64) (omega arith) j within other))

@@ -11,7 +11,8 @@ returns-then-word-ne0-clause-busy c = λ before.
     let word = get_or words at 0 in
     let fits : word < 2 ^ 64 = omega arith in
     let rest_fits : word / 2 ^ k < 2 ^ 64 = omega (arith, div-le_self word (2 ^ k)) in
-    rw (← c.self.view_is) (lowest_set words c.args.from at k (word / 2 ^ k) (omega arith) (shifted word k) c.min-then-word-ne0.result (omega arith) fits (omega arith) rest_fits)
+    rw (← c.self.view_is) (lowest_set words c.args.from at k (word / 2 ^ k) (omega arith)
+    (shifted word k) c.min-then-word-ne0.result (omega arith) fits (omega arith) rest_fits)
 
 pub returns-then-word-ne0-clause-passed : goal.returns-then-word-ne0-clause-passed
 returns-then-word-ne0-clause-passed c = λ i after before.
@@ -21,7 +22,8 @@ returns-then-word-ne0-clause-passed c = λ i after before.
     let word = get_or words at 0 in
     let fits : word < 2 ^ 64 = omega arith in
     let rest_fits : word / 2 ^ k < 2 ^ 64 = omega (arith, div-le_self word (2 ^ k)) in
-    rw (← c.self.view_is) (below_lowest words c.args.from at k (word / 2 ^ k) (omega arith) (shifted word k) i (omega arith) fits (omega arith) rest_fits after (omega arith))
+    rw (← c.self.view_is) (below_lowest words c.args.from at k (word / 2 ^ k) (omega arith)
+    (shifted word k) i (omega arith) fits (omega arith) rest_fits after (omega arith))
 
 pub returns-clause-passed : goal.returns-clause-passed
 returns-clause-passed c = λ i after before.
@@ -30,5 +32,6 @@ returns-clause-passed c = λ i after before.
     let k = c.args.from % 64 in
     let word = get_or words at 0 in
     before_or_from i (64 * (at + 1))
-    (λ within. rw (← c.self.view_is) (none_left words c.args.from at k (word / 2 ^ k) (omega arith) (shifted word k) i (omega arith) c.if-word-ne0.false after within))
+    (λ within. rw (← c.self.view_is)
+    (none_left words c.args.from at k (word / 2 ^ k) (omega arith) (shifted word k) i (omega arith) c.if-word-ne0.false after within))
     (λ past. c.next_word.ensures.passed i past before)

@@ -17,4 +17,5 @@ returns-then-word-ne0-clause-passed c = λ i after before.
     let word = get_or words at 0 in
     let fits : word < 2 ^ 64 = omega arith in
     let some : 0 < word = omega arith in
-    rw (← c.self.view_is) (before_or_from i (64 * at) (c.loop-at.invariant i after) (λ from. below_lowest words (64 * at) at 0 word (omega arith) (all_of_it word) i (omega arith) fits some fits from (omega arith)))
+    rw (← c.self.view_is) (before_or_from i (64 * at) (c.loop-at.invariant i after)
+    (λ from. below_lowest words (64 * at) at 0 word (omega arith) (all_of_it word) i (omega arith) fits some fits from (omega arith)))

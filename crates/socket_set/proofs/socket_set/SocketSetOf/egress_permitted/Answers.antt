@@ -22,7 +22,10 @@ returns-clause-nobody g c = λ none.
     let ps = c.self.inside.sockets.items in
     let p : Storage g.row.L.Denot = record { socket = c.storage.inside.inner; wait = c.storage.inside.meta } in
     let is = rw (← c.storage.view_is) at c.in-Some.ensures.value in
-    absurd (some_none c.storage.inside.inner (c.is_none.ensures ∙ rw c.if-is_none.false refl) (rw (← c.self.view_is, socket_is c.self.inside.grows (vec_capacity c.self.inside.sockets) ps c.args.index p c.in-Some.ensures.item.3.0 is) at none))
+    absurd (some_none c.storage.inside.inner (c.is_none.ensures ∙ rw c.if-is_none.false refl) (rw (
+      ← c.self.view_is,
+      socket_is c.self.inside.grows (vec_capacity c.self.inside.sockets) ps c.args.index p c.in-Some.ensures.item.3.0 is,
+    ) at none))
 
 pub invariant_of-self-2 : goal.invariant_of-self-2
 invariant_of-self-2 g c =

@@ -16,7 +16,8 @@ returns g c =
     let is = c.in_ok-storage.ensures.value in
     let here = socket_is grows room ps i p c.in_ok-storage.ensures.item.3.0 is in
     rw (← c.self.view_is) (
-      λ t. read_of (ghost_name_of (Some c.in_ok-socket.socket)) (λ w. place_set grows room ps i p (Some (g.T.AnySocketOf.up w)) is t) (put_again grows room ps i p is t),
+      λ t. read_of (ghost_name_of (Some c.in_ok-socket.socket))
+          (λ w. place_set grows room ps i p (Some (g.T.AnySocketOf.up w)) is t) (put_again grows room ps i p is t),
       record { lends = tt; value = rw here c.in_ok-socket.ensures.value; whole = rw here c.in_ok-socket.ensures.whole },
     )
 
@@ -29,7 +30,8 @@ returns-in_err-socket g c =
     let room = vec_capacity c.self.inside.sockets in
     let is = c.in_ok-storage.ensures.value in
     let here = socket_is grows room ps i p c.in_ok-storage.ensures.item.3.0 is in
-    rw (← c.self.view_is, c.from_residual-in_err-socket.ensures) (ap inr (put_again grows room ps i p is), record { lends = tt; value = rw here c.in_err-socket.ensures.value; whole = tt })
+    rw (← c.self.view_is, c.from_residual-in_err-socket.ensures)
+    (ap inr (put_again grows room ps i p is), record { lends = tt; value = rw here c.in_err-socket.ensures.value; whole = tt })
 
 pub invariant_of-self-lent : goal.invariant_of-self-lent
 invariant_of-self-lent g c = λ w.
@@ -45,5 +47,6 @@ invariant_of-self-lent g c = λ w.
       λ none.
           let ported = c.self.invariant.2 none in
           let here = ported_here grows room ps i p c.in_ok-storage.ensures.item.3.0 is ported in
-          ported_written grows room ps i written (kept_port p.socket (g.T.AnySocketOf.up w) _ c.in_ok-socket.ensures.whole (c.in_ok-socket.ensures.ports w) here) ported,
+          ported_written grows room ps i written
+          (kept_port p.socket (g.T.AnySocketOf.up w) _ c.in_ok-socket.ensures.whole (c.in_ok-socket.ensures.ports w) here) ported,
     )

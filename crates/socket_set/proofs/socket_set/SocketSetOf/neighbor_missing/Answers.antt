@@ -7,7 +7,8 @@ pub returns : goal.returns
 returns g c =
     let p : Storage g.row.L.Denot = record { socket = c.storage.inside.inner; wait = c.storage.inside.meta } in
     rw (← c.self.view_is, ← c.neighbor_missing.ensures)
-    (wait_set c.self.inside.grows (vec_capacity c.self.inside.sockets) c.self.inside.sockets.items c.args.index p c.neighbor_missing.new.self (rw (← c.storage.view_is) at c.in-Some.ensures.value))
+    (wait_set c.self.inside.grows (vec_capacity c.self.inside.sockets) c.self.inside.sockets.items c.args.index p c.neighbor_missing.new.self
+    (rw (← c.storage.view_is) at c.in-Some.ensures.value))
 
 pub invariant_of-self-2 : goal.invariant_of-self-2
 invariant_of-self-2 g c =

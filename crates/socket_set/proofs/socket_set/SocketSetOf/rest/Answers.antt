@@ -11,8 +11,10 @@ invariant_of-self g c =
     let p = c.in-Some.storage.now in
     let grows = c.self.inside.grows in
     let room = vec_capacity c.self.inside.sockets in
-    let idle : IsIdle (over ps grows room) c.args.index = idle_is grows room ps c.args.index p found.3.0 found.1 (c.is_busy.ensures c.if-is_busy.false) in
-    let keyed = keyed_learnt grows room ps c.self.inside.keys c.args.index p c.key-key.result found.3.0 found.1 c.key-key.ensures c.self.invariant.1 in (
+    let idle : IsIdle (over ps grows room) c.args.index =
+    idle_is grows room ps c.args.index p found.3.0 found.1 (c.is_busy.ensures c.if-is_busy.false) in
+    let keyed =
+    keyed_learnt grows room ps c.self.inside.keys c.args.index p c.key-key.result found.3.0 found.1 c.key-key.ensures c.self.invariant.1 in (
       true_cleared grows room ps c.self.inside.busy c.clear.new.self c.args.index idle c.clear.ensures.others c.self.invariant.0,
       (rw c.set.ensures keyed),
       c.self.invariant.2,

@@ -26,6 +26,13 @@ invariant_of-self-lent g c = λ lent.
     let grows = c.self.inside.grows in
     let room = vec_capacity c.self.inside.sockets in
     let i = c.args.index in
-    let marked = λ (q : Storage g.row.L.Denot). true_written grows room ps c.self.inside.busy c.set.new.self i q c.set.ensures.marked c.set.ensures.others c.self.invariant.0 in
-    let keyed = λ (q : Storage g.row.L.Denot). keyed_written grows room ps c.self.inside.keys i q c.self.invariant.1 in
-    (λ w. (marked (record { socket = Some w; wait = p.wait }), (rw c.set-2.ensures (keyed (record { socket = Some w; wait = p.wait }))), λ none. absurd cc), (marked p, (rw c.set-2.ensures (keyed p)), λ none. absurd cc))
+    let marked = λ (q : Storage g.row.L.Denot).
+    true_written grows room ps c.self.inside.busy c.set.new.self i q c.set.ensures.marked c.set.ensures.others c.self.invariant.0 in
+    let keyed = λ (q : Storage g.row.L.Denot). keyed_written grows room ps c.self.inside.keys i q c.self.invariant.1 in (
+      λ w. (
+        marked (record { socket = Some w; wait = p.wait }),
+        (rw c.set-2.ensures (keyed (record { socket = Some w; wait = p.wait }))),
+        λ none. absurd cc,
+      ),
+      (marked p, (rw c.set-2.ensures (keyed p)), λ none. absurd cc),
+    )

@@ -8,13 +8,15 @@ pub returns-clause-freed : goal.returns-clause-freed
 returns-clause-freed g c = λ within.
     let p : Storage g.row.L.Denot = record { socket = c.storage.inside.inner; wait = c.storage.inside.meta } in
     rw (← c.self.view_is, ← c.handle.view_is, c.take.ensures.after)
-    (place_set c.self.inside.grows (vec_capacity c.self.inside.sockets) c.self.inside.sockets.items c.handle.inside.0 p None (rw (← c.storage.view_is) at c.in_ok-storage.ensures.value))
+    (place_set c.self.inside.grows (vec_capacity c.self.inside.sockets) c.self.inside.sockets.items c.handle.inside.0 p None
+    (rw (← c.storage.view_is) at c.in_ok-storage.ensures.value))
 
 pub returns-clause-unchanged : goal.returns-clause-unchanged
 returns-clause-unchanged g c = λ none.
     let p : Storage g.row.L.Denot = record { socket = c.storage.inside.inner; wait = c.storage.inside.meta } in
     rw (← c.self.view_is, c.take.ensures.after, ← none_is c.take.result none, c.take.ensures.value)
-    (put_again c.self.inside.grows (vec_capacity c.self.inside.sockets) c.self.inside.sockets.items c.handle.inside.0 p (rw (← c.storage.view_is) at c.in_ok-storage.ensures.value))
+    (put_again c.self.inside.grows (vec_capacity c.self.inside.sockets) c.self.inside.sockets.items c.handle.inside.0 p
+    (rw (← c.storage.view_is) at c.in_ok-storage.ensures.value))
 
 pub invariant_of-self-2 : goal.invariant_of-self-2
 invariant_of-self-2 g c =
@@ -32,4 +34,9 @@ invariant_of-self-2 g c =
 pub returns-clause-value : goal.returns-clause-value
 returns-clause-value g c =
     let p : Storage g.row.L.Denot = record { socket = c.storage.inside.inner; wait = c.storage.inside.meta } in
-    rw (← c.self.view_is, ← c.handle.view_is, socket_is c.self.inside.grows (vec_capacity c.self.inside.sockets) c.self.inside.sockets.items c.handle.inside.0 p c.in_ok-storage.ensures.item.3.0 (rw (← c.storage.view_is) at c.in_ok-storage.ensures.value)) c.take.ensures.value
+    rw (
+      ← c.self.view_is,
+      ← c.handle.view_is,
+      socket_is c.self.inside.grows (vec_capacity c.self.inside.sockets) c.self.inside.sockets.items c.handle.inside.0 p
+          c.in_ok-storage.ensures.item.3.0 (rw (← c.storage.view_is) at c.in_ok-storage.ensures.value),
+    ) c.take.ensures.value
