@@ -101,6 +101,32 @@ fn a_place_stays_of_its_key(rt: HostRuntime) {
     assert!(rt; ends_at(&mut set, 2, MINUTE) && ends_at(&mut set, 1, Instant::ZERO));
 }
 
+// Takes these octets at a place of a key's datagram of two octets, and says whether that is whole then.
+fn gathers(
+    set: &mut PacketAssemblerSet<u8>,
+    key: u8,
+    octets: &[u8],
+    offset: usize,
+    want: Option<&[u8]>,
+) -> bool {
+    match set.get(&key, MINUTE) {
+        Ok(assembler) => assembler.add(octets, offset) == Ok(()) && assembler.assemble() == want,
+        Err(_error) => false,
+    }
+}
+
+#[test]
+fn a_place_that_is_got_again_has_its_octets(rt: HostRuntime) {
+    let mut set: PacketAssemblerSet<u8> = PacketAssemblerSet::new();
+    let has_total = match set.get(&2, MINUTE) {
+        Ok(assembler) => assembler.set_total_size(2) == Ok(()),
+        Err(_error) => false,
+    };
+    let is_part = gathers(&mut set, 2, &[0], 0, None);
+    let is_whole = gathers(&mut set, 2, &[1], 1, Some(&[0, 1]));
+    assert!(rt; has_total && is_part && is_whole);
+}
+
 #[test]
 fn pairs_and_keys_of_fragments_have_places(rt: HostRuntime) {
     let mut pairs: PacketAssemblerSet<(u16, u8)> = PacketAssemblerSet::new();

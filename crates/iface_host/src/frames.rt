@@ -1,7 +1,9 @@
 //! Frames in, frames out, and when to come back.
-ghost use Rattle.std.specs.Prelude.{◌≡◌, ◌≤◌, IfOk, OnOk, OnErr, IfSome, length};
+ghost use Rattle.std.specs.Prelude.{◌≡◌, ◌≤◌, IfOk, IfErr, OnOk, OnErr, IfSome, length, None, Some, []};
 ghost use Rattle.net_base.specs.Time.{IsMoment};
+ghost use Rattle.std.specs.Result.{IsErrOf, result_err};
 ghost use Rattle.iface_host.specs.Frames.{IsDue, NextIs, Receives, Round};
+ghost use Rattle.iface_host.specs.Refusals.{frame_refusal, moment_refusal};
 
 use crate::host::{FRAME_LEN, Host};
 use crate::outbox::write_front;
@@ -16,6 +18,7 @@ impl Host {
     /// a buffer. Answers how many octets that has, 0 where there is none. `BadMoment` if the moment is out of range,
     /// `NoRoom` if the buffer has less than 1,514 octets.
     pub fn receive(&mut self, now: i64, frame: &[u8], out: &mut [u8]) -> Result<usize, Refusal>
+        ensures why { result_err result ≡ frame_refusal now (length out.old) }
         ensures received { IfOk result (λ n. Receives now frame.now n out.old out.new self.old self.new) }
         ensures refused { OnErr result (self.new ≡ self.old) }
         ensures out { OnErr result (out.new ≡ out.old) }
@@ -38,6 +41,9 @@ impl Host {
     /// `BadMoment` if the moment is out of range, `NoRoom` if the buffer has less than 1,514 octets, `NoMemory` if
     /// memory for a frame is refused before the round.
     pub fn next(&mut self, now: i64, out: &mut [u8]) -> Result<usize, Refusal>
+        ensures why { (e : Refusal) → frame_refusal now (length out.old) ≡ Some e → IsErrOf result e }
+        ensures memory { frame_refusal now (length out.old) ≡ None →
+            IfErr result (λ e. (e ≡ Refusal.NoMemory) × (self.old.outbox.frames ≡ [])) }
         ensures next { IfOk result (λ n. NextIs now n out.old out.new self.old self.new) }
         ensures refused { OnErr result (self.new ≡ self.old) }
         ensures out { OnErr result (out.new ≡ out.old) }
@@ -55,6 +61,7 @@ impl Host {
 
     /// The least instant at which something is due, if anything is: 0 if a frame waits.
     pub fn poll_at(&mut self, now: i64) -> Result<Option<Instant>, Refusal>
+        ensures why { result_err result ≡ moment_refusal now }
         ensures due { IfOk result (λ at. IsDue now at self.old self.new) }
         ensures refused { OnErr result (self.new ≡ self.old) }
     {
@@ -70,6 +77,7 @@ impl Host {
     /// Makes a round at a moment, where no frame waits.
     fn round(&mut self, now: Instant) -> Result<(), Refusal>
         requires { IsMoment now }
+        ensures memory { IfErr result (λ e. e ≡ Refusal.NoMemory) }
         ensures went { OnOk result (Round now self.old self.new) }
         ensures refused { OnErr result (self.new ≡ self.old) }
     {
@@ -89,7 +97,8 @@ impl Host {
 
 /// The moment of so many microseconds, if it is one that a caller may give.
 fn moment(micros: i64) -> Result<Instant, Refusal>
-    ensures { IfOk result (λ t. (t ≡ micros) × IsMoment t) }
+    ensures why { result_err result ≡ moment_refusal micros }
+    ensures moment { IfOk result (λ t. (t ≡ micros) × IsMoment t) }
 {
     if 0 <= micros && micros <= LAST_MOMENT {
         Ok(Instant::from_micros(micros))

@@ -23,17 +23,22 @@ const SCENES: &[Scene] = &[
             heard? 0 = c0a84564 5000 6869",
             // The last one first.
             "udp 6969
-            receive 0 HI_END = none
+            rx HI_END
+            ingress 0 = SocketStateChanged
             heard? 0 = none
-            receive 0 HI_START = none
+            rx HI_START
+            ingress 0 = SocketStateChanged
             heard? 0 = c0a84564 5000 6869
             done 0
             heard? 0 = none",
             // The first one twice.
             "udp 6969
-            receive 0 HI_START = none
-            receive 0 HI_START = none
-            receive 0 HI_END = none
+            rx HI_START
+            ingress 0 = SocketStateChanged
+            rx HI_START
+            ingress 0 = SocketStateChanged
+            rx HI_END
+            ingress 0 = SocketStateChanged
             heard? 0 = c0a84564 5000 6869
             done 0
             heard? 0 = none",
@@ -44,14 +49,20 @@ const SCENES: &[Scene] = &[
         begins: AT_HOME,
         scripts: &[
             "udp 6969
-            receive 0 LETTERS_A = none
-            receive 0 LETTERS_B = none
-            receive 0 LETTERS_C = none
+            rx LETTERS_A
+            ingress 0 = SocketStateChanged
+            rx LETTERS_B
+            ingress 0 = SocketStateChanged
+            rx LETTERS_C
+            ingress 0 = SocketStateChanged
             heard? 0 = c0a84564 5000 626262626262626261616161616161616363",
             "udp 6969
-            receive 0 LETTERS_B = none
-            receive 0 LETTERS_A = none
-            receive 0 LETTERS_C = none
+            rx LETTERS_B
+            ingress 0 = SocketStateChanged
+            rx LETTERS_A
+            ingress 0 = SocketStateChanged
+            rx LETTERS_C
+            ingress 0 = SocketStateChanged
             heard? 0 = c0a84564 5000 616161616161616161616161616161616363",
         ],
     },
@@ -62,16 +73,21 @@ const SCENES: &[Scene] = &[
             // At its last microsecond.
             "udp 6969
             timeout 1_000_000
-            receive 0 HI_START = none
-            receive 1_000_000 HI_END = none
+            rx HI_START
+            ingress 0 = SocketStateChanged
+            rx HI_END
+            ingress 1_000_000 = SocketStateChanged
             heard? 0 = c0a84564 5000 6869",
             // Too late: it waits for another first part.
             "udp 6969
             timeout 1_000_000
-            receive 0 HI_START = none
-            receive 1_000_001 HI_END = none
+            rx HI_START
+            ingress 0 = SocketStateChanged
+            rx HI_END
+            ingress 1_000_001 = SocketStateChanged
             heard? 0 = none
-            receive 1_000_001 HI_START = none
+            rx HI_START
+            ingress 1_000_001 = SocketStateChanged
             heard? 0 = c0a84564 5000 6869",
             // A day at most.
             "timeout 86_400_000_000
@@ -87,31 +103,46 @@ const SCENES: &[Scene] = &[
         scripts: &[
             // Others by their identification and by their source.
             "udp 6969
-            receive 0 HI_START_8 = none
-            receive 0 HI_START_BY_101 = none
-            receive 0 HI_START = none
-            receive 0 HI_END = none
+            rx HI_START_8
+            ingress 0 = SocketStateChanged
+            rx HI_START_BY_101
+            ingress 0 = SocketStateChanged
+            rx HI_START
+            ingress 0 = SocketStateChanged
+            rx HI_END
+            ingress 0 = SocketStateChanged
             heard? 0 = none
-            receive 0 HI_END_8 = none
+            rx HI_END_8
+            ingress 0 = SocketStateChanged
             heard? 0 = c0a84564 5000 6869
             done 0
-            receive 0 HI_END_BY_101 = none
+            rx HI_END_BY_101
+            ingress 0 = SocketStateChanged
             heard? 0 = c0a84565 5000 6869
             done 0
-            receive 0 HI_START = none
-            receive 0 HI_END = none
+            rx HI_START
+            ingress 0 = SocketStateChanged
+            rx HI_END
+            ingress 0 = SocketStateChanged
             heard? 0 = c0a84564 5000 6869",
             // Others by their destination and by their protocol.
             "addr c0a84501/24 c0a84507/24
             udp 6969
-            receive 0 REQUEST = REPLY
-            receive 0 HO_START_TO_7 = none
-            receive 0 ECHO_START = none
-            receive 0 HI_START = none
-            receive 0 HI_END = none
+            rx REQUEST
+            ingress 0 = SocketStateChanged tx REPLY
+            rx HO_START_TO_7
+            ingress 0 = SocketStateChanged
+            rx ECHO_START
+            ingress 0 = SocketStateChanged
+            rx HI_START
+            ingress 0 = SocketStateChanged
+            rx HI_END
+            ingress 0 = SocketStateChanged
             heard? 0 = none
-            receive 0 ECHO_END = ECHO_REPLY
-            receive 0 HO_END_TO_7 = none
+            rx ECHO_END
+            ingress 0 = SocketStateChanged tx ECHO_REPLY
+            rx HO_END_TO_7
+            ingress 0 = SocketStateChanged
             heard? 0 = c0a84564 5000 686f",
         ],
     },
@@ -121,21 +152,31 @@ const SCENES: &[Scene] = &[
         scripts: &[
             // To another host.
             "udp 6969
-            receive 0 HO_START_TO_7 = none
-            receive 0 HI_START_8 = none
-            receive 0 HI_START = none
-            receive 0 HI_END = none
+            rx HO_START_TO_7
+            ingress 0 = SocketStateChanged
+            rx HI_START_8
+            ingress 0 = SocketStateChanged
+            rx HI_START
+            ingress 0 = SocketStateChanged
+            rx HI_END
+            ingress 0 = SocketStateChanged
             heard? 0 = none
-            receive 0 HO_END_TO_7 = none
+            rx HO_END_TO_7
+            ingress 0 = SocketStateChanged
             heard? 0 = none
-            receive 0 HI_END_8 = none
+            rx HI_END_8
+            ingress 0 = SocketStateChanged
             heard? 0 = c0a84564 5000 6869",
             // From no host.
             "udp 6969
-            receive 0 HI_START_BY_ALL = none
-            receive 0 HI_START_8 = none
-            receive 0 HI_START = none
-            receive 0 HI_END = none
+            rx HI_START_BY_ALL
+            ingress 0 = SocketStateChanged
+            rx HI_START_8
+            ingress 0 = SocketStateChanged
+            rx HI_START
+            ingress 0 = SocketStateChanged
+            rx HI_END
+            ingress 0 = SocketStateChanged
             heard? 0 = c0a84564 5000 6869",
         ],
     },
@@ -224,16 +265,23 @@ const SCENES: &[Scene] = &[
             egress 0 = None",
             // But not by a longer one. Both slots are free then.
             "udp 6969
-            receive 0 LONGER_PING_1~0+1472 = none
-            receive 0 PING_2~1472+1480 = none
-            receive 0 LONGER_PING_3~2952+1117 = none
+            rx LONGER_PING_1~0+1472
+            ingress 0 = SocketStateChanged
+            rx PING_2~1472+1480
+            ingress 0 = SocketStateChanged
+            rx LONGER_PING_3~2952+1117
+            ingress 0 = SocketStateChanged
             egress 0 = None
             at 0 = none
-            receive 0 HI_START = none
-            receive 0 ECHO_START = none
-            receive 0 HI_END = none
+            rx HI_START
+            ingress 0 = SocketStateChanged
+            rx ECHO_START
+            ingress 0 = SocketStateChanged
+            rx HI_END
+            ingress 0 = SocketStateChanged
             heard? 0 = c0a84564 5000 6869
-            receive 0 ECHO_END = ECHO_REPLY",
+            rx ECHO_END
+            ingress 0 = SocketStateChanged tx ECHO_REPLY",
         ],
     },
 ];

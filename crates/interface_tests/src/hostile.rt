@@ -46,32 +46,63 @@ const SCENES: &[Scene] = &[
         scripts: &[
             // Neither octets nor a total are kept of them.
             "udp 6969
-            receive 0 BEYOND_END = none
-            receive 0 BEHIND_END = none
-            receive 0 HI_START = none
-            receive 0 HI_END = none
+            rx BEYOND_END
+            ingress 0 = SocketStateChanged
+            rx BEHIND_END
+            ingress 0 = SocketStateChanged
+            rx HI_START
+            ingress 0 = SocketStateChanged
+            rx HI_END
+            ingress 0 = SocketStateChanged
             heard? 0 = c0a84564 5000 6869",
             // But their key has a slot.
             "udp 6969
-            receive 0 BEYOND_END = none
-            receive 0 HI_START_8 = none
-            receive 0 HI_START_BY_101 = none
-            receive 0 HI_END_BY_101 = none
+            rx BEYOND_END
+            ingress 0 = SocketStateChanged
+            rx HI_START_8
+            ingress 0 = SocketStateChanged
+            rx HI_START_BY_101
+            ingress 0 = SocketStateChanged
+            rx HI_END_BY_101
+            ingress 0 = SocketStateChanged
             heard? 0 = none
-            receive 0 HI_END_8 = none
+            rx HI_END_8
+            ingress 0 = SocketStateChanged
             heard? 0 = c0a84564 5000 6869",
             // So has that of a datagram for another host.
             "udp 6969
-            receive 0 HO_START_TO_7 = none
-            receive 0 HI_START_8 = none
-            receive 0 HI_START = none
-            receive 0 HI_END = none
+            rx HO_START_TO_7
+            ingress 0 = SocketStateChanged
+            rx HI_START_8
+            ingress 0 = SocketStateChanged
+            rx HI_START
+            ingress 0 = SocketStateChanged
+            rx HI_END
+            ingress 0 = SocketStateChanged
             heard? 0 = none",
             // An empty last fragment ends a datagram.
             "udp 6969
-            receive 0 BARE_START = none
-            receive 0 BARE_END = none
+            rx BARE_START
+            ingress 0 = SocketStateChanged
+            rx BARE_END
+            ingress 0 = SocketStateChanged
             heard? 0 = c0a84564 5000 EMPTY",
+        ],
+    },
+    // Each octet is that of the fragment which came last.
+    Scene {
+        name: "fragments that overlap are one datagram",
+        begins: AT_HOME,
+        scripts: &[
+            "raw 253
+            rx HEAD_A
+            ingress 0 = SocketStateChanged
+            rx MIDDLE_B
+            ingress 0 = SocketStateChanged
+            heard? 0 = none
+            rx END_C
+            ingress 0 = SocketStateChanged
+            heard? 0 = ABC",
         ],
     },
     // An ARP reply that nobody asked for moves a neighbour, and ends no silence.
@@ -200,8 +231,10 @@ fn good_frames_follow_spoilt_ones(rt: HostRuntime) {
         "addr c0a84501/24
         udp 6969",
         "HI_START",
-        "receive 0 HI_START = none
-        receive 0 HI_END = none
+        "rx HI_START
+        ingress 0 = SocketStateChanged
+        rx HI_END
+        ingress 0 = SocketStateChanged
         heard? 0 = c0a84564 5000 6869",
     );
 }
@@ -261,16 +294,22 @@ fn fragments_of_many_datagrams_take_two_slots(rt: HostRuntime) {
     }
     assert!(&rt;
         host.follows(
-            "receive 60_000_000 HI_START_BY_101 = none
-        receive 60_000_000 HI_END_BY_101 = none
+            "rx HI_START_BY_101
+            ingress 60_000_000 = SocketStateChanged
+        rx HI_END_BY_101
+        ingress 60_000_000 = SocketStateChanged
         heard? 0 = none
-        receive 60_000_000 HI_END = none
+        rx HI_END
+        ingress 60_000_000 = SocketStateChanged
         heard? 0 = c0a84564 5000 6869
         done 0
-        receive 60_000_001 HI_END_8 = none
+        rx HI_END_8
+        ingress 60_000_001 = SocketStateChanged
         heard? 0 = none
-        receive 60_000_001 HI_START_BY_101 = none
-        receive 60_000_001 HI_END_BY_101 = none
+        rx HI_START_BY_101
+        ingress 60_000_001 = SocketStateChanged
+        rx HI_END_BY_101
+        ingress 60_000_001 = SocketStateChanged
         heard? 0 = c0a84565 5000 6869"
         )
     );

@@ -12,6 +12,7 @@
 //! | `addr?` `= ADDR/LEN ..` | they are these |
 //! | `own? ADDR` `= yes`, `no` | whether it takes this one for its own |
 //! | `member? ADDR` `= yes`, `no` | whether it is a member of this group |
+//! | `solicited? GROUP` `= yes`, `no` | whether this is the solicited-node group of one of its addresses |
 //! | `source? ADDR` `= ADDR` | from which address it sends to this IPv6 destination |
 //! | `join GROUP` `= ok`, `GroupTableFull`, `Unaddressable` | it joins this group |
 //! | `leave GROUP` `= ok`, `Unaddressable` | it leaves this group |
@@ -245,6 +246,11 @@ impl Host {
                 let addr = any_address(call.next()?)?;
                 let is_member = self.interface.has_multicast_group(&addr);
                 Some(is_told(is_member, outcome.next()?))
+            }
+            "solicited?" => {
+                let group = address_v6(call.next()?)?;
+                let is_own = self.interface.context().has_solicited_node(&group);
+                Some(is_told(is_own, outcome.next()?))
             }
             "source?" => {
                 let dst_addr = address_v6(call.next()?)?;

@@ -27,14 +27,20 @@ const SCENES: &[Scene] = &[
             host ip ip 1515 = MtuTooLarge",
         ],
     },
+    // The neighbour stays too, to whom the reply goes at once. Only addresses that are taken make the host forget him.
     Scene {
         name: "keeps the addresses where others are refused",
-        begins: AT_HOME,
+        begins: ACQUAINTED,
         scripts: &[
             "addr c0a84501/24 e0000005/24 = NotUnicast
             addr? = c0a84501/24
             own? c0a84501 = yes
-            own? e0000005 = no",
+            own? e0000005 = no
+            rx ECHO
+            ingress 0 = SocketStateChanged tx ECHO_REPLY
+            addr c0a84501/24
+            rx ECHO
+            ingress 0 = SocketStateChanged tx WHO_HAS_100",
         ],
     },
     Scene {
@@ -56,6 +62,17 @@ const SCENES: &[Scene] = &[
             member? ff020000000000000000000000000001 = yes
             member? ff020000000000000000000000000002 = no
             member? fe800000000000000000000011223344 = no",
+        ],
+    },
+    Scene {
+        name: "solicited-node groups of its own",
+        begins: "addr fe800000000000000000000011223344/64 00000000000000000000000000000001/128",
+        scripts: &[
+            "solicited? ff0200000000000000000001ff223344 = yes
+            solicited? ff0200000000000000000001ff993344 = no
+            solicited? ff0200000000000000000001ff000001 = no
+            solicited? ff020000000000000000000000000001 = no
+            solicited? fe800000000000000000000011223344 = no",
         ],
     },
     Scene {

@@ -145,6 +145,16 @@ fn moments_before_the_origin(rt: HostRuntime) {
     assert!(rt; is_right);
 }
 
+#[test]
+fn a_clock_stays_at_the_last_moment(rt: HostRuntime) {
+    let last = Instant::from_micros(1 << 62);
+    let is_right = Instant::from_micros_clamped(0) == Instant::ZERO
+        && Instant::from_micros_clamped(1_500_000) == Instant::from_micros(1_500_000)
+        && Instant::from_micros_clamped((1 << 62) - 1) < last
+        && [1 << 62, (1 << 62) + 1, u128::MAX].map(Instant::from_micros_clamped) == [last; 3];
+    assert!(rt; is_right);
+}
+
 // What spans, moments and errors print.
 fn printed(alloc: Global) -> Result<String, AllocError> {
     let [a, b, c, d] = [0, 999, 1_500_000, 61_000_001].map(Duration::from_micros);

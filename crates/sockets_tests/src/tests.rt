@@ -11,7 +11,7 @@ use sockets::context::SocketContext;
 use sockets::endpoint::{IpEndpoint, IpListenEndpoint};
 use sockets::poll_at::PollAt;
 use sockets::queue::{Full, NoMemory, Queue};
-use sockets::{icmp, raw, tcp, udp};
+use sockets::{SendError, icmp, raw, tcp, udp};
 use std::alloc::Global;
 use std::fmt::Display;
 use std::test::Fail;
@@ -293,6 +293,21 @@ fn only_echo_messages_are_offered(rt: HostRuntime) -> Result<(), Fail> {
     Ok(())
 }
 
+// The longest message that is taken has 65,495 octets.
+#[test]
+fn messages_are_refused_in_order(rt: HostRuntime) -> Result<(), Fail> {
+    let nowhere = IpAddress::Ipv4(Ipv4Address::UNSPECIFIED);
+    let long = [0; 65_496];
+    let (rx, tx) = queues(rt.alloc())?;
+    let mut socket = icmp::Socket::new(icmp::Endpoint::Ident(0x22b), rx, tx);
+    let is_refused = socket.try_send(nowhere, &long) == Err(icmp::SendError::UnspecifiedAddress)
+        && socket.try_send(OTHER, &long) == Err(icmp::SendError::TooLong)
+        && socket.try_send(OTHER, &long[..65_495]) == Err(icmp::SendError::Full);
+    let is_queued = socket.try_send(OTHER, ECHO) == Ok(());
+    assert!(rt; is_refused && is_queued && offers_echo(&mut socket));
+    Ok(())
+}
+
 // Whether a value prints as this text. If memory for it is refused, the next call gets it.
 fn prints<T: Display>(alloc: Global, value: &T, text: &str) -> bool {
     for _ in 0..2 {
@@ -310,6 +325,18 @@ fn printed_ends_and_errors(rt: HostRuntime) {
         && prints(alloc, &IpListenEndpoint::from(7), "*:7")
         && prints(alloc, &TcpSeqNumber::from(4_294_967_295), "4294967295")
         && prints(alloc, &Full, "Full")
-        && prints(alloc, &NoMemory, "NoMemory");
+        && prints(alloc, &NoMemory, "NoMemory")
+        && prints(alloc, &SendError::UnspecifiedAddress, "UnspecifiedAddress")
+        && prints(alloc, &SendError::UnspecifiedPort, "UnspecifiedPort")
+        && prints(alloc, &SendError::Unbound, "Unbound")
+        && prints(alloc, &SendError::TooLong, "TooLong")
+        && prints(alloc, &SendError::Full, "Full")
+        && prints(
+            alloc,
+            &icmp::SendError::UnspecifiedAddress,
+            "UnspecifiedAddress",
+        )
+        && prints(alloc, &icmp::SendError::TooLong, "TooLong")
+        && prints(alloc, &icmp::SendError::Full, "Full");
     assert!(rt; is_right);
 }

@@ -50,6 +50,16 @@ fn what_is_no_message(rt: HostRuntime) -> Result<(), Fail> {
     Ok(())
 }
 
+// A packet carries 65,535 octets at most.
+#[test]
+fn what_no_packet_carries(rt: HostRuntime) {
+    let mut octets = [0; 65_536];
+    octets[0] = 128;
+    let is_right = Icmpv6Repr::parse(&octets[..65_535], &FIRST, &SECOND, false).is_some()
+        && Icmpv6Repr::parse(&octets, &FIRST, &SECOND, false).is_none();
+    assert!(rt; is_right);
+}
+
 #[test]
 fn a_wrong_pseudo_header_or_length(rt: HostRuntime) -> Result<(), Fail> {
     for (src, dst, len, is_message) in [

@@ -103,6 +103,16 @@ fn what_is_no_message(rt: HostRuntime) {
     }
 }
 
+// A packet carries 65,535 octets at most.
+#[test]
+fn what_no_packet_carries(rt: HostRuntime) {
+    let mut octets = [0; 65_536];
+    octets[0] = 8;
+    let is_right = Icmpv4Repr::parse(&octets[..65_535], false).is_some()
+        && Icmpv4Repr::parse(&octets, false).is_none();
+    assert!(rt; is_right);
+}
+
 #[test]
 fn a_port_unreachable(rt: HostRuntime) {
     let message = Icmpv4Repr::DstUnreachable {

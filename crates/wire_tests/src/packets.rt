@@ -298,6 +298,16 @@ fn what_is_no_segment(rt: HostRuntime) {
     }
 }
 
+// A packet carries 65,535 octets at most.
+#[test]
+fn what_no_packet_carries(rt: HostRuntime) {
+    let mut octets = [0; 65_536];
+    octets[..20].copy_from_slice(&RESET[..20]);
+    let is_right = TcpRepr::parse(&octets[..65_535], &OWN_IP, &OTHER_IP, false).is_some()
+        && TcpRepr::parse(&octets, &OWN_IP, &OTHER_IP, false).is_none();
+    assert!(rt; is_right);
+}
+
 #[test]
 fn flags_of_segments(rt: HostRuntime) {
     for (flags, control) in [

@@ -1,0 +1,174 @@
+#!/usr/bin/env python3
+"""Runs tests and programs with each request for memory refused in turn.
+
+usage: refused.py [--over-gate] [--jobs N] [CRATE..]     of these crates, or of all that it knows
+
+Each test is run by itself, once for each request for memory that it makes, and that one request is refused. It has to
+hold as it does otherwise: what was refused has been told as an error, nothing has changed, and the next call gets it.
+The program `hostrun` runs scripts so. It has to end as it does otherwise, or with `out of memory` and status 3, when
+it has printed a beginning of what it prints otherwise.
+
+It builds the tests and the program by `rt test` and `rt run`, which prove them first. With `--over-gate` it builds
+them over the libraries that `rt ci` has just proved in this clone. It needs a C compiler (CC, or cc) and `rt` (RT).
+"""
+import concurrent.futures
+import os
+import pathlib
+import re
+import subprocess
+import sys
+import tempfile
+import time
+
+HERE = pathlib.Path(__file__).resolve().parent
+CRATES = HERE.parent / "crates"
+TESTS = ["net_base_tests", "sockets_tests", "socket_set_tests", "host_tests", "script_tests", "interface_tests"]
+PROGRAMS = ["hostrun"]
+RT = os.environ.get("RT", "rt")
+# How long one run may take, in seconds.
+LIMIT = 120
+
+
+def below(crate, lines):
+    """The crates of this repository that a crate stands on, and the kit's crates that it names."""
+    own, seen = [], [crate]
+    for name in seen:
+        for other in lines[name]:
+            if other in lines and other not in seen:
+                seen.append(other)
+                own.append(other)
+    return own, [name for name in lines[crate] if name not in lines]
+
+
+def crates_and_uses():
+    """What each crate names, by `crates.txt`."""
+    lines = {}
+    for line in (HERE.parent / "crates.txt").read_text(encoding="utf-8").split("\n"):
+        head, _, uses = line.partition("#")[0].partition(":")
+        if head.strip():
+            lines[head.split()[0]] = uses.split()
+    return lines
+
+
+def build_over_gate(crate, is_program):
+    """Builds a crate's program or tests over the libraries that the gate has left, and proves no other crate."""
+    doc = subprocess.run([RT, "doc"], check=True, capture_output=True, text=True).stdout.strip()
+    kit = pathlib.Path(doc).parent
+    own, of_kit = below(crate, crates_and_uses())
+    words = ["--crate-name", crate, "src/main.rt" if is_program else "src/lib.rt"]
+    for name in ["std", *of_kit]:
+        words += ["--extern", f"{name}={kit}/rlibs/{name}.rlib"]
+    words += ["-L", f"dependency={kit}/rlibs"]
+    for name in own:
+        library = CRATES / name / "out/rlib"
+        words += ["--extern", f"{name}={library}/{name}.rlib", "-L", f"dependency={library}"]
+    words += ["--antt-project", f"{kit}/rattle/logic/antt-project.json", "--logic-built", f"{kit}/logic_built"]
+    words += ["--toolchain", f"{kit}/toolchain", "--backend", "llvm"]
+    words += ["--jobs", str(os.cpu_count() or 1), *["--test"] * (not is_program)]
+    program = f"out/{crate}" if is_program else f"out/{crate}_tests"
+    folder = CRATES / crate
+    (folder / "out").mkdir(exist_ok=True)
+    subprocess.run([f"{kit}/bin/rattle", "build", *words, "-o", f"{program}.o"], cwd=folder, check=True, stdout=2)
+    words = ["--target", "x86_64-unknown-linux-gnu", "--toolchain", f"{kit}/toolchain", "-o", program, f"{program}.o"]
+    words += [f"{kit}/c/libos_c.a", f"{kit}/c/liblibc_c.a"]
+    subprocess.run([f"{kit}/bin/rattle-link", *words], cwd=folder, check=True, stdout=2)
+
+
+def built(crate, over_gate):
+    """The path of a crate's program or tests, which are built first."""
+    is_program = crate in PROGRAMS
+    path = CRATES / crate / "out" / (crate if is_program else f"{crate}_tests")
+    if over_gate:
+        build_over_gate(crate, is_program)
+    else:
+        words = [RT, "run" if is_program else "test"]
+        subprocess.run(words, cwd=CRATES / crate, check=True, input=b"", stdout=2)
+    return path
+
+
+class Run:
+    """What a program did: its status, what it printed, and how often it asked for memory."""
+
+    def __init__(self, work, at, shim):
+        _, words, given = work
+        with tempfile.NamedTemporaryFile() as count:
+            more = {"LD_PRELOAD": str(shim), "REFUSE_AT": str(at), "REFUSE_COUNT": count.name}
+            try:
+                ran = subprocess.run(words, input=given, capture_output=True, timeout=LIMIT, env={**os.environ, **more})
+                self.status, self.out, self.errors = ran.returncode, ran.stdout, ran.stderr
+            except subprocess.TimeoutExpired:
+                self.status, self.out, self.errors = None, b"", b""
+            self.requests = int.from_bytes(count.read(8), sys.byteorder)
+
+    def ending(self):
+        if self.status is None:
+            return f"had not ended after {LIMIT} seconds"
+        how = f"signal {-self.status}" if self.status < 0 else f"status {self.status}"
+        return f"{how}: {self.errors.decode(errors='replace').strip()[-300:]}"
+
+
+def is_right(run, whole, is_program):
+    """Whether a run in which a request was refused came to what it may, given the run in which none was."""
+    if (run.status, run.out, run.errors) == (whole.status, whole.out, whole.errors):
+        return True
+    is_told = run.status == 3 and run.errors == b"out of memory\n" and whole.out.startswith(run.out)
+    return is_program and is_told
+
+
+def parts(crate, path):
+    """The tests of a crate, or the scripts of a program: a name, the words of its command and its input."""
+    if crate in PROGRAMS:
+        scripts = [CRATES / crate / "stdin", *sorted((CRATES / "exchanges/data").glob("*.txt"))]
+        return [(f"{crate} < {it.relative_to(CRATES)}", [str(path)], it.read_bytes()) for it in scripts]
+    listed = subprocess.run([path, "--list"], check=True, capture_output=True, text=True).stdout
+    names = re.findall(r"^(\S+): test$", listed, re.M)
+    return [(f"{crate} {name}", [str(path), name], b"") for name in names]
+
+
+def tried(crate, path, shim, jobs):
+    """Tries a crate's tests or a program's scripts. Prints what came of them; returns how much went wrong."""
+    start = time.monotonic()
+    is_program = crate in PROGRAMS
+    works = parts(crate, path)
+    wrong, requests = [], 0
+    with concurrent.futures.ThreadPoolExecutor(jobs) as pool:
+        for work, whole in zip(works, list(pool.map(lambda it: Run(it, 0, shim), works))):
+            if not is_program and whole.status != 0:
+                wrong.append(f"{work[0]}: fails where nothing is refused: {whole.ending()}")
+                continue
+            numbers = range(1, whole.requests + 1)
+            requests += whole.requests
+            for number, run in zip(numbers, pool.map(lambda at: Run(work, at, shim), numbers)):
+                if not is_right(run, whole, is_program):
+                    wrong.append(f"{work[0]}: request {number} refused: {run.ending()}")
+    for line in wrong:
+        print(line)
+    what = "scripts" if is_program else "tests"
+    spent = time.monotonic() - start
+    print(f"{crate}: {len(works)} {what}, {requests} requests refused in turn, {len(wrong)} wrong, {spent:.0f} s", flush=True)
+    return len(wrong) + (requests == 0)
+
+
+def main(words):
+    over_gate = "--over-gate" in words
+    words = [it for it in words if it != "--over-gate"]
+    jobs = os.cpu_count() or 1
+    if "--jobs" in words:
+        place = words.index("--jobs")
+        jobs = int(words[place + 1])
+        del words[place : place + 2]
+    crates = words or [*TESTS, *PROGRAMS]
+    unknown = [it for it in crates if it not in TESTS + PROGRAMS]
+    if unknown:
+        print(f"refused.py knows {', '.join(TESTS + PROGRAMS)}, and not {', '.join(unknown)}", file=sys.stderr)
+        return 2
+    with tempfile.TemporaryDirectory() as folder:
+        shim = pathlib.Path(folder) / "refuse.so"
+        compiler = os.environ.get("CC", "cc")
+        subprocess.run([compiler, "-O2", "-shared", "-fPIC", "-o", shim, HERE / "refuse.c", "-ldl"], check=True)
+        wrong = sum(tried(crate, built(crate, over_gate), shim, jobs) for crate in crates)
+    return 1 if wrong else 0
+
+
+if __name__ == "__main__":
+    sys.exit(main(sys.argv[1:]))
