@@ -235,6 +235,22 @@ uint32_t iface_next(iface *host, int64_t now, uint8_t *out, size_t room, size_t 
  * one that has passed, if something is due at once, and IFACE_NEVER, if nothing is due. */
 uint32_t iface_poll_at(iface *host, int64_t now, int64_t *at);
 
+/* ---- the library ---- */
+
+/* The version of this header, an octet each: 0.14.0, and the header's number, which grows with each change of a call or a
+ * structure. A program compares it with iface_version() before its first call, and so learns of a library that isn't the
+ * header's. */
+#define IFACE_VERSION 0x000e0001u
+
+/* The version of the header that the library was built with. */
+uint32_t iface_version(void);
+
+/* The library's name, version and commit, as "fumitorygate 0.14.0 (8e6aa25f6c2d)". */
+const char *iface_build(void);
+
+/* What a code says, as "the queue is full"; "unknown code" for a number that is none. */
+const char *iface_strerror(uint32_t code);
+
 #ifdef __cplusplus
 }
 #endif

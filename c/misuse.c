@@ -57,7 +57,7 @@ static void refuses_configurations(void) {
     c = good, c.medium = IFACE_IP, c.frame_len = 576, wants("packets of 576", iface_new(&host, &c), IFACE_OK);
     iface copy = host;
     wants("new over a host", iface_new(&host, &good), IFACE_HAS_HOST);
-    wants("handle kept", memcmp(&copy, &host, sizeof host), 0);
+    wants("handle kept", memcmp(&copy, &host, sizeof host) == 0, 1);
     wants("free", iface_free(&host), IFACE_OK);
     wants("free again", iface_free(&host), IFACE_NO_HOST);
 }
@@ -102,7 +102,7 @@ static void refuses_addresses(iface *host) {
     for (uint8_t i = 2; i < 4; i++) a = v4(10, 0, i, 1), wants("address", iface_add_address(host, &a, 24), IFACE_OK);
     a = v4(10, 0, 9, 1), wants("fifth address", iface_add_address(host, &a, 24), IFACE_TABLE_FULL);
     wants("address 1", iface_address_at(host, 1, &read, &prefix), IFACE_OK);
-    a = v6(0xfe, 0x80, 1), wants("its octets", memcmp(&read, &a, sizeof a), 0);
+    a = v6(0xfe, 0x80, 1), wants("its octets", memcmp(&read, &a, sizeof a) == 0, 1);
     wants("its prefix", prefix, 64);
     wants("address 4", iface_address_at(host, 4, &read, &prefix), IFACE_NOT_THERE);
     wants("another prefix", iface_remove_address(host, &a, 65), IFACE_NOT_THERE);
@@ -177,7 +177,7 @@ static void refuses_sockets(iface *host) {
     wants("unopened socket", iface_waiting(host, 8, &a, &since), IFACE_NO_SOCKET);
     wants("nothing given up", iface_given_up(host, 0, &a), IFACE_EMPTY);
     wants("unopened socket", iface_given_up(host, 0xffffffff, &a), IFACE_NO_SOCKET);
-    wants("nothing written", since, 77);
+    wants("nothing written", (uint64_t)since, 77);
     wants("given up, of all", iface_given_up_count(host, &count), IFACE_OK);
     wants("their number", count, 0);
 }
@@ -197,6 +197,19 @@ static void refuses_frames(iface *host) {
     wants("empty frame", iface_receive(host, 0, big, 0, out, sizeof out, &n), IFACE_OK);
     wants("no answer", n, 0);
     wants("frame of 70000", iface_receive(host, 0, big, 70000, out, sizeof out, &n), IFACE_OK);
+}
+
+/* What the library says of itself, and of each code. */
+static void tells_of_itself(void) {
+    const char *unknown = iface_strerror(IFACE_BAD_TIMEOUT + 1);
+    wants("version", iface_version(), IFACE_VERSION);
+    wants("name", strncmp(iface_build(), "fumitorygate 0.14.0 (", 21) == 0, 1);
+    wants("a number that is no code", strcmp(unknown, "unknown code") == 0, 1);
+    wants("the greatest number", strcmp(iface_strerror(UINT32_MAX), unknown) == 0, 1);
+    for (uint32_t a = 0; a <= IFACE_BAD_TIMEOUT; a++) {
+        wants("a code", strcmp(iface_strerror(a), unknown) != 0, 1);
+        for (uint32_t b = 0; b < a; b++) wants("two codes", strcmp(iface_strerror(a), iface_strerror(b)) != 0, 1);
+    }
 }
 
 /* Noise, and noise behind good headers: no fault, and no frame longer than the room. */
@@ -238,6 +251,7 @@ static void takes_noise(iface *host, int frames) {
 int main(int argc, char **argv) {
     int frames = argc > 1 && strcmp(argv[1], "--short") == 0 ? 20000 : 300000;
     iface host = IFACE_NONE;
+    tells_of_itself();
     fill_in_good();
     refuses_configurations();
     refuses_without_host();

@@ -1,13 +1,12 @@
 #!/bin/bash
-# Runs tap_host on a TAP device in a network namespace of its own, and talks to it by ping and by tap_peer. It changes
+# Runs the examples on a TAP device in a network namespace of its own, and talks to them by ping and by tap_peer. It changes
 # nothing outside that namespace, and ends by itself after at most three minutes.
 #
-#   tap.sh TAP_HOST TAP_PEER      the built programs, of Linux
+#   tap.sh FOLDER      of the built programs, of Linux
 #
 # It needs: root (for the namespace and the device), unshare (util-linux), ip (iproute2), ping (iputils), /dev/net/tun.
 set -eu
-host=$(realpath "$1")
-peer=$(realpath "$2")
+folder=$(realpath "$1")
 
 need() {
     echo "tap.sh: this needs $1" >&2
@@ -21,24 +20,34 @@ if [ -z "${IS_INSIDE:-}" ]; then
     for tool in unshare ip ping; do
         command -v "$tool" >/dev/null || need "$tool"
     done
-    exec env IS_INSIDE=1 timeout 180 unshare -n -- "$0" "$host" "$peer"
+    exec env IS_INSIDE=1 timeout 180 unshare -n -- "$0" "$folder"
 fi
 
 ip link set lo up
 ip tuntap add dev tap0 mode tap
 ip addr add 192.168.69.100/24 dev tap0
 ip -6 addr add fd69::100/64 dev tap0 nodad
+ip -6 addr add fe80::100/64 dev tap0 nodad
 ip link set tap0 up
-"$host" tap0 170 &
-running=$!
-trap 'kill $running 2>/dev/null || true; wait $running || true' EXIT
-sleep 2 # until the kernel may use its link-local address
 
 status=0
 try() {
     echo "== $*"
     "$@" || status=1
 }
+
+running=
+start() {
+    "$@" &
+    running=$!
+}
+
+stop() {
+    kill "$running" 2>/dev/null || true
+    wait "$running" || true
+    running=
+}
+trap '[ -z "$running" ] || stop' EXIT
 
 # Three pings at once, none of which may lose a reply.
 three_at_a_time() {
@@ -48,6 +57,13 @@ three_at_a_time() {
     [ "$(grep -c ' 0% packet loss' <<<"$told")" = 3 ]
 }
 
+# It has to fail, since nobody answers.
+fails() {
+    ! "$@"
+}
+
+start "$folder/tap_host" tap0 170
+sleep 2 # until the kernel may use its link-local address
 try ping -c 3 -i 0.2 192.168.69.1
 try ping -c 3 -i 0.2 fd69::1
 try ping -c 3 -i 0.2 fe80::1%tap0
@@ -56,7 +72,19 @@ try ping -f -q -c 10000 fd69::1
 try ping -f -q -c 10000 -s 1472 192.168.69.1
 try ping -c 3 -i 0.2 -s 3000 192.168.69.1
 try three_at_a_time -c 20 -i 0.2 -s 3000 192.168.69.1
-try "$peer"
+try "$folder/tap_peer" host
+stop
 echo "== neighbours"
 ip neigh show dev tap0
+
+# A service with addresses from a router, which is tap_peer: prefix 2001:db8:69::/64.
+ip -6 addr add 2001:db8:69::100/64 dev tap0 nodad
+start "$folder/slaac_echo" tap0 30
+try "$folder/tap_peer" router
+stop
+
+# A neighbour that answers, and one that doesn't.
+try "$folder/ping" tap0 192.168.69.4 24 192.168.69.100 3
+try "$folder/ping" tap0 fe80::4 64 fe80::100 3
+try fails "$folder/ping" tap0 192.168.69.4 24 192.168.69.77 1
 exit $status

@@ -1,5 +1,9 @@
-/* The other end of tap_host, by the sockets of Linux: tries UDP echoes of all lengths over both families, groups, and
- * ports where nobody listens. It prints what it saw, and fails if something else came than was sent, or nothing. */
+/* The other end of the examples on a TAP device, by the sockets of Linux. It prints what it saw, and fails if something else came
+ * than was sent, or nothing.
+ *
+ *   tap_peer host        of tap_host: UDP echoes of all lengths over both families, groups, and ports where nobody listens
+ *   tap_peer router      of slaac_echo: advertises 2001:db8:69::/64 to who solicits, and then tries an echo at the new address
+ */
 #define _GNU_SOURCE
 #include <arpa/inet.h>
 #include <errno.h>
@@ -53,10 +57,10 @@ static void fill(uint8_t *octets, size_t length) {
 }
 
 /* All lengths from one to another, one at a time. */
-static void echo_lengths(const char *to, size_t first, size_t last) {
+static void echo_lengths(const char *to, uint16_t port, size_t first, size_t last) {
     static uint8_t sent[65536], got[65536];
     size_t equal = 0, wrong = 0, lost = 0;
-    int s = socket_to(to, 6969, 1, 2000);
+    int s = socket_to(to, port, 1, 2000);
     for (size_t length = first; length <= last; length++) {
         fill(sent, length);
         if (send(s, sent, length, 0) != (ssize_t)length) perror("send");
@@ -112,10 +116,38 @@ static void closed_port(const char *to) {
     close(s);
 }
 
-int main(void) {
-    echo_lengths("192.168.69.1", 0, 1472);
-    echo_lengths("fd69::1", 0, 1452);
-    echo_lengths("192.168.69.1", 1473, 4068); /* in pieces, both ways */
+/* Waits for a router solicitation (RFC 4861, 4.1), and advertises a prefix to all nodes (4.2, 4.6.2). Whether one came. */
+static int advertise(void) {
+    static const uint8_t advertisement[48] = {134, [4] = 64, [7] = 200, /* a router for 200 s */
+                                              [16] = 3, 4, 64, 0xc0, 0, 0, 2, 0, 0, 0, 1, 0, [32] = 0x20, 1, 0x0d, 0xb8, 0, 0x69};
+    int s = socket(AF_INET6, SOCK_RAW, IPPROTO_ICMPV6), hops = 255, came = 0;
+    struct timeval patience = {5, 0};
+    struct ipv6_mreq routers = {.ipv6mr_interface = if_nametoindex("tap0")};
+    struct sockaddr_in6 all = {.sin6_family = AF_INET6, .sin6_scope_id = if_nametoindex("tap0")};
+    uint8_t got[2048];
+    inet_pton(AF_INET6, "ff02::2", &routers.ipv6mr_multiaddr);
+    inet_pton(AF_INET6, "ff02::1", &all.sin6_addr);
+    setsockopt(s, SOL_SOCKET, SO_RCVTIMEO, &patience, sizeof patience);
+    setsockopt(s, IPPROTO_IPV6, IPV6_MULTICAST_HOPS, &hops, sizeof hops);
+    setsockopt(s, IPPROTO_IPV6, IPV6_JOIN_GROUP, &routers, sizeof routers);
+    while (!came && recv(s, got, sizeof got, 0) > 0) came = got[0] == 133;
+    if (sendto(s, advertisement, sizeof advertisement, 0, (struct sockaddr *)&all, sizeof all) != (ssize_t)sizeof advertisement)
+        perror("advertisement");
+    printf("router: %s, and advertised 2001:db8:69::/64\n", came ? "was solicited" : "no solicitation came");
+    close(s);
+    return came;
+}
+
+int main(int argc, char **argv) {
+    if (argc == 2 && strcmp(argv[1], "router") == 0) {
+        failures += !advertise();
+        sleep(1);
+        echo_lengths("2001:db8:69::ff:fe00:3", 7, 0, 100);
+        return failures != 0;
+    }
+    echo_lengths("192.168.69.1", 6969, 0, 1472);
+    echo_lengths("fd69::1", 6969, 0, 1452);
+    echo_lengths("192.168.69.1", 6969, 1473, 4068); /* in pieces, both ways */
     echo_many("192.168.69.1", 64, 20000);
     echo_many("fd69::1", 64, 20000);
     echo_group("239.69.69.69", 1);

@@ -76,7 +76,7 @@ static void round_trips(iface *a, uint32_t at_a, iface *b, uint32_t at_b, const 
 static void takes_turns(iface *a, uint32_t first, const struct iface_endpoint *to) {
     static const uint8_t wanted[] = {1, 2, 3, 1, 2, 3};
     uint32_t sockets[3] = {first};
-    uint8_t order[8];
+    uint8_t order[8] = {0};
     size_t n, count = 0;
     for (uint16_t i = 1; i < 3; i++) {
         struct iface_endpoint local = {{0, {0}}, (uint16_t)(3000 + i)};

@@ -54,7 +54,7 @@ static void echo(iface *host, uint32_t socket) {
     size_t length;
     while (iface_udp_receive(host, socket, &remote, payload, sizeof payload, &length) == IFACE_OK) {
         uint32_t code = iface_udp_send(host, socket, &remote, payload, length);
-        if (code != IFACE_OK) fprintf(stderr, "udp_echo: dropped, code %u\n", code);
+        if (code != IFACE_OK) fprintf(stderr, "udp_echo: dropped: %s\n", iface_strerror(code));
     }
 }
 
@@ -74,7 +74,7 @@ int main(void) {
     struct iface_endpoint any = {.port = PORT};
     uint32_t socket;
     setvbuf(stdin, NULL, _IONBF, 0); /* so that no line waits where poll doesn't see it */
-    if (iface_new(&host, &config) || iface_add_address(&host, &own, 24)
+    if (iface_version() != IFACE_VERSION || iface_new(&host, &config) || iface_add_address(&host, &own, 24)
         || iface_udp_open(&host, &any, QUEUE_PACKETS, QUEUE_OCTETS, &socket)) return 1;
     for (;;) {
         size_t n = 0;

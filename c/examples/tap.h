@@ -1,0 +1,106 @@
+/* What the examples on a TAP device of Linux share: the device, the clock, and sleeping until a frame comes or an instant. */
+#ifndef EXAMPLES_TAP_H
+#define EXAMPLES_TAP_H
+
+#ifndef _GNU_SOURCE
+#define _GNU_SOURCE
+#endif
+#include "iface.h"
+
+#include <arpa/inet.h>
+#include <fcntl.h>
+#include <linux/if.h>
+#include <linux/if_tun.h>
+#include <poll.h>
+#include <stdio.h>
+#include <stdlib.h>
+#include <string.h>
+#include <sys/ioctl.h>
+#include <time.h>
+#include <unistd.h>
+
+/* Ends the program where a call was refused. */
+static inline void must(const char *what, uint32_t code) {
+    if (code == IFACE_OK) return;
+    fprintf(stderr, "%s: %s\n", what, iface_strerror(code));
+    exit(1);
+}
+
+/* The clock, in microseconds. */
+static inline int64_t now_micros(void) {
+    struct timespec t;
+    clock_gettime(CLOCK_MONOTONIC, &t);
+    return (int64_t)t.tv_sec * 1000000 + t.tv_nsec / 1000;
+}
+
+/* An address by its text. */
+static inline struct iface_address address_of(const char *text) {
+    struct iface_address a = {.version = strchr(text, ':') ? 6 : 4};
+    if (inet_pton(a.version == 6 ? AF_INET6 : AF_INET, text, a.octets) != 1) must(text, IFACE_BAD_ADDRESS);
+    return a;
+}
+
+/* The text of an address, until the next call. */
+static inline const char *text_of(const struct iface_address *a) {
+    static char text[INET6_ADDRSTRLEN];
+    return inet_ntop(a->version == 6 ? AF_INET6 : AF_INET, a->octets, text, sizeof text);
+}
+
+/* The link-local address of a hardware address (RFC 4291 appendix A, RFC 4862 5.3). */
+static inline struct iface_address link_local_of(const uint8_t m[6]) {
+    struct iface_address a = {6, {0xfe, 0x80}};
+    const uint8_t identifier[8] = {m[0] ^ 2, m[1], m[2], 0xff, 0xfe, m[3], m[4], m[5]};
+    memcpy(a.octets + 8, identifier, sizeof identifier);
+    return a;
+}
+
+/* A TAP device, by its name: it exists, and is up. */
+static inline int open_tap(const char *name) {
+    struct ifreq wanted;
+    memset(&wanted, 0, sizeof wanted);
+    wanted.ifr_flags = IFF_TAP | IFF_NO_PI;
+    strncpy(wanted.ifr_name, name, IFNAMSIZ - 1);
+    int tap = open("/dev/net/tun", O_RDWR | O_NONBLOCK | O_CLOEXEC);
+    if (tap < 0 || ioctl(tap, TUNSETIFF, &wanted) < 0) {
+        perror("/dev/net/tun");
+        exit(1);
+    }
+    return tap;
+}
+
+/* Sends a frame: one that the device doesn't take is told of, and lost. */
+static inline void send_frame(int tap, const uint8_t *frame, size_t length) {
+    if (length > 0 && write(tap, frame, length) != (ssize_t)length) perror("write");
+}
+
+/* Sends all that a host has to send, and writes when it has to be asked again. */
+static inline void send_all(iface *host, int tap, int64_t *at) {
+    static uint8_t out[IFACE_FRAME_ROOM];
+    int64_t now = now_micros();
+    size_t length;
+    uint32_t code;
+    while ((code = iface_next(host, now, out, sizeof out, &length)) == IFACE_OK && length > 0) send_frame(tap, out, length);
+    if (code == IFACE_OK) must("poll_at", iface_poll_at(host, now, at));
+    else *at = now + 10000; /* no memory for a frame: again in a hundredth of a second */
+}
+
+/* Takes a frame, if there is one, and sends the response. Whether there was one. */
+static inline int take_frame(iface *host, int tap) {
+    static uint8_t frame[65536], out[IFACE_FRAME_ROOM];
+    size_t length;
+    ssize_t got = read(tap, frame, sizeof frame);
+    if (got <= 0) return 0;
+    must("receive", iface_receive(host, now_micros(), frame, (size_t)got, out, sizeof out, &length));
+    send_frame(tap, out, length);
+    return 1;
+}
+
+/* Sleeps until a frame comes, or an instant, or a signal. */
+static inline void sleep_until(int tap, int64_t at) {
+    struct pollfd wait = {.fd = tap, .events = POLLIN};
+    int64_t rest = at - now_micros();
+    int millis = at == IFACE_NEVER ? -1 : rest <= 0 ? 0 : rest < 3600000000 ? (int)((rest + 999) / 1000) : 3600000;
+    poll(&wait, 1, millis);
+}
+
+#endif

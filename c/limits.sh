@@ -1,0 +1,15 @@
+#!/bin/sh
+# Compares what was counted with what limits.txt allows, so that nothing grows unseen.
+#
+#   limits.sh COUNTED..      files of lines `NAME NUMBER`; prints each with its limit, and fails where one is above it, or has none
+set -eu
+awk 'FNR == 1 { file++ }
+    /^#/ || NF < 2 { next }
+    file == 1 { limit[$1] = $2; next }
+    {
+        name = $1 in limit ? $1 : $1 ~ /^iface_/ ? "call" : $1
+        told = !(name in limit) ? "has no limit" : $2 + 0 > limit[name] + 0 ? "is above its limit" : ""
+        printf "%-24s %7d of %7d %s\n", $1, $2, limit[name], told
+        bad = bad || told != ""
+    }
+    END { exit bad }' "$(dirname "$0")/limits.txt" "$@"

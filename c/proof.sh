@@ -1,0 +1,40 @@
+#!/bin/sh
+# Builds the proved library, and tells it from one that no proof made.
+#
+#   proof.sh make KEPT BUILT COMMAND..   runs COMMAND, which is to build BUILT. If its last verdict is `logic=proved`, BUILT is
+#                                        copied to KEPT; KEPT.proof gets that line, and the checksum of the library
+#   proof.sh check KEPT                  fails if KEPT isn't the library that KEPT.proof tells of
+set -eu
+
+refuse() {
+    echo "proof.sh: $1" >&2
+    exit 1
+}
+
+is_proved() {
+    case $1 in
+    'logic=proved '*) ;;
+    *) refuse "$kept: no proof made it: its build says '$1'" ;;
+    esac
+}
+
+verb=$1 kept=$2
+case $verb in
+make)
+    built=$3
+    shift 3
+    said=$kept.said
+    rm -f "$kept" "$kept.proof" "$said.failed"
+    { "$@" 2>&1 || : >"$said.failed"; } | tee "$said"
+    [ ! -e "$said.failed" ] || refuse "$kept: its build failed"
+    verdict=$(grep '^logic=' "$said" | tail -n 1)
+    is_proved "$verdict"
+    cp "$built" "$kept"
+    { echo "$verdict" && sha256sum <"$kept"; } >"$kept.proof"
+    ;;
+check)
+    [ -r "$kept.proof" ] || refuse "$kept: no proof made it"
+    is_proved "$(sed -n 1p "$kept.proof")"
+    [ "$(sed -n 2p "$kept.proof")" = "$(sha256sum <"$kept")" ] || refuse "$kept: it isn't the library that was proved"
+    ;;
+esac

@@ -1,0 +1,28 @@
+#!/bin/sh
+# Compares what the library wants from the program, and what it gives, with what C.md and iface.h say.
+#
+#   symbols.sh LIBRARY      libiface.a; NM names the tool
+set -eu
+here=$(dirname "$0")
+work=$(mktemp -d)
+trap 'rm -rf "$work"' EXIT
+
+# A symbol that a member of the library wants and none has. The heap's own wishes are those of heap.c.
+"${NM:-nm}" -g "$1" | awk '/^heap.o:/ { in_heap = 1 } /^[^ ]*:$/ && !/^heap.o:/ { in_heap = 0 } !in_heap && NF == 2 && $1 == "U" { print $2 }' |
+    sort -u >"$work/wanted"
+"${NM:-nm}" -g "$1" | awk 'NF == 3 && $2 ~ /[TDBRVW]/ { print $3 }' | sort -u >"$work/given"
+grep -v '^rattle_' "$work/given" >"$work/given_for_c"
+comm -23 "$work/wanted" "$work/given_for_c" >"$work/needed"
+printf '%s\n' memcpy memmove memset rattle_alloc rattle_dealloc rattle_realloc >"$work/told"
+# What the header declares.
+grep -o '\biface_[a-z_]*(' "$here/iface.h" | tr -d '(' | sort -u >"$work/declared"
+
+differ() {
+    diff "$1" "$2" >"$work/difference" && return
+    echo "symbols.sh: $3" >&2
+    cat "$work/difference" >&2
+    exit 1
+}
+differ "$work/told" "$work/needed" "what the library needs (<: as C.md says, >: as it is)"
+differ "$work/declared" "$work/given_for_c" "what it gives (<: as iface.h says, >: as it is)"
+echo "symbols: it needs $(tr '\n' ' ' <"$work/needed")and gives the $(wc -l <"$work/declared") functions of iface.h"
