@@ -5,8 +5,8 @@
 #
 #   over_gate.sh [-o FILE] [--target TRIPLE --toolchain FOLDER] [--backend rattle]
 #
-# With a target the library is for that processor: the libraries serve as they are, and the exported functions are proved for it.
-# toolchain.sh makes the folder. With the kit's other compiler the last line tells a bound on the stack: frame-bytes, stack-bytes.
+# With a target the library is for that processor, over the same libraries, and its verdict names that target. toolchain.sh makes
+# the folder. With the kit's other compiler the last line tells a bound on the stack: frame-bytes, stack-bytes.
 #
 # It needs the Rattle kit's `rt`, or what RT names. Where nothing was proved before, `rt lib` in crates/iface_c is the way.
 set -eu

@@ -1,16 +1,16 @@
 #!/bin/sh
-# Prints how many octets of code and of constants there are: of the whole library, and of the smallest program that echoes UDP and
-# answers ping over both families, examples/freestanding.c, of which all that isn't called is left out.
+# Prints how many octets of code and of constants there are: of the whole library, and of what the smallest program takes of it that
+# echoes UDP and answers ping. That is examples/freestanding.c, whose own code isn't counted.
 #
 #   size.sh FOLDER      of the built library and program
 set -eu
-sum() { # of what begins with these, in the tables of `size -A`
-    awk -v kind="$1" '$1 ~ "^\\.(" kind ")" { sum += $2 } END { print sum + 0 }'
+sum() { # of the sections that begin with one of these: sum WHICH FILE
+    size -A "$2" | awk -v which="$1" '$1 ~ "^\\.(" which ")" { sum += $2 } END { print sum + 0 }'
 }
-library=$(size -A "$1/libiface_c.a")
-program=$(size -A "$1/freestanding")
-echo "library-code $(echo "$library" | sum text)"
-echo "library-constants $(echo "$library" | sum rodata)"
-echo "library-data $(echo "$library" | sum 'data|bss')"
-echo "minimal-code $(echo "$program" | sum text)"
-echo "minimal-constants $(echo "$program" | sum rodata)"
+
+echo "library-code $(sum text "$1/libiface_c.a")"
+echo "library-constants $(sum rodata "$1/libiface_c.a")"
+echo "library-data $(sum 'data|bss' "$1/libiface_c.a")"
+
+echo "minimal-code $(($(sum text "$1/freestanding") - $(sum text "$1/freestanding.o")))"
+echo "minimal-constants $(($(sum rodata "$1/freestanding") - $(sum rodata "$1/freestanding.o")))"

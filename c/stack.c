@@ -217,7 +217,7 @@ static void packet6(uint8_t next, bool is_to_all, const uint8_t *data, size_t n,
     sum_into(p + 40 + from + sum_at, p + 40 + from, n - from, pseudo);
 }
 
-enum { KINDS = 24 };
+enum { KINDS = 25 };
 
 /* The frame of a kind. */
 static void fill_in(int kind) {
@@ -261,6 +261,9 @@ static void fill_in(int kind) {
         break;
     case 21: memset(d, 0, 16), d[0] = 17, d[2] = 0xde, d[3] = 4; packet6(0, false, d, 16, 0, 0, 0); break;
     case 22: packet6(253, false, d, 100, 0, 0, 0); break;
+    case 23: /* short pieces in any order, with gaps */
+        memset(d, 0, 16), packet4(17, (uint16_t)((word() % 8 ? 0x2000 : 0) | word() % 40), d, 8, 0, false);
+        break;
     default: /* a port unreachable for a datagram from port 7 */
         memset(d, 0, 36), d[0] = 3, d[1] = 3;
         memcpy(d + 8, "\105\0\0\34\0\0\0\0\100\21\0\0\300\250\105\1\300\250\105\2\0\7\0\11\0\10\0\0", 28);
@@ -293,6 +296,8 @@ static void set_up(uint8_t medium) {
     address = v4(192, 168, 69, 2), MUST(set_default_route), MUST(set_default_route);
     address = v4(172, 16, 0, 0), other = v4(192, 168, 69, 2), prefix_len = 12, MUST(add_route), MUST(remove_route), MUST(add_route);
     address = v6(0x20, 1, 0), other = v6(0xfe, 0x80, 2), prefix_len = 48, MUST(add_route);
+    address = v4(192, 168, 69, 2), MUST(set_default_route); /* in place of the first one */
+    address = v4(172, 16, 0, 0), other = v4(192, 168, 69, 2), prefix_len = 12, MUST(remove_route), MUST(add_route);
     end.address.version = 0, end.port = 7, MUST(udp_open); /* 0 */
     protocol = 253, MUST(raw_open);                        /* 1 */
     ident = 42, MUST(icmp_open_ident);                     /* 2 */

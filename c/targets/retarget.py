@@ -1,10 +1,11 @@
 #!/usr/bin/env python3
 """Makes a module of another processor out of the one that module.sh writes.
 
-usage: retarget.py IN.ll OUT.ll TARGET      x86-64, aarch64, riscv64, thumb or riscv32
+usage: retarget.py IN.ll OUT.ll TARGET [small]      TARGET: x86-64, aarch64, riscv64, thumb or riscv32
 
 What is changed: the triple, the data layout, and the attributes that name a processor. On riscv64 results of 32 bits are marked as its
 convention wants. On processors of 32 bits pointers alone are shorter: each keeps its place of 8 octets, and numbers their 64 bits.
+With `small` no function has to be inlined, and each is compiled for its size.
 """
 import re
 import sys
@@ -42,7 +43,7 @@ def shortened(text):
 
 
 def main():
-    source, out, name = sys.argv[1:]
+    source, out, name, *how = sys.argv[1:]
     triple, layout = TARGETS[name]
     text = open(source).read()
     text = re.sub(r'^target triple = ".*"$', f'target triple = "{triple}"', text, flags=re.M)
@@ -53,6 +54,9 @@ def main():
         text = shortened(text)
     if name == "riscv64":
         text = re.sub(r"^(define (?:dso_local )?(?:noundef )?)(i32 @iface_)", r"\1signext \2", text, flags=re.M)
+    if how == ["small"]:
+        text = text.replace(" alwaysinline", "").replace(" inlinehint", "")
+        text = re.sub(r"^(attributes #\d+ = \{ )", r"\1optsize ", text, flags=re.M)
     open(out, "w").write(text)
 
 

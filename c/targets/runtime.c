@@ -54,6 +54,10 @@ unsigned long long __udivdi3(unsigned long long a, unsigned long long b) {
     unsigned long long rest;
     return divide(a, b, &rest);
 }
+unsigned long long __umoddi3(unsigned long long a, unsigned long long b) {
+    unsigned long long rest;
+    return divide(a, b, &rest), rest;
+}
 #endif
 
 #if defined(__arm__)
@@ -104,7 +108,7 @@ void *heap_change(void *old, size_t size) {
 }
 
 #if __SIZEOF_POINTER__ == 8
-/* The library's three functions; on processors of 32 bits they are in heap32.ll. */
+/* The library's three functions; on processors of 32 bits they are in heap32.same.ll. */
 struct block { unsigned char is_there; void *at; };
 static char none;
 static struct block told(void *at) { return (struct block){at != 0, at ? at : &none}; }

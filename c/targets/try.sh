@@ -18,7 +18,7 @@ for target in x86-64 aarch64 riscv64 thumb riscv32; do
         echo "$target: no $run here"
         continue
     fi
-    "$here/program.sh" "$module" $target -Os "$folder/$target"
+    "$here/program.sh" "$module" $target small "$folder/$target"
     $run "$folder/$target" <"$folder/frames" >"$folder/$target.out" || { echo "$target: status $?" && status=1; }
     echo "$target: $(wc -l <"$folder/$target.out") lines, $(size -A "$folder/$target" | awk '/^\.text/ { print $2 }') octets of code"
     cmp "$folder/x86-64.out" "$folder/$target.out" || status=1
