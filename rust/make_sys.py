@@ -1,0 +1,149 @@
+#!/usr/bin/env python3
+"""Makes src/sys.rs out of iface.h, with the header's comments as docs.
+
+  make_sys.py IFACE_H            writes src/sys.rs
+  make_sys.py IFACE_H --check    tells whether src/sys.rs is what it would write
+
+It knows the forms that iface.h has, and stops at any other."""
+import os
+import re
+import sys
+
+OWN = os.path.join(os.path.dirname(os.path.abspath(__file__)), "src", "sys.rs")
+TYPES = {
+    "uint8_t": "u8", "uint16_t": "u16", "uint32_t": "u32", "uint64_t": "u64", "int64_t": "i64", "size_t": "usize",
+    "char": "c_char", "void": "c_void", "iface": "iface", "struct iface_address": "iface_address",
+    "struct iface_endpoint": "iface_endpoint", "struct iface_config": "iface_config",
+}
+HEAD = """//! `c/iface.h`, declared: made by `make_sys.py`, with the comments of the header.
+//!
+//! Calling any of it is `unsafe`: the header says what the caller keeps. [`Host`](crate::Host) keeps it.
+//!
+//! Sum of the header: {sum:#018x}
+#![allow(non_camel_case_types)]
+"""
+COMMENT = re.compile(r"/\*.*?\*/", re.S)
+
+
+def header_sum(header):
+    """FNV-1a of the header's declarations: without comments, and with one blank between words."""
+    total = 0xcbf29ce484222325
+    for octet in " ".join(COMMENT.sub(" ", header).split()).encode():
+        total = (total ^ octet) * 0x100000001b3 % 2**64
+    return total
+
+
+def told(comment):
+    """The text of a comment, in one line for each paragraph."""
+    text = re.sub(r"\n[ \t]*\* ?", "\n", comment.strip()[2:-2]).strip()
+    return [" ".join(part.split()) for part in re.split(r"\n\s*\n", text)]
+
+
+def docs(comment, indent=""):
+    """A comment as docs: names of the header and of parameters as code."""
+    lines = []
+    for part in told(comment):
+        part = re.sub(r"(\*?\b(?:IFACE_\w+|iface_\w+(?:\.\w+)?(?:\(\))?))", r"`\1`", part.replace("`", ""))
+        part = re.sub(r"(?<!`)(\*\w+)", r"`\1`", part)
+        lines += ([f"{indent}///"] if lines else []) + [f"{indent}/// {part}"]
+    return lines
+
+
+def declared(text):
+    """A type, a name and, of an array, its length, as Rust has them."""
+    m = re.fullmatch(r"(const )?((?:struct )?\w+) (\*?)(\w+)(?:\[(\d+)\])?", " ".join(text.split()))
+    if not m or m[2] not in TYPES:
+        raise SystemExit(f"make_sys.py: {text!r} is no form that it knows")
+    kind = TYPES[m[2]]
+    if m[3]:
+        kind = ("*const " if m[1] else "*mut ") + kind
+    return m[4], f"[{kind}; {m[5]}]" if m[5] else kind
+
+
+def constants(header):
+    """The enums and numbers."""
+    out = []
+    for name, body in re.findall(r"enum (\w+) \{(.*?)\};", header, flags=re.S):
+        kind = "u32" if name == "iface_code" else "u8"
+        for one in re.finditer(r"(\w+) = (\d+),?\s*(/\*.*?\*/)?", body, flags=re.S):
+            out += docs(one[3]) if one[3] else [f"/// `{name}`."]
+            out += [f"pub const {one[1]}: {kind} = {one[2]};"]
+        out.append("")
+    room = re.search(r"#define IFACE_FRAME_ROOM (\d+)\n", header)[1]
+    last = re.search(r"#define IFACE_LAST_MOMENT \(\(int64_t\)1 << (\d+)\)\n", header)[1]
+    assert "#define IFACE_NEVER INT64_MAX\n" in header and "#define IFACE_NONE {0, NULL}\n" in header
+    out += ["/// The room that `iface_receive` and `iface_next` need for a frame, in octets.",
+            f"pub const IFACE_FRAME_ROOM: usize = {room};",
+            "/// The last moment, in microseconds.", f"pub const IFACE_LAST_MOMENT: i64 = 1 << {last};",
+            "/// The instant that stands for none.", "pub const IFACE_NEVER: i64 = i64::MAX;"]
+    version = re.search(r"#define IFACE_VERSION (0x[0-9a-f]+)u\n", header)
+    if version:
+        out += ["/// The version of the header.", f"pub const IFACE_VERSION: u32 = {version[1]};"]
+    known = {"IFACE_H", "IFACE_FRAME_ROOM", "IFACE_LAST_MOMENT", "IFACE_NEVER", "IFACE_NONE", "IFACE_VERSION"}
+    other = set(re.findall(r"#define (\w+)", header)) - known
+    if other:
+        raise SystemExit(f"make_sys.py: it doesn't know {sorted(other)}")
+    return out + [""]
+
+
+def structures(header):
+    """The structures, and their sizes as the header asserts them."""
+    out, names = [], []
+    form = r"(/\*(?:(?!\*/).)*\*/)\n(typedef )?struct (\w+) \{\n(.*?)\n\}"
+    for comment, is_handle, name, body in re.findall(form, header, flags=re.S):
+        names.append(name)
+        out += docs(comment) + ["#[repr(C)]"]
+        out += ["#[derive(Debug)]" if is_handle else "#[derive(Clone, Copy, Debug)]", f"pub struct {name} {{"]
+        for one in re.finditer(r"([^;/]+);\s*(/\*.*?\*/)?", body, flags=re.S):
+            field, kind = declared(one[1])
+            if not is_handle:
+                out += docs(one[2], "    ") if one[2] else [f"    /// `{field}`."]
+            out.append(f"    {'' if is_handle else 'pub '}{field}: {kind},")
+        out += ["}", ""]
+    out += ["impl iface {", "    /// A handle that owns no host.",
+            "    pub const NONE: iface = iface {", "        tag: 0,", "        at: core::ptr::null_mut(),", "    };", "}", ""]
+    sizes = re.findall(r"sizeof\((?:struct )?(\w+)\) == (\d+)", header)
+    assert sorted(name for name, _ in sizes) == sorted(names) and len(names) == header.count("struct ") - len(
+        re.findall(r"struct \w+ [*&]?\w+|struct \w+\)|\(struct iface\)", header)), "a structure that it didn't read"
+    return out + [f"const _: () = assert!(size_of::<{name}>() == {size});" for name, size in sizes] + [""]
+
+
+def calls(header):
+    """The calls. One without a comment of its own has that of the calls before it."""
+    out, group = ['unsafe extern "C" {'], None
+    form = r"(/\*(?:(?!\*/).)*\*/)(?=\n)|^(uint32_t |void |const char \*)(\w+)\(([^)]*)\);"
+    begin = header.index("/* ---- hosts ---- */")
+    count = 0
+    for comment, kind, name, parameters in re.findall(form, header[begin:], flags=re.S | re.M):
+        if comment:
+            group = None if comment.startswith("/* ----") and "\n" not in comment else comment
+            continue
+        count += 1
+        out += docs(group, "    ") if group else [f"    /// `{name}`."]
+        named = [] if parameters == "void" else [": ".join(declared(one)) for one in parameters.split(",")]
+        result = {"uint32_t ": " -> u32", "void ": "", "const char *": " -> *const c_char"}[kind]
+        out.append(f"    pub fn {name}({', '.join(named)}){result};")
+    assert count == len(re.findall(r"\biface_\w+\(", COMMENT.sub(" ", header))), "a call that it didn't read"
+    return out + ["}", ""]
+
+
+def make(header):
+    body = "\n".join(constants(header) + structures(header) + calls(header))
+    used = [name for name in ("c_char", "c_void") if re.search(rf"\b{name}\b", body)]
+    use = "use core::ffi::" + (used[0] if len(used) == 1 else "{" + ", ".join(used) + "}") + ";\n"
+    return HEAD.format(sum=header_sum(header)) + "\n" + use + "\n" + body
+
+
+def main():
+    with open(sys.argv[1]) as file:
+        made = make(file.read())
+    if sys.argv[2:] == ["--check"]:
+        with open(OWN) as file:
+            if file.read() != made:
+                raise SystemExit(f"src/sys.rs isn't what make_sys.py makes of {sys.argv[1]}: run it without --check")
+        return
+    with open(OWN, "w") as file:
+        file.write(made)
+
+
+main()

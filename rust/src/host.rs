@@ -1,0 +1,560 @@
+//! The library's calls, as safe methods. Nothing else of this crate calls it.
+//!
+//! What `iface.h` asks of its caller, and what keeps it here:
+//!
+//! | Asked | Kept by |
+//! |---|---|
+//! | a handle begins as `IFACE_NONE`, is only written by the library, and isn't copied | `raw` is private and neither `Copy` nor `Clone`; `Host::new` alone makes one; after a move nothing is left that can be used |
+//! | one call at a time | each method takes `&mut self` |
+//! | no pointer is null, lengths are true | pointers and lengths are those of references and slices |
+//! | nothing overlaps | a `&mut` excludes any other reference to the same octets |
+//! | each call may be in another thread | `Send`; not `Sync`, which `&mut self` makes useless |
+//! | malloc and the like of one allocator, not in a signal handler or a forked child | the program's: in Rust both are `unsafe` to get into |
+use crate::sys;
+use crate::time::{Duration, Instant};
+use crate::wire::{
+    EthernetAddress, HardwareAddress, IpAddress, IpCidr, IpEndpoint, IpListenEndpoint, IpProtocol, IpVersion, Ipv4Cidr,
+    Ipv6Cidr,
+};
+use core::fmt;
+
+/// The octets of the longest frame.
+pub const FRAME_ROOM: usize = sys::IFACE_FRAME_ROOM;
+
+/// A buffer for a frame.
+pub type Frame = [u8; FRAME_ROOM];
+
+/// Why a call was refused. It has changed nothing.
+#[derive(Clone, Copy, Debug, PartialEq, Eq)]
+#[non_exhaustive]
+pub enum Error {
+    /// A medium that isn't the device's.
+    BadArgument,
+    /// The allocator refused.
+    NoMemory,
+    /// Frames too short for IP packets of 576 octets, or longer than [`FRAME_ROOM`].
+    BadMtu,
+    /// A hardware address or an own address that can't be one.
+    NotUnicast,
+    /// A destination that is unspecified, or an address that is no group's.
+    BadAddress,
+    /// No such address or route.
+    NotThere,
+    /// Four addresses, four routes or eight groups are there, or all sockets are open.
+    TableFull,
+    /// No socket of this kind is open by this number.
+    NoSocket,
+    /// Port 0.
+    BadPort,
+    /// A packet that is longer than is ever sent.
+    TooLong,
+    /// The socket's queue has no room for the packet: frames that are sent make some.
+    QueueFull,
+    /// No packet came.
+    Empty,
+    /// The packet that came is longer than the buffer. It stays.
+    NoRoom,
+    /// A timeout for fragments that is zero, or longer than a day.
+    BadTimeout,
+    /// A code of the library that can't come of what this crate passes.
+    Other(u32),
+}
+
+impl fmt::Display for Error {
+    fn fmt(&self, f: &mut fmt::Formatter<'_>) -> fmt::Result {
+        f.write_str(match self {
+            Error::BadArgument => "the hardware address isn't of the device's medium",
+            Error::NoMemory => "no memory",
+            Error::BadMtu => "frames of this length are not supported",
+            Error::NotUnicast => "the address is not unicast",
+            Error::BadAddress => "the address is unspecified, or no group's",
+            Error::NotThere => "no such address or route",
+            Error::TableFull => "the table is full",
+            Error::NoSocket => "no such socket is open",
+            Error::BadPort => "the port is 0",
+            Error::TooLong => "the packet is too long to be sent",
+            Error::QueueFull => "the queue is full",
+            Error::Empty => "no packet came",
+            Error::NoRoom => "the buffer is shorter than the packet",
+            Error::BadTimeout => "the timeout is zero, or longer than a day",
+            Error::Other(code) => return write!(f, "code {code}"),
+        })
+    }
+}
+
+impl core::error::Error for Error {}
+
+fn answer(code: u32) -> Result<(), Error> {
+    Err(match code {
+        sys::IFACE_OK => return Ok(()),
+        sys::IFACE_BAD_ARGUMENT => Error::BadArgument,
+        sys::IFACE_NO_MEMORY => Error::NoMemory,
+        sys::IFACE_BAD_MTU => Error::BadMtu,
+        sys::IFACE_NOT_UNICAST => Error::NotUnicast,
+        sys::IFACE_BAD_ADDRESS => Error::BadAddress,
+        sys::IFACE_NOT_THERE => Error::NotThere,
+        sys::IFACE_TABLE_FULL => Error::TableFull,
+        sys::IFACE_NO_SOCKET => Error::NoSocket,
+        sys::IFACE_BAD_PORT => Error::BadPort,
+        sys::IFACE_TOO_LONG => Error::TooLong,
+        sys::IFACE_QUEUE_FULL => Error::QueueFull,
+        sys::IFACE_EMPTY => Error::Empty,
+        sys::IFACE_NO_ROOM => Error::NoRoom,
+        sys::IFACE_BAD_TIMEOUT => Error::BadTimeout,
+        other => Error::Other(other),
+    })
+}
+
+/// `None` for a queue without a packet, or a socket that doesn't wait.
+fn unless_empty(done: Result<(), Error>) -> Result<bool, Error> {
+    match done {
+        Ok(()) => Ok(true),
+        Err(Error::Empty) => Ok(false),
+        Err(error) => Err(error),
+    }
+}
+
+const NO_ADDRESS: sys::iface_address = sys::iface_address { version: 0, octets: [0; 16] };
+
+fn to_c(address: &IpAddress) -> sys::iface_address {
+    let mut own = NO_ADDRESS;
+    match address {
+        IpAddress::Ipv4(address) => {
+            own.version = 4;
+            own.octets[..4].copy_from_slice(&address.octets());
+        }
+        IpAddress::Ipv6(address) => {
+            own.version = 6;
+            own.octets = address.octets();
+        }
+    }
+    own
+}
+
+fn from_c(address: &sys::iface_address) -> IpAddress {
+    let [a, b, c, d, ..] = address.octets;
+    match address.version {
+        6 => IpAddress::Ipv6(address.octets.into()),
+        _ => IpAddress::v4(a, b, c, d),
+    }
+}
+
+fn end_to_c(end: &IpEndpoint) -> sys::iface_endpoint {
+    sys::iface_endpoint { address: to_c(&end.addr), port: end.port }
+}
+
+fn listen_to_c(end: &IpListenEndpoint) -> sys::iface_endpoint {
+    sys::iface_endpoint { address: end.addr.as_ref().map_or(NO_ADDRESS, to_c), port: end.port }
+}
+
+/// How a host is to be made: [`Settings::new`] has what most programs want.
+#[derive(Clone, Copy, Debug, PartialEq, Eq)]
+#[non_exhaustive]
+pub struct Settings {
+    /// The seed of its random words, which need not be secret: another for each host and each start.
+    pub random_seed: u64,
+    /// Its hardware address, and with it its medium.
+    pub hardware_addr: HardwareAddress,
+    /// The octets of the longest frame: on Ethernet 590 to 1514 with its header, else 576 to 1514.
+    pub frame_len: u32,
+    /// Whether it takes addresses and routes from IPv6 routers (RFC 4862).
+    pub slaac: bool,
+    /// How many sockets may be open at once. Memory for their places is taken at once.
+    pub sockets: u32,
+    /// How long a packet waits for a neighbour that doesn't answer, before it is given up. Zero is for ever: then one such packet stops its
+    /// socket.
+    pub patience: Duration,
+    /// How long fragments of a packet wait for the others: not zero, at most a day.
+    pub reassembly_timeout: Duration,
+}
+
+impl Settings {
+    /// What `iface_config_init` writes: frames of 1514 octets, 8 sockets, no addresses from routers, a patience of three seconds, ten
+    /// seconds for fragments, and the seed 0.
+    pub fn new(hardware_addr: HardwareAddress) -> Settings {
+        let mut config = sys::iface_config {
+            seed: 0,
+            patience: 0,
+            reassembly_timeout: 0,
+            frame_len: 0,
+            sockets: 0,
+            hardware_address: [0; 6],
+            medium: 0,
+            slaac: 0,
+        };
+        // SAFETY: the pointer is that of a reference to a whole configuration, which is written.
+        unsafe { sys::iface_config_init(&mut config) };
+        Settings {
+            random_seed: config.seed,
+            hardware_addr,
+            frame_len: config.frame_len,
+            slaac: config.slaac != 0,
+            sockets: config.sockets,
+            patience: Duration::from_micros(config.patience),
+            reassembly_timeout: Duration::from_micros(config.reassembly_timeout),
+        }
+    }
+
+    fn to_c(self) -> sys::iface_config {
+        let (medium, hardware_address) = match self.hardware_addr {
+            HardwareAddress::Ethernet(EthernetAddress(octets)) => (sys::IFACE_ETHERNET, octets),
+            HardwareAddress::Ip => (sys::IFACE_IP, [0; 6]),
+        };
+        sys::iface_config {
+            seed: self.random_seed,
+            patience: self.patience.total_micros(),
+            reassembly_timeout: self.reassembly_timeout.total_micros(),
+            frame_len: self.frame_len,
+            sockets: self.sockets,
+            hardware_address,
+            medium,
+            slaac: u8::from(self.slaac),
+        }
+    }
+}
+
+/// A host on a network: the library's own calls. It needs no allocator in Rust, and goes from thread to thread.
+///
+/// One call at a time, whatever safe code tries. It can't be shared:
+///
+/// ```compile_fail,E0277
+/// fn shared<T: Sync>() {}
+/// shared::<fumitorygate::Host>();
+/// ```
+///
+/// copied:
+///
+/// ```compile_fail,E0382
+/// fn twice(host: fumitorygate::Host) -> (fumitorygate::Host, fumitorygate::Host) {
+///     (host, host)
+/// }
+/// ```
+///
+/// ```compile_fail,E0599
+/// fn twice(host: &fumitorygate::Host) -> fumitorygate::Host {
+///     Clone::clone(host).clone()
+/// }
+/// fn cloned(host: fumitorygate::Host) -> fumitorygate::Host {
+///     host.clone()
+/// }
+/// ```
+///
+/// made otherwise, or taken apart:
+///
+/// ```compile_fail,E0451
+/// let host = fumitorygate::Host { raw: fumitorygate::sys::iface::NONE };
+/// ```
+///
+/// ```compile_fail,E0616
+/// fn handle(host: &mut fumitorygate::Host) -> &mut fumitorygate::sys::iface {
+///     &mut host.raw
+/// }
+/// ```
+///
+/// called while a frame of it is still read:
+///
+/// ```compile_fail,E0502
+/// use fumitorygate::{Frame, Host, time::Instant};
+/// fn in_place(host: &mut Host, frame: &mut Frame) {
+///     let _ = host.receive(Instant::ZERO, &frame[..], frame);
+/// }
+/// ```
+///
+/// ```compile_fail,E0499
+/// use fumitorygate::{Frame, Host, time::Instant};
+/// fn two_frames<'f>(host: &mut Host, out: &'f mut Frame) -> (Option<&'f [u8]>, Option<&'f [u8]>) {
+///     (host.next(Instant::ZERO, out).unwrap(), host.next(Instant::ZERO, out).unwrap())
+/// }
+/// ```
+///
+/// given a short buffer, or used when it is gone:
+///
+/// ```compile_fail,E0308
+/// fn short(host: &mut fumitorygate::Host) {
+///     let _ = host.next(fumitorygate::time::Instant::ZERO, &mut [0; 1513]);
+/// }
+/// ```
+///
+/// ```compile_fail,E0382
+/// fn freed(mut host: fumitorygate::Host) {
+///     drop(host);
+///     let _ = host.close(0);
+/// }
+/// ```
+///
+/// It does go to another thread:
+///
+/// ```
+/// fn crosses<T: Send>() {}
+/// crosses::<fumitorygate::Host>();
+/// ```
+#[derive(Debug)]
+pub struct Host {
+    raw: sys::iface,
+}
+
+// SAFETY: `iface.h` says that each call may be in another thread, and that two handles share nothing. No method takes `&self`.
+unsafe impl Send for Host {}
+
+impl Drop for Host {
+    fn drop(&mut self) {
+        // SAFETY: `raw` is a handle of the library's, as each call leaves it, and isn't used after this.
+        let _ = unsafe { sys::iface_free(&mut self.raw) };
+    }
+}
+
+/// A call of the library on a host's handle. Its pointers are all made from references or slices in the call itself.
+macro_rules! call {
+    ($host:ident . $name:ident ( $($argument:expr),* )) => {
+        // SAFETY: the handle is the library's and borrowed for this call. Pointers and lengths are those of references and slices, so they
+        // are not null, are as long as is said, and don't overlap where one is written.
+        answer(unsafe { sys::$name(&mut $host.raw, $($argument),*) })
+    };
+}
+
+impl Host {
+    /// Makes a host.
+    ///
+    /// # Errors
+    /// [`Error::NotUnicast`] (the hardware address), [`Error::BadMtu`], [`Error::BadTimeout`], [`Error::NoMemory`].
+    pub fn new(settings: &Settings) -> Result<Host, Error> {
+        let mut host = Host { raw: sys::iface::NONE };
+        call!(host.iface_new(&settings.to_c()))?;
+        Ok(host)
+    }
+
+    /// Adds an own address with its network behind the others, and forgets all neighbours.
+    ///
+    /// # Errors
+    /// [`Error::TableFull`] if there are four, [`Error::NotUnicast`] if it is neither unicast nor unspecified.
+    pub fn add_address(&mut self, cidr: IpCidr) -> Result<(), Error> {
+        call!(self.iface_add_address(&to_c(&cidr.address()), cidr.prefix_len()))
+    }
+
+    /// Takes out the first own address that is this one with this prefix, and forgets all neighbours.
+    ///
+    /// # Errors
+    /// [`Error::NotThere`].
+    pub fn remove_address(&mut self, cidr: IpCidr) -> Result<(), Error> {
+        call!(self.iface_remove_address(&to_c(&cidr.address()), cidr.prefix_len()))
+    }
+
+    /// The own address at an index of their list, those from routers included. `None` beyond the last one.
+    pub fn address_at(&mut self, index: u32) -> Option<IpCidr> {
+        let (mut address, mut prefix_len) = (NO_ADDRESS, 0);
+        call!(self.iface_address_at(index, &mut address, &mut prefix_len)).ok()?;
+        Some(match from_c(&address) {
+            IpAddress::Ipv4(address) => IpCidr::Ipv4(Ipv4Cidr::new(address, prefix_len.min(32))),
+            IpAddress::Ipv6(address) => IpCidr::Ipv6(Ipv6Cidr::new(address, prefix_len.min(128))),
+        })
+    }
+
+    /// Joins a group: from now on packets to it are taken, and routers are told of it.
+    ///
+    /// # Errors
+    /// [`Error::BadAddress`] if it is no group's, [`Error::TableFull`] if there are eight.
+    pub fn join_group(&mut self, group: IpAddress) -> Result<(), Error> {
+        call!(self.iface_join_group(&to_c(&group)))
+    }
+
+    /// Leaves a group, if the host is in it.
+    ///
+    /// # Errors
+    /// [`Error::BadAddress`] if it is no group's.
+    pub fn leave_group(&mut self, group: IpAddress) -> Result<(), Error> {
+        call!(self.iface_leave_group(&to_c(&group)))
+    }
+
+    /// Sets the default route of the gateway's version, in place of the first one that is there.
+    ///
+    /// # Errors
+    /// [`Error::TableFull`] if there are four routes, none of which is replaced.
+    pub fn set_default_route(&mut self, gateway: IpAddress) -> Result<(), Error> {
+        call!(self.iface_set_default_route(&to_c(&gateway)))
+    }
+
+    /// Adds a route to a network by a router. The longest prefix wins, of equal ones the last.
+    ///
+    /// # Errors
+    /// [`Error::TableFull`] if there are four routes.
+    pub fn add_route(&mut self, network: IpCidr, router: IpAddress) -> Result<(), Error> {
+        call!(self.iface_add_route(&to_c(&network.address()), network.prefix_len(), &to_c(&router)))
+    }
+
+    /// Takes out the first route to a network.
+    ///
+    /// # Errors
+    /// [`Error::NotThere`].
+    pub fn remove_route(&mut self, network: IpCidr) -> Result<(), Error> {
+        call!(self.iface_remove_route(&to_c(&network.address()), network.prefix_len()))
+    }
+
+    /// Opens a UDP socket, and returns the number that names it. Its two queues hold so many packets each, with so many octets together.
+    ///
+    /// # Errors
+    /// [`Error::BadPort`], [`Error::TableFull`] if all of [`Settings::sockets`] are open, [`Error::NoMemory`].
+    pub fn udp_open(&mut self, local: IpListenEndpoint, packets: u32, octets: u32) -> Result<u32, Error> {
+        let mut socket = 0;
+        call!(self.iface_udp_open(&listen_to_c(&local), packets, octets, &mut socket))?;
+        Ok(socket)
+    }
+
+    /// Opens a raw socket for whole packets of a version of IP and a protocol, with queues as [`udp_open`](Host::udp_open)'s.
+    ///
+    /// # Errors
+    /// [`Error::TableFull`], [`Error::NoMemory`].
+    pub fn raw_open(
+        &mut self,
+        version: IpVersion,
+        protocol: IpProtocol,
+        packets: u32,
+        octets: u32,
+    ) -> Result<u32, Error> {
+        let number = match version {
+            IpVersion::Ipv4 => 4,
+            IpVersion::Ipv6 => 6,
+        };
+        let mut socket = 0;
+        call!(self.iface_raw_open(number, protocol.into(), packets, octets, &mut socket))?;
+        Ok(socket)
+    }
+
+    /// Opens an ICMP socket for echo messages of either version with an identifier, with queues as [`udp_open`](Host::udp_open)'s.
+    ///
+    /// # Errors
+    /// [`Error::TableFull`], [`Error::NoMemory`].
+    pub fn icmp_open_ident(&mut self, ident: u16, packets: u32, octets: u32) -> Result<u32, Error> {
+        let mut socket = 0;
+        call!(self.iface_icmp_open_ident(ident, packets, octets, &mut socket))?;
+        Ok(socket)
+    }
+
+    /// Opens an ICMP socket for port unreachables that answer datagrams from this port, with queues as [`udp_open`](Host::udp_open)'s.
+    ///
+    /// # Errors
+    /// [`Error::TableFull`], [`Error::NoMemory`].
+    pub fn icmp_open_port(&mut self, port: u16, packets: u32, octets: u32) -> Result<u32, Error> {
+        let mut socket = 0;
+        call!(self.iface_icmp_open_port(port, packets, octets, &mut socket))?;
+        Ok(socket)
+    }
+
+    /// Closes a socket of any kind: what waits in it is dropped.
+    ///
+    /// # Errors
+    /// [`Error::NoSocket`].
+    pub fn close(&mut self, socket: u32) -> Result<(), Error> {
+        call!(self.iface_close(socket))
+    }
+
+    /// Queues a datagram. Over IPv4 it has at most 4096 octets with its headers (28), over IPv6 at most one packet of the link with its
+    /// headers (48).
+    ///
+    /// # Errors
+    /// [`Error::BadPort`], [`Error::BadAddress`], [`Error::TooLong`], [`Error::QueueFull`], [`Error::NoSocket`].
+    pub fn udp_send(&mut self, socket: u32, remote: IpEndpoint, payload: &[u8]) -> Result<(), Error> {
+        call!(self.iface_udp_send(socket, &end_to_c(&remote), payload.as_ptr(), payload.len()))
+    }
+
+    /// Queues a message of ICMP, from its type on. One that is no echo message of the address's version is dropped later.
+    ///
+    /// # Errors
+    /// [`Error::BadAddress`], [`Error::TooLong`], [`Error::QueueFull`], [`Error::NoSocket`].
+    pub fn icmp_send(&mut self, socket: u32, remote: IpAddress, message: &[u8]) -> Result<(), Error> {
+        call!(self.iface_icmp_send(socket, &to_c(&remote), message.as_ptr(), message.len()))
+    }
+
+    /// Queues a packet with its header. One that isn't of the socket's version and protocol, or is too long, is dropped later.
+    ///
+    /// # Errors
+    /// [`Error::QueueFull`], [`Error::NoSocket`].
+    pub fn raw_send(&mut self, socket: u32, packet: &[u8]) -> Result<(), Error> {
+        call!(self.iface_raw_send(socket, packet.as_ptr(), packet.len()))
+    }
+
+    /// Takes the first datagram that came: its length, and where it came from.
+    ///
+    /// # Errors
+    /// [`Error::Empty`], [`Error::NoRoom`], [`Error::NoSocket`].
+    pub fn udp_receive(&mut self, socket: u32, out: &mut [u8]) -> Result<(usize, IpEndpoint), Error> {
+        let (mut remote, mut length) = (sys::iface_endpoint { address: NO_ADDRESS, port: 0 }, 0);
+        call!(self.iface_udp_receive(socket, &mut remote, out.as_mut_ptr(), out.len(), &mut length))?;
+        Ok((length, IpEndpoint { addr: from_c(&remote.address), port: remote.port }))
+    }
+
+    /// Takes the first message that came, from its type on: its length, and where it came from.
+    ///
+    /// # Errors
+    /// [`Error::Empty`], [`Error::NoRoom`], [`Error::NoSocket`].
+    pub fn icmp_receive(&mut self, socket: u32, out: &mut [u8]) -> Result<(usize, IpAddress), Error> {
+        let (mut remote, mut length) = (NO_ADDRESS, 0);
+        call!(self.iface_icmp_receive(socket, &mut remote, out.as_mut_ptr(), out.len(), &mut length))?;
+        Ok((length, from_c(&remote)))
+    }
+
+    /// Takes the first packet that came, with its header: its length.
+    ///
+    /// # Errors
+    /// [`Error::Empty`], [`Error::NoRoom`], [`Error::NoSocket`].
+    pub fn raw_receive(&mut self, socket: u32, out: &mut [u8]) -> Result<usize, Error> {
+        let mut length = 0;
+        call!(self.iface_raw_receive(socket, out.as_mut_ptr(), out.len(), &mut length))?;
+        Ok(length)
+    }
+
+    /// For whom the first packet of a socket waits, and since when, as of the last round. `None` if it doesn't wait.
+    ///
+    /// # Errors
+    /// [`Error::NoSocket`].
+    pub fn waiting(&mut self, socket: u32) -> Result<Option<(IpAddress, Instant)>, Error> {
+        let (mut remote, mut since) = (NO_ADDRESS, 0);
+        let waits = unless_empty(call!(self.iface_waiting(socket, &mut remote, &mut since)))?;
+        Ok(waits.then(|| (from_c(&remote), Instant::from_micros_const(since))))
+    }
+
+    /// The destination of the packet that a socket gave up last, once. `None` if none was given up since.
+    ///
+    /// # Errors
+    /// [`Error::NoSocket`].
+    pub fn given_up(&mut self, socket: u32) -> Result<Option<IpAddress>, Error> {
+        let mut remote = NO_ADDRESS;
+        let gave_up = unless_empty(call!(self.iface_given_up(socket, &mut remote)))?;
+        Ok(gave_up.then(|| from_c(&remote)))
+    }
+
+    /// How many packets all sockets gave up.
+    pub fn given_up_count(&mut self) -> u64 {
+        let mut count = 0;
+        // It is refused only without a host.
+        let _ = call!(self.iface_given_up_count(&mut count));
+        count
+    }
+
+    /// Takes a frame of any octets. What is to be sent in response, if anything, is the returned part of `out`.
+    ///
+    /// # Errors
+    /// None that this crate knows of.
+    pub fn receive<'o>(&mut self, now: Instant, frame: &[u8], out: &'o mut Frame) -> Result<Option<&'o [u8]>, Error> {
+        let (now, mut length) = (now.total_micros(), 0);
+        call!(self.iface_receive(now, frame.as_ptr(), frame.len(), out.as_mut_ptr(), out.len(), &mut length))?;
+        Ok(if length == 0 { None } else { out.get(..length) })
+    }
+
+    /// The next frame that is to be sent. `None`: none for now. Call it until then, and then ask [`poll_at`](Host::poll_at).
+    ///
+    /// # Errors
+    /// [`Error::NoMemory`] before a round, if memory for a frame is refused.
+    pub fn next<'o>(&mut self, now: Instant, out: &'o mut Frame) -> Result<Option<&'o [u8]>, Error> {
+        let mut length = 0;
+        call!(self.iface_next(now.total_micros(), out.as_mut_ptr(), out.len(), &mut length))?;
+        Ok(if length == 0 { None } else { out.get(..length) })
+    }
+
+    /// The instant at which [`next`](Host::next) is to be called again, if no frame comes before and no call changes the host. One that has
+    /// passed, if something is due at once. `None`, if nothing is.
+    pub fn poll_at(&mut self, now: Instant) -> Option<Instant> {
+        let mut at = sys::IFACE_NEVER;
+        call!(self.iface_poll_at(now.total_micros(), &mut at)).ok()?;
+        (at != sys::IFACE_NEVER).then(|| Instant::from_micros_const(at))
+    }
+}

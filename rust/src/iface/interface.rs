@@ -1,0 +1,370 @@
+//! Interfaces.
+use super::{Addresses, Routes, SocketSet};
+use crate::host::{Error, FRAME_ROOM, Frame, Host, Settings};
+use crate::phy::{Device, Medium, RxToken, TxToken};
+use crate::shared::Shared;
+use crate::time::{Duration, Instant};
+use crate::wire::{HardwareAddress, IpAddress, IpCidr, Ipv4Address, Ipv6Address};
+use alloc::boxed::Box;
+use core::fmt;
+
+/// How an interface is to be made.
+#[derive(Clone, Copy, Debug, PartialEq, Eq)]
+#[non_exhaustive]
+pub struct Config {
+    /// The seed of its random words, which need not be secret: another for each interface and each start.
+    pub random_seed: u64,
+    /// Its hardware address, of the device's medium.
+    pub hardware_addr: HardwareAddress,
+    /// Whether it takes addresses and routes from IPv6 routers (RFC 4862).
+    pub slaac: bool,
+    /// How many sockets may be open at once. Memory for their places is taken at once. smoltcp has none such.
+    pub sockets: u32,
+    /// How long a packet waits for a neighbour that doesn't answer, before it is given up. Zero is for ever, as in smoltcp: then one such
+    /// packet stops its socket.
+    pub patience: Duration,
+    /// How long fragments of a packet wait for the others: not zero, at most a day. smoltcp has a call for it.
+    pub reassembly_timeout: Duration,
+}
+
+impl Config {
+    /// What most programs want, but for the seed, which is 0: 8 sockets, no addresses from routers, a patience of three seconds, and ten
+    /// seconds for fragments. It is what `iface_config_init` writes.
+    pub fn new(hardware_addr: HardwareAddress) -> Config {
+        let settings = Settings::new(hardware_addr);
+        Config {
+            random_seed: settings.random_seed,
+            hardware_addr,
+            slaac: settings.slaac,
+            sockets: settings.sockets,
+            patience: settings.patience,
+            reassembly_timeout: settings.reassembly_timeout,
+        }
+    }
+
+    fn settings(&self, frame_len: u32) -> Settings {
+        let mut settings = Settings::new(self.hardware_addr);
+        settings.random_seed = self.random_seed;
+        settings.frame_len = frame_len;
+        settings.slaac = self.slaac;
+        settings.sockets = self.sockets;
+        settings.patience = self.patience;
+        settings.reassembly_timeout = self.reassembly_timeout;
+        settings
+    }
+}
+
+/// What a poll may have changed.
+#[derive(Clone, Copy, Debug, PartialEq, Eq)]
+pub enum PollResult {
+    /// No socket.
+    None,
+    /// Sockets, perhaps: it is returned wherever a frame was taken or sent.
+    SocketStateChanged,
+}
+
+/// What became of a frame.
+#[derive(Clone, Copy, Debug, PartialEq, Eq)]
+pub enum PollIngressSingleResult {
+    /// There was none.
+    None,
+    /// It was taken, and may have changed a socket.
+    SocketStateChanged,
+}
+
+/// Why a group isn't joined or left.
+#[derive(Clone, Copy, Debug, PartialEq, Eq)]
+pub enum MulticastError {
+    /// There are eight.
+    GroupTableFull,
+    /// The address is no group's.
+    Unaddressable,
+}
+
+impl fmt::Display for MulticastError {
+    fn fmt(&self, f: &mut fmt::Formatter<'_>) -> fmt::Result {
+        f.write_str(match self {
+            MulticastError::GroupTableFull => "GroupTableFull",
+            MulticastError::Unaddressable => "Unaddressable",
+        })
+    }
+}
+
+impl core::error::Error for MulticastError {}
+
+impl From<Error> for MulticastError {
+    fn from(error: Error) -> MulticastError {
+        match error {
+            Error::TableFull => MulticastError::GroupTableFull,
+            _ => MulticastError::Unaddressable,
+        }
+    }
+}
+
+/// A network interface.
+///
+/// It goes to another thread, with its sockets:
+///
+/// ```
+/// fn crosses<T: Send>() {}
+/// crosses::<fumitorygate::iface::Interface>();
+/// crosses::<fumitorygate::iface::SocketSet<'static>>();
+/// ```
+///
+/// A frame that it shows is read before it is called again:
+///
+/// ```compile_fail,E0499
+/// use fumitorygate::{iface::{Interface, SocketSet}, time::Instant};
+/// fn two<'i>(iface: &'i mut Interface, sockets: &mut SocketSet<'_>) -> [Option<&'i [u8]>; 2] {
+///     [iface.next_frame(Instant::ZERO, sockets), iface.next_frame(Instant::ZERO, sockets)]
+/// }
+/// ```
+///
+/// and so is a packet that a socket lends:
+///
+/// ```compile_fail,E0499
+/// fn two<'s>(socket: &'s mut fumitorygate::socket::udp::Socket<'_>) -> [&'s [u8]; 2] {
+///     [socket.recv().unwrap().0, socket.recv().unwrap().0]
+/// }
+/// ```
+#[derive(Debug)]
+pub struct Interface {
+    pub(super) host: Shared,
+    hardware_addr: HardwareAddress,
+    out: Box<Frame>,
+}
+
+impl Interface {
+    /// An interface over a device, whose medium and length of frames it takes. `now` isn't used: it begins at [`Instant::ZERO`].
+    ///
+    /// # Errors
+    /// [`Error::BadArgument`] if the hardware address isn't of the device's medium; [`Error::NotUnicast`], [`Error::BadMtu`],
+    /// [`Error::BadTimeout`], [`Error::NoMemory`].
+    pub fn new(config: Config, device: &mut (impl Device + ?Sized), now: Instant) -> Result<Interface, Error> {
+        let _ = now;
+        let capabilities = device.capabilities();
+        if (capabilities.medium == Medium::Ip) != (config.hardware_addr == HardwareAddress::Ip) {
+            return Err(Error::BadArgument);
+        }
+        let frame_len = u32::try_from(capabilities.max_transmission_unit).unwrap_or(u32::MAX);
+        let host = Host::new(&config.settings(frame_len))?;
+        Ok(Interface { host: Shared::new(host), hardware_addr: config.hardware_addr, out: Box::new([0; FRAME_ROOM]) })
+    }
+
+    /// Its hardware address.
+    pub fn hardware_addr(&self) -> HardwareAddress {
+        self.hardware_addr
+    }
+
+    /// Its addresses with their networks, those from routers included: a copy.
+    pub fn ip_addrs(&self) -> Addresses {
+        self.host.with(current)
+    }
+
+    /// Its first IPv4 address.
+    pub fn ipv4_addr(&self) -> Option<Ipv4Address> {
+        self.ip_addrs().iter().find_map(|cidr| match cidr {
+            IpCidr::Ipv4(cidr) => Some(cidr.address()),
+            IpCidr::Ipv6(_) => None,
+        })
+    }
+
+    /// Its first IPv6 address.
+    pub fn ipv6_addr(&self) -> Option<Ipv6Address> {
+        self.ip_addrs().iter().find_map(|cidr| match cidr {
+            IpCidr::Ipv4(_) => None,
+            IpCidr::Ipv6(cidr) => Some(cidr.address()),
+        })
+    }
+
+    /// Whether an address is one of its own.
+    pub fn has_ip_addr<T: Into<IpAddress>>(&self, addr: T) -> bool {
+        let addr = addr.into();
+        self.ip_addrs().iter().any(|cidr| cidr.address() == addr)
+    }
+
+    /// Changes its addresses by `f`, and forgets all neighbours, if the list is another one then.
+    ///
+    /// # Errors
+    /// [`Error::NotUnicast`], if one of them is neither unicast nor unspecified. Then the addresses are what they were.
+    pub fn update_ip_addrs<F: FnOnce(&mut Addresses)>(&mut self, f: F) -> Result<(), Error> {
+        let old = self.ip_addrs();
+        let mut new = old;
+        f(&mut new);
+        self.host.with(|host| {
+            let done = replace(host, &old, &new);
+            if done.is_err() {
+                // What was there is accepted again.
+                let refused = current(host);
+                let _ = replace(host, &refused, &old);
+            }
+            done
+        })
+    }
+
+    /// Joins a group: from now on packets to it are taken, and routers are told of it.
+    ///
+    /// # Errors
+    /// [`MulticastError`].
+    pub fn join_multicast_group<T: Into<IpAddress>>(&mut self, addr: T) -> Result<(), MulticastError> {
+        Ok(self.host.with(|host| host.join_group(addr.into()))?)
+    }
+
+    /// Leaves a group, if it is in it.
+    ///
+    /// # Errors
+    /// [`MulticastError::Unaddressable`].
+    pub fn leave_multicast_group<T: Into<IpAddress>>(&mut self, addr: T) -> Result<(), MulticastError> {
+        Ok(self.host.with(|host| host.leave_group(addr.into()))?)
+    }
+
+    /// Its routes, to be changed.
+    pub fn routes_mut(&mut self) -> Routes<'_> {
+        Routes { host: &self.host }
+    }
+
+    /// Takes the frames that a device has, and sends what is to be sent, as long as the device gives permission.
+    ///
+    /// # Panics
+    /// If the sockets are another interface's.
+    pub fn poll(
+        &mut self,
+        timestamp: Instant,
+        device: &mut (impl Device + ?Sized),
+        sockets: &mut SocketSet<'_>,
+    ) -> PollResult {
+        let mut result = PollResult::None;
+        while self.poll_ingress_single(timestamp, device, sockets) != PollIngressSingleResult::None {
+            result = PollResult::SocketStateChanged;
+        }
+        if self.poll_egress(timestamp, device, sockets) != PollResult::None {
+            result = PollResult::SocketStateChanged;
+        }
+        result
+    }
+
+    /// Takes one frame of a device.
+    ///
+    /// # Panics
+    /// If the sockets are another interface's.
+    pub fn poll_ingress_single(
+        &mut self,
+        timestamp: Instant,
+        device: &mut (impl Device + ?Sized),
+        sockets: &mut SocketSet<'_>,
+    ) -> PollIngressSingleResult {
+        self.check(sockets);
+        let Some((rx, tx)) = device.receive(timestamp) else {
+            return PollIngressSingleResult::None;
+        };
+        let (host, out) = (&self.host, &mut self.out);
+        let reply = rx.consume(|frame| {
+            let taken = host.with(|host| host.receive(timestamp, frame, out).map(|frame| frame.map(<[u8]>::len)));
+            taken.ok().flatten()
+        });
+        if let Some(len) = reply {
+            tx.consume(len, |frame| frame.copy_from_slice(&out[..len]));
+        }
+        PollIngressSingleResult::SocketStateChanged
+    }
+
+    /// Sends what is to be sent, as long as the device gives permission. That is asked for first, since the library hands a frame over for
+    /// good.
+    ///
+    /// # Panics
+    /// If the sockets are another interface's.
+    pub fn poll_egress(
+        &mut self,
+        timestamp: Instant,
+        device: &mut (impl Device + ?Sized),
+        sockets: &mut SocketSet<'_>,
+    ) -> PollResult {
+        self.check(sockets);
+        let mut result = PollResult::None;
+        while let Some(tx) = device.transmit(timestamp) {
+            let Some(len) = self.next_frame(timestamp, sockets).map(<[u8]>::len) else { break };
+            tx.consume(len, |frame| frame.copy_from_slice(&self.out[..len]));
+            result = PollResult::SocketStateChanged;
+        }
+        result
+    }
+
+    /// Takes a frame that is a slice, and shows the one to be sent in response, if any. smoltcp has none such.
+    ///
+    /// # Panics
+    /// If the sockets are another interface's.
+    pub fn receive_frame(&mut self, timestamp: Instant, frame: &[u8], sockets: &mut SocketSet<'_>) -> Option<&[u8]> {
+        self.check(sockets);
+        let out = &mut self.out;
+        self.host.with(|host| host.receive(timestamp, frame, out)).ok()?
+    }
+
+    /// Shows the next frame that is to be sent, if any. Where memory for a frame is refused, what waits is sent another time. smoltcp has
+    /// none such.
+    ///
+    /// # Panics
+    /// If the sockets are another interface's.
+    pub fn next_frame(&mut self, timestamp: Instant, sockets: &mut SocketSet<'_>) -> Option<&[u8]> {
+        self.check(sockets);
+        let out = &mut self.out;
+        self.host.with(|host| host.next(timestamp, out)).ok()?
+    }
+
+    /// The instant at which it is to be polled again, if no frame comes before and no call changes it: one that has passed, if something
+    /// is due at once. `None`, if nothing is.
+    ///
+    /// # Panics
+    /// If the sockets are another interface's.
+    pub fn poll_at(&mut self, timestamp: Instant, sockets: &SocketSet<'_>) -> Option<Instant> {
+        self.check(sockets);
+        self.host.with(|host| host.poll_at(timestamp))
+    }
+
+    /// The time until then.
+    ///
+    /// # Panics
+    /// If the sockets are another interface's.
+    pub fn poll_delay(&mut self, timestamp: Instant, sockets: &SocketSet<'_>) -> Option<Duration> {
+        self.poll_at(timestamp, sockets).map(|at| at - timestamp)
+    }
+
+    /// How many packets were given up, of all sockets, since a neighbour didn't answer. smoltcp has none such.
+    pub fn given_up_count(&self) -> u64 {
+        self.host.with(Host::given_up_count)
+    }
+
+    fn check(&self, sockets: &SocketSet<'_>) {
+        assert!(self.host.is(&sockets.host), "the sockets are another interface's");
+    }
+}
+
+/// The addresses of a host.
+fn current(host: &mut Host) -> Addresses {
+    let mut list = Addresses::new();
+    for index in 0.. {
+        match host.address_at(index) {
+            Some(cidr) if list.push(cidr).is_ok() => {}
+            _ => break,
+        }
+    }
+    list
+}
+
+/// Takes out the addresses from the first difference on, and adds the new ones in their place.
+///
+/// The library takes out the first address that is equal. So a list that has one twice is taken out from its front.
+fn replace(host: &mut Host, old: &Addresses, new: &Addresses) -> Result<(), Error> {
+    let same = old.iter().zip(new.iter()).take_while(|(a, b)| a == b).count();
+    if same == old.len().max(new.len()) {
+        return Ok(());
+    }
+    let is_twice = |cidr| old.iter().filter(|other| *other == cidr).count() > 1;
+    let from = if old.iter().any(is_twice) { 0 } else { same };
+    for cidr in old.iter().skip(from) {
+        host.remove_address(*cidr)?;
+    }
+    for cidr in new.iter().skip(from) {
+        host.add_address(*cidr)?;
+    }
+    Ok(())
+}

@@ -1,0 +1,30 @@
+#![doc = include_str!("../README.md")]
+#![cfg_attr(not(feature = "std"), no_std)]
+#![deny(missing_docs)]
+#![deny(unsafe_op_in_unsafe_fn)]
+#![deny(clippy::undocumented_unsafe_blocks)]
+
+#[cfg(feature = "alloc")]
+extern crate alloc;
+
+#[cfg(feature = "rust-heap")]
+mod heap;
+mod host;
+#[cfg(feature = "alloc")]
+mod shared;
+#[rustfmt::skip]
+pub mod sys;
+pub mod time;
+pub mod wire;
+
+#[cfg(feature = "alloc")]
+pub mod iface;
+#[cfg(feature = "alloc")]
+pub mod phy;
+#[cfg(feature = "alloc")]
+pub mod socket;
+
+pub use host::{Error, FRAME_ROOM, Frame, Host, Settings};
+
+#[doc = include_str!("../API.md")]
+pub mod differences {}

@@ -1,0 +1,57 @@
+//! A host that an interface and its sockets share, in one call at a time, whichever threads they are in.
+use crate::host::Host;
+use alloc::sync::Arc;
+use core::cell::UnsafeCell;
+use core::fmt;
+use core::sync::atomic::{AtomicBool, Ordering::SeqCst};
+
+struct Lock {
+    is_taken: AtomicBool,
+    host: UnsafeCell<Host>,
+}
+
+// SAFETY: `Shared::with` lends the host to one thread at a time, and `Host` is `Send`.
+unsafe impl Sync for Lock {}
+
+#[derive(Clone)]
+pub(crate) struct Shared(Arc<Lock>);
+
+/// Gives the host back, also where a panic ends the call.
+struct GivesBack<'a>(&'a AtomicBool);
+
+impl Drop for GivesBack<'_> {
+    fn drop(&mut self) {
+        self.0.store(false, SeqCst);
+    }
+}
+
+impl Shared {
+    pub(crate) fn new(host: Host) -> Shared {
+        Shared(Arc::new(Lock { is_taken: AtomicBool::new(false), host: UnsafeCell::new(host) }))
+    }
+
+    /// Whether it is the same host.
+    pub(crate) fn is(&self, other: &Shared) -> bool {
+        Arc::ptr_eq(&self.0, &other.0)
+    }
+
+    /// Calls the host. `f` is a call or two of the library, and never one of the program's functions: so another thread waits for
+    /// microseconds, and nothing waits for itself.
+    pub(crate) fn with<R>(&self, f: impl FnOnce(&mut Host) -> R) -> R {
+        while self.0.is_taken.swap(true, SeqCst) {
+            #[cfg(feature = "std")]
+            std::thread::yield_now();
+            #[cfg(not(feature = "std"))]
+            core::hint::spin_loop();
+        }
+        let _gives_back = GivesBack(&self.0.is_taken);
+        // SAFETY: whoever set `is_taken` has the host alone until `_gives_back` is dropped, and `f` can't keep the reference.
+        f(unsafe { &mut *self.0.host.get() })
+    }
+}
+
+impl fmt::Debug for Shared {
+    fn fmt(&self, f: &mut fmt::Formatter<'_>) -> fmt::Result {
+        f.write_str("Shared")
+    }
+}

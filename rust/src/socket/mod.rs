@@ -1,0 +1,438 @@
+//! Sockets: [`udp`], [`icmp`] and [`raw`].
+//!
+//! A socket is opened when it is bound in a [`SocketSet`](crate::iface::SocketSet), or when it comes into one and was bound before. Its
+//! queues are the library's: outside a set it has none.
+use crate::host::{Error, Host};
+use crate::shared::Shared;
+use crate::time::Instant;
+use crate::wire::IpAddress;
+use alloc::vec::Vec;
+use core::cell::Cell;
+use core::fmt;
+use core::marker::PhantomData;
+
+pub mod icmp;
+pub mod raw;
+pub mod udp;
+
+/// A socket of any kind.
+#[derive(Debug)]
+#[non_exhaustive]
+pub enum Socket<'a> {
+    /// A raw socket.
+    Raw(raw::Socket<'a>),
+    /// An ICMP socket.
+    Icmp(icmp::Socket<'a>),
+    /// A UDP socket.
+    Udp(udp::Socket<'a>),
+}
+
+impl Socket<'_> {
+    /// Opens it at a host, if it is bound.
+    pub(crate) fn attach(&mut self, host: &Shared) -> Result<(), Error> {
+        match self {
+            Socket::Raw(socket) => socket.core.attach(host),
+            Socket::Icmp(socket) => socket.core.attach(host),
+            Socket::Udp(socket) => socket.core.attach(host),
+        }
+    }
+
+    /// Closes it at its host. It stays bound.
+    pub(crate) fn detach(&mut self) {
+        match self {
+            Socket::Raw(socket) => socket.core.detach(),
+            Socket::Icmp(socket) => socket.core.detach(),
+            Socket::Udp(socket) => socket.core.detach(),
+        }
+    }
+}
+
+/// What a set can hold: a socket of one kind, or [`Socket`].
+pub trait AnySocket<'a> {
+    /// It as a socket of any kind.
+    fn upcast(self) -> Socket<'a>;
+    /// A socket as one of this kind, if it is.
+    fn downcast<'c>(socket: &'c Socket<'a>) -> Option<&'c Self>
+    where
+        Self: Sized;
+    /// A socket as one of this kind, if it is.
+    fn downcast_mut<'c>(socket: &'c mut Socket<'a>) -> Option<&'c mut Self>
+    where
+        Self: Sized;
+}
+
+impl<'a> AnySocket<'a> for Socket<'a> {
+    fn upcast(self) -> Socket<'a> {
+        self
+    }
+
+    fn downcast<'c>(socket: &'c Socket<'a>) -> Option<&'c Socket<'a>> {
+        Some(socket)
+    }
+
+    fn downcast_mut<'c>(socket: &'c mut Socket<'a>) -> Option<&'c mut Socket<'a>> {
+        Some(socket)
+    }
+}
+
+/// What smoltcp keeps beside each packet. Here it only counts.
+#[derive(Clone, Copy, Debug, Default, PartialEq, Eq)]
+pub struct PacketMetadata(());
+
+impl PacketMetadata {
+    /// One packet.
+    pub const EMPTY: PacketMetadata = PacketMetadata(());
+}
+
+/// How much a queue of a socket holds: so many packets, with so many octets together.
+///
+/// The queue itself is the library's, which takes the greater of a socket's two for both.
+#[derive(Clone, Copy, Debug, PartialEq, Eq)]
+pub struct PacketBuffer<'a> {
+    packets: u32,
+    octets: u32,
+    lifetime: PhantomData<&'a mut [u8]>,
+}
+
+impl<'a> PacketBuffer<'a> {
+    /// As much as these have places and octets, of which nothing but the length is used.
+    pub fn new(metadata: impl AsRef<[PacketMetadata]>, payload: impl AsRef<[u8]>) -> PacketBuffer<'a> {
+        PacketBuffer::with_capacity(metadata.as_ref().len(), payload.as_ref().len())
+    }
+
+    /// So many packets, with so many octets together.
+    pub fn with_capacity(packets: usize, octets: usize) -> PacketBuffer<'a> {
+        let at_most = |number| u32::try_from(number).unwrap_or(u32::MAX);
+        PacketBuffer { packets: at_most(packets), octets: at_most(octets), lifetime: PhantomData }
+    }
+}
+
+/// Why a socket isn't bound.
+#[derive(Clone, Copy, Debug, PartialEq, Eq)]
+pub enum BindError {
+    /// It is bound already.
+    InvalidState,
+    /// A port that is 0, no endpoint, or one that the library has no socket for.
+    Unaddressable,
+    /// [`Config::sockets`](crate::iface::Config::sockets) are open, or there is no memory for its queues.
+    Exhausted,
+}
+
+impl fmt::Display for BindError {
+    fn fmt(&self, f: &mut fmt::Formatter<'_>) -> fmt::Result {
+        f.write_str(match self {
+            BindError::InvalidState => "invalid state",
+            BindError::Unaddressable => "unaddressable",
+            BindError::Exhausted => "exhausted",
+        })
+    }
+}
+
+impl core::error::Error for BindError {}
+
+impl From<Error> for BindError {
+    fn from(error: Error) -> BindError {
+        match error {
+            Error::TableFull | Error::NoMemory => BindError::Exhausted,
+            _ => BindError::Unaddressable,
+        }
+    }
+}
+
+/// Why a packet isn't queued.
+#[derive(Clone, Copy, Debug, PartialEq, Eq)]
+pub enum SendError {
+    /// The socket isn't bound, or the destination has no address or port.
+    Unaddressable,
+    /// The queue has no room for it, or the socket is in no set.
+    BufferFull,
+    /// It is longer than is ever sent.
+    TooLong,
+}
+
+impl fmt::Display for SendError {
+    fn fmt(&self, f: &mut fmt::Formatter<'_>) -> fmt::Result {
+        f.write_str(match self {
+            SendError::Unaddressable => "unaddressable",
+            SendError::BufferFull => "buffer full",
+            SendError::TooLong => "too long",
+        })
+    }
+}
+
+impl core::error::Error for SendError {}
+
+impl From<Error> for SendError {
+    fn from(error: Error) -> SendError {
+        match error {
+            Error::QueueFull => SendError::BufferFull,
+            Error::TooLong => SendError::TooLong,
+            _ => SendError::Unaddressable,
+        }
+    }
+}
+
+/// Why no packet is received.
+#[derive(Clone, Copy, Debug, PartialEq, Eq)]
+pub enum RecvError {
+    /// None came.
+    Exhausted,
+    /// It is longer than the buffer.
+    Truncated,
+}
+
+impl fmt::Display for RecvError {
+    fn fmt(&self, f: &mut fmt::Formatter<'_>) -> fmt::Result {
+        f.write_str(match self {
+            RecvError::Exhausted => "exhausted",
+            RecvError::Truncated => "truncated",
+        })
+    }
+}
+
+impl core::error::Error for RecvError {}
+
+/// What the library has for one kind of socket.
+pub(crate) trait Kind {
+    /// What it is bound to.
+    type Endpoint: Copy + fmt::Debug;
+    /// What is told of a packet that came.
+    type Meta: Copy + fmt::Debug;
+
+    fn open(host: &mut Host, endpoint: Self::Endpoint, packets: u32, octets: u32) -> Result<u32, Error>;
+    fn receive(host: &mut Host, number: u32, out: &mut [u8]) -> Result<(usize, Self::Meta), Error>;
+}
+
+/// What all sockets have: what they are bound to, and at a host the number that names them.
+#[derive(Debug)]
+pub(crate) struct Core<K: Kind> {
+    host: Option<Shared>,
+    endpoint: Option<K::Endpoint>,
+    number: Option<u32>,
+    packets: u32,
+    octets: u32,
+    /// Where packets are read that are lent.
+    buffer: Vec<u8>,
+    /// The length and origin of a packet in `buffer` that was taken from the library, but not by the program.
+    ahead: Cell<Option<(usize, K::Meta)>>,
+}
+
+impl<K: Kind> Core<K> {
+    fn new(rx: PacketBuffer<'_>, tx: PacketBuffer<'_>) -> Core<K> {
+        Core {
+            host: None,
+            endpoint: None,
+            number: None,
+            packets: rx.packets.max(tx.packets),
+            octets: rx.octets.max(tx.octets),
+            buffer: Vec::new(),
+            ahead: Cell::new(None),
+        }
+    }
+
+    fn attach(&mut self, host: &Shared) -> Result<(), Error> {
+        if let Some(endpoint) = self.endpoint {
+            self.open(host, endpoint)?;
+        }
+        self.host = Some(host.clone());
+        Ok(())
+    }
+
+    fn detach(&mut self) {
+        if let (Some(host), Some(number)) = (self.host.take(), self.number.take()) {
+            // It is open by this number.
+            let _ = host.with(|host| host.close(number));
+        }
+        self.ahead.set(None);
+    }
+
+    fn open(&mut self, host: &Shared, endpoint: K::Endpoint) -> Result<(), Error> {
+        let octets = self.octets as usize;
+        self.buffer.try_reserve_exact(octets.saturating_sub(self.buffer.len())).map_err(|_| Error::NoMemory)?;
+        self.number = Some(host.with(|host| K::open(host, endpoint, self.packets, self.octets))?);
+        self.buffer.resize(octets, 0);
+        Ok(())
+    }
+
+    fn bind(&mut self, endpoint: K::Endpoint) -> Result<(), BindError> {
+        if self.endpoint.is_some() {
+            return Err(BindError::InvalidState);
+        }
+        if let Some(host) = self.host.clone() {
+            self.open(&host, endpoint)?;
+        }
+        self.endpoint = Some(endpoint);
+        Ok(())
+    }
+
+    fn close(&mut self) {
+        let host = self.host.clone();
+        self.detach();
+        self.host = host;
+        self.endpoint = None;
+    }
+
+    /// Calls the host, if the socket is open there.
+    fn call<R>(&self, f: impl FnOnce(&mut Host, u32) -> Result<R, Error>) -> Result<R, Error> {
+        match (&self.host, self.number) {
+            (Some(host), Some(number)) => host.with(|host| f(host, number)),
+            _ if self.endpoint.is_some() => Err(Error::QueueFull),
+            _ => Err(Error::NoSocket),
+        }
+    }
+
+    fn send(&self, f: impl FnOnce(&mut Host, u32) -> Result<(), Error>) -> Result<(), SendError> {
+        Ok(self.call(f)?)
+    }
+
+    /// Queues what `f` writes into a buffer of at most `max_size` octets, by `send`.
+    fn send_with(
+        &self,
+        max_size: usize,
+        f: impl FnOnce(&mut [u8]) -> usize,
+        send: impl FnOnce(&mut Host, u32, &[u8]) -> Result<(), Error>,
+    ) -> Result<usize, SendError> {
+        if max_size > self.octets as usize {
+            return Err(SendError::BufferFull);
+        }
+        let mut buffer = alloc::vec![0; max_size];
+        let size = f(&mut buffer);
+        self.send(|host, number| send(host, number, &buffer[..size]))?;
+        Ok(size)
+    }
+
+    /// Whether a packet came: asked by a buffer without room, into which only an empty packet goes, which is then kept.
+    fn can_recv(&self) -> bool {
+        if self.ahead.get().is_some() {
+            return true;
+        }
+        match self.call(|host, number| K::receive(host, number, &mut [])) {
+            Ok(taken) => {
+                self.ahead.set(Some(taken));
+                true
+            }
+            Err(error) => error == Error::NoRoom,
+        }
+    }
+
+    /// Has the first packet in `buffer`.
+    fn fetch(&mut self) -> Result<(), RecvError> {
+        if self.ahead.get().is_none() {
+            let mut buffer = core::mem::take(&mut self.buffer);
+            let taken = self.call(|host, number| K::receive(host, number, &mut buffer));
+            self.buffer = buffer;
+            self.ahead.set(Some(taken.map_err(|_| RecvError::Exhausted)?));
+        }
+        Ok(())
+    }
+
+    fn recv(&mut self) -> Result<(&[u8], K::Meta), RecvError> {
+        self.fetch()?;
+        let (length, meta) = self.ahead.take().ok_or(RecvError::Exhausted)?;
+        Ok((self.buffer.get(..length).unwrap_or_default(), meta))
+    }
+
+    fn recv_slice(&mut self, data: &mut [u8]) -> Result<(usize, K::Meta), RecvError> {
+        if self.ahead.get().is_none() {
+            // Right into the caller's buffer.
+            match self.call(|host, number| K::receive(host, number, data)) {
+                Ok(taken) => return Ok(taken),
+                Err(Error::NoRoom) => {}
+                Err(_) => return Err(RecvError::Exhausted),
+            }
+        }
+        let (packet, meta) = self.recv()?;
+        data.get_mut(..packet.len()).ok_or(RecvError::Truncated)?.copy_from_slice(packet);
+        Ok((packet.len(), meta))
+    }
+
+    fn peek(&mut self) -> Result<(&[u8], &K::Meta), RecvError> {
+        self.fetch()?;
+        let (length, meta) = self.ahead.get_mut().as_ref().ok_or(RecvError::Exhausted)?;
+        Ok((self.buffer.get(..*length).unwrap_or_default(), meta))
+    }
+
+    fn peek_slice(&mut self, data: &mut [u8]) -> Result<(usize, &K::Meta), RecvError> {
+        let (packet, meta) = self.peek()?;
+        data.get_mut(..packet.len()).ok_or(RecvError::Truncated)?.copy_from_slice(packet);
+        Ok((packet.len(), meta))
+    }
+
+    fn waiting(&self) -> Option<(IpAddress, Instant)> {
+        self.call(|host, number| host.waiting(number)).ok()?
+    }
+
+    fn given_up(&mut self) -> Option<IpAddress> {
+        self.call(|host, number| host.given_up(number)).ok()?
+    }
+}
+
+impl<K: Kind> Drop for Core<K> {
+    fn drop(&mut self) {
+        self.detach();
+    }
+}
+
+/// What the three kinds of sockets share.
+macro_rules! common {
+    ($kind:ident) => {
+        impl<'a> crate::socket::AnySocket<'a> for Socket<'a> {
+            fn upcast(self) -> crate::socket::Socket<'a> {
+                crate::socket::Socket::$kind(self)
+            }
+
+            fn downcast<'c>(socket: &'c crate::socket::Socket<'a>) -> Option<&'c Socket<'a>> {
+                if let crate::socket::Socket::$kind(socket) = socket { Some(socket) } else { None }
+            }
+
+            fn downcast_mut<'c>(socket: &'c mut crate::socket::Socket<'a>) -> Option<&'c mut Socket<'a>> {
+                if let crate::socket::Socket::$kind(socket) = socket { Some(socket) } else { None }
+            }
+        }
+
+        impl<'a> Socket<'a> {
+            /// Whether it is bound.
+            pub fn is_open(&self) -> bool {
+                self.core.endpoint.is_some()
+            }
+
+            /// Whether a packet came.
+            pub fn can_recv(&self) -> bool {
+                self.core.can_recv()
+            }
+
+            /// How many packets its queue for what comes can hold.
+            pub fn packet_recv_capacity(&self) -> usize {
+                self.core.packets as usize
+            }
+
+            /// How many packets its queue for what goes can hold.
+            pub fn packet_send_capacity(&self) -> usize {
+                self.core.packets as usize
+            }
+
+            /// How many octets its queue for what comes can hold.
+            pub fn payload_recv_capacity(&self) -> usize {
+                self.core.octets as usize
+            }
+
+            /// How many octets its queue for what goes can hold.
+            pub fn payload_send_capacity(&self) -> usize {
+                self.core.octets as usize
+            }
+
+            /// For which destination its first packet waits, since no neighbour answers for it, and since when, as of the last round.
+            /// `None` if it doesn't wait. smoltcp has none such.
+            pub fn waiting(&self) -> Option<(crate::wire::IpAddress, crate::time::Instant)> {
+                self.core.waiting()
+            }
+
+            /// The destination of the packet that it gave up last, after [`Config::patience`](crate::iface::Config::patience), once.
+            /// `None` if it gave up none since. smoltcp has none such.
+            pub fn given_up(&mut self) -> Option<crate::wire::IpAddress> {
+                self.core.given_up()
+            }
+        }
+    };
+}
+pub(crate) use common;

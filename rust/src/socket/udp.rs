@@ -1,0 +1,138 @@
+//! UDP sockets (RFC 768).
+pub use super::{BindError, PacketBuffer, PacketMetadata, RecvError, SendError};
+use super::{Core, Kind, common};
+use crate::host::{Error, Host};
+use crate::wire::{IpEndpoint, IpListenEndpoint};
+use core::fmt;
+use core::marker::PhantomData;
+
+/// Where a datagram came from, or is to go.
+#[derive(Clone, Copy, Debug, PartialEq, Eq, PartialOrd, Ord, Hash)]
+#[non_exhaustive]
+pub struct UdpMetadata {
+    /// The other end.
+    pub endpoint: IpEndpoint,
+}
+
+impl<T: Into<IpEndpoint>> From<T> for UdpMetadata {
+    fn from(end: T) -> UdpMetadata {
+        UdpMetadata { endpoint: end.into() }
+    }
+}
+
+impl fmt::Display for UdpMetadata {
+    fn fmt(&self, f: &mut fmt::Formatter<'_>) -> fmt::Result {
+        self.endpoint.fmt(f)
+    }
+}
+
+#[derive(Debug)]
+pub(crate) struct Udp;
+
+impl Kind for Udp {
+    type Endpoint = IpListenEndpoint;
+    type Meta = UdpMetadata;
+
+    fn open(host: &mut Host, endpoint: IpListenEndpoint, packets: u32, octets: u32) -> Result<u32, Error> {
+        host.udp_open(endpoint, packets, octets)
+    }
+
+    fn receive(host: &mut Host, number: u32, out: &mut [u8]) -> Result<(usize, UdpMetadata), Error> {
+        host.udp_receive(number, out).map(|(length, from)| (length, from.into()))
+    }
+}
+
+/// A UDP socket.
+#[derive(Debug)]
+pub struct Socket<'a> {
+    pub(crate) core: Core<Udp>,
+    lifetime: PhantomData<&'a mut [u8]>,
+}
+
+common!(Udp);
+
+impl<'a> Socket<'a> {
+    /// A socket with queues for what comes and what goes, which isn't bound.
+    pub fn new(rx_buffer: PacketBuffer<'a>, tx_buffer: PacketBuffer<'a>) -> Socket<'a> {
+        Socket { core: Core::new(rx_buffer, tx_buffer), lifetime: PhantomData }
+    }
+
+    /// What it is bound to.
+    pub fn endpoint(&self) -> IpListenEndpoint {
+        self.core.endpoint.unwrap_or_default()
+    }
+
+    /// Binds it to a port of one address, or of any. It then sends from that address, and it isn't tested that this is an own one.
+    ///
+    /// # Errors
+    /// [`BindError::Unaddressable`] if the port is 0, [`BindError::InvalidState`] if it is bound, [`BindError::Exhausted`] if it is in a set
+    /// and can't be opened there.
+    pub fn bind<T: Into<IpListenEndpoint>>(&mut self, endpoint: T) -> Result<(), BindError> {
+        let endpoint = endpoint.into();
+        if !endpoint.is_specified() {
+            return Err(BindError::Unaddressable);
+        }
+        self.core.bind(endpoint)
+    }
+
+    /// Closes it: what waits in its queues is dropped.
+    pub fn close(&mut self) {
+        self.core.close();
+    }
+
+    /// Queues a datagram.
+    ///
+    /// # Errors
+    /// [`SendError`]: then nothing is queued.
+    pub fn send_slice(&mut self, data: &[u8], meta: impl Into<UdpMetadata>) -> Result<(), SendError> {
+        let remote = meta.into().endpoint;
+        self.core.send(|host, number| host.udp_send(number, remote, data))
+    }
+
+    /// Queues the datagram that `f` writes into a buffer of `max_size` octets, and returns how many `f` said it has.
+    ///
+    /// # Errors
+    /// [`SendError`]: then nothing is queued.
+    ///
+    /// # Panics
+    /// If `f` says more than `max_size`.
+    pub fn send_with<F>(&mut self, max_size: usize, meta: impl Into<UdpMetadata>, f: F) -> Result<usize, SendError>
+    where
+        F: FnOnce(&mut [u8]) -> usize,
+    {
+        let remote = meta.into().endpoint;
+        self.core.send_with(max_size, f, |host, number, data| host.udp_send(number, remote, data))
+    }
+
+    /// Takes the first datagram that came.
+    ///
+    /// # Errors
+    /// [`RecvError::Exhausted`] if none came.
+    pub fn recv(&mut self) -> Result<(&[u8], UdpMetadata), RecvError> {
+        self.core.recv()
+    }
+
+    /// Takes the first datagram that came, into a buffer, and returns its length.
+    ///
+    /// # Errors
+    /// [`RecvError::Exhausted`] if none came, [`RecvError::Truncated`] if it is longer than the buffer: then it is dropped.
+    pub fn recv_slice(&mut self, data: &mut [u8]) -> Result<(usize, UdpMetadata), RecvError> {
+        self.core.recv_slice(data)
+    }
+
+    /// The first datagram that came, which stays.
+    ///
+    /// # Errors
+    /// [`RecvError::Exhausted`] if none came.
+    pub fn peek(&mut self) -> Result<(&[u8], &UdpMetadata), RecvError> {
+        self.core.peek()
+    }
+
+    /// Copies the first datagram that came, which stays, into a buffer, and returns its length.
+    ///
+    /// # Errors
+    /// [`RecvError::Exhausted`] if none came, [`RecvError::Truncated`] if it is longer than the buffer.
+    pub fn peek_slice(&mut self, data: &mut [u8]) -> Result<(usize, &UdpMetadata), RecvError> {
+        self.core.peek_slice(data)
+    }
+}

@@ -1,0 +1,181 @@
+//! `c/iface.h`, declared: made by `make_sys.py`, with the comments of the header.
+//!
+//! Calling any of it is `unsafe`: the header says what the caller keeps. [`Host`](crate::Host) keeps it.
+//!
+//! Sum of the header: 0xbf1b36125911a10d
+#![allow(non_camel_case_types)]
+
+use core::ffi::c_void;
+
+/// the call is done
+pub const IFACE_OK: u32 = 0;
+/// the handle owns no host
+pub const IFACE_NO_HOST: u32 = 1;
+/// `iface_new`: the handle owns a host already
+pub const IFACE_HAS_HOST: u32 = 2;
+/// a version of IP that is neither 4 nor 6, a prefix longer than the address, a medium
+pub const IFACE_BAD_ARGUMENT: u32 = 3;
+/// malloc or realloc refused
+pub const IFACE_NO_MEMORY: u32 = 4;
+/// frame_len: not 590 to 1514 on Ethernet, 576 to 1514 without hardware addresses
+pub const IFACE_BAD_MTU: u32 = 5;
+/// a hardware address or an own address that can't be one
+pub const IFACE_NOT_UNICAST: u32 = 6;
+/// a moment below 0 or above 2^62
+pub const IFACE_BAD_MOMENT: u32 = 7;
+/// a destination that is unspecified, a group that is none
+pub const IFACE_BAD_ADDRESS: u32 = 8;
+/// no such address or route
+pub const IFACE_NOT_THERE: u32 = 9;
+/// four addresses, four routes or eight groups are there, or all sockets are open
+pub const IFACE_TABLE_FULL: u32 = 10;
+/// no socket of this kind is open by this number
+pub const IFACE_NO_SOCKET: u32 = 11;
+/// a port that is 0
+pub const IFACE_BAD_PORT: u32 = 12;
+/// a packet longer than is ever sent
+pub const IFACE_TOO_LONG: u32 = 13;
+/// the socket's queue has no room for the packet: `iface_next` makes some
+pub const IFACE_QUEUE_FULL: u32 = 14;
+/// no packet came; the socket doesn't wait; no packet was given up
+pub const IFACE_EMPTY: u32 = 15;
+/// the room for a frame is shorter than `IFACE_FRAME_ROOM`, that for a packet than the packet
+pub const IFACE_NO_ROOM: u32 = 16;
+/// reassembly_timeout: 0, or longer than a day
+pub const IFACE_BAD_TIMEOUT: u32 = 17;
+
+/// `iface_medium`.
+pub const IFACE_ETHERNET: u8 = 0;
+/// `iface_medium`.
+pub const IFACE_IP: u8 = 1;
+
+/// The room that `iface_receive` and `iface_next` need for a frame, in octets.
+pub const IFACE_FRAME_ROOM: usize = 1514;
+/// The last moment, in microseconds.
+pub const IFACE_LAST_MOMENT: i64 = 1 << 62;
+/// The instant that stands for none.
+pub const IFACE_NEVER: i64 = i64::MAX;
+
+/// A handle, which owns a host or none. Its fields are the library's.
+#[repr(C)]
+#[derive(Debug)]
+pub struct iface {
+    tag: u64,
+    at: *mut c_void,
+}
+
+/// An address.
+#[repr(C)]
+#[derive(Clone, Copy, Debug)]
+pub struct iface_address {
+    /// 4 or 6
+    pub version: u8,
+    /// in the order of the network: the first 4, or all 16
+    pub octets: [u8; 16],
+}
+
+/// One end of a datagram.
+#[repr(C)]
+#[derive(Clone, Copy, Debug)]
+pub struct iface_endpoint {
+    /// `address`.
+    pub address: iface_address,
+    /// in the order of the machine
+    pub port: u16,
+}
+
+/// How a host is to be made: `iface_config_init` fills it in.
+#[repr(C)]
+#[derive(Clone, Copy, Debug)]
+pub struct iface_config {
+    /// of its random words, which need not be secret: another for each host and each start
+    pub seed: u64,
+    /// how long a packet waits for a neighbour that doesn't answer, in microseconds, before it is given up; 0 is for ever, and then one such packet stops its socket
+    pub patience: u64,
+    /// how long fragments of a packet wait for the others, in microseconds: not 0, at most a day. Two packets at a time are put together, so strangers' fragments block the others for so long
+    pub reassembly_timeout: u64,
+    /// the longest frame of the link in octets, with a header of Ethernet and without its checksum: 1514 on usual Ethernet
+    pub frame_len: u32,
+    /// how many may be open at once; memory for their places is taken at once
+    pub sockets: u32,
+    /// on Ethernet; else it isn't read
+    pub hardware_address: [u8; 6],
+    /// `IFACE_ETHERNET` or `IFACE_IP`
+    pub medium: u8,
+    /// not 0: it takes IPv6 addresses and routes from routers (RFC 4862)
+    pub slaac: u8,
+}
+
+impl iface {
+    /// A handle that owns no host.
+    pub const NONE: iface = iface {
+        tag: 0,
+        at: core::ptr::null_mut(),
+    };
+}
+
+const _: () = assert!(size_of::<iface_address>() == 17);
+const _: () = assert!(size_of::<iface_endpoint>() == 20);
+const _: () = assert!(size_of::<iface_config>() == 40);
+const _: () = assert!(size_of::<iface>() == 16);
+
+unsafe extern "C" {
+    /// Writes what most programs want: frames of 1514 octets on Ethernet, 8 sockets, no addresses from routers, a patience of 3 s (three requests, a second apart: RFC 4861, 10), and 10 s for fragments. The seed is 0, and the hardware address all zeros: set both.
+    pub fn iface_config_init(config: *mut iface_config);
+    /// Makes a host, which the handle owns from then on. HAS_HOST, BAD_ARGUMENT (the medium), NOT_UNICAST (the hardware address), BAD_MTU, BAD_TIMEOUT, NO_MEMORY.
+    pub fn iface_new(host: *mut iface, config: *const iface_config) -> u32;
+    /// Frees a host, with its sockets and the frames that wait. The handle owns none from then on. NO_HOST.
+    pub fn iface_free(host: *mut iface) -> u32;
+    /// Adds an own address with its network, as 192.168.69.1 with 24, behind the others, and forgets all neighbours: at most four. On Ethernet the host joins the solicited-node group of an IPv6 address (RFC 4291, 2.7.1). BAD_ARGUMENT, TABLE_FULL, NOT_UNICAST (neither unicast nor unspecified).
+    pub fn iface_add_address(host: *mut iface, address: *const iface_address, prefix_len: u8) -> u32;
+    /// Takes out the first own address that is this one with this prefix, and forgets all neighbours. BAD_ARGUMENT, NOT_THERE.
+    pub fn iface_remove_address(host: *mut iface, address: *const iface_address, prefix_len: u8) -> u32;
+    /// Writes the own address at a place of their list, from 0 on: those that came from routers stand there too. NOT_THERE.
+    pub fn iface_address_at(host: *mut iface, place: u32, address: *mut iface_address, prefix_len: *mut u8) -> u32;
+    /// Joins a group, of at most eight: from now on packets to it are taken, and `iface_next` tells routers of it (RFC 2236, RFC 3810). BAD_ARGUMENT, BAD_ADDRESS (no group's), TABLE_FULL.
+    pub fn iface_join_group(host: *mut iface, group: *const iface_address) -> u32;
+    /// Leaves a group, if the host is in it. BAD_ARGUMENT, BAD_ADDRESS.
+    pub fn iface_leave_group(host: *mut iface, group: *const iface_address) -> u32;
+    /// Sets the default route of the gateway's family, in place of the first one that is there: at most four routes. BAD_ARGUMENT, TABLE_FULL.
+    pub fn iface_set_default_route(host: *mut iface, gateway: *const iface_address) -> u32;
+    /// Adds a route to a network by a router. The longest prefix wins, of equal ones the last. BAD_ARGUMENT, TABLE_FULL.
+    pub fn iface_add_route(host: *mut iface, network: *const iface_address, prefix_len: u8, router: *const iface_address) -> u32;
+    /// Takes out the first route to a network. BAD_ARGUMENT, NOT_THERE.
+    pub fn iface_remove_route(host: *mut iface, network: *const iface_address, prefix_len: u8) -> u32;
+    /// UDP (RFC 768) at a port of one address, or of any if the version of local is 0. BAD_PORT.
+    pub fn iface_udp_open(host: *mut iface, local: *const iface_endpoint, packets: u32, octets: u32, socket: *mut u32) -> u32;
+    /// Whole packets of a version of IP and a protocol.
+    pub fn iface_raw_open(host: *mut iface, version: u8, protocol: u8, packets: u32, octets: u32, socket: *mut u32) -> u32;
+    /// Echo messages of either ICMP with an identifier (RFC 792, RFC 4443).
+    pub fn iface_icmp_open_ident(host: *mut iface, ident: u16, packets: u32, octets: u32, socket: *mut u32) -> u32;
+    /// Port unreachables of either ICMP for datagrams of UDP from this port of the host.
+    pub fn iface_icmp_open_port(host: *mut iface, port: u16, packets: u32, octets: u32, socket: *mut u32) -> u32;
+    /// Closes a socket of whatever kind: what waits in it is dropped. NO_SOCKET.
+    pub fn iface_close(host: *mut iface, socket: u32) -> u32;
+    /// A datagram with this payload: over IPv4 of at most 4096 octets with its headers (28), in pieces if the link's packets are shorter, over IPv6 of at most one packet of the link with its headers (48). BAD_ARGUMENT, BAD_PORT, BAD_ADDRESS (unspecified), TOO_LONG.
+    pub fn iface_udp_send(host: *mut iface, socket: u32, remote: *const iface_endpoint, payload: *const u8, payload_len: usize) -> u32;
+    /// A message of ICMP: one that isn't an echo message of the address's family is dropped later. BAD_ARGUMENT, BAD_ADDRESS, TOO_LONG.
+    pub fn iface_icmp_send(host: *mut iface, socket: u32, remote: *const iface_address, message: *const u8, message_len: usize) -> u32;
+    /// A packet with its header: one that isn't of the socket's version and protocol, or is too long to be sent, is dropped later.
+    pub fn iface_raw_send(host: *mut iface, socket: u32, packet: *const u8, packet_len: usize) -> u32;
+    /// Each of these takes the first packet that came, and writes it, how long it is and where it came from. NO_SOCKET, EMPTY, NO_ROOM: then it stays. Room for the octets that the socket's queue holds is always enough.
+    pub fn iface_udp_receive(host: *mut iface, socket: u32, remote: *mut iface_endpoint, out: *mut u8, room: usize, length: *mut usize) -> u32;
+    /// A message of ICMP, from its type on.
+    pub fn iface_icmp_receive(host: *mut iface, socket: u32, remote: *mut iface_address, out: *mut u8, room: usize, length: *mut usize) -> u32;
+    /// A packet with its header.
+    pub fn iface_raw_receive(host: *mut iface, socket: u32, out: *mut u8, room: usize, length: *mut usize) -> u32;
+    /// Writes for whom the first packet of a socket waits, and since when, as of the last round. NO_SOCKET, EMPTY.
+    pub fn iface_waiting(host: *mut iface, socket: u32, remote: *mut iface_address, since: *mut i64) -> u32;
+    /// Writes the destination of the packet that a socket gave up last, once. NO_SOCKET, EMPTY.
+    pub fn iface_given_up(host: *mut iface, socket: u32, remote: *mut iface_address) -> u32;
+    /// Writes how many packets were given up, of all sockets.
+    pub fn iface_given_up_count(host: *mut iface, count: *mut u64) -> u32;
+    /// Takes a frame of any octets, and writes the frame that is to be sent in response, of `*length` octets; none if that is 0.
+    pub fn iface_receive(host: *mut iface, now: i64, frame: *const u8, frame_len: usize, out: *mut u8, room: usize, length: *mut usize) -> u32;
+    /// Writes the next frame that is to be sent, of `*length` octets; 0 says that the round sent nothing.
+    ///
+    /// Frames are sent in rounds: in a round what has ended is dropped, routers are told of groups, and each socket that has something to send sends one packet, in the order of their numbers. A packet that goes in pieces is begun when no piece of another one is left, so sockets take turns with such packets. The frames of a round wait in the library until they are asked for, one a call; a call that finds none makes the next round. So no socket is passed over, however seldom frames are asked for. Call it until `*length` is 0, and then ask `iface_poll_at`. NO_MEMORY (before a round, if memory for a frame is refused).
+    pub fn iface_next(host: *mut iface, now: i64, out: *mut u8, room: usize, length: *mut usize) -> u32;
+    /// Writes the instant at which `iface_next` is to be called again, if no frame comes before and no call changes the host: one that has passed, if something is due at once, and `IFACE_NEVER`, if nothing is due.
+    pub fn iface_poll_at(host: *mut iface, now: i64, at: *mut i64) -> u32;
+}

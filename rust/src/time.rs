@@ -1,0 +1,200 @@
+//! Instants and spans of time, in microseconds.
+use core::fmt;
+use core::ops::{Add, AddAssign, Sub, SubAssign};
+
+/// An instant from 0 to 2^62 microseconds since any origin: those that the library takes.
+///
+/// What would lie outside is the nearest one that doesn't.
+#[derive(Clone, Copy, Debug, Default, PartialEq, Eq, PartialOrd, Ord, Hash)]
+pub struct Instant(i64);
+
+impl Instant {
+    /// The origin.
+    pub const ZERO: Instant = Instant(0);
+    /// The last instant.
+    pub const LAST: Instant = Instant(crate::sys::IFACE_LAST_MOMENT);
+
+    /// So many microseconds after the origin, in a constant too.
+    pub const fn from_micros_const(micros: i64) -> Instant {
+        if micros < 0 {
+            Instant::ZERO
+        } else if micros > Instant::LAST.0 {
+            Instant::LAST
+        } else {
+            Instant(micros)
+        }
+    }
+
+    /// So many milliseconds after the origin, in a constant too.
+    pub const fn from_millis_const(millis: i64) -> Instant {
+        Instant::from_micros_const(millis.saturating_mul(1_000))
+    }
+
+    /// So many microseconds after the origin.
+    pub fn from_micros<T: Into<i64>>(micros: T) -> Instant {
+        Instant::from_micros_const(micros.into())
+    }
+
+    /// So many milliseconds after the origin.
+    pub fn from_millis<T: Into<i64>>(millis: T) -> Instant {
+        Instant::from_millis_const(millis.into())
+    }
+
+    /// So many seconds after the origin.
+    pub fn from_secs<T: Into<i64>>(secs: T) -> Instant {
+        Instant::from_micros_const(secs.into().saturating_mul(1_000_000))
+    }
+
+    /// The time since the first call, by the system's monotonic clock.
+    #[cfg(feature = "std")]
+    pub fn now() -> Instant {
+        use std::sync::OnceLock;
+        static START: OnceLock<std::time::Instant> = OnceLock::new();
+        let micros = START.get_or_init(std::time::Instant::now).elapsed().as_micros();
+        Instant::from_micros_const(i64::try_from(micros).unwrap_or(i64::MAX))
+    }
+
+    /// The microseconds since the origin.
+    pub const fn total_micros(&self) -> i64 {
+        self.0
+    }
+
+    /// The whole milliseconds since the origin.
+    pub const fn total_millis(&self) -> i64 {
+        self.0 / 1_000
+    }
+
+    /// The whole seconds since the origin.
+    pub const fn secs(&self) -> i64 {
+        self.0 / 1_000_000
+    }
+
+    /// The whole milliseconds behind the whole seconds.
+    pub const fn millis(&self) -> i64 {
+        self.0 / 1_000 % 1_000
+    }
+
+    /// The microseconds behind the whole milliseconds.
+    pub const fn micros(&self) -> i64 {
+        self.0 % 1_000
+    }
+}
+
+impl fmt::Display for Instant {
+    fn fmt(&self, f: &mut fmt::Formatter<'_>) -> fmt::Result {
+        write!(f, "{}.{:03}s", self.secs(), self.millis())
+    }
+}
+
+/// A span of time.
+#[derive(Clone, Copy, Debug, Default, PartialEq, Eq, PartialOrd, Ord, Hash)]
+pub struct Duration(u64);
+
+impl Duration {
+    /// No time.
+    pub const ZERO: Duration = Duration(0);
+    /// The longest span.
+    pub const MAX: Duration = Duration(u64::MAX);
+
+    /// So many microseconds.
+    pub const fn from_micros(micros: u64) -> Duration {
+        Duration(micros)
+    }
+
+    /// So many milliseconds.
+    pub const fn from_millis(millis: u64) -> Duration {
+        Duration(millis.saturating_mul(1_000))
+    }
+
+    /// So many seconds.
+    pub const fn from_secs(secs: u64) -> Duration {
+        Duration(secs.saturating_mul(1_000_000))
+    }
+
+    /// The microseconds of it.
+    pub const fn total_micros(&self) -> u64 {
+        self.0
+    }
+
+    /// The whole milliseconds of it.
+    pub const fn total_millis(&self) -> u64 {
+        self.0 / 1_000
+    }
+
+    /// The whole seconds of it.
+    pub const fn secs(&self) -> u64 {
+        self.0 / 1_000_000
+    }
+}
+
+impl fmt::Display for Duration {
+    fn fmt(&self, f: &mut fmt::Formatter<'_>) -> fmt::Result {
+        write!(f, "{}.{:03}s", self.secs(), self.total_millis() % 1_000)
+    }
+}
+
+impl From<Duration> for core::time::Duration {
+    fn from(span: Duration) -> core::time::Duration {
+        core::time::Duration::from_micros(span.0)
+    }
+}
+
+impl From<core::time::Duration> for Duration {
+    fn from(span: core::time::Duration) -> Duration {
+        Duration(u64::try_from(span.as_micros()).unwrap_or(u64::MAX))
+    }
+}
+
+impl Add<Duration> for Instant {
+    type Output = Instant;
+
+    fn add(self, span: Duration) -> Instant {
+        Instant::from_micros_const(self.0.saturating_add_unsigned(span.0))
+    }
+}
+
+impl AddAssign<Duration> for Instant {
+    fn add_assign(&mut self, span: Duration) {
+        *self = *self + span;
+    }
+}
+
+impl Sub<Duration> for Instant {
+    type Output = Instant;
+
+    fn sub(self, span: Duration) -> Instant {
+        Instant::from_micros_const(self.0.saturating_sub_unsigned(span.0))
+    }
+}
+
+impl SubAssign<Duration> for Instant {
+    fn sub_assign(&mut self, span: Duration) {
+        *self = *self - span;
+    }
+}
+
+impl Sub<Instant> for Instant {
+    type Output = Duration;
+
+    /// The time from the other instant to this one: none, if the other is later.
+    fn sub(self, other: Instant) -> Duration {
+        Duration(u64::try_from(self.0 - other.0).unwrap_or(0))
+    }
+}
+
+impl Add<Duration> for Duration {
+    type Output = Duration;
+
+    fn add(self, other: Duration) -> Duration {
+        Duration(self.0.saturating_add(other.0))
+    }
+}
+
+impl Sub<Duration> for Duration {
+    type Output = Duration;
+
+    /// The rest, if the other is taken off: none, if the other is longer.
+    fn sub(self, other: Duration) -> Duration {
+        Duration(self.0.saturating_sub(other.0))
+    }
+}

@@ -1,0 +1,516 @@
+//! Addresses, networks and endpoints.
+//!
+//! smoltcp's packets and their representations (`Icmpv4Packet`, `UdpRepr` and the like) aren't here: the library reads and writes them itself.
+use core::fmt;
+use core::net::{IpAddr, SocketAddr, SocketAddrV4, SocketAddrV6};
+use core::str::FromStr;
+
+pub use core::net::{Ipv4Addr as Ipv4Address, Ipv6Addr as Ipv6Address};
+
+/// A text that isn't what it is read as.
+#[derive(Clone, Copy, Debug, Default, PartialEq, Eq)]
+pub struct ParseError;
+
+impl fmt::Display for ParseError {
+    fn fmt(&self, f: &mut fmt::Formatter<'_>) -> fmt::Result {
+        f.write_str("neither an address nor a network")
+    }
+}
+
+impl core::error::Error for ParseError {}
+
+/// A version of IP.
+#[derive(Clone, Copy, Debug, PartialEq, Eq, PartialOrd, Ord, Hash)]
+pub enum IpVersion {
+    /// Version 4 (RFC 791).
+    Ipv4,
+    /// Version 6 (RFC 8200).
+    Ipv6,
+}
+
+impl fmt::Display for IpVersion {
+    fn fmt(&self, f: &mut fmt::Formatter<'_>) -> fmt::Result {
+        f.write_str(match self {
+            IpVersion::Ipv4 => "IPv4",
+            IpVersion::Ipv6 => "IPv6",
+        })
+    }
+}
+
+macro_rules! protocols {
+    ($($(#[$docs:meta])* $name:ident = $number:literal,)*) => {
+        /// A protocol over IP, by its number.
+        #[derive(Clone, Copy, Debug, PartialEq, Eq, PartialOrd, Ord, Hash)]
+        pub enum IpProtocol {
+            $($(#[$docs])* $name,)*
+            /// Any other number.
+            Unknown(u8),
+        }
+
+        impl From<u8> for IpProtocol {
+            fn from(number: u8) -> IpProtocol {
+                match number {
+                    $($number => IpProtocol::$name,)*
+                    other => IpProtocol::Unknown(other),
+                }
+            }
+        }
+
+        impl From<IpProtocol> for u8 {
+            fn from(protocol: IpProtocol) -> u8 {
+                match protocol {
+                    $(IpProtocol::$name => $number,)*
+                    IpProtocol::Unknown(number) => number,
+                }
+            }
+        }
+    };
+}
+
+protocols! {
+    /// Hop-by-hop options of IPv6.
+    HopByHop = 0,
+    /// ICMP.
+    Icmp = 1,
+    /// IGMP.
+    Igmp = 2,
+    /// TCP.
+    Tcp = 6,
+    /// UDP.
+    Udp = 17,
+    /// A routing header of IPv6.
+    Ipv6Route = 43,
+    /// A fragment header of IPv6.
+    Ipv6Frag = 44,
+    /// An encapsulating security payload.
+    IpSecEsp = 50,
+    /// An authentication header.
+    IpSecAh = 51,
+    /// ICMPv6.
+    Icmpv6 = 58,
+    /// Nothing behind the header.
+    Ipv6NoNxt = 59,
+    /// Destination options of IPv6.
+    Ipv6Opts = 60,
+}
+
+/// A hardware address of Ethernet.
+#[derive(Clone, Copy, Debug, Default, PartialEq, Eq, PartialOrd, Ord, Hash)]
+pub struct EthernetAddress(pub [u8; 6]);
+
+impl EthernetAddress {
+    /// The broadcast address.
+    pub const BROADCAST: EthernetAddress = EthernetAddress([0xff; 6]);
+
+    /// The address of six octets.
+    ///
+    /// # Panics
+    /// If there aren't six, as smoltcp's.
+    pub fn from_bytes(octets: &[u8]) -> EthernetAddress {
+        let mut own = [0; 6];
+        own.copy_from_slice(octets);
+        EthernetAddress(own)
+    }
+
+    /// Its octets.
+    pub const fn as_bytes(&self) -> &[u8] {
+        &self.0
+    }
+
+    /// Whether it is the broadcast address.
+    pub fn is_broadcast(&self) -> bool {
+        *self == EthernetAddress::BROADCAST
+    }
+
+    /// Whether it is a group's, the broadcast address included.
+    pub const fn is_multicast(&self) -> bool {
+        self.0[0] & 1 != 0
+    }
+
+    /// Whether it is neither broadcast nor a group's.
+    pub fn is_unicast(&self) -> bool {
+        !(self.is_broadcast() || self.is_multicast())
+    }
+}
+
+impl fmt::Display for EthernetAddress {
+    fn fmt(&self, f: &mut fmt::Formatter<'_>) -> fmt::Result {
+        let [a, b, c, d, e, g] = self.0;
+        write!(f, "{a:02x}-{b:02x}-{c:02x}-{d:02x}-{e:02x}-{g:02x}")
+    }
+}
+
+/// What an interface is known by on its medium.
+#[derive(Clone, Copy, Debug, PartialEq, Eq, PartialOrd, Ord, Hash)]
+pub enum HardwareAddress {
+    /// The medium has no hardware addresses.
+    Ip,
+    /// An address on Ethernet.
+    Ethernet(EthernetAddress),
+}
+
+impl From<EthernetAddress> for HardwareAddress {
+    fn from(address: EthernetAddress) -> HardwareAddress {
+        HardwareAddress::Ethernet(address)
+    }
+}
+
+impl fmt::Display for HardwareAddress {
+    fn fmt(&self, f: &mut fmt::Formatter<'_>) -> fmt::Result {
+        match self {
+            HardwareAddress::Ip => f.write_str("no hardware addr"),
+            HardwareAddress::Ethernet(address) => address.fmt(f),
+        }
+    }
+}
+
+/// An address of either version.
+#[derive(Clone, Copy, Debug, PartialEq, Eq, PartialOrd, Ord, Hash)]
+pub enum IpAddress {
+    /// An IPv4 address.
+    Ipv4(Ipv4Address),
+    /// An IPv6 address.
+    Ipv6(Ipv6Address),
+}
+
+impl IpAddress {
+    /// The IPv4 address of four octets.
+    pub const fn v4(a: u8, b: u8, c: u8, d: u8) -> IpAddress {
+        IpAddress::Ipv4(Ipv4Address::new(a, b, c, d))
+    }
+
+    /// The IPv6 address of eight groups.
+    #[allow(clippy::too_many_arguments)]
+    pub const fn v6(a: u16, b: u16, c: u16, d: u16, e: u16, f: u16, g: u16, h: u16) -> IpAddress {
+        IpAddress::Ipv6(Ipv6Address::new(a, b, c, d, e, f, g, h))
+    }
+
+    /// Its version.
+    pub const fn version(&self) -> IpVersion {
+        match self {
+            IpAddress::Ipv4(_) => IpVersion::Ipv4,
+            IpAddress::Ipv6(_) => IpVersion::Ipv6,
+        }
+    }
+
+    /// Whether it is 0.0.0.0 or ::.
+    pub const fn is_unspecified(&self) -> bool {
+        match self {
+            IpAddress::Ipv4(address) => address.is_unspecified(),
+            IpAddress::Ipv6(address) => address.is_unspecified(),
+        }
+    }
+
+    /// Whether it is a group's.
+    pub const fn is_multicast(&self) -> bool {
+        match self {
+            IpAddress::Ipv4(address) => address.is_multicast(),
+            IpAddress::Ipv6(address) => address.is_multicast(),
+        }
+    }
+
+    /// Whether it is 255.255.255.255.
+    pub const fn is_broadcast(&self) -> bool {
+        match self {
+            IpAddress::Ipv4(address) => address.is_broadcast(),
+            IpAddress::Ipv6(_) => false,
+        }
+    }
+
+    /// Whether it is none of these three.
+    pub const fn is_unicast(&self) -> bool {
+        !(self.is_broadcast() || self.is_multicast() || self.is_unspecified())
+    }
+}
+
+impl From<Ipv4Address> for IpAddress {
+    fn from(address: Ipv4Address) -> IpAddress {
+        IpAddress::Ipv4(address)
+    }
+}
+
+impl From<Ipv6Address> for IpAddress {
+    fn from(address: Ipv6Address) -> IpAddress {
+        IpAddress::Ipv6(address)
+    }
+}
+
+impl From<IpAddr> for IpAddress {
+    fn from(address: IpAddr) -> IpAddress {
+        match address {
+            IpAddr::V4(address) => IpAddress::Ipv4(address),
+            IpAddr::V6(address) => IpAddress::Ipv6(address),
+        }
+    }
+}
+
+impl From<IpAddress> for IpAddr {
+    fn from(address: IpAddress) -> IpAddr {
+        match address {
+            IpAddress::Ipv4(address) => IpAddr::V4(address),
+            IpAddress::Ipv6(address) => IpAddr::V6(address),
+        }
+    }
+}
+
+impl FromStr for IpAddress {
+    type Err = ParseError;
+
+    fn from_str(text: &str) -> Result<IpAddress, ParseError> {
+        text.parse::<IpAddr>().map(IpAddress::from).map_err(|_| ParseError)
+    }
+}
+
+impl fmt::Display for IpAddress {
+    fn fmt(&self, f: &mut fmt::Formatter<'_>) -> fmt::Result {
+        match self {
+            IpAddress::Ipv4(address) => address.fmt(f),
+            IpAddress::Ipv6(address) => address.fmt(f),
+        }
+    }
+}
+
+macro_rules! cidr {
+    ($name:ident, $address:ty, $bits:literal, $number:ty) => {
+        /// An address with the length of its network's prefix.
+        #[derive(Clone, Copy, Debug, PartialEq, Eq, PartialOrd, Ord, Hash)]
+        pub struct $name {
+            address: $address,
+            prefix_len: u8,
+        }
+
+        impl $name {
+            /// An address and the length of its prefix in bits.
+            ///
+            /// # Panics
+            /// If the prefix is longer than the address, as smoltcp's.
+            pub const fn new(address: $address, prefix_len: u8) -> $name {
+                assert!(prefix_len <= $bits);
+                $name { address, prefix_len }
+            }
+
+            /// The address.
+            pub const fn address(&self) -> $address {
+                self.address
+            }
+
+            /// The length of the prefix in bits.
+            pub const fn prefix_len(&self) -> u8 {
+                self.prefix_len
+            }
+
+            /// Whether an address is in this network.
+            pub fn contains_addr(&self, address: &$address) -> bool {
+                let mask = <$number>::MAX.checked_shl(u32::from($bits - self.prefix_len)).unwrap_or(0);
+                <$number>::from(self.address) & mask == <$number>::from(*address) & mask
+            }
+        }
+
+        impl fmt::Display for $name {
+            fn fmt(&self, f: &mut fmt::Formatter<'_>) -> fmt::Result {
+                write!(f, "{}/{}", self.address, self.prefix_len)
+            }
+        }
+    };
+}
+
+cidr!(Ipv4Cidr, Ipv4Address, 32, u32);
+cidr!(Ipv6Cidr, Ipv6Address, 128, u128);
+
+impl Ipv6Cidr {
+    /// The prefix of link-local addresses, fe80::/64 (RFC 4291, 2.5.6).
+    pub const LINK_LOCAL_PREFIX: Ipv6Cidr = Ipv6Cidr::new(Ipv6Address::new(0xfe80, 0, 0, 0, 0, 0, 0, 0), 64);
+
+    /// The address of a prefix of 64 bits that is formed from a hardware address of Ethernet (RFC 4291, appendix A).
+    ///
+    /// `None` if the prefix has another length, or the medium no hardware addresses.
+    pub fn from_link_prefix(link_prefix: &Ipv6Cidr, interface_identifier: HardwareAddress) -> Option<Ipv6Cidr> {
+        let HardwareAddress::Ethernet(EthernetAddress([a, b, c, d, e, f])) = interface_identifier else { return None };
+        if link_prefix.prefix_len != 64 {
+            return None;
+        }
+        let mut octets = link_prefix.address.octets();
+        octets[8..].copy_from_slice(&[a ^ 2, b, c, 0xff, 0xfe, d, e, f]);
+        Some(Ipv6Cidr::new(octets.into(), 64))
+    }
+}
+
+/// An address of either version with the length of its network's prefix.
+#[derive(Clone, Copy, Debug, PartialEq, Eq, PartialOrd, Ord, Hash)]
+pub enum IpCidr {
+    /// Of IPv4.
+    Ipv4(Ipv4Cidr),
+    /// Of IPv6.
+    Ipv6(Ipv6Cidr),
+}
+
+impl IpCidr {
+    /// An address and the length of its prefix in bits.
+    ///
+    /// # Panics
+    /// If the prefix is longer than the address, as smoltcp's.
+    pub const fn new(address: IpAddress, prefix_len: u8) -> IpCidr {
+        match address {
+            IpAddress::Ipv4(address) => IpCidr::Ipv4(Ipv4Cidr::new(address, prefix_len)),
+            IpAddress::Ipv6(address) => IpCidr::Ipv6(Ipv6Cidr::new(address, prefix_len)),
+        }
+    }
+
+    /// The address.
+    pub const fn address(&self) -> IpAddress {
+        match self {
+            IpCidr::Ipv4(cidr) => IpAddress::Ipv4(cidr.address()),
+            IpCidr::Ipv6(cidr) => IpAddress::Ipv6(cidr.address()),
+        }
+    }
+
+    /// The length of the prefix in bits.
+    pub const fn prefix_len(&self) -> u8 {
+        match self {
+            IpCidr::Ipv4(cidr) => cidr.prefix_len(),
+            IpCidr::Ipv6(cidr) => cidr.prefix_len(),
+        }
+    }
+
+    /// Whether an address is in this network.
+    pub fn contains_addr(&self, address: &IpAddress) -> bool {
+        match (self, address) {
+            (IpCidr::Ipv4(cidr), IpAddress::Ipv4(address)) => cidr.contains_addr(address),
+            (IpCidr::Ipv6(cidr), IpAddress::Ipv6(address)) => cidr.contains_addr(address),
+            _ => false,
+        }
+    }
+}
+
+impl From<Ipv4Cidr> for IpCidr {
+    fn from(cidr: Ipv4Cidr) -> IpCidr {
+        IpCidr::Ipv4(cidr)
+    }
+}
+
+impl From<Ipv6Cidr> for IpCidr {
+    fn from(cidr: Ipv6Cidr) -> IpCidr {
+        IpCidr::Ipv6(cidr)
+    }
+}
+
+impl FromStr for IpCidr {
+    type Err = ParseError;
+
+    fn from_str(text: &str) -> Result<IpCidr, ParseError> {
+        let (address, prefix_len) = text.split_once('/').ok_or(ParseError)?;
+        let address: IpAddress = address.parse()?;
+        let bits = match address.version() {
+            IpVersion::Ipv4 => 32,
+            IpVersion::Ipv6 => 128,
+        };
+        match prefix_len.parse() {
+            Ok(prefix_len) if prefix_len <= bits => Ok(IpCidr::new(address, prefix_len)),
+            _ => Err(ParseError),
+        }
+    }
+}
+
+impl fmt::Display for IpCidr {
+    fn fmt(&self, f: &mut fmt::Formatter<'_>) -> fmt::Result {
+        match self {
+            IpCidr::Ipv4(cidr) => cidr.fmt(f),
+            IpCidr::Ipv6(cidr) => cidr.fmt(f),
+        }
+    }
+}
+
+/// One end of a datagram: an address and a port.
+#[derive(Clone, Copy, Debug, PartialEq, Eq, PartialOrd, Ord, Hash)]
+pub struct IpEndpoint {
+    /// The address.
+    pub addr: IpAddress,
+    /// The port.
+    pub port: u16,
+}
+
+impl IpEndpoint {
+    /// An address and a port.
+    pub const fn new(addr: IpAddress, port: u16) -> IpEndpoint {
+        IpEndpoint { addr, port }
+    }
+}
+
+impl<T: Into<IpAddress>> From<(T, u16)> for IpEndpoint {
+    fn from((addr, port): (T, u16)) -> IpEndpoint {
+        IpEndpoint { addr: addr.into(), port }
+    }
+}
+
+impl From<SocketAddr> for IpEndpoint {
+    fn from(address: SocketAddr) -> IpEndpoint {
+        IpEndpoint { addr: address.ip().into(), port: address.port() }
+    }
+}
+
+impl From<SocketAddrV4> for IpEndpoint {
+    fn from(address: SocketAddrV4) -> IpEndpoint {
+        IpEndpoint { addr: (*address.ip()).into(), port: address.port() }
+    }
+}
+
+impl From<SocketAddrV6> for IpEndpoint {
+    fn from(address: SocketAddrV6) -> IpEndpoint {
+        IpEndpoint { addr: (*address.ip()).into(), port: address.port() }
+    }
+}
+
+impl fmt::Display for IpEndpoint {
+    fn fmt(&self, f: &mut fmt::Formatter<'_>) -> fmt::Result {
+        match self.addr {
+            IpAddress::Ipv4(address) => write!(f, "{address}:{}", self.port),
+            IpAddress::Ipv6(address) => write!(f, "[{address}]:{}", self.port),
+        }
+    }
+}
+
+/// Where a socket listens: at a port of one address, or of any.
+///
+/// Made of an address that is unspecified, it is of any address, as smoltcp's. One whose `addr` is set to such an address by hand gets only
+/// what comes to broadcast addresses and groups.
+#[derive(Clone, Copy, Debug, Default, PartialEq, Eq, PartialOrd, Ord, Hash)]
+pub struct IpListenEndpoint {
+    /// The address: `None` for any.
+    pub addr: Option<IpAddress>,
+    /// The port.
+    pub port: u16,
+}
+
+impl IpListenEndpoint {
+    /// Whether it has a port.
+    pub const fn is_specified(&self) -> bool {
+        self.port != 0
+    }
+}
+
+impl From<u16> for IpListenEndpoint {
+    fn from(port: u16) -> IpListenEndpoint {
+        IpListenEndpoint { addr: None, port }
+    }
+}
+
+impl From<IpEndpoint> for IpListenEndpoint {
+    fn from(end: IpEndpoint) -> IpListenEndpoint {
+        (end.addr, end.port).into()
+    }
+}
+
+impl<T: Into<IpAddress>> From<(T, u16)> for IpListenEndpoint {
+    fn from((addr, port): (T, u16)) -> IpListenEndpoint {
+        IpListenEndpoint { addr: Some(addr.into()).filter(|addr| !addr.is_unspecified()), port }
+    }
+}
+
+impl fmt::Display for IpListenEndpoint {
+    fn fmt(&self, f: &mut fmt::Formatter<'_>) -> fmt::Result {
+        match self.addr {
+            Some(addr) => IpEndpoint::new(addr, self.port).fmt(f),
+            None => write!(f, "*:{}", self.port),
+        }
+    }
+}

@@ -1,0 +1,82 @@
+#!/bin/bash
+# Runs ping, server, multicast and slaac on TAP devices in a network namespace of its own, against Linux's stack. It changes nothing
+# outside that namespace, and ends by itself after at most three minutes.
+#
+#   tap.sh FOLDER     the folder of the built examples, of Linux
+#
+# It needs: root (for the namespace and the device), unshare (util-linux), ip (iproute2), ping (iputils), python3, /dev/net/tun.
+set -eu
+folder=$(realpath "$1")
+here=$(dirname "$(realpath "$0")")
+
+need() {
+    echo "tap.sh: this needs $1" >&2
+    exit 2
+}
+
+if [ -z "${IS_INSIDE:-}" ]; then
+    [ "$(uname)" = Linux ] || need "Linux"
+    [ "$(id -u)" = 0 ] || need "root, for a network namespace and a TAP device"
+    [ -c /dev/net/tun ] || need "/dev/net/tun (modprobe tun)"
+    for tool in unshare ip ping python3; do
+        command -v "$tool" >/dev/null || need "$tool"
+    done
+    exec env IS_INSIDE=1 timeout 180 unshare -n -- "$0" "$folder"
+fi
+
+scratch=$(mktemp -d)
+running=
+trap 'kill $running 2>/dev/null || true; rm -rf "$scratch"' EXIT
+ip link set lo up
+ip tuntap add dev tap0 mode tap
+ip addr add 192.168.69.100/24 dev tap0
+ip -6 addr add fdaa::100/64 dev tap0 nodad
+ip -6 addr add fe80::100/64 dev tap0 nodad
+ip link set tap0 up
+sleep 2 # until the kernel may use its link-local address
+
+status=0
+try() {
+    echo "== $*"
+    "$@" || status=1
+}
+# Starts an example, whose output is kept.
+start() {
+    "$folder/$1" tap0 "$2" >"$scratch/output" &
+    running=$!
+    sleep 1
+}
+# Waits for its end, and shows the output, in which each of the words has to be.
+finish() {
+    wait "$running" || status=1
+    running=
+    cat "$scratch/output"
+    for word in "$@"; do
+        grep -q "$word" "$scratch/output" || { echo "no '$word'" && status=1; }
+    done
+}
+
+try "$folder/ping" tap0 192.168.69.100 -c 4 -i 200
+try "$folder/ping" tap0 fdaa::100 -c 4 -i 200
+try "$folder/ping" tap0 fe80::100 -c 4 -i 200
+
+start server 8
+try ping -c 3 -i 0.2 192.168.69.1
+try ping -c 3 -i 0.2 fdaa::1
+try ping -c 3 -i 0.2 -s 3000 192.168.69.1
+try ping -f -q -c 5000 192.168.69.1
+try python3 "$here/tap_peer.py" reversed
+finish 'udp:6969 recv data: 4000 octets from 192.168.69.100'
+
+ip neigh flush dev tap0
+start multicast 6
+try python3 "$here/tap_peer.py" groups
+finish 'to 224.0.0.37' 'type 0x11' 'ff15::25'
+
+ip neigh flush dev tap0
+start slaac 6
+try python3 "$here/tap_peer.py" router
+ip -6 addr add 2001:db8:77::100/64 dev tap0 nodad
+try ping -c 3 -i 0.2 2001:db8:77::ff:fe00:1
+finish '2001:db8:77::ff:fe00:1/64'
+exit $status

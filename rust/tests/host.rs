@@ -1,0 +1,310 @@
+//! The library's calls through `Host`. What is expected comes from smoltcp's own tests (named in each), from RFCs, and from `docs/C.md`.
+mod common;
+
+use common::{Node, OWN, Seen, advertisement, arp, ethernet, ipv4, millis, settings, udp4};
+use fumitorygate::time::{Duration, Instant};
+use fumitorygate::wire::{EthernetAddress, HardwareAddress, IpAddress, IpCidr, IpEndpoint, Ipv4Address, Ipv6Address};
+use fumitorygate::{Error, FRAME_ROOM, Host, Settings};
+
+const SELF: Ipv4Address = Ipv4Address::new(192, 168, 69, 1);
+const CIDR: IpCidr = IpCidr::new(IpAddress::v4(192, 168, 69, 1), 24);
+const LINK_LOCAL: IpCidr = IpCidr::new(IpAddress::v6(0xfe80, 0, 0, 0, 0, 0, 0, 1), 64);
+
+/// A neighbour's address and hardware address.
+fn neighbor(last: u8) -> (Ipv4Address, [u8; 6]) {
+    (Ipv4Address::new(192, 168, 69, last), [0, 0, 0, 0, 0, last])
+}
+
+/// Has a host learn a neighbour, by its ARP reply.
+fn fill(node: &mut Node, last: u8, link: [u8; 6], now: Instant) {
+    let (address, _) = neighbor(last);
+    assert_eq!(node.take(now, &arp(2, link, address, OWN, SELF)), None);
+}
+
+fn asks(last: u8) -> Vec<Seen> {
+    vec![Seen::Asks(neighbor(last).0.into())]
+}
+
+/// `docs/C.md`, The configuration.
+#[test]
+fn the_settings_are_those_of_the_table() {
+    let settings = Settings::new(HardwareAddress::Ip);
+    assert_eq!(settings.random_seed, 0);
+    assert_eq!(settings.patience, Duration::from_micros(3_000_000));
+    assert_eq!(settings.reassembly_timeout, Duration::from_micros(10_000_000));
+    assert_eq!(settings.frame_len, 1514);
+    assert_eq!(settings.sockets, 8);
+    assert!(!settings.slaac);
+}
+
+/// `docs/C.md`, Codes.
+#[test]
+fn a_host_is_refused_with_its_reason() {
+    let made = |change: fn(&mut Settings)| {
+        let mut settings = settings();
+        change(&mut settings);
+        Host::new(&settings).map(|_| ())
+    };
+    assert_eq!(made(|_| ()), Ok(()));
+    assert_eq!(made(|settings| settings.frame_len = 589), Err(Error::BadMtu));
+    assert_eq!(made(|settings| settings.frame_len = 590), Ok(()));
+    assert_eq!(made(|settings| settings.frame_len = 1515), Err(Error::BadMtu));
+    assert_eq!(made(|settings| settings.reassembly_timeout = Duration::ZERO), Err(Error::BadTimeout));
+    assert_eq!(made(|settings| settings.reassembly_timeout = Duration::from_secs(86_400)), Ok(()));
+    assert_eq!(
+        made(|settings| settings.reassembly_timeout = Duration::from_micros(86_400_000_001)),
+        Err(Error::BadTimeout)
+    );
+    assert_eq!(made(|settings| settings.hardware_addr = EthernetAddress::BROADCAST.into()), Err(Error::NotUnicast));
+    assert_eq!(made(|settings| (settings.hardware_addr, settings.frame_len) = (HardwareAddress::Ip, 576)), Ok(()));
+}
+
+/// `docs/C.md`, Codes: four addresses, four routes, eight groups; the first code that applies.
+#[test]
+fn a_refused_call_says_why() {
+    let mut settings = settings();
+    settings.sockets = 1;
+    let mut node = Node::of(&settings, &[CIDR]);
+    let host = &mut node.host;
+    let group = |last| IpAddress::v4(239, 0, 0, last);
+    assert_eq!(host.add_address(IpCidr::new(group(1), 8)), Err(Error::NotUnicast));
+    for last in 2..5 {
+        host.add_address(IpCidr::new(IpAddress::v4(10, 0, 0, last), 8)).unwrap();
+    }
+    assert_eq!(host.add_address(CIDR), Err(Error::TableFull));
+    assert_eq!(host.remove_address(IpCidr::new(SELF.into(), 25)), Err(Error::NotThere));
+    assert_eq!(host.address_at(0), Some(CIDR));
+    assert_eq!(host.address_at(4), None);
+    assert_eq!(host.join_group(SELF.into()), Err(Error::BadAddress));
+    for last in 1..=8 {
+        host.join_group(group(last)).unwrap();
+    }
+    assert_eq!(host.join_group(group(9)), Err(Error::TableFull));
+    assert_eq!(host.leave_group(SELF.into()), Err(Error::BadAddress));
+    assert_eq!(host.leave_group(group(9)), Ok(()));
+    for last in 1..=4 {
+        host.add_route(IpCidr::new(IpAddress::v4(172, 16, last, 0), 24), IpAddress::v4(10, 0, 0, 9)).unwrap();
+    }
+    assert_eq!(host.set_default_route(IpAddress::v4(10, 0, 0, 9)), Err(Error::TableFull));
+    assert_eq!(host.remove_route(IpCidr::new(IpAddress::v4(172, 16, 5, 0), 24)), Err(Error::NotThere));
+    assert_eq!(host.udp_open(0.into(), 1, 1), Err(Error::BadPort));
+    let socket = host.udp_open(7.into(), 1, 8).unwrap();
+    assert_eq!(socket, 0);
+    assert_eq!(host.udp_open(8.into(), 1, 1), Err(Error::TableFull));
+    let to = |address: IpAddress, port| IpEndpoint::new(address, port);
+    let peer = IpAddress::v4(192, 168, 69, 2);
+    assert_eq!(host.udp_send(socket, to(peer, 0), b""), Err(Error::BadPort));
+    assert_eq!(host.udp_send(socket, to(IpAddress::v4(0, 0, 0, 0), 7), b""), Err(Error::BadAddress));
+    assert_eq!(host.udp_send(socket, to(peer, 7), &[0; 4069]), Err(Error::TooLong));
+    assert_eq!(host.udp_send(socket, to(peer, 7), &[0; 9]), Err(Error::QueueFull));
+    assert_eq!(host.udp_send(socket, to(peer, 7), &[0; 8]), Ok(()));
+    assert_eq!(host.udp_send(socket, to(peer, 7), b""), Err(Error::QueueFull));
+    assert_eq!(host.udp_receive(socket, &mut []), Err(Error::Empty));
+    assert_eq!(host.icmp_send(socket, peer, b""), Err(Error::NoSocket));
+    assert_eq!(host.raw_receive(1, &mut []), Err(Error::NoSocket));
+    assert_eq!(host.close(1), Err(Error::NoSocket));
+    assert_eq!(host.waiting(1), Err(Error::NoSocket));
+    assert_eq!(host.given_up(1), Err(Error::NoSocket));
+    assert_eq!(host.close(socket), Ok(()));
+    assert_eq!(host.close(socket), Err(Error::NoSocket));
+}
+
+/// RFC 826: the reply has the fields of the request exchanged, and the own hardware address.
+#[test]
+fn an_arp_request_is_answered() {
+    let mut node = Node::new(&[CIDR]);
+    let (peer, link) = neighbor(2);
+    let reply = node.take(millis(0), &arp(1, link, peer, [0; 6], SELF)).unwrap();
+    assert_eq!(reply, arp(2, OWN, SELF, link, peer));
+}
+
+/// smoltcp: `neighbor`, `test_fill`, `test_expire`: an entry lasts a minute.
+#[test]
+fn a_neighbor_is_known_until_its_end() {
+    let mut node = Node::new(&[CIDR]);
+    assert_eq!(node.lookup(neighbor(2).0, millis(0)), asks(2));
+    fill(&mut node, 2, neighbor(2).1, millis(0));
+    assert_eq!(node.lookup(neighbor(2).0, millis(0)), [Seen::Datagram(neighbor(2).1)]);
+    assert_eq!(node.lookup(neighbor(2).0, Instant::from_secs(120)), asks(2));
+}
+
+/// smoltcp: `neighbor`, `test_replace`.
+#[test]
+fn a_neighbor_is_replaced() {
+    let mut node = Node::new(&[CIDR]);
+    fill(&mut node, 2, [0, 0, 0, 0, 0, 1], millis(0));
+    assert_eq!(node.lookup(neighbor(2).0, millis(0)), [Seen::Datagram([0, 0, 0, 0, 0, 1])]);
+    fill(&mut node, 2, [0, 0, 0, 0, 0, 2], millis(0));
+    assert_eq!(node.lookup(neighbor(2).0, millis(0)), [Seen::Datagram([0, 0, 0, 0, 0, 2])]);
+}
+
+/// smoltcp: `neighbor`, `test_evict`, for four places: the entry that would end first makes room.
+#[test]
+fn the_neighbor_that_ends_first_makes_room() {
+    let mut node = Node::new(&[CIDR]);
+    for (last, at) in [(11, 100), (12, 50), (13, 200), (15, 400)] {
+        fill(&mut node, last, neighbor(last).1, millis(at));
+    }
+    assert_eq!(node.lookup(neighbor(12).0, millis(1000)), [Seen::Datagram(neighbor(12).1)]);
+    fill(&mut node, 14, neighbor(14).1, millis(300));
+    assert_eq!(node.lookup(neighbor(14).0, millis(1000)), [Seen::Datagram(neighbor(14).1)]);
+    assert_eq!(node.lookup(neighbor(12).0, millis(1000)), asks(12));
+}
+
+/// smoltcp: `neighbor`, `test_hush`: no second request at 100 ms, one at 2 s.
+#[test]
+fn requests_are_limited() {
+    let mut node = Node::new(&[CIDR]);
+    assert_eq!(node.lookup(neighbor(2).0, millis(0)), asks(2));
+    assert_eq!(node.lookup(neighbor(2).0, millis(100)), []);
+    assert_eq!(node.lookup(neighbor(2).0, millis(2000)), asks(2));
+}
+
+/// smoltcp: `neighbor`, `test_flush`; new addresses flush.
+#[test]
+fn an_address_that_is_added_forgets_neighbors() {
+    let mut node = Node::new(&[CIDR]);
+    fill(&mut node, 2, neighbor(2).1, millis(0));
+    assert_eq!(node.lookup(neighbor(2).0, millis(0)), [Seen::Datagram(neighbor(2).1)]);
+    node.host.add_address(IpCidr::new(IpAddress::v4(10, 0, 0, 1), 8)).unwrap();
+    assert_eq!(node.lookup(neighbor(2).0, millis(0)), asks(2));
+}
+
+/// smoltcp: `route`, `test_fill`, by whom the host asks for.
+#[test]
+fn routes_are_found() {
+    let router_1: Ipv4Address = Ipv4Address::new(192, 168, 69, 101);
+    let router_2: Ipv4Address = Ipv4Address::new(192, 168, 69, 102);
+    let (addr_1b, addr_1c) = (Ipv4Address::new(192, 0, 2, 13), Ipv4Address::new(192, 0, 2, 42));
+    let addr_2b = Ipv4Address::new(198, 51, 100, 21);
+    let mut node = Node::new(&[CIDR]);
+    assert_eq!(node.lookup(addr_1b, millis(0)), []);
+    assert_eq!(node.lookup(addr_2b, millis(0)), []);
+    node.host.add_route("192.0.2.0/24".parse().unwrap(), router_1.into()).unwrap();
+    assert_eq!(node.lookup(addr_1b, millis(2000)), [Seen::Asks(router_1.into())]);
+    assert_eq!(node.lookup(addr_1c, millis(4000)), [Seen::Asks(router_1.into())]);
+    assert_eq!(node.lookup(addr_2b, millis(6000)), []);
+    node.host.add_route("198.51.100.0/24".parse().unwrap(), router_2.into()).unwrap();
+    assert_eq!(node.lookup(addr_1b, millis(8000)), [Seen::Asks(router_1.into())]);
+    assert_eq!(node.lookup(addr_2b, millis(10_000)), [Seen::Asks(router_2.into())]);
+    node.host.remove_route("192.0.2.0/24".parse().unwrap()).unwrap();
+    assert_eq!(node.lookup(addr_1b, millis(12_000)), []);
+}
+
+/// smoltcp: `slaac`, `test_solicitation`, and RFC 4861 10: three solicitations, four seconds apart.
+#[test]
+fn routers_are_solicited() {
+    let mut with_slaac = settings();
+    with_slaac.slaac = true;
+    let mut node = Node::of(&with_slaac, &[LINK_LOCAL]);
+    let solicited = |node: &mut Node, now| node.sends(now).contains(&Seen::SolicitsRouters);
+    let now = millis(1);
+    assert!(solicited(&mut node, now));
+    assert!(!solicited(&mut node, now));
+    let next_poll = node.host.poll_at(now).unwrap();
+    assert_eq!(next_poll, now + Duration::from_secs(4));
+    assert!(solicited(&mut node, next_poll));
+    assert!(solicited(&mut node, next_poll + Duration::from_secs(4)));
+    assert!(!solicited(&mut node, next_poll + Duration::from_secs(8)));
+}
+
+/// smoltcp: `slaac`, `test_ra_state`: its router and prefix, the prefix valid for 700 s; the identifier is RFC 4291's, appendix A.
+#[test]
+fn an_address_comes_from_a_router_and_ends() {
+    let mut with_slaac = settings();
+    with_slaac.slaac = true;
+    let mut node = Node::of(&with_slaac, &[LINK_LOCAL]);
+    let now = Instant::from_secs(300);
+    node.sends(now);
+    let router = Ipv6Address::new(0xfe80, 0xdb8, 0, 0, 0, 0, 0, 0);
+    let prefix = Ipv6Address::new(0x2001, 0xdb8, 0, 0, 0, 0, 0, 0);
+    assert_eq!(node.take(now, &advertisement(router, 600, prefix, 700, 300)), None);
+    node.sends(now);
+    let formed = IpCidr::new(IpAddress::v6(0x2001, 0xdb8, 0, 0, 0, 0xff, 0xfe00, 1), 64);
+    assert_eq!((node.host.address_at(1), node.host.address_at(2)), (Some(formed), None));
+    node.sends(now + Duration::from_secs(699));
+    assert_eq!(node.host.address_at(1), Some(formed));
+    node.sends(now + Duration::from_secs(700));
+    assert_eq!(node.host.address_at(1), None);
+}
+
+/// smoltcp: `fragmentation`, `packet_assembler_out_of_order_assemble`: its text in a datagram.
+#[test]
+fn fragments_are_put_together_out_of_order() {
+    let mut node = Node::new(&[CIDR]);
+    let (peer, link) = neighbor(2);
+    let socket = node.host.udp_open(7.into(), 4, 64).unwrap();
+    let whole = udp4(peer, SELF, (9, 7), b"Hello World!");
+    let (head, tail) = whole[20..].split_at(16);
+    let first = ethernet(OWN, link, 0x0800, &ipv4(peer, SELF, 17, 1, 0x2000, head));
+    let second = ethernet(OWN, link, 0x0800, &ipv4(peer, SELF, 17, 1, 2, tail));
+    let mut out = [0; 64];
+    node.take(millis(0), &second);
+    assert_eq!(node.host.udp_receive(socket, &mut out), Err(Error::Empty));
+    node.take(millis(0), &first);
+    assert_eq!(node.host.udp_receive(socket, &mut out[..11]), Err(Error::NoRoom));
+    assert_eq!(node.host.udp_receive(socket, &mut out), Ok((12, (peer, 9).into())));
+    assert_eq!(&out[..12], b"Hello World!");
+}
+
+/// `docs/C.md`, A neighbour that doesn't answer: requests a second apart; given up in the first round after three seconds, at most one
+/// second later; told once, and counted.
+#[test]
+fn a_neighbor_that_does_not_answer_is_given_up() {
+    let mut node = Node::new(&[CIDR]);
+    let socket = node.host.udp_open(7.into(), 4, 64).unwrap();
+    let absent = neighbor(9).0;
+    assert_eq!(node.host.waiting(socket), Ok(None));
+    node.host.udp_send(socket, (absent, 9).into(), b"anybody?").unwrap();
+    let mut now = millis(0);
+    assert_eq!(node.sends(now), asks(9));
+    assert_eq!(node.host.waiting(socket), Ok(Some((absent.into(), now))));
+    assert_eq!(node.host.given_up(socket), Ok(None));
+    let mut requests = vec![now];
+    while node.host.given_up_count() == 0 {
+        now = node.host.poll_at(now).expect("something is due").max(now + Duration::from_micros(1));
+        assert!(now <= Instant::from_secs(4));
+        requests.extend(node.sends(now).iter().map(|_| now));
+    }
+    assert!(now >= Instant::from_secs(3));
+    assert_eq!(requests, [millis(0), millis(1000), millis(2000)]);
+    assert_eq!(node.host.given_up(socket), Ok(Some(absent.into())));
+    assert_eq!(node.host.given_up(socket), Ok(None));
+    assert_eq!((node.host.given_up_count(), node.host.waiting(socket)), (1, Ok(None)));
+}
+
+/// `docs/C.md`, The configuration: with a patience of 0 a packet waits for ever.
+#[test]
+fn without_patience_a_packet_waits() {
+    let mut for_ever = settings();
+    for_ever.patience = Duration::ZERO;
+    let mut node = Node::of(&for_ever, &[CIDR]);
+    let socket = node.host.udp_open(7.into(), 4, 64).unwrap();
+    node.host.udp_send(socket, (neighbor(9).0, 9).into(), b"anybody?").unwrap();
+    for hour in 0..24 {
+        assert_eq!(node.sends(Instant::from_secs(hour * 3600)), asks(9));
+    }
+    assert_eq!(node.host.given_up_count(), 0);
+}
+
+#[test]
+fn a_host_goes_to_another_thread() {
+    let hosts: Vec<_> = (1..=4u8)
+        .map(|last| {
+            std::thread::spawn(move || {
+                let settings = Settings::new(EthernetAddress([2, 0, 0, 0, 0, last]).into());
+                let mut host = Host::new(&settings).unwrap();
+                host.add_address(IpCidr::new(IpAddress::v4(10, 0, 0, last), 8)).unwrap();
+                host
+            })
+        })
+        .collect();
+    for (place, host) in hosts.into_iter().enumerate() {
+        let mut host = host.join().unwrap();
+        let mut out = [0; FRAME_ROOM];
+        let own = Ipv4Address::new(10, 0, 0, place as u8 + 1);
+        let asked = arp(1, [2, 0, 0, 0, 0, 99], Ipv4Address::new(10, 0, 0, 99), [0; 6], own);
+        let reply = host.receive(Instant::ZERO, &asked, &mut out).unwrap().unwrap();
+        assert_eq!(reply[28..32], own.octets());
+    }
+}

@@ -1,0 +1,420 @@
+//! `Interface`, `SocketSet` and the sockets. What is expected comes from smoltcp's documentation of these calls, from `docs/C.md` and
+//! `API.md`.
+#![cfg(feature = "alloc")]
+mod common;
+
+use common::{OWN, arp, ethernet, ipv4, millis, udp4};
+use fumitorygate::Error;
+use fumitorygate::iface::{Config, Interface, MulticastError, PollResult, RouteTableFull, SocketSet};
+use fumitorygate::phy::{Loopback, Medium, MemoryDevice};
+use fumitorygate::socket::{Socket, icmp, raw, udp};
+use fumitorygate::time::{Duration, Instant};
+use fumitorygate::wire::{
+    EthernetAddress, HardwareAddress, IpAddress, IpCidr, IpEndpoint, IpListenEndpoint, IpProtocol, IpVersion,
+    Ipv4Address, Ipv6Address,
+};
+
+const SELF: Ipv4Address = Ipv4Address::new(192, 168, 69, 1);
+const PEER: Ipv4Address = Ipv4Address::new(192, 168, 69, 2);
+const PEER_LINK: [u8; 6] = [2, 0, 0, 0, 0, 2];
+
+fn interface() -> (MemoryDevice, Interface, SocketSet<'static>) {
+    let mut device = MemoryDevice::new(Medium::Ethernet, 1514);
+    let mut config = Config::new(EthernetAddress(OWN).into());
+    config.sockets = 2;
+    let mut iface = Interface::new(config, &mut device, Instant::ZERO).unwrap();
+    iface.update_ip_addrs(|list| list.push(IpCidr::new(SELF.into(), 24)).unwrap()).unwrap();
+    let sockets = SocketSet::new(&iface);
+    (device, iface, sockets)
+}
+
+fn buffer() -> udp::PacketBuffer<'static> {
+    udp::PacketBuffer::new([udp::PacketMetadata::EMPTY; 2], [0; 256])
+}
+
+fn datagram(payload: &[u8]) -> Vec<u8> {
+    ethernet(OWN, PEER_LINK, 0x0800, &udp4(PEER, SELF, (9, 7), payload))
+}
+
+/// `docs/C.md`, The configuration: no host waits for ever unless it is told to.
+#[test]
+fn patience_is_set_from_the_start() {
+    let config = Config::new(HardwareAddress::Ip);
+    assert_eq!(config.patience, Duration::from_secs(3));
+    assert_eq!(config.reassembly_timeout, Duration::from_secs(10));
+    assert_eq!((config.random_seed, config.sockets, config.slaac), (0, 8, false));
+}
+
+#[test]
+fn an_interface_is_refused_with_its_reason() {
+    let made = |hardware: HardwareAddress, medium, mtu| {
+        Interface::new(Config::new(hardware), &mut MemoryDevice::new(medium, mtu), Instant::ZERO).map(|_| ())
+    };
+    let own = HardwareAddress::Ethernet(EthernetAddress(OWN));
+    assert_eq!(made(own, Medium::Ethernet, 1514), Ok(()));
+    assert_eq!(made(HardwareAddress::Ip, Medium::Ip, 1500), Ok(()));
+    assert_eq!(made(own, Medium::Ethernet, 589), Err(Error::BadMtu));
+    assert_eq!(made(own, Medium::Ethernet, usize::MAX), Err(Error::BadMtu));
+    assert_eq!(made(EthernetAddress([1; 6]).into(), Medium::Ethernet, 1514), Err(Error::NotUnicast));
+    assert_eq!(made(own, Medium::Ip, 1500), Err(Error::BadArgument));
+}
+
+#[test]
+fn addresses_are_read_back_and_a_refused_list_changes_nothing() {
+    let (_, mut iface, _) = interface();
+    let all: Vec<IpCidr> =
+        ["192.168.69.1/24", "fe80::1/64", "10.0.0.1/8", "0.0.0.0/0"].iter().map(|text| text.parse().unwrap()).collect();
+    iface.update_ip_addrs(|list| all[1..].iter().for_each(|cidr| list.push(*cidr).unwrap())).unwrap();
+    assert_eq!(*iface.ip_addrs(), all[..]);
+    let link_local = Ipv6Address::new(0xfe80, 0, 0, 0, 0, 0, 0, 1);
+    assert_eq!((iface.ipv4_addr(), iface.ipv6_addr()), (Some(SELF), Some(link_local)));
+    iface
+        .update_ip_addrs(|list| {
+            assert_eq!(list.push(all[0]), Err(all[0]));
+            list.retain(|cidr| *cidr != all[1]);
+        })
+        .unwrap();
+    assert_eq!(*iface.ip_addrs(), [all[0], all[2], all[3]]);
+    let refused = iface.update_ip_addrs(|list| {
+        list.clear();
+        list.push(all[1]).unwrap();
+        list.push("224.0.0.1/4".parse().unwrap()).unwrap();
+    });
+    assert_eq!(refused, Err(Error::NotUnicast));
+    assert_eq!(*iface.ip_addrs(), [all[0], all[2], all[3]]);
+    assert!(iface.has_ip_addr(SELF) && !iface.has_ip_addr(PEER));
+    iface
+        .update_ip_addrs(|list| {
+            assert_eq!((list.remove(0), list.pop()), (all[0], Some(all[3])));
+            list[0] = all[1];
+        })
+        .unwrap();
+    assert_eq!(*iface.ip_addrs(), [all[1]]);
+}
+
+#[test]
+fn an_address_twice_is_kept_in_its_order() {
+    let (_, mut iface, _) = interface();
+    let (a, b) = (IpCidr::new(SELF.into(), 24), IpCidr::new(PEER.into(), 24));
+    for list in [vec![a, b, a], vec![a, a, b], vec![b, a, a], vec![a], vec![]] {
+        iface
+            .update_ip_addrs(|old| {
+                old.clear();
+                list.iter().for_each(|cidr| old.push(*cidr).unwrap());
+            })
+            .unwrap();
+        assert_eq!(*iface.ip_addrs(), list[..]);
+    }
+}
+
+#[test]
+fn a_datagram_comes_and_goes() {
+    let (mut device, mut iface, mut sockets) = interface();
+    let handle = sockets.add(udp::Socket::new(buffer(), buffer()));
+    assert_eq!(iface.poll(millis(1), &mut device, &mut sockets), PollResult::None);
+    let socket = sockets.get_mut::<udp::Socket>(handle);
+    assert_eq!(socket.send_slice(b"x", (PEER, 9)), Err(udp::SendError::Unaddressable));
+    assert_eq!(socket.bind(0), Err(udp::BindError::Unaddressable));
+    socket.bind(7).unwrap();
+    assert_eq!(socket.bind(8), Err(udp::BindError::InvalidState));
+    assert_eq!(socket.endpoint(), 7.into());
+    assert_eq!(socket.recv(), Err(udp::RecvError::Exhausted));
+    device.incoming.push_back(arp(2, PEER_LINK, PEER, OWN, SELF));
+    for text in [b"one".as_slice(), b"two", b"three: no room"] {
+        device.incoming.push_back(datagram(text));
+    }
+    assert_eq!(iface.poll(millis(1), &mut device, &mut sockets), PollResult::SocketStateChanged);
+    let socket = sockets.get_mut::<udp::Socket>(handle);
+    let from = (PEER, 9).into();
+    assert!(socket.can_recv());
+    assert_eq!(socket.peek(), Ok((b"one".as_slice(), &from)));
+    assert_eq!(socket.peek_slice(&mut [0; 2]), Err(udp::RecvError::Truncated));
+    let mut room = [0; 3];
+    assert_eq!((socket.recv_slice(&mut room), &room), (Ok((3, from)), b"one"));
+    assert_eq!(socket.recv(), Ok((b"two".as_slice(), from)));
+    assert!(!socket.can_recv());
+    assert_eq!(socket.recv(), Err(udp::RecvError::Exhausted));
+    // Two datagrams have room, a third one hasn't.
+    for (text, done) in [(b"a", Ok(())), (b"b", Ok(())), (b"c", Err(udp::SendError::BufferFull))] {
+        assert_eq!(socket.send_slice(text, from), done);
+    }
+    assert_eq!(socket.send_with(4, from, |_| 4), Err(udp::SendError::BufferFull));
+    assert_eq!(iface.poll_delay(millis(1), &sockets), Some(Duration::ZERO));
+    iface.poll(millis(1), &mut device, &mut sockets);
+    let texts: Vec<Vec<u8>> = device.sent.iter().map(|frame| frame[42..].to_vec()).collect();
+    assert_eq!(texts, [b"a".to_vec(), b"b".to_vec()]);
+    assert_eq!(device.sent[0][..14], [2, 0, 0, 0, 0, 2, 2, 0, 0, 0, 0, 1, 8, 0]);
+    assert_eq!(iface.poll_at(millis(1), &sockets), None);
+    let socket = sockets.get_mut::<udp::Socket>(handle);
+    assert_eq!(socket.send_with(4, from, |room| room.iter_mut().map(|octet| *octet = b'd').count()), Ok(4));
+    assert_eq!(socket.send_with(257, from, |_| panic!("no room")), Err(udp::SendError::BufferFull));
+    iface.poll(millis(1), &mut device, &mut sockets);
+    assert_eq!(device.sent[2][42..], *b"dddd");
+}
+
+/// smoltcp's `recv_slice` drops a packet that is longer than the buffer; its `can_recv` is about packets, an empty one too.
+#[test]
+fn a_truncated_datagram_is_dropped_and_an_empty_one_is_received() {
+    let (mut device, mut iface, mut sockets) = interface();
+    let handle = sockets.add(udp::Socket::new(buffer(), buffer()));
+    sockets.get_mut::<udp::Socket>(handle).bind(7).unwrap();
+    device.incoming.extend([datagram(b"long"), datagram(b"")]);
+    iface.poll(millis(1), &mut device, &mut sockets);
+    let socket = sockets.get_mut::<udp::Socket>(handle);
+    let from = (PEER, 9).into();
+    assert_eq!(socket.recv_slice(&mut [0; 3]), Err(udp::RecvError::Truncated));
+    assert!(socket.can_recv());
+    assert!(socket.can_recv());
+    assert_eq!(socket.peek(), Ok((b"".as_slice(), &from)));
+    assert_eq!(socket.recv_slice(&mut []), Ok((0, from)));
+    assert!(!socket.can_recv());
+}
+
+/// `API.md`: a socket may be bound before it comes into a set, stays bound when it is taken out, and isn't given up when it is refused.
+#[test]
+fn sockets_go_in_and_out() {
+    let (mut device, mut iface, mut sockets) = interface();
+    let mut socket = udp::Socket::new(buffer(), buffer());
+    socket.bind(7).unwrap();
+    assert_eq!(socket.send_slice(b"x", (PEER, 9)), Err(udp::SendError::BufferFull));
+    assert!(socket.is_open() && !socket.can_recv());
+    let handle = sockets.add(socket);
+    device.incoming.push_back(datagram(b"one"));
+    iface.poll(millis(1), &mut device, &mut sockets);
+    assert!(sockets.get::<udp::Socket>(handle).can_recv());
+    let Socket::Udp(socket) = sockets.remove(handle) else { panic!("another kind") };
+    assert!(socket.is_open() && !socket.can_recv());
+    let handle = sockets.add(socket);
+    assert!(!sockets.get::<udp::Socket>(handle).can_recv());
+    device.incoming.push_back(datagram(b"two"));
+    iface.poll(millis(1), &mut device, &mut sockets);
+    assert_eq!(sockets.get_mut::<udp::Socket>(handle).recv().unwrap().0, b"two");
+    sockets.get_mut::<udp::Socket>(handle).close();
+    assert!(!sockets.get::<udp::Socket>(handle).is_open());
+}
+
+#[test]
+fn sockets_are_closed_with_their_places() {
+    let (mut device, mut iface, mut sockets) = interface();
+    let raw = || raw::Socket::new(IpVersion::Ipv4, IpProtocol::Unknown(253), buffer(), buffer());
+    let first = sockets.add(udp::Socket::new(buffer(), buffer()));
+    let second = sockets.add(icmp::Socket::new(buffer(), buffer()));
+    let third = sockets.add(raw());
+    sockets.get_mut::<udp::Socket>(first).bind(7).unwrap();
+    // `Config::sockets` is 2.
+    let full = sockets.get_mut::<icmp::Socket>(second).bind(icmp::Endpoint::Ident(1));
+    assert_eq!(full, Err(icmp::BindError::Exhausted));
+    let refused = sockets.try_add(raw()).unwrap_err();
+    assert_eq!(refused.error, Error::TableFull);
+    sockets.remove(third);
+    sockets.get_mut::<icmp::Socket>(second).bind(icmp::Endpoint::Ident(1)).unwrap();
+    // A socket that is overwritten is closed, too.
+    *sockets.get_mut::<udp::Socket>(first) = udp::Socket::new(buffer(), buffer());
+    let fourth = sockets.add(refused.socket);
+    assert_eq!(fourth, third);
+    let packet = ipv4(PEER, SELF, 253, 0, 0, b"packet");
+    device.incoming.push_back(ethernet(OWN, PEER_LINK, 0x0800, &packet));
+    iface.poll(millis(1), &mut device, &mut sockets);
+    let socket = sockets.get_mut::<raw::Socket>(fourth);
+    assert_eq!(&socket.peek().unwrap()[20..], b"packet");
+    assert_eq!(&socket.recv().unwrap()[20..], b"packet");
+    assert_eq!(sockets.iter().count(), 3);
+    // Sockets outlive their interface, and their set.
+    drop(iface);
+    assert!(!sockets.get::<raw::Socket>(fourth).can_recv());
+    let kept = sockets.remove(fourth);
+    drop(sockets);
+    drop(kept);
+}
+
+#[test]
+#[should_panic(expected = "the table is full")]
+fn a_full_set_panics_as_smoltcps() {
+    let (_, _, mut sockets) = interface();
+    for port in 1..4 {
+        let mut socket = udp::Socket::new(buffer(), buffer());
+        socket.bind(port).unwrap();
+        sockets.add(socket);
+    }
+}
+
+#[test]
+#[should_panic(expected = "wrong type")]
+fn a_handle_names_its_kind() {
+    let (_, _, mut sockets) = interface();
+    let handle = sockets.add(udp::Socket::new(buffer(), buffer()));
+    sockets.get::<raw::Socket>(handle);
+}
+
+#[test]
+#[should_panic(expected = "another interface")]
+fn sockets_belong_to_their_interface() {
+    let (mut device, mut iface, _) = interface();
+    let (_, _, mut others) = interface();
+    iface.poll(Instant::ZERO, &mut device, &mut others);
+}
+
+/// RFC 792: an echo reply for the socket's identifier comes to it, another one doesn't.
+#[test]
+fn icmp_sockets_get_their_replies() {
+    let (mut device, mut iface, mut sockets) = interface();
+    let handle = sockets.add(icmp::Socket::new(buffer(), buffer()));
+    let socket = sockets.get_mut::<icmp::Socket>(handle);
+    let one_address = IpListenEndpoint { addr: Some(SELF.into()), port: 7 };
+    assert_eq!(socket.bind(icmp::Endpoint::Unspecified), Err(icmp::BindError::Unaddressable));
+    assert_eq!(socket.bind(icmp::Endpoint::Udp(one_address)), Err(icmp::BindError::Unaddressable));
+    assert_eq!(socket.bind(icmp::Endpoint::Udp(0.into())), Err(icmp::BindError::Unaddressable));
+    socket.bind(icmp::Endpoint::Ident(0x22b)).unwrap();
+    socket.send_slice(&[8, 0, 0, 0, 2, 0x2b, 0, 1, b'x'], PEER.into()).unwrap();
+    device.incoming.push_back(arp(2, PEER_LINK, PEER, OWN, SELF));
+    iface.poll(millis(1), &mut device, &mut sockets);
+    // The request, with its checksum.
+    let request = [8, 0, 0x7d, 0xd3, 2, 0x2b, 0, 1, b'x'];
+    assert_eq!(common::sum(&request), 0);
+    assert_eq!(device.sent.pop_front().unwrap()[34..], request);
+    for ident in [0x2c, 0x2b] {
+        let mut reply = vec![0, 0, 0, 0, 2, ident, 0, 1, b'x'];
+        let check = common::sum(&reply).to_be_bytes();
+        reply[2..4].copy_from_slice(&check);
+        device.incoming.push_back(ethernet(OWN, PEER_LINK, 0x0800, &ipv4(PEER, SELF, 1, 0, 0, &reply)));
+    }
+    iface.poll(millis(1), &mut device, &mut sockets);
+    let (message, from) = sockets.get_mut::<icmp::Socket>(handle).recv().unwrap();
+    assert_eq!((message[0], message[5], from), (0, 0x2b, PEER.into()));
+    assert!(!sockets.get::<icmp::Socket>(handle).can_recv());
+}
+
+/// RFC 792, RFC 1122 3.2.2.1: a port unreachable that quotes a datagram from this port comes to the socket.
+#[test]
+fn icmp_sockets_get_port_unreachables() {
+    let (mut device, mut iface, mut sockets) = interface();
+    let handle = sockets.add(icmp::Socket::new(buffer(), buffer()));
+    sockets.get_mut::<icmp::Socket>(handle).bind(icmp::Endpoint::Udp(7.into())).unwrap();
+    let quoted = udp4(SELF, PEER, (7, 9), b"x");
+    let mut message = [&[3, 3, 0, 0, 0, 0, 0, 0], &quoted[..]].concat();
+    let check = common::sum(&message).to_be_bytes();
+    message[2..4].copy_from_slice(&check);
+    device.incoming.push_back(ethernet(OWN, PEER_LINK, 0x0800, &ipv4(PEER, SELF, 1, 0, 0, &message)));
+    iface.poll(millis(1), &mut device, &mut sockets);
+    let (received, from) = sockets.get_mut::<icmp::Socket>(handle).recv().unwrap();
+    assert_eq!((received[..2].to_vec(), from), (vec![3, 3], PEER.into()));
+}
+
+/// `docs/C.md`: eight groups, four routes.
+#[test]
+fn groups_and_routes_have_their_errors() {
+    let (mut device, mut iface, mut sockets) = interface();
+    assert_eq!(iface.join_multicast_group(SELF), Err(MulticastError::Unaddressable));
+    for n in 0..8 {
+        iface.join_multicast_group(Ipv4Address::new(239, 0, 0, n)).unwrap();
+    }
+    let ninth = Ipv4Address::new(239, 0, 0, 9);
+    assert_eq!(iface.join_multicast_group(ninth), Err(MulticastError::GroupTableFull));
+    iface.poll(Instant::ZERO, &mut device, &mut sockets);
+    assert_eq!(device.sent.len(), 8);
+    iface.leave_multicast_group(Ipv4Address::new(239, 0, 0, 1)).unwrap();
+    let mut routes = iface.routes_mut();
+    for n in 1..4 {
+        routes.add(IpCidr::new(IpAddress::v4(10, n, 0, 0), 16), PEER.into()).unwrap();
+    }
+    routes.add_default_ipv4_route(PEER).unwrap();
+    routes.add_default_ipv4_route(Ipv4Address::new(192, 168, 69, 3)).unwrap();
+    assert_eq!(routes.add_default_ipv6_route(Ipv6Address::LOCALHOST), Err(RouteTableFull));
+    assert!(routes.remove_default_ipv4_route() && !routes.remove_default_ipv4_route());
+    assert!(!routes.remove_default_ipv6_route());
+    assert!(routes.remove("10.2.0.0/16".parse().unwrap()) && !routes.remove("10.2.0.0/16".parse().unwrap()));
+}
+
+/// `docs/C.md`, A neighbour that doesn't answer.
+#[test]
+fn a_socket_tells_of_an_absent_neighbor() {
+    let (mut device, mut iface, mut sockets) = interface();
+    let handle = sockets.add(udp::Socket::new(buffer(), buffer()));
+    let socket = sockets.get_mut::<udp::Socket>(handle);
+    socket.bind(7).unwrap();
+    socket.send_slice(b"anybody?", (PEER, 9)).unwrap();
+    iface.poll(millis(0), &mut device, &mut sockets);
+    assert_eq!(sockets.get::<udp::Socket>(handle).waiting(), Some((PEER.into(), millis(0))));
+    for second in 1..=4 {
+        iface.poll(Instant::from_secs(second), &mut device, &mut sockets);
+    }
+    let socket = sockets.get_mut::<udp::Socket>(handle);
+    assert_eq!(socket.waiting(), None);
+    assert_eq!((socket.given_up(), socket.given_up()), (Some(PEER.into()), None));
+    assert_eq!(iface.given_up_count(), 1);
+    assert_eq!(iface.poll_at(Instant::from_secs(4), &sockets), None);
+}
+
+/// Interface and sockets in threads of their own, each of which calls the host.
+#[test]
+fn interface_and_sockets_may_be_in_different_threads() {
+    let (_, mut iface, mut sockets) = interface();
+    let handle = sockets.add(udp::Socket::new(buffer(), buffer()));
+    sockets.get_mut::<udp::Socket>(handle).bind(7).unwrap();
+    let adds = std::thread::spawn(move || {
+        for n in 0..500 {
+            let cidr = IpCidr::new(IpAddress::v4(10, 0, (n / 250) as u8, (n % 250 + 1) as u8), 8);
+            iface.update_ip_addrs(|list| list.truncate_to_one_and_push(cidr)).unwrap();
+            assert_eq!(iface.ip_addrs()[1], cidr);
+        }
+    });
+    for _ in 0..500 {
+        assert!(!sockets.get::<udp::Socket>(handle).can_recv());
+        assert_eq!(sockets.get_mut::<udp::Socket>(handle).recv_slice(&mut []), Err(udp::RecvError::Exhausted));
+    }
+    adds.join().unwrap();
+}
+
+trait TruncateToOneAndPush {
+    fn truncate_to_one_and_push(&mut self, cidr: IpCidr);
+}
+
+impl TruncateToOneAndPush for fumitorygate::iface::Addresses {
+    fn truncate_to_one_and_push(&mut self, cidr: IpCidr) {
+        while self.len() > 1 {
+            self.pop();
+        }
+        self.push(cidr).unwrap();
+    }
+}
+
+/// On a medium without hardware addresses nobody is asked for one: a datagram comes back at once.
+#[test]
+fn a_medium_without_hardware_addresses_loops_back() {
+    let mut device = Loopback::new(Medium::Ip);
+    let mut iface = Interface::new(Config::new(HardwareAddress::Ip), &mut device, Instant::ZERO).unwrap();
+    iface.update_ip_addrs(|list| list.push(IpCidr::new(SELF.into(), 24)).unwrap()).unwrap();
+    let mut sockets = SocketSet::new(&iface);
+    let handle = sockets.add(udp::Socket::new(buffer(), buffer()));
+    let socket = sockets.get_mut::<udp::Socket>(handle);
+    socket.bind(7).unwrap();
+    socket.send_slice(b"back", (SELF, 7)).unwrap();
+    iface.poll(millis(0), &mut device, &mut sockets);
+    iface.poll(millis(0), &mut device, &mut sockets);
+    let from: IpEndpoint = (SELF, 7).into();
+    assert_eq!(sockets.get_mut::<udp::Socket>(handle).recv(), Ok((b"back".as_slice(), from.into())));
+}
+
+#[test]
+fn frames_of_any_octets_and_empty_slices_are_taken() {
+    let (mut device, mut iface, mut sockets) = interface();
+    assert_eq!(iface.receive_frame(Instant::ZERO, &[], &mut sockets), None);
+    let handle = sockets.add(udp::Socket::new(udp::PacketBuffer::new([], []), udp::PacketBuffer::new([], [])));
+    let socket = sockets.get_mut::<udp::Socket>(handle);
+    socket.bind(7).unwrap();
+    assert_eq!(socket.send_slice(&[], (PEER, 9)), Err(udp::SendError::BufferFull));
+    assert_eq!(socket.recv_slice(&mut []), Err(udp::RecvError::Exhausted));
+    let mut word: u64 = 0x9e37_79b9_7f4a_7c15;
+    for length in 0..5_000 {
+        let mut frame = ethernet(OWN, PEER_LINK, 0x0800, &[]);
+        frame[12..14].copy_from_slice(&[[8, 0], [8, 6], [0x86, 0xdd]][length % 3]);
+        for _ in 0..length % 97 {
+            word ^= word << 13;
+            word ^= word >> 7;
+            word ^= word << 17;
+            frame.push(word as u8);
+        }
+        device.incoming.push_back(frame);
+        iface.poll(Instant::from_micros(length as i64), &mut device, &mut sockets);
+    }
+}

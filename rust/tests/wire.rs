@@ -1,0 +1,69 @@
+//! Addresses and instants. What is expected comes from RFCs and from smoltcp's documentation.
+use fumitorygate::time::{Duration, Instant};
+use fumitorygate::wire::{
+    EthernetAddress, HardwareAddress, IpAddress, IpCidr, IpEndpoint, IpListenEndpoint, IpProtocol, Ipv4Address,
+    Ipv6Address, Ipv6Cidr, ParseError,
+};
+
+/// RFC 2464, 4: its example.
+#[test]
+fn an_identifier_is_formed_from_a_hardware_address() {
+    let hardware_addr = EthernetAddress([0x34, 0x56, 0x78, 0x9a, 0xbc, 0xde]);
+    let formed = Ipv6Cidr::from_link_prefix(&Ipv6Cidr::LINK_LOCAL_PREFIX, hardware_addr.into()).unwrap();
+    assert_eq!(formed.address(), "fe80::3656:78ff:fe9a:bcde".parse::<Ipv6Address>().unwrap());
+    assert_eq!(formed.prefix_len(), 64);
+    assert_eq!(Ipv6Cidr::from_link_prefix(&Ipv6Cidr::LINK_LOCAL_PREFIX, HardwareAddress::Ip), None);
+    let other = Ipv6Cidr::new(Ipv6Address::UNSPECIFIED, 63);
+    assert_eq!(Ipv6Cidr::from_link_prefix(&other, hardware_addr.into()), None);
+}
+
+#[test]
+fn texts_are_read_and_written() {
+    for text in ["192.168.69.1/24", "0.0.0.0/0", "255.255.255.255/32", "fe80::1/64", "::/0", "::1/128"] {
+        assert_eq!(text.parse::<IpCidr>().unwrap().to_string(), text);
+    }
+    for text in ["192.168.69.1", "192.168.69.1/33", "::/129", "/8", "192.168.69/24", "::1/", "::1/x"] {
+        assert_eq!(text.parse::<IpCidr>(), Err(ParseError));
+    }
+    let end = IpEndpoint::from(("::1".parse::<IpAddress>().unwrap(), 80));
+    assert_eq!(end.to_string(), "[::1]:80");
+    assert_eq!(IpListenEndpoint::from(80).to_string(), "*:80");
+    assert_eq!(IpListenEndpoint::from((Ipv4Address::UNSPECIFIED, 80)), 80.into());
+    assert_eq!(EthernetAddress([0, 1, 2, 3, 4, 0xff]).to_string(), "00-01-02-03-04-ff");
+}
+
+/// RFC 4632, 3.1: a prefix of n bits is the leftmost n.
+#[test]
+fn networks_contain_their_addresses() {
+    let contains = |cidr: &str, addr: &str| cidr.parse::<IpCidr>().unwrap().contains_addr(&addr.parse().unwrap());
+    assert!(contains("192.168.69.1/24", "192.168.69.255") && !contains("192.168.69.1/24", "192.168.70.0"));
+    assert!(contains("0.0.0.0/0", "255.255.255.255") && !contains("0.0.0.0/0", "::"));
+    assert!(contains("10.0.0.1/32", "10.0.0.1") && !contains("10.0.0.1/32", "10.0.0.0"));
+    assert!(contains("2001:db8::/33", "2001:db8:7fff::") && !contains("2001:db8::/33", "2001:db8:8000::"));
+    assert!(contains("::/0", "ff02::1") && !contains("::1/128", "::"));
+}
+
+/// RFC 790 and RFC 8200: the numbers of protocols.
+#[test]
+fn protocols_have_their_numbers() {
+    let all = [(0, "HopByHop"), (1, "Icmp"), (2, "Igmp"), (6, "Tcp"), (17, "Udp"), (43, "Ipv6Route"), (44, "Ipv6Frag")];
+    for (number, name) in
+        all.into_iter().chain([(58, "Icmpv6"), (59, "Ipv6NoNxt"), (60, "Ipv6Opts"), (253, "Unknown(253)")])
+    {
+        assert_eq!(format!("{:?}", IpProtocol::from(number)), name);
+        assert_eq!(u8::from(IpProtocol::from(number)), number);
+    }
+}
+
+/// `iface.h`: instants lie from 0 to 2^62.
+#[test]
+fn instants_stay_in_their_range() {
+    assert_eq!(Instant::from_micros(-1), Instant::ZERO);
+    assert_eq!(Instant::from_micros(i64::MAX).total_micros(), 1 << 62);
+    assert_eq!(Instant::LAST + Duration::MAX, Instant::LAST);
+    assert_eq!(Instant::ZERO - Duration::from_micros(1), Instant::ZERO);
+    assert_eq!(Instant::from_secs(1) - Instant::from_secs(2), Duration::ZERO);
+    assert_eq!(Instant::from_millis(1500) - Instant::from_secs(1), Duration::from_millis(500));
+    assert_eq!(Instant::from_millis(1500).to_string(), "1.500s");
+    assert_eq!(core::time::Duration::from(Duration::from_millis(7)), core::time::Duration::from_millis(7));
+}
