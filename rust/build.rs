@@ -1,10 +1,12 @@
-//! Finds the static library, `libiface.a`; with the feature `rust-heap` the one without a heap, `libiface_c.a`. In this order:
+//! Finds the static library, `libiface.a`; with the feature `rust-heap` the one without a heap, `libiface_c.a`. In this
+//! order:
 //!
 //! 1. the folder that `FUMITORYGATE_LIB_DIR` names;
 //! 2. `lib/TARGET` beside this file, where a published crate carries it;
-//! 3. in a checkout of the repository, for the machine that builds: what `make -C c` built. With `FUMITORYGATE_MAKE=1` it is run, which
-//!    proves the library before it builds it, and so takes long the first time;
-//! 4. `pkg-config iface`, for the machine that builds, if the installed `iface.h` is the one that `src/sys.rs` was made from.
+//! 3. in a checkout of the repository, for the machine that builds: what `make -C c` built. With `FUMITORYGATE_MAKE=1`
+//!    it is run, which proves the library before it builds it, and so takes long the first time;
+//! 4. `pkg-config iface`, for the machine that builds, if the installed `iface.h` is the one that `src/sys.rs` was made
+//!    from.
 use std::env;
 use std::fs;
 use std::path::{Path, PathBuf};
@@ -34,8 +36,8 @@ fn main() {
         link(&folder, library);
     } else {
         println!(
-            "cargo:warning=no lib{library}.a for {target}: run `make -C c` in the checkout, or set FUMITORYGATE_LIB_DIR to its folder; \
-             without it only `cargo check` works"
+            "cargo:warning=no lib{library}.a for {target}: run `make -C c` in the checkout, or set FUMITORYGATE_LIB_DIR \
+             to its folder; without it only `cargo check` works"
         );
     }
 }
@@ -71,10 +73,9 @@ fn from_checkout(top: &Path, own_heap: bool) -> Option<PathBuf> {
         let is_done = done.is_ok_and(|status| status.success());
         assert!(is_done, "`make -C {}` failed: it needs the Rattle kit's rt, and a C compiler", c.display());
     }
-    let built = c.join("build/libiface.a");
-    println!("cargo:rerun-if-changed={}", built.display());
-    let folder = if own_heap { top.join("crates/iface_c/out") } else { c.join("build") };
-    built.exists().then_some(folder)
+    println!("cargo:rerun-if-changed={}", c.join("build/libiface.a").display());
+    let library = if own_heap { "iface_c" } else { "iface" };
+    [c.join("build"), top.join("crates/iface_c/out")].into_iter().find(|folder| archive(folder, library).exists())
 }
 
 /// The folder of an installed library, whose header has to be the one that the declarations were made from.

@@ -1,5 +1,6 @@
 #!/bin/bash
-# Counts the instructions of a round of each work of examples/cost.rs, by each way of calling the library, beside c/build/bench.
+# Counts the instructions of a round of each work of examples/cost.rs, by each way of calling the library, beside
+# c/build/bench.
 #
 # It needs valgrind; for the column of C `make -C c`.
 set -eu

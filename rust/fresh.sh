@@ -1,26 +1,28 @@
 #!/bin/sh
-# Makes a crate in a temporary folder with the program of README.md, which depends on this one by its path, and runs it.
+# Makes a crate in a temporary folder, with the program and the dependency of README.md, and runs it: over this folder,
+# and over this crate as it is packaged, unpacked elsewhere with the library beside it.
 set -eu
-here=$(cd "$(dirname "$0")" && pwd)
+cd "$(dirname "$0")"
+here=$(pwd)
 folder=$(mktemp -d)
 trap 'rm -rf "$folder"' EXIT
-mkdir "$folder/src"
-cat >"$folder/Cargo.toml" <<END
-[package]
-name = "ten_lines"
-version = "0.1.0"
-edition = "2024"
+cargo=${CARGO:-cargo}
 
-[dependencies]
-fumitorygate = { path = "$here" }
-END
-# The first block of Rust.
-sed -n '/^```rust$/,/^```$/p;/^```rust$/,$!b' "$here/README.md" | sed '1d;/^```$/,$d' >"$folder/src/main.rs"
-grep -q 'fn main' "$folder/src/main.rs"
-cd "$folder"
-printed=$(${CARGO:-cargo} run -q --offline)
-[ "$printed" = '127.0.0.1:7: hello' ] || {
-    echo "fresh.sh: it printed '$printed'" >&2
-    exit 1
+try() {
+    mkdir -p "$folder/own/src"
+    printf '%s\n' '[package]' 'name = "own"' 'version = "0.1.0"' 'edition = "2024"' '[dependencies]' \
+        "fumitorygate = { path = \"$1\" }" >"$folder/own/Cargo.toml"
+    # The first block of Rust.
+    sed -n '/^```rust$/,/^```$/p' "$here/README.md" | sed '1d;/^```$/,$d' >"$folder/own/src/main.rs"
+    printed=$(cd "$folder/own" && "$cargo" run -q --offline)
+    [ "$printed" = '127.0.0.1:7: hello' ] || { echo "fresh.sh: it printed '$printed'" >&2 && exit 1; }
+    echo "a crate of $(wc -l <"$folder/own/src/main.rs") lines, over $2: $printed"
 }
-echo "a crate of $(grep -c . src/main.rs) lines: $printed"
+
+try "$here" 'this folder'
+"$cargo" package -q --no-verify --allow-dirty --offline --target-dir "$folder/target"
+tar -C "$folder" -xzf "$folder"/target/package/fumitorygate-*.crate
+packaged=$(echo "$folder"/fumitorygate-*)
+./carry.sh "$packaged/lib"
+unset FUMITORYGATE_LIB_DIR
+try "$packaged" 'the package'

@@ -101,7 +101,8 @@ def structures(header):
             out.append(f"    {'' if is_handle else 'pub '}{field}: {kind},")
         out += ["}", ""]
     out += ["impl iface {", "    /// A handle that owns no host.",
-            "    pub const NONE: iface = iface {", "        tag: 0,", "        at: core::ptr::null_mut(),", "    };", "}", ""]
+            "    pub const NONE: iface = iface {", "        tag: 0,", "        at: core::ptr::null_mut(),", "    };",
+            "}", ""]
     sizes = re.findall(r"sizeof\((?:struct )?(\w+)\) == (\d+)", header)
     assert sorted(name for name, _ in sizes) == sorted(names) and len(names) == header.count("struct ") - len(
         re.findall(r"struct \w+ [*&]?\w+|struct \w+\)|\(struct iface\)", header)), "a structure that it didn't read"

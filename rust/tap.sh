@@ -1,10 +1,11 @@
 #!/bin/bash
-# Runs ping, server, multicast and slaac on TAP devices in a network namespace of its own, against Linux's stack. It changes nothing
-# outside that namespace, and ends by itself after at most three minutes.
+# Runs ping, server, multicast and slaac on TAP devices in a network namespace of its own, against Linux's stack. It
+# changes nothing outside that namespace, and ends by itself after at most three minutes.
 #
 #   tap.sh FOLDER     the folder of the built examples, of Linux
 #
-# It needs: root (for the namespace and the device), unshare (util-linux), ip (iproute2), ping (iputils), python3, /dev/net/tun.
+# It needs: root (for the namespace and the device), unshare (util-linux), ip (iproute2), ping (iputils), python3,
+# /dev/net/tun.
 set -eu
 folder=$(realpath "$1")
 here=$(dirname "$(realpath "$0")")
@@ -72,6 +73,7 @@ ip neigh flush dev tap0
 start multicast 6
 try python3 "$here/tap_peer.py" groups
 finish 'to 224.0.0.37' 'type 0x11' 'ff15::25'
+grep -q '224.0.0.38' "$scratch/output" && echo 'a datagram to a group that was not joined' && status=1
 
 ip neigh flush dev tap0
 start slaac 6

@@ -2,7 +2,7 @@
 """Linux's side of tap.sh.
 
   tap_peer.py reversed     sends datagrams to `server`, and wants each back reversed
-  tap_peer.py groups       sends to the groups of `multicast` and to another one, and a query of IGMP, and wants a report
+  tap_peer.py groups       sends to the groups of `multicast` and to another one, and a query of IGMP; wants a report
   tap_peer.py router       answers a solicitation of `slaac` by an advertisement (RFC 4861, 4.2)"""
 import socket
 import struct
@@ -61,7 +61,8 @@ def router():
         index = socket.if_nametoindex("tap0")
         s.setsockopt(socket.IPPROTO_IPV6, socket.IPV6_MULTICAST_IF, index)
         s.setsockopt(socket.IPPROTO_IPV6, socket.IPV6_MULTICAST_HOPS, 255)
-        s.setsockopt(socket.IPPROTO_IPV6, socket.IPV6_JOIN_GROUP, socket.inet_pton(socket.AF_INET6, "ff02::2") + struct.pack("i", index))
+        routers = socket.inet_pton(socket.AF_INET6, "ff02::2")
+        s.setsockopt(socket.IPPROTO_IPV6, socket.IPV6_JOIN_GROUP, routers + struct.pack("i", index))
         s.settimeout(6)
         while True:
             message, origin = s.recvfrom(2000)

@@ -78,7 +78,8 @@ impl Way for Raw {
         };
         let own = endpoint([192, 168, 69, 1], 4, 0).address;
         let local = endpoint([0; 4], 0, PORT);
-        // SAFETY: as in `Host`: the handle begins as none, and all pointers are those of references to different things.
+        // SAFETY: as in `Host`: the handle begins as none, and all pointers are those of references to different
+        // things.
         unsafe {
             let mut config = core::mem::zeroed();
             sys::iface_config_init(&mut config);

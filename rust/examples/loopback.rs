@@ -1,5 +1,6 @@
-//! As smoltcp's `loopback`, by UDP: a client and a server, two sockets of one interface, over a device to which each frame comes that it
-//! sends. The client sends datagrams of several lengths, in fragments where they are long, and the server sends each back.
+//! As smoltcp's `loopback`, by UDP: a client and a server, two sockets of one interface, over a device to which each
+//! frame comes that it sends. The client sends datagrams of several lengths, in fragments where they are long, and the
+//! server sends each back.
 use fumitorygate::iface::{Config, Interface, PollResult, SocketSet};
 use fumitorygate::phy::{Loopback, Medium};
 use fumitorygate::socket::udp;

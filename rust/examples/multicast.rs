@@ -1,5 +1,5 @@
-//! smoltcp's `multicast`: it joins 224.0.0.37, and beside smoltcp's also ff15::25, and prints the datagrams that come to port 8123 and the
-//! packets of IGMP that a raw socket gets.
+//! smoltcp's `multicast`: it joins 224.0.0.37, and beside smoltcp's also ff15::25, and prints the datagrams that come
+//! to port 8123 and the packets of IGMP that a raw socket gets.
 //!
 //!   multicast DEVICE [SECONDS]
 //!

@@ -1,9 +1,10 @@
-//! Two hosts on a link that loses, repeats and reorders frames, in simulated time: a client asks, and asks again where no answer comes.
+//! Two hosts on a link that loses, repeats and reorders frames, in simulated time: a client asks, and asks again where
+//! no answer comes.
 //!
 //!   simulator [SEED]
 //!
-//! What a host gets was sent by the other one, octet by octet, whatever the link does. It runs without a network or a clock, and each run of
-//! a seed is the same.
+//! What a host gets was sent by the other one, octet by octet, whatever the link does. It runs without a network or a
+//! clock, and each run of a seed is the same.
 use fumitorygate::iface::{Config, Interface, SocketHandle, SocketSet};
 use fumitorygate::phy::{Medium, MemoryDevice};
 use fumitorygate::socket::udp;

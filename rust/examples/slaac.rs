@@ -1,13 +1,14 @@
-//! A host that gets its address from an IPv6 router (RFC 4862): it prints its addresses as they change, and answers pings.
+//! A host that gets its address from an IPv6 router (RFC 4862): it prints its addresses as they change, and answers
+//! pings.
 //!
 //!   slaac DEVICE [SECONDS]
 //!
-//! The device is a TAP device of Linux. It solicits routers from a link-local address, which it forms from its hardware address. It fails if
-//! no router gave it an address.
+//! The device is a TAP device of Linux. It solicits routers from a link-local address, which it forms from its hardware
+//! address. It fails if no router gave it an address.
 use fumitorygate::iface::{Config, Interface, SocketSet};
 use fumitorygate::phy::{Medium, TunTapInterface, wait as phy_wait};
 use fumitorygate::time::{Duration, Instant};
-use fumitorygate::wire::{EthernetAddress, Ipv6Cidr};
+use fumitorygate::wire::{EthernetAddress, Ipv6Address, Ipv6Cidr};
 use std::os::unix::io::AsRawFd;
 
 fn main() {
@@ -22,7 +23,8 @@ fn main() {
     config.random_seed = std::process::id().into();
     config.slaac = true;
     let mut iface = Interface::new(config, &mut device, Instant::now()).unwrap();
-    let link_local = Ipv6Cidr::from_link_prefix(&Ipv6Cidr::LINK_LOCAL_PREFIX, config.hardware_addr).unwrap();
+    let link = Ipv6Cidr::new(Ipv6Address::new(0xfe80, 0, 0, 0, 0, 0, 0, 0), 64);
+    let link_local = Ipv6Cidr::from_link_prefix(&link, config.hardware_addr).unwrap();
     iface.update_ip_addrs(|ip_addrs| ip_addrs.push(link_local.into()).unwrap()).unwrap();
     let mut sockets = SocketSet::new(&iface);
 

@@ -63,7 +63,8 @@ extern "C" fn rattle_alloc(size: usize, _align: usize) -> Block {
 #[unsafe(no_mangle)]
 unsafe extern "C" fn rattle_realloc(old: *mut u8, _old_size: usize, size: usize, _align: usize) -> Block {
     let Some(new) = layout(size) else { return block(null_mut()) };
-    // SAFETY: the library returns only blocks of these functions, each once; the new size is one that `layout` accepted.
+    // SAFETY: the library returns only blocks of these functions, each once; the new size is one that `layout`
+    // accepted.
     block(unsafe {
         let (base, layout) = base_of(old);
         with_head(realloc(base, layout, new.size()), new)

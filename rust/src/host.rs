@@ -84,6 +84,7 @@ impl fmt::Display for Error {
 
 impl core::error::Error for Error {}
 
+#[inline]
 fn answer(code: u32) -> Result<(), Error> {
     Err(match code {
         sys::IFACE_OK => return Ok(()),
@@ -116,6 +117,7 @@ fn unless_empty(done: Result<(), Error>) -> Result<bool, Error> {
 
 const NO_ADDRESS: sys::iface_address = sys::iface_address { version: 0, octets: [0; 16] };
 
+#[inline]
 fn to_c(address: &IpAddress) -> sys::iface_address {
     let mut own = NO_ADDRESS;
     match address {
@@ -131,6 +133,7 @@ fn to_c(address: &IpAddress) -> sys::iface_address {
     own
 }
 
+#[inline]
 fn from_c(address: &sys::iface_address) -> IpAddress {
     let [a, b, c, d, ..] = address.octets;
     match address.version {
@@ -139,6 +142,7 @@ fn from_c(address: &sys::iface_address) -> IpAddress {
     }
 }
 
+#[inline]
 fn end_to_c(end: &IpEndpoint) -> sys::iface_endpoint {
     sys::iface_endpoint { address: to_c(&end.addr), port: end.port }
 }
@@ -161,16 +165,16 @@ pub struct Settings {
     pub slaac: bool,
     /// How many sockets may be open at once. Memory for their places is taken at once.
     pub sockets: u32,
-    /// How long a packet waits for a neighbour that doesn't answer, before it is given up. Zero is for ever: then one such packet stops its
-    /// socket.
+    /// How long a packet waits for a neighbour that doesn't answer, before it is given up. Zero is for ever: then one
+    /// such packet stops its socket.
     pub patience: Duration,
     /// How long fragments of a packet wait for the others: not zero, at most a day.
     pub reassembly_timeout: Duration,
 }
 
 impl Settings {
-    /// What `iface_config_init` writes: frames of 1514 octets, 8 sockets, no addresses from routers, a patience of three seconds, ten
-    /// seconds for fragments, and the seed 0.
+    /// What `iface_config_init` writes: frames of 1514 octets, 8 sockets, no addresses from routers, a patience of
+    /// three seconds, ten seconds for fragments, and the seed 0.
     pub fn new(hardware_addr: HardwareAddress) -> Settings {
         let mut config = sys::iface_config {
             seed: 0,
@@ -293,7 +297,8 @@ pub struct Host {
     raw: sys::iface,
 }
 
-// SAFETY: `iface.h` says that each call may be in another thread, and that two handles share nothing. No method takes `&self`.
+// SAFETY: `iface.h` says that each call may be in another thread, and that two handles share nothing. No method takes
+// `&self`.
 unsafe impl Send for Host {}
 
 impl Drop for Host {
@@ -306,8 +311,8 @@ impl Drop for Host {
 /// A call of the library on a host's handle. Its pointers are all made from references or slices in the call itself.
 macro_rules! call {
     ($host:ident . $name:ident ( $($argument:expr),* )) => {
-        // SAFETY: the handle is the library's and borrowed for this call. Pointers and lengths are those of references and slices, so they
-        // are not null, are as long as is said, and don't overlap where one is written.
+        // SAFETY: the handle is the library's and borrowed for this call. Pointers and lengths are those of references
+        // and slices, so they are not null, are as long as is said, and don't overlap where one is written.
         answer(unsafe { sys::$name(&mut $host.raw, $($argument),*) })
     };
 }
@@ -327,6 +332,7 @@ impl Host {
     ///
     /// # Errors
     /// [`Error::TableFull`] if there are four, [`Error::NotUnicast`] if it is neither unicast nor unspecified.
+    #[inline]
     pub fn add_address(&mut self, cidr: IpCidr) -> Result<(), Error> {
         call!(self.iface_add_address(&to_c(&cidr.address()), cidr.prefix_len()))
     }
@@ -335,11 +341,13 @@ impl Host {
     ///
     /// # Errors
     /// [`Error::NotThere`].
+    #[inline]
     pub fn remove_address(&mut self, cidr: IpCidr) -> Result<(), Error> {
         call!(self.iface_remove_address(&to_c(&cidr.address()), cidr.prefix_len()))
     }
 
     /// The own address at an index of their list, those from routers included. `None` beyond the last one.
+    #[inline]
     pub fn address_at(&mut self, index: u32) -> Option<IpCidr> {
         let (mut address, mut prefix_len) = (NO_ADDRESS, 0);
         call!(self.iface_address_at(index, &mut address, &mut prefix_len)).ok()?;
@@ -353,6 +361,7 @@ impl Host {
     ///
     /// # Errors
     /// [`Error::BadAddress`] if it is no group's, [`Error::TableFull`] if there are eight.
+    #[inline]
     pub fn join_group(&mut self, group: IpAddress) -> Result<(), Error> {
         call!(self.iface_join_group(&to_c(&group)))
     }
@@ -361,6 +370,7 @@ impl Host {
     ///
     /// # Errors
     /// [`Error::BadAddress`] if it is no group's.
+    #[inline]
     pub fn leave_group(&mut self, group: IpAddress) -> Result<(), Error> {
         call!(self.iface_leave_group(&to_c(&group)))
     }
@@ -369,6 +379,7 @@ impl Host {
     ///
     /// # Errors
     /// [`Error::TableFull`] if there are four routes, none of which is replaced.
+    #[inline]
     pub fn set_default_route(&mut self, gateway: IpAddress) -> Result<(), Error> {
         call!(self.iface_set_default_route(&to_c(&gateway)))
     }
@@ -377,6 +388,7 @@ impl Host {
     ///
     /// # Errors
     /// [`Error::TableFull`] if there are four routes.
+    #[inline]
     pub fn add_route(&mut self, network: IpCidr, router: IpAddress) -> Result<(), Error> {
         call!(self.iface_add_route(&to_c(&network.address()), network.prefix_len(), &to_c(&router)))
     }
@@ -385,24 +397,29 @@ impl Host {
     ///
     /// # Errors
     /// [`Error::NotThere`].
+    #[inline]
     pub fn remove_route(&mut self, network: IpCidr) -> Result<(), Error> {
         call!(self.iface_remove_route(&to_c(&network.address()), network.prefix_len()))
     }
 
-    /// Opens a UDP socket, and returns the number that names it. Its two queues hold so many packets each, with so many octets together.
+    /// Opens a UDP socket, and returns the number that names it. Its two queues hold so many packets each, with so many
+    /// octets together.
     ///
     /// # Errors
     /// [`Error::BadPort`], [`Error::TableFull`] if all of [`Settings::sockets`] are open, [`Error::NoMemory`].
+    #[inline]
     pub fn udp_open(&mut self, local: IpListenEndpoint, packets: u32, octets: u32) -> Result<u32, Error> {
         let mut socket = 0;
         call!(self.iface_udp_open(&listen_to_c(&local), packets, octets, &mut socket))?;
         Ok(socket)
     }
 
-    /// Opens a raw socket for whole packets of a version of IP and a protocol, with queues as [`udp_open`](Host::udp_open)'s.
+    /// Opens a raw socket for whole packets of a version of IP and a protocol, with queues as
+    /// [`udp_open`](Host::udp_open)'s.
     ///
     /// # Errors
     /// [`Error::TableFull`], [`Error::NoMemory`].
+    #[inline]
     pub fn raw_open(
         &mut self,
         version: IpVersion,
@@ -419,20 +436,24 @@ impl Host {
         Ok(socket)
     }
 
-    /// Opens an ICMP socket for echo messages of either version with an identifier, with queues as [`udp_open`](Host::udp_open)'s.
+    /// Opens an ICMP socket for echo messages of either version with an identifier, with queues as
+    /// [`udp_open`](Host::udp_open)'s.
     ///
     /// # Errors
     /// [`Error::TableFull`], [`Error::NoMemory`].
+    #[inline]
     pub fn icmp_open_ident(&mut self, ident: u16, packets: u32, octets: u32) -> Result<u32, Error> {
         let mut socket = 0;
         call!(self.iface_icmp_open_ident(ident, packets, octets, &mut socket))?;
         Ok(socket)
     }
 
-    /// Opens an ICMP socket for port unreachables that answer datagrams from this port, with queues as [`udp_open`](Host::udp_open)'s.
+    /// Opens an ICMP socket for port unreachables that answer datagrams from this port, with queues as
+    /// [`udp_open`](Host::udp_open)'s.
     ///
     /// # Errors
     /// [`Error::TableFull`], [`Error::NoMemory`].
+    #[inline]
     pub fn icmp_open_port(&mut self, port: u16, packets: u32, octets: u32) -> Result<u32, Error> {
         let mut socket = 0;
         call!(self.iface_icmp_open_port(port, packets, octets, &mut socket))?;
@@ -443,31 +464,37 @@ impl Host {
     ///
     /// # Errors
     /// [`Error::NoSocket`].
+    #[inline]
     pub fn close(&mut self, socket: u32) -> Result<(), Error> {
         call!(self.iface_close(socket))
     }
 
-    /// Queues a datagram. Over IPv4 it has at most 4096 octets with its headers (28), over IPv6 at most one packet of the link with its
-    /// headers (48).
+    /// Queues a datagram. Over IPv4 it has at most 4096 octets with its headers (28), over IPv6 at most one packet of
+    /// the link with its headers (48).
     ///
     /// # Errors
     /// [`Error::BadPort`], [`Error::BadAddress`], [`Error::TooLong`], [`Error::QueueFull`], [`Error::NoSocket`].
+    #[inline]
     pub fn udp_send(&mut self, socket: u32, remote: IpEndpoint, payload: &[u8]) -> Result<(), Error> {
         call!(self.iface_udp_send(socket, &end_to_c(&remote), payload.as_ptr(), payload.len()))
     }
 
-    /// Queues a message of ICMP, from its type on. One that is no echo message of the address's version is dropped later.
+    /// Queues a message of ICMP, from its type on. One that is no echo message of the address's version is dropped
+    /// later.
     ///
     /// # Errors
     /// [`Error::BadAddress`], [`Error::TooLong`], [`Error::QueueFull`], [`Error::NoSocket`].
+    #[inline]
     pub fn icmp_send(&mut self, socket: u32, remote: IpAddress, message: &[u8]) -> Result<(), Error> {
         call!(self.iface_icmp_send(socket, &to_c(&remote), message.as_ptr(), message.len()))
     }
 
-    /// Queues a packet with its header. One that isn't of the socket's version and protocol, or is too long, is dropped later.
+    /// Queues a packet with its header. One that isn't of the socket's version and protocol, or is too long, is dropped
+    /// later.
     ///
     /// # Errors
     /// [`Error::QueueFull`], [`Error::NoSocket`].
+    #[inline]
     pub fn raw_send(&mut self, socket: u32, packet: &[u8]) -> Result<(), Error> {
         call!(self.iface_raw_send(socket, packet.as_ptr(), packet.len()))
     }
@@ -476,6 +503,7 @@ impl Host {
     ///
     /// # Errors
     /// [`Error::Empty`], [`Error::NoRoom`], [`Error::NoSocket`].
+    #[inline]
     pub fn udp_receive(&mut self, socket: u32, out: &mut [u8]) -> Result<(usize, IpEndpoint), Error> {
         let (mut remote, mut length) = (sys::iface_endpoint { address: NO_ADDRESS, port: 0 }, 0);
         call!(self.iface_udp_receive(socket, &mut remote, out.as_mut_ptr(), out.len(), &mut length))?;
@@ -486,6 +514,7 @@ impl Host {
     ///
     /// # Errors
     /// [`Error::Empty`], [`Error::NoRoom`], [`Error::NoSocket`].
+    #[inline]
     pub fn icmp_receive(&mut self, socket: u32, out: &mut [u8]) -> Result<(usize, IpAddress), Error> {
         let (mut remote, mut length) = (NO_ADDRESS, 0);
         call!(self.iface_icmp_receive(socket, &mut remote, out.as_mut_ptr(), out.len(), &mut length))?;
@@ -496,6 +525,7 @@ impl Host {
     ///
     /// # Errors
     /// [`Error::Empty`], [`Error::NoRoom`], [`Error::NoSocket`].
+    #[inline]
     pub fn raw_receive(&mut self, socket: u32, out: &mut [u8]) -> Result<usize, Error> {
         let mut length = 0;
         call!(self.iface_raw_receive(socket, out.as_mut_ptr(), out.len(), &mut length))?;
@@ -506,6 +536,7 @@ impl Host {
     ///
     /// # Errors
     /// [`Error::NoSocket`].
+    #[inline]
     pub fn waiting(&mut self, socket: u32) -> Result<Option<(IpAddress, Instant)>, Error> {
         let (mut remote, mut since) = (NO_ADDRESS, 0);
         let waits = unless_empty(call!(self.iface_waiting(socket, &mut remote, &mut since)))?;
@@ -516,6 +547,7 @@ impl Host {
     ///
     /// # Errors
     /// [`Error::NoSocket`].
+    #[inline]
     pub fn given_up(&mut self, socket: u32) -> Result<Option<IpAddress>, Error> {
         let mut remote = NO_ADDRESS;
         let gave_up = unless_empty(call!(self.iface_given_up(socket, &mut remote)))?;
@@ -523,6 +555,7 @@ impl Host {
     }
 
     /// How many packets all sockets gave up.
+    #[inline]
     pub fn given_up_count(&mut self) -> u64 {
         let mut count = 0;
         // It is refused only without a host.
@@ -534,24 +567,28 @@ impl Host {
     ///
     /// # Errors
     /// None that this crate knows of.
+    #[inline]
     pub fn receive<'o>(&mut self, now: Instant, frame: &[u8], out: &'o mut Frame) -> Result<Option<&'o [u8]>, Error> {
         let (now, mut length) = (now.total_micros(), 0);
         call!(self.iface_receive(now, frame.as_ptr(), frame.len(), out.as_mut_ptr(), out.len(), &mut length))?;
         Ok(if length == 0 { None } else { out.get(..length) })
     }
 
-    /// The next frame that is to be sent. `None`: none for now. Call it until then, and then ask [`poll_at`](Host::poll_at).
+    /// The next frame that is to be sent. `None`: none for now. Call it until then, and then ask
+    /// [`poll_at`](Host::poll_at).
     ///
     /// # Errors
     /// [`Error::NoMemory`] before a round, if memory for a frame is refused.
+    #[inline]
     pub fn next<'o>(&mut self, now: Instant, out: &'o mut Frame) -> Result<Option<&'o [u8]>, Error> {
         let mut length = 0;
         call!(self.iface_next(now.total_micros(), out.as_mut_ptr(), out.len(), &mut length))?;
         Ok(if length == 0 { None } else { out.get(..length) })
     }
 
-    /// The instant at which [`next`](Host::next) is to be called again, if no frame comes before and no call changes the host. One that has
-    /// passed, if something is due at once. `None`, if nothing is.
+    /// The instant at which [`next`](Host::next) is to be called again, if no frame comes before and no call changes
+    /// the host. One that has passed, if something is due at once. `None`, if nothing is.
+    #[inline]
     pub fn poll_at(&mut self, now: Instant) -> Option<Instant> {
         let mut at = sys::IFACE_NEVER;
         call!(self.iface_poll_at(now.total_micros(), &mut at)).ok()?;

@@ -1,4 +1,7 @@
 //! A host that an interface and its sockets share, in one call at a time, whichever threads they are in.
+//!
+//! The lock is a sequentially consistent atomic: one of the ways by which `docs/C.md` lets a host go from thread to
+//! thread.
 use crate::host::Host;
 use alloc::sync::Arc;
 use core::cell::UnsafeCell;
@@ -35,8 +38,9 @@ impl Shared {
         Arc::ptr_eq(&self.0, &other.0)
     }
 
-    /// Calls the host. `f` is a call or two of the library, and never one of the program's functions: so another thread waits for
-    /// microseconds, and nothing waits for itself.
+    /// Calls the host. `f` is a call or two of the library, and never one of the program's functions: so another thread
+    /// waits for microseconds, and nothing waits for itself.
+    #[inline]
     pub(crate) fn with<R>(&self, f: impl FnOnce(&mut Host) -> R) -> R {
         while self.0.is_taken.swap(true, SeqCst) {
             #[cfg(feature = "std")]
@@ -45,7 +49,8 @@ impl Shared {
             core::hint::spin_loop();
         }
         let _gives_back = GivesBack(&self.0.is_taken);
-        // SAFETY: whoever set `is_taken` has the host alone until `_gives_back` is dropped, and `f` can't keep the reference.
+        // SAFETY: whoever set `is_taken` has the host alone until `_gives_back` is dropped, and `f` can't keep the
+        // reference.
         f(unsafe { &mut *self.0.host.get() })
     }
 }

@@ -1,6 +1,7 @@
 //! Addresses, networks and endpoints.
 //!
-//! smoltcp's packets and their representations (`Icmpv4Packet`, `UdpRepr` and the like) aren't here: the library reads and writes them itself.
+//! smoltcp's packets and their representations (`Icmpv4Packet`, `UdpRepr` and the like) aren't here: the library reads
+//! and writes them itself.
 use core::fmt;
 use core::net::{IpAddr, SocketAddr, SocketAddrV4, SocketAddrV6};
 use core::str::FromStr;
@@ -318,9 +319,6 @@ cidr!(Ipv4Cidr, Ipv4Address, 32, u32);
 cidr!(Ipv6Cidr, Ipv6Address, 128, u128);
 
 impl Ipv6Cidr {
-    /// The prefix of link-local addresses, fe80::/64 (RFC 4291, 2.5.6).
-    pub const LINK_LOCAL_PREFIX: Ipv6Cidr = Ipv6Cidr::new(Ipv6Address::new(0xfe80, 0, 0, 0, 0, 0, 0, 0), 64);
-
     /// The address of a prefix of 64 bits that is formed from a hardware address of Ethernet (RFC 4291, appendix A).
     ///
     /// `None` if the prefix has another length, or the medium no hardware addresses.
@@ -471,8 +469,8 @@ impl fmt::Display for IpEndpoint {
 
 /// Where a socket listens: at a port of one address, or of any.
 ///
-/// Made of an address that is unspecified, it is of any address, as smoltcp's. One whose `addr` is set to such an address by hand gets only
-/// what comes to broadcast addresses and groups.
+/// Made of an address that is unspecified, it is of any address, as smoltcp's. One whose `addr` is set to such an
+/// address by hand gets only what comes to broadcast addresses and groups.
 #[derive(Clone, Copy, Debug, Default, PartialEq, Eq, PartialOrd, Ord, Hash)]
 pub struct IpListenEndpoint {
     /// The address: `None` for any.

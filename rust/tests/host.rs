@@ -1,4 +1,5 @@
-//! The library's calls through `Host`. What is expected comes from smoltcp's own tests (named in each), from RFCs, and from `docs/C.md`.
+//! The library's calls through `Host`. What is expected comes from smoltcp's own tests (named in each), from RFCs, and
+//! from `docs/C.md`.
 mod common;
 
 use common::{Node, OWN, Seen, advertisement, arp, ethernet, ipv4, millis, settings, udp4};
@@ -208,7 +209,8 @@ fn routers_are_solicited() {
     assert!(!solicited(&mut node, next_poll + Duration::from_secs(8)));
 }
 
-/// smoltcp: `slaac`, `test_ra_state`: its router and prefix, the prefix valid for 700 s; the identifier is RFC 4291's, appendix A.
+/// smoltcp: `slaac`, `test_ra_state`: its router and prefix, the prefix valid for 700 s; the identifier is RFC 4291's,
+/// appendix A.
 #[test]
 fn an_address_comes_from_a_router_and_ends() {
     let mut with_slaac = settings();
@@ -247,8 +249,8 @@ fn fragments_are_put_together_out_of_order() {
     assert_eq!(&out[..12], b"Hello World!");
 }
 
-/// `docs/C.md`, A neighbour that doesn't answer: requests a second apart; given up in the first round after three seconds, at most one
-/// second later; told once, and counted.
+/// `docs/C.md`, A neighbour that doesn't answer: requests a second apart; given up in the first round after three
+/// seconds, at most one second later; told once, and counted.
 #[test]
 fn a_neighbor_that_does_not_answer_is_given_up() {
     let mut node = Node::new(&[CIDR]);

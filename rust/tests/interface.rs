@@ -1,5 +1,5 @@
-//! `Interface`, `SocketSet` and the sockets. What is expected comes from smoltcp's documentation of these calls, from `docs/C.md` and
-//! `API.md`.
+//! `Interface`, `SocketSet` and the sockets. What is expected comes from smoltcp's documentation of these calls, from
+//! `docs/C.md` and `API.md`.
 #![cfg(feature = "alloc")]
 mod common;
 
@@ -152,7 +152,8 @@ fn a_datagram_comes_and_goes() {
     assert_eq!(device.sent[2][42..], *b"dddd");
 }
 
-/// smoltcp's `recv_slice` drops a packet that is longer than the buffer; its `can_recv` is about packets, an empty one too.
+/// smoltcp's `recv_slice` drops a packet that is longer than the buffer; its `can_recv` is about packets, an empty one
+/// too.
 #[test]
 fn a_truncated_datagram_is_dropped_and_an_empty_one_is_received() {
     let (mut device, mut iface, mut sockets) = interface();
@@ -170,7 +171,8 @@ fn a_truncated_datagram_is_dropped_and_an_empty_one_is_received() {
     assert!(!socket.can_recv());
 }
 
-/// `API.md`: a socket may be bound before it comes into a set, stays bound when it is taken out, and isn't given up when it is refused.
+/// `API.md`: a socket may be bound before it comes into a set, stays bound when it is taken out, and isn't given up
+/// when it is refused.
 #[test]
 fn sockets_go_in_and_out() {
     let (mut device, mut iface, mut sockets) = interface();

@@ -9,10 +9,11 @@ use fumitorygate::wire::{
 #[test]
 fn an_identifier_is_formed_from_a_hardware_address() {
     let hardware_addr = EthernetAddress([0x34, 0x56, 0x78, 0x9a, 0xbc, 0xde]);
-    let formed = Ipv6Cidr::from_link_prefix(&Ipv6Cidr::LINK_LOCAL_PREFIX, hardware_addr.into()).unwrap();
+    let link = Ipv6Cidr::new("fe80::".parse().unwrap(), 64);
+    let formed = Ipv6Cidr::from_link_prefix(&link, hardware_addr.into()).unwrap();
     assert_eq!(formed.address(), "fe80::3656:78ff:fe9a:bcde".parse::<Ipv6Address>().unwrap());
     assert_eq!(formed.prefix_len(), 64);
-    assert_eq!(Ipv6Cidr::from_link_prefix(&Ipv6Cidr::LINK_LOCAL_PREFIX, HardwareAddress::Ip), None);
+    assert_eq!(Ipv6Cidr::from_link_prefix(&link, HardwareAddress::Ip), None);
     let other = Ipv6Cidr::new(Ipv6Address::UNSPECIFIED, 63);
     assert_eq!(Ipv6Cidr::from_link_prefix(&other, hardware_addr.into()), None);
 }

@@ -1,5 +1,6 @@
-//! A program without std and without a C library: a host sends a datagram to another one, over memory, and gets it back. It has what firmware
-//! has to have: an allocator, `memcpy` and the like, a start, an end and a place to write to, here two system calls of Linux.
+//! A program without std and without a C library: a host sends a datagram to another one, over memory, and gets it
+//! back. It has what firmware has to have: an allocator, `memcpy` and the like, a start, an end and a place to write
+//! to, here two system calls of Linux.
 //!
 //! It prints `echoed: bare`, and ends with status 0.
 #![no_std]

@@ -20,7 +20,12 @@ unsafe fn call(number: usize, a: usize, b: usize, c: usize) -> usize {
     #[cfg(target_arch = "x86_64")]
     // SAFETY: the registers are those of Linux on this processor; what the call does is the caller's to keep.
     unsafe {
-        asm!("syscall", inlateout("rax") number => result, in("rdi") a, in("rsi") b, in("rdx") c, out("rcx") _, out("r11") _)
+        asm!(
+            "syscall",
+            inlateout("rax") number => result,
+            in("rdi") a, in("rsi") b, in("rdx") c,
+            out("rcx") _, out("r11") _,
+        )
     };
     #[cfg(target_arch = "aarch64")]
     // SAFETY: as above.

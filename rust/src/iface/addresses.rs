@@ -7,7 +7,8 @@ pub const IFACE_MAX_ADDR_COUNT: usize = 4;
 
 const PLACE: IpCidr = IpCidr::new(IpAddress::v4(0, 0, 0, 0), 0);
 
-/// A list of own addresses with their networks: a copy, which [`update_ip_addrs`](super::Interface::update_ip_addrs) lends to be changed.
+/// A list of own addresses with their networks: a copy, which [`update_ip_addrs`](super::Interface::update_ip_addrs)
+/// lends to be changed.
 #[derive(Clone, Copy, Debug)]
 pub struct Addresses {
     places: [IpCidr; IFACE_MAX_ADDR_COUNT],

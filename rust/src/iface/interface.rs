@@ -20,16 +20,16 @@ pub struct Config {
     pub slaac: bool,
     /// How many sockets may be open at once. Memory for their places is taken at once. smoltcp has none such.
     pub sockets: u32,
-    /// How long a packet waits for a neighbour that doesn't answer, before it is given up. Zero is for ever, as in smoltcp: then one such
-    /// packet stops its socket.
+    /// How long a packet waits for a neighbour that doesn't answer, before it is given up. Zero is for ever, as in
+    /// smoltcp: then one such packet stops its socket.
     pub patience: Duration,
     /// How long fragments of a packet wait for the others: not zero, at most a day. smoltcp has a call for it.
     pub reassembly_timeout: Duration,
 }
 
 impl Config {
-    /// What most programs want, but for the seed, which is 0: 8 sockets, no addresses from routers, a patience of three seconds, and ten
-    /// seconds for fragments. It is what `iface_config_init` writes.
+    /// What most programs want, but for the seed, which is 0: 8 sockets, no addresses from routers, a patience of three
+    /// seconds, and ten seconds for fragments. It is what `iface_config_init` writes.
     pub fn new(hardware_addr: HardwareAddress) -> Config {
         let settings = Settings::new(hardware_addr);
         Config {
@@ -135,11 +135,12 @@ pub struct Interface {
 }
 
 impl Interface {
-    /// An interface over a device, whose medium and length of frames it takes. `now` isn't used: it begins at [`Instant::ZERO`].
+    /// An interface over a device, whose medium and length of frames it takes. `now` isn't used: it begins at
+    /// [`Instant::ZERO`].
     ///
     /// # Errors
-    /// [`Error::BadArgument`] if the hardware address isn't of the device's medium; [`Error::NotUnicast`], [`Error::BadMtu`],
-    /// [`Error::BadTimeout`], [`Error::NoMemory`].
+    /// [`Error::BadArgument`] if the hardware address isn't of the device's medium; [`Error::NotUnicast`],
+    /// [`Error::BadMtu`], [`Error::BadTimeout`], [`Error::NoMemory`].
     pub fn new(config: Config, device: &mut (impl Device + ?Sized), now: Instant) -> Result<Interface, Error> {
         let _ = now;
         let capabilities = device.capabilities();
@@ -268,8 +269,8 @@ impl Interface {
         PollIngressSingleResult::SocketStateChanged
     }
 
-    /// Sends what is to be sent, as long as the device gives permission. That is asked for first, since the library hands a frame over for
-    /// good.
+    /// Sends what is to be sent, as long as the device gives permission. That is asked for first, since the library
+    /// hands a frame over for good.
     ///
     /// # Panics
     /// If the sockets are another interface's.
@@ -293,28 +294,31 @@ impl Interface {
     ///
     /// # Panics
     /// If the sockets are another interface's.
+    #[inline]
     pub fn receive_frame(&mut self, timestamp: Instant, frame: &[u8], sockets: &mut SocketSet<'_>) -> Option<&[u8]> {
         self.check(sockets);
         let out = &mut self.out;
         self.host.with(|host| host.receive(timestamp, frame, out)).ok()?
     }
 
-    /// Shows the next frame that is to be sent, if any. Where memory for a frame is refused, what waits is sent another time. smoltcp has
-    /// none such.
+    /// Shows the next frame that is to be sent, if any. Where memory for a frame is refused, what waits is sent another
+    /// time. smoltcp has none such.
     ///
     /// # Panics
     /// If the sockets are another interface's.
+    #[inline]
     pub fn next_frame(&mut self, timestamp: Instant, sockets: &mut SocketSet<'_>) -> Option<&[u8]> {
         self.check(sockets);
         let out = &mut self.out;
         self.host.with(|host| host.next(timestamp, out)).ok()?
     }
 
-    /// The instant at which it is to be polled again, if no frame comes before and no call changes it: one that has passed, if something
-    /// is due at once. `None`, if nothing is.
+    /// The instant at which it is to be polled again, if no frame comes before and no call changes it: one that has
+    /// passed, if something is due at once. `None`, if nothing is.
     ///
     /// # Panics
     /// If the sockets are another interface's.
+    #[inline]
     pub fn poll_at(&mut self, timestamp: Instant, sockets: &SocketSet<'_>) -> Option<Instant> {
         self.check(sockets);
         self.host.with(|host| host.poll_at(timestamp))
@@ -333,6 +337,7 @@ impl Interface {
         self.host.with(Host::given_up_count)
     }
 
+    #[inline]
     fn check(&self, sockets: &SocketSet<'_>) {
         assert!(self.host.is(&sockets.host), "the sockets are another interface's");
     }

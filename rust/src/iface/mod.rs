@@ -1,7 +1,8 @@
 //! Interfaces, their addresses, groups and routes, and sets of sockets.
 //!
-//! The library has interface and sockets in one host. So a [`SocketSet`] is made for an interface, a socket's queues are the library's, and
-//! [`Config::sockets`] says how many may be open. Interface and set may be in different threads: a call waits for that of the other.
+//! The library has interface and sockets in one host. So a [`SocketSet`] is made for an interface, a socket's queues
+//! are the library's, and [`Config::sockets`] says how many may be open. Interface and set may be in different threads:
+//! a call waits for that of the other.
 mod addresses;
 mod interface;
 mod route;

@@ -49,8 +49,8 @@ impl<'a> SocketSet<'a> {
     /// Adds a socket, which is opened if it is bound, and returns the handle that names it.
     ///
     /// # Panics
-    /// If it is bound and [`Config::sockets`](super::Config::sockets) are open, or there is no memory for its queues: as smoltcp's where a
-    /// set of fixed size is full. [`try_add`](SocketSet::try_add) returns it then.
+    /// If it is bound and [`Config::sockets`](super::Config::sockets) are open, or there is no memory for its queues:
+    /// as smoltcp's where a set of fixed size is full. [`try_add`](SocketSet::try_add) returns it then.
     pub fn add<T: AnySocket<'a>>(&mut self, socket: T) -> SocketHandle {
         match self.try_add(socket) {
             Ok(handle) => handle,

@@ -32,7 +32,8 @@ pub enum Medium {
 pub struct DeviceCapabilities {
     /// Its medium.
     pub medium: Medium,
-    /// The octets of its longest frame, with a header of Ethernet where there is one: 590 to 1514 there, else 576 to 1514.
+    /// The octets of its longest frame, with a header of Ethernet where there is one: 590 to 1514 there, else 576 to
+    /// 1514.
     pub max_transmission_unit: usize,
 }
 

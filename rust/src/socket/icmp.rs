@@ -13,8 +13,8 @@ pub enum Endpoint {
     Unspecified,
     /// Echo messages with this identifier.
     Ident(u16),
-    /// Port unreachables that answer datagrams from this port. The library has no such socket for one address alone: with an `addr` it is
-    /// refused.
+    /// Port unreachables that answer datagrams from this port. The library has no such socket for one address alone:
+    /// with an `addr` it is refused.
     Udp(IpListenEndpoint),
 }
 
@@ -50,6 +50,7 @@ impl Kind for Icmp {
         }
     }
 
+    #[inline]
     fn receive(host: &mut Host, number: u32, out: &mut [u8]) -> Result<(usize, IpAddress), Error> {
         host.icmp_receive(number, out)
     }
@@ -73,8 +74,8 @@ impl<'a> Socket<'a> {
     /// Binds it to what it is to receive.
     ///
     /// # Errors
-    /// [`BindError::Unaddressable`] if that is nothing, port 0, or a port of one address; [`BindError::InvalidState`] if it is bound;
-    /// [`BindError::Exhausted`] if it is in a set and can't be opened there.
+    /// [`BindError::Unaddressable`] if that is nothing, port 0, or a port of one address; [`BindError::InvalidState`]
+    /// if it is bound; [`BindError::Exhausted`] if it is in a set and can't be opened there.
     pub fn bind<T: Into<Endpoint>>(&mut self, endpoint: T) -> Result<(), BindError> {
         match endpoint.into() {
             Endpoint::Ident(ident) => self.core.bind(Open::Ident(ident)),
@@ -83,10 +84,12 @@ impl<'a> Socket<'a> {
         }
     }
 
-    /// Queues a message, from its type on, with any checksum. One that is no echo message of the address's version is dropped later.
+    /// Queues a message, from its type on, with any checksum. One that is no echo message of the address's version is
+    /// dropped later.
     ///
     /// # Errors
     /// [`SendError`]: then nothing is queued.
+    #[inline]
     pub fn send_slice(&mut self, data: &[u8], endpoint: IpAddress) -> Result<(), SendError> {
         self.core.send(|host, number| host.icmp_send(number, endpoint, data))
     }
@@ -109,6 +112,7 @@ impl<'a> Socket<'a> {
     ///
     /// # Errors
     /// [`RecvError::Exhausted`] if none came.
+    #[inline]
     pub fn recv(&mut self) -> Result<(&[u8], IpAddress), RecvError> {
         self.core.recv()
     }
@@ -116,7 +120,9 @@ impl<'a> Socket<'a> {
     /// Takes the first message that came, into a buffer, and returns its length.
     ///
     /// # Errors
-    /// [`RecvError::Exhausted`] if none came, [`RecvError::Truncated`] if it is longer than the buffer: then it is dropped.
+    /// [`RecvError::Exhausted`] if none came, [`RecvError::Truncated`] if it is longer than the buffer: then it is
+    /// dropped.
+    #[inline]
     pub fn recv_slice(&mut self, data: &mut [u8]) -> Result<(usize, IpAddress), RecvError> {
         self.core.recv_slice(data)
     }

@@ -1,7 +1,7 @@
 //! Sockets: [`udp`], [`icmp`] and [`raw`].
 //!
-//! A socket is opened when it is bound in a [`SocketSet`](crate::iface::SocketSet), or when it comes into one and was bound before. Its
-//! queues are the library's: outside a set it has none.
+//! A socket is opened when it is bound in a [`SocketSet`](crate::iface::SocketSet), or when it comes into one and was
+//! bound before. Its queues are the library's: outside a set it has none.
 use crate::host::{Error, Host};
 use crate::shared::Shared;
 use crate::time::Instant;
@@ -273,6 +273,7 @@ impl<K: Kind> Core<K> {
     }
 
     /// Calls the host, if the socket is open there.
+    #[inline]
     fn call<R>(&self, f: impl FnOnce(&mut Host, u32) -> Result<R, Error>) -> Result<R, Error> {
         match (&self.host, self.number) {
             (Some(host), Some(number)) => host.with(|host| f(host, number)),
@@ -281,6 +282,7 @@ impl<K: Kind> Core<K> {
         }
     }
 
+    #[inline]
     fn send(&self, f: impl FnOnce(&mut Host, u32) -> Result<(), Error>) -> Result<(), SendError> {
         Ok(self.call(f)?)
     }
@@ -302,6 +304,7 @@ impl<K: Kind> Core<K> {
     }
 
     /// Whether a packet came: asked by a buffer without room, into which only an empty packet goes, which is then kept.
+    #[inline]
     fn can_recv(&self) -> bool {
         if self.ahead.get().is_some() {
             return true;
@@ -316,6 +319,7 @@ impl<K: Kind> Core<K> {
     }
 
     /// Has the first packet in `buffer`.
+    #[inline]
     fn fetch(&mut self) -> Result<(), RecvError> {
         if self.ahead.get().is_none() {
             let mut buffer = core::mem::take(&mut self.buffer);
@@ -326,12 +330,14 @@ impl<K: Kind> Core<K> {
         Ok(())
     }
 
+    #[inline]
     fn recv(&mut self) -> Result<(&[u8], K::Meta), RecvError> {
         self.fetch()?;
         let (length, meta) = self.ahead.take().ok_or(RecvError::Exhausted)?;
         Ok((self.buffer.get(..length).unwrap_or_default(), meta))
     }
 
+    #[inline]
     fn recv_slice(&mut self, data: &mut [u8]) -> Result<(usize, K::Meta), RecvError> {
         if self.ahead.get().is_none() {
             // Right into the caller's buffer.
@@ -421,14 +427,15 @@ macro_rules! common {
                 self.core.octets as usize
             }
 
-            /// For which destination its first packet waits, since no neighbour answers for it, and since when, as of the last round.
-            /// `None` if it doesn't wait. smoltcp has none such.
+            /// For which destination its first packet waits, since no neighbour answers for it, and since when, as of
+            /// the last round. `None` if it doesn't wait. smoltcp has none such.
             pub fn waiting(&self) -> Option<(crate::wire::IpAddress, crate::time::Instant)> {
                 self.core.waiting()
             }
 
-            /// The destination of the packet that it gave up last, after [`Config::patience`](crate::iface::Config::patience), once.
-            /// `None` if it gave up none since. smoltcp has none such.
+            /// The destination of the packet that it gave up last, after
+            /// [`Config::patience`](crate::iface::Config::patience), once. `None` if it gave up none since. smoltcp has
+            /// none such.
             pub fn given_up(&mut self) -> Option<crate::wire::IpAddress> {
                 self.core.given_up()
             }

@@ -16,6 +16,7 @@ impl Kind for Raw {
         host.raw_open(endpoint.0, endpoint.1, packets, octets)
     }
 
+    #[inline]
     fn receive(host: &mut Host, number: u32, out: &mut [u8]) -> Result<(usize, ()), Error> {
         host.raw_receive(number, out).map(|length| (length, ()))
     }
@@ -55,11 +56,12 @@ impl<'a> Socket<'a> {
         self.protocol
     }
 
-    /// Queues a packet with its header, which is written anew when it is sent. One that isn't of the socket's version and protocol, or is
-    /// too long, is dropped then.
+    /// Queues a packet with its header, which is written anew when it is sent. One that isn't of the socket's version
+    /// and protocol, or is too long, is dropped then.
     ///
     /// # Errors
     /// [`SendError::BufferFull`]: then nothing is queued.
+    #[inline]
     pub fn send_slice(&mut self, data: &[u8]) -> Result<(), SendError> {
         self.core.send(|host, number| host.raw_send(number, data))
     }
@@ -82,6 +84,7 @@ impl<'a> Socket<'a> {
     ///
     /// # Errors
     /// [`RecvError::Exhausted`] if none came.
+    #[inline]
     pub fn recv(&mut self) -> Result<&[u8], RecvError> {
         self.core.recv().map(|(packet, ())| packet)
     }
@@ -89,7 +92,9 @@ impl<'a> Socket<'a> {
     /// Takes the first packet that came, into a buffer, and returns its length.
     ///
     /// # Errors
-    /// [`RecvError::Exhausted`] if none came, [`RecvError::Truncated`] if it is longer than the buffer: then it is dropped.
+    /// [`RecvError::Exhausted`] if none came, [`RecvError::Truncated`] if it is longer than the buffer: then it is
+    /// dropped.
+    #[inline]
     pub fn recv_slice(&mut self, data: &mut [u8]) -> Result<usize, RecvError> {
         self.core.recv_slice(data).map(|(length, ())| length)
     }

@@ -37,6 +37,7 @@ impl Kind for Udp {
         host.udp_open(endpoint, packets, octets)
     }
 
+    #[inline]
     fn receive(host: &mut Host, number: u32, out: &mut [u8]) -> Result<(usize, UdpMetadata), Error> {
         host.udp_receive(number, out).map(|(length, from)| (length, from.into()))
     }
@@ -62,11 +63,12 @@ impl<'a> Socket<'a> {
         self.core.endpoint.unwrap_or_default()
     }
 
-    /// Binds it to a port of one address, or of any. It then sends from that address, and it isn't tested that this is an own one.
+    /// Binds it to a port of one address, or of any. It then sends from that address, and it isn't tested that this is
+    /// an own one.
     ///
     /// # Errors
-    /// [`BindError::Unaddressable`] if the port is 0, [`BindError::InvalidState`] if it is bound, [`BindError::Exhausted`] if it is in a set
-    /// and can't be opened there.
+    /// [`BindError::Unaddressable`] if the port is 0, [`BindError::InvalidState`] if it is bound,
+    /// [`BindError::Exhausted`] if it is in a set and can't be opened there.
     pub fn bind<T: Into<IpListenEndpoint>>(&mut self, endpoint: T) -> Result<(), BindError> {
         let endpoint = endpoint.into();
         if !endpoint.is_specified() {
@@ -84,6 +86,7 @@ impl<'a> Socket<'a> {
     ///
     /// # Errors
     /// [`SendError`]: then nothing is queued.
+    #[inline]
     pub fn send_slice(&mut self, data: &[u8], meta: impl Into<UdpMetadata>) -> Result<(), SendError> {
         let remote = meta.into().endpoint;
         self.core.send(|host, number| host.udp_send(number, remote, data))
@@ -108,6 +111,7 @@ impl<'a> Socket<'a> {
     ///
     /// # Errors
     /// [`RecvError::Exhausted`] if none came.
+    #[inline]
     pub fn recv(&mut self) -> Result<(&[u8], UdpMetadata), RecvError> {
         self.core.recv()
     }
@@ -115,7 +119,9 @@ impl<'a> Socket<'a> {
     /// Takes the first datagram that came, into a buffer, and returns its length.
     ///
     /// # Errors
-    /// [`RecvError::Exhausted`] if none came, [`RecvError::Truncated`] if it is longer than the buffer: then it is dropped.
+    /// [`RecvError::Exhausted`] if none came, [`RecvError::Truncated`] if it is longer than the buffer: then it is
+    /// dropped.
+    #[inline]
     pub fn recv_slice(&mut self, data: &mut [u8]) -> Result<(usize, UdpMetadata), RecvError> {
         self.core.recv_slice(data)
     }

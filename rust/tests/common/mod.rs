@@ -156,7 +156,8 @@ impl Node {
         self.frames(now).iter().map(|frame| seen(frame)).collect()
     }
 
-    /// Sends a datagram from a socket of its own, which is closed then, and tells what is sent: what upstream's tests ask by `lookup`.
+    /// Sends a datagram from a socket of its own, which is closed then, and tells what is sent: what upstream's tests
+    /// ask by `lookup`.
     pub fn lookup(&mut self, to: impl Into<IpAddress>, now: Instant) -> Vec<Seen> {
         let socket = self.host.udp_open(0x3000.into(), 1, 64).unwrap();
         self.host.udp_send(socket, IpEndpoint::new(to.into(), 9), b"lookup").unwrap();
