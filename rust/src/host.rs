@@ -219,6 +219,33 @@ impl Settings {
 
 /// A host on a network: the library's own calls. It needs no allocator in Rust, and goes from thread to thread.
 ///
+/// ```
+/// # fn main() -> Result<(), fumitorygate::Error> {
+/// # let (now, frame, transmit) = (Instant::ZERO, [0; 60], |_: &[u8]| ());
+/// use fumitorygate::{FRAME_ROOM, Host, Settings, time::Instant, wire::EthernetAddress};
+///
+/// let mut settings = Settings::new(EthernetAddress([2, 0, 0, 0, 0, 1]).into());
+/// settings.random_seed = 0x5eed;
+/// let mut host = Host::new(&settings)?;
+/// host.add_address("192.168.69.1/24".parse().unwrap())?;
+/// let socket = host.udp_open(7.into(), 4, 4096)?;
+///
+/// // For each frame that came:
+/// let (mut out, mut payload) = ([0; FRAME_ROOM], [0; 4096]);
+/// if let Some(reply) = host.receive(now, &frame, &mut out)? {
+///     transmit(reply);
+/// }
+/// while let Ok((length, remote)) = host.udp_receive(socket, &mut payload) {
+///     let _ = host.udp_send(socket, remote, &payload[..length]);
+/// }
+/// while let Some(frame) = host.next(now, &mut out)? {
+///     transmit(frame);
+/// }
+/// let wake = host.poll_at(now);
+/// # Ok(())
+/// # }
+/// ```
+///
 /// One call at a time, whatever safe code tries. It can't be shared:
 ///
 /// ```compile_fail,E0277

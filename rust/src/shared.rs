@@ -60,3 +60,36 @@ impl fmt::Debug for Shared {
         f.write_str("Shared")
     }
 }
+
+#[cfg(all(test, feature = "std"))]
+mod tests {
+    use super::Shared;
+    use crate::host::{Host, Settings};
+    use crate::wire::HardwareAddress;
+    use core::sync::atomic::{AtomicUsize, Ordering::SeqCst};
+
+    /// No two threads are in a call at a time, and a panic in one gives the host back.
+    #[test]
+    fn one_thread_at_a_time_has_the_host() {
+        let host = Shared::new(Host::new(&Settings::new(HardwareAddress::Ip)).unwrap());
+        let (inside, calls) = (AtomicUsize::new(0), AtomicUsize::new(0));
+        std::thread::scope(|scope| {
+            for _ in 0..4 {
+                scope.spawn(|| {
+                    for _ in 0..200 {
+                        host.with(|_| {
+                            assert_eq!(inside.fetch_add(1, SeqCst), 0);
+                            std::thread::yield_now();
+                            calls.fetch_add(1, SeqCst);
+                            inside.fetch_sub(1, SeqCst);
+                        });
+                    }
+                });
+            }
+        });
+        assert_eq!(calls.into_inner(), 800);
+        let panics = std::panic::catch_unwind(std::panic::AssertUnwindSafe(|| host.with(|_| panic!("in a call"))));
+        assert!(panics.is_err());
+        assert_eq!(host.with(Host::given_up_count), 0);
+    }
+}

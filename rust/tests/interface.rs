@@ -96,7 +96,7 @@ fn addresses_are_read_back_and_a_refused_list_changes_nothing() {
 fn an_address_twice_is_kept_in_its_order() {
     let (_, mut iface, _) = interface();
     let (a, b) = (IpCidr::new(SELF.into(), 24), IpCidr::new(PEER.into(), 24));
-    for list in [vec![a, b, a], vec![a, a, b], vec![b, a, a], vec![a], vec![]] {
+    for list in [vec![a, b, a], vec![a, b], vec![a, b, a], vec![a, a, b], vec![b, a, a], vec![a], vec![]] {
         iface
             .update_ip_addrs(|old| {
                 old.clear();
@@ -324,6 +324,8 @@ fn groups_and_routes_have_their_errors() {
     assert_eq!(routes.add_default_ipv6_route(Ipv6Address::LOCALHOST), Err(RouteTableFull));
     assert!(routes.remove_default_ipv4_route() && !routes.remove_default_ipv4_route());
     assert!(!routes.remove_default_ipv6_route());
+    routes.add_default_ipv6_route(Ipv6Address::LOCALHOST).unwrap();
+    assert!(!routes.remove_default_ipv4_route() && routes.remove_default_ipv6_route());
     assert!(routes.remove("10.2.0.0/16".parse().unwrap()) && !routes.remove("10.2.0.0/16".parse().unwrap()));
 }
 
@@ -347,22 +349,68 @@ fn a_socket_tells_of_an_absent_neighbor() {
     assert_eq!(iface.poll_at(Instant::from_secs(4), &sockets), None);
 }
 
-/// Interface and sockets in threads of their own, each of which calls the host.
+/// `docs/C.md`, The configuration: the patience is the one that is set; `iface.h`: zero is for ever.
+#[test]
+fn the_patience_is_the_one_that_is_set() {
+    for (patience, given_up) in [(Duration::from_secs(1), 1), (Duration::ZERO, 0)] {
+        let mut device = MemoryDevice::new(Medium::Ethernet, 1514);
+        let mut config = Config::new(EthernetAddress(OWN).into());
+        config.patience = patience;
+        let mut iface = Interface::new(config, &mut device, Instant::ZERO).unwrap();
+        iface.update_ip_addrs(|list| list.push(IpCidr::new(SELF.into(), 24)).unwrap()).unwrap();
+        let mut sockets = SocketSet::new(&iface);
+        let handle = sockets.add(udp::Socket::new(buffer(), buffer()));
+        let socket = sockets.get_mut::<udp::Socket>(handle);
+        socket.bind(7).unwrap();
+        socket.send_slice(b"anybody?", (PEER, 9)).unwrap();
+        for second in 0..=2 {
+            iface.poll(Instant::from_secs(second), &mut device, &mut sockets);
+        }
+        assert_eq!(iface.given_up_count(), given_up);
+    }
+}
+
+/// `docs/C.md`: a request is sent a second after the one before, so 400 ms after it the delay is 600 ms.
+#[test]
+fn the_delay_is_the_time_until_the_next_poll() {
+    let (mut device, mut iface, mut sockets) = interface();
+    let handle = sockets.add(udp::Socket::new(buffer(), buffer()));
+    let socket = sockets.get_mut::<udp::Socket>(handle);
+    socket.bind(7).unwrap();
+    socket.send_slice(b"anybody?", (PEER, 9)).unwrap();
+    iface.poll(millis(5000), &mut device, &mut sockets);
+    assert_eq!(iface.poll_at(millis(5400), &sockets), Some(millis(6000)));
+    assert_eq!(iface.poll_delay(millis(5400), &sockets), Some(Duration::from_millis(600)));
+    assert_eq!(iface.poll_delay(millis(6001), &sockets), Some(Duration::ZERO));
+}
+
+/// `API.md`: both queues of a socket get the greater.
+#[test]
+fn a_socket_has_the_greater_of_its_two_capacities() {
+    let (small, great) = (udp::PacketBuffer::with_capacity(1, 300), udp::PacketBuffer::with_capacity(3, 200));
+    let socket = udp::Socket::new(small, great);
+    assert_eq!((socket.packet_recv_capacity(), socket.packet_send_capacity()), (3, 3));
+    assert_eq!((socket.payload_recv_capacity(), socket.payload_send_capacity()), (300, 300));
+}
+
+/// Interface and sockets in threads of their own, each of which calls the host. Of two calls at a time the library
+/// would refuse one (`docs/C.md`, What the calls promise).
 #[test]
 fn interface_and_sockets_may_be_in_different_threads() {
     let (_, mut iface, mut sockets) = interface();
     let handle = sockets.add(udp::Socket::new(buffer(), buffer()));
     sockets.get_mut::<udp::Socket>(handle).bind(7).unwrap();
     let adds = std::thread::spawn(move || {
-        for n in 0..500 {
+        for n in 0..2_000 {
             let cidr = IpCidr::new(IpAddress::v4(10, 0, (n / 250) as u8, (n % 250 + 1) as u8), 8);
             iface.update_ip_addrs(|list| list.truncate_to_one_and_push(cidr)).unwrap();
             assert_eq!(iface.ip_addrs()[1], cidr);
         }
     });
-    for _ in 0..500 {
-        assert!(!sockets.get::<udp::Socket>(handle).can_recv());
-        assert_eq!(sockets.get_mut::<udp::Socket>(handle).recv_slice(&mut []), Err(udp::RecvError::Exhausted));
+    let socket = sockets.get_mut::<udp::Socket>(handle);
+    while !adds.is_finished() {
+        assert_eq!(socket.recv_slice(&mut []), Err(udp::RecvError::Exhausted));
+        assert_ne!(socket.send_slice(b"x", (PEER, 9)), Err(udp::SendError::Unaddressable));
     }
     adds.join().unwrap();
 }
