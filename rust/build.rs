@@ -56,6 +56,7 @@ fn archive(folder: &Path, library: &str) -> PathBuf {
 
 fn link(folder: &Path, library: &str) {
     let archive = archive(folder, library);
+    let Ok(folder) = folder.canonicalize() else { panic!("there is no folder {}", folder.display()) };
     assert!(archive.exists(), "there is no {}", archive.display());
     println!("cargo:rerun-if-changed={}", archive.display());
     println!("cargo:rustc-link-search=native={}", folder.display());
