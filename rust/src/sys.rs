@@ -2,10 +2,10 @@
 //!
 //! Calling any of it is `unsafe`: the header says what the caller keeps. [`Host`](crate::Host) keeps it.
 //!
-//! Sum of the header: 0xbf1b36125911a10d
+//! Sum of the header: 0x222ff93814739400
 #![allow(non_camel_case_types)]
 
-use core::ffi::c_void;
+use core::ffi::{c_char, c_void};
 
 /// the call is done
 pub const IFACE_OK: u32 = 0;
@@ -55,6 +55,8 @@ pub const IFACE_FRAME_ROOM: usize = 1514;
 pub const IFACE_LAST_MOMENT: i64 = 1 << 62;
 /// The instant that stands for none.
 pub const IFACE_NEVER: i64 = i64::MAX;
+/// The version of the header.
+pub const IFACE_VERSION: u32 = 0x000e0001;
 
 /// A handle, which owns a host or none. Its fields are the library's.
 #[repr(C)]
@@ -178,4 +180,10 @@ unsafe extern "C" {
     pub fn iface_next(host: *mut iface, now: i64, out: *mut u8, room: usize, length: *mut usize) -> u32;
     /// Writes the instant at which `iface_next` is to be called again, if no frame comes before and no call changes the host: one that has passed, if something is due at once, and `IFACE_NEVER`, if nothing is due.
     pub fn iface_poll_at(host: *mut iface, now: i64, at: *mut i64) -> u32;
+    /// The version of the header that the library was built with.
+    pub fn iface_version() -> u32;
+    /// The library's name, version and commit, as "fumitorygate 0.14.0 (8e6aa25f6c2d)".
+    pub fn iface_build() -> *const c_char;
+    /// What a code says, as "the queue is full"; "unknown code" for a number that is none.
+    pub fn iface_strerror(code: u32) -> *const c_char;
 }
