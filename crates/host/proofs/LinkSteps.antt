@@ -1,5 +1,5 @@
 -- Steps on a link one after the other, and that both ends go along runs.
-use Rattle.std.proofs.Common.{◌≡◌, ℕ, ◌≤◌, zero, suc, List, [], ◌∷◌, ◌++◌, length, refl, sym}
+use Rattle.std.proofs.Common.{◌≡◌, ℕ, zero, suc, List, [], ◌∷◌, ◌++◌, length, refl, sym}
 use Rattle.std.proofs.Common.{◌∙◌, ap, subst, append_assoc, append-nil, Some, None, inl, inr}
 use Rattle.std.specs.Prelude.{ℤ, drop, slice_get, true, false, Result, Ok, Err, OnOk, OnErr, ◌⊎◌}
 use Rattle.std.specs.Result.{is_err}

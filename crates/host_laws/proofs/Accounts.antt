@@ -1,7 +1,7 @@
 -- What parts of a call send: the frames of departures, and others that carry no UDP.
 use Rattle.std.proofs.Common.{inl, inr, ◌≡◌, ℕ, ◌*◌, ◌<◌, Bool, true, false, List, [], ◌∷◌, ◌++◌}
 use Rattle.std.proofs.Common.{length, refl, sym, ◌∙◌, ap, subst, Option, Some, None, Err, arith}
-use Rattle.std.specs.Prelude.{ℤ, ◌⊎◌, ◌-◌, ◌/◌, map}
+use Rattle.std.specs.Prelude.{ℤ, ◌⊎◌, ◌-◌, ◌/◌}
 use Rattle.std.specs.List.{AllByRecursion}
 use Rattle.std.proofs.lemmas.List.{length-map, append-nil}
 use Rattle.net_base.specs.Checksum.{ip_mtu_of}
@@ -41,8 +41,7 @@ use Rattle.host_machine.specs.Laws.TwoHosts.{cuts}
 use Rattle.host_machine.proofs.State.NotesBySubject.{cut_notes-append, cut_notes-slots}
 use Rattle.host_machine.proofs.State.UnchangedFields.{Keeps}
 use Rattle.host_machine.proofs.Receiving.Malformed.{sent_frames-sends}
-use Rattle.host_machine.proofs.Receiving.Pieces.{IsIn, is_in, contains_in, in_left, in_right, IsPiece}
-use Rattle.host_machine.proofs.Receiving.Pieces.{piece_in, part_of, count_below, length-pieces_from}
+use Rattle.host_machine.proofs.Receiving.Pieces.{is_in, contains_in, in_left, in_right, count_below, length-pieces_from}
 use Rattle.host_machine.proofs.Runs.TwoHosts.{in_map, size_positive, cuts-append}
 use Rattle.host_machine.proofs.Sending.PendingParts.{pieces_are}
 use Rattle.host_machine.proofs.Runs.Walk.{Reached, dispatched, taken, sent_frames-append}

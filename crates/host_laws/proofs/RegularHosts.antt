@@ -4,7 +4,6 @@ use Rattle.std.specs.Prelude.{ℤ, ◌⊎◌}
 use Rattle.std.specs.List.{AllByRecursion}
 use Rattle.net_base.specs.Device.{Event, Asked, sent_frames}
 use Rattle.net_base.specs.declared.phy.DeviceCapabilities.{DeviceCapabilities}
-use Rattle.ip_address.specs.declared.hardware.HardwareAddress.{HardwareAddress}
 use Rattle.fragmentation.specs.Cuts.{Piece}
 use Rattle.host_machine.specs.declared.command.Command.{Command}
 use Rattle.host_machine.specs.declared.command.Answer.{Answer}

@@ -1,14 +1,11 @@
 -- Why calls are refused: the first of the reasons that holds, in their order.
-use Rattle.std.specs.Prelude.{ℕ, ℤ, pos, ◌^◌, ◌≡◌, ◌≤◌, ◌++◌, ◌∷◌, [], ◌+◌, ◌==◌, ◌&&◌, nat_le, nat_lt}
-use Rattle.std.specs.Prelude.{max, Bool, is_some, List, length, Option, Some, None, if◌then◌else◌}
+use Rattle.std.specs.Prelude.{ℕ, ℤ, pos, ◌≡◌, ◌+◌, ◌==◌, ◌&&◌, nat_le, nat_lt, max, Bool}
+use Rattle.std.specs.Prelude.{is_some, List, length, Option, Some, None, if◌then◌else◌}
 use Rattle.std.specs.Option.{option_and_then}
 use Rattle.std.specs.Ordering.{int_cmp, is_le}
-use Rattle.std.specs.List.{position_or_len, remove}
-use Rattle.ip_address.specs.Ip.{is_multicast, is_unspecified}
+use Rattle.ip_address.specs.Ip.{is_unspecified}
 use Rattle.ip_address.specs.Protocol.{version_of}
-use Rattle.ip_address.specs.declared.cidr.IpCidr.{IpCidr}
 use Rattle.ip_address.specs.declared.ip.IpAddress.{IpAddress}
-use Rattle.ip_address.specs.declared.ip.IpAddress.TheVariants as address
 use Rattle.ip_address.specs.declared.protocol.IpVersion.{IpVersion}
 use Rattle.ip_address.specs.declared.protocol.IpVersion.TheVariants.{Ipv4, Ipv6}
 use Rattle.network_sockets.specs.Icmp.{IcmpSocket}
@@ -18,26 +15,12 @@ use Rattle.socket_base.specs.Queue.{first_of, is_room}
 use Rattle.sockets.specs.Kinds.{down_icmp, down_raw, down_udp}
 use Rattle.socket_set.specs.SocketSet.{socket_at}
 use Rattle.transport_sockets.specs.Udp.{UdpSocket}
-use Rattle.group_table.specs.Groups as groups
-use Rattle.group_table.specs.declared.groups.Group.{Group}
-use Rattle.iface_tables.specs.declared.route.Route.{Route}
-use Rattle.iface_tables.specs.Route as routes
-use Rattle.iface_tables.specs.Route.{is_ipv4_gateway, is_ipv6_gateway}
-use Rattle.host_machine.specs.State.Host.{are_assignable, no_sockets}
-use Rattle.host_machine.specs.State.Config.{refusal_of}
-use Rattle.host_machine.specs.declared.results.NewError.{NewError}
-use Rattle.host_machine.specs.declared.results.NewError.TheVariants as new_error
-use Rattle.interface.specs.Stands.{host_with}
-use Rattle.iface_host.specs.Calls.{addresses_of, is_same, is_to}
 use Rattle.iface_host.specs.Names.{handle_named}
 use Rattle.iface_host.specs.Sockets.{Socket}
-use Rattle.iface_host.specs.Stands.{capabilities_of}
 use Rattle.iface_host.specs.declared.host.Host.{Host}
-use Rattle.iface_host.specs.declared.host.Settings.{Settings}
 use Rattle.iface_host.specs.declared.refusal.Refusal.{Refusal}
-use Rattle.iface_host.specs.declared.refusal.Refusal.TheVariants.{BadAddress, BadMoment, BadMtu, BadPort, BadTimeout}
-use Rattle.iface_host.specs.declared.refusal.Refusal.TheVariants.{Empty, NoMemory, NoRoom, NoSocket, NotThere}
-use Rattle.iface_host.specs.declared.refusal.Refusal.TheVariants.{NotUnicast, QueueFull, TableFull, TooLong}
+use Rattle.iface_host.specs.declared.refusal.Refusal.TheVariants.{BadAddress, BadMoment, BadPort, Empty, NoMemory}
+use Rattle.iface_host.specs.declared.refusal.Refusal.TheVariants.{NoRoom, NoSocket, QueueFull, TableFull, TooLong}
 
 -- the socket of a kind that a number names, if it names one
 abbrev pub kind_at : {S : Type 0} → (Socket → Option S) → Host → ℕ → Option S
@@ -112,62 +95,3 @@ moment_refusal t = if is_moment t then None else Some BadMoment
 -- besides, a frame of the greatest length has to fit the room
 abbrev pub frame_refusal : ℤ → ℕ → Option Refusal
 frame_refusal t room = if is_moment t then (if nat_lt room 1514 then Some NoRoom else None) else Some BadMoment
-
--- an address isn't added to four, and all are unicast or unspecified
-abbrev pub address_refusal : Host → IpCidr → Option Refusal
-address_refusal host added =
-    if nat_lt (length (addresses_of host)) 4
-    then (if are_assignable (addresses_of host ++ added ∷ []) then None else Some NotUnicast) else Some TableFull
-
--- an address that is removed is there, and the others are unicast or unspecified
-abbrev pub removal_refusal : Host → IpCidr → Option Refusal
-removal_refusal host gone =
-    if nat_lt (position_or_len (is_same gone) (addresses_of host)) (length (addresses_of host))
-    then (if are_assignable (remove (addresses_of host) (position_or_len (is_same gone) (addresses_of host))) then None
-    else Some NotUnicast)
-    else Some NotThere
-
--- its groups and routes
-abbrev pub groups_of : Host → List Group
-groups_of host = (host_with host.interface no_sockets).groups
-
-abbrev pub routes_of : Host → List Route
-routes_of host = (host_with host.interface no_sockets).routes
-
-abbrev pub join_refusal : Host → IpAddress → Option Refusal
-join_refusal host group = if is_multicast group
-    then (if groups.is_refused (groups_of host) group then Some TableFull else None) else Some BadAddress
-
-abbrev pub leave_refusal : IpAddress → Option Refusal
-leave_refusal group = if is_multicast group then None else Some BadAddress
-
--- a default route replaces the first of its family, or there are fewer than four
-abbrev pub default_refusal : Host → IpAddress → Option Refusal
-default_refusal host (address.Ipv4 gateway) =
-    if routes.is_refused is_ipv4_gateway (routes_of host) then Some TableFull else None
-default_refusal host (address.Ipv6 gateway) =
-    if routes.is_refused is_ipv6_gateway (routes_of host) then Some TableFull else None
-
-abbrev pub route_refusal : Host → Option Refusal
-route_refusal host = if nat_lt (length (routes_of host)) 4 then None else Some TableFull
-
-abbrev pub route_removal_refusal : Host → IpCidr → Option Refusal
-route_removal_refusal host gone =
-    if nat_lt (position_or_len (is_to gone) (routes_of host)) (length (routes_of host)) then None else Some NotThere
-
--- settings that no host can have
-abbrev pub of_new_error : NewError → Refusal
-of_new_error new_error.MediumMismatch = BadMtu
-of_new_error new_error.NotUnicast = NotUnicast
-of_new_error new_error.MtuTooSmall = BadMtu
-of_new_error new_error.MtuTooLarge = BadMtu
-
-abbrev pub of_timeout : ℕ → Option Refusal
-of_timeout timeout = if nat_lt 0 timeout && nat_le timeout 86_400_000_000 then None else Some BadTimeout
-
-abbrev pub of_settings : Option NewError → ℕ → Option Refusal
-of_settings None timeout = of_timeout timeout
-of_settings (Some e) timeout = Some (of_new_error e)
-
-abbrev pub settings_refusal : Settings → Option Refusal
-settings_refusal s = of_settings (refusal_of (capabilities_of s) s.hardware_addr) s.reassembly_timeout

@@ -349,6 +349,7 @@ fn field_len(len: usize) -> u16
 /// How many octets of a payload of `len` octets an ICMP error quotes, so that the error is at most `mtu` octets long.
 /// The error also has an IP header of `header_len` octets, the 8 octets of the message, and the quoted header; where
 /// these don't leave room, none are quoted (RFC 1122 3.2.2, RFC 4443 2.4).
+#[inline(always)]
 pub fn icmp_reply_payload_len(len: usize, mtu: usize, header_len: usize) -> usize
     ensures { result ≡ min (mtu - (header_len * 2 + 8)) len }
 {

@@ -2,8 +2,6 @@
 use Rattle.std.proofs.Common.{◌≡◌, ℕ, ◌<◌, ◌≤◌, ◌∙◌, sym, ap, subst, List, [], ◌∷◌, ◌++◌, length, refl, arith}
 use Rattle.std.proofs.lemmas.List.{append_assoc}
 use Rattle.std.specs.Prelude.{Option, Some, None, Ok}
-use Rattle.std.specs.List.{AllByRecursion}
-use Rattle.net_base.specs.declared.phy.Medium.{Medium}
 use Rattle.ip_address.specs.declared.hardware.HardwareAddress.{HardwareAddress}
 use Rattle.ip_wire.specs.declared.ethernet.EthernetProtocol.TheVariants as protocol
 use Rattle.ip_wire.specs.Ipv4Packet.{header_text}
@@ -17,7 +15,6 @@ use Rattle.host_machine.specs.Sending.Packet.{PacketV4, Ipv4, HasPorts, total_le
 use Rattle.host_machine.specs.Sending.Dispatch.{Emits, InPieces, datagram_of}
 use Rattle.host_machine.specs.State.Host.{Host, SocketSet, no_sockets, with_slots, with_left}
 use Rattle.host_machine.specs.Sending.Frame.{link_header, piece_frame}
-use Rattle.host_machine.specs.Laws.Real.{IsPart}
 use Rattle.iface_send.specs.declared.context.Context.{Context}
 use Rattle.iface_send.specs.Stands.{host_of}
 use Rattle.iface_send.specs.Refines.{RefinesBuilding}
@@ -73,8 +70,3 @@ begins {buffer} {old} {mid} {new} id p h left form ports long fits built =
     (goes.sent ∙ ap (λ H. piece_frame (with_slots H slots) goes.piece ∷ []) (left sockets))
     (ap (λ ns. OfCuts (Cut (datagram_of (host_of old no_sockets) h id p)) ∷ ns) goes.noted)
     (goes.others_left ∙ ap (λ H. with_left (with_slots H slots) goes.rest) (left sockets)))
-
--- what is pending stays parts of packets when the first goes
-pub rest_are_parts : (m : Medium) (ps : List Piece) → AllByRecursion (IsPart m) ps → AllByRecursion (IsPart m) (rest_of ps)
-rest_are_parts m [] all = tt
-rest_are_parts m (p ∷ ps) all = all.1

@@ -4,6 +4,7 @@ ghost use Rattle.std.specs.Prelude.{◌≡◌, ◌<◌, IfSome, true, pos, lengt
 ghost use Rattle.std.specs.List.{remove};
 ghost use Rattle.std.specs.FinMap as map;
 ghost use Rattle.std.specs.FinMap.{find};
+ghost use Rattle.std.specs.Ordering.{eq_by_cmp};
 ghost use Rattle.net_base.specs.Time.{IsMoment, silence_from};
 ghost use Rattle.ip_address.specs.Ip as ip;
 ghost use Rattle.ip_address.specs.Ip.{address_cmp};
@@ -222,12 +223,24 @@ impl Cache {
     }
 }
 
+// Whether two addresses are equal, by family and number. Written so, it takes fewer instructions than `==`.
+#[inline(always)]
+fn is_at(a: &IpAddress, b: &IpAddress) -> bool
+    ensures { result ≡ eq_by_cmp address_cmp a.now b.now }
+{
+    match (a, b) {
+        (IpAddress::Ipv4(x), IpAddress::Ipv4(y)) => x.bits == y.bits,
+        (IpAddress::Ipv6(x), IpAddress::Ipv6(y)) => x.bits == y.bits,
+        _ => false,
+    }
+}
+
 // The neighbour at an address, if any.
 fn find_in(entries: &[(IpAddress, Neighbor)], address: &IpAddress) -> Option<Neighbor>
     ensures { result ≡ find address_cmp address.now entries.now }
 {
     for e in entries {
-        if *address == e.0 {
+        if is_at(address, &e.0) {
             return Some(e.1);
         }
     }
@@ -240,7 +253,7 @@ fn index_of(entries: &[(IpAddress, Neighbor)], address: &IpAddress) -> usize
     ensures { result ≡ entry.index_of address_cmp address.now entries.now }
 {
     for (i, e) in entries.iter().enumerate() {
-        if *address == e.0 {
+        if is_at(address, &e.0) {
             return i;
         }
     }

@@ -2,4 +2,4 @@ mod EgressCall
 mod IngressCall
 mod NewInterface
 mod PollLoop
-mod SettingCalls
+pub mod SettingCalls

@@ -1,10 +1,15 @@
-use Rattle.std.proofs.Common.{◌≡◌, ap, false, ◌∙◌}
+use Rattle.std.proofs.Common.{◌≡◌, ℕ, List, ap, false, ◌∙◌}
 use Rattle.net_base.specs.Checksum.{ip_mtu_of}
-use Rattle.socket_set.specs.SocketSet.{over}
+use Rattle.socket_set.specs.SocketSet.{Sockets, Storage, over}
 use Rattle.iface_host.specs.Outbox.{empty}
 use Rattle.iface_host.specs.Stands.{capabilities_of}
 use Rattle.iface_host.proofs.FrameCalls.{stood}
 use Rattle.iface_host.proofs.host.Host.new.Goals as goal
+
+-- a set over other places, with the room that it has
+in_room : {L : Type 0} {set : Sockets L} {made places : List (Storage L)} {room : ℕ} →
+    set ≡ over made false room → made ≡ places → set ≡ over places false set.room
+in_room {room = room} is same = rw is (ap (λ xs. over xs false room) same)
 
 pub returns : goal.returns
 returns c =
@@ -16,7 +21,7 @@ returns c =
       some_time = c.in_ok-let_fragments_wait.ensures.within.0;
       within_day = c.in_ok-let_fragments_wait.ensures.within.1;
       ip_mtu = c.ip_mtu.ensures ∙ ap ip_mtu_of c.capabilities-capabilities.ensures;
-      sockets = c.fixed.ensures ∙ ap (λ places. over places false (vec_capacity c.in_ok-places.places)) c.in_ok-places.ensures;
+      sockets = in_room c.fixed.ensures c.in_ok-places.ensures;
       names = c.in_ok-names.ensures;
       outbox = c.new.ensures.device ∙ outbox_is;
       schedule = c.in_ok-schedule.ensures;
