@@ -14,8 +14,8 @@
  *    overlaps what another pointer of the same call points to, the handle included.
  *  - malloc, realloc and free are of one allocator, whose blocks are aligned as the C standard says, and no call is
  *    made where these may not be called, as in a signal handler or in the forked child of a process with threads.
- *  - There is room on the stack. As counted, iface_new takes 59,400 octets of it, iface_free 24,300, iface_next 5,900 and any
- *    other call at most 2,600; beside that comes what malloc takes. docs/PERFORMANCE.md has each call, and a bound.
+ *  - There is room on the stack. As counted, iface_new takes 59,400 octets of it, iface_free 24,300, iface_next 5,900
+ *    and any other call at most 2,600; beside that comes what malloc takes. docs/PERFORMANCE.md has each, and a bound.
  */
 #ifndef IFACE_H
 #define IFACE_H
@@ -239,9 +239,9 @@ uint32_t iface_poll_at(iface *host, int64_t now, int64_t *at);
 
 /* ---- the library ---- */
 
-/* The version of this header, an octet each: 0.14.0, and the header's number, which grows with each change of a call or a
- * structure. A program compares it with iface_version() before its first call, and so learns of a library that isn't the
- * header's. */
+/* The version of this header, an octet each: 0.14.0, and the header's number, which grows with each change of a call or
+ * a structure. A program compares it with iface_version() before its first call, and so learns of a library that isn't
+ * the header's. */
 #define IFACE_VERSION 0x000e0001u
 
 /* The version of the header that the library was built with. */

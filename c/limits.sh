@@ -1,7 +1,8 @@
 #!/bin/sh
 # Compares what was counted with what limits.txt allows, so that nothing grows unseen.
 #
-#   limits.sh COUNTED..      files of lines `NAME NUMBER`; prints each with its limit, and fails where one is above it, or has none
+#   limits.sh COUNTED..      files of lines `NAME NUMBER`; prints each with its limit, and fails where one is above it,
+#                            or has none
 set -eu
 awk 'FNR == 1 { file++ }
     /^#/ || NF < 2 { next }

@@ -1,14 +1,17 @@
 #!/bin/sh
-# Builds crates/iface_c/out/libiface_c.a over the libraries that `rt ci` or `rt lib` has just proved in this clone. It proves
-# iface_c itself once more, which takes a few minutes, and nothing below; `rt lib` after `rt ci`, which keeps no trust in what that
-# left, would take hours. What it proved is kept in crates/iface_c/out/incremental, so that the next build of it takes seconds.
+# Builds crates/iface_c/out/libiface_c.a over the libraries that `rt ci` or `rt lib` has just proved in this clone. It
+# proves iface_c itself once more, which takes a few minutes, and nothing below; `rt lib` after `rt ci`, which keeps
+# no trust in what that left, would take hours. What it proved is kept in crates/iface_c/out/incremental, so that the
+# next build of it takes seconds.
 #
 #   over_gate.sh [-o FILE] [--target TRIPLE --toolchain FOLDER] [--backend rattle]
 #
-# With a target the library is for that processor, over the same libraries, and its verdict names that target. toolchain.sh makes
-# the folder. With the kit's other compiler the last line tells a bound on the stack: frame-bytes, stack-bytes.
+# With a target the library is for that processor, over the same libraries, and its verdict names that target.
+# toolchain.sh makes the folder. With the kit's other compiler the last line tells a bound on the stack: frame-bytes,
+# stack-bytes.
 #
-# It needs the Rattle kit's `rt`, or what RT names. Where nothing was proved before, `rt lib` in crates/iface_c is the way.
+# It needs the Rattle kit's `rt`, or what RT names. Where nothing was proved before, `rt lib` in crates/iface_c is the
+# way.
 set -eu
 crates=$(cd "$(dirname "$0")/../crates" && pwd)
 kit=$(dirname "$("${RT:-rt}" doc)")
@@ -29,14 +32,17 @@ done
 set -- --crate-name iface_c src/lib.rt --crate-type staticlib --links iface_c=
 set -- "$@" --extern "std=$kit/rlibs/std.rlib" -L "dependency=$kit/rlibs"
 for name in $used; do
-    [ -d "$crates/$name/out/rlib" ] || { echo "over_gate.sh: $name isn't proved here: \`rt lib\` in crates/iface_c comes first" >&2 && exit 1; }
+    if [ ! -d "$crates/$name/out/rlib" ]; then
+        echo "over_gate.sh: $name isn't proved here: \`rt lib\` in crates/iface_c comes first" >&2
+        exit 1
+    fi
     set -- "$@" --extern "$name=$crates/$name/out/rlib/$name.rlib"
 done
 for folder in "$crates"/*/out/rlib; do
     set -- "$@" -L "dependency=$folder"
 done
-set -- "$@" --antt-project "$kit/rattle/logic/antt-project.json" --logic-built "$kit/logic_built" --toolchain "$toolchain"
-set -- "$@" --incremental out/incremental
+set -- "$@" --antt-project "$kit/rattle/logic/antt-project.json" --logic-built "$kit/logic_built"
+set -- "$@" --toolchain "$toolchain" --incremental out/incremental
 mkdir -p "$(dirname "$out")" "$crates/iface_c/out"
 cd "$crates/iface_c"
 exec "$kit/bin/rattle" build "$@" --backend "$backend" --target "$target" --jobs "${JOBS:-$(nproc)}" -o "$out"

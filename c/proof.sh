@@ -1,8 +1,8 @@
 #!/bin/sh
 # Builds the proved library, and tells it from one that no proof made.
 #
-#   proof.sh make KEPT BUILT COMMAND..   runs COMMAND, which is to build BUILT. If its last verdict is `logic=proved`, BUILT is
-#                                        copied to KEPT; KEPT.proof gets that line, and the checksum of the library
+#   proof.sh make KEPT BUILT COMMAND..   runs COMMAND, which is to build BUILT. If its last verdict is `logic=proved`,
+#                                        BUILT is copied to KEPT, and that line and its checksum to KEPT.proof
 #   proof.sh check KEPT                  fails if KEPT isn't the library that KEPT.proof tells of
 set -eu
 

@@ -1,6 +1,6 @@
 #!/bin/sh
-# Prints how many octets of code and of constants there are: of the whole library, and of what the smallest program takes of it that
-# echoes UDP and answers ping. That is examples/freestanding.c, whose own code isn't counted.
+# Prints how many octets of code and of constants there are: of the whole library, and of what the smallest program
+# takes of it that echoes UDP and answers ping. That is examples/freestanding.c, whose own code isn't counted.
 #
 #   size.sh FOLDER      of the built library and program
 set -eu

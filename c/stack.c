@@ -1,9 +1,10 @@
-/* How much of the stack each call takes: a stack of its own is painted, the call is made on it, and what lost its paint is counted.
- * The heap is an array, so malloc's own use isn't counted; that of memcpy is.
+/* How much of the stack each call takes: a stack of its own is painted, the call is made on it, and what lost its
+ * paint is counted. The heap is an array, so malloc's own use isn't counted; that of memcpy is.
  *
  *   stack      prints a line for each call: the most octets that it took, of all times it was made
  *
- * The calls are made on a host of both families that gets each kind of frame, whole and damaged, and sends by each kind of socket.
+ * The calls are made on a host of both families that gets each kind of frame, whole and damaged, and sends by each
+ * kind of socket.
  */
 #define _XOPEN_SOURCE 600
 #include "iface.h"
@@ -39,7 +40,8 @@ struct block rattle_alloc(size_t size, size_t align) {
     size_t units = 1 + ((size_t)1 << which);
     union head *block = which < SIZES ? free_blocks[which] : NULL;
     if (block) free_blocks[which] = block->next;
-    else if (which < SIZES && heap_used + units <= sizeof heap / sizeof *heap) block = &heap[heap_used], heap_used += units;
+    else if (which < SIZES && heap_used + units <= sizeof heap / sizeof *heap)
+        block = &heap[heap_used], heap_used += units;
     if (!block) return (struct block){false, &none};
     block->size = which;
     return (struct block){true, block + 1};
@@ -188,13 +190,13 @@ static uint8_t *ethernet(uint16_t type, size_t n) {
     return frame + 14;
 }
 
-/* A packet of IPv4 to 192.168.69.1: its flags and offset, and its payload. `sum_at` is where that has its checksum, over the
- * pseudo-header or not; 0 for none. */
+/* A packet of IPv4 to 192.168.69.1: its flags and offset, and its payload. `sum_at` is where that has its checksum,
+ * over the pseudo-header or not; 0 for none. */
 static void packet4(uint8_t kind, uint16_t fragment, const uint8_t *data, size_t n, size_t sum_at, bool is_pseudo) {
     static const uint8_t ends[] = {192, 168, 69, 2, 192, 168, 69, 1};
     uint8_t *p = ethernet(0x800, 20 + n);
-    p[0] = 0x45, p[2] = (uint8_t)((20 + n) >> 8), p[3] = (uint8_t)(20 + n), p[6] = (uint8_t)(fragment >> 8), p[7] = (uint8_t)fragment;
-    p[5] = 7, p[8] = 64, p[9] = kind;
+    p[0] = 0x45, p[2] = (uint8_t)((20 + n) >> 8), p[3] = (uint8_t)(20 + n), p[5] = 7;
+    p[6] = (uint8_t)(fragment >> 8), p[7] = (uint8_t)fragment, p[8] = 64, p[9] = kind;
     memcpy(p + 12, ends, 8);
     sum_into(p + 10, p, 20, 0);
     memcpy(p + 20, data, n);
@@ -203,8 +205,10 @@ static void packet4(uint8_t kind, uint16_t fragment, const uint8_t *data, size_t
     if (sum_at) sum_into(p + 20 + sum_at, p + 20, n, pseudo);
 }
 
-/* A packet of IPv6 from fe80::2 to fe80::1, or to ff02::1. `sum_at` is counted from the payload, whose message begins at `from`. */
-static void packet6(uint8_t next, bool is_to_all, const uint8_t *data, size_t n, size_t from, uint8_t kind, size_t sum_at) {
+/* A packet of IPv6 from fe80::2 to fe80::1, or to ff02::1. `sum_at` is counted from the payload, whose message begins
+ * at `from`. */
+static void packet6(uint8_t next, bool is_to_all, const uint8_t *data, size_t n, size_t from, uint8_t kind,
+                    size_t sum_at) {
     uint8_t *p = ethernet(0x86dd, 40 + n);
     if (is_to_all) frame[0] = frame[1] = 0x33, frame[5] = 1;
     p[0] = 0x60, p[4] = (uint8_t)(n >> 8), p[5] = (uint8_t)n, p[6] = next, p[7] = next == 0 ? 1 : kind == 58 ? 255 : 64;
@@ -221,7 +225,8 @@ enum { KINDS = 25 };
 
 /* The frame of a kind. */
 static void fill_in(int kind) {
-    static const uint8_t arp[] = {0, 1, 8, 0, 6, 4, 0, 1, 2, 0, 0, 0, 0, 2, 192, 168, 69, 2, 2, 0, 0, 0, 0, 1, 192, 168, 69, 1};
+    static const uint8_t arp[] = {0, 1, 8, 0, 6, 4, 0, 1, 2, 0, 0, 0, 0, 2, 192, 168, 69, 2,
+                                  2, 0, 0, 0, 0, 1, 192, 168, 69, 1};
     static const uint8_t own6[16] = {0xfe, 0x80, [15] = 1}, peer6[16] = {0xfe, 0x80, [15] = 2};
     static const uint8_t syn[20] = {0, 9, 0, 80, 0, 0, 0, 1, 0, 0, 0, 0, 0x50, 2, 4, 0};
     uint8_t d[1480] = {0};
@@ -236,7 +241,10 @@ static void fill_in(int kind) {
     case 8: d[0] = 128, d[1] = 0, d[5] = 42; packet6(58, false, d, 1408, 0, 58, 2); break;
     case 9: d[0] = 129, d[1] = 0, d[5] = 42; packet6(58, false, d, 64, 0, 58, 2); break;
     /* An echo request of 4,000 octets in three pieces, whose sum is that of its first words: the rest is zeros. */
-    case 10: memset(d, 0, sizeof d), d[0] = 8, d[5] = 42, sum_into(d + 2, d, 8, 0); packet4(1, 0x2000, d, 1480, 0, false); break;
+    case 10:
+        memset(d, 0, sizeof d), d[0] = 8, d[5] = 42, sum_into(d + 2, d, 8, 0);
+        packet4(1, 0x2000, d, 1480, 0, false);
+        break;
     case 11: memset(d, 0, sizeof d); packet4(1, 0x2000 | 185, d, 1480, 0, false); break;
     case 12: memset(d, 0, sizeof d); packet4(1, 370, d, 1048, 0, false); break;
     case 13: packet4(6, 0, syn, sizeof syn, 16, true); break;
@@ -252,7 +260,8 @@ static void fill_in(int kind) {
         packet6(58, false, d, 32, 0, 58, 2);
         break;
     case 19: /* a router's advertisement, with a prefix */
-        memset(d, 0, 48), d[0] = 134, d[4] = 64, d[7] = 200, memcpy(d + 16, "\3\4\100\300\0\0\2\0\0\0\1\0\0\0\0\0\40\1\15\270", 20);
+        memset(d, 0, 48), d[0] = 134, d[4] = 64, d[7] = 200;
+        memcpy(d + 16, "\3\4\100\300\0\0\2\0\0\0\1\0\0\0\0\0\40\1\15\270", 20);
         packet6(58, true, d, 48, 0, 58, 2);
         break;
     case 20: /* a query of MLD, behind a router alert */
@@ -294,7 +303,7 @@ static void set_up(uint8_t medium) {
     address = v6(0xff, 0x15, 9), MUST(join_group);
     address = v4(239, 69, 69, 70), MUST(join_group), MUST(leave_group);
     address = v4(192, 168, 69, 2), MUST(set_default_route), MUST(set_default_route);
-    address = v4(172, 16, 0, 0), other = v4(192, 168, 69, 2), prefix_len = 12, MUST(add_route), MUST(remove_route), MUST(add_route);
+    address = v4(172, 16, 0, 0), other = v4(192, 168, 69, 2), prefix_len = 12, MUST(add_route);
     address = v6(0x20, 1, 0), other = v6(0xfe, 0x80, 2), prefix_len = 48, MUST(add_route);
     address = v4(192, 168, 69, 2), MUST(set_default_route); /* in place of the first one */
     address = v4(172, 16, 0, 0), other = v4(192, 168, 69, 2), prefix_len = 12, MUST(remove_route), MUST(add_route);
@@ -308,9 +317,11 @@ static void set_up(uint8_t medium) {
 /* What a socket can be asked and given, and rounds until nothing is sent. */
 static void turn(void) {
     static const size_t lengths[] = {1, 64, 1400, 4000};
-    const struct iface_address ends[] = {v4(192, 168, 69, 2), v6(0xfe, 0x80, 2), v4(172, 16, 1, 1), v4(192, 168, 69, 77)};
+    const struct iface_address ends[] = {v4(192, 168, 69, 2), v6(0xfe, 0x80, 2), v4(172, 16, 1, 1),
+                                         v4(192, 168, 69, 77)};
     while (socket_number = 0, MAKE(udp_receive) == IFACE_OK) given = length, MAKE(udp_send);
-    while (socket_number = 1, MAKE(raw_receive) == IFACE_OK) given = length, memcpy(payload, out, length), MAKE(raw_send);
+    while (socket_number = 1, MAKE(raw_receive) == IFACE_OK)
+        given = length, memcpy(payload, out, length), MAKE(raw_send);
     while (socket_number = 2, MAKE(icmp_receive) == IFACE_OK) given = length, MAKE(icmp_send);
     while (socket_number = 3, MAKE(icmp_receive) == IFACE_OK) {}
     end = (struct iface_endpoint){ends[word() % 4], 9};

@@ -8,7 +8,7 @@ work=$(mktemp -d)
 trap 'rm -rf "$work"' EXIT
 
 # A symbol that a member of the library wants and none has. The heap's own wishes are those of heap.c.
-"${NM:-nm}" -g "$1" | awk '/^heap.o:/ { in_heap = 1 } /^[^ ]*:$/ && !/^heap.o:/ { in_heap = 0 } !in_heap && NF == 2 && $1 == "U" { print $2 }' |
+"${NM:-nm}" -g "$1" | awk '/^[^ ]*:$/ { is_heap = $1 == "heap.o:" } !is_heap && NF == 2 && $1 == "U" { print $2 }' |
     sort -u >"$work/wanted"
 "${NM:-nm}" -g "$1" | awk 'NF == 3 && $2 ~ /[TDBRVW]/ { print $3 }' | sort -u >"$work/given"
 grep -v '^rattle_' "$work/given" >"$work/given_for_c"

@@ -1,6 +1,6 @@
 #!/bin/bash
-# Runs the examples on a TAP device in a network namespace of its own, and talks to them by ping and by tap_peer. It changes
-# nothing outside that namespace, and ends by itself after at most three minutes.
+# Runs the examples on a TAP device in a network namespace of its own, and talks to them by ping and by tap_peer. It
+# changes nothing outside that namespace, and ends by itself after at most three minutes.
 #
 #   tap.sh FOLDER      of the built programs, of Linux
 #
@@ -80,6 +80,7 @@ ip neigh show dev tap0
 # A service with addresses from a router, which is tap_peer: prefix 2001:db8:69::/64.
 ip -6 addr add 2001:db8:69::100/64 dev tap0 nodad
 start "$folder/slaac_echo" tap0 30
+sleep 2 # until the kernel sends again; the service solicits every 4 s
 try "$folder/tap_peer" router
 stop
 

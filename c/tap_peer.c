@@ -1,5 +1,5 @@
-/* The other end of the examples on a TAP device, by the sockets of Linux. It prints what it saw, and fails if something else came
- * than was sent, or nothing.
+/* The other end of the examples on a TAP device, by the sockets of Linux. It prints what it saw, and fails if
+ * something else came than was sent, or nothing.
  *
  *   tap_peer host        of tap_host: UDP echoes of all lengths over both families, groups, and ports where nobody listens
  *   tap_peer router      of slaac_echo: advertises 2001:db8:69::/64 to who solicits, and then tries an echo at the new address
@@ -116,10 +116,12 @@ static void closed_port(const char *to) {
     close(s);
 }
 
-/* Waits for a router solicitation (RFC 4861, 4.1), and advertises a prefix to all nodes (4.2, 4.6.2). Whether one came. */
+/* Waits for a router solicitation (RFC 4861, 4.1), and advertises a prefix to all nodes (4.2, 4.6.2). Whether one
+ * came. */
 static int advertise(void) {
     static const uint8_t advertisement[48] = {134, [4] = 64, [7] = 200, /* a router for 200 s */
-                                              [16] = 3, 4, 64, 0xc0, 0, 0, 2, 0, 0, 0, 1, 0, [32] = 0x20, 1, 0x0d, 0xb8, 0, 0x69};
+                                              [16] = 3, 4, 64, 0xc0, 0, 0, 2, 0, 0, 0, 1, 0,
+                                              [32] = 0x20, 1, 0x0d, 0xb8, 0, 0x69};
     int s = socket(AF_INET6, SOCK_RAW, IPPROTO_ICMPV6), hops = 255, came = 0;
     struct timeval patience = {5, 0};
     struct ipv6_mreq routers = {.ipv6mr_interface = if_nametoindex("tap0")};
@@ -131,8 +133,8 @@ static int advertise(void) {
     setsockopt(s, IPPROTO_IPV6, IPV6_MULTICAST_HOPS, &hops, sizeof hops);
     setsockopt(s, IPPROTO_IPV6, IPV6_JOIN_GROUP, &routers, sizeof routers);
     while (!came && recv(s, got, sizeof got, 0) > 0) came = got[0] == 133;
-    if (sendto(s, advertisement, sizeof advertisement, 0, (struct sockaddr *)&all, sizeof all) != (ssize_t)sizeof advertisement)
-        perror("advertisement");
+    ssize_t sent = sendto(s, advertisement, sizeof advertisement, 0, (struct sockaddr *)&all, sizeof all);
+    if (sent != (ssize_t)sizeof advertisement) perror("advertisement");
     printf("router: %s, and advertised 2001:db8:69::/64\n", came ? "was solicited" : "no solicitation came");
     close(s);
     return came;

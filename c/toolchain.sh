@@ -1,6 +1,6 @@
 #!/bin/sh
-# Makes the folder that `rattle build --toolchain` wants for aarch64, out of the kit's clang, which has that target, and of the
-# files of Debian's packages gcc-aarch64-linux-gnu and libc6-dev-arm64-cross.
+# Makes the folder that `rattle build --toolchain` wants for aarch64, out of the kit's clang, which has that target,
+# and of the files of Debian's packages gcc-aarch64-linux-gnu and libc6-dev-arm64-cross.
 #
 #   toolchain.sh FOLDER      the kit is that of `rt`, which is ${RT:-rt}
 set -eu

@@ -1,5 +1,5 @@
-/* A host that sends back each datagram that comes to its port 7, and answers ping, over lwIP. It is compiled and linked, to count
- * its code, and not run: it has no device. */
+/* A host that sends back each datagram that comes to its port 7, and answers ping, over lwIP. It is compiled and
+ * linked, to count its code, and not run: it has no device. */
 #include "lwip/init.h"
 #include "lwip/netif.h"
 #include "lwip/timeouts.h"
@@ -17,7 +17,8 @@ static err_t send_frame(struct netif *netif, struct pbuf *p) {
 
 static err_t set_up(struct netif *netif) {
     netif->mtu = 1500, netif->hwaddr_len = 6;
-    netif->flags = NETIF_FLAG_BROADCAST | NETIF_FLAG_ETHARP | NETIF_FLAG_ETHERNET | NETIF_FLAG_IGMP | NETIF_FLAG_MLD6 | NETIF_FLAG_LINK_UP;
+    netif->flags = NETIF_FLAG_BROADCAST | NETIF_FLAG_ETHARP | NETIF_FLAG_ETHERNET | NETIF_FLAG_IGMP | NETIF_FLAG_MLD6
+                 | NETIF_FLAG_LINK_UP;
     netif->output = etharp_output, netif->linkoutput = send_frame;
 #if LWIP_IPV6
     netif->output_ip6 = ethip6_output;

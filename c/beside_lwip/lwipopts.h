@@ -1,5 +1,5 @@
-/* lwIP for the same as examples/freestanding.c: UDP, raw and ICMP over both families, on Ethernet, with fragments, groups and
- * addresses from routers, without threads, TCP or statistics. */
+/* lwIP for the same as examples/freestanding.c: UDP, raw and ICMP over both families, on Ethernet, with fragments,
+ * groups and addresses from routers, without threads, TCP or statistics. */
 #define NO_SYS 1
 #define LWIP_TIMERS 1
 #define SYS_LIGHTWEIGHT_PROT 0

@@ -1,10 +1,11 @@
-/* A host without a C library, whose heap is an array: for a board, or a kernel. The library wants six functions, which stand below:
- * memcpy, memmove, memset, rattle_alloc, rattle_realloc and rattle_dealloc. It is linked without heap.c:
+/* A host without a C library, whose heap is an array: for a board, or a kernel. The library wants six functions,
+ * which stand below: memcpy, memmove, memset, rattle_alloc, rattle_realloc and rattle_dealloc. It is linked without
+ * heap.c:
  *
- *   cc -std=c99 -O2 -I. -ffreestanding -fno-stack-protector -nostdlib -static examples/freestanding.c build/libiface_c.a
+ *   cc -std=c99 -O2 -I. -ffreestanding -fno-stack-protector -nostdlib -static examples/freestanding.c build/libiface.a
  *
- * It sends back each datagram that comes to its port 7, and answers ping, as udp_echo does: a frame is a line of hex. A board has a
- * driver in place of `read_octet`, `write_octets` and `end`, and its timer in place of `now`.
+ * It sends back each datagram that comes to its port 7, and answers ping, as udp_echo does: a frame is a line of hex.
+ * A board has a driver in place of `read_octet`, `write_octets` and `end`, and its timer in place of `now`.
  */
 #include "iface.h"
 
@@ -33,8 +34,8 @@ void *memset(void *at, int octet, size_t length) {
     return at;
 }
 
-/* The heap: blocks one behind the other, each behind a header that says how many units it has, and whether it is free. The first
- * one that is long enough serves, and free ones are joined on the way. */
+/* The heap: blocks one behind the other, each behind a header that says how many units it has, and whether it is
+ * free. The first one that is long enough serves, and free ones are joined on the way. */
 enum { HEAP_OCTETS = 128 * 1024, UNIT = 16, UNITS = HEAP_OCTETS / UNIT };
 
 static union unit {
@@ -168,7 +169,7 @@ static void run(void) {
         must(iface_receive(&host, now, frame, (size_t)got, out, sizeof out, &length));
         send_frame(out, length);
         while (iface_udp_receive(&host, socket, &remote, payload, sizeof payload, &length) == IFACE_OK)
-            (void)iface_udp_send(&host, socket, &remote, payload, length); /* a datagram without room in the queue is dropped */
+            (void)iface_udp_send(&host, socket, &remote, payload, length); /* without room in the queue it is dropped */
         for (must(iface_next(&host, now, out, sizeof out, &length)); length > 0;
              must(iface_next(&host, now, out, sizeof out, &length)))
             send_frame(out, length);

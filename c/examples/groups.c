@@ -1,5 +1,5 @@
-/* Groups (RFC 1112, RFC 4291 2.7), by two hosts in one process: one sends a datagram to a group of either family, and the other
- * gets it while it is in the group. It fails if that isn't so.
+/* Groups (RFC 1112, RFC 4291 2.7), by two hosts in one process: one sends a datagram to a group of either family, and
+ * the other gets it while it is in the group. It fails if that isn't so.
  *
  *   groups
  */
@@ -50,7 +50,8 @@ static int comes(iface *a, uint32_t at_a, iface *b, uint32_t at_b, const struct 
     size_t length = 0;
     must("send", iface_udp_send(a, at_a, &to, (const uint8_t *)"hello", 5));
     hand_over(a, b);
-    return iface_udp_receive(b, at_b, &from, got, sizeof got, &length) == IFACE_OK && length == 5 && memcmp(got, "hello", 5) == 0;
+    return iface_udp_receive(b, at_b, &from, got, sizeof got, &length) == IFACE_OK && length == 5
+        && memcmp(got, "hello", 5) == 0;
 }
 
 int main(void) {
@@ -66,7 +67,8 @@ int main(void) {
         must("leave", iface_leave_group(&b, &groups[i]));
         hand_over(&b, &a);
         int after = comes(&a, at_a, &b, at_b, &groups[i]);
-        printf("IPv%u: before it joined %d, in the group %d, after it left %d datagrams came\n", groups[i].version, before, during, after);
+        printf("IPv%u: before it joined %d, in the group %d, after it left %d datagrams came\n", groups[i].version,
+               before, during, after);
         is_wrong |= before || !during || after;
     }
     must("free", iface_free(&a));

@@ -1,5 +1,5 @@
-/* Two hosts in one process, and a file of all frames between them, which tcpdump and Wireshark open: ARP, a ping, a neighbour
- * solicitation, and a datagram of 3,000 octets that is sent back, in pieces.
+/* Two hosts in one process, and a file of all frames between them, which tcpdump and Wireshark open: ARP, a ping, a
+ * neighbour solicitation, and a datagram of 3,000 octets that is sent back, in pieces.
  *
  *   pcap FILE      prints how many frames there were
  */

@@ -1,5 +1,6 @@
-/* A UDP service that takes its IPv6 addresses from routers (RFC 4862), on a TAP device of Linux. It prints each address that it
- * has, sends back each datagram that comes to its port 7, and sleeps until a frame comes or something is due.
+/* A UDP service that takes its IPv6 addresses from routers (RFC 4862), on a TAP device of Linux. It prints each
+ * address that it has, sends back each datagram that comes to its port 7, and sleeps until a frame comes or something
+ * is due.
  *
  *   slaac_echo DEVICE SECONDS
  *
@@ -29,7 +30,8 @@ static void echo(iface *host, uint32_t socket) {
     size_t length;
     while (iface_udp_receive(host, socket, &remote, payload, sizeof payload, &length) == IFACE_OK) {
         uint32_t code = iface_udp_send(host, socket, &remote, payload, length);
-        if (code != IFACE_OK) fprintf(stderr, "slaac_echo: to %s: %s\n", text_of(&remote.address), iface_strerror(code));
+        if (code != IFACE_OK)
+            fprintf(stderr, "slaac_echo: to %s: %s\n", text_of(&remote.address), iface_strerror(code));
     }
 }
 

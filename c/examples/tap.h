@@ -1,4 +1,5 @@
-/* What the examples on a TAP device of Linux share: the device, the clock, and sleeping until a frame comes or an instant. */
+/* What the examples on a TAP device of Linux share: the device, the clock, and sleeping until a frame comes or an
+ * instant. */
 #ifndef EXAMPLES_TAP_H
 #define EXAMPLES_TAP_H
 
@@ -79,7 +80,8 @@ static inline void send_all(iface *host, int tap, int64_t *at) {
     int64_t now = now_micros();
     size_t length;
     uint32_t code;
-    while ((code = iface_next(host, now, out, sizeof out, &length)) == IFACE_OK && length > 0) send_frame(tap, out, length);
+    while ((code = iface_next(host, now, out, sizeof out, &length)) == IFACE_OK && length > 0)
+        send_frame(tap, out, length);
     if (code == IFACE_OK) must("poll_at", iface_poll_at(host, now, at));
     else *at = now + 10000; /* no memory for a frame: again in a hundredth of a second */
 }

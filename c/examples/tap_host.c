@@ -72,15 +72,15 @@ int main(int argc, char **argv) {
         send_all(&host, tap, &at);
         sleep_until(tap, at);
         counts.sleeps++;
-        /* After each frame what is to be sent: of a reply in pieces the others wait, and the next such reply replaces them. */
+        /* After each frame what is to be sent: of a reply in pieces the others wait, and the next one replaces them. */
         for (int burst = 0; burst < 64 && take_frame(&host, tap); burst++) {
             counts.frames++;
             echo(&host, socket);
             send_all(&host, tap, &at);
         }
     }
-    printf("tap_host: %lu frames, %lu datagrams, of which %lu found no room; slept %lu times\n", counts.frames, counts.datagrams,
-           counts.unsent, counts.sleeps);
+    printf("tap_host: %lu frames, %lu datagrams, of which %lu found no room; slept %lu times\n", counts.frames,
+           counts.datagrams, counts.unsent, counts.sleeps);
     must("free", iface_free(&host));
     return 0;
 }

@@ -1,7 +1,7 @@
 /* Replays a script on a host, and prints all that the library answers: the same on each target.
  *
- * A script is records: a letter, a length of two octets (low first) and so many octets. F: a frame. T: four octets of microseconds
- * to go on. S: a datagram, to one of three ends by its first octet. */
+ * A script is records: a letter, a length of two octets (low first) and so many octets. F: a frame. T: four octets of
+ * microseconds to go on. S: a datagram, to one of three ends by its first octet. */
 #ifdef POINTERS_OF_32_BITS
 /* The library's `size_t` has 64 bits on each target (README.md). */
 #include <stddef.h>
@@ -102,9 +102,12 @@ int run(void) {
             line("udp", packet, (unsigned long)n);
             must(iface_udp_send(&host, udp, &from, packet, n));
         }
-        while (iface_raw_receive(&host, raw, packet, sizeof packet, &n) == IFACE_OK) line("raw", packet, (unsigned long)n);
-        while (iface_icmp_receive(&host, ident, &from.address, packet, sizeof packet, &n) == IFACE_OK) line("ident", packet, (unsigned long)n);
-        while (iface_icmp_receive(&host, port, &from.address, packet, sizeof packet, &n) == IFACE_OK) line("port", packet, (unsigned long)n);
+        while (iface_raw_receive(&host, raw, packet, sizeof packet, &n) == IFACE_OK)
+            line("raw", packet, (unsigned long)n);
+        while (iface_icmp_receive(&host, ident, &from.address, packet, sizeof packet, &n) == IFACE_OK)
+            line("ident", packet, (unsigned long)n);
+        while (iface_icmp_receive(&host, port, &from.address, packet, sizeof packet, &n) == IFACE_OK)
+            line("port", packet, (unsigned long)n);
         do {
             must(iface_next(&host, now, out, sizeof out, &n));
             if (n > 0) line("next", out, (unsigned long)n);

@@ -1,5 +1,6 @@
-/* All that a program without a C library gives the library: memcpy, memmove, memset and a heap. Beside these, for qemu's user mode,
- * a start and three system calls of Linux. examples/freestanding.c is the same for a reader; this one has processors of 32 bits too. */
+/* All that a program without a C library gives the library: memcpy, memmove, memset and a heap. Beside these, for
+ * qemu's user mode, a start and three system calls of Linux. examples/freestanding.c is the same for a reader; this
+ * one has processors of 32 bits too. */
 typedef __SIZE_TYPE__ size_t;
 typedef unsigned char u8;
 
@@ -68,7 +69,8 @@ __attribute__((naked)) void __aeabi_uldivmod(void) {
 }
 #endif
 
-/* A heap of one arena: blocks of whole units of 16 octets, each behind one that has its length, first fit, joined when freed. */
+/* A heap of one arena: blocks of whole units of 16 octets, each behind one that has its length, first fit, joined
+ * when freed. */
 struct unit { size_t units, is_free; } __attribute__((aligned(16)));
 #ifndef ARENA
 #define ARENA 524288
@@ -112,9 +114,17 @@ void *heap_change(void *old, size_t size) {
 struct block { unsigned char is_there; void *at; };
 static char none;
 static struct block told(void *at) { return (struct block){at != 0, at ? at : &none}; }
-struct block rattle_alloc(size_t size, size_t align) { return (void)align, told(heap_take(size)); }
-struct block rattle_realloc(void *old, size_t old_size, size_t size, size_t align) { return (void)old_size, (void)align, told(heap_change(old, size)); }
-void rattle_dealloc(void *at) { heap_give(at); }
+struct block rattle_alloc(size_t size, size_t align) {
+    (void)align;
+    return told(heap_take(size));
+}
+struct block rattle_realloc(void *old, size_t old_size, size_t size, size_t align) {
+    (void)old_size, (void)align;
+    return told(heap_change(old, size));
+}
+void rattle_dealloc(void *at) {
+    heap_give(at);
+}
 #endif
 
 #if defined(__aarch64__)

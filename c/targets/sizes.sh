@@ -1,5 +1,6 @@
 #!/bin/sh
-# Prints the code and constants of the library on each processor at -O3, at -Os and small, and on x86-64 of what freestanding.c takes of it.
+# Prints the code and constants of the library on each processor at -O3, at -Os and small, and on x86-64 of what
+# freestanding.c takes of it.
 #
 #   sizes.sh MODULE.ll FOLDER      MODULE.ll of module.sh; FOLDER has freestanding.o and libiface.a (c/build)
 set -eu

@@ -1,5 +1,6 @@
 #!/bin/bash
-# Builds replay.c for each processor from one module, runs it under qemu on the same frames, and compares what it prints.
+# Builds replay.c for each processor from one module, runs it under qemu on the same frames, and compares what it
+# prints.
 #
 #   try.sh MODULE.ll FOLDER [COUNT]      COUNT frames, 20000 if left out; it needs python3 and qemu-user
 set -eu
