@@ -8,9 +8,9 @@ awk 'FNR == 1 { file++ }
     /^#/ || NF < 2 { next }
     file == 1 { limit[$1] = $2; next }
     {
-        name = $1 in limit ? $1 : $1 ~ /^iface_/ ? "call" : $1
+        name = $1 in limit ? $1 : $1 ~ /^iface_/ ? "call" : $1 ~ /^bound:/ ? "bound" : $1
         told = !(name in limit) ? "has no limit" : $2 + 0 > limit[name] + 0 ? "is above its limit" : ""
-        printf "%-24s %7d of %7d %s\n", $1, $2, limit[name], told
+        printf "%-30s %7d of %7d %s\n", $1, $2, limit[name], told
         bad = bad || told != ""
     }
     END { exit bad }' "$(dirname "$0")/limits.txt" "$@"
