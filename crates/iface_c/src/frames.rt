@@ -2,10 +2,11 @@
 ghost use Rattle.std.specs.Prelude.{◌≡◌, ◌≢◌};
 ghost use Rattle.iface_c.specs.Calls.{Did};
 ghost use Rattle.iface_host.specs.Frames.{NextIs, Receives};
-ghost use Rattle.iface_c.specs.Packets.{IsDueAt};
+ghost use Rattle.iface_c.specs.Packets.{IsDueAt, read_as};
 
 use crate::handle::Iface;
 use crate::status::{NO_HOST, OK, code};
+use net_base::time::Instant;
 use std::alloc::Global;
 
 /// The instant that stands for none.
@@ -78,9 +79,16 @@ pub extern "C" fn iface_poll_at(handle: &mut Iface, alloc: Global, now: i64, at:
     handle.put(host);
     match done {
         Ok(due) => {
-            *at = due.map_or(NEVER, |instant| instant.total_micros());
+            *at = micros_or_never(due);
             OK
         },
         Err(refusal) => code(refusal),
     }
+}
+
+/// The microseconds of an instant, or `NEVER` if there is none.
+fn micros_or_never(due: Option<Instant>) -> i64
+    ensures { result ≡ read_as due }
+{
+    due.map_or(NEVER, |instant| instant.total_micros())
 }
