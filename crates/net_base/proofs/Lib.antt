@@ -1,4 +1,5 @@
 pub mod KeptFrames
 pub mod MemoryMoves
 pub mod RangesLemmas
+pub mod Walks
 mod FifthRange

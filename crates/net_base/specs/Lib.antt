@@ -1,8 +1,13 @@
 pub mod Checksum
 pub mod Device
+pub mod DriverLaws
+pub mod Exact
 pub mod MemoryDevice
 pub mod MemoryDeviceLaws
+pub mod Passed
 pub mod Rand
 pub mod Ranges
 pub mod RangesLaws
 pub mod Time
+pub mod TracedEvents
+pub mod TracerLaws

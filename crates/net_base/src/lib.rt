@@ -2,9 +2,12 @@
 #![tactic(auto)]
 
 pub mod assembler;
+pub mod driver;
 pub mod memory_device;
 pub mod phy;
 pub mod rand;
 pub mod time;
+pub mod trace;
+pub mod tracer;
 
 pub use memory_device::{MemoryDevice, PushError};

@@ -3,7 +3,9 @@ ghost use Rattle.std.specs.Prelude.{◌≡◌, ◌≤◌, ℕ, Bool, true, List,
 ghost use Rattle.std.specs.Prelude.{length, take, IfSome, OnSome, MatchOption};
 ghost use Rattle.net_base.specs.Device.{Event, Received, Frame, Asked, Sent, HandsNone, refusals_after};
 
+pub use crate::driver::DriverDevice;
 use crate::time::Instant;
+pub use crate::tracer::{TracedEvent, Tracer};
 
 /// The length of the longest frame that an interface builds or receives, in octets.
 pub const FRAME_BUFFER_SIZE: usize = 1514;
@@ -169,4 +171,27 @@ pub trait Device {
 
     /// The refusal count rises with the events, and with nothing else.
     ghost tells_refusals: { (a b : Self) (xs : List Event) → tells a xs b → refused b ≡ refusals_after (refused a) xs };
+}
+
+/// A driver of a network card, without a word of proof: [`DriverDevice`] makes a [`Device`] of it. Nothing is asked of it
+/// but the length of a frame.
+pub trait Driver {
+    /// The capabilities of the card. They are read once.
+    fn capabilities(&self) -> DeviceCapabilities;
+
+    /// Writes a received frame to the front of the buffer, which has 1,514 octets, and returns the frame's length; or
+    /// returns `None` if there is none. `now` is the moment of the call.
+    ///
+    /// The interface may send one frame in reply without a call of `transmit`, so a driver without room for one keeps
+    /// the received frame, and returns `None`.
+    fn receive(&mut self, now: Instant, buffer: &mut [u8]) -> Option<usize>
+        requires { length buffer.old ≡ 1514 }
+        ensures fits { IfSome result (λ len. len ≤ 1514) };
+
+    /// Whether one frame may be sent. `now` is the moment of the call.
+    fn transmit(&mut self, now: Instant) -> bool;
+
+    /// Sends a frame, after it was received or permitted.
+    fn send(&mut self, frame: &[u8])
+        requires short { length frame.now ≤ 1514 };
 }
