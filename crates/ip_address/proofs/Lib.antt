@@ -1,4 +1,5 @@
 pub mod AgreeingBits
 pub mod CommonBits
 pub mod LastAddress
+pub mod LongestRun
 pub mod SixOctets

@@ -1,4 +1,4 @@
--- IPv4 addresses (RFC 791, RFC 1122 3.2.1.3), as the numbers of their octets.
+-- IPv4 addresses (RFC 791, RFC 1112 4, RFC 1122 3.2.1.3), as the numbers of their octets.
 use Rattle.std.specs.Prelude.{ℕ, ◌+◌, ◌*◌, ◌/◌, ◌^◌, ◌==◌, Bool, not, ◌||◌}
 use Rattle.ip_address.specs.declared.ipv4.Ipv4Address.{Ipv4Address}
 
@@ -20,3 +20,7 @@ is_multicast a = a.bits / 2 ^ 28 == 14
 -- a unicast address: neither broadcast, multicast nor unspecified
 abbrev pub is_unicast : Ipv4Address → Bool
 is_unicast a = not (is_broadcast a || is_multicast a || is_unspecified a)
+
+-- 224.0.0.1, the group of all hosts of a link (RFC 1112 4)
+abbrev pub all_systems : Ipv4Address
+all_systems = record { bits = 0xe000_0001 }

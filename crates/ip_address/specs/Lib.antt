@@ -4,6 +4,7 @@ pub mod Hardware
 pub mod Ip
 pub mod Ipv4
 pub mod Ipv6
+pub mod Ipv6Text
 pub mod LinkPrefix
 pub mod Prefixes
 pub mod Protocol

@@ -1,7 +1,9 @@
 //! IPv6 addresses (RFC 4291).
-ghost use Rattle.std.specs.Prelude.{◌≡◌, ◌+◌, ◌*◌, ◌^◌, ◌≤◌};
+ghost use Rattle.std.specs.Prelude.{◌≡◌, ◌+◌, ◌*◌, ◌^◌, ◌≤◌, IfSome, IfNone};
 ghost use Rattle.std.specs.Int.{w128, to_be_bytes};
 ghost use Rattle.ip_address.specs.Ipv6 as spec;
+ghost use Rattle.ip_address.specs.Ipv6Text as text;
+ghost use Rattle.ip_address.specs.Ipv6Text.{HasNoRun, IsShortened};
 ghost use Rattle.ip_address.specs.Prefixes.{common_bits};
 
 use crate::ipv4::Ipv4Address;
@@ -139,40 +141,27 @@ const fn four_groups(a: u16, b: u16, c: u16, d: u16) -> u64
 }
 
 // The eight groups of 16 bits, the first one first.
-fn groups_of(address: &Ipv6Address) -> [u16; 8] {
-    let [
-        a0,
-        a1,
-        b0,
-        b1,
-        c0,
-        c1,
-        d0,
-        d1,
-        e0,
-        e1,
-        f0,
-        f1,
-        g0,
-        g1,
-        h0,
-        h1,
-    ] = address.octets();
+fn groups_of(address: &Ipv6Address) -> [u16; 8]
+    ensures { result ≡ text.groups_of address.now }
+{
+    let bits = address.bits;
     [
-        u16::from_be_bytes([a0, a1]),
-        u16::from_be_bytes([b0, b1]),
-        u16::from_be_bytes([c0, c1]),
-        u16::from_be_bytes([d0, d1]),
-        u16::from_be_bytes([e0, e1]),
-        u16::from_be_bytes([f0, f1]),
-        u16::from_be_bytes([g0, g1]),
-        u16::from_be_bytes([h0, h1]),
+        (bits >> 112) as u16,
+        (bits >> 96 & 0xffff) as u16,
+        (bits >> 80 & 0xffff) as u16,
+        (bits >> 64 & 0xffff) as u16,
+        (bits >> 48 & 0xffff) as u16,
+        (bits >> 32 & 0xffff) as u16,
+        (bits >> 16 & 0xffff) as u16,
+        (bits & 0xffff) as u16,
     ]
 }
 
-// The start of the longest run of groups that are 0, the first one of several, and its number of groups.
-fn longest_run(groups: &[u16; 8]) -> (usize, usize)
-    ensures { result.0 + result.1 ≤ 8 }
+// The longest run of two groups or more that are 0, the first one of several: where it starts, and its number of
+// groups (RFC 5952 4.2).
+fn longest_run(groups: &[u16; 8]) -> Option<(usize, usize)>
+    ensures run { IfSome result (λ run. IsShortened groups.now run.0 run.1) }
+    ensures none { IfNone result (HasNoRun groups.now) }
 {
     let (mut start, mut len) = (0, 0);
     let mut from = 0;
@@ -183,7 +172,8 @@ fn longest_run(groups: &[u16; 8]) -> (usize, usize)
             (start, len) = (from, i + 1 - from);
         }
     }
-    (start, len)
+    let is_run = len >= 2;
+    if is_run { Some((start, len)) } else { None }
 }
 
 // Writes groups in hexadecimal, with colons between them.
@@ -206,10 +196,9 @@ impl fmt::Display for Ipv6Address {
             return write!(f, "::ffff:{}", Ipv4Address { bits });
         }
         let groups = groups_of(self);
-        let (start, len) = longest_run(&groups);
-        if len < 2 {
+        let Some((start, len)) = longest_run(&groups) else {
             return write_groups(f, &groups);
-        }
+        };
         write_groups(f, &groups[..start])?;
         f.write_str("::")?;
         write_groups(f, &groups[start + len..])

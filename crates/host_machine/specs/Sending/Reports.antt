@@ -55,7 +55,7 @@ igmp_interval_for Version2 time count = time / (count + 1)
 
 -- a general query: for every group, to all-hosts (RFC 2236 2.4, 9), if there is a group to report
 abbrev pub is_igmp_general : Host → Ipv4Address → Ipv4Address → Bool
-is_igmp_general H dst group = ipv4.is_unspecified group && (dst.bits == 0xe0000001)
+is_igmp_general H dst group = ipv4.is_unspecified group && (dst.bits == ipv4.all_systems.bits)
     && nat_lt 0 (length (ipv4_groups H.groups))
 
 -- a query for one group of the host, to that group

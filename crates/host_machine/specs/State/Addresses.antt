@@ -60,7 +60,7 @@ has_solicited_node own a = list_any (is_asked_by a) own
 -- a group of which the host is a member: all-hosts (224.0.0.1) or all-nodes (ff02::1), one of its solicited-node
 -- groups, or a group that it joined
 abbrev pub has_multicast_group : Host → IpAddress → Bool
-has_multicast_group H (Ipv4 a) = (a.bits == 0xe000_0001) || is_member H.groups (Ipv4 a)
+has_multicast_group H (Ipv4 a) = (a.bits == ipv4.all_systems.bits) || is_member H.groups (Ipv4 a)
 has_multicast_group H (Ipv6 a) = (a.bits == ipv6.all_nodes.bits)
     || has_solicited_node H.ip_addrs a || is_member H.groups (Ipv6 a)
 
