@@ -1,4 +1,5 @@
 pub mod Commands
+pub mod Devices
 pub mod Driven
 pub mod Joined
 pub mod Link

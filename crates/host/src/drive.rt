@@ -7,6 +7,7 @@ ghost use Rattle.iface_tables.specs.Route.{is_ipv6_gateway, old_or_full, with_de
 ghost use Rattle.interface.specs.Stands.{StandsFor, Becomes, HostRefines, host_with};
 ghost use Rattle.host.specs.Driven.{Driven};
 ghost use Rattle.host.specs.Joined.{DrivesJoin};
+ghost use Rattle.host.specs.Devices.{DevicesAreSentTheSame};
 ghost use Rattle.host.specs.Commands.{HostRefinesCommand};
 
 use arrayvec::ArrayVec;
@@ -190,4 +191,12 @@ pub fn drive<D: Device, O: Owner>(
 /// Calls of [`drive`] one after another are one run.
 pub fn drives_join<D: Device, O: Owner>()
     ensures { DrivesJoin D.tells O.did }
+{}
+
+/// What is sent doesn't depend on the kind of device. The same commands over two devices that deliver the same frames
+/// and grant the same transmit tokens send the same frames and return the same answers, except for which of several
+/// neighbours with the earliest expiry makes room for a new one. So what is seen of a traced device is true of a bare
+/// one.
+pub fn devices_are_sent_the_same<D: Device, E: Device, O: Owner>()
+    ensures { DevicesAreSentTheSame D.tells E.tells O.did }
 {}

@@ -8,5 +8,5 @@
 pub mod drive;
 pub mod link;
 
-pub use drive::{Owner, drives_join};
+pub use drive::{Owner, devices_are_sent_the_same, drives_join};
 pub use link::{Host, LinkError, LinkStep};

@@ -5,6 +5,8 @@
 //! call.
 #![tactic(auto)]
 
+pub mod traced;
+
 ghost use Rattle.std.specs.Prelude.{◌≡◌, false, true, Err};
 ghost use Rattle.host_machine.specs.State.Host.{SocketSet, are_assignable};
 ghost use Rattle.ip_address.specs.Ip.{is_multicast};

@@ -4,4 +4,6 @@
 #[cfg(test)]
 mod assembler;
 #[cfg(test)]
+mod drivers;
+#[cfg(test)]
 mod tests;
