@@ -10,3 +10,6 @@ pub mod FewFragments
 pub mod FrameReplies
 pub mod DatagramDelivery
 pub mod FrameRepliesV6
+pub mod ReceivedFrames
+pub mod ForeignFrames
+pub mod WrongSums

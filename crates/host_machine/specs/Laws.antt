@@ -13,3 +13,4 @@ pub mod TwoHosts
 pub mod Steps
 pub mod Determined
 pub mod Service
+pub mod Restraint

@@ -1,0 +1,5 @@
+use Rattle.host_machine.proofs.Receiving.ForeignFrames.{foreign_dropped}
+use Rattle.host_machine.proofs.restraint.foreign_packets_are_dropped.Goals as goal
+
+pub returns : goal.returns
+returns c = foreign_dropped

@@ -1,0 +1,5 @@
+use Rattle.host_machine.proofs.Receiving.WrongSums.{headers_dropped}
+use Rattle.host_machine.proofs.restraint.wrong_headers_are_dropped.Goals as goal
+
+pub returns : goal.returns
+returns c = headers_dropped

@@ -1,0 +1,54 @@
+//! Laws of what a host must not do, each as the contract of an empty function. They are said by lists, numbers and
+//! octets, without the words by which the rules test a frame.
+ghost use Rattle.host_machine.specs.Laws.Restraint.Checksums.{WrongHeadersAreDropped};
+ghost use Rattle.host_machine.specs.Laws.Restraint.Checksums.{WrongPayloadsAreDropped, WrongPayloadsV6AreDropped};
+ghost use Rattle.host_machine.specs.Laws.Restraint.Foreign.{ForeignPacketsAreDropped, ForeignPacketsV6AreDropped};
+ghost use Rattle.host_machine.specs.Laws.Restraint.Foreign.{FramesForOthersAreDropped};
+ghost use Rattle.host_machine.specs.Laws.Restraint.Foreign.{PacketsFromNoHostAreDropped, PacketsFromNoHostV6AreDropped};
+
+/// An IPv4 packet to an address in no list of the host's sends nothing: not assigned, no group of the host, no
+/// broadcast address of an own network, not routed here by AnyIP. It changes nothing but slots for its fragments, and
+/// what raw sockets received (RFC 1122 3.2.1.3).
+pub fn foreign_packets_are_dropped()
+    ensures { ForeignPacketsAreDropped }
+{}
+
+/// An IPv6 packet to an address in no list of the host's changes nothing and sends nothing, if no hop-by-hop option
+/// asks for more: not assigned, no group of the host, not the solicited-node group of an own address, not ::1 or
+/// ff02::1, not routed here by AnyIP (RFC 4291 2.8).
+pub fn foreign_packets_v6_are_dropped()
+    ensures { ForeignPacketsV6AreDropped }
+{}
+
+/// A frame to the hardware address of another host changes nothing and sends nothing (RFC 1122 2.4).
+pub fn frames_for_others_are_dropped()
+    ensures { FramesForOthersAreDropped }
+{}
+
+/// An IPv4 packet from 255.255.255.255, from a group or from the broadcast address of an own network changes nothing
+/// and sends nothing (RFC 1122 3.2.1.3).
+pub fn packets_from_no_host_are_dropped()
+    ensures { PacketsFromNoHostAreDropped }
+{}
+
+/// Nor does an IPv6 packet from a group or from :: (RFC 4291 2.5.2, 2.7).
+pub fn packets_from_no_host_v6_are_dropped()
+    ensures { PacketsFromNoHostV6AreDropped }
+{}
+
+/// Where the checksum of IPv4 headers is verified, a packet with a wrong one changes nothing and sends nothing (RFC
+/// 1122 3.2.1.2).
+pub fn wrong_headers_are_dropped()
+    ensures { WrongHeadersAreDropped }
+{}
+
+/// A whole IPv4 packet with a wrong checksum of ICMP, UDP or TCP, where that is verified, sends nothing. It changes
+/// nothing but what raw sockets received, and how long its sender stays known (RFC 1122 4.1.3.4, RFC 9293 3.1).
+pub fn wrong_payloads_are_dropped()
+    ensures { WrongPayloadsAreDropped }
+{}
+
+/// So it is with ICMPv6, UDP and TCP over IPv6, also after options (RFC 4443 2.3, RFC 8200 8.1).
+pub fn wrong_payloads_v6_are_dropped()
+    ensures { WrongPayloadsV6AreDropped }
+{}
