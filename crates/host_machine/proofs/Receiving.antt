@@ -13,3 +13,5 @@ pub mod FrameRepliesV6
 pub mod ReceivedFrames
 pub mod ForeignFrames
 pub mod WrongSums
+pub mod NeighborOrigins
+pub mod LearntNeighbors

@@ -12,3 +12,5 @@ pub mod RoundWithoutPieces
 pub mod GrantedEgress
 pub mod QueueDecrease
 pub mod DueWork
+pub mod SettledFields
+pub mod OtherSteps

@@ -5,6 +5,8 @@ ghost use Rattle.host_machine.specs.Laws.Restraint.Checksums.{WrongPayloadsAreDr
 ghost use Rattle.host_machine.specs.Laws.Restraint.Foreign.{ForeignPacketsAreDropped, ForeignPacketsV6AreDropped};
 ghost use Rattle.host_machine.specs.Laws.Restraint.Foreign.{FramesForOthersAreDropped};
 ghost use Rattle.host_machine.specs.Laws.Restraint.Foreign.{PacketsFromNoHostAreDropped, PacketsFromNoHostV6AreDropped};
+ghost use Rattle.host_machine.specs.Laws.Restraint.Neighbors.{NeighborsComeFromFrames, OtherStepsLearnNobody};
+ghost use Rattle.host_machine.specs.Laws.Restraint.Settings.{SendingKeepsSettings};
 
 /// An IPv4 packet to an address in no list of the host's sends nothing: not assigned, no group of the host, no
 /// broadcast address of an own network, not routed here by AnyIP. It changes nothing but slots for its fragments, and
@@ -51,4 +53,21 @@ pub fn wrong_payloads_are_dropped()
 /// So it is with ICMPv6, UDP and TCP over IPv6, also after options (RFC 4443 2.3, RFC 8200 8.1).
 pub fn wrong_payloads_v6_are_dropped()
     ensures { WrongPayloadsV6AreDropped }
+{}
+
+/// A call that sends changes no address, no route, no setting, and nothing of what was learnt from routers.
+pub fn sending_keeps_settings()
+    ensures { SendingKeepsSettings }
+{}
+
+/// A neighbour that is known after a received frame was known before at that hardware address, or the frame told just
+/// this pair. That was an ARP packet for an address of the host from a sender in one of its networks, or a neighbour
+/// message that no router forwarded. It is known until 60 s after at most (RFC 826, RFC 1122 2.3.2.1, RFC 4861 7.2).
+pub fn neighbors_come_from_frames()
+    ensures { NeighborsComeFromFrames }
+{}
+
+/// A step of a command that receives no frame makes no neighbour known.
+pub fn other_steps_learn_nobody()
+    ensures { OtherStepsLearnNobody }
 {}

@@ -97,7 +97,7 @@ no_member (g ∷ gs) a none = by (no_member gs a none.1) (group_table.is_same g.
   by others false e = rw e others
 
 -- no route leads an address to the host
-has_prefix : (c : IpCidr) (a : IpAddress) → contains c a ≡ true → HasPrefixOf c a
+pub has_prefix : (c : IpCidr) (a : IpAddress) → contains c a ≡ true → HasPrefixOf c a
 has_prefix (cidr.Ipv4 n) (Ipv4 a) e = grind (arith, nat_tests)
 has_prefix (cidr.Ipv4 n) (Ipv6 a) e = absurd cc
 has_prefix (cidr.Ipv6 n) (Ipv4 a) e = absurd cc

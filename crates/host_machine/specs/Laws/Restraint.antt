@@ -1,3 +1,5 @@
 pub mod Readings
 pub mod Foreign
 pub mod Checksums
+pub mod Neighbors
+pub mod Settings

@@ -1,0 +1,5 @@
+use Rattle.host_machine.proofs.Sending.OtherSteps.{learn_nobody}
+use Rattle.host_machine.proofs.restraint.other_steps_learn_nobody.Goals as goal
+
+pub returns : goal.returns
+returns c = learn_nobody
