@@ -15,3 +15,6 @@ pub mod ForeignFrames
 pub mod WrongSums
 pub mod NeighborOrigins
 pub mod LearntNeighbors
+pub mod ReplyCauses
+pub mod ReplyOrigins
+pub mod ReplyLaws

@@ -6,6 +6,8 @@ ghost use Rattle.host_machine.specs.Laws.Restraint.Foreign.{ForeignPacketsAreDro
 ghost use Rattle.host_machine.specs.Laws.Restraint.Foreign.{FramesForOthersAreDropped};
 ghost use Rattle.host_machine.specs.Laws.Restraint.Foreign.{PacketsFromNoHostAreDropped, PacketsFromNoHostV6AreDropped};
 ghost use Rattle.host_machine.specs.Laws.Restraint.Neighbors.{NeighborsComeFromFrames, OtherStepsLearnNobody};
+ghost use Rattle.host_machine.specs.Laws.Restraint.Replies.{AdvertisementsTellItself, ArpRepliesTellItself};
+ghost use Rattle.host_machine.specs.Laws.Restraint.Replies.{ErrorsHaveCause, ErrorsV6HaveCause, ResetsHaveCause};
 ghost use Rattle.host_machine.specs.Laws.Restraint.Settings.{SendingKeepsSettings};
 
 /// An IPv4 packet to an address in no list of the host's sends nothing: not assigned, no group of the host, no
@@ -70,4 +72,36 @@ pub fn neighbors_come_from_frames()
 /// A step of a command that receives no frame makes no neighbour known.
 pub fn other_steps_learn_nobody()
     ensures { OtherStepsLearnNobody }
+{}
+
+/// An ARP packet in reply to a frame answers a request for an address of the host, and gives the host's own hardware
+/// address for it to the one that asked (RFC 826).
+pub fn arp_replies_tell_itself()
+    ensures { ArpRepliesTellItself }
+{}
+
+/// A neighbour message in reply to a frame is an advertisement of an address of the host, from that address, with the
+/// host's own hardware address (RFC 4861 7.2.4).
+pub fn advertisements_tell_itself()
+    ensures { AdvertisementsTellItself }
+{}
+
+/// A message of ICMP in reply to a frame is an echo reply, or an error that quotes the packet which brought it. That
+/// was no message of ICMP, its source and its destination are addresses of one host, and no raw socket took it (RFC
+/// 1122 3.2.2).
+pub fn errors_have_cause()
+    ensures { ErrorsHaveCause }
+{}
+
+/// An error of ICMPv6 in reply to a frame quotes the packet which brought it, and is sent to its source, which is one
+/// host's. It is for an option that isn't to be skipped; or the packet had no message of ICMPv6, and no raw socket took
+/// it (RFC 4443 2.4).
+pub fn errors_v6_have_cause()
+    ensures { ErrorsV6HaveCause }
+{}
+
+/// A segment in reply to a frame, so each reset, answers a segment that is no reset, between specified addresses. No
+/// raw socket took the packet, unless an aborted TCP socket answers (RFC 9293 3.5.2).
+pub fn resets_have_cause()
+    ensures { ResetsHaveCause }
 {}

@@ -87,12 +87,12 @@ use Rattle.host_machine.proofs.Receiving.ReceivedFrames.{Handled, handled, renew
 use Rattle.host_machine.proofs.Sending.SettledFields.{Settings, response_settled}
 
 -- what tests say
-and_both : (x y : Bool) → (x && y) ≡ true → (x ≡ true) × (y ≡ true)
+pub and_both : (x y : Bool) → (x && y) ≡ true → (x ≡ true) × (y ≡ true)
 and_both true true e = (refl, refl)
 and_both true false e = absurd cc
 and_both false y e = absurd cc
 
-or_either : (x y : Bool) → (x || y) ≡ true → (x ≡ true) ⊎ (y ≡ true)
+pub or_either : (x y : Bool) → (x || y) ≡ true → (x ≡ true) ⊎ (y ≡ true)
 or_either true y e = inl refl
 or_either false y e = inr e
 
@@ -166,12 +166,12 @@ own_of H a e = by (or_either (is_assigned H.ip_addrs a) (H.any_ip && is_routed_h
       law.Routed x.place x.route both.0 x.here x.prefix x.gateway
 
 -- an IPv4 address of one host
-record IsOneHost (a : Ipv4Address) : Type 0 where
-  not_nobody : a.bits ≢ 0
-  not_all : a.bits ≢ 0xffff_ffff
-  no_group : a.bits / 2 ^ 28 ≢ 14
+pub record IsOneHost (a : Ipv4Address) : Type 0 where
+  pub not_nobody : a.bits ≢ 0
+  pub not_all : a.bits ≢ 0xffff_ffff
+  pub no_group : a.bits / 2 ^ 28 ≢ 14
 
-one_host : (a : Ipv4Address) → ipv4_address.is_unicast a ≡ true → IsOneHost a
+pub one_host : (a : Ipv4Address) → ipv4_address.is_unicast a ≡ true → IsOneHost a
 one_host a e = by (a.bits == 0xffff_ffff) (a.bits / 2 ^ 28 == 14) (a.bits == 0) refl refl refl e where
   by : (b m u : Bool) → (a.bits == 0xffff_ffff) ≡ b → (a.bits / 2 ^ 28 == 14) ≡ m → (a.bits == 0) ≡ u → not (b || m || u) ≡ true → IsOneHost a
   by true m u x y z q = absurd cc
@@ -184,11 +184,11 @@ one_host a e = by (a.bits == 0xffff_ffff) (a.bits / 2 ^ 28 == 14) (a.bits == 0) 
   }
 
 -- and an IPv6 address
-record IsOneHostV6 (a : Ipv6Address) : Type 0 where
-  not_nobody : a.bits ≢ 0
-  no_group : a.bits / 2 ^ 120 ≢ 0xff
+pub record IsOneHostV6 (a : Ipv6Address) : Type 0 where
+  pub not_nobody : a.bits ≢ 0
+  pub no_group : a.bits / 2 ^ 120 ≢ 0xff
 
-one_host_v6 : (a : Ipv6Address) → ipv6_address.is_unicast a ≡ true → IsOneHostV6 a
+pub one_host_v6 : (a : Ipv6Address) → ipv6_address.is_unicast a ≡ true → IsOneHostV6 a
 one_host_v6 a e = by (a.bits / 2 ^ 120 == 0xff) (a.bits == 0) refl refl e where
   by : (m u : Bool) → (a.bits / 2 ^ 120 == 0xff) ≡ m → (a.bits == 0) ≡ u → not (m || u) ≡ true → IsOneHostV6 a
   by true u y z q = absurd cc

@@ -58,20 +58,25 @@ frame_taken moment H (Frame (octet ∷ octets)) frame reply notes new t e =
     let same : octet ∷ octets ≡ frame = cc in
     inl (subst (λ f. ProcessesFrame H.hardware_addr H f reply notes new) same t)
 
-pub handled : {t : ℤ} {frame : List ℕ} {old new : Host} {told : List Event} {notes : List Note} →
-    Receives t frame old told notes new → Handled t frame old told notes new
-handled {t} {frame} {old} {new} {told} {notes} w =
+pub frame_of_call : {t : ℤ} {frame : List ℕ} {old new : Host} {told : List Event} {notes : List Note} (w : Receives t frame old told notes new) →
+    ProcessesFrame old.hardware_addr (without_expired old t) frame w.call.response.reply w.call.response.notes_taking w.call.response.taken
+    ⊎ IsDropped (without_expired old t) w.call.response.reply w.call.response.notes_taking w.call.response.taken
+frame_of_call {t} {frame} {old} {new} {told} {notes} w =
     let i = w.call in
     let only : handed_frames (Received t i.reception ∷ []) ≡ frame ∷ [] =
     sym (handed_frames-received t i.reception (sends i.frames) (handed_frames-sends i.frames)) ∙ sym (ap handed_frames i.events) ∙ w.took in
-    record {
+    frame_taken t (without_expired old t) i.reception frame i.response.reply i.response.notes_taking i.response.taken i.response.takes only
+
+pub handled : {t : ℤ} {frame : List ℕ} {old new : Host} {told : List Event} {notes : List Note} →
+    Receives t frame old told notes new → Handled t frame old told notes new
+handled {t} {frame} {old} {new} {told} {notes} w =
+    let i = w.call in record {
       reply = i.response.reply;
       taken = i.response.taken;
       first = i.response.notes_taking;
       more = i.response.notes_responding;
       frames = i.frames;
-      takes =
-          frame_taken t (without_expired old t) i.reception frame i.response.reply i.response.notes_taking i.response.taken i.response.takes only;
+      takes = frame_of_call w;
       responds = i.response.responds;
       sends_them = ap sent_frames i.events ∙ sent_frames-sends i.frames;
       noted = i.response.all_notes;

@@ -2,4 +2,5 @@ pub mod Readings
 pub mod Foreign
 pub mod Checksums
 pub mod Neighbors
+pub mod Replies
 pub mod Settings

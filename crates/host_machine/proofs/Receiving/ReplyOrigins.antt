@@ -1,0 +1,529 @@
+-- From which rule a reply to a frame comes, with what the frame has to do with it.
+use Rattle.std.proofs.Common.{◌≡◌, ◌≢◌, ◌⊎◌, ℕ, ◌≤◌, ◌/◌, ◌%◌, Bool, true, false, List, [], length, take, refl, sym}
+use Rattle.std.proofs.Common.{◌∙◌, ap}
+use Rattle.std.proofs.Common.{subst, inl, inr, drop, Option, Some, None, arith}
+use Rattle.std.specs.Prelude.{◌==◌, ◌&&◌, slice_get, slice_index, cond, if◌then◌else◌}
+use Rattle.std.specs.Option.{option_map}
+use Rattle.std.proofs.lemmas.Bool.Decides.{Decides-eqb}
+use Rattle.std.specs.List.{AllByRecursion, list_any}
+use Rattle.net_base.specs.Checksum.{is_tx}
+use Rattle.ip_address.specs.EthernetAddress as ethernet_address
+use Rattle.ip_address.specs.Ip as ip_address
+use Rattle.ip_address.specs.Ipv4 as ipv4_address
+use Rattle.ip_address.specs.Ipv6 as ipv6_address
+use Rattle.ip_address.specs.declared.cidr.IpCidr.{IpCidr}
+use Rattle.ip_address.specs.declared.ethernet_address.EthernetAddress.{EthernetAddress}
+use Rattle.ip_address.specs.declared.hardware.HardwareAddress.{HardwareAddress}
+use Rattle.ip_address.specs.declared.hardware.HardwareAddress.TheVariants as hardware
+use Rattle.ip_address.specs.declared.ip.IpAddress.{IpAddress}
+use Rattle.ip_address.specs.declared.ip.IpAddress.TheVariants as address
+use Rattle.ip_address.specs.declared.ipv4.Ipv4Address.{Ipv4Address}
+use Rattle.ip_address.specs.declared.ipv6.Ipv6Address.{Ipv6Address}
+use Rattle.ip_address.specs.declared.protocol.IpProtocol.{IpProtocol}
+use Rattle.ip_address.specs.declared.protocol.IpProtocol.TheVariants as protocol
+use Rattle.ip_address.specs.declared.protocol.IpVersion.{IpVersion}
+use Rattle.ip_address.specs.declared.protocol.IpVersion.TheVariants as version
+use Rattle.ip_wire.specs.declared.arp.ArpOperation.{ArpOperation}
+use Rattle.ip_wire.specs.declared.arp.ArpOperation.TheVariants as operation
+use Rattle.ip_wire.specs.declared.arp.ArpRepr.{ArpRepr}
+use Rattle.ip_wire.specs.declared.ethernet.EthernetProtocol.{EthernetProtocol}
+use Rattle.ip_wire.specs.declared.ethernet.EthernetProtocol.TheVariants as ethertype
+use Rattle.ip_wire.specs.declared.ip_packet.IpRepr.{IpRepr}
+use Rattle.ip_wire.specs.declared.ip_packet.IpRepr.TheVariants as repr
+use Rattle.ip_wire.specs.declared.ipv4_packet.Ipv4Repr.{Ipv4Repr}
+use Rattle.ip_wire.specs.declared.tcp.TcpRepr.{TcpRepr}
+use Rattle.ip_wire.specs.Arp.{arp_in}
+use Rattle.ip_wire.specs.Ethernet.{header_in}
+use Rattle.ip_wire.specs.Ipv4Packet.{ipv4_in}
+use Rattle.ip_wire.specs.IpPacket.{src_addr, dst_addr}
+use Rattle.ip_wire.specs.Tcp.{IsTcp, tcp_in}
+use Rattle.ipv6_wire.specs.declared.hop_by_hop.Ipv6OptionFailureType.{Ipv6OptionFailureType}
+use Rattle.ipv6_wire.specs.declared.hop_by_hop.Ipv6OptionFailureType.TheVariants.{Skip, Discard, DiscardSendAll}
+use Rattle.ipv6_wire.specs.declared.hop_by_hop.Ipv6OptionFailureType.TheVariants.{DiscardSendUnicast}
+use Rattle.ipv6_wire.specs.declared.ipv6_packet.Ipv6Repr.{Ipv6Repr}
+use Rattle.ipv6_wire.specs.HopByHop.{hop_by_hop_in, first_failure}
+use Rattle.ipv6_wire.specs.Ipv6Packet.{ipv6_in}
+use Rattle.control_wire.specs.declared.icmpv4.Icmpv4DstUnreachable.{Icmpv4DstUnreachable}
+use Rattle.control_wire.specs.declared.icmpv4.Icmpv4Repr.{Icmpv4Repr}
+use Rattle.control_wire.specs.declared.icmpv4.Icmpv4Repr.TheVariants.{EchoRequest, EchoReply, DstUnreachable}
+use Rattle.control_wire.specs.declared.icmpv4.Icmpv4Repr.TheVariants.{TimeExceeded}
+use Rattle.control_wire.specs.Icmpv4.{icmpv4_in}
+use Rattle.icmpv6_wire.specs.Icmpv6.{icmpv6_in}
+use Rattle.icmpv6_wire.specs.Icmpv6 as icmpv6_text
+use Rattle.icmpv6_wire.specs.declared.icmpv6.Icmpv6Repr.{Icmpv6Repr}
+use Rattle.icmpv6_wire.specs.declared.icmpv6.Icmpv6Repr.TheVariants as v6
+use Rattle.icmpv6_wire.specs.declared.icmpv6.Icmpv6DstUnreachable.TheVariants as unreachable_v6
+use Rattle.icmpv6_wire.specs.declared.icmpv6.Icmpv6ParamProblem.TheVariants as problem_v6
+use Rattle.icmpv6_wire.specs.declared.ndisc.NdiscRepr.{NdiscRepr}
+use Rattle.icmpv6_wire.specs.declared.ndisc.NdiscRepr.TheVariants.{NeighborAdvert}
+use Rattle.group_wire.specs.declared.mld.MldRepr.TheVariants.{Query, Report}
+use Rattle.sockets.specs.declared.socket.SocketOf.TheVariants.{Raw, Icmp, Udp, Tcp}
+use Rattle.transport_sockets.specs.Tcp as tcp_socket
+use Rattle.transport_sockets.specs.Tcp.{TcpSocket}
+use Rattle.host_machine.specs.State.Note.{Note}
+use Rattle.host_machine.specs.State.Host.{Host, Storage, has_ip_addr, in_same_network}
+use Rattle.host_machine.specs.State.Addresses.{is_broadcast_v4, is_unicast_v4, ipv4_addr}
+use Rattle.host_machine.specs.Receiving.Arp.{ProcessesArp, reply_to}
+use Rattle.host_machine.specs.Receiving.Arp as arp
+use Rattle.host_machine.specs.Receiving.Ethernet.{ProcessesEthernet, ProcessesEthertype, ProcessesFrame}
+use Rattle.host_machine.specs.Receiving.Ethernet as ethernet
+use Rattle.host_machine.specs.Receiving.Raw as raw
+use Rattle.host_machine.specs.Receiving.Reply.{Reply, Arp, Ip, IsDropped}
+use Rattle.host_machine.specs.Receiving.Renewal.{sender_renewed}
+use Rattle.host_machine.specs.Receiving.Icmpv4.{ProcessesIcmpv4, answer_to, message_back, may_answer_broadcast}
+use Rattle.host_machine.specs.Receiving.Icmpv4.{quotation_of, reply_source, unreachable}
+use Rattle.host_machine.specs.Receiving.Icmpv4 as icmpv4
+use Rattle.host_machine.specs.Receiving.Icmpv6.{ProcessesIcmpv6, ProcessesMessage}
+use Rattle.host_machine.specs.Receiving.Icmpv6 as icmpv6
+use Rattle.host_machine.specs.Receiving.Ipv4.{ProcessesDatagram, ProcessesIpv4, ProcessesPacket}
+use Rattle.host_machine.specs.Receiving.Ipv4 as ip
+use Rattle.host_machine.specs.Receiving.Ipv6.{ProcessesDatagramV6, ProcessesHopByHop, ProcessesIpv6, unknown_option}
+use Rattle.host_machine.specs.Receiving.Ipv6.{unrecognized_next_header}
+use Rattle.host_machine.specs.Receiving.Ipv6 as ipv6
+use Rattle.host_machine.specs.Receiving.Ndisc.{ProcessesNdisc, ProcessesNdiscMessage, advertisement_of, answer_by}
+use Rattle.host_machine.specs.Receiving.Ndisc.{is_target, solicited_flag}
+use Rattle.host_machine.specs.Receiving.Ndisc as ndisc
+use Rattle.host_machine.specs.Receiving.Tcp.{ProcessesTcp, is_between_unspecified, segment_back, socket_reply}
+use Rattle.host_machine.specs.Receiving.Tcp.{reset_for}
+use Rattle.host_machine.specs.Receiving.Tcp as tcp
+use Rattle.host_machine.specs.Receiving.Udp.{ProcessesUdp}
+use Rattle.host_machine.specs.Receiving.Udp as udp
+use Rattle.host_machine.specs.Sending.Packet.{Packet, PacketV4, PacketV6, payload_of}
+use Rattle.host_machine.specs.Sending.Packet as packet
+use Rattle.host_machine.specs.Sending.Reports as reports
+use Rattle.host_machine.specs.Laws.Restraint.Readings.{AreSameButRaw, CarriesV4, CarriesV6}
+use Rattle.host_machine.specs.Laws.Restraint.Neighbors.{IsOwn}
+use Rattle.host_machine.specs.Laws.Restraint.Replies.{AdvertisesItself, AnswersByArp, BringsSegment, BringsV4, BringsV6}
+use Rattle.host_machine.specs.Laws.Restraint.Replies.{HasAborted, HasCauseV4}
+use Rattle.host_machine.specs.Laws.Restraint.Replies.{HasCauseV6, HasReasonV6, HasSegmentCause, IsNoRawFor}
+use Rattle.host_machine.specs.Laws.Restraint.Replies as law
+use Rattle.host_machine.proofs.Receiving.LearntNeighbors.{IsOneHostV6, and_both, one_host_v6, own_of}
+use Rattle.host_machine.proofs.Receiving.ReceivedFrames.{raw_only, renewal}
+use Rattle.host_machine.proofs.Receiving.ReplyCauses.{answered, both_false, no_raw, no_reset_flag, one_host_v4}
+use Rattle.host_machine.proofs.Receiving.ReplyCauses.{tcp_there}
+
+-- the kinds of replies
+pub data Origin (H : Host) (frame : List ℕ) (reply : Option Reply) : Type 0 where
+  Silent : reply ≡ None → Origin H frame reply
+  ByArp : (own : EthernetAddress) (r : ArpRepr) → H.hardware_addr ≡ hardware.Ethernet own → reply ≡ Some (Arp r) →
+      AnswersByArp own H frame r → Origin H frame reply
+  ByAdvertisement : (own : EthernetAddress) (q : PacketV6) (message : NdiscRepr) → H.hardware_addr ≡ hardware.Ethernet own →
+      reply ≡ Some (Ip (packet.Ipv6 q)) → q.payload ≡ packet.Icmpv6 (v6.Ndisc message) [] → AdvertisesItself own H q message → Origin H frame reply
+  ByEcho : (q : PacketV4) (ident seq_no : ℕ) (octets : List ℕ) →
+      reply ≡ Some (Ip (packet.Ipv4 q)) → q.payload ≡ packet.Icmpv4 (EchoReply ident seq_no) octets → Origin H frame reply
+  ByError : (q : PacketV4) (message : Icmpv4Repr) (octets : List ℕ) → reply ≡ Some (Ip (packet.Ipv4 q)) →
+      q.payload ≡ packet.Icmpv4 message octets → HasCauseV4 H frame q message octets → Origin H frame reply
+  ByEchoV6 : (q : PacketV6) (ident seq_no : ℕ) (octets : List ℕ) →
+      reply ≡ Some (Ip (packet.Ipv6 q)) → q.payload ≡ packet.Icmpv6 (v6.EchoReply ident seq_no) octets → Origin H frame reply
+  ByErrorV6 : (q : PacketV6) (message : Icmpv6Repr) (octets : List ℕ) → reply ≡ Some (Ip (packet.Ipv6 q)) →
+      q.payload ≡ packet.Icmpv6 message octets → icmpv6_text.type_of message ≤ 4 → HasCauseV6 H frame q message octets → Origin H frame reply
+  BySegment : (q : Packet) (header : TcpRepr) → reply ≡ Some (Ip q) → payload_of q ≡ packet.Tcp header [] →
+      HasSegmentCause H frame → Origin H frame reply
+
+pub silent : {H K new : Host} {frame : List ℕ} {reply : Option Reply} {notes : List Note} → IsDropped K reply notes new → Origin H frame reply
+silent d = Silent d.silent
+
+-- the segments of either family
+module _ (H : Host) (frame segment : List ℕ) (v : IpVersion) (next : IpProtocol) (r : IpRepr) (sender receiver : ℕ)
+    (brings : BringsSegment H frame segment v next sender receiver) (from_someone : sender ≢ 0) (to_someone : receiver ≢ 0) where
+  sent_back_is : (t : TcpRepr) → payload_of (packet.sent_back r (packet.Tcp t [])) ≡ packet.Tcp t []
+  sent_back_is t = by r where
+    by : (r : IpRepr) → payload_of (packet.sent_back r (packet.Tcp t [])) ≡ packet.Tcp t []
+    by (repr.Ipv4 r) = refl
+    by (repr.Ipv6 r) = refl
+
+  segment_origin : {reply : Option Reply} (o : Option TcpRepr) → reply ≡ option_map (segment_back r) o →
+      ((x : TcpRepr) → o ≡ Some x → HasSegmentCause H frame) → Origin H frame reply
+  segment_origin None e cause = Silent e
+  segment_origin (Some t) e cause = BySegment (packet.sent_back r (packet.Tcp t [])) t e (sent_back_is t) (cause t refl)
+
+  caused : slice_index segment 13 / 4 % 2 ≡ 0 →
+      AllByRecursion (IsNoRawFor v next) H.sockets.places ⊎ HasAborted H → HasSegmentCause H frame
+  caused flag untaken = record {
+    segment = segment;
+    of_version = v;
+    next = next;
+    sender = sender;
+    receiver = receiver;
+    brings = brings;
+    no_reset = flag;
+    from_someone = from_someone;
+    to_someone = to_someone;
+    untaken = untaken;
+  }
+
+  -- one that no socket accepts
+  reset_origin : {reply : Option Reply} (b : Bool) → list_any (raw.accepts v next) H.sockets.places ≡ b →
+      ((x : TcpRepr) → tcp_socket.answer_of (tcp_in segment).0.control
+      (tcp_in segment).0 (length (tcp_in segment).1) ≡ Some x → slice_index segment 13 / 4 % 2 ≡ 0) →
+      reply ≡ option_map (segment_back r) (reset_for b (tcp_in segment).0 (tcp_in segment).1) → Origin H frame reply
+  reset_origin true taken flag e = Silent e
+  reset_origin false taken flag e = segment_origin _ e (λ x is. caused (flag x is) (inl (no_raw v next H.sockets.places taken)))
+
+  -- one that an aborted socket answers
+  aborted_origin : {reply : Option Reply} (qs : List Storage) (i : ℕ) (place : Storage) → AreSameButRaw H.sockets.places qs →
+      slice_get qs i ≡ Some place → ((x : TcpRepr) → tcp_socket.answer_of (tcp_in segment).0.control
+      (tcp_in segment).0 (length (tcp_in segment).1) ≡ Some x → slice_index segment 13 / 4 % 2 ≡ 0) →
+      reply ≡ option_map (segment_back r) (socket_reply (tcp_in segment).0 (tcp_in segment).1 place) → Origin H frame reply
+  aborted_origin qs i None same there flag e = Silent e
+  aborted_origin qs i (Some (Raw s)) same there flag e = Silent e
+  aborted_origin qs i (Some (Icmp s)) same there flag e = Silent e
+  aborted_origin qs i (Some (Udp s)) same there flag e = Silent e
+  aborted_origin {reply} qs i (Some (Tcp s)) same there flag e = by s.is_aborted refl e where
+    by : (b : Bool) → s.is_aborted ≡ b →
+        reply ≡ option_map (segment_back r) (cond b (tcp_socket.answer_of (tcp_in segment).0.control (tcp_in segment).0 (length
+        (tcp_in segment).1)) None) →
+        Origin H frame reply
+    by true a q = segment_origin _ q (λ x is. caused (flag x is) (inr (i, s, tcp_there H.sockets.places qs i s same there, a)))
+    by false a q = Silent q
+
+-- the flag, where the segment is well formed
+flag_of : {checked : Bool} {src dst : IpAddress} {segment : List ℕ} → IsTcp checked src dst segment → (x : TcpRepr) →
+    tcp_socket.answer_of (tcp_in segment).0.control (tcp_in segment).0 (length (tcp_in segment).1) ≡ Some x → slice_index segment 13 / 4 % 2 ≡ 0
+flag_of {segment = segment} i x is = no_reset_flag (slice_index segment 13) i.flags (answered _ _ _ x is)
+
+unspecified_not : (a : IpAddress) → ip_address.is_unspecified a ≡ false → (ip_address.address_key a).1 ≢ 0
+unspecified_not (address.Ipv4 a) e = λ z. let bad : (a.bits == 0) ≡ true = (Decides-eqb a.bits 0).1 z in cc
+unspecified_not (address.Ipv6 a) e = λ z. let bad : (a.bits == 0) ≡ true = (Decides-eqb a.bits 0).1 z in cc
+
+tcp_origin : {b : Bool} {K new : Host} {reply : Option Reply} {notes : List Note} (H : Host) (frame segment : List ℕ) (v : IpVersion)
+    (next : IpProtocol) (r : IpRepr) →
+    BringsSegment H frame segment v next (ip_address.address_key (src_addr r)).1 (ip_address.address_key (dst_addr r)).1 →
+    list_any (raw.accepts v next) H.sockets.places ≡ b → AreSameButRaw H.sockets.places K.sockets.places →
+    ProcessesTcp b r K segment reply notes new → Origin H frame reply
+tcp_origin H frame segment v next r brings taken same (tcp.BetweenUnspecified u d) = silent d
+tcp_origin H frame segment v next r brings taken same (tcp.Malformed u m d) = silent d
+tcp_origin {K = K} H frame segment v next r brings taken same (tcp.Delivered index place u s f e n x) =
+    let parts = both_false (ip_address.is_unspecified (src_addr r)) (ip_address.is_unspecified (dst_addr r)) u in
+    aborted_origin H frame segment v next r _ _ brings (unspecified_not (src_addr r) parts.0) (unspecified_not (dst_addr r) parts.1)
+    K.sockets.places index place same f.is_there (flag_of s) e
+tcp_origin {b} H frame segment v next r brings taken same (tcp.NotAccepted u s none e n x) =
+    let parts = both_false (ip_address.is_unspecified (src_addr r)) (ip_address.is_unspecified (dst_addr r)) u in
+    reset_origin H frame segment v next r _ _ brings (unspecified_not (src_addr r) parts.0) (unspecified_not (dst_addr r) parts.1)
+    b taken (flag_of s) e
+
+-- IPv4
+module _ (H : Host) (frame packet : List ℕ) (carried : CarriesV4 H.hardware_addr frame packet) (r : Ipv4Repr) (payload : List ℕ)
+    (brings : BringsV4 packet r payload) where
+  error_origin : {reply : Option Reply} (own : List IpCidr) (reason : Icmpv4DstUnreachable) → own ≡ H.ip_addrs →
+      r.next_header ≢ protocol.Icmp → AllByRecursion (IsNoRawFor version.Ipv4 r.next_header) H.sockets.places →
+      reply ≡ icmpv4.icmpv4_reply own r (DstUnreachable reason r) (quotation_of payload) → Origin H frame reply
+  error_origin {reply} own reason same other untaken e =
+      by (is_unicast_v4 own r.src_addr) (is_unicast_v4 own r.dst_addr) (is_broadcast_v4 own r.dst_addr) refl refl e where
+        by : (s d w : Bool) → is_unicast_v4 own r.src_addr ≡ s → is_unicast_v4 own r.dst_addr ≡ d →
+            reply ≡ option_map (message_back r (DstUnreachable reason r) (quotation_of payload))
+            (if s then if d then Some r.dst_addr else if w then (if false then ipv4_addr own else None) else None else None) → Origin H frame reply
+        by true true w x y q = ByError _ (DstUnreachable reason r) (quotation_of payload) q refl (record {
+          packet = packet;
+          header = r;
+          payload = payload;
+          carried = carried;
+          brings = brings;
+          no_message = other;
+          sender = subst (λ o. law.IsOneHostV4 o r.src_addr.bits) same (one_host_v4 own r.src_addr x);
+          receiver = subst (λ o. law.IsOneHostV4 o r.dst_addr.bits) same (one_host_v4 own r.dst_addr y);
+          untaken = untaken;
+          to_sender = refl;
+          from_receiver = refl;
+          reason = reason;
+          quotes = refl;
+          quotes_payload = refl;
+        })
+        by true false true x y q = Silent q
+        by true false false x y q = Silent q
+        by false d w x y q = Silent q
+
+  refusal_origin : {reply : Option Reply} (b : Bool) (own : List IpCidr) (reason : Icmpv4DstUnreachable) → own ≡ H.ip_addrs →
+      r.next_header ≢ protocol.Icmp → list_any (raw.accepts version.Ipv4 r.next_header) H.sockets.places ≡ b →
+      reply ≡ unreachable b own reason r payload → Origin H frame reply
+  refusal_origin true own reason same other taken e = Silent e
+  refusal_origin false own reason same other taken e =
+      error_origin own reason same other (no_raw version.Ipv4 r.next_header H.sockets.places taken) e
+
+  echo_origin : {reply : Option Reply} (m : Icmpv4Repr) (ident seq_no : ℕ) (octets : List ℕ) (o : Option Ipv4Address) →
+      reply ≡ option_map (message_back r (EchoReply ident seq_no) octets) o → Origin H frame reply
+  echo_origin m ident seq_no octets None e = Silent e
+  echo_origin m ident seq_no octets (Some a) e = ByEcho _ ident seq_no octets e refl
+
+  answer_origin : {reply : Option Reply} (own : List IpCidr) (m : Icmpv4Repr) (octets : List ℕ) → reply ≡ answer_to own r m octets →
+      Origin H frame reply
+  answer_origin own (EchoRequest ident seq_no) octets e =
+      echo_origin (EchoRequest ident seq_no) ident seq_no octets (reply_source own r (EchoReply ident seq_no)) e
+  answer_origin own (EchoReply ident seq_no) octets e = Silent e
+  answer_origin own (DstUnreachable reason header) octets e = Silent e
+  answer_origin own (TimeExceeded code header) octets e = Silent e
+
+  icmpv4_origin : {K new : Host} {reply : Option Reply} {notes : List Note} → ProcessesIcmpv4 r K payload reply notes new → Origin H frame reply
+  icmpv4_origin (icmpv4.Malformed m d) = silent d
+  icmpv4_origin {K = K} (icmpv4.Taken i e n s) = answer_origin K.ip_addrs (icmpv4_in payload).0 (icmpv4_in payload).1 e
+
+  igmp_origin : {K new : Host} {reply : Option Reply} {notes : List Note} → reports.ProcessesIgmp r K payload reply notes new → Origin H frame reply
+  igmp_origin (reports.Malformed m d) = silent d
+  igmp_origin (reports.Taken i e n same) = Silent e
+
+  udp_origin : {b : Bool} {K new : Host} {reply : Option Reply} {notes : List Note} → K.ip_addrs ≡ H.ip_addrs → r.next_header ≢ protocol.Icmp →
+      list_any (raw.accepts version.Ipv4 r.next_header) H.sockets.places ≡ b →
+      ProcessesUdp b (repr.Ipv4 r) K payload reply notes new → Origin H frame reply
+  udp_origin same other taken (udp.Malformed m d) = silent d
+  udp_origin same other taken (udp.Delivered places u f e n s) = Silent e
+  udp_origin {b} {K} same other taken (udp.NotAccepted u none e n s) = refusal_origin b K.ip_addrs _ same other taken e
+
+  protocol_origin : (p : IpProtocol) (b : Bool) (K : Host) (reply : Option Reply) (notes : List Note) (new : Host) → r.next_header ≡ p →
+      K.ip_addrs ≡ H.ip_addrs → list_any (raw.accepts version.Ipv4 r.next_header) H.sockets.places ≡ b →
+      AreSameButRaw H.sockets.places K.sockets.places → ip.ProcessesProtocol p b r K payload reply notes new → Origin H frame reply
+  protocol_origin protocol.Icmp b K reply notes new is same taken raw t = icmpv4_origin t
+  protocol_origin protocol.Udp b K reply notes new is same taken raw t = udp_origin same (λ e. absurd cc) taken t
+  protocol_origin protocol.Tcp b K reply notes new is same taken raw t =
+      tcp_origin H frame payload version.Ipv4 r.next_header (repr.Ipv4 r) (law.OverIpv4 packet r carried brings is) taken raw t
+  protocol_origin protocol.Igmp b K reply notes new is same taken raw t = igmp_origin t
+  protocol_origin protocol.HopByHop b K reply notes new is same taken raw t =
+      refusal_origin b K.ip_addrs _ same (λ e. absurd cc) taken t.replied
+  protocol_origin protocol.Icmpv6 b K reply notes new is same taken raw t =
+      refusal_origin b K.ip_addrs _ same (λ e. absurd cc) taken t.replied
+  protocol_origin (protocol.Unknown n) b K reply notes new is same taken raw t =
+      refusal_origin b K.ip_addrs _ same (λ e. absurd cc) taken t.replied
+
+  datagram_origin : {source : HardwareAddress} {L new : Host} {reply : Option Reply} {notes : List Note} → L.ip_addrs ≡ H.ip_addrs →
+      L.sockets.places ≡ H.sockets.places → ProcessesDatagram source r L payload reply notes new → Origin H frame reply
+  datagram_origin addrs places (ip.NotForUs n d) = silent d
+  datagram_origin {source} {L} {new} {reply} {notes} addrs places (ip.Accepted f t) =
+      let i = renewal source (repr.Ipv4 r) (raw.host_after_raw_delivery (repr.Ipv4 r) payload L) in
+      let K = sender_renewed source (repr.Ipv4 r) (raw.host_after_raw_delivery (repr.Ipv4 r) payload L) in
+      let same = ap (λ (K : Host). K.ip_addrs) i.is ∙ addrs in
+      let delivered = raw_only (is_tx L.capabilities.checksum.ipv4) (repr.Ipv4 r) payload L.sockets.places in
+      let there = subst (λ qs. AreSameButRaw L.sockets.places qs) (sym (ap (λ (K : Host). K.sockets.places) i.is)) delivered in
+      protocol_origin r.next_header (raw.is_taken (repr.Ipv4 r) L) K reply notes new refl same
+      (ap (list_any (raw.accepts version.Ipv4 r.next_header)) (sym places)) (subst (λ ps. AreSameButRaw ps K.sockets.places) places there) t
+
+packet_origin : {source : HardwareAddress} {H new : Host} {reply : Option Reply} {notes : List Note} (frame packet : List ℕ) →
+    CarriesV4 H.hardware_addr frame packet →
+    ProcessesPacket source (ipv4_in packet).0 (ipv4_in packet).1 H (ipv4_in packet).2 reply notes new → Origin H frame reply
+packet_origin frame packet carried (ip.FromNoHost s d) = silent d
+packet_origin frame packet carried (ip.Part s p t e) = Silent e
+packet_origin {H = H} frame packet carried (ip.Completed octets mid first rest s p t w e) =
+    datagram_origin H frame packet carried (ip.datagram_header (ipv4_in packet).0 octets) octets (law.Reassembled p refl)
+    (ap (λ (K : Host). K.ip_addrs) t.changed) (ap (λ (K : Host). K.sockets.places) t.changed) w
+packet_origin {H = H} frame packet carried (ip.Whole s w t) =
+    datagram_origin H frame packet carried (ipv4_in packet).0 (ipv4_in packet).2 (law.Whole w refl refl) refl refl t
+
+ipv4_origin : {source : HardwareAddress} {H new : Host} {reply : Option Reply} {notes : List Note} (frame packet : List ℕ) →
+    CarriesV4 H.hardware_addr frame packet → ProcessesIpv4 source H packet reply notes new → Origin H frame reply
+ipv4_origin frame packet carried (ip.Malformed m d) = silent d
+ipv4_origin frame packet carried (ip.Read i t) = packet_origin frame packet carried t
+
+-- ARP
+arp_origin : {own : EthernetAddress} {H new : Host} {reply : Option Reply} {notes : List Note} (frame : List ℕ) →
+    H.hardware_addr ≡ hardware.Ethernet own → (header_in frame).ethertype ≡ ethertype.Arp →
+    ProcessesArp own H (drop 14 frame) reply notes new → Origin H frame reply
+arp_origin frame mine type (arp.Malformed m d) = silent d
+arp_origin frame mine type (arp.NotForUs a l d) = silent d
+arp_origin {own} {H} {new} {reply} frame mine type (arp.Learnt a us learns e n) =
+    let p = arp_in (drop 14 frame) in
+    let target = has_ip_addr H (address.Ipv4 p.target_protocol_addr) in
+    let many = ipv4_address.is_unicast p.source_protocol_addr in
+    let station = ethernet_address.is_unicast p.source_hardware_addr in
+    let three = and_both (target && many && station) (in_same_network H.ip_addrs (address.Ipv4 p.source_protocol_addr)) us in
+    let two = and_both (target && many) station three.0 in
+    let one = and_both target many two.0 in
+    by p.operation refl e one.0 where
+      by : (o : ArpOperation) → (arp_in (drop 14 frame)).operation ≡ o → reply ≡ arp.answer_by o own (arp_in (drop 14 frame)) →
+          has_ip_addr H (address.Ipv4 (arp_in (drop 14 frame)).target_protocol_addr) ≡ true → Origin H frame reply
+      by operation.Request is q own_address = ByArp own (reply_to own (arp_in (drop 14 frame))) mine q (record {
+        type = type;
+        is_packet = a;
+        asked = is;
+        reply = refl;
+        itself = refl;
+        own_address = own_of H (address.Ipv4 (arp_in (drop 14 frame)).target_protocol_addr) own_address;
+        asked_for = refl;
+        sender = refl;
+        sender_address = refl;
+      })
+      by operation.Reply is q own_address = Silent q
+
+-- IPv6
+module _ (H : Host) (frame packet : List ℕ) (carried : CarriesV6 H.hardware_addr frame packet) (one : IsOneHostV6 (ipv6_in packet).0.src_addr) where
+  abbrev r : Ipv6Repr
+  r = (ipv6_in packet).0
+
+  error_v6_origin : {reply : Option Reply} (own : List IpCidr) (m : Icmpv6Repr) (octets : List ℕ) → icmpv6_text.type_of m ≤ 4 →
+      HasReasonV6 H packet m octets → reply ≡ Some (icmpv6.message_back own r m octets) → Origin H frame reply
+  error_v6_origin own m octets few reason e = ByErrorV6 _ m octets e refl few (record {
+    packet = packet;
+    carried = carried;
+    not_nobody = one.not_nobody;
+    no_group = one.no_group;
+    to_sender = refl;
+    reason = reason;
+  })
+
+  module _ (p : IpProtocol) (payload : List ℕ) (brings : BringsV6 packet p payload) where
+    of_payload : {m : Icmpv6Repr} → p ≢ protocol.Icmpv6 → list_any (raw.accepts version.Ipv6 r.next_header) H.sockets.places ≡ false →
+        HasReasonV6 H packet m (take 1192 payload)
+    of_payload other taken = law.OfPayload p payload brings other (no_raw version.Ipv6 r.next_header H.sockets.places taken) refl
+
+    port_origin : {reply : Option Reply} (b : Bool) (own : List IpCidr) → p ≢ protocol.Icmpv6 →
+        list_any (raw.accepts version.Ipv6 r.next_header) H.sockets.places ≡ b →
+        reply ≡ icmpv6.port_unreachable b own r payload → Origin H frame reply
+    port_origin true own other taken e = Silent e
+    port_origin false own other taken e =
+        error_v6_origin own (v6.DstUnreachable unreachable_v6.PortUnreachable r) (icmpv6.quotation_of payload) (omega arith)
+        (of_payload other taken) e
+
+    unrecognized_origin : {reply : Option Reply} (b : Bool) (own : List IpCidr) → p ≢ protocol.Icmpv6 →
+        list_any (raw.accepts version.Ipv6 r.next_header) H.sockets.places ≡ b →
+        reply ≡ unrecognized_next_header b own r payload → Origin H frame reply
+    unrecognized_origin true own other taken e = Silent e
+    unrecognized_origin false own other taken e =
+        error_v6_origin own (v6.ParamProblem problem_v6.UnrecognizedNxtHdr 40 r) (icmpv6.quotation_of payload) (omega arith)
+        (of_payload other taken) e
+
+    udp_v6_origin : {b : Bool} {K new : Host} {reply : Option Reply} {notes : List Note} → p ≢ protocol.Icmpv6 →
+        list_any (raw.accepts version.Ipv6 r.next_header) H.sockets.places ≡ b →
+        ProcessesUdp b (repr.Ipv6 r) K payload reply notes new → Origin H frame reply
+    udp_v6_origin other taken (udp.Malformed m d) = silent d
+    udp_v6_origin other taken (udp.Delivered places u f e n s) = Silent e
+    udp_v6_origin {b} {K} other taken (udp.NotAccepted u none e n s) = port_origin b K.ip_addrs other taken e
+
+  -- what messages of neighbour discovery bring
+  advertised_origin : (K : Host) {reply : Option Reply} (own : EthernetAddress) (target : Ipv6Address) → H.hardware_addr ≡ hardware.Ethernet own →
+      ((a : IpAddress) → has_ip_addr K a ≡ true → IsOwn H a) → reply ≡ answer_by own K r target → Origin H frame reply
+  advertised_origin K {reply} own target mine owned e = by (is_target K r target) refl e where
+    by : (b : Bool) → is_target K r target ≡ b → reply ≡ (if b then Some (Ip (advertisement_of own r target)) else None) → Origin H frame reply
+    by false x q = Silent q
+    by true x q = ByAdvertisement own _ (NeighborAdvert solicited_flag target (Some own)) mine q refl (record {
+      flags = solicited_flag;
+      target = target;
+      message_is = refl;
+      own_address = owned (address.Ipv6 target) (last_true _ (has_ip_addr K (address.Ipv6 target)) x);
+      from_it = refl;
+      hop_limit = refl;
+    }) where
+      last_true : (x y : Bool) → (x && y) ≡ true → y ≡ true
+      last_true true y e = e
+      last_true false y e = absurd cc
+
+  heard_origin : {own : EthernetAddress} {message : NdiscRepr} {K new : Host} {reply : Option Reply} {notes : List Note} →
+      H.hardware_addr ≡ hardware.Ethernet own → ((a : IpAddress) → has_ip_addr K a ≡ true → IsOwn H a) →
+      ProcessesNdiscMessage own r K reply notes new message → Origin H frame reply
+  heard_origin mine owned (ndisc.Advertised flags target lladdr learns e n) = Silent e
+  heard_origin mine owned (ndisc.NoUnicast target lladdr nobody d) = silent d
+  heard_origin {own} {message} {K} mine owned (ndisc.Solicited target lladdr specified learns e n) =
+      advertised_origin K own target mine owned e
+
+  ndisc_origin : {message : NdiscRepr} {K new : Host} {reply : Option Reply} {notes : List Note} → K.hardware_addr ≡ H.hardware_addr →
+      ((a : IpAddress) → has_ip_addr K a ≡ true → IsOwn H a) → ProcessesNdisc r message K reply notes new → Origin H frame reply
+  ndisc_origin same owned (ndisc.FromAfar far d) = silent d
+  ndisc_origin same owned (ndisc.WithoutAddresses without d) = silent d
+  ndisc_origin {message} {K} same owned (ndisc.FromNeighbor own near mine h) = heard_origin {K = K} (sym same ∙ mine) owned h
+
+  message_origin : (m : Icmpv6Repr) (octets : List ℕ) (K : Host) (reply : Option Reply) (notes : List Note) (new : Host) →
+      K.hardware_addr ≡ H.hardware_addr → ((a : IpAddress) → has_ip_addr K a ≡ true → IsOwn H a) →
+      ProcessesMessage r m octets K reply notes new → Origin H frame reply
+  message_origin (v6.EchoRequest ident seq_no) octets K reply notes new same owned t = ByEchoV6 _ ident seq_no octets t.0 refl
+  message_origin (v6.Ndisc message) octets K reply notes new same owned t = ndisc_origin {K = K} same owned t
+  message_origin (v6.Router message) octets K reply notes new same owned t = Silent t.0
+  message_origin (v6.Mld (Query code group)) octets K reply notes new same owned t = Silent t.0
+  message_origin (v6.Mld (Report count)) octets K reply notes new same owned t = silent t
+  message_origin (v6.EchoReply ident seq_no) octets K reply notes new same owned t = silent t
+  message_origin (v6.DstUnreachable reason header) octets K reply notes new same owned t = silent t
+  message_origin (v6.PktTooBig mtu header) octets K reply notes new same owned t = silent t
+  message_origin (v6.TimeExceeded code header) octets K reply notes new same owned t = silent t
+  message_origin (v6.ParamProblem reason pointer header) octets K reply notes new same owned t = silent t
+
+  icmpv6_origin : {payload : List ℕ} {K new : Host} {reply : Option Reply} {notes : List Note} → K.hardware_addr ≡ H.hardware_addr →
+      ((a : IpAddress) → has_ip_addr K a ≡ true → IsOwn H a) → ProcessesIcmpv6 r K payload reply notes new → Origin H frame reply
+  icmpv6_origin same owned (icmpv6.Malformed m d) = silent d
+  icmpv6_origin {payload} {K} {new} {reply} {notes} same owned (icmpv6.Taken i t) =
+      message_origin (icmpv6_in payload).0 (icmpv6_in payload).1 (icmpv6.host_after_delivery r payload K) reply notes new same owned t
+
+  protocol_v6_origin : (p : IpProtocol) (payload : List ℕ) (b : Bool) (K : Host) (reply : Option Reply) (notes : List Note) (new : Host) →
+      BringsV6 packet p payload → K.hardware_addr ≡ H.hardware_addr → ((a : IpAddress) → has_ip_addr K a ≡ true → IsOwn H a) →
+      list_any (raw.accepts version.Ipv6 r.next_header) H.sockets.places ≡ b → AreSameButRaw H.sockets.places K.sockets.places →
+      ipv6.ProcessesProtocol p b r K payload reply notes new → Origin H frame reply
+  protocol_v6_origin protocol.Icmpv6 payload b K reply notes new brings same owned taken raw t = icmpv6_origin {K = K} same owned t
+  protocol_v6_origin protocol.Udp payload b K reply notes new brings same owned taken raw t =
+      udp_v6_origin protocol.Udp payload brings (λ e. absurd cc) taken t
+  protocol_v6_origin protocol.Tcp payload b K reply notes new brings same owned taken raw t =
+      tcp_origin H frame payload version.Ipv6 r.next_header (repr.Ipv6 r) (law.OverIpv6 packet carried brings) taken raw t
+  protocol_v6_origin protocol.Icmp payload b K reply notes new brings same owned taken raw t =
+      unrecognized_origin protocol.Icmp payload brings b K.ip_addrs (λ e. absurd cc) taken t.replied
+  protocol_v6_origin protocol.Igmp payload b K reply notes new brings same owned taken raw t =
+      unrecognized_origin protocol.Igmp payload brings b K.ip_addrs (λ e. absurd cc) taken t.replied
+  protocol_v6_origin protocol.HopByHop payload b K reply notes new brings same owned taken raw t =
+      unrecognized_origin protocol.HopByHop payload brings b K.ip_addrs (λ e. absurd cc) taken t.replied
+  protocol_v6_origin (protocol.Unknown n) payload b K reply notes new brings same owned taken raw t =
+      unrecognized_origin (protocol.Unknown n) payload brings b K.ip_addrs (λ e. absurd cc) taken t.replied
+
+  datagram_v6_origin : {source : HardwareAddress} {new : Host} {reply : Option Reply} {notes : List Note} (p : IpProtocol) (payload : List ℕ) →
+      BringsV6 packet p payload → ProcessesDatagramV6 source r p H payload reply notes new → Origin H frame reply
+  datagram_v6_origin p payload brings (ipv6.NotForUs n d) = silent d
+  datagram_v6_origin {source} {new} {reply} {notes} p payload brings (ipv6.Accepted f t) =
+      let L = raw.host_after_raw_delivery (repr.Ipv6 r) payload H in
+      let i = renewal source (repr.Ipv6 r) L in
+      let K = sender_renewed source (repr.Ipv6 r) L in
+      let delivered = raw_only (is_tx H.capabilities.checksum.ipv4) (repr.Ipv6 r) payload H.sockets.places in
+      let there = subst (λ qs. AreSameButRaw H.sockets.places qs) (sym (ap (λ (K : Host). K.sockets.places) i.is)) delivered in
+      let owned : (a : IpAddress) → has_ip_addr K a ≡ true → IsOwn H a = λ a e. own_of H a (sym (ap (λ (K : Host). has_ip_addr K a) i.is) ∙ e) in
+      protocol_v6_origin p payload (raw.is_taken (repr.Ipv6 r) H) K reply notes new brings (ap (λ
+      (K : Host). K.hardware_addr) i.is) owned refl there t
+
+  complaint_origin : {reply : Option Reply} (failure : Ipv6OptionFailureType) (own : List IpCidr) →
+      first_failure (hop_by_hop_in (ipv6_in packet).1).0.options.items ≢ Skip →
+      reply ≡ unknown_option failure own r (ipv6_in packet).1 → Origin H frame reply
+  complaint_origin Skip own other e = Silent e
+  complaint_origin Discard own other e = Silent e
+  complaint_origin DiscardSendAll own other e =
+      error_v6_origin own (v6.ParamProblem problem_v6.UnrecognizedOption 40 r) (icmpv6.quotation_of (ipv6_in packet).1) (omega arith)
+      (law.OfOption other refl) e
+  complaint_origin {reply} DiscardSendUnicast own other e = by (ipv6_address.is_multicast r.dst_addr) e where
+    by : (b : Bool) → reply ≡ (if b then None else Some (icmpv6.problem own problem_v6.UnrecognizedOption r (ipv6_in packet).1)) →
+        Origin H frame reply
+    by true q = Silent q
+    by false q =
+        error_v6_origin own (v6.ParamProblem problem_v6.UnrecognizedOption 40 r) (icmpv6.quotation_of (ipv6_in packet).1) (omega arith)
+        (law.OfOption other refl) q
+
+  options_origin : {source : HardwareAddress} {new : Host} {reply : Option Reply} {notes : List Note} →
+      ProcessesHopByHop source r H (ipv6_in packet).1 reply notes new → Origin H frame reply
+  options_origin (ipv6.MalformedOptions m d) = silent d
+  options_origin (ipv6.Skipped o s t) = datagram_v6_origin _ _ (law.AfterOptions refl refl) t
+  options_origin (ipv6.Discarded failure o f other e n same) = complaint_origin failure H.ip_addrs (λ s. other (sym f ∙ s)) e
+
+module _ {source : HardwareAddress} {H new : Host} {reply : Option Reply} {notes : List Note} (frame packet : List ℕ)
+    (carried : CarriesV6 H.hardware_addr frame packet) where
+  packet_v6_origin : ipv6.ProcessesPacket source (ipv6_in packet).0 H (ipv6_in packet).1 reply notes new → Origin H frame reply
+  packet_v6_origin (ipv6.FromNoHost s d) = silent d
+  packet_v6_origin (ipv6.WithOptions s z t) = options_origin H frame packet carried (one_host_v6 (ipv6_in packet).0.src_addr s) t
+  packet_v6_origin (ipv6.Bare s z t) =
+      datagram_v6_origin H frame packet carried (one_host_v6 (ipv6_in packet).0.src_addr s) _ _ (law.AfterHeader refl refl) t
+
+  ipv6_origin : ProcessesIpv6 source H packet reply notes new → Origin H frame reply
+  ipv6_origin (ipv6.Malformed m d) = silent d
+  ipv6_origin (ipv6.Read i t) = packet_v6_origin t
+
+-- a frame
+payload_origin : (own source : EthernetAddress) (H : Host) (type : EthernetProtocol) (frame : List ℕ) (reply : Option Reply) (notes : List Note)
+    (new : Host) → H.hardware_addr ≡ hardware.Ethernet own → (header_in frame).ethertype ≡ type →
+    ProcessesEthertype own source H type (drop 14 frame) reply notes new → Origin H frame reply
+payload_origin own source H ethertype.Arp frame reply notes new mine type t = arp_origin frame mine type t
+payload_origin own source H ethertype.Ipv4 frame reply notes new mine type t =
+    let carried : CarriesV4 H.hardware_addr frame (drop 14 frame) = rw mine (type, refl) in ipv4_origin frame (drop 14 frame) carried t
+payload_origin own source H ethertype.Ipv6 frame reply notes new mine type t =
+    let carried : CarriesV6 H.hardware_addr frame (drop 14 frame) = rw mine (type, refl) in ipv6_origin frame (drop 14 frame) carried t
+payload_origin own source H (ethertype.Unknown n) frame reply notes new mine type t = silent t
+
+ethernet_origin : {own : EthernetAddress} {H new : Host} {frame : List ℕ} {reply : Option Reply} {notes : List Note} →
+    H.hardware_addr ≡ hardware.Ethernet own → ProcessesEthernet own H frame reply notes new → Origin H frame reply
+ethernet_origin mine (ethernet.Malformed m d) = silent d
+ethernet_origin mine (ethernet.NotForUs l f d) = silent d
+ethernet_origin {own} {H} {new} {frame} {reply} {notes} mine (ethernet.Accepted l f t) = payload_origin own _ H _ frame reply notes new mine refl t
+
+pub frame_origin : (h : HardwareAddress) (H : Host) (frame : List ℕ) (reply : Option Reply) (notes : List Note) (new : Host) →
+    H.hardware_addr ≡ h → ProcessesFrame h H frame reply notes new → Origin H frame reply
+frame_origin (hardware.Ethernet own) H frame reply notes new mine t = ethernet_origin mine t
+frame_origin hardware.Ip H frame reply notes new mine (ethernet.Ipv4 v t) =
+    let carried : CarriesV4 H.hardware_addr frame frame = rw mine (v, refl) in ipv4_origin frame frame carried t
+frame_origin hardware.Ip H frame reply notes new mine (ethernet.Ipv6 v t) =
+    let carried : CarriesV6 H.hardware_addr frame frame = rw mine (v, refl) in ipv6_origin frame frame carried t
+frame_origin hardware.Ip H frame reply notes new mine (ethernet.OtherVersion v w d) = silent d

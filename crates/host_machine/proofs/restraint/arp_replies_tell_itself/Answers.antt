@@ -1,0 +1,5 @@
+use Rattle.host_machine.proofs.Receiving.ReplyLaws.{arp_told}
+use Rattle.host_machine.proofs.restraint.arp_replies_tell_itself.Goals as goal
+
+pub returns : goal.returns
+returns c = arp_told
