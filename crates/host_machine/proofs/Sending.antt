@@ -14,3 +14,4 @@ pub mod QueueDecrease
 pub mod DueWork
 pub mod SettledFields
 pub mod OtherSteps
+pub mod HopsByLists

@@ -3,9 +3,10 @@
 ghost use Rattle.host_machine.specs.Laws.Restraint.Checksums.{WrongHeadersAreDropped};
 ghost use Rattle.host_machine.specs.Laws.Restraint.Checksums.{WrongPayloadsAreDropped, WrongPayloadsV6AreDropped};
 ghost use Rattle.host_machine.specs.Laws.Restraint.Foreign.{ForeignPacketsAreDropped, ForeignPacketsV6AreDropped};
-ghost use Rattle.host_machine.specs.Laws.Restraint.Foreign.{FramesForOthersAreDropped};
+ghost use Rattle.host_machine.specs.Laws.Restraint.Foreign.{FramesForOthersAreDropped, OwnFramesAreTaken};
 ghost use Rattle.host_machine.specs.Laws.Restraint.Foreign.{PacketsFromNoHostAreDropped, PacketsFromNoHostV6AreDropped};
 ghost use Rattle.host_machine.specs.Laws.Restraint.Neighbors.{NeighborsComeFromFrames, OtherStepsLearnNobody};
+ghost use Rattle.host_machine.specs.Laws.Restraint.NextHop.{GroupsHaveTheirAddresses, PacketsGoByHops, SourcesAreNear};
 ghost use Rattle.host_machine.specs.Laws.Restraint.Replies.{AdvertisementsTellItself, ArpRepliesTellItself};
 ghost use Rattle.host_machine.specs.Laws.Restraint.Replies.{ErrorsHaveCause, ErrorsV6HaveCause, ResetsHaveCause};
 ghost use Rattle.host_machine.specs.Laws.Restraint.Settings.{SendingKeepsSettings};
@@ -27,6 +28,11 @@ pub fn foreign_packets_v6_are_dropped()
 /// A frame to the hardware address of another host changes nothing and sends nothing (RFC 1122 2.4).
 pub fn frames_for_others_are_dropped()
     ensures { FramesForOthersAreDropped }
+{}
+
+/// A host takes each frame to its own hardware address, and each one to many hosts (RFC 1122 2.4).
+pub fn own_frames_are_taken()
+    ensures { OwnFramesAreTaken }
 {}
 
 /// An IPv4 packet from 255.255.255.255, from a group or from the broadcast address of an own network changes nothing
@@ -104,4 +110,23 @@ pub fn errors_v6_have_cause()
 /// raw socket took the packet, unless an aborted TCP socket answers (RFC 9293 3.5.2).
 pub fn resets_have_cause()
     ensures { ResetsHaveCause }
+{}
+
+/// A packet to one host, on Ethernet, goes to its next hop by the lists: itself on an own network, otherwise the
+/// gateway of the live route with the longest prefix. It is sent to the hardware address of a known hop. An unknown one
+/// is asked for, with the host's own hardware address (RFC 1122 3.3.1, 2.3.2).
+pub fn packets_go_by_hops()
+    ensures { PacketsGoByHops }
+{}
+
+/// The source for an IPv4 destination is the first address in whose network it is, or without one the first IPv4
+/// address (RFC 1122 3.3.4.3).
+pub fn sources_are_near()
+    ensures { SourcesAreNear }
+{}
+
+/// A packet to a group, on Ethernet, is sent to the group's hardware address: 01:00:5e and the low 23 bits, or 33:33
+/// and the low 32 bits (RFC 1112 6.4, RFC 2464 7).
+pub fn groups_have_their_addresses()
+    ensures { GroupsHaveTheirAddresses }
 {}

@@ -59,14 +59,15 @@ use Rattle.host_machine.specs.Laws.Restraint.Foreign.{IsForeignV4, IsInNoList}
 use Rattle.host_machine.specs.Laws.Restraint.Foreign.{AsksNothingOnTheWay, ForeignPacketsV6AreDropped}
 use Rattle.host_machine.specs.Laws.Restraint.Foreign.{FramesForOthersAreDropped}
 use Rattle.host_machine.specs.Laws.Restraint.Foreign.{IsForeignV6, IsNoBroadcastOf, IsNoHostV4, IsNoSolicitedNodeOf}
-use Rattle.host_machine.specs.Laws.Restraint.Foreign.{PacketsFromNoHostAreDropped, PacketsFromNoHostV6AreDropped}
+use Rattle.host_machine.specs.Laws.Restraint.Foreign.{OwnFramesAreTaken, PacketsFromNoHostAreDropped}
+use Rattle.host_machine.specs.Laws.Restraint.Foreign.{PacketsFromNoHostV6AreDropped}
 use Rattle.host_machine.specs.Laws.Restraint.Foreign as law
 use Rattle.host_machine.proofs.Receiving.Malformed.{nothing_responded}
 use Rattle.host_machine.proofs.Receiving.ReceivedFrames.{Handled, TakenV4, TakenV6, handled, handled_v4, handled_v6}
 use Rattle.host_machine.proofs.Receiving.ReceivedFrames.{no_effect, raw_only, same_all}
 
 -- an address that is none of the host's
-same_bits : (a b : ℕ) → (a ≡ b → ⊥) → (a == b) ≡ false
+pub same_bits : (a b : ℕ) → (a ≡ b → ⊥) → (a == b) ≡ false
 same_bits a b other = grind (arith, nat_tests)
 
 not_same : (x a : IpAddress) → x ≢ a → is_same x a ≡ false
@@ -140,7 +141,7 @@ not_own {H} {a} i = either_false (is_assigned H.ip_addrs a) (H.any_ip && is_rout
           (leads_elsewhere H.ip_addrs a H.moment H.routes all))
 
 -- nor is it a broadcast address
-no_broadcast : (own : List IpCidr) (a : ℕ) → AllByRecursion (IsNoBroadcastOf a) own →
+pub no_broadcast : (own : List IpCidr) (a : ℕ) → AllByRecursion (IsNoBroadcastOf a) own →
     list_any (λ c. is_broadcast_of c (record { bits = a })) own ≡ false
 no_broadcast [] a none = refl
 no_broadcast (cidr.Ipv6 n ∷ own) a none = no_broadcast own a none.1
@@ -337,6 +338,22 @@ frames_for_others_dropped own t frame old new told notes w on other even = let h
   by h (inl x) =
       frame_for_other (subst (λ a. ProcessesFrame a (without_expired old t) frame h.reply h.first h.taken) on x) other even
   by h (inr d) = d
+
+-- one to this host, or to many
+pub own_taken : OwnFramesAreTaken
+own_taken own destination (inl same) =
+    let e : bytes_eq destination.0 own.0 ≡ true = (bytes_eq-Decides destination.0 own.0).1 same in
+    last (is_broadcast destination || is_multicast destination) (bytes_eq destination.0 own.0) e where
+      last : (x y : Bool) → y ≡ true → (x || y) ≡ true
+      last true y e = refl
+      last false y e = e
+own_taken own destination (inr many) =
+    let e : is_multicast destination ≡ true = rw many refl in
+    middle (is_broadcast destination) (is_multicast destination) (bytes_eq destination.0 own.0) e where
+      middle : (x y z : Bool) → y ≡ true → (x || y || z) ≡ true
+      middle true y z e = refl
+      middle false true z e = refl
+      middle false false z e = absurd cc
 
 -- a source that is no host's
 own_broadcast : (own : List IpCidr) (i : ℕ) (n : Ipv4Cidr) (a : ℕ) → slice_get own i ≡ Some (cidr.Ipv4 n) → n.prefix_len < 31 →

@@ -3,4 +3,5 @@ pub mod Foreign
 pub mod Checksums
 pub mod Neighbors
 pub mod Replies
+pub mod NextHop
 pub mod Settings

@@ -1,6 +1,6 @@
 -- Not ours, not touched: a frame to another host, and a packet to an address that is in no list of the host's (RFC 1122
 -- 2.4, 3.2.1.3, RFC 922 7, RFC 1112 7.2, RFC 4291 2.8), or from one that is no host's, has no effect.
-use Rattle.std.specs.Prelude.{◌≡◌, ◌≢◌, ◌⊎◌, ℕ, ◌+◌, ◌-◌, ◌*◌, ◌/◌, ◌%◌, ◌^◌, ◌<◌, ℤ, false}
+use Rattle.std.specs.Prelude.{◌≡◌, ◌≢◌, ◌⊎◌, ℕ, ◌+◌, ◌-◌, ◌*◌, ◌/◌, ◌%◌, ◌^◌, ◌<◌, ℤ, false, true}
 use Rattle.std.specs.Prelude.{List, [], slice_get, slice_index, Some}
 use Rattle.std.specs.List.{AllByRecursion}
 use Rattle.wire_base.specs.Octets.{u32_at}
@@ -24,6 +24,7 @@ use Rattle.group_table.specs.declared.groups.Group.{Group}
 use Rattle.group_table.specs.declared.groups.GroupState.TheVariants.{Leaving}
 use Rattle.host_machine.specs.State.Note.{Note}
 use Rattle.host_machine.specs.State.Host.{Host, Storage, at, with_places, with_slots, without_expired}
+use Rattle.host_machine.specs.Receiving.Ethernet.{is_for}
 use Rattle.host_machine.specs.Laws.Restraint.Readings.{AreSameButRaw, CarriesV4, CarriesV6, Receives}
 
 -- the last of the 2 ^ k addresses that differ from one in the last k bits alone: those are ones
@@ -114,6 +115,11 @@ FramesForOthersAreDropped =
     Receives t frame old told notes new → old.hardware_addr ≡ hardware.Ethernet own →
     (header_in frame).dst_addr.0 ≢ own.0 → slice_index (header_in frame).dst_addr.0 0 % 2 ≡ 0 →
     HasNoEffect t old told notes new
+
+-- a host takes the other frames: those to its own hardware address, and those whose first octet is odd, to many hosts
+abbrev pub OwnFramesAreTaken : Type 0
+OwnFramesAreTaken = (own destination : EthernetAddress) →
+    (destination.0 ≡ own.0) ⊎ (slice_index destination.0 0 % 2 ≡ 1) → is_for own destination ≡ true
 
 -- an IPv4 source that is no host's: 255.255.255.255, a group (224.0.0.0/4), or the broadcast address of an own network
 pub data IsNoHostV4 (own : List IpCidr) (a : ℕ) : Type 0 where

@@ -1,0 +1,5 @@
+use Rattle.host_machine.proofs.Receiving.ForeignFrames.{own_taken}
+use Rattle.host_machine.proofs.restraint.own_frames_are_taken.Goals as goal
+
+pub returns : goal.returns
+returns c = own_taken
