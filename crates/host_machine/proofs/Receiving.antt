@@ -18,3 +18,4 @@ pub mod LearntNeighbors
 pub mod ReplyCauses
 pub mod ReplyOrigins
 pub mod ReplyLaws
+pub mod SettingChanges

@@ -15,3 +15,4 @@ pub mod DueWork
 pub mod SettledFields
 pub mod OtherSteps
 pub mod HopsByLists
+pub mod ReportTimes

@@ -7,8 +7,10 @@ ghost use Rattle.host_machine.specs.Laws.Restraint.Foreign.{FramesForOthersAreDr
 ghost use Rattle.host_machine.specs.Laws.Restraint.Foreign.{PacketsFromNoHostAreDropped, PacketsFromNoHostV6AreDropped};
 ghost use Rattle.host_machine.specs.Laws.Restraint.Neighbors.{NeighborsComeFromFrames, OtherStepsLearnNobody};
 ghost use Rattle.host_machine.specs.Laws.Restraint.NextHop.{GroupsHaveTheirAddresses, PacketsGoByHops, SourcesAreNear};
+ghost use Rattle.host_machine.specs.Laws.Restraint.Queries.{JoinsAreToldOnce, ReportsAreAsked, ReportsWait};
 ghost use Rattle.host_machine.specs.Laws.Restraint.Replies.{AdvertisementsTellItself, ArpRepliesTellItself};
 ghost use Rattle.host_machine.specs.Laws.Restraint.Replies.{ErrorsHaveCause, ErrorsV6HaveCause, ResetsHaveCause};
+ghost use Rattle.host_machine.specs.Laws.Restraint.Settings.{FramesKeepSettings, OtherStepsKeepSettings};
 ghost use Rattle.host_machine.specs.Laws.Restraint.Settings.{SendingKeepsSettings};
 
 /// An IPv4 packet to an address in no list of the host's sends nothing: not assigned, no group of the host, no
@@ -129,4 +131,32 @@ pub fn sources_are_near()
 /// and the low 32 bits (RFC 1112 6.4, RFC 2464 7).
 pub fn groups_have_their_addresses()
     ensures { GroupsHaveTheirAddresses }
+{}
+
+/// A pending answer to a query, after a received frame, was pending before; or the frame brought the query, and the
+/// answer is due within the time that this allows, not before (RFC 2236 3, RFC 3810 5.1.3).
+pub fn reports_are_asked()
+    ensures { ReportsAreAsked }
+{}
+
+/// A received frame changes no address and no route. It changes what was learnt from routers only if it has a router
+/// advertisement from a link-local address that no router forwarded, to an Ethernet host with SLAAC (RFC 4861 6.1.2).
+pub fn frames_keep_settings()
+    ensures { FramesKeepSettings }
+{}
+
+/// A step of a command that sets neither addresses nor routes, and that doesn't bring them in line with what was learnt
+/// from routers, keeps them.
+pub fn other_steps_keep_settings()
+    ensures { OtherStepsKeepSettings }
+{}
+
+/// No answer to a query is sent before the moment at which it is due (RFC 2236 3, RFC 3810 6.2).
+pub fn reports_wait()
+    ensures { ReportsWait }
+{}
+
+/// Each frame that reports a join takes a group off those whose join is pending (RFC 2236 3, RFC 3810 6.1).
+pub fn joins_are_told_once()
+    ensures { JoinsAreToldOnce }
 {}

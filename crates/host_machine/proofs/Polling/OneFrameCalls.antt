@@ -44,7 +44,7 @@ over : (id : ℕ) (h : HardwareAddress) (p : Packet) (outcome : Outcome) (H : Ho
 over id (hardware.Ethernet own) p outcome H frames notes new s = over_ethernet s
 over id hardware.Ip p outcome H frames notes new s = emitted s
 
-dispatched : {p : Packet} {outcome : Outcome} {H new : Host} {frames : List (List ℕ)} {notes : List Note} →
+pub dispatched : {p : Packet} {outcome : Outcome} {H new : Host} {frames : List (List ℕ)} {notes : List Note} →
     Dispatches p outcome H frames notes new → length frames ≤ 1
 dispatched (dispatch.ToUnspecified n o u) = rw u.silent (lit≤ tt)
 dispatched {p} {outcome} {H} {new} {frames} {notes} (dispatch.ToSpecified more s d n) =

@@ -1,4 +1,4 @@
--- Steps that receive no frame make no neighbour known.
+-- Steps that receive no frame make no neighbour known, and those that set neither addresses nor routes keep them.
 use Rattle.std.proofs.Common.{◌≡◌, Bool, true, false, List, refl, sym, ◌∙◌, ap, Some, None}
 use Rattle.std.specs.Prelude.{ℤ, if◌then◌else◌}
 use Rattle.std.specs.FinMap as map
@@ -17,6 +17,8 @@ use Rattle.host_machine.specs.Polling.Polling.{after_maintenance}
 use Rattle.host_machine.specs.Polling.Step.{Act, Step, Accepted, Refused, Taken, NotTaken, WithinDay, OverDay}
 use Rattle.host_machine.specs.Polling.Step as step
 use Rattle.host_machine.specs.Laws.Restraint.Neighbors.{MayReceive, OtherStepsLearnNobody}
+use Rattle.host_machine.specs.Laws.Restraint.Settings.{MaySet, OtherStepsKeepSettings}
+use Rattle.host_machine.proofs.Receiving.SettingChanges.{KeepsLists, ingress_lists}
 use Rattle.host_machine.proofs.Sending.GroupChanges.{join_groups, leave_groups}
 use Rattle.host_machine.proofs.Sending.SettledFields.{Settings, round_settled}
 
@@ -56,3 +58,33 @@ stepped others other = knows_same refl
 
 pub learn_nobody : OtherStepsLearnNobody
 learn_nobody command answer old new told acts notes a n s other is = (stepped s other).each a n is
+
+-- and addresses and routes stay
+kept_as : {old mid new : Host} → new ≡ mid → KeepsLists old mid → KeepsLists old new
+kept_as e k = record { addresses = ap (λ (K : Host). K.ip_addrs) e ∙ k.addresses; routes = ap (λ (K : Host). K.routes) e ∙ k.routes }
+
+settles : {command : Command} {answer : Answer} {old new : Host} {told : List Event} {acts : List Act} {notes : List Note} →
+    Step command answer old told acts notes new → (MaySet command → ⊥) → KeepsLists old new
+settles (step.UpdatedIpAddrs u) other = absurd (other tt)
+settles (step.PolledIngressSingle i) other = ingress_lists i
+settles (step.PolledEgress e) other = record {
+  addresses = ap (λ (s : Settings). s.ip_addrs) (round_settled e.round);
+  routes = ap (λ (s : Settings). s.routes) (round_settled e.round);
+}
+settles (step.Polled p) other = absurd (other tt)
+settles step.PolledMaintenance other = absurd (other tt)
+settles step.UpdatedRoutes other = absurd (other tt)
+settles step.AddedDefaultIpv4Route other = absurd (other tt)
+settles step.RemovedDefaultIpv4Route other = absurd (other tt)
+settles step.AddedDefaultIpv6Route other = absurd (other tt)
+settles step.RemovedDefaultIpv6Route other = absurd (other tt)
+settles (step.JoinedGroup j) other = let g = join_groups j in kept_as g.1 (record { addresses = refl; routes = refl })
+settles (step.LeftGroup j) other = let g = leave_groups j in kept_as g.1 (record { addresses = refl; routes = refl })
+settles (step.TookHardwareAddr (Taken a of r e)) other = kept_as e (record { addresses = refl; routes = refl })
+settles (step.TookHardwareAddr (NotTaken error a r e)) other = kept_as e (record { addresses = refl; routes = refl })
+settles (step.TookReassemblyTimeout (WithinDay l r e)) other = kept_as e (record { addresses = refl; routes = refl })
+settles (step.TookReassemblyTimeout (OverDay l r e)) other = kept_as e (record { addresses = refl; routes = refl })
+settles others other = record { addresses = refl; routes = refl }
+
+pub keep_settings : OtherStepsKeepSettings
+keep_settings command answer old new told acts notes s other = let k = settles s other in (k.addresses, k.routes)

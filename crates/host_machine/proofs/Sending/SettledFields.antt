@@ -10,6 +10,7 @@ use Rattle.ip_address.specs.declared.ethernet_address.EthernetAddress.{EthernetA
 use Rattle.ip_address.specs.declared.hardware.HardwareAddress.{HardwareAddress}
 use Rattle.ip_address.specs.declared.hardware.HardwareAddress.TheVariants as hardware
 use Rattle.ip_address.specs.declared.ip.IpAddress.{IpAddress}
+use Rattle.fragmentation.specs.Cuts.{Piece}
 use Rattle.iface_tables.specs.declared.neighbor.Neighbor.{Neighbor}
 use Rattle.iface_tables.specs.declared.route.Route.{Route}
 use Rattle.group_table.specs.declared.groups.Group.{Group}
@@ -20,13 +21,13 @@ use Rattle.slaac.specs.declared.slaac.Prefix.{Prefix}
 use Rattle.slaac.specs.declared.slaac.Route as slaac_route
 use Rattle.host_machine.specs.declared.results.Turn.{Turn}
 use Rattle.host_machine.specs.State.Note.{Note}
-use Rattle.host_machine.specs.State.Host.{Host, Socket, at}
+use Rattle.host_machine.specs.State.Host.{Host, Socket, at, with_left, with_neighbors}
 use Rattle.host_machine.specs.Receiving.Reply.{Reply, Arp, Ip}
 use Rattle.host_machine.specs.Receiving.Response.{Responds}
 use Rattle.host_machine.specs.Sending.Packet.{Packet}
 use Rattle.host_machine.specs.Sending.Dispatch.{Outcome, IsUnsent, Emits, Discovers, DispatchesByHop}
 use Rattle.host_machine.specs.Sending.Dispatch.{DispatchesEthernet, SendsOver, Dispatches}
-use Rattle.host_machine.specs.Sending.Dispatch.{with_next_id}
+use Rattle.host_machine.specs.Sending.Dispatch.{with_next_id, with_silence}
 use Rattle.host_machine.specs.Sending.Dispatch as dispatch
 use Rattle.host_machine.specs.Sending.Egress.{SocketTurn, Serves, Walks, SocketEgress, Ipv4Egress, Round, Egress}
 use Rattle.host_machine.specs.Sending.Egress as egress
@@ -74,50 +75,63 @@ SettledOver old told notes new = Settled old new
 settled : {old new : Host} → new ≡ old → Settled old new
 settled e = ap settings_of e
 
-unsent : {H new : Host} {frames : List (List ℕ)} {notes : List Note} → IsUnsent H frames notes new → Settled H new
-unsent u = ap settings_of u.unchanged
+-- what a dispatch leaves, where it doesn't read what a dispatch changes
+module _ {X : Type 0} (read : Host → X) (same_id : (H : Host) → read (with_next_id H) ≡ read H)
+    (same_silence : (H : Host) → read (with_neighbors H (with_silence H.neighbors H)) ≡ read H)
+    (same_left : (H : Host) (rest : List Piece) → read (with_left H rest) ≡ read H) where
+  unsent : {H new : Host} {frames : List (List ℕ)} {notes : List Note} → IsUnsent H frames notes new → read new ≡ read H
+  unsent u = ap read u.unchanged
 
-emitted : {id : ℕ} {p : Packet} {h : HardwareAddress} {outcome : Outcome} {H new : Host} {frames : List (List ℕ)} {notes : List Note} →
-    Emits id p h outcome H frames notes new → Settled H new
-emitted (dispatch.Whole fits formed o f n e) = ap settings_of e
-emitted (dispatch.InPieces q first rest is long short pieces fits formed o f n e) = ap settings_of e
-emitted (dispatch.TooLong long longer o u) = unsent u
+  emitted : {id : ℕ} {p : Packet} {h : HardwareAddress} {outcome : Outcome} {H new : Host} {frames : List (List ℕ)} {notes : List Note} →
+      Emits id p h outcome H frames notes new → read new ≡ read H
+  emitted (dispatch.Whole fits formed o f n e) = ap read e
+  emitted {H = H} (dispatch.InPieces q first rest is long short pieces fits formed o f n e) = ap read e ∙ same_left H rest
+  emitted (dispatch.TooLong long longer o u) = unsent u
 
-discovered : {own : EthernetAddress} {hop : IpAddress} {outcome : Outcome} {H new : Host} {frames : List (List ℕ)} {notes : List Note} →
-    Discovers own hop outcome H frames notes new → Settled H new
-discovered (dispatch.Asked target source h s o f n e) = ap settings_of e
-discovered (dispatch.NoSource target h s o u) = unsent u
-discovered (dispatch.Solicited target h o f n e) = ap settings_of e
+  discovered : {own : EthernetAddress} {hop : IpAddress} {outcome : Outcome} {H new : Host} {frames : List (List ℕ)} {notes : List Note} →
+      Discovers own hop outcome H frames notes new → read new ≡ read H
+  discovered {H = H} (dispatch.Asked target source h s o f n e) = ap read e ∙ same_silence H
+  discovered (dispatch.NoSource target h s o u) = unsent u
+  discovered {H = H} (dispatch.Solicited target h o f n e) = ap read e ∙ same_silence (with_next_id H) ∙ same_id H
 
-by_hop : {id : ℕ} {own : EthernetAddress} {p : Packet} {hop : IpAddress} {outcome : Outcome} {H new : Host}
-    {frames : List (List ℕ)} {notes : List Note} → DispatchesByHop id own p hop outcome H frames notes new → Settled H new
-by_hop (dispatch.Known h k e) = emitted e
-by_hop (dispatch.Silent s o u) = unsent u
-by_hop (dispatch.Unknown u d) = discovered d
+  by_hop : {id : ℕ} {own : EthernetAddress} {p : Packet} {hop : IpAddress} {outcome : Outcome} {H new : Host}
+      {frames : List (List ℕ)} {notes : List Note} → DispatchesByHop id own p hop outcome H frames notes new → read new ≡ read H
+  by_hop (dispatch.Known h k e) = emitted e
+  by_hop (dispatch.Silent s o u) = unsent u
+  by_hop (dispatch.Unknown u d) = discovered d
 
-over_ethernet : {id : ℕ} {own : EthernetAddress} {p : Packet} {outcome : Outcome} {H new : Host} {frames : List (List ℕ)} {notes : List Note} →
-    DispatchesEthernet id own p outcome H frames notes new → Settled H new
-over_ethernet (dispatch.ToMulticast h m e) = emitted e
-over_ethernet (dispatch.NoHop m n o u) = unsent u
-over_ethernet (dispatch.ByHop hop m n s) = by_hop s
+  over_ethernet : {id : ℕ} {own : EthernetAddress} {p : Packet} {outcome : Outcome} {H new : Host} {frames : List (List ℕ)} {notes : List Note} →
+      DispatchesEthernet id own p outcome H frames notes new → read new ≡ read H
+  over_ethernet (dispatch.ToMulticast h m e) = emitted e
+  over_ethernet (dispatch.NoHop m n o u) = unsent u
+  over_ethernet (dispatch.ByHop hop m n s) = by_hop s
 
-over : (id : ℕ) (h : HardwareAddress) (p : Packet) (outcome : Outcome) (H : Host) (frames : List (List ℕ)) (notes : List Note) (new : Host) →
-    SendsOver id h p outcome H frames notes new → Settled H new
-over id (hardware.Ethernet own) p outcome H frames notes new s = over_ethernet s
-over id hardware.Ip p outcome H frames notes new s = emitted s
+  over : (id : ℕ) (h : HardwareAddress) (p : Packet) (outcome : Outcome) (H : Host) (frames : List (List ℕ)) (notes : List Note) (new : Host) →
+      SendsOver id h p outcome H frames notes new → read new ≡ read H
+  over id (hardware.Ethernet own) p outcome H frames notes new s = over_ethernet s
+  over id hardware.Ip p outcome H frames notes new s = emitted s
+
+  pub dispatch_leaves : {p : Packet} {outcome : Outcome} {H new : Host} {frames : List (List ℕ)} {notes : List Note} →
+      Dispatches p outcome H frames notes new → read new ≡ read H
+  dispatch_leaves (dispatch.ToUnspecified n o u) = unsent u
+  dispatch_leaves {p} {outcome} {H} {new} {frames} (dispatch.ToSpecified more s d n) =
+      over H.ipv4_id H.hardware_addr p outcome (with_next_id H) frames more new d ∙ same_id H
+
+  -- what responding leaves
+  pub response_leaves : (reply : Option Reply) (H : Host) (frames : List (List ℕ)) (notes : List Note) (new : Host) →
+      Responds reply H frames notes new → read new ≡ read H
+  response_leaves None H frames notes new r = ap read r.2
+  response_leaves (Some (Arp packet)) H frames notes new r = ap read r.2
+  response_leaves (Some (Ip packet)) H frames notes new r = dispatch_leaves r.1
 
 pub dispatch_settled : {p : Packet} {outcome : Outcome} {H new : Host} {frames : List (List ℕ)} {notes : List Note} →
     Dispatches p outcome H frames notes new → Settled H new
-dispatch_settled (dispatch.ToUnspecified n o u) = unsent u
-dispatch_settled {p} {outcome} {H} {new} {frames} (dispatch.ToSpecified more s d n) =
-    over H.ipv4_id H.hardware_addr p outcome (with_next_id H) frames more new d
+dispatch_settled d = dispatch_leaves settings_of (λ H. refl) (λ H. refl) (λ H rest. refl) d
 
--- what responding leaves
 pub response_settled : (reply : Option Reply) (H : Host) (frames : List (List ℕ)) (notes : List Note) (new : Host) →
     Responds reply H frames notes new → Settled H new
-response_settled None H frames notes new r = settled r.2
-response_settled (Some (Arp packet)) H frames notes new r = settled r.2
-response_settled (Some (Ip packet)) H frames notes new r = dispatch_settled r.1
+response_settled reply H frames notes new r =
+    response_leaves settings_of (λ H. refl) (λ H. refl) (λ H rest. refl) reply H frames notes new r
 
 -- a call that sends
 had_turn : {s s' : Socket} {turn : Turn} {H new : Host} {told : List Event} {notes : List Note} →

@@ -4,4 +4,5 @@ pub mod Checksums
 pub mod Neighbors
 pub mod Replies
 pub mod NextHop
+pub mod Queries
 pub mod Settings

@@ -1,0 +1,5 @@
+use Rattle.host_machine.proofs.Sending.ReportTimes.{joins_once}
+use Rattle.host_machine.proofs.restraint.joins_are_told_once.Goals as goal
+
+pub returns : goal.returns
+returns c = joins_once
