@@ -71,8 +71,9 @@ fn sent_since(device: &MemoryDevice, before: usize, k: usize) -> Option<&[u8]>
     Some(frame.as_slice())
 }
 
-/// Runs a command on one end.
-fn run<O: Owner>(host: &mut Host<'_, O>, command: &Command) -> Answer
+/// Runs a command on one host: one step of the host machine, from each state that its interface and its sockets stand
+/// for. It allocates nothing, apart from what its device and its owner allocate.
+pub fn run<O: Owner>(host: &mut Host<'_, O>, command: &Command) -> Answer
     requires { IsTimely command.now }
     ensures { HostRefinesCommand Tells O.did host.old.device host.new.device host.old.owner host.new.owner command.now
         result (StandsFor host.old.interface host.old.sockets) (StandsFor host.new.interface host.new.sockets) }

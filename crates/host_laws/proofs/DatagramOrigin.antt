@@ -55,7 +55,7 @@ use Rattle.host_laws.specs.Departures.{Departure, Way, Dropped, InOneFrame, InPi
 use Rattle.host_laws.specs.Departures as spec
 use Rattle.host_laws.specs.Senders.{CarriesNoUdp, NoSocketWritesUdp, WentIn, ways}
 use Rattle.host_laws.specs.Datagrams.{host_at_command}
-use Rattle.host_laws.specs.EndToEnd.{GetWhatWasSent, MayRebuild, RunsGetWhatWasSent, WasSent, WasSentAt, WasSentSo, WereSentSo}
+use Rattle.host_laws.specs.EndToEnd.{GetWhatWasSent, LeaveQueues, MayRebuild, RunsGetWhatWasSent, WasSent, WasSentAt, WasSentSo, WereSentSo}
 use Rattle.host_laws.proofs.ReadBack.{IsRead, read_payload, read_whole}
 use Rattle.host_laws.proofs.RegularHosts.{SendsOver, all_send}
 
@@ -63,6 +63,10 @@ all_in : {X : Type 0} (P : X → Type 0) (xs : List X) (x : X) → AllByRecursio
 all_in P [] x all i = absurd i
 all_in P (y ∷ xs) x all (inl e) = rw e all.0
 all_in P (y ∷ xs) x all (inr i) = all_in P xs x all.1 i
+
+pub all_parted : {X : Type 0} (P : X → Type 0) (xs ys : List X) → AllByRecursion P (xs ++ ys) → AllByRecursion P xs × AllByRecursion P ys
+all_parted P [] ys all = (tt, all)
+all_parted P (x ∷ xs) ys all = let r = all_parted P xs ys all.1 in ((all.0, r.0), r.1)
 
 -- where what is in all is in some place
 record FrameAt (ps : List Transition) (frame : List ℕ) : Type 0 where
@@ -135,7 +139,8 @@ ends_are (address.Ipv6 a) (address.Ipv4 b) hop_limit payload q e = absurd cc
 ends_are (address.Ipv6 a) (address.Ipv6 b) hop_limit payload q e = absurd cc
 
 -- a departure that was read as a delivery was its sending
-module _ (p : Transition) (d : Delivery) (departure : Departure) (l : HasDeparted (host_at_command p.command p.before) departure) where
+module _ (p : Transition) (d : Delivery) (departures : List Departure) (leave : LeaveQueues p departures) (departure : Departure)
+    (one : Contains departures departure) (l : HasDeparted (host_at_command p.command p.before) departure) where
   abbrev B : Host
   B = host_at_command p.command p.before
 
@@ -147,7 +152,10 @@ module _ (p : Transition) (d : Delivery) (departure : Departure) (l : HasDeparte
       d.source ≡ record { addr = src_addr header; port = (udp_in octets).0.src_port } →
       d.destination ≡ record { addr = dst_addr header; port = (udp_in octets).0.dst_port } → d.payload ≡ (udp_in octets).1 → WasSentAt p d
   sent_as header octets src from went read source destination payload = record {
+    departures = departures;
+    leave = leave;
     departure = departure;
+    is_one = one;
     left = l;
     went = went;
     destination = sym (destination ∙ ends (dst_addr header) departure.destination.addr _ departure.destination.port read.destination
@@ -238,12 +246,11 @@ begun_hardware : (c : Command) (H : Host) → (host_at_command c H).hardware_add
 begun_hardware (command.Poll t budget) H = maintained_hardware (without_expired H t) (sync_required H.slaac t)
 begun_hardware other H = refl
 
-begun_of : (m : Medium) (c : Command) (H : Host) → IsOf m H.hardware_addr → IsOf m (host_at_command c H).hardware_addr
+pub begun_of : (m : Medium) (c : Command) (H : Host) → IsOf m H.hardware_addr → IsOf m (host_at_command c H).hardware_addr
 begun_of m c H is = rw begun_hardware is
 
-module _ (a a' b b' : Host) (ps qs : List Transition) (ra : Run a ps a') (rb : Run b qs b') (regular : IsRegular a) (b_real : IsReal b)
-    (medium_is : b.capabilities.medium ≡ a.capabilities.medium)
-    (nobody : AllByRecursion (λ p. NoSocketWritesUdp p.before) ps) (were : WereSent ps qs) where
+module _ (a a' : Host) (ps : List Transition) (ra : Run a ps a') (regular : IsRegular a)
+    (nobody : AllByRecursion (λ p. NoSocketWritesUdp p.before) ps) where
   abbrev m : Medium
   m = a.capabilities.medium
 
@@ -254,7 +261,7 @@ module _ (a a' b b' : Host) (ps qs : List Transition) (ra : Run a ps a') (rb : R
   own_of p s = begun_of m p.command p.before (subst (λ (c : DeviceCapabilities). IsOf c.medium p.before.hardware_addr) s.same s.real.own)
 
   -- of a frame that was handed over
-  whole_sent : (K : Host) → IsOf m K.hardware_addr → (frame : List ℕ) →
+  pub whole_sent : (K : Host) → IsOf m K.hardware_addr → (frame : List ℕ) →
       IsIn frame (sent_frames (events_in ps)) → (d : Delivery) (header : IpRepr) (octets : List ℕ) → BringsPacket K frame header octets →
       d.source ≡ record { addr = src_addr header; port = (udp_in octets).0.src_port } →
       d.destination ≡ record { addr = dst_addr header; port = (udp_in octets).0.dst_port } → d.payload ≡ (udp_in octets).1 → WasSent ps d
@@ -271,10 +278,14 @@ module _ (a a' b b' : Host) (ps qs : List Transition) (ra : Run a ps a') (rb : R
         by p s same (inr w) =
             let g = went_so s.sends.departures (InOneFrame w.0 frame) (is_in (ways s.sends.departures) (InOneFrame w.0 frame) w.2) in
             let l = all_in (HasDeparted (host_at_command p.command p.before)) s.sends.departures g.departure s.sends.left g.is_there in
-            at_once p d g.departure l m K header octets w.0 frame (own_of p s) (rw same at w.1) mine g.way_is brings source destination payload
+            at_once p d s.sends.departures s.sends.leave g.departure
+            (contains_in s.sends.departures g.departure g.is_there) l m K header octets w.0 frame (own_of p s) (rw same at w.1) mine g.way_is brings source destination payload
 
+module _ (a a' b b' : Host) (ps qs : List Transition) (ra : Run a ps a') (rb : Run b qs b') (regular : IsRegular a) (b_real : IsReal b)
+    (medium_is : b.capabilities.medium ≡ a.capabilities.medium)
+    (nobody : AllByRecursion (λ p. NoSocketWritesUdp p.before) ps) (were : WereSent ps qs) where
   -- of a fragment, where what is rebuilt is what was cut
-  fragments_sent : (K : Host) → IsOf m K.hardware_addr → (frame packet : List ℕ) →
+  fragments_sent : (K : Host) → IsOf a.capabilities.medium K.hardware_addr → (frame packet : List ℕ) →
       Contains (sent_frames (events_in ps)) frame → (d : Delivery) (octets : List ℕ) → Carries K.hardware_addr frame packet →
       IsIpv4 (is_rx K.capabilities.checksum.ipv4) packet → may_be_source K.ip_addrs (ipv4_in packet).0.src_addr ≡ true →
       is_fragment (ipv4_in packet).1 ≡ true → (ipv4_in packet).0.next_header ≡ kind.Udp →
@@ -296,7 +307,7 @@ module _ (a a' b b' : Host) (ps qs : List Transition) (ra : Run a ps a') (rb : R
       (subst (λ k. IsIn octets (rebuilt k (slot_notes_in qs))) x.key_is (rebuilt_in (slot_notes_in qs) key octets noted)) in
       let number : number_of x.datagram.header.next_header ≡ 17 = sym (ap (λ (k : FragKey). k.protocol) x.key_is) ∙ ap number_of next in
       let at_place = cut_at ps x.datagram x.is_there in
-      let sending = all_in (SendsOver a.capabilities) ps at_place.place sends at_place.is_there in
+      let sending = all_in (SendsOver a.capabilities) ps at_place.place (all_send ra regular nobody) at_place.is_there in
       let cut = all_in (λ e. number_of e.header.next_header ≡ 17 → Contains (cuts_of sending.sends.departures) e)
       (cuts (cut_notes at_place.place.notes)) x.datagram sending.sends.only.cuts_are at_place.cut_there number in
       let g = was_cut sending.sends.departures x.datagram (is_in (cuts_of sending.sends.departures) x.datagram cut) in
@@ -304,7 +315,8 @@ module _ (a a' b b' : Host) (ps qs : List Transition) (ra : Run a ps a') (rb : R
       sending.sends.departures g.departure sending.sends.left g.is_there in (
         at_place.place,
         contains_in ps at_place.place at_place.is_there,
-        in_fragments at_place.place d g.departure l x.datagram g.first octets header g.way_is same
+        in_fragments at_place.place d sending.sends.departures sending.sends.leave g.departure
+            (contains_in sending.sends.departures g.departure g.is_there) l x.datagram g.first octets header g.way_is same
             (ap src_addr header_is ∙ ap (λ (k : FragKey). address.Ipv4 k.src_addr) x.key_is)
             (ap dst_addr header_is ∙ ap (λ (k : FragKey). address.Ipv4 k.dst_addr) x.key_is) source destination payload,
       )
@@ -314,7 +326,7 @@ module _ (a a' b b' : Host) (ps qs : List Transition) (ra : Run a ps a') (rb : R
 
   -- what the frames of a place bring
   each_got : {K : Host} {frames : List (List ℕ)} {noted : List SlotNote} {ds : List Delivery} →
-      IsOf m K.hardware_addr → AllByRecursion (Contains (sent_frames (events_in ps))) frames →
+      IsOf a.capabilities.medium K.hardware_addr → AllByRecursion (Contains (sent_frames (events_in ps))) frames →
       ((n : SlotNote) → IsIn n noted → IsIn n (slot_notes_in qs)) → (g : Deliver K frames noted ds) → WereSentSo (MayRebuild a b ps) ps g
   each_got mine there notes NoFrame = tt
   each_got {K} mine there notes (OneGets {noted = noted} frame own d g rest) = (
@@ -326,7 +338,7 @@ module _ (a a' b b' : Host) (ps qs : List Transition) (ra : Run a ps a') (rb : R
         d.destination ≡ record { addr = dst_addr header; port = (udp_in octets).0.dst_port } → d.payload ≡ (udp_in octets).1 →
         WasSentSo (MayRebuild a b ps) ps d brought
     by header octets (AtOnce brings) source destination payload =
-        whole_sent K mine frame (is_in (sent_frames (events_in ps)) frame there.0) d header octets brings source destination payload
+        whole_sent a a' ps ra regular nobody K mine frame (is_in (sent_frames (events_in ps)) frame there.0) d header octets brings source destination payload
     by header octets (InFragments packet earlier c i s part next last is) source destination payload = λ may.
         fragments_sent K mine frame packet there.0 d octets c i s part next
         (notes (Rebuild (key_in (ipv4_in packet).0 (ipv4_in packet).1) octets)
@@ -334,12 +346,8 @@ module _ (a a' b b' : Host) (ps qs : List Transition) (ra : Run a ps a') (rb : R
         header is source destination payload may
   each_got mine there notes (NoSocketGets {noted = noted} frame own rest) = each_got mine there.1 (λ n i. notes n (in_right own noted n i)) rest
 
-  all_parted : {X : Type 0} (P : X → Type 0) (xs ys : List X) → AllByRecursion P (xs ++ ys) → AllByRecursion P xs × AllByRecursion P ys
-  all_parted P [] ys all = (tt, all)
-  all_parted P (x ∷ xs) ys all = let r = all_parted P xs ys all.1 in ((all.0, r.0), r.1)
-
   -- at each place from one on
-  from : (K : Host) (last : Host) (rest : List Transition) → Run K rest last → IsReal K → K.capabilities.medium ≡ m →
+  from : (K : Host) (last : Host) (rest : List Transition) → Run K rest last → IsReal K → K.capabilities.medium ≡ a.capabilities.medium →
       AllByRecursion (Contains (sent_frames (events_in ps))) (handed_frames (events_in rest)) →
       ((n : SlotNote) → IsIn n (slot_notes_in rest) → IsIn n (slot_notes_in qs)) → GetWhatWasSent a b ps rest
   from K last [] Ends real same there notes = tt
@@ -347,7 +355,7 @@ module _ (a a' b b' : Host) (ps qs : List Transition) (ra : Run a ps a') (rb : R
       let one = shown.stepped s real in
       let halves = all_parted (Contains (sent_frames (events_in ps))) (handed_frames told) (handed_frames (events_in rest))
       (subst (AllByRecursion (Contains (sent_frames (events_in ps)))) (handed_frames-append told (events_in rest)) there) in
-      let mine : IsOf m (host_at_command c K).hardware_addr = begun_of m c K (rw same at real.own) in (
+      let mine : IsOf a.capabilities.medium (host_at_command c K).hardware_addr = begun_of a.capabilities.medium c K (rw same at real.own) in (
         (λ deliveries departures moves. each_got mine halves.0 (λ n i. notes n
             (subst (IsIn n) (sym (slot_notes-append noted (notes_in rest))) (in_left (slot_notes noted) (slot_notes_in rest) n i))) moves.came),
         from mid last rest r one.real (ap (λ (x : DeviceCapabilities). x.medium) one.same ∙ same) halves.1

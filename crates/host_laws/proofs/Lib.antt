@@ -15,3 +15,4 @@ mod ReadBack
 pub mod RunTraffic
 mod RegularHosts
 pub mod DatagramOrigin
+pub mod NetworkOrigin

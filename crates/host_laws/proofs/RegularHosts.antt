@@ -25,8 +25,10 @@ use Rattle.host_machine.proofs.State.MediumAddresses.{none_of}
 use Rattle.host_machine.proofs.Sending.Turns.{stepped}
 use Rattle.host_laws.specs.Departures.{Departure, HasDeparted}
 use Rattle.host_laws.specs.Datagrams.{host_at_command}
+use Rattle.host_laws.specs.EndToEnd.{LeaveQueues}
 use Rattle.host_laws.specs.Senders.{CarryOnly, NoSocketWritesUdp}
 use Rattle.host_laws.proofs.Accounts.{Follows, dispatch_follows, follows, itself, keeps, taken_left}
+use Rattle.host_laws.proofs.Lists.{none_among}
 use Rattle.host_laws.proofs.StepTraffic.{step_moves}
 
 abbrev Over : Part
@@ -73,6 +75,7 @@ step_follows s =
 pub record Sends (p : Transition) : Type 0 where
   pub departures : List Departure
   pub left : AllByRecursion (HasDeparted (host_at_command p.command p.before)) departures
+  pub leave : LeaveQueues p departures
   pub only : CarryOnly p.before.capabilities.medium departures (sent_frames p.told) (cuts (cut_notes p.notes))
 
 -- the owner of the sockets sends nothing
@@ -87,8 +90,18 @@ place_sends : {command : Command} {answer : Answer} {old new : Host} {told : Lis
 place_sends {command} {answer} {old} {new} {told} {acts} {notes} s r none = by (acts_or s) where
   by : (acts ≡ []) ⊎ ((told ≡ []) × (notes ≡ [])) →
       Sends (record { command = command; answer = answer; told = told; acts = acts; notes = notes; before = old; after = new })
-  by (inl e) = let x = step_moves s e in record { departures = x.departures; left = x.left; only = x.only r none }
-  by (inr e) = record { departures = []; left = tt; only = record { frames_are = rw e.0 tt; cuts_are = rw e.1 tt } }
+  by (inl e) = let x = step_moves s e in record {
+    departures = x.departures;
+    left = x.left;
+    leave = record { fronts = x.fronts; frames = x.went };
+    only = x.only r none;
+  }
+  by (inr e) = record {
+    departures = [];
+    left = tt;
+    leave = record { fronts = λ i u there. (u.tx.packets, refl); frames = none_among (sent_frames told) };
+    only = record { frames_are = rw e.0 tt; cuts_are = rw e.1 tt };
+  }
 
 -- at each place, over the medium that the run began with, with hardware addresses of it
 pub record SendsOver (c : DeviceCapabilities) (p : Transition) : Type 0 where

@@ -4,20 +4,33 @@ use Rattle.std.specs.Prelude.{◌≡◌, ℕ, List, [], Some, None}
 use Rattle.std.specs.List.{AllByRecursion, Contains}
 use Rattle.std.specs.FinMap as map
 use Rattle.fragmentation.specs.Reassembly.{SlotNote}
+use Rattle.net_base.specs.Device.{sent_frames}
 use Rattle.host_machine.specs.State.Host.{Host}
+use Rattle.host_machine.specs.Laws.Order.{IsAmong, IsBeginning}
 use Rattle.host_machine.specs.Laws.Real.{IsReal, IsRegular}
 use Rattle.host_machine.specs.Polling.Run.{Transition, Run}
 use Rattle.host_machine.specs.Laws.TwoHosts.{HaveOwnKeys, WereSent, cuts_in, key_of_cut}
+use Rattle.transport_sockets.specs.Udp.{UdpSocket}
 use Rattle.host_laws.specs.Deliveries.{Delivery, Deliver, NoFrame, OneGets}
-use Rattle.host_laws.specs.Deliveries.{NoSocketGets, BringsUdp, AtOnce, InFragments}
-use Rattle.host_laws.specs.Departures.{Departure, Dropped, HasDeparted, departs_from}
+use Rattle.host_laws.specs.Deliveries.{NoSocketGets, BringsUdp, AtOnce, InFragments, udp_at}
+use Rattle.host_laws.specs.Departures.{Departure, Dropped, HasDeparted, departs_from, entries, frames_of, from_index}
 use Rattle.host_laws.specs.Senders.{NoSocketWritesUdp}
 use Rattle.host_laws.specs.Datagrams.{MovesAt, host_at_command}
+
+-- Datagrams left UDP sockets in a transition: they were at the fronts of the sockets' transmit queues before it, and
+-- those that weren't dropped are in frames sent there, whole or as a first fragment, in this order.
+pub record LeaveQueues (p : Transition) (departures : List Departure) : Type 0 where
+  pub fronts : (i : ℕ) (s : UdpSocket) →
+      udp_at p.before.sockets i ≡ Some s → IsBeginning (entries (from_index i departures)) s.tx.packets
+  pub frames : IsAmong (frames_of departures) (sent_frames p.told)
 
 -- A datagram was sent in a transition of a run. There it left the transmit queue of a UDP socket, with its destination
 -- and its payload, and was sent in a packet with its source.
 pub record WasSentAt (p : Transition) (d : Delivery) : Type 0 where
+  pub departures : List Departure
+  pub leave : LeaveQueues p departures
   pub departure : Departure
+  pub is_one : Contains departures departure
   pub left : HasDeparted (host_at_command p.command p.before) departure
   pub went : departure.way ≡ Dropped → ⊥
   pub destination : departure.destination ≡ d.destination

@@ -3,3 +3,4 @@ pub mod Departures
 pub mod Senders
 pub mod Datagrams
 pub mod EndToEnd
+pub mod Network

@@ -1,6 +1,7 @@
 //! What UDP sockets receive and send.
 ghost use Rattle.host_laws.specs.Datagrams.{RunsKeepDatagrams, RunsKeepQueues};
 ghost use Rattle.host_laws.specs.EndToEnd.{RunsGetWhatWasSent};
+ghost use Rattle.host_laws.specs.Network.{RunsGetWhatSomeSent};
 
 /// Between two turns of their owner, UDP sockets hold what they held, less what left the front of their transmit
 /// queues, plus what was delivered to them meanwhile, as far as there was room. What was delivered arrived in frames
@@ -20,4 +21,12 @@ pub fn runs_keep_datagrams()
 /// fragmented.
 pub fn runs_get_what_was_sent()
     ensures { RunsGetWhatWasSent }
+{}
+
+/// A host receives only frames that hosts on its medium sent. Then each datagram that its UDP sockets get in a whole
+/// packet was sent by a UDP socket of one of those hosts, to that endpoint and with that payload. If no other host sends
+/// from its source address than one, it was sent by that one. No raw socket of these hosts may send UDP. Of datagrams in
+/// fragments it says nothing.
+pub fn runs_get_what_some_sent()
+    ensures { RunsGetWhatSomeSent }
 {}

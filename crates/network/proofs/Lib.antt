@@ -1,0 +1,2 @@
+mod NetworkSteps
+mod NetworkLaws
