@@ -1,4 +1,5 @@
 pub mod ArpAndEcho
+pub mod Ignored
 pub mod AnyIp
 pub mod Sockets
 pub mod Discovery

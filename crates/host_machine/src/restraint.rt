@@ -1,5 +1,6 @@
 //! Laws of what a host must not do, each as the contract of an empty function. They are said by lists, numbers and
 //! octets, without the words by which the rules test a frame.
+ghost use Rattle.host_machine.specs.Examples.Ignored.{TurnedFramesAreIgnored};
 ghost use Rattle.host_machine.specs.Laws.Restraint.Checksums.{WrongHeadersAreDropped};
 ghost use Rattle.host_machine.specs.Laws.Restraint.Checksums.{WrongPayloadsAreDropped, WrongPayloadsV6AreDropped};
 ghost use Rattle.host_machine.specs.Laws.Restraint.Foreign.{ForeignPacketsAreDropped, ForeignPacketsV6AreDropped};
@@ -159,4 +160,10 @@ pub fn reports_wait()
 /// Each frame that reports a join takes a group off those whose join is pending (RFC 2236 3, RFC 3810 6.1).
 pub fn joins_are_told_once()
     ensures { JoinsAreToldOnce }
+{}
+
+/// A worked example: an ARP request and an echo request, each turned in one field, are ignored. They are to another
+/// hardware address, for another address, from afar, with a wrong checksum, or from a broadcast address.
+pub fn turned_frames_are_ignored()
+    ensures { TurnedFramesAreIgnored }
 {}

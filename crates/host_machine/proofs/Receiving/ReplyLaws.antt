@@ -65,9 +65,13 @@ arp_before t a = record {
   sender_address = a.sender_address;
 }
 
-advert_before : {own : EthernetAddress} {old : Host} {q : PacketV6} {message : NdiscRepr} (t : ℤ) →
-    AdvertisesItself own (without_expired old t) q message → AdvertisesItself own old q message
+advert_before : {own : EthernetAddress} {old : Host} {frame : List ℕ} {q : PacketV6} {message : NdiscRepr} (t : ℤ) →
+    AdvertisesItself own (without_expired old t) frame q message → AdvertisesItself own old frame q message
 advert_before t a = record {
+  packet = a.packet;
+  carried = a.carried;
+  near = a.near;
+  to_sender = a.to_sender;
   flags = a.flags;
   target = a.target;
   message_is = a.message_is;
@@ -176,15 +180,15 @@ no_error (NeighborAdvert flags target lladdr) few = omega (arith, few)
 
 pub advert_told : AdvertisementsTellItself
 advert_told own t frame q message octets old new told notes w on is carries = by (reply_origin w) where
-  by : Origin (without_expired old t) frame w.call.response.reply → AdvertisesItself own old q message
+  by : Origin (without_expired old t) frame w.call.response.reply → AdvertisesItself own old frame q message
   by (Silent e) = let bad : None ≡ Some (Ip (packet.Ipv6 q)) = sym e ∙ is in absurd cc
   by (ByArp mine s here e a) = let bad : Some (Arp s) ≡ Some (Ip (packet.Ipv6 q)) = sym e ∙ is in absurd cc
   by (ByAdvertisement mine p m here e c a) =
       let same : mine ≡ own = let both : hardware.Ethernet mine ≡ hardware.Ethernet own = sym here ∙ on in cc in
       let one : m ≡ message =
       let both : packet.Icmpv6 (v6.Ndisc m) [] ≡ packet.Icmpv6 (v6.Ndisc message) octets = payload_v6 e c is carries in cc in
-      subst (λ x. AdvertisesItself own old q x) one
-      (subst (λ x. AdvertisesItself own old x m) (same_v6 e is) (subst (λ x. AdvertisesItself x old p m) same (advert_before t a)))
+      subst (λ x. AdvertisesItself own old frame q x) one
+      (subst (λ x. AdvertisesItself own old frame x m) (same_v6 e is) (subst (λ x. AdvertisesItself x old frame p m) same (advert_before t a)))
   by (ByEcho p ident seq_no o e c) = let bad : Some (Ip (packet.Ipv4 p)) ≡ Some (Ip (packet.Ipv6 q)) = sym e ∙ is in absurd cc
   by (ByError p m o e c cause) = let bad : Some (Ip (packet.Ipv4 p)) ≡ Some (Ip (packet.Ipv6 q)) = sym e ∙ is in absurd cc
   by (ByEchoV6 p ident seq_no o e c) =

@@ -108,7 +108,8 @@ pub data Origin (H : Host) (frame : List ℕ) (reply : Option Reply) : Type 0 wh
   ByArp : (own : EthernetAddress) (r : ArpRepr) → H.hardware_addr ≡ hardware.Ethernet own → reply ≡ Some (Arp r) →
       AnswersByArp own H frame r → Origin H frame reply
   ByAdvertisement : (own : EthernetAddress) (q : PacketV6) (message : NdiscRepr) → H.hardware_addr ≡ hardware.Ethernet own →
-      reply ≡ Some (Ip (packet.Ipv6 q)) → q.payload ≡ packet.Icmpv6 (v6.Ndisc message) [] → AdvertisesItself own H q message → Origin H frame reply
+      reply ≡ Some (Ip (packet.Ipv6 q)) → q.payload ≡ packet.Icmpv6 (v6.Ndisc message) [] → AdvertisesItself own H frame q message →
+      Origin H frame reply
   ByEcho : (q : PacketV4) (ident seq_no : ℕ) (octets : List ℕ) →
       reply ≡ Some (Ip (packet.Ipv4 q)) → q.payload ≡ packet.Icmpv4 (EchoReply ident seq_no) octets → Origin H frame reply
   ByError : (q : PacketV4) (message : Icmpv4Repr) (octets : List ℕ) → reply ≡ Some (Ip (packet.Ipv4 q)) →
@@ -387,11 +388,15 @@ module _ (H : Host) (frame packet : List ℕ) (carried : CarriesV6 H.hardware_ad
 
   -- what messages of neighbour discovery bring
   advertised_origin : (K : Host) {reply : Option Reply} (own : EthernetAddress) (target : Ipv6Address) → H.hardware_addr ≡ hardware.Ethernet own →
-      ((a : IpAddress) → has_ip_addr K a ≡ true → IsOwn H a) → reply ≡ answer_by own K r target → Origin H frame reply
-  advertised_origin K {reply} own target mine owned e = by (is_target K r target) refl e where
+      r.hop_limit ≡ 255 → ((a : IpAddress) → has_ip_addr K a ≡ true → IsOwn H a) → reply ≡ answer_by own K r target → Origin H frame reply
+  advertised_origin K {reply} own target mine near owned e = by (is_target K r target) refl e where
     by : (b : Bool) → is_target K r target ≡ b → reply ≡ (if b then Some (Ip (advertisement_of own r target)) else None) → Origin H frame reply
     by false x q = Silent q
     by true x q = ByAdvertisement own _ (NeighborAdvert solicited_flag target (Some own)) mine q refl (record {
+      packet = packet;
+      carried = carried;
+      near = near;
+      to_sender = refl;
       flags = solicited_flag;
       target = target;
       message_is = refl;
@@ -404,18 +409,19 @@ module _ (H : Host) (frame packet : List ℕ) (carried : CarriesV6 H.hardware_ad
       last_true false y e = absurd cc
 
   heard_origin : {own : EthernetAddress} {message : NdiscRepr} {K new : Host} {reply : Option Reply} {notes : List Note} →
-      H.hardware_addr ≡ hardware.Ethernet own → ((a : IpAddress) → has_ip_addr K a ≡ true → IsOwn H a) →
+      H.hardware_addr ≡ hardware.Ethernet own → r.hop_limit ≡ 255 → ((a : IpAddress) → has_ip_addr K a ≡ true → IsOwn H a) →
       ProcessesNdiscMessage own r K reply notes new message → Origin H frame reply
-  heard_origin mine owned (ndisc.Advertised flags target lladdr learns e n) = Silent e
-  heard_origin mine owned (ndisc.NoUnicast target lladdr nobody d) = silent d
-  heard_origin {own} {message} {K} mine owned (ndisc.Solicited target lladdr specified learns e n) =
-      advertised_origin K own target mine owned e
+  heard_origin mine near owned (ndisc.Advertised flags target lladdr learns e n) = Silent e
+  heard_origin mine near owned (ndisc.NoUnicast target lladdr nobody d) = silent d
+  heard_origin {own} {message} {K} mine near owned (ndisc.Solicited target lladdr specified learns e n) =
+      advertised_origin K own target mine near owned e
 
   ndisc_origin : {message : NdiscRepr} {K new : Host} {reply : Option Reply} {notes : List Note} → K.hardware_addr ≡ H.hardware_addr →
       ((a : IpAddress) → has_ip_addr K a ≡ true → IsOwn H a) → ProcessesNdisc r message K reply notes new → Origin H frame reply
   ndisc_origin same owned (ndisc.FromAfar far d) = silent d
   ndisc_origin same owned (ndisc.WithoutAddresses without d) = silent d
-  ndisc_origin {message} {K} same owned (ndisc.FromNeighbor own near mine h) = heard_origin {K = K} (sym same ∙ mine) owned h
+  ndisc_origin {message} {K} same owned (ndisc.FromNeighbor own near mine h) = heard_origin {K = K} (sym same ∙ mine)
+      ((Decides-eqb r.hop_limit 255).0 near) owned h
 
   message_origin : (m : Icmpv6Repr) (octets : List ℕ) (K : Host) (reply : Option Reply) (notes : List Note) (new : Host) →
       K.hardware_addr ≡ H.hardware_addr → ((a : IpAddress) → has_ip_addr K a ≡ true → IsOwn H a) →

@@ -68,8 +68,14 @@ ArpRepliesTellItself =
     (notes : List Note) → (w : Receives t frame old told notes new) → old.hardware_addr ≡ hardware.Ethernet own →
     w.call.response.reply ≡ Some (Arp r) → AnswersByArp own old frame r
 
--- an advertisement from an address of the host, with the host's hardware address for it
-pub record AdvertisesItself (own : EthernetAddress) (H : Host) (q : PacketV6) (message : NdiscRepr) : Type 0 where
+-- an advertisement from an address of the host, with the host's hardware address for it, to the sender of a packet that
+-- no router forwarded
+pub record AdvertisesItself (own : EthernetAddress) (H : Host) (frame : List ℕ) (q : PacketV6)
+    (message : NdiscRepr) : Type 0 where
+  pub packet : List ℕ
+  pub carried : CarriesV6 H.hardware_addr frame packet
+  pub near : slice_index packet 7 ≡ 255
+  pub to_sender : q.dst_addr ≡ (ipv6_in packet).0.src_addr
   pub flags : NdiscNeighborFlags
   pub target : Ipv6Address
   pub message_is : message ≡ NeighborAdvert flags target (Some own)
@@ -84,7 +90,7 @@ AdvertisementsTellItself =
     (old new : Host) (told : List Event) (notes : List Note) →
     (w : Receives t frame old told notes new) → old.hardware_addr ≡ hardware.Ethernet own →
     w.call.response.reply ≡ Some (Ip (packet.Ipv6 q)) → q.payload ≡ packet.Icmpv6 (v6.Ndisc message) octets →
-    AdvertisesItself own old q message
+    AdvertisesItself own old frame q message
 
 -- Errors
 
