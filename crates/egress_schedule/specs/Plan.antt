@@ -7,12 +7,13 @@ use Rattle.socket_set.specs.SocketSet.{Sockets, wait_of}
 use Rattle.egress_schedule.specs.declared.watch.Waiting.{Waiting}
 use Rattle.egress_schedule.specs.declared.watch.Watch.{Watch}
 
--- how long a packet waits for a neighbour, in microseconds, 0 for ever; a watch for each socket; from which index on
--- the next socket may ask for its neighbour, and the next may send a long packet; how many packets were given up;
--- whether some socket waits; and whether some packet may be long
+-- how long a packet waits for a neighbour, in microseconds, 0 for ever; a watch for each socket, and for how many of
+-- them memory is reserved; from which index on the next socket may ask for its neighbour, and the next may send a long
+-- packet; how many packets were given up; whether some socket waits; and whether some packet may be long
 pub record Plan : Type 0 where
   pub patience : ℕ
   pub watches : List Watch
+  pub room : ℕ
   pub discovery_turn : ℕ
   pub fragment_turn : ℕ
   pub given_up : ℕ
@@ -35,11 +36,12 @@ given_up_at i plan = (get_or plan.watches i idle).given_up
 abbrev pub without_given_up : ℕ → Plan → Plan
 without_given_up i plan = with_watch i (record (get_or plan.watches i idle) { given_up = None }) plan
 
--- that of so many sockets, none of which waits
-abbrev pub first_plan : ℕ → ℕ → Plan
-first_plan patience sockets = record {
+-- that of so many sockets, none of which waits, with this room
+abbrev pub first_plan : ℕ → ℕ → ℕ → Plan
+first_plan patience sockets room = record {
   patience = patience;
   watches = replicate sockets idle;
+  room = room;
   discovery_turn = 0;
   fragment_turn = 0;
   given_up = 0;

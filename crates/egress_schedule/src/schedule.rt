@@ -14,7 +14,8 @@ use std::marker::Model;
 
 /// A schedule of a set of sockets.
 ///
-/// In contracts it is the patience, what is written down of each socket, whose turn it is, and what was given up.
+/// In contracts it is the patience, what is written down of each socket, for how many sockets memory is reserved, whose
+/// turn it is, and what was given up. No call changes for how many, so only [`Schedule::new`] takes memory.
 #[derive(Drop)]
 pub struct Schedule {
     pub(crate) patience: Duration,
@@ -27,6 +28,7 @@ pub struct Schedule {
 }
 
 impl Model for Schedule {
+    ghost use Rattle.std.specs.Prelude.{vec_capacity};
     ghost use Rattle.egress_schedule.specs.Plan.{Plan};
 
     ghost Value = { Plan };
@@ -34,6 +36,7 @@ impl Model for Schedule {
     ghost view = { λ s. record {
       patience = s.patience;
       watches = s.watches.items;
+      room = vec_capacity s.watches;
       discovery_turn = s.discovery_turn;
       fragment_turn = s.fragment_turn;
       given_up = s.given_up;
@@ -46,7 +49,7 @@ impl Schedule {
     /// A schedule of so many sockets, none of which waits. A packet is given up that waited so long for its
     /// neighbour; a patience of no time is one for ever. It fails if memory is refused.
     pub fn new(alloc: Global, sockets: usize, patience: Duration) -> Result<Schedule, AllocError>
-        ensures { IfOk result (λ schedule. schedule ≡ first_plan patience sockets) }
+        ensures { IfOk result (λ schedule. schedule ≡ first_plan patience sockets schedule.room) }
     {
         Ok(Schedule {
             patience,

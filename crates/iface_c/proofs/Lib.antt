@@ -1,3 +1,4 @@
 mod AsBox
+mod Codes
 mod Networks
 pub mod Values

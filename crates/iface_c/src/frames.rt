@@ -1,7 +1,11 @@
 //! Frames in, frames out, and when to come back.
-ghost use Rattle.std.specs.Prelude.{◌≡◌, ◌≢◌};
+ghost use Rattle.std.specs.Prelude.{◌≡◌, ◌≢◌, [], IfSome};
+ghost use Rattle.std.specs.Prelude.{length as len};
 ghost use Rattle.iface_c.specs.Calls.{Did};
+ghost use Rattle.iface_c.specs.Handle.{host_in};
+ghost use Rattle.iface_c.specs.Status.{IsDueOrMemory, code_by};
 ghost use Rattle.iface_host.specs.Frames.{NextIs, Receives};
+ghost use Rattle.iface_host.specs.Refusals.{frame_refusal, moment_refusal};
 ghost use Rattle.iface_c.specs.Packets.{IsDueAt, read_as};
 
 use crate::handle::Iface;
@@ -24,6 +28,7 @@ pub extern "C" fn iface_receive(
 ) -> u32
     ensures done { Did result
         (λ old new. Receives now frame.now length.new out.old out.new old new) handle.old handle.new }
+    ensures code { result ≡ code_by (λ _. frame_refusal now (len out.old)) (host_in handle.old) }
     ensures kept { result ≢ 0 → (out.new ≡ out.old) × (length.new ≡ length.old) }
 {
     let Some(mut host) = handle.take(alloc) else {
@@ -50,6 +55,8 @@ pub extern "C" fn iface_next(
     length: &mut usize,
 ) -> u32
     ensures done { Did result (λ old new. NextIs now length.new out.old out.new old new) handle.old handle.new }
+    ensures code { IsDueOrMemory (code_by (λ _. frame_refusal now (len out.old)) (host_in handle.old)) result }
+    ensures memory { result ≡ 4 → IfSome (host_in handle.old) (λ host. host.outbox.frames ≡ []) }
     ensures kept { result ≢ 0 → (out.new ≡ out.old) × (length.new ≡ length.old) }
 {
     let Some(mut host) = handle.take(alloc) else {
@@ -70,6 +77,7 @@ pub extern "C" fn iface_next(
 #[unsafe(no_mangle)]
 pub extern "C" fn iface_poll_at(handle: &mut Iface, alloc: Global, now: i64, at: &mut i64) -> u32
     ensures done { Did result (λ old new. IsDueAt now at.new old new) handle.old handle.new }
+    ensures code { result ≡ code_by (λ _. moment_refusal now) (host_in handle.old) }
     ensures kept { result ≢ 0 → at.new ≡ at.old }
 {
     let Some(mut host) = handle.take(alloc) else {

@@ -1,13 +1,16 @@
 //! Hosts: how they are made, given addresses and routes, and freed.
-ghost use Rattle.std.specs.Prelude.{◌≡◌, ◌≢◌, ◌==◌, None, IsSomeAnd, is_some};
+ghost use Rattle.std.specs.Prelude.{◌≡◌, ◌≢◌, None, IsSomeAnd};
+ghost use Rattle.std.specs.Option.{option_and_then};
 ghost use Rattle.iface_c.specs.Addresses.{address_in, cidr_in};
 ghost use Rattle.iface_c.specs.Calls.{Did, Made, Ruled};
 ghost use Rattle.iface_c.specs.Config.{settings_in, usual};
 ghost use Rattle.iface_c.specs.Handle.{host_in};
 ghost use Rattle.iface_c.specs.Hosts.{ShowsAddress};
+ghost use Rattle.iface_c.specs.Status.{IsDueOrMemory, code_by, code_for_new, code_with};
 ghost use Rattle.iface_host.specs.Calls.{AddsAddress, AddsRoute, JoinsGroup, LeavesGroup};
 ghost use Rattle.iface_host.specs.Calls.{RemovesAddress, RemovesRoute, SetsDefault};
 ghost use Rattle.iface_host.specs.Stands.{Follows};
+ghost use Rattle.iface_host.specs.TableRefusals as refusals;
 
 use crate::addresses::IfaceAddress;
 use crate::handle::Iface;
@@ -81,7 +84,9 @@ pub extern "C" fn iface_config_init(config: &mut IfaceConfig)
 /// Makes a host, which its handle owns from then on.
 #[unsafe(no_mangle)]
 pub extern "C" fn iface_new(handle: &mut Iface, alloc: Global, config: &IfaceConfig) -> u32
-    ensures { Made result config.now handle.old handle.new }
+    ensures made { Made result config.now handle.old handle.new }
+    ensures code { IsDueOrMemory
+        (code_for_new refusals.settings_refusal (settings_in config.now) (host_in handle.old)) result }
 {
     if handle.is_made() {
         return HAS_HOST;
@@ -105,7 +110,7 @@ pub extern "C" fn iface_new(handle: &mut Iface, alloc: Global, config: &IfaceCon
 #[unsafe(no_mangle)]
 pub extern "C" fn iface_free(handle: &mut Iface, alloc: Global) -> u32
     ensures freed { host_in handle.new ≡ None }
-    ensures code { (result == 0) ≡ is_some (host_in handle.old) }
+    ensures code { result ≡ code_by (λ _. None) (host_in handle.old) }
 {
     match handle.take(alloc) {
         Some(host) => {
@@ -124,8 +129,10 @@ pub extern "C" fn iface_add_address(
     address: &IfaceAddress,
     prefix_len: u8,
 ) -> u32
-    ensures { Ruled result (λ old new.
+    ensures done { Ruled result (λ old new.
         IsSomeAnd (cidr_in address.now prefix_len) (λ cidr. Follows (AddsAddress cidr) old new)) handle.old handle.new }
+    ensures code { result ≡ code_with (λ cidr host. refusals.address_refusal host cidr)
+        (cidr_in address.now prefix_len) (host_in handle.old) }
 {
     let Some(cidr) = address.cidr(prefix_len) else {
         return BAD_ARGUMENT;
@@ -149,8 +156,10 @@ pub extern "C" fn iface_remove_address(
     address: &IfaceAddress,
     prefix_len: u8,
 ) -> u32
-    ensures { Ruled result (λ old new. IsSomeAnd (cidr_in address.now prefix_len)
+    ensures done { Ruled result (λ old new. IsSomeAnd (cidr_in address.now prefix_len)
         (λ cidr. Follows (RemovesAddress cidr) old new)) handle.old handle.new }
+    ensures code { result ≡ code_with (λ cidr host. refusals.removal_refusal host cidr)
+        (cidr_in address.now prefix_len) (host_in handle.old) }
 {
     let Some(cidr) = address.cidr(prefix_len) else {
         return BAD_ARGUMENT;
@@ -173,8 +182,10 @@ pub extern "C" fn iface_set_default_route(
     alloc: Global,
     gateway: &IfaceAddress,
 ) -> u32
-    ensures { Ruled result (λ old new. IsSomeAnd (address_in gateway.now) (λ via. Follows (SetsDefault via) old new))
-        handle.old handle.new }
+    ensures done { Ruled result (λ old new. IsSomeAnd (address_in gateway.now)
+        (λ via. Follows (SetsDefault via) old new)) handle.old handle.new }
+    ensures code { result ≡ code_with (λ via host. refusals.default_route_refusal host via)
+        (address_in gateway.now) (host_in handle.old) }
 {
     let Some(gateway) = gateway.ip() else {
         return BAD_ARGUMENT;
@@ -199,8 +210,10 @@ pub extern "C" fn iface_add_route(
     prefix_len: u8,
     router: &IfaceAddress,
 ) -> u32
-    ensures { Ruled result (λ old new. IsSomeAnd (cidr_in network.now prefix_len) (λ cidr.
+    ensures done { Ruled result (λ old new. IsSomeAnd (cidr_in network.now prefix_len) (λ cidr.
         IsSomeAnd (address_in router.now) (λ via. Follows (AddsRoute cidr via) old new))) handle.old handle.new }
+    ensures code { result ≡ code_with (λ _ host. refusals.route_refusal host)
+        (option_and_then (λ _. address_in router.now) (cidr_in network.now prefix_len)) (host_in handle.old) }
 {
     let Some(cidr) = network.cidr(prefix_len) else {
         return BAD_ARGUMENT;
@@ -227,8 +240,10 @@ pub extern "C" fn iface_remove_route(
     network: &IfaceAddress,
     prefix_len: u8,
 ) -> u32
-    ensures { Ruled result (λ old new. IsSomeAnd (cidr_in network.now prefix_len)
+    ensures done { Ruled result (λ old new. IsSomeAnd (cidr_in network.now prefix_len)
         (λ cidr. Follows (RemovesRoute cidr) old new)) handle.old handle.new }
+    ensures code { result ≡ code_with (λ cidr host. refusals.route_removal_refusal host cidr)
+        (cidr_in network.now prefix_len) (host_in handle.old) }
 {
     let Some(cidr) = network.cidr(prefix_len) else {
         return BAD_ARGUMENT;
@@ -247,8 +262,10 @@ pub extern "C" fn iface_remove_route(
 /// Joins a group.
 #[unsafe(no_mangle)]
 pub extern "C" fn iface_join_group(handle: &mut Iface, alloc: Global, group: &IfaceAddress) -> u32
-    ensures { Ruled result (λ old new. IsSomeAnd (address_in group.now) (λ joined. Follows (JoinsGroup joined) old new))
-        handle.old handle.new }
+    ensures done { Ruled result (λ old new. IsSomeAnd (address_in group.now)
+        (λ joined. Follows (JoinsGroup joined) old new)) handle.old handle.new }
+    ensures code { result ≡ code_with (λ joined host. refusals.join_refusal host joined)
+        (address_in group.now) (host_in handle.old) }
 {
     let Some(group) = group.ip() else {
         return BAD_ARGUMENT;
@@ -267,8 +284,10 @@ pub extern "C" fn iface_join_group(handle: &mut Iface, alloc: Global, group: &If
 /// Leaves a group.
 #[unsafe(no_mangle)]
 pub extern "C" fn iface_leave_group(handle: &mut Iface, alloc: Global, group: &IfaceAddress) -> u32
-    ensures { Ruled result (λ old new. IsSomeAnd (address_in group.now) (λ left. Follows (LeavesGroup left) old new))
-        handle.old handle.new }
+    ensures done { Ruled result (λ old new. IsSomeAnd (address_in group.now)
+        (λ left. Follows (LeavesGroup left) old new)) handle.old handle.new }
+    ensures code { result ≡ code_with (λ left _. refusals.leave_refusal left)
+        (address_in group.now) (host_in handle.old) }
 {
     let Some(group) = group.ip() else {
         return BAD_ARGUMENT;
@@ -295,6 +314,7 @@ pub extern "C" fn iface_address_at(
 ) -> u32
     ensures shown { Did result
         (λ old new. ShowsAddress place address.new prefix_len.new old new) handle.old handle.new }
+    ensures code { result ≡ code_by (λ host. refusals.place_refusal host place) (host_in handle.old) }
     ensures kept { result ≢ 0 → (address.new ≡ address.old) × (prefix_len.new ≡ prefix_len.old) }
 {
     let Some(host) = handle.take(alloc) else {

@@ -1,8 +1,12 @@
 //! Sockets: opened and closed.
-ghost use Rattle.std.specs.Prelude.{◌≡◌, ◌≢◌, IsSomeAnd};
+ghost use Rattle.std.specs.Prelude.{◌≡◌, ◌≢◌, None, Some, IsSomeAnd};
 ghost use Rattle.iface_c.specs.Addresses.{listen_end_in, version_in};
 ghost use Rattle.iface_c.specs.Calls.{Did};
+ghost use Rattle.iface_c.specs.Handle.{host_in};
+ghost use Rattle.iface_c.specs.Status.{IsDueOrMemory, code_by, code_with};
+ghost use Rattle.iface_host.specs.Refusals.{close_refusal};
 ghost use Rattle.iface_host.specs.Sockets.{Closes, Opens, icmp, raw, udp};
+ghost use Rattle.iface_host.specs.TableRefusals.{opening_refusal, udp_opening_refusal};
 ghost use Rattle.ip_address.specs.Protocol.{protocol_of};
 ghost use Rattle.network_sockets.specs.declared.icmp.Endpoint.TheVariants as endpoint;
 
@@ -37,6 +41,8 @@ pub extern "C" fn iface_udp_open(
 ) -> u32
     ensures done { Did result (λ old new. IsSomeAnd (listen_end_in local.now) (λ end.
         Opens (udp end (record { packets = packets; octets = octets })) socket.new old new)) handle.old handle.new }
+    ensures code { IsDueOrMemory (code_with (λ end host. udp_opening_refusal host end)
+        (listen_end_in local.now) (host_in handle.old)) result }
     ensures kept { result ≢ 0 → socket.new ≡ socket.old }
 {
     let Some(local) = local.listen_end() else {
@@ -74,6 +80,8 @@ pub extern "C" fn iface_raw_open(
     ensures done { Did result (λ old new. IsSomeAnd (version_in version)
         (λ v. Opens (raw v (protocol_of protocol) (record { packets = packets; octets = octets })) socket.new old new))
         handle.old handle.new }
+    ensures code { IsDueOrMemory (code_with (λ _ host. opening_refusal host)
+        (version_in version) (host_in handle.old)) result }
     ensures kept { result ≢ 0 → socket.new ≡ socket.old }
 {
     let Some(version) = version_of(version) else {
@@ -111,6 +119,7 @@ pub extern "C" fn iface_icmp_open_ident(
     ensures done { Did result (λ old new.
         Opens (icmp (endpoint.Ident ident) (record { packets = packets; octets = octets })) socket.new old new)
         handle.old handle.new }
+    ensures code { IsDueOrMemory (code_by opening_refusal (host_in handle.old)) result }
     ensures kept { result ≢ 0 → socket.new ≡ socket.old }
 {
     let room = Room {
@@ -144,6 +153,7 @@ pub extern "C" fn iface_icmp_open_port(
     ensures done { Did result
         (λ old new. Opens (icmp (endpoint.Udp port) (record { packets = packets; octets = octets })) socket.new old new)
         handle.old handle.new }
+    ensures code { IsDueOrMemory (code_by opening_refusal (host_in handle.old)) result }
     ensures kept { result ≢ 0 → socket.new ≡ socket.old }
 {
     let room = Room {
@@ -167,7 +177,8 @@ pub extern "C" fn iface_icmp_open_port(
 /// Closes a socket.
 #[unsafe(no_mangle)]
 pub extern "C" fn iface_close(handle: &mut Iface, alloc: Global, socket: u32) -> u32
-    ensures { Did result (λ old new. Closes socket old new) handle.old handle.new }
+    ensures done { Did result (λ old new. Closes socket old new) handle.old handle.new }
+    ensures code { result ≡ code_by (λ host. close_refusal host socket) (host_in handle.old) }
 {
     let Some(mut host) = handle.take(alloc) else {
         return NO_HOST;

@@ -2,6 +2,10 @@
 ghost use Rattle.std.specs.Prelude.{◌≡◌, ◌≢◌, IsSomeAnd};
 ghost use Rattle.iface_c.specs.Addresses.{address_in, end_in};
 ghost use Rattle.iface_c.specs.Calls.{Did};
+ghost use Rattle.iface_c.specs.Handle.{host_in};
+ghost use Rattle.iface_c.specs.Status.{code_by, code_with};
+ghost use Rattle.iface_host.specs.Refusals as refusals;
+ghost use Rattle.std.specs.Prelude.{length as len};
 ghost use Rattle.iface_host.specs.Sockets.{ReceivesRaw, SendsIcmp, SendsRaw, SendsUdp};
 ghost use Rattle.iface_c.specs.Packets.{ReceivesIcmp, ReceivesUdp};
 
@@ -19,8 +23,10 @@ pub extern "C" fn iface_udp_send(
     remote: &IfaceEndpoint,
     payload: &[u8],
 ) -> u32
-    ensures { Did result (λ old new. IsSomeAnd (end_in remote.now) (λ end. SendsUdp socket end payload.now old new))
-        handle.old handle.new }
+    ensures done { Did result (λ old new. IsSomeAnd (end_in remote.now)
+        (λ end. SendsUdp socket end payload.now old new)) handle.old handle.new }
+    ensures code { result ≡ code_with (λ end host. refusals.udp_unsent host socket end (len payload.now))
+        (end_in remote.now) (host_in handle.old) }
 {
     let Some(remote) = remote.end() else {
         return BAD_ARGUMENT;
@@ -45,8 +51,10 @@ pub extern "C" fn iface_icmp_send(
     remote: &IfaceAddress,
     message: &[u8],
 ) -> u32
-    ensures { Did result (λ old new. IsSomeAnd (address_in remote.now)
+    ensures done { Did result (λ old new. IsSomeAnd (address_in remote.now)
         (λ address. SendsIcmp socket address message.now old new)) handle.old handle.new }
+    ensures code { result ≡ code_with (λ address host. refusals.icmp_unsent host socket address (len message.now))
+        (address_in remote.now) (host_in handle.old) }
 {
     let Some(remote) = remote.ip() else {
         return BAD_ARGUMENT;
@@ -70,7 +78,8 @@ pub extern "C" fn iface_raw_send(
     socket: u32,
     packet: &[u8],
 ) -> u32
-    ensures { Did result (λ old new. SendsRaw socket packet.now old new) handle.old handle.new }
+    ensures done { Did result (λ old new. SendsRaw socket packet.now old new) handle.old handle.new }
+    ensures code { result ≡ code_by (λ host. refusals.raw_unsent host socket (len packet.now)) (host_in handle.old) }
 {
     let Some(mut host) = handle.take(alloc) else {
         return NO_HOST;
@@ -95,6 +104,7 @@ pub extern "C" fn iface_udp_receive(
 ) -> u32
     ensures done { Did result
         (λ old new. ReceivesUdp socket remote.new length.new out.new old new) handle.old handle.new }
+    ensures code { result ≡ code_by (λ host. refusals.udp_unreceived host socket (len out.old)) (host_in handle.old) }
     ensures kept { result ≢ 0 → (remote.new ≡ remote.old) × (out.new ≡ out.old) × (length.new ≡ length.old) }
 {
     let Some(mut host) = handle.take(alloc) else {
@@ -124,6 +134,7 @@ pub extern "C" fn iface_icmp_receive(
 ) -> u32
     ensures done { Did result
         (λ old new. ReceivesIcmp socket remote.new length.new out.new old new) handle.old handle.new }
+    ensures code { result ≡ code_by (λ host. refusals.icmp_unreceived host socket (len out.old)) (host_in handle.old) }
     ensures kept { result ≢ 0 → (remote.new ≡ remote.old) × (out.new ≡ out.old) × (length.new ≡ length.old) }
 {
     let Some(mut host) = handle.take(alloc) else {
@@ -151,6 +162,7 @@ pub extern "C" fn iface_raw_receive(
     length: &mut usize,
 ) -> u32
     ensures done { Did result (λ old new. ReceivesRaw socket length.new out.new old new) handle.old handle.new }
+    ensures code { result ≡ code_by (λ host. refusals.raw_unreceived host socket (len out.old)) (host_in handle.old) }
     ensures kept { result ≢ 0 → (out.new ≡ out.old) × (length.new ≡ length.old) }
 {
     let Some(mut host) = handle.take(alloc) else {

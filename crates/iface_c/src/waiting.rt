@@ -1,6 +1,9 @@
 //! Packets that wait for a neighbour, and those that were given up.
-ghost use Rattle.std.specs.Prelude.{◌≡◌, ◌≢◌};
+ghost use Rattle.std.specs.Prelude.{◌≡◌, ◌≢◌, None};
 ghost use Rattle.iface_c.specs.Calls.{Did};
+ghost use Rattle.iface_c.specs.Handle.{host_in};
+ghost use Rattle.iface_c.specs.Status.{code_by};
+ghost use Rattle.iface_host.specs.Waits.{given_up_refusal, waiting_refusal};
 ghost use Rattle.iface_c.specs.Waits.{ShowsCount, ShowsGivenUp, ShowsWaiting};
 
 use crate::addresses::IfaceAddress;
@@ -18,6 +21,7 @@ pub extern "C" fn iface_waiting(
     since: &mut i64,
 ) -> u32
     ensures done { Did result (λ old new. ShowsWaiting socket remote.new since.new old new) handle.old handle.new }
+    ensures code { result ≡ code_by (λ host. waiting_refusal host socket) (host_in handle.old) }
     ensures kept { result ≢ 0 → (remote.new ≡ remote.old) × (since.new ≡ since.old) }
 {
     let Some(host) = handle.take(alloc) else {
@@ -44,6 +48,7 @@ pub extern "C" fn iface_given_up(
     remote: &mut IfaceAddress,
 ) -> u32
     ensures done { Did result (λ old new. ShowsGivenUp socket remote.new old new) handle.old handle.new }
+    ensures code { result ≡ code_by (λ host. given_up_refusal host socket) (host_in handle.old) }
     ensures kept { result ≢ 0 → remote.new ≡ remote.old }
 {
     let Some(mut host) = handle.take(alloc) else {
@@ -64,6 +69,7 @@ pub extern "C" fn iface_given_up(
 #[unsafe(no_mangle)]
 pub extern "C" fn iface_given_up_count(handle: &mut Iface, alloc: Global, count: &mut u64) -> u32
     ensures done { Did result (λ old new. ShowsCount count.new old new) handle.old handle.new }
+    ensures code { result ≡ code_by (λ _. None) (host_in handle.old) }
     ensures kept { result ≢ 0 → count.new ≡ count.old }
 {
     let Some(host) = handle.take(alloc) else {

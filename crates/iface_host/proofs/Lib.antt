@@ -1,3 +1,4 @@
 mod FrameCalls
 pub mod Places
+mod RefusalCalls
 mod RuleCalls

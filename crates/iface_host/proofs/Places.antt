@@ -1,8 +1,10 @@
 -- Places of a host's sockets: one that gets what it has stays as it was, and one with a socket is there.
-use Rattle.std.specs.Prelude.{ℕ, ◌≡◌, ◌<◌, zero, suc, true, false, cond, is_some, List, [], ◌∷◌}
-use Rattle.std.specs.Prelude.{◌++◌, length, slice_get, slice_set, Option, Some, IsSome, refl}
-use Rattle.std.specs.Option.{option_and_then}
+use Rattle.std.specs.Prelude.{ℕ, ◌≡◌, ◌<◌, ◌≤◌, zero, suc, Bool, true, false, cond, is_some, List, [], ◌∷◌}
+use Rattle.std.specs.Prelude.{◌++◌, length, slice_get, slice_set, Option, Some, None, IsSome, refl}
+use Rattle.std.specs.Option.{option_and_then, option_copied}
+use Rattle.std.specs.Borrow.{Bor}
 use Rattle.std.proofs.Common.{sym, ap, ◌∙◌, arith}
+use Rattle.std.proofs.lemmas.Bool.{lt-ltb, ltb-true}
 use mathlib.Core.Bool.{true≢false}
 use Rattle.ip_address.specs.declared.ip.IpAddress.{IpAddress}
 use Rattle.socket_base.specs.declared.endpoint.IpEndpoint.{IpEndpoint}
@@ -11,7 +13,8 @@ use Rattle.network_sockets.specs.Icmp as icmps
 use Rattle.network_sockets.specs.Raw as raws
 use Rattle.transport_sockets.specs.Udp as udps
 use Rattle.sockets.specs.declared.socket.SocketOf.TheVariants.{Raw, Icmp, Udp}
-use Rattle.socket_set.specs.SocketSet.{Sockets, socket_at}
+use Rattle.sockets.specs.declared.socket.SocketOf.{SocketOf}
+use Rattle.socket_set.specs.SocketSet.{Sockets, first_free, has_free, socket_at}
 use Rattle.iface_host.specs.Sockets.{Socket, with_socket}
 use Rattle.iface_host.specs.declared.host.Host.{Host}
 
@@ -52,3 +55,41 @@ below (p ∷ ps) (suc i) e = let less : i < length ps = below ps i e in omega ar
 -- where a socket stands, there is a place
 pub there_below : {L : Type 0} (s : Sockets L) (i : ℕ) → IsSome (socket_at s i) → i < length s.places
 there_below s i e = below s.places i e
+
+-- where a place is free, there is a first free one
+pub some_free : {L : Type 0} (ps : List (Option (SocketOf L))) (i : ℕ) → i < length ps →
+    is_some (option_and_then (λ (p : Option (SocketOf L)). p) (slice_get ps i)) ≡ false → first_free ps < length ps
+some_free [] i lt e = absurd (omega arith)
+some_free (None ∷ ps) i lt e = omega arith
+some_free (Some s ∷ ps) zero lt e = absurd (true≢false e)
+some_free (Some s ∷ ps) (suc i) lt e =
+    let less : first_free ps < length ps = some_free ps i (omega arith) e in
+    omega arith
+
+-- where none is, there is none
+pub none_free : {L : Type 0} (ps : List (Option (SocketOf L))) →
+    ((k : ℕ) → k < length ps → IsSome (option_and_then (λ (p : Option (SocketOf L)). p) (slice_get ps k))) → length ps ≤ first_free ps
+none_free [] all = omega arith
+none_free (None ∷ ps) all = absurd (true≢false (sym (all 0 (omega arith))))
+none_free (Some s ∷ ps) all =
+    let more : length ps ≤ first_free ps = none_free ps (λ k lt. all (suc k) (omega arith)) in
+    omega arith
+
+pub has_one : {L : Type 0} (s : Sockets L) (i n : ℕ) (found : Option (SocketOf L)) → n ≡ length s.places → i < n →
+    found ≡ socket_at s i → is_some found ≡ false → true ≡ has_free s
+has_one s i n found same lt is e =
+    sym (lt-ltb (first_free s.places) (length s.places) (some_free s.places i (omega arith) (rw is at e)))
+
+pub has_none : {L : Type 0} (s : Sockets L) (i n : ℕ) → n ≡ length s.places → n ≤ i →
+    ((k : ℕ) → k < i → IsSome (socket_at s k)) → false ≡ has_free s
+has_none s i n same le all = by (has_free s) refl where
+  by : (b : Bool) → has_free s ≡ b → false ≡ b
+  by true e =
+      let less : length s.places ≤ first_free s.places = none_free s.places (λ k lt. all k (omega arith)) in
+      absurd (omega (arith, ltb-true (first_free s.places) (length s.places) e))
+  by false e = refl
+
+-- what is copied from behind a reference is there if that is
+pub copied_none : {T : Type 0} (o : Option (Bor T)) → is_some o ≡ false → is_some (option_copied o) ≡ false
+copied_none None e = refl
+copied_none (Some b) e = absurd (true≢false e)

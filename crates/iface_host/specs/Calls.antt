@@ -5,6 +5,7 @@ use Rattle.ip_address.specs.declared.cidr.IpCidr.{IpCidr}
 use Rattle.ip_address.specs.declared.cidr.IpCidr.TheVariants as cidr
 use Rattle.ip_address.specs.declared.ip.IpAddress.{IpAddress}
 use Rattle.ip_address.specs.declared.ip.IpAddress.TheVariants as address
+use Rattle.group_table.specs.declared.groups.Group.{Group}
 use Rattle.iface_tables.specs.declared.route.Route.{Route}
 use Rattle.iface_tables.specs.Route.{ipv4_gateway, ipv6_gateway, is_ipv4_gateway, is_ipv6_gateway, with_default}
 use Rattle.host_machine.specs.State.Host.{Host as Machine, no_sockets}
@@ -23,6 +24,13 @@ is_same (cidr.Ipv6 a) (cidr.Ipv6 b) = (a.address.bits == b.address.bits) && (a.p
 -- its own addresses, with their networks
 abbrev pub addresses_of : Host → List IpCidr
 addresses_of host = (host_with host.interface no_sockets).ip_addrs
+
+-- its groups and its routes
+abbrev pub groups_of : Host → List Group
+groups_of host = (host_with host.interface no_sockets).groups
+
+abbrev pub routes_of : Host → List Route
+routes_of host = (host_with host.interface no_sockets).routes
 
 -- an address comes behind the others
 abbrev pub AddsAddress : IpCidr → Machine → Machine → Type 0

@@ -5,5 +5,6 @@ pub mod Stands
 pub mod Calls
 pub mod Sockets
 pub mod Refusals
+pub mod TableRefusals
 pub mod Frames
 pub mod Waits

@@ -1,5 +1,5 @@
 -- Why calls are refused: the first of the reasons that holds, in their order.
-use Rattle.std.specs.Prelude.{ℕ, ℤ, pos, ◌≡◌, ◌+◌, ◌==◌, ◌&&◌, nat_le, nat_lt, max, Bool}
+use Rattle.std.specs.Prelude.{ℕ, ℤ, pos, ◌+◌, ◌==◌, ◌&&◌, nat_le, nat_lt, max, Bool}
 use Rattle.std.specs.Prelude.{is_some, List, length, Option, Some, None, if◌then◌else◌}
 use Rattle.std.specs.Option.{option_and_then}
 use Rattle.std.specs.Ordering.{int_cmp, is_le}
@@ -19,8 +19,8 @@ use Rattle.iface_host.specs.Names.{handle_named}
 use Rattle.iface_host.specs.Sockets.{Socket}
 use Rattle.iface_host.specs.declared.host.Host.{Host}
 use Rattle.iface_host.specs.declared.refusal.Refusal.{Refusal}
-use Rattle.iface_host.specs.declared.refusal.Refusal.TheVariants.{BadAddress, BadMoment, BadPort, Empty, NoMemory}
-use Rattle.iface_host.specs.declared.refusal.Refusal.TheVariants.{NoRoom, NoSocket, QueueFull, TableFull, TooLong}
+use Rattle.iface_host.specs.declared.refusal.Refusal.TheVariants.{BadAddress, BadMoment, BadPort, Empty}
+use Rattle.iface_host.specs.declared.refusal.Refusal.TheVariants.{NoRoom, NoSocket, QueueFull, TooLong}
 
 -- the socket of a kind that a number names, if it names one
 abbrev pub kind_at : {S : Type 0} → (Socket → Option S) → Host → ℕ → Option S
@@ -79,11 +79,6 @@ udp_unsent host n remote len =
 abbrev pub close_refusal : Host → ℕ → Option Refusal
 close_refusal host n =
     if is_some (option_and_then (socket_at host.sockets) (handle_named host.names n)) then None else Some NoSocket
-
--- a socket found no memory for its queues, or no number
-pub data IsForRoom (refusal : Refusal) : Type 0 where
-  ForMemory : refusal ≡ NoMemory → IsForRoom refusal
-  ForNumbers : refusal ≡ TableFull → IsForRoom refusal
 
 -- a moment that a caller may give: from 0 to 2 ^ 62 microseconds
 abbrev pub is_moment : ℤ → Bool

@@ -6,7 +6,7 @@ use Rattle.net_base.specs.Checksum.{ip_mtu_of}
 use Rattle.socket_set.specs.SocketSet.{Storage, over}
 use Rattle.iface_host.specs.Outbox.{empty}
 use Rattle.host_machine.specs.State.Config.{first_host}
-use Rattle.host_machine.specs.State.Host.{Host as Machine}
+use Rattle.host_machine.specs.State.Host.{Host as Machine, SocketSet}
 use Rattle.ip_address.specs.Hardware.{medium_of}
 use Rattle.net_base.specs.declared.phy.Checksum.TheVariants.{Both}
 use Rattle.net_base.specs.declared.phy.DeviceCapabilities.{DeviceCapabilities}
@@ -32,20 +32,24 @@ capabilities_of s = record {
 abbrev pub free_storage : Storage (Bor (Unit {0}))
 free_storage = record { socket = None; wait = None }
 
--- it was just made: it stands for the machine's first host at moment 0, whose fragments wait as long as they are to;
--- its places are free, its numbers name none, no frame waits, and no socket does
+-- the machine's first host at moment 0, whose fragments wait as long as they are to
+abbrev pub first_machine : Settings → SocketSet → Machine
+first_machine s sockets =
+    record (first_host (capabilities_of s) s.hardware_addr s.random_seed s.slaac (pos 0) sockets) {
+      reassembly_timeout = s.reassembly_timeout;
+    }
+
+-- it was just made: it stands for the machine's first host; its places are free, its numbers name none, no frame waits,
+-- and no socket does
 pub record IsFirst (s : Settings) (host : Host) : Type 0 where
-  pub stands : StandsFor host
-      (record (first_host (capabilities_of s) s.hardware_addr s.random_seed s.slaac (pos 0) host.sockets) {
-        reassembly_timeout = s.reassembly_timeout;
-      })
+  pub stands : StandsFor host (first_machine s host.sockets)
   pub some_time : 0 < s.reassembly_timeout
   pub within_day : s.reassembly_timeout ≤ 86_400_000_000
   pub ip_mtu : host.ip_mtu ≡ ip_mtu_of (capabilities_of s)
   pub sockets : host.sockets ≡ over (replicate s.sockets free_storage) false host.sockets.room
   pub names : host.names ≡ replicate s.sockets None
   pub outbox : host.outbox ≡ empty (capabilities_of s)
-  pub schedule : host.schedule ≡ first_plan s.patience s.sockets
+  pub schedule : host.schedule ≡ first_plan s.patience s.sockets host.schedule.room
 
 -- nothing but the interface changed, and by a rule: from each host that it stood for, the rule leads to
 -- one that it stands for

@@ -1,10 +1,13 @@
 //! The addresses of a host, and the groups that it joins.
-ghost use Rattle.std.specs.Prelude.{◌≡◌, IfSome, OnOk, OnErr, slice_get};
+ghost use Rattle.std.specs.Prelude.{◌≡◌, ◌<◌, IfSome, IfNone, OnOk, OnErr, length, slice_get};
+ghost use Rattle.std.specs.Result.{result_err};
 ghost use Rattle.host_machine.specs.Polling.Step.{UpdatesIpAddrs};
 ghost use Rattle.interface.specs.Stands as stands;
-ghost use Rattle.std.specs.List.{position_or_len};
+ghost use Rattle.std.specs.List.{position_or_len, remove};
+ghost use Rattle.host_machine.specs.State.Host.{SocketSet};
 ghost use Rattle.iface_host.specs.Calls.{is_same, AddsAddress, JoinsGroup, LeavesGroup, RemovesAddress, addresses_of};
 ghost use Rattle.iface_host.specs.Stands.{Follows, Stays};
+ghost use Rattle.iface_host.specs.TableRefusals.{address_refusal, join_refusal, leave_refusal, removal_refusal};
 
 use crate::host::Host;
 use crate::refusal::Refusal;
@@ -15,9 +18,10 @@ use ip_wire::{IpAddress, IpCidr};
 
 impl Host {
     /// Adds an own address with its network, behind the others, and forgets all neighbours. `TableFull` if
-    /// four are there, else `NotUnicast` if it is neither unicast nor unspecified.
+    /// four are there, else `NotUnicast` if one of them all is neither unicast nor unspecified.
     pub fn add_address(&mut self, cidr: IpCidr) -> Result<(), Refusal>
         ensures added { OnOk result (Follows (AddsAddress cidr) self.old self.new) }
+        ensures why { result_err result ≡ address_refusal self.old cidr }
         ensures refused { OnErr result (Stays self.old self.new) }
     {
         let Some(mut list) = copied(self.interface.ip_addrs()) else {
@@ -26,6 +30,7 @@ impl Host {
         if list.try_push(cidr).is_err() {
             return Err(Refusal::TableFull);
         }
+        self.interface.stands_for_a_host();
         match put_addresses(&mut self.interface, list) {
             Ok(()) => Ok(()),
             Err(_) => Err(Refusal::NotUnicast),
@@ -33,20 +38,19 @@ impl Host {
     }
 
     /// Takes out the first own address with this network, and forgets all neighbours. `NotThere` if there is
-    /// none.
+    /// none, else `NotUnicast` if one of those that are left is neither unicast nor unspecified.
     pub fn remove_address(&mut self, cidr: IpCidr) -> Result<(), Refusal>
         ensures removed { OnOk result (Follows (RemovesAddress cidr) self.old self.new) }
+        ensures why { result_err result ≡ removal_refusal self.old cidr }
         ensures refused { OnErr result (Stays self.old self.new) }
     {
-        let Some(mut list) = copied(self.interface.ip_addrs()) else {
-            return Err(Refusal::NotThere);
-        };
-        let index = index_of(list.as_slice(), &cidr);
-        if index >= list.len() {
+        let own = self.interface.ip_addrs();
+        let index = index_of(own, &cidr);
+        if index >= own.len() {
             return Err(Refusal::NotThere);
         }
-        let _ = list.remove(index);
-        match put_addresses(&mut self.interface, list) {
+        self.interface.stands_for_a_host();
+        match take_address(&mut self.interface, index) {
             Ok(()) => Ok(()),
             Err(_) => Err(Refusal::NotUnicast),
         }
@@ -64,8 +68,10 @@ impl Host {
     /// it and eight other groups are there.
     pub fn join_group(&mut self, group: IpAddress) -> Result<(), Refusal>
         ensures joined { OnOk result (Follows (JoinsGroup group) self.old self.new) }
+        ensures why { result_err result ≡ join_refusal self.old group }
         ensures refused { OnErr result (Stays self.old self.new) }
     {
+        self.interface.stands_for_a_host();
         match self.interface.join_multicast_group(group) {
             Ok(()) => Ok(()),
             Err(MulticastError::Unaddressable) => Err(Refusal::BadAddress),
@@ -76,8 +82,10 @@ impl Host {
     /// Leaves a group, if the host is in it. `BadAddress` if it is no group's address.
     pub fn leave_group(&mut self, group: IpAddress) -> Result<(), Refusal>
         ensures left { OnOk result (Follows (LeavesGroup group) self.old self.new) }
+        ensures why { result_err result ≡ leave_refusal group }
         ensures refused { OnErr result (Stays self.old self.new) }
     {
+        self.interface.stands_for_a_host();
         match self.interface.leave_multicast_group(group) {
             Ok(()) => Ok(()),
             Err(_) => Err(Refusal::BadAddress),
@@ -119,7 +127,8 @@ fn index_of(list: &[IpCidr], cidr: &IpCidr) -> usize
 
 /// The same list, if it has at most four.
 fn copied(list: &[IpCidr]) -> Option<ArrayVec<IpCidr, 4>>
-    ensures { IfSome result (λ copy. copy.items ≡ list.now) }
+    ensures copy { IfSome result (λ copy. copy.items ≡ list.now) }
+    ensures long { IfNone result (4 < length list.now) }
 {
     let mut copy = ArrayVec::new();
     if copy.try_extend_from_slice(list).is_err() {
@@ -133,4 +142,16 @@ fn put_addresses(interface: &mut Interface, list: ArrayVec<IpCidr, 4>) -> Result
     ensures { stands.HostRefines interface.old interface.new (UpdatesIpAddrs list.items result) }
 {
     interface.update_ip_addrs(move |_| list)
+}
+
+/// Takes the address at a place out of an interface's list.
+fn take_address(interface: &mut Interface, index: usize) -> Result<(), AddrError>
+    requires { (sockets : SocketSet) → index < length (stands.host_with interface.old sockets).ip_addrs }
+    ensures { (sockets : SocketSet) → stands.HostRefines interface.old interface.new
+        (UpdatesIpAddrs (remove (stands.host_with interface.old sockets).ip_addrs index) result) }
+{
+    interface.update_ip_addrs(move |mut list| {
+        let _ = list.remove(index);
+        list
+    })
 }

@@ -1,7 +1,12 @@
 //! The host, and how it is made.
-ghost use Rattle.std.specs.Prelude.{◌≡◌, ◌<◌, ◌≤◌, IfOk, OnOk, replicate};
+ghost use Rattle.std.specs.Prelude.{◌≡◌, ◌<◌, ◌≤◌, IfOk, IfErr, OnOk, None, Some, replicate};
+ghost use Rattle.std.specs.Result.{IsErrOf, result_err};
+ghost use Rattle.host_machine.specs.State.Host.{SocketSet};
+ghost use Rattle.interface.specs.Stands as interfaces;
 ghost use Rattle.interface.specs.Stands.{Becomes};
-ghost use Rattle.iface_host.specs.Stands.{IsFirst, capabilities_of, free_storage};
+ghost use Rattle.iface_host.specs.Outbox.{empty};
+ghost use Rattle.iface_host.specs.Stands.{IsFirst, capabilities_of, first_machine, free_storage};
+ghost use Rattle.iface_host.specs.TableRefusals.{settings_refusal, timeout_refusal};
 
 use crate::names::Names;
 use crate::outbox::Outbox;
@@ -50,25 +55,18 @@ pub struct Host {
 }
 
 impl Host {
-    /// A host with no address, no route and no socket, at moment 0. `NotUnicast` and `BadMtu` come as
-    /// [`NewError`] says, `BadTimeout` if fragments are to wait no time, or longer than a day, `NoMemory` if the memory
-    /// for the places of its sockets is refused.
+    /// A host with no address, no route and no socket, at moment 0. The first error that applies is returned:
+    /// `NotUnicast` if its address on Ethernet isn't unicast; `BadMtu` if its longest packet has less than 576 octets,
+    /// or its longest frame more than 1,514; `BadTimeout` if fragments are to wait no time, or longer than a day;
+    /// `NoMemory` if the memory for the places of its sockets is refused.
     pub fn new(alloc: Global, settings: &Settings) -> Result<Host, Refusal>
-        ensures { IfOk result (λ host. IsFirst settings.now host) }
+        ensures made { IfOk result (λ host. IsFirst settings.now host) }
+        ensures why { (e : Refusal) → settings_refusal settings.now ≡ Some e → IsErrOf result e }
+        ensures memory { settings_refusal settings.now ≡ None → IfErr result (λ e. e ≡ Refusal.NoMemory) }
     {
         let capabilities = capabilities(settings);
         let mut outbox = Outbox::new(alloc, capabilities);
-        let config = Config {
-            random_seed: settings.random_seed,
-            hardware_addr: settings.hardware_addr,
-            slaac: settings.slaac,
-        };
-        let mut interface = match Interface::new(config, &mut outbox, Instant::ZERO) {
-            Ok(interface) => interface,
-            Err(NewError::NotUnicast) => return Err(Refusal::NotUnicast),
-            Err(_) => return Err(Refusal::BadMtu),
-        };
-        let_fragments_wait(&mut interface, settings.reassembly_timeout)?;
+        let interface = first_interface(settings, &mut outbox)?;
         let places = free_storages(alloc, settings.sockets)?;
         let names = Names::new(alloc, settings.sockets)?;
         let schedule = Schedule::new(alloc, settings.sockets, settings.patience)?;
@@ -82,6 +80,30 @@ impl Host {
             schedule,
         })
     }
+}
+
+/// The interface of a host that is made, over the frames that wait.
+fn first_interface(settings: &Settings, outbox: &mut Outbox) -> Result<Interface, Refusal>
+    requires { outbox.old ≡ empty (capabilities_of settings.now) }
+    ensures stands { IfOk result (λ interface. (sockets : SocketSet) →
+        interfaces.StandsFor interface sockets (first_machine settings.now sockets)) }
+    ensures within { OnOk result
+        ((0 < settings.now.reassembly_timeout) × (settings.now.reassembly_timeout ≤ 86_400_000_000)) }
+    ensures why { result_err result ≡ settings_refusal settings.now }
+    ensures outbox { outbox.new ≡ outbox.old }
+{
+    let config = Config {
+        random_seed: settings.random_seed,
+        hardware_addr: settings.hardware_addr,
+        slaac: settings.slaac,
+    };
+    let mut interface = match Interface::new(config, outbox, Instant::ZERO) {
+        Ok(interface) => interface,
+        Err(NewError::NotUnicast) => return Err(Refusal::NotUnicast),
+        Err(_) => return Err(Refusal::BadMtu),
+    };
+    let_fragments_wait(&mut interface, settings.reassembly_timeout)?;
+    Ok(interface)
 }
 
 /// What the link of a host can do.
@@ -103,8 +125,10 @@ fn capabilities(settings: &Settings) -> DeviceCapabilities
 /// Lets fragments of a packet wait so long for the others. `BadTimeout` if that is no time, or longer than a day.
 fn let_fragments_wait(interface: &mut Interface, timeout: Duration) -> Result<(), Refusal>
     ensures within { OnOk result ((0 < timeout) × (timeout ≤ 86_400_000_000)) }
+    ensures why { result_err result ≡ timeout_refusal timeout }
     ensures waits { OnOk result (Becomes interface.old interface.new (λ H. record H { reassembly_timeout = timeout })) }
 {
+    interface.stands_for_a_host();
     let micros = timeout.total_micros();
     if micros == 0 || micros > 86_400_000_000 {
         return Err(Refusal::BadTimeout);

@@ -1,12 +1,16 @@
 //! Sockets: how they are opened and closed.
-ghost use Rattle.std.specs.Prelude.{◌≡◌, ◌≢◌, IfOk, IfErr, OnOk, OnErr};
+ghost use Rattle.std.specs.Prelude.{◌≡◌, ◌<◌, true, IfOk, IfErr, IsOk, OnOk, OnErr, None, Some, length};
 ghost use Rattle.std.specs.Result.{IsErrOf, result_err};
-ghost use Rattle.iface_host.specs.Refusals.{IsForRoom, close_refusal};
+ghost use Rattle.iface_host.specs.Names.{first_unused};
+ghost use Rattle.iface_host.specs.Refusals.{close_refusal};
 ghost use Rattle.iface_host.specs.Sockets.{Closes, Opens, icmp, queue_of, raw, udp};
+ghost use Rattle.iface_host.specs.TableRefusals.{opening_refusal, udp_opening_refusal};
+ghost use Rattle.socket_set.specs.SocketSet.{has_free};
 
 use crate::host::Host;
 use crate::refusal::Refusal;
 use ip_wire::{IpProtocol, IpVersion};
+use socket_set::{SocketSet, by_index};
 use sockets::{AnySocketOf, IpListenEndpoint, Queue, icmp, raw, udp};
 use std::alloc::Global;
 
@@ -20,21 +24,22 @@ pub struct Room {
 }
 
 impl Host {
-    /// Opens a UDP socket that listens at an end, and names it. `BadPort` if its port is 0, else `TableFull`
-    /// or `NoMemory`, if all numbers are taken or memory for its queues is refused.
+    /// Opens a UDP socket that listens at an end, and names it. `BadPort` if its port is 0, else `TableFull` if no
+    /// number is left, else `NoMemory` if memory for its queues is refused.
     pub fn open_udp(&mut self, local: IpListenEndpoint, room: Room) -> Result<u32, Refusal>
         ensures opened { IfOk result (λ n. Opens (udp local room) n self.old self.new) }
-        ensures port { local.port ≡ 0 → IsErrOf result Refusal.BadPort }
-        ensures others { local.port ≢ 0 → IfErr result IsForRoom }
+        ensures why { (e : Refusal) → udp_opening_refusal self.old local ≡ Some e → IsErrOf result e }
+        ensures memory { udp_opening_refusal self.old local ≡ None → IfErr result (λ e. e ≡ Refusal.NoMemory) }
         ensures refused { OnErr result (self.new ≡ self.old) }
     {
         if local.port == 0 {
             return Err(Refusal::BadPort);
         }
+        let number = self.unused_number()?;
         let rx = queue(self.alloc, room)?;
         let tx = queue(self.alloc, room)?;
         let socket: udp::Socket<'static> = udp::SocketOf::new(local, rx, tx);
-        self.add(socket)
+        self.add(number, socket)
     }
 
     /// Opens a raw socket for the packets of a version of IP and a protocol, and names it. It fails as
@@ -46,25 +51,29 @@ impl Host {
         room: Room,
     ) -> Result<u32, Refusal>
         ensures opened { IfOk result (λ n. Opens (raw version protocol room) n self.old self.new) }
-        ensures why { IfErr result IsForRoom }
+        ensures why { (e : Refusal) → opening_refusal self.old ≡ Some e → IsErrOf result e }
+        ensures memory { opening_refusal self.old ≡ None → IfErr result (λ e. e ≡ Refusal.NoMemory) }
         ensures refused { OnErr result (self.new ≡ self.old) }
     {
+        let number = self.unused_number()?;
         let rx = queue(self.alloc, room)?;
         let tx = queue(self.alloc, room)?;
         let socket: raw::Socket<'static> = raw::SocketOf::new(version, protocol, rx, tx);
-        self.add(socket)
+        self.add(number, socket)
     }
 
     /// Opens an ICMP socket for an endpoint, and names it. It fails as [`Host::open_udp`] for room.
     pub fn open_icmp(&mut self, endpoint: icmp::Endpoint, room: Room) -> Result<u32, Refusal>
         ensures opened { IfOk result (λ n. Opens (icmp endpoint room) n self.old self.new) }
-        ensures why { IfErr result IsForRoom }
+        ensures why { (e : Refusal) → opening_refusal self.old ≡ Some e → IsErrOf result e }
+        ensures memory { opening_refusal self.old ≡ None → IfErr result (λ e. e ≡ Refusal.NoMemory) }
         ensures refused { OnErr result (self.new ≡ self.old) }
     {
+        let number = self.unused_number()?;
         let rx = queue(self.alloc, room)?;
         let tx = queue(self.alloc, room)?;
         let socket: icmp::Socket<'static> = icmp::SocketOf::new(endpoint, rx, tx);
-        self.add(socket)
+        self.add(number, socket)
     }
 
     /// Closes a socket, of whatever kind: what it holds is dropped, and its number names none from then on.
@@ -86,11 +95,12 @@ impl Host {
         Ok(())
     }
 
-    /// Adds a socket, named by the least number that names none.
-    fn add<T: AnySocketOf<&'static ()>>(&mut self, socket: T) -> Result<u32, Refusal>
-        ensures opened { IfOk result (λ n. Opens (T.up socket) n self.old self.new) }
-        ensures full { IfErr result (λ e. e ≡ Refusal.TableFull) }
-        ensures refused { OnErr result (self.new ≡ self.old) }
+    /// The least number that names none. `TableFull` if no number is left, or no place for a socket.
+    fn unused_number(&self) -> Result<u32, Refusal>
+        ensures why { result_err result ≡ opening_refusal self.now }
+        ensures unused { IfOk result (λ n. first_unused self.now.names ≡ Some n) }
+        ensures within { IfOk result (λ n. n < length self.now.names) }
+        ensures place { OnOk result (has_free self.now.sockets ≡ true) }
     {
         let Some(number) = self.names.unused() else {
             return Err(Refusal::TableFull);
@@ -98,15 +108,41 @@ impl Host {
         if number > u32::MAX as usize {
             return Err(Refusal::TableFull);
         }
+        if !has_free_place(&self.sockets) {
+            return Err(Refusal::TableFull);
+        }
+        Ok(number as u32)
+    }
+
+    /// Adds a socket, named by the least number that names none.
+    fn add<T: AnySocketOf<&'static ()>>(&mut self, number: u32, socket: T) -> Result<u32, Refusal>
+        requires unused { first_unused self.old.names ≡ Some number }
+        requires within { number < length self.old.names }
+        requires place { has_free self.old.sockets ≡ true }
+        ensures done { IsOk result }
+        ensures opened { IfOk result (λ n. Opens (T.up socket) n self.old self.new) }
+    {
         match self.sockets.add(socket) {
             Ok(handle) => {
                 self.schedule.forget(handle);
-                self.names.set(number, Some(handle));
-                Ok(number as u32)
+                self.names.set(number as usize, Some(handle));
+                Ok(number)
             }
             Err(_) => Err(Refusal::TableFull),
         }
     }
+}
+
+/// Whether a place of a set has no socket.
+fn has_free_place(sockets: &SocketSet<'static>) -> bool
+    ensures { result ≡ has_free sockets.now }
+{
+    for index in 0..by_index::places(sockets) {
+        if by_index::socket(sockets, index).is_none() {
+            return true;
+        }
+    }
+    false
 }
 
 /// An empty queue.

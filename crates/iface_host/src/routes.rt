@@ -1,5 +1,6 @@
 //! The routes of a host.
 ghost use Rattle.std.specs.Prelude.{◌≡◌, ◌≤◌, OnOk, OnErr, length};
+ghost use Rattle.std.specs.Result.{result_err};
 ghost use Rattle.host_machine.specs.State.Host.{SocketSet};
 ghost use Rattle.iface_tables.specs.Route.{ipv4_gateway, ipv6_gateway, is_ipv4_gateway};
 ghost use Rattle.iface_tables.specs.Route.{is_ipv6_gateway, old_or_full, with_default};
@@ -7,6 +8,7 @@ ghost use Rattle.interface.specs.Stands.{Becomes, host_with};
 ghost use Rattle.std.specs.List.{position_or_len};
 ghost use Rattle.iface_host.specs.Calls.{is_to, AddsRoute, RemovesRoute, SetsDefault};
 ghost use Rattle.iface_host.specs.Stands.{Follows, Stays};
+ghost use Rattle.iface_host.specs.TableRefusals.{default_route_refusal, route_refusal, route_removal_refusal};
 
 use crate::addresses::is_same_cidr;
 use crate::host::Host;
@@ -21,6 +23,7 @@ impl Host {
     /// `TableFull` if four routes are there and none is such.
     pub fn set_default_route(&mut self, gateway: IpAddress) -> Result<(), Refusal>
         ensures set { OnOk result (Follows (SetsDefault gateway) self.old self.new) }
+        ensures why { result_err result ≡ default_route_refusal self.old gateway }
         ensures refused { OnErr result (Stays self.old self.new) }
     {
         match gateway {
@@ -38,6 +41,7 @@ impl Host {
     /// Puts a route to a network by a router behind all others, for good. `TableFull` if four are there.
     pub fn add_route(&mut self, cidr: IpCidr, via_router: IpAddress) -> Result<(), Refusal>
         ensures added { OnOk result (Follows (AddsRoute cidr via_router) self.old self.new) }
+        ensures why { result_err result ≡ route_refusal self.old }
         ensures refused { OnErr result (Stays self.old self.new) }
     {
         let mut list = copied(self.interface.routes().as_slice());
@@ -57,6 +61,7 @@ impl Host {
     /// Takes out the first route to a network. `NotThere` if there is none.
     pub fn remove_route(&mut self, cidr: IpCidr) -> Result<(), Refusal>
         ensures removed { OnOk result (Follows (RemovesRoute cidr) self.old self.new) }
+        ensures why { result_err result ≡ route_removal_refusal self.old cidr }
         ensures refused { OnErr result (Stays self.old self.new) }
     {
         let mut list = copied(self.interface.routes().as_slice());

@@ -1,5 +1,7 @@
-use Rattle.std.proofs.Common.{◌≡◌, List, [], ◌∷◌, ◌++◌, ap, rules, ◌∙◌}
+use Rattle.std.proofs.Common.{◌≡◌, ◌<◌, ◌≤◌, List, [], ◌∷◌, ◌++◌, length, ap, rules, ◌∙◌, arith}
 use Rattle.ip_address.specs.declared.cidr.IpCidr.{IpCidr}
+use Rattle.host_machine.specs.State.Host.{no_sockets}
+use Rattle.iface_host.proofs.RefusalCalls.{address_full, address_told, list_why}
 use Rattle.iface_host.proofs.RuleCalls.{addresses_refused, stayed, updated}
 use Rattle.iface_host.proofs.host.Host.add_address.Goals as goal
 
@@ -13,3 +15,27 @@ returns-in-Ok-clause-added c =
 pub returns-in-Err-clause-refused : goal.returns-in-Err-clause-refused
 returns-in-Err-clause-refused c =
     stayed c.args.self.now _ _ (addresses_refused c.try_push.new.self.items _) (rw c.in-Err.is at c.put_addresses.ensures)
+
+pub returns-in_default-clause-why : goal.returns-in_default-clause-why
+returns-in_default-clause-why c =
+    let long : 4 < length c.ip_addrs.result.now = search rules in
+    address_full c.args.self.now c.ip_addrs.result.now c.args.cidr (c.ip_addrs.ensures no_sockets) (omega (arith, long))
+
+pub returns-then-is_err-clause-why : goal.returns-then-is_err-clause-why
+returns-then-is_err-clause-why c =
+    let full : 4 ≤ length c.ip_addrs.result.now = search rules in
+    address_full c.args.self.now c.ip_addrs.result.now c.args.cidr (c.ip_addrs.ensures no_sockets) full
+
+pub returns-in-Ok-clause-why : goal.returns-in-Ok-clause-why
+returns-in-Ok-clause-why c =
+    let room : length c.ip_addrs.result.now < 4 = search rules in
+    let pushed : c.try_push.new.self.items ≡ c.ip_addrs.result.now ++ c.args.cidr ∷ [] = search rules in
+    rw c.in-Ok.is at (address_told c.args.self.now c.ip_addrs.result.now c.try_push.new.self.items c.args.cidr _ (c.ip_addrs.ensures no_sockets) room pushed
+    (list_why c.args.self.now c.put_addresses.new.interface c.try_push.new.self.items _ c.stands_for_a_host.ensures c.put_addresses.ensures))
+
+pub returns-in-Err-clause-why : goal.returns-in-Err-clause-why
+returns-in-Err-clause-why c =
+    let room : length c.ip_addrs.result.now < 4 = search rules in
+    let pushed : c.try_push.new.self.items ≡ c.ip_addrs.result.now ++ c.args.cidr ∷ [] = search rules in
+    rw c.in-Err.is at (address_told c.args.self.now c.ip_addrs.result.now c.try_push.new.self.items c.args.cidr _ (c.ip_addrs.ensures no_sockets) room pushed
+    (list_why c.args.self.now c.put_addresses.new.interface c.try_push.new.self.items _ c.stands_for_a_host.ensures c.put_addresses.ensures))

@@ -2,8 +2,6 @@ use Rattle.std.proofs.Common.{◌≡◌, ℕ, List, ap, false, ◌∙◌}
 use Rattle.net_base.specs.Checksum.{ip_mtu_of}
 use Rattle.socket_set.specs.SocketSet.{Sockets, Storage, over}
 use Rattle.iface_host.specs.Outbox.{empty}
-use Rattle.iface_host.specs.Stands.{capabilities_of}
-use Rattle.iface_host.proofs.FrameCalls.{stood}
 use Rattle.iface_host.proofs.host.Host.new.Goals as goal
 
 -- a set over other places, with the room that it has
@@ -11,18 +9,14 @@ in_room : {L : Type 0} {set : Sockets L} {made places : List (Storage L)} {room 
     set ≡ over made false room → made ≡ places → set ≡ over places false set.room
 in_room {room = room} is same = rw is (ap (λ xs. over xs false room) same)
 
-pub returns : goal.returns
-returns c =
-    let outbox_is : c.new-outbox.result ≡ empty (capabilities_of c.args.settings.now) = c.new-outbox.ensures
-    ∙ ap empty c.capabilities-capabilities.ensures in
-    record {
-      stands = c.in_ok-let_fragments_wait.ensures.waits c.fixed.result _
-          (stood c.args.settings.now c.in-Ok.interface c.new-outbox.result outbox_is c.in-Ok.ensures.made.1 c.fixed.result);
-      some_time = c.in_ok-let_fragments_wait.ensures.within.0;
-      within_day = c.in_ok-let_fragments_wait.ensures.within.1;
-      ip_mtu = c.ip_mtu.ensures ∙ ap ip_mtu_of c.capabilities-capabilities.ensures;
-      sockets = in_room c.fixed.ensures c.in_ok-places.ensures;
-      names = c.in_ok-names.ensures;
-      outbox = c.new.ensures.device ∙ outbox_is;
-      schedule = c.in_ok-schedule.ensures;
-    }
+pub returns-clause-made : goal.returns-clause-made
+returns-clause-made c = record {
+  stands = c.in_ok-interface.ensures.stands c.fixed.result;
+  some_time = c.in_ok-interface.ensures.within.0;
+  within_day = c.in_ok-interface.ensures.within.1;
+  ip_mtu = c.ip_mtu.ensures ∙ ap ip_mtu_of c.capabilities-capabilities.ensures;
+  sockets = in_room c.fixed.ensures c.in_ok-places.ensures;
+  names = c.in_ok-names.ensures;
+  outbox = c.first_interface.ensures.outbox ∙ c.new-outbox.ensures ∙ ap empty c.capabilities-capabilities.ensures;
+  schedule = c.in_ok-schedule.ensures;
+}

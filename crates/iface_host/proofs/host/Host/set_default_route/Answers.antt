@@ -1,6 +1,9 @@
 use Rattle.std.proofs.Common.{sym, ◌∙◌}
 use Rattle.iface_tables.specs.Route.{ipv4_gateway, ipv6_gateway, is_ipv4_gateway, is_ipv6_gateway, with_default}
 use Rattle.host_machine.specs.State.Host.{Host as Machine}
+use Rattle.host_machine.specs.State.Host.{no_sockets}
+use Rattle.iface_host.proofs.RefusalCalls.{default_told}
+use Rattle.iface_host.specs.Calls.{routes_of}
 use Rattle.iface_host.proofs.RuleCalls.{changed, default_stays}
 use Rattle.iface_host.proofs.host.Host.set_default_route.Goals as goal
 
@@ -23,3 +26,19 @@ pub returns-in-Err-add_default_ipv6_route-clause-refused : goal.returns-in-Err-a
 returns-in-Err-add_default_ipv6_route-clause-refused c =
     default_stays c.args.self.now _ is_ipv6_gateway (ipv6_gateway c.in-Ipv6.gateway) c.in-Err-add_default_ipv6_route.field-0
     (λ sockets. sym c.in-Err-add_default_ipv6_route.is ∙ c.add_default_ipv6_route.ensures.answer sockets) c.add_default_ipv6_route.ensures.table
+
+pub returns-in-Ok-clause-why : goal.returns-in-Ok-clause-why
+returns-in-Ok-clause-why c =
+    rw c.in-Ipv4.is (rw c.in-Ok.is at (default_told is_ipv4_gateway (routes_of c.args.self.now) _ (c.add_default_ipv4_route.ensures.answer no_sockets)))
+
+pub returns-in-Err-clause-why : goal.returns-in-Err-clause-why
+returns-in-Err-clause-why c =
+    rw c.in-Ipv4.is (rw c.in-Err.is at (default_told is_ipv4_gateway (routes_of c.args.self.now) _ (c.add_default_ipv4_route.ensures.answer no_sockets)))
+
+pub returns-in-Ok-add_default_ipv6_route-clause-why : goal.returns-in-Ok-add_default_ipv6_route-clause-why
+returns-in-Ok-add_default_ipv6_route-clause-why c =
+    rw c.in-Ipv6.is (rw c.in-Ok-add_default_ipv6_route.is at (default_told is_ipv6_gateway (routes_of c.args.self.now) _ (c.add_default_ipv6_route.ensures.answer no_sockets)))
+
+pub returns-in-Err-add_default_ipv6_route-clause-why : goal.returns-in-Err-add_default_ipv6_route-clause-why
+returns-in-Err-add_default_ipv6_route-clause-why c =
+    rw c.in-Ipv6.is (rw c.in-Err-add_default_ipv6_route.is at (default_told is_ipv6_gateway (routes_of c.args.self.now) _ (c.add_default_ipv6_route.ensures.answer no_sockets)))

@@ -1,0 +1,19 @@
+use Rattle.std.proofs.Common.{◌≡◌, Some, None, rules}
+use Rattle.iface_host.specs.TableRefusals.{settings_refusal}
+use Rattle.iface_c.specs.Config.{settings_in}
+use Rattle.iface_c.specs.Handle.{host_in}
+use Rattle.iface_c.proofs.Codes.{of_memory, of_refusal}
+use Rattle.iface_c.proofs.hosts.iface_new.Goals as goal
+
+pub returns-in-Ok-clause-code : goal.returns-in-Ok-clause-code
+returns-in-Ok-clause-code c =
+    let at : settings_in c.args.config.now ≡ Some c.in-Some.settings = search rules in
+    let none : host_in c.args.handle.now ≡ None = search rules in
+    rw (at, none) (of_memory c.in-Ok.host (settings_refusal c.in-Some.settings) c.in-Ok.ensures.why)
+
+pub returns-clause-code : goal.returns-clause-code
+returns-clause-code c =
+    let at : settings_in c.args.config.now ≡ Some c.in-Some.settings = search rules in
+    let none : host_in c.args.handle.now ≡ None = search rules in
+    rw (at, none) (of_refusal (settings_refusal c.in-Some.settings) c.in-Err.refusal c.code.result
+    c.in-Err.ensures.why c.in-Err.ensures.memory c.code.ensures.code c.code.ensures.refuses)

@@ -1,0 +1,170 @@
+-- Why calls of the interface are refused, over plain variables.
+use Rattle.std.proofs.Common.{◌≡◌, ℕ, ◌<◌, ◌≤◌, Bool, true, false, List, [], ◌∷◌, ◌++◌, length, Result, Ok, Err}
+use Rattle.std.proofs.Common.{Option, Some, None, refl, ap, ◌∙◌, leb, ltb, arith}
+use Rattle.std.specs.Prelude.{if◌then◌else◌}
+use Rattle.std.specs.List.{position_or_len, remove}
+use Rattle.std.proofs.lemmas.Bool.{le-leb, leb-true, lt-ltb, ltb-true}
+use Rattle.ip_address.specs.Ip.{is_multicast}
+use Rattle.ip_address.specs.declared.cidr.IpCidr.{IpCidr}
+use Rattle.ip_address.specs.declared.ip.IpAddress.{IpAddress}
+use Rattle.group_table.specs.Groups.{is_refused}
+use Rattle.group_table.specs.declared.groups.Group.{Group}
+use Rattle.iface_tables.specs.Route as routes
+use Rattle.iface_tables.specs.declared.route.Route.{Route}
+use Rattle.iface_tables.specs.declared.route.RouteTableFull.{RouteTableFull}
+use Rattle.host_machine.specs.State.Host.{Host as Machine, SocketSet}
+use Rattle.host_machine.specs.Sending.Multicast as machine
+use Rattle.host_machine.specs.Sending.Multicast.{NoGroup, NoPlace, JoinTaken, NoGroupEither, LeaveTaken}
+use Rattle.host_machine.specs.Polling.Step.{UpdatesIpAddrs, Accepted, Refused, SetsReassemblyTimeout, WithinDay, OverDay}
+use Rattle.host_machine.specs.declared.results.AddrError.{AddrError}
+use Rattle.host_machine.specs.declared.results.MulticastError.{MulticastError}
+use Rattle.host_machine.specs.declared.results.MulticastError.TheVariants.{GroupTableFull, Unaddressable}
+use Rattle.host_machine.specs.declared.results.TimeoutError.{TimeoutError}
+use Rattle.interface.specs.Stands as interface
+use Rattle.interface.specs.declared.interface.Interface.{Interface}
+use Rattle.iface_host.specs.Calls.{addresses_of, is_same, is_to, routes_of}
+use Rattle.iface_host.specs.TableRefusals.{address_refusal, join_refusal, leave_refusal, list_refusal, removal_refusal}
+use Rattle.iface_host.specs.TableRefusals.{route_refusal, route_removal_refusal}
+use Rattle.iface_host.specs.declared.host.Host.{Host}
+use Rattle.iface_host.specs.declared.refusal.Refusal.{Refusal}
+use Rattle.iface_host.specs.declared.refusal.Refusal.TheVariants.{BadAddress, NotThere, NotUnicast, TableFull}
+
+-- there is a host that an interface stands for
+abbrev pub IsThere : Interface → Type 0
+IsThere i = (sockets : SocketSet) → (H : Machine) × interface.StandsFor i sockets H
+
+-- the refusals by which errors are told
+abbrev pub group_told : Result (Unit {0}) MulticastError → Option Refusal
+group_told (Ok done) = None
+group_told (Err GroupTableFull) = Some TableFull
+group_told (Err Unaddressable) = Some BadAddress
+
+abbrev pub list_told : Result (Unit {0}) AddrError → Option Refusal
+list_told (Ok done) = None
+list_told (Err e) = Some NotUnicast
+
+-- why a join is refused, by the groups
+abbrev refused_by : List Group → IpAddress → Option Refusal
+refused_by gs a = if is_multicast a then (if is_refused gs a then Some TableFull else None) else Some BadAddress
+
+join_rule : (a : IpAddress) (r : Result (Unit {0}) MulticastError) (H H' : Machine) →
+    machine.JoinsGroup a r H H' → group_told r ≡ refused_by H.groups a
+join_rule a r H H' (NoGroup m answers same) = rw (answers, m) refl
+join_rule a r H H' (NoPlace m full answers same) = rw (answers, m, full) refl
+join_rule a r H H' (JoinTaken m room answers same) = rw (answers, m, room) refl
+
+-- a leave is refused for one reason alone
+abbrev pub left_told : Result (Unit {0}) MulticastError → Option Refusal
+left_told (Ok done) = None
+left_told (Err e) = Some BadAddress
+
+leave_rule : (a : IpAddress) (r : Result (Unit {0}) MulticastError) (H H' : Machine) →
+    machine.LeavesGroup a r H H' → left_told r ≡ leave_refusal a
+leave_rule a r H H' (NoGroupEither m answers same) = rw (answers, m) refl
+leave_rule a r H H' (LeaveTaken m answers same) = rw (answers, m) refl
+
+list_rule : (list : List IpCidr) (r : Result (Unit {0}) AddrError) (H H' : Machine) →
+    UpdatesIpAddrs list r H H' → list_told r ≡ list_refusal list
+list_rule list r H H' (Accepted a answers same) = rw (answers, a) refl
+list_rule list r H H' (Refused a answers same) = rw (answers, a) refl
+
+pub joined_why : (old : Host) (i : Interface) (a : IpAddress) (r : Result (Unit {0}) MulticastError) → IsThere old.interface →
+    interface.HostRefines old.interface i (machine.JoinsGroup a r) → group_told r ≡ join_refusal old a
+joined_why old i a r there f =
+    let H = (there old.sockets).0 in
+    let h = (there old.sockets).1 in
+    let l = f old.sockets H h in
+    join_rule a r H l.host l.follows ∙ ap (λ (K : Machine). refused_by K.groups a) h.same
+
+pub left_why : (old : Host) (i : Interface) (a : IpAddress) (r : Result (Unit {0}) MulticastError) → IsThere old.interface →
+    interface.HostRefines old.interface i (machine.LeavesGroup a r) → left_told r ≡ leave_refusal a
+left_why old i a r there f =
+    let H = (there old.sockets).0 in
+    let h = (there old.sockets).1 in
+    let l = f old.sockets H h in
+    leave_rule a r H l.host l.follows
+
+pub list_why : (old : Host) (i : Interface) (list : List IpCidr) (r : Result (Unit {0}) AddrError) → IsThere old.interface →
+    interface.HostRefines old.interface i (UpdatesIpAddrs list r) → list_told r ≡ list_refusal list
+list_why old i list r there f =
+    let H = (there old.sockets).0 in
+    let h = (there old.sockets).1 in
+    let l = f old.sockets H h in
+    list_rule list r H l.host l.follows
+
+-- the tests of how many there are
+four : (n : ℕ) → 4 ≤ n → leb 4 n ≡ true
+four n le = le-leb 4 n le
+
+fewer : (n : ℕ) → n < 4 → leb 4 n ≡ false
+fewer n lt = by (leb 4 n) refl where
+  by : (b : Bool) → leb 4 n ≡ b → b ≡ false
+  by true e = absurd (omega (arith, leb-true 4 n e))
+  by false e = refl
+
+there : (i n : ℕ) → i < n → ltb i n ≡ true
+there i n lt = lt-ltb i n lt
+
+behind : (i n : ℕ) → n ≤ i → ltb i n ≡ false
+behind i n le = by (ltb i n) refl where
+  by : (b : Bool) → ltb i n ≡ b → b ≡ false
+  by true e = absurd (omega (arith, ltb-true i n e))
+  by false e = refl
+
+pub address_full : (host : Host) (own : List IpCidr) (cidr : IpCidr) → own ≡ addresses_of host → 4 ≤ length own →
+    Some TableFull ≡ address_refusal host cidr
+address_full host own cidr is most = rw (← is, four (length own) most) refl
+
+pub address_told : (host : Host) (own list : List IpCidr) (cidr : IpCidr) (r : Result (Unit {0}) AddrError) →
+    own ≡ addresses_of host → length own < 4 → list ≡ own ++ cidr ∷ [] → list_told r ≡ list_refusal list →
+    list_told r ≡ address_refusal host cidr
+address_told host own list cidr r is less pushed told =
+    rw (← is, fewer (length own) less) (told ∙ ap list_refusal pushed)
+
+pub removal_none : (host : Host) (own : List IpCidr) (cidr : IpCidr) (i : ℕ) → own ≡ addresses_of host →
+    i ≡ position_or_len (is_same cidr) own → length own ≤ i → Some NotThere ≡ removal_refusal host cidr
+removal_none host own cidr i is at le = rw (← is, ← at, behind i (length own) le) refl
+
+pub removal_told : (host : Host) (own : List IpCidr) (cidr : IpCidr) (i : ℕ) (r : Result (Unit {0}) AddrError) → own ≡ addresses_of host →
+    i ≡ position_or_len (is_same cidr) own → i < length own → list_told r ≡ list_refusal (remove (addresses_of host) i) →
+    list_told r ≡ removal_refusal host cidr
+removal_told host own cidr i r is at lt told =
+    rw (← is, ← at, there i (length own) lt) (rw (← is) at told)
+
+-- a default route
+abbrev pub route_told : Result (Option Route) RouteTableFull → Option Refusal
+route_told (Ok old) = None
+route_told (Err e) = Some TableFull
+
+pub default_told : (is_kind : Route → Bool) (rs : List Route) (r : Result (Option Route) RouteTableFull) → r ≡ routes.old_or_full is_kind rs →
+    route_told r ≡ (if routes.is_refused is_kind rs then Some TableFull else None)
+default_told is_kind rs r answers = by (routes.is_refused is_kind rs) refl where
+  by : (b : Bool) → routes.is_refused is_kind rs ≡ b → route_told r ≡ (if b then Some TableFull else None)
+  by true e = rw (answers, e) refl
+  by false e = rw (answers, e) refl
+
+pub route_full : (host : Host) (n : ℕ) → n ≡ length (routes_of host) → 4 ≤ n → Some TableFull ≡ route_refusal host
+route_full host n is most = rw (← is, four n most) refl
+
+pub route_room : (host : Host) (n : ℕ) → n ≡ length (routes_of host) → n < 4 → None ≡ route_refusal host
+route_room host n is less = rw (← is, fewer n less) refl
+
+pub route_none : (host : Host) (own : List Route) (cidr : IpCidr) (i : ℕ) → own ≡ routes_of host →
+    i ≡ position_or_len (is_to cidr) own → length own ≤ i → Some NotThere ≡ route_removal_refusal host cidr
+route_none host own cidr i is at le = rw (← is, ← at, behind i (length own) le) refl
+
+pub route_there : (host : Host) (own : List Route) (cidr : IpCidr) (i : ℕ) → own ≡ routes_of host →
+    i ≡ position_or_len (is_to cidr) own → i < length own → None ≡ route_removal_refusal host cidr
+route_there host own cidr i is at lt = rw (← is, ← at, there i (length own) lt) refl
+
+-- a time that is at most a day isn't refused
+pub waits_within : (i i' : Interface) (timeout : ℕ) (e : TimeoutError) → IsThere i → timeout ≤ 86_400_000_000 → (s : SocketSet) →
+    interface.HostRefines i i' (SetsReassemblyTimeout timeout (Err e)) → ⊥
+waits_within i i' timeout e is le s f =
+    let H = (is s).0 in
+    let h = (is s).1 in
+    let l = f s H h in
+    by l.host l.follows where
+      by : (H' : Machine) → SetsReassemblyTimeout timeout (Err e) (is s).0 H' → ⊥
+      by H' (WithinDay within answers same) = cc
+      by H' (OverDay over answers same) = omega arith

@@ -1,0 +1,97 @@
+-- Why a host isn't made, and why calls for addresses, groups, routes and new sockets are refused: the first of the
+-- reasons that holds, in their order.
+use Rattle.std.specs.Prelude.{ℕ, ◌==◌, ◌++◌, ◌||◌, ◌&&◌, nat_le, nat_lt, not, is_some, Bool, false, [], ◌∷◌}
+use Rattle.std.specs.Prelude.{List, length, slice_get, Option, Some, None, if◌then◌else◌}
+use Rattle.std.specs.List.{position_or_len, remove}
+use Rattle.net_base.specs.Checksum.{ip_mtu_of}
+use Rattle.ip_address.specs.Hardware.{is_unicast}
+use Rattle.ip_address.specs.Ip.{is_multicast}
+use Rattle.ip_address.specs.declared.cidr.IpCidr.{IpCidr}
+use Rattle.ip_address.specs.declared.ip.IpAddress.{IpAddress}
+use Rattle.ip_address.specs.declared.ip.IpAddress.TheVariants.{Ipv4, Ipv6}
+use Rattle.socket_base.specs.declared.endpoint.IpListenEndpoint.{IpListenEndpoint}
+use Rattle.iface_tables.specs.Route as routes
+use Rattle.iface_tables.specs.Route.{is_ipv4_gateway, is_ipv6_gateway}
+use Rattle.group_table.specs.Groups as groups
+use Rattle.socket_set.specs.SocketSet.{has_free}
+use Rattle.host_machine.specs.State.Host.{are_assignable}
+use Rattle.iface_host.specs.Calls.{addresses_of, groups_of, is_same, is_to, routes_of}
+use Rattle.iface_host.specs.Names.{first_unused}
+use Rattle.iface_host.specs.Stands.{capabilities_of}
+use Rattle.iface_host.specs.declared.host.Host.{Host}
+use Rattle.iface_host.specs.declared.host.Settings.{Settings}
+use Rattle.iface_host.specs.declared.refusal.Refusal.{Refusal}
+use Rattle.iface_host.specs.declared.refusal.Refusal.TheVariants.{BadAddress, BadMtu, BadPort, BadTimeout}
+use Rattle.iface_host.specs.declared.refusal.Refusal.TheVariants.{NotThere, NotUnicast, TableFull}
+
+-- a time that fragments are to wait: none, or longer than a day
+abbrev pub timeout_refusal : ℕ → Option Refusal
+timeout_refusal timeout =
+    if (timeout == 0) || nat_lt 86_400_000_000 timeout then Some BadTimeout else None
+
+-- settings: the hardware address isn't unicast; packets are shorter than 576 octets, or frames longer than 1,514; or
+-- their time for fragments is refused
+abbrev pub settings_refusal : Settings → Option Refusal
+settings_refusal s =
+    if not (is_unicast s.hardware_addr) then Some NotUnicast else
+    if nat_lt (ip_mtu_of (capabilities_of s)) 576 || nat_lt 1514 s.frame_len then Some BadMtu else
+    timeout_refusal s.reassembly_timeout
+
+-- a list of own addresses: one is neither unicast nor unspecified
+abbrev pub list_refusal : List IpCidr → Option Refusal
+list_refusal list = if are_assignable list then None else Some NotUnicast
+
+-- one more own address: four are there
+abbrev pub address_refusal : Host → IpCidr → Option Refusal
+address_refusal host cidr =
+    if nat_le 4 (length (addresses_of host)) then Some TableFull else list_refusal (addresses_of host ++ cidr ∷ [])
+
+-- an own address less: it isn't there
+abbrev pub removal_refusal : Host → IpCidr → Option Refusal
+removal_refusal host cidr =
+    let own : List IpCidr = addresses_of host in
+    let place : ℕ = position_or_len (is_same cidr) own in
+    if nat_lt place (length own) then list_refusal (remove own place) else Some NotThere
+
+-- the own address at a place: none is there
+abbrev pub place_refusal : Host → ℕ → Option Refusal
+place_refusal host place = if is_some (slice_get (addresses_of host) place) then None else Some NotThere
+
+-- a group to be joined: it is no group's address; or the host isn't in it, and eight others are in the table
+abbrev pub join_refusal : Host → IpAddress → Option Refusal
+join_refusal host group =
+    if is_multicast group then (if groups.is_refused (groups_of host) group then Some TableFull else None)
+    else Some BadAddress
+
+-- a group to be left: it is no group's address
+abbrev pub leave_refusal : IpAddress → Option Refusal
+leave_refusal group = if is_multicast group then None else Some BadAddress
+
+-- a default route: four routes are there, and none is a default route of its family
+abbrev pub default_route_refusal : Host → IpAddress → Option Refusal
+default_route_refusal host (Ipv4 gateway) =
+    if routes.is_refused is_ipv4_gateway (routes_of host) then Some TableFull else None
+default_route_refusal host (Ipv6 gateway) =
+    if routes.is_refused is_ipv6_gateway (routes_of host) then Some TableFull else None
+
+-- one more route: four are there
+abbrev pub route_refusal : Host → Option Refusal
+route_refusal host = if nat_le 4 (length (routes_of host)) then Some TableFull else None
+
+-- a route less: it isn't there
+abbrev pub route_removal_refusal : Host → IpCidr → Option Refusal
+route_removal_refusal host network =
+    if nat_lt (position_or_len (is_to network) (routes_of host)) (length (routes_of host)) then None else Some NotThere
+
+-- a number may name a socket: it has 32 bits
+abbrev pub is_number : Option ℕ → Bool
+is_number None = false
+is_number (Some n) = nat_lt n 4294967296
+
+-- a socket to be opened, of whatever kind: each number names one, or each place has one
+abbrev pub opening_refusal : Host → Option Refusal
+opening_refusal host = if is_number (first_unused host.names) && has_free host.sockets then None else Some TableFull
+
+-- one of UDP: before that, its port is 0
+abbrev pub udp_opening_refusal : Host → IpListenEndpoint → Option Refusal
+udp_opening_refusal host local = if local.port == 0 then Some BadPort else opening_refusal host
