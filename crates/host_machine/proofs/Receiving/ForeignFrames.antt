@@ -63,7 +63,7 @@ use Rattle.host_machine.specs.Laws.Restraint.Foreign.{OwnFramesAreTaken, Packets
 use Rattle.host_machine.specs.Laws.Restraint.Foreign.{PacketsFromNoHostV6AreDropped}
 use Rattle.host_machine.specs.Laws.Restraint.Foreign as law
 use Rattle.host_machine.proofs.Receiving.Malformed.{nothing_responded}
-use Rattle.host_machine.proofs.Receiving.ReceivedFrames.{Handled, TakenV4, TakenV6, handled, handled_v4, handled_v6}
+use Rattle.host_machine.proofs.Receiving.ReceivedFrames.{WasHandled, TakenV4, TakenV6, handled, handled_v4, handled_v6}
 use Rattle.host_machine.proofs.Receiving.ReceivedFrames.{no_effect, raw_only, same_all}
 
 -- an address that is none of the host's
@@ -231,7 +231,7 @@ foreign_dropped t frame packet old new told notes w c foreign =
     let p : Passes (without_expired old t) h.reply h.taken = by h (handled_v4 h c) in
     let r = nothing_responded p.silent h.responds in
     record { silent = h.sends_them ∙ r.0; slots = p.slots; places = p.places; raw_only = p.raw_only; others = r.2 ∙ p.others } where
-      by : (h : Handled t frame old told notes new) →
+      by : (h : WasHandled t frame old told notes new) →
           (TakenV4 (without_expired old t) packet h.reply h.first h.taken ⊎ IsDropped (without_expired old t) h.reply h.first h.taken) →
           Passes (without_expired old t) h.reply h.taken
       by h (inl x) = ipv4_passes x.takes (foreign_at t (live_at t old.slots) foreign)
@@ -295,7 +295,7 @@ foreign_v6_at t slots i = record {
 
 pub foreign_v6_dropped : ForeignPacketsV6AreDropped
 foreign_v6_dropped t frame packet old new told notes w c asks foreign = let h = handled w in no_effect h (by h (handled_v6 h c)) where
-  by : (h : Handled t frame old told notes new) →
+  by : (h : WasHandled t frame old told notes new) →
       (TakenV6 (without_expired old t) packet h.reply h.first h.taken ⊎ IsDropped (without_expired old t) h.reply h.first h.taken) →
       IsDropped (without_expired old t) h.reply h.first h.taken
   by h (inl x) = ipv6_dropped x.takes asks (foreign_v6_at t (live_at t old.slots) foreign)
@@ -331,7 +331,7 @@ frame_for_other {own} {frame = frame} (ethernet.Accepted l f t) other even =
 
 pub frames_for_others_dropped : FramesForOthersAreDropped
 frames_for_others_dropped own t frame old new told notes w on other even = let h = handled w in no_effect h (by h h.takes) where
-  by : (h : Handled t frame old told notes new) →
+  by : (h : WasHandled t frame old told notes new) →
       (ProcessesFrame old.hardware_addr (without_expired old t) frame h.reply h.first h.taken
       ⊎ IsDropped (without_expired old t) h.reply h.first h.taken) →
       IsDropped (without_expired old t) h.reply h.first h.taken
@@ -415,7 +415,7 @@ ipv4_unheard {H = H} {octets = octets} (ip.Read i t) nobody =
 
 pub unheard : PacketsFromNoHostAreDropped
 unheard t frame packet old new told notes w c nobody = let h = handled w in no_effect h (by h (handled_v4 h c)) where
-  by : (h : Handled t frame old told notes new) →
+  by : (h : WasHandled t frame old told notes new) →
       (TakenV4 (without_expired old t) packet h.reply h.first h.taken ⊎ IsDropped (without_expired old t) h.reply h.first h.taken) →
       IsDropped (without_expired old t) h.reply h.first h.taken
   by h (inl x) = ipv4_unheard x.takes nobody
@@ -439,7 +439,7 @@ ipv6_unheard {octets = octets} (ipv6.Read i t) nobody = packet_v6_unheard (ipv6_
 
 pub unheard_v6 : PacketsFromNoHostV6AreDropped
 unheard_v6 t frame packet old new told notes w c nobody = let h = handled w in no_effect h (by h (handled_v6 h c)) where
-  by : (h : Handled t frame old told notes new) →
+  by : (h : WasHandled t frame old told notes new) →
       (TakenV6 (without_expired old t) packet h.reply h.first h.taken ⊎ IsDropped (without_expired old t) h.reply h.first h.taken) →
       IsDropped (without_expired old t) h.reply h.first h.taken
   by h (inl x) = ipv6_unheard x.takes nobody

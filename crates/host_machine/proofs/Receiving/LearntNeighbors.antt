@@ -83,7 +83,7 @@ use Rattle.host_machine.specs.Laws.Restraint.Readings.{CarriesV6}
 use Rattle.host_machine.proofs.Receiving.ForeignFrames.{has_prefix}
 use Rattle.host_machine.proofs.Receiving.NeighborOrigins.{Came, Come, Nobody, Was, New, come_then, filled_came}
 use Rattle.host_machine.proofs.Receiving.NeighborOrigins.{renewed_came, still_known, told_so, unchanged}
-use Rattle.host_machine.proofs.Receiving.ReceivedFrames.{Handled, handled, renewal}
+use Rattle.host_machine.proofs.Receiving.ReceivedFrames.{WasHandled, handled, renewal}
 use Rattle.host_machine.proofs.Sending.SettledFields.{Settings, response_settled}
 
 -- what tests say
@@ -588,7 +588,7 @@ neighbors_came t frame old new told notes a n w is =
     let same = response_settled h.reply h.taken h.frames h.more new h.responds in
     let there : map.get h.taken.neighbors.known a ≡ Some n = sym (ap (λ (s : Settings). map.get s.known a) same) ∙ is in
     by ((come h h.takes).each a n there) where
-      come : (h : Handled t frame old told notes new) →
+      come : (h : WasHandled t frame old told notes new) →
           (ProcessesFrame old.hardware_addr (without_expired old t) frame h.reply h.first h.taken
           ⊎ IsDropped (without_expired old t) h.reply h.first h.taken) →
           Come (ToldByFrame (without_expired old t) frame) (without_expired old t) h.taken

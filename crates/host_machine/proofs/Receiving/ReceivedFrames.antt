@@ -36,7 +36,7 @@ use Rattle.host_machine.proofs.Receiving.Malformed.{handed_frames-received, hand
 use Rattle.host_machine.proofs.Receiving.Malformed.{sent_frames-sends}
 
 -- what was done with the frame, and how that was responded to
-pub record Handled (t : ℤ) (frame : List ℕ) (old : Host) (told : List Event) (notes : List Note) (new : Host) : Type 0 where
+pub record WasHandled (t : ℤ) (frame : List ℕ) (old : Host) (told : List Event) (notes : List Note) (new : Host) : Type 0 where
   pub reply : Option Reply
   pub taken : Host
   pub first : List Note
@@ -68,7 +68,7 @@ frame_of_call {t} {frame} {old} {new} {told} {notes} w =
     frame_taken t (without_expired old t) i.reception frame i.response.reply i.response.notes_taking i.response.taken i.response.takes only
 
 pub handled : {t : ℤ} {frame : List ℕ} {old new : Host} {told : List Event} {notes : List Note} →
-    Receives t frame old told notes new → Handled t frame old told notes new
+    Receives t frame old told notes new → WasHandled t frame old told notes new
 handled {t} {frame} {old} {new} {told} {notes} w =
     let i = w.call in record {
       reply = i.response.reply;
@@ -145,7 +145,7 @@ taken_v6 hardware.Ip H frame packet reply notes new t c = six_alone t c.0 c.1
 
 -- the packet that a call received
 pub handled_v4 : {t : ℤ} {frame packet : List ℕ} {old new : Host} {told : List Event} {notes : List Note} →
-    (h : Handled t frame old told notes new) → CarriesV4 old.hardware_addr frame packet →
+    (h : WasHandled t frame old told notes new) → CarriesV4 old.hardware_addr frame packet →
     TakenV4 (without_expired old t) packet h.reply h.first h.taken ⊎ IsDropped (without_expired old t) h.reply h.first h.taken
 handled_v4 {t} {frame} {packet} {old} h c = by h.takes where
   by : (ProcessesFrame old.hardware_addr (without_expired old t) frame h.reply h.first h.taken
@@ -155,7 +155,7 @@ handled_v4 {t} {frame} {packet} {old} h c = by h.takes where
   by (inr d) = inr d
 
 pub handled_v6 : {t : ℤ} {frame packet : List ℕ} {old new : Host} {told : List Event} {notes : List Note} →
-    (h : Handled t frame old told notes new) → CarriesV6 old.hardware_addr frame packet →
+    (h : WasHandled t frame old told notes new) → CarriesV6 old.hardware_addr frame packet →
     TakenV6 (without_expired old t) packet h.reply h.first h.taken ⊎ IsDropped (without_expired old t) h.reply h.first h.taken
 handled_v6 {t} {frame} {packet} {old} h c = by h.takes where
   by : (ProcessesFrame old.hardware_addr (without_expired old t) frame h.reply h.first h.taken
@@ -166,7 +166,7 @@ handled_v6 {t} {frame} {packet} {old} h c = by h.takes where
 
 -- what is dropped has no effect
 pub no_effect : {t : ℤ} {frame : List ℕ} {old new : Host} {told : List Event} {notes : List Note} →
-    (h : Handled t frame old told notes new) → IsDropped (without_expired old t) h.reply h.first h.taken → HasNoEffect t old told notes new
+    (h : WasHandled t frame old told notes new) → IsDropped (without_expired old t) h.reply h.first h.taken → HasNoEffect t old told notes new
 no_effect h d =
     let r = nothing_responded d.silent h.responds in
     record { silent = h.sends_them ∙ r.0; unnoted = h.noted ∙ rw (d.unnoted, r.1) refl; unchanged = r.2 ∙ d.unchanged }

@@ -49,7 +49,7 @@ use Rattle.host_machine.specs.Laws.Restraint.Checksums.{WrongHeadersAreDropped, 
 use Rattle.host_machine.specs.Laws.Restraint.Checksums.{WrongPayloadsV6AreDropped}
 use Rattle.host_machine.specs.Laws.Restraint.Checksums as law
 use Rattle.host_machine.proofs.Receiving.Malformed.{nothing_responded}
-use Rattle.host_machine.proofs.Receiving.ReceivedFrames.{Handled, TakenV4, TakenV6, handled, handled_v4, handled_v6}
+use Rattle.host_machine.proofs.Receiving.ReceivedFrames.{WasHandled, TakenV4, TakenV6, handled, handled_v4, handled_v6}
 use Rattle.host_machine.proofs.Receiving.ReceivedFrames.{no_effect, raw_only, renewal, same_all}
 
 -- the header
@@ -61,7 +61,7 @@ ipv4_unread (ip.Read i t) verified wrong = absurd (wrong (i.sum verified))
 
 pub headers_dropped : WrongHeadersAreDropped
 headers_dropped t frame packet old new told notes w c verified wrong = let h = handled w in no_effect h (by h (handled_v4 h c)) where
-  by : (h : Handled t frame old told notes new) →
+  by : (h : WasHandled t frame old told notes new) →
       (TakenV4 (without_expired old t) packet h.reply h.first h.taken ⊎ IsDropped (without_expired old t) h.reply h.first h.taken) →
       IsDropped (without_expired old t) h.reply h.first h.taken
   by h (inl x) = ipv4_unread x.takes verified wrong
@@ -107,7 +107,7 @@ protocol_v6_unread b r H octets reply notes new t (law.OfUdp v wrong) = udp_unre
 protocol_v6_unread b r H octets reply notes new t (law.OfTcp v wrong) = tcp_unread t (λ i. wrong (i.sum v))
 
 -- what such a packet leaves
-record Unread (sender : IpAddress) (H : Host) (reply : Option Reply) (notes : List Note) (new : Host) : Type 0 where
+record IsUnread (sender : IpAddress) (H : Host) (reply : Option Reply) (notes : List Note) (new : Host) : Type 0 where
   neighbors : Neighbors
   places : List Storage
   renewed : IsRenewed sender H.moment H.neighbors neighbors
@@ -115,13 +115,13 @@ record Unread (sender : IpAddress) (H : Host) (reply : Option Reply) (notes : Li
   dropped : IsDropped (with_places (with_neighbors H neighbors) places) reply notes new
 
 untouched : {H new : Host} {reply : Option Reply} {notes : List Note} (sender : IpAddress) →
-    IsDropped H reply notes new → Unread sender H reply notes new
+    IsDropped H reply notes new → IsUnread sender H reply notes new
 untouched {H} sender d =
     record { neighbors = H.neighbors; places = H.sockets.places; renewed = inl refl; raw_only = same_all H.sockets.places; dropped = d }
 
 -- before its payload is looked at
 met : {H new : Host} {reply : Option Reply} {notes : List Note} (source : HardwareAddress) (r : IpRepr) (payload : List ℕ) →
-    IsDropped (sender_renewed source r (raw.host_after_raw_delivery r payload H)) reply notes new → Unread (src_addr r) H reply notes new
+    IsDropped (sender_renewed source r (raw.host_after_raw_delivery r payload H)) reply notes new → IsUnread (src_addr r) H reply notes new
 met {H} {new} {reply} {notes} source r payload d =
     let i = renewal source r (raw.host_after_raw_delivery r payload H) in
     record {
@@ -134,7 +134,7 @@ met {H} {new} {reply} {notes} source r payload d =
 
 datagram_unread : {source : HardwareAddress} {H new : Host} {payload : List ℕ} {reply : Option Reply} {notes : List Note} (r : Ipv4Repr) →
     ProcessesDatagram source r H payload reply notes new →
-    HasWrongSumV4 H.capabilities.checksum (Ipv4 r.src_addr) (Ipv4 r.dst_addr) payload r.next_header → Unread (Ipv4 r.src_addr) H reply notes new
+    HasWrongSumV4 H.capabilities.checksum (Ipv4 r.src_addr) (Ipv4 r.dst_addr) payload r.next_header → IsUnread (Ipv4 r.src_addr) H reply notes new
 datagram_unread {source} {H} {new} {payload} {reply} {notes} r (ip.NotForUs n d) wrong =
     record {
       neighbors = H.neighbors;
@@ -152,21 +152,21 @@ datagram_unread {source} {H} {new} {payload} {reply} {notes} r (ip.Accepted f t)
 
 packet_unread : {source : HardwareAddress} {H new : Host} {payload : List ℕ} {reply : Option Reply} {notes : List Note}
     (r : Ipv4Repr) (f : Ipv4Fragment) → ProcessesPacket source r f H payload reply notes new → is_fragment f ≡ false →
-    HasWrongSumV4 H.capabilities.checksum (Ipv4 r.src_addr) (Ipv4 r.dst_addr) payload r.next_header → Unread (Ipv4 r.src_addr) H reply notes new
+    HasWrongSumV4 H.capabilities.checksum (Ipv4 r.src_addr) (Ipv4 r.dst_addr) payload r.next_header → IsUnread (Ipv4 r.src_addr) H reply notes new
 packet_unread r f (ip.FromNoHost s d) whole wrong = untouched (Ipv4 r.src_addr) d
 packet_unread r f (ip.Part s p t e) whole wrong = absurd cc
 packet_unread r f (ip.Completed octets mid first rest s p t w e) whole wrong = absurd cc
 packet_unread r f (ip.Whole s w t) whole wrong = datagram_unread r t wrong
 
 payload_unread : {source : HardwareAddress} {H new : Host} {octets : List ℕ} {reply : Option Reply} {notes : List Note} →
-    ProcessesIpv4 source H octets reply notes new → HasWrongPayloadV4 H octets → Unread (Ipv4 (ipv4_in octets).0.src_addr) H reply notes new
+    ProcessesIpv4 source H octets reply notes new → HasWrongPayloadV4 H octets → IsUnread (Ipv4 (ipv4_in octets).0.src_addr) H reply notes new
 payload_unread {octets = octets} (ip.Malformed m d) wrong = untouched (Ipv4 (ipv4_in octets).0.src_addr) d
 payload_unread {octets = octets} (ip.Read i t) wrong = packet_unread (ipv4_in octets).0 (ipv4_in octets).1 t wrong.whole wrong.wrong
 
 -- so the call reaches raw sockets alone
 reached : {t : ℤ} {frame : List ℕ} {old new : Host} {told : List Event} {notes : List Note} {sender : IpAddress}
-    (h : Handled t frame old told notes new) →
-    Unread sender (without_expired old t) h.reply h.first h.taken → ReachesRawOnly t sender old told notes new
+    (h : WasHandled t frame old told notes new) →
+    IsUnread sender (without_expired old t) h.reply h.first h.taken → ReachesRawOnly t sender old told notes new
 reached h u =
     let r = nothing_responded u.dropped.silent h.responds in
     record {
@@ -181,16 +181,16 @@ reached h u =
 
 pub payloads_dropped : WrongPayloadsAreDropped
 payloads_dropped t frame packet old new told notes w c wrong = let h = handled w in reached h (by h (handled_v4 h c)) where
-  by : (h : Handled t frame old told notes new) →
+  by : (h : WasHandled t frame old told notes new) →
       (TakenV4 (without_expired old t) packet h.reply h.first h.taken ⊎ IsDropped (without_expired old t) h.reply h.first h.taken) →
-      Unread (Ipv4 (ipv4_in packet).0.src_addr) (without_expired old t) h.reply h.first h.taken
+      IsUnread (Ipv4 (ipv4_in packet).0.src_addr) (without_expired old t) h.reply h.first h.taken
   by h (inl x) = payload_unread x.takes (record { whole = wrong.whole; wrong = wrong.wrong })
   by h (inr d) = untouched (Ipv4 (ipv4_in packet).0.src_addr) d
 
 -- IPv6
 datagram_v6_unread : {source : HardwareAddress} {p : IpProtocol} {H new : Host} {payload : List ℕ} {reply : Option Reply} {notes : List Note}
     (r : Ipv6Repr) → ProcessesDatagramV6 source r p H payload reply notes new →
-    HasWrongSumV6 H.capabilities.checksum (Ipv6 r.src_addr) (Ipv6 r.dst_addr) payload p → Unread (Ipv6 r.src_addr) H reply notes new
+    HasWrongSumV6 H.capabilities.checksum (Ipv6 r.src_addr) (Ipv6 r.dst_addr) payload p → IsUnread (Ipv6 r.src_addr) H reply notes new
 datagram_v6_unread r (ipv6.NotForUs n d) wrong = untouched (Ipv6 r.src_addr) d
 datagram_v6_unread {source} {p} {H} {new} {payload} {reply} {notes} r (ipv6.Accepted f t) wrong =
     let K = sender_renewed source (repr.Ipv6 r) (raw.host_after_raw_delivery (repr.Ipv6 r) payload H) in
@@ -203,7 +203,7 @@ datagram_v6_unread {source} {p} {H} {new} {payload} {reply} {notes} r (ipv6.Acce
 options_unread : {source : HardwareAddress} {H new : Host} {payload : List ℕ} {reply : Option Reply} {notes : List Note} (r : Ipv6Repr) →
     ProcessesHopByHop source r H payload reply notes new → first_failure (hop_by_hop_in payload).0.options.items ≡ Skip →
     HasWrongSumV6 H.capabilities.checksum (Ipv6 r.src_addr) (Ipv6 r.dst_addr) (hop_by_hop_in payload).1 (hop_by_hop_in payload).0.next_header →
-    Unread (Ipv6 r.src_addr) H reply notes new
+    IsUnread (Ipv6 r.src_addr) H reply notes new
 options_unread r (ipv6.MalformedOptions m d) skip wrong = untouched (Ipv6 r.src_addr) d
 options_unread r (ipv6.Skipped i s t) skip wrong = datagram_v6_unread r t wrong
 options_unread r (ipv6.Discarded failure i s other e n same) skip wrong = absurd (other (sym s ∙ skip))
@@ -216,7 +216,7 @@ no_options (law.OfTcp v wrong) = λ e. absurd cc
 
 module _ {source : HardwareAddress} {H new : Host} {octets : List ℕ} {reply : Option Reply} {notes : List Note} where
   packet_v6_unread : ipv6.ProcessesPacket source (ipv6_in octets).0 H (ipv6_in octets).1 reply notes new → HasWrongPayloadV6 H octets →
-      Unread (Ipv6 (ipv6_in octets).0.src_addr) H reply notes new
+      IsUnread (Ipv6 (ipv6_in octets).0.src_addr) H reply notes new
   packet_v6_unread (ipv6.FromNoHost s d) wrong = untouched (Ipv6 (ipv6_in octets).0.src_addr) d
   packet_v6_unread (ipv6.WithOptions s z t) (law.AfterHeader wrong) = absurd (no_options wrong z)
   packet_v6_unread (ipv6.WithOptions s z t) (law.AfterOptions o skip wrong) = options_unread (ipv6_in octets).0 t skip wrong
@@ -224,7 +224,7 @@ module _ {source : HardwareAddress} {H new : Host} {octets : List ℕ} {reply : 
   packet_v6_unread (ipv6.Bare s z t) (law.AfterOptions o skip wrong) = absurd (z (ap number_of o))
 
   payload_v6_unread : ProcessesIpv6 source H octets reply notes new → HasWrongPayloadV6 H octets →
-      Unread (Ipv6 (ipv6_in octets).0.src_addr) H reply notes new
+      IsUnread (Ipv6 (ipv6_in octets).0.src_addr) H reply notes new
   payload_v6_unread (ipv6.Malformed m d) wrong = untouched (Ipv6 (ipv6_in octets).0.src_addr) d
   payload_v6_unread (ipv6.Read i t) wrong = packet_v6_unread t wrong
 
@@ -234,8 +234,8 @@ still_wrong t (law.AfterOptions o skip wrong) = law.AfterOptions o skip wrong
 
 pub payloads_v6_dropped : WrongPayloadsV6AreDropped
 payloads_v6_dropped t frame packet old new told notes w c wrong = let h = handled w in reached h (by h (handled_v6 h c)) where
-  by : (h : Handled t frame old told notes new) →
+  by : (h : WasHandled t frame old told notes new) →
       (TakenV6 (without_expired old t) packet h.reply h.first h.taken ⊎ IsDropped (without_expired old t) h.reply h.first h.taken) →
-      Unread (Ipv6 (ipv6_in packet).0.src_addr) (without_expired old t) h.reply h.first h.taken
+      IsUnread (Ipv6 (ipv6_in packet).0.src_addr) (without_expired old t) h.reply h.first h.taken
   by h (inl x) = payload_v6_unread x.takes (still_wrong t wrong)
   by h (inr d) = untouched (Ipv6 (ipv6_in packet).0.src_addr) d
