@@ -67,10 +67,10 @@ fn add_udp(alloc: Global, sockets: &mut SocketSet<'_>, port: u16) -> Result<(), 
 #[derive(Drop)]
 pub struct Host<'a> {
     alloc: Global,
-    interface: Interface,
+    pub(crate) interface: Interface,
     pub device: MemoryDevice,
-    sockets: SocketSet<'a>,
-    owner: Idle,
+    pub(crate) sockets: SocketSet<'a>,
+    pub(crate) owner: Idle,
     /// The moment last given by a call, 0 at first.
     pub moment: Instant,
     ghost timely: { IsMoment moment },
@@ -79,6 +79,7 @@ pub struct Host<'a> {
 impl<'a> Host<'a> {
     ghost use Rattle.std.specs.Prelude.{◌≡◌};
     ghost use Rattle.script.specs.Commands.{IsTimelyCall, moment_after};
+    ghost use Rattle.script.specs.Runs.{RunsCall};
 
     /// Creates a host without addresses and sockets, unless its device and its hardware address don't match.
     pub fn new(alloc: Global) -> Result<Host<'a>, NewError>
@@ -102,10 +103,12 @@ impl<'a> Host<'a> {
         add_udp(self.alloc, &mut self.sockets, port)
     }
 
-    /// Makes a call.
+    /// Makes a call, as one command of the host machine, and returns the machine's answer. The owner of the sockets does
+    /// nothing.
     pub fn run(&mut self, call: Call) -> Answer
         requires { IsTimelyCall call }
-        ensures { self.new.moment ≡ moment_after self.old.moment call }
+        ensures moment { self.new.moment ≡ moment_after self.old.moment call }
+        ensures runs { RunsCall call result self.old self.new }
     {
         self.moment = call.moment(self.moment);
         let command = call.command(self.moment);
