@@ -1,16 +1,22 @@
 #!/usr/bin/env python3
-"""Runs tests and programs with each request for memory refused in turn.
+"""Runs tests and programs with requests for memory refused, one in each run.
 
-usage: refused.py [--over-gate] [--jobs N] [CRATE..]     of these crates, or of all that it knows
+usage: refused.py [--all] [--over-gate] [--jobs N] [CRATE..]     of these crates, or of all that it knows
 
-Each test is run by itself, once for each request for memory that it makes, and that one request is refused. It has to
-hold as it does otherwise: what was refused has been told as an error, nothing has changed, and the next call gets it.
-The program `hostrun` runs scripts so. It has to end as it does otherwise, or with `out of memory` and status 3, when
-it has printed a beginning of what it prints otherwise.
+Each test is run by itself, once for each request that is tried, and that one request is refused. It has to hold as it
+does otherwise: what was refused has been told as an error, nothing has changed, and the next call gets it. The program
+`hostrun` runs scripts so. It has to end as it does otherwise, or with `out of memory` and status 3, when it has printed
+a beginning of what it prints otherwise.
+
+A test may make tens of thousands of requests in loops, so not all are tried. Of those that are made from one place, the
+same calls one inside the other, the first is, the second, the fourth, the eighth and so on. So each place from which
+memory is taken is refused at least once in each test. What goes wrong only at the third request of a place isn't found.
+With `--all` each request is tried. How places are told apart is said in `refuse.c`.
 
 It builds the tests and the program by `rt test` and `rt run`, which prove them first. With `--over-gate` it builds
 them over the libraries that `rt ci` has just proved in this clone. It needs a C compiler (CC, or cc) and `rt` (RT).
 """
+import collections
 import concurrent.futures
 import os
 import pathlib
@@ -25,6 +31,7 @@ CRATES = HERE.parent / "crates"
 TESTS = ["net_base_tests", "sockets_tests", "socket_set_tests", "host_tests", "script_tests", "interface_tests"]
 PROGRAMS = ["hostrun"]
 RT = os.environ.get("RT", "rt")
+FLAGS = ["-O2", "-fno-omit-frame-pointer", "-shared", "-fPIC"]
 # How long one run may take, in seconds.
 LIMIT = 120
 
@@ -87,24 +94,40 @@ def built(crate, over_gate):
 
 
 class Run:
-    """What a program did: its status, what it printed, and how often it asked for memory."""
+    """What a program did: its status and what it printed."""
 
-    def __init__(self, work, at, shim):
+    def __init__(self, work, at, shim, calls=None):
         _, words, given = work
-        with tempfile.NamedTemporaryFile() as count:
-            more = {"LD_PRELOAD": str(shim), "REFUSE_AT": str(at), "REFUSE_COUNT": count.name}
-            try:
-                ran = subprocess.run(words, input=given, capture_output=True, timeout=LIMIT, env={**os.environ, **more})
-                self.status, self.out, self.errors = ran.returncode, ran.stdout, ran.stderr
-            except subprocess.TimeoutExpired:
-                self.status, self.out, self.errors = None, b"", b""
-            self.requests = int.from_bytes(count.read(8), sys.byteorder)
+        more = {"LD_PRELOAD": str(shim), "REFUSE_AT": str(at), **({"REFUSE_CALLS": calls} if calls else {})}
+        try:
+            ran = subprocess.run(words, input=given, capture_output=True, timeout=LIMIT, env={**os.environ, **more})
+            self.status, self.out, self.errors = ran.returncode, ran.stdout, ran.stderr
+        except subprocess.TimeoutExpired:
+            self.status, self.out, self.errors = None, b"", b""
 
     def ending(self):
         if self.status is None:
             return f"had not ended after {LIMIT} seconds"
         how = f"signal {-self.status}" if self.status < 0 else f"status {self.status}"
         return f"{how}: {self.errors.decode(errors='replace').strip()[-300:]}"
+
+
+class Whole(Run):
+    """A run in which nothing was refused, and from where it asked for memory."""
+
+    def __init__(self, work, shim):
+        with tempfile.NamedTemporaryFile() as calls:
+            super().__init__(work, 0, shim, calls.name)
+            told = calls.read()
+        self.places = [told[at : at + 8] for at in range(0, len(told), 8)]
+
+    def tried(self, is_all):
+        """The numbers of the requests that are tried: of each place the first, the second, the fourth and so on."""
+        seen = collections.Counter()
+        for number, place in enumerate(self.places, 1):
+            seen[place] += 1
+            if is_all or seen[place].bit_count() == 1:
+                yield number
 
 
 def is_right(run, whole, is_program):
@@ -125,19 +148,21 @@ def parts(crate, path):
     return [(f"{crate} {name}", [str(path), name], b"") for name in names]
 
 
-def tried(crate, path, shim, jobs):
+def tried(crate, path, shim, jobs, is_all):
     """Tries a crate's tests or a program's scripts. Prints what came of them; returns how much went wrong."""
     start = time.monotonic()
     is_program = crate in PROGRAMS
     works = parts(crate, path)
-    wrong, requests = [], 0
+    wrong, requests, refused, places = [], 0, 0, set()
     with concurrent.futures.ThreadPoolExecutor(jobs) as pool:
-        for work, whole in zip(works, list(pool.map(lambda it: Run(it, 0, shim), works))):
+        for work, whole in zip(works, list(pool.map(lambda it: Whole(it, shim), works))):
             if not is_program and whole.status != 0:
                 wrong.append(f"{work[0]}: fails where nothing is refused: {whole.ending()}")
                 continue
-            numbers = range(1, whole.requests + 1)
-            requests += whole.requests
+            numbers = list(whole.tried(is_all))
+            requests += len(whole.places)
+            refused += len(numbers)
+            places.update(whole.places)
             for number, run in zip(numbers, pool.map(lambda at: Run(work, at, shim), numbers)):
                 if not is_right(run, whole, is_program):
                     wrong.append(f"{work[0]}: request {number} refused: {run.ending()}")
@@ -145,13 +170,14 @@ def tried(crate, path, shim, jobs):
         print(line)
     what = "scripts" if is_program else "tests"
     spent = time.monotonic() - start
-    print(f"{crate}: {len(works)} {what}, {requests} requests refused in turn, {len(wrong)} wrong, {spent:.0f} s", flush=True)
+    made = f"{requests} requests from {len(places)} places, {refused} of them refused"
+    print(f"{crate}: {len(works)} {what}, {made}, {len(wrong)} wrong, {spent:.0f} s", flush=True)
     return len(wrong) + (requests == 0)
 
 
 def main(words):
-    over_gate = "--over-gate" in words
-    words = [it for it in words if it != "--over-gate"]
+    over_gate, is_all = "--over-gate" in words, "--all" in words
+    words = [it for it in words if it not in ("--over-gate", "--all")]
     jobs = os.cpu_count() or 1
     if "--jobs" in words:
         place = words.index("--jobs")
@@ -165,8 +191,8 @@ def main(words):
     with tempfile.TemporaryDirectory() as folder:
         shim = pathlib.Path(folder) / "refuse.so"
         compiler = os.environ.get("CC", "cc")
-        subprocess.run([compiler, "-O2", "-shared", "-fPIC", "-o", shim, HERE / "refuse.c", "-ldl"], check=True)
-        wrong = sum(tried(crate, built(crate, over_gate), shim, jobs) for crate in crates)
+        subprocess.run([compiler, *FLAGS, "-o", shim, HERE / "refuse.c", "-ldl"], check=True)
+        wrong = sum(tried(crate, built(crate, over_gate), shim, jobs, is_all) for crate in crates)
     return 1 if wrong else 0
 
 
