@@ -1,0 +1,17 @@
+//! Simulates hosts on one Ethernet that loses, repeats, reorders and delays frames, by a script. The program `simulate`
+//! runs a script from standard input; `docs/SIMULATE.md` has the words of scripts and what is printed.
+#![tactic(auto)]
+
+pub mod agenda;
+pub mod capture;
+pub mod chart;
+pub mod events;
+pub mod kind;
+pub mod line;
+pub mod link;
+pub mod pending;
+pub mod report;
+pub mod script;
+pub mod simulation;
+pub mod station;
+pub mod words;

@@ -1,0 +1,172 @@
+//! A simulation: what happens goes from event to event, and the network's proved hosts do the rest.
+ghost use Rattle.net_base.specs.Time.{IsMoment};
+
+use crate::agenda::{Agenda, What};
+use crate::link::Link;
+use crate::pending::Pending;
+use crate::report::{self, Counts};
+use crate::script::Script;
+use crate::station::{self, Station};
+use crate::{capture, chart};
+use anyhow::Result;
+use net_base::time::Instant;
+use network::Network;
+use std::alloc::Global;
+use std::collections::BTreeMap;
+use std::io::Write;
+
+/// What is written.
+#[derive(Clone, Copy, PartialEq, Eq)]
+pub enum Form {
+    /// The datagrams that sockets get, and tables in the end.
+    Report,
+    /// The same, and a line for each copy of a frame.
+    Chart,
+    /// Tables alone.
+    Tables,
+    /// A capture of the frames that were sent.
+    Capture,
+}
+
+/// A simulation.
+#[derive(Drop)]
+pub struct Simulation {
+    pub(crate) alloc: Global,
+    pub(crate) form: Form,
+    pub(crate) script: Script,
+    pub(crate) network: Network<'static, Station>,
+    pub(crate) link: Link,
+    pub(crate) agenda: Agenda,
+    pub(crate) pending: Pending,
+    // The hosts by their Ethernet addresses.
+    pub(crate) by_address: BTreeMap<[u8; 6], usize>,
+    // When each host is to be polled.
+    pub(crate) wakes: Vec<Option<u64>>,
+    pub(crate) counts: Counts,
+    // The number of the next transmission that the link gets.
+    pub(crate) next: usize,
+    pub(crate) now: u64,
+}
+
+/// The instant at this many microseconds.
+pub(crate) fn instant(micros: u64) -> Instant
+    ensures { IsMoment result }
+{
+    Instant::from_micros(micros.min(1 << 62) as i64)
+}
+
+/// Runs a script to its end, and writes what happens.
+pub fn run<W: Write>(alloc: Global, form: Form, script: Script, output: &mut W) -> Result<()> {
+    let until = script.until;
+    let mut simulation = Simulation::new(alloc, form, script)?;
+    simulation.plan()?;
+    simulation.begin(output)?;
+    for _ in 0..u64::MAX {
+        let Some(event) = simulation.agenda.take_first() else {
+            break;
+        };
+        if event.time > until {
+            break;
+        }
+        simulation.happen(event, output)?;
+    }
+    simulation.end(output)
+}
+
+impl Simulation {
+    /// A simulation in which nothing happened yet.
+    fn new(alloc: Global, form: Form, script: Script) -> Result<Simulation> {
+        let mut hosts = Vec::new(alloc);
+        let mut by_address = BTreeMap::new(alloc);
+        for number in 0..script.hosts.len() {
+            hosts.push(station::new_host(alloc, &script, number)?)?;
+            by_address.insert(script.hosts[number].hardware_addr.0, number)?;
+        }
+        let counts = Counts::new(alloc, &script)?;
+        let wakes = vec![in alloc; None; script.hosts.len()]?;
+        let network = Network::new(alloc, hosts);
+        network.are_regular();
+        Ok(Simulation {
+            alloc,
+            form,
+            link: Link::new(script.treatment, script.seed),
+            script,
+            network,
+            agenda: Agenda::new(alloc),
+            pending: Pending::new(alloc),
+            by_address,
+            wakes,
+            counts,
+            next: 0,
+            now: 0,
+        })
+    }
+
+    /// Plans what the script says.
+    fn plan(&mut self) -> Result<()> {
+        for host in 0..self.script.hosts.len() {
+            self.agenda.plan(0, What::Begins(host))?;
+        }
+        self.plan_tasks()?;
+        for (i, frame) in self.script.frames.iter().enumerate() {
+            self.agenda.plan(frame.at, What::Comes(i))?;
+        }
+        for (i, leave) in self.script.leaves.iter().enumerate() {
+            self.agenda.plan(leave.at, What::Leaves(i))?;
+        }
+        Ok(())
+    }
+
+    /// Plans the tasks of hosts: the first datagrams of flows, and packets. Those of one host are numbered in this order.
+    fn plan_tasks(&mut self) -> Result<()> {
+        let mut tasks = vec![in self.alloc; 0_usize; self.script.hosts.len()]?;
+        for flow in self.script.flows.iter() {
+            let host = flow.host;
+            let task = next_task(&mut tasks, host);
+            if flow.count != 0 {
+                self.agenda.plan(flow.start, What::Does { host, task })?;
+            }
+        }
+        for packet in self.script.packets.iter() {
+            let host = packet.host;
+            let task = next_task(&mut tasks, host);
+            self.agenda.plan(packet.at, What::Does { host, task })?;
+        }
+        Ok(())
+    }
+}
+
+/// The number of a host's next task.
+fn next_task(tasks: &mut Vec<usize>, host: usize) -> usize {
+    match tasks.get_mut(host) {
+        Some(next) => {
+            let task = *next;
+            *next = task.saturating_add(1);
+            task
+        }
+        None => 0,
+    }
+}
+
+impl Simulation {
+    /// Writes what comes first.
+    fn begin<W: Write>(&self, output: &mut W) -> Result<()> {
+        match self.form {
+            Form::Capture => capture::write_header(output),
+            Form::Chart => chart::write_names(self.alloc, &self.script, output),
+            Form::Report | Form::Tables => Ok(()),
+        }
+    }
+
+    /// Writes the tables.
+    fn end<W: Write>(&self, output: &mut W) -> Result<()> {
+        if self.form == Form::Capture {
+            return Ok(());
+        }
+        let hosts = self.network.hosts();
+        report::print_hosts(output, &self.script, hosts)?;
+        report::print_flows(output, &self.script, &self.counts)?;
+        report::print_frames(output, &self.script, &self.counts)?;
+        report::print_link(output, &self.script, hosts, &self.counts)
+    }
+}
