@@ -16,3 +16,8 @@ pub mod RunTraffic
 mod RegularHosts
 pub mod DatagramOrigin
 pub mod NetworkOrigin
+mod WaitingPackets
+mod FragmentsLeft
+mod QueuesAfterTurns
+mod GroupsToName
+mod LessWork

@@ -4,3 +4,4 @@ pub mod Senders
 pub mod Datagrams
 pub mod EndToEnd
 pub mod Network
+pub mod Progress

@@ -1,0 +1,21 @@
+//! How many polls there are until nothing is due.
+ghost use Rattle.host_laws.specs.Progress.{QueuesOnlyShrink, PollsMakeProgress, PollsComeToRest};
+
+/// A call that sends puts no packet into a queue of a socket. If every transmit token is granted and no packet leaves a
+/// queue, the pending fragments are those from before without the first.
+pub fn queues_only_shrink()
+    ensures { QueuesOnlyShrink }
+{}
+
+/// A poll with a budget, without frames received and with every transmit token granted: if something is still due after
+/// it at its moment, the host has less work than before. Work is a number: eight for each packet that a socket has
+/// queued, one for each pending fragment, and one for each group that an IGMP answer has still to name.
+pub fn polls_make_progress()
+    ensures { PollsMakeProgress }
+{}
+
+/// So a program that polls at a moment as long as something is due at it polls at most once more than the host had
+/// work: then nothing is due.
+pub fn polls_come_to_rest()
+    ensures { PollsComeToRest }
+{}
