@@ -21,3 +21,4 @@ mod FragmentsLeft
 mod QueuesAfterTurns
 mod GroupsToName
 mod LessWork
+mod QueuedExample

@@ -5,3 +5,4 @@ pub mod Datagrams
 pub mod EndToEnd
 pub mod Network
 pub mod Progress
+pub mod TwoPolls

@@ -1,5 +1,6 @@
 //! How many polls there are until nothing is due.
 ghost use Rattle.host_laws.specs.Progress.{QueuesOnlyShrink, PollsMakeProgress, PollsComeToRest};
+ghost use Rattle.host_laws.specs.TwoPolls.{TwoPollsSendTwo};
 
 /// A call that sends puts no packet into a queue of a socket. If every transmit token is granted and no packet leaves a
 /// queue, the pending fragments are those from before without the first.
@@ -18,4 +19,10 @@ pub fn polls_make_progress()
 /// work: then nothing is due.
 pub fn polls_come_to_rest()
     ensures { PollsComeToRest }
+{}
+
+/// A worked example: two datagrams that a socket has queued, to a known neighbour, are sent in two polls with a budget
+/// of one. Then nothing is due.
+pub fn two_polls_send_two()
+    ensures { TwoPollsSendTwo }
 {}
