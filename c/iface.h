@@ -38,7 +38,7 @@ enum iface_code {
     IFACE_NOT_UNICAST = 6,   /* a hardware address or an own address that can't be one */
     IFACE_BAD_MOMENT = 7,    /* a moment below 0 or above 2^62 */
     IFACE_BAD_ADDRESS = 8,   /* a destination that is unspecified, a group that is none */
-    IFACE_NOT_THERE = 9,     /* no such address or route */
+    IFACE_NOT_THERE = 9,     /* no such address or route; the medium has no hardware addresses */
     IFACE_TABLE_FULL = 10,   /* four addresses, four routes or eight groups are there, or all sockets are open */
     IFACE_NO_SOCKET = 11,    /* no socket of this kind is open by this number */
     IFACE_BAD_PORT = 12,     /* a port that is 0 */
@@ -131,6 +131,40 @@ uint32_t iface_join_group(iface *host, const struct iface_address *group);
 
 /* Leaves a group, if the host is in it. BAD_ARGUMENT, BAD_ADDRESS. */
 uint32_t iface_leave_group(iface *host, const struct iface_address *group);
+
+/* Writes 1 if the host is in a group, else 0, also where the address is no group's. Beside those that it joined, it is
+ * in 224.0.0.1 (RFC 1112), and in ff02::1 and the solicited-node groups of its own addresses (RFC 4291, 2.8). Nothing
+ * changes. BAD_ARGUMENT. */
+uint32_t iface_has_group(iface *host, const struct iface_address *group, uint8_t *is);
+
+/* ---- what is set while a host runs ----
+ *
+ * A call that writes a value changes nothing of the host. */
+
+/* Sets the host's address on Ethernet, six octets: frames are sent from it from now on, and those to it are taken. Own
+ * addresses and groups stay. NOT_THERE (a medium without hardware addresses), NOT_UNICAST. */
+uint32_t iface_set_hardware_address(iface *host, const uint8_t *address);
+
+/* Writes the host's address on Ethernet, six octets. NOT_THERE (a medium without hardware addresses). */
+uint32_t iface_hardware_address(iface *host, uint8_t *address);
+
+/* Sets how long fragments of a packet wait for the others, in microseconds: not 0, at most a day. A packet whose first
+ * fragment came before waits as long as was set then. BAD_TIMEOUT. */
+uint32_t iface_set_reassembly_timeout(iface *host, uint64_t micros);
+
+/* Writes how long fragments of a packet wait for the others, in microseconds. */
+uint32_t iface_reassembly_timeout(iface *host, uint64_t *micros);
+
+/* Sets whether addresses that are routed to the host count as its own: not 0, or 0, as at first. They are unicast
+ * addresses whose best route is by a router with an own address of the host. */
+uint32_t iface_set_any_ip(iface *host, uint8_t on);
+
+/* Writes 1 if addresses that are routed to the host count as its own, else 0. */
+uint32_t iface_any_ip(iface *host, uint8_t *on);
+
+/* Writes the moment at which own addresses and routes were last made those that routers advertise (RFC 4862), and 0
+ * before the first time. */
+uint32_t iface_slaac_updated_at(iface *host, int64_t *at);
 
 /* ---- routes ---- */
 

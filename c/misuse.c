@@ -71,6 +71,7 @@ static void refuses_without_host(void) {
     size_t n = 77;
     int64_t at = 77;
     uint64_t count = 77;
+    uint8_t flag = 77, hardware[6] = {2, 0, 0, 0, 0, 9};
     wants("address", iface_add_address(&host, &a, 8), IFACE_NO_HOST);
     wants("address at", iface_address_at(&host, 0, &a, &prefix), IFACE_NO_HOST);
     wants("route", iface_set_default_route(&host, &a), IFACE_NO_HOST);
@@ -83,7 +84,16 @@ static void refuses_without_host(void) {
     wants("waiting", iface_waiting(&host, 0, &a, &at), IFACE_NO_HOST);
     wants("given up", iface_given_up(&host, 0, &a), IFACE_NO_HOST);
     wants("given up, of all", iface_given_up_count(&host, &count), IFACE_NO_HOST);
+    wants("in a group", iface_has_group(&host, &a, &flag), IFACE_NO_HOST);
+    wants("set hardware address", iface_set_hardware_address(&host, hardware), IFACE_NO_HOST);
+    wants("hardware address", iface_hardware_address(&host, hardware), IFACE_NO_HOST);
+    wants("set timeout", iface_set_reassembly_timeout(&host, 1), IFACE_NO_HOST);
+    wants("timeout", iface_reassembly_timeout(&host, &count), IFACE_NO_HOST);
+    wants("set any address", iface_set_any_ip(&host, 1), IFACE_NO_HOST);
+    wants("any address", iface_any_ip(&host, &flag), IFACE_NO_HOST);
+    wants("routers", iface_slaac_updated_at(&host, &at), IFACE_NO_HOST);
     wants("what was not written", socket == 77 && n == 77 && at == 77 && count == 77, 1);
+    wants("nor that", flag == 77 && hardware[5] == 9, 1);
 }
 
 static void refuses_addresses(iface *host) {
@@ -129,6 +139,59 @@ static void refuses_routes_and_groups(iface *host) {
     a = v4(239, 2, 2, 2), wants("ninth group", iface_join_group(host, &a), IFACE_TABLE_FULL);
     a = v4(239, 1, 1, 3), wants("leave", iface_leave_group(host, &a), IFACE_OK);
     wants("leave again", iface_leave_group(host, &a), IFACE_OK);
+}
+
+static void refuses_properties(iface *host) {
+    static const uint8_t group[6] = {3, 0, 0, 0, 0, 1}, another[6] = {2, 0, 0, 0, 0, 7};
+    uint8_t hardware[6] = {0}, flag = 77;
+    uint64_t micros = 77;
+    int64_t at = 77;
+    struct iface_address a = v4(239, 1, 1, 4);
+    wants("group as hardware address", iface_set_hardware_address(host, group), IFACE_NOT_UNICAST);
+    wants("hardware address", iface_hardware_address(host, hardware), IFACE_OK);
+    wants("as it was", memcmp(hardware, good.hardware_address, 6) == 0, 1);
+    wants("another one", iface_set_hardware_address(host, another), IFACE_OK);
+    wants("hardware address", iface_hardware_address(host, hardware), IFACE_OK);
+    wants("as it is", memcmp(hardware, another, 6) == 0, 1);
+    wants("the first one", iface_set_hardware_address(host, good.hardware_address), IFACE_OK);
+    wants("timeout of 0", iface_set_reassembly_timeout(host, 0), IFACE_BAD_TIMEOUT);
+    wants("timeout above a day", iface_set_reassembly_timeout(host, 86400000001), IFACE_BAD_TIMEOUT);
+    wants("timeout", iface_reassembly_timeout(host, &micros), IFACE_OK);
+    wants("as it was", micros, good.reassembly_timeout);
+    wants("timeout of a day", iface_set_reassembly_timeout(host, 86400000000), IFACE_OK);
+    wants("timeout", iface_reassembly_timeout(host, &micros), IFACE_OK);
+    wants("a day", micros, 86400000000);
+    wants("the first one", iface_set_reassembly_timeout(host, good.reassembly_timeout), IFACE_OK);
+    wants("any address", iface_any_ip(host, &flag), IFACE_OK);
+    wants("not at first", flag, 0);
+    wants("set any address", iface_set_any_ip(host, 255), IFACE_OK);
+    wants("any address", iface_any_ip(host, &flag), IFACE_OK);
+    wants("set", flag, 1);
+    wants("not any address", iface_set_any_ip(host, 0), IFACE_OK);
+    wants("in a group", iface_has_group(host, &a, &flag), IFACE_OK);
+    wants("joined", flag, 1);
+    a = v4(239, 1, 1, 3), wants("in a group", iface_has_group(host, &a, &flag), IFACE_OK);
+    wants("left", flag, 0);
+    a = v6(0xff, 2, 1), wants("in ff02::1", iface_has_group(host, &a, &flag), IFACE_OK);
+    wants("always", flag, 1);
+    a = v4(10, 0, 0, 1), wants("no group", iface_has_group(host, &a, &flag), IFACE_OK);
+    wants("not in it", flag, 0);
+    a.version = 0, flag = 77, wants("version 0", iface_has_group(host, &a, &flag), IFACE_BAD_ARGUMENT);
+    wants("nothing written", flag, 77);
+    wants("routers", iface_slaac_updated_at(host, &at), IFACE_OK);
+    wants("not yet", (uint64_t)at, 0);
+}
+
+/* A host without hardware addresses. */
+static void refuses_hardware_addresses(void) {
+    iface host = IFACE_NONE;
+    struct iface_config c = good;
+    uint8_t hardware[6] = {2, 0, 0, 0, 0, 9};
+    c.medium = IFACE_IP, wants("packets", iface_new(&host, &c), IFACE_OK);
+    wants("hardware address", iface_hardware_address(&host, hardware), IFACE_NOT_THERE);
+    wants("nothing written", hardware[5], 9);
+    wants("set hardware address", iface_set_hardware_address(&host, hardware), IFACE_NOT_THERE);
+    wants("free", iface_free(&host), IFACE_OK);
 }
 
 static void refuses_sockets(iface *host) {
@@ -258,6 +321,8 @@ int main(int argc, char **argv) {
     wants("host", iface_new(&host, &good), IFACE_OK);
     refuses_addresses(&host);
     refuses_routes_and_groups(&host);
+    refuses_properties(&host);
+    refuses_hardware_addresses();
     refuses_sockets(&host);
     refuses_frames(&host);
     takes_noise(&host, frames);

@@ -95,7 +95,7 @@ static iface host = IFACE_NONE;
 static struct iface_config config;
 static struct iface_address address, other;
 static struct iface_endpoint end;
-static uint8_t frame[IFACE_FRAME_ROOM], out[65536], payload[4096], prefix_len, protocol;
+static uint8_t frame[IFACE_FRAME_ROOM], out[65536], payload[4096], prefix_len, protocol, flag, hardware[6];
 static uint16_t ident;
 static uint32_t code, number, socket_number, packets = 8, octets = 32768;
 static uint64_t count;
@@ -111,6 +111,14 @@ static size_t length, given;
     each(address_at, iface_address_at(&host, number, &other, &prefix_len)) \
     each(join_group, iface_join_group(&host, &address)) \
     each(leave_group, iface_leave_group(&host, &address)) \
+    each(has_group, iface_has_group(&host, &address, &flag)) \
+    each(set_hardware_address, iface_set_hardware_address(&host, hardware)) \
+    each(hardware_address, iface_hardware_address(&host, hardware)) \
+    each(set_reassembly_timeout, iface_set_reassembly_timeout(&host, count)) \
+    each(reassembly_timeout, iface_reassembly_timeout(&host, &count)) \
+    each(set_any_ip, iface_set_any_ip(&host, flag)) \
+    each(any_ip, iface_any_ip(&host, &flag)) \
+    each(slaac_updated_at, iface_slaac_updated_at(&host, &at)) \
     each(set_default_route, iface_set_default_route(&host, &address)) \
     each(add_route, iface_add_route(&host, &address, prefix_len, &other)) \
     each(remove_route, iface_remove_route(&host, &address, prefix_len)) \
@@ -301,7 +309,9 @@ static void set_up(uint8_t medium) {
     number = 1, MUST(address_at);
     address = v4(239, 69, 69, 69), MUST(join_group);
     address = v6(0xff, 0x15, 9), MUST(join_group);
-    address = v4(239, 69, 69, 70), MUST(join_group), MUST(leave_group);
+    address = v4(239, 69, 69, 70), MUST(join_group), MUST(has_group), MUST(leave_group), MUST(has_group);
+    if (medium == IFACE_ETHERNET) MUST(hardware_address), MUST(set_hardware_address);
+    MUST(reassembly_timeout), MUST(set_reassembly_timeout), MUST(any_ip), MUST(set_any_ip), MUST(slaac_updated_at);
     address = v4(192, 168, 69, 2), MUST(set_default_route), MUST(set_default_route);
     address = v4(172, 16, 0, 0), other = v4(192, 168, 69, 2), prefix_len = 12, MUST(add_route);
     address = v6(0x20, 1, 0), other = v6(0xfe, 0x80, 2), prefix_len = 48, MUST(add_route);

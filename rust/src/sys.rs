@@ -2,7 +2,7 @@
 //!
 //! Calling any of it is `unsafe`: the header says what the caller keeps. [`Host`](crate::Host) keeps it.
 //!
-//! Sum of the header: 0x222ff93814739400
+//! Sum of the header: 0xf3fa0f821764ad28
 #![allow(non_camel_case_types)]
 
 use core::ffi::{c_char, c_void};
@@ -25,7 +25,7 @@ pub const IFACE_NOT_UNICAST: u32 = 6;
 pub const IFACE_BAD_MOMENT: u32 = 7;
 /// a destination that is unspecified, a group that is none
 pub const IFACE_BAD_ADDRESS: u32 = 8;
-/// no such address or route
+/// no such address or route; the medium has no hardware addresses
 pub const IFACE_NOT_THERE: u32 = 9;
 /// four addresses, four routes or eight groups are there, or all sockets are open
 pub const IFACE_TABLE_FULL: u32 = 10;
@@ -138,6 +138,22 @@ unsafe extern "C" {
     pub fn iface_join_group(host: *mut iface, group: *const iface_address) -> u32;
     /// Leaves a group, if the host is in it. BAD_ARGUMENT, BAD_ADDRESS.
     pub fn iface_leave_group(host: *mut iface, group: *const iface_address) -> u32;
+    /// Writes 1 if the host is in a group, else 0, also where the address is no group's. Beside those that it joined, it is in 224.0.0.1 (RFC 1112), and in ff02::1 and the solicited-node groups of its own addresses (RFC 4291, 2.8). Nothing changes. BAD_ARGUMENT.
+    pub fn iface_has_group(host: *mut iface, group: *const iface_address, is: *mut u8) -> u32;
+    /// Sets the host's address on Ethernet, six octets: frames are sent from it from now on, and those to it are taken. Own addresses and groups stay. NOT_THERE (a medium without hardware addresses), NOT_UNICAST.
+    pub fn iface_set_hardware_address(host: *mut iface, address: *const u8) -> u32;
+    /// Writes the host's address on Ethernet, six octets. NOT_THERE (a medium without hardware addresses).
+    pub fn iface_hardware_address(host: *mut iface, address: *mut u8) -> u32;
+    /// Sets how long fragments of a packet wait for the others, in microseconds: not 0, at most a day. A packet whose first fragment came before waits as long as was set then. BAD_TIMEOUT.
+    pub fn iface_set_reassembly_timeout(host: *mut iface, micros: u64) -> u32;
+    /// Writes how long fragments of a packet wait for the others, in microseconds.
+    pub fn iface_reassembly_timeout(host: *mut iface, micros: *mut u64) -> u32;
+    /// Sets whether addresses that are routed to the host count as its own: not 0, or 0, as at first. They are unicast addresses whose best route is by a router with an own address of the host.
+    pub fn iface_set_any_ip(host: *mut iface, on: u8) -> u32;
+    /// Writes 1 if addresses that are routed to the host count as its own, else 0.
+    pub fn iface_any_ip(host: *mut iface, on: *mut u8) -> u32;
+    /// Writes the moment at which own addresses and routes were last made those that routers advertise (RFC 4862), and 0 before the first time.
+    pub fn iface_slaac_updated_at(host: *mut iface, at: *mut i64) -> u32;
     /// Sets the default route of the gateway's family, in place of the first one that is there: at most four routes. BAD_ARGUMENT, TABLE_FULL.
     pub fn iface_set_default_route(host: *mut iface, gateway: *const iface_address) -> u32;
     /// Adds a route to a network by a router. The longest prefix wins, of equal ones the last. BAD_ARGUMENT, TABLE_FULL.

@@ -5,5 +5,6 @@ pub mod Handle
 pub mod Hosts
 pub mod Owned
 pub mod Packets
+pub mod Properties
 pub mod Status
 pub mod Waits

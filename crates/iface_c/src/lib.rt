@@ -11,6 +11,7 @@ pub mod hosts;
 pub mod loose;
 pub mod opening;
 pub mod packets;
+pub mod properties;
 pub mod status;
 pub mod waiting;
 

@@ -16,6 +16,15 @@ use Rattle.host_machine.specs.State.Host.{Host as Machine, SocketSet}
 use Rattle.host_machine.specs.Sending.Multicast as machine
 use Rattle.host_machine.specs.Sending.Multicast.{NoGroup, NoPlace, JoinTaken, NoGroupEither, LeaveTaken}
 use Rattle.host_machine.specs.Polling.Step.{UpdatesIpAddrs, Accepted, Refused, SetsReassemblyTimeout, WithinDay, OverDay}
+use Rattle.host_machine.specs.Polling.Step.{SetsHardwareAddr, Taken, NotTaken}
+use Rattle.host_machine.specs.State.Config.{hardware_refusal_of, if_ethernet}
+use Rattle.host_machine.specs.declared.results.HardwareError.{HardwareError}
+use Rattle.host_machine.specs.declared.results.HardwareError.TheVariants as error
+use Rattle.ip_address.specs.declared.ethernet_address.EthernetAddress.{EthernetAddress}
+use Rattle.ip_address.specs.declared.hardware.HardwareAddress.{HardwareAddress}
+use Rattle.ip_address.specs.declared.hardware.HardwareAddress.TheVariants.{Ethernet, Ip}
+use Rattle.std.specs.Option.{option_and_then}
+use Rattle.iface_host.specs.Properties.{ethernet_in, hardware_refusal, of_error}
 use Rattle.host_machine.specs.declared.results.AddrError.{AddrError}
 use Rattle.host_machine.specs.declared.results.MulticastError.{MulticastError}
 use Rattle.host_machine.specs.declared.results.MulticastError.TheVariants.{GroupTableFull, Unaddressable}
@@ -168,3 +177,29 @@ waits_within i i' timeout e is le s f =
       by : (H' : Machine) → SetsReassemblyTimeout timeout (Err e) (is s).0 H' → ⊥
       by H' (WithinDay within answers same) = cc
       by H' (OverDay over answers same) = omega arith
+
+-- the hardware address
+abbrev pub hardware_told : Result (Unit {0}) HardwareError → Option Refusal
+hardware_told (Ok done) = None
+hardware_told (Err error.WrongMedium) = Some NotThere
+hardware_told (Err error.NotUnicast) = Some NotUnicast
+
+hardware_rule : (a : EthernetAddress) (r : Result (Unit {0}) HardwareError) (H H' : Machine) → SetsHardwareAddr (Ethernet a) r H H' →
+    hardware_told r ≡ of_error (hardware_refusal_of H.capabilities (Ethernet a))
+hardware_rule a r H H' (Taken why is answers same) = rw (answers, why) refl
+hardware_rule a r H H' (NotTaken error.WrongMedium why answers same) = rw (answers, why) refl
+hardware_rule a r H H' (NotTaken error.NotUnicast why answers same) = rw (answers, why) refl
+
+pub hardware_why : (old : Host) (i : Interface) (a : EthernetAddress) (r : Result (Unit {0}) HardwareError) → IsThere old.interface →
+    interface.HostRefines old.interface i (SetsHardwareAddr (Ethernet a) r) → hardware_told r ≡ hardware_refusal old a
+hardware_why old i a r there f =
+    let H = (there old.sockets).0 in
+    let h = (there old.sockets).1 in
+    let l = f old.sockets H h in
+    hardware_rule a r H l.host l.follows ∙ ap (λ (K : Machine). of_error (hardware_refusal_of K.capabilities (Ethernet a))) h.same
+
+-- the address on Ethernet, of what the interface tells
+pub ethernet_told : (h : HardwareAddress) (told : Option HardwareAddress) → told ≡ if_ethernet h →
+    option_and_then ethernet_in told ≡ ethernet_in h
+ethernet_told (Ethernet a) told is = rw is refl
+ethernet_told Ip told is = rw is refl

@@ -1,5 +1,6 @@
 -- Calls that go by a rule of the machine, over plain variables.
-use Rattle.std.proofs.Common.{◌≡◌, Bool, true, false, List, Ok, Err, refl, ap, sym, ◌∙◌, subst}
+use Rattle.std.proofs.Common.{◌≡◌, Bool, true, false, List, Result, Ok, Err, refl, ap, sym, ◌∙◌, subst}
+use Rattle.std.specs.Prelude.{OnOk}
 use Rattle.ip_address.specs.declared.cidr.IpCidr.{IpCidr}
 use Rattle.ip_address.specs.declared.ip.IpAddress.{IpAddress}
 use Rattle.iface_tables.specs.declared.route.Route.{Route}
@@ -8,13 +9,16 @@ use Rattle.iface_tables.specs.Route.{is_refused, old_or_full, with_default}
 use Rattle.host_machine.specs.State.Host.{Host as Machine, SocketSet}
 use Rattle.host_machine.specs.Sending.Multicast as machine
 use Rattle.host_machine.specs.Sending.Multicast.{NoGroup, NoPlace, JoinTaken, NoGroupEither, LeaveTaken}
-use Rattle.host_machine.specs.Polling.Step.{UpdatesIpAddrs, Accepted, Refused}
+use Rattle.host_machine.specs.Polling.Step.{UpdatesIpAddrs, Accepted, Refused, SetsHardwareAddr, Taken, NotTaken}
+use Rattle.host_machine.specs.declared.results.HardwareError.{HardwareError}
+use Rattle.ip_address.specs.declared.hardware.HardwareAddress.{HardwareAddress}
 use Rattle.host_machine.specs.declared.results.AddrError.{AddrError}
 use Rattle.host_machine.specs.declared.results.MulticastError.{MulticastError}
 use Rattle.interface.specs.Stands as interface
 use Rattle.interface.specs.Stands.{Becomes, host_with}
 use Rattle.interface.specs.declared.interface.Interface.{Interface}
 use Rattle.iface_host.specs.declared.host.Host.{Host}
+use Rattle.iface_host.specs.declared.refusal.Refusal.{Refusal}
 use Rattle.iface_host.specs.Stands.{Follows, Stays}
 
 abbrev with_interface : Host → Interface → Host
@@ -42,6 +46,12 @@ pub changed : (old : Host) (i : Interface) (change : Machine → Machine) →
     Becomes old.interface i change → Follows (λ H H'. H' ≡ change H) old (with_interface old i)
 changed old i change b = record { led = λ H h. record { host = change H; follows = refl; stands = b old.sockets H h }; rest = refl }
 
+-- and where it is one of a call that may be refused
+pub changed_if : (old : Host) (i : Interface) (change : Machine → Machine) (r : Result (Unit {0}) Refusal) →
+    OnOk r (Becomes old.interface i change) → OnOk r (Follows (λ H H'. H' ≡ change H) old (with_interface old i))
+changed_if old i change (Ok done) b = changed old i change b
+changed_if old i change (Err refusal) b = tt
+
 pub join_refused : (a : IpAddress) (e : MulticastError) (H H' : Machine) → machine.JoinsGroup a (Err e) H H' → H' ≡ H
 join_refused a e H H' (NoGroup m answers same) = same
 join_refused a e H H' (NoPlace m full answers same) = same
@@ -54,6 +64,10 @@ leave_refused a e H H' (LeaveTaken m answers same) = absurd cc
 pub addresses_refused : (list : List IpCidr) (e : AddrError) (H H' : Machine) → UpdatesIpAddrs list (Err e) H H' → H' ≡ H
 addresses_refused list e H H' (Accepted a answers same) = absurd cc
 addresses_refused list e H H' (Refused a answers same) = same
+
+pub hardware_refused : (a : HardwareAddress) (e : HardwareError) (H H' : Machine) → SetsHardwareAddr a (Err e) H H' → H' ≡ H
+hardware_refused a e H H' (Taken why is answers same) = absurd cc
+hardware_refused a e H H' (NotTaken other why answers same) = same
 
 -- a default route that is refused changes no table
 pub default_refused : (is_kind : Route → Bool) (routes : List Route) (route : Route) (e : RouteTableFull) →

@@ -3,6 +3,7 @@ pub mod OutboxLaws
 pub mod Names
 pub mod Stands
 pub mod Calls
+pub mod Properties
 pub mod Sockets
 pub mod Refusals
 pub mod TableRefusals

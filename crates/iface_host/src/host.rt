@@ -1,5 +1,5 @@
 //! The host, and how it is made.
-ghost use Rattle.std.specs.Prelude.{◌≡◌, ◌<◌, ◌≤◌, IfOk, IfErr, OnOk, None, Some, replicate};
+ghost use Rattle.std.specs.Prelude.{◌≡◌, ◌<◌, ◌≤◌, IfOk, IfErr, OnOk, OnErr, None, Some, replicate};
 ghost use Rattle.std.specs.Result.{IsErrOf, result_err};
 ghost use Rattle.host_machine.specs.State.Host.{SocketSet};
 ghost use Rattle.interface.specs.Stands as interfaces;
@@ -123,10 +123,14 @@ fn capabilities(settings: &Settings) -> DeviceCapabilities
 }
 
 /// Lets fragments of a packet wait so long for the others. `BadTimeout` if that is no time, or longer than a day.
-fn let_fragments_wait(interface: &mut Interface, timeout: Duration) -> Result<(), Refusal>
+pub(crate) fn let_fragments_wait(
+    interface: &mut Interface,
+    timeout: Duration,
+) -> Result<(), Refusal>
     ensures within { OnOk result ((0 < timeout) × (timeout ≤ 86_400_000_000)) }
     ensures why { result_err result ≡ timeout_refusal timeout }
     ensures waits { OnOk result (Becomes interface.old interface.new (λ H. record H { reassembly_timeout = timeout })) }
+    ensures refused { OnErr result (interface.new ≡ interface.old) }
 {
     interface.stands_for_a_host();
     let micros = timeout.total_micros();

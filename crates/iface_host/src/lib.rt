@@ -12,6 +12,7 @@ pub mod names;
 pub mod opening;
 pub mod outbox;
 pub mod packets;
+pub mod properties;
 pub mod refusal;
 pub mod routes;
 pub mod waiting;

@@ -14,3 +14,9 @@ returns-in-Err-clause-why c =
     let within : c.args.timeout ≤ 86_400_000_000 = search rules in
     absurd (waits_within c.args.interface.now c.set_reassembly_timeout.new.self c.args.timeout c.in-Err.field-0 c.stands_for_a_host.ensures within no_sockets
     (rw c.in-Err.is at c.set_reassembly_timeout.ensures))
+
+pub returns-in-Err-clause-refused : goal.returns-in-Err-clause-refused
+returns-in-Err-clause-refused c =
+    let within : c.args.timeout ≤ 86_400_000_000 = search rules in
+    absurd (waits_within c.args.interface.now c.set_reassembly_timeout.new.self c.args.timeout c.in-Err.field-0 c.stands_for_a_host.ensures within no_sockets
+    (rw c.in-Err.is at c.set_reassembly_timeout.ensures))
