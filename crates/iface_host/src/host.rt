@@ -1,18 +1,16 @@
 //! The host, and how it is made.
 ghost use Rattle.std.specs.Prelude.{◌≡◌, ◌<◌, ◌≤◌, IfOk, IfErr, OnOk, OnErr, None, Some, replicate};
 ghost use Rattle.std.specs.Result.{IsErrOf, result_err};
-ghost use Rattle.host_machine.specs.State.Host.{SocketSet};
-ghost use Rattle.interface.specs.Stands as interfaces;
+ghost use Rattle.net_base.specs.Checksum.{ip_mtu_of};
 ghost use Rattle.interface.specs.Stands.{Becomes};
-ghost use Rattle.iface_host.specs.Outbox.{empty};
-ghost use Rattle.iface_host.specs.Stands.{IsFirst, capabilities_of, first_machine, free_storage};
+ghost use Rattle.iface_host.specs.Stands.{IsFirst, capabilities_of, free_storage};
 ghost use Rattle.iface_host.specs.TableRefusals.{settings_refusal, timeout_refusal};
 
 use crate::names::Names;
 use crate::outbox::Outbox;
 use crate::refusal::Refusal;
 use egress_schedule::Schedule;
-use interface::{Config, Interface, NewError};
+use interface::{Config, Interface};
 use ip_wire::HardwareAddress;
 use net_base::phy::{ChecksumCapabilities, DeviceCapabilities, Medium};
 use net_base::time::{Duration, Instant};
@@ -65,8 +63,20 @@ impl Host {
         ensures memory { settings_refusal settings.now ≡ None → IfErr result (λ e. e ≡ Refusal.NoMemory) }
     {
         let capabilities = capabilities(settings);
+        check_settings(settings, capabilities.ip_mtu())?;
         let mut outbox = Outbox::new(alloc, capabilities);
-        let interface = first_interface(settings, &mut outbox)?;
+        let config = Config {
+            random_seed: settings.random_seed,
+            hardware_addr: settings.hardware_addr,
+            slaac: settings.slaac,
+        };
+        // By the settings neither of these two can fail.
+        let Ok(mut interface) = Interface::new(config, &mut outbox, Instant::ZERO) else {
+            return Err(Refusal::NoMemory);
+        };
+        let Ok(()) = let_fragments_wait(&mut interface, settings.reassembly_timeout) else {
+            return Err(Refusal::NoMemory);
+        };
         let places = free_storages(alloc, settings.sockets)?;
         let names = Names::new(alloc, settings.sockets)?;
         let schedule = Schedule::new(alloc, settings.sockets, settings.patience)?;
@@ -82,28 +92,22 @@ impl Host {
     }
 }
 
-/// The interface of a host that is made, over the frames that wait.
-fn first_interface(settings: &Settings, outbox: &mut Outbox) -> Result<Interface, Refusal>
-    requires { outbox.old ≡ empty (capabilities_of settings.now) }
-    ensures stands { IfOk result (λ interface. (sockets : SocketSet) →
-        interfaces.StandsFor interface sockets (first_machine settings.now sockets)) }
-    ensures within { OnOk result
-        ((0 < settings.now.reassembly_timeout) × (settings.now.reassembly_timeout ≤ 86_400_000_000)) }
-    ensures why { result_err result ≡ settings_refusal settings.now }
-    ensures outbox { outbox.new ≡ outbox.old }
+/// Why no host is made by these settings, if so. `NotUnicast`, `BadMtu` and `BadTimeout` as [`Host::new`] says.
+fn check_settings(settings: &Settings, ip_mtu: usize) -> Result<(), Refusal>
+    requires { ip_mtu ≡ ip_mtu_of (capabilities_of settings.now) }
+    ensures { result_err result ≡ settings_refusal settings.now }
 {
-    let config = Config {
-        random_seed: settings.random_seed,
-        hardware_addr: settings.hardware_addr,
-        slaac: settings.slaac,
-    };
-    let mut interface = match Interface::new(config, outbox, Instant::ZERO) {
-        Ok(interface) => interface,
-        Err(NewError::NotUnicast) => return Err(Refusal::NotUnicast),
-        Err(_) => return Err(Refusal::BadMtu),
-    };
-    let_fragments_wait(&mut interface, settings.reassembly_timeout)?;
-    Ok(interface)
+    if !settings.hardware_addr.is_unicast() {
+        return Err(Refusal::NotUnicast);
+    }
+    if ip_mtu < 576 || settings.frame_len > FRAME_LEN {
+        return Err(Refusal::BadMtu);
+    }
+    let timeout = settings.reassembly_timeout.total_micros();
+    if timeout == 0 || timeout > 86_400_000_000 {
+        return Err(Refusal::BadTimeout);
+    }
+    Ok(())
 }
 
 /// What the link of a host can do.

@@ -2,6 +2,7 @@ use Rattle.std.proofs.Common.{◌≡◌, ℕ, List, ap, false, ◌∙◌}
 use Rattle.net_base.specs.Checksum.{ip_mtu_of}
 use Rattle.socket_set.specs.SocketSet.{Sockets, Storage, over}
 use Rattle.iface_host.specs.Outbox.{empty}
+use Rattle.iface_host.proofs.FrameCalls.{stood}
 use Rattle.iface_host.proofs.host.Host.new.Goals as goal
 
 -- a set over other places, with the room that it has
@@ -11,12 +12,14 @@ in_room {room = room} is same = rw is (ap (λ xs. over xs false room) same)
 
 pub returns-clause-made : goal.returns-clause-made
 returns-clause-made c = record {
-  stands = c.in_ok-interface.ensures.stands c.fixed.result;
-  some_time = c.in_ok-interface.ensures.within.0;
-  within_day = c.in_ok-interface.ensures.within.1;
-  ip_mtu = c.ip_mtu.ensures ∙ ap ip_mtu_of c.capabilities-capabilities.ensures;
+  stands = c.in-Ok-let_fragments_wait.ensures.waits c.fixed.result _
+      (stood c.args.settings.now c.in-Ok.interface c.new-outbox.result
+      (c.new-outbox.ensures ∙ ap empty c.capabilities-capabilities.ensures) c.in-Ok.ensures.made.1 c.fixed.result);
+  some_time = c.in-Ok-let_fragments_wait.ensures.within.0;
+  within_day = c.in-Ok-let_fragments_wait.ensures.within.1;
+  ip_mtu = c.ip_mtu-2.ensures ∙ ap ip_mtu_of c.capabilities-capabilities.ensures;
   sockets = in_room c.fixed.ensures c.in_ok-places.ensures;
   names = c.in_ok-names.ensures;
-  outbox = c.first_interface.ensures.outbox ∙ c.new-outbox.ensures ∙ ap empty c.capabilities-capabilities.ensures;
+  outbox = c.new.ensures.device ∙ c.new-outbox.ensures ∙ ap empty c.capabilities-capabilities.ensures;
   schedule = c.in_ok-schedule.ensures;
 }
