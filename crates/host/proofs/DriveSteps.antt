@@ -22,6 +22,8 @@ use Rattle.host_machine.proofs.Polling.RunConcatenation.{run_laws, ran_on}
 use Rattle.interface.specs.declared.interface.Interface.{Interface}
 use Rattle.interface.specs.Stands.{StandsFor, Refinement}
 use Rattle.interface.specs.Refines.{RefinementTelling}
+use Rattle.host_laws.specs.Progress.{IsSound}
+use Rattle.host_laws.proofs.LessWork.{runs_rest}
 use Rattle.host_laws.proofs.RunTraffic.{runs_keep_datagrams}
 use Rattle.host.specs.Commands.{RefinementOfCommand, HostRefinesCommand}
 use Rattle.host.specs.Driven.{Driven}
@@ -29,8 +31,14 @@ use Rattle.host.specs.Driven.{Driven}
 module _ {D O : Type 0} (tells : D → List Event → D → Type 0) (did : O → ℕ → SocketSet → SocketSet → O → Type 0) where
   -- a run keeps the laws of UDP sockets, too
   pub driven : {d e : D} {o p : O} {commands : List Command} {answers : List Answer} {H : Host} {after : Host → Type 0} →
-      IsRegular H → Ran tells did d e o p commands answers H after → Driven tells did d e o p commands answers H after
-  driven {H = H} regular ran = record { regular = regular; ran = ran; datagrams = runs_keep_datagrams H ran.last ran.transitions ran.run }
+      IsRegular H → IsSound H → Ran tells did d e o p commands answers H after → Driven tells did d e o p commands answers H after
+  driven {H = H} regular sound ran = record {
+    regular = regular;
+    ran = ran;
+    datagrams = runs_keep_datagrams H ran.last ran.transitions ran.run;
+    sound = sound;
+    rest = runs_rest H ran.last ran.transitions ran.run;
+  }
 
   -- one command is a run of one place
   pub ran_one : (d e : D) (o p : O) (c : Command) (a : Answer) (H : Host) (after : Host → Type 0) →

@@ -21,6 +21,7 @@ use Rattle.host_machine.proofs.Receiving.SlotEffects.{handed_frames-append}
 use Rattle.host_machine.proofs.Receiving.Pieces.{IsIn, contains_in, in_left, in_right, in_either}
 use Rattle.host_machine.proofs.Polling.RunConcatenation.{run_laws}
 use Rattle.host_machine.proofs.Runs.TwoHosts.{run_rebuilds}
+use Rattle.host_laws.proofs.LessWork.{runs_rest}
 use Rattle.host_laws.proofs.RunTraffic.{runs_keep_datagrams}
 use Rattle.host_laws.proofs.DatagramOrigin.{runs_get_what_was_sent}
 use Rattle.interface.specs.Stands.{StandsFor}
@@ -352,6 +353,8 @@ link_went did_a did_b m n steps done answer a a' b b' is_m is_n none_a none_b fi
       laws_b = run_laws (run_a over);
       datagrams_a = runs_keep_datagrams H went.last_a went.ps (run_a went.links);
       datagrams_b = runs_keep_datagrams K went.last_b went.qs (run_a over);
+      rest_a = runs_rest H went.last_a went.ps (run_a went.links);
+      rest_b = runs_rest K went.last_b went.qs (run_a over);
       to_b = were_sent went.links refl none_b;
       to_a = were_sent over refl none_a;
       rebuilds_b = cuts_b;

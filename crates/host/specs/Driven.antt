@@ -7,6 +7,7 @@ use Rattle.host_machine.specs.State.Host.{Host, SocketSet}
 use Rattle.host_machine.specs.Laws.Real.{IsRegular}
 use Rattle.host_machine.specs.Laws.Ran.{Ran}
 use Rattle.host_laws.specs.Datagrams.{KeepsDatagrams}
+use Rattle.host_laws.specs.Progress.{ComeToRest, IsSound}
 
 -- from this host and through these devices and owners, with these answers, to a host that satisfies `after`
 pub record Driven {D O : Type 0} (tells : D → List Event → D → Type 0)
@@ -15,6 +16,9 @@ pub record Driven {D O : Type 0} (tells : D → List Event → D → Type 0)
     (after : Host → Type 0) : Type 0 where
   -- so the premises of the laws on the first host hold
   pub regular : IsRegular first
+  pub sound : IsSound first
   pub ran : Ran tells did device device' owner owner' commands answers first after
   -- what UDP sockets get arrived in frames, and what they send is sent in frames
   pub datagrams : KeepsDatagrams first ran.last ran.transitions
+  -- polls at one moment come to an end, and then nothing is due
+  pub rest : ComeToRest ran.transitions

@@ -16,6 +16,7 @@ use Rattle.host_machine.specs.Laws.Ran.{Laws}
 use Rattle.host_machine.specs.declared.command.Answer.{Answer}
 use Rattle.host_laws.specs.Datagrams.{KeepsDatagrams}
 use Rattle.host_laws.specs.EndToEnd.{GetWhatWasSent}
+use Rattle.host_laws.specs.Progress.{ComeToRest}
 use Rattle.host_laws.specs.Senders.{NoSocketWritesUdp}
 use Rattle.interface.specs.Stands.{StandsFor}
 use Rattle.host.specs.Commands.{HostRefinesCommand}
@@ -181,6 +182,8 @@ pub record LinkWent {O P : Type 0} (did_a : Owns O) (did_b : Owns P) (steps : Li
   pub laws_b : Laws K went.qs
   pub datagrams_a : KeepsDatagrams H went.last_a went.ps
   pub datagrams_b : KeepsDatagrams K went.last_b went.qs
+  pub rest_a : ComeToRest went.ps
+  pub rest_b : ComeToRest went.qs
   pub to_b : WereSent went.ps went.qs
   pub to_a : WereSent went.qs went.ps
   pub rebuilds_b : RebuildsCuts H K went.ps went.qs

@@ -183,6 +183,7 @@ pub fn drive<D: Device, O: Owner>(
         (StandsFor interface.new sockets.new) }
 {
     interface.is_on_its_medium();
+    sockets.has_a_wait_for_each();
     for i in 0..commands.len() {
         answers[i] = step(interface, device, sockets, owner, &commands[i]);
     }

@@ -1,10 +1,9 @@
 -- What a call that sends, and maintenance, leave of the groups that an IGMP answer has still to name.
 use Rattle.std.proofs.Common.{◌≡◌, ℕ, ◌+◌, ◌-◌, ◌≤◌, ◌<◌, Bool, true, false, List, [], ◌∷◌, length, refl, sym, ◌∙◌}
-use Rattle.std.proofs.Common.{ap, subst, Option, Some, None, arith}
-use Rattle.std.proofs.lemmas.Int.{ints}
+use Rattle.std.proofs.Common.{ap, Option, Some, None, arith}
 use Rattle.std.proofs.lemmas.List.Sums.{sum_by-append, sum_by-cons, sum_by-set, sum_by-swap_remove}
 use Rattle.std.proofs.lemmas.Option.{slice_get_within}
-use Rattle.std.specs.Prelude.{ℤ, pos, ◌≤ℤ◌, ◌&&◌, map, filter, slice_get, slice_index_or, if◌then◌else◌}
+use Rattle.std.specs.Prelude.{ℤ, ◌≤ℤ◌, map, filter, slice_get, slice_index_or, if◌then◌else◌}
 use Rattle.std.specs.List.{sum_by, cons_option}
 use Rattle.std.specs.Option.{option_and_then, option_map}
 use Rattle.net_base.specs.Device.{Event}

@@ -1,8 +1,8 @@
 -- A poll after which something is due leaves less work.
-use Rattle.std.proofs.Common.{◌≡◌, ℕ, zero, suc, ◌+◌, ◌*◌, ◌≤◌, ◌<◌, Bool, true, false, List, [], ◌∷◌, ◌++◌, length}
+use Rattle.std.proofs.Common.{◌≡◌, ℕ, zero, suc, ◌+◌, ◌≤◌, ◌<◌, Bool, true, false, List, [], ◌∷◌, ◌++◌, length}
 use Rattle.std.proofs.Common.{refl, sym, ◌∙◌, ap, subst, Option, Some, None, arith}
 use Rattle.std.proofs.lemmas.Int.{ints}
-use Rattle.std.specs.Prelude.{ℤ, pos, ◌≤ℤ◌, ◌<ℤ◌, cond, filter, map, slice_get, if◌then◌else◌}
+use Rattle.std.specs.Prelude.{ℤ, ◌≤ℤ◌, ◌<ℤ◌, cond, filter, map, slice_get, if◌then◌else◌}
 use Rattle.std.specs.List.{AllByRecursion}
 use Rattle.std.specs.Cmp.{int_ranks}
 use Rattle.std.specs.Ordering.{int_cmp, is_lt, MatchOrdering}
@@ -46,8 +46,8 @@ use Rattle.host_machine.proofs.Polling.SlaacPolls.{polls_sync_slaac}
 use Rattle.host_machine.proofs.Sending.GrantedEgress.{all_untouched, dispatched_gone, given_parts, groups_way}
 use Rattle.host_machine.proofs.Sending.GrantedEgress.{routers_way, to_sockets}
 use Rattle.host_machine.proofs.Sending.DueWork.{all_kept, due_done, groups_kept, igmp_kept, mld_kept, piece_gone}
-use Rattle.host_laws.specs.Progress.{PollsComeToRest, PollsMakeProgress, IsBusy, IsSound, to_name, work}
-use Rattle.host_laws.proofs.QueuesAfterTurns.{CallLoads, NoLoad, LessLoad, call_loads, call_works, load}
+use Rattle.host_laws.specs.Progress.{ComeToRest, PollsComeToRest, RunsComeToRest, PollsMakeProgress, IsBusy, IsSound, to_name, work}
+use Rattle.host_laws.proofs.QueuesAfterTurns.{CallLoads, NoLoad, LessLoad, call_loads, call_works}
 use Rattle.host_laws.proofs.QueuesAfterTurns.{one_less_apart}
 use Rattle.host_laws.proofs.GroupsToName.{groups_for_least, groups_least, igmp_less, igmp_named, join_reported_least}
 use Rattle.host_laws.proofs.GroupsToName.{leave_reported_least}
@@ -345,3 +345,19 @@ come_to_rest t first last transitions run busy sound = by run busy sound where
       let p = polls_of s b.poll in
       let less = make_progress t b.budget p.0 old mid told notes b.instant p.1 b.some b.no_frame b.granted sound b.due b.by_now in
       omega (arith, less, by run busy.1 (poll_keeps p.1 b.no_frame b.granted sound).sound)
+
+-- a run begins with a run
+begun : {first last : Host} (ps qs : List Transition) → Run first (ps ++ qs) last → (mid : Host) × Run first ps mid
+begun {first} [] qs r = (first, Ends)
+begun (p ∷ ps) qs (Then s r) = let more = begun ps qs r in (more.0, Then s more.1)
+
+pub runs_rest : RunsComeToRest
+runs_rest first last transitions run = by run where
+  by : {first last : Host} {transitions : List Transition} → Run first transitions last → ComeToRest transitions
+  by Ends = tt
+  by {first} {last} (Then {transitions = ps} s r) = (
+    λ sound t busy others is all_busy.
+    let front = begun busy others (subst (λ qs. Run first qs last) is (Then s r)) in
+    let least = come_to_rest t first front.0 busy front.1 all_busy sound in omega (arith, least),
+    by r,
+  )

@@ -20,5 +20,6 @@ mod WaitingPackets
 mod FragmentsLeft
 mod QueuesAfterTurns
 mod GroupsToName
-mod LessWork
+pub mod LessWork
 mod QueuedExample
+mod PingsBack

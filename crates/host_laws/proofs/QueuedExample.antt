@@ -1,6 +1,6 @@
 -- The polls of a host with queued datagrams to a neighbour that it knows.
-use Rattle.std.proofs.Common.{◌≡◌, ◌∙◌, ℕ, ◌+◌, ◌%◌, ◌^◌, true, false, List, [], ◌∷◌, refl, Some, None, Ok, lit≤, arith}
-use Rattle.std.specs.Prelude.{ℤ, pos, length}
+use Rattle.std.proofs.Common.{◌≡◌, ◌∙◌, ℕ, ◌+◌, ◌%◌, ◌^◌, true, false, List, [], ◌∷◌, refl, None, Ok, lit≤, arith}
+use Rattle.std.specs.Prelude.{ℤ, pos}
 use Rattle.std.specs.FinMap as map
 use Rattle.std.specs.FinMap.{get-insert, get-empty, same_map}
 use Rattle.net_base.specs.Device.{Received, Nothing, Asked, Sent}

@@ -6,3 +6,4 @@ pub mod EndToEnd
 pub mod Network
 pub mod Progress
 pub mod TwoPolls
+pub mod Pings

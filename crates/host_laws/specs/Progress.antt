@@ -1,6 +1,6 @@
 -- Nothing spins: a poll after which something is still due did some of the work that the host had, so there are only so
 -- many of them.
-use Rattle.std.specs.Prelude.{◌≡◌, ℕ, ◌+◌, ◌-◌, ◌*◌, ◌≤◌, ◌<◌, ℤ, ◌≤ℤ◌, true, List, [], ◌∷◌, length, drop}
+use Rattle.std.specs.Prelude.{◌≡◌, ℕ, ◌+◌, ◌-◌, ◌*◌, ◌≤◌, ◌<◌, ℤ, ◌≤ℤ◌, true, List, [], ◌∷◌, ◌++◌, length, drop}
 use Rattle.std.specs.Prelude.{slice_get, Option, Some, None}
 use Rattle.std.specs.List.{AllByRecursion}
 use Rattle.net_base.specs.Checksum.{ip_mtu_of}
@@ -93,3 +93,16 @@ abbrev pub PollsComeToRest : Type 0
 PollsComeToRest = (t : ℤ) (first last : Host) (transitions : List Transition) →
     Run first transitions last → AllByRecursion (IsBusy t) transitions → IsSound first →
     length transitions + work last ≤ work first
+
+-- from each transition of a run on: polls at one moment, one after another, after each of which something is due at it,
+-- are at most as many as the host had work before the first
+abbrev pub ComeToRest : List Transition → Type 0
+ComeToRest [] = Unit {0}
+ComeToRest (p ∷ ps) = (
+    IsSound p.before → (t : ℤ) (busy others : List Transition) → p ∷ ps ≡ busy ++ others →
+    AllByRecursion (IsBusy t) busy → length busy ≤ work p.before
+    ) × ComeToRest ps
+
+abbrev pub RunsComeToRest : Type 0
+RunsComeToRest = (first last : Host) (transitions : List Transition) →
+    Run first transitions last → ComeToRest transitions

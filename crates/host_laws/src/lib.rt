@@ -3,3 +3,4 @@
 
 pub mod datagrams;
 pub mod progress;
+pub mod pings;

@@ -1,5 +1,5 @@
 //! How many polls there are until nothing is due.
-ghost use Rattle.host_laws.specs.Progress.{QueuesOnlyShrink, PollsMakeProgress, PollsComeToRest};
+ghost use Rattle.host_laws.specs.Progress.{PollsComeToRest, PollsMakeProgress, QueuesOnlyShrink, RunsComeToRest};
 ghost use Rattle.host_laws.specs.TwoPolls.{TwoPollsSendTwo};
 
 /// A call that sends puts no packet into a queue of a socket. If every transmit token is granted and no packet leaves a
@@ -19,6 +19,11 @@ pub fn polls_make_progress()
 /// work: then nothing is due.
 pub fn polls_come_to_rest()
     ensures { PollsComeToRest }
+{}
+
+/// So it is from each call of a run on.
+pub fn runs_come_to_rest()
+    ensures { RunsComeToRest }
 {}
 
 /// A worked example: two datagrams that a socket has queued, to a known neighbour, are sent in two polls with a budget

@@ -9,6 +9,8 @@ pub mod FrameReading
 pub mod FewFragments
 pub mod FrameReplies
 pub mod DatagramDelivery
+pub mod DatagramDeliveryV6
+pub mod EchoReplies
 pub mod FrameRepliesV6
 pub mod ReceivedFrames
 pub mod ForeignFrames

@@ -12,3 +12,4 @@ pub mod TimelyArrivals
 pub mod SentPieces
 pub mod TwoHosts
 pub mod RequestsWhileWaiting
+pub mod CallLaws

@@ -16,3 +16,4 @@ pub mod SettledFields
 pub mod OtherSteps
 pub mod HopsByLists
 pub mod ReportTimes
+pub mod FirstPackets

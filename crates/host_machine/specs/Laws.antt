@@ -14,3 +14,4 @@ pub mod Steps
 pub mod Determined
 pub mod Service
 pub mod Restraint
+pub mod Calls

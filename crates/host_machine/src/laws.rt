@@ -19,8 +19,9 @@ ghost use Rattle.host_machine.specs.Laws.Refusals.{RefusalsLoseNothing};
 ghost use Rattle.host_machine.specs.Laws.Determined.{DispatchIsDetermined, EgressIsDetermined};
 ghost use Rattle.host_machine.specs.Laws.Determined.{IngressIsDetermined, PollIsDetermined};
 ghost use Rattle.host_machine.specs.Laws.Determined.{ReceptionIsDetermined, RunIsDetermined, StepIsDetermined};
-ghost use Rattle.host_machine.specs.Laws.Service.{ArpRequestsAreAnswered, ClosedPortsAreAnswered};
-ghost use Rattle.host_machine.specs.Laws.Service.{DatagramsAreQueued, DueIsDone, FirstDatagramsGo};
+ghost use Rattle.host_machine.specs.Laws.Service.{ArpRequestsAreAnswered, ClosedPortsAreAnswered, ClosedPortsV6AreAnswered};
+ghost use Rattle.host_machine.specs.Laws.Service.{DatagramsAreQueued, DatagramsV6AreQueued, DueIsDone};
+ghost use Rattle.host_machine.specs.Laws.Service.{EchoRepliesAreQueued, FirstDatagramsGo, FirstEchoesGo, FirstPacketsGo};
 ghost use Rattle.host_machine.specs.Laws.Service.{LittleStaysDue, PiecesGo, PingsAreAnswered, PingsV6AreAnswered};
 ghost use Rattle.host_machine.specs.Laws.Service.{PollsSyncSlaac, PollsEndInCalls, PollsLeaveLittle};
 ghost use Rattle.host_machine.specs.Laws.Service.{RequestFramesAreRead, RequestsGo, SolicitationsAreAnswered};
@@ -354,10 +355,26 @@ pub fn datagrams_are_queued()
     ensures { DatagramsAreQueued }
 {}
 
+/// So it is with one over IPv6.
+pub fn datagrams_v6_are_queued()
+    ensures { DatagramsV6AreQueued }
+{}
+
+/// An echo reply is appended, in the call that receives it, to the queue of each ICMP socket with its identifier that
+/// has room. Nothing is sent.
+pub fn echo_replies_are_queued()
+    ensures { EchoRepliesAreQueued }
+{}
+
 /// A datagram for a port at which no socket listens is answered by the port unreachable error in the call that receives
 /// it, unless a raw socket accepted it.
 pub fn closed_ports_are_answered()
     ensures { ClosedPortsAreAnswered }
+{}
+
+/// So it is over IPv6 (RFC 4443 3.1).
+pub fn closed_ports_v6_are_answered()
+    ensures { ClosedPortsV6AreAnswered }
 {}
 
 /// A call that sends, and is granted every transmit token it asks for, sends the first datagram of each UDP socket that
@@ -365,6 +382,17 @@ pub fn closed_ports_are_answered()
 /// after it stay queued.
 pub fn first_datagrams_go()
     ensures { FirstDatagramsGo }
+{}
+
+/// So is the first packet of a socket of any kind: of a raw one its packet, of an ICMP one its echo message, of a TCP one
+/// its segment.
+pub fn first_packets_go()
+    ensures { FirstPacketsGo }
+{}
+
+/// So is an echo request that is the first message of an ICMP socket, by what the socket has queued.
+pub fn first_echoes_go()
+    ensures { FirstEchoesGo }
 {}
 
 /// If a fragment is pending, the first frame of a call that sends and is granted every transmit token is that fragment.

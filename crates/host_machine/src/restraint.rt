@@ -162,8 +162,9 @@ pub fn joins_are_told_once()
     ensures { JoinsAreToldOnce }
 {}
 
-/// A worked example: an ARP request and an echo request, each turned in one field, are ignored. They are to another
-/// hardware address, for another address, from afar, with a wrong checksum, or from a broadcast address.
+/// Worked examples: an ARP request, an echo request, a datagram, a segment and a solicitation, each turned in one field,
+/// are ignored. They are to another hardware address, for another address, from afar, with a wrong checksum, from a
+/// broadcast address or a group, or a reset.
 pub fn turned_frames_are_ignored()
     ensures { TurnedFramesAreIgnored }
 {}

@@ -15,6 +15,7 @@ use Rattle.host_machine.proofs.Polling.RunConcatenation.{run_laws}
 use Rattle.host_laws.specs.Network.{IsHost, SendsBySockets, SentBySome, WereSentBySome}
 use Rattle.interface.specs.Stands.{StandsFor}
 use Rattle.host.specs.declared.link.Host.{Host as Linked}
+use Rattle.host_laws.proofs.LessWork.{runs_rest}
 use Rattle.host_laws.proofs.RunTraffic.{runs_keep_datagrams}
 use Rattle.host_laws.proofs.DatagramOrigin.{all_parted, runs_get_what_was_sent}
 use Rattle.host_laws.proofs.NetworkOrigin.{runs_get_what_some_sent}
@@ -319,6 +320,7 @@ module _ {O : Type 0} (did : Owns O) (first last : Network (End O)) (calls : Lis
         run = r.run;
         laws = run_laws r.run;
         datagrams = runs_keep_datagrams b r.last_host (transitions_of moves i) r.run;
+        rest = runs_rest b r.last_host (transitions_of moves i) r.run;
         received = received;
         gets = λ closed may. runs_get_what_some_sent (hosts_of first) (transitions_of moves) b r.last_host (transitions_of moves i) r.run regular.real
             (may_send i b may) (received closed);

@@ -8,6 +8,7 @@ use Rattle.host_machine.specs.Laws.Ran.{Laws}
 use Rattle.host_machine.specs.Laws.TwoHosts.{WereSent}
 use Rattle.host_machine.specs.Polling.Run.{Run}
 use Rattle.host_laws.specs.Datagrams.{KeepsDatagrams}
+use Rattle.host_laws.specs.Progress.{ComeToRest}
 use Rattle.host_laws.specs.EndToEnd.{GetWhatWasSent}
 use Rattle.host_laws.specs.Network.{GetWhatSomeSent, WereSentBySome}
 use Rattle.host_laws.specs.Senders.{NoSocketWritesUdp}
@@ -47,6 +48,7 @@ pub record HostGoes {O : Type 0} (first last : Network (End O)) (calls : List Ca
   pub run : Run b (transitions_of moves i) last_host
   pub laws : Laws b (transitions_of moves i)
   pub datagrams : KeepsDatagrams b last_host (transitions_of moves i)
+  pub rest : ComeToRest (transitions_of moves i)
   pub received : AreClosed calls →
       WereSentBySome (hosts_of first) (transitions_of moves) (transitions_of moves i)
   pub gets : AreClosed calls →

@@ -315,6 +315,15 @@ impl<L: Drop> SocketSetOf<L> {
     }
 }
 
+impl<L> SocketSetOf<L> {
+    /// A lemma for proofs about a set: there are as many waits as places. It does nothing.
+    pub fn has_a_wait_for_each(&self)
+        ensures { length self.now.waits ≡ length self.now.places }
+    {
+        self.sockets.len();
+    }
+}
+
 impl<L: Drop> SocketSetOf<L> {
     ghost use Rattle.std.specs.Borrow.{sem, LendsIf};
     ghost use Rattle.sockets.specs.contracts.socket.SocketOf.{the_row as socket_row};

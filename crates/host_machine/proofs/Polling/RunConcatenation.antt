@@ -18,6 +18,7 @@ use Rattle.host_machine.proofs.Runs.ReassemblyOrigin.{run_rebuilt}
 use Rattle.host_machine.proofs.Runs.PieceOrder.{run_ordered, run_first}
 use Rattle.host_machine.proofs.Runs.IdentificationOrder.{run_counted, distinct}
 use Rattle.host_machine.proofs.Runs.Quiet.{run_quiet}
+use Rattle.host_machine.proofs.Runs.CallLaws.{run_calls}
 use Rattle.host_machine.proofs.Polling.SingleCalls.{run_on, events_in-append, acts_in-append}
 
 pub run_laws : {first last : Host} {transitions : List Transition} → Run first transitions last → Laws first transitions
@@ -34,6 +35,7 @@ run_laws {first} {last} {transitions} r = record {
   identifications_follow = run_counted r;
   identifications_distinct = distinct _ _ (run_counted r);
   quiet = run_quiet r;
+  calls = run_calls r;
 }
 
 did_on : {O : Type 0} {did : O → ℕ → SocketSet → SocketSet → O → Type 0} {o m p : O} {xs ys : List Act} →

@@ -57,10 +57,10 @@ module _ (test : Storage → Bool) (change : Storage → Storage) (same : (p : S
         let it : change p ≡ other = cc in
         subst P it (all p e)
 
-  none_still : NoneAccepts test places → NoneAccepts test (map change places)
+  pub none_still : NoneAccepts test places → NoneAccepts test (map change places)
   none_still none k other is = before_change k other is (λ o. test o ≡ false) (λ p e. same p ∙ none k p e)
 
-  first_still : {i : ℕ} {p : Storage} → IsFirst test places i p → IsFirst test (map change places) i (change p)
+  pub first_still : {i : ℕ} {p : Storage} → IsFirst test places i p → IsFirst test (map change places) i (change p)
   first_still {i} {p} f = record {
     is_there = slice_get-map change places i ∙ ap (option_map change) f.is_there;
     accepts = same p ∙ f.accepts;
@@ -68,7 +68,7 @@ module _ (test : Storage → Bool) (change : Storage → Storage) (same : (p : S
   }
 
 -- a place where raw sockets heard a packet takes the same datagrams
-raw_apart : (own : List IpCidr) (q r : IpRepr) (ports : UdpRepr) (summed : Bool) (payload : List ℕ) (p : Storage) →
+pub raw_apart : (own : List IpCidr) (q r : IpRepr) (ports : UdpRepr) (summed : Bool) (payload : List ℕ) (p : Storage) →
     accepts own r ports (to_this (raw.takes q) (raw.storage_after_delivery summed q payload) p) ≡ accepts own r ports p
 raw_apart own q r ports summed payload None = refl
 raw_apart own q r ports summed payload (Some (Raw s)) = by (raw.takes q (Some (Raw s))) where
@@ -81,7 +81,7 @@ raw_apart own q r ports summed payload (Some (Udp s)) = refl
 raw_apart own q r ports summed payload (Some (Tcp s)) = refl
 
 -- what a socket hears, by its port and its address
-same_bits : (n : ℕ) → (n == n) ≡ true
+pub same_bits : (n : ℕ) → (n == n) ≡ true
 same_bits n = grind (arith, nat_tests)
 
 hears : (own : List IpCidr) (r : Ipv4Repr) (ports : UdpRepr) (s : UdpSocket) →
@@ -97,8 +97,8 @@ other_bits m n ne = by (m == n) refl where
   by false e = refl
 
 -- a place at which no UDP socket listens at the port
-deaf : (own : List IpCidr) (r : Ipv4Repr) (ports : UdpRepr) (p : Storage) →
-    ((s : UdpSocket) → p ≡ Some (Udp s) → s.endpoint.port ≢ ports.dst_port) → accepts own (repr.Ipv4 r) ports p ≡ false
+pub deaf : (own : List IpCidr) (r : IpRepr) (ports : UdpRepr) (p : Storage) →
+    ((s : UdpSocket) → p ≡ Some (Udp s) → s.endpoint.port ≢ ports.dst_port) → accepts own r ports p ≡ false
 deaf own r ports None other = refl
 deaf own r ports (Some (Raw s)) other = refl
 deaf own r ports (Some (Icmp s)) other = refl
@@ -106,24 +106,24 @@ deaf own r ports (Some (Udp s)) other = rw (other_bits s.endpoint.port ports.dst
 deaf own r ports (Some (Tcp s)) other = refl
 
 is_first : (H : Host) (r : Ipv4Repr) (ports : UdpRepr) (octets : List ℕ) (i : ℕ) (s : UdpSocket) →
-    IsAcceptedBy H r ports octets i s → IsFirst (accepts H.ip_addrs (repr.Ipv4 r) ports) H.sockets.places i (Some (Udp s))
+    IsAcceptedBy H (Ipv4 r.dst_addr) ports octets i s → IsFirst (accepts H.ip_addrs (repr.Ipv4 r) ports) H.sockets.places i (Some (Udp s))
 is_first H r ports octets i s h = record {
   is_there = h.here;
   accepts = hears H.ip_addrs r ports s h.port h.addr;
-  none_before = λ k other less is. deaf H.ip_addrs r ports other (λ x e. h.first k x less (is ∙ ap (λ p. Some p) e));
+  none_before = λ k other less is. deaf H.ip_addrs (repr.Ipv4 r) ports other (λ x e. h.first k x less (is ∙ ap (λ p. Some p) e));
 }
 
 none_accepts : (H : Host) (r : Ipv4Repr) (ports : UdpRepr) →
     ((k : ℕ) (other : UdpSocket) → slice_get H.sockets.places k ≡ Some (Some (Udp other)) → other.endpoint.port ≢ ports.dst_port) →
     NoneAccepts (accepts H.ip_addrs (repr.Ipv4 r) ports) H.sockets.places
-none_accepts H r ports none k other is = deaf H.ip_addrs r ports other (λ x e. none k x (is ∙ ap (λ p. Some p) e))
+none_accepts H r ports none k other is = deaf H.ip_addrs (repr.Ipv4 r) ports other (λ x e. none k x (is ∙ ap (λ p. Some p) e))
 
-record WasDelivered (r : IpRepr) (ports : UdpRepr) (octets : List ℕ) (i : ℕ) (s : UdpSocket) (H : Host)
+pub record WasDelivered (r : IpRepr) (ports : UdpRepr) (octets : List ℕ) (i : ℕ) (s : UdpSocket) (H : Host)
     (reply : Option Reply) (new : Host) : Type 0 where
-  silent : reply ≡ None
-  host_is : new ≡ with_places H (slice_set H.sockets.places i (storage_after_delivery r ports octets (Some (Udp s))))
+  pub silent : reply ≡ None
+  pub host_is : new ≡ with_places H (slice_set H.sockets.places i (storage_after_delivery r ports octets (Some (Udp s))))
 
-udp_delivered : {handled_by_raw_socket : Bool} {r : IpRepr} {H new : Host} {payload : List ℕ} {reply : Option Reply} {notes : List Note}
+pub udp_delivered : {handled_by_raw_socket : Bool} {r : IpRepr} {H new : Host} {payload : List ℕ} {reply : Option Reply} {notes : List Note}
     (ports : UdpRepr) (octets : List ℕ) (i : ℕ) (s : UdpSocket) →
     ProcessesUdp handled_by_raw_socket r H payload reply notes new → IsDatagram H r payload → udp_in payload ≡ (ports, octets) →
     IsFirst (accepts H.ip_addrs r ports) H.sockets.places i (Some (Udp s)) →
@@ -144,12 +144,12 @@ udp_delivered {r = r} {H = H} {payload = payload} ports octets i s (udp.NotAccep
     let refused : accepts H.ip_addrs r (udp_in payload).0 (Some (Udp s)) ≡ false = none i (Some (Udp s)) first.is_there in
     absurd (clash (ap (λ v. accepts H.ip_addrs r v.0 (Some (Udp s))) values ∙ first.accepts) refused)
 
-there : (xs : List Storage) (i : ℕ) (x y : Storage) → slice_get xs i ≡ Some x → slice_get (slice_set xs i y) i ≡ Some y
+pub there : (xs : List Storage) (i : ℕ) (x y : Storage) → slice_get xs i ≡ Some x → slice_get (slice_set xs i y) i ≡ Some y
 there [] i x y h = absurd (let none : None ≡ Some x = h in cc)
 there (z ∷ xs) zero x y h = refl
 there (z ∷ xs) (suc i) x y h = there xs i x y h
 
-apart : (xs : List Storage) (i k : ℕ) (y : Storage) → (k ≡ i → ⊥) → slice_get (slice_set xs i y) k ≡ slice_get xs k
+pub apart : (xs : List Storage) (i k : ℕ) (y : Storage) → (k ≡ i → ⊥) → slice_get (slice_set xs i y) k ≡ slice_get xs k
 apart [] i k y other = refl
 apart (z ∷ xs) zero zero y other = absurd (other refl)
 apart (z ∷ xs) zero (suc k) y other = refl
@@ -157,13 +157,13 @@ apart (z ∷ xs) (suc i) zero y other = refl
 apart (z ∷ xs) (suc i) (suc k) y other = apart xs i k y (λ e. other (ap suc e))
 
 -- what a delivered place is, where there is room
-has_room : (r : IpRepr) (ports : UdpRepr) (octets : List ℕ) (s : UdpSocket) (b : Bool) → b ≡ true →
+pub has_room : (r : IpRepr) (ports : UdpRepr) (octets : List ℕ) (s : UdpSocket) (b : Bool) → b ≡ true →
     cond b (s.rx.packets ++ (sender r ports, octets) ∷ []) s.rx.packets ≡ s.rx.packets ++ (sender r ports, octets) ∷ []
 has_room r ports octets s true e = refl
 has_room r ports octets s false e = absurd cc
 
 pub datagrams_queued : DatagramsAreQueued
-datagrams_queued own t frame r ports octets i s old new told w d heard_by =
+datagrams_queued t old new told own frame r ports octets i s w d heard_by =
     let k = taken_of protocol.Ipv4 w d.in_packet.taken in
     let H : Host = without_expired old t in
     let mid : Host = met (hardware.Ethernet (header_in frame).src_addr) r d.payload H in
@@ -192,16 +192,16 @@ datagrams_queued own t frame r ports octets i s old new told w d heard_by =
     )
 
 -- a closed port
-take_few : (n : ℕ) (xs : List ℕ) → length (take n xs) ≤ n
+pub take_few : (n : ℕ) (xs : List ℕ) → length (take n xs) ≤ n
 take_few zero xs = search (arith, length-take)
 take_few (suc n) [] = omega arith
 take_few (suc n) (x ∷ xs) = let l = take_few n xs in omega (arith, l)
 
-record WasRefused (handled_by_raw_socket : Bool) (r : IpRepr) (payload : List ℕ) (H : Host) (reply : Option Reply) (new : Host) : Type 0 where
-  replies : reply ≡ port_unreachable handled_by_raw_socket H.ip_addrs r payload
-  host_is : new ≡ H
+pub record WasRefused (handled_by_raw_socket : Bool) (r : IpRepr) (payload : List ℕ) (H : Host) (reply : Option Reply) (new : Host) : Type 0 where
+  pub replies : reply ≡ port_unreachable handled_by_raw_socket H.ip_addrs r payload
+  pub host_is : new ≡ H
 
-udp_refused : {handled_by_raw_socket : Bool} {r : IpRepr} {H new : Host} {payload : List ℕ} {reply : Option Reply}
+pub udp_refused : {handled_by_raw_socket : Bool} {r : IpRepr} {H new : Host} {payload : List ℕ} {reply : Option Reply}
     {notes : List Note} (ports : UdpRepr) (octets : List ℕ) →
     ProcessesUdp handled_by_raw_socket r H payload reply notes new → IsDatagram H r payload → udp_in payload ≡ (ports, octets) →
     NoneAccepts (accepts H.ip_addrs r ports) H.sockets.places →
@@ -213,7 +213,7 @@ udp_refused {r = r} {H = H} {payload = payload} ports octets (udp.Delivered plac
 udp_refused ports octets (udp.NotAccepted d none rep n e) is values nobody = record { replies = rep; host_is = e }
 
 pub ports_told : ClosedPortsAreAnswered
-ports_told own t frame r ports octets h old new told w d nobody not_accepted reach fits =
+ports_told t old new told own frame r ports octets h w d nobody not_accepted reach fits =
     let k = taken_of protocol.Ipv4 w d.in_packet.taken in
     let H : Host = without_expired old t in
     let source : HardwareAddress = hardware.Ethernet (header_in frame).src_addr in

@@ -226,7 +226,7 @@ ipv4_passes (ip.Malformed m d) foreign = pass_by d
 ipv4_passes {octets = octets} (ip.Read i t) foreign = packet_passes (ipv4_in octets).0 (ipv4_in octets).1 t foreign
 
 pub foreign_dropped : ForeignPacketsAreDropped
-foreign_dropped t frame packet old new told notes w c foreign =
+foreign_dropped t frame old new told notes w packet c foreign =
     let h = handled w in
     let p : Passes (without_expired old t) h.reply h.taken = by h (handled_v4 h c) in
     let r = nothing_responded p.silent h.responds in
@@ -294,7 +294,7 @@ foreign_v6_at t slots i = record {
 }
 
 pub foreign_v6_dropped : ForeignPacketsV6AreDropped
-foreign_v6_dropped t frame packet old new told notes w c asks foreign = let h = handled w in no_effect h (by h (handled_v6 h c)) where
+foreign_v6_dropped t frame old new told notes w packet c asks foreign = let h = handled w in no_effect h (by h (handled_v6 h c)) where
   by : (h : WasHandled t frame old told notes new) →
       (TakenV6 (without_expired old t) packet h.reply h.first h.taken ⊎ IsDropped (without_expired old t) h.reply h.first h.taken) →
       IsDropped (without_expired old t) h.reply h.first h.taken
@@ -330,7 +330,7 @@ frame_for_other {own} {frame = frame} (ethernet.Accepted l f t) other even =
     absurd cc
 
 pub frames_for_others_dropped : FramesForOthersAreDropped
-frames_for_others_dropped own t frame old new told notes w on other even = let h = handled w in no_effect h (by h h.takes) where
+frames_for_others_dropped t frame old new told notes w own on other even = let h = handled w in no_effect h (by h h.takes) where
   by : (h : WasHandled t frame old told notes new) →
       (ProcessesFrame old.hardware_addr (without_expired old t) frame h.reply h.first h.taken
       ⊎ IsDropped (without_expired old t) h.reply h.first h.taken) →
@@ -414,7 +414,7 @@ ipv4_unheard {H = H} {octets = octets} (ip.Read i t) nobody =
     packet_unheard (ipv4_in octets).0 (ipv4_in octets).1 t (no_source H.ip_addrs (u32_at octets 12) nobody)
 
 pub unheard : PacketsFromNoHostAreDropped
-unheard t frame packet old new told notes w c nobody = let h = handled w in no_effect h (by h (handled_v4 h c)) where
+unheard t frame old new told notes w packet c nobody = let h = handled w in no_effect h (by h (handled_v4 h c)) where
   by : (h : WasHandled t frame old told notes new) →
       (TakenV4 (without_expired old t) packet h.reply h.first h.taken ⊎ IsDropped (without_expired old t) h.reply h.first h.taken) →
       IsDropped (without_expired old t) h.reply h.first h.taken
@@ -438,7 +438,7 @@ ipv6_unheard (ipv6.Malformed m d) nobody = d
 ipv6_unheard {octets = octets} (ipv6.Read i t) nobody = packet_v6_unheard (ipv6_in octets).0 t (no_source_v6 (ipv6_in octets).0.src_addr nobody)
 
 pub unheard_v6 : PacketsFromNoHostV6AreDropped
-unheard_v6 t frame packet old new told notes w c nobody = let h = handled w in no_effect h (by h (handled_v6 h c)) where
+unheard_v6 t frame old new told notes w packet c nobody = let h = handled w in no_effect h (by h (handled_v6 h c)) where
   by : (h : WasHandled t frame old told notes new) →
       (TakenV6 (without_expired old t) packet h.reply h.first h.taken ⊎ IsDropped (without_expired old t) h.reply h.first h.taken) →
       IsDropped (without_expired old t) h.reply h.first h.taken

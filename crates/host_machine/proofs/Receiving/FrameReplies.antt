@@ -208,7 +208,7 @@ arp_answered {own} {H} {new} r (arp.Learnt p l learns rep n) is values hears ask
 }
 
 pub arp_served : ArpRequestsAreAnswered
-arp_served own t frame r old new told w a =
+arp_served t old new told own frame r w a =
     let k = taken_of protocol.Arp w a.taken in
     let hears : is_for_us (without_expired old t) r ≡ true = rw (a.target, a.sender, a.sender_hardware, a.near) refl in
     let answered = arp_answered r k.takes a.is_packet a.values hears a.request in
@@ -390,7 +390,7 @@ echo_answered {H} r ident seq_no octets (icmp.Taken i rep n e) is values from to
 }
 
 pub pings_served : PingsAreAnswered
-pings_served own t frame r ident seq_no octets h old new told w p reach fits =
+pings_served t old new told own frame r ident seq_no octets h w p reach fits =
     let k = taken_of protocol.Ipv4 w p.in_packet.taken in
     let source : HardwareAddress = hardware.Ethernet (header_in frame).src_addr in
     let mid : Host = met source r p.payload (without_expired old t) in

@@ -9,6 +9,7 @@ use Rattle.ip_address.specs.declared.hardware.HardwareAddress.TheVariants as har
 use Rattle.ip_address.specs.declared.ip.IpAddress.{IpAddress}
 use Rattle.ip_address.specs.declared.ip.IpAddress.TheVariants.{Ipv6}
 use Rattle.ip_address.specs.declared.ipv6.Ipv6Address.{Ipv6Address}
+use Rattle.ip_address.specs.declared.protocol.IpProtocol.{IpProtocol}
 use Rattle.ip_address.specs.declared.protocol.IpProtocol.TheVariants as ip_protocol
 use Rattle.ip_address.specs.EthernetAddress as ethernet
 use Rattle.ip_address.specs.Ipv6 as ipv6
@@ -47,19 +48,19 @@ use Rattle.host_machine.proofs.Receiving.FrameReplies.{WasTaken, clash, goes_who
 use Rattle.host_machine.proofs.Sending.GrantedEgress.{unicast_for}
 
 -- the host before the protocol of a packet for it is looked at
-abbrev met : HardwareAddress → Ipv6Repr → List ℕ → Host → Host
+abbrev pub met : HardwareAddress → Ipv6Repr → List ℕ → Host → Host
 met source r payload H = sender_renewed source (repr.Ipv6 r) (raw.host_after_raw_delivery (repr.Ipv6 r) payload H)
 
-packet_taken : {source : HardwareAddress} {H new : Host} {payload : List ℕ} {reply : Option Reply} {notes : List Note} (r : Ipv6Repr) →
-    ProcessesPacket source r H payload reply notes new →
-    ipv6.is_unicast r.src_addr ≡ true → r.next_header ≡ ip_protocol.Icmpv6 → is_for_host H (Ipv6 r.dst_addr) ≡ true →
-    ProcessesIcmpv6 r (met source r payload H) payload reply notes new
-packet_taken r (ip.FromNoHost s d) sender icmp_is for_us = absurd (clash sender s)
-packet_taken r (ip.WithOptions u z t) sender icmp_is for_us = absurd (let bad : 58 ≡ 0 = sym (ap number_of icmp_is) ∙ z in omega (arith, bad))
-packet_taken {source} {H} {new} {payload} {reply} {notes} r (ip.Bare u z t) sender icmp_is for_us =
-    accepted (subst (λ p. ProcessesDatagramV6 source r p H payload reply notes new) icmp_is t) where
-      accepted : ProcessesDatagramV6 source r ip_protocol.Icmpv6 H payload reply notes new →
-          ProcessesIcmpv6 r (met source r payload H) payload reply notes new
+packet_taken : {source : HardwareAddress} {H new : Host} {payload : List ℕ} {reply : Option Reply} {notes : List Note} (r : Ipv6Repr)
+    (p : IpProtocol) → ProcessesPacket source r H payload reply notes new →
+    ipv6.is_unicast r.src_addr ≡ true → r.next_header ≡ p → (number_of p ≡ 0 → ⊥) → is_for_host H (Ipv6 r.dst_addr) ≡ true →
+    ProcessesProtocol p (raw.is_taken (repr.Ipv6 r) H) r (met source r payload H) payload reply notes new
+packet_taken r p (ip.FromNoHost s d) sender is bare for_us = absurd (clash sender s)
+packet_taken r p (ip.WithOptions u z t) sender is bare for_us = absurd (bare (sym (ap number_of is) ∙ z))
+packet_taken {source} {H} {new} {payload} {reply} {notes} r p (ip.Bare u z t) sender is bare for_us =
+    accepted (subst (λ x. ProcessesDatagramV6 source r x H payload reply notes new) is t) where
+      accepted : ProcessesDatagramV6 source r p H payload reply notes new →
+          ProcessesProtocol p (raw.is_taken (repr.Ipv6 r) H) r (met source r payload H) payload reply notes new
       accepted (ip.NotForUs n d) = absurd (clash for_us n)
       accepted (ip.Accepted f on) = on
 
@@ -70,19 +71,28 @@ ipv6_taken r payload (ip.Malformed m d) is values = absurd (m is)
 ipv6_taken {source} {H} {new} {octets} {reply} {notes} r payload (ip.Read i t) is values =
     subst (λ v. ProcessesPacket source v.0 H v.1 reply notes new) values t
 
--- what is done with a message for the host
+-- what is done with a payload for the host, by its protocol
+pub payload_served : {own : EthernetAddress} {t : ℤ} {frame : List ℕ} {old new : Host} {told : List Event} {r : Ipv6Repr}
+    {payload : List ℕ} (p : IpProtocol) (w : WasTaken own t protocol.Ipv6 frame old told new) →
+    HasPacketV6 own old frame r payload → r.next_header ≡ p → (number_of p ≡ 0 → ⊥) →
+    is_for_host (without_expired old t) (Ipv6 r.dst_addr) ≡ true →
+    ProcessesProtocol p (raw.is_taken (repr.Ipv6 r) (without_expired old t)) r
+    (met (hardware.Ethernet (header_in frame).src_addr) r payload (without_expired old t)) payload w.reply w.notes w.taken
+payload_served {r = r} {payload = payload} p w q is bare for_us =
+    packet_taken r p (ipv6_taken r payload w.takes q.is_packet q.values) q.sender is bare for_us
+
+-- a message for it
 message_served : {own : EthernetAddress} {t : ℤ} {frame : List ℕ} {old new : Host} {told : List Event} {r : Ipv6Repr} {payload : List ℕ}
     (w : WasTaken own t protocol.Ipv6 frame old told new) →
     HasPacketV6 own old frame r payload → r.next_header ≡ ip_protocol.Icmpv6 → is_for_host (without_expired old t) (Ipv6 r.dst_addr) ≡ true →
     ProcessesIcmpv6 r (met (hardware.Ethernet (header_in frame).src_addr) r payload (without_expired old t)) payload w.reply w.notes w.taken
-message_served {r = r} {payload = payload} w p icmp_is for_us =
-    packet_taken r (ipv6_taken r payload w.takes p.is_packet p.values) p.sender icmp_is for_us
+message_served w q is for_us = payload_served ip_protocol.Icmpv6 w q is (λ bad. omega (arith, bad)) for_us
 
 -- a host without what is known of neighbours
-abbrev apart : Host → Neighbors → Host
+abbrev pub apart : Host → Neighbors → Host
 apart H n = record H { neighbors = n }
 
-met_apart : (source : HardwareAddress) (r : Ipv6Repr) (payload : List ℕ) (H : Host) (n : Neighbors) →
+pub met_apart : (source : HardwareAddress) (r : Ipv6Repr) (payload : List ℕ) (H : Host) (n : Neighbors) →
     apart (met source r payload H) n ≡ apart (raw.host_after_raw_delivery (repr.Ipv6 r) payload H) n
 met_apart source r payload H n = by (is_unicast H.ip_addrs (Ipv6 r.dst_addr)) where
   by : (b : Bool) → apart (if b then with_neighbors (raw.host_after_raw_delivery (repr.Ipv6 r) payload H)
@@ -91,7 +101,7 @@ met_apart source r payload H n = by (is_unicast H.ip_addrs (Ipv6 r.dst_addr)) wh
   by true = refl
   by false = refl
 
-met_found : (source : HardwareAddress) (r : Ipv6Repr) (payload : List ℕ) (H : Host) (a : IpAddress) (h : HardwareAddress) →
+pub met_found : (source : HardwareAddress) (r : Ipv6Repr) (payload : List ℕ) (H : Host) (a : IpAddress) (h : HardwareAddress) →
     answer_of H.neighbors a H.moment ≡ Found h → answer_of (met source r payload H).neighbors a H.moment ≡ Found h
 met_found source r payload H a h found = by (is_unicast H.ip_addrs (Ipv6 r.dst_addr)) where
   by : (b : Bool) → answer_of (if b then with_neighbors (raw.host_after_raw_delivery (repr.Ipv6 r) payload H)
@@ -108,7 +118,7 @@ message_taken (v6.Malformed m d) is = absurd (m is)
 message_taken (v6.Taken i t) is = t
 
 pub pings_v6_served : PingsV6AreAnswered
-pings_v6_served own t frame r ident seq_no octets h old new told w p reach fits =
+pings_v6_served t old new told own frame r ident seq_no octets h w p reach fits =
     let k = taken_of protocol.Ipv6 w p.in_packet.taken in
     let H : Host = without_expired old t in
     let source : HardwareAddress = hardware.Ethernet (header_in frame).src_addr in
@@ -208,7 +218,7 @@ or_left true y e = refl
 or_left false y e = absurd cc
 
 pub solicitations_served : SolicitationsAreAnswered
-solicitations_served own t frame r target h old new told w s fits =
+solicitations_served t old new told own frame r target h w s fits =
     let k = taken_of protocol.Ipv6 w s.in_packet.taken in
     let H : Host = without_expired old t in
     let source : HardwareAddress = hardware.Ethernet (header_in frame).src_addr in

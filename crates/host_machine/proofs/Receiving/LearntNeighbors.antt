@@ -583,7 +583,7 @@ told_before t (inr x) = inr (record {
 })
 
 pub neighbors_came : NeighborsComeFromFrames
-neighbors_came t frame old new told notes a n w is =
+neighbors_came t frame old new told notes w a n is =
     let h = handled w in
     let same = response_settled h.reply h.taken h.frames h.more new h.responds in
     let there : map.get h.taken.neighbors.known a ≡ Some n = sym (ap (λ (s : Settings). map.get s.known a) same) ∙ is in

@@ -148,7 +148,7 @@ same_v6 : {p q : PacketV6} {reply : Option Reply} → reply ≡ Some (Ip (packet
 same_v6 {p} {q} e f = let both : Some (Ip (packet.Ipv6 p)) ≡ Some (Ip (packet.Ipv6 q)) = sym e ∙ f in cc
 
 pub arp_told : ArpRepliesTellItself
-arp_told own t frame r old new told notes w on is = by (reply_origin w) where
+arp_told t frame old new told notes w own r on is = by (reply_origin w) where
   by : Origin (without_expired old t) frame w.call.response.reply → AnswersByArp own old frame r
   by (Silent e) = let bad : None ≡ Some (Arp r) = sym e ∙ is in absurd cc
   by (ByArp mine s here e a) =
@@ -179,7 +179,7 @@ no_error (NeighborSolicit target lladdr) few = omega (arith, few)
 no_error (NeighborAdvert flags target lladdr) few = omega (arith, few)
 
 pub advert_told : AdvertisementsTellItself
-advert_told own t frame q message octets old new told notes w on is carries = by (reply_origin w) where
+advert_told t frame old new told notes w own q message octets on is carries = by (reply_origin w) where
   by : Origin (without_expired old t) frame w.call.response.reply → AdvertisesItself own old frame q message
   by (Silent e) = let bad : None ≡ Some (Ip (packet.Ipv6 q)) = sym e ∙ is in absurd cc
   by (ByArp mine s here e a) = let bad : Some (Arp s) ≡ Some (Ip (packet.Ipv6 q)) = sym e ∙ is in absurd cc
@@ -200,7 +200,7 @@ advert_told own t frame q message octets old new told notes w on is carries = by
       let bad : packet.Tcp header [] ≡ packet.Icmpv6 (v6.Ndisc message) octets = payload_any e c is carries in absurd cc
 
 pub errors_caused : ErrorsHaveCause
-errors_caused t frame q message octets old new told notes w is carries other = by (reply_origin w) where
+errors_caused t frame old new told notes w q message octets is carries other = by (reply_origin w) where
   by : Origin (without_expired old t) frame w.call.response.reply → HasCauseV4 old frame q message octets
   by (Silent e) = let bad : None ≡ Some (Ip (packet.Ipv4 q)) = sym e ∙ is in absurd cc
   by (ByArp mine s here e a) = let bad : Some (Arp s) ≡ Some (Ip (packet.Ipv4 q)) = sym e ∙ is in absurd cc
@@ -220,7 +220,7 @@ errors_caused t frame q message octets old new told notes w is carries other = b
   by (BySegment p header e c cause) = let bad : packet.Tcp header [] ≡ packet.Icmpv4 message octets = payload_any e c is carries in absurd cc
 
 pub errors_v6_caused : ErrorsV6HaveCause
-errors_v6_caused t frame q message octets old new told notes w is carries few = by (reply_origin w) where
+errors_v6_caused t frame old new told notes w q message octets is carries few = by (reply_origin w) where
   by : Origin (without_expired old t) frame w.call.response.reply → HasCauseV6 old frame q message octets
   by (Silent e) = let bad : None ≡ Some (Ip (packet.Ipv6 q)) = sym e ∙ is in absurd cc
   by (ByArp mine s here e a) = let bad : Some (Arp s) ≡ Some (Ip (packet.Ipv6 q)) = sym e ∙ is in absurd cc
@@ -242,7 +242,7 @@ errors_v6_caused t frame q message octets old new told notes w is carries few = 
   by (BySegment p header e c cause) = let bad : packet.Tcp header [] ≡ packet.Icmpv6 message octets = payload_any e c is carries in absurd cc
 
 pub resets_caused : ResetsHaveCause
-resets_caused t frame q header octets old new told notes w is carries = by (reply_origin w) where
+resets_caused t frame old new told notes w q header octets is carries = by (reply_origin w) where
   by : Origin (without_expired old t) frame w.call.response.reply → HasSegmentCause old frame
   by (Silent e) = let bad : None ≡ Some (Ip q) = sym e ∙ is in absurd cc
   by (ByArp mine s here e a) = let bad : Some (Arp s) ≡ Some (Ip q) = sym e ∙ is in absurd cc

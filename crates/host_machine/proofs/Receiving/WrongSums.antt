@@ -60,7 +60,7 @@ ipv4_unread (ip.Malformed m d) verified wrong = d
 ipv4_unread (ip.Read i t) verified wrong = absurd (wrong (i.sum verified))
 
 pub headers_dropped : WrongHeadersAreDropped
-headers_dropped t frame packet old new told notes w c verified wrong = let h = handled w in no_effect h (by h (handled_v4 h c)) where
+headers_dropped t frame old new told notes w packet c verified wrong = let h = handled w in no_effect h (by h (handled_v4 h c)) where
   by : (h : WasHandled t frame old told notes new) →
       (TakenV4 (without_expired old t) packet h.reply h.first h.taken ⊎ IsDropped (without_expired old t) h.reply h.first h.taken) →
       IsDropped (without_expired old t) h.reply h.first h.taken
@@ -180,7 +180,7 @@ reached h u =
     }
 
 pub payloads_dropped : WrongPayloadsAreDropped
-payloads_dropped t frame packet old new told notes w c wrong = let h = handled w in reached h (by h (handled_v4 h c)) where
+payloads_dropped t frame old new told notes w packet c wrong = let h = handled w in reached h (by h (handled_v4 h c)) where
   by : (h : WasHandled t frame old told notes new) →
       (TakenV4 (without_expired old t) packet h.reply h.first h.taken ⊎ IsDropped (without_expired old t) h.reply h.first h.taken) →
       IsUnread (Ipv4 (ipv4_in packet).0.src_addr) (without_expired old t) h.reply h.first h.taken
@@ -233,7 +233,7 @@ still_wrong t (law.AfterHeader wrong) = law.AfterHeader wrong
 still_wrong t (law.AfterOptions o skip wrong) = law.AfterOptions o skip wrong
 
 pub payloads_v6_dropped : WrongPayloadsV6AreDropped
-payloads_v6_dropped t frame packet old new told notes w c wrong = let h = handled w in reached h (by h (handled_v6 h c)) where
+payloads_v6_dropped t frame old new told notes w packet c wrong = let h = handled w in reached h (by h (handled_v6 h c)) where
   by : (h : WasHandled t frame old told notes new) →
       (TakenV6 (without_expired old t) packet h.reply h.first h.taken ⊎ IsDropped (without_expired old t) h.reply h.first h.taken) →
       IsUnread (Ipv6 (ipv6_in packet).0.src_addr) (without_expired old t) h.reply h.first h.taken

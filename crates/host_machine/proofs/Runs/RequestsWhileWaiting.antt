@@ -346,7 +346,7 @@ up : {n n1 : List Note} (a rest h : List Note) → n ≡ a ++ n1 → n1 ≡ rest
 up a rest h e s = e ∙ ap (λ x. a ++ x) s ∙ sym (append_assoc a rest h)
 
 pub requests_go : RequestsGo
-requests_go own t answer old new told_all notes i s p hop rest e all on first may one a =
+requests_go t answer old new told_all notes e own i s p hop rest all on first may one a =
     let b1 = e.round in
     let b2 = b1.ends in
     let b3 = b2.ends in

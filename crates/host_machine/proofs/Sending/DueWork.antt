@@ -55,7 +55,7 @@ use Rattle.host_machine.proofs.Sending.GrantedEgress.{all_untouched, dispatched_
 -- Pieces
 
 pub pieces_go : PiecesGo
-pieces_go t answer old new told notes piece rest e all left =
+pieces_go t answer old new told notes e piece rest all left =
     let a = e.round in
     let given = given_parts a.told_one a.told_two (sym (ap all_granted a.events) ∙ all) in
     let front = goes a.begins given.0 in (

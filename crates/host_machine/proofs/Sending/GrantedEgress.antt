@@ -489,11 +489,11 @@ unicast_for own (Ipv6 a) is = by (ipv6.is_multicast a) (ipv6.is_unspecified a) r
   by false false e f = record { specified = f; not_multicast = rw e refl }
 
 -- its packet goes
-record TurnGoes (H : Host) (s : Socket) (p : Packet) (h : HardwareAddress) (s' : Socket) (told_it : List Event) : Type 0 where
-  frames : sent_frames told_it ≡ ip_frame H h p ∷ []
-  socket : s' ≡ socket_after_told true (socket_after_asking H s)
+pub record TurnGoes (H : Host) (s : Socket) (p : Packet) (h : HardwareAddress) (s' : Socket) (told_it : List Event) : Type 0 where
+  pub frames : sent_frames told_it ≡ ip_frame H h p ∷ []
+  pub socket : s' ≡ socket_after_told true (socket_after_asking H s)
 
-turn_goes : {s s' : Socket} {turn : Turn} {H new : Host} {told_it : List Event} {notes : List Note} (own : EthernetAddress) (p : Packet)
+pub turn_goes : {s s' : Socket} {turn : Turn} {H new : Host} {told_it : List Event} {notes : List Note} (own : EthernetAddress) (p : Packet)
     (h : HardwareAddress) → SocketTurn s turn s' H told_it notes new →
     packet_from H s ≡ Some p → all_granted told_it ≡ true → H.hardware_addr ≡ hardware.Ethernet own →
     is_unicast H.ip_addrs (destination_of p) ≡ true → IsReached H (destination_of p) h →
@@ -552,7 +552,7 @@ served_goes {i} {turn} {H} {new} {told_it} {notes} own s p h (egress.Served s' s
     )
 
 pub firsts_go : FirstDatagramsGo
-firsts_go own t answer old new told_all notes i s p h rest e all on first may one reach short =
+firsts_go t answer old new told_all notes e own i s p h rest all on first may one reach short =
     let k = to_sockets e in
     let last_given : all_granted k.told_last ≡ true = (given_parts k.behind.front k.told_last (sym (ap all_granted k.behind.is) ∙ all)).1 in
     let sockets_are : k.mid.sockets ≡ old.sockets = ap (λ (K : Host). K.sockets) k.way in

@@ -57,7 +57,7 @@ stepped (step.TookReassemblyTimeout (OverDay l r e)) other = knows_same (ap (λ 
 stepped others other = knows_same refl
 
 pub learn_nobody : OtherStepsLearnNobody
-learn_nobody command answer old new told acts notes a n s other is = (stepped s other).each a n is
+learn_nobody command answer old new told acts notes s other a n is = (stepped s other).each a n is
 
 -- and addresses and routes stay
 kept_as : {old mid new : Host} → new ≡ mid → KeepsLists old mid → KeepsLists old new

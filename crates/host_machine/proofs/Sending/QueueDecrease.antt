@@ -256,7 +256,7 @@ idle_less H (Tcp s) x none due le = held (tcp.is_held H.moment s) refl none due 
   held false e n d = by (tcp.first (source_for H.ip_addrs) s) (none_tcp (source_for H.ip_addrs) s n) d
 
 -- a socket whose packet is gone has one less
-sent_less : (H : Host) (s : Socket) (p : Packet) →
+pub sent_less : (H : Host) (s : Socket) (p : Packet) →
     packet_from H s ≡ Some p → waiting_in (socket_after_told true (socket_after_asking H s)) + 1 ≡ waiting_in s
 sent_less H (Raw s) p is = ap (λ k. waiting_in (socket_after_told true (Raw k)) + 1) (stays (raw.offered_packet s) is)
     ∙ popped_less s.tx.packets empty where

@@ -17,6 +17,7 @@ use Rattle.host_machine.specs.Laws.TwoHosts.{HaveOwnKeys, cuts_in}
 use Rattle.host_machine.specs.Laws.Requests.{NoSocketSpeaks, requests_in}
 use Rattle.host_machine.specs.Polling.Run.{Transition, Run, Did, AreSpaced, events_in, acts_in, notes_in}
 use Rattle.host_machine.specs.Laws.Quiet.{AreQuiet}
+use Rattle.host_machine.specs.Laws.Calls.{IsMadeOfCalls}
 
 -- the laws that hold of every run
 pub record Laws (first : Host) (transitions : List Transition) : Type 0 where
@@ -47,6 +48,8 @@ pub record Laws (first : Host) (transitions : List Transition) : Type 0 where
   pub own_keys : length (identifications (notes_in transitions)) < 2 ^ 16 → HaveOwnKeys (cuts_in transitions)
   -- from an answer of `poll_at` to its instant, polls that nothing disturbs send nothing and change no socket
   pub quiet : AreQuiet transitions
+  -- it is made of single calls, each of which serves others and is restrained
+  pub calls : IsMadeOfCalls first transitions
 
 -- a list of commands was a run: from this host and through these devices and owners, with these answers, to a host
 -- that satisfies `after`

@@ -1,5 +1,5 @@
 -- What holds of each host that an interface stands for.
-use Rattle.std.specs.Prelude.{◌≡◌, ℕ, ◌≤◌, true, List}
+use Rattle.std.specs.Prelude.{◌≡◌, ◌≤◌, true, List}
 use Rattle.std.specs.List.{AllByRecursion, AllByRecursion-prop}
 use Rattle.std.proofs.Props.{props}
 use Rattle.net_base.specs.declared.phy.Medium.{Medium}

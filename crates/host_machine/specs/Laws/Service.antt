@@ -23,6 +23,7 @@ use Rattle.ipv6_wire.specs.declared.ipv6_packet.Ipv6Repr.{Ipv6Repr}
 use Rattle.ipv6_wire.specs.Ipv6Packet.{IsIpv6, ipv6_in}
 use Rattle.icmpv6_wire.specs.Icmpv6.{icmpv6_in}
 use Rattle.icmpv6_wire.specs.declared.icmpv6.Icmpv6Repr.TheVariants as icmpv6
+use Rattle.icmpv6_wire.specs.declared.icmpv6.Icmpv6DstUnreachable.TheVariants.{PortUnreachable as PortUnreachableV6}
 use Rattle.icmpv6_wire.specs.declared.ndisc.NdiscRepr.TheVariants.{NeighborSolicit, NeighborAdvert}
 use Rattle.ip_wire.specs.declared.arp.ArpRepr.{ArpRepr}
 use Rattle.ip_wire.specs.declared.arp.ArpOperation.TheVariants as operation
@@ -43,6 +44,8 @@ use Rattle.socket_base.specs.Source.{source_of}
 use Rattle.socket_base.specs.declared.endpoint.IpEndpoint.{IpEndpoint}
 use Rattle.socket_set.specs.SocketSet.{wait_at}
 use Rattle.transport_sockets.specs.Udp.{UdpSocket}
+use Rattle.network_sockets.specs.Icmp.{IcmpSocket, is_echo}
+use Rattle.network_sockets.specs.declared.icmp.Endpoint.TheVariants.{Ident}
 use Rattle.sockets.specs.declared.socket.SocketOf.TheVariants.{Raw, Icmp, Udp, Tcp}
 use Rattle.iface_tables.specs.declared.neighbor.Answer.TheVariants.{Found, NotFound}
 use Rattle.iface_tables.specs.Neighbor.{answer_of}
@@ -63,7 +66,7 @@ use Rattle.host_machine.specs.Receiving.Raw as raw
 use Rattle.host_machine.specs.Receiving.Udp.{IsDatagram}
 use Rattle.host_machine.specs.Receiving.Ethernet.{is_for}
 use Rattle.host_machine.specs.Sending.Dispatch.{IsNextHop, destination_of}
-use Rattle.host_machine.specs.Sending.Egress.{Egress}
+use Rattle.host_machine.specs.Sending.Egress.{Egress, packet_from}
 use Rattle.host_machine.specs.Polling.Ingress.{Ingress}
 use Rattle.host_machine.specs.Receiving.Icmpv6.{IsMessage}
 use Rattle.host_machine.specs.Receiving.Ndisc.{solicited_flag}
@@ -116,12 +119,15 @@ arp_answer own r = record {
 
 -- the call that receives such a request sends that answer and nothing else, and its sender is a
 -- known neighbour afterwards
-abbrev pub ArpRequestsAreAnswered : Type 0
-ArpRequestsAreAnswered =
-    (own : EthernetAddress) (t : ℤ) (frame : List ℕ) (r : ArpRepr) (old new : Host) (told : List Event) →
+abbrev pub AnswersArpRequests : ℤ → Host → List Event → Host → Type 0
+AnswersArpRequests t old told new =
+    (own : EthernetAddress) (frame : List ℕ) (r : ArpRepr) →
     Takes own t frame old told new → AsksByArp own old.ip_addrs frame r →
     (sent_frames told ≡ arp_frame (arp_answer own r) ∷ [])
     × (answer_of new.neighbors (Ipv4 r.source_protocol_addr) t ≡ Found (hardware.Ethernet r.source_hardware_addr))
+
+abbrev pub ArpRequestsAreAnswered : Type 0
+ArpRequestsAreAnswered = (t : ℤ) (old new : Host) (told : List Event) → AnswersArpRequests t old told new
 
 -- Echo
 
@@ -155,10 +161,10 @@ pub record Pings (own : EthernetAddress) (H : Host) (frame : List ℕ) (r : Ipv4
 
 -- the call that receives it sends the echo reply and nothing else, if the way back is known and the device
 -- takes packets so long
-abbrev pub PingsAreAnswered : Type 0
-PingsAreAnswered =
-    (own : EthernetAddress) (t : ℤ) (frame : List ℕ) (r : Ipv4Repr) (ident seq_no : ℕ) (octets : List ℕ)
-    (h : HardwareAddress) (old new : Host) (told : List Event) →
+abbrev pub AnswersPings : ℤ → Host → List Event → Host → Type 0
+AnswersPings t old told new =
+    (own : EthernetAddress) (frame : List ℕ) (r : Ipv4Repr) (ident seq_no : ℕ) (octets : List ℕ)
+    (h : HardwareAddress) →
     Takes own t frame old told new → Pings own old frame r ident seq_no octets →
     IsReached (at old t) (Ipv4 r.src_addr) h →
     28 + length octets ≤ ip_mtu_of old.capabilities →
@@ -168,6 +174,9 @@ PingsAreAnswered =
       hop_limit = 64;
       payload = Icmpv4 (EchoReply ident seq_no) octets;
     })) ∷ []
+
+abbrev pub PingsAreAnswered : Type 0
+PingsAreAnswered = (t : ℤ) (old new : Host) (told : List Event) → AnswersPings t old told new
 
 -- Datagrams
 
@@ -182,41 +191,45 @@ pub record HasDatagram (own : EthernetAddress) (H : Host) (frame : List ℕ) (r 
 
 -- the socket at an index listens at the datagram's port, of any address or of its destination, and has room for it; and
 -- no UDP socket before it listens at that port
-pub record IsAcceptedBy (H : Host) (r : Ipv4Repr) (ports : UdpRepr) (octets : List ℕ)
+pub record IsAcceptedBy (H : Host) (destination : IpAddress) (ports : UdpRepr) (octets : List ℕ)
     (i : ℕ) (s : UdpSocket) : Type 0 where
   pub here : slice_get H.sockets.places i ≡ Some (Some (Udp s))
   pub port : s.endpoint.port ≡ ports.dst_port
-  pub addr : (s.endpoint.addr ≡ None) ⊎ (s.endpoint.addr ≡ Some (Ipv4 r.dst_addr))
+  pub addr : (s.endpoint.addr ≡ None) ⊎ (s.endpoint.addr ≡ Some destination)
   pub first : (k : ℕ) (other : UdpSocket) → k < i → slice_get H.sockets.places k ≡ Some (Some (Udp other)) →
       other.endpoint.port ≢ ports.dst_port
   pub room : is_room s.rx (length octets) ≡ true
 
 -- then the datagram is appended to the socket's queue, with its sender; and no other UDP socket changes
-pub record IsQueued (r : Ipv4Repr) (ports : UdpRepr) (octets : List ℕ) (i : ℕ)
+pub record IsQueued (source : IpAddress) (ports : UdpRepr) (octets : List ℕ) (i : ℕ)
     (s : UdpSocket) (old new : Host) : Type 0 where
   pub got : slice_get new.sockets.places i
       ≡ Some (Some (Udp (record s {
         rx = record s.rx {
-          packets = s.rx.packets ++ (record { addr = Ipv4 r.src_addr; port = ports.src_port }, octets) ∷ [];
+          packets = s.rx.packets ++ (record { addr = source; port = ports.src_port }, octets) ∷ [];
         };
       })))
   pub others : (j : ℕ) (other : UdpSocket) → j ≢ i → slice_get old.sockets.places j ≡ Some (Some (Udp other)) →
       slice_get new.sockets.places j ≡ Some (Some (Udp other))
 
 -- the call that receives it does that, and sends nothing
+abbrev pub QueuesDatagrams : ℤ → Host → List Event → Host → Type 0
+QueuesDatagrams t old told new =
+    (own : EthernetAddress) (frame : List ℕ) (r : Ipv4Repr) (ports : UdpRepr) (octets : List ℕ) (i : ℕ)
+    (s : UdpSocket) →
+    Takes own t frame old told new → HasDatagram own old frame r ports octets →
+    IsAcceptedBy old (Ipv4 r.dst_addr) ports octets i s →
+    IsQueued (Ipv4 r.src_addr) ports octets i s old new × (sent_frames told ≡ [])
+
 abbrev pub DatagramsAreQueued : Type 0
-DatagramsAreQueued =
-    (own : EthernetAddress) (t : ℤ) (frame : List ℕ) (r : Ipv4Repr) (ports : UdpRepr) (octets : List ℕ) (i : ℕ)
-    (s : UdpSocket) (old new : Host) (told : List Event) →
-    Takes own t frame old told new → HasDatagram own old frame r ports octets → IsAcceptedBy old r ports octets i s →
-    IsQueued r ports octets i s old new × (sent_frames told ≡ [])
+DatagramsAreQueued = (t : ℤ) (old new : Host) (told : List Event) → QueuesDatagrams t old told new
 
 -- if no socket listens at its port, and no raw socket accepts the packet, the call sends the port unreachable error and
 -- nothing else. The error quotes the packet's header and the first octets of its payload (RFC 1122 3.2.2.1, 4.1.3.1)
-abbrev pub ClosedPortsAreAnswered : Type 0
-ClosedPortsAreAnswered =
-    (own : EthernetAddress) (t : ℤ) (frame : List ℕ) (r : Ipv4Repr) (ports : UdpRepr) (octets : List ℕ)
-    (h : HardwareAddress) (old new : Host) (told : List Event) →
+abbrev pub AnswersClosedPorts : ℤ → Host → List Event → Host → Type 0
+AnswersClosedPorts t old told new =
+    (own : EthernetAddress) (frame : List ℕ) (r : Ipv4Repr) (ports : UdpRepr) (octets : List ℕ)
+    (h : HardwareAddress) →
     Takes own t frame old told new → (d : HasDatagram own old frame r ports octets) →
     ((k : ℕ) (other : UdpSocket) → slice_get old.sockets.places k ≡ Some (Some (Udp other)) →
     other.endpoint.port ≢ ports.dst_port) →
@@ -228,6 +241,36 @@ ClosedPortsAreAnswered =
       hop_limit = 64;
       payload = Icmpv4 (DstUnreachable PortUnreachable r) (take 528 d.payload);
     })) ∷ []
+
+abbrev pub ClosedPortsAreAnswered : Type 0
+ClosedPortsAreAnswered = (t : ℤ) (old new : Host) (told : List Event) → AnswersClosedPorts t old told new
+
+-- Echo replies received
+
+-- the frame carries an echo reply with this identifier and this sequence number, as the octets of its message (RFC 792)
+pub record HasEchoReply (own : EthernetAddress) (H : Host) (frame : List ℕ) (r : Ipv4Repr)
+    (ident seq_no : ℕ) (message : List ℕ) : Type 0 where
+  pub in_packet : HasPacketV4 own H frame r message
+  pub protocol_is : r.next_header ≡ ip_protocol.Icmp
+  pub is_message : IsIcmpv4 (is_rx H.capabilities.checksum.icmpv4) message
+  pub values : (icmpv4_in message).0 ≡ EchoReply ident seq_no
+
+-- an ICMP socket with that identifier, which has room for it, has it last in its queue, with its sender; and nothing is
+-- sent
+abbrev pub QueuesEchoReplies : ℤ → Host → List Event → Host → Type 0
+QueuesEchoReplies t old told new =
+    (own : EthernetAddress) (frame : List ℕ) (r : Ipv4Repr) (ident seq_no : ℕ) (message : List ℕ) (i : ℕ)
+    (s : IcmpSocket) →
+    Takes own t frame old told new → HasEchoReply own old frame r ident seq_no message →
+    slice_get old.sockets.places i ≡ Some (Some (Icmp s)) → s.endpoint ≡ Ident ident →
+    is_room s.rx (length message) ≡ true →
+    (slice_get new.sockets.places i ≡ Some (Some (Icmp (record s {
+      rx = record s.rx { packets = s.rx.packets ++ (Ipv4 r.src_addr, message) ∷ [] };
+    }))))
+    × (sent_frames told ≡ [])
+
+abbrev pub EchoRepliesAreQueued : Type 0
+EchoRepliesAreQueued = (t : ℤ) (old new : Host) (told : List Event) → QueuesEchoReplies t old told new
 
 -- Datagrams sent
 
@@ -282,15 +325,84 @@ pub record Went (H : Host) (i : ℕ) (s : UdpSocket) (p : Packet) (h : HardwareA
 
 -- a call that sends, and is granted every transmit token, sends the first datagram of each UDP socket that may be
 -- asked. Its destination must be unicast, the way to it known, and the device must take packets so long
-abbrev pub FirstDatagramsGo : Type 0
-FirstDatagramsGo =
-    (own : EthernetAddress) (t : ℤ) (answer : PollResult) (old new : Host) (told : List Event) (notes : List Note)
-    (i : ℕ) (s : UdpSocket) (p : Packet) (h : HardwareAddress)
+abbrev pub SendsFirstDatagrams : ℤ → Host → List Event → Host → Type 0
+SendsFirstDatagrams t old told new =
+    (own : EthernetAddress) (i : ℕ) (s : UdpSocket) (p : Packet) (h : HardwareAddress)
     (rest : List (IpEndpoint × List ℕ)) →
-    Egress t answer old told notes new → all_granted told ≡ true → old.hardware_addr ≡ hardware.Ethernet own →
+    all_granted told ≡ true → old.hardware_addr ≡ hardware.Ethernet own →
     HasFirst (at old t) i s p rest → MayBeAsked (at old t) i → is_unicast old.ip_addrs (destination_of p) ≡ true →
     IsReached (at old t) (destination_of p) h →
     total_len p ≤ ip_mtu_of old.capabilities → Went old i s p h rest told new
+
+abbrev pub FirstDatagramsGo : Type 0
+FirstDatagramsGo =
+    (t : ℤ) (answer : PollResult) (old new : Host) (told : List Event) (notes : List Note) →
+    Egress t answer old told notes new → SendsFirstDatagrams t old told new
+
+-- the number of packets that a socket has to send
+abbrev pub waiting_in : Socket → ℕ
+waiting_in (Raw s) = length s.tx.packets
+waiting_in (Icmp s) = length s.tx.packets
+waiting_in (Udp s) = length s.tx.packets
+waiting_in (Tcp s) = length s.tx.packets
+
+-- the first packet of a socket was sent: its frame is among those that were sent, and the socket has one packet less
+pub record WentFirst (H : Host) (i : ℕ) (s : Socket) (p : Packet) (h : HardwareAddress) (told : List Event)
+    (new : Host) : Type 0 where
+  pub front : List (List ℕ)
+  pub back : List (List ℕ)
+  pub frames : sent_frames told ≡ front ++ (ip_frame H h p ∷ back)
+  pub after : Socket
+  pub left : slice_get new.sockets.places i ≡ Some (Some after)
+  pub less : waiting_in after + 1 ≡ waiting_in s
+
+-- so the first packet of a socket of any kind is sent: of a raw one its packet, of an ICMP one its echo message, of a
+-- TCP one its segment
+abbrev pub SendsFirstPackets : ℤ → Host → List Event → Host → Type 0
+SendsFirstPackets t old told new =
+    (own : EthernetAddress) (i : ℕ) (s : Socket) (p : Packet) (h : HardwareAddress) →
+    all_granted told ≡ true → old.hardware_addr ≡ hardware.Ethernet own →
+    slice_get old.sockets.places i ≡ Some (Some s) → packet_from (at old t) s ≡ Some p → MayBeAsked (at old t) i →
+    is_unicast old.ip_addrs (destination_of p) ≡ true → IsReached (at old t) (destination_of p) h →
+    total_len p ≤ ip_mtu_of old.capabilities → WentFirst old i s p h told new
+
+abbrev pub FirstPacketsGo : Type 0
+FirstPacketsGo =
+    (t : ℤ) (answer : PollResult) (old new : Host) (told : List Event) (notes : List Note) →
+    Egress t answer old told notes new → SendsFirstPackets t old told new
+
+-- the first message that the ICMP socket at an index has to send is an echo request of IPv4 (RFC 792), and it has a
+-- source address
+pub record HasFirstEcho (H : Host) (i : ℕ) (s : IcmpSocket) (a b : Ipv4Address) (ident seq_no : ℕ)
+    (octets : List ℕ) : Type 0 where
+  pub here : slice_get H.sockets.places i ≡ Some (Some (Icmp s))
+  pub message : List ℕ
+  pub others : List (IpAddress × List ℕ)
+  pub first : s.tx.packets ≡ (Ipv4 b, message) ∷ others
+  pub is_message : is_echo 8 0 message ≡ true
+  pub values : icmpv4_in message ≡ (EchoRequest ident seq_no, octets)
+  pub source : source_of (source_for H.ip_addrs) None (Ipv4 b) ≡ Some (Ipv4 a)
+
+-- so it is sent
+abbrev pub SendsFirstEchoes : ℤ → Host → List Event → Host → Type 0
+SendsFirstEchoes t old told new =
+    (own : EthernetAddress) (i : ℕ) (s : IcmpSocket) (a b : Ipv4Address) (ident seq_no : ℕ) (octets : List ℕ)
+    (h : HardwareAddress) →
+    all_granted told ≡ true → old.hardware_addr ≡ hardware.Ethernet own →
+    HasFirstEcho (at old t) i s a b ident seq_no octets → MayBeAsked (at old t) i →
+    is_unicast_v4 old.ip_addrs b ≡ true → IsReached (at old t) (Ipv4 b) h →
+    28 + length octets ≤ ip_mtu_of old.capabilities →
+    WentFirst old i (Icmp s) (packet.Ipv4 (record {
+      src_addr = a;
+      dst_addr = b;
+      hop_limit = s.hop_limit;
+      payload = Icmpv4 (EchoRequest ident seq_no) octets;
+    })) h told new
+
+abbrev pub FirstEchoesGo : Type 0
+FirstEchoesGo =
+    (t : ℤ) (answer : PollResult) (old new : Host) (told : List Event) (notes : List Note) →
+    Egress t answer old told notes new → SendsFirstEchoes t old told new
 
 -- Discovery
 
@@ -309,15 +421,19 @@ pub record WasAsked (t : ℤ) (notes : List Note) (new : Host) : Type 0 where
 
 -- as long as a datagram waits for its next hop, each call that sends after the silence, and is granted every transmit
 -- token, requests the hardware address of some next hop
-abbrev pub RequestsGo : Type 0
-RequestsGo =
-    (own : EthernetAddress) (t : ℤ) (answer : PollResult) (old new : Host) (told : List Event) (notes : List Note)
-    (i : ℕ) (s : UdpSocket) (p : Packet) (hop : IpAddress)
+abbrev pub SendsRequests : ℤ → Host → List Event → List Note → Host → Type 0
+SendsRequests t old told notes new =
+    (own : EthernetAddress) (i : ℕ) (s : UdpSocket) (p : Packet) (hop : IpAddress)
     (rest : List (IpEndpoint × List ℕ)) →
-    Egress t answer old told notes new → all_granted told ≡ true → old.hardware_addr ≡ hardware.Ethernet own →
+    all_granted told ≡ true → old.hardware_addr ≡ hardware.Ethernet own →
     HasFirst (at old t) i s p rest → MayBeAsked (at old t) i → is_unicast old.ip_addrs (destination_of p) ≡ true →
     IsToBeAskedFor (at old t) (destination_of p) hop →
     WasAsked t notes new
+
+abbrev pub RequestsGo : Type 0
+RequestsGo =
+    (t : ℤ) (answer : PollResult) (old new : Host) (told : List Event) (notes : List Note) →
+    Egress t answer old told notes new → SendsRequests t old told notes new
 
 -- IPv6
 
@@ -341,10 +457,10 @@ pub record PingsV6 (own : EthernetAddress) (H : Host) (frame : List ℕ) (r : Ip
   pub is_message : IsMessage H r payload
   pub values : icmpv6_in payload ≡ (icmpv6.EchoRequest ident seq_no, octets)
 
-abbrev pub PingsV6AreAnswered : Type 0
-PingsV6AreAnswered =
-    (own : EthernetAddress) (t : ℤ) (frame : List ℕ) (r : Ipv6Repr) (ident seq_no : ℕ) (octets : List ℕ)
-    (h : HardwareAddress) (old new : Host) (told : List Event) →
+abbrev pub AnswersPingsV6 : ℤ → Host → List Event → Host → Type 0
+AnswersPingsV6 t old told new =
+    (own : EthernetAddress) (frame : List ℕ) (r : Ipv6Repr) (ident seq_no : ℕ) (octets : List ℕ)
+    (h : HardwareAddress) →
     Takes own t frame old told new → PingsV6 own old frame r ident seq_no octets →
     IsReached (at old t) (Ipv6 r.src_addr) h →
     48 + length octets ≤ ip_mtu_of old.capabilities →
@@ -354,6 +470,54 @@ PingsV6AreAnswered =
       hop_limit = 64;
       payload = Icmpv6 (icmpv6.EchoReply ident seq_no) octets;
     })) ∷ []
+
+abbrev pub PingsV6AreAnswered : Type 0
+PingsV6AreAnswered = (t : ℤ) (old new : Host) (told : List Event) → AnswersPingsV6 t old told new
+
+-- the frame carries a datagram (RFC 768, RFC 8200 8.1) with these ports and this payload, to an address assigned to the
+-- host
+pub record HasDatagramV6 (own : EthernetAddress) (H : Host) (frame : List ℕ) (r : Ipv6Repr)
+    (ports : UdpRepr) (octets : List ℕ) : Type 0 where
+  pub payload : List ℕ
+  pub in_packet : HasPacketV6 own H frame r payload
+  pub given : is_assigned H.ip_addrs (Ipv6 r.dst_addr) ≡ true
+  pub protocol_is : r.next_header ≡ ip_protocol.Udp
+  pub is_datagram : IsDatagram H (repr.Ipv6 r) payload
+  pub values : udp_in payload ≡ (ports, octets)
+
+-- it is queued as one over IPv4 is
+abbrev pub QueuesDatagramsV6 : ℤ → Host → List Event → Host → Type 0
+QueuesDatagramsV6 t old told new =
+    (own : EthernetAddress) (frame : List ℕ) (r : Ipv6Repr) (ports : UdpRepr) (octets : List ℕ) (i : ℕ)
+    (s : UdpSocket) →
+    Takes own t frame old told new → HasDatagramV6 own old frame r ports octets →
+    IsAcceptedBy old (Ipv6 r.dst_addr) ports octets i s →
+    IsQueued (Ipv6 r.src_addr) ports octets i s old new × (sent_frames told ≡ [])
+
+abbrev pub DatagramsV6AreQueued : Type 0
+DatagramsV6AreQueued = (t : ℤ) (old new : Host) (told : List Event) → QueuesDatagramsV6 t old told new
+
+-- if no socket listens at its port, and no raw socket accepts the packet, the call sends the port unreachable error and
+-- nothing else. The error quotes the packet's header and the first octets of its payload (RFC 4443 2.4, 3.1)
+abbrev pub AnswersClosedPortsV6 : ℤ → Host → List Event → Host → Type 0
+AnswersClosedPortsV6 t old told new =
+    (own : EthernetAddress) (frame : List ℕ) (r : Ipv6Repr) (ports : UdpRepr) (octets : List ℕ)
+    (h : HardwareAddress) →
+    Takes own t frame old told new → (d : HasDatagramV6 own old frame r ports octets) →
+    ipv6.is_unicast r.dst_addr ≡ true →
+    ((k : ℕ) (other : UdpSocket) → slice_get old.sockets.places k ≡ Some (Some (Udp other)) →
+    other.endpoint.port ≢ ports.dst_port) →
+    raw.is_taken (repr.Ipv6 r) old ≡ false → IsReached (at old t) (Ipv6 r.src_addr) h →
+    1280 ≤ ip_mtu_of old.capabilities →
+    sent_frames told ≡ ip_frame old h (packet.Ipv6 (record {
+      src_addr = r.dst_addr;
+      dst_addr = r.src_addr;
+      hop_limit = 64;
+      payload = Icmpv6 (icmpv6.DstUnreachable PortUnreachableV6 r) (take 1192 d.payload);
+    })) ∷ []
+
+abbrev pub ClosedPortsV6AreAnswered : Type 0
+ClosedPortsV6AreAnswered = (t : ℤ) (old new : Host) (told : List Event) → AnswersClosedPortsV6 t old told new
 
 -- a neighbour in a network of the host solicits an address assigned to it, and gives its own hardware address. The
 -- destination is a solicited-node group of the host or an address assigned to it other than ::1 (RFC 4861 7.2.2)
@@ -373,10 +537,9 @@ pub record Solicits (own : EthernetAddress) (H : Host) (frame : List ℕ) (r : I
   pub target_is_own : is_assigned H.ip_addrs (Ipv6 target) ≡ true
 
 -- it is answered by an advertisement, and its sender is known from then on
-abbrev pub SolicitationsAreAnswered : Type 0
-SolicitationsAreAnswered =
-    (own : EthernetAddress) (t : ℤ) (frame : List ℕ) (r : Ipv6Repr) (target : Ipv6Address) (h : EthernetAddress)
-    (old new : Host) (told : List Event) →
+abbrev pub AnswersSolicitations : ℤ → Host → List Event → Host → Type 0
+AnswersSolicitations t old told new =
+    (own : EthernetAddress) (frame : List ℕ) (r : Ipv6Repr) (target : Ipv6Address) (h : EthernetAddress) →
     Takes own t frame old told new → Solicits own old frame r target h → 72 ≤ ip_mtu_of old.capabilities →
     (sent_frames told ≡ ip_frame old (hardware.Ethernet h) (packet.Ipv6 (record {
       src_addr = target;
@@ -386,19 +549,15 @@ SolicitationsAreAnswered =
     })) ∷ [])
     × (answer_of new.neighbors (Ipv6 r.src_addr) t ≡ Found (hardware.Ethernet h))
 
+abbrev pub SolicitationsAreAnswered : Type 0
+SolicitationsAreAnswered = (t : ℤ) (old new : Host) (told : List Event) → AnswersSolicitations t old told new
+
 -- Nothing stays due
 
 -- after a moment, if there is an instant
 abbrev pub IsLater : ℤ → Option ℤ → Type 0
 IsLater t None = Unit {0}
 IsLater t (Some x) = t <ℤ x
-
--- the number of packets that a socket has to send
-abbrev pub waiting_in : Socket → ℕ
-waiting_in (Raw s) = length s.tx.packets
-waiting_in (Icmp s) = length s.tx.packets
-waiting_in (Udp s) = length s.tx.packets
-waiting_in (Tcp s) = length s.tx.packets
 
 -- the socket at an index has one packet less to send than the one that was there before
 pub record HasOneLess (i : ℕ) (old new : Host) : Type 0 where
@@ -427,20 +586,26 @@ pub record IsDone (H new : Host) : Type 0 where
   pub sockets : (i : ℕ) (x : ℤ) → SocketDue new i x → x ≤ℤ H.moment → HasOneLess i H new
 
 -- so it is, if every transmit token is granted; each index of the host's socket set has a wait, as in every set
+abbrev pub DoesWhatIsDue : ℤ → Host → List Event → Host → Type 0
+DoesWhatIsDue t old told new =
+    all_granted told ≡ true → length old.sockets.waits ≡ length old.sockets.places → IsDone (at old t) new
+
 abbrev pub DueIsDone : Type 0
 DueIsDone =
     (t : ℤ) (answer : PollResult) (old new : Host) (told : List Event) (notes : List Note) →
-    Egress t answer old told notes new → all_granted told ≡ true →
-    length old.sockets.waits ≡ length old.sockets.places → IsDone (at old t) new
+    Egress t answer old told notes new → DoesWhatIsDue t old told new
 
 -- the first pending fragment is the first frame that is sent
 
+abbrev pub SendsPieces : Host → List Event → Type 0
+SendsPieces old told =
+    (piece : Piece) (rest : List Piece) → all_granted told ≡ true → old.left ≡ piece ∷ rest →
+    (others : List (List ℕ)) × (sent_frames told ≡ piece_frame old piece ∷ others)
+
 abbrev pub PiecesGo : Type 0
 PiecesGo =
-    (t : ℤ) (answer : PollResult) (old new : Host) (told : List Event) (notes : List Note)
-    (piece : Piece) (rest : List Piece) →
-    Egress t answer old told notes new → all_granted told ≡ true → old.left ≡ piece ∷ rest →
-    (others : List (List ℕ)) × (sent_frames told ≡ piece_frame old piece ∷ others)
+    (t : ℤ) (answer : PollResult) (old new : Host) (told : List Event) (notes : List Note) →
+    Egress t answer old told notes new → SendsPieces old told
 
 -- after a poll without frames received, addresses and routes are in sync with what was learnt from routers:
 -- no sync is due any more

@@ -1,5 +1,6 @@
-use Rattle.std.proofs.Common.{◌≡◌, take, arith}
+use Rattle.std.proofs.Common.{◌≡◌, ◌∙◌, ap, sym, length, take, arith}
 use Rattle.std.proofs.lemmas.List.{take_more, take_more_set, take_all}
+use Rattle.host_machine.specs.State.Host.{Host}
 use Rattle.host_machine.proofs.Polling.RunConcatenation.{no_commands}
 use Rattle.interface.specs.Stands.{StandsFor}
 use Rattle.host.proofs.DriveSteps.{driven, ran_more}
@@ -23,4 +24,9 @@ pub returns : goal.returns
 returns g c = λ H h.
     let commands : take c.loop-i.i c.args.commands.now ≡ c.args.commands.now = take_all c.loop-i.i c.args.commands.now (omega arith) in
     let answers : take c.loop-i.i c.loop-i.answers ≡ c.loop-i.answers = take_all c.loop-i.i c.loop-i.answers (omega arith) in
-    driven g.D.Device.tells g.O.Owner.did (c.is_on_its_medium.ensures c.args.sockets.now H h) (rw (commands, answers) at (c.loop-i.invariant H h))
+    let regular = c.is_on_its_medium.ensures c.args.sockets.now H h in
+    driven g.D.Device.tells g.O.Owner.did regular (record {
+      waits = ap (λ (K : Host). length K.sockets.waits) h.same ∙ c.has_a_wait_for_each.ensures
+          ∙ sym (ap (λ (K : Host). length K.sockets.places) h.same);
+      mtu = regular.mtu;
+    }) (rw (commands, answers) at (c.loop-i.invariant H h))

@@ -27,12 +27,15 @@ abbrev pub sum_of : List ℕ → ℕ
 sum_of octets = folded_sum (word_sum octets)
 
 -- a packet whose header has a wrong checksum
-abbrev pub WrongHeadersAreDropped : Type 0
-WrongHeadersAreDropped =
-    (t : ℤ) (frame packet : List ℕ) (old new : Host) (told : List Event) (notes : List Note) →
-    Receives t frame old told notes new → CarriesV4 old.hardware_addr frame packet →
+abbrev pub DropsWrongHeaders : ℤ → List ℕ → Host → List Event → List Note → Host → Type 0
+DropsWrongHeaders t frame old told notes new = (packet : List ℕ) → CarriesV4 old.hardware_addr frame packet →
     is_rx old.capabilities.checksum.ipv4 ≡ true → sum_of (take (header_len packet) packet) ≢ 65535 →
     HasNoEffect t old told notes new
+
+abbrev pub WrongHeadersAreDropped : Type 0
+WrongHeadersAreDropped =
+    (t : ℤ) (frame : List ℕ) (old new : Host) (told : List Event) (notes : List Note) →
+    Receives t frame old told notes new → DropsWrongHeaders t frame old told notes new
 
 -- the checksum of a message, a datagram or a segment over IPv4 is verified and wrong. That of UDP may be 0, for none
 pub data HasWrongSumV4 (c : ChecksumCapabilities) (src dst : IpAddress) (octets : List ℕ) : IpProtocol → Type 0 where
@@ -82,14 +85,20 @@ pub record ReachesRawOnly (t : ℤ) (sender : IpAddress) (old : Host) (told : Li
   pub raw_only : AreSameButRaw old.sockets.places places
   pub others : new ≡ with_places (with_neighbors (without_expired old t) neighbors) places
 
+abbrev pub DropsWrongPayloads : ℤ → List ℕ → Host → List Event → List Note → Host → Type 0
+DropsWrongPayloads t frame old told notes new = (packet : List ℕ) → CarriesV4 old.hardware_addr frame packet →
+    HasWrongPayloadV4 old packet → ReachesRawOnly t (sender_v4 packet) old told notes new
+
 abbrev pub WrongPayloadsAreDropped : Type 0
 WrongPayloadsAreDropped =
-    (t : ℤ) (frame packet : List ℕ) (old new : Host) (told : List Event) (notes : List Note) →
-    Receives t frame old told notes new → CarriesV4 old.hardware_addr frame packet → HasWrongPayloadV4 old packet →
-    ReachesRawOnly t (sender_v4 packet) old told notes new
+    (t : ℤ) (frame : List ℕ) (old new : Host) (told : List Event) (notes : List Note) →
+    Receives t frame old told notes new → DropsWrongPayloads t frame old told notes new
+
+abbrev pub DropsWrongPayloadsV6 : ℤ → List ℕ → Host → List Event → List Note → Host → Type 0
+DropsWrongPayloadsV6 t frame old told notes new = (packet : List ℕ) → CarriesV6 old.hardware_addr frame packet →
+    HasWrongPayloadV6 old packet → ReachesRawOnly t (sender_v6 packet) old told notes new
 
 abbrev pub WrongPayloadsV6AreDropped : Type 0
 WrongPayloadsV6AreDropped =
-    (t : ℤ) (frame packet : List ℕ) (old new : Host) (told : List Event) (notes : List Note) →
-    Receives t frame old told notes new → CarriesV6 old.hardware_addr frame packet → HasWrongPayloadV6 old packet →
-    ReachesRawOnly t (sender_v6 packet) old told notes new
+    (t : ℤ) (frame : List ℕ) (old new : Host) (told : List Event) (notes : List Note) →
+    Receives t frame old told notes new → DropsWrongPayloadsV6 t frame old told notes new

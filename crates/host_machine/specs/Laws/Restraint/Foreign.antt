@@ -89,11 +89,14 @@ pub record HasHardlyEffect (t : ℤ) (old : Host) (told : List Event) (new : Hos
   pub others : new ≡ with_places (with_slots (at old t) slots) places
 
 -- an IPv4 packet to an address that isn't the host's; raw sockets get such packets, and its fragments take slots
+abbrev pub DropsForeignPackets : ℤ → List ℕ → Host → List Event → Host → Type 0
+DropsForeignPackets t frame old told new = (packet : List ℕ) → CarriesV4 old.hardware_addr frame packet →
+    IsForeignV4 old (u32_at packet 16) → HasHardlyEffect t old told new
+
 abbrev pub ForeignPacketsAreDropped : Type 0
 ForeignPacketsAreDropped =
-    (t : ℤ) (frame packet : List ℕ) (old new : Host) (told : List Event) (notes : List Note) →
-    Receives t frame old told notes new → CarriesV4 old.hardware_addr frame packet →
-    IsForeignV4 old (u32_at packet 16) → HasHardlyEffect t old told new
+    (t : ℤ) (frame : List ℕ) (old new : Host) (told : List Event) (notes : List Note) →
+    Receives t frame old told notes new → DropsForeignPackets t frame old told new
 
 -- a packet has no hop-by-hop options, which each host on the way reads (RFC 8200 4.3), or all are to be skipped
 abbrev pub AsksNothingOnTheWay : List ℕ → Type 0
@@ -101,20 +104,27 @@ AsksNothingOnTheWay packet = (number_of (ipv6_in packet).0.next_header ≢ 0)
     ⊎ (first_failure (hop_by_hop_in (ipv6_in packet).1).0.options.items ≡ Skip)
 
 -- an IPv6 packet to an address that isn't the host's
+abbrev pub DropsForeignPacketsV6 : ℤ → List ℕ → Host → List Event → List Note → Host → Type 0
+DropsForeignPacketsV6 t frame old told notes new = (packet : List ℕ) → CarriesV6 old.hardware_addr frame packet →
+    AsksNothingOnTheWay packet → IsForeignV6 old (ipv6_in packet).0.dst_addr.bits → HasNoEffect t old told notes new
+
 abbrev pub ForeignPacketsV6AreDropped : Type 0
 ForeignPacketsV6AreDropped =
-    (t : ℤ) (frame packet : List ℕ) (old new : Host) (told : List Event) (notes : List Note) →
-    Receives t frame old told notes new → CarriesV6 old.hardware_addr frame packet → AsksNothingOnTheWay packet →
-    IsForeignV6 old (ipv6_in packet).0.dst_addr.bits → HasNoEffect t old told notes new
+    (t : ℤ) (frame : List ℕ) (old new : Host) (told : List Event) (notes : List Note) →
+    Receives t frame old told notes new → DropsForeignPacketsV6 t frame old told notes new
 
 -- a frame to another host: its destination isn't the host's hardware address, and the first octet of that is even, so
 -- it is that of one host (IEEE 802.3 3.2.3)
-abbrev pub FramesForOthersAreDropped : Type 0
-FramesForOthersAreDropped =
-    (own : EthernetAddress) (t : ℤ) (frame : List ℕ) (old new : Host) (told : List Event) (notes : List Note) →
-    Receives t frame old told notes new → old.hardware_addr ≡ hardware.Ethernet own →
+abbrev pub DropsFramesForOthers : ℤ → List ℕ → Host → List Event → List Note → Host → Type 0
+DropsFramesForOthers t frame old told notes new =
+    (own : EthernetAddress) → old.hardware_addr ≡ hardware.Ethernet own →
     (header_in frame).dst_addr.0 ≢ own.0 → slice_index (header_in frame).dst_addr.0 0 % 2 ≡ 0 →
     HasNoEffect t old told notes new
+
+abbrev pub FramesForOthersAreDropped : Type 0
+FramesForOthersAreDropped =
+    (t : ℤ) (frame : List ℕ) (old new : Host) (told : List Event) (notes : List Note) →
+    Receives t frame old told notes new → DropsFramesForOthers t frame old told notes new
 
 -- a host takes the other frames: those to its own hardware address, and those whose first octet is odd, to many hosts
 abbrev pub OwnFramesAreTaken : Type 0
@@ -129,16 +139,22 @@ pub data IsNoHostV4 (own : List IpCidr) (a : ℕ) : Type 0 where
       a ≡ last_address (32 - n.prefix_len) n.address.bits → IsNoHostV4 own a
 
 -- an IPv4 packet from such a source (RFC 1122 3.2.1.3)
-abbrev pub PacketsFromNoHostAreDropped : Type 0
-PacketsFromNoHostAreDropped =
-    (t : ℤ) (frame packet : List ℕ) (old new : Host) (told : List Event) (notes : List Note) →
-    Receives t frame old told notes new → CarriesV4 old.hardware_addr frame packet →
+abbrev pub DropsPacketsFromNoHost : ℤ → List ℕ → Host → List Event → List Note → Host → Type 0
+DropsPacketsFromNoHost t frame old told notes new = (packet : List ℕ) → CarriesV4 old.hardware_addr frame packet →
     IsNoHostV4 old.ip_addrs (u32_at packet 12) → HasNoEffect t old told notes new
 
+abbrev pub PacketsFromNoHostAreDropped : Type 0
+PacketsFromNoHostAreDropped =
+    (t : ℤ) (frame : List ℕ) (old new : Host) (told : List Event) (notes : List Note) →
+    Receives t frame old told notes new → DropsPacketsFromNoHost t frame old told notes new
+
 -- an IPv6 packet from a group (ff00::/8) or from :: (RFC 4291 2.5.2, 2.7)
-abbrev pub PacketsFromNoHostV6AreDropped : Type 0
-PacketsFromNoHostV6AreDropped =
-    (t : ℤ) (frame packet : List ℕ) (old new : Host) (told : List Event) (notes : List Note) →
-    Receives t frame old told notes new → CarriesV6 old.hardware_addr frame packet →
+abbrev pub DropsPacketsFromNoHostV6 : ℤ → List ℕ → Host → List Event → List Note → Host → Type 0
+DropsPacketsFromNoHostV6 t frame old told notes new = (packet : List ℕ) → CarriesV6 old.hardware_addr frame packet →
     ((ipv6_in packet).0.src_addr.bits ≡ 0) ⊎ ((ipv6_in packet).0.src_addr.bits / 2 ^ 120 ≡ 0xff) →
     HasNoEffect t old told notes new
+
+abbrev pub PacketsFromNoHostV6AreDropped : Type 0
+PacketsFromNoHostV6AreDropped =
+    (t : ℤ) (frame : List ℕ) (old new : Host) (told : List Event) (notes : List Note) →
+    Receives t frame old told notes new → DropsPacketsFromNoHostV6 t frame old told notes new

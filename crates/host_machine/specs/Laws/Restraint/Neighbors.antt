@@ -105,10 +105,14 @@ pub data CameToBeKnown (t : ℤ) (frame : List ℕ) (old : Host) (a : IpAddress)
       TellsByArp old frame a h ⊎ TellsByMessage old frame a h → CameToBeKnown t frame old a n
 
 -- so each neighbour came to be known
+abbrev pub LearnsFromFrames : ℤ → List ℕ → Host → Host → Type 0
+LearnsFromFrames t frame old new = (a : IpAddress) (n : Neighbor) →
+    map.get new.neighbors.known a ≡ Some n → CameToBeKnown t frame old a n
+
 abbrev pub NeighborsComeFromFrames : Type 0
 NeighborsComeFromFrames =
-    (t : ℤ) (frame : List ℕ) (old new : Host) (told : List Event) (notes : List Note) (a : IpAddress) (n : Neighbor) →
-    Receives t frame old told notes new → map.get new.neighbors.known a ≡ Some n → CameToBeKnown t frame old a n
+    (t : ℤ) (frame : List ℕ) (old new : Host) (told : List Event) (notes : List Note) →
+    Receives t frame old told notes new → LearnsFromFrames t frame old new
 
 -- a command that receives frames
 abbrev pub MayReceive : Command → Type 0
@@ -117,9 +121,11 @@ MayReceive (Poll t budget) = Unit {0}
 MayReceive other = ⊥
 
 -- a step of another command makes no neighbour known
+abbrev pub LearnsNobody : Host → Host → Type 0
+LearnsNobody old new = (a : IpAddress) (n : Neighbor) →
+    map.get new.neighbors.known a ≡ Some n → map.get old.neighbors.known a ≡ Some n
+
 abbrev pub OtherStepsLearnNobody : Type 0
 OtherStepsLearnNobody =
-    (command : Command) (answer : Answer) (old new : Host) (told : List Event) (acts : List Act) (notes : List Note)
-    (a : IpAddress) (n : Neighbor) →
-    Step command answer old told acts notes new → (MayReceive command → ⊥) →
-    map.get new.neighbors.known a ≡ Some n → map.get old.neighbors.known a ≡ Some n
+    (command : Command) (answer : Answer) (old new : Host) (told : List Event) (acts : List Act) (notes : List Note) →
+    Step command answer old told acts notes new → (MayReceive command → ⊥) → LearnsNobody old new

@@ -2,7 +2,7 @@
 -- reset has a cause in the packet that brought it (RFC 826, RFC 4861 7.2.4, RFC 1122 3.2.2, RFC 4443 2.4, RFC 9293
 -- 3.5.2). Where the machine sends more than an RFC allows, as errors of ICMPv6 for packets to groups, nothing is said.
 use Rattle.std.specs.Prelude.{◌≡◌, ◌≢◌, ◌⊎◌, ℕ, ◌/◌, ◌%◌, ◌^◌, ◌≤◌, ℤ, true, false}
-use Rattle.std.specs.Prelude.{List, length, take, drop, slice_get, slice_index, Some, None}
+use Rattle.std.specs.Prelude.{List, length, take, drop, slice_get, slice_index, Option, Some, None}
 use Rattle.std.specs.List.{AllByRecursion}
 use Rattle.net_base.specs.Device.{Event}
 use Rattle.ip_address.specs.Protocol.{number_of}
@@ -40,7 +40,7 @@ use Rattle.sockets.specs.declared.socket.SocketOf.TheVariants.{Raw, Icmp, Udp, T
 use Rattle.transport_sockets.specs.Tcp.{TcpSocket}
 use Rattle.host_machine.specs.State.Note.{Note}
 use Rattle.host_machine.specs.State.Host.{Host, Storage}
-use Rattle.host_machine.specs.Receiving.Reply.{Arp, Ip}
+use Rattle.host_machine.specs.Receiving.Reply.{Reply, Arp, Ip}
 use Rattle.host_machine.specs.Sending.Packet.{Packet, PacketV4, PacketV6}
 use Rattle.host_machine.specs.Sending.Packet as packet
 use Rattle.host_machine.specs.Laws.Restraint.Foreign.{IsNoBroadcastOf}
@@ -62,11 +62,14 @@ pub record AnswersByArp (own : EthernetAddress) (H : Host) (frame : List ℕ) (r
   pub sender_address : r.target_protocol_addr ≡ (arp_in (drop 14 frame)).source_protocol_addr
 
 -- each ARP packet in reply to a frame is one
+abbrev pub TellsItselfByArp : List ℕ → Host → Option Reply → Type 0
+TellsItselfByArp frame old reply = (own : EthernetAddress) (r : ArpRepr) →
+    old.hardware_addr ≡ hardware.Ethernet own → reply ≡ Some (Arp r) → AnswersByArp own old frame r
+
 abbrev pub ArpRepliesTellItself : Type 0
 ArpRepliesTellItself =
-    (own : EthernetAddress) (t : ℤ) (frame : List ℕ) (r : ArpRepr) (old new : Host) (told : List Event)
-    (notes : List Note) → (w : Receives t frame old told notes new) → old.hardware_addr ≡ hardware.Ethernet own →
-    w.call.response.reply ≡ Some (Arp r) → AnswersByArp own old frame r
+    (t : ℤ) (frame : List ℕ) (old new : Host) (told : List Event) (notes : List Note) →
+    (w : Receives t frame old told notes new) → TellsItselfByArp frame old w.call.response.reply
 
 -- an advertisement from an address of the host, with the host's hardware address for it, to the sender of a packet that
 -- no router forwarded
@@ -84,13 +87,16 @@ pub record AdvertisesItself (own : EthernetAddress) (H : Host) (frame : List ℕ
   pub hop_limit : q.hop_limit ≡ 255
 
 -- each message of neighbour discovery in reply to a frame is one
+abbrev pub AdvertisesOnlyItself : List ℕ → Host → Option Reply → Type 0
+AdvertisesOnlyItself frame old reply =
+    (own : EthernetAddress) (q : PacketV6) (message : NdiscRepr) (octets : List ℕ) →
+    old.hardware_addr ≡ hardware.Ethernet own → reply ≡ Some (Ip (packet.Ipv6 q)) →
+    q.payload ≡ packet.Icmpv6 (v6.Ndisc message) octets → AdvertisesItself own old frame q message
+
 abbrev pub AdvertisementsTellItself : Type 0
 AdvertisementsTellItself =
-    (own : EthernetAddress) (t : ℤ) (frame : List ℕ) (q : PacketV6) (message : NdiscRepr) (octets : List ℕ)
-    (old new : Host) (told : List Event) (notes : List Note) →
-    (w : Receives t frame old told notes new) → old.hardware_addr ≡ hardware.Ethernet own →
-    w.call.response.reply ≡ Some (Ip (packet.Ipv6 q)) → q.payload ≡ packet.Icmpv6 (v6.Ndisc message) octets →
-    AdvertisesItself own old frame q message
+    (t : ℤ) (frame : List ℕ) (old new : Host) (told : List Event) (notes : List Note) →
+    (w : Receives t frame old told notes new) → AdvertisesOnlyItself frame old w.call.response.reply
 
 -- Errors
 
@@ -137,12 +143,16 @@ pub record HasCauseV4 (H : Host) (frame : List ℕ) (q : PacketV4) (message : Ic
   pub quotes_payload : octets ≡ take 528 payload
 
 -- each message of ICMP in reply to a frame, but an echo reply, is such an error
+abbrev pub SendsErrorsWithCause : List ℕ → Host → Option Reply → Type 0
+SendsErrorsWithCause frame old reply =
+    (q : PacketV4) (message : Icmpv4Repr) (octets : List ℕ) →
+    reply ≡ Some (Ip (packet.Ipv4 q)) → q.payload ≡ packet.Icmpv4 message octets →
+    icmpv4.type_of message ≢ 0 → HasCauseV4 old frame q message octets
+
 abbrev pub ErrorsHaveCause : Type 0
 ErrorsHaveCause =
-    (t : ℤ) (frame : List ℕ) (q : PacketV4) (message : Icmpv4Repr) (octets : List ℕ)
-    (old new : Host) (told : List Event) (notes : List Note) → (w : Receives t frame old told notes new) →
-    w.call.response.reply ≡ Some (Ip (packet.Ipv4 q)) → q.payload ≡ packet.Icmpv4 message octets →
-    icmpv4.type_of message ≢ 0 → HasCauseV4 old frame q message octets
+    (t : ℤ) (frame : List ℕ) (old new : Host) (told : List Event) (notes : List Note) →
+    (w : Receives t frame old told notes new) → SendsErrorsWithCause frame old w.call.response.reply
 
 -- the protocol of the payload of an IPv6 packet, and the payload: after the header, or after hop-by-hop options
 pub data BringsV6 (packet : List ℕ) (p : IpProtocol) (payload : List ℕ) : Type 0 where
@@ -170,12 +180,16 @@ pub record HasCauseV6 (H : Host) (frame : List ℕ) (q : PacketV6) (message : Ic
   pub reason : HasReasonV6 H packet message octets
 
 -- each error of ICMPv6, types 1 to 4, in reply to a frame is one
+abbrev pub SendsErrorsV6WithCause : List ℕ → Host → Option Reply → Type 0
+SendsErrorsV6WithCause frame old reply =
+    (q : PacketV6) (message : Icmpv6Repr) (octets : List ℕ) →
+    reply ≡ Some (Ip (packet.Ipv6 q)) → q.payload ≡ packet.Icmpv6 message octets →
+    icmpv6.type_of message ≤ 4 → HasCauseV6 old frame q message octets
+
 abbrev pub ErrorsV6HaveCause : Type 0
 ErrorsV6HaveCause =
-    (t : ℤ) (frame : List ℕ) (q : PacketV6) (message : Icmpv6Repr) (octets : List ℕ)
-    (old new : Host) (told : List Event) (notes : List Note) → (w : Receives t frame old told notes new) →
-    w.call.response.reply ≡ Some (Ip (packet.Ipv6 q)) → q.payload ≡ packet.Icmpv6 message octets →
-    icmpv6.type_of message ≤ 4 → HasCauseV6 old frame q message octets
+    (t : ℤ) (frame : List ℕ) (old new : Host) (told : List Event) (notes : List Note) →
+    (w : Receives t frame old told notes new) → SendsErrorsV6WithCause frame old w.call.response.reply
 
 -- Resets
 
@@ -208,8 +222,11 @@ pub record HasSegmentCause (H : Host) (frame : List ℕ) : Type 0 where
   pub untaken : AllByRecursion (IsNoRawFor of_version next) H.sockets.places ⊎ HasAborted H
 
 -- each segment in reply to a frame, so each reset, is one
+abbrev pub SendsResetsWithCause : List ℕ → Host → Option Reply → Type 0
+SendsResetsWithCause frame old reply = (q : Packet) (header : TcpRepr) (octets : List ℕ) →
+    reply ≡ Some (Ip q) → packet.payload_of q ≡ packet.Tcp header octets → HasSegmentCause old frame
+
 abbrev pub ResetsHaveCause : Type 0
 ResetsHaveCause =
-    (t : ℤ) (frame : List ℕ) (q : Packet) (header : TcpRepr) (octets : List ℕ)
-    (old new : Host) (told : List Event) (notes : List Note) → (w : Receives t frame old told notes new) →
-    w.call.response.reply ≡ Some (Ip q) → packet.payload_of q ≡ packet.Tcp header octets → HasSegmentCause old frame
+    (t : ℤ) (frame : List ℕ) (old new : Host) (told : List Event) (notes : List Note) →
+    (w : Receives t frame old told notes new) → SendsResetsWithCause frame old w.call.response.reply

@@ -93,8 +93,10 @@ MaySet (PollMaintenance t) = Unit {0}
 MaySet other = ⊥
 
 -- a step of any other command keeps addresses and routes
+abbrev pub KeepsAddressesAndRoutes : Host → Host → Type 0
+KeepsAddressesAndRoutes old new = (new.ip_addrs ≡ old.ip_addrs) × (new.routes ≡ old.routes)
+
 abbrev pub OtherStepsKeepSettings : Type 0
 OtherStepsKeepSettings =
     (command : Command) (answer : Answer) (old new : Host) (told : List Event) (acts : List Act) (notes : List Note) →
-    Step command answer old told acts notes new → (MaySet command → ⊥) →
-    (new.ip_addrs ≡ old.ip_addrs) × (new.routes ≡ old.routes)
+    Step command answer old told acts notes new → (MaySet command → ⊥) → KeepsAddressesAndRoutes old new

@@ -1,0 +1,82 @@
+-- An echo reply that comes for an ICMP socket is in its queue.
+use Rattle.std.proofs.Common.{◌≡◌, ℕ, Bool, true, false, List, [], ◌∷◌, ◌++◌, refl, ◌∙◌, ap, subst, Option, Some, None}
+use Rattle.std.proofs.lemmas.Option.{slice_get-map}
+use Rattle.std.specs.Prelude.{cond, slice_get}
+use Rattle.std.specs.Option.{option_map}
+use Rattle.net_base.specs.Checksum.{is_rx, is_tx}
+use Rattle.ip_address.specs.declared.hardware.HardwareAddress.TheVariants as hardware
+use Rattle.ip_address.specs.declared.ip.IpAddress.{IpAddress}
+use Rattle.ip_address.specs.declared.ip.IpAddress.TheVariants.{Ipv4}
+use Rattle.ip_wire.specs.declared.ethernet.EthernetProtocol.TheVariants as protocol
+use Rattle.ip_wire.specs.declared.ipv4_packet.Ipv4Repr.{Ipv4Repr}
+use Rattle.ip_wire.specs.declared.ip_packet.IpRepr.{IpRepr}
+use Rattle.ip_wire.specs.declared.ip_packet.IpRepr.TheVariants as repr
+use Rattle.ip_wire.specs.Ethernet.{header_in}
+use Rattle.control_wire.specs.declared.icmpv4.Icmpv4Repr.TheVariants.{EchoReply}
+use Rattle.control_wire.specs.declared.icmp.IcmpRepr.{IcmpRepr}
+use Rattle.control_wire.specs.declared.icmp.IcmpRepr.TheVariants.{Ipv4 as Ipv4Message}
+use Rattle.control_wire.specs.Icmpv4.{IsIcmpv4, icmpv4_in}
+use Rattle.network_sockets.specs.Icmp.{IcmpSocket}
+use Rattle.network_sockets.specs.Icmp as socket
+use Rattle.sockets.specs.declared.socket.SocketOf.TheVariants.{Icmp}
+use Rattle.host_machine.specs.State.Note.{Note}
+use Rattle.host_machine.specs.State.Host.{Host, Storage, without_expired}
+use Rattle.host_machine.specs.Receiving.Delivery.{to_this}
+use Rattle.host_machine.specs.Receiving.Reply.{Reply}
+use Rattle.host_machine.specs.Receiving.Raw as raw
+use Rattle.host_machine.specs.Receiving.Icmp as icmp
+use Rattle.host_machine.specs.Receiving.Icmpv4.{ProcessesIcmpv4, answer_to, host_after_delivery}
+use Rattle.host_machine.specs.Receiving.Icmpv4 as v4
+use Rattle.host_machine.specs.Receiving.Ipv4.{ProcessesProtocol}
+use Rattle.host_machine.specs.Receiving.Response.{Responds}
+use Rattle.host_machine.specs.Laws.Service.{EchoRepliesAreQueued}
+use Rattle.host_machine.proofs.Receiving.DatagramDelivery.{same_bits}
+use Rattle.host_machine.proofs.Receiving.FrameReplies.{met, packet_served, taken_of}
+
+-- raw sockets leave an ICMP socket as it is
+raw_leaves : (q : IpRepr) (summed : Bool) (payload : List ℕ) (s : IcmpSocket) →
+    to_this (raw.takes q) (raw.storage_after_delivery summed q payload) (Some (Icmp s)) ≡ Some (Icmp s)
+raw_leaves q summed payload s = refl
+
+-- an ICMP socket that accepts a message, and has room, has it last
+gets_last : (message : IcmpRepr) (contents : List ℕ) (remote : IpAddress) (octets : List ℕ) (s : IcmpSocket) (b c : Bool) →
+    socket.accepts s message contents ≡ true → b ≡ true → c ≡ b →
+    cond c (s.rx.packets ++ (remote, octets) ∷ []) s.rx.packets ≡ s.rx.packets ++ (remote, octets) ∷ []
+gets_last message contents remote octets s b true a e f = refl
+gets_last message contents remote octets s b false a e f = absurd (let bad : false ≡ true = f ∙ e in cc)
+
+record WasTakenIn (r : Ipv4Repr) (message : List ℕ) (H : Host) (reply : Option Reply) (new : Host) : Type 0 where
+  silent : reply ≡ None
+  host_is : new ≡ host_after_delivery r message H
+
+reply_taken : {r : Ipv4Repr} {H new : Host} {message : List ℕ} {reply : Option Reply} {notes : List Note} (ident seq_no : ℕ) →
+    ProcessesIcmpv4 r H message reply notes new → IsIcmpv4 (is_rx H.capabilities.checksum.icmpv4) message →
+    (icmpv4_in message).0 ≡ EchoReply ident seq_no → WasTakenIn r message H reply new
+reply_taken ident seq_no (v4.Malformed m d) is values = absurd (m is)
+reply_taken {r} {H} {message = message} ident seq_no (v4.Taken i rep n e) is values = record {
+  silent = rep ∙ ap (λ m. answer_to H.ip_addrs r m (icmpv4_in message).1) values;
+  host_is = e;
+}
+
+pub replies_queued : EchoRepliesAreQueued
+replies_queued t old new told own frame r ident seq_no message i s w d is_here endpoint room =
+    let k = taken_of protocol.Ipv4 w d.in_packet.taken in
+    let H : Host = without_expired old t in
+    let mid : Host = met (hardware.Ethernet (header_in frame).src_addr) r message H in
+    let any = packet_served k d.in_packet in
+    let it : ProcessesIcmpv4 r mid message k.reply k.notes k.taken =
+    subst (λ q. ProcessesProtocol q (raw.is_taken (repr.Ipv4 r) H) r mid message k.reply k.notes k.taken) d.protocol_is any in
+    let was = reply_taken ident seq_no it d.is_message d.values in
+    let went : Responds None k.taken k.frames k.more new = subst (λ x. Responds x k.taken k.frames k.more new) was.silent k.responds in
+    let heard : Storage →
+    Storage = to_this (raw.takes (repr.Ipv4 r)) (raw.storage_after_delivery (is_tx old.capabilities.checksum.ipv4) (repr.Ipv4 r) message) in
+    let told_it : Storage →
+    Storage = to_this (icmp.accepts (Ipv4Message (icmpv4_in message).0) (icmpv4_in message).1) (icmp.storage_after_delivery (Ipv4 r.src_addr) message) in
+    let accepts : socket.accepts s (Ipv4Message (icmpv4_in message).0) (icmpv4_in message).1 ≡ true = rw (endpoint, d.values, same_bits ident) refl in
+    let at_mid : slice_get mid.sockets.places i ≡ Some (Some (Icmp s)) = slice_get-map heard old.sockets.places i ∙ ap (option_map heard) is_here in
+    let after : told_it (Some (Icmp s)) ≡ Some (Icmp (record s { rx = record s.rx { packets = s.rx.packets ++ (Ipv4 r.src_addr, message) ∷ [] } })) =
+    rw (accepts, room) refl in (
+      ap (λ (K : Host). slice_get K.sockets.places i) (went.2 ∙ was.host_is)
+          ∙ slice_get-map told_it mid.sockets.places i ∙ ap (option_map told_it) at_mid ∙ ap (λ p. Some p) after,
+      k.sends_them ∙ went.0,
+    )

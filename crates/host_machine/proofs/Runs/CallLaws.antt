@@ -1,0 +1,110 @@
+-- Each single call of a run serves others and is restrained.
+use Rattle.std.proofs.Common.{List}
+use Rattle.std.specs.Prelude.{ℤ, ℕ}
+use Rattle.std.specs.List.{AllByRecursion}
+use Rattle.net_base.specs.Device.{Event}
+use Rattle.host_machine.specs.declared.command.Command.{Command}
+use Rattle.host_machine.specs.declared.command.Answer.{Answer}
+use Rattle.host_machine.specs.declared.results.PollIngressSingleResult.{PollIngressSingleResult}
+use Rattle.host_machine.specs.declared.results.PollResult.{PollResult}
+use Rattle.host_machine.specs.State.Note.{Note}
+use Rattle.host_machine.specs.State.Host.{Host}
+use Rattle.host_machine.specs.Sending.Egress.{Egress}
+use Rattle.host_machine.specs.Polling.Ingress.{Ingress}
+use Rattle.host_machine.specs.Polling.Step.{Act, Step}
+use Rattle.host_machine.specs.Polling.Step as step
+use Rattle.host_machine.specs.Polling.Run.{Transition, Run, Ends, Then}
+use Rattle.host_machine.specs.Laws.Calls.{IsCallOf, IsEgress, IsIngress, IsMadeOfCalls, KeepsCallLaws}
+use Rattle.host_machine.specs.Laws.Restraint.Readings.{Receives}
+use Rattle.host_machine.specs.Laws.Calls.{IsRestrained}
+use Rattle.host_machine.proofs.Receiving.DatagramDelivery.{datagrams_queued, ports_told}
+use Rattle.host_machine.proofs.Receiving.DatagramDeliveryV6.{datagrams_v6_queued, ports_v6_told}
+use Rattle.host_machine.proofs.Receiving.EchoReplies.{replies_queued}
+use Rattle.host_machine.proofs.Receiving.ForeignFrames.{foreign_dropped, foreign_v6_dropped, frames_for_others_dropped}
+use Rattle.host_machine.proofs.Receiving.ForeignFrames.{unheard, unheard_v6}
+use Rattle.host_machine.proofs.Receiving.FrameReplies.{arp_served, pings_served}
+use Rattle.host_machine.proofs.Receiving.FrameRepliesV6.{pings_v6_served, solicitations_served}
+use Rattle.host_machine.proofs.Receiving.LearntNeighbors.{neighbors_came}
+use Rattle.host_machine.proofs.Receiving.ReplyLaws.{advert_told, arp_told, errors_caused, errors_v6_caused, resets_caused}
+use Rattle.host_machine.proofs.Receiving.SettingChanges.{frames_keep, reports_asked}
+use Rattle.host_machine.proofs.Receiving.WrongSums.{headers_dropped, payloads_dropped, payloads_v6_dropped}
+use Rattle.host_machine.proofs.Runs.RequestsWhileWaiting.{requests_go}
+use Rattle.host_machine.proofs.Sending.DueWork.{due_done, pieces_go}
+use Rattle.host_machine.proofs.Sending.FirstPackets.{first_echoes_go, first_packets_go}
+use Rattle.host_machine.proofs.Sending.GrantedEgress.{firsts_go}
+use Rattle.host_machine.proofs.Sending.OtherSteps.{keep_settings, learn_nobody}
+use Rattle.host_machine.proofs.Sending.SettledFields.{sending_settled}
+use Rattle.host_machine.proofs.Polling.OneFrameCalls.{single}
+use Rattle.host_machine.proofs.Polling.SingleCalls.{run_unfolds}
+
+restrained : (t : ℤ) (frame : List ℕ) (old new : Host) (told : List Event) (notes : List Note) (w : Receives t frame old told notes new) →
+    IsRestrained t frame w.call.response.reply old told notes new
+restrained t frame old new told notes w = record {
+  frames_for_others = frames_for_others_dropped t frame old new told notes w;
+  foreign_packets = foreign_dropped t frame old new told notes w;
+  foreign_packets_v6 = foreign_v6_dropped t frame old new told notes w;
+  packets_from_no_host = unheard t frame old new told notes w;
+  packets_from_no_host_v6 = unheard_v6 t frame old new told notes w;
+  wrong_headers = headers_dropped t frame old new told notes w;
+  wrong_payloads = payloads_dropped t frame old new told notes w;
+  wrong_payloads_v6 = payloads_v6_dropped t frame old new told notes w;
+  neighbors = neighbors_came t frame old new told notes w;
+  settings = frames_keep t frame old new told notes w;
+  arp_replies = arp_told t frame old new told notes w;
+  advertisements = advert_told t frame old new told notes w;
+  errors = errors_caused t frame old new told notes w;
+  errors_v6 = errors_v6_caused t frame old new told notes w;
+  resets = resets_caused t frame old new told notes w;
+  igmp_answers = (reports_asked t frame old new told notes w).0;
+  mld_answers = (reports_asked t frame old new told notes w).1;
+}
+
+received : (t : ℤ) (answer : PollIngressSingleResult) (p : Transition) → Ingress t answer p.before p.told p.notes p.after → IsIngress t p
+received t answer p i = record {
+  answer = answer;
+  call = i;
+  single = single t answer p.before p.after p.told p.notes i;
+  serves = record {
+    arp_requests = arp_served t p.before p.after p.told;
+    solicitations = solicitations_served t p.before p.after p.told;
+    pings = pings_served t p.before p.after p.told;
+    pings_v6 = pings_v6_served t p.before p.after p.told;
+    datagrams = datagrams_queued t p.before p.after p.told;
+    datagrams_v6 = datagrams_v6_queued t p.before p.after p.told;
+    closed_ports = ports_told t p.before p.after p.told;
+    closed_ports_v6 = ports_v6_told t p.before p.after p.told;
+    echo_replies = replies_queued t p.before p.after p.told;
+  };
+  restrained = λ frame w. restrained t frame p.before p.after p.told p.notes w;
+}
+
+sent : (t : ℤ) (answer : PollResult) (p : Transition) → Egress t answer p.before p.told p.notes p.after → IsEgress t p
+sent t answer p e = record {
+  answer = answer;
+  call = e;
+  first_datagrams = firsts_go t answer p.before p.after p.told p.notes e;
+  first_packets = first_packets_go t answer p.before p.after p.told p.notes e;
+  first_echoes = first_echoes_go t answer p.before p.after p.told p.notes e;
+  pieces = pieces_go t answer p.before p.after p.told p.notes e;
+  requests = requests_go t answer p.before p.after p.told p.notes e;
+  due = due_done t answer p.before p.after p.told p.notes e;
+  settings = sending_settled t answer p.before p.after p.told p.notes e;
+}
+
+called : {command : Command} {answer : Answer} {old new : Host} {told : List Event} {acts : List Act} {notes : List Note} →
+    Step command answer old told acts notes new →
+    IsCallOf command (record { command = command; answer = answer; told = told; acts = acts; notes = notes; before = old; after = new })
+called (step.PolledIngressSingle {t} {result} i) = received t result _ i
+called (step.PolledEgress {t} {result} e) = sent t result _ e
+called others = tt
+
+pub all_keep : {first last : Host} {transitions : List Transition} → Run first transitions last → AllByRecursion KeepsCallLaws transitions
+all_keep Ends = tt
+all_keep (Then {old} {mid} {last} {command} {answer} {told} {acts} {notes} {transitions} s r) = (record {
+  call = called s;
+  neighbors = learn_nobody command answer old mid told acts notes s;
+  settings = keep_settings command answer old mid told acts notes s;
+}, all_keep r)
+
+pub run_calls : {first last : Host} {transitions : List Transition} → Run first transitions last → IsMadeOfCalls first transitions
+run_calls {first} {last} {transitions} r = let u = run_unfolds r in record { last = last; calls = u; keep = all_keep u.run }

@@ -1,0 +1,102 @@
+-- The single calls that a run is made of, and what holds of each: what it must do, and what it must not do.
+use Rattle.std.specs.Prelude.{ℤ, ℕ, ◌≤◌, List, Option, length}
+use Rattle.std.specs.List.{AllByRecursion}
+use Rattle.net_base.specs.Device.{Event, handed_frames, sent_frames}
+use Rattle.host_machine.specs.declared.command.Command.{Command}
+use Rattle.host_machine.specs.declared.command.Command.TheVariants.{PollIngressSingle, PollEgress}
+use Rattle.host_machine.specs.declared.results.PollIngressSingleResult.{PollIngressSingleResult}
+use Rattle.host_machine.specs.declared.results.PollResult.{PollResult}
+use Rattle.host_machine.specs.State.Note.{Note}
+use Rattle.host_machine.specs.State.Host.{Host}
+use Rattle.host_machine.specs.Receiving.Reply.{Reply}
+use Rattle.host_machine.specs.Sending.Egress.{Egress}
+use Rattle.host_machine.specs.Polling.Ingress.{Ingress}
+use Rattle.host_machine.specs.Polling.Run.{Transition}
+use Rattle.host_machine.specs.Laws.Service.{AnswersArpRequests, AnswersClosedPorts, AnswersClosedPortsV6}
+use Rattle.host_machine.specs.Laws.Service.{AnswersPings, AnswersPingsV6}
+use Rattle.host_machine.specs.Laws.Service.{AnswersSolicitations, DoesWhatIsDue, QueuesDatagrams, QueuesDatagramsV6}
+use Rattle.host_machine.specs.Laws.Service.{QueuesEchoReplies, SendsFirstDatagrams, SendsFirstEchoes, SendsFirstPackets}
+use Rattle.host_machine.specs.Laws.Service.{SendsPieces, SendsRequests}
+use Rattle.host_machine.specs.Laws.Unfolded.{Unfolds}
+use Rattle.host_machine.specs.Laws.Restraint.Checksums.{DropsWrongHeaders, DropsWrongPayloads, DropsWrongPayloadsV6}
+use Rattle.host_machine.specs.Laws.Restraint.Foreign.{DropsForeignPackets, DropsForeignPacketsV6, DropsFramesForOthers}
+use Rattle.host_machine.specs.Laws.Restraint.Foreign.{DropsPacketsFromNoHost, DropsPacketsFromNoHostV6}
+use Rattle.host_machine.specs.Laws.Restraint.Neighbors.{LearnsFromFrames, MayReceive, LearnsNobody}
+use Rattle.host_machine.specs.Laws.Restraint.Queries.{IgmpIsAsked, MldIsAsked}
+use Rattle.host_machine.specs.Laws.Restraint.Readings.{Receives}
+use Rattle.host_machine.specs.Laws.Restraint.Replies.{AdvertisesOnlyItself, SendsErrorsV6WithCause, SendsErrorsWithCause}
+use Rattle.host_machine.specs.Laws.Restraint.Replies.{SendsResetsWithCause, TellsItselfByArp}
+use Rattle.host_machine.specs.Laws.Restraint.Settings.{KeepsAddressesAndRoutes, KeepsAtFrame, KeepsSettings, MaySet}
+
+-- what a call at t that receives does for others
+pub record ServesOthers (t : ℤ) (old : Host) (told : List Event) (new : Host) : Type 0 where
+  pub arp_requests : AnswersArpRequests t old told new
+  pub solicitations : AnswersSolicitations t old told new
+  pub pings : AnswersPings t old told new
+  pub pings_v6 : AnswersPingsV6 t old told new
+  pub datagrams : QueuesDatagrams t old told new
+  pub datagrams_v6 : QueuesDatagramsV6 t old told new
+  pub closed_ports : AnswersClosedPorts t old told new
+  pub closed_ports_v6 : AnswersClosedPortsV6 t old told new
+  pub echo_replies : QueuesEchoReplies t old told new
+
+-- what a call at t that received this frame, and answered it by this reply if any, leaves alone
+pub record IsRestrained (t : ℤ) (frame : List ℕ) (reply : Option Reply) (old : Host) (told : List Event)
+    (notes : List Note) (new : Host) : Type 0 where
+  pub frames_for_others : DropsFramesForOthers t frame old told notes new
+  pub foreign_packets : DropsForeignPackets t frame old told new
+  pub foreign_packets_v6 : DropsForeignPacketsV6 t frame old told notes new
+  pub packets_from_no_host : DropsPacketsFromNoHost t frame old told notes new
+  pub packets_from_no_host_v6 : DropsPacketsFromNoHostV6 t frame old told notes new
+  pub wrong_headers : DropsWrongHeaders t frame old told notes new
+  pub wrong_payloads : DropsWrongPayloads t frame old told notes new
+  pub wrong_payloads_v6 : DropsWrongPayloadsV6 t frame old told notes new
+  pub neighbors : LearnsFromFrames t frame old new
+  pub settings : KeepsAtFrame frame old new
+  pub arp_replies : TellsItselfByArp frame old reply
+  pub advertisements : AdvertisesOnlyItself frame old reply
+  pub errors : SendsErrorsWithCause frame old reply
+  pub errors_v6 : SendsErrorsV6WithCause frame old reply
+  pub resets : SendsResetsWithCause frame old reply
+  pub igmp_answers : IgmpIsAsked t frame old new
+  pub mld_answers : MldIsAsked t frame old new
+
+-- a call that receives, by the rules: it receives one frame at most, and sends one at most; it serves others, and is
+-- restrained
+pub record IsIngress (t : ℤ) (p : Transition) : Type 0 where
+  pub answer : PollIngressSingleResult
+  pub call : Ingress t answer p.before p.told p.notes p.after
+  pub single : (length (handed_frames p.told) ≤ 1) × (length (sent_frames p.told) ≤ 1)
+  pub serves : ServesOthers t p.before p.told p.after
+  pub restrained : (frame : List ℕ) (w : Receives t frame p.before p.told p.notes p.after) →
+      IsRestrained t frame w.call.response.reply p.before p.told p.notes p.after
+
+-- a call that sends, by the rules: it sends what it may, and keeps the settings
+pub record IsEgress (t : ℤ) (p : Transition) : Type 0 where
+  pub answer : PollResult
+  pub call : Egress t answer p.before p.told p.notes p.after
+  pub first_datagrams : SendsFirstDatagrams t p.before p.told p.after
+  pub first_packets : SendsFirstPackets t p.before p.told p.after
+  pub first_echoes : SendsFirstEchoes t p.before p.told p.after
+  pub pieces : SendsPieces p.before p.told
+  pub requests : SendsRequests t p.before p.told p.notes p.after
+  pub due : DoesWhatIsDue t p.before p.told p.after
+  pub settings : KeepsSettings p.before p.after
+
+-- by its command a single call receives, or sends, or does neither
+abbrev pub IsCallOf : Command → Transition → Type 0
+IsCallOf (PollIngressSingle t) p = IsIngress t p
+IsCallOf (PollEgress t) p = IsEgress t p
+IsCallOf other p = Unit {0}
+
+-- what holds of a single call
+pub record KeepsCallLaws (p : Transition) : Type 0 where
+  pub call : IsCallOf p.command p
+  pub neighbors : (MayReceive p.command → ⊥) → LearnsNobody p.before p.after
+  pub settings : (MaySet p.command → ⊥) → KeepsAddressesAndRoutes p.before p.after
+
+-- a run made of single calls: a poll is maintenance, then calls that receive, then calls that send
+pub record IsMadeOfCalls (first : Host) (transitions : List Transition) : Type 0 where
+  pub last : Host
+  pub calls : Unfolds first transitions last
+  pub keep : AllByRecursion KeepsCallLaws calls.singles
