@@ -4,7 +4,8 @@
   make_sys.py IFACE_H            writes src/sys.rs
   make_sys.py IFACE_H --check    tells whether src/sys.rs is what it would write
 
-It knows the forms that iface.h has, and stops at any other."""
+It knows the forms that iface.h has, and stops at any other with its line, as at an array that is a parameter, a pointer
+to a function or a union. test_make_sys.py shows it."""
 import os
 import re
 import sys
@@ -15,6 +16,8 @@ TYPES = {
     "char": "c_char", "void": "c_void", "iface": "iface", "struct iface_address": "iface_address",
     "struct iface_endpoint": "iface_endpoint", "struct iface_config": "iface_config",
 }
+DEFINED = {"IFACE_H", "IFACE_FRAME_ROOM", "IFACE_LAST_MOMENT", "IFACE_NEVER", "IFACE_NONE", "IFACE_VERSION"}
+RESULTS = {"uint32_t ": " -> u32", "void ": "", "const char *": " -> *const c_char"}
 HEAD = """//! `c/iface.h`, declared: made by `make_sys.py`, with the comments of the header.
 //!
 //! Calling any of it is `unsafe`: the header says what the caller keeps. [`Host`](crate::Host) keeps it.
@@ -53,11 +56,80 @@ def declared(text):
     """A type, a name and, of an array, its length, as Rust has them."""
     m = re.fullmatch(r"(const )?((?:struct )?\w+) (\*?)(\w+)(?:\[(\d+)\])?", " ".join(text.split()))
     if not m or m[2] not in TYPES:
-        raise SystemExit(f"make_sys.py: {text!r} is no form that it knows")
+        raise Unknown(text)
     kind = TYPES[m[2]]
     if m[3]:
         kind = ("*const " if m[1] else "*mut ") + kind
     return m[4], f"[{kind}; {m[5]}]" if m[5] else kind
+
+
+class Unknown(Exception):
+    """A part of the header of no form that it knows."""
+
+
+# What a reader would like to know of a form that isn't known.
+REASONS = [
+    (r"\bunion\b", "a union"),
+    (r"\(\s*\*", "a pointer to a function"),
+    (r"\.\.\.", "arguments of any number"),
+    (r"\w\s*:\s*\d", "a field of bits"),
+]
+
+
+def parameter(text):
+    """A parameter, as Rust has it. C passes an array as a pointer."""
+    if "[" in text:
+        raise Unknown("an array that is a parameter")
+    return ": ".join(declared(text))
+
+
+def statements(header):
+    """What the header declares: each text with the line at which it begins, without comments and directives."""
+    blank = lambda m: re.sub(r"[^\n]", " ", m[0])
+    text = COMMENT.sub(blank, header)
+    text = re.sub(r"^#ifdef __cplusplus$.*?^#endif$", blank, text, flags=re.S | re.M)
+    text = re.sub(r"^#.*$", blank, text, flags=re.M)
+    depth = begin = 0
+    for place, octet in enumerate(text):
+        depth += {"{": 1, "}": -1}.get(octet, 0)
+        if octet == ";" and depth == 0:
+            one = text[begin:place]
+            yield text.count("\n", 0, begin + len(one) - len(one.lstrip())) + 1, one.strip()
+            begin = place + 1
+    if text[begin:].strip():
+        raise SystemExit(f"make_sys.py: what is {text[begin:].strip()[:40]!r}?")
+
+
+def is_known(text):
+    """Raises Unknown unless a declaration is of a form that the functions below read."""
+    if re.fullmatch(r"_Static_assert\(.*\)", text, flags=re.S):
+        return
+    if re.fullmatch(r"enum \w+ \{\s*\w+ = \d+(,\s*\w+ = \d+)*,?\s*\}", text):
+        return
+    structure = re.fullmatch(r"(?:typedef )?struct \w+ \{(.*)\}(?: \w+)?", text, flags=re.S)
+    call = re.fullmatch(r"(uint32_t |void |const char \*)\w+\((.*)\)", text, flags=re.S)
+    if structure:
+        for field in structure[1].split(";")[:-1]:
+            declared(field.strip())
+    elif call and "(" not in call[2]:
+        for one in call[2].split(",") if call[2] != "void" else []:
+            parameter(one.strip())
+    else:
+        raise Unknown(text)
+
+
+def refuse_unknown(header, name):
+    """Stops at the first declaration that it doesn't know, with its line."""
+    for one in re.finditer(r"^#define (\w+).*$", header, flags=re.M):
+        if one[1] not in DEFINED:
+            line = header.count("\n", 0, one.start()) + 1
+            raise SystemExit(f"{name}:{line}: make_sys.py doesn't know this form: {one[0]}")
+    for line, text in statements(header):
+        try:
+            is_known(text)
+        except Unknown as unknown:
+            told = [reason for form, reason in REASONS if re.search(form, text)] or [str(unknown)]
+            raise SystemExit(f"{name}:{line}: make_sys.py doesn't know this form: {told[0]}") from None
 
 
 def constants(header):
@@ -79,10 +151,6 @@ def constants(header):
     version = re.search(r"#define IFACE_VERSION (0x[0-9a-f]+)u\n", header)
     if version:
         out += ["/// The version of the header.", f"pub const IFACE_VERSION: u32 = {version[1]};"]
-    known = {"IFACE_H", "IFACE_FRAME_ROOM", "IFACE_LAST_MOMENT", "IFACE_NEVER", "IFACE_NONE", "IFACE_VERSION"}
-    other = set(re.findall(r"#define (\w+)", header)) - known
-    if other:
-        raise SystemExit(f"make_sys.py: it doesn't know {sorted(other)}")
     return out + [""]
 
 
@@ -121,14 +189,14 @@ def calls(header):
             continue
         count += 1
         out += docs(group, "    ") if group else [f"    /// `{name}`."]
-        named = [] if parameters == "void" else [": ".join(declared(one)) for one in parameters.split(",")]
-        result = {"uint32_t ": " -> u32", "void ": "", "const char *": " -> *const c_char"}[kind]
-        out.append(f"    pub fn {name}({', '.join(named)}){result};")
+        named = [] if parameters == "void" else [parameter(one) for one in parameters.split(",")]
+        out.append(f"    pub fn {name}({', '.join(named)}){RESULTS[kind]};")
     assert count == len(re.findall(r"\biface_\w+\(", COMMENT.sub(" ", header))), "a call that it didn't read"
     return out + ["}", ""]
 
 
-def make(header):
+def make(header, name):
+    refuse_unknown(header, name)
     body = "\n".join(constants(header) + structures(header) + calls(header))
     used = [name for name in ("c_char", "c_void") if re.search(rf"\b{name}\b", body)]
     use = "use core::ffi::" + (used[0] if len(used) == 1 else "{" + ", ".join(used) + "}") + ";\n"
@@ -137,7 +205,7 @@ def make(header):
 
 def main():
     with open(sys.argv[1]) as file:
-        made = make(file.read())
+        made = make(file.read(), sys.argv[1])
     if sys.argv[2:] == ["--check"]:
         with open(OWN) as file:
             if file.read() != made:
@@ -147,4 +215,5 @@ def main():
         file.write(made)
 
 
-main()
+if __name__ == "__main__":
+    main()
