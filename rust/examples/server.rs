@@ -34,8 +34,10 @@ fn main() {
     iface.routes_mut().add_default_ipv6_route(Ipv6Address::new(0xfe80, 0, 0, 0, 0, 0, 0, 0x100)).unwrap();
 
     // Create sockets
-    let udp_rx_buffer = udp::PacketBuffer::new([udp::PacketMetadata::EMPTY; 2], vec![0; 65535]);
-    let udp_tx_buffer = udp::PacketBuffer::new([udp::PacketMetadata::EMPTY; 2], vec![0; 65535]);
+    let udp_rx_buffer =
+        udp::PacketBuffer::new(vec![udp::PacketMetadata::EMPTY, udp::PacketMetadata::EMPTY], vec![0; 65535]);
+    let udp_tx_buffer =
+        udp::PacketBuffer::new(vec![udp::PacketMetadata::EMPTY, udp::PacketMetadata::EMPTY], vec![0; 65535]);
     let udp_socket = udp::Socket::new(udp_rx_buffer, udp_tx_buffer);
     let mut sockets = SocketSet::new(&iface);
     let udp_handle = sockets.add(udp_socket);

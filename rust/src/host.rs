@@ -56,13 +56,20 @@ pub enum Error {
     NoRoom,
     /// A timeout for fragments that is zero, or longer than a day.
     BadTimeout,
+    /// The library isn't of the header that this crate was made from, so no host is made. `fresh.sh` tries it.
+    OtherVersion {
+        /// The version of the header that this crate was made from: `IFACE_VERSION`.
+        own: u32,
+        /// The version of the header that the library was built with: `iface_version()`.
+        library: u32,
+    },
     /// A code of the library that can't come of what this crate passes.
     Other(u32),
 }
 
 impl fmt::Display for Error {
     fn fmt(&self, f: &mut fmt::Formatter<'_>) -> fmt::Result {
-        f.write_str(match self {
+        f.write_str(match *self {
             Error::BadArgument => "the hardware address isn't of the device's medium",
             Error::NoMemory => "no memory",
             Error::BadMtu => "frames of this length are not supported",
@@ -77,12 +84,25 @@ impl fmt::Display for Error {
             Error::Empty => "no packet came",
             Error::NoRoom => "the buffer is shorter than the packet",
             Error::BadTimeout => "the timeout is zero, or longer than a day",
+            Error::OtherVersion { own, library } => {
+                return write!(f, "the crate is made for {}, and the library is {}", Version(own), Version(library));
+            }
             Error::Other(code) => return write!(f, "code {code}"),
         })
     }
 }
 
 impl core::error::Error for Error {}
+
+/// A version of the header, an octet each.
+struct Version(u32);
+
+impl fmt::Display for Version {
+    fn fmt(&self, f: &mut fmt::Formatter<'_>) -> fmt::Result {
+        let [major, minor, patch, header] = self.0.to_be_bytes();
+        write!(f, "version {major}.{minor}.{patch} with header {header}")
+    }
+}
 
 #[inline]
 fn answer(code: u32) -> Result<(), Error> {
@@ -344,12 +364,24 @@ macro_rules! call {
     };
 }
 
+/// Compares the library's header with this crate's. With the feature `rust-heap` the library has no `iface_version`.
+#[cfg(not(feature = "rust-heap"))]
+fn check_version() -> Result<(), Error> {
+    // SAFETY: it takes nothing, and needs nothing.
+    let library = unsafe { sys::iface_version() };
+    let own = sys::IFACE_VERSION;
+    if library == own { Ok(()) } else { Err(Error::OtherVersion { own, library }) }
+}
+
 impl Host {
     /// Makes a host.
     ///
     /// # Errors
-    /// [`Error::NotUnicast`] (the hardware address), [`Error::BadMtu`], [`Error::BadTimeout`], [`Error::NoMemory`].
+    /// [`Error::NotUnicast`] (the hardware address), [`Error::BadMtu`], [`Error::BadTimeout`], [`Error::NoMemory`];
+    /// [`Error::OtherVersion`], but not with the feature `rust-heap`, whose library doesn't tell its version.
     pub fn new(settings: &Settings) -> Result<Host, Error> {
+        #[cfg(not(feature = "rust-heap"))]
+        check_version()?;
         let mut host = Host { raw: sys::iface::NONE };
         call!(host.iface_new(&settings.to_c()))?;
         Ok(host)
@@ -400,6 +432,80 @@ impl Host {
     #[inline]
     pub fn leave_group(&mut self, group: IpAddress) -> Result<(), Error> {
         call!(self.iface_leave_group(&to_c(&group)))
+    }
+
+    /// Whether the host is in a group. Beside those that it joined, it is in 224.0.0.1 (RFC 1112), and in ff02::1 and the
+    /// solicited-node groups of its own addresses (RFC 4291, 2.8). `false` too, if the address is no group's.
+    #[inline]
+    pub fn has_group(&mut self, group: IpAddress) -> bool {
+        let mut is = 0;
+        // It is refused only without a host, or by a version of IP that is none.
+        let _ = call!(self.iface_has_group(&to_c(&group), &mut is));
+        is != 0
+    }
+
+    /// Sets the host's address on Ethernet: frames are sent from it from now on, and those to it are taken. Own addresses
+    /// and groups stay.
+    ///
+    /// # Errors
+    /// [`Error::NotThere`] on a medium without hardware addresses, [`Error::NotUnicast`].
+    #[inline]
+    pub fn set_hardware_address(&mut self, address: EthernetAddress) -> Result<(), Error> {
+        call!(self.iface_set_hardware_address(address.0.as_ptr()))
+    }
+
+    /// The host's address on Ethernet. `None` on a medium without hardware addresses.
+    #[inline]
+    pub fn hardware_address(&mut self) -> Option<EthernetAddress> {
+        let mut octets = [0; 6];
+        call!(self.iface_hardware_address(octets.as_mut_ptr())).ok()?;
+        Some(EthernetAddress(octets))
+    }
+
+    /// Sets how long fragments of a packet wait for the others: not zero, at most a day. A packet whose first fragment
+    /// came before waits as long as was set then.
+    ///
+    /// # Errors
+    /// [`Error::BadTimeout`].
+    #[inline]
+    pub fn set_reassembly_timeout(&mut self, timeout: Duration) -> Result<(), Error> {
+        call!(self.iface_set_reassembly_timeout(timeout.total_micros()))
+    }
+
+    /// How long fragments of a packet wait for the others.
+    #[inline]
+    pub fn reassembly_timeout(&mut self) -> Duration {
+        let mut micros = 0;
+        // It is refused only without a host.
+        let _ = call!(self.iface_reassembly_timeout(&mut micros));
+        Duration::from_micros(micros)
+    }
+
+    /// Sets whether addresses that are routed to the host count as its own; at first they don't. They are unicast
+    /// addresses whose best route is by a router with an own address of the host.
+    #[inline]
+    pub fn set_any_ip(&mut self, any_ip: bool) {
+        // It is refused only without a host.
+        let _ = call!(self.iface_set_any_ip(u8::from(any_ip)));
+    }
+
+    /// Whether addresses that are routed to the host count as its own.
+    #[inline]
+    pub fn any_ip(&mut self) -> bool {
+        let mut on = 0;
+        // It is refused only without a host.
+        let _ = call!(self.iface_any_ip(&mut on));
+        on != 0
+    }
+
+    /// When own addresses and routes were last made those that routers advertise (RFC 4862). [`Instant::ZERO`] before
+    /// the first time.
+    #[inline]
+    pub fn slaac_updated_at(&mut self) -> Instant {
+        let mut at = 0;
+        // It is refused only without a host.
+        let _ = call!(self.iface_slaac_updated_at(&mut at));
+        Instant::from_micros_const(at)
     }
 
     /// Sets the default route of the gateway's version, in place of the first one that is there.
@@ -620,5 +726,18 @@ impl Host {
         let mut at = sys::IFACE_NEVER;
         call!(self.iface_poll_at(now.total_micros(), &mut at)).ok()?;
         (at != sys::IFACE_NEVER).then(|| Instant::from_micros_const(at))
+    }
+}
+
+#[cfg(all(test, feature = "std"))]
+mod tests {
+    use super::Error;
+
+    /// `iface.h`: a version is an octet each, 0.14.0 and the header's number.
+    #[test]
+    fn both_versions_are_told() {
+        let told = Error::OtherVersion { own: 0x000e_0001, library: 0x000e_000a }.to_string();
+        let both = ["version 0.14.0 with header 1", "version 0.14.0 with header 10"];
+        assert_eq!(told, format!("the crate is made for {}, and the library is {}", both[0], both[1]));
     }
 }

@@ -210,7 +210,7 @@ fn routers_are_solicited() {
 }
 
 /// smoltcp: `slaac`, `test_ra_state`: its router and prefix, the prefix valid for 700 s; the identifier is RFC 4291's,
-/// appendix A.
+/// appendix A. `iface.h`: the moment is 0 before the first time.
 #[test]
 fn an_address_comes_from_a_router_and_ends() {
     let mut with_slaac = settings();
@@ -221,13 +221,16 @@ fn an_address_comes_from_a_router_and_ends() {
     let router = Ipv6Address::new(0xfe80, 0xdb8, 0, 0, 0, 0, 0, 0);
     let prefix = Ipv6Address::new(0x2001, 0xdb8, 0, 0, 0, 0, 0, 0);
     assert_eq!(node.take(now, &advertisement(router, 600, prefix, 700, 300)), None);
+    assert_eq!(node.host.slaac_updated_at(), Instant::ZERO);
     node.sends(now);
+    assert_eq!(node.host.slaac_updated_at(), now);
     let formed = IpCidr::new(IpAddress::v6(0x2001, 0xdb8, 0, 0, 0, 0xff, 0xfe00, 1), 64);
     assert_eq!((node.host.address_at(1), node.host.address_at(2)), (Some(formed), None));
     node.sends(now + Duration::from_secs(699));
     assert_eq!(node.host.address_at(1), Some(formed));
     node.sends(now + Duration::from_secs(700));
     assert_eq!(node.host.address_at(1), None);
+    assert_eq!(node.host.slaac_updated_at(), now + Duration::from_secs(700));
 }
 
 /// smoltcp: `fragmentation`, `packet_assembler_out_of_order_assemble`: its text in a datagram.
@@ -247,6 +250,95 @@ fn fragments_are_put_together_out_of_order() {
     assert_eq!(node.host.udp_receive(socket, &mut out[..11]), Err(Error::NoRoom));
     assert_eq!(node.host.udp_receive(socket, &mut out), Ok((12, (peer, 9).into())));
     assert_eq!(&out[..12], b"Hello World!");
+}
+
+/// RFC 791, 3.2: when the timer runs out, what was put together is dropped. `iface.h`: not 0, at most a day.
+#[test]
+fn fragments_wait_as_long_as_is_set() {
+    let mut node = Node::new(&[CIDR]);
+    let (peer, link) = neighbor(2);
+    let socket = node.host.udp_open(7.into(), 4, 64).unwrap();
+    let whole = udp4(peer, SELF, (9, 7), b"Hello World!");
+    let (head, tail) = whole[20..].split_at(16);
+    let mut now = millis(0);
+    assert_eq!(node.host.reassembly_timeout(), Duration::from_secs(10));
+    for (timeout, ident, comes) in [(1, 1, false), (3, 2, true)] {
+        node.host.set_reassembly_timeout(Duration::from_secs(timeout)).unwrap();
+        node.take(now, &ethernet(OWN, link, 0x0800, &ipv4(peer, SELF, 17, ident, 0x2000, head)));
+        now += Duration::from_secs(2);
+        node.sends(now);
+        node.take(now, &ethernet(OWN, link, 0x0800, &ipv4(peer, SELF, 17, ident, 2, tail)));
+        assert_eq!(node.host.udp_receive(socket, &mut [0; 64]).is_ok(), comes);
+    }
+    for refused in [Duration::ZERO, Duration::from_micros(86_400_000_001)] {
+        assert_eq!(node.host.set_reassembly_timeout(refused), Err(Error::BadTimeout));
+        assert_eq!(node.host.reassembly_timeout(), Duration::from_secs(3));
+    }
+}
+
+/// smoltcp: `set_any_ip`: packets are taken to a prefix whose route has an own address as its gateway.
+#[test]
+fn addresses_that_are_routed_to_it_count_as_own() {
+    let mut node = Node::new(&[CIDR]);
+    let (peer, link) = neighbor(2);
+    let socket = node.host.udp_open(7.into(), 4, 64).unwrap();
+    node.host.add_route("10.1.0.0/16".parse().unwrap(), SELF.into()).unwrap();
+    let comes = |node: &mut Node, to| {
+        node.take(millis(0), &ethernet(OWN, link, 0x0800, &udp4(peer, to, (9, 7), b"x")));
+        node.host.udp_receive(socket, &mut [0; 1]).is_ok()
+    };
+    let (routed, other) = (Ipv4Address::new(10, 1, 2, 3), Ipv4Address::new(10, 2, 2, 3));
+    assert!(!node.host.any_ip() && !comes(&mut node, routed));
+    node.host.set_any_ip(true);
+    assert!(node.host.any_ip() && comes(&mut node, routed) && !comes(&mut node, other) && comes(&mut node, SELF));
+    node.host.set_any_ip(false);
+    assert!(!node.host.any_ip() && !comes(&mut node, routed));
+}
+
+/// RFC 826: the reply has the own hardware address, which is the one that was set last. `iface.h`: frames to that are
+/// taken; a medium without hardware addresses has none.
+#[test]
+fn the_hardware_address_is_the_one_that_was_set_last() {
+    let mut node = Node::new(&[CIDR]);
+    let (peer, link) = neighbor(2);
+    let other = [2, 0, 0, 0, 0, 7];
+    let socket = node.host.udp_open(7.into(), 4, 64).unwrap();
+    let comes = |node: &mut Node, to| {
+        node.take(millis(0), &ethernet(to, link, 0x0800, &udp4(peer, SELF, (9, 7), b"x")));
+        node.host.udp_receive(socket, &mut [0; 1]).is_ok()
+    };
+    assert_eq!(node.host.set_hardware_address(EthernetAddress::BROADCAST), Err(Error::NotUnicast));
+    assert_eq!(node.host.hardware_address(), Some(EthernetAddress(OWN)));
+    assert!(comes(&mut node, OWN) && !comes(&mut node, other));
+    node.host.set_hardware_address(EthernetAddress(other)).unwrap();
+    assert_eq!(node.host.hardware_address(), Some(EthernetAddress(other)));
+    assert!(!comes(&mut node, OWN) && comes(&mut node, other));
+    let reply = node.take(millis(0), &arp(1, link, peer, [0; 6], SELF)).unwrap();
+    assert_eq!(reply, arp(2, other, SELF, link, peer));
+    assert_eq!(node.host.address_at(0), Some(CIDR));
+    let mut without = Host::new(&Settings::new(HardwareAddress::Ip)).unwrap();
+    assert_eq!(without.hardware_address(), None);
+    assert_eq!(without.set_hardware_address(EthernetAddress(other)), Err(Error::NotThere));
+}
+
+/// RFC 1112, 4: all hosts are in 224.0.0.1; RFC 4291, 2.8: in ff02::1 and the solicited-node groups of their addresses.
+#[test]
+fn a_host_is_in_the_groups_that_it_joined_and_in_some_others() {
+    let mut node = Node::new(&[CIDR, LINK_LOCAL]);
+    let is_in = |node: &mut Node, text: &str| node.host.has_group(text.parse().unwrap());
+    for group in ["224.0.0.1", "ff02::1", "ff02::1:ff00:1"] {
+        assert!(is_in(&mut node, group));
+    }
+    for no_group in ["192.168.69.1", "fe80::1", "0.0.0.0", "224.0.0.2", "ff02::2", "ff02::1:ff00:2"] {
+        assert!(!is_in(&mut node, no_group));
+    }
+    for group in ["239.1.2.3", "ff15::69"] {
+        assert!(!is_in(&mut node, group));
+        node.host.join_group(group.parse().unwrap()).unwrap();
+        assert!(is_in(&mut node, group));
+        node.host.leave_group(group.parse().unwrap()).unwrap();
+        assert!(!is_in(&mut node, group));
+    }
 }
 
 /// `docs/C.md`, A neighbour that doesn't answer: requests a second apart; given up in the first round after three

@@ -329,6 +329,35 @@ fn groups_and_routes_have_their_errors() {
     assert!(routes.remove("10.2.0.0/16".parse().unwrap()) && !routes.remove("10.2.0.0/16".parse().unwrap()));
 }
 
+/// smoltcp's documentation of these calls, and `API.md`: what panics there is an error here.
+#[test]
+fn what_is_set_later_is_read_back() {
+    let (mut device, mut iface, mut sockets) = interface();
+    let (own, peer) = (HardwareAddress::Ethernet(EthernetAddress(OWN)), EthernetAddress(PEER_LINK).into());
+    assert_eq!(iface.set_hardware_addr(EthernetAddress::BROADCAST.into()), Err(Error::NotUnicast));
+    assert_eq!(iface.set_hardware_addr(HardwareAddress::Ip), Err(Error::BadArgument));
+    assert_eq!(iface.hardware_addr(), own);
+    assert_eq!(iface.set_hardware_addr(peer), Ok(()));
+    assert_eq!(iface.hardware_addr(), peer);
+    assert_eq!(iface.reassembly_timeout(), Duration::from_secs(10));
+    assert_eq!(iface.set_reassembly_timeout(Duration::from_secs(60)), Ok(()));
+    assert_eq!(iface.set_reassembly_timeout(Duration::ZERO), Err(Error::BadTimeout));
+    assert_eq!(iface.reassembly_timeout(), Duration::from_secs(60));
+    assert!(!iface.any_ip());
+    iface.set_any_ip(true);
+    assert!(iface.any_ip() && iface.has_ip_addr(SELF) && !iface.has_ip_addr(PEER));
+    let group = Ipv4Address::new(239, 0, 0, 1);
+    assert!(!iface.has_multicast_group(group) && iface.has_multicast_group(Ipv4Address::new(224, 0, 0, 1)));
+    iface.join_multicast_group(group).unwrap();
+    assert!(iface.has_multicast_group(group));
+    iface.poll(millis(5), &mut device, &mut sockets);
+    assert_eq!(iface.slaac_updated_at(), Instant::ZERO);
+
+    let mut device = Loopback::new(Medium::Ip);
+    let mut iface = Interface::new(Config::new(HardwareAddress::Ip), &mut device, Instant::ZERO).unwrap();
+    assert_eq!((iface.hardware_addr(), iface.set_hardware_addr(own)), (HardwareAddress::Ip, Err(Error::BadArgument)));
+}
+
 /// `docs/C.md`, A neighbour that doesn't answer.
 #[test]
 fn a_socket_tells_of_an_absent_neighbor() {

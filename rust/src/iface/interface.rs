@@ -23,7 +23,8 @@ pub struct Config {
     /// How long a packet waits for a neighbour that doesn't answer, before it is given up. Zero is for ever, as in
     /// smoltcp: then one such packet stops its socket.
     pub patience: Duration,
-    /// How long fragments of a packet wait for the others: not zero, at most a day. smoltcp has a call for it.
+    /// How long fragments of a packet wait for the others: not zero, at most a day. smoltcp has
+    /// [`set_reassembly_timeout`](Interface::set_reassembly_timeout) alone.
     pub reassembly_timeout: Duration,
 }
 
@@ -130,7 +131,6 @@ impl From<Error> for MulticastError {
 #[derive(Debug)]
 pub struct Interface {
     pub(super) host: Shared,
-    hardware_addr: HardwareAddress,
     out: Box<Frame>,
 }
 
@@ -140,7 +140,7 @@ impl Interface {
     ///
     /// # Errors
     /// [`Error::BadArgument`] if the hardware address isn't of the device's medium; [`Error::NotUnicast`],
-    /// [`Error::BadMtu`], [`Error::BadTimeout`], [`Error::NoMemory`].
+    /// [`Error::BadMtu`], [`Error::BadTimeout`], [`Error::NoMemory`], [`Error::OtherVersion`].
     pub fn new(config: Config, device: &mut (impl Device + ?Sized), now: Instant) -> Result<Interface, Error> {
         let _ = now;
         let capabilities = device.capabilities();
@@ -149,12 +149,25 @@ impl Interface {
         }
         let frame_len = u32::try_from(capabilities.max_transmission_unit).unwrap_or(u32::MAX);
         let host = Host::new(&config.settings(frame_len))?;
-        Ok(Interface { host: Shared::new(host), hardware_addr: config.hardware_addr, out: Box::new([0; FRAME_ROOM]) })
+        Ok(Interface { host: Shared::new(host), out: Box::new([0; FRAME_ROOM]) })
     }
 
     /// Its hardware address.
     pub fn hardware_addr(&self) -> HardwareAddress {
-        self.hardware_addr
+        self.host.with(Host::hardware_address).map_or(HardwareAddress::Ip, HardwareAddress::Ethernet)
+    }
+
+    /// Sets its hardware address: frames are sent from it from now on, and those to it are taken. Addresses and groups
+    /// stay.
+    ///
+    /// # Errors
+    /// [`Error::BadArgument`] if it isn't of the device's medium, or that has none; [`Error::NotUnicast`].
+    pub fn set_hardware_addr(&mut self, addr: HardwareAddress) -> Result<(), Error> {
+        let HardwareAddress::Ethernet(addr) = addr else { return Err(Error::BadArgument) };
+        self.host.with(|host| host.set_hardware_address(addr)).map_err(|error| match error {
+            Error::NotThere => Error::BadArgument,
+            other => other,
+        })
     }
 
     /// Its addresses with their networks, those from routers included: a copy.
@@ -217,6 +230,43 @@ impl Interface {
     /// [`MulticastError::Unaddressable`].
     pub fn leave_multicast_group<T: Into<IpAddress>>(&mut self, addr: T) -> Result<(), MulticastError> {
         Ok(self.host.with(|host| host.leave_group(addr.into()))?)
+    }
+
+    /// Whether it is in a group. Beside those that it joined, it is in 224.0.0.1, and in ff02::1 and the solicited-node
+    /// groups of its own addresses.
+    pub fn has_multicast_group<T: Into<IpAddress>>(&self, addr: T) -> bool {
+        self.host.with(|host| host.has_group(addr.into()))
+    }
+
+    /// Sets whether addresses that are routed to it count as its own; at first they don't. They are unicast addresses
+    /// whose best route is by a router with one of [`ip_addrs`](Interface::ip_addrs).
+    pub fn set_any_ip(&mut self, any_ip: bool) {
+        self.host.with(|host| host.set_any_ip(any_ip));
+    }
+
+    /// Whether addresses that are routed to it count as its own.
+    pub fn any_ip(&self) -> bool {
+        self.host.with(Host::any_ip)
+    }
+
+    /// Sets how long fragments of a packet wait for the others: not zero, at most a day. A packet whose first fragment
+    /// came before waits as long as was set then.
+    ///
+    /// # Errors
+    /// [`Error::BadTimeout`].
+    pub fn set_reassembly_timeout(&mut self, timeout: Duration) -> Result<(), Error> {
+        self.host.with(|host| host.set_reassembly_timeout(timeout))
+    }
+
+    /// How long fragments of a packet wait for the others.
+    pub fn reassembly_timeout(&self) -> Duration {
+        self.host.with(Host::reassembly_timeout)
+    }
+
+    /// When its addresses and routes were last made those that routers advertise. [`Instant::ZERO`] before the first
+    /// time.
+    pub fn slaac_updated_at(&self) -> Instant {
+        self.host.with(Host::slaac_updated_at)
     }
 
     /// Its routes, to be changed.
