@@ -4,9 +4,9 @@
 usage: refused.py [--all] [--over-gate] [--jobs N] [CRATE..]     of these crates, or of all that it knows
 
 Each test is run by itself, once for each request that is tried, and that one request is refused. It has to hold as it
-does otherwise: what was refused has been told as an error, nothing has changed, and the next call gets it. The program
-`hostrun` runs scripts so. It has to end as it does otherwise, or with `out of memory` and status 3, when it has printed
-a beginning of what it prints otherwise.
+does otherwise: what was refused has been told as an error, nothing has changed, and the next call gets it. The programs
+`hostrun` and `simulate` run scripts so. They have to end as they do otherwise, or with their words for it on standard
+error and their status, when they have printed a beginning of what they print otherwise.
 
 A test may make tens of thousands of requests in loops, so not all are tried. Of those that are made from one place, the
 same calls one inside the other, the first is, the second, the fourth, the eighth and so on. So each place from which
@@ -25,11 +25,32 @@ import subprocess
 import sys
 import tempfile
 import time
+import typing
 
 HERE = pathlib.Path(__file__).resolve().parent
 CRATES = HERE.parent / "crates"
 TESTS = ["net_base_tests", "sockets_tests", "socket_set_tests", "host_tests", "script_tests", "interface_tests"]
-PROGRAMS = ["hostrun"]
+
+
+class Program(typing.NamedTuple):
+    """What a program is given, and how it ends where memory was refused."""
+
+    scripts: list
+    words: list
+    status: int
+    told: bytes
+
+
+PROGRAMS = {
+    "hostrun": Program(["hostrun/stdin", "exchanges/data/*.txt"], [], 3, rb"out of memory\n"),
+    # Each error that may be there for want of memory has words of its own.
+    "simulate": Program(
+        ["simulated/data/reassembly_under_reordering.txt", "simulated/data/router_goes.txt"],
+        ["chart"],
+        1,
+        rb"Error: (out of memory|NoMemory|memory allocation failed)\n",
+    ),
+}
 RT = os.environ.get("RT", "rt")
 FLAGS = ["-O2", "-fno-omit-frame-pointer", "-shared", "-fPIC"]
 # How long one run may take, in seconds.
@@ -130,19 +151,21 @@ class Whole(Run):
                 yield number
 
 
-def is_right(run, whole, is_program):
+def is_right(run, whole, program):
     """Whether a run in which a request was refused came to what it may, given the run in which none was."""
     if (run.status, run.out, run.errors) == (whole.status, whole.out, whole.errors):
         return True
-    is_told = run.status == 3 and run.errors == b"out of memory\n" and whole.out.startswith(run.out)
-    return is_program and is_told
+    if program is None or run.status != program.status:
+        return False
+    return re.fullmatch(program.told, run.errors) is not None and whole.out.startswith(run.out)
 
 
 def parts(crate, path):
     """The tests of a crate, or the scripts of a program: a name, the words of its command and its input."""
     if crate in PROGRAMS:
-        scripts = [CRATES / crate / "stdin", *sorted((CRATES / "exchanges/data").glob("*.txt"))]
-        return [(f"{crate} < {it.relative_to(CRATES)}", [str(path)], it.read_bytes()) for it in scripts]
+        scripts = [it for form in PROGRAMS[crate].scripts for it in sorted(CRATES.glob(form))]
+        words = [str(path), *PROGRAMS[crate].words]
+        return [(f"{crate} < {it.relative_to(CRATES)}", words, it.read_bytes()) for it in scripts]
     listed = subprocess.run([path, "--list"], check=True, capture_output=True, text=True).stdout
     names = re.findall(r"^(\S+): test$", listed, re.M)
     return [(f"{crate} {name}", [str(path), name], b"") for name in names]
@@ -151,12 +174,12 @@ def parts(crate, path):
 def tried(crate, path, shim, jobs, is_all):
     """Tries a crate's tests or a program's scripts. Prints what came of them; returns how much went wrong."""
     start = time.monotonic()
-    is_program = crate in PROGRAMS
+    program = PROGRAMS.get(crate)
     works = parts(crate, path)
     wrong, requests, refused, places = [], 0, 0, set()
     with concurrent.futures.ThreadPoolExecutor(jobs) as pool:
         for work, whole in zip(works, list(pool.map(lambda it: Whole(it, shim), works))):
-            if not is_program and whole.status != 0:
+            if program is None and whole.status != 0:
                 wrong.append(f"{work[0]}: fails where nothing is refused: {whole.ending()}")
                 continue
             numbers = list(whole.tried(is_all))
@@ -164,11 +187,11 @@ def tried(crate, path, shim, jobs, is_all):
             refused += len(numbers)
             places.update(whole.places)
             for number, run in zip(numbers, pool.map(lambda at: Run(work, at, shim), numbers)):
-                if not is_right(run, whole, is_program):
+                if not is_right(run, whole, program):
                     wrong.append(f"{work[0]}: request {number} refused: {run.ending()}")
     for line in wrong:
         print(line)
-    what = "scripts" if is_program else "tests"
+    what = "scripts" if program else "tests"
     spent = time.monotonic() - start
     made = f"{requests} requests from {len(places)} places, {refused} of them refused"
     print(f"{crate}: {len(works)} {what}, {made}, {len(wrong)} wrong, {spent:.0f} s", flush=True)
@@ -184,9 +207,10 @@ def main(words):
         jobs = int(words[place + 1])
         del words[place : place + 2]
     crates = words or [*TESTS, *PROGRAMS]
-    unknown = [it for it in crates if it not in TESTS + PROGRAMS]
+    known = [*TESTS, *PROGRAMS]
+    unknown = [it for it in crates if it not in known]
     if unknown:
-        print(f"refused.py knows {', '.join(TESTS + PROGRAMS)}, and not {', '.join(unknown)}", file=sys.stderr)
+        print(f"refused.py knows {', '.join(known)}, and not {', '.join(unknown)}", file=sys.stderr)
         return 2
     with tempfile.TemporaryDirectory() as folder:
         shim = pathlib.Path(folder) / "refuse.so"

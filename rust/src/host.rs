@@ -273,6 +273,23 @@ impl Settings {
 /// shared::<fumitorygate::Host>();
 /// ```
 ///
+/// ```compile_fail,E0596
+/// fn called(host: &fumitorygate::Host) {
+///     let _ = host.close(0);
+/// }
+/// ```
+///
+/// lent to two threads:
+///
+/// ```compile_fail,E0499
+/// fn lent(host: &mut fumitorygate::Host) {
+///     std::thread::scope(|scope| {
+///         scope.spawn(|| host.close(0));
+///         scope.spawn(|| host.close(1));
+///     });
+/// }
+/// ```
+///
 /// copied:
 ///
 /// ```compile_fail,E0382
@@ -311,6 +328,15 @@ impl Settings {
 /// }
 /// ```
 ///
+/// ```compile_fail,E0506
+/// use fumitorygate::{Frame, Host, time::Instant};
+/// fn overwritten(host: &mut Host, frame: &mut Frame) -> u8 {
+///     let sent = host.next(Instant::ZERO, frame).unwrap();
+///     frame[0] = 0;
+///     sent.map_or(0, |octets| octets[0])
+/// }
+/// ```
+///
 /// ```compile_fail,E0499
 /// use fumitorygate::{Frame, Host, time::Instant};
 /// fn two_frames<'f>(host: &mut Host, out: &'f mut Frame) -> (Option<&'f [u8]>, Option<&'f [u8]>) {
@@ -331,6 +357,33 @@ impl Settings {
 ///     drop(host);
 ///     let _ = host.close(0);
 /// }
+/// ```
+///
+/// ```compile_fail,E0505
+/// fn moved(host: fumitorygate::Host) {
+///     let mut host = host;
+///     let lent = &mut host;
+///     drop(host);
+///     let _ = lent.close(0);
+/// }
+/// ```
+///
+/// Nor is the library called beside it without `unsafe`, by a handle of one's own or a copy of one:
+///
+/// ```compile_fail,E0133
+/// let mut handle = fumitorygate::sys::iface::NONE;
+/// fumitorygate::sys::iface_free(&mut handle);
+/// ```
+///
+/// ```compile_fail,E0382
+/// fn twice(handle: fumitorygate::sys::iface) -> [fumitorygate::sys::iface; 2] {
+///     [handle, handle]
+/// }
+/// ```
+///
+/// ```compile_fail,E0277
+/// fn crosses<T: Send>() {}
+/// crosses::<fumitorygate::sys::iface>();
 /// ```
 ///
 /// It does go to another thread:
