@@ -279,7 +279,8 @@ module _ (a a' : Host) (ps : List Transition) (ra : Run a ps a') (regular : IsRe
             let g = went_so s.sends.departures (InOneFrame w.0 frame) (is_in (ways s.sends.departures) (InOneFrame w.0 frame) w.2) in
             let l = all_in (HasDeparted (host_at_command p.command p.before)) s.sends.departures g.departure s.sends.left g.is_there in
             at_once p d s.sends.departures s.sends.leave g.departure
-            (contains_in s.sends.departures g.departure g.is_there) l m K header octets w.0 frame (own_of p s) (rw same at w.1) mine g.way_is brings source destination payload
+            (contains_in s.sends.departures g.departure g.is_there) l m K header octets w.0 frame (own_of p s) (rw same at w.1)
+            mine g.way_is brings source destination payload
 
 module _ (a a' b b' : Host) (ps qs : List Transition) (ra : Run a ps a') (rb : Run b qs b') (regular : IsRegular a) (b_real : IsReal b)
     (medium_is : b.capabilities.medium ≡ a.capabilities.medium)

@@ -16,7 +16,8 @@ use Rattle.interface.specs.Stands.{StandsFor}
 use Rattle.host.specs.Commands.{HostRefinesCommand}
 use Rattle.host.specs.declared.link.Host.{Host as Linked}
 use Rattle.host.specs.Link.{End, Owns, Acts, end_of, end_with_frame}
-use Rattle.network.specs.Network.{Acted, Call, FrameCame, Forgot, Goes, HostRan, IsEndOf, Move, Network, NetworkGoes, Runs, HandsOver, TakesIn, Forgets, OutsideCame}
+use Rattle.network.specs.Network.{Acted, Call, FrameCame, Forgot, Goes, HostRan, IsEndOf, Move, Network, NetworkGoes, OutsideCame}
+use Rattle.network.specs.Network.{Runs, HandsOver, TakesIn, Forgets}
 use Rattle.network.specs.Network.{Stand, Stands, Stops, after_acting, answer_of, end_taken, host_taken, host_with_frame, without_first}
 use Rattle.network.specs.Network.{frame_at}
 use Rattle.network.specs.Kept.{wire_with}
