@@ -1,7 +1,7 @@
 -- The best route: how it moves with one more route behind, and that it is the only one.
 use Rattle.std.proofs.Common.{◌≡◌, ◌≢◌, ◌<◌, ◌≤◌, inl, inr, ℕ, zero, suc, ◌+◌, Bool, true, false}
 use Rattle.std.proofs.Common.{List, [], ◌∷◌, ◌++◌, length, get_or, refl, sym, ap, ◌∙◌, arith}
-use Rattle.std.specs.Prelude.{ℤ, nat_le, Option, Some, None, Ok, Err, slice_get}
+use Rattle.std.specs.Prelude.{ℤ, ◌&&◌, nat_le, Option, Some, None, Ok, Err, slice_get}
 use Rattle.std.proofs.Common.{lit≤}
 use Rattle.std.specs.List.{position_or_len, remove}
 use Rattle.std.proofs.Math.Bridge.{le_prop}
@@ -17,8 +17,8 @@ use Rattle.std.proofs.lemmas.Bool.Decides.{nat_tests}
 use Rattle.std.proofs.lemmas.Option.{slice_get_cases, slice_get_read, slice_get_within}
 use Rattle.ip_address.specs.declared.ip.IpAddress.{IpAddress}
 use Rattle.iface_tables.specs.declared.route.Route.{Route}
-use Rattle.iface_tables.specs.Route.{AreLive, IsBest, IsBestAt, Replaces, RouterIsOne, cidrs, first, ipv4_gateway}
-use Rattle.iface_tables.specs.Route.{ipv6_gateway, is_live, matches, prefix_len, route_at, router_of}
+use Rattle.iface_tables.specs.Route.{AllLiveUntil, AreLive, IsBest, IsBestAt, Replaces, RouterIsOne, cidrs, first, ipv4_gateway}
+use Rattle.iface_tables.specs.Route.{ipv6_gateway, is_live, is_until, matches, prefix_len, route_at, router_of}
 use Rattle.iface_tables.specs.RouteTrie.{IsBestPlace, IsCandidate, has_place}
 use Rattle.iface_tables.proofs.RouteTrieLemmas.{both}
 
@@ -78,6 +78,33 @@ live_more rs t mask new i x within is tested kept done k r lt there =
           rw at (tested ∙ ap (λ (y : Route). is_live y t) same)
       | inr other ↦ kept k other ∙ done k r (omega arith) there
     ]
+
+-- a first end with one route more
+pub ends_more : (rs : List Route) (old new : Option ℤ) (i : ℕ) (x : Route) → i < length rs → x ≡ get_or rs i x
+    → ((t : ℤ) → is_until new t ≡ (is_until old t && is_until x.expires_at t))
+    → ((t : ℤ) (k : ℕ) (r : Route) → is_until old t ≡ true → k < i → slice_get rs k ≡ Some r → is_live r t ≡ true)
+    → (t : ℤ) (k : ℕ) (r : Route) → is_until new t ≡ true → k < i + 1 → slice_get rs k ≡ Some r → is_live r t ≡ true
+ends_more rs old new i x within is first done t k r until lt there =
+    let parts = both (is_until old t) (is_until x.expires_at t) (sym (first t) ∙ until) in
+    elim (cases_eq k i) [
+      | inl at ↦
+          let same : x ≡ r = some_is x r (sym (slice_get_read rs (length rs) i x refl within is) ∙ ap (slice_get rs) (sym at) ∙ there) in
+          ap (λ (y : Route). is_live y t) (sym same) ∙ parts.1
+      | inr other ↦ done t k r parts.0 (omega arith) there
+    ]
+
+-- the mask of all indices, where no route has expired
+pub all_live : (rs : List Route) (end : Option ℤ) (t : ℤ) → length rs ≤ 4 → AllLiveUntil rs end → is_until end t ≡ true → AreLive rs t 15
+all_live rs end t few all until k r there =
+    let lt = slice_get_within rs k r there in
+    has_each k (omega (arith, lt, few)) ∙ sym (all t k r until there)
+  where
+    has_each : (k : ℕ) → k < 4 → has_place 15 k ≡ true
+    has_each zero lt = refl
+    has_each (suc zero) lt = refl
+    has_each (suc (suc zero)) lt = refl
+    has_each (suc (suc (suc zero))) lt = refl
+    has_each (suc (suc (suc (suc k)))) lt = absurd (omega arith)
 
 pub live_all : (rs : List Route) (t : ℤ) (mask i : ℕ) → length rs ≤ i
     → ((k : ℕ) (r : Route) → k < i → slice_get rs k ≡ Some r → has_place mask k ≡ is_live r t) → AreLive rs t mask

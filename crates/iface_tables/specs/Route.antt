@@ -87,6 +87,10 @@ cidrs rs = map (λ r. r.cidr) rs
 abbrev pub AreLive : List Route → ℤ → ℕ → Type 0
 AreLive rs t live = (k : ℕ) (r : Route) → slice_get rs k ≡ Some r → has_place live k ≡ is_live r t
 
+-- while this end has not come, no route has expired
+abbrev pub AllLiveUntil : List Route → Option ℤ → Type 0
+AllLiveUntil rs end = (t : ℤ) (k : ℕ) (r : Route) → is_until end t ≡ true → slice_get rs k ≡ Some r → is_live r t ≡ true
+
 -- the route at an index, if there is one
 abbrev pub route_at : List Route → Option ℕ → Option Route
 route_at rs None = None

@@ -1,10 +1,11 @@
 //! Routes: the gateway by which a packet leaves its network (RFC 1122 3.3.1, RFC 4632 5.1).
-ghost use Rattle.std.specs.Prelude.{◌≡◌, ℕ, ◌+◌, ◌≤◌, ◌<◌, Bool, true, [], length, slice_get, OnSome};
+ghost use Rattle.std.specs.Prelude.{◌≡◌, ℕ, ℤ, ◌+◌, ◌≤◌, ◌<◌, ◌&&◌, Bool, true, [], length, slice_get, OnSome};
+ghost use Rattle.std.specs.Prelude.{option_map};
 ghost use Rattle.std.specs.List.{position_or_len, remove};
 ghost use Rattle.ip_address.specs.Ip as ip;
 ghost use Rattle.iface_tables.specs.declared.route.Route.{Route};
 ghost use Rattle.iface_tables.specs.Route as spec;
-ghost use Rattle.iface_tables.specs.Route.{AreLive, BestIsFound, IsRouter, Replaces, RouterIsOne};
+ghost use Rattle.iface_tables.specs.Route.{AllLiveUntil, AreLive, BestIsFound, IsBest, IsRouter, Replaces, RouterIsOne};
 ghost use Rattle.iface_tables.specs.Route.{Storage, cidrs, first, is_live, old_or_full};
 ghost use Rattle.iface_tables.specs.Route.{route_at, router_of, with_default, without_first};
 ghost use Rattle.iface_tables.specs.RouteTrie.{IsLongest, IsTrieOf};
@@ -19,6 +20,9 @@ use thiserror::Error;
 
 /// The maximum number of routes in a table.
 pub const IFACE_MAX_ROUTE_COUNT: usize = 4;
+
+// The mask of all indices.
+const ALL_PLACES: u32 = 0xf;
 
 /// The table is full, and holds no default route of the family to replace.
 #[derive(Clone, Copy, Debug, PartialEq, Eq, Error)]
@@ -92,12 +96,7 @@ impl Route {
     fn is_live(&self, timestamp: Instant) -> bool
         ensures { result ≡ is_live self.now timestamp }
     {
-        if let Some(end) = self.expires_at {
-            if timestamp > end {
-                return false;
-            }
-        }
-        true
+        is_until(self.expires_at, timestamp)
     }
 }
 
@@ -124,6 +123,8 @@ pub struct Routes {
     storage: ArrayVec<Route, IFACE_MAX_ROUTE_COUNT>,
     // The trie of their prefixes, in the same order.
     trie: RouteTrie,
+    // The first end of a route: until then none has expired. `None` means that none has an end.
+    first_end: Option<Instant>,
 }
 
 impl Model for Routes {
@@ -134,10 +135,11 @@ impl Model for Routes {
 
     ghost view = { λ r. r.storage.items };
 
-    ghost use Rattle.iface_tables.specs.Route.{cidrs};
+    ghost use Rattle.iface_tables.specs.Route.{AllLiveUntil, cidrs};
     ghost use Rattle.iface_tables.specs.RouteTrie.{IsTrieOf};
 
-    ghost invariant = { λ r. IsTrieOf r.trie.nodes (cidrs r.storage.items) };
+    ghost invariant = { λ r. IsTrieOf r.trie.nodes (cidrs r.storage.items)
+        × AllLiveUntil r.storage.items r.first_end };
 }
 
 impl Routes {
@@ -148,6 +150,7 @@ impl Routes {
         Routes {
             storage: ArrayVec::new(),
             trie: RouteTrie::new(),
+            first_end: None,
         }
     }
 
@@ -170,6 +173,7 @@ impl Routes {
         let old = self.storage.take();
         self.storage = f(old);
         rebuild(&mut self.trie, self.storage.as_slice());
+        self.first_end = first_end(self.storage.as_slice());
     }
 
     /// Removes the first IPv4 default route, if any, adds a new one after all other routes, and returns the removed
@@ -185,6 +189,7 @@ impl Routes {
         let place = default_ipv4_index(self.storage.as_slice());
         let answer = replace(&mut self.storage, place, Route::new_ipv4_gateway(gateway));
         rebuild(&mut self.trie, self.storage.as_slice());
+        self.first_end = first_end(self.storage.as_slice());
         answer
     }
 
@@ -201,6 +206,7 @@ impl Routes {
         let place = default_ipv6_index(self.storage.as_slice());
         let answer = replace(&mut self.storage, place, Route::new_ipv6_gateway(gateway));
         rebuild(&mut self.trie, self.storage.as_slice());
+        self.first_end = first_end(self.storage.as_slice());
         answer
     }
 
@@ -231,6 +237,7 @@ impl Routes {
         let place = default_ipv4_index(self.storage.as_slice());
         let answer = take_out(&mut self.storage, place);
         rebuild(&mut self.trie, self.storage.as_slice());
+        self.first_end = first_end(self.storage.as_slice());
         answer
     }
 
@@ -243,6 +250,7 @@ impl Routes {
         let place = default_ipv6_index(self.storage.as_slice());
         let answer = take_out(&mut self.storage, place);
         rebuild(&mut self.trie, self.storage.as_slice());
+        self.first_end = first_end(self.storage.as_slice());
         answer
     }
 
@@ -252,7 +260,8 @@ impl Routes {
         requires { ip.is_unicast address.now ≡ true }
         ensures { IsRouter self.now address.now timestamp result }
     {
-        self.lookup_steps(address, timestamp).0
+        let (route, _) = self.best_route(address, timestamp);
+        Some(route?.via_router)
     }
 
     /// What [`Routes::lookup`] returns, and how many nodes of the trie were read for it. That is 1 and the number of
@@ -267,9 +276,20 @@ impl Routes {
         ensures router { IsRouter self.now address.now timestamp result.0 }
         ensures count { (n : ℕ) × IsLongest (cidrs self.now) address.now n × (result.1 ≡ 1 + n) }
     {
-        let live = live_routes_mask(self.storage.as_slice(), timestamp);
+        let (route, steps) = self.best_route(address, timestamp);
+        (router_of(route), steps)
+    }
+
+    // The best route, and how many nodes of the trie were read for it.
+    #[inline(always)]
+    fn best_route(&self, address: &IpAddress, timestamp: Instant) -> (Option<&Route>, Steps)
+        ensures best { IsBest self.now address.now timestamp (option_map (λ r. r.now) result.0) }
+        ensures count { (n : ℕ) × IsLongest (cidrs self.now) address.now n × (result.1 ≡ 1 + n) }
+    {
+        let routes = self.storage.as_slice();
+        let live = live_mask(routes, self.first_end, timestamp);
         let (place, steps) = self.trie.walk(address, live);
-        (router_at(self.storage.as_slice(), place), steps)
+        (route_of(routes, place), steps)
     }
 }
 
@@ -285,7 +305,53 @@ fn rebuild(trie: &mut RouteTrie, routes: &[Route])
     trie.build(prefixes.as_slice());
 }
 
+// Whether a lifetime has not ended at a moment.
+#[inline(always)]
+fn is_until(end: Option<Instant>, timestamp: Instant) -> bool
+    ensures { result ≡ spec.is_until end timestamp }
+{
+    match end {
+        Some(end) => timestamp <= end,
+        None => true,
+    }
+}
+
+// The first of two ends.
+fn earlier(a: Option<Instant>, b: Option<Instant>) -> Option<Instant>
+    ensures { (t : ℤ) → spec.is_until result t ≡ (spec.is_until a t && spec.is_until b t) }
+{
+    match (a, b) {
+        (Some(one), Some(other)) => Some(if one <= other { one } else { other }),
+        (Some(_), None) => a,
+        (None, _) => b,
+    }
+}
+
+// The first end of a route, if one has an end.
+fn first_end(routes: &[Route]) -> Option<Instant>
+    ensures { AllLiveUntil routes.now result }
+{
+    let mut first = None;
+    for route in routes {
+        first = earlier(first, route.expires_at);
+    }
+    first
+}
+
 // The routes that have not expired at a moment, as a mask of their indices.
+#[inline(always)]
+fn live_mask(routes: &[Route], first_end: Option<Instant>, timestamp: Instant) -> u32
+    requires few { length routes.now ≤ IFACE_MAX_ROUTE_COUNT }
+    requires end { AllLiveUntil routes.now first_end }
+    ensures { AreLive routes.now timestamp result }
+{
+    if is_until(first_end, timestamp) {
+        return ALL_PLACES;
+    }
+    live_routes_mask(routes, timestamp)
+}
+
+// The same, by a look at each route.
 fn live_routes_mask(routes: &[Route], timestamp: Instant) -> u32
     requires { length routes.now ≤ IFACE_MAX_ROUTE_COUNT }
     ensures { AreLive routes.now timestamp result }
@@ -299,14 +365,23 @@ fn live_routes_mask(routes: &[Route], timestamp: Instant) -> u32
     live
 }
 
-// The gateway of the route at an index, if there is one.
-fn router_at(routes: &[Route], place: Option<usize>) -> Option<IpAddress>
-    ensures { result ≡ router_of (route_at routes.now place) }
+// The route at an index, if there is one.
+#[inline(always)]
+fn route_of(routes: &[Route], place: Option<usize>) -> Option<&Route>
+    ensures { option_map (λ r. r.now) result ≡ route_at routes.now place }
 {
     match place {
-        Some(place) => route_at(routes, place).map(|route| route.via_router),
+        Some(place) => routes.get(place),
         None => None,
     }
+}
+
+// The gateway of a route, if there is one.
+#[inline(always)]
+fn router_of(route: Option<&Route>) -> Option<IpAddress>
+    ensures { result ≡ router_of (option_map (λ r. r.now) route.entry) }
+{
+    Some(route?.via_router)
 }
 
 // The index of the first IPv4 default route, or the length.

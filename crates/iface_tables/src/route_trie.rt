@@ -57,12 +57,12 @@ struct Node {
     places: u32,
 }
 
-// The state of a walk: the node that it read last, the live indices of the longest prefix so far, and whether no node
-// follows.
+// The state of a walk: the node that it read last, the one of the longest live prefix so far, or else the root, and
+// whether no node follows.
 #[derive(Clone, Copy)]
-struct Walk {
-    node: Node,
-    best: u32,
+struct Walk<'t> {
+    node: &'t Node,
+    best: &'t Node,
     is_over: bool,
 }
 
@@ -125,66 +125,75 @@ impl RouteTrie {
     {
         let mut steps = Steps { count: 0 };
         let end = self.end_of(address, live, &mut steps);
-        (last_marked(end.best), steps)
+        (last_marked(end.best.places & live), steps)
     }
 
     // Follows an address to its last bit, or to where no node follows.
     #[inline(always)]
-    fn end_of(&self, address: &IpAddress, live: u32, steps: &mut Steps) -> Walk
+    fn end_of(&self, address: &IpAddress, live: u32, steps: &mut Steps) -> Walk<'_>
         requires trie { (cidrs : List IpCidr) × IsTrieOf self.now.nodes cidrs }
         requires first { steps.old ≡ 0 }
         ensures { (cidrs : List IpCidr) → IsTrieOf self.now.nodes cidrs
-            → (n : ℕ) × IsAt cidrs address.now live n result.node result.best steps.new
+            → (n : ℕ) × IsAt cidrs address.now live n result.node.now (bit_and result.best.now.places live) steps.new
             × IsLongest cidrs address.now n }
     {
         match address {
             IpAddress::Ipv4(address) => {
-                let root = self.start(0, live, steps);
-                self.walk_on(&root, u64::from(address.bits) << 32, 32, live, steps)
+                let root = self.start(0, steps);
+                self.walk_on(root, u64::from(address.bits) << 32, 32, live, steps)
             }
             IpAddress::Ipv6(address) => {
-                let root = self.start(1, live, steps);
-                let middle = self.walk_on(&root, first_half(address.bits), 64, live, steps);
+                let root = self.start(1, steps);
+                let middle = self.walk_on(root, first_half(address.bits), 64, live, steps);
                 if middle.is_over {
                     return middle;
                 }
-                self.walk_on(&middle, second_half(address.bits), 64, live, steps)
+                self.walk_on(middle, second_half(address.bits), 64, live, steps)
             }
         }
     }
 
     // Reads a root, where the walk starts.
     #[inline(always)]
-    fn start(&self, root: u16, live: u32, steps: &mut Steps) -> Walk
+    fn start(&self, root: u16, steps: &mut Steps) -> Walk<'_>
         requires within { root < ROUTE_TRIE_NODE_COUNT }
         requires few { steps.old < ROUTE_TRIE_NODE_COUNT }
-        ensures node { result.node ≡ slice_index_or self.now.nodes root result.node }
-        ensures best { result.best ≡ bit_and result.node.places live }
+        ensures node { result.node.now ≡ slice_index_or self.now.nodes root result.node.now }
+        ensures best { result.best.now ≡ result.node.now }
         ensures counted { steps.new ≡ steps.old + 1 }
     {
         let node = self.visit(root, steps);
         Walk {
             node,
-            best: node.places & live,
+            best: node,
             is_over: false,
         }
     }
 
     // Follows `count` bits, the top ones of a number, or to where no node follows.
     #[inline(always)]
-    fn walk_on(&self, from: &Walk, leading: u64, count: u8, live: u32, steps: &mut Steps) -> Walk
+    fn walk_on<'t>(
+        &'t self,
+        from: Walk<'t>,
+        leading: u64,
+        count: u8,
+        live: u32,
+        steps: &mut Steps,
+    ) -> Walk<'t>
         requires at { (cidrs : List IpCidr) × (a : IpAddress) × (i : ℕ) × IsTrieOf self.now.nodes cidrs
-            × IsAt cidrs a live i from.now.node from.now.best steps.old × AreNextBits a i count leading }
+            × IsAt cidrs a live i from.node.now (bit_and from.best.now.places live) steps.old
+            × AreNextBits a i count leading }
         ensures { (cidrs : List IpCidr) (a : IpAddress) (i : ℕ) → IsTrieOf self.now.nodes cidrs
-            → IsAt cidrs a live i from.now.node from.now.best steps.old → AreNextBits a i count leading
-            → (n : ℕ) × IsAt cidrs a live n result.node result.best steps.new
+            → IsAt cidrs a live i from.entry.node.now (bit_and from.entry.best.now.places live) steps.old
+            → AreNextBits a i count leading
+            → (n : ℕ) × IsAt cidrs a live n result.node.now (bit_and result.best.now.places live) steps.new
             × OnTrue result.is_over (IsLongest cidrs a n) × OnFalse result.is_over (n ≡ i + count) }
     {
         let mut node = from.node;
         let mut best = from.best;
         let mut bits = leading;
         for i in 0..count {
-            let child = child_of(&node, bits);
+            let child = child_of(node, bits);
             if child == 0 {
                 return Walk {
                     node,
@@ -193,7 +202,7 @@ impl RouteTrie {
                 };
             }
             node = self.visit(child, steps);
-            best = better(node.places & live, best);
+            best = better(node, best, live);
             bits <<= 1;
         }
         Walk {
@@ -205,14 +214,14 @@ impl RouteTrie {
 
     // Reads a node, and counts it.
     #[inline(always)]
-    fn visit(&self, number: u16, steps: &mut Steps) -> Node
+    fn visit(&self, number: u16, steps: &mut Steps) -> &Node
         requires within { number < ROUTE_TRIE_NODE_COUNT }
         requires few { steps.old < ROUTE_TRIE_NODE_COUNT }
-        ensures node { result ≡ slice_index_or self.now.nodes number result }
+        ensures node { result.now ≡ slice_index_or self.now.nodes number result.now }
         ensures counted { steps.new ≡ steps.old + 1 }
     {
         steps.count += 1;
-        self.nodes[usize::from(number)]
+        &self.nodes[usize::from(number)]
     }
 }
 
@@ -240,12 +249,17 @@ fn child_of(node: &Node, bits: u64) -> u16
     node.next[(bits >> 63) as usize]
 }
 
-// The indices of a longer prefix, or, if there is none, those of a shorter one.
+// The node of a longer prefix, or, if none of its prefixes is live, that of a shorter one.
 #[inline(always)]
-fn better(longer: u32, shorter: u32) -> u32
-    ensures { result ≡ cond (longer == 0) shorter longer }
+fn better<'t>(longer: &'t Node, shorter: &'t Node, live: u32) -> &'t Node
+    ensures { bit_and result.now.places live ≡ cond (bit_and longer.now.places live == 0)
+        (bit_and shorter.now.places live) (bit_and longer.now.places live) }
 {
-    if longer == 0 { shorter } else { longer }
+    if longer.places & live == 0 {
+        shorter
+    } else {
+        longer
+    }
 }
 
 // The beginning without bits.

@@ -1,0 +1,11 @@
+use Rattle.iface_tables.specs.Route.{cidrs}
+use Rattle.iface_tables.proofs.RouteLemmas.{best_at}
+use Rattle.iface_tables.proofs.route.Routes.best_route.Goals as goal
+
+pub returns-clause-best : goal.returns-clause-best
+returns-clause-best c =
+    let rs = c.self.inside.storage.items in
+    let place = c.walk-place.result.0 in
+    let best = c.walk-place.ensures.best (cidrs rs) c.self.invariant.0 in
+    rw (← c.self.view_is, c.route_of.ensures, c.as_slice-routes.ensures.value) (best_at rs c.args.address.now c.args.timestamp c.live_mask-live.result place
+    (rw c.as_slice-routes.ensures.value at c.live_mask-live.ensures) best)
