@@ -1,6 +1,6 @@
 //! Sets of covered offsets, such as those of the octets received of a datagram (RFC 791 3.2).
 ghost use Rattle.std.specs.Prelude.{◌≡◌, ◌↔◌, ◌≤◌, ◌<◌, ◌+◌, ℕ, ◌^◌, [], ◌∷◌, ◌++◌, IsTrue};
-ghost use Rattle.std.specs.Prelude.{false, IsOk, IsErr, IfOk, OnOk, OnErr, length, List};
+ghost use Rattle.std.specs.Prelude.{false, true, IsOk, IsErr, IfOk, OnOk, OnErr, length, List};
 ghost use Rattle.net_base.specs.RangesLaws.{FifthTouchesNone};
 ghost use Rattle.net_base.specs.Ranges.{add_range, front, AreSeparate, range_union};
 ghost use Rattle.net_base.specs.Ranges.{places_before, IsMet, IsApart, IsUnion};
@@ -67,7 +67,12 @@ impl Assembler {
     pub fn clear(&mut self)
         ensures { self.new ≡ [] }
     {
-        self.ranges.clear();
+        // Mostly there is one range, and then no call is needed to blank it.
+        if self.ranges.len() == 1 {
+            self.ranges.pop();
+        } else {
+            self.ranges.clear();
+        }
     }
 
     /// The number of offsets covered from 0 on, up to the first that isn't.
@@ -97,11 +102,56 @@ impl Assembler {
         if len == 0 {
             return Ok(());
         }
-        put_range(&mut self.ranges, offset, offset + len)
+        include(&mut self.ranges, offset, offset + len)
     }
 }
 
 // Adds a range that is not empty to separate ranges.
+#[inline(always)]
+fn include(
+    ranges: &mut ArrayVec<Range, ASSEMBLER_MAX_SEGMENT_COUNT>,
+    start: usize,
+    end: usize,
+) -> Result<(), TooManyHolesError>
+    requires order { start < end }
+    requires separate { AreSeparate 0 ranges.old.items }
+    requires few { length ranges.old.items ≤ 4 }
+    ensures refused { IsErr result ↔ (4 < length (add_range start end ranges.old.items)) }
+    ensures ok { OnOk result (ranges.new.items ≡ add_range start end ranges.old.items) }
+    ensures err { OnErr result (ranges.new ≡ ranges.old) }
+{
+    if is_appended(ranges, start, end) {
+        return Ok(());
+    }
+    put_range(ranges, start, end)
+}
+
+// Adds a range that is not empty, if there is none yet, or only one that ends where it starts. Returns whether it did.
+#[inline(always)]
+fn is_appended(
+    ranges: &mut ArrayVec<Range, ASSEMBLER_MAX_SEGMENT_COUNT>,
+    start: usize,
+    end: usize,
+) -> bool
+    requires order { start < end }
+    requires separate { AreSeparate 0 ranges.old.items }
+    ensures added { result ≡ true → ranges.new.items ≡ add_range start end ranges.old.items }
+    ensures few { result ≡ true → length ranges.new.items ≤ 4 }
+    ensures kept { result ≡ false → ranges.new ≡ ranges.old }
+{
+    if ranges.is_empty() {
+        ranges.push(Range { start, end });
+        return true;
+    }
+    let is_next = ranges.len() == 1 && ranges.as_slice()[0].end == start;
+    if is_next {
+        ranges.as_mut_slice()[0].end = end;
+    }
+    is_next
+}
+
+// Adds a range that is not empty to separate ranges, whatever ranges they are.
+#[inline(never)]
 fn put_range(
     ranges: &mut ArrayVec<Range, ASSEMBLER_MAX_SEGMENT_COUNT>,
     start: usize,
