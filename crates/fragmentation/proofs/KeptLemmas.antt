@@ -1,7 +1,7 @@
 -- Places with their keys, no two of which are taken for one.
 use Rattle.std.proofs.Common.{◌≡◌, ◌<◌, ◌≤◌, ◌+◌, ℕ, ℤ, zero, suc, Bool, true, false, List, [], ◌∷◌, Option, Some, None}
 use Rattle.std.proofs.Common.{length, get_or, slice_get, slice_set, add-one, refl, sym, ap, ◌∙◌, arith, inl, inr}
-use Rattle.std.specs.Prelude.{cond, is_none, ◌⊎◌, ◌==◌}
+use Rattle.std.specs.Prelude.{cond, is_none, not, ◌&&◌, ◌⊎◌, ◌==◌}
 use Rattle.std.proofs.lemmas.Bool.Decides.{nat_tests}
 use Rattle.std.proofs.Math.Path.{fun_ext}
 use Rattle.std.proofs.lemmas.List.{length-set}
@@ -28,6 +28,10 @@ same_or_not a b = elim (a == b) as (λ t. a == b ≡ t → (a ≡ b) ⊎ (a ≡ 
   | true ↦ λ t. inl (grind (arith, nat_tests))
   | false ↦ λ t. inr (λ e. grind (arith, nat_tests))
 ] refl
+
+both_hold : (a b : Bool) → a && b ≡ true → (a ≡ true) × (b ≡ true)
+both_hold true b h = (refl, h)
+both_hold false b h = cc
 
 module _ {K : Type 0} where
   own_key : (o : Option K) → cond (is_none o) None o ≡ o
@@ -193,6 +197,69 @@ module _ {K : Type 0} where
             | inr r ↦ p.0 ∙ sym r.0
           ]
         ]
+
+  -- the first of two slots has a key, and the second one is free
+  free_key_is : (o : Option K) → is_none o ≡ true → o ≡ None
+  free_key_is None h = refl
+  free_key_is (Some k) h = cc
+
+  not_none : (o : Option K) → not (is_none o) ≡ true → is_none o ≡ false
+  not_none None h = cc
+  not_none (Some k) h = refl
+
+  has_some : (eq : K → K → Bool) (k : K) (o : Option K) → has_key eq k o ≡ true → is_none o ≡ false
+  has_some eq k None h = cc
+  has_some eq k (Some j) h = refl
+
+  taken_again : (k : K) (end : ℤ) (o : Option K) (s : Assembly K) → is_none s.key ≡ false → is_none o ≡ false
+      → taken k end (with_key o s) ≡ with_key o s
+  taken_again k end o s some given = rw (some, given) refl
+
+  pub first_again : (eq : K → K → Bool) (k : K) (os : List (Option K)) (ss : List (Assembly K)) (o p : Option K) (s t d new : Assembly K)
+      → length os ≡ 2 → length ss ≡ 2 → s ≡ get_or ss 0 s → t ≡ get_or ss 1 t
+      → has_key eq k (get_or os 0 o) && (not (is_none s.key) && is_none t.key) ≡ true → p ≡ get_or os 0 p → new ≡ with_key p (get_or ss 0 d)
+      → (end : ℤ) → slice_set ss 0 new ≡ taken_at 0 k end (with_keys os ss)
+  first_again eq k (o ∷ q ∷ []) (s ∷ t ∷ []) o' p s' t' d new two both se te alone pe is end =
+      let h = both_hold (has_key eq k o) _ (rw (se, te) at alone) in
+      let i = both_hold (not (is_none s.key)) (is_none t.key) h.1 in
+      let free : with_key q t ≡ t = with_none q t (free_key_is t.key i.1) in
+      let again : taken k end (with_key o s) ≡ with_key o s = taken_again k end o s (not_none s.key i.0) (has_some eq k o h.0) in
+      rw (free, again) (ap (λ (x : Assembly K). x ∷ t ∷ []) (is ∙ ap (λ (y : Option K). with_key y s) pe))
+  first_again eq k [] ss o' p s' t' d new two both se te alone pe is end = absurd (omega arith)
+  first_again eq k (o ∷ []) ss o' p s' t' d new two both se te alone pe is end = absurd (omega arith)
+  first_again eq k (o ∷ q ∷ r ∷ os) ss o' p s' t' d new two both se te alone pe is end = absurd (omega arith)
+  first_again eq k (o ∷ q ∷ []) [] o' p s' t' d new two both se te alone pe is end = absurd (omega arith)
+  first_again eq k (o ∷ q ∷ []) (s ∷ []) o' p s' t' d new two both se te alone pe is end = absurd (omega arith)
+  first_again eq k (o ∷ q ∷ []) (s ∷ t ∷ u ∷ ss) o' p s' t' d new two both se te alone pe is end = absurd (omega arith)
+
+  pub first_keys : (eq : K → K → Bool) (k : K) (os : List (Option K)) (ss : List (Assembly K)) (o r : Option K) (s t new : Assembly K)
+      → length os ≡ 2 → length ss ≡ 2 → t ≡ get_or ss 1 t
+      → has_key eq k (get_or os 0 o) && (not (is_none s.key) && is_none t.key) ≡ true → r ≡ new.key
+      → slice_set (slice_set os 0 r) 1 None ≡ keys_of (slice_set ss 0 new)
+  first_keys eq k (o ∷ q ∷ []) (s ∷ t ∷ []) o' r s' t' new two both te alone is =
+      let h = both_hold (has_key eq k o) _ (rw te at alone) in
+      let i = both_hold (not (is_none s'.key)) (is_none t.key) h.1 in
+      rw (free_key_is t.key i.1, is) refl
+  first_keys eq k [] ss o' r s' t' new two both te alone is = absurd (omega arith)
+  first_keys eq k (o ∷ []) ss o' r s' t' new two both te alone is = absurd (omega arith)
+  first_keys eq k (o ∷ q ∷ p ∷ os) ss o' r s' t' new two both te alone is = absurd (omega arith)
+  first_keys eq k (o ∷ q ∷ []) [] o' r s' t' new two both te alone is = absurd (omega arith)
+  first_keys eq k (o ∷ q ∷ []) (s ∷ []) o' r s' t' new two both te alone is = absurd (omega arith)
+  first_keys eq k (o ∷ q ∷ []) (s ∷ t ∷ u ∷ ss) o' r s' t' new two both te alone is = absurd (omega arith)
+
+  pub first_serves : (eq : K → K → Bool) (k : K) (os : List (Option K)) (ss : List (Assembly K)) (o : Option K) (s t : Assembly K)
+      → length os ≡ 2 → length ss ≡ 2 → s ≡ get_or ss 0 s
+      → has_key eq k (get_or os 0 o) && (not (is_none s.key) && is_none t.key) ≡ true → slot_for eq k (with_keys os ss) ≡ 0
+  first_serves eq k (o ∷ q ∷ []) (s ∷ t ∷ []) o' s' t' two both se alone =
+      let h = both_hold (has_key eq k o) _ (rw se at alone) in
+      let i = both_hold (not (is_none s.key)) (is_none t'.key) h.1 in
+      rw (not_none s.key i.0, h.0) refl
+  first_serves eq k [] ss o' s' t' two both se alone = absurd (omega arith)
+  first_serves eq k (o ∷ []) ss o' s' t' two both se alone = absurd (omega arith)
+  first_serves eq k (o ∷ q ∷ p ∷ os) ss o' s' t' two both se alone = absurd (omega arith)
+  first_serves eq k (o ∷ q ∷ []) [] o' s' t' two both se alone = absurd (omega arith)
+  first_serves eq k (o ∷ q ∷ []) (s ∷ []) o' s' t' two both se alone = absurd (omega arith)
+  first_serves eq k (o ∷ q ∷ []) (s ∷ t ∷ u ∷ ss) o' s' t' two both se alone = absurd (omega arith)
 
   -- the key and the place that were found for it, and what the keys and the places are then
   pub record Took (eq : K → K → Bool) (k : K) (end : ℤ) (os : List (Option K)) (ss : List (Assembly K)) (p : ℕ)

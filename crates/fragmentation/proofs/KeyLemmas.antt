@@ -165,8 +165,15 @@ parts : (p q r s : Bool) (w x y z : Ordering) → p ≡ is_eq w → q ≡ is_eq 
     p && (q && (r && s)) ≡ is_eq (ordering_then w (ordering_then x (ordering_then y z)))
 parts p q r s w x y z a b c d = rw (a, b, c, d) (sym (ties w _ ∙ ap (λ t. is_eq w && t) (ties x _ ∙ ap (λ t. is_eq x && t) (ties y z))))
 
+moved : (p q r s : Bool) → q && (r && (p && s)) ≡ p && (q && (r && s))
+moved true q r s = refl
+moved false true true s = refl
+moved false true false s = refl
+moved false false r s = refl
+
 -- keys are equal part by part
-pub key_ties : (a b : FragKey) → (a.identification == b.identification)
-    && ((a.src_addr.bits == b.src_addr.bits) && ((a.dst_addr.bits == b.dst_addr.bits) && (a.protocol == b.protocol))) ≡ eq_by_cmp key_cmp a b
-key_ties a b = parts _ _ _ _ _ _ _ _ (number_ties a.identification b.identification) (number_ties a.src_addr.bits b.src_addr.bits)
+pub key_ties : (a b : FragKey) → (a.src_addr.bits == b.src_addr.bits)
+    && ((a.dst_addr.bits == b.dst_addr.bits) && ((a.identification == b.identification) && (a.protocol == b.protocol))) ≡ eq_by_cmp key_cmp a b
+key_ties a b = moved (a.identification == b.identification) _ _ (a.protocol == b.protocol)
+    ∙ parts _ _ _ _ _ _ _ _ (number_ties a.identification b.identification) (number_ties a.src_addr.bits b.src_addr.bits)
     (number_ties a.dst_addr.bits b.dst_addr.bits) (number_ties a.protocol b.protocol)

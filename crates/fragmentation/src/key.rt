@@ -8,9 +8,9 @@ use ip_wire::{Ipv4Address, Ipv4Repr};
 /// 3.2).
 #[derive(Clone, Copy, Debug, PartialEq, Eq)]
 pub struct FragKey {
-    pub identification: u16,
     pub src_addr: Ipv4Address,
     pub dst_addr: Ipv4Address,
+    pub identification: u16,
     /// The protocol's number.
     pub protocol: u8,
 }

@@ -2,12 +2,12 @@
 //!
 //! A [`PacketAssembler`] is a slot for one datagram, and a [`PacketAssemblerSet`] has two of them, each for the
 //! datagram of one key. Where fragments overlap, the one received last counts.
-ghost use Rattle.std.specs.Prelude.{◌≡◌, List, ◌↔◌, ◌≤◌, ◌<◌, ◌+◌, ◌-◌, ℕ, Bool, nat_le, nat_lt, ◌&&◌};
-ghost use Rattle.std.specs.Prelude.{IsTrue, is_none, IsSome, false, IsOk, IsErr, slice_index, slice_index_or};
+ghost use Rattle.std.specs.Prelude.{◌≡◌, List, ℤ, ◌↔◌, ◌≤◌, ◌<◌, ◌+◌, ◌-◌, ℕ, Bool, nat_le, nat_lt, not, ◌&&◌};
+ghost use Rattle.std.specs.Prelude.{IsTrue, is_none, IsSome, false, true, IsOk, IsErr, slice_index, slice_index_or};
 ghost use Rattle.std.specs.Prelude.{if◌then◌else◌, IfOk, OnOk, OnErr, IfSome, map as each, length, None, Some};
 ghost use Rattle.std.specs.Borrow.{sem};
 ghost use Rattle.fragmentation.specs.Assembly as spec;
-ghost use Rattle.fragmentation.specs.Assembly.{octets_after_write, index_of_key, free_slot};
+ghost use Rattle.fragmentation.specs.Assembly.{octets_after_write, index_of_key, free_slot, has_key};
 ghost use Rattle.fragmentation.specs.Assembly.{live_at, with_keys, keys_of, taken_at, AllSound};
 ghost use Rattle.fragmentation.specs.Stands.{fragment};
 ghost use Rattle.fragmentation.specs.Reassembled.{RestsReassembled};
@@ -164,7 +164,10 @@ impl<K: Drop> PacketAssembler<K> {
         ensures value { result ≡ is_complete self.now }
         ensures whole { (g : Got) → Gathers self.now g → IsTrue result ↔ ((n : ℕ) × IsWhole g n) }
     {
-        self.total_size == Some(self.assembler.peek_front())
+        match self.total_size {
+            Some(total) => total == self.assembler.peek_front(),
+            None => false,
+        }
     }
 
     /// The octets of the datagram if it is complete, otherwise `None`. A completed slot is freed, and ready for another
@@ -259,10 +262,7 @@ impl<K: Eq> PacketAssembler<K> {
     fn is_for(&self, key: &K) -> bool
         ensures { result ≡ has_key K.eq key.now self.now.key }
     {
-        match &self.key {
-            Some(k) => *k == *key,
-            None => false,
-        }
+        is_key(&self.key, key)
     }
 }
 
@@ -275,7 +275,10 @@ fn has_its_octets(buffer: &[u8; REASSEMBLY_BUFFER_SIZE])
 fn ends_beyond(octets: &[u8], offset: usize) -> bool
     ensures { result ≡ nat_lt 4096 (offset + length octets.now) }
 {
-    offset > REASSEMBLY_BUFFER_SIZE || octets.len() > REASSEMBLY_BUFFER_SIZE - offset
+    match offset.checked_add(octets.len()) {
+        Some(end) => end > REASSEMBLY_BUFFER_SIZE,
+        None => true,
+    }
 }
 
 // Writes octets from an offset on.
@@ -474,12 +477,73 @@ fn take<K: Eq + Copy>(
         key.now end (with_keys keys.old assemblers.old) }
     ensures keys { keys.new ≡ keys_of assemblers.new }
 {
+    if is_first_for(keys, assemblers, key) {
+        return 0;
+    }
     keep_keys(keys, assemblers);
     let slot = slot_for(assemblers, key);
     if slot < 2 {
         keys[slot] = assemblers[slot].take_for(key, end);
     }
     slot
+}
+
+// Whether the first slot has the key, and the second one is free. Then each gets its key among these, and the free one
+// none.
+#[inline(always)]
+fn is_first_for<K: Eq + Copy>(
+    keys: &mut [Option<K>],
+    assemblers: &mut [PacketAssembler<K>],
+    key: &K,
+) -> bool
+    requires keys { length keys.old ≡ 2 }
+    requires places { length assemblers.old ≡ 2 }
+    ensures slot { result ≡ true → spec.slot_for K.eq key.now (with_keys keys.old assemblers.old) ≡ 0 }
+    ensures taken { result ≡ true → (end : ℤ) →
+        assemblers.new ≡ taken_at 0 key.now end (with_keys keys.old assemblers.old) }
+    ensures keys { result ≡ true → keys.new ≡ keys_of assemblers.new }
+    ensures kept { result ≡ false → (keys.new ≡ keys.old) × (assemblers.new ≡ assemblers.old) }
+{
+    if !is_alone_for(&keys[0], &assemblers[0], &assemblers[1], key) {
+        return false;
+    }
+    keys[0] = assemblers[0].keep_key(keys[0]);
+    forget(&mut keys[1]);
+    true
+}
+
+// Forgets a key, if there is one. None is written only then: it takes as much as a key.
+#[inline(always)]
+fn forget<K: Copy>(key: &mut Option<K>)
+    ensures { key.new ≡ None }
+{
+    if key.is_some() {
+        *key = None;
+    }
+}
+
+// Whether a key is the one given for the first of two slots, which is taken, and the second one is free.
+#[inline(always)]
+fn is_alone_for<K: Eq>(
+    of_first: &Option<K>,
+    first: &PacketAssembler<K>,
+    second: &PacketAssembler<K>,
+    key: &K,
+) -> bool
+    ensures { result ≡ has_key K.eq key.now of_first.now && (not (is_none first.now.key) && is_none second.now.key) }
+{
+    is_key(of_first, key) && !first.is_free() && second.is_free()
+}
+
+// Whether a slot's key, if it has one, is this one.
+#[inline(always)]
+fn is_key<K: Eq>(of_slot: &Option<K>, key: &K) -> bool
+    ensures { result ≡ has_key K.eq key.now of_slot.now }
+{
+    match of_slot {
+        Some(k) => *k == *key,
+        None => false,
+    }
 }
 
 // Each taken slot gets its key among these, and each free one has none from now on.
