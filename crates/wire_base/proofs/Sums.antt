@@ -86,17 +86,32 @@ block_folds sum xs i j e h =
 
 -- the parts of a number, times 256, fold as the number does
 pub parts_fold : (sum number rest : ℕ) →
-    folded_sum (sum + 256 * (number % 2 ^ 32 + number / 2 ^ 32 % 2 ^ 32 + number / 2 ^ 32 / 2 ^ 32) + rest) ≡ folded_sum (sum + 256 * number + rest)
+    folded_sum (sum + 256 * (number % 2 ^ 32 + number / 2 ^ 32) + rest) ≡ folded_sum (sum + 256 * number + rest)
 parts_fold sum number rest =
-    let low = number % 2 ^ 32 in
+    let others = sum + rest + 256 * (number % 2 ^ 32) in
     let upper = number / 2 ^ 32 in
-    let here : sum + 256 * (low + upper % 2 ^ 32 + upper / 2 ^ 32) + rest ≡ sum + rest + 256 * low + 256 * (upper % 2 ^ 32) + 256 * (upper / 2 ^ 32) =
-    omega arith in
-    let middle : sum + rest + 256 * low + 256 * (upper % 2 ^ 32) + 1099511627776 * (upper / 2 ^ 32) ≡ sum + rest + 256 * low + 256 * upper =
-    omega arith in
-    let there : sum + rest + 256 * low + 1099511627776 * upper ≡ sum + 256 * number + rest = omega arith in
-    ap folded_sum here ∙ sym (shift_by_32 (sum + rest + 256 * low + 256 * (upper % 2 ^ 32)) (upper / 2 ^ 32)) ∙ ap folded_sum middle
-    ∙ sym (shift_by_32 (sum + rest + 256 * low) upper) ∙ ap folded_sum there
+    let here : sum + 256 * (number % 2 ^ 32 + upper) + rest ≡ others + 256 * upper = omega arith in
+    let there : others + 1099511627776 * upper ≡ sum + 256 * number + rest = omega arith in
+    ap folded_sum here ∙ sym (shift_by_32 others upper) ∙ ap folded_sum there
+
+-- what a sum has above 64 bits, times 256, folds at its low end
+pub carry_folds : (sum total number rest : ℕ) →
+    folded_sum (sum + 256 * (total % 2 ^ 64 + number + total / 2 ^ 64) + rest) ≡ folded_sum (sum + 256 * (total + number) + rest)
+carry_folds sum total number rest =
+    let high = total / 2 ^ 64 in
+    let others = sum + rest + 256 * (total % 2 ^ 64) + 256 * number in
+    let here : sum + 256 * (total % 2 ^ 64 + number + high) + rest ≡ others + 256 * high = omega arith in
+    let middle : others + 1099511627776 * high ≡ others + 256 * (4294967296 * high) = omega arith in
+    let there : others + 1099511627776 * (4294967296 * high) ≡ sum + 256 * (total + number) + rest = omega arith in
+    ap folded_sum here ∙ sym (shift_by_32 others high) ∙ ap folded_sum middle ∙ sym (shift_by_32 others (4294967296 * high))
+    ∙ ap folded_sum there
+
+pub carried_folds : (sum total rest : ℕ) →
+    folded_sum (sum + 256 * (total % 2 ^ 64 + total / 2 ^ 64) + rest) ≡ folded_sum (sum + 256 * total + rest)
+carried_folds sum total rest =
+    let here : sum + 256 * (total % 2 ^ 64 + total / 2 ^ 64) + rest ≡ sum + 256 * (total % 2 ^ 64 + 0 + total / 2 ^ 64) + rest = omega arith in
+    let there : sum + 256 * (total + 0) + rest ≡ sum + 256 * total + rest = omega arith in
+    ap folded_sum here ∙ carry_folds sum total 0 rest ∙ ap folded_sum there
 
 pub word_sum-none : (xs : List ℕ) → length xs ≡ 0 → word_sum xs ≡ 0
 unfolding word_sum

@@ -19,65 +19,93 @@ pub fn sum_with(start: u64, octets: &[u8]) -> u16
     long_sum_with(start, octets)
 }
 
-/// Computes [`sum_with`] in blocks of 64 octets, and one of 32 if that is left. Read little-endian, eight octets need
-/// no swap: times 256 they fold as their four words do (RFC 1071 2).
+/// Computes [`sum_with`] in blocks of 64 octets, and then eight at a time. Read little-endian, eight octets need no swap:
+/// times 256 they fold as their four words do (RFC 1071 2). What is carried out of 64 bits is added at the low end, by
+/// the addition that follows.
 #[inline(never)]
 fn long_sum_with(start: u64, octets: &[u8]) -> u16
     requires short { length octets.now < 2 ^ 16 }
     requires small { start < 2 ^ 48 }
     ensures { result ≡ spec.folded_sum (start + spec.word_sum octets.now) }
 {
-    let mut swapped = 0u128;
-    let count = octets.len() / 32;
-    for i in 0..count / 2 {
-        swapped += blocks_sum(octets, 64 * i);
+    let mut swapped = 0u64;
+    let blocks = octets.len() / 64;
+    for i in 0..blocks {
+        swapped = with_block(swapped, octets, 64 * i);
     }
-    let whole = with_odd_block(swapped, octets, count);
-    let sum = start + 256 * parts_sum(whole);
-    fold(sum + short_sum(&octets[32 * count..]))
+    let rest = &octets[64 * blocks..];
+    let numbers = rest.len() / 8;
+    for i in 0..numbers {
+        swapped = with_eight(swapped, rest, 8 * i);
+    }
+    fold(start + 256 * parts_sum(swapped) + short_sum(&rest[8 * numbers..]))
 }
 
-/// A sum of the little-endian numbers in the pairs among `count` blocks of 32 octets, with those of the last block
-/// added if that is in no pair.
+/// A sum with the eight little-endian numbers in 64 octets added. They are added from the last on, which makes a chain
+/// of carries.
 #[inline(always)]
-fn with_odd_block(swapped: u128, octets: &[u8], count: usize) -> u128
-    requires within { 32 * count ≤ length octets.now }
-    requires small { swapped < 2 ^ 95 }
-    ensures folds { (sum : ℕ) → spec.folded_sum (sum + 256 * result + spec.word_sum (drop (32 * count) octets.now))
-        ≡ spec.folded_sum (sum + 256 * swapped + spec.word_sum (drop (64 * (count / 2)) octets.now)) }
-    ensures small { result < 2 ^ 96 }
-{
-    if count % 2 == 0 {
-        return swapped;
-    }
-    swapped + block_sum(octets, 32 * (count - 1))
-}
-
-/// The sum of the eight little-endian numbers in 64 octets.
-#[inline(always)]
-fn blocks_sum(octets: &[u8], at: usize) -> u128
+fn with_block(swapped: u64, octets: &[u8], at: usize) -> u64
     requires { at + 64 ≤ length octets.now }
-    ensures value { result ≡ u64_le_at octets.now at + u64_le_at octets.now (at + 8)
-        + u64_le_at octets.now (at + 16) + u64_le_at octets.now (at + 24)
-        + (u64_le_at octets.now (at + 32) + u64_le_at octets.now (at + 32 + 8) + u64_le_at octets.now (at + 32 + 16)
-        + u64_le_at octets.now (at + 32 + 24)) }
-    ensures small { result < 2 ^ 67 }
+    ensures { (sum : ℕ) → spec.folded_sum (sum + 256 * result + spec.word_sum (drop (at + 64) octets.now))
+        ≡ spec.folded_sum (sum + 256 * swapped + spec.word_sum (drop at octets.now)) }
 {
-    block_sum(octets, at) + block_sum(octets, at + 32)
+    let one = u64_le_at(octets, at);
+    let two = u64_le_at(octets, at + 8);
+    let three = u64_le_at(octets, at + 16);
+    let four = u64_le_at(octets, at + 24);
+    let five = u64_le_at(octets, at + 32);
+    let six = u64_le_at(octets, at + 40);
+    let seven = u64_le_at(octets, at + 48);
+    let eight = u64_le_at(octets, at + 56);
+    let later = with_four(u128::from(swapped), eight, seven, six, five);
+    carried(with_four(later, four, three, two, one))
 }
 
-/// The sum of the four little-endian numbers in 32 octets.
+/// A sum with the little-endian number in eight octets added.
 #[inline(always)]
-fn block_sum(octets: &[u8], at: usize) -> u128
-    requires { at + 32 ≤ length octets.now }
-    ensures value { result ≡ u64_le_at octets.now at + u64_le_at octets.now (at + 8) + u64_le_at octets.now (at + 16)
-        + u64_le_at octets.now (at + 24) }
-    ensures small { result < 2 ^ 66 }
+fn with_eight(swapped: u64, octets: &[u8], at: usize) -> u64
+    requires { at + 8 ≤ length octets.now }
+    ensures { (sum : ℕ) → spec.folded_sum (sum + 256 * result + spec.word_sum (drop (at + 8) octets.now))
+        ≡ spec.folded_sum (sum + 256 * swapped + spec.word_sum (drop at octets.now)) }
 {
-    u128::from(u64_le_at(octets, at))
-        + u128::from(u64_le_at(octets, at + 8))
-        + u128::from(u64_le_at(octets, at + 16))
-        + u128::from(u64_le_at(octets, at + 24))
+    carried(with_number(u128::from(swapped), u64_le_at(octets, at)))
+}
+
+/// A sum with four numbers added.
+#[inline(always)]
+fn with_four(swapped: u128, one: u64, two: u64, three: u64, four: u64) -> u128
+    requires { swapped + 1 < 2 ^ 65 }
+    ensures folds { (sum : ℕ) (rest : ℕ) → spec.folded_sum (sum + 256 * result + rest)
+        ≡ spec.folded_sum (sum + 256 * (swapped + (one + two + three + four)) + rest) }
+    ensures small { result + 1 < 2 ^ 65 }
+{
+    let first = with_number(swapped, one);
+    let second = with_number(first, two);
+    let third = with_number(second, three);
+    with_number(third, four)
+}
+
+/// A sum with a number added, and what the sum has above 64 bits at the low end.
+#[inline(always)]
+#[tactic(auto, using(crate::proofs::Sums::carry_folds))]
+fn with_number(swapped: u128, number: u64) -> u128
+    requires { swapped + 1 < 2 ^ 65 }
+    ensures folds { (sum : ℕ) (rest : ℕ) → spec.folded_sum (sum + 256 * result + rest)
+        ≡ spec.folded_sum (sum + 256 * (swapped + number) + rest) }
+    ensures small { result + 1 < 2 ^ 65 }
+{
+    swapped % 0x1_0000_0000_0000_0000 + u128::from(number) + swapped / 0x1_0000_0000_0000_0000
+}
+
+/// A sum with what it has above 64 bits added at the low end.
+#[inline(always)]
+#[tactic(auto, using(crate::proofs::Sums::carried_folds))]
+fn carried(swapped: u128) -> u64
+    requires { swapped + 1 < 2 ^ 65 }
+    ensures { (sum : ℕ) (rest : ℕ) →
+        spec.folded_sum (sum + 256 * result + rest) ≡ spec.folded_sum (sum + 256 * swapped + rest) }
+{
+    (swapped % 0x1_0000_0000_0000_0000 + swapped / 0x1_0000_0000_0000_0000) as u64
 }
 
 /// A number that folds as the sum of the words of fewer than 65,536 octets does, in any sum. So several parts, all but
@@ -112,14 +140,11 @@ fn short_sum(octets: &[u8]) -> u64
 
 /// The sum of the 32-bit parts of a number. Times 256 it folds as the number does.
 #[inline(always)]
-fn parts_sum(number: u128) -> u64
-    requires { number < 2 ^ 96 }
-    ensures value { result ≡ number % 2 ^ 32 + number / 2 ^ 32 % 2 ^ 32 + number / 2 ^ 32 / 2 ^ 32 }
-    ensures small { result < 2 ^ 34 }
+fn parts_sum(number: u64) -> u64
+    ensures value { result ≡ number % 2 ^ 32 + number / 2 ^ 32 }
+    ensures small { result < 2 ^ 33 }
 {
-    let low = number % 0x1_0000_0000;
-    let rest = number / 0x1_0000_0000;
-    (low + rest % 0x1_0000_0000 + rest / 0x1_0000_0000) as u64
+    number % 0x1_0000_0000 + number / 0x1_0000_0000
 }
 
 /// The sum of the words of the last octets.
