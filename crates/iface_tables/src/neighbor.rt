@@ -289,20 +289,35 @@ fn settle(
 fn settle_renewed(
     entries: &mut [(IpAddress, Neighbor)],
     place: usize,
-    address: IpAddress,
-    neighbor: Neighbor,
+    address: &IpAddress,
+    neighbor: &Neighbor,
 )
     requires within { place < length entries.old }
     requires order { IsByEnd entries.old }
     requires same { IfSome (slice_get entries.old place)
-        (λ e. (e.0 ≡ address) × (e.1.hardware_addr ≡ neighbor.hardware_addr)) }
-    ensures { IsSettled (remove entries.old place) (address, neighbor) entries.new }
+        (λ e. (e.0 ≡ address.now) × (e.1.hardware_addr ≡ neighbor.now.hardware_addr)) }
+    ensures { IsSettled (remove entries.old place) (address.now, neighbor.now) entries.new }
 {
     if place + 1 == entries.len() && entries[place].1.expires_at <= neighbor.expires_at {
         entries[place].1.expires_at = neighbor.expires_at;
         return;
     }
-    settle(entries, place, address, neighbor);
+    settle_copy(entries, place, address, neighbor);
+}
+
+// Settles a copy of an entry. One that stays where it is isn't stored for this call.
+#[inline(always)]
+fn settle_copy(
+    entries: &mut [(IpAddress, Neighbor)],
+    place: usize,
+    address: &IpAddress,
+    neighbor: &Neighbor,
+)
+    requires within { place < length entries.old }
+    requires rest { IsByEnd (remove entries.old place) }
+    ensures { IsSettled (remove entries.old place) (address.now, neighbor.now) entries.new }
+{
+    settle(entries, place, *address, *neighbor);
 }
 
 // The index for a neighbour: that of its address, or one after all, or in a full table the first, so that the entry
@@ -365,5 +380,5 @@ fn renew_in(
         hardware_addr: entry.1.hardware_addr,
         expires_at,
     };
-    settle_renewed(entries.as_mut_slice(), place, *address, neighbor);
+    settle_renewed(entries.as_mut_slice(), place, address, &neighbor);
 }
