@@ -9,6 +9,9 @@ use Rattle.std.proofs.lemmas.List.{get_or-set_other, set-get_or, length-map}
 use Rattle.sockets.specs.Kinds.{own_port, poll_at}
 use Rattle.socket_base.specs.declared.poll_at.PollAt.TheVariants.{Ingress}
 use Rattle.sockets.specs.declared.socket.SocketOf.{SocketOf}
+use Rattle.sockets.specs.declared.socket.SocketOf.TheVariants.{Raw, Icmp, Udp, Tcp}
+use Rattle.socket_base.specs.declared.endpoint.IpEndpoint.{IpEndpoint}
+use Rattle.socket_set.specs.Datagrams.{after_datagram}
 use Rattle.socket_set.specs.Busy.{IsClear, IsIdle, AreTrue}
 use Rattle.socket_set.specs.Laws.{IsSameAt, OthersStayAtAdd}
 use Rattle.socket_set.specs.Keys.{AllHavePorts, AreKeysOf, key_at}
@@ -201,6 +204,32 @@ module _ {L : Type 0} (grows : Bool) (room : ℕ) where
       AreTrue marks (over (slice_set ps k (record { socket = p.socket; wait = after_asking p.wait known })) grows room)
   true_asked ps marks k p known is holds i clear = idle_asked ps k p known i is (holds i clear)
 
+  -- a socket that got a datagram is as idle as before
+  heard_idle : (remote : IpEndpoint) (payload : List ℕ) (o : Option (SocketOf L)) (w : Wait) →
+      IfSome o (λ s. (poll_at s ≡ Ingress) × (w ≡ None)) → IfSome (after_datagram remote payload o) (λ s. (poll_at s ≡ Ingress) × (w ≡ None))
+  heard_idle remote payload None w idle = idle
+  heard_idle remote payload (Some (Raw s)) w idle = idle
+  heard_idle remote payload (Some (Icmp s)) w idle = idle
+  heard_idle remote payload (Some (Udp s)) w idle = idle
+  heard_idle remote payload (Some (Tcp s)) w idle = idle
+
+  idle_heard : (remote : IpEndpoint) (payload : List ℕ) (ps : List (Storage L)) (k : ℕ) (p : Storage L) (i : ℕ) →
+      p ≡ get_or ps k p → IsIdle (over ps grows room) i →
+      IsIdle (over (slice_set ps k (record { socket = after_datagram remote payload p.socket; wait = p.wait })) grows room) i
+  idle_heard remote payload [] k p i is idle = idle
+  idle_heard remote payload (q ∷ ps) zero p zero is idle =
+      heard_idle remote payload p.socket p.wait
+      (subst (λ (x : Storage L). IfSome x.socket (λ s. (poll_at s ≡ Ingress) × (x.wait ≡ None))) (sym is) idle)
+  idle_heard remote payload (q ∷ ps) zero p (suc i) is idle = idle
+  idle_heard remote payload (q ∷ ps) (suc k) p zero is idle = idle
+  idle_heard remote payload (q ∷ ps) (suc k) p (suc i) is idle = idle_heard remote payload ps k p i is idle
+
+  -- marks stay true where a datagram is received
+  pub true_heard : (remote : IpEndpoint) (payload : List ℕ) (ps : List (Storage L)) (marks : List ℕ) (k : ℕ) (p : Storage L) →
+      p ≡ get_or ps k p → AreTrue marks (over ps grows room) →
+      AreTrue marks (over (slice_set ps k (record { socket = after_datagram remote payload p.socket; wait = p.wait })) grows room)
+  true_heard remote payload ps marks k p is holds i clear = idle_heard remote payload ps k p i is (holds i clear)
+
   -- where a place is freed
   pub true_freed : (ps : List (Storage L)) (marks : List ℕ) (k : ℕ) (w : Wait) →
       AreTrue marks (over ps grows room) → AreTrue marks (over (slice_set ps k (record { socket = None; wait = w })) grows room)
@@ -244,6 +273,30 @@ module _ {L : Type 0} (grows : Bool) (room : ℕ) where
   tells_freed (q ∷ ps) zero w key (suc i) tells = tells
   tells_freed (q ∷ ps) (suc k) w key zero tells = tells
   tells_freed (q ∷ ps) (suc k) w key (suc i) tells = tells_freed ps k w key i tells
+
+  -- a key tells of a socket that got a datagram what it told
+  heard_tells : (remote : IpEndpoint) (payload : List ℕ) (key : ℕ) (o : Option (SocketOf L)) → Tells key o → Tells key (after_datagram remote payload o)
+  heard_tells remote payload key None tells = tells
+  heard_tells remote payload key (Some (Raw s)) tells = tells
+  heard_tells remote payload key (Some (Icmp s)) tells = tells
+  heard_tells remote payload key (Some (Udp s)) tells = tells
+  heard_tells remote payload key (Some (Tcp s)) tells = tells
+
+  tells_heard : (remote : IpEndpoint) (payload : List ℕ) (ps : List (Storage L)) (k : ℕ) (p : Storage L) (key i : ℕ) →
+      p ≡ get_or ps k p → Tells key (socket_at (over ps grows room) i) →
+      Tells key (socket_at (over (slice_set ps k (record { socket = after_datagram remote payload p.socket; wait = p.wait })) grows room) i)
+  tells_heard remote payload [] k p key i is tells = tells
+  tells_heard remote payload (q ∷ ps) zero p key zero is tells =
+      heard_tells remote payload key p.socket (subst (λ (x : Storage L). Tells key x.socket) (sym is) tells)
+  tells_heard remote payload (q ∷ ps) zero p key (suc i) is tells = tells
+  tells_heard remote payload (q ∷ ps) (suc k) p key zero is tells = tells
+  tells_heard remote payload (q ∷ ps) (suc k) p key (suc i) is tells = tells_heard remote payload ps k p key i is tells
+
+  -- keys stay true where a datagram is received
+  pub keyed_heard : (remote : IpEndpoint) (payload : List ℕ) (ps : List (Storage L)) (keys : List ℕ) (k : ℕ) (p : Storage L) →
+      p ≡ get_or ps k p → AreKeysOf keys (over ps grows room) →
+      AreKeysOf keys (over (slice_set ps k (record { socket = after_datagram remote payload p.socket; wait = p.wait })) grows room)
+  keyed_heard remote payload ps keys k p is holds i known = tells_heard remote payload ps k p (key_at keys i) i is (holds i known)
 
   -- keys are true where nothing is known of any place
   pub keyed_at_first : (ps : List (Storage L)) (keys : List ℕ) → ((i : ℕ) → i < length ps → key_at keys i ≡ 0) → AreKeysOf keys (over ps grows room)
@@ -326,6 +379,14 @@ module _ {L : Type 0} (grows : Bool) (room : ℕ) where
   pub ported_here : (ps : List (Storage L)) (i : ℕ) (p : Storage L) →
       i < length ps → p ≡ get_or ps i p → AllHavePorts (over ps grows room) → HasPort p.socket
   ported_here ps i p within is holds = subst HasPort (socket_is ps i p within is) (holds i)
+
+  -- a socket that got a datagram still has a port
+  pub heard_port : (remote : IpEndpoint) (payload : List ℕ) (o : Option (SocketOf L)) → HasPort o → HasPort (after_datagram remote payload o)
+  heard_port remote payload None this = this
+  heard_port remote payload (Some (Raw s)) this = this
+  heard_port remote payload (Some (Icmp s)) this = this
+  heard_port remote payload (Some (Udp s)) this = this
+  heard_port remote payload (Some (Tcp s)) this = this
 
   -- one place more, and all of them
   pub one_ported : (ps : List (Storage L)) (n : ℕ) (p : Storage L) →

@@ -1,4 +1,5 @@
 pub mod Busy
+pub mod Datagrams
 pub mod Keys
 pub mod SocketMeta
 pub mod SocketSet

@@ -7,6 +7,7 @@ ghost use Rattle.sockets.specs.Kinds.{own_port, poll_at as own_poll_at};
 ghost use Rattle.sockets.specs.contracts.socket.SocketOf.{the_row as socket_row};
 ghost use Rattle.socket_base.specs.declared.poll_at.PollAt.TheVariants.{Ingress};
 ghost use Rattle.socket_set.specs.Busy.{IsIdle};
+ghost use Rattle.socket_set.specs.Datagrams.{after_datagram, is_udp};
 ghost use Rattle.socket_set.specs.Keys.{AllHavePorts};
 ghost use Rattle.socket_set.specs.SocketMeta.{poll_at as poll_at_of, IsAnswerFor, after_asking, is_permitted};
 ghost use Rattle.socket_set.specs.SocketSet.{socket_at, wait_at, wait_of, with_place, with_wait};
@@ -15,8 +16,8 @@ ghost use Rattle.socket_set.specs.contracts.socket_set.SocketSetOf.{the_row as s
 use crate::socket_set::{SocketHandle, SocketSetOf};
 use ip_wire::IpAddress;
 use net_base::time::Instant;
-use sockets::PollAt;
 use sockets::socket::{AnySocketOf, SocketOf};
+use sockets::{IpEndpoint, PollAt};
 
 /// How many places there are, free or not.
 pub fn places<L: Drop>(sockets: &SocketSetOf<L>) -> usize
@@ -60,6 +61,23 @@ pub fn kind_mut<T: AnySocketOf<L>, L: Drop>(
     ensures whole { IfSome (option_copied_mut result) (λ s. socket_at sockets.old index ≡ Some (T.up s)) }
 {
     sockets.kind_mut(index)
+}
+
+/// Queues a datagram received from an endpoint at the UDP socket of an index, or drops it for lack of room. Returns
+/// whether there is one; otherwise the set stays as it was. What is known of the socket stays known: it gets neither
+/// another port nor anything to send.
+#[inline(always)]
+pub fn process_udp<L: Drop>(
+    sockets: &mut SocketSetOf<L>,
+    index: usize,
+    remote: IpEndpoint,
+    payload: &[u8],
+) -> bool
+    ensures there { result ≡ is_udp (socket_at sockets.old index) }
+    ensures heard { sockets.new
+        ≡ with_place sockets.old index (after_datagram remote payload.now (socket_at sockets.old index)) }
+{
+    sockets.process_udp(index, remote, payload)
 }
 
 /// The socket at an index, of whatever kind. `None` exactly for a free place or an index out of

@@ -6,6 +6,7 @@ ghost use Rattle.net_base.specs.Time.{IsMoment, silence_from};
 ghost use Rattle.sockets.specs.Kinds.{own_port, poll_at as own_poll_at};
 ghost use Rattle.socket_base.specs.declared.poll_at.PollAt.TheVariants.{Ingress};
 ghost use Rattle.socket_set.specs.Busy.{IsIdle};
+ghost use Rattle.socket_set.specs.Datagrams.{after_datagram, is_udp};
 ghost use Rattle.socket_set.specs.Keys.{AllHavePorts, key_of};
 ghost use Rattle.socket_set.specs.SocketMeta.{poll_at as poll_at_of, IsAnswerFor, after_asking, is_permitted};
 ghost use Rattle.socket_set.specs.SocketSet.{set_after_add, first_free, given_back, handles, has_free, is_full};
@@ -17,8 +18,8 @@ use crate::keys::{Keys, NOBODY, UNKNOWN, key_of};
 use crate::socket_meta::Meta;
 use ip_wire::IpAddress;
 use net_base::time::Instant;
-use sockets::PollAt;
 use sockets::socket::{AnySocketOf, SocketOf};
+use sockets::{IpEndpoint, PollAt, udp};
 use std::marker::Model;
 use std::{error, fmt};
 
@@ -108,6 +109,21 @@ impl<L: Drop> SocketStorageOf<L> {
     {
         let socket = self.socket_mut()?;
         T::downcast_mut(socket)
+    }
+
+    // Queues a datagram received from an endpoint at its socket, if that is a UDP socket. Returns whether it is.
+    #[inline(always)]
+    fn process_udp(&mut self, remote: IpEndpoint, payload: &[u8]) -> bool
+        ensures there { result ≡ is_udp self.old.socket }
+        ensures heard { self.new ≡ record self.old { socket = after_datagram remote payload.now self.old.socket } }
+    {
+        match self.kind_mut::<udp::SocketOf<L>>() {
+            Some(socket) => {
+                socket.process(remote, payload);
+                true
+            }
+            None => false,
+        }
     }
 
     // Whether it has a socket that waits or has something to send.
@@ -455,6 +471,20 @@ impl<L: Drop> SocketSetOf<L> {
         self.portless = true;
         let storage = self.sockets.get_mut(index)?;
         storage.socket_mut()
+    }
+
+    /// Queues a datagram received from an endpoint at the UDP socket of an index, or drops it for lack of room. Returns
+    /// whether there is one. Mark and key stay, since the socket gets neither another port nor anything to send.
+    #[inline(always)]
+    pub(crate) fn process_udp(&mut self, index: usize, remote: IpEndpoint, payload: &[u8]) -> bool
+        ensures there { result ≡ is_udp (socket_at self.old index) }
+        ensures heard { self.new
+            ≡ with_place self.old index (after_datagram remote payload.now (socket_at self.old index)) }
+    {
+        let Some(storage) = self.sockets.get_mut(index) else {
+            return false;
+        };
+        storage.process_udp(remote, payload)
     }
 
     /// How many places there are, free or not.
