@@ -156,7 +156,15 @@ impl Context {
         ensures { result ≡ host.has_ip_addr (host_of self.now no_sockets) address.now }
     {
         is_assigned(self.ip_addrs.as_slice(), address)
-            || self.any_ip && self.is_routed_here(*address)
+            || self.any_ip && self.is_routed_here_by_copy(address)
+    }
+
+    // A copy of the address is made where this is asked, so that no other packet stores one.
+    #[inline(always)]
+    fn is_routed_here_by_copy(&self, address: &IpAddress) -> bool
+        ensures { result ≡ host.is_routed_here (host_of self.now no_sockets) address.now }
+    {
+        self.is_routed_here(*address)
     }
 
     /// Whether an address is unicast and the gateway of its best route is an address assigned to the interface (AnyIP).
@@ -217,7 +225,17 @@ impl Context {
     pub fn is_for_host(&self, address: &IpAddress) -> bool
         ensures { result ≡ addresses.is_for_host (host_of self.now no_sockets) address.now }
     {
-        self.has_ip_addr(address) || self.is_for_group_or_itself(*address)
+        self.has_ip_addr(address) || self.is_for_group_or_itself_by_copy(address)
+    }
+
+    // A copy of the address is made where this is asked, so that no other packet stores one.
+    #[inline(always)]
+    fn is_for_group_or_itself_by_copy(&self, address: &IpAddress) -> bool
+        ensures { result ≡ (addresses.has_multicast_group (host_of self.now no_sockets) address.now
+            || addresses.is_broadcast (host_of self.now no_sockets).ip_addrs address.now
+            || addresses.is_loopback address.now) }
+    {
+        self.is_for_group_or_itself(*address)
     }
 
     /// Whether an address is one of the interface's groups, a broadcast address, or ::1.

@@ -5,7 +5,7 @@ ghost use Rattle.net_base.specs.Checksum.{ip_mtu_of};
 ghost use Rattle.ip_address.specs.Hardware.{IsOf};
 ghost use Rattle.ip_address.specs.Ip.{is_unicast, is_unspecified};
 ghost use Rattle.fragmentation.specs.Slots.{Slots};
-ghost use Rattle.host_machine.specs.State.Host.{SocketSet, no_sockets};
+ghost use Rattle.host_machine.specs.State.Host.{SocketSet, in_same_network, no_sockets};
 ghost use Rattle.ip_address.specs.declared.ip.IpAddress.TheVariants.{Ipv4, Ipv6};
 ghost use Rattle.host_machine.specs.Receiving.Arp.{request_for};
 ghost use Rattle.host_machine.specs.Receiving.Ndisc.{solicitation_for};
@@ -116,12 +116,24 @@ fn dispatch_by_hop<Q: AnyPacket>(
             Ok(())
         }
         Answer::RateLimited => Err(DispatchError::NeighborPending),
-        Answer::NotFound => {
-            // Copies, so that a packet that is sent stores neither for this call.
-            let (own, hop) = (own, *hop);
-            Err(discover_neighbor(context, own, &hop, out))
-        }
+        Answer::NotFound => { Err(discover_by_copy(context, own, hop, out)) }
     }
+}
+
+/// Builds the request for a hardware address as [`discover_neighbor`] does, with copies, so that a packet that is sent
+/// stores none for that call.
+#[inline(always)]
+fn discover_by_copy(
+    context: &mut Context,
+    own: EthernetAddress,
+    hop: &IpAddress,
+    out: &mut FrameBuffer,
+) -> DispatchError
+    requires empty { out.old ≡ [] }
+    ensures { RefinesBuilding out.new (spec.Discovers own hop.now (Err result)) context.old context.new }
+{
+    let (own, hop) = (own, *hop);
+    discover_neighbor(context, own, &hop, out)
 }
 
 /// Builds the request for the hardware address of a neighbour, and silences discovery for a second. Without an address
@@ -240,7 +252,25 @@ fn emit_packet<Q: AnyPacket>(
         emit_frame(context, destination, packet, out);
         return;
     }
-    // A copy, so that the address isn't stored for this call if the packet fits.
+    emit_long_by_copy(context, identification, destination, packet, out);
+}
+
+/// Builds a frame as [`emit_long_packet`] does, with copies, so that a packet that fits stores none for that call.
+#[inline(always)]
+fn emit_long_by_copy<Q: AnyPacket>(
+    context: &mut Context,
+    identification: u16,
+    destination: &HardwareAddress,
+    packet: &Q,
+    out: &mut FrameBuffer,
+)
+    requires of_medium { IsOf context.old.capabilities.medium destination.now }
+    requires empty { out.old ≡ [] }
+    requires writable { IsWritable (Q.stands_for packet.now) }
+    requires long { ip_mtu_of context.old.capabilities < value.total_len (Q.stands_for packet.now) }
+    ensures { RefinesBuilding out.new
+        (spec.Emits identification (Q.stands_for packet.now) destination.now (Ok tt)) context.old context.new }
+{
     let destination = *destination;
     emit_long_packet(
         context,
@@ -378,7 +408,19 @@ fn next_hop(context: &Context, address: &IpAddress) -> Option<IpAddress>
     if context.in_same_network(address) {
         return Some(*address);
     }
-    // A copy, so that the address isn't stored for this call if it is in a network of the interface.
+    next_hop_by_route(context, address)
+}
+
+/// The gateway of the best route to an address that is in no network of the interface, if that is unicast. The address
+/// is copied, so that one in a network isn't stored for the lookup.
+#[inline(always)]
+fn next_hop_by_route(context: &Context, address: &IpAddress) -> Option<IpAddress>
+    requires unicast { is_unicast address.now ≡ true }
+    requires far { in_same_network (host_of context.now no_sockets).ip_addrs address.now ≡ false }
+    ensures hop { (slots : Slots) (sockets : SocketSet) →
+        spec.IsNextHop (host_in context.now slots sockets) address.now result }
+    ensures unicast { IfSome result (λ hop. is_unicast hop ≡ true) }
+{
     let far = *address;
     let router = context.routes.lookup(&far, context.moment)?;
     if router.is_unicast() {

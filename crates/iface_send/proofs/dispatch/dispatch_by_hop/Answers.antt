@@ -22,4 +22,4 @@ returns-in-RateLimited g c = nothing c.requires.empty (λ slots sockets. Silent 
 
 pub returns-in-NotFound : goal.returns-in-NotFound
 returns-in-NotFound g c =
-    by_rule c.discover_neighbor.ensures (λ slots sockets frames notes discovers. Unknown (sym c.lookup.ensures ∙ c.in-NotFound.is) discovers)
+    by_rule c.discover_by_copy.ensures (λ slots sockets frames notes discovers. Unknown (sym c.lookup.ensures ∙ c.in-NotFound.is) discovers)

@@ -1,15 +1,15 @@
-use Rattle.std.proofs.Common.{refl, sym, ◌∙◌}
+use Rattle.std.proofs.Common.{refl}
 use Rattle.host_machine.specs.Sending.Dispatch.{ByRouter}
-use Rattle.iface_send.proofs.dispatch.next_hop.Goals as goal
+use Rattle.iface_send.proofs.dispatch.next_hop_by_route.Goals as goal
 
 pub returns-in_err-router-clause-hop : goal.returns-in_err-router-clause-hop
 returns-in_err-router-clause-hop c = λ slots sockets. ByRouter c.lookup.result
-    (sym c.in_same_network.ensures ∙ c.if-in_same_network.false) c.lookup.ensures (rw (c.in_err-router.was) c.from_residual.ensures)
+    c.requires.far c.lookup.ensures (rw (c.in_err-router.was) c.from_residual.ensures)
 
 pub returns-then-is_unicast-clause-hop : goal.returns-then-is_unicast-clause-hop
 returns-then-is_unicast-clause-hop c = λ slots sockets. ByRouter c.lookup.result
-    (sym c.in_same_network.ensures ∙ c.if-in_same_network.false) c.lookup.ensures (rw (c.in_ok-router.was, ← c.if-is_unicast.ensures) refl)
+    c.requires.far c.lookup.ensures (rw (c.in_ok-router.was, ← c.if-is_unicast.ensures) refl)
 
 pub returns-else-is_unicast-clause-hop : goal.returns-else-is_unicast-clause-hop
 returns-else-is_unicast-clause-hop c = λ slots sockets. ByRouter c.lookup.result
-    (sym c.in_same_network.ensures ∙ c.if-in_same_network.false) c.lookup.ensures (rw (c.in_ok-router.was, ← c.if-is_unicast.ensures) refl)
+    c.requires.far c.lookup.ensures (rw (c.in_ok-router.was, ← c.if-is_unicast.ensures) refl)
