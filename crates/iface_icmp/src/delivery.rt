@@ -25,6 +25,22 @@ pub(crate) fn deliver(
     if !by_index::may_have_portless(sockets) {
         return;
     }
+    deliver_by_copy(sockets, remote, message, contents, octets);
+}
+
+/// Delivers a message as [`deliver`] does, with a copy of its values, so that a message isn't stored where there are no
+/// ICMP sockets.
+#[inline(always)]
+fn deliver_by_copy(
+    sockets: &mut SocketSet<'_>,
+    remote: IpAddress,
+    message: &IcmpRepr,
+    contents: &[u8],
+    octets: &[u8],
+)
+    ensures { sockets.new ≡ with_places sockets.old
+        (to_each (accepts message.now contents.now) (storage_after_delivery remote octets.now) sockets.old.places) }
+{
     let heard = *message;
     deliver_to_accepting(sockets, remote, &heard, contents, octets);
 }

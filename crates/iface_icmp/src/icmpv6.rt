@@ -62,12 +62,29 @@ pub fn process_icmpv6(
     match (octets[0], octets[1]) {
         (128, 0) if checked => process_echo_request(context, sockets, header, octets, out),
         (135 | 136, _) => process_neighbor(context, sockets, header, octets, out),
-        _ => {
-            // A copy, so that the header isn't stored for this call if the call isn't made.
-            let header = *header;
-            process_other(context, sockets, &header, octets, out);
-        }
+        _ => process_other_by_copy(context, sockets, header, octets, out),
     }
+}
+
+/// Processes a message as [`process_other`] does, with a copy of the header, so that no other message stores one for
+/// that call.
+#[inline(always)]
+fn process_other_by_copy(
+    context: &mut Context,
+    sockets: &mut SocketSet<'_>,
+    header: &Ipv6Repr,
+    octets: &[u8],
+    out: &mut FrameBuffer,
+)
+    requires empty { out.old ≡ [] }
+    requires sound { MayBeMessage (host_of context.old no_sockets) header.now octets.now }
+    requires no_solicitation { type_in octets.now ≢ 135 }
+    requires no_advertisement { type_in octets.now ≢ 136 }
+    ensures { RefinesReplying out.new (λ H. spec.ProcessesIcmpv6 header.now H octets.now)
+        (host_of context.old sockets.old) (host_of context.new sockets.new) }
+{
+    let header = *header;
+    process_other(context, sockets, &header, octets, out);
 }
 
 /// Processes an echo request, as [`process_icmpv6`] does, after its checksum was verified; the reply's checksum is
@@ -189,6 +206,7 @@ fn process_message(
 
 /// Builds the error in reply to a datagram for a port without a listening socket, in an empty buffer. None is built if
 /// a raw socket accepted the packet.
+#[inline(never)]
 pub(crate) fn icmpv6_unreachable(
     context: &mut Context,
     header: &Ipv6Repr,

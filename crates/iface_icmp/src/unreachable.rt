@@ -15,6 +15,7 @@ use ip_wire::emit::FrameBuffer;
 
 /// Builds the error in reply to a datagram for a port without a listening socket, in an empty buffer. None is built if
 /// a raw socket accepted the packet.
+#[inline(always)]
 pub fn send_port_unreachable(
     context: &mut Context,
     header: &IpRepr,
