@@ -1,3 +1,4 @@
 mod IdleSockets
 mod PayloadRules
 mod SocketTurns
+mod UdpDelivery

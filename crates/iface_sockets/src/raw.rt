@@ -41,6 +41,23 @@ pub fn deliver(
     if !by_index::may_have_portless(sockets) {
         return false;
     }
+    deliver_by_copy(context, sockets, header, payload)
+}
+
+/// Delivers a packet as [`deliver`] does, with a copy of its header, so that a header isn't stored where there are no
+/// raw sockets.
+#[inline(always)]
+fn deliver_by_copy(
+    context: &Context,
+    sockets: &mut SocketSet<'_>,
+    header: &IpRepr,
+    payload: &[u8],
+) -> bool
+    requires { TellsLength header.now }
+    ensures taken { result ≡ is_taken header.now (host_of context.now sockets.old) }
+    ensures heard { host_of context.now sockets.new
+        ≡ host_after_raw_delivery header.now payload.now (host_of context.now sockets.old) }
+{
     let taken = *header;
     deliver_to_accepting(context, sockets, &taken, payload)
 }

@@ -57,10 +57,44 @@ pub fn process_tcp(
     };
     let (taken, answer) = deliver(sockets, header, &repr, payload);
     if taken {
-        send_tcp_reply(context, header, answer, out);
+        answer_by_copy(context, header, &answer, out);
         return;
     }
-    let reset = reset_for(&repr, payload, handled_by_raw_socket);
+    refuse(context, header, &repr, payload, handled_by_raw_socket, out);
+}
+
+/// Builds a packet as [`send_tcp_reply`] does, with a copy of the segment's header, so that no other segment stores one
+/// for that call.
+#[inline(always)]
+fn answer_by_copy(
+    context: &mut Context,
+    header: &IpRepr,
+    answer: &Option<TcpRepr>,
+    out: &mut FrameBuffer,
+)
+    requires { out.old ≡ [] }
+    ensures { RefinesBuilding out.new
+        (Responds (option_map (spec.segment_back header.now) answer.now)) context.old context.new }
+{
+    send_tcp_reply(context, header, *answer, out);
+}
+
+/// Builds the reset that answers a segment which no socket accepts, if one does.
+#[inline(always)]
+fn refuse(
+    context: &mut Context,
+    header: &IpRepr,
+    repr: &TcpRepr,
+    payload: &[u8],
+    handled_by_raw_socket: bool,
+    out: &mut FrameBuffer,
+)
+    requires empty { out.old ≡ [] }
+    requires short { length payload.now < 2 ^ 16 }
+    ensures { RefinesBuilding out.new (Responds (option_map (spec.segment_back header.now)
+        (spec.reset_for handled_by_raw_socket repr.now payload.now))) context.old context.new }
+{
+    let reset = reset_for(repr, payload, handled_by_raw_socket);
     send_tcp_reply(context, header, reset, out);
 }
 
@@ -131,6 +165,9 @@ fn deliver(
     ensures waits { sockets.new ≡ with_places sockets.old sockets.new.places }
 {
     let index = find_socket(sockets, header, repr);
+    if index >= by_index::places(sockets) {
+        return (false, None);
+    }
     deliver_at(sockets, index, header, repr, payload)
 }
 

@@ -5,8 +5,10 @@ ghost use Rattle.socket_set.specs.SocketSet.{socket_at, with_places};
 ghost use Rattle.host_machine.specs.Receiving.Delivery.{DeliversFirst, NoneAccepts};
 ghost use Rattle.host_machine.specs.Receiving.Udp.{ProcessesUdp, accepts, storage_after_delivery};
 ghost use Rattle.host_machine.specs.State.Host.{Storage, no_sockets, Socket};
+ghost use Rattle.host_machine.specs.Receiving.Response.{Responds};
+ghost use Rattle.host_machine.specs.Receiving.Unreachable.{port_unreachable};
 ghost use Rattle.iface_send.specs.Stands.{host_of};
-ghost use Rattle.iface_send.specs.Refines.{RefinesReplying, RefinesTelling};
+ghost use Rattle.iface_send.specs.Refines.{RefinesBuilding, RefinesReplying, RefinesTelling};
 ghost use Rattle.sockets.specs.Kinds as kinds;
 ghost use Rattle.transport_sockets.specs.Udp as udp;
 ghost use Rattle.host_machine.specs.Sending.Egress as egress;
@@ -50,12 +52,31 @@ pub fn process_udp(
         return;
     };
     if !deliver(context, sockets, header, &ports, payload) {
-        let refused = *header;
-        send_port_unreachable(context, &refused, octets, handled_by_raw_socket, out);
+        refuse_by_copy(context, header, octets, handled_by_raw_socket, out);
     }
 }
 
-/// Delivers a datagram to the first socket that accepts it. Returns whether there was one.
+/// Builds the error in reply to a datagram that no socket accepts, with a copy of the packet's header, so that none is
+/// stored for a datagram that is delivered.
+#[inline(always)]
+fn refuse_by_copy(
+    context: &mut Context,
+    header: &IpRepr,
+    octets: &[u8],
+    handled_by_raw_socket: bool,
+    out: &mut FrameBuffer,
+)
+    requires empty { out.old ≡ [] }
+    requires quotable { TellsLength header.now }
+    ensures { RefinesBuilding out.new (Responds (port_unreachable handled_by_raw_socket
+        (host_of context.old no_sockets).ip_addrs header.now octets.now)) context.old context.new }
+{
+    let refused = *header;
+    send_port_unreachable(context, &refused, octets, handled_by_raw_socket, out);
+}
+
+/// Delivers a datagram to the first socket that accepts it. Returns whether there was one. If it is the only socket, or
+/// the first, no loop is needed.
 #[inline(always)]
 fn deliver(
     context: &Context,
@@ -72,38 +93,60 @@ fn deliver(
     ensures kept { result ≡ false → sockets.new ≡ sockets.old }
     ensures waits { sockets.new ≡ with_places sockets.old sockets.new.places }
 {
-    let index = find_socket(context, sockets, header, ports);
+    if accepts_at(context, sockets, 0, header, ports) {
+        return deliver_at(context, sockets, 0, header, ports, payload);
+    }
+    if by_index::places(sockets) <= 1 {
+        return false;
+    }
+    deliver_by_copy(context, sockets, header, ports, payload)
+}
+
+/// Delivers a datagram as [`deliver_among_several`] does, with copies of its headers, so that none is stored for the
+/// first socket.
+#[inline(always)]
+fn deliver_by_copy(
+    context: &Context,
+    sockets: &mut SocketSet<'_>,
+    header: &IpRepr,
+    ports: &UdpRepr,
+    payload: &[u8],
+) -> bool
+    ensures delivered { result ≡ true →
+        DeliversFirst (accepts (host_of context.now no_sockets).ip_addrs header.now ports.now)
+        (storage_after_delivery header.now ports.now payload.now) sockets.old.places sockets.new.places }
+    ensures nobody { result ≡ false →
+        NoneAccepts (accepts (host_of context.now no_sockets).ip_addrs header.now ports.now) sockets.old.places }
+    ensures kept { result ≡ false → sockets.new ≡ sockets.old }
+    ensures waits { sockets.new ≡ with_places sockets.old sockets.new.places }
+{
+    let (sought, wanted) = (*header, *ports);
+    deliver_among_several(context, sockets, &sought, &wanted, payload)
+}
+
+/// Delivers a datagram as [`deliver`] does, where there may be several sockets.
+#[inline(never)]
+fn deliver_among_several(
+    context: &Context,
+    sockets: &mut SocketSet<'_>,
+    header: &IpRepr,
+    ports: &UdpRepr,
+    payload: &[u8],
+) -> bool
+    ensures delivered { result ≡ true →
+        DeliversFirst (accepts (host_of context.now no_sockets).ip_addrs header.now ports.now)
+        (storage_after_delivery header.now ports.now payload.now) sockets.old.places sockets.new.places }
+    ensures nobody { result ≡ false →
+        NoneAccepts (accepts (host_of context.now no_sockets).ip_addrs header.now ports.now) sockets.old.places }
+    ensures kept { result ≡ false → sockets.new ≡ sockets.old }
+    ensures waits { sockets.new ≡ with_places sockets.old sockets.new.places }
+{
+    let index = find_among_several(context, sockets, header, ports);
     deliver_at(context, sockets, index, header, ports, payload)
 }
 
-/// The index of the first socket that accepts a datagram, or the number of indices if there is none. If it is the only
-/// socket, or the first, no loop is needed.
+/// The index of the first socket that accepts a datagram, or the number of indices if there is none.
 #[inline(always)]
-fn find_socket(
-    context: &Context,
-    sockets: &SocketSet<'_>,
-    header: &IpRepr,
-    ports: &UdpRepr,
-) -> usize
-    ensures none_before { (k : ℕ) (other : Storage) → k < result → slice_get sockets.now.places k ≡ Some other →
-        accepts (host_of context.now no_sockets).ip_addrs header.now ports.now other ≡ false }
-    ensures found { result < length sockets.now.places →
-        accepts (host_of context.now no_sockets).ip_addrs header.now ports.now (socket_at sockets.now result) ≡ true }
-    ensures within { result ≤ length sockets.now.places }
-{
-    if accepts_at(context, sockets, 0, header, ports) {
-        return 0;
-    }
-    if by_index::places(sockets) <= 1 {
-        return by_index::places(sockets);
-    }
-    let (sought, wanted) = (*header, *ports);
-    find_among_several(context, sockets, &sought, &wanted)
-}
-
-/// The index of the first socket that accepts a datagram, as [`find_socket`] returns it, where there may be several
-/// sockets.
-#[inline(never)]
 fn find_among_several(
     context: &Context,
     sockets: &SocketSet<'_>,
@@ -164,15 +207,11 @@ fn deliver_at(
     ensures kept { result ≡ false → sockets.new ≡ sockets.old }
     ensures waits { sockets.new ≡ with_places sockets.old sockets.new.places }
 {
-    let Some(socket) = by_index::kind_mut::<udp::Socket<'_>, _>(sockets, index) else {
-        return false;
-    };
     let remote = IpEndpoint {
         addr: header.src_addr(),
         port: ports.src_port,
     };
-    socket.process(remote, payload);
-    true
+    by_index::process_udp(sockets, index, remote, payload)
 }
 
 /// Gives a UDP socket its turn: dispatches the datagram it offers, if the device grants a transmit token, and reports

@@ -27,15 +27,15 @@ returns-then-taken c = rw c.deliver-taken.ensures.waits (
     (c.rx-checked.ensures ∙ ap (λ x. is_rx x.checksum.tcp) c.capabilities.ensures) (
       rw (c.src_addr-source.ensures, c.dst_addr-destination.ensures) at c.in-Some.ensures.0.1,
       c.in-Some.ensures.1,
-    ) (c.deliver-taken.ensures.taken c.if-taken.true) refl) c.send_tcp_reply.ensures)
+    ) (c.deliver-taken.ensures.taken c.if-taken.true) refl) c.answer_by_copy.ensures)
 
 pub returns : goal.returns
 returns c = rw c.deliver-taken.ensures.waits (
     answered _ _ (λ slots. tcp_not_accepted c.args.handled_by_raw_socket (host_in c.args.context.now slots c.args.sockets.now)
     c.args.header.now c.args.octets.now c.in-Some.payload.now c.in-Some.repr c.rx-checked.result
-    c.deliver-taken.new.sockets.places c.reset_for-reset.result _ (sym c.is_between_unspecified.ensures ∙ c.if-is_between_unspecified.false)
+    c.deliver-taken.new.sockets.places _ _ (sym c.is_between_unspecified.ensures ∙ c.if-is_between_unspecified.false)
     (c.rx-checked.ensures ∙ ap (λ x. is_rx x.checksum.tcp) c.capabilities.ensures) (
       rw (c.src_addr-source.ensures, c.dst_addr-destination.ensures) at c.in-Some.ensures.0.1,
       c.in-Some.ensures.1,
     ) (c.deliver-taken.ensures.nobody c.if-taken.false)
-    (ap (λ (s : Sockets _). s.places) (c.deliver-taken.ensures.kept c.if-taken.false)) c.reset_for-reset.ensures refl) c.send_tcp_reply-2.ensures)
+    (ap (λ (s : Sockets _). s.places) (c.deliver-taken.ensures.kept c.if-taken.false)) refl refl) c.refuse.ensures)

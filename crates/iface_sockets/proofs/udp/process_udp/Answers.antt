@@ -25,4 +25,4 @@ returns-then-not-deliver c = rw c.deliver.ensures.waits (
     c.args.header.now c.args.octets.now c.in-Some.payload.now c.in-Some.ports c.rx-checked.result
     c.deliver.new.sockets.places _ (c.rx-checked.ensures ∙ ap (λ x. is_rx x.checksum.udp) c.capabilities.ensures)
     (rw (c.src_addr-source.ensures, c.dst_addr-destination.ensures) at c.in-Some.ensures) (c.deliver.ensures.nobody c.if-not-deliver.true)
-    (ap (λ (s : Sockets _). s.places) (c.deliver.ensures.kept c.if-not-deliver.true)) refl) c.send_port_unreachable.ensures)
+    (ap (λ (s : Sockets _). s.places) (c.deliver.ensures.kept c.if-not-deliver.true)) refl) c.refuse_by_copy.ensures)
