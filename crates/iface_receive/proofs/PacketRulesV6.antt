@@ -20,6 +20,9 @@ use Rattle.host_machine.specs.Receiving.Renewal.{sender_renewed}
 use Rattle.host_machine.specs.Receiving.Ipv6 as ipv6
 use Rattle.host_machine.specs.Receiving.Ipv6.{ProcessesIpv6}
 use Rattle.iface_send.proofs.Processing.{dropped}
+use Rattle.ip_address.specs.Ipv6.{is_unicast}
+use Rattle.ip_address.specs.Protocol.{number_of}
+use Rattle.iface_receive.specs.Ipv6.{BeginsAt, AtOnce, BehindOptions, EndsAtOptions}
 
 -- octets that are no packet
 pub ipv6_malformed : (source : HardwareAddress) (H : Host) (octets : List ℕ) → (IsIpv6 octets → ⊥) → ProcessesIpv6 source H octets None [] H
@@ -34,25 +37,38 @@ ipv6_read source H K octets payload r reply notes is takes =
     let same_payload : payload ≡ (ipv6_in octets).1 = ap (λ (p : Ipv6Repr × List ℕ). p.1) is.1 in
     ipv6.Read is.0 (rw (same_header, same_payload) at takes)
 
+-- a packet is taken by its payload, wherever that begins
+pub begun : (source : HardwareAddress) (H K : Host) (r : Ipv6Repr) (octets payload : List ℕ) (p : IpProtocol)
+    (reply : Option Reply) (notes : List Note) →
+    is_unicast r.src_addr ≡ true → BeginsAt r octets p payload → ipv6.ProcessesDatagramV6 source r p H payload reply notes K →
+    ipv6.ProcessesPacket source r H octets reply notes K
+begun source H K r octets payload p reply notes from_one (AtOnce other is same) takes = ipv6.Bare from_one other (rw (is, same) at takes)
+begun source H K r octets payload p reply notes from_one (BehindOptions options read skips is same) takes =
+    ipv6.WithOptions from_one options (ipv6.Skipped read skips (rw (is, same) at takes))
+
 -- options are read, and skipped
-pub options_skipped : (source : HardwareAddress) (H K : Host) (r : Ipv6Repr) (payload rest : List ℕ) (o : Ipv6HopByHopRepr)
-    (failure : Ipv6OptionFailureType) (reply : Option Reply) (notes : List Note) →
-    IsHopByHop payload × ((o, rest) ≡ hop_by_hop_in payload) → failure ≡ first_failure o.options.items → failure ≡ Skip →
-    ipv6.ProcessesDatagramV6 source r o.next_header H rest reply notes K →
-    ipv6.ProcessesHopByHop source r H payload reply notes K
-options_skipped source H K r payload rest o failure reply notes is fails skips takes =
-    let same_options : o ≡ (hop_by_hop_in payload).0 = ap (λ (p : Ipv6HopByHopRepr × List ℕ). p.0) is.1 in
-    let same_rest : rest ≡ (hop_by_hop_in payload).1 = ap (λ (p : Ipv6HopByHopRepr × List ℕ). p.1) is.1 in
-    ipv6.Skipped is.0 (rw same_options at (sym fails ∙ skips)) (rw (same_options, same_rest) at takes)
+pub options_skipped : (r : Ipv6Repr) (octets rest : List ℕ) (o : Ipv6HopByHopRepr) (failure : Ipv6OptionFailureType) →
+    number_of r.next_header ≡ 0 → IsHopByHop octets × ((o, rest) ≡ hop_by_hop_in octets) → failure ≡ first_failure o.options.items →
+    failure ≡ Skip → BeginsAt r octets o.next_header rest
+options_skipped r octets rest o failure options is fails skips =
+    let same_options : o ≡ (hop_by_hop_in octets).0 = ap (λ (p : Ipv6HopByHopRepr × List ℕ). p.0) is.1 in
+    let same_rest : rest ≡ (hop_by_hop_in octets).1 = ap (λ (p : Ipv6HopByHopRepr × List ℕ). p.1) is.1 in
+    BehindOptions options is.0 (rw same_options at (sym fails ∙ skips)) (ap (λ (p : Ipv6HopByHopRepr). p.next_header) same_options) same_rest
 
 -- or one ends the packet
-pub options_discarded : (source : HardwareAddress) (H : Host) (r : Ipv6Repr) (payload rest : List ℕ)
-    (o : Ipv6HopByHopRepr) (failure : Ipv6OptionFailureType) →
+pub options_discarded : (H : Host) (r : Ipv6Repr) (payload rest : List ℕ)
+    (o : Ipv6HopByHopRepr) (failure : Ipv6OptionFailureType) → number_of r.next_header ≡ 0 →
     IsHopByHop payload × ((o, rest) ≡ hop_by_hop_in payload) → failure ≡ first_failure o.options.items → failure ≢ Skip →
-    ipv6.ProcessesHopByHop source r H payload (ipv6.unknown_option failure H.ip_addrs r payload) [] H
-options_discarded source H r payload rest o failure is fails ends =
+    EndsAtOptions r H payload (ipv6.unknown_option failure H.ip_addrs r payload) [] H
+options_discarded H r payload rest o failure options is fails ends =
     let same_options : o ≡ (hop_by_hop_in payload).0 = ap (λ (p : Ipv6HopByHopRepr × List ℕ). p.0) is.1 in
-    ipv6.Discarded failure is.0 (rw same_options at (sym fails)) ends refl refl refl
+    record { has_options = options; ends = λ source. ipv6.Discarded failure is.0 (rw same_options at (sym fails)) ends refl refl refl }
+
+-- or they are none
+pub options_malformed : (H : Host) (r : Ipv6Repr) (payload : List ℕ) → number_of r.next_header ≡ 0 → (IsHopByHop payload → ⊥) →
+    EndsAtOptions r H payload None [] H
+options_malformed H r payload options none =
+    record { has_options = options; ends = λ source. ipv6.MalformedOptions none (dropped H) }
 
 -- a payload is taken by its protocol
 pub taken_by_protocol_v6 : (p q : IpProtocol) (raw : Bool) (r : Ipv6Repr) (H K : Host) (octets : List ℕ)

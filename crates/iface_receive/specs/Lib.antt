@@ -1,1 +1,2 @@
 pub mod Ipv4
+pub mod Ipv6

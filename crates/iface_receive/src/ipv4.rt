@@ -1,14 +1,22 @@
 //! How an interface processes IPv4 packets (RFC 791, RFC 1122 3.2.1).
-ghost use Rattle.std.specs.Prelude.{◌≡◌, ◌+◌, ◌<◌, ◌≤◌, ◌^◌, [], length, IfSome};
+ghost use Rattle.std.specs.Prelude.{◌≡◌, ◌+◌, ◌<◌, ◌≤◌, ◌^◌, [], length, IfSome, None};
 ghost use Rattle.std.specs.Borrow.{sem};
 ghost use Rattle.fragmentation.specs.Reassembled.{RestsReassembled};
-ghost use Rattle.host_machine.specs.State.Host.{no_sockets};
+ghost use Rattle.control_wire.specs.declared.icmpv4.Icmpv4DstUnreachable.TheVariants.{ProtoUnreachable};
+ghost use Rattle.fragmentation.specs.Slots.{Slots};
+ghost use Rattle.ip_wire.specs.declared.ip_packet.IpRepr.TheVariants as repr;
+ghost use Rattle.host_machine.specs.State.Host.{SocketSet, no_sockets};
+ghost use Rattle.host_machine.specs.Receiving.Icmpv4.{unreachable};
+ghost use Rattle.host_machine.specs.Receiving.Response.{Responds};
+ghost use Rattle.host_machine.specs.Receiving.Tcp.{ProcessesTcp};
+ghost use Rattle.host_machine.specs.Receiving.Udp.{ProcessesUdp};
+ghost use Rattle.host_machine.specs.Sending.Reports.{ProcessesIgmp};
 ghost use Rattle.host_machine.specs.State.Addresses as addresses;
 ghost use Rattle.host_machine.specs.Receiving.Ipv4 as spec;
 ghost use Rattle.host_machine.specs.Receiving.Ipv4.{ProcessesIpv4, ProcessesProtocol, ProcessesDatagram};
-ghost use Rattle.iface_send.specs.Stands.{host_of};
+ghost use Rattle.iface_send.specs.Stands.{host_in, host_of};
 ghost use Rattle.iface_receive.specs.Ipv4.{RestsDatagram, end_of_slots};
-ghost use Rattle.iface_send.specs.Refines.{HostRefinesReplying, RefinesReplying, StandsFor};
+ghost use Rattle.iface_send.specs.Refines.{HostRefinesReplying, RefinesBuilding, RefinesReplying, StandsFor};
 
 use control_wire::icmpv4::Icmpv4DstUnreachable;
 use fragmentation::{FragKey, PacketAssemblerSet, reassemble};
@@ -75,6 +83,22 @@ fn datagram<'p>(
     if !fragment.is_fragment() {
         return Some(payload);
     }
+    rebuilt_by_copy(fragments, context, header, fragment, payload)
+}
+
+/// Adds a fragment as [`rebuilt`] does, with copies of its header, so that none is stored for a whole packet.
+#[inline(always)]
+fn rebuilt_by_copy<'s>(
+    fragments: &'s mut PacketAssemblerSet<FragKey>,
+    context: &Context,
+    header: &Ipv4Repr,
+    fragment: &Ipv4Fragment,
+    payload: &[u8],
+) -> Option<&'s [u8]>
+    ensures* rests { sem 𝓛 (RestsReassembled fragments.entry (end_of_slots context.now)
+        (spec.key_in header.now fragment.now) (spec.fragment_in fragment.now payload.now) result) }
+    ensures short { IfSome result (λ octets. length octets.now ≤ 4096) }
+{
     rebuilt(fragments, context, *header, *fragment, payload)
 }
 
@@ -168,31 +192,108 @@ fn process_protocol(
     match header.next_header {
         IpProtocol::Icmp => process_icmpv4(context, sockets, header, payload, out),
         IpProtocol::Udp => {
-            let packet = IpRepr::Ipv4(*header);
-            process_udp(
-                context,
-                sockets,
-                &packet,
-                payload,
-                handled_by_raw_socket,
-                out,
-            );
+            let handled = handled_by_raw_socket;
+            process_udp_in_ipv4(context, sockets, header, payload, handled, out);
         }
         IpProtocol::Tcp => {
-            let packet = IpRepr::Ipv4(*header);
-            process_tcp(
-                context,
-                sockets,
-                &packet,
-                payload,
-                handled_by_raw_socket,
-                out,
-            );
+            let handled = handled_by_raw_socket;
+            process_tcp_in_ipv4(context, sockets, header, payload, handled, out);
         }
-        IpProtocol::Igmp => process_igmp(context, header, payload),
+        IpProtocol::Igmp => process_igmp_in_ipv4(context, header, payload),
         IpProtocol::HopByHop | IpProtocol::Icmpv6 | IpProtocol::Unknown(_) => {
-            let reason = Icmpv4DstUnreachable::ProtoUnreachable;
-            icmpv4_unreachable(context, reason, header, payload, handled_by_raw_socket, out);
+            refuse_protocol(context, header, payload, handled_by_raw_socket, out);
         }
     }
+}
+
+/// Processes the payload of a packet as a UDP datagram. The header as that of either family is made here, so that no
+/// packet of another protocol stores it.
+#[inline(always)]
+fn process_udp_in_ipv4(
+    context: &mut Context,
+    sockets: &mut SocketSet<'_>,
+    header: &Ipv4Repr,
+    payload: &[u8],
+    handled_by_raw_socket: bool,
+    out: &mut FrameBuffer,
+)
+    requires empty { out.old ≡ [] }
+    requires quotable { 20 + header.now.payload_len < 2 ^ 16 }
+    ensures { RefinesReplying out.new (λ H. ProcessesUdp handled_by_raw_socket (repr.Ipv4 header.now) H payload.now)
+        (host_of context.old sockets.old) (host_of context.new sockets.new) }
+{
+    let packet = IpRepr::Ipv4(*header);
+    process_udp(
+        context,
+        sockets,
+        &packet,
+        payload,
+        handled_by_raw_socket,
+        out,
+    );
+}
+
+/// Processes the payload of a packet as a TCP segment. The header as that of either family is made here, so that no
+/// packet of another protocol stores it.
+#[inline(always)]
+fn process_tcp_in_ipv4(
+    context: &mut Context,
+    sockets: &mut SocketSet<'_>,
+    header: &Ipv4Repr,
+    payload: &[u8],
+    handled_by_raw_socket: bool,
+    out: &mut FrameBuffer,
+)
+    requires empty { out.old ≡ [] }
+    requires short { length payload.now < 2 ^ 16 }
+    ensures { RefinesReplying out.new (λ H. ProcessesTcp handled_by_raw_socket (repr.Ipv4 header.now) H payload.now)
+        (host_of context.old sockets.old) (host_of context.new sockets.new) }
+{
+    let packet = IpRepr::Ipv4(*header);
+    process_tcp(
+        context,
+        sockets,
+        &packet,
+        payload,
+        handled_by_raw_socket,
+        out,
+    );
+}
+
+/// Processes the payload of a packet as an IGMP message, with a copy of the header, so that no packet of another
+/// protocol stores one.
+#[inline(always)]
+fn process_igmp_in_ipv4(context: &mut Context, header: &Ipv4Repr, payload: &[u8])
+    ensures { (slots : Slots) (sockets : SocketSet) → ProcessesIgmp header.now
+        (host_in context.old slots sockets) payload.now None [] (host_in context.new slots sockets) }
+{
+    let header = *header;
+    process_igmp(context, &header, payload);
+}
+
+/// Builds the error in reply to a packet of an unknown protocol, in an empty buffer, with a copy of the header, so that
+/// no other packet stores one.
+#[inline(always)]
+fn refuse_protocol(
+    context: &mut Context,
+    header: &Ipv4Repr,
+    payload: &[u8],
+    handled_by_raw_socket: bool,
+    out: &mut FrameBuffer,
+)
+    requires empty { out.old ≡ [] }
+    requires quotable { 20 + header.now.payload_len < 2 ^ 16 }
+    ensures { RefinesBuilding out.new (Responds (unreachable handled_by_raw_socket
+        (host_of context.old no_sockets).ip_addrs ProtoUnreachable header.now payload.now)) context.old context.new }
+{
+    let header = *header;
+    let reason = Icmpv4DstUnreachable::ProtoUnreachable;
+    icmpv4_unreachable(
+        context,
+        reason,
+        &header,
+        payload,
+        handled_by_raw_socket,
+        out,
+    );
 }

@@ -1,7 +1,12 @@
 //! How an interface processes IPv6 packets (RFC 8200).
-ghost use Rattle.std.specs.Prelude.{◌≡◌, ◌<◌, ◌^◌, [], length, true};
+ghost use Rattle.std.specs.Prelude.{◌≡◌, ◌<◌, ◌^◌, [], length, true, IfSome, IsNone, IsSome};
+ghost use Rattle.ip_address.specs.Protocol.{number_of};
+ghost use Rattle.ip_wire.specs.declared.ip_packet.IpRepr.TheVariants as repr;
+ghost use Rattle.host_machine.specs.Receiving.Tcp.{ProcessesTcp};
+ghost use Rattle.host_machine.specs.Receiving.Udp.{ProcessesUdp};
+ghost use Rattle.iface_receive.specs.Ipv6.{BeginsAt, EndsAtOptions};
 ghost use Rattle.ip_address.specs.Ipv6.{is_unicast};
-ghost use Rattle.host_machine.specs.State.Host.{no_sockets};
+ghost use Rattle.host_machine.specs.State.Host.{SocketSet, no_sockets};
 ghost use Rattle.host_machine.specs.Receiving.Ipv6 as spec;
 ghost use Rattle.host_machine.specs.Receiving.Response.{Responds};
 ghost use Rattle.iface_send.specs.Refines.{RefinesBuilding, RefinesReplying};
@@ -44,44 +49,97 @@ pub fn process_ipv6(
     if !header.src_addr.is_unicast() {
         return;
     }
-    if header.next_header.number() == IpProtocol::HopByHop.number() {
-        process_hop_by_hop(context, sockets, source, &header, payload, out);
-        return;
-    }
-    let protocol = header.next_header;
-    process_datagram_v6(context, sockets, source, &header, protocol, payload, out);
-}
-
-/// Processes a payload that begins with hop-by-hop options. The first option that is unrecognized and not to be skipped
-/// ends it.
-fn process_hop_by_hop(
-    context: &mut Context,
-    sockets: &mut SocketSet<'_>,
-    source: HardwareAddress,
-    header: &Ipv6Repr,
-    payload: &[u8],
-    out: &mut FrameBuffer,
-)
-    requires empty { out.old ≡ [] }
-    requires short { length payload.now < 2 ^ 16 }
-    requires tells { header.now.payload_len < 2 ^ 16 }
-    requires from_one { is_unicast header.now.src_addr ≡ true }
-    ensures { RefinesReplying out.new (λ H. spec.ProcessesHopByHop source header.now H payload.now)
-        (host_of context.old sockets.old) (host_of context.new sockets.new) }
-{
-    let Some((options, rest)) = Ipv6HopByHopRepr::parse(payload) else {
+    let Some((protocol, rest)) = payload_of(context, &header, payload, out) else {
         return;
     };
+    process_datagram_v6(context, sockets, source, &header, protocol, rest, out);
+}
+
+/// The protocol of a packet's payload, and the payload, given what follows the packet's header: behind the hop-by-hop
+/// options, if it begins with those. `None` if the options end the packet; then the answer, if any, was built in an
+/// empty buffer. The first option that is unrecognized and not to be skipped ends it.
+#[inline(always)]
+fn payload_of<'p>(
+    context: &mut Context,
+    header: &Ipv6Repr,
+    octets: &'p [u8],
+    out: &mut FrameBuffer,
+) -> Option<(IpProtocol, &'p [u8])>
+    requires empty { out.old ≡ [] }
+    requires short { length octets.now < 2 ^ 16 }
+    ensures begins { IfSome result (λ p. BeginsAt header.now octets.now p.0 p.1.now) }
+    ensures short { IfSome result (λ p. length p.1.now < 2 ^ 16) }
+    ensures unanswered { IsSome result → out.new ≡ [] }
+    ensures kept { IsSome result → context.new ≡ context.old }
+    ensures ended { IsNone result → (sockets : SocketSet) →
+        RefinesReplying out.new (λ H. EndsAtOptions header.now H octets.now)
+        (host_of context.old sockets) (host_of context.new sockets) }
+{
+    if header.next_header.number() == IpProtocol::HopByHop.number() {
+        return payload_behind_options_by_copy(context, header, octets, out);
+    }
+    Some((header.next_header, octets))
+}
+
+/// Finds a payload as [`payload_behind_options`] does, with a copy of the header, so that no packet without options
+/// stores one for that call.
+#[inline(always)]
+fn payload_behind_options_by_copy<'p>(
+    context: &mut Context,
+    header: &Ipv6Repr,
+    octets: &'p [u8],
+    out: &mut FrameBuffer,
+) -> Option<(IpProtocol, &'p [u8])>
+    requires empty { out.old ≡ [] }
+    requires short { length octets.now < 2 ^ 16 }
+    requires options { number_of header.now.next_header ≡ 0 }
+    ensures begins { IfSome result (λ p. BeginsAt header.now octets.now p.0 p.1.now) }
+    ensures short { IfSome result (λ p. length p.1.now < 2 ^ 16) }
+    ensures unanswered { IsSome result → out.new ≡ [] }
+    ensures kept { IsSome result → context.new ≡ context.old }
+    ensures ended { IsNone result → (sockets : SocketSet) →
+        RefinesReplying out.new (λ H. EndsAtOptions header.now H octets.now)
+        (host_of context.old sockets) (host_of context.new sockets) }
+{
+    let header = *header;
+    payload_behind_options(context, &header, octets, out)
+}
+
+/// The protocol of a packet's payload, and the payload, given what follows the packet's header, which is hop-by-hop
+/// options.
+#[inline(never)]
+fn payload_behind_options<'p>(
+    context: &mut Context,
+    header: &Ipv6Repr,
+    octets: &'p [u8],
+    out: &mut FrameBuffer,
+) -> Option<(IpProtocol, &'p [u8])>
+    requires empty { out.old ≡ [] }
+    requires short { length octets.now < 2 ^ 16 }
+    requires options { number_of header.now.next_header ≡ 0 }
+    ensures begins { IfSome result (λ p. BeginsAt header.now octets.now p.0 p.1.now) }
+    ensures short { IfSome result (λ p. length p.1.now < 2 ^ 16) }
+    ensures unanswered { IsSome result → out.new ≡ [] }
+    ensures kept { IsSome result → context.new ≡ context.old }
+    ensures ended { IsNone result → (sockets : SocketSet) →
+        RefinesReplying out.new (λ H. EndsAtOptions header.now H octets.now)
+        (host_of context.old sockets) (host_of context.new sockets) }
+{
+    let (options, rest) = Ipv6HopByHopRepr::parse(octets)?;
     match options.failure_type() {
         Ipv6OptionFailureType::Skip => {
             let protocol = options.next_header;
-            process_datagram_v6(context, sockets, source, header, protocol, rest, out);
+            Some((protocol, rest))
         }
-        failure => answer_unknown_option(context, failure, header, payload, out),
+        failure => {
+            answer_unknown_option(context, failure, header, octets, out);
+            None
+        }
     }
 }
 
 /// Processes a packet by its header, by the protocol of its payload, and by its payload.
+#[inline(always)]
 fn process_datagram_v6(
     context: &mut Context,
     sockets: &mut SocketSet<'_>,
@@ -137,35 +195,94 @@ fn process_protocol(
     match protocol {
         IpProtocol::Icmpv6 => process_icmpv6(context, sockets, header, payload, out),
         IpProtocol::Udp => {
-            let packet = IpRepr::Ipv6(*header);
-            process_udp(
-                context,
-                sockets,
-                &packet,
-                payload,
-                handled_by_raw_socket,
-                out,
-            );
+            let handled = handled_by_raw_socket;
+            process_udp_in_ipv6(context, sockets, header, payload, handled, out);
         }
         IpProtocol::Tcp => {
-            let packet = IpRepr::Ipv6(*header);
-            process_tcp(
-                context,
-                sockets,
-                &packet,
-                payload,
-                handled_by_raw_socket,
-                out,
-            );
+            let handled = handled_by_raw_socket;
+            process_tcp_in_ipv6(context, sockets, header, payload, handled, out);
         }
         IpProtocol::Icmp | IpProtocol::Igmp | IpProtocol::HopByHop | IpProtocol::Unknown(_) => {
-            unrecognized_next_header(context, header, payload, handled_by_raw_socket, out);
+            refuse_protocol(context, header, payload, handled_by_raw_socket, out);
         }
     }
 }
 
+/// Processes the payload of a packet as a UDP datagram. The header as that of either family is made here, so that no
+/// packet of another protocol stores it.
+#[inline(always)]
+fn process_udp_in_ipv6(
+    context: &mut Context,
+    sockets: &mut SocketSet<'_>,
+    header: &Ipv6Repr,
+    payload: &[u8],
+    handled_by_raw_socket: bool,
+    out: &mut FrameBuffer,
+)
+    requires empty { out.old ≡ [] }
+    requires tells { header.now.payload_len < 2 ^ 16 }
+    ensures { RefinesReplying out.new (λ H. ProcessesUdp handled_by_raw_socket (repr.Ipv6 header.now) H payload.now)
+        (host_of context.old sockets.old) (host_of context.new sockets.new) }
+{
+    let packet = IpRepr::Ipv6(*header);
+    process_udp(
+        context,
+        sockets,
+        &packet,
+        payload,
+        handled_by_raw_socket,
+        out,
+    );
+}
+
+/// Processes the payload of a packet as a TCP segment. The header as that of either family is made here, so that no
+/// packet of another protocol stores it.
+#[inline(always)]
+fn process_tcp_in_ipv6(
+    context: &mut Context,
+    sockets: &mut SocketSet<'_>,
+    header: &Ipv6Repr,
+    payload: &[u8],
+    handled_by_raw_socket: bool,
+    out: &mut FrameBuffer,
+)
+    requires empty { out.old ≡ [] }
+    requires short { length payload.now < 2 ^ 16 }
+    ensures { RefinesReplying out.new (λ H. ProcessesTcp handled_by_raw_socket (repr.Ipv6 header.now) H payload.now)
+        (host_of context.old sockets.old) (host_of context.new sockets.new) }
+{
+    let packet = IpRepr::Ipv6(*header);
+    process_tcp(
+        context,
+        sockets,
+        &packet,
+        payload,
+        handled_by_raw_socket,
+        out,
+    );
+}
+
+/// Builds the error as [`unrecognized_next_header`] does, with a copy of the header, so that no other packet stores
+/// one.
+#[inline(always)]
+fn refuse_protocol(
+    context: &mut Context,
+    header: &Ipv6Repr,
+    payload: &[u8],
+    handled_by_raw_socket: bool,
+    out: &mut FrameBuffer,
+)
+    requires { out.old ≡ [] }
+    ensures { RefinesBuilding out.new (Responds (spec.unrecognized_next_header handled_by_raw_socket
+        (host_of context.old no_sockets).ip_addrs header.now payload.now)) context.old context.new }
+{
+    let header = *header;
+    unrecognized_next_header(context, &header, payload, handled_by_raw_socket, out);
+}
+
 /// Builds the error in reply to a packet of an unknown protocol, in an empty buffer, unless a raw socket accepted the
 /// packet.
+#[inline(never)]
 fn unrecognized_next_header(
     context: &mut Context,
     header: &Ipv6Repr,

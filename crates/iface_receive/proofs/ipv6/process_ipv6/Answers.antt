@@ -1,8 +1,8 @@
-use Rattle.std.proofs.Common.{sym, ◌∙◌}
-use Rattle.host_machine.specs.Receiving.Ipv6.{Bare, FromNoHost, WithOptions}
+use Rattle.std.proofs.Common.{refl, sym, ◌∙◌}
+use Rattle.host_machine.specs.Receiving.Ipv6.{FromNoHost, WithOptions}
 use Rattle.iface_send.specs.Stands.{host_in}
 use Rattle.iface_send.proofs.Processing.{by_rule, dropped, unanswered}
-use Rattle.iface_receive.proofs.PacketRulesV6.{ipv6_malformed, ipv6_read}
+use Rattle.iface_receive.proofs.PacketRulesV6.{begun, ipv6_malformed, ipv6_read}
 use Rattle.iface_receive.proofs.ipv6.process_ipv6.Goals as goal
 
 pub returns-in_default : goal.returns-in_default
@@ -15,14 +15,16 @@ returns-then-not-is_unicast c = unanswered c.requires (λ slots.
     c.in-Some.ensures
     (FromNoHost (sym c.is_unicast.ensures ∙ c.if-not-is_unicast.true) (dropped (host_in c.args.context.now slots c.args.sockets.now))))
 
-pub returns-then-number : goal.returns-then-number
-returns-then-number c = by_rule c.process_hop_by_hop.ensures (λ slots reply notes taken takes.
+pub returns-in_default-payload_of : goal.returns-in_default-payload_of
+returns-in_default-payload_of c = by_rule (c.in_default-payload_of.ensures.ended refl c.args.sockets.now) (λ slots reply notes taken ends.
     ipv6_read c.args.source
     (host_in c.args.context.now slots c.args.sockets.now) taken c.args.octets.now c.in-Some.payload.now c.in-Some.header reply notes c.in-Some.ensures
-    (WithOptions (sym c.is_unicast.ensures ∙ c.if-not-is_unicast.false) (sym c.number.ensures ∙ c.if-number.true ∙ c.number-2.ensures) takes))
+    (WithOptions (sym c.is_unicast.ensures ∙ c.if-not-is_unicast.false) ends.has_options (ends.ends c.args.source)))
 
 pub returns : goal.returns
 returns c = by_rule c.process_datagram_v6.ensures (λ slots reply notes taken takes.
     ipv6_read c.args.source
     (host_in c.args.context.now slots c.args.sockets.now) taken c.args.octets.now c.in-Some.payload.now c.in-Some.header reply notes c.in-Some.ensures
-    (Bare (sym c.is_unicast.ensures ∙ c.if-not-is_unicast.false) (λ e. c.if-number.false (c.number.ensures ∙ e ∙ sym c.number-2.ensures)) takes))
+    (begun c.args.source (host_in c.args.context.now slots c.args.sockets.now) taken c.in-Some.header c.in-Some.payload.now
+    c.in-Some-payload_of.rest.now c.in-Some-payload_of.protocol reply notes (sym c.is_unicast.ensures ∙ c.if-not-is_unicast.false)
+    c.in-Some-payload_of.ensures.begins (rw (c.in-Some-payload_of.ensures.kept refl) at takes)))
