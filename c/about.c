@@ -34,6 +34,7 @@ const char *iface_strerror(uint32_t code) {
     case IFACE_EMPTY: return "nothing there";
     case IFACE_NO_ROOM: return "the buffer is too short";
     case IFACE_BAD_TIMEOUT: return "bad reassembly timeout";
+    case IFACE_BAD_VERSION: return "the library is of another version than the header";
     }
     return "unknown code";
 }

@@ -32,22 +32,30 @@ enum iface_code {
     IFACE_OK = 0,            /* the call is done */
     IFACE_NO_HOST = 1,       /* the handle owns no host */
     IFACE_HAS_HOST = 2,      /* iface_new: the handle owns a host already */
-    IFACE_BAD_ARGUMENT = 3,  /* a version of IP that is neither 4 nor 6, a prefix longer than the address, a medium */
+    IFACE_BAD_ARGUMENT = 3,  /* a version of IP that is neither 4 nor 6, a prefix longer than the address, a medium, a hop
+                                limit of 0 */
     IFACE_NO_MEMORY = 4,     /* malloc or realloc refused */
     IFACE_BAD_MTU = 5,       /* frame_len: not 590 to 1514 on Ethernet, 576 to 1514 without hardware addresses */
     IFACE_NOT_UNICAST = 6,   /* a hardware address or an own address that can't be one */
-    IFACE_BAD_MOMENT = 7,    /* a moment below 0 or above 2^62 */
-    IFACE_BAD_ADDRESS = 8,   /* a destination that is unspecified, a group that is none */
-    IFACE_NOT_THERE = 9,     /* no such address or route; the medium has no hardware addresses */
-    IFACE_TABLE_FULL = 10,   /* four addresses, four routes or eight groups are there, or all sockets are open */
+    IFACE_BAD_MOMENT = 7,    /* a moment below 0 or above 2^62, that of a host's start and of a route's end too */
+    IFACE_BAD_ADDRESS = 8,   /* a destination that is unspecified, a group that is none, a socket's own that is no host's */
+    IFACE_NOT_THERE = 9,     /* no such address or route, no own address; the medium has no hardware addresses */
+    IFACE_TABLE_FULL = 10,   /* four addresses, four routes or eight groups are there, or all sockets are open; a list of
+                                more than four addresses */
     IFACE_NO_SOCKET = 11,    /* no socket of this kind is open by this number */
     IFACE_BAD_PORT = 12,     /* a port that is 0 */
     IFACE_TOO_LONG = 13,     /* a packet longer than is ever sent */
     IFACE_QUEUE_FULL = 14,   /* the socket's queue has no room for the packet: iface_next makes some */
     IFACE_EMPTY = 15,        /* no packet came; the socket doesn't wait; no packet was given up */
     IFACE_NO_ROOM = 16,      /* the room for a frame is shorter than IFACE_FRAME_ROOM, that for a packet than the packet */
-    IFACE_BAD_TIMEOUT = 17   /* reassembly_timeout: 0, or longer than a day */
+    IFACE_BAD_TIMEOUT = 17,  /* reassembly_timeout: 0, or longer than a day */
+    IFACE_BAD_VERSION = 18   /* iface_new: the library isn't of this header's version */
 };
+
+/* The version of this header, an octet each: 0.14.0, and the header's number, which grows with each change of a call or
+ * a structure. iface_new refuses a library of another one; a program that compares it with iface_version() before its
+ * first call learns of that earlier. */
+#define IFACE_VERSION 0x000e0002u
 
 /* The room that iface_receive and iface_next need for a frame, in octets. */
 #define IFACE_FRAME_ROOM 1514
@@ -77,6 +85,24 @@ struct iface_endpoint {
     uint16_t port; /* in the order of the machine */
 };
 
+/* Any address, for the end at which a socket listens: struct iface_endpoint local = {IFACE_ANY, 7}; */
+#define IFACE_ANY {0, {0}}
+
+/* An own address with its network. */
+struct iface_cidr {
+    struct iface_address address;
+    uint8_t prefix_len; /* how many bits of it are the network's */
+};
+
+/* What waits in a queue of a socket, and what it holds at most. */
+struct iface_queue {
+    uint32_t packets;      /* how many wait */
+    uint32_t octets;       /* how many they have together */
+    uint32_t most_packets; /* how many it holds at most */
+    uint32_t most_octets;  /* how many they have together at most */
+    uint32_t first;        /* how many octets the first packet has, 0 where none waits */
+};
+
 /* How a host is to be made: iface_config_init fills it in. */
 struct iface_config {
     uint64_t seed;               /* of its random words, which need not be secret: another for each host and each start */
@@ -85,6 +111,7 @@ struct iface_config {
     uint64_t reassembly_timeout; /* how long fragments of a packet wait for the others, in microseconds: not 0, at most a
                                     day. Two packets at a time are put together, so strangers' fragments block the
                                     others for so long */
+    int64_t start;               /* the moment at which the host begins: from 0 to IFACE_LAST_MOMENT */
     uint32_t frame_len;          /* the longest frame of the link in octets, with a header of Ethernet and without its
                                     checksum: 1514 on usual Ethernet */
     uint32_t sockets;            /* how many may be open at once; memory for their places is taken at once */
@@ -95,16 +122,29 @@ struct iface_config {
 
 enum iface_medium { IFACE_ETHERNET = 0, IFACE_IP = 1 };
 
+/* What a host counted since it was made. A number stays at the greatest one. */
+struct iface_counters {
+    uint64_t frames_in;  /* frames that iface_receive took */
+    uint64_t frames_out; /* frames that iface_receive and iface_next wrote */
+    uint64_t given_up;   /* packets that were given up, of all sockets */
+    uint64_t no_memory;  /* how often memory for a frame was refused in the middle of a round: what was to be sent waits */
+};
+
 /* ---- hosts ---- */
 
 /* Writes what most programs want: frames of 1514 octets on Ethernet, 8 sockets, no addresses from routers, a patience of
- * 3 s (three requests, a second apart: RFC 4861, 10), and 10 s for fragments. The seed is 0, and the hardware address
- * all zeros: set both. */
+ * 3 s (three requests, a second apart: RFC 4861, 10), and 10 s for fragments. The start is 0, the seed is 0, and the
+ * hardware address all zeros: set the last two. */
 void iface_config_init(struct iface_config *config);
 
-/* Makes a host, which the handle owns from then on.
- * HAS_HOST, BAD_ARGUMENT (the medium), NOT_UNICAST (the hardware address), BAD_MTU, BAD_TIMEOUT, NO_MEMORY. */
-uint32_t iface_new(iface *host, const struct iface_config *config);
+/* What iface_new calls, with the version of the header that the program was built with. */
+uint32_t iface_new_for(iface *host, const struct iface_config *config, uint32_t version);
+
+/* Makes a host, which the handle owns from then on. BAD_VERSION, HAS_HOST, BAD_ARGUMENT (the medium), NOT_UNICAST (the
+ * hardware address), BAD_MTU, BAD_TIMEOUT, BAD_MOMENT (the start), NO_MEMORY. */
+static inline uint32_t iface_new(iface *host, const struct iface_config *config) {
+    return iface_new_for(host, config, IFACE_VERSION);
+}
 
 /* Frees a host, with its sockets and the frames that wait. The handle owns none from then on. NO_HOST. */
 uint32_t iface_free(iface *host);
@@ -122,8 +162,16 @@ uint32_t iface_add_address(iface *host, const struct iface_address *address, uin
  * BAD_ARGUMENT, NOT_THERE. */
 uint32_t iface_remove_address(iface *host, const struct iface_address *address, uint8_t prefix_len);
 
+/* Makes a list of at most four its own addresses, with their networks, and forgets all neighbours.
+ * TABLE_FULL, BAD_ARGUMENT, NOT_UNICAST. */
+uint32_t iface_set_addresses(iface *host, const struct iface_cidr *addresses, size_t count);
+
 /* Writes the own address at a place of their list, from 0 on: those that came from routers stand there too. NOT_THERE. */
 uint32_t iface_address_at(iface *host, uint32_t place, struct iface_address *address, uint8_t *prefix_len);
+
+/* Writes the link-local address that a hardware address makes: fe80::/64 with its modified EUI-64 (RFC 4291, 2.5.1 and
+ * appendix A; RFC 2464, 5). It needs no host. NOT_UNICAST (a group's hardware address). */
+uint32_t iface_link_local(const uint8_t *hardware_address, struct iface_address *address);
 
 /* Joins a group, of at most eight: from now on packets to it are taken, and iface_next tells routers of it (RFC 2236,
  * RFC 3810). BAD_ARGUMENT, BAD_ADDRESS (no group's), TABLE_FULL. */
@@ -176,8 +224,29 @@ uint32_t iface_set_default_route(iface *host, const struct iface_address *gatewa
 uint32_t iface_add_route(iface *host, const struct iface_address *network, uint8_t prefix_len,
                          const struct iface_address *router);
 
+/* The same up to an end: the route is used until that moment, which is included, and stays in the table behind it. With
+ * IFACE_NEVER it has none. BAD_ARGUMENT, BAD_MOMENT, TABLE_FULL. */
+uint32_t iface_add_route_until(iface *host, const struct iface_address *network, uint8_t prefix_len,
+                               const struct iface_address *router, int64_t until);
+
 /* Takes out the first route to a network. BAD_ARGUMENT, NOT_THERE. */
 uint32_t iface_remove_route(iface *host, const struct iface_address *network, uint8_t prefix_len);
+
+/* Writes the route at a place of their list, from 0 on, and the moment until which it is used, which is included:
+ * IFACE_NEVER if it has no end. Those that came from routers stand there too. NOT_THERE. */
+uint32_t iface_route_at(iface *host, uint32_t place, struct iface_address *network, uint8_t *prefix_len,
+                        struct iface_address *router, int64_t *until);
+
+/* Writes the own address that packets to a destination are sent from, where their socket names none. Over IPv4 it is the
+ * first whose network has the destination, else the first one; over IPv6 the best one (RFC 6724, 5: rules 1, 2 and 8),
+ * and ::1 where the host has none. BAD_ARGUMENT, NOT_THERE (no own address of IPv4). */
+uint32_t iface_source_for(iface *host, const struct iface_address *remote, struct iface_address *source);
+
+/* Writes the neighbour at a place of their list, from 0 on: its address, that on Ethernet, six octets, and the moment
+ * from which the latter isn't known any more. At most four stand there, by rising moments, those whose moment has passed
+ * too. Without hardware addresses there is none. NOT_THERE. */
+uint32_t iface_neighbor_at(iface *host, uint32_t place, struct iface_address *address, uint8_t *hardware_address,
+                           int64_t *until);
 
 /* ---- sockets ---- */
 
@@ -185,7 +254,9 @@ uint32_t iface_remove_route(iface *host, const struct iface_address *network, ui
  * with so many octets together (it takes room for twice as many), and writes the number that names it: the least that
  * names none. What comes to a full queue is dropped. BAD_ARGUMENT (a version), TABLE_FULL, NO_MEMORY. */
 
-/* UDP (RFC 768) at a port of one address, or of any if the version of `local` is 0. BAD_PORT. */
+/* UDP (RFC 768) at a port of one address. At a port of any, of both versions, if the version of `local` is 0 as in
+ * IFACE_ANY, or its address 0.0.0.0 or ::. Datagrams to groups and broadcast addresses come to each.
+ * BAD_PORT, BAD_ADDRESS (a group's, or 255.255.255.255). */
 uint32_t iface_udp_open(iface *host, const struct iface_endpoint *local, uint32_t packets, uint32_t octets,
                         uint32_t *socket);
 
@@ -201,6 +272,17 @@ uint32_t iface_icmp_open_port(iface *host, uint16_t port, uint32_t packets, uint
 
 /* Closes a socket of whatever kind: what waits in it is dropped. NO_SOCKET. */
 uint32_t iface_close(iface *host, uint32_t socket);
+
+/* Sets the hop limit of the packets that a UDP or an ICMP socket sends from now on, those that wait among them: 64 at
+ * first. BAD_ARGUMENT (0), NO_SOCKET (also for a raw one, whose packets have their own headers). */
+uint32_t iface_set_hop_limit(iface *host, uint32_t socket, uint8_t hop_limit);
+
+/* Writes the hop limit of the packets that a UDP or an ICMP socket sends. NO_SOCKET, as above. */
+uint32_t iface_hop_limit(iface *host, uint32_t socket, uint8_t *hop_limit);
+
+/* Writes what waits in the two queues of a socket of whatever kind: what was received, and what is to be sent.
+ * NO_SOCKET. */
+uint32_t iface_queues(iface *host, uint32_t socket, struct iface_queue *received, struct iface_queue *to_send);
 
 /* Each of these queues a packet, which iface_next sends. NO_SOCKET, QUEUE_FULL. */
 
@@ -267,16 +349,19 @@ uint32_t iface_receive(iface *host, int64_t now, const uint8_t *frame, size_t fr
  * NO_MEMORY (before a round, if memory for a frame is refused). */
 uint32_t iface_next(iface *host, int64_t now, uint8_t *out, size_t room, size_t *length);
 
+/* Writes 1 if a socket may have changed by frames that were taken and rounds that were made since this was last asked, else
+ * 0. It may have if a frame was taken that isn't empty, or if a round sent or dropped a packet of a socket. What a socket
+ * gave up since its neighbour didn't answer is told by iface_given_up. */
+uint32_t iface_sockets_changed(iface *host, uint8_t *changed);
+
+/* Writes what the host counted. */
+uint32_t iface_counters(iface *host, struct iface_counters *counters);
+
 /* Writes the instant at which iface_next is to be called again, if no frame comes before and no call changes the host:
  * one that has passed, if something is due at once, and IFACE_NEVER, if nothing is due. */
 uint32_t iface_poll_at(iface *host, int64_t now, int64_t *at);
 
 /* ---- the library ---- */
-
-/* The version of this header, an octet each: 0.14.0, and the header's number, which grows with each change of a call or
- * a structure. A program compares it with iface_version() before its first call, and so learns of a library that isn't
- * the header's. */
-#define IFACE_VERSION 0x000e0001u
 
 /* The version of the header that the library was built with. */
 uint32_t iface_version(void);
@@ -293,7 +378,9 @@ const char *iface_strerror(uint32_t code);
 
 #if defined(__STDC_VERSION__) && __STDC_VERSION__ >= 201112L
 _Static_assert(sizeof(struct iface_address) == 17 && sizeof(struct iface_endpoint) == 20, "as the library lays them out");
-_Static_assert(sizeof(struct iface_config) == 40 && sizeof(iface) == 16, "as the library lays them out");
+_Static_assert(sizeof(struct iface_config) == 48 && sizeof(iface) == 16, "as the library lays them out");
+_Static_assert(sizeof(struct iface_cidr) == 18 && sizeof(struct iface_counters) == 32, "as the library lays them out");
+_Static_assert(sizeof(struct iface_queue) == 20, "as the library lays it out");
 #endif
 
 #endif

@@ -38,6 +38,7 @@ static void fill_in_good(void) {
     wants("usual frames", good.frame_len == 1514 && good.medium == IFACE_ETHERNET && good.sockets == 8 && good.slaac == 0, 1);
     wants("usual patience", good.patience, 3000000);
     wants("usual timeout", good.reassembly_timeout, 10000000);
+    wants("usual start", (uint64_t)good.start, 0);
     good.seed = 1, good.hardware_address[0] = 2, good.hardware_address[5] = 1;
 }
 
@@ -52,11 +53,16 @@ static void refuses_configurations(void) {
     c = good, c.reassembly_timeout = 0, wants("no time for fragments", iface_new(&host, &c), IFACE_BAD_TIMEOUT);
     c.reassembly_timeout = 86400000001, wants("more than a day", iface_new(&host, &c), IFACE_BAD_TIMEOUT);
     c.reassembly_timeout = UINT64_MAX, wants("more than a day", iface_new(&host, &c), IFACE_BAD_TIMEOUT);
+    c = good, c.start = -1, wants("start at -1", iface_new(&host, &c), IFACE_BAD_MOMENT);
+    c.start = IFACE_LAST_MOMENT + 1, wants("start at 2^62+1", iface_new(&host, &c), IFACE_BAD_MOMENT);
+    wants("an older header", iface_new_for(&host, &good, IFACE_VERSION - 1), IFACE_BAD_VERSION);
+    wants("a newer header", iface_new_for(&host, &good, IFACE_VERSION + 1), IFACE_BAD_VERSION);
     wants("handle", host.tag, 0);
     wants("free of none", iface_free(&host), IFACE_NO_HOST);
     c = good, c.medium = IFACE_IP, c.frame_len = 576, wants("packets of 576", iface_new(&host, &c), IFACE_OK);
     iface copy = host;
     wants("new over a host", iface_new(&host, &good), IFACE_HAS_HOST);
+    wants("the version first", iface_new_for(&host, &good, 0), IFACE_BAD_VERSION);
     wants("handle kept", memcmp(&copy, &host, sizeof host) == 0, 1);
     wants("free", iface_free(&host), IFACE_OK);
     wants("free again", iface_free(&host), IFACE_NO_HOST);
@@ -72,7 +78,22 @@ static void refuses_without_host(void) {
     int64_t at = 77;
     uint64_t count = 77;
     uint8_t flag = 77, hardware[6] = {2, 0, 0, 0, 0, 9};
+    struct iface_address b = v4(10, 0, 0, 9);
+    struct iface_cidr own = {a, 8};
+    struct iface_counters counters = {.no_memory = 77};
+    struct iface_queue received = {.first = 77}, to_send = {.first = 78};
     wants("address", iface_add_address(&host, &a, 8), IFACE_NO_HOST);
+    wants("all addresses", iface_set_addresses(&host, &own, 1), IFACE_NO_HOST);
+    wants("route", iface_add_route_until(&host, &a, 8, &a, 9), IFACE_NO_HOST);
+    wants("route at", iface_route_at(&host, 0, &b, &flag, &b, &at), IFACE_NO_HOST);
+    wants("source", iface_source_for(&host, &a, &b), IFACE_NO_HOST);
+    wants("set hop limit", iface_set_hop_limit(&host, 0, 9), IFACE_NO_HOST);
+    wants("hop limit", iface_hop_limit(&host, 0, &flag), IFACE_NO_HOST);
+    wants("changed", iface_sockets_changed(&host, &flag), IFACE_NO_HOST);
+    wants("counters", iface_counters(&host, &counters), IFACE_NO_HOST);
+    wants("neighbour", iface_neighbor_at(&host, 0, &b, hardware, &at), IFACE_NO_HOST);
+    wants("queues", iface_queues(&host, 0, &received, &to_send), IFACE_NO_HOST);
+    wants("nothing written", counters.no_memory == 77 && b.octets[3] == 9 && received.first == 77 && to_send.first == 78, 1);
     wants("address at", iface_address_at(&host, 0, &a, &prefix), IFACE_NO_HOST);
     wants("route", iface_set_default_route(&host, &a), IFACE_NO_HOST);
     wants("udp", iface_udp_open(&host, &e, 1, 1, &socket), IFACE_NO_HOST);
@@ -111,6 +132,14 @@ static void refuses_addresses(iface *host) {
     a = v6(0xfe, 0x80, 1), wants("address of IPv6", iface_add_address(host, &a, 64), IFACE_OK);
     for (uint8_t i = 2; i < 4; i++) a = v4(10, 0, i, 1), wants("address", iface_add_address(host, &a, 24), IFACE_OK);
     a = v4(10, 0, 9, 1), wants("fifth address", iface_add_address(host, &a, 24), IFACE_TABLE_FULL);
+    struct iface_cidr list[5] = {{v4(10, 0, 9, 1), 24}, {v4(10, 0, 9, 2), 24}, {v4(10, 0, 9, 3), 24}, {v4(10, 0, 9, 4), 33}};
+    wants("prefix of 33 in a list", iface_set_addresses(host, list, 4), IFACE_BAD_ARGUMENT);
+    wants("list of five", iface_set_addresses(host, list, 5), IFACE_TABLE_FULL);
+    list[3].prefix_len = 24, list[1].address.version = 0;
+    wants("version 0 in a list", iface_set_addresses(host, list, 4), IFACE_BAD_ARGUMENT);
+    list[1].address = v4(224, 0, 0, 1), wants("group in a list", iface_set_addresses(host, list, 4), IFACE_NOT_UNICAST);
+    wants("address 3, as it was", iface_address_at(host, 3, &read, &prefix), IFACE_OK);
+    wants("its octets", memcmp(read.octets, "\12\0\3\1", 4) == 0, 1);
     wants("address 1", iface_address_at(host, 1, &read, &prefix), IFACE_OK);
     a = v6(0xfe, 0x80, 1), wants("its octets", memcmp(&read, &a, sizeof a) == 0, 1);
     wants("its prefix", prefix, 64);
@@ -121,12 +150,34 @@ static void refuses_addresses(iface *host) {
     wants("address 3", iface_address_at(host, 3, &read, &prefix), IFACE_NOT_THERE);
 }
 
+static void refuses_link_local(void) {
+    static const uint8_t group[6] = {3, 0, 0, 0, 0, 1}, all[6] = {255, 255, 255, 255, 255, 255};
+    struct iface_address address = {77, {0}};
+    wants("group's hardware address", iface_link_local(group, &address), IFACE_NOT_UNICAST);
+    wants("broadcast", iface_link_local(all, &address), IFACE_NOT_UNICAST);
+    wants("nothing written", address.version, 77);
+}
+
 static void refuses_routes_and_groups(iface *host) {
     struct iface_address a = v4(192, 168, 69, 100), network = v4(172, 16, 0, 0);
     wants("default", iface_set_default_route(host, &a), IFACE_OK);
     wants("default again", iface_set_default_route(host, &a), IFACE_OK);
     for (uint8_t i = 0; i < 3; i++) network.octets[1] = i, wants("route", iface_add_route(host, &network, 16, &a), IFACE_OK);
     wants("fifth route", iface_add_route(host, &network, 16, &a), IFACE_TABLE_FULL);
+    wants("fifth route", iface_add_route_until(host, &network, 16, &a, 0), IFACE_TABLE_FULL);
+    wants("end at -1", iface_add_route_until(host, &network, 16, &a, -1), IFACE_BAD_MOMENT);
+    wants("end at 2^62+1", iface_add_route_until(host, &network, 16, &a, IFACE_LAST_MOMENT + 1), IFACE_BAD_MOMENT);
+    wants("end just below none", iface_add_route_until(host, &network, 16, &a, IFACE_NEVER - 1), IFACE_BAD_MOMENT);
+    wants("prefix of 33", iface_add_route_until(host, &network, 33, &a, 0), IFACE_BAD_ARGUMENT);
+    struct iface_address to = {77, {0}}, by = {77, {0}};
+    uint8_t prefix = 77, hardware[6] = {77};
+    int64_t until = 77;
+    wants("route 4", iface_route_at(host, 4, &to, &prefix, &by, &until), IFACE_NOT_THERE);
+    wants("neighbour 0", iface_neighbor_at(host, 0, &to, hardware, &until), IFACE_NOT_THERE);
+    wants("neighbour 2^32-1", iface_neighbor_at(host, 0xffffffff, &to, hardware, &until), IFACE_NOT_THERE);
+    wants("nothing written", to.version == 77 && prefix == 77 && by.version == 77 && until == 77 && hardware[0] == 77, 1);
+    to.version = 0, wants("version 0", iface_source_for(host, &to, &by), IFACE_BAD_ARGUMENT);
+    wants("nothing written", by.version, 77);
     struct iface_address b = v6(0xfe, 0x80, 9);
     wants("default of the other family", iface_set_default_route(host, &b), IFACE_TABLE_FULL);
     wants("route of another prefix", iface_remove_route(host, &network, 17), IFACE_NOT_THERE);
@@ -201,6 +252,11 @@ static void refuses_sockets(iface *host) {
     struct iface_address a = v4(192, 168, 69, 100);
     any.port = 0, wants("port 0", iface_udp_open(host, &any, 64, 65536, &socket), IFACE_BAD_PORT);
     any.address.version = 7, wants("version 7", iface_udp_open(host, &any, 64, 65536, &socket), IFACE_BAD_ARGUMENT);
+    any = (struct iface_endpoint){v4(255, 255, 255, 255), 6969};
+    wants("at 255.255.255.255", iface_udp_open(host, &any, 64, 65536, &socket), IFACE_BAD_ADDRESS);
+    any.address = v4(239, 1, 1, 1), wants("at a group", iface_udp_open(host, &any, 64, 65536, &socket), IFACE_BAD_ADDRESS);
+    any.address = v6(0xff, 2, 1), wants("at a group", iface_udp_open(host, &any, 64, 65536, &socket), IFACE_BAD_ADDRESS);
+    any.port = 0, wants("port 0 first", iface_udp_open(host, &any, 64, 65536, &socket), IFACE_BAD_PORT);
     wants("version 5", iface_raw_open(host, 5, 89, 1, 1, &socket), IFACE_BAD_ARGUMENT);
     wants("nothing written", socket, 77);
     wants("unopened socket", iface_udp_send(host, 0, &to, big, 1), IFACE_NO_SOCKET);
@@ -211,6 +267,18 @@ static void refuses_sockets(iface *host) {
     wants("raw", iface_raw_open(host, 4, 89, 4, 4096, &other), IFACE_OK);
     wants("its number", other, 1);
     wants("another kind", iface_raw_send(host, socket, big, 20), IFACE_NO_SOCKET);
+    uint8_t limit = 77;
+    wants("hop limit of 0", iface_set_hop_limit(host, socket, 0), IFACE_BAD_ARGUMENT);
+    wants("of a raw socket", iface_set_hop_limit(host, other, 1), IFACE_NO_SOCKET);
+    wants("of a raw socket", iface_hop_limit(host, other, &limit), IFACE_NO_SOCKET);
+    wants("of no socket", iface_set_hop_limit(host, 7, 1), IFACE_NO_SOCKET);
+    wants("of no socket", iface_hop_limit(host, 0xffffffff, &limit), IFACE_NO_SOCKET);
+    wants("nothing written", limit, 77);
+    struct iface_queue received = {.first = 77}, to_send = {.first = 78};
+    wants("queues of no socket", iface_queues(host, 7, &received, &to_send), IFACE_NO_SOCKET);
+    wants("nothing written", received.first == 77 && to_send.first == 78, 1);
+    wants("hop limit", iface_hop_limit(host, socket, &limit), IFACE_OK);
+    wants("at first", limit, 64);
     wants("another kind", iface_icmp_send(host, other, &a, big, 20), IFACE_NO_SOCKET);
     wants("empty", iface_udp_receive(host, socket, &from, big, sizeof big, &n), IFACE_EMPTY);
     wants("nothing written", n, 77);
@@ -228,6 +296,12 @@ static void refuses_sockets(iface *host) {
     wants("no octets", iface_udp_send(host, socket, &to, big, 0), IFACE_OK);
     for (int i = 0; i < 61; i++) wants("queue", iface_udp_send(host, socket, &to, big, 10), IFACE_OK);
     wants("full queue", iface_udp_send(host, socket, &to, big, 10), IFACE_QUEUE_FULL);
+    wants("queues", iface_queues(host, socket, &received, &to_send), IFACE_OK);
+    wants("packets", received.packets == 0 && to_send.packets == 64, 1);
+    wants("octets", received.octets == 0 && to_send.octets == 1452 + 4068 + 610, 1);
+    wants("at most", received.most_packets == 64 && to_send.most_packets == 64, 1);
+    wants("at most", received.most_octets == 65536 && to_send.most_octets == 65536, 1);
+    wants("the first", received.first == 0 && to_send.first == 1452, 1);
     for (uint32_t i = 2; i < 8; i++) wants("icmp", iface_icmp_open_ident(host, (uint16_t)i, 2, 256, &other), IFACE_OK);
     wants("ninth socket", iface_icmp_open_port(host, 6969, 2, 256, &other), IFACE_TABLE_FULL);
     wants("close", iface_close(host, 5), IFACE_OK);
@@ -264,12 +338,12 @@ static void refuses_frames(iface *host) {
 
 /* What the library says of itself, and of each code. */
 static void tells_of_itself(void) {
-    const char *unknown = iface_strerror(IFACE_BAD_TIMEOUT + 1);
+    const char *unknown = iface_strerror(IFACE_BAD_VERSION + 1);
     wants("version", iface_version(), IFACE_VERSION);
     wants("name", strncmp(iface_build(), "fumitorygate 0.14.0 (", 21) == 0, 1);
     wants("a number that is no code", strcmp(unknown, "unknown code") == 0, 1);
     wants("the greatest number", strcmp(iface_strerror(UINT32_MAX), unknown) == 0, 1);
-    for (uint32_t a = 0; a <= IFACE_BAD_TIMEOUT; a++) {
+    for (uint32_t a = 0; a <= IFACE_BAD_VERSION; a++) {
         wants("a code", strcmp(iface_strerror(a), unknown) != 0, 1);
         for (uint32_t b = 0; b < a; b++) wants("two codes", strcmp(iface_strerror(a), iface_strerror(b)) != 0, 1);
     }
@@ -320,6 +394,7 @@ int main(int argc, char **argv) {
     refuses_without_host();
     wants("host", iface_new(&host, &good), IFACE_OK);
     refuses_addresses(&host);
+    refuses_link_local();
     refuses_routes_and_groups(&host);
     refuses_properties(&host);
     refuses_hardware_addresses();

@@ -99,16 +99,21 @@ static uint8_t frame[IFACE_FRAME_ROOM], out[65536], payload[4096], prefix_len, p
 static uint16_t ident;
 static uint32_t code, number, socket_number, packets = 8, octets = 32768;
 static uint64_t count;
+static struct iface_counters counters;
+static struct iface_cidr list[4];
+static struct iface_queue received, to_send;
 static int64_t now = 1000000, at;
-static size_t length, given;
+static size_t length, given, list_length;
 
 #define CALLS(each) \
     each(config_init, (iface_config_init(&config), IFACE_OK)) \
-    each(new, iface_new(&host, &config)) \
+    each(new_for, iface_new(&host, &config)) \
     each(free, iface_free(&host)) \
     each(add_address, iface_add_address(&host, &address, prefix_len)) \
     each(remove_address, iface_remove_address(&host, &address, prefix_len)) \
+    each(set_addresses, iface_set_addresses(&host, list, list_length)) \
     each(address_at, iface_address_at(&host, number, &other, &prefix_len)) \
+    each(link_local, iface_link_local(hardware, &other)) \
     each(join_group, iface_join_group(&host, &address)) \
     each(leave_group, iface_leave_group(&host, &address)) \
     each(has_group, iface_has_group(&host, &address, &flag)) \
@@ -121,12 +126,19 @@ static size_t length, given;
     each(slaac_updated_at, iface_slaac_updated_at(&host, &at)) \
     each(set_default_route, iface_set_default_route(&host, &address)) \
     each(add_route, iface_add_route(&host, &address, prefix_len, &other)) \
+    each(add_route_until, iface_add_route_until(&host, &address, prefix_len, &other, now + at)) \
     each(remove_route, iface_remove_route(&host, &address, prefix_len)) \
+    each(route_at, iface_route_at(&host, number, &address, &prefix_len, &other, &at)) \
+    each(source_for, iface_source_for(&host, &address, &other)) \
+    each(neighbor_at, iface_neighbor_at(&host, number, &other, hardware, &at)) \
     each(udp_open, iface_udp_open(&host, &end, packets, octets, &socket_number)) \
     each(raw_open, iface_raw_open(&host, 4, protocol, packets, octets, &socket_number)) \
     each(icmp_open_ident, iface_icmp_open_ident(&host, ident, packets, octets, &socket_number)) \
     each(icmp_open_port, iface_icmp_open_port(&host, end.port, packets, octets, &socket_number)) \
     each(close, iface_close(&host, socket_number)) \
+    each(set_hop_limit, iface_set_hop_limit(&host, socket_number, flag)) \
+    each(hop_limit, iface_hop_limit(&host, socket_number, &flag)) \
+    each(queues, iface_queues(&host, socket_number, &received, &to_send)) \
     each(udp_send, iface_udp_send(&host, socket_number, &end, payload, given)) \
     each(icmp_send, iface_icmp_send(&host, socket_number, &address, payload, given)) \
     each(raw_send, iface_raw_send(&host, socket_number, payload, given)) \
@@ -138,6 +150,8 @@ static size_t length, given;
     each(given_up_count, iface_given_up_count(&host, &count)) \
     each(receive, iface_receive(&host, now, frame, given, out, sizeof out, &length)) \
     each(next, iface_next(&host, now, out, sizeof out, &length)) \
+    each(sockets_changed, iface_sockets_changed(&host, &flag)) \
+    each(counters, iface_counters(&host, &counters)) \
     each(poll_at, iface_poll_at(&host, now, &at))
 
 #define NUMBER(name, expression) CALL_##name,
@@ -302,11 +316,19 @@ static struct iface_address v6(uint8_t a, uint8_t b, uint8_t last) {
 static void set_up(uint8_t medium) {
     MUST(config_init);
     config.slaac = 1, config.medium = medium, config.hardware_address[0] = 2, config.hardware_address[5] = 1;
-    MUST(new);
+    MUST(new_for);
     address = v4(192, 168, 69, 1), prefix_len = 24, MUST(add_address);
     address = v6(0xfe, 0x80, 1), prefix_len = 64, MUST(add_address);
     address = v4(10, 0, 0, 1), prefix_len = 8, MUST(add_address), MUST(remove_address);
     number = 1, MUST(address_at);
+    for (list_length = 0; list_length < 2; list_length++) {
+        number = (uint32_t)list_length, MUST(address_at);
+        list[list_length].address = other, list[list_length].prefix_len = prefix_len;
+    }
+    for (; list_length < 4; list_length++)
+        list[list_length].address = v4(10, 0, 0, (uint8_t)list_length), list[list_length].prefix_len = 8;
+    MUST(set_addresses), list_length = 2, MUST(set_addresses);
+    hardware[0] = 2, MUST(link_local);
     address = v4(239, 69, 69, 69), MUST(join_group);
     address = v6(0xff, 0x15, 9), MUST(join_group);
     address = v4(239, 69, 69, 70), MUST(join_group), MUST(has_group), MUST(leave_group), MUST(has_group);
@@ -317,11 +339,14 @@ static void set_up(uint8_t medium) {
     address = v6(0x20, 1, 0), other = v6(0xfe, 0x80, 2), prefix_len = 48, MUST(add_route);
     address = v4(192, 168, 69, 2), MUST(set_default_route); /* in place of the first one */
     address = v4(172, 16, 0, 0), other = v4(192, 168, 69, 2), prefix_len = 12, MUST(remove_route), MUST(add_route);
+    address = v4(172, 32, 0, 0), at = 1000, MUST(add_route_until), number = 2, MUST(route_at), MUST(remove_route);
+    address = v4(172, 16, 1, 1), MUST(source_for), address = v6(0xfe, 0x80, 2), MUST(source_for);
     end.address.version = 0, end.port = 7, MUST(udp_open); /* 0 */
     protocol = 253, MUST(raw_open);                        /* 1 */
     ident = 42, MUST(icmp_open_ident);                     /* 2 */
     end.port = 7, MUST(icmp_open_port);                    /* 3 */
     end.port = 99, MUST(udp_open), MUST(close);            /* 4 */
+    for (socket_number = 0; socket_number < 4; socket_number += 2) MUST(hop_limit), MUST(set_hop_limit);
 }
 
 /* What a socket can be asked and given, and rounds until nothing is sent. */
@@ -339,7 +364,8 @@ static void turn(void) {
     address = ends[word() % 2], given = 64, socket_number = 2;
     memcpy(payload, address.version == 4 ? "\10\0\0\0\0\52\0\1" : "\200\0\0\0\0\52\0\1", 8), MAKE(icmp_send);
     for (int i = 0; i < 40 && MAKE(next) == IFACE_OK && length > 0; i++) {}
-    MUST(poll_at), MUST(given_up_count);
+    MUST(poll_at), MUST(given_up_count), MUST(sockets_changed), MUST(counters);
+    socket_number = (uint32_t)(word() % 4), MUST(queues), number = (uint32_t)(word() % 4), MAKE(neighbor_at);
     socket_number = 0, MAKE(waiting), MAKE(given_up);
 }
 

@@ -14,8 +14,8 @@ trap 'rm -rf "$work"' EXIT
 grep -v '^rattle_' "$work/given" >"$work/given_for_c"
 comm -23 "$work/wanted" "$work/given_for_c" >"$work/needed"
 printf '%s\n' memcpy memmove memset rattle_alloc rattle_dealloc rattle_realloc >"$work/told"
-# What the header declares.
-grep -o '\biface_[a-z_]*(' "$here/iface.h" | tr -d '(' | sort -u >"$work/declared"
+# What the header declares. A function of its own is none of the library's.
+grep -v '^static inline ' "$here/iface.h" | grep -o '\biface_[a-z_]*(' | tr -d '(' | sort -u >"$work/declared"
 
 differ() {
     diff "$1" "$2" >"$work/difference" && return

@@ -14,9 +14,10 @@ OWN = os.path.join(os.path.dirname(os.path.abspath(__file__)), "src", "sys.rs")
 TYPES = {
     "uint8_t": "u8", "uint16_t": "u16", "uint32_t": "u32", "uint64_t": "u64", "int64_t": "i64", "size_t": "usize",
     "char": "c_char", "void": "c_void", "iface": "iface", "struct iface_address": "iface_address",
-    "struct iface_endpoint": "iface_endpoint", "struct iface_config": "iface_config",
+    "struct iface_endpoint": "iface_endpoint", "struct iface_config": "iface_config", "struct iface_cidr": "iface_cidr",
+    "struct iface_counters": "iface_counters", "struct iface_queue": "iface_queue",
 }
-DEFINED = {"IFACE_H", "IFACE_FRAME_ROOM", "IFACE_LAST_MOMENT", "IFACE_NEVER", "IFACE_NONE", "IFACE_VERSION"}
+DEFINED = {"IFACE_H", "IFACE_FRAME_ROOM", "IFACE_LAST_MOMENT", "IFACE_NEVER", "IFACE_NONE", "IFACE_VERSION", "IFACE_ANY"}
 RESULTS = {"uint32_t ": " -> u32", "void ": "", "const char *": " -> *const c_char"}
 HEAD = """//! `c/iface.h`, declared: made by `make_sys.py`, with the comments of the header.
 //!
@@ -26,6 +27,9 @@ HEAD = """//! `c/iface.h`, declared: made by `make_sys.py`, with the comments of
 #![allow(non_camel_case_types)]
 """
 COMMENT = re.compile(r"/\*.*?\*/", re.S)
+# The header's own function, which is written in Rust below.
+NEW = re.compile(r"(/\*(?:(?!\*/).)*\*/)\n(static inline uint32_t iface_new\(iface \*host, const struct iface_config \*config\) \{\n"
+                 r"    return iface_new_for\(host, config, IFACE_VERSION\);\n\}\n)", re.S)
 
 
 def header_sum(header):
@@ -151,6 +155,9 @@ def constants(header):
     version = re.search(r"#define IFACE_VERSION (0x[0-9a-f]+)u\n", header)
     if version:
         out += ["/// The version of the header.", f"pub const IFACE_VERSION: u32 = {version[1]};"]
+    if "#define IFACE_ANY {0, {0}}\n" in header:
+        out += ["/// Any address, for the end at which a socket listens.",
+                "pub const IFACE_ANY: iface_address = iface_address { version: 0, octets: [0; 16] };"]
     return out + [""]
 
 
@@ -195,12 +202,22 @@ def calls(header):
     return out + ["}", ""]
 
 
-def make(header, name):
+def own_call(header):
+    """The header's own function."""
+    return docs(NEW.search(header)[1]) + [
+        "///", "/// # Safety", "/// As each call of the header.",
+        "pub unsafe fn iface_new(host: *mut iface, config: *const iface_config) -> u32 {",
+        "    // SAFETY: the caller keeps what the header says.",
+        "    unsafe { iface_new_for(host, config, IFACE_VERSION) }", "}", ""]
+
+
+def make(whole, name):
+    header = NEW.sub(lambda m: re.sub(r"[^\n]", "", m[0]), whole)
     refuse_unknown(header, name)
-    body = "\n".join(constants(header) + structures(header) + calls(header))
+    body = "\n".join(constants(header) + structures(header) + calls(header) + own_call(whole))
     used = [name for name in ("c_char", "c_void") if re.search(rf"\b{name}\b", body)]
     use = "use core::ffi::" + (used[0] if len(used) == 1 else "{" + ", ".join(used) + "}") + ";\n"
-    return HEAD.format(sum=header_sum(header)) + "\n" + use + "\n" + body
+    return HEAD.format(sum=header_sum(whole)) + "\n" + use + "\n" + body
 
 
 def main():

@@ -2,7 +2,7 @@
 //!
 //! Calling any of it is `unsafe`: the header says what the caller keeps. [`Host`](crate::Host) keeps it.
 //!
-//! Sum of the header: 0xf3fa0f821764ad28
+//! Sum of the header: 0x7956f687ca801e05
 #![allow(non_camel_case_types)]
 
 use core::ffi::{c_char, c_void};
@@ -13,7 +13,7 @@ pub const IFACE_OK: u32 = 0;
 pub const IFACE_NO_HOST: u32 = 1;
 /// `iface_new`: the handle owns a host already
 pub const IFACE_HAS_HOST: u32 = 2;
-/// a version of IP that is neither 4 nor 6, a prefix longer than the address, a medium
+/// a version of IP that is neither 4 nor 6, a prefix longer than the address, a medium, a hop limit of 0
 pub const IFACE_BAD_ARGUMENT: u32 = 3;
 /// malloc or realloc refused
 pub const IFACE_NO_MEMORY: u32 = 4;
@@ -21,13 +21,13 @@ pub const IFACE_NO_MEMORY: u32 = 4;
 pub const IFACE_BAD_MTU: u32 = 5;
 /// a hardware address or an own address that can't be one
 pub const IFACE_NOT_UNICAST: u32 = 6;
-/// a moment below 0 or above 2^62
+/// a moment below 0 or above 2^62, that of a host's start and of a route's end too
 pub const IFACE_BAD_MOMENT: u32 = 7;
-/// a destination that is unspecified, a group that is none
+/// a destination that is unspecified, a group that is none, a socket's own that is no host's
 pub const IFACE_BAD_ADDRESS: u32 = 8;
-/// no such address or route; the medium has no hardware addresses
+/// no such address or route, no own address; the medium has no hardware addresses
 pub const IFACE_NOT_THERE: u32 = 9;
-/// four addresses, four routes or eight groups are there, or all sockets are open
+/// four addresses, four routes or eight groups are there, or all sockets are open; a list of more than four addresses
 pub const IFACE_TABLE_FULL: u32 = 10;
 /// no socket of this kind is open by this number
 pub const IFACE_NO_SOCKET: u32 = 11;
@@ -43,6 +43,8 @@ pub const IFACE_EMPTY: u32 = 15;
 pub const IFACE_NO_ROOM: u32 = 16;
 /// reassembly_timeout: 0, or longer than a day
 pub const IFACE_BAD_TIMEOUT: u32 = 17;
+/// `iface_new`: the library isn't of this header's version
+pub const IFACE_BAD_VERSION: u32 = 18;
 
 /// `iface_medium`.
 pub const IFACE_ETHERNET: u8 = 0;
@@ -56,7 +58,9 @@ pub const IFACE_LAST_MOMENT: i64 = 1 << 62;
 /// The instant that stands for none.
 pub const IFACE_NEVER: i64 = i64::MAX;
 /// The version of the header.
-pub const IFACE_VERSION: u32 = 0x000e0001;
+pub const IFACE_VERSION: u32 = 0x000e0002;
+/// Any address, for the end at which a socket listens.
+pub const IFACE_ANY: iface_address = iface_address { version: 0, octets: [0; 16] };
 
 /// A handle, which owns a host or none. Its fields are the library's.
 #[repr(C)]
@@ -86,6 +90,32 @@ pub struct iface_endpoint {
     pub port: u16,
 }
 
+/// An own address with its network.
+#[repr(C)]
+#[derive(Clone, Copy, Debug)]
+pub struct iface_cidr {
+    /// `address`.
+    pub address: iface_address,
+    /// how many bits of it are the network's
+    pub prefix_len: u8,
+}
+
+/// What waits in a queue of a socket, and what it holds at most.
+#[repr(C)]
+#[derive(Clone, Copy, Debug)]
+pub struct iface_queue {
+    /// how many wait
+    pub packets: u32,
+    /// how many they have together
+    pub octets: u32,
+    /// how many it holds at most
+    pub most_packets: u32,
+    /// how many they have together at most
+    pub most_octets: u32,
+    /// how many octets the first packet has, 0 where none waits
+    pub first: u32,
+}
+
 /// How a host is to be made: `iface_config_init` fills it in.
 #[repr(C)]
 #[derive(Clone, Copy, Debug)]
@@ -96,6 +126,8 @@ pub struct iface_config {
     pub patience: u64,
     /// how long fragments of a packet wait for the others, in microseconds: not 0, at most a day. Two packets at a time are put together, so strangers' fragments block the others for so long
     pub reassembly_timeout: u64,
+    /// the moment at which the host begins: from 0 to `IFACE_LAST_MOMENT`
+    pub start: i64,
     /// the longest frame of the link in octets, with a header of Ethernet and without its checksum: 1514 on usual Ethernet
     pub frame_len: u32,
     /// how many may be open at once; memory for their places is taken at once
@@ -108,6 +140,20 @@ pub struct iface_config {
     pub slaac: u8,
 }
 
+/// What a host counted since it was made. A number stays at the greatest one.
+#[repr(C)]
+#[derive(Clone, Copy, Debug)]
+pub struct iface_counters {
+    /// frames that `iface_receive` took
+    pub frames_in: u64,
+    /// frames that `iface_receive` and `iface_next` wrote
+    pub frames_out: u64,
+    /// packets that were given up, of all sockets
+    pub given_up: u64,
+    /// how often memory for a frame was refused in the middle of a round: what was to be sent waits
+    pub no_memory: u64,
+}
+
 impl iface {
     /// A handle that owns no host.
     pub const NONE: iface = iface {
@@ -118,22 +164,29 @@ impl iface {
 
 const _: () = assert!(size_of::<iface_address>() == 17);
 const _: () = assert!(size_of::<iface_endpoint>() == 20);
-const _: () = assert!(size_of::<iface_config>() == 40);
+const _: () = assert!(size_of::<iface_config>() == 48);
 const _: () = assert!(size_of::<iface>() == 16);
+const _: () = assert!(size_of::<iface_cidr>() == 18);
+const _: () = assert!(size_of::<iface_counters>() == 32);
+const _: () = assert!(size_of::<iface_queue>() == 20);
 
 unsafe extern "C" {
-    /// Writes what most programs want: frames of 1514 octets on Ethernet, 8 sockets, no addresses from routers, a patience of 3 s (three requests, a second apart: RFC 4861, 10), and 10 s for fragments. The seed is 0, and the hardware address all zeros: set both.
+    /// Writes what most programs want: frames of 1514 octets on Ethernet, 8 sockets, no addresses from routers, a patience of 3 s (three requests, a second apart: RFC 4861, 10), and 10 s for fragments. The start is 0, the seed is 0, and the hardware address all zeros: set the last two.
     pub fn iface_config_init(config: *mut iface_config);
-    /// Makes a host, which the handle owns from then on. HAS_HOST, BAD_ARGUMENT (the medium), NOT_UNICAST (the hardware address), BAD_MTU, BAD_TIMEOUT, NO_MEMORY.
-    pub fn iface_new(host: *mut iface, config: *const iface_config) -> u32;
+    /// What `iface_new` calls, with the version of the header that the program was built with.
+    pub fn iface_new_for(host: *mut iface, config: *const iface_config, version: u32) -> u32;
     /// Frees a host, with its sockets and the frames that wait. The handle owns none from then on. NO_HOST.
     pub fn iface_free(host: *mut iface) -> u32;
     /// Adds an own address with its network, as 192.168.69.1 with 24, behind the others, and forgets all neighbours: at most four. On Ethernet the host joins the solicited-node group of an IPv6 address (RFC 4291, 2.7.1). BAD_ARGUMENT, TABLE_FULL, NOT_UNICAST (neither unicast nor unspecified).
     pub fn iface_add_address(host: *mut iface, address: *const iface_address, prefix_len: u8) -> u32;
     /// Takes out the first own address that is this one with this prefix, and forgets all neighbours. BAD_ARGUMENT, NOT_THERE.
     pub fn iface_remove_address(host: *mut iface, address: *const iface_address, prefix_len: u8) -> u32;
+    /// Makes a list of at most four its own addresses, with their networks, and forgets all neighbours. TABLE_FULL, BAD_ARGUMENT, NOT_UNICAST.
+    pub fn iface_set_addresses(host: *mut iface, addresses: *const iface_cidr, count: usize) -> u32;
     /// Writes the own address at a place of their list, from 0 on: those that came from routers stand there too. NOT_THERE.
     pub fn iface_address_at(host: *mut iface, place: u32, address: *mut iface_address, prefix_len: *mut u8) -> u32;
+    /// Writes the link-local address that a hardware address makes: fe80::/64 with its modified EUI-64 (RFC 4291, 2.5.1 and appendix A; RFC 2464, 5). It needs no host. NOT_UNICAST (a group's hardware address).
+    pub fn iface_link_local(hardware_address: *const u8, address: *mut iface_address) -> u32;
     /// Joins a group, of at most eight: from now on packets to it are taken, and `iface_next` tells routers of it (RFC 2236, RFC 3810). BAD_ARGUMENT, BAD_ADDRESS (no group's), TABLE_FULL.
     pub fn iface_join_group(host: *mut iface, group: *const iface_address) -> u32;
     /// Leaves a group, if the host is in it. BAD_ARGUMENT, BAD_ADDRESS.
@@ -158,9 +211,17 @@ unsafe extern "C" {
     pub fn iface_set_default_route(host: *mut iface, gateway: *const iface_address) -> u32;
     /// Adds a route to a network by a router. The longest prefix wins, of equal ones the last. BAD_ARGUMENT, TABLE_FULL.
     pub fn iface_add_route(host: *mut iface, network: *const iface_address, prefix_len: u8, router: *const iface_address) -> u32;
+    /// The same up to an end: the route is used until that moment, which is included, and stays in the table behind it. With `IFACE_NEVER` it has none. BAD_ARGUMENT, BAD_MOMENT, TABLE_FULL.
+    pub fn iface_add_route_until(host: *mut iface, network: *const iface_address, prefix_len: u8, router: *const iface_address, until: i64) -> u32;
     /// Takes out the first route to a network. BAD_ARGUMENT, NOT_THERE.
     pub fn iface_remove_route(host: *mut iface, network: *const iface_address, prefix_len: u8) -> u32;
-    /// UDP (RFC 768) at a port of one address, or of any if the version of local is 0. BAD_PORT.
+    /// Writes the route at a place of their list, from 0 on, and the moment until which it is used, which is included: `IFACE_NEVER` if it has no end. Those that came from routers stand there too. NOT_THERE.
+    pub fn iface_route_at(host: *mut iface, place: u32, network: *mut iface_address, prefix_len: *mut u8, router: *mut iface_address, until: *mut i64) -> u32;
+    /// Writes the own address that packets to a destination are sent from, where their socket names none. Over IPv4 it is the first whose network has the destination, else the first one; over IPv6 the best one (RFC 6724, 5: rules 1, 2 and 8), and ::1 where the host has none. BAD_ARGUMENT, NOT_THERE (no own address of IPv4).
+    pub fn iface_source_for(host: *mut iface, remote: *const iface_address, source: *mut iface_address) -> u32;
+    /// Writes the neighbour at a place of their list, from 0 on: its address, that on Ethernet, six octets, and the moment from which the latter isn't known any more. At most four stand there, by rising moments, those whose moment has passed too. Without hardware addresses there is none. NOT_THERE.
+    pub fn iface_neighbor_at(host: *mut iface, place: u32, address: *mut iface_address, hardware_address: *mut u8, until: *mut i64) -> u32;
+    /// UDP (RFC 768) at a port of one address. At a port of any, of both versions, if the version of local is 0 as in `IFACE_ANY`, or its address 0.0.0.0 or ::. Datagrams to groups and broadcast addresses come to each. BAD_PORT, BAD_ADDRESS (a group's, or 255.255.255.255).
     pub fn iface_udp_open(host: *mut iface, local: *const iface_endpoint, packets: u32, octets: u32, socket: *mut u32) -> u32;
     /// Whole packets of a version of IP and a protocol.
     pub fn iface_raw_open(host: *mut iface, version: u8, protocol: u8, packets: u32, octets: u32, socket: *mut u32) -> u32;
@@ -170,6 +231,12 @@ unsafe extern "C" {
     pub fn iface_icmp_open_port(host: *mut iface, port: u16, packets: u32, octets: u32, socket: *mut u32) -> u32;
     /// Closes a socket of whatever kind: what waits in it is dropped. NO_SOCKET.
     pub fn iface_close(host: *mut iface, socket: u32) -> u32;
+    /// Sets the hop limit of the packets that a UDP or an ICMP socket sends from now on, those that wait among them: 64 at first. BAD_ARGUMENT (0), NO_SOCKET (also for a raw one, whose packets have their own headers).
+    pub fn iface_set_hop_limit(host: *mut iface, socket: u32, hop_limit: u8) -> u32;
+    /// Writes the hop limit of the packets that a UDP or an ICMP socket sends. NO_SOCKET, as above.
+    pub fn iface_hop_limit(host: *mut iface, socket: u32, hop_limit: *mut u8) -> u32;
+    /// Writes what waits in the two queues of a socket of whatever kind: what was received, and what is to be sent. NO_SOCKET.
+    pub fn iface_queues(host: *mut iface, socket: u32, received: *mut iface_queue, to_send: *mut iface_queue) -> u32;
     /// A datagram with this payload: over IPv4 of at most 4096 octets with its headers (28), in pieces if the link's packets are shorter, over IPv6 of at most one packet of the link with its headers (48). BAD_ARGUMENT, BAD_PORT, BAD_ADDRESS (unspecified), TOO_LONG.
     pub fn iface_udp_send(host: *mut iface, socket: u32, remote: *const iface_endpoint, payload: *const u8, payload_len: usize) -> u32;
     /// A message of ICMP: one that isn't an echo message of the address's family is dropped later. BAD_ARGUMENT, BAD_ADDRESS, TOO_LONG.
@@ -194,6 +261,10 @@ unsafe extern "C" {
     ///
     /// Frames are sent in rounds: in a round what has ended is dropped, routers are told of groups, and each socket that has something to send sends one packet, in the order of their numbers. A packet that goes in pieces is begun when no piece of another one is left, so sockets take turns with such packets. The frames of a round wait in the library until they are asked for, one a call; a call that finds none makes the next round. So no socket is passed over, however seldom frames are asked for. Call it until `*length` is 0, and then ask `iface_poll_at`. NO_MEMORY (before a round, if memory for a frame is refused).
     pub fn iface_next(host: *mut iface, now: i64, out: *mut u8, room: usize, length: *mut usize) -> u32;
+    /// Writes 1 if a socket may have changed by frames that were taken and rounds that were made since this was last asked, else 0. It may have if a frame was taken that isn't empty, or if a round sent or dropped a packet of a socket. What a socket gave up since its neighbour didn't answer is told by `iface_given_up`.
+    pub fn iface_sockets_changed(host: *mut iface, changed: *mut u8) -> u32;
+    /// Writes what the host counted.
+    pub fn iface_counters(host: *mut iface, counters: *mut iface_counters) -> u32;
     /// Writes the instant at which `iface_next` is to be called again, if no frame comes before and no call changes the host: one that has passed, if something is due at once, and `IFACE_NEVER`, if nothing is due.
     pub fn iface_poll_at(host: *mut iface, now: i64, at: *mut i64) -> u32;
     /// The version of the header that the library was built with.
@@ -202,4 +273,13 @@ unsafe extern "C" {
     pub fn iface_build() -> *const c_char;
     /// What a code says, as "the queue is full"; "unknown code" for a number that is none.
     pub fn iface_strerror(code: u32) -> *const c_char;
+}
+
+/// Makes a host, which the handle owns from then on. BAD_VERSION, HAS_HOST, BAD_ARGUMENT (the medium), NOT_UNICAST (the hardware address), BAD_MTU, BAD_TIMEOUT, BAD_MOMENT (the start), NO_MEMORY.
+///
+/// # Safety
+/// As each call of the header.
+pub unsafe fn iface_new(host: *mut iface, config: *const iface_config) -> u32 {
+    // SAFETY: the caller keeps what the header says.
+    unsafe { iface_new_for(host, config, IFACE_VERSION) }
 }

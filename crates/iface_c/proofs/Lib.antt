@@ -1,4 +1,6 @@
 mod AsBox
 mod Codes
+mod Lists
 mod Networks
+mod SameHost
 pub mod Values

@@ -4,6 +4,7 @@ use Rattle.std.specs.Prelude.{[], ◌∷◌, ◌++◌, Option, Some, None, if◌
 use Rattle.std.specs.Option.{option_and_then, option_map}
 use Rattle.std.specs.Int.{w32, w128, from_be_bytes, to_be_bytes}
 use Rattle.std.proofs.Common.{lit≤}
+use Rattle.ip_address.specs.Ip.{is_unspecified}
 use Rattle.ip_address.specs.Ipv4.{address_of}
 use Rattle.ip_address.specs.declared.ip.IpAddress.{IpAddress}
 use Rattle.ip_address.specs.declared.ipv4.Ipv4Address.{Ipv4Address}
@@ -55,11 +56,15 @@ end_in e = option_map (λ (a : IpAddress). record { addr = a; port = e.port }) (
 abbrev pub written_end : IpEndpoint → IfaceEndpoint
 written_end e = record { address = address_for_c e.addr; port = e.port }
 
--- the end at which a socket listens: at any address, if the version is 0
+-- an address, unless it is unspecified
+abbrev pub specified : IpAddress → Option IpAddress
+specified a = if is_unspecified a then None else Some a
+
+-- the end at which a socket listens: at any address, if the version is 0 or the address unspecified
 abbrev pub listen_end_in : IfaceEndpoint → Option IpListenEndpoint
 listen_end_in e =
     if e.address.version == 0 then Some (record { addr = None; port = e.port })
-    else option_map (λ (a : IpAddress). record { addr = Some a; port = e.port }) (address_in e.address)
+    else option_map (λ (a : IpAddress). record { addr = specified a; port = e.port }) (address_in e.address)
 
 -- the version of IP of a number
 abbrev pub version_in : ℕ → Option IpVersion

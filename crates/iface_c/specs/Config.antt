@@ -1,5 +1,5 @@
 -- The configuration of a host as C writes it.
-use Rattle.std.specs.Prelude.{◌==◌, not, replicate, Option, Some, None, if◌then◌else◌}
+use Rattle.std.specs.Prelude.{◌==◌, pos, not, replicate, Option, Some, None, if◌then◌else◌}
 use Rattle.ip_address.specs.declared.hardware.HardwareAddress.{HardwareAddress}
 use Rattle.ip_address.specs.declared.hardware.HardwareAddress.TheVariants.{Ethernet, Ip}
 use Rattle.iface_host.specs.declared.host.Settings.{Settings}
@@ -15,15 +15,17 @@ settings_with c hardware = record {
   sockets = c.sockets;
   patience = c.patience;
   reassembly_timeout = c.reassembly_timeout;
+  start = c.start;
 }
 
 -- what most programs want: eight sockets on Ethernet, three seconds of patience, as three solicitations take (RFC 4861
--- 10), and ten for fragments
+-- 10), ten for fragments, and moment 0 to begin at
 abbrev pub usual : IfaceConfig
 usual = record {
   seed = 0;
   patience = 3000000;
   reassembly_timeout = 10000000;
+  start = pos 0;
   frame_len = 1514;
   sockets = 8;
   hardware_address = replicate 6 0;

@@ -1,10 +1,16 @@
 pub mod Addresses
 pub mod Calls
 pub mod Config
+pub mod Counters
 pub mod Handle
 pub mod Hosts
+pub mod Lists
+pub mod Neighbors
+pub mod Options
 pub mod Owned
 pub mod Packets
 pub mod Properties
+pub mod Queues
+pub mod Routes
 pub mod Status
 pub mod Waits

@@ -1,5 +1,5 @@
 -- The code that each call answers.
-use Rattle.std.specs.Prelude.{◌≡◌, ◌≢◌, ℕ, Option, Some, None}
+use Rattle.std.specs.Prelude.{◌≡◌, ◌≢◌, ◌==◌, ℕ, Option, Some, None, if◌then◌else◌}
 use Rattle.iface_host.specs.declared.host.Host.{Host}
 use Rattle.iface_host.specs.declared.refusal.Refusal.{Refusal}
 use Rattle.iface_host.specs.declared.refusal.Refusal.TheVariants.{NoMemory, BadMtu, NotUnicast, BadMoment}
@@ -43,6 +43,10 @@ abbrev pub code_for_new : {A : Type 0} → (A → Option Refusal) → Option A �
 code_for_new why settings (Some host) = 2
 code_for_new why None None = 3
 code_for_new why (Some settings) None = code_if (why settings)
+
+-- of the same call for a program with a header of this version: 18 where it isn't the library's, 0.14.0 with number 2
+abbrev pub code_for_version : ℕ → ℕ → ℕ
+code_for_version version due = if version == 0x000e_0002 then due else 18
 
 -- of a call for which memory may be refused: the one that is due; or in place of 0 that of refused memory, 4
 pub record IsDueOrMemory (due code : ℕ) : Type 0 where

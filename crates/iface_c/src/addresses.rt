@@ -1,7 +1,7 @@
 //! Addresses, networks, routes and groups.
 ghost use Rattle.std.specs.Prelude.{◌≡◌};
 ghost use Rattle.iface_c.specs.Addresses.{address_in, cidr_in, end_in, listen_end_in};
-ghost use Rattle.iface_c.specs.Addresses.{network_of, address_for_c, written_end};
+ghost use Rattle.iface_c.specs.Addresses.{network_of, address_for_c, specified, written_end};
 
 use ip_wire::{IpAddress, IpCidr, Ipv4Address, Ipv4Cidr, Ipv6Address, Ipv6Cidr};
 use sockets::{IpEndpoint, IpListenEndpoint};
@@ -90,19 +90,30 @@ impl IfaceEndpoint {
         }
     }
 
-    /// The end at which a socket listens: at any address, if the version is 0.
+    /// The end at which a socket listens: at any address, if the version is 0 or the address unspecified.
     pub fn listen_end(&self) -> Option<IpListenEndpoint>
         ensures { result ≡ listen_end_in self.now }
     {
         let addr = if self.address.version == 0 {
             None
         } else {
-            Some(self.address.ip()?)
+            specified(self.address.ip()?)
         };
         Some(IpListenEndpoint {
             addr,
             port: self.port,
         })
+    }
+}
+
+/// The address, unless it is unspecified: 0.0.0.0 or ::.
+fn specified(address: IpAddress) -> Option<IpAddress>
+    ensures { result ≡ specified address }
+{
+    if address.is_unspecified() {
+        None
+    } else {
+        Some(address)
     }
 }
 

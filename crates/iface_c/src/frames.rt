@@ -14,7 +14,7 @@ use net_base::time::Instant;
 use std::alloc::Global;
 
 /// The instant that stands for none.
-const NEVER: i64 = i64::MAX;
+pub(crate) const NEVER: i64 = i64::MAX;
 
 /// Takes a frame, and writes the one that is to be sent in response.
 #[unsafe(no_mangle)]
@@ -95,7 +95,7 @@ pub extern "C" fn iface_poll_at(handle: &mut Iface, alloc: Global, now: i64, at:
 }
 
 /// The microseconds of an instant, or `NEVER` if there is none.
-fn micros_or_never(due: Option<Instant>) -> i64
+pub(crate) fn micros_or_never(due: Option<Instant>) -> i64
     ensures { result ≡ read_as due }
 {
     due.map_or(NEVER, |instant| instant.total_micros())

@@ -6,7 +6,7 @@ ghost use Rattle.iface_c.specs.Calls.{Did, Made, Ruled};
 ghost use Rattle.iface_c.specs.Config.{settings_in, usual};
 ghost use Rattle.iface_c.specs.Handle.{host_in};
 ghost use Rattle.iface_c.specs.Hosts.{ShowsAddress};
-ghost use Rattle.iface_c.specs.Status.{IsDueOrMemory, code_by, code_for_new, code_with};
+ghost use Rattle.iface_c.specs.Status.{IsDueOrMemory, code_by, code_for_new, code_for_version, code_with};
 ghost use Rattle.iface_host.specs.Calls.{AddsAddress, AddsRoute, JoinsGroup, LeavesGroup};
 ghost use Rattle.iface_host.specs.Calls.{RemovesAddress, RemovesRoute, SetsDefault};
 ghost use Rattle.iface_host.specs.Stands.{Follows};
@@ -14,7 +14,7 @@ ghost use Rattle.iface_host.specs.TableRefusals as refusals;
 
 use crate::addresses::IfaceAddress;
 use crate::handle::Iface;
-use crate::status::{BAD_ARGUMENT, HAS_HOST, NO_HOST, NO_MEMORY, NOT_THERE, OK, code};
+use crate::status::{BAD_ARGUMENT, BAD_VERSION, HAS_HOST, NO_HOST, NO_MEMORY, NOT_THERE, OK, VERSION, code};
 use iface_host::{Host, Settings};
 use ip_wire::{EthernetAddress, HardwareAddress};
 use net_base::time::Duration;
@@ -30,6 +30,8 @@ pub struct IfaceConfig {
     pub patience: u64,
     /// How long fragments of a packet wait for the others, in microseconds.
     pub reassembly_timeout: u64,
+    /// The moment at which it begins, in microseconds.
+    pub start: i64,
     /// The longest frame, in octets.
     pub frame_len: u32,
     /// How many sockets may be open at once.
@@ -60,6 +62,7 @@ impl IfaceConfig {
             sockets: self.sockets as usize,
             patience: Duration::from_micros(self.patience),
             reassembly_timeout: Duration::from_micros(self.reassembly_timeout),
+            start: self.start,
         })
     }
 }
@@ -73,6 +76,7 @@ pub extern "C" fn iface_config_init(config: &mut IfaceConfig)
         seed: 0,
         patience: 3_000_000,
         reassembly_timeout: 10_000_000,
+        start: 0,
         frame_len: 1514,
         sockets: 8,
         hardware_address: [0; 6],
@@ -81,13 +85,21 @@ pub extern "C" fn iface_config_init(config: &mut IfaceConfig)
     };
 }
 
-/// Makes a host, which its handle owns from then on.
+/// Makes a host for a program with a header of this version, which its handle owns from then on.
 #[unsafe(no_mangle)]
-pub extern "C" fn iface_new(handle: &mut Iface, alloc: Global, config: &IfaceConfig) -> u32
+pub extern "C" fn iface_new_for(
+    handle: &mut Iface,
+    alloc: Global,
+    config: &IfaceConfig,
+    version: u32,
+) -> u32
     ensures made { Made result config.now handle.old handle.new }
-    ensures code { IsDueOrMemory
-        (code_for_new refusals.settings_refusal (settings_in config.now) (host_in handle.old)) result }
+    ensures code { IsDueOrMemory (code_for_version version
+        (code_for_new refusals.settings_refusal (settings_in config.now) (host_in handle.old))) result }
 {
+    if version != VERSION {
+        return BAD_VERSION;
+    }
     if handle.is_made() {
         return HAS_HOST;
     }
@@ -211,8 +223,8 @@ pub extern "C" fn iface_add_route(
     router: &IfaceAddress,
 ) -> u32
     ensures done { Ruled result (λ old new. IsSomeAnd (cidr_in network.now prefix_len) (λ cidr.
-        IsSomeAnd (address_in router.now) (λ via. Follows (AddsRoute cidr via) old new))) handle.old handle.new }
-    ensures code { result ≡ code_with (λ _ host. refusals.route_refusal host)
+        IsSomeAnd (address_in router.now) (λ via. Follows (AddsRoute cidr via None) old new))) handle.old handle.new }
+    ensures code { result ≡ code_with (λ _ host. refusals.route_refusal host None)
         (option_and_then (λ _. address_in router.now) (cidr_in network.now prefix_len)) (host_in handle.old) }
 {
     let Some(cidr) = network.cidr(prefix_len) else {
@@ -224,7 +236,7 @@ pub extern "C" fn iface_add_route(
     let Some(mut host) = handle.take(alloc) else {
         return NO_HOST;
     };
-    let done = host.add_route(cidr, router);
+    let done = host.add_route(cidr, router, None);
     handle.put(host);
     match done {
         Ok(()) => OK,

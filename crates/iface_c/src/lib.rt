@@ -5,16 +5,25 @@
 #![tactic(auto)]
 
 pub mod addresses;
+pub mod counters;
 pub mod frames;
 pub mod handle;
 pub mod hosts;
+pub mod lists;
 pub mod loose;
+pub mod neighbors;
 pub mod opening;
+pub mod options;
 pub mod packets;
 pub mod properties;
+pub mod queues;
+pub mod routes;
 pub mod status;
 pub mod waiting;
 
 pub use addresses::{IfaceAddress, IfaceEndpoint};
+pub use counters::IfaceCounters;
 pub use handle::Iface;
 pub use hosts::IfaceConfig;
+pub use lists::IfaceCidr;
+pub use queues::IfaceQueue;

@@ -178,7 +178,7 @@ pub extern "C" fn iface_has_group(
 }
 
 /// 1 if something holds, else 0.
-fn flag(holds: bool) -> u8
+pub(crate) fn flag(holds: bool) -> u8
     ensures { result ≡ flag_of holds }
 {
     if holds { 1 } else { 0 }

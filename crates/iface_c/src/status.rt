@@ -19,8 +19,23 @@ pub const BAD_ARGUMENT: u32 = 3;
 /// Memory is refused.
 pub const NO_MEMORY: u32 = 4;
 
-/// There is no such address.
+/// An own address or a hardware address that can't be one.
+pub const NOT_UNICAST: u32 = 6;
+
+/// There is no such address or route.
 pub const NOT_THERE: u32 = 9;
+
+/// The table is full, or would be more than full.
+pub const TABLE_FULL: u32 = 10;
+
+/// No socket of this kind is open by this number.
+pub const NO_SOCKET: u32 = 11;
+
+/// The header is of another version.
+pub const BAD_VERSION: u32 = 18;
+
+/// The version of the header, `IFACE_VERSION`.
+pub const VERSION: u32 = 0x000e_0002;
 
 /// The code of a refusal.
 pub fn code(refusal: Refusal) -> u32

@@ -1,7 +1,7 @@
 -- Why calls of the interface are refused, over plain variables.
 use Rattle.std.proofs.Common.{◌≡◌, ℕ, ◌<◌, ◌≤◌, Bool, true, false, List, [], ◌∷◌, ◌++◌, length, Result, Ok, Err}
 use Rattle.std.proofs.Common.{Option, Some, None, refl, ap, ◌∙◌, leb, ltb, arith}
-use Rattle.std.specs.Prelude.{if◌then◌else◌}
+use Rattle.std.specs.Prelude.{ℤ, if◌then◌else◌}
 use Rattle.std.specs.List.{position_or_len, remove}
 use Rattle.std.proofs.lemmas.Bool.{le-leb, leb-true, lt-ltb, ltb-true}
 use Rattle.ip_address.specs.Ip.{is_multicast}
@@ -33,7 +33,7 @@ use Rattle.interface.specs.Stands as interface
 use Rattle.interface.specs.declared.interface.Interface.{Interface}
 use Rattle.iface_host.specs.Calls.{addresses_of, is_same, is_to, routes_of}
 use Rattle.iface_host.specs.TableRefusals.{address_refusal, join_refusal, leave_refusal, list_refusal, removal_refusal}
-use Rattle.iface_host.specs.TableRefusals.{route_refusal, route_removal_refusal}
+use Rattle.iface_host.specs.TableRefusals.{end_refusal, route_refusal, route_removal_refusal}
 use Rattle.iface_host.specs.declared.host.Host.{Host}
 use Rattle.iface_host.specs.declared.refusal.Refusal.{Refusal}
 use Rattle.iface_host.specs.declared.refusal.Refusal.TheVariants.{BadAddress, NotThere, NotUnicast, TableFull}
@@ -152,11 +152,13 @@ default_told is_kind rs r answers = by (routes.is_refused is_kind rs) refl where
   by true e = rw (answers, e) refl
   by false e = rw (answers, e) refl
 
-pub route_full : (host : Host) (n : ℕ) → n ≡ length (routes_of host) → 4 ≤ n → Some TableFull ≡ route_refusal host
-route_full host n is most = rw (← is, four n most) refl
+pub route_full : (host : Host) (end : Option ℤ) (n : ℕ) → None ≡ end_refusal end →
+    n ≡ length (routes_of host) → 4 ≤ n → Some TableFull ≡ route_refusal host end
+route_full host end n none is most = rw (← none, ← is, four n most) refl
 
-pub route_room : (host : Host) (n : ℕ) → n ≡ length (routes_of host) → n < 4 → None ≡ route_refusal host
-route_room host n is less = rw (← is, fewer n less) refl
+pub route_room : (host : Host) (end : Option ℤ) (n : ℕ) → None ≡ end_refusal end →
+    n ≡ length (routes_of host) → n < 4 → None ≡ route_refusal host end
+route_room host end n none is less = rw (← none, ← is, fewer n less) refl
 
 pub route_none : (host : Host) (own : List Route) (cidr : IpCidr) (i : ℕ) → own ≡ routes_of host →
     i ≡ position_or_len (is_to cidr) own → length own ≤ i → Some NotThere ≡ route_removal_refusal host cidr

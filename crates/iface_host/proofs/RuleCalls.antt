@@ -1,6 +1,6 @@
 -- Calls that go by a rule of the machine, over plain variables.
 use Rattle.std.proofs.Common.{◌≡◌, Bool, true, false, List, Result, Ok, Err, refl, ap, sym, ◌∙◌, subst}
-use Rattle.std.specs.Prelude.{OnOk}
+use Rattle.std.specs.Prelude.{OnErr, OnOk}
 use Rattle.ip_address.specs.declared.cidr.IpCidr.{IpCidr}
 use Rattle.ip_address.specs.declared.ip.IpAddress.{IpAddress}
 use Rattle.iface_tables.specs.declared.route.Route.{Route}
@@ -40,6 +40,10 @@ stayed old i Rule same f = record {
 
 pub untouched : (old : Host) → Stays old old
 untouched old = record { led = λ H h. record { host = H; follows = refl; stands = h }; rest = refl }
+
+pub untouched_if : (r : Result (Unit {0}) Refusal) (old : Host) → OnErr r (Stays old old)
+untouched_if (Ok done) old = tt
+untouched_if (Err refusal) old = untouched old
 
 -- a change of every host
 pub changed : (old : Host) (i : Interface) (change : Machine → Machine) →

@@ -1,5 +1,5 @@
 -- What the calls of a host do to the machine's host: addresses, groups and routes.
-use Rattle.std.specs.Prelude.{◌≡◌, ◌==◌, ◌&&◌, Bool, false, List, [], ◌∷◌, ◌++◌, Ok, None}
+use Rattle.std.specs.Prelude.{ℤ, ◌≡◌, ◌==◌, ◌&&◌, Bool, false, List, [], ◌∷◌, ◌++◌, Ok, Option, None}
 use Rattle.std.specs.List.{position_or_len, remove}
 use Rattle.ip_address.specs.declared.cidr.IpCidr.{IpCidr}
 use Rattle.ip_address.specs.declared.cidr.IpCidr.TheVariants as cidr
@@ -10,6 +10,7 @@ use Rattle.iface_tables.specs.declared.route.Route.{Route}
 use Rattle.iface_tables.specs.Route.{ipv4_gateway, ipv6_gateway, is_ipv4_gateway, is_ipv6_gateway, with_default}
 use Rattle.host_machine.specs.State.Host.{Host as Machine, no_sockets}
 use Rattle.host_machine.specs.Sending.Multicast as machine
+use Rattle.host_machine.specs.State.Addresses as addresses
 use Rattle.host_machine.specs.Polling.Step.{UpdatesIpAddrs}
 use Rattle.interface.specs.Stands.{host_with}
 use Rattle.iface_host.specs.declared.host.Host.{Host}
@@ -25,6 +26,10 @@ is_same (cidr.Ipv6 a) (cidr.Ipv6 b) = (a.address.bits == b.address.bits) && (a.p
 abbrev pub addresses_of : Host → List IpCidr
 addresses_of host = (host_with host.interface no_sockets).ip_addrs
 
+-- the own address that packets to a destination are sent from, if there is one
+abbrev pub source_for : Host → IpAddress → Option IpAddress
+source_for host remote = addresses.source_for (addresses_of host) remote
+
 -- its groups and its routes
 abbrev pub groups_of : Host → List Group
 groups_of host = (host_with host.interface no_sockets).groups
@@ -35,6 +40,10 @@ routes_of host = (host_with host.interface no_sockets).routes
 -- an address comes behind the others
 abbrev pub AddsAddress : IpCidr → Machine → Machine → Type 0
 AddsAddress added H = UpdatesIpAddrs (H.ip_addrs ++ added ∷ []) (Ok tt) H
+
+-- these are all its addresses
+abbrev pub SetsAddresses : List IpCidr → Machine → Machine → Type 0
+SetsAddresses list = UpdatesIpAddrs list (Ok tt)
 
 -- the first address with a network is gone
 abbrev pub RemovesAddress : IpCidr → Machine → Machine → Type 0
@@ -54,13 +63,14 @@ with_default_gateway (address.Ipv6 gateway) routes = with_default is_ipv6_gatewa
 abbrev pub SetsDefault : IpAddress → Machine → Machine → Type 0
 SetsDefault gateway H H' = H' ≡ record H { routes = with_default_gateway gateway H.routes }
 
--- a route to a network, for good
-abbrev pub route_to : IpCidr → IpAddress → Route
-route_to network router = record { cidr = network; via_router = router; preferred_until = None; expires_at = None }
+-- a route to a network up to an end, that moment included; for good, if it has none
+abbrev pub route_to : IpCidr → IpAddress → Option ℤ → Route
+route_to network router end =
+    record { cidr = network; via_router = router; preferred_until = None; expires_at = end }
 
 -- a route comes behind the others
-abbrev pub AddsRoute : IpCidr → IpAddress → Machine → Machine → Type 0
-AddsRoute network router H H' = H' ≡ record H { routes = H.routes ++ route_to network router ∷ [] }
+abbrev pub AddsRoute : IpCidr → IpAddress → Option ℤ → Machine → Machine → Type 0
+AddsRoute network router end H H' = H' ≡ record H { routes = H.routes ++ route_to network router end ∷ [] }
 
 -- the first route to a network is gone
 abbrev pub is_to : IpCidr → Route → Bool

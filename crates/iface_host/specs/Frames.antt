@@ -1,5 +1,5 @@
 -- Frames that are taken and handed over, and the instant of the next poll.
-use Rattle.std.specs.Prelude.{ℕ, ℤ, ◌≡◌, ◌≢◌, pos, Bool, true, not, List, [], length, take, drop, Option, Some, None}
+use Rattle.std.specs.Prelude.{ℕ, ℤ, ◌≡◌, ◌≢◌, ◌||◌, pos, Bool, true, not, List, [], length, take, drop, Option, Some, None}
 use Rattle.std.specs.Borrow.{Bor}
 use Rattle.fragmentation.specs.Pending.{is_nil}
 use Rattle.egress_schedule.specs.Plan.{Planned}
@@ -10,9 +10,12 @@ use Rattle.interface.specs.Stands.{host_with}
 use Rattle.host_machine.specs.declared.results.PollResult.{PollResult}
 use Rattle.host_machine.specs.Polling.Due.{Due, IsLeast}
 use Rattle.host_machine.specs.State.Host.{Host as Machine, at, no_sockets}
-use Rattle.host_machine.specs.Polling.Polling.{Polls}
+use Rattle.host_machine.specs.Polling.Ingress.{answer_to}
+use Rattle.host_machine.specs.Polling.Polling.{Polls, is_changed, may_change}
+use Rattle.net_base.specs.Device.{Frame}
 use Rattle.interface.specs.Refines.{HostRefinesTelling}
 use Rattle.interface.specs.Receives.{HostRefinesReceiving}
+use Rattle.iface_host.specs.Counters.{after_handing, after_taking}
 use Rattle.iface_host.specs.Outbox.{HandsFirst, Tells, with_room}
 use Rattle.iface_host.specs.Stands.{StandsFor}
 use Rattle.iface_host.specs.declared.host.Host.{Host}
@@ -22,12 +25,18 @@ abbrev pub IsWritten : Option (List ℕ) → ℕ → List ℕ → List ℕ → T
 IsWritten None n before after = (n ≡ 0) × (after ≡ before)
 IsWritten (Some frame) n before after = (n ≡ length frame) × (take n after ≡ frame) × (drop n after ≡ drop n before)
 
--- the machine takes a frame, and the frame that it sends, if there is one, is written
+-- the machine takes a frame, and the frame that it sends, if there is one, is written; both are counted, and sockets
+-- may have changed where the machine's answer says so
 pub record Receives (t : ℤ) (frame : List ℕ) (n : ℕ) (before after : List ℕ) (old new : Host) : Type 0 where
   pub shown : Option (List ℕ)
   pub written : IsWritten shown n before after
   pub received : HostRefinesReceiving t frame shown (StandsFor old) (StandsFor new)
-  pub rest : new ≡ record old { interface = new.interface; sockets = new.sockets }
+  pub rest : new ≡ record old {
+    interface = new.interface;
+    sockets = new.sockets;
+    changed = old.changed || may_change (answer_to (Frame frame));
+    frames = after_handing n (after_taking old.frames);
+  }
 
 -- what is kept of the sockets, and these
 abbrev pub planned : Host → Planned (Bor (Unit {0}))
@@ -38,7 +47,7 @@ abbrev pub is_piece_left : Host → Bool
 is_piece_left host = not (is_nil (host_with host.interface no_sockets).left)
 
 -- the machine polls, by one call of each kind, with room for one frame reserved, over the sockets as they are before
--- the round; what it sends waits behind what waited
+-- the round; what it sends waits behind what waited, and sockets may have changed where its answer says so
 pub record Round (t : ℤ) (old new : Host) : Type 0 where
   pub before : Planned (Bor (Unit {0}))
   pub polled : Sockets (Bor (Unit {0}))
@@ -47,15 +56,23 @@ pub record Round (t : ℤ) (old new : Host) : Type 0 where
   pub went : HostRefinesTelling Tells (with_room true old.outbox) new.outbox (Polls t 1 answer)
       (interface.StandsFor old.interface before.sockets) (interface.StandsFor new.interface polled)
   pub ended : planned new ≡ after_round t (record { plan = before.plan; sockets = polled })
-  pub rest : new
-      ≡ record old { interface = new.interface; sockets = new.sockets; outbox = new.outbox; schedule = new.schedule }
+  pub rest : new ≡ record old {
+    interface = new.interface;
+    sockets = new.sockets;
+    outbox = new.outbox;
+    schedule = new.schedule;
+    changed = old.changed || is_changed answer;
+  }
+
+-- the first frame that waits is handed over, and counted
+pub record HandsOver (n : ℕ) (before after : List ℕ) (old new : Host) : Type 0 where
+  pub first : HandsFirst old.outbox n before after new.outbox
+  pub rest : new ≡ record old { outbox = new.outbox; frames = after_handing n old.frames }
 
 -- the first frame that waits is handed over; where none waits, a round is made before
 pub data NextIs (t : ℤ) (n : ℕ) (before after : List ℕ) (old new : Host) : Type 0 where
-  Waited : old.outbox.frames ≢ [] → HandsFirst old.outbox n before after new.outbox →
-      new ≡ record old { outbox = new.outbox } → NextIs t n before after old new
-  Made : (mid : Host) → old.outbox.frames ≡ [] → Round t old mid → HandsFirst mid.outbox n before after new.outbox →
-      new ≡ record mid { outbox = new.outbox } →
+  Waited : old.outbox.frames ≢ [] → HandsOver n before after old new → NextIs t n before after old new
+  Made : (mid : Host) → old.outbox.frames ≡ [] → Round t old mid → HandsOver n before after mid new →
       NextIs t n before after old new
 
 -- the least instant at which something of the machine is due, at the moment that is set; 0 where a frame waits

@@ -4,8 +4,12 @@ pub mod Names
 pub mod Stands
 pub mod Calls
 pub mod Properties
+pub mod Neighbors
 pub mod Sockets
+pub mod HopLimits
+pub mod Queues
 pub mod Refusals
 pub mod TableRefusals
+pub mod Counters
 pub mod Frames
 pub mod Waits

@@ -1,9 +1,10 @@
 -- Which host of the machine a host stands for.
-use Rattle.std.specs.Prelude.{◌≡◌, ◌≤◌, ◌<◌, false, replicate, None, pos}
+use Rattle.std.specs.Prelude.{◌≡◌, ◌≤◌, ◌<◌, false, replicate, None}
 use Rattle.std.specs.Borrow.{Bor}
 use Rattle.egress_schedule.specs.Plan.{first_plan}
 use Rattle.net_base.specs.Checksum.{ip_mtu_of}
 use Rattle.socket_set.specs.SocketSet.{Storage, over}
+use Rattle.iface_host.specs.Counters.{no_frames}
 use Rattle.iface_host.specs.Outbox.{empty}
 use Rattle.host_machine.specs.State.Config.{first_host}
 use Rattle.host_machine.specs.State.Host.{Host as Machine, SocketSet}
@@ -32,15 +33,15 @@ capabilities_of s = record {
 abbrev pub free_storage : Storage (Bor (Unit {0}))
 free_storage = record { socket = None; wait = None }
 
--- the machine's first host at moment 0, whose fragments wait as long as they are to
+-- the machine's first host at the moment at which it begins, whose fragments wait as long as they are to
 abbrev pub first_machine : Settings → SocketSet → Machine
 first_machine s sockets =
-    record (first_host (capabilities_of s) s.hardware_addr s.random_seed s.slaac (pos 0) sockets) {
+    record (first_host (capabilities_of s) s.hardware_addr s.random_seed s.slaac s.start sockets) {
       reassembly_timeout = s.reassembly_timeout;
     }
 
 -- it was just made: it stands for the machine's first host; its places are free, its numbers name none, no frame waits,
--- and no socket does
+-- and no socket does; nothing changed, and nothing was counted
 pub record IsFirst (s : Settings) (host : Host) : Type 0 where
   pub stands : StandsFor host (first_machine s host.sockets)
   pub some_time : 0 < s.reassembly_timeout
@@ -50,6 +51,8 @@ pub record IsFirst (s : Settings) (host : Host) : Type 0 where
   pub names : host.names ≡ replicate s.sockets None
   pub outbox : host.outbox ≡ empty (capabilities_of s)
   pub schedule : host.schedule ≡ first_plan s.patience s.sockets host.schedule.room
+  pub changed : host.changed ≡ false
+  pub frames : host.frames ≡ no_frames
 
 -- nothing but the interface changed, and by a rule: from each host that it stood for, the rule leads to
 -- one that it stands for

@@ -1,11 +1,11 @@
 -- Why a host isn't made, and why calls for addresses, groups, routes and new sockets are refused: the first of the
 -- reasons that holds, in their order.
-use Rattle.std.specs.Prelude.{ℕ, ◌==◌, ◌++◌, ◌||◌, ◌&&◌, nat_le, nat_lt, not, is_some, Bool, false, [], ◌∷◌}
+use Rattle.std.specs.Prelude.{ℕ, ℤ, ◌==◌, ◌++◌, ◌||◌, ◌&&◌, nat_le, nat_lt, not, is_some, Bool, false, [], ◌∷◌}
 use Rattle.std.specs.Prelude.{List, length, slice_get, Option, Some, None, if◌then◌else◌}
 use Rattle.std.specs.List.{position_or_len, remove}
 use Rattle.net_base.specs.Checksum.{ip_mtu_of}
 use Rattle.ip_address.specs.Hardware.{is_unicast}
-use Rattle.ip_address.specs.Ip.{is_multicast}
+use Rattle.ip_address.specs.Ip.{is_broadcast, is_multicast}
 use Rattle.ip_address.specs.declared.cidr.IpCidr.{IpCidr}
 use Rattle.ip_address.specs.declared.ip.IpAddress.{IpAddress}
 use Rattle.ip_address.specs.declared.ip.IpAddress.TheVariants.{Ipv4, Ipv6}
@@ -15,8 +15,9 @@ use Rattle.iface_tables.specs.Route.{is_ipv4_gateway, is_ipv6_gateway}
 use Rattle.group_table.specs.Groups as groups
 use Rattle.socket_set.specs.SocketSet.{has_free}
 use Rattle.host_machine.specs.State.Host.{are_assignable}
-use Rattle.iface_host.specs.Calls.{addresses_of, groups_of, is_same, is_to, routes_of}
+use Rattle.iface_host.specs.Calls.{addresses_of, groups_of, is_same, is_to, routes_of, source_for}
 use Rattle.iface_host.specs.Names.{first_unused}
+use Rattle.iface_host.specs.Refusals.{moment_refusal}
 use Rattle.iface_host.specs.Stands.{capabilities_of}
 use Rattle.iface_host.specs.declared.host.Host.{Host}
 use Rattle.iface_host.specs.declared.host.Settings.{Settings}
@@ -24,18 +25,23 @@ use Rattle.iface_host.specs.declared.refusal.Refusal.{Refusal}
 use Rattle.iface_host.specs.declared.refusal.Refusal.TheVariants.{BadAddress, BadMtu, BadPort, BadTimeout}
 use Rattle.iface_host.specs.declared.refusal.Refusal.TheVariants.{NotThere, NotUnicast, TableFull}
 
+-- the first of two reasons that holds
+abbrev pub first_reason : Option Refusal → Option Refusal → Option Refusal
+first_reason None second = second
+first_reason (Some refusal) second = Some refusal
+
 -- a time that fragments are to wait: none, or longer than a day
 abbrev pub timeout_refusal : ℕ → Option Refusal
 timeout_refusal timeout =
     if (timeout == 0) || nat_lt 86_400_000_000 timeout then Some BadTimeout else None
 
--- settings: the hardware address isn't unicast; packets are shorter than 576 octets, or frames longer than 1,514; or
--- their time for fragments is refused
+-- settings: the hardware address isn't unicast; packets are shorter than 576 octets, or frames longer than 1,514;
+-- their time for fragments is refused; or the host would begin at no moment that a caller may give
 abbrev pub settings_refusal : Settings → Option Refusal
 settings_refusal s =
     if not (is_unicast s.hardware_addr) then Some NotUnicast else
     if nat_lt (ip_mtu_of (capabilities_of s)) 576 || nat_lt 1514 s.frame_len then Some BadMtu else
-    timeout_refusal s.reassembly_timeout
+    first_reason (timeout_refusal s.reassembly_timeout) (moment_refusal s.start)
 
 -- a list of own addresses: one is neither unicast nor unspecified
 abbrev pub list_refusal : List IpCidr → Option Refusal
@@ -74,9 +80,23 @@ default_route_refusal host (Ipv4 gateway) =
 default_route_refusal host (Ipv6 gateway) =
     if routes.is_refused is_ipv6_gateway (routes_of host) then Some TableFull else None
 
--- one more route: four are there
-abbrev pub route_refusal : Host → Option Refusal
-route_refusal host = if nat_le 4 (length (routes_of host)) then Some TableFull else None
+-- the end of a route, if it has one: it is no moment that a caller may give
+abbrev pub end_refusal : Option ℤ → Option Refusal
+end_refusal None = None
+end_refusal (Some end) = moment_refusal end
+
+-- one more route: its end is refused, or four routes are there
+abbrev pub route_refusal : Host → Option ℤ → Option Refusal
+route_refusal host end =
+    first_reason (end_refusal end) (if nat_le 4 (length (routes_of host)) then Some TableFull else None)
+
+-- the route at a place: none is there
+abbrev pub route_place_refusal : Host → ℕ → Option Refusal
+route_place_refusal host place = if is_some (slice_get (routes_of host) place) then None else Some NotThere
+
+-- the own address for a destination: there is none
+abbrev pub source_refusal : Host → IpAddress → Option Refusal
+source_refusal host remote = if is_some (source_for host remote) then None else Some NotThere
 
 -- a route less: it isn't there
 abbrev pub route_removal_refusal : Host → IpCidr → Option Refusal
@@ -92,6 +112,13 @@ is_number (Some n) = nat_lt n 4294967296
 abbrev pub opening_refusal : Host → Option Refusal
 opening_refusal host = if is_number (first_unused host.names) && has_free host.sockets then None else Some TableFull
 
--- one of UDP: before that, its port is 0
+-- an address that no host has as its own: a group's, or 255.255.255.255 (RFC 1122 3.2.1.3)
+abbrev pub is_no_hosts : Option IpAddress → Bool
+is_no_hosts None = false
+is_no_hosts (Some address) = is_multicast address || is_broadcast address
+
+-- one of UDP: before that, its port is 0, or its address no host's
 abbrev pub udp_opening_refusal : Host → IpListenEndpoint → Option Refusal
-udp_opening_refusal host local = if local.port == 0 then Some BadPort else opening_refusal host
+udp_opening_refusal host local =
+    if local.port == 0 then Some BadPort else
+    if is_no_hosts local.addr then Some BadAddress else opening_refusal host

@@ -5,9 +5,11 @@ ghost use Rattle.host_machine.specs.Polling.Step.{UpdatesIpAddrs};
 ghost use Rattle.interface.specs.Stands as stands;
 ghost use Rattle.std.specs.List.{position_or_len, remove};
 ghost use Rattle.host_machine.specs.State.Host.{SocketSet};
-ghost use Rattle.iface_host.specs.Calls.{is_same, AddsAddress, JoinsGroup, LeavesGroup, RemovesAddress, addresses_of};
+ghost use Rattle.iface_host.specs.Calls.{is_same, AddsAddress, JoinsGroup, LeavesGroup, RemovesAddress};
+ghost use Rattle.iface_host.specs.Calls.{SetsAddresses, addresses_of, source_for};
 ghost use Rattle.iface_host.specs.Stands.{Follows, Stays};
-ghost use Rattle.iface_host.specs.TableRefusals.{address_refusal, join_refusal, leave_refusal, removal_refusal};
+ghost use Rattle.iface_host.specs.TableRefusals.{address_refusal, join_refusal, leave_refusal};
+ghost use Rattle.iface_host.specs.TableRefusals.{list_refusal, removal_refusal};
 
 use crate::host::Host;
 use crate::refusal::Refusal;
@@ -32,6 +34,20 @@ impl Host {
         }
         self.interface.stands_for_a_host();
         match put_addresses(&mut self.interface, list) {
+            Ok(()) => Ok(()),
+            Err(_) => Err(Refusal::NotUnicast),
+        }
+    }
+
+    /// Makes a list its own addresses, with their networks, and forgets all neighbours. `NotUnicast` if one of them is
+    /// neither unicast nor unspecified.
+    pub fn set_addresses(&mut self, addresses: ArrayVec<IpCidr, 4>) -> Result<(), Refusal>
+        ensures set { OnOk result (Follows (SetsAddresses addresses.items) self.old self.new) }
+        ensures why { result_err result ≡ list_refusal addresses.items }
+        ensures refused { OnErr result (Stays self.old self.new) }
+    {
+        self.interface.stands_for_a_host();
+        match put_addresses(&mut self.interface, addresses) {
             Ok(()) => Ok(()),
             Err(_) => Err(Refusal::NotUnicast),
         }
@@ -62,6 +78,15 @@ impl Host {
         ensures { result ≡ slice_get (addresses_of self.now) index }
     {
         cidr_at(self.interface.ip_addrs(), index)
+    }
+
+    /// The own address that packets to a destination are sent from, where their socket names none: over IPv4 the first
+    /// one whose network has the destination, or else the first one; over IPv6 the best one (RFC 6724 5), and ::1 where
+    /// the host has none. `None` if it has no address of IPv4.
+    pub fn source_for(&self, remote: IpAddress) -> Option<IpAddress>
+        ensures { result ≡ source_for self.now remote }
+    {
+        self.interface.get_source_address(&remote)
     }
 
     /// Joins a group. `BadAddress` if it is no group's address, else `TableFull` if the host isn't in

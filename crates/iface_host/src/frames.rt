@@ -2,12 +2,14 @@
 ghost use Rattle.std.specs.Prelude.{◌≡◌, ◌≤◌, IfOk, IfErr, OnOk, OnErr, IfSome, length, None, Some, []};
 ghost use Rattle.net_base.specs.Time.{IsMoment};
 ghost use Rattle.std.specs.Result.{IsErrOf, result_err};
-ghost use Rattle.iface_host.specs.Frames.{IsDue, NextIs, Receives, Round};
+ghost use Rattle.host_machine.specs.Polling.Polling as polling;
+ghost use Rattle.iface_host.specs.Frames.{HandsOver, IsDue, NextIs, Receives, Round};
 ghost use Rattle.iface_host.specs.Refusals.{frame_refusal, moment_refusal};
 
 use crate::host::{FRAME_LEN, Host};
 use crate::outbox::write_front;
 use crate::refusal::Refusal;
+use host_machine::PollResult;
 use net_base::time::Instant;
 
 /// The last moment that a caller may give, in microseconds.
@@ -27,8 +29,14 @@ impl Host {
         if out.len() < FRAME_LEN {
             return Err(Refusal::NoRoom);
         }
+        self.changed |= !frame.is_empty();
+        self.frames.take();
         match self.interface.receive_frame(now, frame, &mut self.sockets) {
-            Some(reply) => Ok(write_front(out, reply)),
+            Some(reply) => {
+                let len = write_front(out, reply);
+                self.frames.hand_over(len);
+                Ok(len)
+            }
             None => Ok(0),
         }
     }
@@ -53,10 +61,10 @@ impl Host {
             return Err(Refusal::NoRoom);
         }
         if self.outbox.len() > 0 {
-            return Ok(self.outbox.hand_over(out));
+            return Ok(self.hand_over(out));
         }
         self.round(now)?;
-        Ok(self.outbox.hand_over(out))
+        Ok(self.hand_over(out))
     }
 
     /// The least instant at which something is due, if anything is: 0 if a frame waits.
@@ -87,16 +95,37 @@ impl Host {
         let is_piece_left = self.interface.has_pending_fragment();
         self.schedule
             .before_round(now, self.ip_mtu, is_piece_left, &mut self.sockets);
-        let _ = self
+        let answer = self
             .interface
             .poll(now, &mut self.outbox, &mut self.sockets, 1);
         self.schedule.after_round(now, &mut self.sockets);
+        self.changed |= is_changed(answer);
         Ok(())
+    }
+
+    /// Hands over the first frame that waits, if one does, and counts it.
+    fn hand_over(&mut self, out: &mut [u8]) -> usize
+        requires { 1514 ≤ length out.old }
+        ensures { HandsOver result out.old out.new self.old self.new }
+    {
+        let len = self.outbox.hand_over(out);
+        self.frames.hand_over(len);
+        len
+    }
+}
+
+/// Whether a poll's answer says that a socket may have changed.
+fn is_changed(answer: PollResult) -> bool
+    ensures { result ≡ polling.is_changed answer }
+{
+    match answer {
+        PollResult::None => false,
+        PollResult::SocketStateChanged => true,
     }
 }
 
 /// The moment of so many microseconds, if it is one that a caller may give.
-fn moment(micros: i64) -> Result<Instant, Refusal>
+pub(crate) fn moment(micros: i64) -> Result<Instant, Refusal>
     ensures why { result_err result ≡ moment_refusal micros }
     ensures moment { IfOk result (λ t. (t ≡ micros) × IsMoment t) }
 {

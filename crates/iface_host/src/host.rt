@@ -1,11 +1,14 @@
 //! The host, and how it is made.
 ghost use Rattle.std.specs.Prelude.{◌≡◌, ◌<◌, ◌≤◌, IfOk, IfErr, OnOk, OnErr, None, Some, replicate};
+ghost use Rattle.net_base.specs.Time.{IsMoment};
 ghost use Rattle.std.specs.Result.{IsErrOf, result_err};
 ghost use Rattle.net_base.specs.Checksum.{ip_mtu_of};
 ghost use Rattle.interface.specs.Stands.{Becomes};
 ghost use Rattle.iface_host.specs.Stands.{IsFirst, capabilities_of, free_storage};
 ghost use Rattle.iface_host.specs.TableRefusals.{settings_refusal, timeout_refusal};
 
+use crate::counters::FrameCounts;
+use crate::frames::moment;
 use crate::names::Names;
 use crate::outbox::Outbox;
 use crate::refusal::Refusal;
@@ -38,9 +41,12 @@ pub struct Settings {
     pub patience: Duration,
     /// How long fragments of a packet wait for the others: some time, at most a day.
     pub reassembly_timeout: Duration,
+    /// The moment at which it begins, in microseconds: from 0 to 2^62.
+    pub start: i64,
 }
 
-/// A host: an interface, its sockets, the numbers that name these, and the frames that wait to be handed over.
+/// A host: an interface, its sockets, the numbers that name these, and the frames that wait to be handed over. Besides,
+/// whether its sockets may have changed since that was asked, and how many frames it took and handed over.
 #[derive(Drop)]
 pub struct Host {
     pub(crate) alloc: Global,
@@ -50,20 +56,23 @@ pub struct Host {
     pub(crate) names: Names,
     pub(crate) outbox: Outbox,
     pub(crate) schedule: Schedule,
+    pub(crate) changed: bool,
+    pub(crate) frames: FrameCounts,
 }
 
 impl Host {
-    /// A host with no address, no route and no socket, at moment 0. The first error that applies is returned:
-    /// `NotUnicast` if its address on Ethernet isn't unicast; `BadMtu` if its longest packet has less than 576 octets,
-    /// or its longest frame more than 1,514; `BadTimeout` if fragments are to wait no time, or longer than a day;
-    /// `NoMemory` if the memory for the places of its sockets is refused.
+    /// A host with no address, no route and no socket, at the moment at which it begins. The first error that applies is
+    /// returned: `NotUnicast` if its address on Ethernet isn't unicast; `BadMtu` if its longest packet has less than 576
+    /// octets, or its longest frame more than 1,514; `BadTimeout` if fragments are to wait no time, or longer than a day;
+    /// `BadMoment` if it would begin below 0 or above 2^62; `NoMemory` if the memory for the places of its sockets is
+    /// refused.
     pub fn new(alloc: Global, settings: &Settings) -> Result<Host, Refusal>
         ensures made { IfOk result (λ host. IsFirst settings.now host) }
         ensures why { (e : Refusal) → settings_refusal settings.now ≡ Some e → IsErrOf result e }
         ensures memory { settings_refusal settings.now ≡ None → IfErr result (λ e. e ≡ Refusal.NoMemory) }
     {
         let capabilities = capabilities(settings);
-        check_settings(settings, capabilities.ip_mtu())?;
+        let start = check_settings(settings, capabilities.ip_mtu())?;
         let mut outbox = Outbox::new(alloc, capabilities);
         let config = Config {
             random_seed: settings.random_seed,
@@ -71,7 +80,7 @@ impl Host {
             slaac: settings.slaac,
         };
         // By the settings neither of these two can fail.
-        let Ok(mut interface) = Interface::new(config, &mut outbox, Instant::ZERO) else {
+        let Ok(mut interface) = Interface::new(config, &mut outbox, start) else {
             return Err(Refusal::NoMemory);
         };
         let Ok(()) = let_fragments_wait(&mut interface, settings.reassembly_timeout) else {
@@ -88,14 +97,18 @@ impl Host {
             names,
             outbox,
             schedule,
+            changed: false,
+            frames: FrameCounts::NONE,
         })
     }
 }
 
-/// Why no host is made by these settings, if so. `NotUnicast`, `BadMtu` and `BadTimeout` as [`Host::new`] says.
-fn check_settings(settings: &Settings, ip_mtu: usize) -> Result<(), Refusal>
+/// The moment at which a host begins, if one is made by these settings. `NotUnicast`, `BadMtu`, `BadTimeout` and
+/// `BadMoment` as [`Host::new`] says.
+fn check_settings(settings: &Settings, ip_mtu: usize) -> Result<Instant, Refusal>
     requires { ip_mtu ≡ ip_mtu_of (capabilities_of settings.now) }
-    ensures { result_err result ≡ settings_refusal settings.now }
+    ensures why { result_err result ≡ settings_refusal settings.now }
+    ensures start { IfOk result (λ t. (t ≡ settings.now.start) × IsMoment t) }
 {
     if !settings.hardware_addr.is_unicast() {
         return Err(Refusal::NotUnicast);
@@ -107,7 +120,7 @@ fn check_settings(settings: &Settings, ip_mtu: usize) -> Result<(), Refusal>
     if timeout == 0 || timeout > 86_400_000_000 {
         return Err(Refusal::BadTimeout);
     }
-    Ok(())
+    moment(settings.start)
 }
 
 /// What the link of a host can do.

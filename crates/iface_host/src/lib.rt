@@ -6,17 +6,24 @@
 #![tactic(auto)]
 
 pub mod addresses;
+pub mod counters;
 pub mod frames;
+pub mod hop_limits;
 pub mod host;
 pub mod names;
+pub mod neighbors;
 pub mod opening;
 pub mod outbox;
 pub mod packets;
 pub mod properties;
+pub mod queues;
 pub mod refusal;
 pub mod routes;
 pub mod waiting;
 
+pub use counters::{Counters, FrameCounts};
 pub use host::{Host, Settings};
+pub use neighbors::Known;
 pub use opening::Room;
+pub use queues::Fill;
 pub use refusal::Refusal;

@@ -4,12 +4,12 @@ ghost use Rattle.std.specs.Result.{IsErrOf, result_err};
 ghost use Rattle.iface_host.specs.Names.{first_unused};
 ghost use Rattle.iface_host.specs.Refusals.{close_refusal};
 ghost use Rattle.iface_host.specs.Sockets.{Closes, Opens, icmp, queue_of, raw, udp};
-ghost use Rattle.iface_host.specs.TableRefusals.{opening_refusal, udp_opening_refusal};
+ghost use Rattle.iface_host.specs.TableRefusals.{is_no_hosts, opening_refusal, udp_opening_refusal};
 ghost use Rattle.socket_set.specs.SocketSet.{has_free};
 
 use crate::host::Host;
 use crate::refusal::Refusal;
-use ip_wire::{IpProtocol, IpVersion};
+use ip_wire::{IpAddress, IpProtocol, IpVersion};
 use socket_set::{SocketSet, by_index};
 use sockets::{AnySocketOf, IpListenEndpoint, Queue, icmp, raw, udp};
 use std::alloc::Global;
@@ -24,8 +24,9 @@ pub struct Room {
 }
 
 impl Host {
-    /// Opens a UDP socket that listens at an end, and names it. `BadPort` if its port is 0, else `TableFull` if no
-    /// number is left, else `NoMemory` if memory for its queues is refused.
+    /// Opens a UDP socket that listens at an end, and names it. `BadPort` if its port is 0, else `BadAddress` if its
+    /// address is a group's or 255.255.255.255, else `TableFull` if no number is left, else `NoMemory` if memory for its
+    /// queues is refused.
     pub fn open_udp(&mut self, local: IpListenEndpoint, room: Room) -> Result<u32, Refusal>
         ensures opened { IfOk result (λ n. Opens (udp local room) n self.old self.new) }
         ensures why { (e : Refusal) → udp_opening_refusal self.old local ≡ Some e → IsErrOf result e }
@@ -34,6 +35,9 @@ impl Host {
     {
         if local.port == 0 {
             return Err(Refusal::BadPort);
+        }
+        if is_no_hosts(&local.addr) {
+            return Err(Refusal::BadAddress);
         }
         let number = self.unused_number()?;
         let rx = queue(self.alloc, room)?;
@@ -130,6 +134,16 @@ impl Host {
             }
             Err(_) => Err(Refusal::TableFull),
         }
+    }
+}
+
+/// Whether no host has this address, if it is one: a group's, or 255.255.255.255.
+fn is_no_hosts(address: &Option<IpAddress>) -> bool
+    ensures { result ≡ is_no_hosts address.now }
+{
+    match address {
+        Some(address) => address.is_multicast() || address.is_broadcast(),
+        None => false,
     }
 }
 

@@ -1,22 +1,25 @@
 //! The routes of a host.
-ghost use Rattle.std.specs.Prelude.{◌≡◌, ◌≤◌, OnOk, OnErr, length};
+ghost use Rattle.std.specs.Prelude.{◌≡◌, ◌≤◌, IfOk, OnOk, OnErr, length, slice_get};
 ghost use Rattle.std.specs.Result.{result_err};
 ghost use Rattle.host_machine.specs.State.Host.{SocketSet};
 ghost use Rattle.iface_tables.specs.Route.{ipv4_gateway, ipv6_gateway, is_ipv4_gateway};
 ghost use Rattle.iface_tables.specs.Route.{is_ipv6_gateway, old_or_full, with_default};
 ghost use Rattle.interface.specs.Stands.{Becomes, host_with};
 ghost use Rattle.std.specs.List.{position_or_len};
-ghost use Rattle.iface_host.specs.Calls.{is_to, AddsRoute, RemovesRoute, SetsDefault};
+ghost use Rattle.iface_host.specs.Calls.{is_to, AddsRoute, RemovesRoute, SetsDefault, routes_of};
 ghost use Rattle.iface_host.specs.Stands.{Follows, Stays};
-ghost use Rattle.iface_host.specs.TableRefusals.{default_route_refusal, route_refusal, route_removal_refusal};
+ghost use Rattle.iface_host.specs.TableRefusals.{default_route_refusal, end_refusal};
+ghost use Rattle.iface_host.specs.TableRefusals.{route_refusal, route_removal_refusal};
 
 use crate::addresses::is_same_cidr;
+use crate::frames::moment;
 use crate::host::Host;
 use crate::refusal::Refusal;
 use arrayvec::ArrayVec;
 use iface_tables::route::{Route, RouteTableFull};
 use interface::Interface;
 use ip_wire::{IpAddress, IpCidr, Ipv4Address, Ipv6Address};
+use net_base::time::Instant;
 
 impl Host {
     /// Puts a default route by a gateway behind all other routes, in place of the first of the gateway's family.
@@ -38,18 +41,33 @@ impl Host {
         }
     }
 
-    /// Puts a route to a network by a router behind all others, for good. `TableFull` if four are there.
-    pub fn add_route(&mut self, cidr: IpCidr, via_router: IpAddress) -> Result<(), Refusal>
-        ensures added { OnOk result (Follows (AddsRoute cidr via_router) self.old self.new) }
-        ensures why { result_err result ≡ route_refusal self.old }
+    /// The route at a place of their list, if there is one: at most four stand there, those from routers and those whose
+    /// end has passed too.
+    pub fn route_at(&self, index: usize) -> Option<Route>
+        ensures { result ≡ slice_get (routes_of self.now) index }
+    {
+        route_in(self.interface.routes().as_slice(), index)
+    }
+
+    /// Puts a route to a network by a router behind all others. It is used up to an end in microseconds, that moment
+    /// included, or for good. `BadMoment` if the end is out of range, else `TableFull` if four routes are there.
+    pub fn add_route(
+        &mut self,
+        cidr: IpCidr,
+        via_router: IpAddress,
+        end: Option<i64>,
+    ) -> Result<(), Refusal>
+        ensures added { OnOk result (Follows (AddsRoute cidr via_router end) self.old self.new) }
+        ensures why { result_err result ≡ route_refusal self.old end }
         ensures refused { OnErr result (Stays self.old self.new) }
     {
+        let expires_at = moment_of_end(end)?;
         let mut list = copied(self.interface.routes().as_slice());
         let route = Route {
             cidr,
             via_router,
             preferred_until: None,
-            expires_at: None,
+            expires_at,
         };
         if list.try_push(route).is_err() {
             return Err(Refusal::TableFull);
@@ -73,6 +91,24 @@ impl Host {
         put_routes(&mut self.interface, list);
         Ok(())
     }
+}
+
+/// The moment of an end, if there is one. `BadMoment` if it is out of range.
+fn moment_of_end(end: Option<i64>) -> Result<Option<Instant>, Refusal>
+    ensures why { result_err result ≡ end_refusal end }
+    ensures moment { IfOk result (λ moment. moment ≡ end) }
+{
+    match end {
+        Some(micros) => Ok(Some(moment(micros)?)),
+        None => Ok(None),
+    }
+}
+
+/// The route at a place, if there is one.
+fn route_in(list: &[Route], index: usize) -> Option<Route>
+    ensures { result ≡ slice_get list.now index }
+{
+    list.get(index).copied()
 }
 
 /// Where the first route to a network stands, or the length.

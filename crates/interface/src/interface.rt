@@ -33,6 +33,7 @@ use iface_send::settings::{
 use iface_send::transmit::send_frame;
 use iface_send::{Context, settings};
 use iface_sockets::turns::socket_egress;
+use iface_tables::neighbor::Cache;
 use iface_tables::route::Routes;
 use ip_wire::emit::FrameBuffer;
 use ip_wire::{HardwareAddress, IpAddress, IpCidr, Ipv4Address, Ipv6Address};
@@ -351,6 +352,13 @@ impl Interface {
         ensures { (sockets : SocketSet) → result.now ≡ (host_with self.now sockets).routes }
     {
         self.context.routes()
+    }
+
+    /// The neighbours: those whose hardware addresses were learnt and not forgotten since.
+    pub fn neighbors(&self) -> &Cache
+        ensures { (sockets : SocketSet) → result.now ≡ (host_with self.now sockets).neighbors }
+    {
+        self.context.neighbors()
     }
 
     /// Mutable access to the routes.

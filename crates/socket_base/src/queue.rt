@@ -116,6 +116,14 @@ impl<M: Drop> Queue<M> {
         self.entries.len()
     }
 
+    /// How many octets the packets in the queue have together.
+    #[tactic(auto, using(crate::proofs::QueueLemmas::octets_in_cut))]
+    pub fn payload_len(&self) -> usize
+        ensures { result ≡ octets_in self.now.packets }
+    {
+        self.octets.limit() - self.octets.room()
+    }
+
     /// Whether the queue is empty.
     pub fn is_empty(&self) -> bool
         ensures { result ≡ (length self.now.packets == 0) }

@@ -1,14 +1,8 @@
-use Rattle.std.proofs.Common.{◌≡◌, Option, Some, refl, sym, subst}
-use Rattle.iface_host.specs.declared.host.Host.{Host}
-use Rattle.iface_c.specs.Calls.{Changed}
+use Rattle.std.proofs.Common.{◌≡◌, Some, refl}
 use Rattle.iface_c.specs.Handle.{host_in}
 use Rattle.iface_c.specs.Hosts.{ShowsAddress}
+use Rattle.iface_c.proofs.SameHost.{same_there}
 use Rattle.iface_c.proofs.hosts.iface_address_at.Goals as goal
-
--- a host that is there before and after
-same_there : (Step : Host → Host → Type 0) (x : Host) {a b : Option Host} → a ≡ Some x → b ≡ Some x → Step x x → Changed Step a b
-same_there Step x {a} {b} p q s =
-    subst (λ (old : Option Host). Changed Step old b) (sym p) (subst (λ (new : Option Host). Changed Step (Some x) new) (sym q) s)
 
 pub returns-in-Some-found-clause-shown : goal.returns-in-Some-found-clause-shown
 returns-in-Some-found-clause-shown c =

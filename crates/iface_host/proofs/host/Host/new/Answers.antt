@@ -1,4 +1,4 @@
-use Rattle.std.proofs.Common.{◌≡◌, ℕ, List, ap, false, ◌∙◌}
+use Rattle.std.proofs.Common.{◌≡◌, ℕ, List, ap, false, refl, ◌∙◌}
 use Rattle.net_base.specs.Checksum.{ip_mtu_of}
 use Rattle.socket_set.specs.SocketSet.{Sockets, Storage, over}
 use Rattle.iface_host.specs.Outbox.{empty}
@@ -13,8 +13,9 @@ in_room {room = room} is same = rw is (ap (λ xs. over xs false room) same)
 pub returns-clause-made : goal.returns-clause-made
 returns-clause-made c = record {
   stands = c.in-Ok-let_fragments_wait.ensures.waits c.fixed.result _
-      (stood c.args.settings.now c.in-Ok.interface c.new-outbox.result
-      (c.new-outbox.ensures ∙ ap empty c.capabilities-capabilities.ensures) c.in-Ok.ensures.made.1 c.fixed.result);
+      (stood c.args.settings.now c.in-Ok.interface c.new-outbox.result c.in_ok-start.start
+      (c.new-outbox.ensures ∙ ap empty c.capabilities-capabilities.ensures) c.in_ok-start.ensures.start.0
+      c.in-Ok.ensures.made.1 c.fixed.result);
   some_time = c.in-Ok-let_fragments_wait.ensures.within.0;
   within_day = c.in-Ok-let_fragments_wait.ensures.within.1;
   ip_mtu = c.ip_mtu-2.ensures ∙ ap ip_mtu_of c.capabilities-capabilities.ensures;
@@ -22,4 +23,6 @@ returns-clause-made c = record {
   names = c.in_ok-names.ensures;
   outbox = c.new.ensures.device ∙ c.new-outbox.ensures ∙ ap empty c.capabilities-capabilities.ensures;
   schedule = c.in_ok-schedule.ensures;
+  changed = refl;
+  frames = refl;
 }

@@ -1,4 +1,5 @@
-use Rattle.std.proofs.Common.{◌≡◌, true, rules}
+use Rattle.std.proofs.Common.{◌≡◌, Bool, true, ap, rules}
+use Rattle.std.specs.Prelude.{◌||◌}
 use Rattle.host_machine.specs.State.Host.{no_sockets}
 use Rattle.iface_host.specs.Outbox.{with_room}
 use Rattle.iface_host.proofs.FrameCalls.{rounded}
@@ -10,6 +11,7 @@ returns-clause-went c =
     (c.has_pending_fragment-is_piece_left.ensures no_sockets)
     (record { plan = c.before_round.new.self; sockets = c.before_round.new.sockets })
     (record { plan = c.after_round.new.self; sockets = c.after_round.new.sockets }) c.before_round.ensures
-    c.poll.result _ _ _ c.poll.ensures c.after_round.ensures where
+    c.poll-answer.result _ _ _ c.poll-answer.ensures c.after_round.ensures
+    (c.args.self.now.changed || c.is_changed.result) (ap (λ (b : Bool). c.args.self.now.changed || b) c.is_changed.ensures) where
       reserved : c.reserve.new.self ≡ with_room true c.args.self.now.outbox
       reserved = search rules

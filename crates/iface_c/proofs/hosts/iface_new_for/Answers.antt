@@ -3,7 +3,7 @@ use Rattle.iface_host.specs.TableRefusals.{settings_refusal}
 use Rattle.iface_c.specs.Config.{settings_in}
 use Rattle.iface_c.specs.Handle.{host_in}
 use Rattle.iface_c.proofs.Codes.{of_memory, of_refusal}
-use Rattle.iface_c.proofs.hosts.iface_new.Goals as goal
+use Rattle.iface_c.proofs.hosts.iface_new_for.Goals as goal
 
 pub returns-in-Ok-clause-code : goal.returns-in-Ok-clause-code
 returns-in-Ok-clause-code c =

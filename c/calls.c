@@ -1,0 +1,273 @@
+/* What calls that set and read a host do, by values of the RFCs: source addresses (RFC 6724, 10.1), the link-local
+ * address of a hardware address (RFC 2464, 4), routes with an end, hop limits as they are sent, sockets at any address,
+ * and what a host counts. */
+#include "iface.h"
+
+#include <stdio.h>
+#include <string.h>
+
+static int failures, checks;
+
+static uint8_t frame[IFACE_FRAME_ROOM], reply[IFACE_FRAME_ROOM], got[2048];
+
+static void wants(const char *what, uint64_t is, uint64_t want) {
+    checks++;
+    if (is == want) return;
+    failures++;
+    printf("WRONG: %s: %llu, not %llu\n", what, (unsigned long long)is, (unsigned long long)want);
+}
+
+static void must(const char *what, uint32_t code) {
+    wants(what, code, IFACE_OK);
+}
+
+static void wants_address(const char *what, const struct iface_address *is, const struct iface_address *want) {
+    wants(what, memcmp(is, want, sizeof *is) == 0, 1);
+}
+
+static struct iface_address v4(uint8_t a, uint8_t b, uint8_t c, uint8_t d) {
+    return (struct iface_address){4, {a, b, c, d}};
+}
+
+/* 2001:db8:net::last */
+static struct iface_address doc(uint8_t net, uint8_t last) {
+    return (struct iface_address){6, {0x20, 1, 0x0d, 0xb8, 0, net, [15] = last}};
+}
+
+/* fe80::last, or another address with these first octets */
+static struct iface_address v6(uint8_t first, uint8_t second, uint8_t last) {
+    return (struct iface_address){6, {first, second, [15] = last}};
+}
+
+static void make(iface *host, uint8_t medium, uint8_t last) {
+    struct iface_config config;
+    iface_config_init(&config);
+    config.seed = last, config.medium = medium, config.hardware_address[0] = 2, config.hardware_address[5] = last;
+    config.start = 1000;
+    must("host", iface_new(host, &config));
+}
+
+/* Makes two addresses the own ones, and asks for the one that serves a destination. */
+static void serves(iface *host, struct iface_address a, struct iface_address b, uint8_t prefix_len, struct iface_address to,
+                   struct iface_address want) {
+    struct iface_cidr own[2] = {{a, prefix_len}, {b, prefix_len}};
+    struct iface_address is;
+    must("own addresses", iface_set_addresses(host, own, 2));
+    must("source", iface_source_for(host, &to, &is));
+    wants_address("source", &is, &want);
+    own[0].address = b, own[1].address = a;
+    must("in the other order", iface_set_addresses(host, own, 2));
+    must("source", iface_source_for(host, &to, &is));
+    wants_address("source", &is, &want);
+}
+
+static void chooses_sources(void) {
+    iface host = IFACE_NONE;
+    struct iface_address to = v4(10, 1, 2, 3), is = {77, {0}}, loopback = v6(0, 0, 1);
+    make(&host, IFACE_ETHERNET, 1);
+    wants("no own address", iface_source_for(&host, &to, &is), IFACE_NOT_THERE);
+    wants("nothing written", is.version, 77);
+    to = doc(1, 1), must("none of IPv6", iface_source_for(&host, &to, &is));
+    wants_address("::1", &is, &loopback);
+    /* RFC 6724, 10.1 */
+    serves(&host, doc(3, 1), v6(0xfe, 0x80, 1), 64, doc(1, 1), doc(3, 1));
+    serves(&host, doc(3, 1), v6(0xfe, 0x80, 1), 64, v6(0xff, 5, 1), doc(3, 1));
+    serves(&host, doc(1, 1), doc(2, 1), 64, doc(1, 1), doc(1, 1));
+    serves(&host, v6(0xfe, 0x80, 2), doc(1, 1), 64, v6(0xfe, 0x80, 1), v6(0xfe, 0x80, 2));
+    serves(&host, doc(1, 2), doc(3, 2), 64, doc(1, 1), doc(1, 2));
+    /* IPv4: that of the destination's network, else the first one */
+    serves(&host, v4(192, 168, 69, 1), v4(10, 0, 0, 1), 8, v4(10, 1, 2, 3), v4(10, 0, 0, 1));
+    to = v4(8, 8, 8, 8), must("by no network", iface_source_for(&host, &to, &is));
+    wants("the first one", memcmp(is.octets, "\12\0\0\1", 4) == 0, 1);
+    must("no addresses", iface_set_addresses(&host, &(struct iface_cidr){{4, {0}}, 0}, 0));
+    wants("none is left", iface_source_for(&host, &to, &is), IFACE_NOT_THERE);
+    must("free", iface_free(&host));
+}
+
+static void makes_link_local_addresses(void) {
+    /* RFC 2464, 4: the identifier of 34-56-78-9A-BC-DE is 36-56-78-FF-FE-9A-BC-DE. */
+    static const uint8_t hardware[6] = {0x34, 0x56, 0x78, 0x9a, 0xbc, 0xde};
+    static const struct iface_address want = {
+        6, {0xfe, 0x80, 0, 0, 0, 0, 0, 0, 0x36, 0x56, 0x78, 0xff, 0xfe, 0x9a, 0xbc, 0xde}};
+    struct iface_address is;
+    must("link-local", iface_link_local(hardware, &is));
+    wants_address("link-local", &is, &want);
+}
+
+/* Whether something is sent for a new datagram to 172.16.1.1 at a moment: a request for the router. */
+static int is_routed(iface *host, int64_t now) {
+    struct iface_endpoint local = {IFACE_ANY, 7}, to = {v4(172, 16, 1, 1), 7};
+    uint32_t socket;
+    size_t n;
+    must("socket", iface_udp_open(host, &local, 1, 64, &socket));
+    must("send", iface_udp_send(host, socket, &to, (const uint8_t *)"?", 1));
+    must("next", iface_next(host, now, frame, sizeof frame, &n));
+    must("close", iface_close(host, socket));
+    return n > 0 && frame[12] == 8 && frame[13] == 6 && memcmp(frame + 38, "\300\250\105\144", 4) == 0;
+}
+
+static void keeps_routes_until_their_end(void) {
+    iface host = IFACE_NONE;
+    struct iface_address own = v4(192, 168, 69, 1), network = v4(172, 16, 0, 0), router = v4(192, 168, 69, 100), to, by;
+    uint8_t prefix_len;
+    int64_t until;
+    make(&host, IFACE_ETHERNET, 1);
+    must("address", iface_add_address(&host, &own, 24));
+    wants("no route", iface_route_at(&host, 0, &to, &prefix_len, &by, &until), IFACE_NOT_THERE);
+    must("default", iface_set_default_route(&host, &router));
+    must("route", iface_add_route_until(&host, &network, 12, &router, 5000000));
+    must("for good", iface_add_route_until(&host, &network, 16, &router, IFACE_NEVER));
+    must("route 1", iface_route_at(&host, 1, &to, &prefix_len, &by, &until));
+    wants_address("its network", &to, &network);
+    wants_address("its router", &by, &router);
+    wants("its prefix", prefix_len, 12);
+    wants("its end", (uint64_t)until, 5000000);
+    must("route 2", iface_route_at(&host, 2, &to, &prefix_len, &by, &until));
+    wants("none", (uint64_t)until, IFACE_NEVER);
+    must("default", iface_route_at(&host, 0, &to, &prefix_len, &by, &until));
+    wants("its prefix", prefix_len, 0);
+    wants("none", (uint64_t)until, IFACE_NEVER);
+    must("remove", iface_remove_route(&host, &network, 16));
+    must("remove", iface_remove_route(&host, &(struct iface_address){4, {0}}, 0));
+    wants("up to its end", (uint64_t)is_routed(&host, 5000000), 1);
+    wants("not behind it", (uint64_t)is_routed(&host, 7000000), 0);
+    must("it stays", iface_route_at(&host, 0, &to, &prefix_len, &by, &until));
+    must("free", iface_free(&host));
+}
+
+/* Hands over the one packet that a host has to send. It has its hop limit at this place. */
+static void sends_with(iface *from, iface *to, size_t place, uint8_t hop_limit) {
+    size_t n = 0, m = 0;
+    must("next", iface_next(from, 2000, frame, sizeof frame, &n));
+    wants("a packet", n > 0, 1);
+    wants("its hop limit", frame[place], hop_limit);
+    must("receive", iface_receive(to, 2000, frame, n, reply, sizeof reply, &m));
+    wants("no response", m, 0);
+}
+
+static void asks(iface *host, const char *what, uint8_t want) {
+    uint8_t is = 77;
+    must(what, iface_sockets_changed(host, &is));
+    wants(what, is, want);
+    must(what, iface_sockets_changed(host, &is));
+    wants("asked again", is, 0);
+}
+
+/* What waits in what a socket received; nothing is to be sent. */
+static void wants_queues(iface *host, uint32_t socket, uint32_t packets, uint32_t octets, uint32_t first) {
+    struct iface_queue received, to_send;
+    must("queues", iface_queues(host, socket, &received, &to_send));
+    wants("packets", received.packets, packets);
+    wants("octets", received.octets, octets);
+    wants("the first", received.first, first);
+    wants("nothing to send", to_send.packets == 0 && to_send.octets == 0 && to_send.first == 0, 1);
+    wants("room for packets", received.most_packets == 4 && to_send.most_packets == 4, 1);
+    wants("room for octets", received.most_octets == 1024 && to_send.most_octets == 1024, 1);
+}
+
+/* Over packets without a header of the link, one host sends to sockets of the other one at any address. */
+static void sends_to_any_address(void) {
+    static const uint8_t hop_limits[] = {64, 1, 255};
+    iface a = IFACE_NONE, b = IFACE_NONE;
+    struct iface_address a4 = v4(192, 168, 69, 1), b4 = v4(192, 168, 69, 2), a6 = doc(1, 1), b6 = doc(1, 2);
+    struct iface_endpoint any[3] = {{IFACE_ANY, 7}, {v4(0, 0, 0, 0), 8}, {v6(0, 0, 0), 9}}, from;
+    struct iface_counters counters;
+    uint32_t at_a, at_b[3];
+    uint8_t limit;
+    size_t n;
+    make(&a, IFACE_IP, 1), make(&b, IFACE_IP, 2);
+    must("address", iface_add_address(&a, &a4, 24)), must("address", iface_add_address(&a, &a6, 64));
+    must("address", iface_add_address(&b, &b4, 24)), must("address", iface_add_address(&b, &b6, 64));
+    must("socket", iface_udp_open(&a, &any[0], 4, 1024, &at_a));
+    for (int i = 0; i < 3; i++) must("socket", iface_udp_open(&b, &any[i], 4, 1024, &at_b[i]));
+    asks(&a, "at first", 0), asks(&b, "at first", 0);
+    for (int i = 0; i < 3; i++) {
+        struct iface_endpoint to4 = {b4, (uint16_t)(7 + i)}, to6 = {b6, (uint16_t)(7 + i)};
+        if (i > 0) must("set hop limit", iface_set_hop_limit(&a, at_a, hop_limits[i]));
+        must("hop limit", iface_hop_limit(&a, at_a, &limit));
+        wants("as set", limit, hop_limits[i]);
+        must("send", iface_udp_send(&a, at_a, &to4, (const uint8_t *)"four", 4));
+        asks(&a, "queued alone", 0);
+        sends_with(&a, &b, 8, hop_limits[i]); /* time to live: RFC 791, 3.1 */
+        asks(&a, "sent", 1), asks(&b, "received", 1);
+        must("send", iface_udp_send(&a, at_a, &to6, (const uint8_t *)"six", 3));
+        sends_with(&a, &b, 7, hop_limits[i]); /* RFC 8200, 3 */
+        asks(&a, "sent", 1);
+        must("over IPv4", iface_udp_receive(&b, at_b[i], &from, got, sizeof got, &n));
+        wants("its octets", n == 4 && memcmp(got, "four", 4) == 0, 1);
+        must("over IPv6", iface_udp_receive(&b, at_b[i], &from, got, sizeof got, &n));
+        wants("its octets", n == 3 && memcmp(got, "six", 3) == 0, 1);
+        asks(&b, "received", 1);
+    }
+    wants_queues(&b, at_b[1], 0, 0, 0);
+    for (uint8_t i = 1; i < 4; i++) {
+        struct iface_endpoint to = {b4, 8};
+        must("send", iface_udp_send(&a, at_a, &to, (const uint8_t *)"three", i));
+        sends_with(&a, &b, 8, 255);
+        wants_queues(&b, at_b[1], i, (uint32_t)(i * (i + 1) / 2), 1);
+    }
+    must("take the first", iface_udp_receive(&b, at_b[1], &from, got, sizeof got, &n));
+    wants_queues(&b, at_b[1], 2, 5, 2);
+    asks(&b, "received", 1);
+    must("empty frame", iface_receive(&b, 2000, frame, 0, reply, sizeof reply, &n));
+    asks(&b, "an empty frame", 0);
+    must("counters", iface_counters(&a, &counters));
+    wants("of the sender", counters.frames_in == 0 && counters.frames_out == 9, 1);
+    must("counters", iface_counters(&b, &counters));
+    wants("of the receiver", counters.frames_in == 10 && counters.frames_out == 0, 1);
+    wants("nothing else", counters.given_up == 0 && counters.no_memory == 0, 1);
+    must("free", iface_free(&a)), must("free", iface_free(&b));
+}
+
+/* An echo request is answered: the response is counted, and the request with it (RFC 792). */
+static void counts_responses(void) {
+    static const uint8_t request[28] = {0x45, 0, 0, 28, 0, 1, 0, 0, 64, 1, 0x6f, 0x8c, 192, 168, 69, 2,
+                                        192, 168, 69, 1, 8, 0, 0xf7, 0xd5, 0, 42, 0, 0};
+    iface host = IFACE_NONE;
+    struct iface_address own = v4(192, 168, 69, 1);
+    struct iface_counters counters;
+    size_t n;
+    make(&host, IFACE_IP, 1);
+    must("address", iface_add_address(&host, &own, 24));
+    must("receive", iface_receive(&host, 2000, request, sizeof request, reply, sizeof reply, &n));
+    wants("an echo reply", n == 28 && reply[20] == 0, 1);
+    must("counters", iface_counters(&host, &counters));
+    wants("both", counters.frames_in == 1 && counters.frames_out == 1, 1);
+    must("free", iface_free(&host));
+}
+
+/* Learns a neighbour from its request (RFC 826), and knows it for a minute. A list of own addresses forgets it. */
+static void knows_neighbors(void) {
+    static const uint8_t arp[42] = {2, 0, 0, 0, 0, 1, 2, 0, 0, 0, 0, 9, 8, 6, 0, 1, 8, 0, 6, 4, 0, 1, 2, 0, 0, 0, 0, 9,
+                                    192, 168, 69, 9, 0, 0, 0, 0, 0, 0, 192, 168, 69, 1};
+    iface host = IFACE_NONE;
+    struct iface_cidr own = {v4(192, 168, 69, 1), 24};
+    struct iface_address is = {77, {0}}, want = v4(192, 168, 69, 9);
+    uint8_t hardware[6];
+    int64_t until;
+    size_t n;
+    make(&host, IFACE_ETHERNET, 1);
+    must("addresses", iface_set_addresses(&host, &own, 1));
+    wants("none", iface_neighbor_at(&host, 0, &is, hardware, &until), IFACE_NOT_THERE);
+    must("receive", iface_receive(&host, 2000, arp, sizeof arp, reply, sizeof reply, &n));
+    wants("a reply", n, 42);
+    must("neighbour", iface_neighbor_at(&host, 0, &is, hardware, &until));
+    wants_address("its address", &is, &want);
+    wants("that on Ethernet", memcmp(hardware, arp + 6, 6) == 0, 1);
+    wants("for a minute", (uint64_t)until, 60002000);
+    wants("no other", iface_neighbor_at(&host, 1, &is, hardware, &until), IFACE_NOT_THERE);
+    must("the same addresses", iface_set_addresses(&host, &own, 1));
+    wants("forgotten", iface_neighbor_at(&host, 0, &is, hardware, &until), IFACE_NOT_THERE);
+    must("free", iface_free(&host));
+}
+
+int main(void) {
+    chooses_sources();
+    knows_neighbors();
+    makes_link_local_addresses();
+    keeps_routes_until_their_end();
+    sends_to_any_address();
+    counts_responses();
+    printf("calls: %d checks: %d wrong\n", checks, failures);
+    return failures != 0;
+}

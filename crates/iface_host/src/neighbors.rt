@@ -1,0 +1,45 @@
+//! The neighbours of a host.
+ghost use Rattle.std.specs.Prelude.{◌≡◌, slice_get};
+ghost use Rattle.std.specs.Option.{option_and_then};
+ghost use Rattle.iface_host.specs.Neighbors.{IsNeighborAt, known_as};
+
+use crate::host::Host;
+use iface_tables::neighbor::Neighbor;
+use ip_wire::{EthernetAddress, HardwareAddress, IpAddress};
+use net_base::time::Instant;
+
+/// A neighbour as it is told.
+#[derive(Clone, Copy, Debug, PartialEq, Eq)]
+pub struct Known {
+    /// Its address.
+    pub address: IpAddress,
+    /// Its address on Ethernet.
+    pub hardware: EthernetAddress,
+    /// The moment from which that is no longer known.
+    pub until: Instant,
+}
+
+impl Host {
+    /// The neighbour at a place of their list, if there is one: at most four stand there, by rising expiry, those whose
+    /// expiry has passed too. On a medium without hardware addresses there is none.
+    pub fn neighbor_at(&self, index: usize) -> Option<Known>
+        ensures { IsNeighborAt index result self.now }
+    {
+        neighbor_in(self.interface.neighbors().by_expiry(), index)
+    }
+}
+
+/// The neighbour at a place, if there is one with an address on Ethernet.
+fn neighbor_in(list: &[(IpAddress, Neighbor)], index: usize) -> Option<Known>
+    ensures { result ≡ option_and_then known_as (slice_get list.now index) }
+{
+    let (address, neighbor) = list.get(index).copied()?;
+    match neighbor.hardware_addr {
+        HardwareAddress::Ethernet(hardware) => Some(Known {
+            address,
+            hardware,
+            until: neighbor.expires_at,
+        }),
+        HardwareAddress::Ip => None,
+    }
+}
