@@ -2,6 +2,7 @@
 ghost use Rattle.std.specs.Prelude.{◌≡◌, ◌+◌, ◌<◌, ◌≤◌, ◌^◌, [], length, IfSome, None};
 ghost use Rattle.std.specs.Borrow.{sem};
 ghost use Rattle.fragmentation.specs.Reassembled.{RestsReassembled};
+ghost use Rattle.fragmentation.specs.Stands as stands;
 ghost use Rattle.control_wire.specs.declared.icmpv4.Icmpv4DstUnreachable.TheVariants.{ProtoUnreachable};
 ghost use Rattle.fragmentation.specs.Slots.{Slots};
 ghost use Rattle.ip_wire.specs.declared.ip_packet.IpRepr.TheVariants as repr;
@@ -83,12 +84,13 @@ fn datagram<'p>(
     if !fragment.is_fragment() {
         return Some(payload);
     }
-    rebuilt_by_copy(fragments, context, header, fragment, payload)
+    rebuilt_by_key(fragments, context, header, fragment, payload)
 }
 
-/// Adds a fragment as [`rebuilt`] does, with copies of its header, so that none is stored for a whole packet.
+/// Adds a fragment as [`rebuilt`] does, by the key that is made of its header, so that no header is stored for a whole
+/// packet.
 #[inline(always)]
-fn rebuilt_by_copy<'s>(
+fn rebuilt_by_key<'s>(
     fragments: &'s mut PacketAssemblerSet<FragKey>,
     context: &Context,
     header: &Ipv4Repr,
@@ -99,26 +101,28 @@ fn rebuilt_by_copy<'s>(
         (spec.key_in header.now fragment.now) (spec.fragment_in fragment.now payload.now) result) }
     ensures short { IfSome result (λ octets. length octets.now ≤ 4096) }
 {
-    rebuilt(fragments, context, *header, *fragment, payload)
+    let key = FragKey::new(header, fragment.identification);
+    let offset = usize::from(fragment.offset) * 8;
+    let is_last = !fragment.more_fragments;
+    rebuilt(fragments, context, key, payload, offset, is_last)
 }
 
-/// Adds a fragment to those received before. Returns the payload of its datagram if it is complete now.
+/// Adds a fragment to those received under its key: `payload` from the octet `offset` on, the last one or not. Returns
+/// the payload of its datagram if it is complete now.
 #[inline(never)]
 fn rebuilt<'s>(
     fragments: &'s mut PacketAssemblerSet<FragKey>,
     context: &Context,
-    header: Ipv4Repr,
-    fragment: Ipv4Fragment,
+    key: FragKey,
     payload: &[u8],
+    offset: usize,
+    is_last: bool,
 ) -> Option<&'s [u8]>
-    ensures* rests { sem 𝓛 (RestsReassembled fragments.entry (end_of_slots context.now) (spec.key_in header fragment)
-        (spec.fragment_in fragment payload.now) result) }
+    ensures* rests { sem 𝓛 (RestsReassembled fragments.entry (end_of_slots context.now) key
+        (stands.fragment offset payload.now is_last) result) }
     ensures short { IfSome result (λ octets. length octets.now ≤ 4096) }
 {
-    let key = FragKey::new(&header, fragment.identification);
     let end = context.now() + context.reassembly_timeout();
-    let offset = usize::from(fragment.offset) * 8;
-    let is_last = !fragment.more_fragments;
     reassemble(fragments, &key, end, payload, offset, is_last)
 }
 
