@@ -58,6 +58,7 @@ impl Simulation {
         for _ in 0..MOST_POLLS {
             self.network
                 .run(host, &Command::Poll(instant(self.now), BUDGET))?;
+            self.check_memory(host)?;
             self.spread(output)?;
             match self.next_poll(host)? {
                 Some(time) if time <= self.now => {}
@@ -91,6 +92,7 @@ impl Simulation {
 
     /// A host received something: it is polled if something is due.
     fn follow<W: Write>(&mut self, host: usize, answer: Answer, output: &mut W) -> Result<()> {
+        self.check_memory(host)?;
         self.spread(output)?;
         if answer == Answer::PollIngressSingle(PollIngressSingleResult::SocketStateChanged) {
             self.collect(host, output)?;
@@ -118,15 +120,24 @@ impl Simulation {
         Ok(())
     }
 
-    /// How many datagrams a host's owner took. Fails if there was no memory for one.
-    fn count_collected(&self, host: usize) -> Result<usize> {
+    /// Fails if a host's owner or its device got no memory. A device without memory withholds a frame or sends none.
+    fn check_memory(&self, host: usize) -> Result<()> {
         let Some(station) = self.network.hosts().get(host) else {
-            return Ok(0);
+            return Ok(());
         };
         if station.owner.lacks_memory || station.device.refusals() != 0 {
             bail!("out of memory");
         }
-        Ok(station.owner.received.len())
+        Ok(())
+    }
+
+    /// How many datagrams a host's owner took. Fails if there was no memory for one.
+    fn count_collected(&self, host: usize) -> Result<usize> {
+        self.check_memory(host)?;
+        match self.network.hosts().get(host) {
+            Some(station) => Ok(station.owner.received.len()),
+            None => Ok(0),
+        }
     }
 
     /// One of them.
@@ -154,12 +165,10 @@ impl Simulation {
     /// The flow of a task, and how many datagrams it has queued; `None` if the task is no flow's. Fails if there was no
     /// memory for it.
     fn progress(&self, host: usize, task: usize) -> Result<Option<(usize, u32)>> {
+        self.check_memory(host)?;
         let Some(station) = self.network.hosts().get(host) else {
             return Ok(None);
         };
-        if station.owner.lacks_memory {
-            bail!("out of memory");
-        }
         match station.owner.tasks.get(task) {
             Some(Task::Datagram { flow, sent, .. }) => Ok(Some((*flow as usize, *sent))),
             _ => Ok(None),
