@@ -171,7 +171,7 @@ static void sends_to_any_address(void) {
     iface a = IFACE_NONE, b = IFACE_NONE;
     struct iface_address a4 = v4(192, 168, 69, 1), b4 = v4(192, 168, 69, 2), a6 = doc(1, 1), b6 = doc(1, 2);
     struct iface_endpoint any[3] = {{IFACE_ANY, 7}, {v4(0, 0, 0, 0), 8}, {v6(0, 0, 0), 9}}, from;
-    struct iface_counters counters;
+    struct iface_counts counters;
     uint32_t at_a, at_b[3];
     uint8_t limit;
     size_t n;
@@ -225,7 +225,7 @@ static void counts_responses(void) {
                                         192, 168, 69, 1, 8, 0, 0xf7, 0xd5, 0, 42, 0, 0};
     iface host = IFACE_NONE;
     struct iface_address own = v4(192, 168, 69, 1);
-    struct iface_counters counters;
+    struct iface_counts counters;
     size_t n;
     make(&host, IFACE_IP, 1);
     must("address", iface_add_address(&host, &own, 24));

@@ -123,7 +123,7 @@ struct iface_config {
 enum iface_medium { IFACE_ETHERNET = 0, IFACE_IP = 1 };
 
 /* What a host counted since it was made. A number stays at the greatest one. */
-struct iface_counters {
+struct iface_counts {
     uint64_t frames_in;  /* frames that iface_receive took */
     uint64_t frames_out; /* frames that iface_receive and iface_next wrote */
     uint64_t given_up;   /* packets that were given up, of all sockets */
@@ -355,7 +355,7 @@ uint32_t iface_next(iface *host, int64_t now, uint8_t *out, size_t room, size_t 
 uint32_t iface_sockets_changed(iface *host, uint8_t *changed);
 
 /* Writes what the host counted. */
-uint32_t iface_counters(iface *host, struct iface_counters *counters);
+uint32_t iface_counters(iface *host, struct iface_counts *counters);
 
 /* Writes the instant at which iface_next is to be called again, if no frame comes before and no call changes the host:
  * one that has passed, if something is due at once, and IFACE_NEVER, if nothing is due. */
@@ -379,7 +379,7 @@ const char *iface_strerror(uint32_t code);
 #if defined(__STDC_VERSION__) && __STDC_VERSION__ >= 201112L
 _Static_assert(sizeof(struct iface_address) == 17 && sizeof(struct iface_endpoint) == 20, "as the library lays them out");
 _Static_assert(sizeof(struct iface_config) == 48 && sizeof(iface) == 16, "as the library lays them out");
-_Static_assert(sizeof(struct iface_cidr) == 18 && sizeof(struct iface_counters) == 32, "as the library lays them out");
+_Static_assert(sizeof(struct iface_cidr) == 18 && sizeof(struct iface_counts) == 32, "as the library lays them out");
 _Static_assert(sizeof(struct iface_queue) == 20, "as the library lays it out");
 #endif
 

@@ -80,7 +80,7 @@ static void refuses_without_host(void) {
     uint8_t flag = 77, hardware[6] = {2, 0, 0, 0, 0, 9};
     struct iface_address b = v4(10, 0, 0, 9);
     struct iface_cidr own = {a, 8};
-    struct iface_counters counters = {.no_memory = 77};
+    struct iface_counts counters = {.no_memory = 77};
     struct iface_queue received = {.first = 77}, to_send = {.first = 78};
     wants("address", iface_add_address(&host, &a, 8), IFACE_NO_HOST);
     wants("all addresses", iface_set_addresses(&host, &own, 1), IFACE_NO_HOST);

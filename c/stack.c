@@ -99,7 +99,7 @@ static uint8_t frame[IFACE_FRAME_ROOM], out[65536], payload[4096], prefix_len, p
 static uint16_t ident;
 static uint32_t code, number, socket_number, packets = 8, octets = 32768;
 static uint64_t count;
-static struct iface_counters counters;
+static struct iface_counts counters;
 static struct iface_cidr list[4];
 static struct iface_queue received, to_send;
 static int64_t now = 1000000, at;

@@ -2,7 +2,7 @@
 //!
 //! Calling any of it is `unsafe`: the header says what the caller keeps. [`Host`](crate::Host) keeps it.
 //!
-//! Sum of the header: 0x7956f687ca801e05
+//! Sum of the header: 0x9bd00d2f291b3a8e
 #![allow(non_camel_case_types)]
 
 use core::ffi::{c_char, c_void};
@@ -143,7 +143,7 @@ pub struct iface_config {
 /// What a host counted since it was made. A number stays at the greatest one.
 #[repr(C)]
 #[derive(Clone, Copy, Debug)]
-pub struct iface_counters {
+pub struct iface_counts {
     /// frames that `iface_receive` took
     pub frames_in: u64,
     /// frames that `iface_receive` and `iface_next` wrote
@@ -167,7 +167,7 @@ const _: () = assert!(size_of::<iface_endpoint>() == 20);
 const _: () = assert!(size_of::<iface_config>() == 48);
 const _: () = assert!(size_of::<iface>() == 16);
 const _: () = assert!(size_of::<iface_cidr>() == 18);
-const _: () = assert!(size_of::<iface_counters>() == 32);
+const _: () = assert!(size_of::<iface_counts>() == 32);
 const _: () = assert!(size_of::<iface_queue>() == 20);
 
 unsafe extern "C" {
@@ -264,7 +264,7 @@ unsafe extern "C" {
     /// Writes 1 if a socket may have changed by frames that were taken and rounds that were made since this was last asked, else 0. It may have if a frame was taken that isn't empty, or if a round sent or dropped a packet of a socket. What a socket gave up since its neighbour didn't answer is told by `iface_given_up`.
     pub fn iface_sockets_changed(host: *mut iface, changed: *mut u8) -> u32;
     /// Writes what the host counted.
-    pub fn iface_counters(host: *mut iface, counters: *mut iface_counters) -> u32;
+    pub fn iface_counters(host: *mut iface, counters: *mut iface_counts) -> u32;
     /// Writes the instant at which `iface_next` is to be called again, if no frame comes before and no call changes the host: one that has passed, if something is due at once, and `IFACE_NEVER`, if nothing is due.
     pub fn iface_poll_at(host: *mut iface, now: i64, at: *mut i64) -> u32;
     /// The version of the header that the library was built with.

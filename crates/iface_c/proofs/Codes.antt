@@ -24,6 +24,12 @@ of_refusal (Some r) e code why memory is some = record {
   memory = λ none refuses. absurd (some (is ∙ ap code_of (the_one (why r refl)) ∙ none));
 }
 
+-- no reason holds, and the call is done
+pub of_done : {T : Type 0} (done : T) (first : Option Refusal) →
+    ((r : Refusal) → first ≡ Some r → IsErrOf (Ok done) r) → IsDueOrMemory (code_if first) 0
+of_done done None why = record { due_one = λ other. absurd (other refl); memory = λ none refuses. absurd (refuses refl) }
+of_done done (Some r) why = absurd (not_done (why r refl))
+
 -- no reason holds, and memory was refused
 pub of_memory : {T : Type 0} (done : T) (first : Option Refusal) →
     ((r : Refusal) → first ≡ Some r → IsErrOf (Ok done) r) → IsDueOrMemory (code_if first) 4

@@ -1,6 +1,6 @@
 mod AsBox
 mod Codes
-mod Lists
 mod Networks
+mod Reading
 mod SameHost
 pub mod Values
