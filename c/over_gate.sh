@@ -32,6 +32,10 @@ done
 set -- --crate-name iface_c src/lib.rt --crate-type staticlib --links iface_c=
 set -- "$@" --extern "std=$kit/rlibs/std.rlib" -L "dependency=$kit/rlibs"
 for name in $used; do
+    if [ ! -d "$crates/$name" ]; then # a library of the kit
+        set -- "$@" --extern "$name=$kit/rlibs/$name.rlib"
+        continue
+    fi
     if [ ! -d "$crates/$name/out/rlib" ]; then
         echo "over_gate.sh: $name isn't proved here: \`rt lib\` in crates/iface_c comes first" >&2
         exit 1

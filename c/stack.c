@@ -352,6 +352,7 @@ static void set_up(uint8_t medium) {
 /* What a socket can be asked and given, and rounds until nothing is sent. */
 static void turn(void) {
     static const size_t lengths[] = {1, 64, 1400, 4000};
+    static uint32_t turns;
     const struct iface_address ends[] = {v4(192, 168, 69, 2), v6(0xfe, 0x80, 2), v4(172, 16, 1, 1),
                                          v4(192, 168, 69, 77)};
     while (socket_number = 0, MAKE(udp_receive) == IFACE_OK) given = length, MAKE(udp_send);
@@ -365,7 +366,7 @@ static void turn(void) {
     memcpy(payload, address.version == 4 ? "\10\0\0\0\0\52\0\1" : "\200\0\0\0\0\52\0\1", 8), MAKE(icmp_send);
     for (int i = 0; i < 40 && MAKE(next) == IFACE_OK && length > 0; i++) {}
     MUST(poll_at), MUST(given_up_count), MUST(sockets_changed), MUST(counters);
-    socket_number = (uint32_t)(word() % 4), MUST(queues), number = (uint32_t)(word() % 4), MAKE(neighbor_at);
+    socket_number = number = turns++ % 4, MUST(queues), MAKE(neighbor_at);
     socket_number = 0, MAKE(waiting), MAKE(given_up);
 }
 

@@ -52,11 +52,7 @@ pub extern "C" fn iface_counters(
 
 /// Writes whether a socket may have changed since this was last asked.
 #[unsafe(no_mangle)]
-pub extern "C" fn iface_sockets_changed(
-    handle: &mut Iface,
-    alloc: Global,
-    changed: &mut u8,
-) -> u32
+pub extern "C" fn iface_sockets_changed(handle: &mut Iface, alloc: Global, changed: &mut u8) -> u32
     ensures done { Did result (λ old new. ShowsChanged changed.new old new) handle.old handle.new }
     ensures code { result ≡ code_by (λ _. None) (host_in handle.old) }
     ensures kept { result ≢ 0 → changed.new ≡ changed.old }

@@ -14,7 +14,9 @@ ghost use Rattle.iface_host.specs.TableRefusals as refusals;
 
 use crate::addresses::IfaceAddress;
 use crate::handle::Iface;
-use crate::status::{BAD_ARGUMENT, BAD_VERSION, HAS_HOST, NO_HOST, NO_MEMORY, NOT_THERE, OK, VERSION, code};
+use crate::status::{
+    BAD_ARGUMENT, BAD_VERSION, HAS_HOST, NO_HOST, NO_MEMORY, NOT_THERE, OK, VERSION, code,
+};
 use iface_host::{Host, Settings};
 use ip_wire::{EthernetAddress, HardwareAddress};
 use net_base::time::Duration;

@@ -120,9 +120,5 @@ pub extern "C" fn iface_source_for(
 fn end_of(until: i64) -> Option<i64>
     ensures { result ≡ end_in until }
 {
-    if until < NEVER {
-        Some(until)
-    } else {
-        None
-    }
+    if until < NEVER { Some(until) } else { None }
 }

@@ -1,7 +1,7 @@
 -- Frames that are taken and handed over, over plain variables.
 use Rattle.egress_schedule.specs.Plan.{Planned}
 use Rattle.egress_schedule.specs.Rounds.{after_round, before_round}
-use Rattle.std.proofs.Common.{◌≡◌, ℕ, Bool, true, false, List, [], ◌∷◌, Option, Some, Ok, refl, ap, ◌∙◌, subst, length, arith}
+use Rattle.std.proofs.Common.{◌≡◌, ℕ, Bool, true, List, [], ◌∷◌, Option, Some, Ok, refl, ap, ◌∙◌, subst, length, arith}
 use Rattle.std.proofs.Math.Dec.{eqb-suc-zero}
 use Rattle.std.specs.Prelude.{ℤ, pos, ◌||◌, ◌==◌, not}
 use Rattle.std.specs.Borrow.{Bor}

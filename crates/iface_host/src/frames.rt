@@ -103,7 +103,8 @@ impl Host {
         Ok(())
     }
 
-    /// Hands over the first frame that waits, if one does, and counts it.
+    /// Hands over the first frame that waits, if one does, and counts it. It is code once, for both of its calls.
+    #[inline(never)]
     fn hand_over(&mut self, out: &mut [u8]) -> usize
         requires { 1514 ≤ length out.old }
         ensures { HandsOver result out.old out.new self.old self.new }

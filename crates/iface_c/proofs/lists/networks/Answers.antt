@@ -1,4 +1,4 @@
-use Rattle.std.proofs.Common.{◌≡◌, ◌+◌, ◌<◌, ◌∷◌, ◌++◌, ◌∙◌, List, Option, Some, [], ap, sym, length, drop, rules, arith}
+use Rattle.std.proofs.Common.{◌≡◌, ◌+◌, ◌<◌, ◌∷◌, ◌++◌, ◌∙◌, List, [], ap, sym, length, drop, rules}
 use Rattle.std.proofs.lemmas.List.{drop_more}
 use Rattle.std.specs.Option.{option_and_then, option_map}
 use Rattle.ip_address.specs.declared.cidr.IpCidr.{IpCidr}
@@ -15,10 +15,11 @@ loop-one-preserved c =
     ap cidrs_in (drop_more c.args.list.now c.loop-one.one-index (record { address = record { version = 0; octets = [] }; prefix_len = 0 }) within)
     ∙ ap (option_and_then (λ (one : IpCidr).
     option_map (λ (others : List IpCidr). one ∷ others) (cidrs_in (drop (c.loop-one.one-index + 1) c.args.list.now))))
-    (sym c.cidr.ensures ∙ c.in_ok-cidr.was) in
-    (len,
-    ap (λ (items : List IpCidr).
-    option_map (λ (rest : List IpCidr). items ++ rest) (cidrs_in (drop (c.loop-one.one-index + 1) c.args.list.now))) c.push.ensures.items
-    ∙ one_more c.loop-one.networks.items c.in_ok-cidr.field-0 (cidrs_in (drop (c.loop-one.one-index + 1) c.args.list.now))
-    ∙ ap (option_map (λ (rest : List IpCidr). c.loop-one.networks.items ++ rest)) (sym read)
-    ∙ c.loop-one.invariant.1)
+    (sym c.cidr.ensures ∙ c.in_ok-cidr.was) in (
+      len,
+      ap (λ (items : List IpCidr).
+          option_map (λ (rest : List IpCidr). items ++ rest) (cidrs_in (drop (c.loop-one.one-index + 1) c.args.list.now))) c.push.ensures.items
+          ∙ one_more c.loop-one.networks.items c.in_ok-cidr.field-0 (cidrs_in (drop (c.loop-one.one-index + 1) c.args.list.now))
+          ∙ ap (option_map (λ (rest : List IpCidr). c.loop-one.networks.items ++ rest)) (sym read)
+          ∙ c.loop-one.invariant.1,
+    )

@@ -1,5 +1,5 @@
 use Rattle.std.proofs.Common.{◌≡◌, Some, None, Bool, ap, refl, rules}
-use Rattle.std.specs.Prelude.{◌||◌, ◌==◌, not, length}
+use Rattle.std.specs.Prelude.{◌||◌, not}
 use Rattle.std.specs.Option.{option_map}
 use Rattle.iface_host.specs.Counters.{after_handing, after_taking}
 use Rattle.iface_host.proofs.FrameCalls.{received}
