@@ -32,17 +32,14 @@ packaged=$(echo "$folder"/fumitorygate-*)
 unset FUMITORYGATE_LIB_DIR
 try "$packaged" 'the package'
 
-# The same library, as if its header had the number 255.
+# The same library under a crate whose header has the number 255.
 own=$(sed -n 's/.*define IFACE_VERSION \(0x[0-9a-f]*\)u/\1/p' ../c/iface.h)
-sed "s/\(define IFACE_VERSION\) .*/\1 $((own | 255))u/" ../c/iface.h >"$folder/iface.h"
-cp ../c/about.c "$folder"
-"${CC:-cc}" -c -o "$folder/about.o" "$folder/about.c"
-ar r "$packaged"/lib/*/libiface.a "$folder/about.o"
+sed -i "s/\(pub const IFACE_VERSION: u32 =\) .*/\1 $((own | 255));/" "$packaged/src/sys.rs"
 make_own "$packaged"
 if said=$(cd "$folder/own" && "$cargo" run -q --offline 2>&1); then
     echo "fresh.sh: a library of another header was taken" >&2 && exit 1
 fi
 case $said in
-*"OtherVersion { own: $((own)), library: $((own | 255)) }"*) echo 'a library of another header is refused' ;;
+*"OtherVersion { own: $((own | 255)), library: Some($((own))) }"*) echo 'a library of another header is refused' ;;
 *) echo "fresh.sh: over a library of another header it printed '$said'" >&2 && exit 1 ;;
 esac

@@ -37,7 +37,7 @@ fn main() {
 
         let end = clock + Duration::from_secs(10);
         let echoed = loop {
-            // Until no frame is on its way.
+            // Until no socket changes any more.
             while iface.poll(clock, &mut device, &mut sockets) != PollResult::None {}
             let socket = sockets.get_mut::<udp::Socket>(server_handle);
             while let Ok((data, client)) = socket.recv() {

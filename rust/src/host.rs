@@ -13,8 +13,8 @@
 use crate::sys;
 use crate::time::{Duration, Instant};
 use crate::wire::{
-    EthernetAddress, HardwareAddress, IpAddress, IpCidr, IpEndpoint, IpListenEndpoint, IpProtocol, IpVersion, Ipv4Cidr,
-    Ipv6Cidr,
+    EthernetAddress, HardwareAddress, IpAddress, IpCidr, IpEndpoint, IpListenEndpoint, IpProtocol, IpVersion,
+    Ipv4Address, Ipv4Cidr, Ipv6Address, Ipv6Cidr,
 };
 use core::fmt;
 
@@ -28,7 +28,7 @@ pub type Frame = [u8; FRAME_ROOM];
 #[derive(Clone, Copy, Debug, PartialEq, Eq)]
 #[non_exhaustive]
 pub enum Error {
-    /// A medium that isn't the device's.
+    /// A hardware address that isn't of the device's medium, or a hop limit of 0.
     BadArgument,
     /// The allocator refused.
     NoMemory,
@@ -36,11 +36,12 @@ pub enum Error {
     BadMtu,
     /// A hardware address or an own address that can't be one.
     NotUnicast,
-    /// A destination that is unspecified, or an address that is no group's.
+    /// A destination that is unspecified, an address that is no group's, or a socket's own that is a group's.
     BadAddress,
-    /// No such address or route.
+    /// No such address or route, or no hardware addresses.
     NotThere,
-    /// Four addresses, four routes or eight groups are there, or all sockets are open.
+    /// Four addresses, four routes or eight groups are there, or all sockets are open; a list of more than four
+    /// addresses.
     TableFull,
     /// No socket of this kind is open by this number.
     NoSocket,
@@ -56,12 +57,13 @@ pub enum Error {
     NoRoom,
     /// A timeout for fragments that is zero, or longer than a day.
     BadTimeout,
-    /// The library isn't of the header that this crate was made from, so no host is made. `fresh.sh` tries it.
+    /// The library isn't of the header that this crate was made from, so it makes no host. `fresh.sh` tries it.
     OtherVersion {
         /// The version of the header that this crate was made from: `IFACE_VERSION`.
         own: u32,
-        /// The version of the header that the library was built with: `iface_version()`.
-        library: u32,
+        /// The version of the header that the library was built with: `iface_version()`. `None` with the feature
+        /// `rust-heap`, whose library doesn't tell it.
+        library: Option<u32>,
     },
     /// A code of the library that can't come of what this crate passes.
     Other(u32),
@@ -70,12 +72,14 @@ pub enum Error {
 impl fmt::Display for Error {
     fn fmt(&self, f: &mut fmt::Formatter<'_>) -> fmt::Result {
         f.write_str(match *self {
-            Error::BadArgument => "the hardware address isn't of the device's medium",
+            Error::BadArgument => "the hardware address isn't of the device's medium, or the hop limit is 0",
             Error::NoMemory => "no memory",
             Error::BadMtu => "frames of this length are not supported",
             Error::NotUnicast => "the address is not unicast",
-            Error::BadAddress => "the address is unspecified, or no group's",
-            Error::NotThere => "no such address or route",
+            Error::BadAddress => {
+                "the address is unspecified, no group's where one is wanted, or a socket's own and a group's"
+            }
+            Error::NotThere => "no such address or route, or no hardware addresses",
             Error::TableFull => "the table is full",
             Error::NoSocket => "no such socket is open",
             Error::BadPort => "the port is 0",
@@ -84,8 +88,11 @@ impl fmt::Display for Error {
             Error::Empty => "no packet came",
             Error::NoRoom => "the buffer is shorter than the packet",
             Error::BadTimeout => "the timeout is zero, or longer than a day",
-            Error::OtherVersion { own, library } => {
+            Error::OtherVersion { own, library: Some(library) } => {
                 return write!(f, "the crate is made for {}, and the library is {}", Version(own), Version(library));
+            }
+            Error::OtherVersion { own, library: None } => {
+                return write!(f, "the crate is made for {}, and the library isn't", Version(own));
             }
             Error::Other(code) => return write!(f, "code {code}"),
         })
@@ -122,8 +129,19 @@ fn answer(code: u32) -> Result<(), Error> {
         sys::IFACE_EMPTY => Error::Empty,
         sys::IFACE_NO_ROOM => Error::NoRoom,
         sys::IFACE_BAD_TIMEOUT => Error::BadTimeout,
+        sys::IFACE_BAD_VERSION => Error::OtherVersion { own: sys::IFACE_VERSION, library: library_version() },
         other => Error::Other(other),
     })
+}
+
+/// The version of the header that the library was built with. The library without a heap doesn't tell it.
+#[cold]
+fn library_version() -> Option<u32> {
+    #[cfg(feature = "rust-heap")]
+    return None;
+    // SAFETY: it takes nothing, and needs nothing.
+    #[cfg(not(feature = "rust-heap"))]
+    return Some(unsafe { sys::iface_version() });
 }
 
 /// `None` for a queue without a packet, or a socket that doesn't wait.
@@ -135,7 +153,8 @@ fn unless_empty(done: Result<(), Error>) -> Result<bool, Error> {
     }
 }
 
-const NO_ADDRESS: sys::iface_address = sys::iface_address { version: 0, octets: [0; 16] };
+/// What stands where the library is to write an address.
+const NO_ADDRESS: sys::iface_address = sys::IFACE_ANY;
 
 #[inline]
 fn to_c(address: &IpAddress) -> sys::iface_address {
@@ -168,7 +187,26 @@ fn end_to_c(end: &IpEndpoint) -> sys::iface_endpoint {
 }
 
 fn listen_to_c(end: &IpListenEndpoint) -> sys::iface_endpoint {
-    sys::iface_endpoint { address: end.addr.as_ref().map_or(NO_ADDRESS, to_c), port: end.port }
+    sys::iface_endpoint { address: end.addr.as_ref().map_or(sys::IFACE_ANY, to_c), port: end.port }
+}
+
+#[inline]
+fn cidr_to_c(cidr: &IpCidr) -> sys::iface_cidr {
+    sys::iface_cidr { address: to_c(&cidr.address()), prefix_len: cidr.prefix_len() }
+}
+
+#[inline]
+fn cidr_from_c(address: &sys::iface_address, prefix_len: u8) -> IpCidr {
+    match from_c(address) {
+        IpAddress::Ipv4(address) => IpCidr::Ipv4(Ipv4Cidr::new(address, prefix_len.min(32))),
+        IpAddress::Ipv6(address) => IpCidr::Ipv6(Ipv6Cidr::new(address, prefix_len.min(128))),
+    }
+}
+
+/// The instant that the library writes, where it isn't the one that stands for none.
+#[inline]
+fn until_from_c(until: i64) -> Option<Instant> {
+    (until != sys::IFACE_NEVER).then(|| Instant::from_micros_const(until))
 }
 
 /// How a host is to be made: [`Settings::new`] has what most programs want.
@@ -190,24 +228,37 @@ pub struct Settings {
     pub patience: Duration,
     /// How long fragments of a packet wait for the others: not zero, at most a day.
     pub reassembly_timeout: Duration,
+    /// The instant at which it begins.
+    pub start: Instant,
+}
+
+/// A configuration, and room behind it for the longer one of another library: that is refused only when a host is made.
+#[repr(C)]
+struct Configured {
+    config: sys::iface_config,
+    room: [u64; 58],
 }
 
 impl Settings {
     /// What `iface_config_init` writes: frames of 1514 octets, 8 sockets, no addresses from routers, a patience of
-    /// three seconds, ten seconds for fragments, and the seed 0.
+    /// three seconds, ten seconds for fragments, the start [`Instant::ZERO`], and the seed 0.
     pub fn new(hardware_addr: HardwareAddress) -> Settings {
-        let mut config = sys::iface_config {
+        let config = sys::iface_config {
             seed: 0,
             patience: 0,
             reassembly_timeout: 0,
+            start: 0,
             frame_len: 0,
             sockets: 0,
             hardware_address: [0; 6],
             medium: 0,
             slaac: 0,
         };
-        // SAFETY: the pointer is that of a reference to a whole configuration, which is written.
-        unsafe { sys::iface_config_init(&mut config) };
+        let mut configured = Configured { config, room: [0; 58] };
+        // SAFETY: the pointer is that of a reference to a whole configuration, and to 464 octets behind it, which may
+        // be written.
+        unsafe { sys::iface_config_init((&raw mut configured).cast()) };
+        let config = configured.config;
         Settings {
             random_seed: config.seed,
             hardware_addr,
@@ -216,6 +267,7 @@ impl Settings {
             sockets: config.sockets,
             patience: Duration::from_micros(config.patience),
             reassembly_timeout: Duration::from_micros(config.reassembly_timeout),
+            start: Instant::from_micros_const(config.start),
         }
     }
 
@@ -228,6 +280,7 @@ impl Settings {
             seed: self.random_seed,
             patience: self.patience.total_micros(),
             reassembly_timeout: self.reassembly_timeout.total_micros(),
+            start: self.start.total_micros(),
             frame_len: self.frame_len,
             sockets: self.sockets,
             hardware_address,
@@ -235,6 +288,106 @@ impl Settings {
             slaac: u8::from(self.slaac),
         }
     }
+}
+
+/// A route: packets to a network go by a router.
+#[derive(Clone, Copy, Debug, PartialEq, Eq)]
+pub struct Route {
+    /// The network.
+    pub cidr: IpCidr,
+    /// The router.
+    pub via_router: IpAddress,
+    /// No route is chosen by it, as in smoltcp. The library doesn't keep it: it is `None` in a route that is read.
+    pub preferred_until: Option<Instant>,
+    /// The instant until which the route is used, which is included. `None` is for ever.
+    pub expires_at: Option<Instant>,
+}
+
+const IPV4_DEFAULT: IpCidr = IpCidr::Ipv4(Ipv4Cidr::new(Ipv4Address::UNSPECIFIED, 0));
+const IPV6_DEFAULT: IpCidr = IpCidr::Ipv6(Ipv6Cidr::new(Ipv6Address::UNSPECIFIED, 0));
+
+impl Route {
+    /// The route to 0.0.0.0/0 by a router, for ever.
+    pub fn new_ipv4_gateway(gateway: Ipv4Address) -> Route {
+        Route { cidr: IPV4_DEFAULT, via_router: gateway.into(), preferred_until: None, expires_at: None }
+    }
+
+    /// The route to ::/0 by a router, for ever.
+    pub fn new_ipv6_gateway(gateway: Ipv6Address) -> Route {
+        Route { cidr: IPV6_DEFAULT, via_router: gateway.into(), preferred_until: None, expires_at: None }
+    }
+
+    /// Whether it is a default route of IPv4.
+    pub fn is_ipv4_gateway(&self) -> bool {
+        self.cidr == IPV4_DEFAULT
+    }
+
+    /// Whether it is a default route of IPv6.
+    pub fn is_ipv6_gateway(&self) -> bool {
+        self.cidr == IPV6_DEFAULT
+    }
+}
+
+/// A neighbour whose hardware address is known.
+#[derive(Clone, Copy, Debug, PartialEq, Eq)]
+#[non_exhaustive]
+pub struct Neighbor {
+    /// Its address.
+    pub protocol_addr: IpAddress,
+    /// Its address on Ethernet.
+    pub hardware_addr: EthernetAddress,
+    /// The instant from which the latter isn't known any more.
+    pub expires_at: Instant,
+}
+
+/// What waits in a queue of a socket, and what it holds at most.
+#[derive(Clone, Copy, Debug, PartialEq, Eq)]
+#[non_exhaustive]
+pub struct Queue {
+    /// How many packets wait.
+    pub packets: u32,
+    /// How many octets they have together.
+    pub octets: u32,
+    /// How many packets it holds at most.
+    pub most_packets: u32,
+    /// How many octets they have together at most.
+    pub most_octets: u32,
+    /// How many octets the first packet has. `None` where none waits.
+    pub first: Option<u32>,
+}
+
+impl Queue {
+    const NONE: sys::iface_queue =
+        sys::iface_queue { packets: 0, octets: 0, most_packets: 0, most_octets: 0, first: 0 };
+
+    fn from_c(queue: &sys::iface_queue) -> Queue {
+        let sys::iface_queue { packets, octets, most_packets, most_octets, first } = *queue;
+        Queue { packets, octets, most_packets, most_octets, first: (packets != 0).then_some(first) }
+    }
+}
+
+/// What waits in the two queues of a socket.
+#[derive(Clone, Copy, Debug, PartialEq, Eq)]
+#[non_exhaustive]
+pub struct Queues {
+    /// What was received.
+    pub received: Queue,
+    /// What is to be sent.
+    pub to_send: Queue,
+}
+
+/// What a host counted since it was made. A number stays at the greatest one.
+#[derive(Clone, Copy, Debug, Default, PartialEq, Eq)]
+#[non_exhaustive]
+pub struct Counters {
+    /// Frames that it took.
+    pub frames_in: u64,
+    /// Frames that it wrote, in response or to be sent next.
+    pub frames_out: u64,
+    /// Packets that were given up, of all sockets.
+    pub given_up: u64,
+    /// How often memory for a frame was refused in the middle of a round: what was to be sent waits.
+    pub no_memory: u64,
 }
 
 /// A host on a network: the library's own calls. It needs no allocator in Rust, and goes from thread to thread.
@@ -417,24 +570,13 @@ macro_rules! call {
     };
 }
 
-/// Compares the library's header with this crate's. With the feature `rust-heap` the library has no `iface_version`.
-#[cfg(not(feature = "rust-heap"))]
-fn check_version() -> Result<(), Error> {
-    // SAFETY: it takes nothing, and needs nothing.
-    let library = unsafe { sys::iface_version() };
-    let own = sys::IFACE_VERSION;
-    if library == own { Ok(()) } else { Err(Error::OtherVersion { own, library }) }
-}
-
 impl Host {
     /// Makes a host.
     ///
     /// # Errors
-    /// [`Error::NotUnicast`] (the hardware address), [`Error::BadMtu`], [`Error::BadTimeout`], [`Error::NoMemory`];
-    /// [`Error::OtherVersion`], but not with the feature `rust-heap`, whose library doesn't tell its version.
+    /// [`Error::OtherVersion`], [`Error::NotUnicast`] (the hardware address), [`Error::BadMtu`], [`Error::BadTimeout`],
+    /// [`Error::NoMemory`].
     pub fn new(settings: &Settings) -> Result<Host, Error> {
-        #[cfg(not(feature = "rust-heap"))]
-        check_version()?;
         let mut host = Host { raw: sys::iface::NONE };
         call!(host.iface_new(&settings.to_c()))?;
         Ok(host)
@@ -458,15 +600,49 @@ impl Host {
         call!(self.iface_remove_address(&to_c(&cidr.address()), cidr.prefix_len()))
     }
 
+    /// Makes a list of at most four its own addresses, with their networks, and forgets all neighbours.
+    ///
+    /// # Errors
+    /// [`Error::TableFull`] if there are more, [`Error::NotUnicast`] if one of them is neither unicast nor unspecified.
+    #[inline]
+    pub fn set_addresses(&mut self, cidrs: &[IpCidr]) -> Result<(), Error> {
+        let mut list = [sys::iface_cidr { address: NO_ADDRESS, prefix_len: 0 }; 4];
+        let list = list.get_mut(..cidrs.len()).ok_or(Error::TableFull)?;
+        for (place, cidr) in list.iter_mut().zip(cidrs) {
+            *place = cidr_to_c(cidr);
+        }
+        call!(self.iface_set_addresses(list.as_ptr(), list.len()))
+    }
+
     /// The own address at an index of their list, those from routers included. `None` beyond the last one.
     #[inline]
     pub fn address_at(&mut self, index: u32) -> Option<IpCidr> {
         let (mut address, mut prefix_len) = (NO_ADDRESS, 0);
         call!(self.iface_address_at(index, &mut address, &mut prefix_len)).ok()?;
-        Some(match from_c(&address) {
-            IpAddress::Ipv4(address) => IpCidr::Ipv4(Ipv4Cidr::new(address, prefix_len.min(32))),
-            IpAddress::Ipv6(address) => IpCidr::Ipv6(Ipv6Cidr::new(address, prefix_len.min(128))),
-        })
+        Some(cidr_from_c(&address, prefix_len))
+    }
+
+    /// The link-local address that a hardware address makes: fe80::/64 with its modified EUI-64 (RFC 4291, 2.5.1 and
+    /// appendix A; RFC 2464, 5). It needs no host.
+    ///
+    /// ```
+    /// use fumitorygate::{Host, wire::{EthernetAddress, IpAddress, IpCidr}};
+    ///
+    /// let hardware_address = EthernetAddress([0x34, 0x56, 0x78, 0x9a, 0xbc, 0xde]);
+    /// let link_local = Host::link_local(hardware_address)?;
+    /// assert_eq!(link_local.to_string(), "fe80::3656:78ff:fe9a:bcde");
+    /// let own = IpCidr::new(IpAddress::Ipv6(link_local), 64);
+    /// # assert_eq!(own.to_string(), "fe80::3656:78ff:fe9a:bcde/64");
+    /// # Ok::<(), fumitorygate::Error>(())
+    /// ```
+    ///
+    /// # Errors
+    /// [`Error::NotUnicast`] if the hardware address is a group's.
+    pub fn link_local(hardware_address: EthernetAddress) -> Result<Ipv6Address, Error> {
+        let mut address = NO_ADDRESS;
+        // SAFETY: both pointers are those of references: to six octets, and to an address that is written.
+        answer(unsafe { sys::iface_link_local(hardware_address.0.as_ptr(), &mut address) })?;
+        Ok(address.octets.into())
     }
 
     /// Joins a group: from now on packets to it are taken, and routers are told of it.
@@ -487,8 +663,8 @@ impl Host {
         call!(self.iface_leave_group(&to_c(&group)))
     }
 
-    /// Whether the host is in a group. Beside those that it joined, it is in 224.0.0.1 (RFC 1112), and in ff02::1 and the
-    /// solicited-node groups of its own addresses (RFC 4291, 2.8). `false` too, if the address is no group's.
+    /// Whether the host is in a group. Beside those that it joined, it is in 224.0.0.1 (RFC 1112), and in ff02::1 and
+    /// the solicited-node groups of its own addresses (RFC 4291, 2.8). `false` too, if the address is no group's.
     #[inline]
     pub fn has_group(&mut self, group: IpAddress) -> bool {
         let mut is = 0;
@@ -497,8 +673,8 @@ impl Host {
         is != 0
     }
 
-    /// Sets the host's address on Ethernet: frames are sent from it from now on, and those to it are taken. Own addresses
-    /// and groups stay.
+    /// Sets the host's address on Ethernet: frames are sent from it from now on, and those to it are taken. Own
+    /// addresses and groups stay.
     ///
     /// # Errors
     /// [`Error::NotThere`] on a medium without hardware addresses, [`Error::NotUnicast`].
@@ -579,6 +755,17 @@ impl Host {
         call!(self.iface_add_route(&to_c(&network.address()), network.prefix_len(), &to_c(&router)))
     }
 
+    /// Adds a route as [`add_route`](Host::add_route) does, up to an end: it is used until that instant, which is
+    /// included, and stays in the table behind it. With `None` it has no end.
+    ///
+    /// # Errors
+    /// [`Error::TableFull`] if there are four routes.
+    #[inline]
+    pub fn add_route_until(&mut self, network: IpCidr, router: IpAddress, until: Option<Instant>) -> Result<(), Error> {
+        let until = until.map_or(sys::IFACE_NEVER, |until| until.total_micros());
+        call!(self.iface_add_route_until(&to_c(&network.address()), network.prefix_len(), &to_c(&router), until))
+    }
+
     /// Takes out the first route to a network.
     ///
     /// # Errors
@@ -588,11 +775,61 @@ impl Host {
         call!(self.iface_remove_route(&to_c(&network.address()), network.prefix_len()))
     }
 
-    /// Opens a UDP socket, and returns the number that names it. Its two queues hold so many packets each, with so many
-    /// octets together.
+    /// The route at an index of their list, those from routers included, and those whose end has passed. `None` beyond
+    /// the last one.
+    #[inline]
+    pub fn route_at(&mut self, index: u32) -> Option<Route> {
+        let (mut network, mut prefix_len, mut router, mut until) = (NO_ADDRESS, 0, NO_ADDRESS, sys::IFACE_NEVER);
+        call!(self.iface_route_at(index, &mut network, &mut prefix_len, &mut router, &mut until)).ok()?;
+        Some(Route {
+            cidr: cidr_from_c(&network, prefix_len),
+            via_router: from_c(&router),
+            preferred_until: None,
+            expires_at: until_from_c(until),
+        })
+    }
+
+    /// The own address that packets to a destination are sent from, where their socket names none. Over IPv4 it is the
+    /// first whose network has the destination, else the first one, and `None` where the host has none. Over IPv6 it is
+    /// the best one (RFC 6724, 5: rules 1, 2 and 8), and ::1 where the host has none.
+    ///
+    /// ```
+    /// # use fumitorygate::{Host, Settings, wire::HardwareAddress};
+    /// # let mut host = Host::new(&Settings::new(HardwareAddress::Ip))?;
+    /// for own in ["192.168.69.1/24", "10.0.0.1/8"] {
+    ///     host.add_address(own.parse().unwrap())?;
+    /// }
+    /// assert_eq!(host.source_for("10.1.2.3".parse().unwrap()), "10.0.0.1".parse().ok());
+    /// assert_eq!(host.source_for("8.8.8.8".parse().unwrap()), "192.168.69.1".parse().ok());
+    /// # Ok::<(), fumitorygate::Error>(())
+    /// ```
+    #[inline]
+    pub fn source_for(&mut self, remote: IpAddress) -> Option<IpAddress> {
+        let mut source = NO_ADDRESS;
+        call!(self.iface_source_for(&to_c(&remote), &mut source)).ok()?;
+        Some(from_c(&source))
+    }
+
+    /// The neighbour at an index of their list: at most four stand there, by rising instants, those whose instant has
+    /// passed too. `None` beyond the last one, and without hardware addresses.
+    #[inline]
+    pub fn neighbor_at(&mut self, index: u32) -> Option<Neighbor> {
+        let (mut address, mut octets, mut until) = (NO_ADDRESS, [0; 6], 0);
+        call!(self.iface_neighbor_at(index, &mut address, octets.as_mut_ptr(), &mut until)).ok()?;
+        Some(Neighbor {
+            protocol_addr: from_c(&address),
+            hardware_addr: EthernetAddress(octets),
+            expires_at: Instant::from_micros_const(until),
+        })
+    }
+
+    /// Opens a UDP socket at a port of one address, and returns the number that names it. It is at a port of any
+    /// address, of both versions, if `local` has none, or 0.0.0.0 or ::. Datagrams to groups and broadcast addresses
+    /// come to each. Its two queues hold so many packets each, with so many octets together.
     ///
     /// # Errors
-    /// [`Error::BadPort`], [`Error::TableFull`] if all of [`Settings::sockets`] are open, [`Error::NoMemory`].
+    /// [`Error::BadPort`], [`Error::BadAddress`] if the address is a group's or 255.255.255.255, [`Error::TableFull`]
+    /// if all of [`Settings::sockets`] are open, [`Error::NoMemory`].
     #[inline]
     pub fn udp_open(&mut self, local: IpListenEndpoint, packets: u32, octets: u32) -> Result<u32, Error> {
         let mut socket = 0;
@@ -653,6 +890,38 @@ impl Host {
     #[inline]
     pub fn close(&mut self, socket: u32) -> Result<(), Error> {
         call!(self.iface_close(socket))
+    }
+
+    /// Sets the hop limit of the packets that a UDP or an ICMP socket sends from now on, those that wait among them: 64
+    /// at first.
+    ///
+    /// # Errors
+    /// [`Error::BadArgument`] if it is 0, [`Error::NoSocket`], for a raw one too, whose packets have their own headers.
+    #[inline]
+    pub fn set_hop_limit(&mut self, socket: u32, hop_limit: u8) -> Result<(), Error> {
+        call!(self.iface_set_hop_limit(socket, hop_limit))
+    }
+
+    /// The hop limit of the packets that a UDP or an ICMP socket sends.
+    ///
+    /// # Errors
+    /// [`Error::NoSocket`], for a raw one too.
+    #[inline]
+    pub fn hop_limit(&mut self, socket: u32) -> Result<u8, Error> {
+        let mut hop_limit = 0;
+        call!(self.iface_hop_limit(socket, &mut hop_limit))?;
+        Ok(hop_limit)
+    }
+
+    /// What waits in the two queues of a socket of any kind, and what they hold at most.
+    ///
+    /// # Errors
+    /// [`Error::NoSocket`].
+    #[inline]
+    pub fn queues(&mut self, socket: u32) -> Result<Queues, Error> {
+        let (mut received, mut to_send) = (Queue::NONE, Queue::NONE);
+        call!(self.iface_queues(socket, &mut received, &mut to_send))?;
+        Ok(Queues { received: Queue::from_c(&received), to_send: Queue::from_c(&to_send) })
     }
 
     /// Queues a datagram. Over IPv4 it has at most 4096 octets with its headers (28), over IPv6 at most one packet of
@@ -772,13 +1041,34 @@ impl Host {
         Ok(if length == 0 { None } else { out.get(..length) })
     }
 
+    /// Whether a socket may have changed by frames that were taken and rounds that were made since this was last asked.
+    /// It may have if a frame was taken that isn't empty, or if a round sent or dropped a packet of a socket. What a
+    /// socket gave up is told by [`given_up`](Host::given_up).
+    #[inline]
+    pub fn sockets_changed(&mut self) -> bool {
+        let mut changed = 0;
+        // It is refused only without a host.
+        let _ = call!(self.iface_sockets_changed(&mut changed));
+        changed != 0
+    }
+
+    /// What it counted since it was made.
+    #[inline]
+    pub fn counters(&mut self) -> Counters {
+        let mut counters = sys::iface_counters { frames_in: 0, frames_out: 0, given_up: 0, no_memory: 0 };
+        // It is refused only without a host.
+        let _ = call!(self.iface_counters(&mut counters));
+        let sys::iface_counters { frames_in, frames_out, given_up, no_memory } = counters;
+        Counters { frames_in, frames_out, given_up, no_memory }
+    }
+
     /// The instant at which [`next`](Host::next) is to be called again, if no frame comes before and no call changes
     /// the host. One that has passed, if something is due at once. `None`, if nothing is.
     #[inline]
     pub fn poll_at(&mut self, now: Instant) -> Option<Instant> {
         let mut at = sys::IFACE_NEVER;
         call!(self.iface_poll_at(now.total_micros(), &mut at)).ok()?;
-        (at != sys::IFACE_NEVER).then(|| Instant::from_micros_const(at))
+        until_from_c(at)
     }
 }
 
@@ -789,8 +1079,12 @@ mod tests {
     /// `iface.h`: a version is an octet each, 0.14.0 and the header's number.
     #[test]
     fn both_versions_are_told() {
-        let told = Error::OtherVersion { own: 0x000e_0001, library: 0x000e_000a }.to_string();
+        let told = |library| Error::OtherVersion { own: 0x000e_0001, library }.to_string();
         let both = ["version 0.14.0 with header 1", "version 0.14.0 with header 10"];
-        assert_eq!(told, format!("the crate is made for {}, and the library is {}", both[0], both[1]));
+        assert_eq!(
+            told(Some(0x000e_000a)),
+            format!("the crate is made for {}, and the library is {}", both[0], both[1])
+        );
+        assert_eq!(told(None), format!("the crate is made for {}, and the library isn't", both[0]));
     }
 }

@@ -24,7 +24,7 @@ pub mod phy;
 #[cfg(feature = "alloc")]
 pub mod socket;
 
-pub use host::{Error, FRAME_ROOM, Frame, Host, Settings};
+pub use host::{Counters, Error, FRAME_ROOM, Frame, Host, Neighbor, Queue, Queues, Route, Settings};
 
 #[doc = include_str!("../API.md")]
 pub mod differences {}

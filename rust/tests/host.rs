@@ -2,10 +2,13 @@
 //! from `docs/C.md`.
 mod common;
 
-use common::{Node, OWN, Seen, advertisement, arp, ethernet, ipv4, millis, settings, udp4};
+use common::{Node, OWN, Seen, advertisement, arp, ethernet, ipv4, millis, settings, udp4, udp6};
 use fumitorygate::time::{Duration, Instant};
-use fumitorygate::wire::{EthernetAddress, HardwareAddress, IpAddress, IpCidr, IpEndpoint, Ipv4Address, Ipv6Address};
-use fumitorygate::{Error, FRAME_ROOM, Host, Settings};
+use fumitorygate::wire::{
+    EthernetAddress, HardwareAddress, IpAddress, IpCidr, IpEndpoint, IpListenEndpoint, IpProtocol, IpVersion,
+    Ipv4Address, Ipv6Address,
+};
+use fumitorygate::{Error, FRAME_ROOM, Host, Route, Settings};
 
 const SELF: Ipv4Address = Ipv4Address::new(192, 168, 69, 1);
 const CIDR: IpCidr = IpCidr::new(IpAddress::v4(192, 168, 69, 1), 24);
@@ -35,6 +38,7 @@ fn the_settings_are_those_of_the_table() {
     assert_eq!(settings.reassembly_timeout, Duration::from_micros(10_000_000));
     assert_eq!(settings.frame_len, 1514);
     assert_eq!(settings.sockets, 8);
+    assert_eq!(settings.start, Instant::ZERO);
     assert!(!settings.slaac);
 }
 
@@ -379,6 +383,258 @@ fn without_patience_a_packet_waits() {
         assert_eq!(node.sends(Instant::from_secs(hour * 3600)), asks(9));
     }
     assert_eq!(node.host.given_up_count(), 0);
+}
+
+/// RFC 2464, 4: the identifier of 34-56-78-9A-BC-DE; RFC 4291, 2.5.6: the prefix; a group's address has none.
+#[test]
+fn a_hardware_address_makes_a_link_local_one() {
+    let made = |octets| Host::link_local(EthernetAddress(octets));
+    let want = Ipv6Address::new(0xfe80, 0, 0, 0, 0x3656, 0x78ff, 0xfe9a, 0xbcde);
+    assert_eq!(made([0x34, 0x56, 0x78, 0x9a, 0xbc, 0xde]), Ok(want));
+    assert_eq!(made([0x35, 0x56, 0x78, 0x9a, 0xbc, 0xde]), Err(Error::NotUnicast));
+    assert_eq!(made([0xff; 6]), Err(Error::NotUnicast));
+}
+
+/// `iface.h`: a list of at most four, all at once; refused, nothing has changed. smoltcp's `update_ip_addrs` flushes.
+#[test]
+fn addresses_are_set_at_once() {
+    let other = IpCidr::new(IpAddress::v4(10, 0, 0, 9), 8);
+    let mut node = Node::new(&[CIDR, other]);
+    let addresses = |node: &mut Node| (0..).map_while(|index| node.host.address_at(index)).collect::<Vec<_>>();
+    fill(&mut node, 2, neighbor(2).1, millis(0));
+    let five: Vec<IpCidr> = (1..=5).map(|last| IpCidr::new(IpAddress::v4(10, 0, 0, last), 8)).collect();
+    assert_eq!(node.host.set_addresses(&five), Err(Error::TableFull));
+    assert_eq!(node.host.set_addresses(&[five[0], "224.0.0.1/4".parse().unwrap()]), Err(Error::NotUnicast));
+    assert_eq!(addresses(&mut node), [CIDR, other]);
+    assert_eq!(node.lookup(neighbor(2).0, millis(0)), [Seen::Datagram(neighbor(2).1)]);
+    for list in [&five[..4], &[CIDR], &[], &[CIDR, CIDR, other]] {
+        node.host.set_addresses(list).unwrap();
+        assert_eq!(addresses(&mut node), list);
+    }
+    assert_eq!(node.lookup(neighbor(2).0, millis(0)), asks(2));
+}
+
+/// smoltcp: `route`, `test_fill`: the second route's end is at 10 ms, and it is used then; `lookup`: not after it.
+/// `iface.h`: it stays in the table.
+#[test]
+fn a_route_is_used_until_its_end() {
+    let router_1: IpAddress = IpAddress::v4(192, 168, 69, 101);
+    let router_2: IpAddress = IpAddress::v4(192, 168, 69, 102);
+    let (cidr_1, cidr_2) = ("192.0.2.0/24".parse().unwrap(), "198.51.100.0/24".parse().unwrap());
+    let (addr_1b, addr_2b) = (Ipv4Address::new(192, 0, 2, 13), Ipv4Address::new(198, 51, 100, 21));
+    let route = |cidr, via_router, expires_at| Route { cidr, via_router, preferred_until: None, expires_at };
+    let mut node = Node::new(&[CIDR]);
+    assert_eq!(node.host.route_at(0), None);
+    node.host.add_route_until(cidr_1, router_1, None).unwrap();
+    node.host.add_route_until(cidr_2, router_2, Some(millis(10))).unwrap();
+    node.host.set_default_route(SELF.into()).unwrap();
+    let gateway = Route::new_ipv4_gateway(SELF);
+    let all = [route(cidr_1, router_1, None), route(cidr_2, router_2, Some(millis(10))), gateway];
+    assert_eq!((0..).map_while(|index| node.host.route_at(index)).collect::<Vec<_>>(), all);
+    assert!(gateway.is_ipv4_gateway() && !gateway.is_ipv6_gateway() && !all[0].is_ipv4_gateway());
+    node.host.remove_route("0.0.0.0/0".parse().unwrap()).unwrap();
+    assert_eq!(node.lookup(addr_2b, millis(10)), [Seen::Asks(router_2)]);
+    assert_eq!(node.lookup(addr_1b, millis(2000)), [Seen::Asks(router_1)]);
+    assert_eq!(node.lookup(addr_2b, millis(4000)), []);
+    assert_eq!(node.host.route_at(1), Some(all[1]));
+    node.host.add_route_until(cidr_2, router_2, Some(Instant::LAST)).unwrap();
+    assert_eq!(node.host.route_at(2), Some(route(cidr_2, router_2, Some(Instant::LAST))));
+    assert_eq!(node.lookup(addr_2b, millis(6000)), [Seen::Asks(router_2)]);
+    node.host.add_route(cidr_1, router_1).unwrap();
+    assert_eq!(node.host.add_route_until(cidr_1, router_1, None), Err(Error::TableFull));
+}
+
+/// RFC 6724, 10.1: the destination, the candidates in either order, and the source. smoltcp's `get_source_address`:
+/// over IPv4 the first address in the destination's subnet, else the first one; ::1 and none where the host has none.
+#[test]
+fn the_source_is_the_one_of_the_rfc() {
+    let mut node = Node::new(&[]);
+    let mut serves = |own: &[&str], to: &str| {
+        let own: Vec<IpCidr> = own.iter().map(|text| text.parse().unwrap()).collect();
+        node.host.set_addresses(&own).unwrap();
+        node.host.source_for(to.parse().unwrap()).map(|source| source.to_string())
+    };
+    let rfc_6724 = [
+        ("2001:db8:1::1", ["2001:db8:3::1/64", "fe80::1/64"], "2001:db8:3::1"),
+        ("ff05::1", ["2001:db8:3::1/64", "fe80::1/64"], "2001:db8:3::1"),
+        ("2001:db8:1::1", ["2001:db8:1::1/64", "2001:db8:2::1/64"], "2001:db8:1::1"),
+        ("fe80::1", ["fe80::2/64", "2001:db8:1::1/64"], "fe80::2"),
+        ("2001:db8:1::1", ["2001:db8:1::2/64", "2001:db8:3::2/64"], "2001:db8:1::2"),
+    ];
+    for (to, [a, b], want) in rfc_6724 {
+        assert_eq!(serves(&[a, b], to).as_deref(), Some(want));
+        assert_eq!(serves(&[b, a], to).as_deref(), Some(want));
+    }
+    let own = ["192.168.69.1/24", "10.0.0.1/8", "10.0.0.2/8"];
+    assert_eq!(serves(&own, "10.1.2.3").as_deref(), Some("10.0.0.1"));
+    assert_eq!(serves(&own, "192.168.69.7").as_deref(), Some("192.168.69.1"));
+    assert_eq!(serves(&own, "8.8.8.8").as_deref(), Some("192.168.69.1"));
+    assert_eq!(serves(&own, "2001:db8:1::1").as_deref(), Some("::1"));
+    assert_eq!(serves(&["2001:db8:1::2/64"], "8.8.8.8"), None);
+}
+
+/// smoltcp: `neighbor`, `test_evict`: an entry lasts a minute, and the one that would end first makes room.
+#[test]
+fn neighbors_are_read_by_rising_ends() {
+    let mut node = Node::new(&[CIDR]);
+    let known = |node: &mut Node| {
+        (0..)
+            .map_while(|index| node.host.neighbor_at(index))
+            .map(|known| (known.protocol_addr, known.hardware_addr.0, known.expires_at))
+            .collect::<Vec<_>>()
+    };
+    let entry = |last, at: i64| (neighbor(last).0.into(), neighbor(last).1, millis(at + 60_000));
+    assert_eq!(known(&mut node), []);
+    for (last, at) in [(11, 100), (12, 50), (13, 200), (15, 400)] {
+        fill(&mut node, last, neighbor(last).1, millis(at));
+    }
+    assert_eq!(known(&mut node), [entry(12, 50), entry(11, 100), entry(13, 200), entry(15, 400)]);
+    fill(&mut node, 14, neighbor(14).1, millis(300));
+    assert_eq!(known(&mut node), [entry(11, 100), entry(13, 200), entry(14, 300), entry(15, 400)]);
+    node.host.set_addresses(&[CIDR]).unwrap();
+    assert_eq!(known(&mut node), []);
+    let mut without = Host::new(&Settings::new(HardwareAddress::Ip)).unwrap();
+    assert_eq!(without.neighbor_at(0), None);
+}
+
+/// Where a header has its time to live (RFC 791, 3.1), or hop limit (RFC 8200, 3): behind that of Ethernet.
+fn hop_limit_of(frame: &[u8]) -> u8 {
+    if frame[12..14] == [0x86, 0xdd] { frame[21] } else { frame[22] }
+}
+
+/// IANA: 64, unless another is set; RFC 1122, 3.2.1.7: not 0. `iface.h`: also of packets that wait; raw sockets have
+/// none.
+#[test]
+fn packets_are_sent_with_the_hop_limit_of_their_socket() {
+    let mut node = Node::new(&[CIDR]);
+    let (peer, link) = neighbor(2);
+    fill(&mut node, 2, link, millis(0));
+    let udp = node.host.udp_open(7.into(), 4, 64).unwrap();
+    let icmp = node.host.icmp_open_ident(1, 4, 64).unwrap();
+    let raw = node.host.raw_open(IpVersion::Ipv4, IpProtocol::Unknown(253), 4, 64).unwrap();
+    assert_eq!((node.host.hop_limit(udp), node.host.hop_limit(icmp)), (Ok(64), Ok(64)));
+    for (udp_limit, icmp_limit) in [(64, 64), (1, 255), (255, 2)] {
+        node.host.udp_send(udp, (peer, 9).into(), b"x").unwrap();
+        node.host.icmp_send(icmp, peer.into(), &[8, 0, 0, 0, 0, 1, 0, 1]).unwrap();
+        node.host.set_hop_limit(udp, udp_limit).unwrap();
+        node.host.set_hop_limit(icmp, icmp_limit).unwrap();
+        let sent: Vec<u8> = node.frames(millis(0)).iter().map(|frame| hop_limit_of(frame)).collect();
+        assert_eq!(sent, [udp_limit, icmp_limit]);
+    }
+    assert_eq!(node.host.set_hop_limit(udp, 0), Err(Error::BadArgument));
+    assert_eq!(node.host.hop_limit(udp), Ok(255));
+    assert_eq!(
+        (node.host.hop_limit(raw), node.host.set_hop_limit(raw, 1)),
+        (Err(Error::NoSocket), Err(Error::NoSocket))
+    );
+    assert_eq!((node.host.hop_limit(3), node.host.set_hop_limit(3, 1)), (Err(Error::NoSocket), Err(Error::NoSocket)));
+}
+
+/// `iface.h`: packets, their octets together, and those of the first one, in a queue of so many of each.
+#[test]
+fn queues_tell_what_waits() {
+    let mut node = Node::new(&[CIDR]);
+    let (peer, link) = neighbor(2);
+    let socket = node.host.udp_open(7.into(), 3, 64).unwrap();
+    let told = |node: &mut Node| {
+        let queues = node.host.queues(socket).unwrap();
+        [queues.received, queues.to_send].map(|queue| {
+            assert_eq!((queue.most_packets, queue.most_octets), (3, 64));
+            (queue.packets, queue.octets, queue.first)
+        })
+    };
+    assert_eq!(told(&mut node), [(0, 0, None), (0, 0, None)]);
+    for text in [b"".as_slice(), b"three", b"four"] {
+        node.take(millis(0), &ethernet(OWN, link, 0x0800, &udp4(peer, SELF, (9, 7), text)));
+    }
+    assert_eq!(told(&mut node), [(3, 9, Some(0)), (0, 0, None)]);
+    node.host.udp_receive(socket, &mut [0; 64]).unwrap();
+    assert_eq!(told(&mut node), [(2, 9, Some(5)), (0, 0, None)]);
+    node.host.udp_send(socket, (peer, 9).into(), b"sixty").unwrap();
+    node.host.udp_send(socket, (peer, 9).into(), b"x").unwrap();
+    assert_eq!(told(&mut node), [(2, 9, Some(5)), (2, 6, Some(5))]);
+    fill(&mut node, 2, link, millis(0));
+    node.sends(millis(0));
+    assert_eq!(told(&mut node), [(2, 9, Some(5)), (0, 0, None)]);
+    assert_eq!(node.host.queues(1), Err(Error::NoSocket));
+}
+
+/// smoltcp's `PollResult` and `PollIngressSingleResult`: an empty frame, a request for a neighbour and a group's report
+/// change no socket; a frame that isn't empty may, and a packet of a socket that is sent does.
+#[test]
+fn it_is_told_once_that_sockets_may_have_changed() {
+    let mut node = Node::new(&[CIDR]);
+    let (peer, link) = neighbor(2);
+    let socket = node.host.udp_open(7.into(), 4, 64).unwrap();
+    let changed = |node: &mut Node| (node.host.sockets_changed(), node.host.sockets_changed());
+    assert_eq!(changed(&mut node), (false, false));
+    node.take(millis(0), &[]);
+    assert_eq!(changed(&mut node), (false, false));
+    node.host.join_group(IpAddress::v4(239, 1, 2, 3)).unwrap();
+    assert_eq!((node.sends(millis(0)).len(), changed(&mut node)), (1, (false, false)));
+    node.host.udp_send(socket, (peer, 9).into(), b"x").unwrap();
+    assert_eq!((node.sends(millis(0)), changed(&mut node)), (asks(2), (false, false)));
+    fill(&mut node, 2, link, millis(0));
+    assert_eq!(changed(&mut node), (true, false));
+    assert_eq!((node.sends(millis(0)), changed(&mut node)), (vec![Seen::Datagram(link)], (true, false)));
+    assert_eq!((node.sends(millis(0)), changed(&mut node)), (vec![], (false, false)));
+}
+
+/// `docs/C.md`, Counters.
+#[test]
+fn frames_are_counted() {
+    let mut node = Node::new(&[CIDR]);
+    let (peer, link) = neighbor(2);
+    let socket = node.host.udp_open(7.into(), 4, 64).unwrap();
+    let counted = |node: &mut Node| {
+        let counters = node.host.counters();
+        (counters.frames_in, counters.frames_out, counters.given_up, counters.no_memory)
+    };
+    assert_eq!(counted(&mut node), (0, 0, 0, 0));
+    node.take(millis(0), &arp(1, link, peer, [0; 6], SELF)).unwrap();
+    assert_eq!(counted(&mut node), (1, 1, 0, 0));
+    node.host.udp_send(socket, (peer, 9).into(), b"x").unwrap();
+    node.host.udp_send(socket, (neighbor(9).0, 9).into(), b"anybody?").unwrap();
+    for second in 0..=4 {
+        node.sends(Instant::from_secs(second));
+    }
+    // The datagram, and three requests.
+    assert_eq!(counted(&mut node), (1, 5, 1, 0));
+}
+
+/// RFC 4861, 6.3.7: a host solicits when it begins. `iface.h`: any moment that it takes may be its start.
+#[test]
+fn a_host_begins_at_its_start() {
+    for start in [Instant::ZERO, Instant::from_secs(1000), Instant::LAST] {
+        let mut later = settings();
+        (later.slaac, later.start) = (true, start);
+        let mut node = Node::of(&later, &[LINK_LOCAL]);
+        assert!(node.host.poll_at(start).unwrap() <= start);
+        assert!(node.sends(start).contains(&Seen::SolicitsRouters));
+    }
+}
+
+/// `iface.h`: a socket at 0.0.0.0 or :: is at any address, of both versions; none is at a group or 255.255.255.255.
+#[test]
+fn a_socket_at_an_unspecified_address_is_at_any() {
+    let mut node = Node::new(&[CIDR, LINK_LOCAL]);
+    let at = |text: &str, port| IpListenEndpoint { addr: text.parse().ok(), port };
+    for refused in ["224.0.0.1", "255.255.255.255", "ff02::1"] {
+        assert_eq!(node.host.udp_open(at(refused, 7), 4, 64), Err(Error::BadAddress));
+    }
+    let (peer, link) = neighbor(2);
+    let peer_6 = Ipv6Address::new(0xfe80, 0, 0, 0, 0, 0, 0, 2);
+    let IpAddress::Ipv6(own_6) = LINK_LOCAL.address() else { panic!("another version") };
+    let mut out = [0; 64];
+    for (port, text, over_4, over_6) in
+        [(7, "", true, true), (8, "0.0.0.0", true, true), (9, "::", true, true), (10, "192.168.69.1", true, false)]
+    {
+        let socket = node.host.udp_open(at(text, port), 4, 64).unwrap();
+        node.take(millis(0), &ethernet(OWN, link, 0x0800, &udp4(peer, SELF, (9, port), b"four")));
+        assert_eq!(node.host.udp_receive(socket, &mut out).is_ok(), over_4);
+        node.take(millis(0), &ethernet(OWN, link, 0x86dd, &udp6(peer_6, own_6, (9, port), b"six")));
+        assert_eq!(node.host.udp_receive(socket, &mut out).is_ok(), over_6);
+    }
 }
 
 #[test]

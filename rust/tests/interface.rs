@@ -5,7 +5,9 @@ mod common;
 
 use common::{OWN, arp, ethernet, ipv4, millis, udp4};
 use fumitorygate::Error;
-use fumitorygate::iface::{Config, Interface, MulticastError, PollResult, RouteTableFull, SocketSet};
+use fumitorygate::iface::{
+    Config, Interface, MulticastError, PollIngressSingleResult, PollResult, Route, RouteTableFull, SocketSet,
+};
 use fumitorygate::phy::{Loopback, Medium, MemoryDevice};
 use fumitorygate::socket::{Socket, icmp, raw, udp};
 use fumitorygate::time::{Duration, Instant};
@@ -319,14 +321,254 @@ fn groups_and_routes_have_their_errors() {
     for n in 1..4 {
         routes.add(IpCidr::new(IpAddress::v4(10, n, 0, 0), 16), PEER.into()).unwrap();
     }
-    routes.add_default_ipv4_route(PEER).unwrap();
-    routes.add_default_ipv4_route(Ipv4Address::new(192, 168, 69, 3)).unwrap();
+    let (first, second) = (Route::new_ipv4_gateway(PEER), Route::new_ipv4_gateway(Ipv4Address::new(192, 168, 69, 3)));
+    assert_eq!(routes.add_default_ipv4_route(PEER), Ok(None));
+    assert_eq!(routes.add_default_ipv4_route(Ipv4Address::new(192, 168, 69, 3)), Ok(Some(first)));
     assert_eq!(routes.add_default_ipv6_route(Ipv6Address::LOCALHOST), Err(RouteTableFull));
-    assert!(routes.remove_default_ipv4_route() && !routes.remove_default_ipv4_route());
-    assert!(!routes.remove_default_ipv6_route());
-    routes.add_default_ipv6_route(Ipv6Address::LOCALHOST).unwrap();
-    assert!(!routes.remove_default_ipv4_route() && routes.remove_default_ipv6_route());
+    assert_eq!((routes.get_default_ipv4_route(), routes.get_default_ipv6_route()), (Some(second), None));
+    assert_eq!((routes.remove_default_ipv4_route(), routes.remove_default_ipv4_route()), (Some(second), None));
+    assert_eq!(routes.remove_default_ipv6_route(), None);
+    assert_eq!(routes.add_default_ipv6_route(Ipv6Address::LOCALHOST), Ok(None));
+    let third = Route::new_ipv6_gateway(Ipv6Address::LOCALHOST);
+    assert_eq!((routes.remove_default_ipv4_route(), routes.remove_default_ipv6_route()), (None, Some(third)));
     assert!(routes.remove("10.2.0.0/16".parse().unwrap()) && !routes.remove("10.2.0.0/16".parse().unwrap()));
+}
+
+/// smoltcp: `route`, `test_fill`, its two routes, of which the second has an end; and its documentation of `Routes`.
+/// `API.md`: `preferred_until` isn't kept.
+#[test]
+fn routes_are_changed_as_a_list_and_read_back() {
+    let (_, mut iface, _) = interface();
+    let route = |cidr: &str, last, expires_at| Route {
+        cidr: cidr.parse().unwrap(),
+        via_router: IpAddress::v4(192, 168, 69, last),
+        preferred_until: None,
+        expires_at,
+    };
+    let (one, two) = (route("192.0.2.0/24", 1, None), route("198.51.100.0/24", 2, Some(millis(10))));
+    let default = Route::new_ipv4_gateway(PEER);
+    assert_eq!((iface.routes().len(), iface.routes().get_default_ipv4_route()), (0, None));
+    iface.routes_mut().update(|routes| {
+        routes.push(one).unwrap();
+        routes.push(Route { preferred_until: Some(millis(10)), ..two }).unwrap();
+    });
+    assert_eq!(*iface.routes(), [one, two]);
+    assert_eq!(iface.routes_mut().add_default_ipv4_route(PEER), Ok(None));
+    assert_eq!(*iface.routes(), [one, two, default]);
+    assert_eq!(
+        (iface.routes().get_default_ipv4_route(), iface.routes().get_default_ipv6_route()),
+        (Some(default), None)
+    );
+    // The same network twice, and in another order.
+    for list in [vec![one, default, one, two], vec![two, one], vec![one, two], vec![one, one, two], vec![], vec![two]] {
+        iface.routes_mut().update(|routes| {
+            routes.clear();
+            list.iter().for_each(|route| routes.push(*route).unwrap());
+        });
+        assert_eq!(*iface.routes(), list[..]);
+    }
+    iface.routes_mut().update(|routes| {
+        for _ in 0..3 {
+            routes.push(one).unwrap();
+        }
+        assert_eq!(routes.push(one), Err(one));
+        assert_eq!(routes.remove(0), two);
+        routes[1].via_router = PEER.into();
+        routes.retain(|route| *route == one);
+    });
+    assert_eq!(*iface.routes(), [one, one]);
+}
+
+/// smoltcp's documentation of `PollResult` and `PollIngressSingleResult`, and its code: an empty frame is processed and
+/// changes no socket, nor does a request for a neighbour, or a group's report, that is sent. A packet that is given up
+/// does.
+#[test]
+fn a_poll_tells_whether_sockets_may_have_changed() {
+    let (mut device, mut iface, mut sockets) = interface();
+    let handle = sockets.add(udp::Socket::new(buffer(), buffer()));
+    sockets.get_mut::<udp::Socket>(handle).bind(7).unwrap();
+    let single =
+        |iface: &mut Interface, device: &mut MemoryDevice, sockets: &mut SocketSet<'_>, frame: Option<Vec<u8>>| {
+            device.incoming.extend(frame);
+            iface.poll_ingress_single(millis(0), device, sockets)
+        };
+    assert_eq!(single(&mut iface, &mut device, &mut sockets, None), PollIngressSingleResult::None);
+    let empty = single(&mut iface, &mut device, &mut sockets, Some(vec![]));
+    assert_eq!(empty, PollIngressSingleResult::PacketProcessed);
+    let full = single(&mut iface, &mut device, &mut sockets, Some(datagram(b"x")));
+    assert_eq!(full, PollIngressSingleResult::SocketStateChanged);
+    let empty = single(&mut iface, &mut device, &mut sockets, Some(vec![]));
+    assert_eq!(empty, PollIngressSingleResult::PacketProcessed);
+
+    device.incoming.push_back(vec![]);
+    iface.join_multicast_group(Ipv4Address::new(239, 1, 2, 3)).unwrap();
+    assert_eq!(iface.poll(millis(0), &mut device, &mut sockets), PollResult::None);
+    assert_eq!((device.incoming.len(), device.sent.len()), (0, 1));
+    sockets.get_mut::<udp::Socket>(handle).send_slice(b"x", (PEER, 9)).unwrap();
+    assert_eq!(iface.poll(millis(0), &mut device, &mut sockets), PollResult::None);
+    assert_eq!(device.sent.len(), 2);
+    device.incoming.push_back(arp(2, PEER_LINK, PEER, OWN, SELF));
+    assert_eq!(iface.poll(millis(0), &mut device, &mut sockets), PollResult::SocketStateChanged);
+    assert_eq!(iface.poll(millis(0), &mut device, &mut sockets), PollResult::None);
+    sockets.get_mut::<udp::Socket>(handle).send_slice(b"x", (PEER, 9)).unwrap();
+    assert_eq!(iface.poll_egress(millis(0), &mut device, &mut sockets), PollResult::SocketStateChanged);
+    assert_eq!(iface.poll_egress(millis(0), &mut device, &mut sockets), PollResult::None);
+
+    let absent = Ipv4Address::new(192, 168, 69, 9);
+    sockets.get_mut::<udp::Socket>(handle).send_slice(b"anybody?", (absent, 9)).unwrap();
+    let polled: Vec<PollResult> =
+        (0..=4).map(|second| iface.poll(Instant::from_secs(second), &mut device, &mut sockets)).collect();
+    assert_eq!(iface.given_up_count(), 1);
+    assert_eq!(polled.iter().filter(|result| **result == PollResult::SocketStateChanged).count(), 1);
+
+    // By frames that are slices.
+    assert!(!iface.sockets_changed());
+    iface.receive_frame(millis(0), &datagram(b"y"), &mut sockets);
+    assert!(iface.sockets_changed() && !iface.sockets_changed());
+}
+
+/// smoltcp's documentation of `get_source_address`, by RFC 6724, 10.1.
+#[test]
+fn the_source_for_a_destination_is_told() {
+    let (_, mut iface, _) = interface();
+    let doc = |net, last| Ipv6Address::new(0x2001, 0xdb8, net, 0, 0, 0, 0, last);
+    assert_eq!(iface.get_source_address_ipv6(&doc(1, 1)), Ipv6Address::LOCALHOST);
+    iface
+        .update_ip_addrs(|list| {
+            for text in ["10.0.0.1/8", "2001:db8:1::2/64", "2001:db8:3::2/64"] {
+                list.push(text.parse().unwrap()).unwrap();
+            }
+        })
+        .unwrap();
+    let (near, far) = (Ipv4Address::new(10, 1, 2, 3), Ipv4Address::new(8, 8, 8, 8));
+    assert_eq!(iface.get_source_address_ipv4(&near), Some(Ipv4Address::new(10, 0, 0, 1)));
+    assert_eq!(iface.get_source_address_ipv4(&far), Some(SELF));
+    assert_eq!(iface.get_source_address_ipv6(&doc(1, 1)), doc(1, 2));
+    assert_eq!(iface.get_source_address(&far.into()), Some(SELF.into()));
+    assert_eq!(iface.get_source_address(&doc(1, 1).into()), Some(doc(1, 2).into()));
+    iface.update_ip_addrs(|list| list.clear()).unwrap();
+    assert_eq!((iface.get_source_address(&far.into()), iface.get_source_address_ipv4(&near)), (None, None));
+}
+
+/// smoltcp: `neighbor`, `test_fill` and `test_flush`: an entry lasts a minute, and new addresses flush, though they are
+/// the old ones. `docs/C.md`, Counters.
+#[test]
+fn neighbors_and_counters_are_read() {
+    let (mut device, mut iface, mut sockets) = interface();
+    device.incoming.push_back(arp(1, PEER_LINK, PEER, [0; 6], SELF));
+    iface.poll(millis(5), &mut device, &mut sockets);
+    let known = iface.neighbors();
+    assert_eq!((known.len(), known[0].protocol_addr, known[0].hardware_addr.0), (1, PEER.into(), PEER_LINK));
+    assert_eq!(known[0].expires_at, millis(60_005));
+    let counters = iface.counters();
+    assert_eq!((counters.frames_in, counters.frames_out, counters.given_up, counters.no_memory), (1, 1, 0, 0));
+    assert_eq!(iface.update_ip_addrs(|list| list.clear()), Ok(()));
+    assert!(iface.neighbors().is_empty());
+}
+
+/// smoltcp's documentation of `hop_limit` and `set_hop_limit`: `None` is 64 (IANA). It is that of the header: RFC 791,
+/// 3.1.
+#[test]
+fn sockets_send_with_their_hop_limit() {
+    let (mut device, mut iface, mut sockets) = interface();
+    device.incoming.push_back(arp(2, PEER_LINK, PEER, OWN, SELF));
+    let mut socket = udp::Socket::new(buffer(), buffer());
+    assert_eq!(socket.hop_limit(), None);
+    socket.set_hop_limit(Some(1));
+    socket.bind(7).unwrap();
+    let handle = sockets.add(socket);
+    let echo = sockets.add(icmp::Socket::new(buffer(), buffer()));
+    sockets.get_mut::<icmp::Socket>(echo).bind(icmp::Endpoint::Ident(1)).unwrap();
+    let mut sent_with = |sockets: &mut SocketSet<'_>| {
+        sockets.get_mut::<udp::Socket>(handle).send_slice(b"x", (PEER, 9)).unwrap();
+        sockets.get_mut::<icmp::Socket>(echo).send_slice(&[8, 0, 0, 0, 0, 1, 0, 1], PEER.into()).unwrap();
+        iface.poll(millis(0), &mut device, sockets);
+        device.sent.drain(..).map(|frame| frame[22]).collect::<Vec<u8>>()
+    };
+    assert_eq!(sent_with(&mut sockets), [1, 64]);
+    sockets.get_mut::<udp::Socket>(handle).set_hop_limit(Some(255));
+    sockets.get_mut::<icmp::Socket>(echo).set_hop_limit(Some(2));
+    assert_eq!(sent_with(&mut sockets), [255, 2]);
+    let socket = sockets.get_mut::<udp::Socket>(handle);
+    socket.close();
+    socket.bind(8).unwrap();
+    assert_eq!(socket.hop_limit(), Some(255));
+    assert_eq!(sent_with(&mut sockets), [255, 2]);
+    sockets.get_mut::<udp::Socket>(handle).set_hop_limit(None);
+    sockets.get_mut::<icmp::Socket>(echo).set_hop_limit(None);
+    assert_eq!(sent_with(&mut sockets), [64, 64]);
+}
+
+#[test]
+#[should_panic(expected = "the time-to-live value of a packet must not be zero")]
+fn a_hop_limit_of_zero_panics_as_smoltcps() {
+    udp::Socket::new(buffer(), buffer()).set_hop_limit(Some(0));
+}
+
+/// smoltcp's documentation of `can_send`, `can_recv`, `send_queue` and `recv_queue`: whether there is room for a
+/// packet, whether one came, and the octets that wait.
+#[test]
+fn sockets_tell_what_waits_in_their_queues() {
+    let (mut device, mut iface, mut sockets) = interface();
+    let told = |sockets: &SocketSet<'_>, handle| {
+        let socket = sockets.get::<udp::Socket>(handle);
+        (socket.can_recv(), socket.recv_queue(), socket.can_send(), socket.send_queue())
+    };
+    let handle = sockets.add(udp::Socket::new(buffer(), buffer()));
+    assert_eq!(told(&sockets, handle), (false, 0, false, 0));
+    sockets.get_mut::<udp::Socket>(handle).bind(7).unwrap();
+    assert_eq!(told(&sockets, handle), (false, 0, true, 0));
+    device.incoming.extend([datagram(b"three"), datagram(b"")]);
+    iface.poll(millis(0), &mut device, &mut sockets);
+    assert_eq!(told(&sockets, handle), (true, 5, true, 0));
+    // One that was looked at is counted.
+    assert_eq!(sockets.get_mut::<udp::Socket>(handle).peek().unwrap().0, b"three");
+    assert_eq!(told(&sockets, handle), (true, 5, true, 0));
+    let socket = sockets.get_mut::<udp::Socket>(handle);
+    assert_eq!(socket.recv().unwrap().0, b"three");
+    assert_eq!((socket.can_recv(), socket.recv_queue()), (true, 0));
+    assert_eq!(socket.recv().unwrap().0, b"");
+    for text in [b"four".as_slice(), b""] {
+        assert!(socket.can_send());
+        socket.send_slice(text, (PEER, 9)).unwrap();
+    }
+    assert_eq!(told(&sockets, handle), (false, 0, false, 4));
+    assert_eq!(sockets.get_mut::<udp::Socket>(handle).send_slice(b"", (PEER, 9)), Err(udp::SendError::BufferFull));
+    device.incoming.push_back(arp(2, PEER_LINK, PEER, OWN, SELF));
+    iface.poll(millis(0), &mut device, &mut sockets);
+    assert_eq!(told(&sockets, handle), (false, 0, true, 0));
+}
+
+/// `API.md`: 0.0.0.0 and :: are any address; a group's, and 255.255.255.255, are refused, in a set or not.
+#[test]
+fn a_socket_is_bound_to_no_group() {
+    let (mut device, mut iface, mut sockets) = interface();
+    let at = |text: &str, port| IpListenEndpoint { addr: text.parse().ok(), port };
+    let handle = sockets.add(udp::Socket::new(buffer(), buffer()));
+    for refused in ["224.0.0.1", "255.255.255.255", "ff02::1"] {
+        let bound = sockets.get_mut::<udp::Socket>(handle).bind(at(refused, 7));
+        assert_eq!(bound, Err(udp::BindError::Unaddressable));
+        assert_eq!(udp::Socket::new(buffer(), buffer()).bind(at(refused, 7)), Err(udp::BindError::Unaddressable));
+    }
+    sockets.get_mut::<udp::Socket>(handle).bind(at("::", 7)).unwrap();
+    device.incoming.push_back(datagram(b"x"));
+    iface.poll(millis(0), &mut device, &mut sockets);
+    assert!(sockets.get::<udp::Socket>(handle).can_recv());
+}
+
+/// RFC 4861, 6.3.7: a host solicits when it begins.
+#[test]
+fn an_interface_begins_at_the_instant_that_is_given() {
+    let now = Instant::from_secs(1000);
+    let mut device = MemoryDevice::new(Medium::Ethernet, 1514);
+    let mut config = Config::new(EthernetAddress(OWN).into());
+    config.slaac = true;
+    let mut iface = Interface::new(config, &mut device, now).unwrap();
+    iface.update_ip_addrs(|list| list.push("fe80::1/64".parse().unwrap()).unwrap()).unwrap();
+    let mut sockets = SocketSet::new(&iface);
+    assert_eq!(iface.poll_delay(now, &sockets), Some(Duration::ZERO));
+    assert_eq!(iface.poll(now, &mut device, &mut sockets), PollResult::None);
+    assert!(device.sent.iter().any(|frame| common::seen(frame) == common::Seen::SolicitsRouters));
 }
 
 /// smoltcp's documentation of these calls, and `API.md`: what panics there is an error here.
@@ -418,6 +660,12 @@ fn the_delay_is_the_time_until_the_next_poll() {
 fn a_socket_has_the_greater_of_its_two_capacities() {
     let (small, great) = (udp::PacketBuffer::with_capacity(1, 300), udp::PacketBuffer::with_capacity(3, 200));
     let socket = udp::Socket::new(small, great);
+    assert_eq!((socket.packet_recv_capacity(), socket.packet_send_capacity()), (3, 3));
+    assert_eq!((socket.payload_recv_capacity(), socket.payload_send_capacity()), (300, 300));
+    let (_, _, mut sockets) = interface();
+    let handle = sockets.add(socket);
+    let socket = sockets.get_mut::<udp::Socket>(handle);
+    socket.bind(7).unwrap();
     assert_eq!((socket.packet_recv_capacity(), socket.packet_send_capacity()), (3, 3));
     assert_eq!((socket.payload_recv_capacity(), socket.payload_send_capacity()), (300, 300));
 }

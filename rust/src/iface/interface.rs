@@ -1,6 +1,6 @@
 //! Interfaces.
-use super::{Addresses, Routes, SocketSet};
-use crate::host::{Error, FRAME_ROOM, Frame, Host, Settings};
+use super::{Addresses, Neighbors, RouteList, Routes, SocketSet};
+use crate::host::{Counters, Error, FRAME_ROOM, Frame, Host, Settings};
 use crate::phy::{Device, Medium, RxToken, TxToken};
 use crate::shared::Shared;
 use crate::time::{Duration, Instant};
@@ -43,7 +43,7 @@ impl Config {
         }
     }
 
-    fn settings(&self, frame_len: u32) -> Settings {
+    fn settings(&self, frame_len: u32, start: Instant) -> Settings {
         let mut settings = Settings::new(self.hardware_addr);
         settings.random_seed = self.random_seed;
         settings.frame_len = frame_len;
@@ -51,6 +51,7 @@ impl Config {
         settings.sockets = self.sockets;
         settings.patience = self.patience;
         settings.reassembly_timeout = self.reassembly_timeout;
+        settings.start = start;
         settings
     }
 }
@@ -58,18 +59,20 @@ impl Config {
 /// What a poll may have changed.
 #[derive(Clone, Copy, Debug, PartialEq, Eq)]
 pub enum PollResult {
-    /// No socket.
+    /// No socket has changed.
     None,
-    /// Sockets, perhaps: it is returned wherever a frame was taken or sent.
+    /// Sockets may have: a frame was taken, or a packet of a socket was sent, dropped or given up.
     SocketStateChanged,
 }
 
 /// What became of a frame.
 #[derive(Clone, Copy, Debug, PartialEq, Eq)]
 pub enum PollIngressSingleResult {
-    /// There was none.
+    /// There was none. No socket has changed.
     None,
-    /// It was taken, and may have changed a socket.
+    /// It was taken, and no socket has changed. So it is of an empty frame, as in smoltcp.
+    PacketProcessed,
+    /// It was taken, and sockets may have changed.
     SocketStateChanged,
 }
 
@@ -132,24 +135,24 @@ impl From<Error> for MulticastError {
 pub struct Interface {
     pub(super) host: Shared,
     out: Box<Frame>,
+    /// How many packets were given up when it was last asked whether sockets changed.
+    given_up: u64,
 }
 
 impl Interface {
-    /// An interface over a device, whose medium and length of frames it takes. `now` isn't used: it begins at
-    /// [`Instant::ZERO`].
+    /// An interface over a device, whose medium and length of frames it takes. It begins at `now`.
     ///
     /// # Errors
     /// [`Error::BadArgument`] if the hardware address isn't of the device's medium; [`Error::NotUnicast`],
     /// [`Error::BadMtu`], [`Error::BadTimeout`], [`Error::NoMemory`], [`Error::OtherVersion`].
     pub fn new(config: Config, device: &mut (impl Device + ?Sized), now: Instant) -> Result<Interface, Error> {
-        let _ = now;
         let capabilities = device.capabilities();
         if (capabilities.medium == Medium::Ip) != (config.hardware_addr == HardwareAddress::Ip) {
             return Err(Error::BadArgument);
         }
         let frame_len = u32::try_from(capabilities.max_transmission_unit).unwrap_or(u32::MAX);
-        let host = Host::new(&config.settings(frame_len))?;
-        Ok(Interface { host: Shared::new(host), out: Box::new([0; FRAME_ROOM]) })
+        let host = Host::new(&config.settings(frame_len, now))?;
+        Ok(Interface { host: Shared::new(host), out: Box::new([0; FRAME_ROOM]), given_up: 0 })
     }
 
     /// Its hardware address.
@@ -172,7 +175,7 @@ impl Interface {
 
     /// Its addresses with their networks, those from routers included: a copy.
     pub fn ip_addrs(&self) -> Addresses {
-        self.host.with(current)
+        self.host.with(Addresses::of)
     }
 
     /// Its first IPv4 address.
@@ -197,23 +200,38 @@ impl Interface {
         self.ip_addrs().iter().any(|cidr| cidr.address() == addr)
     }
 
-    /// Changes its addresses by `f`, and forgets all neighbours, if the list is another one then.
+    /// Changes its addresses by `f`, all at once, and forgets all neighbours.
     ///
     /// # Errors
-    /// [`Error::NotUnicast`], if one of them is neither unicast nor unspecified. Then the addresses are what they were.
+    /// [`Error::NotUnicast`], if one of them is neither unicast nor unspecified. Then nothing has changed.
     pub fn update_ip_addrs<F: FnOnce(&mut Addresses)>(&mut self, f: F) -> Result<(), Error> {
-        let old = self.ip_addrs();
-        let mut new = old;
-        f(&mut new);
-        self.host.with(|host| {
-            let done = replace(host, &old, &new);
-            if done.is_err() {
-                // What was there is accepted again.
-                let refused = current(host);
-                let _ = replace(host, &refused, &old);
-            }
-            done
-        })
+        let mut list = self.ip_addrs();
+        f(&mut list);
+        self.host.with(|host| host.set_addresses(&list))
+    }
+
+    /// The own address that packets to a destination are sent from, where their socket names none. For IPv4 it is the
+    /// first one in the destination's subnet, else the first one; for IPv6 it is chosen by RFC 6724. `None` if there is
+    /// no IPv4 address for an IPv4 destination.
+    pub fn get_source_address(&self, dst_addr: &IpAddress) -> Option<IpAddress> {
+        self.host.with(|host| host.source_for(*dst_addr))
+    }
+
+    /// The own address that packets to an IPv4 destination are sent from: the first one in its subnet, else the first
+    /// one. `None` if there is none.
+    pub fn get_source_address_ipv4(&self, dst_addr: &Ipv4Address) -> Option<Ipv4Address> {
+        match self.get_source_address(&IpAddress::Ipv4(*dst_addr))? {
+            IpAddress::Ipv4(address) => Some(address),
+            IpAddress::Ipv6(_) => None,
+        }
+    }
+
+    /// The own address that packets to an IPv6 destination are sent from, by RFC 6724. ::1 if there is none.
+    pub fn get_source_address_ipv6(&self, dst_addr: &Ipv6Address) -> Ipv6Address {
+        match self.get_source_address(&IpAddress::Ipv6(*dst_addr)) {
+            Some(IpAddress::Ipv6(address)) => address,
+            _ => Ipv6Address::LOCALHOST,
+        }
     }
 
     /// Joins a group: from now on packets to it are taken, and routers are told of it.
@@ -269,6 +287,11 @@ impl Interface {
         self.host.with(Host::slaac_updated_at)
     }
 
+    /// Its routes, those from routers included, and those whose end has passed: a copy.
+    pub fn routes(&self) -> RouteList {
+        self.host.with(RouteList::of)
+    }
+
     /// Its routes, to be changed.
     pub fn routes_mut(&mut self) -> Routes<'_> {
         Routes { host: &self.host }
@@ -284,14 +307,9 @@ impl Interface {
         device: &mut (impl Device + ?Sized),
         sockets: &mut SocketSet<'_>,
     ) -> PollResult {
-        let mut result = PollResult::None;
-        while self.poll_ingress_single(timestamp, device, sockets) != PollIngressSingleResult::None {
-            result = PollResult::SocketStateChanged;
-        }
-        if self.poll_egress(timestamp, device, sockets) != PollResult::None {
-            result = PollResult::SocketStateChanged;
-        }
-        result
+        self.check(sockets);
+        while self.take_frame(timestamp, device) {}
+        self.poll_egress(timestamp, device, sockets)
     }
 
     /// Takes one frame of a device.
@@ -305,18 +323,13 @@ impl Interface {
         sockets: &mut SocketSet<'_>,
     ) -> PollIngressSingleResult {
         self.check(sockets);
-        let Some((rx, tx)) = device.receive(timestamp) else {
-            return PollIngressSingleResult::None;
-        };
-        let (host, out) = (&self.host, &mut self.out);
-        let reply = rx.consume(|frame| {
-            let taken = host.with(|host| host.receive(timestamp, frame, out).map(|frame| frame.map(<[u8]>::len)));
-            taken.ok().flatten()
-        });
-        if let Some(len) = reply {
-            tx.consume(len, |frame| frame.copy_from_slice(&out[..len]));
+        if !self.take_frame(timestamp, device) {
+            PollIngressSingleResult::None
+        } else if self.sockets_changed() {
+            PollIngressSingleResult::SocketStateChanged
+        } else {
+            PollIngressSingleResult::PacketProcessed
         }
-        PollIngressSingleResult::SocketStateChanged
     }
 
     /// Sends what is to be sent, as long as the device gives permission. That is asked for first, since the library
@@ -331,13 +344,33 @@ impl Interface {
         sockets: &mut SocketSet<'_>,
     ) -> PollResult {
         self.check(sockets);
-        let mut result = PollResult::None;
         while let Some(tx) = device.transmit(timestamp) {
             let Some(len) = self.next_frame(timestamp, sockets).map(<[u8]>::len) else { break };
             tx.consume(len, |frame| frame.copy_from_slice(&self.out[..len]));
-            result = PollResult::SocketStateChanged;
         }
-        result
+        if self.sockets_changed() { PollResult::SocketStateChanged } else { PollResult::None }
+    }
+
+    /// Takes one frame of a device, sends the one in response, and tells whether there was one.
+    fn take_frame(&mut self, timestamp: Instant, device: &mut (impl Device + ?Sized)) -> bool {
+        let Some((rx, tx)) = device.receive(timestamp) else { return false };
+        let (host, out) = (&self.host, &mut self.out);
+        let reply = rx.consume(|frame| {
+            let taken = host.with(|host| host.receive(timestamp, frame, out).map(|frame| frame.map(<[u8]>::len)));
+            taken.ok().flatten()
+        });
+        if let Some(len) = reply {
+            tx.consume(len, |frame| frame.copy_from_slice(&out[..len]));
+        }
+        true
+    }
+
+    /// Whether sockets may have changed since this was last asked, or told by one of the polls: by a frame that was
+    /// taken and isn't empty, or by a packet of a socket that was sent, dropped or given up. smoltcp has none such: it
+    /// is for [`receive_frame`](Interface::receive_frame) and [`next_frame`](Interface::next_frame).
+    pub fn sockets_changed(&mut self) -> bool {
+        let (changed, given_up) = self.host.with(|host| (host.sockets_changed(), host.given_up_count()));
+        changed | (core::mem::replace(&mut self.given_up, given_up) != given_up)
     }
 
     /// Takes a frame that is a slice, and shows the one to be sent in response, if any. smoltcp has none such.
@@ -387,39 +420,20 @@ impl Interface {
         self.host.with(Host::given_up_count)
     }
 
+    /// What it counted since it was made: frames, packets that were given up, and refused memory. smoltcp has none
+    /// such.
+    pub fn counters(&self) -> Counters {
+        self.host.with(Host::counters)
+    }
+
+    /// Its neighbours, by rising instants, those whose instant has passed too: a copy. None are there on a medium
+    /// without hardware addresses. smoltcp has none such.
+    pub fn neighbors(&self) -> Neighbors {
+        self.host.with(Neighbors::of)
+    }
+
     #[inline]
     fn check(&self, sockets: &SocketSet<'_>) {
         assert!(self.host.is(&sockets.host), "the sockets are another interface's");
     }
-}
-
-/// The addresses of a host.
-fn current(host: &mut Host) -> Addresses {
-    let mut list = Addresses::new();
-    for index in 0.. {
-        match host.address_at(index) {
-            Some(cidr) if list.push(cidr).is_ok() => {}
-            _ => break,
-        }
-    }
-    list
-}
-
-/// Takes out the addresses from the first difference on, and adds the new ones in their place.
-///
-/// The library takes out the first address that is equal. So a list that has one twice is taken out from its front.
-fn replace(host: &mut Host, old: &Addresses, new: &Addresses) -> Result<(), Error> {
-    let same = old.iter().zip(new.iter()).take_while(|(a, b)| a == b).count();
-    if same == old.len().max(new.len()) {
-        return Ok(());
-    }
-    let is_twice = |cidr| old.iter().filter(|other| *other == cidr).count() > 1;
-    let from = if old.iter().any(is_twice) { 0 } else { same };
-    for cidr in old.iter().skip(from) {
-        host.remove_address(*cidr)?;
-    }
-    for cidr in new.iter().skip(from) {
-        host.add_address(*cidr)?;
-    }
-    Ok(())
 }

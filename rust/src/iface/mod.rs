@@ -3,12 +3,15 @@
 //! The library has interface and sockets in one host. So a [`SocketSet`] is made for an interface, a socket's queues
 //! are the library's, and [`Config::sockets`] says how many may be open. Interface and set may be in different threads:
 //! a call waits for that of the other.
-mod addresses;
 mod interface;
+mod list;
 mod route;
 mod socket_set;
 
-pub use addresses::{Addresses, IFACE_MAX_ADDR_COUNT};
+pub use crate::host::{Counters, Neighbor, Route};
 pub use interface::{Config, Interface, MulticastError, PollIngressSingleResult, PollResult};
+pub use list::{
+    Addresses, IFACE_MAX_ADDR_COUNT, IFACE_MAX_ROUTE_COUNT, IFACE_NEIGHBOR_CACHE_COUNT, List, Neighbors, RouteList,
+};
 pub use route::{RouteTableFull, Routes};
 pub use socket_set::{AddError, SocketHandle, SocketSet};

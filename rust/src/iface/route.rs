@@ -1,6 +1,8 @@
-//! Routes, which can be changed, but not read.
+//! Routes.
+use super::RouteList;
+use crate::host::Route;
 use crate::shared::Shared;
-use crate::wire::{IpAddress, IpCidr, Ipv4Address, Ipv4Cidr, Ipv6Address, Ipv6Cidr};
+use crate::wire::{IpAddress, IpCidr, Ipv4Address, Ipv6Address};
 use core::fmt;
 
 /// There are four routes.
@@ -22,33 +24,84 @@ pub struct Routes<'a> {
 }
 
 impl Routes<'_> {
-    /// Sets the default route of IPv4, in place of the first one that is there.
+    /// Changes the routes by `f`, which gets those from routers too. Of equal prefixes the last one wins.
+    ///
+    /// ```
+    /// use fumitorygate::{iface::*, phy::*, time::Instant, wire::*};
+    ///
+    /// let mut device = Loopback::new(Medium::Ip);
+    /// let mut iface = Interface::new(Config::new(HardwareAddress::Ip), &mut device, Instant::ZERO)?;
+    /// let route = Route {
+    ///     cidr: "10.0.0.0/8".parse().unwrap(),
+    ///     via_router: IpAddress::v4(192, 168, 69, 100),
+    ///     preferred_until: None,
+    ///     expires_at: Some(Instant::from_secs(60)),
+    /// };
+    /// iface.routes_mut().update(|routes| routes.push(route).unwrap());
+    /// iface.routes_mut().add_default_ipv4_route(Ipv4Address::new(192, 168, 69, 1)).unwrap();
+    /// assert_eq!(iface.routes()[0], route);
+    /// assert!(iface.routes()[1].is_ipv4_gateway());
+    /// # Ok::<(), fumitorygate::Error>(())
+    /// ```
+    pub fn update<F: FnOnce(&mut RouteList)>(&mut self, f: F) {
+        let old = self.list();
+        let mut new = old;
+        f(&mut new);
+        self.host.with(|host| {
+            // The old ones are there, and four have room.
+            for route in old.iter() {
+                let _ = host.remove_route(route.cidr);
+            }
+            for route in new.iter() {
+                let _ = host.add_route_until(route.cidr, route.via_router, route.expires_at);
+            }
+        });
+    }
+
+    /// Sets the default route of IPv4, behind all others, and returns the first one that was there, which it replaces.
     ///
     /// # Errors
-    /// [`RouteTableFull`].
-    pub fn add_default_ipv4_route(&mut self, gateway: Ipv4Address) -> Result<(), RouteTableFull> {
-        self.host.with(|host| host.set_default_route(gateway.into())).map_err(|_| RouteTableFull)
+    /// [`RouteTableFull`] if four others are there.
+    pub fn add_default_ipv4_route(&mut self, gateway: Ipv4Address) -> Result<Option<Route>, RouteTableFull> {
+        let old = self.get_default_ipv4_route();
+        self.host.with(|host| host.set_default_route(gateway.into())).map_err(|_| RouteTableFull)?;
+        Ok(old)
     }
 
-    /// Sets the default route of IPv6, in place of the first one that is there.
+    /// Sets the default route of IPv6, behind all others, and returns the first one that was there, which it replaces.
     ///
     /// # Errors
-    /// [`RouteTableFull`].
-    pub fn add_default_ipv6_route(&mut self, gateway: Ipv6Address) -> Result<(), RouteTableFull> {
-        self.host.with(|host| host.set_default_route(gateway.into())).map_err(|_| RouteTableFull)
+    /// [`RouteTableFull`] if four others are there.
+    pub fn add_default_ipv6_route(&mut self, gateway: Ipv6Address) -> Result<Option<Route>, RouteTableFull> {
+        let old = self.get_default_ipv6_route();
+        self.host.with(|host| host.set_default_route(gateway.into())).map_err(|_| RouteTableFull)?;
+        Ok(old)
     }
 
-    /// Takes out the first default route of IPv4, and tells whether there was one.
-    pub fn remove_default_ipv4_route(&mut self) -> bool {
-        self.remove(Ipv4Cidr::new(Ipv4Address::UNSPECIFIED, 0).into())
+    /// The first default route of IPv4.
+    pub fn get_default_ipv4_route(&self) -> Option<Route> {
+        self.list().get_default_ipv4_route()
     }
 
-    /// Takes out the first default route of IPv6, and tells whether there was one.
-    pub fn remove_default_ipv6_route(&mut self) -> bool {
-        self.remove(Ipv6Cidr::new(Ipv6Address::UNSPECIFIED, 0).into())
+    /// The first default route of IPv6.
+    pub fn get_default_ipv6_route(&self) -> Option<Route> {
+        self.list().get_default_ipv6_route()
     }
 
-    /// Adds a route without an end to a network by a router. The longest prefix wins, of equal ones the last.
+    /// Takes out the first default route of IPv4, and returns it.
+    pub fn remove_default_ipv4_route(&mut self) -> Option<Route> {
+        let old = self.get_default_ipv4_route()?;
+        self.remove(old.cidr).then_some(old)
+    }
+
+    /// Takes out the first default route of IPv6, and returns it.
+    pub fn remove_default_ipv6_route(&mut self) -> Option<Route> {
+        let old = self.get_default_ipv6_route()?;
+        self.remove(old.cidr).then_some(old)
+    }
+
+    /// Adds a route without an end to a network by a router. The longest prefix wins, of equal ones the last. smoltcp
+    /// has [`update`](Routes::update) alone.
     ///
     /// # Errors
     /// [`RouteTableFull`].
@@ -56,8 +109,13 @@ impl Routes<'_> {
         self.host.with(|host| host.add_route(cidr, via_router)).map_err(|_| RouteTableFull)
     }
 
-    /// Takes out the first route to a network, and tells whether there was one.
+    /// Takes out the first route to a network, and tells whether there was one. smoltcp has
+    /// [`update`](Routes::update) alone.
     pub fn remove(&mut self, cidr: IpCidr) -> bool {
         self.host.with(|host| host.remove_route(cidr)).is_ok()
+    }
+
+    fn list(&self) -> RouteList {
+        self.host.with(RouteList::of)
     }
 }

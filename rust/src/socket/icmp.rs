@@ -1,6 +1,6 @@
 //! ICMP sockets, for both versions of IP (RFC 792, RFC 4443).
 pub use super::{BindError, PacketBuffer, PacketMetadata, RecvError, SendError};
-use super::{Core, Kind, common};
+use super::{Core, Kind, common, hop_limits};
 use crate::host::{Error, Host};
 use crate::wire::{IpAddress, IpListenEndpoint};
 use core::marker::PhantomData;
@@ -64,6 +64,7 @@ pub struct Socket<'a> {
 }
 
 common!(Icmp);
+hop_limits!();
 
 impl<'a> Socket<'a> {
     /// A socket with queues for what comes and what goes, which isn't bound.

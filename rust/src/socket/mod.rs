@@ -2,12 +2,11 @@
 //!
 //! A socket is opened when it is bound in a [`SocketSet`](crate::iface::SocketSet), or when it comes into one and was
 //! bound before. Its queues are the library's: outside a set it has none.
-use crate::host::{Error, Host};
+use crate::host::{Error, Host, Queues};
 use crate::shared::Shared;
 use crate::time::Instant;
 use crate::wire::IpAddress;
 use alloc::vec::Vec;
-use core::cell::Cell;
 use core::fmt;
 use core::marker::PhantomData;
 
@@ -192,6 +191,9 @@ impl fmt::Display for RecvError {
 
 impl core::error::Error for RecvError {}
 
+/// The hop limit of a socket's packets where none is set (IANA).
+const DEFAULT_HOP_LIMIT: u8 = 64;
+
 /// What the library has for one kind of socket.
 pub(crate) trait Kind {
     /// What it is bound to.
@@ -211,10 +213,12 @@ pub(crate) struct Core<K: Kind> {
     number: Option<u32>,
     packets: u32,
     octets: u32,
+    hop_limit: Option<u8>,
     /// Where packets are read that are lent.
     buffer: Vec<u8>,
-    /// The length and origin of a packet in `buffer` that was taken from the library, but not by the program.
-    ahead: Cell<Option<(usize, K::Meta)>>,
+    /// The length and origin of the packet in `buffer` that was taken from the library to be looked at, but not by the
+    /// program.
+    ahead: Option<(usize, K::Meta)>,
 }
 
 impl<K: Kind> Core<K> {
@@ -225,8 +229,9 @@ impl<K: Kind> Core<K> {
             number: None,
             packets: rx.packets.max(tx.packets),
             octets: rx.octets.max(tx.octets),
+            hop_limit: None,
             buffer: Vec::new(),
-            ahead: Cell::new(None),
+            ahead: None,
         }
     }
 
@@ -243,13 +248,20 @@ impl<K: Kind> Core<K> {
             // It is open by this number.
             let _ = host.with(|host| host.close(number));
         }
-        self.ahead.set(None);
+        self.ahead = None;
     }
 
     fn open(&mut self, host: &Shared, endpoint: K::Endpoint) -> Result<(), Error> {
         let octets = self.octets as usize;
         self.buffer.try_reserve_exact(octets.saturating_sub(self.buffer.len())).map_err(|_| Error::NoMemory)?;
-        self.number = Some(host.with(|host| K::open(host, endpoint, self.packets, self.octets))?);
+        self.number = Some(host.with(|host| {
+            let number = K::open(host, endpoint, self.packets, self.octets)?;
+            if let Some(hop_limit) = self.hop_limit {
+                // It is open by this number, and the limit isn't 0.
+                let _ = host.set_hop_limit(number, hop_limit);
+            }
+            Ok(number)
+        })?);
         self.buffer.resize(octets, 0);
         Ok(())
     }
@@ -303,29 +315,44 @@ impl<K: Kind> Core<K> {
         Ok(size)
     }
 
-    /// Whether a packet came: asked by a buffer without room, into which only an empty packet goes, which is then kept.
+    /// What waits in its queues, if it is open.
     #[inline]
+    fn queues(&self) -> Option<Queues> {
+        self.call(Host::queues).ok()
+    }
+
     fn can_recv(&self) -> bool {
-        if self.ahead.get().is_some() {
-            return true;
-        }
-        match self.call(|host, number| K::receive(host, number, &mut [])) {
-            Ok(taken) => {
-                self.ahead.set(Some(taken));
-                true
-            }
-            Err(error) => error == Error::NoRoom,
-        }
+        self.ahead.is_some() || self.queues().is_some_and(|queues| queues.received.packets > 0)
+    }
+
+    fn can_send(&self) -> bool {
+        self.queues().is_some_and(|queues| queues.to_send.packets < queues.to_send.most_packets)
+    }
+
+    fn recv_queue(&self) -> usize {
+        let ahead = self.ahead.as_ref().map_or(0, |(length, _)| *length);
+        ahead + self.queues().map_or(0, |queues| queues.received.octets as usize)
+    }
+
+    fn send_queue(&self) -> usize {
+        self.queues().map_or(0, |queues| queues.to_send.octets as usize)
+    }
+
+    fn set_hop_limit(&mut self, hop_limit: Option<u8>) {
+        assert_ne!(hop_limit, Some(0), "the time-to-live value of a packet must not be zero");
+        self.hop_limit = hop_limit;
+        // It is refused only where it isn't open.
+        let _ = self.call(|host, number| host.set_hop_limit(number, hop_limit.unwrap_or(DEFAULT_HOP_LIMIT)));
     }
 
     /// Has the first packet in `buffer`.
     #[inline]
     fn fetch(&mut self) -> Result<(), RecvError> {
-        if self.ahead.get().is_none() {
+        if self.ahead.is_none() {
             let mut buffer = core::mem::take(&mut self.buffer);
             let taken = self.call(|host, number| K::receive(host, number, &mut buffer));
             self.buffer = buffer;
-            self.ahead.set(Some(taken.map_err(|_| RecvError::Exhausted)?));
+            self.ahead = Some(taken.map_err(|_| RecvError::Exhausted)?);
         }
         Ok(())
     }
@@ -339,7 +366,7 @@ impl<K: Kind> Core<K> {
 
     #[inline]
     fn recv_slice(&mut self, data: &mut [u8]) -> Result<(usize, K::Meta), RecvError> {
-        if self.ahead.get().is_none() {
+        if self.ahead.is_none() {
             // Right into the caller's buffer.
             match self.call(|host, number| K::receive(host, number, data)) {
                 Ok(taken) => return Ok(taken),
@@ -354,7 +381,7 @@ impl<K: Kind> Core<K> {
 
     fn peek(&mut self) -> Result<(&[u8], &K::Meta), RecvError> {
         self.fetch()?;
-        let (length, meta) = self.ahead.get_mut().as_ref().ok_or(RecvError::Exhausted)?;
+        let (length, meta) = self.ahead.as_ref().ok_or(RecvError::Exhausted)?;
         Ok((self.buffer.get(..*length).unwrap_or_default(), meta))
     }
 
@@ -407,24 +434,39 @@ macro_rules! common {
                 self.core.can_recv()
             }
 
+            /// Whether its queue for what goes has room for one packet more. `false` while it isn't open in a set.
+            pub fn can_send(&self) -> bool {
+                self.core.can_send()
+            }
+
+            /// How many octets wait in its queue for what comes.
+            pub fn recv_queue(&self) -> usize {
+                self.core.recv_queue()
+            }
+
+            /// How many octets wait in its queue for what goes.
+            pub fn send_queue(&self) -> usize {
+                self.core.send_queue()
+            }
+
             /// How many packets its queue for what comes can hold.
             pub fn packet_recv_capacity(&self) -> usize {
-                self.core.packets as usize
+                self.core.queues().map_or(self.core.packets, |queues| queues.received.most_packets) as usize
             }
 
             /// How many packets its queue for what goes can hold.
             pub fn packet_send_capacity(&self) -> usize {
-                self.core.packets as usize
+                self.core.queues().map_or(self.core.packets, |queues| queues.to_send.most_packets) as usize
             }
 
             /// How many octets its queue for what comes can hold.
             pub fn payload_recv_capacity(&self) -> usize {
-                self.core.octets as usize
+                self.core.queues().map_or(self.core.octets, |queues| queues.received.most_octets) as usize
             }
 
             /// How many octets its queue for what goes can hold.
             pub fn payload_send_capacity(&self) -> usize {
-                self.core.octets as usize
+                self.core.queues().map_or(self.core.octets, |queues| queues.to_send.most_octets) as usize
             }
 
             /// For which destination its first packet waits, since no neighbour answers for it, and since when, as of
@@ -443,3 +485,25 @@ macro_rules! common {
     };
 }
 pub(crate) use common;
+
+/// What UDP and ICMP sockets share: raw ones send packets with headers of their own.
+macro_rules! hop_limits {
+    () => {
+        impl Socket<'_> {
+            /// The hop limit that was set. `None`: 64.
+            pub fn hop_limit(&self) -> Option<u8> {
+                self.core.hop_limit
+            }
+
+            /// Sets the hop limit (over IPv4 the time to live) of the packets that it sends from now on, those that
+            /// wait among them. `None`: 64. It stays when the socket is closed, or goes from set to set.
+            ///
+            /// # Panics
+            /// If it is 0 (RFC 1122, 3.2.1.7), as smoltcp's.
+            pub fn set_hop_limit(&mut self, hop_limit: Option<u8>) {
+                self.core.set_hop_limit(hop_limit);
+            }
+        }
+    };
+}
+pub(crate) use hop_limits;

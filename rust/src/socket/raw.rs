@@ -99,7 +99,8 @@ impl<'a> Socket<'a> {
         self.core.recv_slice(data).map(|(length, ())| length)
     }
 
-    /// The first packet that came, which stays.
+    /// The first packet that came, which stays. The library has no call that reads without taking, so it stays in the
+    /// socket itself, and the queue has room for one more.
     ///
     /// # Errors
     /// [`RecvError::Exhausted`] if none came.

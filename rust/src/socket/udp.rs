@@ -1,6 +1,6 @@
 //! UDP sockets (RFC 768).
 pub use super::{BindError, PacketBuffer, PacketMetadata, RecvError, SendError};
-use super::{Core, Kind, common};
+use super::{Core, Kind, common, hop_limits};
 use crate::host::{Error, Host};
 use crate::wire::{IpEndpoint, IpListenEndpoint};
 use core::fmt;
@@ -51,6 +51,7 @@ pub struct Socket<'a> {
 }
 
 common!(Udp);
+hop_limits!();
 
 impl<'a> Socket<'a> {
     /// A socket with queues for what comes and what goes, which isn't bound.
@@ -63,15 +64,16 @@ impl<'a> Socket<'a> {
         self.core.endpoint.unwrap_or_default()
     }
 
-    /// Binds it to a port of one address, or of any. It then sends from that address, and it isn't tested that this is
-    /// an own one.
+    /// Binds it to a port of one address, or of any, which 0.0.0.0 and :: are too. It then sends from that address, and
+    /// it isn't tested that this is an own one. Datagrams to groups and broadcast addresses come to each.
     ///
     /// # Errors
-    /// [`BindError::Unaddressable`] if the port is 0, [`BindError::InvalidState`] if it is bound,
-    /// [`BindError::Exhausted`] if it is in a set and can't be opened there.
+    /// [`BindError::Unaddressable`] if the port is 0, or the address a group's or 255.255.255.255;
+    /// [`BindError::InvalidState`] if it is bound; [`BindError::Exhausted`] if it is in a set and can't be opened
+    /// there.
     pub fn bind<T: Into<IpListenEndpoint>>(&mut self, endpoint: T) -> Result<(), BindError> {
         let endpoint = endpoint.into();
-        if !endpoint.is_specified() {
+        if !endpoint.is_specified() || endpoint.addr.is_some_and(|addr| addr.is_multicast() || addr.is_broadcast()) {
             return Err(BindError::Unaddressable);
         }
         self.core.bind(endpoint)
@@ -126,7 +128,8 @@ impl<'a> Socket<'a> {
         self.core.recv_slice(data)
     }
 
-    /// The first datagram that came, which stays.
+    /// The first datagram that came, which stays. The library has no call that reads without taking, so it stays in the
+    /// socket itself, and the queue has room for one more.
     ///
     /// # Errors
     /// [`RecvError::Exhausted`] if none came.

@@ -66,6 +66,19 @@ pub fn ipv6(from: Ipv6Address, to: Ipv6Address, next: u8, hop_limit: u8, payload
     packet
 }
 
+pub fn udp6(from: Ipv6Address, to: Ipv6Address, ports: (u16, u16), payload: &[u8]) -> Vec<u8> {
+    let length = (8 + payload.len()) as u16;
+    let mut datagram =
+        [&ports.0.to_be_bytes()[..], &ports.1.to_be_bytes(), &length.to_be_bytes(), &[0, 0], payload].concat();
+    let pseudo = [&from.octets()[..], &to.octets(), &[0, 0], &length.to_be_bytes(), &[0, 0, 0, 17], &datagram].concat();
+    let check = match sum(&pseudo) {
+        0 => 0xffff,
+        other => other,
+    };
+    datagram[6..8].copy_from_slice(&check.to_be_bytes());
+    ipv6(from, to, 17, 64, &datagram)
+}
+
 pub fn icmpv6(from: Ipv6Address, to: Ipv6Address, hop_limit: u8, mut message: Vec<u8>) -> Vec<u8> {
     message[2..4].fill(0);
     let length = (message.len() as u32).to_be_bytes();
