@@ -113,8 +113,12 @@ impl fmt::Display for Version {
 
 #[inline]
 fn answer(code: u32) -> Result<(), Error> {
-    Err(match code {
-        sys::IFACE_OK => return Ok(()),
+    if code == sys::IFACE_OK { Ok(()) } else { Err(refusal(code)) }
+}
+
+/// What a code says that isn't `IFACE_OK`.
+fn refusal(code: u32) -> Error {
+    match code {
         sys::IFACE_BAD_ARGUMENT => Error::BadArgument,
         sys::IFACE_NO_MEMORY => Error::NoMemory,
         sys::IFACE_BAD_MTU => Error::BadMtu,
@@ -131,7 +135,7 @@ fn answer(code: u32) -> Result<(), Error> {
         sys::IFACE_BAD_TIMEOUT => Error::BadTimeout,
         sys::IFACE_BAD_VERSION => Error::OtherVersion { own: sys::IFACE_VERSION, library: library_version() },
         other => Error::Other(other),
-    })
+    }
 }
 
 /// The version of the header that the library was built with. The library without a heap doesn't tell it.
@@ -1055,11 +1059,15 @@ impl Host {
     /// What it counted since it was made.
     #[inline]
     pub fn counters(&mut self) -> Counters {
-        let mut counters = sys::iface_counters { frames_in: 0, frames_out: 0, given_up: 0, no_memory: 0 };
+        let mut counted = sys::iface_counters { frames_in: 0, frames_out: 0, given_up: 0, no_memory: 0 };
         // It is refused only without a host.
-        let _ = call!(self.iface_counters(&mut counters));
-        let sys::iface_counters { frames_in, frames_out, given_up, no_memory } = counters;
-        Counters { frames_in, frames_out, given_up, no_memory }
+        let _ = call!(self.iface_counters(&mut counted));
+        Counters {
+            frames_in: counted.frames_in,
+            frames_out: counted.frames_out,
+            given_up: counted.given_up,
+            no_memory: counted.no_memory,
+        }
     }
 
     /// The instant at which [`next`](Host::next) is to be called again, if no frame comes before and no call changes

@@ -330,7 +330,9 @@ fn groups_and_routes_have_their_errors() {
     assert_eq!(routes.remove_default_ipv6_route(), None);
     assert_eq!(routes.add_default_ipv6_route(Ipv6Address::LOCALHOST), Ok(None));
     let third = Route::new_ipv6_gateway(Ipv6Address::LOCALHOST);
+    assert_eq!(routes.add_default_ipv6_route(Ipv6Address::LOCALHOST), Ok(Some(third)));
     assert_eq!((routes.remove_default_ipv4_route(), routes.remove_default_ipv6_route()), (None, Some(third)));
+    assert_eq!(routes.remove_default_ipv6_route(), None);
     assert!(routes.remove("10.2.0.0/16".parse().unwrap()) && !routes.remove("10.2.0.0/16".parse().unwrap()));
 }
 
@@ -462,7 +464,7 @@ fn neighbors_and_counters_are_read() {
     assert_eq!(known[0].expires_at, millis(60_005));
     let counters = iface.counters();
     assert_eq!((counters.frames_in, counters.frames_out, counters.given_up, counters.no_memory), (1, 1, 0, 0));
-    assert_eq!(iface.update_ip_addrs(|list| list.clear()), Ok(()));
+    assert_eq!(iface.update_ip_addrs(|_| ()), Ok(()));
     assert!(iface.neighbors().is_empty());
 }
 
@@ -527,6 +529,8 @@ fn sockets_tell_what_waits_in_their_queues() {
     let socket = sockets.get_mut::<udp::Socket>(handle);
     assert_eq!(socket.recv().unwrap().0, b"three");
     assert_eq!((socket.can_recv(), socket.recv_queue()), (true, 0));
+    assert_eq!(socket.peek().unwrap().0, b"");
+    assert!(socket.can_recv());
     assert_eq!(socket.recv().unwrap().0, b"");
     for text in [b"four".as_slice(), b""] {
         assert!(socket.can_send());

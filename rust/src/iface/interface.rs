@@ -70,7 +70,7 @@ pub enum PollResult {
 pub enum PollIngressSingleResult {
     /// There was none. No socket has changed.
     None,
-    /// It was taken, and no socket has changed. So it is of an empty frame, as in smoltcp.
+    /// It was taken, and no socket has changed. As in smoltcp, that is said of an empty frame alone.
     PacketProcessed,
     /// It was taken, and sockets may have changed.
     SocketStateChanged,
