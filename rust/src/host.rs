@@ -1082,7 +1082,20 @@ impl Host {
 
 #[cfg(all(test, feature = "std"))]
 mod tests {
-    use super::Error;
+    use super::{Error, refusal};
+    use crate::sys;
+
+    /// Of the header's codes three can't come of what this crate passes: it has a host or none, and its instants are
+    /// moments.
+    #[test]
+    fn each_code_has_its_error() {
+        let others = [sys::IFACE_NO_HOST, sys::IFACE_HAS_HOST, sys::IFACE_BAD_MOMENT];
+        for code in 1..=sys::IFACE_BAD_VERSION {
+            assert_eq!(refusal(code) == Error::Other(code), others.contains(&code));
+        }
+        let library = if cfg!(feature = "rust-heap") { None } else { Some(sys::IFACE_VERSION) };
+        assert_eq!(refusal(sys::IFACE_BAD_VERSION), Error::OtherVersion { own: sys::IFACE_VERSION, library });
+    }
 
     /// `iface.h`: a version is an octet each, 0.14.0 and the header's number.
     #[test]
