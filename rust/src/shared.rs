@@ -23,6 +23,7 @@ pub(crate) struct Shared(Arc<Lock>);
 struct GivesBack<'a>(&'a AtomicBool);
 
 impl Drop for GivesBack<'_> {
+    #[inline]
     fn drop(&mut self) {
         self.0.store(false, SeqCst);
     }

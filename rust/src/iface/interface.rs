@@ -297,7 +297,8 @@ impl Interface {
         Routes { host: &self.host }
     }
 
-    /// Takes the frames that a device has, and sends what is to be sent, as long as the device gives permission.
+    /// Takes the frames that a device has, sends what is to be sent, as long as the device gives permission, and tells
+    /// whether sockets may have changed.
     ///
     /// # Panics
     /// If the sockets are another interface's.
@@ -313,6 +314,21 @@ impl Interface {
     }
 
     /// Takes one frame of a device.
+    ///
+    /// ```
+    /// use fumitorygate::{iface::*, phy::*, time::Instant, wire::HardwareAddress};
+    ///
+    /// let mut device = MemoryDevice::new(Medium::Ip, 1500);
+    /// let now = Instant::ZERO;
+    /// let mut iface = Interface::new(Config::new(HardwareAddress::Ip), &mut device, now)?;
+    /// let mut sockets = SocketSet::new(&iface);
+    /// device.incoming.extend([vec![], vec![0x45]]);
+    /// let mut next = || iface.poll_ingress_single(now, &mut device, &mut sockets);
+    /// assert_eq!(next(), PollIngressSingleResult::PacketProcessed);
+    /// assert_eq!(next(), PollIngressSingleResult::SocketStateChanged);
+    /// assert_eq!(next(), PollIngressSingleResult::None);
+    /// # Ok::<(), fumitorygate::Error>(())
+    /// ```
     ///
     /// # Panics
     /// If the sockets are another interface's.
