@@ -1059,7 +1059,7 @@ impl Host {
     /// What it counted since it was made.
     #[inline]
     pub fn counters(&mut self) -> Counters {
-        let mut counted = sys::iface_counters { frames_in: 0, frames_out: 0, given_up: 0, no_memory: 0 };
+        let mut counted = sys::iface_counts { frames_in: 0, frames_out: 0, given_up: 0, no_memory: 0 };
         // It is refused only without a host.
         let _ = call!(self.iface_counters(&mut counted));
         Counters {
