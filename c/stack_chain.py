@@ -3,8 +3,9 @@
 
 usage: stack_chain.py LIBRARY      libiface_c.a; it needs objdump
 
-A function takes its return address, the registers that it pushes, and what it subtracts from the stack pointer. What memcpy and its
-like take, and the heap, isn't counted. It fails where a function may call itself, or one that isn't named.
+A function takes its return address, the registers that it pushes, and what it subtracts from the stack pointer. One that calls no other
+may use 128 octets below that. What memcpy and its like take, and the heap, isn't counted. It fails where a function may call itself, or
+one that isn't named.
 """
 import re
 import subprocess
@@ -12,17 +13,18 @@ import sys
 
 FUNCTION = re.compile(r"^[0-9a-f]+ <(.*)>:$")
 CALLED = re.compile(r"R_X86_64_(?:PLT32|PC32)\s+(?:\.text\.(?:unlikely\.)?)?(.*?)-0x4$")
+BELOW = re.compile(r"-0x([0-9a-f]+)\(%rsp\)")
 STEP = 0xC00
 
 
 def read(library):
     """Returns the stack that each function takes by itself, and what it calls."""
-    own, calls, name, before = {}, {}, None, ""
+    own, below, calls, name, before = {}, {}, {}, None, ""
     command = ["objdump", "-dr", "--no-show-raw-insn", library]
     for line in subprocess.run(command, capture_output=True, text=True, check=True).stdout.splitlines():
         if m := FUNCTION.match(line):
             name = m[1]
-            own[name], calls[name] = 8, set()
+            own[name], below[name], calls[name] = 8, 0, set()
         elif re.search(r"\tpush ", line):
             own[name] += 8
         elif m := re.search(r"\tsub +\$0x([0-9a-f]+),%rsp", line):
@@ -34,8 +36,10 @@ def read(library):
             sys.exit(f"{name}: calls what isn't named: {line.strip()}")
         elif m := CALLED.search(line):
             calls[name].add(m[1])
+        elif m := BELOW.search(line):
+            below[name] = max(below[name], -(-int(m[1], 16) // 8) * 8)
         before = line
-    return own, calls
+    return {name: own[name] + below[name] for name in own}, calls
 
 
 def deepest(name, own, calls, known, above=()):
