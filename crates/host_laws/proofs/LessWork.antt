@@ -357,7 +357,7 @@ runs_rest first last transitions run = by run where
   by Ends = tt
   by {first} {last} (Then {transitions = ps} s r) = (
     λ sound t busy others is all_busy.
-    let front = begun busy others (subst (λ qs. Run first qs last) is (Then s r)) in
-    let least = come_to_rest t first front.0 busy front.1 all_busy sound in omega (arith, least),
+        let front = begun busy others (subst (λ qs. Run first qs last) is (Then s r)) in
+        let least = come_to_rest t first front.0 busy front.1 all_busy sound in omega (arith, least),
     by r,
   )

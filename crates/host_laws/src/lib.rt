@@ -2,5 +2,5 @@
 #![tactic(auto)]
 
 pub mod datagrams;
-pub mod progress;
 pub mod pings;
+pub mod progress;

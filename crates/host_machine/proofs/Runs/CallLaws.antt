@@ -100,11 +100,14 @@ called others = tt
 
 pub all_keep : {first last : Host} {transitions : List Transition} → Run first transitions last → AllByRecursion KeepsCallLaws transitions
 all_keep Ends = tt
-all_keep (Then {old} {mid} {last} {command} {answer} {told} {acts} {notes} {transitions} s r) = (record {
-  call = called s;
-  neighbors = learn_nobody command answer old mid told acts notes s;
-  settings = keep_settings command answer old mid told acts notes s;
-}, all_keep r)
+all_keep (Then {old} {mid} {last} {command} {answer} {told} {acts} {notes} {transitions} s r) = (
+  record {
+    call = called s;
+    neighbors = learn_nobody command answer old mid told acts notes s;
+    settings = keep_settings command answer old mid told acts notes s;
+  },
+  all_keep r,
+)
 
 pub run_calls : {first last : Host} {transitions : List Transition} → Run first transitions last → IsMadeOfCalls first transitions
 run_calls {first} {last} {transitions} r = let u = run_unfolds r in record { last = last; calls = u; keep = all_keep u.run }
