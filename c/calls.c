@@ -261,7 +261,37 @@ static void knows_neighbors(void) {
     must("free", iface_free(&host));
 }
 
+/* A datagram whose checksums are wrong comes where they aren't verified, and one is sent with 0 where none is computed. */
+static void leaves_checksums_to_the_link(void) {
+    static const uint8_t datagram[29] = {0x45, 0, 0, 29, 0, 1, 0, 0, 64, 17, 0xde, 0xad, 192, 168, 69, 2,
+                                         192, 168, 69, 1, 0, 9, 0, 7, 0, 9, 0xbe, 0xef, '!'};
+    struct iface_address own = v4(192, 168, 69, 1);
+    struct iface_endpoint local = {IFACE_ANY, 7}, from;
+    uint32_t socket;
+    size_t n;
+    for (uint8_t how = IFACE_BOTH; how <= IFACE_NEITHER; how++) {
+        int is_verified = how == IFACE_BOTH || how == IFACE_VERIFIED, is_computed = how == IFACE_BOTH || how == IFACE_COMPUTED;
+        iface host = IFACE_NONE;
+        struct iface_config config;
+        iface_config_init(&config);
+        config.medium = IFACE_IP, config.checksums.ipv4 = config.checksums.udp = how;
+        must("host", iface_new(&host, &config));
+        must("address", iface_add_address(&host, &own, 24));
+        must("socket", iface_udp_open(&host, &local, 4, 1024, &socket));
+        must("receive", iface_receive(&host, 2000, datagram, sizeof datagram, reply, sizeof reply, &n));
+        wants("it came", iface_udp_receive(&host, socket, &from, got, sizeof got, &n), is_verified ? IFACE_EMPTY : IFACE_OK);
+        from = (struct iface_endpoint){v4(192, 168, 69, 2), 9};
+        must("send", iface_udp_send(&host, socket, &from, datagram, 5));
+        must("next", iface_next(&host, 2000, frame, sizeof frame, &n));
+        wants("a packet", n, 33);
+        wants("its header's sum", (frame[10] | frame[11]) != 0, (uint64_t)is_computed);
+        wants("its own sum", (frame[26] | frame[27]) != 0, (uint64_t)is_computed);
+        must("free", iface_free(&host));
+    }
+}
+
 int main(void) {
+    leaves_checksums_to_the_link();
     chooses_sources();
     knows_neighbors();
     makes_link_local_addresses();

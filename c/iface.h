@@ -103,6 +103,15 @@ struct iface_queue {
     uint32_t first;        /* how many octets the first packet has, 0 where none waits */
 };
 
+/* In which directions a host computes checksums, by protocol; the link does the others. */
+struct iface_checksums {
+    uint8_t ipv4; /* of IPv4's headers: IFACE_BOTH, or another of enum iface_checksum */
+    uint8_t udp;
+    uint8_t tcp;
+    uint8_t icmpv4;
+    uint8_t icmpv6;
+};
+
 /* How a host is to be made: iface_config_init fills it in. */
 struct iface_config {
     uint64_t seed;               /* of its random words, which need not be secret: another for each host and each start */
@@ -118,9 +127,17 @@ struct iface_config {
     uint8_t hardware_address[6]; /* on Ethernet; else it isn't read */
     uint8_t medium;              /* IFACE_ETHERNET or IFACE_IP */
     uint8_t slaac;               /* not 0: it takes IPv6 addresses and routes from routers (RFC 4862) */
+    struct iface_checksums checksums; /* IFACE_BOTH for each: the host verifies and computes all */
 };
 
 enum iface_medium { IFACE_ETHERNET = 0, IFACE_IP = 1 };
+
+enum iface_checksum {
+    IFACE_BOTH = 0,     /* verified on receipt, and computed when sending */
+    IFACE_VERIFIED = 1, /* verified alone: what is sent has 0 in its place */
+    IFACE_COMPUTED = 2, /* computed alone */
+    IFACE_NEITHER = 3   /* neither */
+};
 
 /* What a host counted since it was made. A number stays at the greatest one. */
 struct iface_counts {
@@ -140,8 +157,8 @@ void iface_config_init(struct iface_config *config);
 /* What iface_new calls, with the version of the header that the program was built with. */
 uint32_t iface_new_for(iface *host, const struct iface_config *config, uint32_t version);
 
-/* Makes a host, which the handle owns from then on. BAD_VERSION, HAS_HOST, BAD_ARGUMENT (the medium), NOT_UNICAST (the
- * hardware address), BAD_MTU, BAD_TIMEOUT, BAD_MOMENT (the start), NO_MEMORY. */
+/* Makes a host, which the handle owns from then on. BAD_VERSION, HAS_HOST, BAD_ARGUMENT (the medium, a checksum), NOT_UNICAST
+ * (the hardware address), BAD_MTU, BAD_TIMEOUT, BAD_MOMENT (the start), NO_MEMORY. */
 static inline uint32_t iface_new(iface *host, const struct iface_config *config) {
     return iface_new_for(host, config, IFACE_VERSION);
 }
@@ -378,9 +395,9 @@ const char *iface_strerror(uint32_t code);
 
 #if defined(__STDC_VERSION__) && __STDC_VERSION__ >= 201112L
 _Static_assert(sizeof(struct iface_address) == 17 && sizeof(struct iface_endpoint) == 20, "as the library lays them out");
-_Static_assert(sizeof(struct iface_config) == 48 && sizeof(iface) == 16, "as the library lays them out");
+_Static_assert(sizeof(struct iface_config) == 56 && sizeof(iface) == 16, "as the library lays them out");
 _Static_assert(sizeof(struct iface_cidr) == 18 && sizeof(struct iface_counts) == 32, "as the library lays them out");
-_Static_assert(sizeof(struct iface_queue) == 20, "as the library lays it out");
+_Static_assert(sizeof(struct iface_queue) == 20 && sizeof(struct iface_checksums) == 5, "as the library lays them out");
 #endif
 
 #endif

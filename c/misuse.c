@@ -53,6 +53,8 @@ static void refuses_configurations(void) {
     c = good, c.reassembly_timeout = 0, wants("no time for fragments", iface_new(&host, &c), IFACE_BAD_TIMEOUT);
     c.reassembly_timeout = 86400000001, wants("more than a day", iface_new(&host, &c), IFACE_BAD_TIMEOUT);
     c.reassembly_timeout = UINT64_MAX, wants("more than a day", iface_new(&host, &c), IFACE_BAD_TIMEOUT);
+    c = good, c.checksums.icmpv6 = 4, wants("checksum 4", iface_new(&host, &c), IFACE_BAD_ARGUMENT);
+    c = good, c.checksums.ipv4 = 255, wants("checksum 255", iface_new(&host, &c), IFACE_BAD_ARGUMENT);
     c = good, c.start = -1, wants("start at -1", iface_new(&host, &c), IFACE_BAD_MOMENT);
     c.start = IFACE_LAST_MOMENT + 1, wants("start at 2^62+1", iface_new(&host, &c), IFACE_BAD_MOMENT);
     wants("an older header", iface_new_for(&host, &good, IFACE_VERSION - 1), IFACE_BAD_VERSION);

@@ -10,6 +10,7 @@
 //! | nothing overlaps | a `&mut` excludes any other reference to the same octets |
 //! | each call may be in another thread | `Send`; not `Sync`, which `&mut self` makes useless |
 //! | malloc and the like of one allocator, not in a signal handler or a forked child | the program's: in Rust both are `unsafe` to get into |
+use crate::checksum::ChecksumCapabilities;
 use crate::sys;
 use crate::time::{Duration, Instant};
 use crate::wire::{
@@ -234,6 +235,8 @@ pub struct Settings {
     pub reassembly_timeout: Duration,
     /// The instant at which it begins.
     pub start: Instant,
+    /// Which checksums it verifies and computes.
+    pub checksum: ChecksumCapabilities,
 }
 
 /// A configuration, and room behind it for the longer one of another library: that is refused only when a host is made.
@@ -245,7 +248,7 @@ struct Configured {
 
 impl Settings {
     /// What `iface_config_init` writes: frames of 1514 octets, 8 sockets, no addresses from routers, a patience of
-    /// three seconds, ten seconds for fragments, the start [`Instant::ZERO`], and the seed 0.
+    /// three seconds, ten seconds for fragments, the start [`Instant::ZERO`], all checksums its own, and the seed 0.
     pub fn new(hardware_addr: HardwareAddress) -> Settings {
         let config = sys::iface_config {
             seed: 0,
@@ -257,6 +260,7 @@ impl Settings {
             hardware_address: [0; 6],
             medium: 0,
             slaac: 0,
+            checksums: ChecksumCapabilities::default().to_c(),
         };
         let mut configured = Configured { config, room: [0; 58] };
         // SAFETY: the pointer is that of a reference to a whole configuration, and to 464 octets behind it, which may
@@ -272,6 +276,7 @@ impl Settings {
             patience: Duration::from_micros(config.patience),
             reassembly_timeout: Duration::from_micros(config.reassembly_timeout),
             start: Instant::from_micros_const(config.start),
+            checksum: ChecksumCapabilities::default(),
         }
     }
 
@@ -290,6 +295,7 @@ impl Settings {
             hardware_address,
             medium,
             slaac: u8::from(self.slaac),
+            checksums: self.checksum.to_c(),
         }
     }
 }

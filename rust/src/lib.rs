@@ -7,6 +7,7 @@
 #[cfg(feature = "alloc")]
 extern crate alloc;
 
+mod checksum;
 #[cfg(feature = "rust-heap")]
 mod heap;
 mod host;
@@ -24,6 +25,7 @@ pub mod phy;
 #[cfg(feature = "alloc")]
 pub mod socket;
 
+pub use checksum::{Checksum, ChecksumCapabilities};
 pub use host::{Counters, Error, FRAME_ROOM, Frame, Host, Neighbor, Queue, Queues, Route, Settings};
 
 #[doc = include_str!("../API.md")]

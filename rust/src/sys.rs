@@ -2,7 +2,7 @@
 //!
 //! Calling any of it is `unsafe`: the header says what the caller keeps. [`Host`](crate::Host) keeps it.
 //!
-//! Sum of the header: 0x9bd00d2f291b3a8e
+//! Sum of the header: 0x5cd00d7ca4acc25e
 #![allow(non_camel_case_types)]
 
 use core::ffi::{c_char, c_void};
@@ -50,6 +50,15 @@ pub const IFACE_BAD_VERSION: u32 = 18;
 pub const IFACE_ETHERNET: u8 = 0;
 /// `iface_medium`.
 pub const IFACE_IP: u8 = 1;
+
+/// verified on receipt, and computed when sending
+pub const IFACE_BOTH: u8 = 0;
+/// verified alone: what is sent has 0 in its place
+pub const IFACE_VERIFIED: u8 = 1;
+/// computed alone
+pub const IFACE_COMPUTED: u8 = 2;
+/// neither
+pub const IFACE_NEITHER: u8 = 3;
 
 /// The room that `iface_receive` and `iface_next` need for a frame, in octets.
 pub const IFACE_FRAME_ROOM: usize = 1514;
@@ -116,6 +125,22 @@ pub struct iface_queue {
     pub first: u32,
 }
 
+/// In which directions a host computes checksums, by protocol; the link does the others.
+#[repr(C)]
+#[derive(Clone, Copy, Debug)]
+pub struct iface_checksums {
+    /// of IPv4's headers: `IFACE_BOTH`, or another of enum `iface_checksum`
+    pub ipv4: u8,
+    /// `udp`.
+    pub udp: u8,
+    /// `tcp`.
+    pub tcp: u8,
+    /// `icmpv4`.
+    pub icmpv4: u8,
+    /// `icmpv6`.
+    pub icmpv6: u8,
+}
+
 /// How a host is to be made: `iface_config_init` fills it in.
 #[repr(C)]
 #[derive(Clone, Copy, Debug)]
@@ -138,6 +163,8 @@ pub struct iface_config {
     pub medium: u8,
     /// not 0: it takes IPv6 addresses and routes from routers (RFC 4862)
     pub slaac: u8,
+    /// `IFACE_BOTH` for each: the host verifies and computes all
+    pub checksums: iface_checksums,
 }
 
 /// What a host counted since it was made. A number stays at the greatest one.
@@ -164,11 +191,12 @@ impl iface {
 
 const _: () = assert!(size_of::<iface_address>() == 17);
 const _: () = assert!(size_of::<iface_endpoint>() == 20);
-const _: () = assert!(size_of::<iface_config>() == 48);
+const _: () = assert!(size_of::<iface_config>() == 56);
 const _: () = assert!(size_of::<iface>() == 16);
 const _: () = assert!(size_of::<iface_cidr>() == 18);
 const _: () = assert!(size_of::<iface_counts>() == 32);
 const _: () = assert!(size_of::<iface_queue>() == 20);
+const _: () = assert!(size_of::<iface_checksums>() == 5);
 
 unsafe extern "C" {
     /// Writes what most programs want: frames of 1514 octets on Ethernet, 8 sockets, no addresses from routers, a patience of 3 s (three requests, a second apart: RFC 4861, 10), and 10 s for fragments. The start is 0, the seed is 0, and the hardware address all zeros: set the last two.
@@ -275,7 +303,7 @@ unsafe extern "C" {
     pub fn iface_strerror(code: u32) -> *const c_char;
 }
 
-/// Makes a host, which the handle owns from then on. BAD_VERSION, HAS_HOST, BAD_ARGUMENT (the medium), NOT_UNICAST (the hardware address), BAD_MTU, BAD_TIMEOUT, BAD_MOMENT (the start), NO_MEMORY.
+/// Makes a host, which the handle owns from then on. BAD_VERSION, HAS_HOST, BAD_ARGUMENT (the medium, a checksum), NOT_UNICAST (the hardware address), BAD_MTU, BAD_TIMEOUT, BAD_MOMENT (the start), NO_MEMORY.
 ///
 /// # Safety
 /// As each call of the header.

@@ -8,7 +8,7 @@ use fumitorygate::wire::{
     EthernetAddress, HardwareAddress, IpAddress, IpCidr, IpEndpoint, IpListenEndpoint, IpProtocol, IpVersion,
     Ipv4Address, Ipv6Address,
 };
-use fumitorygate::{Error, FRAME_ROOM, Host, Route, Settings};
+use fumitorygate::{Checksum, ChecksumCapabilities, Error, FRAME_ROOM, Host, Route, Settings};
 
 const SELF: Ipv4Address = Ipv4Address::new(192, 168, 69, 1);
 const CIDR: IpCidr = IpCidr::new(IpAddress::v4(192, 168, 69, 1), 24);
@@ -323,6 +323,29 @@ fn the_hardware_address_is_the_one_that_was_set_last() {
     let mut without = Host::new(&Settings::new(HardwareAddress::Ip)).unwrap();
     assert_eq!(without.hardware_address(), None);
     assert_eq!(without.set_hardware_address(EthernetAddress(other)), Err(Error::NotThere));
+}
+
+/// RFC 768: a checksum of 0 says that there is none. smoltcp's `Checksum` says who verifies it, and who computes it.
+#[test]
+fn a_checksum_is_verified_and_computed_where_it_is_the_librarys() {
+    let (peer, _) = neighbor(2);
+    let mut wrong = udp4(peer, SELF, (5, 7), b"hi");
+    wrong[27] ^= 1;
+    for checksum in [Checksum::Both, Checksum::Rx, Checksum::Tx, Checksum::None] {
+        let mut settings = Settings::new(HardwareAddress::Ip);
+        settings.checksum.udp = checksum;
+        let mut node = Node::of(&settings, &[CIDR]);
+        let socket = node.host.udp_open(7.into(), 1, 8).unwrap();
+        let answer = node.take(millis(0), &wrong);
+        let received = node.host.udp_receive(socket, &mut [0; 8]);
+        assert_eq!((answer, received.is_ok()), (None, !checksum.rx()));
+        node.host.udp_send(socket, IpEndpoint::new(peer.into(), 5), b"hi").unwrap();
+        let sent = node.frames(millis(0));
+        assert_eq!(sent[0][26..28] == [0, 0], !checksum.tx());
+    }
+    let ignored = ChecksumCapabilities::ignored();
+    assert!(!ignored.ipv4.rx() && !ignored.udp.tx() && ignored.icmpv6 == Checksum::None);
+    assert_eq!(Settings::new(HardwareAddress::Ip).checksum, ChecksumCapabilities::default());
 }
 
 /// RFC 1112, 4: all hosts are in 224.0.0.1; RFC 4291, 2.8: in ff02::1 and the solicited-node groups of their addresses.

@@ -3,7 +3,7 @@ ghost use Rattle.std.specs.Prelude.{◌≡◌, ◌≢◌, None, IsSomeAnd};
 ghost use Rattle.std.specs.Option.{option_and_then};
 ghost use Rattle.iface_c.specs.Addresses.{address_in, cidr_in};
 ghost use Rattle.iface_c.specs.Calls.{Did, Made, Ruled};
-ghost use Rattle.iface_c.specs.Config.{settings_in, usual};
+ghost use Rattle.iface_c.specs.Config.{checksums_in, directions_in, hardware_in, settings_in, usual};
 ghost use Rattle.iface_c.specs.Handle.{host_in};
 ghost use Rattle.iface_c.specs.Hosts.{ShowsAddress};
 ghost use Rattle.iface_c.specs.Status.{IsDueOrMemory, code_by, code_for_new, code_for_version, code_with};
@@ -19,6 +19,7 @@ use crate::status::{
 };
 use iface_host::{Host, Settings};
 use ip_wire::{EthernetAddress, HardwareAddress};
+use net_base::phy::{Checksum, ChecksumCapabilities};
 use net_base::time::Duration;
 use std::alloc::Global;
 
@@ -44,18 +45,73 @@ pub struct IfaceConfig {
     pub medium: u8,
     /// Whether it takes addresses from routers: 0, or not.
     pub slaac: u8,
+    /// Which checksums it verifies and computes.
+    pub checksums: IfaceChecksums,
+}
+
+/// In which directions a host computes checksums, by protocol: 0 verified and computed, 1 verified alone, 2 computed
+/// alone, 3 neither.
+#[repr(C)]
+#[derive(Drop)]
+pub struct IfaceChecksums {
+    /// Those of IPv4's headers.
+    pub ipv4: u8,
+    /// Those of UDP.
+    pub udp: u8,
+    /// Those of TCP.
+    pub tcp: u8,
+    /// Those of ICMP.
+    pub icmpv4: u8,
+    /// Those of ICMPv6.
+    pub icmpv6: u8,
+}
+
+impl IfaceChecksums {
+    /// The directions, if each is 0 to 3.
+    fn capabilities(&self) -> Option<ChecksumCapabilities>
+        ensures { result ≡ checksums_in self.now }
+    {
+        Some(ChecksumCapabilities {
+            ipv4: directions_of(self.ipv4)?,
+            udp: directions_of(self.udp)?,
+            tcp: directions_of(self.tcp)?,
+            icmpv4: directions_of(self.icmpv4)?,
+            icmpv6: directions_of(self.icmpv6)?,
+        })
+    }
+}
+
+/// The directions of a number, if it is 0 to 3.
+fn directions_of(number: u8) -> Option<Checksum>
+    ensures { result ≡ directions_in number }
+{
+    match number {
+        0 => Some(Checksum::Both),
+        1 => Some(Checksum::Rx),
+        2 => Some(Checksum::Tx),
+        3 => Some(Checksum::None),
+        _ => None,
+    }
 }
 
 impl IfaceConfig {
-    /// The settings, if the medium is 0 or 1.
+    /// The address on its link, if the medium is 0 or 1.
+    fn hardware(&self) -> Option<HardwareAddress>
+        ensures { result ≡ hardware_in self.now }
+    {
+        match self.medium {
+            0 => Some(HardwareAddress::Ethernet(EthernetAddress(self.hardware_address))),
+            1 => Some(HardwareAddress::Ip),
+            _ => None,
+        }
+    }
+
+    /// The settings, if the medium is 0 or 1, and each of the checksums 0 to 3.
     fn settings(&self) -> Option<Settings>
         ensures { result ≡ settings_in self.now }
     {
-        let hardware_addr = match self.medium {
-            0 => HardwareAddress::Ethernet(EthernetAddress(self.hardware_address)),
-            1 => HardwareAddress::Ip,
-            _ => return None,
-        };
+        let hardware_addr = self.hardware()?;
+        let checksum = self.checksums.capabilities()?;
         Some(Settings {
             random_seed: self.seed,
             hardware_addr,
@@ -65,6 +121,7 @@ impl IfaceConfig {
             patience: Duration::from_micros(self.patience),
             reassembly_timeout: Duration::from_micros(self.reassembly_timeout),
             start: self.start,
+            checksum,
         })
     }
 }
@@ -84,6 +141,13 @@ pub extern "C" fn iface_config_init(config: &mut IfaceConfig)
         hardware_address: [0; 6],
         medium: 0,
         slaac: 0,
+        checksums: IfaceChecksums {
+            ipv4: 0,
+            udp: 0,
+            tcp: 0,
+            icmpv4: 0,
+            icmpv6: 0,
+        },
     };
 }
 

@@ -24,6 +24,6 @@ pub mod waiting;
 pub use addresses::{IfaceAddress, IfaceEndpoint};
 pub use counters::IfaceCounters;
 pub use handle::Iface;
-pub use hosts::IfaceConfig;
+pub use hosts::{IfaceChecksums, IfaceConfig};
 pub use lists::IfaceCidr;
 pub use queues::IfaceQueue;

@@ -9,7 +9,6 @@ use Rattle.iface_host.specs.Outbox.{empty}
 use Rattle.host_machine.specs.State.Config.{first_host}
 use Rattle.host_machine.specs.State.Host.{Host as Machine, SocketSet}
 use Rattle.ip_address.specs.Hardware.{medium_of}
-use Rattle.net_base.specs.declared.phy.Checksum.TheVariants.{Both}
 use Rattle.net_base.specs.declared.phy.DeviceCapabilities.{DeviceCapabilities}
 use Rattle.interface.specs.Stands as interface
 use Rattle.interface.specs.Stands.{Refinement}
@@ -20,13 +19,13 @@ use Rattle.iface_host.specs.declared.host.Settings.{Settings}
 abbrev pub StandsFor : Host → Machine → Type 0
 StandsFor host H = interface.StandsFor host.interface host.sockets H
 
--- what its link can do: all checksums are computed here
+-- what its link can do: the checksums that aren't set aren't computed here
 abbrev pub capabilities_of : Settings → DeviceCapabilities
 capabilities_of s = record {
   medium = medium_of s.hardware_addr;
   max_transmission_unit = s.frame_len;
   max_burst_size = None;
-  checksum = record { ipv4 = Both; udp = Both; tcp = Both; icmpv4 = Both; icmpv6 = Both };
+  checksum = s.checksum;
 }
 
 -- a place without a socket

@@ -43,6 +43,8 @@ pub struct Settings {
     pub reassembly_timeout: Duration,
     /// The moment at which it begins, in microseconds: from 0 to 2^62.
     pub start: i64,
+    /// Which checksums it verifies and computes; its link does the others.
+    pub checksum: ChecksumCapabilities,
 }
 
 /// A host: an interface, its sockets, the numbers that name these, and the frames that wait to be handed over. Besides,
@@ -135,7 +137,7 @@ fn capabilities(settings: &Settings) -> DeviceCapabilities
         medium,
         max_transmission_unit: settings.frame_len,
         max_burst_size: None,
-        checksum: ChecksumCapabilities::ALL,
+        checksum: settings.checksum,
     }
 }
 

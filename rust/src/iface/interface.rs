@@ -1,7 +1,7 @@
 //! Interfaces.
 use super::{Addresses, Neighbors, RouteList, Routes, SocketSet};
 use crate::host::{Counters, Error, FRAME_ROOM, Frame, Host, Settings};
-use crate::phy::{Device, Medium, RxToken, TxToken};
+use crate::phy::{ChecksumCapabilities, Device, Medium, RxToken, TxToken};
 use crate::shared::Shared;
 use crate::time::{Duration, Instant};
 use crate::wire::{HardwareAddress, IpAddress, IpCidr, Ipv4Address, Ipv6Address};
@@ -43,7 +43,7 @@ impl Config {
         }
     }
 
-    fn settings(&self, frame_len: u32, start: Instant) -> Settings {
+    fn settings(&self, frame_len: u32, checksum: ChecksumCapabilities, start: Instant) -> Settings {
         let mut settings = Settings::new(self.hardware_addr);
         settings.random_seed = self.random_seed;
         settings.frame_len = frame_len;
@@ -52,6 +52,7 @@ impl Config {
         settings.patience = self.patience;
         settings.reassembly_timeout = self.reassembly_timeout;
         settings.start = start;
+        settings.checksum = checksum;
         settings
     }
 }
@@ -140,7 +141,7 @@ pub struct Interface {
 }
 
 impl Interface {
-    /// An interface over a device, whose medium and length of frames it takes. It begins at `now`.
+    /// An interface over a device, whose medium, length of frames and checksums it takes. It begins at `now`.
     ///
     /// # Errors
     /// [`Error::BadArgument`] if the hardware address isn't of the device's medium; [`Error::NotUnicast`],
@@ -151,7 +152,7 @@ impl Interface {
             return Err(Error::BadArgument);
         }
         let frame_len = u32::try_from(capabilities.max_transmission_unit).unwrap_or(u32::MAX);
-        let host = Host::new(&config.settings(frame_len, now))?;
+        let host = Host::new(&config.settings(frame_len, capabilities.checksum, now))?;
         Ok(Interface { host: Shared::new(host), out: Box::new([0; FRAME_ROOM]), given_up: 0 })
     }
 

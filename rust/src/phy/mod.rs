@@ -1,4 +1,5 @@
 //! Devices, by smoltcp's traits, and some of them.
+pub use crate::checksum::{Checksum, ChecksumCapabilities};
 use crate::time::Instant;
 use alloc::collections::VecDeque;
 use alloc::vec::Vec;
@@ -26,7 +27,7 @@ pub enum Medium {
     Ip,
 }
 
-/// What a device can do. All checksums are computed and verified by the library.
+/// What a device can do.
 #[derive(Clone, Copy, Debug, PartialEq, Eq)]
 #[non_exhaustive]
 pub struct DeviceCapabilities {
@@ -35,12 +36,18 @@ pub struct DeviceCapabilities {
     /// The octets of its longest frame, with a header of Ethernet where there is one: 590 to 1514 there, else 576 to
     /// 1514.
     pub max_transmission_unit: usize,
+    /// Which checksums the library verifies and computes: all, unless they are set.
+    pub checksum: ChecksumCapabilities,
 }
 
 impl Default for DeviceCapabilities {
-    /// Ethernet with frames of 1514 octets.
+    /// Ethernet with frames of 1514 octets, and all checksums the library's.
     fn default() -> DeviceCapabilities {
-        DeviceCapabilities { medium: Medium::Ethernet, max_transmission_unit: crate::FRAME_ROOM }
+        DeviceCapabilities {
+            medium: Medium::Ethernet,
+            max_transmission_unit: crate::FRAME_ROOM,
+            checksum: ChecksumCapabilities::default(),
+        }
     }
 }
 
@@ -94,7 +101,8 @@ pub struct MemoryDevice {
 impl MemoryDevice {
     /// A device of this medium without frames.
     pub fn new(medium: Medium, max_transmission_unit: usize) -> MemoryDevice {
-        MemoryDevice { capabilities: DeviceCapabilities { medium, max_transmission_unit }, ..MemoryDevice::default() }
+        let capabilities = DeviceCapabilities { medium, max_transmission_unit, ..DeviceCapabilities::default() };
+        MemoryDevice { capabilities, ..MemoryDevice::default() }
     }
 }
 

@@ -134,6 +134,6 @@ impl Device for TunTapInterface {
             Medium::Ethernet => FRAME_ROOM,
             Medium::Ip => 1500,
         };
-        DeviceCapabilities { medium: self.medium, max_transmission_unit }
+        DeviceCapabilities { medium: self.medium, max_transmission_unit, ..DeviceCapabilities::default() }
     }
 }
