@@ -48,7 +48,7 @@ PROGRAMS = {
         ["simulated/data/reassembly_under_reordering.txt", "simulated/data/router_goes.txt"],
         ["chart"],
         1,
-        rb"Error: (out of memory|NoMemory|memory allocation failed)\n",
+        rb"Error: (line \d+\n\nCaused by:\n( +0: [^\n]+\n)? +(1: )?)?([Oo]ut of memory|NoMemory|memory allocation failed)\n",
     ),
 }
 RT = os.environ.get("RT", "rt")
