@@ -1,9 +1,11 @@
 -- Frames that are taken and handed over, over plain variables.
 use Rattle.egress_schedule.specs.Plan.{Planned}
 use Rattle.egress_schedule.specs.Rounds.{after_round, before_round}
-use Rattle.std.proofs.Common.{◌≡◌, ℕ, Bool, true, List, [], ◌∷◌, Option, Some, Ok, refl, ap, ◌∙◌, subst, length, arith}
+use Rattle.std.proofs.Common.{◌≡◌, ℕ, Bool, true, List, [], ◌∷◌, ◌++◌, Option, Some, None, Ok, refl, sym, ap, ◌∙◌, subst}
+use Rattle.std.proofs.Common.{length, take, arith}
+use Rattle.std.proofs.lemmas.List.{length-take-le}
 use Rattle.std.proofs.Math.Dec.{eqb-suc-zero}
-use Rattle.std.specs.Prelude.{ℤ, pos, ◌||◌, ◌==◌, not}
+use Rattle.std.specs.Prelude.{ℤ, pos, ◌||◌, ◌==◌, not, Err, IfOk, Result}
 use Rattle.std.specs.Borrow.{Bor}
 use Rattle.socket_set.specs.SocketSet.{Sockets}
 use Rattle.host_machine.specs.declared.results.PollResult.{PollResult}
@@ -12,19 +14,23 @@ use Rattle.host_machine.specs.Polling.Due.{Due, IsLeast}
 use Rattle.host_machine.specs.State.Host.{Host as Machine, SocketSet, at}
 use Rattle.host_machine.specs.Polling.Ingress.{answer_to}
 use Rattle.host_machine.specs.Polling.Polling.{Polls, is_changed, may_change}
-use Rattle.net_base.specs.Device.{Frame}
+use Rattle.net_base.specs.Device.{Event, Frame, sent_frames}
 use Rattle.host_machine.specs.Polling.Step.{SetsReassemblyTimeout, WithinDay, OverDay}
 use Rattle.interface.specs.Refines.{HostRefinesTelling}
-use Rattle.interface.specs.Receives.{HostRefinesReceiving}
-use Rattle.interface.specs.Stands as interface
+use Rattle.interface.specs.Receives.{HostRefinesReceiving, frames_shown}
+use Rattle.interface.specs.Stands as interfaces
 use Rattle.interface.specs.declared.interface.Interface.{Interface}
-use Rattle.iface_host.specs.Frames.{HandsOver, IsDue, IsWritten, Made, NextIs, Receives, Round, is_piece_left, planned}
+use Rattle.iface_host.specs.Frames.{IsDue, IsWritten, Made, NextIs, PollsInto, Receives, Round, is_piece_left, planned}
 use Rattle.iface_host.specs.Counters.{after_handing, after_taking}
 use Rattle.iface_host.specs.Outbox.{Tells, Waiting, empty, with_room}
+use Rattle.iface_host.specs.RoundDevice as device
+use Rattle.iface_host.specs.RoundDevice.{KeepsRest, frames_in, len_or_zero}
+use Rattle.iface_host.specs.declared.round_device.RoundDevice.{RoundDevice}
 use Rattle.iface_host.specs.Stands.{capabilities_of}
 use Rattle.iface_host.specs.declared.counters.FrameCounts.{FrameCounts}
 use Rattle.iface_host.specs.declared.host.Host.{Host}
 use Rattle.iface_host.specs.declared.host.Settings.{Settings}
+use Rattle.iface_host.specs.declared.refusal.Refusal.{Refusal}
 
 pub none_waits : (frames : List (List ℕ)) → length frames ≡ 0 → frames ≡ []
 none_waits [] e = refl
@@ -32,20 +38,20 @@ none_waits (f ∷ fs) e = absurd (omega arith)
 
 -- what an interface stands for that was just made, over an empty outbox
 pub stood : (s : Settings) (i : Interface) (o : Waiting) (t : ℤ) → o ≡ empty (capabilities_of s) → t ≡ s.start →
-    ((sockets : SocketSet) → interface.StandsFor i sockets (first_host o.capabilities s.hardware_addr s.random_seed s.slaac t sockets)) →
-    (sockets : SocketSet) → interface.StandsFor i sockets (first_host (capabilities_of s) s.hardware_addr s.random_seed s.slaac s.start sockets)
+    ((sockets : SocketSet) → interfaces.StandsFor i sockets (first_host o.capabilities s.hardware_addr s.random_seed s.slaac t sockets)) →
+    (sockets : SocketSet) → interfaces.StandsFor i sockets (first_host (capabilities_of s) s.hardware_addr s.random_seed s.slaac s.start sockets)
 stood s i o t is begins stands sockets =
-    subst (λ (m : ℤ). interface.StandsFor i sockets (first_host (capabilities_of s) s.hardware_addr s.random_seed s.slaac m sockets)) begins
-    (subst (λ (w : Waiting). interface.StandsFor i sockets (first_host w.capabilities s.hardware_addr s.random_seed s.slaac t sockets))
+    subst (λ (m : ℤ). interfaces.StandsFor i sockets (first_host (capabilities_of s) s.hardware_addr s.random_seed s.slaac m sockets)) begins
+    (subst (λ (w : Waiting). interfaces.StandsFor i sockets (first_host w.capabilities s.hardware_addr s.random_seed s.slaac t sockets))
     is (stands sockets))
 
 -- fragments wait as long as they are to, from each host that an interface stood for
 pub timed : (i i' : Interface) (timeout : ℕ) (sockets : SocketSet) (H : Machine) →
-    interface.StandsFor i sockets H → interface.Refinement (SetsReassemblyTimeout timeout (Ok tt)) H (interface.StandsFor i' sockets) →
-    interface.StandsFor i' sockets (record H { reassembly_timeout = timeout })
+    interfaces.StandsFor i sockets H → interfaces.Refinement (SetsReassemblyTimeout timeout (Ok tt)) H (interfaces.StandsFor i' sockets) →
+    interfaces.StandsFor i' sockets (record H { reassembly_timeout = timeout })
 timed i i' timeout sockets H stands led = by led.follows where
-  by : SetsReassemblyTimeout timeout (Ok tt) H led.host → interface.StandsFor i' sockets (record H { reassembly_timeout = timeout })
-  by (WithinDay within answers is) = subst (interface.StandsFor i' sockets) is led.stands
+  by : SetsReassemblyTimeout timeout (Ok tt) H led.host → interfaces.StandsFor i' sockets (record H { reassembly_timeout = timeout })
+  by (WithinDay within answers is) = subst (interfaces.StandsFor i' sockets) is led.stands
   by (OverDay over answers is) = absurd cc
 
 -- a frame may change a socket, unless it is empty
@@ -56,7 +62,7 @@ changing (octet ∷ octets) = ap not (eqb-suc-zero (length octets))
 -- a frame was taken at the moment that was tested
 pub received : (t t' : ℤ) → t' ≡ t → (frame : List ℕ) (n : ℕ) (before after : List ℕ) (old : Host) (i : Interface) (s : Sockets (Bor (Unit {0})))
     (shown result : Option (List ℕ)) → result ≡ shown →
-    IsWritten shown n before after → HostRefinesReceiving t' frame result (interface.StandsFor old.interface old.sockets) (interface.StandsFor i s) →
+    IsWritten shown n before after → HostRefinesReceiving t' frame result (interfaces.StandsFor old.interface old.sockets) (interfaces.StandsFor i s) →
     (changed : Bool) → changed ≡ (old.changed || not (length frame == 0)) → (counts : FrameCounts) →
     counts ≡ after_handing n (after_taking old.frames) →
     Receives t frame n before after old (record old { interface = i; sockets = s; changed = changed; frames = counts })
@@ -65,9 +71,9 @@ received t t' same frame n before after old i s shown result is w r changed chan
   written = w;
   received =
       let at_t =
-      subst (λ (m : ℤ). HostRefinesReceiving m frame result (interface.StandsFor old.interface old.sockets) (interface.StandsFor i s)) same r in
+      subst (λ (m : ℤ). HostRefinesReceiving m frame result (interfaces.StandsFor old.interface old.sockets) (interfaces.StandsFor i s)) same r in
       subst
-      (λ (x : Option (List ℕ)). HostRefinesReceiving t frame x (interface.StandsFor old.interface old.sockets) (interface.StandsFor i s)) is at_t;
+      (λ (x : Option (List ℕ)). HostRefinesReceiving t frame x (interfaces.StandsFor old.interface old.sockets) (interfaces.StandsFor i s)) is at_t;
   rest =
       ap (λ (b : Bool). record old { interface = i; sockets = s; changed = b; frames = counts })
       (changed_is ∙ ap (λ (b : Bool). old.changed || b) (changing frame))
@@ -75,33 +81,116 @@ received t t' same frame n before after old i s shown result is w r changed chan
       record old { interface = i; sockets = s; changed = old.changed || may_change (answer_to (Frame frame)); frames = f }) counts_is;
 }
 
+-- the frame in the front of a buffer, if there is one, and how many octets it has
+abbrev pub frame_in : Option ℕ → List ℕ → Option (List ℕ)
+frame_in None out = None
+frame_in (Some n) out = Some (take n out)
+
+shown_in : (len : Option ℕ) (out : List ℕ) → frames_shown (frame_in len out) ≡ frames_in len out
+shown_in None out = refl
+shown_in (Some n) out = refl
+
+written_in : (len : Option ℕ) (before after : List ℕ) → KeepsRest None before len after →
+    IsWritten (frame_in len after) (len_or_zero len) before after
+written_in None before after kept = (refl, kept)
+written_in (Some n) before after kept = (sym (length-take-le n after kept.0), refl, kept.1)
+
+-- what the device of a round told, of its outbox
+told_of : (d d' : RoundDevice) (events : List Event) → d.len ≡ None → device.Tells d events d' →
+    Tells (frame_in d'.len d'.out.now) d.outbox.now events d'.outbox.now
+told_of d d' events fresh told = record {
+  capabilities = told.capabilities;
+  frames = ap (λ (fs : List (List ℕ)). fs ++ d'.outbox.now.frames) (shown_in d'.len d'.out.now) ∙ told.frames
+      ∙ ap (λ (len : Option ℕ). (frames_in len d.out.now ++ d.outbox.now.frames) ++ sent_frames events) fresh;
+  refusals = told.refusals;
+}
+
+-- a poll over the device of a round is over the same outbox, and the same buffer
+pub same_references : (t : ℤ) (answer : PollResult) (i i' : Interface) (s s' : Sockets (Bor (Unit {0}))) (d d' : RoundDevice) →
+    ((H : Machine) × interfaces.StandsFor i s H) →
+    HostRefinesTelling device.Tells d d' (Polls t 1 answer) (interfaces.StandsFor i s) (interfaces.StandsFor i' s') →
+    (d'.outbox.ghost_name ≡ d.outbox.ghost_name) × (d'.out.ghost_name ≡ d.out.ghost_name)
+same_references t answer i i' s s' d d' some went =
+    let told = (went some.0 some.1).tells_it in (told.same_outbox, told.same_buffer)
+
+-- and hands its first frame over
+pub polled_into : (t : ℤ) (answer : PollResult) (i i' : Interface) (s s' : Sockets (Bor (Unit {0}))) (d d' : RoundDevice) →
+    d.len ≡ None → ((H : Machine) × interfaces.StandsFor i s H) →
+    HostRefinesTelling device.Tells d d' (Polls t 1 answer) (interfaces.StandsFor i s) (interfaces.StandsFor i' s') →
+    PollsInto t answer (len_or_zero d'.len) d.out.now d'.out.now d.outbox.now d'.outbox.now i i' s s'
+polled_into t answer i i' s s' d d' fresh some went = record {
+  handed = frame_in d'.len d'.out.now;
+  went = λ H stands.
+      let r = went H stands in record {
+        told = r.told;
+        notes = r.notes;
+        host = r.host;
+        tells_it = told_of d d' r.told fresh r.tells_it;
+        steps = r.steps;
+        stands = r.stands;
+      };
+  written = written_in d'.len d.out.now d'.out.now
+      (subst (λ (len : Option ℕ). KeepsRest len d.out.now d'.len d'.out.now) fresh (went some.0 some.1).tells_it.rest);
+}
+
+-- so it is with what outbox and buffer are, once the device is gone
+pub at_the_end : (t : ℤ) (answer : PollResult) (n n' : ℕ) → n' ≡ n → (before after after' : List ℕ) → after' ≡ after →
+    (o p p' : Waiting) → p' ≡ p → (i i' : Interface) (s s' : Sockets (Bor (Unit {0}))) →
+    PollsInto t answer n before after o p i i' s s' → PollsInto t answer n' before after' o p' i i' s s'
+at_the_end t answer n n' same_n before after after' same_after o p p' same_p i i' s s' polls =
+    subst (λ (x : ℕ). PollsInto t answer x before after' o p' i i' s s') (sym same_n)
+    (subst (λ (x : List ℕ). PollsInto t answer n before x o p' i i' s s') (sym same_after)
+    (subst (λ (x : Waiting). PollsInto t answer n before after o x i i' s s') (sym same_p) polls))
+
 -- a poll with the room that was reserved
-pub rounded : (t : ℤ) (old : Host) (room : Waiting) → room ≡ with_room true old.outbox → (left : Bool) →
-    left ≡ is_piece_left old → (before after : Planned (Bor (Unit {0}))) → before ≡ before_round t old.ip_mtu left (planned old) →
+pub rounded : (t : ℤ) (n : ℕ) (out out' : List ℕ) (old : Host) (room : Waiting) → room ≡ with_room true old.outbox →
+    (left : Bool) → left ≡ is_piece_left old → (before after : Planned (Bor (Unit {0}))) →
+    before ≡ before_round t old.ip_mtu left (planned old) →
     (answer : PollResult) (i : Interface) (polled : Sockets (Bor (Unit {0}))) (o : Waiting) →
-    HostRefinesTelling Tells room o (Polls t 1 answer) (interface.StandsFor old.interface before.sockets) (interface.StandsFor i polled) →
+    PollsInto t answer n out out' room o old.interface i before.sockets polled →
     after ≡ after_round t (record { plan = before.plan; sockets = polled }) → (changed : Bool) →
-    changed ≡ (old.changed || is_changed answer) →
-    Round t old (record old { interface = i; sockets = after.sockets; outbox = o; schedule = after.plan; changed = changed })
-rounded t old room is left left_is before after prepared answer i polled o went ended changed changed_is = record {
-  before = before;
+    changed ≡ (old.changed || is_changed answer) → (counts : FrameCounts) → counts ≡ after_handing n old.frames →
+    Round t n out out' old (record old {
+      interface = i;
+      sockets = after.sockets;
+      outbox = o;
+      schedule = after.plan;
+      changed = changed;
+      frames = counts;
+    })
+rounded t n out out' old room is left left_is before after prepared answer i polled o polls ended changed changed_is counts counts_is = record {
+  prepared = before;
   polled = polled;
   answer = answer;
-  prepared = prepared ∙ ap (λ (b : Bool). before_round t old.ip_mtu b (planned old)) left_is;
-  went = subst (λ (w : Waiting).
-      HostRefinesTelling Tells w o (Polls t 1 answer) (interface.StandsFor old.interface before.sockets) (interface.StandsFor i polled)) is went;
+  is_prepared = prepared ∙ ap (λ (b : Bool). before_round t old.ip_mtu b (planned old)) left_is;
+  polls = subst (λ (w : Waiting). PollsInto t answer n out out' w o old.interface i before.sockets polled) is polls;
   ended = ended;
-  rest = ap (λ (b : Bool).
-      record old { interface = i; sockets = after.sockets; outbox = o; schedule = after.plan; changed = b }) changed_is;
+  rest =
+      ap (λ (b : Bool). record old {
+        interface = i;
+        sockets = after.sockets;
+        outbox = o;
+        schedule = after.plan;
+        changed = b;
+        frames = counts;
+      }) changed_is
+      ∙ ap (λ (f : FrameCounts). record old {
+        interface = i;
+        sockets = after.sockets;
+        outbox = o;
+        schedule = after.plan;
+        changed = old.changed || is_changed answer;
+        frames = f;
+      }) counts_is;
 }
 
 -- when something is due, where no frame waits
 pub due : (t t' : ℤ) → t' ≡ t → (old : Host) (i : Interface) (end : Option ℤ) → old.outbox.frames ≡ [] →
-    ((H : Machine) → interface.StandsFor old.interface old.sockets H → IsLeast (Due (at H t')) end) →
-    ((H : Machine) → interface.StandsFor old.interface old.sockets H → interface.StandsFor i old.sockets (at H t')) →
+    ((H : Machine) → interfaces.StandsFor old.interface old.sockets H → IsLeast (Due (at H t')) end) →
+    ((H : Machine) → interfaces.StandsFor old.interface old.sockets H → interfaces.StandsFor i old.sockets (at H t')) →
     IsDue t end old (record old { interface = i })
 due t t' same old i end empty least moved = record {
-  led = λ H h. subst (λ (m : ℤ). interface.StandsFor i old.sockets (at H m)) same (moved H h);
+  led = λ H h. subst (λ (m : ℤ). interfaces.StandsFor i old.sockets (at H m)) same (moved H h);
   least = λ e H h. subst (λ (m : ℤ). IsLeast (Due (at H m)) end) same (least H h);
   at_once = λ waits. absurd (waits empty);
   rest = refl;
@@ -109,16 +198,19 @@ due t t' same old i end empty least moved = record {
 
 -- and where one does
 pub due_at_once : (t t' : ℤ) → t' ≡ t → (old : Host) (i : Interface) → (length old.outbox.frames ≡ 0 → ⊥) →
-    ((H : Machine) → interface.StandsFor old.interface old.sockets H → interface.StandsFor i old.sockets (at H t')) →
+    ((H : Machine) → interfaces.StandsFor old.interface old.sockets H → interfaces.StandsFor i old.sockets (at H t')) →
     IsDue t (Some (pos 0)) old (record old { interface = i })
 due_at_once t t' same old i waits moved = record {
-  led = λ H h. subst (λ (m : ℤ). interface.StandsFor i old.sockets (at H m)) same (moved H h);
+  led = λ H h. subst (λ (m : ℤ). interfaces.StandsFor i old.sockets (at H m)) same (moved H h);
   least = λ e. absurd (waits (ap length e));
   at_once = λ _. refl;
   rest = refl;
 }
 
--- a round, and the first of its frames
-pub made : (t t' : ℤ) → t' ≡ t → (n : ℕ) (before after : List ℕ) (old mid new : Host) →
-    old.outbox.frames ≡ [] → Round t' old mid → HandsOver n before after mid new → NextIs t n before after old new
-made t t' same n before after old mid new empty went hands = Made mid empty (subst (λ (m : ℤ). Round m old mid) same went) hands
+-- a round at the moment that was tested, where it wasn't refused
+pub of_round : (t t' : ℤ) → t' ≡ t → (before after : List ℕ) (old new : Host) → old.outbox.frames ≡ [] →
+    (answer : Result ℕ Refusal) → IfOk answer (λ n. Round t' n before after old new) →
+    IfOk answer (λ n. NextIs t n before after old new)
+of_round t t' same before after old new none (Ok n) went =
+    Made none (subst (λ (m : ℤ). Round m n before after old new) same went)
+of_round t t' same before after old new none (Err why) went = tt

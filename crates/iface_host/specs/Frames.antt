@@ -5,8 +5,9 @@ use Rattle.fragmentation.specs.Pending.{is_nil}
 use Rattle.egress_schedule.specs.Plan.{Planned}
 use Rattle.egress_schedule.specs.Rounds.{after_round, before_round}
 use Rattle.socket_set.specs.SocketSet.{Sockets}
-use Rattle.interface.specs.Stands as interface
+use Rattle.interface.specs.Stands as interfaces
 use Rattle.interface.specs.Stands.{host_with}
+use Rattle.interface.specs.declared.interface.Interface.{Interface}
 use Rattle.host_machine.specs.declared.results.PollResult.{PollResult}
 use Rattle.host_machine.specs.Polling.Due.{Due, IsLeast}
 use Rattle.host_machine.specs.State.Host.{Host as Machine, at, no_sockets}
@@ -16,7 +17,7 @@ use Rattle.net_base.specs.Device.{Frame}
 use Rattle.interface.specs.Refines.{HostRefinesTelling}
 use Rattle.interface.specs.Receives.{HostRefinesReceiving}
 use Rattle.iface_host.specs.Counters.{after_handing, after_taking}
-use Rattle.iface_host.specs.Outbox.{HandsFirst, Tells, with_room}
+use Rattle.iface_host.specs.Outbox.{HandsFirst, Tells, Waiting, with_room}
 use Rattle.iface_host.specs.Stands.{StandsFor}
 use Rattle.iface_host.specs.declared.host.Host.{Host}
 
@@ -46,22 +47,32 @@ planned host = record { plan = host.schedule; sockets = host.sockets }
 abbrev pub is_piece_left : Host → Bool
 is_piece_left host = not (is_nil (host_with host.interface no_sockets).left)
 
--- the machine polls, by one call of each kind, with room for one frame reserved, over the sockets as they are before
--- the round; what it sends waits behind what waited, and sockets may have changed where its answer says so
-pub record Round (t : ℤ) (old new : Host) : Type 0 where
-  pub before : Planned (Bor (Unit {0}))
+-- the machine polls, by one call of each kind: the first frame that it sends is written to the front of a buffer, and the
+-- others wait
+pub record PollsInto (t : ℤ) (answer : PollResult) (n : ℕ) (before after : List ℕ) (outbox outbox' : Waiting)
+    (interface interface' : Interface) (sockets sockets' : Sockets (Bor (Unit {0}))) : Type 0 where
+  pub handed : Option (List ℕ)
+  pub went : HostRefinesTelling (Tells handed) outbox outbox' (Polls t 1 answer)
+      (interfaces.StandsFor interface sockets) (interfaces.StandsFor interface' sockets')
+  pub written : IsWritten handed n before after
+
+-- a poll with room for one frame reserved, over the sockets as they are before the round; its first frame is counted, and
+-- sockets may have changed where its answer says so
+pub record Round (t : ℤ) (n : ℕ) (before after : List ℕ) (old new : Host) : Type 0 where
+  pub prepared : Planned (Bor (Unit {0}))
   pub polled : Sockets (Bor (Unit {0}))
   pub answer : PollResult
-  pub prepared : before ≡ before_round t old.ip_mtu (is_piece_left old) (planned old)
-  pub went : HostRefinesTelling Tells (with_room true old.outbox) new.outbox (Polls t 1 answer)
-      (interface.StandsFor old.interface before.sockets) (interface.StandsFor new.interface polled)
-  pub ended : planned new ≡ after_round t (record { plan = before.plan; sockets = polled })
+  pub is_prepared : prepared ≡ before_round t old.ip_mtu (is_piece_left old) (planned old)
+  pub polls : PollsInto t answer n before after (with_room true old.outbox) new.outbox old.interface new.interface
+      prepared.sockets polled
+  pub ended : planned new ≡ after_round t (record { plan = prepared.plan; sockets = polled })
   pub rest : new ≡ record old {
     interface = new.interface;
     sockets = new.sockets;
     outbox = new.outbox;
     schedule = new.schedule;
     changed = old.changed || is_changed answer;
+    frames = after_handing n old.frames;
   }
 
 -- the first frame that waits is handed over, and counted
@@ -69,11 +80,10 @@ pub record HandsOver (n : ℕ) (before after : List ℕ) (old new : Host) : Type
   pub first : HandsFirst old.outbox n before after new.outbox
   pub rest : new ≡ record old { outbox = new.outbox; frames = after_handing n old.frames }
 
--- the first frame that waits is handed over; where none waits, a round is made before
+-- the first frame that waits is handed over; where none waits, that of a round
 pub data NextIs (t : ℤ) (n : ℕ) (before after : List ℕ) (old new : Host) : Type 0 where
   Waited : old.outbox.frames ≢ [] → HandsOver n before after old new → NextIs t n before after old new
-  Made : (mid : Host) → old.outbox.frames ≡ [] → Round t old mid → HandsOver n before after mid new →
-      NextIs t n before after old new
+  Made : old.outbox.frames ≡ [] → Round t n before after old new → NextIs t n before after old new
 
 -- the least instant at which something of the machine is due, at the moment that is set; 0 where a frame waits
 pub record IsDue (t : ℤ) (due : Option ℤ) (old new : Host) : Type 0 where

@@ -1,5 +1,6 @@
 pub mod Outbox
 pub mod OutboxLaws
+pub mod RoundDevice
 pub mod Names
 pub mod Stands
 pub mod Calls

@@ -3,14 +3,18 @@ ghost use Rattle.std.specs.Prelude.{◌≡◌, ◌≤◌, IfOk, IfErr, OnOk, OnE
 ghost use Rattle.net_base.specs.Time.{IsMoment};
 ghost use Rattle.std.specs.Result.{IsErrOf, result_err};
 ghost use Rattle.host_machine.specs.Polling.Polling as polling;
-ghost use Rattle.iface_host.specs.Frames.{HandsOver, IsDue, NextIs, Receives, Round};
+ghost use Rattle.iface_host.specs.Frames.{HandsOver, IsDue, NextIs, PollsInto, Receives, Round};
 ghost use Rattle.iface_host.specs.Refusals.{frame_refusal, moment_refusal};
+ghost use Rattle.iface_host.specs.RoundDevice.{len_or_zero};
 
 use crate::host::{FRAME_LEN, Host};
-use crate::outbox::write_front;
+use crate::outbox::{Outbox, write_front};
 use crate::refusal::Refusal;
+use crate::round_device::RoundDevice;
 use host_machine::PollResult;
+use interface::Interface;
 use net_base::time::Instant;
+use socket_set::SocketSet;
 
 /// The last moment that a caller may give, in microseconds.
 const LAST_MOMENT: i64 = 1 << 62;
@@ -63,8 +67,7 @@ impl Host {
         if self.outbox.len() > 0 {
             return Ok(self.hand_over(out));
         }
-        self.round(now)?;
-        Ok(self.hand_over(out))
+        self.round(now, out)
     }
 
     /// The least instant at which something is due, if anything is: 0 if a frame waits.
@@ -82,12 +85,13 @@ impl Host {
         }
     }
 
-    /// Makes a round at a moment, where no frame waits.
-    fn round(&mut self, now: Instant) -> Result<(), Refusal>
+    /// Makes a round at a moment, and writes its first frame to the front of a buffer, where no frame waits. Answers how
+    /// many octets that has, 0 where there is none.
+    fn round(&mut self, now: Instant, out: &mut [u8]) -> Result<usize, Refusal>
         requires { IsMoment now }
         ensures memory { IfErr result (λ e. e ≡ Refusal.NoMemory) }
-        ensures went { OnOk result (Round now self.old self.new) }
-        ensures refused { OnErr result (self.new ≡ self.old) }
+        ensures went { IfOk result (λ n. Round now n out.old out.new self.old self.new) }
+        ensures refused { OnErr result ((self.new ≡ self.old) × (out.new ≡ out.old)) }
     {
         if self.outbox.reserve().is_err() {
             return Err(Refusal::NoMemory);
@@ -95,16 +99,20 @@ impl Host {
         let is_piece_left = self.interface.has_pending_fragment();
         self.schedule
             .before_round(now, self.ip_mtu, is_piece_left, &mut self.sockets);
-        let answer = self
-            .interface
-            .poll(now, &mut self.outbox, &mut self.sockets, 1);
+        let (answer, len) = poll_into(
+            now,
+            &mut self.interface,
+            &mut self.sockets,
+            &mut self.outbox,
+            out,
+        );
         self.schedule.after_round(now, &mut self.sockets);
         self.changed |= is_changed(answer);
-        Ok(())
+        self.frames.hand_over(len);
+        Ok(len)
     }
 
-    /// Hands over the first frame that waits, if one does, and counts it. It is code once, for both of its calls.
-    #[inline(never)]
+    /// Hands over the first frame that waits, if one does, and counts it.
     fn hand_over(&mut self, out: &mut [u8]) -> usize
         requires { 1514 ≤ length out.old }
         ensures { HandsOver result out.old out.new self.old self.new }
@@ -112,6 +120,61 @@ impl Host {
         let len = self.outbox.hand_over(out);
         self.frames.hand_over(len);
         len
+    }
+}
+
+/// Polls at a moment, by one call of each kind, and writes the first frame that is sent to the front of a buffer, where no
+/// frame waits. Answers also how many octets that has, 0 where there is none.
+fn poll_into(
+    now: Instant,
+    interface: &mut Interface,
+    sockets: &mut SocketSet<'static>,
+    outbox: &mut Outbox,
+    out: &mut [u8],
+) -> (PollResult, usize)
+    requires { IsMoment now }
+    ensures { PollsInto now result.0 result.1 out.old out.new outbox.old outbox.new interface.old interface.new
+        sockets.old sockets.new }
+{
+    let mut device = RoundDevice {
+        outbox,
+        out,
+        len: None,
+    };
+    let answer = poll_over(now, interface, sockets, &mut device);
+    let RoundDevice {
+        outbox: _,
+        out: _,
+        len,
+    } = device;
+    (answer, len_or_zero(len))
+}
+
+/// Polls at a moment, by one call of each kind, over the device of a round.
+fn poll_over(
+    now: Instant,
+    interface: &mut Interface,
+    sockets: &mut SocketSet<'static>,
+    device: &mut RoundDevice<'_>,
+) -> PollResult
+    requires { IsMoment now }
+    ensures same_outbox { device.new.outbox.ghost_name ≡ device.old.outbox.ghost_name }
+    ensures same_buffer { device.new.out.ghost_name ≡ device.old.out.ghost_name }
+    ensures polled { device.old.len ≡ None → PollsInto now result (len_or_zero device.new.len)
+        device.old.out.now device.new.out.now device.old.outbox.now device.new.outbox.now
+        interface.old interface.new sockets.old sockets.new }
+{
+    interface.stands_for_a_host();
+    interface.poll(now, device, sockets, 1)
+}
+
+/// How many octets a frame has, 0 where there is none.
+fn len_or_zero(len: Option<usize>) -> usize
+    ensures { result ≡ len_or_zero len }
+{
+    match len {
+        Some(len) => len,
+        None => 0,
     }
 }
 

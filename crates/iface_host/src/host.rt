@@ -1,9 +1,11 @@
 //! The host, and how it is made.
-ghost use Rattle.std.specs.Prelude.{◌≡◌, ◌<◌, ◌≤◌, IfOk, IfErr, OnOk, OnErr, None, Some, replicate};
+ghost use Rattle.std.specs.Prelude.{◌≡◌, ◌<◌, ◌≤◌, IfOk, IfErr, OnOk, OnErr, MatchResult, None, Some, replicate};
 ghost use Rattle.net_base.specs.Time.{IsMoment};
 ghost use Rattle.std.specs.Result.{IsErrOf, result_err};
 ghost use Rattle.net_base.specs.Checksum.{ip_mtu_of};
-ghost use Rattle.interface.specs.Stands.{Becomes};
+ghost use Rattle.host_machine.specs.State.Config.{first_host, refusal_of};
+ghost use Rattle.host_machine.specs.State.Host as machine;
+ghost use Rattle.interface.specs.Stands.{Becomes, StandsFor};
 ghost use Rattle.iface_host.specs.Stands.{IsFirst, capabilities_of, free_storage};
 ghost use Rattle.iface_host.specs.TableRefusals.{settings_refusal, timeout_refusal};
 
@@ -12,8 +14,9 @@ use crate::frames::moment;
 use crate::names::Names;
 use crate::outbox::Outbox;
 use crate::refusal::Refusal;
+use crate::round_device::RoundDevice;
 use egress_schedule::Schedule;
-use interface::{Config, Interface};
+use interface::{Config, Interface, NewError};
 use ip_wire::HardwareAddress;
 use net_base::phy::{ChecksumCapabilities, DeviceCapabilities, Medium};
 use net_base::time::{Duration, Instant};
@@ -82,7 +85,7 @@ impl Host {
             slaac: settings.slaac,
         };
         // By the settings neither of these two can fail.
-        let Ok(mut interface) = Interface::new(config, &mut outbox, start) else {
+        let Ok(mut interface) = interface_over(&mut outbox, config, start) else {
             return Err(Refusal::NoMemory);
         };
         let Ok(()) = let_fragments_wait(&mut interface, settings.reassembly_timeout) else {
@@ -103,6 +106,36 @@ impl Host {
             frames: FrameCounts::NONE,
         })
     }
+}
+
+/// An interface over the device of an outbox, of which only the capabilities are read. It fails as [`Interface::new`].
+#[inline(always)]
+fn interface_over(
+    outbox: &mut Outbox,
+    config: Config,
+    start: Instant,
+) -> Result<Interface, NewError>
+    requires { IsMoment start }
+    ensures made { MatchResult result
+        (λ interface. (refusal_of outbox.old.capabilities config.hardware_addr ≡ None)
+        × ((sockets : machine.SocketSet) → StandsFor interface sockets
+        (first_host outbox.old.capabilities config.hardware_addr config.random_seed config.slaac start sockets)))
+        (λ error. refusal_of outbox.old.capabilities config.hardware_addr ≡ Some error) }
+    ensures outbox { outbox.new ≡ outbox.old }
+{
+    let mut nothing = [0u8; 0];
+    let mut device = RoundDevice {
+        outbox,
+        out: &mut nothing,
+        len: None,
+    };
+    let made = Interface::new(config, &mut device, start);
+    let RoundDevice {
+        outbox: _,
+        out: _,
+        len: _,
+    } = device;
+    made
 }
 
 /// The moment at which a host begins, if one is made by these settings. `NotUnicast`, `BadMtu`, `BadTimeout` and

@@ -18,6 +18,7 @@ pub mod packets;
 pub mod properties;
 pub mod queues;
 pub mod refusal;
+pub mod round_device;
 pub mod routes;
 pub mod waiting;
 

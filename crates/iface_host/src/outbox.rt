@@ -3,8 +3,7 @@ ghost use Rattle.std.specs.Prelude.{◌≡◌, ◌≤◌, [], ◌∷◌, ◌++�
 ghost use Rattle.std.specs.Prelude.{take, drop, MatchOption, OnOk, OnErr, Some};
 ghost use Rattle.iface_host.specs.Outbox.{with_refusal_counted, empty, with_room, HandsFirst};
 
-use net_base::phy::{Device, DeviceCapabilities, FRAME_BUFFER_SIZE, PacketMeta};
-use net_base::time::Instant;
+use net_base::phy::{DeviceCapabilities, FRAME_BUFFER_SIZE};
 use std::alloc::{AllocError, Global};
 use std::collections::VecDeque;
 use std::marker::Model;
@@ -12,7 +11,7 @@ use std::marker::Model;
 /// The device of a host: it keeps the frames that are sent, in order, until they are handed over, and has none to
 /// be received. It gives leave to send one more if memory for it is there.
 ///
-/// In contracts it is what it can do, the frames that wait, the count of refusals, and whether room for one more
+/// In contracts it is what the host's device can do, the frames that wait, the count of refusals, and whether room for one more
 /// is reserved.
 #[derive(Drop)]
 pub struct Outbox {
@@ -99,8 +98,34 @@ impl Outbox {
         }
     }
 
-    // Keeps a frame that is sent, in the room for it.
-    fn keep(&mut self, frame: &[u8])
+    /// What the device can do.
+    pub(crate) fn capabilities(&self) -> DeviceCapabilities
+        ensures { result ≡ self.now.capabilities }
+    {
+        self.capabilities
+    }
+
+    /// How often leave was refused.
+    pub(crate) fn refusals(&self) -> u64
+        ensures { result ≡ self.now.refusals }
+    {
+        self.refusals
+    }
+
+    /// Gives leave to send one more frame, if memory for it is there; else the refusal is counted.
+    pub(crate) fn give_leave(&mut self) -> bool
+        ensures given { result ≡ true → self.new ≡ with_room true self.old }
+        ensures refused { result ≡ false → self.new ≡ with_refusal_counted self.old }
+    {
+        if self.reserve().is_err() {
+            self.count_refusal();
+            return false;
+        }
+        true
+    }
+
+    /// Keeps a frame that is sent, in the room for it.
+    pub(crate) fn keep(&mut self, frame: &[u8])
         requires room { self.old.has_room ≡ true }
         requires short { length frame.now ≤ 1514 }
         ensures { self.new ≡ record self.old { frames = self.old.frames ++ frame.now ∷ []; has_room = false } }
@@ -130,47 +155,4 @@ pub(crate) fn write_front(buffer: &mut [u8], frame: &[u8]) -> usize
     let len = frame.len();
     buffer[..len].copy_from_slice(frame);
     len
-}
-
-impl Device for Outbox {
-    ghost use Rattle.iface_host.specs.Outbox.{Tells};
-    ghost use Rattle.iface_host.specs.OutboxLaws.{told_nothing, told_on};
-
-    ghost tells = { Tells };
-
-    ghost may_transmit = { λ o. o.has_room };
-
-    ghost capable = { λ o. o.capabilities };
-
-    ghost refused = { λ o. o.refusals };
-
-    fn capabilities(&self) -> DeviceCapabilities {
-        self.capabilities
-    }
-
-    fn receive(&mut self, _now: Instant, _buffer: &mut [u8]) -> Option<(usize, PacketMeta)> {
-        None
-    }
-
-    fn transmit(&mut self, _now: Instant) -> bool {
-        if self.reserve().is_err() {
-            self.count_refusal();
-            return false;
-        }
-        true
-    }
-
-    fn send(&mut self, _meta: PacketMeta, frame: &[u8]) {
-        self.keep(frame);
-    }
-
-    fn refusals(&self) -> u64 {
-        self.refusals
-    }
-
-    ghost tells_nothing = { λ o. told_nothing o };
-
-    ghost tells_on = { λ a b c xs ys first second. told_on xs ys first second };
-
-    ghost tells_refusals = { λ a b xs told. told.refusals };
 }
