@@ -5,6 +5,7 @@ use Rattle.std.proofs.Common.{◌≡◌, ℕ, Bool, true, List, [], ◌∷◌, O
 use Rattle.std.proofs.Math.Dec.{eqb-suc-zero}
 use Rattle.std.specs.Prelude.{ℤ, pos, ◌||◌, ◌==◌, not}
 use Rattle.std.specs.Borrow.{Bor}
+use Rattle.std.specs.Box.{with_value}
 use Rattle.socket_set.specs.SocketSet.{Sockets}
 use Rattle.host_machine.specs.declared.results.PollResult.{PollResult}
 use Rattle.host_machine.specs.State.Config.{first_host}
@@ -56,50 +57,50 @@ changing (octet ∷ octets) = ap not (eqb-suc-zero (length octets))
 -- a frame was taken at the moment that was tested
 pub received : (t t' : ℤ) → t' ≡ t → (frame : List ℕ) (n : ℕ) (before after : List ℕ) (old : Host) (i : Interface) (s : Sockets (Bor (Unit {0})))
     (shown result : Option (List ℕ)) → result ≡ shown →
-    IsWritten shown n before after → HostRefinesReceiving t' frame result (interface.StandsFor old.interface old.sockets) (interface.StandsFor i s) →
+    IsWritten shown n before after → HostRefinesReceiving t' frame result (interface.StandsFor old.interface.value old.sockets) (interface.StandsFor i s) →
     (changed : Bool) → changed ≡ (old.changed || not (length frame == 0)) → (counts : FrameCounts) →
     counts ≡ after_handing n (after_taking old.frames) →
-    Receives t frame n before after old (record old { interface = i; sockets = s; changed = changed; frames = counts })
+    Receives t frame n before after old (record old { interface = with_value old.interface i; sockets = s; changed = changed; frames = counts })
 received t t' same frame n before after old i s shown result is w r changed changed_is counts counts_is = record {
   shown = shown;
   written = w;
   received =
       let at_t =
-      subst (λ (m : ℤ). HostRefinesReceiving m frame result (interface.StandsFor old.interface old.sockets) (interface.StandsFor i s)) same r in
+      subst (λ (m : ℤ). HostRefinesReceiving m frame result (interface.StandsFor old.interface.value old.sockets) (interface.StandsFor i s)) same r in
       subst
-      (λ (x : Option (List ℕ)). HostRefinesReceiving t frame x (interface.StandsFor old.interface old.sockets) (interface.StandsFor i s)) is at_t;
+      (λ (x : Option (List ℕ)). HostRefinesReceiving t frame x (interface.StandsFor old.interface.value old.sockets) (interface.StandsFor i s)) is at_t;
   rest =
-      ap (λ (b : Bool). record old { interface = i; sockets = s; changed = b; frames = counts })
+      ap (λ (b : Bool). record old { interface = with_value old.interface i; sockets = s; changed = b; frames = counts })
       (changed_is ∙ ap (λ (b : Bool). old.changed || b) (changing frame))
       ∙ ap (λ (f : FrameCounts).
-      record old { interface = i; sockets = s; changed = old.changed || may_change (answer_to (Frame frame)); frames = f }) counts_is;
+      record old { interface = with_value old.interface i; sockets = s; changed = old.changed || may_change (answer_to (Frame frame)); frames = f }) counts_is;
 }
 
 -- a poll with the room that was reserved
 pub rounded : (t : ℤ) (old : Host) (room : Waiting) → room ≡ with_room true old.outbox → (left : Bool) →
     left ≡ is_piece_left old → (before after : Planned (Bor (Unit {0}))) → before ≡ before_round t old.ip_mtu left (planned old) →
     (answer : PollResult) (i : Interface) (polled : Sockets (Bor (Unit {0}))) (o : Waiting) →
-    HostRefinesTelling Tells room o (Polls t 1 answer) (interface.StandsFor old.interface before.sockets) (interface.StandsFor i polled) →
+    HostRefinesTelling Tells room o (Polls t 1 answer) (interface.StandsFor old.interface.value before.sockets) (interface.StandsFor i polled) →
     after ≡ after_round t (record { plan = before.plan; sockets = polled }) → (changed : Bool) →
     changed ≡ (old.changed || is_changed answer) →
-    Round t old (record old { interface = i; sockets = after.sockets; outbox = o; schedule = after.plan; changed = changed })
+    Round t old (record old { interface = with_value old.interface i; sockets = after.sockets; outbox = o; schedule = after.plan; changed = changed })
 rounded t old room is left left_is before after prepared answer i polled o went ended changed changed_is = record {
   before = before;
   polled = polled;
   answer = answer;
   prepared = prepared ∙ ap (λ (b : Bool). before_round t old.ip_mtu b (planned old)) left_is;
   went = subst (λ (w : Waiting).
-      HostRefinesTelling Tells w o (Polls t 1 answer) (interface.StandsFor old.interface before.sockets) (interface.StandsFor i polled)) is went;
+      HostRefinesTelling Tells w o (Polls t 1 answer) (interface.StandsFor old.interface.value before.sockets) (interface.StandsFor i polled)) is went;
   ended = ended;
   rest = ap (λ (b : Bool).
-      record old { interface = i; sockets = after.sockets; outbox = o; schedule = after.plan; changed = b }) changed_is;
+      record old { interface = with_value old.interface i; sockets = after.sockets; outbox = o; schedule = after.plan; changed = b }) changed_is;
 }
 
 -- when something is due, where no frame waits
 pub due : (t t' : ℤ) → t' ≡ t → (old : Host) (i : Interface) (end : Option ℤ) → old.outbox.frames ≡ [] →
-    ((H : Machine) → interface.StandsFor old.interface old.sockets H → IsLeast (Due (at H t')) end) →
-    ((H : Machine) → interface.StandsFor old.interface old.sockets H → interface.StandsFor i old.sockets (at H t')) →
-    IsDue t end old (record old { interface = i })
+    ((H : Machine) → interface.StandsFor old.interface.value old.sockets H → IsLeast (Due (at H t')) end) →
+    ((H : Machine) → interface.StandsFor old.interface.value old.sockets H → interface.StandsFor i old.sockets (at H t')) →
+    IsDue t end old (record old { interface = with_value old.interface i })
 due t t' same old i end empty least moved = record {
   led = λ H h. subst (λ (m : ℤ). interface.StandsFor i old.sockets (at H m)) same (moved H h);
   least = λ e H h. subst (λ (m : ℤ). IsLeast (Due (at H m)) end) same (least H h);
@@ -109,8 +110,8 @@ due t t' same old i end empty least moved = record {
 
 -- and where one does
 pub due_at_once : (t t' : ℤ) → t' ≡ t → (old : Host) (i : Interface) → (length old.outbox.frames ≡ 0 → ⊥) →
-    ((H : Machine) → interface.StandsFor old.interface old.sockets H → interface.StandsFor i old.sockets (at H t')) →
-    IsDue t (Some (pos 0)) old (record old { interface = i })
+    ((H : Machine) → interface.StandsFor old.interface.value old.sockets H → interface.StandsFor i old.sockets (at H t')) →
+    IsDue t (Some (pos 0)) old (record old { interface = with_value old.interface i })
 due_at_once t t' same old i waits moved = record {
   led = λ H h. subst (λ (m : ℤ). interface.StandsFor i old.sockets (at H m)) same (moved H h);
   least = λ e. absurd (waits (ap length e));

@@ -44,7 +44,7 @@ planned host = record { plan = host.schedule; sockets = host.sockets }
 
 -- whether a piece of a packet that was cut is left
 abbrev pub is_piece_left : Host → Bool
-is_piece_left host = not (is_nil (host_with host.interface no_sockets).left)
+is_piece_left host = not (is_nil (host_with host.interface.value no_sockets).left)
 
 -- the machine polls, by one call of each kind, with room for one frame reserved, over the sockets as they are before
 -- the round; what it sends waits behind what waited, and sockets may have changed where its answer says so
@@ -54,7 +54,7 @@ pub record Round (t : ℤ) (old new : Host) : Type 0 where
   pub answer : PollResult
   pub prepared : before ≡ before_round t old.ip_mtu (is_piece_left old) (planned old)
   pub went : HostRefinesTelling Tells (with_room true old.outbox) new.outbox (Polls t 1 answer)
-      (interface.StandsFor old.interface before.sockets) (interface.StandsFor new.interface polled)
+      (interface.StandsFor old.interface.value before.sockets) (interface.StandsFor new.interface.value polled)
   pub ended : planned new ≡ after_round t (record { plan = before.plan; sockets = polled })
   pub rest : new ≡ record old {
     interface = new.interface;

@@ -48,12 +48,13 @@ pub struct Settings {
 }
 
 /// A host: an interface, its sockets, the numbers that name these, and the frames that wait to be handed over. Besides,
-/// whether its sockets may have changed since that was asked, and how many frames it took and handed over.
+/// whether its sockets may have changed since that was asked, and how many frames it took and handed over. The interface
+/// has a box of its own, since it is large.
 #[derive(Drop)]
 pub struct Host {
     pub(crate) alloc: Global,
     pub(crate) ip_mtu: usize,
-    pub(crate) interface: Interface,
+    pub(crate) interface: Box<Interface>,
     pub(crate) sockets: SocketSet<'static>,
     pub(crate) names: Names,
     pub(crate) outbox: Outbox,
@@ -66,8 +67,8 @@ impl Host {
     /// A host with no address, no route and no socket, at the moment at which it begins. The first error that applies is
     /// returned: `NotUnicast` if its address on Ethernet isn't unicast; `BadMtu` if its longest packet has less than 576
     /// octets, or its longest frame more than 1,514; `BadTimeout` if fragments are to wait no time, or longer than a day;
-    /// `BadMoment` if it would begin below 0 or above 2^62; `NoMemory` if the memory for the places of its sockets is
-    /// refused.
+    /// `BadMoment` if it would begin below 0 or above 2^62; `NoMemory` if memory for its interface or for the places of its
+    /// sockets is refused.
     pub fn new(alloc: Global, settings: &Settings) -> Result<Host, Refusal>
         ensures made { IfOk result (λ host. IsFirst settings.now host) }
         ensures why { (e : Refusal) → settings_refusal settings.now ≡ Some e → IsErrOf result e }
@@ -81,8 +82,11 @@ impl Host {
             hardware_addr: settings.hardware_addr,
             slaac: settings.slaac,
         };
-        // By the settings neither of these two can fail.
-        let Ok(mut interface) = Interface::new(config, &mut outbox, start) else {
+        // By the settings this can't fail, nor what lets fragments wait.
+        let Ok(interface) = Interface::new(config, &mut outbox, start) else {
+            return Err(Refusal::NoMemory);
+        };
+        let Ok(mut interface) = Box::new(alloc, interface) else {
             return Err(Refusal::NoMemory);
         };
         let Ok(()) = let_fragments_wait(&mut interface, settings.reassembly_timeout) else {

@@ -8,10 +8,10 @@ use Rattle.iface_host.proofs.host.Host.round.Goals as goal
 pub returns-clause-went : goal.returns-clause-went
 returns-clause-went c =
     rounded c.args.now c.args.self.now c.reserve.new.self reserved c.has_pending_fragment-is_piece_left.result
-    (c.has_pending_fragment-is_piece_left.ensures no_sockets)
+    (rw c.deref.ensures at (c.has_pending_fragment-is_piece_left.ensures no_sockets))
     (record { plan = c.before_round.new.self; sockets = c.before_round.new.sockets })
     (record { plan = c.after_round.new.self; sockets = c.after_round.new.sockets }) c.before_round.ensures
-    c.poll-answer.result _ _ _ c.poll-answer.ensures c.after_round.ensures
+    c.poll-answer.result _ _ _ (rw c.deref_mut.ensures.value at c.poll-answer.ensures) c.after_round.ensures
     (c.args.self.now.changed || c.is_changed.result) (ap (λ (b : Bool). c.args.self.now.changed || b) c.is_changed.ensures) where
       reserved : c.reserve.new.self ≡ with_room true c.args.self.now.outbox
       reserved = search rules
