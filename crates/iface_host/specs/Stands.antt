@@ -24,7 +24,7 @@ abbrev pub capabilities_of : Settings → DeviceCapabilities
 capabilities_of s = record {
   medium = medium_of s.hardware_addr;
   max_transmission_unit = s.frame_len;
-  max_burst_size = None;
+  max_burst_size = s.burst;
   checksum = s.checksum;
 }
 

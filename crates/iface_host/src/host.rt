@@ -37,6 +37,9 @@ pub struct Settings {
     pub slaac: bool,
     /// How many sockets may be open at once.
     pub sockets: usize,
+    /// How many frames the link takes one after the other, if that is bounded: the window in a segment of TCP is at most
+    /// what so many carry.
+    pub burst: Option<usize>,
     /// How long a packet waits for its neighbour before it is given up; no time is for ever.
     pub patience: Duration,
     /// How long fragments of a packet wait for the others: some time, at most a day.
@@ -140,7 +143,7 @@ fn capabilities(settings: &Settings) -> DeviceCapabilities
     DeviceCapabilities {
         medium,
         max_transmission_unit: settings.frame_len,
-        max_burst_size: None,
+        max_burst_size: settings.burst,
         checksum: settings.checksum,
     }
 }
