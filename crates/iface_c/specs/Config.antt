@@ -25,6 +25,10 @@ checksums_in c = option_and_then (λ (a : Checksum). option_and_then (λ (b : Ch
     (directions_in c.icmpv6)) (directions_in c.icmpv4)) (directions_in c.tcp)) (directions_in c.udp))
     (directions_in c.ipv4)
 
+-- how many frames the link takes one after the other: 0 sets no bound
+abbrev pub burst_in : ℕ → Option ℕ
+burst_in n = if n == 0 then None else Some n
+
 -- its settings, with an address on its link and its checksums
 abbrev pub settings_with : IfaceConfig → HardwareAddress → ChecksumCapabilities → Settings
 settings_with c hardware checksums = record {
@@ -33,6 +37,7 @@ settings_with c hardware checksums = record {
   frame_len = c.frame_len;
   slaac = not (c.slaac == 0);
   sockets = c.sockets;
+  burst = burst_in c.burst;
   patience = c.patience;
   reassembly_timeout = c.reassembly_timeout;
   start = c.start;
@@ -49,6 +54,7 @@ usual = record {
   start = pos 0;
   frame_len = 1514;
   sockets = 8;
+  burst = 0;
   hardware_address = replicate 6 0;
   medium = 0;
   slaac = 0;

@@ -6,6 +6,7 @@ pub mod Handle
 pub mod Hosts
 pub mod Lists
 pub mod Neighbors
+pub mod Opening
 pub mod Options
 pub mod Owned
 pub mod Packets

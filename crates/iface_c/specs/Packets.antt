@@ -20,6 +20,23 @@ pub record ReceivesIcmp (n : ℕ) (shown : IfaceAddress) (len : ℕ) (out : List
   pub received : sockets.ReceivesIcmp n remote len out old new
   pub is_written : shown ≡ address_for_c remote
 
+-- the first packet that came was written as above, and nothing changed
+pub record PeeksUdp (n : ℕ) (shown : IfaceEndpoint) (len : ℕ) (out : List ℕ) (old new : Host) : Type 0 where
+  pub remote : IpEndpoint
+  pub peeked : sockets.PeeksUdp n remote len out old
+  pub is_written : shown ≡ written_end remote
+  pub same : new ≡ old
+
+pub record PeeksIcmp (n : ℕ) (shown : IfaceAddress) (len : ℕ) (out : List ℕ) (old new : Host) : Type 0 where
+  pub remote : IpAddress
+  pub peeked : sockets.PeeksIcmp n remote len out old
+  pub is_written : shown ≡ address_for_c remote
+  pub same : new ≡ old
+
+pub record PeeksRaw (n : ℕ) (len : ℕ) (out : List ℕ) (old new : Host) : Type 0 where
+  pub peeked : sockets.PeeksRaw n len out old
+  pub same : new ≡ old
+
 -- an instant as C reads it: the last number for none
 abbrev pub read_as : Option ℤ → ℤ
 read_as None = pos (2 ^ 63 - 1)

@@ -3,7 +3,7 @@ ghost use Rattle.std.specs.Prelude.{◌≡◌, ◌≢◌, None, IsSomeAnd};
 ghost use Rattle.std.specs.Option.{option_and_then};
 ghost use Rattle.iface_c.specs.Addresses.{address_in, cidr_in};
 ghost use Rattle.iface_c.specs.Calls.{Did, Made, Ruled};
-ghost use Rattle.iface_c.specs.Config.{checksums_in, directions_in, hardware_in, settings_in, usual};
+ghost use Rattle.iface_c.specs.Config.{burst_in, checksums_in, directions_in, hardware_in, settings_in, usual};
 ghost use Rattle.iface_c.specs.Handle.{host_in};
 ghost use Rattle.iface_c.specs.Hosts.{ShowsAddress};
 ghost use Rattle.iface_c.specs.Status.{IsDueOrMemory, code_by, code_for_new, code_for_version, code_with};
@@ -39,6 +39,8 @@ pub struct IfaceConfig {
     pub frame_len: u32,
     /// How many sockets may be open at once.
     pub sockets: u32,
+    /// How many frames the link takes one after the other, for the window in a segment of TCP; 0 sets no bound.
+    pub burst: u32,
     /// Its address on Ethernet.
     pub hardware_address: [u8; 6],
     /// 0 for Ethernet, 1 for packets without a header of the link.
@@ -94,6 +96,17 @@ fn directions_of(number: u8) -> Option<Checksum>
     }
 }
 
+/// The bound of a number of frames, unless it is 0.
+fn burst_of(number: u32) -> Option<usize>
+    ensures { result ≡ burst_in number }
+{
+    if number == 0 {
+        None
+    } else {
+        Some(number as usize)
+    }
+}
+
 impl IfaceConfig {
     /// The address on its link, if the medium is 0 or 1.
     fn hardware(&self) -> Option<HardwareAddress>
@@ -118,6 +131,7 @@ impl IfaceConfig {
             frame_len: self.frame_len as usize,
             slaac: self.slaac != 0,
             sockets: self.sockets as usize,
+            burst: burst_of(self.burst),
             patience: Duration::from_micros(self.patience),
             reassembly_timeout: Duration::from_micros(self.reassembly_timeout),
             start: self.start,
@@ -138,6 +152,7 @@ pub extern "C" fn iface_config_init(config: &mut IfaceConfig)
         start: 0,
         frame_len: 1514,
         sockets: 8,
+        burst: 0,
         hardware_address: [0; 6],
         medium: 0,
         slaac: 0,

@@ -26,4 +26,5 @@ pub use counters::IfaceCounters;
 pub use handle::Iface;
 pub use hosts::{IfaceChecksums, IfaceConfig};
 pub use lists::IfaceCidr;
+pub use opening::IfaceRooms;
 pub use queues::IfaceQueue;

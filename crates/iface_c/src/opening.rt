@@ -3,6 +3,7 @@ ghost use Rattle.std.specs.Prelude.{◌≡◌, ◌≢◌, None, Some, IsSomeAnd}
 ghost use Rattle.iface_c.specs.Addresses.{listen_end_in, version_in};
 ghost use Rattle.iface_c.specs.Calls.{Did};
 ghost use Rattle.iface_c.specs.Handle.{host_in};
+ghost use Rattle.iface_c.specs.Opening.{rooms_in};
 ghost use Rattle.iface_c.specs.Status.{IsDueOrMemory, code_by, code_with};
 ghost use Rattle.iface_host.specs.Refusals.{close_refusal};
 ghost use Rattle.iface_host.specs.Sockets.{Closes, Opens, icmp, raw, udp};
@@ -13,10 +14,42 @@ ghost use Rattle.network_sockets.specs.declared.icmp.Endpoint.TheVariants as end
 use crate::addresses::IfaceEndpoint;
 use crate::handle::Iface;
 use crate::status::{BAD_ARGUMENT, NO_HOST, OK, code};
-use iface_host::Room;
+use iface_host::{Room, Rooms};
 use ip_wire::{IpProtocol, IpVersion};
 use sockets::icmp;
 use std::alloc::Global;
+
+/// How much the two queues of a socket hold.
+#[repr(C)]
+#[derive(Drop)]
+pub struct IfaceRooms {
+    /// How many packets the queue for what comes holds.
+    pub received_packets: u32,
+    /// How many octets of them, together.
+    pub received_octets: u32,
+    /// How many packets the queue for what goes holds.
+    pub to_send_packets: u32,
+    /// How many octets of them, together.
+    pub to_send_octets: u32,
+}
+
+impl IfaceRooms {
+    /// What each of the two queues holds.
+    pub fn rooms(&self) -> Rooms
+        ensures { result ≡ rooms_in self.now }
+    {
+        Rooms {
+            received: Room {
+                packets: self.received_packets as usize,
+                octets: self.received_octets as usize,
+            },
+            to_send: Room {
+                packets: self.to_send_packets as usize,
+                octets: self.to_send_octets as usize,
+            },
+        }
+    }
+}
 
 /// The version of IP of a number, if it is 4 or 6.
 fn version_of(number: u8) -> Option<IpVersion>
@@ -35,12 +68,11 @@ pub extern "C" fn iface_udp_open(
     handle: &mut Iface,
     alloc: Global,
     local: &IfaceEndpoint,
-    packets: u32,
-    octets: u32,
+    rooms: &IfaceRooms,
     socket: &mut u32,
 ) -> u32
     ensures done { Did result (λ old new. IsSomeAnd (listen_end_in local.now) (λ end.
-        Opens (udp end (record { packets = packets; octets = octets })) socket.new old new)) handle.old handle.new }
+        Opens (udp end (rooms_in rooms.now)) socket.new old new)) handle.old handle.new }
     ensures code { IsDueOrMemory (code_with (λ end host. udp_opening_refusal host end)
         (listen_end_in local.now) (host_in handle.old)) result }
     ensures kept { result ≢ 0 → socket.new ≡ socket.old }
@@ -48,14 +80,10 @@ pub extern "C" fn iface_udp_open(
     let Some(local) = local.listen_end() else {
         return BAD_ARGUMENT;
     };
-    let room = Room {
-        packets: packets as usize,
-        octets: octets as usize,
-    };
     let Some(mut host) = handle.take(alloc) else {
         return NO_HOST;
     };
-    let done = host.open_udp(local, room);
+    let done = host.open_udp(local, rooms.rooms());
     handle.put(host);
     match done {
         Ok(number) => {
@@ -73,12 +101,11 @@ pub extern "C" fn iface_raw_open(
     alloc: Global,
     version: u8,
     protocol: u8,
-    packets: u32,
-    octets: u32,
+    rooms: &IfaceRooms,
     socket: &mut u32,
 ) -> u32
     ensures done { Did result (λ old new. IsSomeAnd (version_in version)
-        (λ v. Opens (raw v (protocol_of protocol) (record { packets = packets; octets = octets })) socket.new old new))
+        (λ v. Opens (raw v (protocol_of protocol) (rooms_in rooms.now)) socket.new old new))
         handle.old handle.new }
     ensures code { IsDueOrMemory (code_with (λ _ host. opening_refusal host)
         (version_in version) (host_in handle.old)) result }
@@ -88,14 +115,10 @@ pub extern "C" fn iface_raw_open(
         return BAD_ARGUMENT;
     };
     let protocol = IpProtocol::from_number(protocol);
-    let room = Room {
-        packets: packets as usize,
-        octets: octets as usize,
-    };
     let Some(mut host) = handle.take(alloc) else {
         return NO_HOST;
     };
-    let done = host.open_raw(version, protocol, room);
+    let done = host.open_raw(version, protocol, rooms.rooms());
     handle.put(host);
     match done {
         Ok(number) => {
@@ -112,24 +135,19 @@ pub extern "C" fn iface_icmp_open_ident(
     handle: &mut Iface,
     alloc: Global,
     ident: u16,
-    packets: u32,
-    octets: u32,
+    rooms: &IfaceRooms,
     socket: &mut u32,
 ) -> u32
     ensures done { Did result (λ old new.
-        Opens (icmp (endpoint.Ident ident) (record { packets = packets; octets = octets })) socket.new old new)
+        Opens (icmp (endpoint.Ident ident) (rooms_in rooms.now)) socket.new old new)
         handle.old handle.new }
     ensures code { IsDueOrMemory (code_by opening_refusal (host_in handle.old)) result }
     ensures kept { result ≢ 0 → socket.new ≡ socket.old }
 {
-    let room = Room {
-        packets: packets as usize,
-        octets: octets as usize,
-    };
     let Some(mut host) = handle.take(alloc) else {
         return NO_HOST;
     };
-    let done = host.open_icmp(icmp::Endpoint::Ident(ident), room);
+    let done = host.open_icmp(icmp::Endpoint::Ident(ident), rooms.rooms());
     handle.put(host);
     match done {
         Ok(number) => {
@@ -146,24 +164,19 @@ pub extern "C" fn iface_icmp_open_port(
     handle: &mut Iface,
     alloc: Global,
     port: u16,
-    packets: u32,
-    octets: u32,
+    rooms: &IfaceRooms,
     socket: &mut u32,
 ) -> u32
     ensures done { Did result
-        (λ old new. Opens (icmp (endpoint.Udp port) (record { packets = packets; octets = octets })) socket.new old new)
+        (λ old new. Opens (icmp (endpoint.Udp port) (rooms_in rooms.now)) socket.new old new)
         handle.old handle.new }
     ensures code { IsDueOrMemory (code_by opening_refusal (host_in handle.old)) result }
     ensures kept { result ≢ 0 → socket.new ≡ socket.old }
 {
-    let room = Room {
-        packets: packets as usize,
-        octets: octets as usize,
-    };
     let Some(mut host) = handle.take(alloc) else {
         return NO_HOST;
     };
-    let done = host.open_icmp(icmp::Endpoint::Udp(port), room);
+    let done = host.open_icmp(icmp::Endpoint::Udp(port), rooms.rooms());
     handle.put(host);
     match done {
         Ok(number) => {

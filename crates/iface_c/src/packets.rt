@@ -7,7 +7,7 @@ ghost use Rattle.iface_c.specs.Status.{code_by, code_with};
 ghost use Rattle.iface_host.specs.Refusals as refusals;
 ghost use Rattle.std.specs.Prelude.{length as len};
 ghost use Rattle.iface_host.specs.Sockets.{ReceivesRaw, SendsIcmp, SendsRaw, SendsUdp};
-ghost use Rattle.iface_c.specs.Packets.{ReceivesIcmp, ReceivesUdp};
+ghost use Rattle.iface_c.specs.Packets.{PeeksIcmp, PeeksRaw, PeeksUdp, ReceivesIcmp, ReceivesUdp};
 
 use crate::addresses::{IfaceAddress, IfaceEndpoint};
 use crate::handle::Iface;
@@ -169,6 +169,93 @@ pub extern "C" fn iface_raw_receive(
         return NO_HOST;
     };
     let done = host.receive_raw(socket, out);
+    handle.put(host);
+    match done {
+        Ok(len) => {
+            *length = len;
+            OK
+        },
+        Err(refusal) => code(refusal),
+    }
+}
+
+/// Writes the first datagram that came, which stays.
+#[unsafe(no_mangle)]
+pub extern "C" fn iface_udp_peek(
+    handle: &mut Iface,
+    alloc: Global,
+    socket: u32,
+    remote: &mut IfaceEndpoint,
+    out: &mut [u8],
+    length: &mut usize,
+) -> u32
+    ensures done { Did result
+        (λ old new. PeeksUdp socket remote.new length.new out.new old new) handle.old handle.new }
+    ensures code { result ≡ code_by (λ host. refusals.udp_unreceived host socket (len out.old)) (host_in handle.old) }
+    ensures kept { result ≢ 0 → (remote.new ≡ remote.old) × (out.new ≡ out.old) × (length.new ≡ length.old) }
+{
+    let Some(host) = handle.take(alloc) else {
+        return NO_HOST;
+    };
+    let done = host.peek_udp(socket, out);
+    handle.put(host);
+    match done {
+        Ok((from, len)) => {
+            *remote = IfaceEndpoint::of(&from);
+            *length = len;
+            OK
+        },
+        Err(refusal) => code(refusal),
+    }
+}
+
+/// Writes the first message of ICMP that came, which stays.
+#[unsafe(no_mangle)]
+pub extern "C" fn iface_icmp_peek(
+    handle: &mut Iface,
+    alloc: Global,
+    socket: u32,
+    remote: &mut IfaceAddress,
+    out: &mut [u8],
+    length: &mut usize,
+) -> u32
+    ensures done { Did result
+        (λ old new. PeeksIcmp socket remote.new length.new out.new old new) handle.old handle.new }
+    ensures code { result ≡ code_by (λ host. refusals.icmp_unreceived host socket (len out.old)) (host_in handle.old) }
+    ensures kept { result ≢ 0 → (remote.new ≡ remote.old) × (out.new ≡ out.old) × (length.new ≡ length.old) }
+{
+    let Some(host) = handle.take(alloc) else {
+        return NO_HOST;
+    };
+    let done = host.peek_icmp(socket, out);
+    handle.put(host);
+    match done {
+        Ok((from, len)) => {
+            *remote = IfaceAddress::of(&from);
+            *length = len;
+            OK
+        },
+        Err(refusal) => code(refusal),
+    }
+}
+
+/// Writes the first packet that came, which stays.
+#[unsafe(no_mangle)]
+pub extern "C" fn iface_raw_peek(
+    handle: &mut Iface,
+    alloc: Global,
+    socket: u32,
+    out: &mut [u8],
+    length: &mut usize,
+) -> u32
+    ensures done { Did result (λ old new. PeeksRaw socket length.new out.new old new) handle.old handle.new }
+    ensures code { result ≡ code_by (λ host. refusals.raw_unreceived host socket (len out.old)) (host_in handle.old) }
+    ensures kept { result ≢ 0 → (out.new ≡ out.old) × (length.new ≡ length.old) }
+{
+    let Some(host) = handle.take(alloc) else {
+        return NO_HOST;
+    };
+    let done = host.peek_raw(socket, out);
     handle.put(host);
     match done {
         Ok(len) => {

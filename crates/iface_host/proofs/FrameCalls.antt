@@ -7,6 +7,7 @@ use Rattle.std.proofs.lemmas.List.{length-take-le}
 use Rattle.std.proofs.Math.Dec.{eqb-suc-zero}
 use Rattle.std.specs.Prelude.{ℤ, pos, ◌||◌, ◌==◌, not, Err, IfOk, Result}
 use Rattle.std.specs.Borrow.{Bor}
+use Rattle.std.specs.Box.{with_value}
 use Rattle.socket_set.specs.SocketSet.{Sockets}
 use Rattle.host_machine.specs.declared.results.PollResult.{PollResult}
 use Rattle.host_machine.specs.State.Config.{first_host}
@@ -62,23 +63,23 @@ changing (octet ∷ octets) = ap not (eqb-suc-zero (length octets))
 -- a frame was taken at the moment that was tested
 pub received : (t t' : ℤ) → t' ≡ t → (frame : List ℕ) (n : ℕ) (before after : List ℕ) (old : Host) (i : Interface) (s : Sockets (Bor (Unit {0})))
     (shown result : Option (List ℕ)) → result ≡ shown →
-    IsWritten shown n before after → HostRefinesReceiving t' frame result (interfaces.StandsFor old.interface old.sockets) (interfaces.StandsFor i s) →
+    IsWritten shown n before after → HostRefinesReceiving t' frame result (interfaces.StandsFor old.interface.value old.sockets) (interfaces.StandsFor i s) →
     (changed : Bool) → changed ≡ (old.changed || not (length frame == 0)) → (counts : FrameCounts) →
     counts ≡ after_handing n (after_taking old.frames) →
-    Receives t frame n before after old (record old { interface = i; sockets = s; changed = changed; frames = counts })
+    Receives t frame n before after old (record old { interface = with_value old.interface i; sockets = s; changed = changed; frames = counts })
 received t t' same frame n before after old i s shown result is w r changed changed_is counts counts_is = record {
   shown = shown;
   written = w;
   received =
       let at_t =
-      subst (λ (m : ℤ). HostRefinesReceiving m frame result (interfaces.StandsFor old.interface old.sockets) (interfaces.StandsFor i s)) same r in
+      subst (λ (m : ℤ). HostRefinesReceiving m frame result (interfaces.StandsFor old.interface.value old.sockets) (interfaces.StandsFor i s)) same r in
       subst
-      (λ (x : Option (List ℕ)). HostRefinesReceiving t frame x (interfaces.StandsFor old.interface old.sockets) (interfaces.StandsFor i s)) is at_t;
+      (λ (x : Option (List ℕ)). HostRefinesReceiving t frame x (interfaces.StandsFor old.interface.value old.sockets) (interfaces.StandsFor i s)) is at_t;
   rest =
-      ap (λ (b : Bool). record old { interface = i; sockets = s; changed = b; frames = counts })
+      ap (λ (b : Bool). record old { interface = with_value old.interface i; sockets = s; changed = b; frames = counts })
       (changed_is ∙ ap (λ (b : Bool). old.changed || b) (changing frame))
       ∙ ap (λ (f : FrameCounts).
-      record old { interface = i; sockets = s; changed = old.changed || may_change (answer_to (Frame frame)); frames = f }) counts_is;
+      record old { interface = with_value old.interface i; sockets = s; changed = old.changed || may_change (answer_to (Frame frame)); frames = f }) counts_is;
 }
 
 -- the frame in the front of a buffer, if there is one, and how many octets it has
@@ -147,11 +148,11 @@ pub rounded : (t : ℤ) (n : ℕ) (out out' : List ℕ) (old : Host) (room : Wai
     (left : Bool) → left ≡ is_piece_left old → (before after : Planned (Bor (Unit {0}))) →
     before ≡ before_round t old.ip_mtu left (planned old) →
     (answer : PollResult) (i : Interface) (polled : Sockets (Bor (Unit {0}))) (o : Waiting) →
-    PollsInto t answer n out out' room o old.interface i before.sockets polled →
+    PollsInto t answer n out out' room o old.interface.value i before.sockets polled →
     after ≡ after_round t (record { plan = before.plan; sockets = polled }) → (changed : Bool) →
     changed ≡ (old.changed || is_changed answer) → (counts : FrameCounts) → counts ≡ after_handing n old.frames →
     Round t n out out' old (record old {
-      interface = i;
+      interface = with_value old.interface i;
       sockets = after.sockets;
       outbox = o;
       schedule = after.plan;
@@ -163,11 +164,11 @@ rounded t n out out' old room is left left_is before after prepared answer i pol
   polled = polled;
   answer = answer;
   is_prepared = prepared ∙ ap (λ (b : Bool). before_round t old.ip_mtu b (planned old)) left_is;
-  polls = subst (λ (w : Waiting). PollsInto t answer n out out' w o old.interface i before.sockets polled) is polls;
+  polls = subst (λ (w : Waiting). PollsInto t answer n out out' w o old.interface.value i before.sockets polled) is polls;
   ended = ended;
   rest =
       ap (λ (b : Bool). record old {
-        interface = i;
+        interface = with_value old.interface i;
         sockets = after.sockets;
         outbox = o;
         schedule = after.plan;
@@ -175,7 +176,7 @@ rounded t n out out' old room is left left_is before after prepared answer i pol
         frames = counts;
       }) changed_is
       ∙ ap (λ (f : FrameCounts). record old {
-        interface = i;
+        interface = with_value old.interface i;
         sockets = after.sockets;
         outbox = o;
         schedule = after.plan;
@@ -186,9 +187,9 @@ rounded t n out out' old room is left left_is before after prepared answer i pol
 
 -- when something is due, where no frame waits
 pub due : (t t' : ℤ) → t' ≡ t → (old : Host) (i : Interface) (end : Option ℤ) → old.outbox.frames ≡ [] →
-    ((H : Machine) → interfaces.StandsFor old.interface old.sockets H → IsLeast (Due (at H t')) end) →
-    ((H : Machine) → interfaces.StandsFor old.interface old.sockets H → interfaces.StandsFor i old.sockets (at H t')) →
-    IsDue t end old (record old { interface = i })
+    ((H : Machine) → interfaces.StandsFor old.interface.value old.sockets H → IsLeast (Due (at H t')) end) →
+    ((H : Machine) → interfaces.StandsFor old.interface.value old.sockets H → interfaces.StandsFor i old.sockets (at H t')) →
+    IsDue t end old (record old { interface = with_value old.interface i })
 due t t' same old i end empty least moved = record {
   led = λ H h. subst (λ (m : ℤ). interfaces.StandsFor i old.sockets (at H m)) same (moved H h);
   least = λ e H h. subst (λ (m : ℤ). IsLeast (Due (at H m)) end) same (least H h);
@@ -198,8 +199,8 @@ due t t' same old i end empty least moved = record {
 
 -- and where one does
 pub due_at_once : (t t' : ℤ) → t' ≡ t → (old : Host) (i : Interface) → (length old.outbox.frames ≡ 0 → ⊥) →
-    ((H : Machine) → interfaces.StandsFor old.interface old.sockets H → interfaces.StandsFor i old.sockets (at H t')) →
-    IsDue t (Some (pos 0)) old (record old { interface = i })
+    ((H : Machine) → interfaces.StandsFor old.interface.value old.sockets H → interfaces.StandsFor i old.sockets (at H t')) →
+    IsDue t (Some (pos 0)) old (record old { interface = with_value old.interface i })
 due_at_once t t' same old i waits moved = record {
   led = λ H h. subst (λ (m : ℤ). interfaces.StandsFor i old.sockets (at H m)) same (moved H h);
   least = λ e. absurd (waits (ap length e));

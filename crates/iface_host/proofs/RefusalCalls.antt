@@ -77,24 +77,24 @@ list_rule : (list : List IpCidr) (r : Result (Unit {0}) AddrError) (H H' : Machi
 list_rule list r H H' (Accepted a answers same) = rw (answers, a) refl
 list_rule list r H H' (Refused a answers same) = rw (answers, a) refl
 
-pub joined_why : (old : Host) (i : Interface) (a : IpAddress) (r : Result (Unit {0}) MulticastError) → IsThere old.interface →
-    interface.HostRefines old.interface i (machine.JoinsGroup a r) → group_told r ≡ join_refusal old a
+pub joined_why : (old : Host) (i : Interface) (a : IpAddress) (r : Result (Unit {0}) MulticastError) → IsThere old.interface.value →
+    interface.HostRefines old.interface.value i (machine.JoinsGroup a r) → group_told r ≡ join_refusal old a
 joined_why old i a r there f =
     let H = (there old.sockets).0 in
     let h = (there old.sockets).1 in
     let l = f old.sockets H h in
     join_rule a r H l.host l.follows ∙ ap (λ (K : Machine). refused_by K.groups a) h.same
 
-pub left_why : (old : Host) (i : Interface) (a : IpAddress) (r : Result (Unit {0}) MulticastError) → IsThere old.interface →
-    interface.HostRefines old.interface i (machine.LeavesGroup a r) → left_told r ≡ leave_refusal a
+pub left_why : (old : Host) (i : Interface) (a : IpAddress) (r : Result (Unit {0}) MulticastError) → IsThere old.interface.value →
+    interface.HostRefines old.interface.value i (machine.LeavesGroup a r) → left_told r ≡ leave_refusal a
 left_why old i a r there f =
     let H = (there old.sockets).0 in
     let h = (there old.sockets).1 in
     let l = f old.sockets H h in
     leave_rule a r H l.host l.follows
 
-pub list_why : (old : Host) (i : Interface) (list : List IpCidr) (r : Result (Unit {0}) AddrError) → IsThere old.interface →
-    interface.HostRefines old.interface i (UpdatesIpAddrs list r) → list_told r ≡ list_refusal list
+pub list_why : (old : Host) (i : Interface) (list : List IpCidr) (r : Result (Unit {0}) AddrError) → IsThere old.interface.value →
+    interface.HostRefines old.interface.value i (UpdatesIpAddrs list r) → list_told r ≡ list_refusal list
 list_why old i list r there f =
     let H = (there old.sockets).0 in
     let h = (there old.sockets).1 in
@@ -192,8 +192,8 @@ hardware_rule a r H H' (Taken why is answers same) = rw (answers, why) refl
 hardware_rule a r H H' (NotTaken error.WrongMedium why answers same) = rw (answers, why) refl
 hardware_rule a r H H' (NotTaken error.NotUnicast why answers same) = rw (answers, why) refl
 
-pub hardware_why : (old : Host) (i : Interface) (a : EthernetAddress) (r : Result (Unit {0}) HardwareError) → IsThere old.interface →
-    interface.HostRefines old.interface i (SetsHardwareAddr (Ethernet a) r) → hardware_told r ≡ hardware_refusal old a
+pub hardware_why : (old : Host) (i : Interface) (a : EthernetAddress) (r : Result (Unit {0}) HardwareError) → IsThere old.interface.value →
+    interface.HostRefines old.interface.value i (SetsHardwareAddr (Ethernet a) r) → hardware_told r ≡ hardware_refusal old a
 hardware_why old i a r there f =
     let H = (there old.sockets).0 in
     let h = (there old.sockets).1 in

@@ -24,7 +24,7 @@ is_same (cidr.Ipv6 a) (cidr.Ipv6 b) = (a.address.bits == b.address.bits) && (a.p
 
 -- its own addresses, with their networks
 abbrev pub addresses_of : Host → List IpCidr
-addresses_of host = (host_with host.interface no_sockets).ip_addrs
+addresses_of host = (host_with host.interface.value no_sockets).ip_addrs
 
 -- the own address that packets to a destination are sent from, if there is one
 abbrev pub source_for : Host → IpAddress → Option IpAddress
@@ -32,10 +32,10 @@ source_for host remote = addresses.source_for (addresses_of host) remote
 
 -- its groups and its routes
 abbrev pub groups_of : Host → List Group
-groups_of host = (host_with host.interface no_sockets).groups
+groups_of host = (host_with host.interface.value no_sockets).groups
 
 abbrev pub routes_of : Host → List Route
-routes_of host = (host_with host.interface no_sockets).routes
+routes_of host = (host_with host.interface.value no_sockets).routes
 
 -- an address comes behind the others
 abbrev pub AddsAddress : IpCidr → Machine → Machine → Type 0

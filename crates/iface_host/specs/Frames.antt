@@ -45,7 +45,7 @@ planned host = record { plan = host.schedule; sockets = host.sockets }
 
 -- whether a piece of a packet that was cut is left
 abbrev pub is_piece_left : Host → Bool
-is_piece_left host = not (is_nil (host_with host.interface no_sockets).left)
+is_piece_left host = not (is_nil (host_with host.interface.value no_sockets).left)
 
 -- the machine polls, by one call of each kind: the first frame that it sends is written to the front of a buffer, and the
 -- others wait
@@ -63,8 +63,8 @@ pub record Round (t : ℤ) (n : ℕ) (before after : List ℕ) (old new : Host) 
   pub polled : Sockets (Bor (Unit {0}))
   pub answer : PollResult
   pub is_prepared : prepared ≡ before_round t old.ip_mtu (is_piece_left old) (planned old)
-  pub polls : PollsInto t answer n before after (with_room true old.outbox) new.outbox old.interface new.interface
-      prepared.sockets polled
+  pub polls : PollsInto t answer n before after (with_room true old.outbox) new.outbox
+      old.interface.value new.interface.value prepared.sockets polled
   pub ended : planned new ≡ after_round t (record { plan = prepared.plan; sockets = polled })
   pub rest : new ≡ record old {
     interface = new.interface;

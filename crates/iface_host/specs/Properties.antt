@@ -17,7 +17,7 @@ use Rattle.iface_host.specs.declared.refusal.Refusal.TheVariants.{NotThere, NotU
 
 -- what it is set to, and what it learnt: the machine's host, without its sockets
 abbrev pub machine_of : Host → Machine
-machine_of host = host_with host.interface no_sockets
+machine_of host = host_with host.interface.value no_sockets
 
 -- addresses that are routed to it count as its own, or don't
 abbrev pub SetsAnyIp : Bool → Machine → Machine → Type 0

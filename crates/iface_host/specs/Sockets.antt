@@ -13,12 +13,14 @@ use Rattle.network_sockets.specs.declared.icmp.Endpoint.{Endpoint}
 use Rattle.network_sockets.specs.Icmp as icmps
 use Rattle.network_sockets.specs.Raw as raws
 use Rattle.transport_sockets.specs.Udp as udps
+use Rattle.sockets.specs.Kinds.{up_icmp, up_raw, up_udp}
 use Rattle.sockets.specs.declared.socket.SocketOf.{SocketOf}
 use Rattle.sockets.specs.declared.socket.SocketOf.TheVariants.{Raw, Icmp, Udp}
 use Rattle.socket_set.specs.SocketSet.{set_after_add, first_free, socket_at, with_place}
 use Rattle.iface_host.specs.Names.{first_unused, handle_named}
 use Rattle.iface_host.specs.declared.host.Host.{Host}
 use Rattle.iface_host.specs.declared.opening.Room.{Room}
+use Rattle.iface_host.specs.declared.opening.Rooms.{Rooms}
 
 -- a socket of a host
 abbrev pub Socket : Type 0
@@ -29,15 +31,29 @@ abbrev pub queue_of : {M : Type 0} → Room → Queued M
 queue_of room = record { packets = []; most = room.packets; limit = room.octets }
 
 -- sockets that were just made
-abbrev pub udp : IpListenEndpoint → Room → Socket
-udp local room = Udp (record { endpoint = local; hop_limit = 64; rx = queue_of room; tx = queue_of room })
+abbrev pub udp : IpListenEndpoint → Rooms → Socket
+udp local rooms = Udp (record {
+  endpoint = local;
+  hop_limit = 64;
+  rx = queue_of rooms.received;
+  tx = queue_of rooms.to_send;
+})
 
-abbrev pub raw : IpVersion → IpProtocol → Room → Socket
-raw version protocol room =
-    Raw (record { version = version; protocol = protocol; rx = queue_of room; tx = queue_of room })
+abbrev pub raw : IpVersion → IpProtocol → Rooms → Socket
+raw version protocol rooms = Raw (record {
+  version = version;
+  protocol = protocol;
+  rx = queue_of rooms.received;
+  tx = queue_of rooms.to_send;
+})
 
-abbrev pub icmp : Endpoint → Room → Socket
-icmp endpoint room = Icmp (record { endpoint = endpoint; hop_limit = 64; rx = queue_of room; tx = queue_of room })
+abbrev pub icmp : Endpoint → Rooms → Socket
+icmp endpoint rooms = Icmp (record {
+  endpoint = endpoint;
+  hop_limit = 64;
+  rx = queue_of rooms.received;
+  tx = queue_of rooms.to_send;
+})
 
 -- a socket is added, the least number that named none names it, and what was kept of its place is forgotten
 pub record Opens (socket : Socket) (n : ℕ) (old new : Host) : Type 0 where
@@ -94,27 +110,40 @@ pub record SendsRaw (n : ℕ) (packet : List ℕ) (old new : Host) : Type 0 wher
   pub after : new
       ≡ with_packet (length packet) (with_socket old handle (Some (Raw (raws.socket_after_send packet socket))))
 
--- the first packet that came is read: it stands in the front of a buffer, which it fits
-pub record ReceivesUdp (n : ℕ) (remote : IpEndpoint) (len : ℕ) (out : List ℕ) (old new : Host) : Type 0 where
-  pub handle : ℕ
-  pub socket : udps.UdpSocket
-  pub names : Names n old handle (Udp socket)
-  pub first : first_of socket.rx.packets ≡ Some (remote, take len out)
-  pub within : len ≤ length out
-  pub after : new ≡ with_socket old handle (Some (Udp (udps.socket_after_done socket)))
+-- a packet that is lent, with what is kept of it
+abbrev pub lent_packet : {M : Type 0} → Bor M × Bor (List ℕ) → M × List ℕ
+lent_packet p = (p.0.now, p.1.now)
 
-pub record ReceivesIcmp (n : ℕ) (remote : IpAddress) (len : ℕ) (out : List ℕ) (old new : Host) : Type 0 where
+-- the first packet that came to a socket of a kind stands in the front of a buffer, which it fits, and where it came
+-- from is told
+pub record Peeks {M S : Type 0} (up : S → Socket) (received : S → Queued M) (n : ℕ) (from : M) (len : ℕ) (out : List ℕ)
+    (host : Host) : Type 0 where
   pub handle : ℕ
-  pub socket : icmps.IcmpSocket
-  pub names : Names n old handle (Icmp socket)
-  pub first : first_of socket.rx.packets ≡ Some (remote, take len out)
+  pub socket : S
+  pub names : Names n host handle (up socket)
+  pub first : first_of (received socket).packets ≡ Some (from, take len out)
   pub within : len ≤ length out
-  pub after : new ≡ with_socket old handle (Some (Icmp (icmps.socket_after_done socket)))
 
-pub record ReceivesRaw (n : ℕ) (len : ℕ) (out : List ℕ) (old new : Host) : Type 0 where
-  pub handle : ℕ
-  pub socket : raws.RawSocket
-  pub names : Names n old handle (Raw socket)
-  pub first : first_of socket.rx.packets ≡ Some (tt, take len out)
-  pub within : len ≤ length out
-  pub after : new ≡ with_socket old handle (Some (Raw (raws.socket_after_done socket)))
+-- besides, it is taken
+pub record Receives {M S : Type 0} (up : S → Socket) (received : S → Queued M) (after_done : S → S) (n : ℕ) (from : M)
+    (len : ℕ) (out : List ℕ) (old new : Host) : Type 0 where
+  pub peeked : Peeks up received n from len out old
+  pub after : new ≡ with_socket old peeked.handle (Some (up (after_done peeked.socket)))
+
+abbrev pub PeeksUdp : ℕ → IpEndpoint → ℕ → List ℕ → Host → Type 0
+PeeksUdp = Peeks up_udp (λ (s : udps.UdpSocket). s.rx)
+
+abbrev pub ReceivesUdp : ℕ → IpEndpoint → ℕ → List ℕ → Host → Host → Type 0
+ReceivesUdp = Receives up_udp (λ (s : udps.UdpSocket). s.rx) udps.socket_after_done
+
+abbrev pub PeeksIcmp : ℕ → IpAddress → ℕ → List ℕ → Host → Type 0
+PeeksIcmp = Peeks up_icmp (λ (s : icmps.IcmpSocket). s.rx)
+
+abbrev pub ReceivesIcmp : ℕ → IpAddress → ℕ → List ℕ → Host → Host → Type 0
+ReceivesIcmp = Receives up_icmp (λ (s : icmps.IcmpSocket). s.rx) icmps.socket_after_done
+
+abbrev pub PeeksRaw : ℕ → ℕ → List ℕ → Host → Type 0
+PeeksRaw n = Peeks up_raw (λ (s : raws.RawSocket). s.rx) n tt
+
+abbrev pub ReceivesRaw : ℕ → ℕ → List ℕ → Host → Host → Type 0
+ReceivesRaw n = Receives up_raw (λ (s : raws.RawSocket). s.rx) raws.socket_after_done n tt

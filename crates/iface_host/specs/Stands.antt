@@ -15,16 +15,16 @@ use Rattle.interface.specs.Stands.{Refinement}
 use Rattle.iface_host.specs.declared.host.Host.{Host}
 use Rattle.iface_host.specs.declared.host.Settings.{Settings}
 
--- its interface with its sockets stands for it
+-- the interface in its box stands for it, with its sockets
 abbrev pub StandsFor : Host → Machine → Type 0
-StandsFor host H = interface.StandsFor host.interface host.sockets H
+StandsFor host H = interface.StandsFor host.interface.value host.sockets H
 
 -- what its link can do: the checksums that aren't set aren't computed here
 abbrev pub capabilities_of : Settings → DeviceCapabilities
 capabilities_of s = record {
   medium = medium_of s.hardware_addr;
   max_transmission_unit = s.frame_len;
-  max_burst_size = None;
+  max_burst_size = s.burst;
   checksum = s.checksum;
 }
 

@@ -40,6 +40,9 @@ pub struct Settings {
     pub slaac: bool,
     /// How many sockets may be open at once.
     pub sockets: usize,
+    /// How many frames the link takes one after the other, if that is bounded: the window in a segment of TCP is at most
+    /// what so many carry.
+    pub burst: Option<usize>,
     /// How long a packet waits for its neighbour before it is given up; no time is for ever.
     pub patience: Duration,
     /// How long fragments of a packet wait for the others: some time, at most a day.
@@ -51,12 +54,13 @@ pub struct Settings {
 }
 
 /// A host: an interface, its sockets, the numbers that name these, and the frames that wait to be handed over. Besides,
-/// whether its sockets may have changed since that was asked, and how many frames it took and handed over.
+/// whether its sockets may have changed since that was asked, and how many frames it took and handed over. The interface
+/// has a box of its own, since it is large.
 #[derive(Drop)]
 pub struct Host {
     pub(crate) alloc: Global,
     pub(crate) ip_mtu: usize,
-    pub(crate) interface: Interface,
+    pub(crate) interface: Box<Interface>,
     pub(crate) sockets: SocketSet<'static>,
     pub(crate) names: Names,
     pub(crate) outbox: Outbox,
@@ -69,8 +73,8 @@ impl Host {
     /// A host with no address, no route and no socket, at the moment at which it begins. The first error that applies is
     /// returned: `NotUnicast` if its address on Ethernet isn't unicast; `BadMtu` if its longest packet has less than 576
     /// octets, or its longest frame more than 1,514; `BadTimeout` if fragments are to wait no time, or longer than a day;
-    /// `BadMoment` if it would begin below 0 or above 2^62; `NoMemory` if the memory for the places of its sockets is
-    /// refused.
+    /// `BadMoment` if it would begin below 0 or above 2^62; `NoMemory` if memory for its interface or for the places of its
+    /// sockets is refused.
     pub fn new(alloc: Global, settings: &Settings) -> Result<Host, Refusal>
         ensures made { IfOk result (λ host. IsFirst settings.now host) }
         ensures why { (e : Refusal) → settings_refusal settings.now ≡ Some e → IsErrOf result e }
@@ -84,8 +88,11 @@ impl Host {
             hardware_addr: settings.hardware_addr,
             slaac: settings.slaac,
         };
-        // By the settings neither of these two can fail.
-        let Ok(mut interface) = interface_over(&mut outbox, config, start) else {
+        // By the settings this can't fail, nor what lets fragments wait.
+        let Ok(interface) = interface_over(&mut outbox, config, start) else {
+            return Err(Refusal::NoMemory);
+        };
+        let Ok(mut interface) = Box::new(alloc, interface) else {
             return Err(Refusal::NoMemory);
         };
         let Ok(()) = let_fragments_wait(&mut interface, settings.reassembly_timeout) else {
@@ -169,7 +176,7 @@ fn capabilities(settings: &Settings) -> DeviceCapabilities
     DeviceCapabilities {
         medium,
         max_transmission_unit: settings.frame_len,
-        max_burst_size: None,
+        max_burst_size: settings.burst,
         checksum: settings.checksum,
     }
 }

@@ -25,6 +25,6 @@ pub mod waiting;
 pub use counters::{Counters, FrameCounts};
 pub use host::{Host, Settings};
 pub use neighbors::Known;
-pub use opening::Room;
+pub use opening::{Room, Rooms};
 pub use queues::Fill;
 pub use refusal::Refusal;

@@ -14,7 +14,7 @@ use socket_set::{SocketSet, by_index};
 use sockets::{AnySocketOf, IpListenEndpoint, Queue, icmp, raw, udp};
 use std::alloc::Global;
 
-/// How much each of the two queues of a socket holds.
+/// How much a queue of a socket holds.
 #[derive(Clone, Copy, Debug, PartialEq, Eq)]
 pub struct Room {
     /// How many packets.
@@ -23,12 +23,21 @@ pub struct Room {
     pub octets: usize,
 }
 
+/// How much each of the two queues of a socket holds.
+#[derive(Clone, Copy, Debug, PartialEq, Eq)]
+pub struct Rooms {
+    /// The queue for what comes.
+    pub received: Room,
+    /// The queue for what is to be sent.
+    pub to_send: Room,
+}
+
 impl Host {
     /// Opens a UDP socket that listens at an end, and names it. `BadPort` if its port is 0, else `BadAddress` if its
     /// address is a group's or 255.255.255.255, else `TableFull` if no number is left, else `NoMemory` if memory for its
     /// queues is refused.
-    pub fn open_udp(&mut self, local: IpListenEndpoint, room: Room) -> Result<u32, Refusal>
-        ensures opened { IfOk result (λ n. Opens (udp local room) n self.old self.new) }
+    pub fn open_udp(&mut self, local: IpListenEndpoint, rooms: Rooms) -> Result<u32, Refusal>
+        ensures opened { IfOk result (λ n. Opens (udp local rooms) n self.old self.new) }
         ensures why { (e : Refusal) → udp_opening_refusal self.old local ≡ Some e → IsErrOf result e }
         ensures memory { udp_opening_refusal self.old local ≡ None → IfErr result (λ e. e ≡ Refusal.NoMemory) }
         ensures refused { OnErr result (self.new ≡ self.old) }
@@ -40,8 +49,7 @@ impl Host {
             return Err(Refusal::BadAddress);
         }
         let number = self.unused_number()?;
-        let rx = queue(self.alloc, room)?;
-        let tx = queue(self.alloc, room)?;
+        let (rx, tx) = queues(self.alloc, rooms)?;
         let socket: udp::Socket<'static> = udp::SocketOf::new(local, rx, tx);
         self.add(number, socket)
     }
@@ -52,30 +60,28 @@ impl Host {
         &mut self,
         version: IpVersion,
         protocol: IpProtocol,
-        room: Room,
+        rooms: Rooms,
     ) -> Result<u32, Refusal>
-        ensures opened { IfOk result (λ n. Opens (raw version protocol room) n self.old self.new) }
+        ensures opened { IfOk result (λ n. Opens (raw version protocol rooms) n self.old self.new) }
         ensures why { (e : Refusal) → opening_refusal self.old ≡ Some e → IsErrOf result e }
         ensures memory { opening_refusal self.old ≡ None → IfErr result (λ e. e ≡ Refusal.NoMemory) }
         ensures refused { OnErr result (self.new ≡ self.old) }
     {
         let number = self.unused_number()?;
-        let rx = queue(self.alloc, room)?;
-        let tx = queue(self.alloc, room)?;
+        let (rx, tx) = queues(self.alloc, rooms)?;
         let socket: raw::Socket<'static> = raw::SocketOf::new(version, protocol, rx, tx);
         self.add(number, socket)
     }
 
     /// Opens an ICMP socket for an endpoint, and names it. It fails as [`Host::open_udp`] for room.
-    pub fn open_icmp(&mut self, endpoint: icmp::Endpoint, room: Room) -> Result<u32, Refusal>
-        ensures opened { IfOk result (λ n. Opens (icmp endpoint room) n self.old self.new) }
+    pub fn open_icmp(&mut self, endpoint: icmp::Endpoint, rooms: Rooms) -> Result<u32, Refusal>
+        ensures opened { IfOk result (λ n. Opens (icmp endpoint rooms) n self.old self.new) }
         ensures why { (e : Refusal) → opening_refusal self.old ≡ Some e → IsErrOf result e }
         ensures memory { opening_refusal self.old ≡ None → IfErr result (λ e. e ≡ Refusal.NoMemory) }
         ensures refused { OnErr result (self.new ≡ self.old) }
     {
         let number = self.unused_number()?;
-        let rx = queue(self.alloc, room)?;
-        let tx = queue(self.alloc, room)?;
+        let (rx, tx) = queues(self.alloc, rooms)?;
         let socket: icmp::Socket<'static> = icmp::SocketOf::new(endpoint, rx, tx);
         self.add(number, socket)
     }
@@ -157,6 +163,16 @@ fn has_free_place(sockets: &SocketSet<'static>) -> bool
         }
     }
     false
+}
+
+/// Two empty queues: for what comes, and for what is to be sent.
+pub(crate) fn queues<M: Drop>(alloc: Global, rooms: Rooms) -> Result<(Queue<M>, Queue<M>), Refusal>
+    ensures made { IfOk result (λ qs. (qs.0 ≡ queue_of rooms.received) × (qs.1 ≡ queue_of rooms.to_send)) }
+    ensures memory { IfErr result (λ e. e ≡ Refusal.NoMemory) }
+{
+    let rx = queue(alloc, rooms.received)?;
+    let tx = queue(alloc, rooms.to_send)?;
+    Ok((rx, tx))
 }
 
 /// An empty queue.

@@ -1,9 +1,11 @@
 //! What sockets send and receive.
-ghost use Rattle.std.specs.Prelude.{◌≡◌, ◌≤◌, true, IfOk, OnOk, OnErr, length};
+ghost use Rattle.std.specs.Prelude.{◌≡◌, ◌≤◌, true, IfOk, OnOk, OnErr, Some, length, take};
+ghost use Rattle.std.specs.Option.{option_map};
 ghost use Rattle.std.specs.Result.{result_err};
 ghost use Rattle.iface_host.specs.Refusals as refusals;
+ghost use Rattle.iface_host.specs.Sockets.{PeeksIcmp, PeeksRaw, PeeksUdp};
 ghost use Rattle.iface_host.specs.Sockets.{ReceivesIcmp, ReceivesRaw, ReceivesUdp};
-ghost use Rattle.iface_host.specs.Sockets.{SendsIcmp, SendsRaw, SendsUdp, with_packet};
+ghost use Rattle.iface_host.specs.Sockets.{SendsIcmp, SendsRaw, SendsUdp, lent_packet, with_packet};
 
 use crate::host::Host;
 use crate::outbox::write_front;
@@ -14,7 +16,7 @@ use sockets::{IpEndpoint, icmp, raw, udp};
 /// The longest packet of IPv4 that is sent: it goes in pieces, where the link's packets are shorter.
 const MAX_CUT: usize = 4096;
 
-/// The longest payload that a UDP or an ICMP socket takes.
+/// The longest payload that a UDP, an ICMP or a TCP socket takes.
 const MAX_PAYLOAD: usize = 65_495;
 
 impl Host {
@@ -127,16 +129,9 @@ impl Host {
         let Some(socket) = self.sockets.get_mut::<udp::Socket<'static>>(handle) else {
             return Err(Refusal::NoSocket);
         };
-        let Some((remote, payload)) = socket.recv() else {
-            return Err(Refusal::Empty);
-        };
-        if payload.len() > out.len() {
-            return Err(Refusal::NoRoom);
-        }
-        let remote = *remote;
-        let len = write_front(out, payload);
+        let first = write_first(socket.recv(), out)?;
         socket.done();
-        Ok((remote, len))
+        Ok(first)
     }
 
     /// The same of an ICMP socket: a message, and the address that it came from.
@@ -157,16 +152,9 @@ impl Host {
         let Some(socket) = self.sockets.get_mut::<icmp::Socket<'static>>(handle) else {
             return Err(Refusal::NoSocket);
         };
-        let Some((remote, message)) = socket.recv() else {
-            return Err(Refusal::Empty);
-        };
-        if message.len() > out.len() {
-            return Err(Refusal::NoRoom);
-        }
-        let remote = *remote;
-        let len = write_front(out, message);
+        let first = write_first(socket.recv(), out)?;
         socket.done();
-        Ok((remote, len))
+        Ok(first)
     }
 
     /// The same of a raw socket: a packet with its header.
@@ -183,19 +171,59 @@ impl Host {
         let Some(socket) = self.sockets.get_mut::<raw::Socket<'static>>(handle) else {
             return Err(Refusal::NoSocket);
         };
-        let Some((_, packet)) = socket.recv() else {
-            return Err(Refusal::Empty);
-        };
-        if packet.len() > out.len() {
-            return Err(Refusal::NoRoom);
-        }
-        let len = write_front(out, packet);
+        let (_, len) = write_first(socket.recv(), out)?;
         socket.done();
         Ok(len)
     }
 
+    /// Writes the first datagram that came as [`Host::receive_udp`] does, and fails as it does. It stays.
+    pub fn peek_udp(&self, number: u32, out: &mut [u8]) -> Result<(IpEndpoint, usize), Refusal>
+        ensures peeked { IfOk result (λ r. PeeksUdp number r.0 r.1 out.new self.now) }
+        ensures why { result_err result ≡ refusals.udp_unreceived self.now number (length out.old) }
+        ensures out { OnErr result (out.new ≡ out.old) }
+    {
+        let Some(handle) = self.names.get(number) else {
+            return Err(Refusal::NoSocket);
+        };
+        let Some(socket) = self.sockets.get::<udp::Socket<'static>>(handle) else {
+            return Err(Refusal::NoSocket);
+        };
+        write_first(socket.recv(), out)
+    }
+
+    /// The same of an ICMP socket, as [`Host::receive_icmp`].
+    pub fn peek_icmp(&self, number: u32, out: &mut [u8]) -> Result<(IpAddress, usize), Refusal>
+        ensures peeked { IfOk result (λ r. PeeksIcmp number r.0 r.1 out.new self.now) }
+        ensures why { result_err result ≡ refusals.icmp_unreceived self.now number (length out.old) }
+        ensures out { OnErr result (out.new ≡ out.old) }
+    {
+        let Some(handle) = self.names.get(number) else {
+            return Err(Refusal::NoSocket);
+        };
+        let Some(socket) = self.sockets.get::<icmp::Socket<'static>>(handle) else {
+            return Err(Refusal::NoSocket);
+        };
+        write_first(socket.recv(), out)
+    }
+
+    /// The same of a raw socket, as [`Host::receive_raw`].
+    pub fn peek_raw(&self, number: u32, out: &mut [u8]) -> Result<usize, Refusal>
+        ensures peeked { IfOk result (λ n. PeeksRaw number n out.new self.now) }
+        ensures why { result_err result ≡ refusals.raw_unreceived self.now number (length out.old) }
+        ensures out { OnErr result (out.new ≡ out.old) }
+    {
+        let Some(handle) = self.names.get(number) else {
+            return Err(Refusal::NoSocket);
+        };
+        let Some(socket) = self.sockets.get::<raw::Socket<'static>>(handle) else {
+            return Err(Refusal::NoSocket);
+        };
+        let (_, len) = write_first(socket.recv(), out)?;
+        Ok(len)
+    }
+
     /// Tells the schedule of a packet of so many octets that is queued, if it may have to be cut.
-    fn expect_packet(&mut self, len: usize)
+    pub(crate) fn expect_packet(&mut self, len: usize)
         ensures { self.new ≡ with_packet len self.old }
     {
         if self.ip_mtu < len {
@@ -204,8 +232,8 @@ impl Host {
     }
 
     /// Whether a payload behind a header of so many octets, in a packet of this version, isn't too long to be sent.
-    fn may_send(&self, version: IpVersion, header: usize, payload: &[u8]) -> bool
-        requires { header ≤ 8 }
+    pub(crate) fn may_send(&self, version: IpVersion, header: usize, payload: &[u8]) -> bool
+        requires { header ≤ 20 }
         ensures value { result ≡ refusals.may_send self.now.ip_mtu version header (length payload.now) }
         ensures short { result ≡ true → length payload.now ≤ 65495 }
     {
@@ -217,4 +245,26 @@ impl Host {
             IpVersion::Ipv6 => payload.len() + header + 40 <= self.ip_mtu,
         }
     }
+}
+
+/// Writes the first packet that came to the front of a buffer, and returns what is kept with it, and its length. `Empty`
+/// if none came, `NoRoom` if it is longer than the buffer; then the buffer stays as it was.
+pub(crate) fn write_first<M: Copy>(
+    first: Option<(&M, &[u8])>,
+    out: &mut [u8],
+) -> Result<(M, usize), Refusal>
+    ensures written { IfOk result (λ r. option_map lent_packet first.entry ≡ Some (r.0, take r.1 out.new)) }
+    ensures within { IfOk result (λ r. r.1 ≤ length out.new) }
+    ensures why { result_err result
+        ≡ refusals.of_packet (length out.old) (option_map lent_packet first.entry) }
+    ensures out { OnErr result (out.new ≡ out.old) }
+{
+    let Some((from, packet)) = first else {
+        return Err(Refusal::Empty);
+    };
+    if packet.len() > out.len() {
+        return Err(Refusal::NoRoom);
+    }
+    let len = write_front(out, packet);
+    Ok((*from, len))
 }

@@ -12,7 +12,8 @@ returns-clause-added c =
     let after : List Route → List Route = λ routes. routes ++ route_to c.args.cidr c.args.via_router c.args.end ∷ [] in
     let pushed : c.try_push.new.self.items ≡ after c.as_slice.result.now = search rules in
     routed c.args.self.now _ after c.try_push.new.self.items
-    (λ sockets. pushed ∙ ap after (c.as_slice.ensures.value ∙ c.routes.ensures sockets)) c.put_routes.ensures
+    (λ sockets. pushed ∙ ap after (c.as_slice.ensures.value ∙ (rw c.deref.ensures at (c.routes.ensures sockets))))
+    (rw c.deref_mut.ensures.value at c.put_routes.ensures)
 
 pub returns-in_err-expires_at-clause-refused : goal.returns-in_err-expires_at-clause-refused
 returns-in_err-expires_at-clause-refused c = untouched_if c.from_residual.result c.args.self.now
@@ -22,11 +23,11 @@ returns-then-is_err-clause-why c =
     let none : None ≡ end_refusal c.args.end = search rules in
     let full : 4 ≤ length c.as_slice.result.now = search rules in
     route_full c.args.self.now c.args.end (length c.as_slice.result.now) none
-    (ap (λ (routes : List Route). length routes) (c.as_slice.ensures.value ∙ c.routes.ensures no_sockets)) full
+    (ap (λ (routes : List Route). length routes) (c.as_slice.ensures.value ∙ (rw c.deref.ensures at (c.routes.ensures no_sockets)))) full
 
 pub returns-clause-why : goal.returns-clause-why
 returns-clause-why c =
     let none : None ≡ end_refusal c.args.end = search rules in
     let room : length c.as_slice.result.now < 4 = search rules in
     route_room c.args.self.now c.args.end (length c.as_slice.result.now) none
-    (ap (λ (routes : List Route). length routes) (c.as_slice.ensures.value ∙ c.routes.ensures no_sockets)) room
+    (ap (λ (routes : List Route). length routes) (c.as_slice.ensures.value ∙ (rw c.deref.ensures at (c.routes.ensures no_sockets)))) room

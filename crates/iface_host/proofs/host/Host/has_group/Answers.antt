@@ -2,4 +2,4 @@ use Rattle.host_machine.specs.State.Host.{no_sockets}
 use Rattle.iface_host.proofs.host.Host.has_group.Goals as goal
 
 pub returns : goal.returns
-returns c = c.has_multicast_group.ensures no_sockets
+returns c = rw c.deref.ensures at (c.has_multicast_group.ensures no_sockets)

@@ -7,7 +7,7 @@ pub returns : goal.returns
 returns c = record {
   all = c.by_expiry.result.now;
   are_all = record {
-    pairs = c.by_expiry.ensures.pairs ∙ ap (λ (n : Neighbors). n.known) (c.neighbors.ensures no_sockets);
+    pairs = c.by_expiry.ensures.pairs ∙ ap (λ (n : Neighbors). n.known) (rw c.deref.ensures at (c.neighbors.ensures no_sockets));
     once = c.by_expiry.ensures.once;
     order = c.by_expiry.ensures.order;
   };

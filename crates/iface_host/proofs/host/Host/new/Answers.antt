@@ -12,7 +12,7 @@ in_room {room = room} is same = rw is (ap (λ xs. over xs false room) same)
 
 pub returns-clause-made : goal.returns-clause-made
 returns-clause-made c = record {
-  stands = c.in-Ok-let_fragments_wait.ensures.waits c.fixed.result _
+  stands = (rw (c.deref_mut.ensures.value, c.in-Ok-new.ensures.ok) at c.in-Ok-let_fragments_wait.ensures.waits) c.fixed.result _
       (stood c.args.settings.now c.in-Ok.interface c.new-outbox.result c.in_ok-start.start
       (c.new-outbox.ensures ∙ ap empty c.capabilities-capabilities.ensures) c.in_ok-start.ensures.start.0
       c.in-Ok.ensures.made.1 c.fixed.result);
@@ -21,7 +21,7 @@ returns-clause-made c = record {
   ip_mtu = c.ip_mtu-2.ensures ∙ ap ip_mtu_of c.capabilities-capabilities.ensures;
   sockets = in_room c.fixed.ensures c.in_ok-places.ensures;
   names = c.in_ok-names.ensures;
-  outbox = c.new.ensures.device ∙ c.new-outbox.ensures ∙ ap empty c.capabilities-capabilities.ensures;
+  outbox = c.interface_over.ensures.outbox ∙ c.new-outbox.ensures ∙ ap empty c.capabilities-capabilities.ensures;
   schedule = c.in_ok-schedule.ensures;
   changed = refl;
   frames = refl;

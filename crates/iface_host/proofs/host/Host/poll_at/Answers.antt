@@ -7,10 +7,10 @@ returns-then-len-eq0-clause-due c =
     let same : c.in_ok-now.now ≡ c.args.now = search rules in
     due c.args.now c.in_ok-now.now same c.args.self.now c.poll_at-due.new.self c.poll_at-due.result
     (none_waits c.args.self.now.outbox.frames (sym c.len.ensures ∙ c.if-len-eq0.true))
-    c.poll_at-due.ensures.least c.poll_at-due.ensures.moment
+    (rw c.deref_mut.ensures.value at c.poll_at-due.ensures.least) (rw c.deref_mut.ensures.value at c.poll_at-due.ensures.moment)
 
 pub returns-else-len-eq0-clause-due : goal.returns-else-len-eq0-clause-due
 returns-else-len-eq0-clause-due c =
     let same : c.in_ok-now.now ≡ c.args.now = search rules in
     due_at_once c.args.now c.in_ok-now.now same c.args.self.now c.poll_at-due.new.self
-    (λ e. c.if-len-eq0.false (c.len.ensures ∙ e)) c.poll_at-due.ensures.moment
+    (λ e. c.if-len-eq0.false (c.len.ensures ∙ e)) (rw c.deref_mut.ensures.value at c.poll_at-due.ensures.moment)

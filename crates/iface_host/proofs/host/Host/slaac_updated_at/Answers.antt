@@ -2,4 +2,4 @@ use Rattle.host_machine.specs.State.Host.{no_sockets}
 use Rattle.iface_host.proofs.host.Host.slaac_updated_at.Goals as goal
 
 pub returns : goal.returns
-returns c = c.slaac_updated_at.ensures no_sockets
+returns c = rw c.deref.ensures at (c.slaac_updated_at.ensures no_sockets)

@@ -2,4 +2,4 @@ use Rattle.host_machine.specs.State.Host.{no_sockets}
 use Rattle.iface_host.proofs.host.Host.source_for.Goals as goal
 
 pub returns : goal.returns
-returns c = c.get_source_address.ensures no_sockets
+returns c = rw c.deref.ensures at (c.get_source_address.ensures no_sockets)
