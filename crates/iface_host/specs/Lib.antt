@@ -10,6 +10,7 @@ pub mod HopLimits
 pub mod Queues
 pub mod Refusals
 pub mod TableRefusals
+pub mod Segments
 pub mod Counters
 pub mod Frames
 pub mod Waits

@@ -19,6 +19,7 @@ pub mod properties;
 pub mod queues;
 pub mod refusal;
 pub mod routes;
+pub mod segments;
 pub mod waiting;
 
 pub use counters::{Counters, FrameCounts};
