@@ -13,5 +13,6 @@ pub mod Packets
 pub mod Properties
 pub mod Queues
 pub mod Routes
+pub mod Segments
 pub mod Status
 pub mod Waits

@@ -18,6 +18,7 @@ pub mod packets;
 pub mod properties;
 pub mod queues;
 pub mod routes;
+pub mod segments;
 pub mod status;
 pub mod waiting;
 
@@ -28,3 +29,4 @@ pub use hosts::{IfaceChecksums, IfaceConfig};
 pub use lists::IfaceCidr;
 pub use opening::IfaceRooms;
 pub use queues::IfaceQueue;
+pub use segments::IfaceSegment;

@@ -11,7 +11,7 @@ use crate::handle::Iface;
 use crate::status::{BAD_ARGUMENT, NO_HOST, NO_SOCKET, OK, code};
 use std::alloc::Global;
 
-/// Sets the hop limit of the packets of a UDP or an ICMP socket.
+/// Sets the hop limit of the packets of a UDP, an ICMP or a TCP socket.
 #[unsafe(no_mangle)]
 pub extern "C" fn iface_set_hop_limit(
     handle: &mut Iface,
@@ -38,7 +38,7 @@ pub extern "C" fn iface_set_hop_limit(
     }
 }
 
-/// Writes the hop limit of the packets of a UDP or an ICMP socket.
+/// Writes the hop limit of the packets of a UDP, an ICMP or a TCP socket.
 #[unsafe(no_mangle)]
 pub extern "C" fn iface_hop_limit(
     handle: &mut Iface,

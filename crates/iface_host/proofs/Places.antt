@@ -11,8 +11,10 @@ use Rattle.socket_base.specs.declared.endpoint.IpEndpoint.{IpEndpoint}
 use Rattle.socket_base.specs.Queue.{Queued, is_room, put}
 use Rattle.network_sockets.specs.Icmp as icmps
 use Rattle.network_sockets.specs.Raw as raws
+use Rattle.transport_sockets.specs.Tcp as tcps
 use Rattle.transport_sockets.specs.Udp as udps
-use Rattle.sockets.specs.declared.socket.SocketOf.TheVariants.{Raw, Icmp, Udp}
+use Rattle.transport_sockets.specs.declared.tcp.Segment.{Segment}
+use Rattle.sockets.specs.declared.socket.SocketOf.TheVariants.{Raw, Icmp, Udp, Tcp}
 use Rattle.sockets.specs.declared.socket.SocketOf.{SocketOf}
 use Rattle.socket_set.specs.SocketSet.{Sockets, first_free, has_free, socket_at}
 use Rattle.iface_host.specs.Sockets.{Socket, with_socket}
@@ -46,6 +48,11 @@ pub udp_full : (h : Host) (i : ℕ) (s : udps.UdpSocket) (remote : IpEndpoint) (
     false ≡ is_room s.tx (length payload) → with_socket h i (Some (Udp (udps.socket_after_send remote payload s))) ≡ h
 udp_full h i s remote payload here full =
     ap (λ q. with_socket h i (Some (Udp (record s { tx = q })))) (put_full s.tx remote payload full) ∙ host_same h i (Udp s) here
+
+pub tcp_full : (h : Host) (i : ℕ) (s : tcps.TcpSocket) (segment : Segment) (payload : List ℕ) → socket_at h.sockets i ≡ Some (Tcp s) →
+    false ≡ is_room s.tx (length payload) → with_socket h i (Some (Tcp (tcps.socket_after_send segment payload s))) ≡ h
+tcp_full h i s segment payload here full =
+    ap (λ q. with_socket h i (Some (Tcp (record s { tx = q })))) (put_full s.tx segment payload full) ∙ host_same h i (Tcp s) here
 
 below : {A : Type 0} (xs : List (Option A)) (i : ℕ) → is_some (option_and_then (λ (p : Option A). p) (slice_get xs i)) ≡ true → i < length xs
 below [] i e = absurd (true≢false (sym e))

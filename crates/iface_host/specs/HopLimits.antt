@@ -9,20 +9,19 @@ use Rattle.iface_host.specs.declared.host.Host.{Host}
 use Rattle.iface_host.specs.declared.refusal.Refusal.{Refusal}
 use Rattle.iface_host.specs.declared.refusal.Refusal.TheVariants.{NoSocket}
 
--- the hop limit of the packets of a UDP or an ICMP socket: a raw one's packets have their own headers, and a TCP
--- socket is never opened
+-- the hop limit of a socket's packets: those of a raw one have their own headers
 abbrev pub hop_limit_of : Socket → Option ℕ
 hop_limit_of (Raw s) = None
 hop_limit_of (Icmp s) = Some s.hop_limit
 hop_limit_of (Udp s) = Some s.hop_limit
-hop_limit_of (Tcp s) = None
+hop_limit_of (Tcp s) = Some s.hop_limit
 
 -- the same socket with another one
 abbrev pub with_hop_limit : ℕ → Socket → Socket
 with_hop_limit n (Raw s) = Raw s
 with_hop_limit n (Icmp s) = Icmp (record s { hop_limit = n })
 with_hop_limit n (Udp s) = Udp (record s { hop_limit = n })
-with_hop_limit n (Tcp s) = Tcp s
+with_hop_limit n (Tcp s) = Tcp (record s { hop_limit = n })
 
 -- that of the socket that a number names, if it names one that has one
 abbrev pub hop_limit_at : Host → ℕ → Option ℕ

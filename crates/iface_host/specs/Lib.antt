@@ -11,6 +11,7 @@ pub mod HopLimits
 pub mod Queues
 pub mod Refusals
 pub mod TableRefusals
+pub mod Segments
 pub mod Counters
 pub mod Frames
 pub mod Waits

@@ -73,8 +73,8 @@ impl Host {
     /// A host with no address, no route and no socket, at the moment at which it begins. The first error that applies is
     /// returned: `NotUnicast` if its address on Ethernet isn't unicast; `BadMtu` if its longest packet has less than 576
     /// octets, or its longest frame more than 1,514; `BadTimeout` if fragments are to wait no time, or longer than a day;
-    /// `BadMoment` if it would begin below 0 or above 2^62; `NoMemory` if memory for its interface or for the places of its
-    /// sockets is refused.
+    /// `BadMoment` if it would begin below 0 or above 2^62; `NoMemory` if memory for its interface or for the places of
+    /// its sockets is refused.
     pub fn new(alloc: Global, settings: &Settings) -> Result<Host, Refusal>
         ensures made { IfOk result (λ host. IsFirst settings.now host) }
         ensures why { (e : Refusal) → settings_refusal settings.now ≡ Some e → IsErrOf result e }

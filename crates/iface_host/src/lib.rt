@@ -20,6 +20,7 @@ pub mod queues;
 pub mod refusal;
 pub mod round_device;
 pub mod routes;
+pub mod segments;
 pub mod waiting;
 
 pub use counters::{Counters, FrameCounts};

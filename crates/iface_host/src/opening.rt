@@ -106,7 +106,7 @@ impl Host {
     }
 
     /// The least number that names none. `TableFull` if no number is left, or no place for a socket.
-    fn unused_number(&self) -> Result<u32, Refusal>
+    pub(crate) fn unused_number(&self) -> Result<u32, Refusal>
         ensures why { result_err result ≡ opening_refusal self.now }
         ensures unused { IfOk result (λ n. first_unused self.now.names ≡ Some n) }
         ensures within { IfOk result (λ n. n < length self.now.names) }
@@ -125,7 +125,11 @@ impl Host {
     }
 
     /// Adds a socket, named by the least number that names none.
-    fn add<T: AnySocketOf<&'static ()>>(&mut self, number: u32, socket: T) -> Result<u32, Refusal>
+    pub(crate) fn add<T: AnySocketOf<&'static ()>>(
+        &mut self,
+        number: u32,
+        socket: T,
+    ) -> Result<u32, Refusal>
         requires unused { first_unused self.old.names ≡ Some number }
         requires within { number < length self.old.names }
         requires place { has_free self.old.sockets ≡ true }
@@ -144,7 +148,7 @@ impl Host {
 }
 
 /// Whether no host has this address, if it is one: a group's, or 255.255.255.255.
-fn is_no_hosts(address: &Option<IpAddress>) -> bool
+pub(crate) fn is_no_hosts(address: &Option<IpAddress>) -> bool
     ensures { result ≡ is_no_hosts address.now }
 {
     match address {

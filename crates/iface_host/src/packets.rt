@@ -247,8 +247,8 @@ impl Host {
     }
 }
 
-/// Writes the first packet that came to the front of a buffer, and returns what is kept with it, and its length. `Empty`
-/// if none came, `NoRoom` if it is longer than the buffer; then the buffer stays as it was.
+/// Writes the first packet that came to the front of a buffer, and returns what is kept with it, and its length.
+/// `Empty` if none came, `NoRoom` if it is longer than the buffer; then the buffer stays as it was.
 pub(crate) fn write_first<M: Copy>(
     first: Option<(&M, &[u8])>,
     out: &mut [u8],

@@ -12,7 +12,8 @@ returns-in-Some-clause-received c =
     received c.args.now c.in_ok-now.now same c.args.frame.now c.write_front-len.result c.args.out.now c.write_front-len.new.buffer c.args.self.now _ _
     (Some c.in-Some.reply.now) _
     (ap (option_map (λ b. b.now)) c.in-Some.is)
-    (c.write_front-len.ensures.len, c.write_front-len.ensures.front, c.write_front-len.ensures.rest) (rw c.deref_mut.ensures.value at c.receive_frame.follows.holds-at-none)
+    (c.write_front-len.ensures.len, c.write_front-len.ensures.front, c.write_front-len.ensures.rest)
+    (rw c.deref_mut.ensures.value at c.receive_frame.follows.holds-at-none)
     (c.args.self.now.changed || not c.is_empty.result) (ap (λ (b : Bool). c.args.self.now.changed || not b) c.is_empty.ensures)
     c.hand_over.new.self counted
 
