@@ -57,7 +57,7 @@ static void make(iface *host, uint8_t last, uint32_t frame_len) {
 static uint32_t udp_at(iface *host, uint16_t port, uint32_t packets, uint32_t octets) {
     struct iface_endpoint any = {.port = port};
     uint32_t socket = 0;
-    must("socket", iface_udp_open(host, &any, packets, octets, &socket));
+    must("socket", iface_udp_open(host, &any, &(struct iface_rooms)IFACE_ROOMS(packets, octets), &socket));
     return socket;
 }
 
@@ -239,7 +239,7 @@ static unsigned pings(unsigned at_a_time, unsigned seconds) {
     struct iface_address to = v4(2), from;
     size_t n;
     now += 10 * SECOND;
-    must("socket", iface_icmp_open_ident(&host, 42, 8, 32768, &socket));
+    must("socket", iface_icmp_open_ident(&host, 42, &(struct iface_rooms)IFACE_ROOMS(8, 32768), &socket));
     for (unsigned i = 0; i < seconds; i++, now += SECOND) {
         for (unsigned k = 0; k < at_a_time; k++) {
             memcpy(message, (uint8_t[]){8, 0, 0, 0, 0, 42, (uint8_t)i, (uint8_t)k}, 8);

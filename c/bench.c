@@ -81,7 +81,7 @@ int main(int argc, char **argv) {
     int64_t at;
     must("host", iface_new(&host, &config));
     must("address", iface_add_address(&host, &own, 24));
-    must("socket", iface_udp_open(&host, &local, 4, 8192, &socket));
+    must("socket", iface_udp_open(&host, &local, &(struct iface_rooms)IFACE_ROOMS(4, 8192), &socket));
     must("receive", iface_receive(&host, 0, frame, length, out, sizeof out, &n));
     must("next", iface_next(&host, 0, out, sizeof out, &n)); /* as any program asks, once before all */
     char work = argv[1][0]; /* arp, echo, deliver, back, send, poll_at */

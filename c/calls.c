@@ -1,6 +1,6 @@
 /* What calls that set and read a host do, by values of the RFCs: source addresses (RFC 6724, 10.1), the link-local
  * address of a hardware address (RFC 2464, 4), routes with an end, hop limits as they are sent, sockets at any address,
- * and what a host counts. */
+ * queues of two sizes, packets that are looked at, segments of TCP (RFC 9293, 3.1), and what a host counts. */
 #include "iface.h"
 
 #include <stdio.h>
@@ -9,6 +9,8 @@
 static int failures, checks;
 
 static uint8_t frame[IFACE_FRAME_ROOM], reply[IFACE_FRAME_ROOM], got[2048];
+
+static const struct iface_rooms rooms = IFACE_ROOMS(4, 1024);
 
 static void wants(const char *what, uint64_t is, uint64_t want) {
     checks++;
@@ -99,7 +101,7 @@ static int is_routed(iface *host, int64_t now) {
     struct iface_endpoint local = {IFACE_ANY, 7}, to = {v4(172, 16, 1, 1), 7};
     uint32_t socket;
     size_t n;
-    must("socket", iface_udp_open(host, &local, 1, 64, &socket));
+    must("socket", iface_udp_open(host, &local, &(struct iface_rooms)IFACE_ROOMS(1, 64), &socket));
     must("send", iface_udp_send(host, socket, &to, (const uint8_t *)"?", 1));
     must("next", iface_next(host, now, frame, sizeof frame, &n));
     must("close", iface_close(host, socket));
@@ -178,8 +180,8 @@ static void sends_to_any_address(void) {
     make(&a, IFACE_IP, 1), make(&b, IFACE_IP, 2);
     must("address", iface_add_address(&a, &a4, 24)), must("address", iface_add_address(&a, &a6, 64));
     must("address", iface_add_address(&b, &b4, 24)), must("address", iface_add_address(&b, &b6, 64));
-    must("socket", iface_udp_open(&a, &any[0], 4, 1024, &at_a));
-    for (int i = 0; i < 3; i++) must("socket", iface_udp_open(&b, &any[i], 4, 1024, &at_b[i]));
+    must("socket", iface_udp_open(&a, &any[0], &rooms, &at_a));
+    for (int i = 0; i < 3; i++) must("socket", iface_udp_open(&b, &any[i], &rooms, &at_b[i]));
     asks(&a, "at first", 0), asks(&b, "at first", 0);
     for (int i = 0; i < 3; i++) {
         struct iface_endpoint to4 = {b4, (uint16_t)(7 + i)}, to6 = {b6, (uint16_t)(7 + i)};
@@ -277,7 +279,7 @@ static void leaves_checksums_to_the_link(void) {
         config.medium = IFACE_IP, config.checksums.ipv4 = config.checksums.udp = how;
         must("host", iface_new(&host, &config));
         must("address", iface_add_address(&host, &own, 24));
-        must("socket", iface_udp_open(&host, &local, 4, 1024, &socket));
+        must("socket", iface_udp_open(&host, &local, &rooms, &socket));
         must("receive", iface_receive(&host, 2000, datagram, sizeof datagram, reply, sizeof reply, &n));
         wants("it came", iface_udp_receive(&host, socket, &from, got, sizeof got, &n), is_verified ? IFACE_EMPTY : IFACE_OK);
         from = (struct iface_endpoint){v4(192, 168, 69, 2), 9};
@@ -290,6 +292,160 @@ static void leaves_checksums_to_the_link(void) {
     }
 }
 
+/* Each queue holds what it is given, and the other one what that is given. */
+static void holds_two_sizes(void) {
+    static const struct iface_rooms two = {3, 500, 2, 40};
+    iface host = IFACE_NONE;
+    struct iface_endpoint local = {IFACE_ANY, 7}, any = {IFACE_ANY, 0}, to = {v4(192, 168, 69, 2), 9};
+    struct iface_queue received, to_send;
+    uint32_t socket[5];
+    make(&host, IFACE_IP, 1);
+    must("socket", iface_udp_open(&host, &local, &two, &socket[0]));
+    must("socket", iface_raw_open(&host, 4, 89, &two, &socket[1]));
+    must("socket", iface_icmp_open_ident(&host, 7, &two, &socket[2]));
+    must("socket", iface_icmp_open_port(&host, 7, &two, &socket[3]));
+    must("socket", iface_tcp_open(&host, &local, &any, &two, &socket[4]));
+    for (int i = 0; i < 5; i++) {
+        must("queues", iface_queues(&host, socket[i], &received, &to_send));
+        wants("for what comes", received.most_packets == 3 && received.most_octets == 500, 1);
+        wants("for what goes", to_send.most_packets == 2 && to_send.most_octets == 40, 1);
+    }
+    wants("41 octets", iface_udp_send(&host, socket[0], &to, frame, 41), IFACE_QUEUE_FULL);
+    must("40 octets", iface_udp_send(&host, socket[0], &to, frame, 40));
+    must("free", iface_free(&host));
+}
+
+/* Looks at an echo request that a raw socket and an ICMP socket got, as often as it likes, and then takes it. */
+static void looks_at_packets(void) {
+    static const uint8_t message[28] = {0x45, 0, 0, 28, 0, 1, 0, 0, 64, 1, 0x6f, 0x8c, 192, 168, 69, 2,
+                                        192, 168, 69, 1, 0, 0, 0xff, 0xd5, 0, 42, 0, 0};
+    iface host = IFACE_NONE;
+    struct iface_address own = v4(192, 168, 69, 1), from = {77, {0}}, peer = v4(192, 168, 69, 2);
+    uint32_t raw, icmp;
+    size_t n = 77;
+    make(&host, IFACE_IP, 1);
+    must("address", iface_add_address(&host, &own, 24));
+    must("socket", iface_raw_open(&host, 4, 1, &rooms, &raw));
+    must("socket", iface_icmp_open_ident(&host, 42, &rooms, &icmp));
+    wants("none", iface_icmp_peek(&host, icmp, &from, got, sizeof got, &n), IFACE_EMPTY);
+    must("an echo reply", iface_receive(&host, 2000, message, sizeof message, reply, sizeof reply, &n));
+    wants("too short for it", iface_icmp_peek(&host, icmp, &from, got, 7, &n), IFACE_NO_ROOM);
+    wants("too short for it", iface_raw_peek(&host, raw, got, 27, &n), IFACE_NO_ROOM);
+    wants("nothing written", n == 0 && from.version == 77, 1);
+    for (int i = 0; i < 2; i++) {
+        memset(got, 0, sizeof got);
+        must("look", iface_icmp_peek(&host, icmp, &from, got, 8, &n));
+        wants_address("from", &from, &peer);
+        wants("the message", n == 8 && memcmp(got, message + 20, 8) == 0, 1);
+        must("look", iface_raw_peek(&host, raw, got, sizeof got, &n));
+        wants("the packet", n == 28 && memcmp(got, message, 28) == 0, 1);
+    }
+    must("take", iface_icmp_receive(&host, icmp, &from, got, sizeof got, &n));
+    wants("taken", iface_icmp_peek(&host, icmp, &from, got, sizeof got, &n), IFACE_EMPTY);
+    must("take", iface_raw_receive(&host, raw, got, sizeof got, &n));
+    wants("taken", iface_raw_peek(&host, raw, got, sizeof got, &n), IFACE_EMPTY);
+    must("free", iface_free(&host));
+}
+
+/* What stands in the header of a segment in `frame`, behind 20 octets of IPv4 (RFC 9293, 3.1). */
+static void wants_header(const uint8_t ports[4], const uint8_t numbers[8], uint8_t flags, uint16_t window) {
+    wants("its ports", memcmp(frame + 20, ports, 4) == 0, 1);
+    wants("its numbers", memcmp(frame + 24, numbers, 8) == 0, 1);
+    wants("five words", frame[32] >> 4, 5);
+    wants("its flags", frame[33], flags);
+    wants("its window", (uint64_t)(frame[34] << 8 | frame[35]), window);
+}
+
+static void wants_segment(const struct iface_segment *is, const struct iface_segment *want) {
+    wants_address("its address", &is->remote.address, &want->remote.address);
+    wants("its port", is->remote.port, want->remote.port);
+    wants("its number", is->seq, want->seq);
+    wants("its acknowledgement", is->ack, want->ack);
+    wants("its window", is->window, want->window);
+    wants("its control", is->control, want->control);
+    wants("whether it acknowledges", is->has_ack, want->has_ack);
+}
+
+/* A hands out a SYN, B a SYN that acknowledges it; B holds back, and aborts, so that A's data is answered by a reset
+ * (RFC 9293, 3.5.2). */
+static void hands_segments_in_and_out(void) {
+    static const uint8_t to_b[4] = {0x04, 0, 0, 80}, to_a[4] = {0, 80, 0x04, 0};
+    iface a = IFACE_NONE, b = IFACE_NONE;
+    struct iface_address own_a = v4(192, 168, 69, 1), own_b = v4(192, 168, 69, 2);
+    struct iface_endpoint end_a = {IFACE_ANY, 1024}, end_b = {IFACE_ANY, 80}, any = {IFACE_ANY, 0};
+    struct iface_segment syn = {{own_b, 80}, 0x01020304, 0x05060708, 64240, IFACE_TCP_SYN, 0}, is;
+    uint32_t at_a, at_b;
+    uint8_t limit;
+    size_t n, m;
+    int64_t at;
+    make(&a, IFACE_IP, 1), make(&b, IFACE_IP, 2);
+    must("address", iface_add_address(&a, &own_a, 24)), must("address", iface_add_address(&b, &own_b, 24));
+    must("socket", iface_tcp_open(&a, &end_a, &syn.remote, &rooms, &at_a));
+    must("socket", iface_tcp_open(&b, &end_b, &any, &rooms, &at_b));
+    must("set hop limit", iface_set_hop_limit(&a, at_a, 9)), must("hop limit", iface_hop_limit(&a, at_a, &limit));
+    wants("as set", limit, 9);
+    must("send", iface_tcp_send(&a, at_a, &syn, frame, 0));
+    must("next", iface_next(&a, 2000, frame, sizeof frame, &n));
+    wants("a header alone", n, 40);
+    wants("its hop limit", frame[8], 9);
+    wants_header(to_b, (const uint8_t[]){1, 2, 3, 4, 0, 0, 0, 0}, 0x02, 64240);
+    must("receive", iface_receive(&b, 2000, frame, n, reply, sizeof reply, &m));
+    wants("no response", m, 0);
+    syn.remote = (struct iface_endpoint){own_a, 1024}, syn.ack = 0;
+    must("look", iface_tcp_peek(&b, at_b, &is, got, sizeof got, &n));
+    wants("no payload", n, 0), wants_segment(&is, &syn);
+    must("take", iface_tcp_receive(&b, at_b, &is, got, sizeof got, &n));
+    wants("no payload", n, 0), wants_segment(&is, &syn);
+    wants("taken", iface_tcp_peek(&b, at_b, &is, got, sizeof got, &n), IFACE_EMPTY);
+    syn = (struct iface_segment){is.remote, 0xfffffffe, is.seq + 1, 65535, IFACE_TCP_SYN, 77};
+    must("hold", iface_tcp_hold(&b, at_b, 5000000));
+    must("send", iface_tcp_send(&b, at_b, &syn, frame, 0));
+    must("next", iface_next(&b, 4999999, frame, sizeof frame, &n));
+    wants("held back", n, 0);
+    must("poll_at", iface_poll_at(&b, 4999999, &at));
+    wants("until then", (uint64_t)at, 5000000);
+    must("next", iface_next(&b, 5000000, frame, sizeof frame, &n));
+    wants_header(to_a, (const uint8_t[]){0xff, 0xff, 0xff, 0xfe, 1, 2, 3, 5}, 0x12, 65535);
+    must("receive", iface_receive(&a, 5000000, frame, n, reply, sizeof reply, &m));
+    must("take", iface_tcp_receive(&a, at_a, &is, got, sizeof got, &n));
+    syn.remote = (struct iface_endpoint){own_b, 80}, syn.has_ack = 1;
+    wants_segment(&is, &syn);
+    syn = (struct iface_segment){is.remote, is.ack, is.seq + 1, 1000, IFACE_TCP_PSH, 1};
+    must("send", iface_tcp_send(&a, at_a, &syn, (const uint8_t *)"hello", 5));
+    must("next", iface_next(&a, 5000000, frame, sizeof frame, &n));
+    wants_header(to_b, (const uint8_t[]){1, 2, 3, 5, 0xff, 0xff, 0xff, 0xff}, 0x18, 1000);
+    wants("its payload", n == 45 && memcmp(frame + 40, "hello", 5) == 0, 1);
+    must("abort", iface_tcp_abort(&b, at_b));
+    memcpy(reply, frame, n), must("receive", iface_receive(&b, 5000000, reply, n, frame, sizeof frame, &m));
+    wants("a reset", m, 40);
+    wants_header(to_a, (const uint8_t[]){0xff, 0xff, 0xff, 0xff, 0, 0, 0, 0}, 0x04, 0);
+    wants("not taken", iface_tcp_receive(&b, at_b, &is, got, sizeof got, &n), IFACE_EMPTY);
+    must("free", iface_free(&a)), must("free", iface_free(&b));
+}
+
+/* A link that takes two frames one after the other: a window of at most twice 1514 - 40 octets, as smoltcp's. */
+static void bounds_windows(void) {
+    iface host = IFACE_NONE;
+    struct iface_config config;
+    struct iface_address own = v4(192, 168, 69, 1);
+    struct iface_endpoint local = {IFACE_ANY, 1024}, any = {IFACE_ANY, 0};
+    struct iface_segment segment = {.remote = {v4(192, 168, 69, 2), 80}};
+    uint32_t socket;
+    size_t n;
+    iface_config_init(&config);
+    config.medium = IFACE_IP, config.burst = 2;
+    must("host", iface_new(&host, &config));
+    must("address", iface_add_address(&host, &own, 24));
+    must("socket", iface_tcp_open(&host, &local, &any, &rooms, &socket));
+    for (uint16_t window = 2947; window <= 2949; window++) {
+        segment.window = window;
+        must("send", iface_tcp_send(&host, socket, &segment, frame, 0));
+        must("next", iface_next(&host, 2000, frame, sizeof frame, &n));
+        wants_header((const uint8_t[]){4, 0, 0, 80}, (const uint8_t[8]){0}, 0, window < 2948 ? window : 2948);
+    }
+    must("free", iface_free(&host));
+}
+
 int main(void) {
     leaves_checksums_to_the_link();
     chooses_sources();
@@ -298,6 +454,10 @@ int main(void) {
     keeps_routes_until_their_end();
     sends_to_any_address();
     counts_responses();
+    holds_two_sizes();
+    looks_at_packets();
+    hands_segments_in_and_out();
+    bounds_windows();
     printf("calls: %d checks: %d wrong\n", checks, failures);
     return failures != 0;
 }

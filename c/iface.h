@@ -1,6 +1,6 @@
-/* A host on a network, for C: the interface layer with UDP, ICMP and raw sockets, over IPv4 and IPv6, on Ethernet
- * or without a header of the link. Frames are handed over by the program and asked for by it; the library opens no
- * device, starts no thread and reads no clock.
+/* A host on a network, for C: the interface layer with UDP, ICMP and raw sockets, and sockets for segments of TCP, over
+ * IPv4 and IPv6, on Ethernet or without a header of the link. Frames are handed over by the program and asked for by it;
+ * the library opens no device, starts no thread and reads no clock.
  *
  * Each call answers by a code: IFACE_OK, or why it was refused. A refused call changes nothing, of the host and of
  * what the pointers point to.
@@ -32,12 +32,12 @@ enum iface_code {
     IFACE_OK = 0,            /* the call is done */
     IFACE_NO_HOST = 1,       /* the handle owns no host */
     IFACE_HAS_HOST = 2,      /* iface_new: the handle owns a host already */
-    IFACE_BAD_ARGUMENT = 3,  /* a version of IP that is neither 4 nor 6, a prefix longer than the address, a medium, a hop
-                                limit of 0 */
+    IFACE_BAD_ARGUMENT = 3,  /* a version of IP that is neither 4 nor 6, a prefix longer than the address, a medium, a
+                                checksum, a control of a segment, a hop limit of 0 */
     IFACE_NO_MEMORY = 4,     /* malloc or realloc refused */
     IFACE_BAD_MTU = 5,       /* frame_len: not 590 to 1514 on Ethernet, 576 to 1514 without hardware addresses */
     IFACE_NOT_UNICAST = 6,   /* a hardware address or an own address that can't be one */
-    IFACE_BAD_MOMENT = 7,    /* a moment below 0 or above 2^62, that of a host's start and of a route's end too */
+    IFACE_BAD_MOMENT = 7,    /* a moment below 0 or above 2^62, that of a host's start, a route's end and a hold too */
     IFACE_BAD_ADDRESS = 8,   /* a destination that is unspecified, a group that is none, a socket's own that is no host's */
     IFACE_NOT_THERE = 9,     /* no such address or route, no own address; the medium has no hardware addresses */
     IFACE_TABLE_FULL = 10,   /* four addresses, four routes or eight groups are there, or all sockets are open; a list of
@@ -55,7 +55,7 @@ enum iface_code {
 /* The version of this header, an octet each: 0.14.0, and the header's number, which grows with each change of a call or
  * a structure. iface_new refuses a library of another one; a program that compares it with iface_version() before its
  * first call learns of that earlier. */
-#define IFACE_VERSION 0x000e0002u
+#define IFACE_VERSION 0x000e0003u
 
 /* The room that iface_receive and iface_next need for a frame, in octets. */
 #define IFACE_FRAME_ROOM 1514
@@ -94,6 +94,17 @@ struct iface_cidr {
     uint8_t prefix_len; /* how many bits of it are the network's */
 };
 
+/* How much the two queues of a socket hold: so many packets, with so many octets together. */
+struct iface_rooms {
+    uint32_t received_packets; /* of the queue for what comes */
+    uint32_t received_octets;
+    uint32_t to_send_packets; /* of the queue for what goes */
+    uint32_t to_send_octets;
+};
+
+/* The same for both queues: struct iface_rooms rooms = IFACE_ROOMS(4, 2048); */
+#define IFACE_ROOMS(packets, octets) {(packets), (octets), (packets), (octets)}
+
 /* What waits in a queue of a socket, and what it holds at most. */
 struct iface_queue {
     uint32_t packets;      /* how many wait */
@@ -102,6 +113,19 @@ struct iface_queue {
     uint32_t most_octets;  /* how many they have together at most */
     uint32_t first;        /* how many octets the first packet has, 0 where none waits */
 };
+
+/* A segment of TCP without its payload (RFC 9293, 3.1). */
+struct iface_segment {
+    struct iface_endpoint remote; /* where it came from, or goes to */
+    uint32_t seq;                 /* its sequence number */
+    uint32_t ack;                 /* its acknowledgement number, if it has one */
+    uint16_t window;              /* its window as in the header, not scaled */
+    uint8_t control;              /* enum iface_control */
+    uint8_t has_ack;              /* not 0: it has an acknowledgement number */
+};
+
+/* What a segment does to its connection: the one flag of these that is set, if one is. */
+enum iface_control { IFACE_TCP_DATA = 0, IFACE_TCP_PSH = 1, IFACE_TCP_SYN = 2, IFACE_TCP_FIN = 3, IFACE_TCP_RST = 4 };
 
 /* In which directions a host computes checksums, by protocol; the link does the others. */
 struct iface_checksums {
@@ -124,6 +148,8 @@ struct iface_config {
     uint32_t frame_len;          /* the longest frame of the link in octets, with a header of Ethernet and without its
                                     checksum: 1514 on usual Ethernet */
     uint32_t sockets;            /* how many may be open at once; memory for their places is taken at once */
+    uint32_t burst;              /* how many frames the link takes one after the other: the window in a segment of TCP is at
+                                    most what so many carry; 0 sets no bound */
     uint8_t hardware_address[6]; /* on Ethernet; else it isn't read */
     uint8_t medium;              /* IFACE_ETHERNET or IFACE_IP */
     uint8_t slaac;               /* not 0: it takes IPv6 addresses and routes from routers (RFC 4862) */
@@ -267,34 +293,41 @@ uint32_t iface_neighbor_at(iface *host, uint32_t place, struct iface_address *ad
 
 /* ---- sockets ---- */
 
-/* Each of these opens a socket with a queue for what comes and one for what goes, each of which holds so many packets,
- * with so many octets together (it takes room for twice as many), and writes the number that names it: the least that
- * names none. What comes to a full queue is dropped. BAD_ARGUMENT (a version), TABLE_FULL, NO_MEMORY. */
+/* Each of these opens a socket with a queue for what comes and one for what goes, which hold what `rooms` says (memory
+ * for twice as many octets is taken), and writes the number that names it: the least that names none. What comes to a
+ * full queue is dropped. BAD_ARGUMENT (a version), TABLE_FULL, NO_MEMORY. */
 
 /* UDP (RFC 768) at a port of one address. At a port of any, of both versions, if the version of `local` is 0 as in
  * IFACE_ANY, or its address 0.0.0.0 or ::. Datagrams to groups and broadcast addresses come to each.
  * BAD_PORT, BAD_ADDRESS (a group's, or 255.255.255.255). */
-uint32_t iface_udp_open(iface *host, const struct iface_endpoint *local, uint32_t packets, uint32_t octets,
+uint32_t iface_udp_open(iface *host, const struct iface_endpoint *local, const struct iface_rooms *rooms,
                         uint32_t *socket);
 
 /* Whole packets of a version of IP and a protocol. */
-uint32_t iface_raw_open(iface *host, uint8_t version, uint8_t protocol, uint32_t packets, uint32_t octets,
+uint32_t iface_raw_open(iface *host, uint8_t version, uint8_t protocol, const struct iface_rooms *rooms,
                         uint32_t *socket);
 
 /* Echo messages of either ICMP with an identifier (RFC 792, RFC 4443). */
-uint32_t iface_icmp_open_ident(iface *host, uint16_t ident, uint32_t packets, uint32_t octets, uint32_t *socket);
+uint32_t iface_icmp_open_ident(iface *host, uint16_t ident, const struct iface_rooms *rooms, uint32_t *socket);
 
 /* Port unreachables of either ICMP for datagrams of UDP from this port of the host. */
-uint32_t iface_icmp_open_port(iface *host, uint16_t port, uint32_t packets, uint32_t octets, uint32_t *socket);
+uint32_t iface_icmp_open_port(iface *host, uint16_t port, const struct iface_rooms *rooms, uint32_t *socket);
+
+/* Segments of TCP (RFC 9293) at a port of one address, or of any, as for UDP; from one end alone, or from each one if the
+ * version of `remote` is 0 as in IFACE_ANY. The library hands segments in and out, and keeps no connection: it computes
+ * and verifies checksums, and answers by a reset what no socket takes. BAD_PORT (also the remote one), BAD_ADDRESS (also
+ * an unspecified remote one). */
+uint32_t iface_tcp_open(iface *host, const struct iface_endpoint *local, const struct iface_endpoint *remote,
+                        const struct iface_rooms *rooms, uint32_t *socket);
 
 /* Closes a socket of whatever kind: what waits in it is dropped. NO_SOCKET. */
 uint32_t iface_close(iface *host, uint32_t socket);
 
-/* Sets the hop limit of the packets that a UDP or an ICMP socket sends from now on, those that wait among them: 64 at
- * first. BAD_ARGUMENT (0), NO_SOCKET (also for a raw one, whose packets have their own headers). */
+/* Sets the hop limit of the packets that a socket sends from now on, those that wait among them: 64 at first.
+ * BAD_ARGUMENT (0), NO_SOCKET (also for a raw one, whose packets have their own headers). */
 uint32_t iface_set_hop_limit(iface *host, uint32_t socket, uint8_t hop_limit);
 
-/* Writes the hop limit of the packets that a UDP or an ICMP socket sends. NO_SOCKET, as above. */
+/* Writes the hop limit of the packets that a socket sends. NO_SOCKET, as above. */
 uint32_t iface_hop_limit(iface *host, uint32_t socket, uint8_t *hop_limit);
 
 /* Writes what waits in the two queues of a socket of whatever kind: what was received, and what is to be sent.
@@ -318,6 +351,19 @@ uint32_t iface_icmp_send(iface *host, uint32_t socket, const struct iface_addres
  * later. */
 uint32_t iface_raw_send(iface *host, uint32_t socket, const uint8_t *packet, size_t packet_len);
 
+/* A segment from the socket's port, with its payload: over IPv4 of at most 4096 octets with its headers (40), over IPv6
+ * of at most one packet of the link with its headers (60).
+ * BAD_ARGUMENT (a control that is none), BAD_PORT, BAD_ADDRESS (unspecified), TOO_LONG. */
+uint32_t iface_tcp_send(iface *host, uint32_t socket, const struct iface_segment *segment, const uint8_t *payload,
+                        size_t payload_len);
+
+/* A TCP socket sends nothing before this moment: 0 at first. BAD_MOMENT, NO_SOCKET. */
+uint32_t iface_tcp_hold(iface *host, uint32_t socket, int64_t until);
+
+/* From now on a TCP socket gets no segment: each that it would have got is answered by a reset, unless it is one. What
+ * waits in its queues stays. NO_SOCKET. */
+uint32_t iface_tcp_abort(iface *host, uint32_t socket);
+
 /* Each of these takes the first packet that came, and writes it, how long it is and where it came from.
  * NO_SOCKET, EMPTY, NO_ROOM: then it stays. Room for the octets that the socket's queue holds is always enough. */
 
@@ -330,6 +376,20 @@ uint32_t iface_icmp_receive(iface *host, uint32_t socket, struct iface_address *
 
 /* A packet with its header. */
 uint32_t iface_raw_receive(iface *host, uint32_t socket, uint8_t *out, size_t room, size_t *length);
+
+/* A segment, and its payload. */
+uint32_t iface_tcp_receive(iface *host, uint32_t socket, struct iface_segment *segment, uint8_t *out, size_t room,
+                           size_t *length);
+
+/* Each of these writes what the call above with `receive` in its name does, and leaves the packet there: nothing of the
+ * host changes. NO_SOCKET, EMPTY, NO_ROOM. */
+uint32_t iface_udp_peek(iface *host, uint32_t socket, struct iface_endpoint *remote, uint8_t *out, size_t room,
+                        size_t *length);
+uint32_t iface_icmp_peek(iface *host, uint32_t socket, struct iface_address *remote, uint8_t *out, size_t room,
+                         size_t *length);
+uint32_t iface_raw_peek(iface *host, uint32_t socket, uint8_t *out, size_t room, size_t *length);
+uint32_t iface_tcp_peek(iface *host, uint32_t socket, struct iface_segment *segment, uint8_t *out, size_t room,
+                        size_t *length);
 
 /* ---- packets that wait for a neighbour ----
  *
@@ -395,9 +455,10 @@ const char *iface_strerror(uint32_t code);
 
 #if defined(__STDC_VERSION__) && __STDC_VERSION__ >= 201112L
 _Static_assert(sizeof(struct iface_address) == 17 && sizeof(struct iface_endpoint) == 20, "as the library lays them out");
-_Static_assert(sizeof(struct iface_config) == 56 && sizeof(iface) == 16, "as the library lays them out");
+_Static_assert(sizeof(struct iface_config) == 64 && sizeof(iface) == 16, "as the library lays them out");
 _Static_assert(sizeof(struct iface_cidr) == 18 && sizeof(struct iface_counts) == 32, "as the library lays them out");
 _Static_assert(sizeof(struct iface_queue) == 20 && sizeof(struct iface_checksums) == 5, "as the library lays them out");
+_Static_assert(sizeof(struct iface_rooms) == 16 && sizeof(struct iface_segment) == 32, "as the library lays them out");
 #endif
 
 #endif

@@ -31,11 +31,14 @@ static uint64_t word(uint64_t *state) { /* xorshift */
 
 static uint8_t big[70000], out[IFACE_FRAME_ROOM];
 
+static const struct iface_rooms large = IFACE_ROOMS(64, 65536), small = IFACE_ROOMS(2, 256);
+
 static struct iface_config good;
 
 static void fill_in_good(void) {
     iface_config_init(&good);
     wants("usual frames", good.frame_len == 1514 && good.medium == IFACE_ETHERNET && good.sockets == 8 && good.slaac == 0, 1);
+    wants("no bound of bursts", good.burst, 0);
     wants("usual patience", good.patience, 3000000);
     wants("usual timeout", good.reassembly_timeout, 10000000);
     wants("usual start", (uint64_t)good.start, 0);
@@ -84,6 +87,7 @@ static void refuses_without_host(void) {
     struct iface_cidr own = {a, 8};
     struct iface_counts counters = {.no_memory = 77};
     struct iface_queue received = {.first = 77}, to_send = {.first = 78};
+    struct iface_segment segment = {.remote = e, .seq = 77};
     wants("address", iface_add_address(&host, &a, 8), IFACE_NO_HOST);
     wants("all addresses", iface_set_addresses(&host, &own, 1), IFACE_NO_HOST);
     wants("route", iface_add_route_until(&host, &a, 8, &a, 9), IFACE_NO_HOST);
@@ -98,9 +102,18 @@ static void refuses_without_host(void) {
     wants("nothing written", counters.no_memory == 77 && b.octets[3] == 9 && received.first == 77 && to_send.first == 78, 1);
     wants("address at", iface_address_at(&host, 0, &a, &prefix), IFACE_NO_HOST);
     wants("route", iface_set_default_route(&host, &a), IFACE_NO_HOST);
-    wants("udp", iface_udp_open(&host, &e, 1, 1, &socket), IFACE_NO_HOST);
+    wants("udp", iface_udp_open(&host, &e, &small, &socket), IFACE_NO_HOST);
     wants("send", iface_udp_send(&host, 0, &e, big, 1), IFACE_NO_HOST);
     wants("receive", iface_udp_receive(&host, 0, &e, big, 1, &n), IFACE_NO_HOST);
+    wants("peek", iface_udp_peek(&host, 0, &e, big, 1, &n), IFACE_NO_HOST);
+    wants("peek", iface_icmp_peek(&host, 0, &b, big, 1, &n), IFACE_NO_HOST);
+    wants("peek", iface_raw_peek(&host, 0, big, 1, &n), IFACE_NO_HOST);
+    wants("segments", iface_tcp_open(&host, &e, &e, &small, &socket), IFACE_NO_HOST);
+    wants("send", iface_tcp_send(&host, 0, &segment, big, 1), IFACE_NO_HOST);
+    wants("receive", iface_tcp_receive(&host, 0, &segment, big, 1, &n), IFACE_NO_HOST);
+    wants("peek", iface_tcp_peek(&host, 0, &segment, big, 1, &n), IFACE_NO_HOST);
+    wants("hold", iface_tcp_hold(&host, 0, 1), IFACE_NO_HOST);
+    wants("abort", iface_tcp_abort(&host, 0), IFACE_NO_HOST);
     wants("frame", iface_receive(&host, 0, big, 60, out, sizeof out, &n), IFACE_NO_HOST);
     wants("next", iface_next(&host, 0, out, sizeof out, &n), IFACE_NO_HOST);
     wants("poll_at", iface_poll_at(&host, 0, &at), IFACE_NO_HOST);
@@ -116,7 +129,7 @@ static void refuses_without_host(void) {
     wants("any address", iface_any_ip(&host, &flag), IFACE_NO_HOST);
     wants("routers", iface_slaac_updated_at(&host, &at), IFACE_NO_HOST);
     wants("what was not written", socket == 77 && n == 77 && at == 77 && count == 77, 1);
-    wants("nor that", flag == 77 && hardware[5] == 9, 1);
+    wants("nor that", flag == 77 && hardware[5] == 9 && segment.seq == 77 && e.port == 9, 1);
 }
 
 static void refuses_addresses(iface *host) {
@@ -252,21 +265,21 @@ static void refuses_sockets(iface *host) {
     size_t n = 77;
     struct iface_endpoint to = {v4(192, 168, 69, 100), 9}, any = {{0, {0}}, 6969}, from;
     struct iface_address a = v4(192, 168, 69, 100);
-    any.port = 0, wants("port 0", iface_udp_open(host, &any, 64, 65536, &socket), IFACE_BAD_PORT);
-    any.address.version = 7, wants("version 7", iface_udp_open(host, &any, 64, 65536, &socket), IFACE_BAD_ARGUMENT);
+    any.port = 0, wants("port 0", iface_udp_open(host, &any, &large, &socket), IFACE_BAD_PORT);
+    any.address.version = 7, wants("version 7", iface_udp_open(host, &any, &large, &socket), IFACE_BAD_ARGUMENT);
     any = (struct iface_endpoint){v4(255, 255, 255, 255), 6969};
-    wants("at 255.255.255.255", iface_udp_open(host, &any, 64, 65536, &socket), IFACE_BAD_ADDRESS);
-    any.address = v4(239, 1, 1, 1), wants("at a group", iface_udp_open(host, &any, 64, 65536, &socket), IFACE_BAD_ADDRESS);
-    any.address = v6(0xff, 2, 1), wants("at a group", iface_udp_open(host, &any, 64, 65536, &socket), IFACE_BAD_ADDRESS);
-    any.port = 0, wants("port 0 first", iface_udp_open(host, &any, 64, 65536, &socket), IFACE_BAD_PORT);
-    wants("version 5", iface_raw_open(host, 5, 89, 1, 1, &socket), IFACE_BAD_ARGUMENT);
+    wants("at 255.255.255.255", iface_udp_open(host, &any, &large, &socket), IFACE_BAD_ADDRESS);
+    any.address = v4(239, 1, 1, 1), wants("at a group", iface_udp_open(host, &any, &large, &socket), IFACE_BAD_ADDRESS);
+    any.address = v6(0xff, 2, 1), wants("at a group", iface_udp_open(host, &any, &large, &socket), IFACE_BAD_ADDRESS);
+    any.port = 0, wants("port 0 first", iface_udp_open(host, &any, &large, &socket), IFACE_BAD_PORT);
+    wants("version 5", iface_raw_open(host, 5, 89, &small, &socket), IFACE_BAD_ARGUMENT);
     wants("nothing written", socket, 77);
     wants("unopened socket", iface_udp_send(host, 0, &to, big, 1), IFACE_NO_SOCKET);
     wants("unopened socket", iface_udp_receive(host, 0xffffffff, &from, big, sizeof big, &n), IFACE_NO_SOCKET);
     wants("unopened socket", iface_close(host, 8), IFACE_NO_SOCKET);
-    any = (struct iface_endpoint){{0, {0}}, 6969}, wants("socket", iface_udp_open(host, &any, 64, 65536, &socket), IFACE_OK);
+    any = (struct iface_endpoint){{0, {0}}, 6969}, wants("socket", iface_udp_open(host, &any, &large, &socket), IFACE_OK);
     wants("its number", socket, 0);
-    wants("raw", iface_raw_open(host, 4, 89, 4, 4096, &other), IFACE_OK);
+    wants("raw", iface_raw_open(host, 4, 89, &small, &other), IFACE_OK);
     wants("its number", other, 1);
     wants("another kind", iface_raw_send(host, socket, big, 20), IFACE_NO_SOCKET);
     uint8_t limit = 77;
@@ -283,6 +296,12 @@ static void refuses_sockets(iface *host) {
     wants("at first", limit, 64);
     wants("another kind", iface_icmp_send(host, other, &a, big, 20), IFACE_NO_SOCKET);
     wants("empty", iface_udp_receive(host, socket, &from, big, sizeof big, &n), IFACE_EMPTY);
+    wants("empty", iface_udp_peek(host, socket, &from, big, sizeof big, &n), IFACE_EMPTY);
+    wants("empty", iface_raw_peek(host, other, big, sizeof big, &n), IFACE_EMPTY);
+    wants("another kind", iface_raw_peek(host, socket, big, sizeof big, &n), IFACE_NO_SOCKET);
+    wants("another kind", iface_icmp_peek(host, socket, &a, big, sizeof big, &n), IFACE_NO_SOCKET);
+    wants("another kind", iface_tcp_abort(host, socket), IFACE_NO_SOCKET);
+    wants("another kind", iface_tcp_hold(host, other, 0), IFACE_NO_SOCKET);
     wants("nothing written", n, 77);
     to.port = 0, wants("to port 0", iface_udp_send(host, socket, &to, big, 1), IFACE_BAD_PORT);
     to = (struct iface_endpoint){v4(0, 0, 0, 0), 9}, wants("to 0.0.0.0", iface_udp_send(host, socket, &to, big, 1), IFACE_BAD_ADDRESS);
@@ -304,11 +323,11 @@ static void refuses_sockets(iface *host) {
     wants("at most", received.most_packets == 64 && to_send.most_packets == 64, 1);
     wants("at most", received.most_octets == 65536 && to_send.most_octets == 65536, 1);
     wants("the first", received.first == 0 && to_send.first == 1452, 1);
-    for (uint32_t i = 2; i < 8; i++) wants("icmp", iface_icmp_open_ident(host, (uint16_t)i, 2, 256, &other), IFACE_OK);
-    wants("ninth socket", iface_icmp_open_port(host, 6969, 2, 256, &other), IFACE_TABLE_FULL);
+    for (uint32_t i = 2; i < 8; i++) wants("icmp", iface_icmp_open_ident(host, (uint16_t)i, &small, &other), IFACE_OK);
+    wants("ninth socket", iface_icmp_open_port(host, 6969, &small, &other), IFACE_TABLE_FULL);
     wants("close", iface_close(host, 5), IFACE_OK);
     wants("close again", iface_close(host, 5), IFACE_NO_SOCKET);
-    wants("open", iface_icmp_open_port(host, 6969, 2, 256, &other), IFACE_OK);
+    wants("open", iface_icmp_open_port(host, 6969, &small, &other), IFACE_OK);
     wants("the least number", other, 5);
     int64_t since = 77;
     uint64_t count = 77;
@@ -319,6 +338,54 @@ static void refuses_sockets(iface *host) {
     wants("nothing written", (uint64_t)since, 77);
     wants("given up, of all", iface_given_up_count(host, &count), IFACE_OK);
     wants("their number", count, 0);
+}
+
+static void refuses_segments(void) {
+    iface host = IFACE_NONE;
+    uint32_t socket = 77, other = 77;
+    size_t n = 77;
+    struct iface_endpoint local = {IFACE_ANY, 80}, any = {IFACE_ANY, 0}, peer = {v4(192, 168, 69, 2), 9};
+    struct iface_segment segment = {.remote = peer, .control = IFACE_TCP_SYN}, got = {.seq = 77};
+    wants("host", iface_new(&host, &good), IFACE_OK);
+    local.port = 0, wants("port 0", iface_tcp_open(&host, &local, &any, &small, &socket), IFACE_BAD_PORT);
+    local.port = 80, peer.port = 0, wants("from port 0", iface_tcp_open(&host, &local, &peer, &small, &socket), IFACE_BAD_PORT);
+    peer = (struct iface_endpoint){v4(0, 0, 0, 0), 9};
+    wants("from 0.0.0.0", iface_tcp_open(&host, &local, &peer, &small, &socket), IFACE_BAD_ADDRESS);
+    peer.address = v6(0, 0, 0), wants("from ::", iface_tcp_open(&host, &local, &peer, &small, &socket), IFACE_BAD_ADDRESS);
+    peer.address.version = 5, wants("version 5", iface_tcp_open(&host, &local, &peer, &small, &socket), IFACE_BAD_ARGUMENT);
+    peer.address = v4(192, 168, 69, 2), local.address = v4(239, 1, 1, 1);
+    wants("at a group", iface_tcp_open(&host, &local, &peer, &small, &socket), IFACE_BAD_ADDRESS);
+    local.address.version = 7, wants("version 7", iface_tcp_open(&host, &local, &peer, &small, &socket), IFACE_BAD_ARGUMENT);
+    wants("nothing written", socket, 77);
+    local.address.version = 0, wants("segments", iface_tcp_open(&host, &local, &peer, &small, &socket), IFACE_OK);
+    wants("its number", socket, 0);
+    wants("another kind", iface_udp_open(&host, &local, &small, &other), IFACE_OK);
+    wants("no segments", iface_tcp_send(&host, other, &segment, big, 0), IFACE_NO_SOCKET);
+    wants("no segments", iface_tcp_receive(&host, other, &got, big, sizeof big, &n), IFACE_NO_SOCKET);
+    wants("no segments", iface_tcp_peek(&host, other, &got, big, sizeof big, &n), IFACE_NO_SOCKET);
+    wants("no datagrams", iface_udp_send(&host, socket, &peer, big, 0), IFACE_NO_SOCKET);
+    wants("unopened socket", iface_tcp_abort(&host, 7), IFACE_NO_SOCKET);
+    wants("unopened socket", iface_tcp_hold(&host, 0xffffffff, 0), IFACE_NO_SOCKET);
+    wants("hold until -1", iface_tcp_hold(&host, socket, -1), IFACE_BAD_MOMENT);
+    wants("hold until 2^62+1", iface_tcp_hold(&host, 7, IFACE_LAST_MOMENT + 1), IFACE_BAD_MOMENT);
+    segment.control = 5, wants("control 5", iface_tcp_send(&host, socket, &segment, big, 0), IFACE_BAD_ARGUMENT);
+    segment.control = 255, wants("control 255", iface_tcp_send(&host, socket, &segment, big, 0), IFACE_BAD_ARGUMENT);
+    segment.control = 0, segment.remote.address.version = 0;
+    wants("to version 0", iface_tcp_send(&host, socket, &segment, big, 0), IFACE_BAD_ARGUMENT);
+    segment.remote.address = v4(0, 0, 0, 0), wants("to 0.0.0.0", iface_tcp_send(&host, socket, &segment, big, 0), IFACE_BAD_ADDRESS);
+    segment.remote.port = 0, wants("to port 0", iface_tcp_send(&host, socket, &segment, big, 0), IFACE_BAD_PORT);
+    segment.remote = peer, wants("4057 octets", iface_tcp_send(&host, socket, &segment, big, 4057), IFACE_TOO_LONG);
+    wants("257 octets", iface_tcp_send(&host, socket, &segment, big, 257), IFACE_QUEUE_FULL);
+    segment.remote.address = v6(0xfe, 0x80, 2);
+    wants("1441 octets", iface_tcp_send(&host, socket, &segment, big, 1441), IFACE_TOO_LONG);
+    wants("1440 octets", iface_tcp_send(&host, socket, &segment, big, 1440), IFACE_QUEUE_FULL);
+    wants("empty", iface_tcp_receive(&host, socket, &got, big, sizeof big, &n), IFACE_EMPTY);
+    wants("empty", iface_tcp_peek(&host, socket, &got, big, sizeof big, &n), IFACE_EMPTY);
+    wants("nothing written", n == 77 && got.seq == 77, 1);
+    wants("256 octets", iface_tcp_send(&host, socket, &segment, big, 256), IFACE_OK);
+    wants("no octets", iface_tcp_send(&host, socket, &segment, big, 0), IFACE_OK);
+    wants("full queue", iface_tcp_send(&host, socket, &segment, big, 0), IFACE_QUEUE_FULL);
+    wants("free", iface_free(&host), IFACE_OK);
 }
 
 static void refuses_frames(iface *host) {
@@ -401,6 +468,7 @@ int main(int argc, char **argv) {
     refuses_properties(&host);
     refuses_hardware_addresses();
     refuses_sockets(&host);
+    refuses_segments();
     refuses_frames(&host);
     takes_noise(&host, frames);
     wants("free", iface_free(&host), IFACE_OK);

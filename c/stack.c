@@ -97,7 +97,10 @@ static struct iface_address address, other;
 static struct iface_endpoint end;
 static uint8_t frame[IFACE_FRAME_ROOM], out[65536], payload[4096], prefix_len, protocol, flag, hardware[6];
 static uint16_t ident;
-static uint32_t code, number, socket_number, packets = 8, octets = 32768;
+static uint32_t code, number, socket_number;
+static const struct iface_rooms rooms = IFACE_ROOMS(8, 32768);
+static const struct iface_endpoint any = {IFACE_ANY, 0};
+static struct iface_segment segment;
 static uint64_t count;
 static struct iface_counts counters;
 static struct iface_cidr list[4];
@@ -131,10 +134,11 @@ static size_t length, given, list_length;
     each(route_at, iface_route_at(&host, number, &address, &prefix_len, &other, &at)) \
     each(source_for, iface_source_for(&host, &address, &other)) \
     each(neighbor_at, iface_neighbor_at(&host, number, &other, hardware, &at)) \
-    each(udp_open, iface_udp_open(&host, &end, packets, octets, &socket_number)) \
-    each(raw_open, iface_raw_open(&host, 4, protocol, packets, octets, &socket_number)) \
-    each(icmp_open_ident, iface_icmp_open_ident(&host, ident, packets, octets, &socket_number)) \
-    each(icmp_open_port, iface_icmp_open_port(&host, end.port, packets, octets, &socket_number)) \
+    each(udp_open, iface_udp_open(&host, &end, &rooms, &socket_number)) \
+    each(raw_open, iface_raw_open(&host, 4, protocol, &rooms, &socket_number)) \
+    each(icmp_open_ident, iface_icmp_open_ident(&host, ident, &rooms, &socket_number)) \
+    each(icmp_open_port, iface_icmp_open_port(&host, end.port, &rooms, &socket_number)) \
+    each(tcp_open, iface_tcp_open(&host, &end, &any, &rooms, &socket_number)) \
     each(close, iface_close(&host, socket_number)) \
     each(set_hop_limit, iface_set_hop_limit(&host, socket_number, flag)) \
     each(hop_limit, iface_hop_limit(&host, socket_number, &flag)) \
@@ -142,9 +146,17 @@ static size_t length, given, list_length;
     each(udp_send, iface_udp_send(&host, socket_number, &end, payload, given)) \
     each(icmp_send, iface_icmp_send(&host, socket_number, &address, payload, given)) \
     each(raw_send, iface_raw_send(&host, socket_number, payload, given)) \
+    each(tcp_send, iface_tcp_send(&host, socket_number, &segment, payload, given)) \
+    each(tcp_hold, iface_tcp_hold(&host, socket_number, now)) \
+    each(tcp_abort, iface_tcp_abort(&host, socket_number)) \
     each(udp_receive, iface_udp_receive(&host, socket_number, &end, out, sizeof out, &length)) \
     each(icmp_receive, iface_icmp_receive(&host, socket_number, &address, out, sizeof out, &length)) \
     each(raw_receive, iface_raw_receive(&host, socket_number, out, sizeof out, &length)) \
+    each(tcp_receive, iface_tcp_receive(&host, socket_number, &segment, out, sizeof out, &length)) \
+    each(udp_peek, iface_udp_peek(&host, socket_number, &end, out, sizeof out, &length)) \
+    each(icmp_peek, iface_icmp_peek(&host, socket_number, &address, out, sizeof out, &length)) \
+    each(raw_peek, iface_raw_peek(&host, socket_number, out, sizeof out, &length)) \
+    each(tcp_peek, iface_tcp_peek(&host, socket_number, &segment, out, sizeof out, &length)) \
     each(waiting, iface_waiting(&host, socket_number, &address, &at)) \
     each(given_up, iface_given_up(&host, socket_number, &address)) \
     each(given_up_count, iface_given_up_count(&host, &count)) \
@@ -345,8 +357,9 @@ static void set_up(uint8_t medium) {
     protocol = 253, MUST(raw_open);                        /* 1 */
     ident = 42, MUST(icmp_open_ident);                     /* 2 */
     end.port = 7, MUST(icmp_open_port);                    /* 3 */
-    end.port = 99, MUST(udp_open), MUST(close);            /* 4 */
-    for (socket_number = 0; socket_number < 4; socket_number += 2) MUST(hop_limit), MUST(set_hop_limit);
+    end.port = 80, MUST(tcp_open);                         /* 4 */
+    end.port = 99, MUST(udp_open), MUST(close);            /* 5 */
+    for (socket_number = 0; socket_number <= 4; socket_number += 2) MUST(hop_limit), MUST(set_hop_limit);
 }
 
 /* What a socket can be asked and given, and rounds until nothing is sent. */
@@ -355,11 +368,13 @@ static void turn(void) {
     static uint32_t turns;
     const struct iface_address ends[] = {v4(192, 168, 69, 2), v6(0xfe, 0x80, 2), v4(172, 16, 1, 1),
                                          v4(192, 168, 69, 77)};
-    while (socket_number = 0, MAKE(udp_receive) == IFACE_OK) given = length, MAKE(udp_send);
-    while (socket_number = 1, MAKE(raw_receive) == IFACE_OK)
+    while (socket_number = 0, MAKE(udp_peek), MAKE(udp_receive) == IFACE_OK) given = length, MAKE(udp_send);
+    while (socket_number = 1, MAKE(raw_peek), MAKE(raw_receive) == IFACE_OK)
         given = length, memcpy(payload, out, length), MAKE(raw_send);
-    while (socket_number = 2, MAKE(icmp_receive) == IFACE_OK) given = length, MAKE(icmp_send);
+    while (socket_number = 2, MAKE(icmp_peek), MAKE(icmp_receive) == IFACE_OK) given = length, MAKE(icmp_send);
     while (socket_number = 3, MAKE(icmp_receive) == IFACE_OK) {}
+    while (socket_number = 4, MAKE(tcp_peek), MAKE(tcp_receive) == IFACE_OK)
+        given = 64, segment.ack = segment.seq + 1, segment.has_ack = 1, MAKE(tcp_hold), MAKE(tcp_send);
     end = (struct iface_endpoint){ends[word() % 4], 9};
     given = lengths[word() % (end.address.version == 4 ? 4 : 3)], socket_number = 0, MAKE(udp_send);
     address = ends[word() % 2], given = 64, socket_number = 2;
@@ -383,6 +398,7 @@ int main(void) {
             MUST(receive);
             turn();
             now += word() % 32 ? 1000 : (int64_t)(word() % 20000000);
+            if (i == 4000) socket_number = 4, MUST(tcp_abort);
         }
         MUST(free);
     }

@@ -84,6 +84,22 @@ sleep 2 # until the kernel sends again; the service solicits every 4 s
 try "$folder/tap_peer" router
 stop
 
+# TCP over segments: the kernel's own connects, sends 100,000 octets at once, and gets them back; then it ends.
+sends_back() {
+    local sent got
+    sent=$(head -c 75000 /dev/urandom | base64 -w 0)
+    exec 3<>"/dev/tcp/$1/7" || return 1
+    printf %s "$sent" >&3 &
+    got=$(timeout 30 head -c 100000 <&3)
+    exec 3>&-
+    [ "$got" = "$sent" ]
+}
+start "$folder/tcp_echo" tap0 60
+try sends_back 192.168.69.7
+try sends_back 192.168.69.7
+try sends_back fd69::7
+stop
+
 # A neighbour that answers, and one that doesn't.
 try "$folder/ping" tap0 192.168.69.4 24 192.168.69.100 3
 try "$folder/ping" tap0 fe80::4 64 fe80::100 3

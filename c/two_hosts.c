@@ -28,7 +28,7 @@ static void make(iface *host, uint8_t last, uint16_t port, uint32_t *socket) {
     must("host", iface_new(host, &config));
     must("address", iface_add_address(host, &v4, 24));
     must("address", iface_add_address(host, &v6, 64));
-    must("socket", iface_udp_open(host, &local, 8, 16384, socket));
+    must("socket", iface_udp_open(host, &local, &(struct iface_rooms)IFACE_ROOMS(8, 16384), socket));
 }
 
 /* Hands over what one host sends to the other, and what goes in response, until both have nothing. */
@@ -80,7 +80,7 @@ static void takes_turns(iface *a, uint32_t first, const struct iface_endpoint *t
     size_t n, count = 0;
     for (uint16_t i = 1; i < 3; i++) {
         struct iface_endpoint local = {{0, {0}}, (uint16_t)(3000 + i)};
-        must("socket", iface_udp_open(a, &local, 8, 1024, &sockets[i]));
+        must("socket", iface_udp_open(a, &local, &(struct iface_rooms)IFACE_ROOMS(8, 1024), &sockets[i]));
     }
     for (uint8_t k = 0; k < 2; k++)
         for (uint8_t i = 0; i < 3; i++) {

@@ -16,9 +16,11 @@ TYPES = {
     "char": "c_char", "void": "c_void", "iface": "iface", "struct iface_address": "iface_address",
     "struct iface_endpoint": "iface_endpoint", "struct iface_config": "iface_config", "struct iface_cidr": "iface_cidr",
     "struct iface_counts": "iface_counts", "struct iface_queue": "iface_queue",
-    "struct iface_checksums": "iface_checksums",
+    "struct iface_checksums": "iface_checksums", "struct iface_rooms": "iface_rooms", "struct iface_segment": "iface_segment",
 }
-DEFINED = {"IFACE_H", "IFACE_FRAME_ROOM", "IFACE_LAST_MOMENT", "IFACE_NEVER", "IFACE_NONE", "IFACE_VERSION", "IFACE_ANY"}
+# IFACE_ROOMS isn't translated: `host::Rooms::new` makes the same.
+DEFINED = {"IFACE_H", "IFACE_FRAME_ROOM", "IFACE_LAST_MOMENT", "IFACE_NEVER", "IFACE_NONE", "IFACE_VERSION", "IFACE_ANY",
+           "IFACE_ROOMS"}
 RESULTS = {"uint32_t ": " -> u32", "void ": "", "const char *": " -> *const c_char"}
 HEAD = """//! `c/iface.h`, declared: made by `make_sys.py`, with the comments of the header.
 //!

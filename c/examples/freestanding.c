@@ -145,6 +145,7 @@ static long read_frame(uint8_t *frame, size_t room) {
 /* ---- the host ---- */
 
 enum { PORT = 7, QUEUE_PACKETS = 4, QUEUE_OCTETS = 4096 };
+static const struct iface_rooms rooms = IFACE_ROOMS(QUEUE_PACKETS, QUEUE_OCTETS);
 
 static uint8_t frame[IFACE_FRAME_ROOM], out[IFACE_FRAME_ROOM], payload[QUEUE_OCTETS];
 
@@ -164,7 +165,7 @@ static void run(void) {
     config.seed = 1, config.sockets = 1, config.hardware_address[0] = 2, config.hardware_address[5] = 1;
     must(iface_version() == IFACE_VERSION ? iface_new(&host, &config) : IFACE_BAD_ARGUMENT);
     must(iface_add_address(&host, &own, 24));
-    must(iface_udp_open(&host, &any, QUEUE_PACKETS, QUEUE_OCTETS, &socket));
+    must(iface_udp_open(&host, &any, &rooms, &socket));
     for (long got; (got = read_frame(frame, sizeof frame)) >= 0; now += 1000) {
         must(iface_receive(&host, now, frame, (size_t)got, out, sizeof out, &length));
         send_frame(out, length);

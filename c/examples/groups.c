@@ -10,6 +10,7 @@
 #include <string.h>
 
 enum { PORT = 6969, QUEUE_PACKETS = 8, QUEUE_OCTETS = 8192 };
+static const struct iface_rooms rooms = IFACE_ROOMS(QUEUE_PACKETS, QUEUE_OCTETS);
 
 static int64_t now; /* in microseconds */
 
@@ -30,7 +31,7 @@ static uint32_t make(iface *host, uint8_t last) {
     must("host", iface_new(host, &config));
     must("address", iface_add_address(host, &v4, 24));
     must("address", iface_add_address(host, &v6, 64));
-    must("socket", iface_udp_open(host, &any, QUEUE_PACKETS, QUEUE_OCTETS, &socket));
+    must("socket", iface_udp_open(host, &any, &rooms, &socket));
     return socket;
 }
 

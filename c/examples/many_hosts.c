@@ -130,7 +130,7 @@ static void make(uint32_t i) {
     own->peer = (i + 1 + draw(station_count - 1)) % station_count;
     must("a host", iface_new(&own->host, &config));
     must("an address", iface_add_address(&own->host, &address, 8));
-    must("a socket", iface_udp_open(&own->host, &any, DATAGRAMS, DATAGRAMS * (SHORTEST + LENGTHS), &own->socket));
+    must("a socket", iface_udp_open(&own->host, &any, &(struct iface_rooms)IFACE_ROOMS(DATAGRAMS, DATAGRAMS * (SHORTEST + LENGTHS)), &own->socket));
     plan(own->wake, i, NULL, 0);
 }
 

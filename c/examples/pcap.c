@@ -10,6 +10,7 @@
 #include <string.h>
 
 enum { PORT = 7, IDENT = 42, QUEUE_PACKETS = 8, QUEUE_OCTETS = 16384, ETHERNET_LINK = 1 };
+static const struct iface_rooms rooms = IFACE_ROOMS(QUEUE_PACKETS, QUEUE_OCTETS);
 
 static int64_t now; /* in microseconds */
 
@@ -57,7 +58,7 @@ static uint32_t make(iface *host, uint8_t last) {
     must("host", iface_new(host, &config));
     must("address", iface_add_address(host, &v4, 24));
     must("address", iface_add_address(host, &v6, 64));
-    must("socket", iface_udp_open(host, &any, QUEUE_PACKETS, QUEUE_OCTETS, &socket));
+    must("socket", iface_udp_open(host, &any, &rooms, &socket));
     return socket;
 }
 
@@ -95,7 +96,7 @@ int main(int argc, char **argv) {
     }
     write_head();
     uint32_t at_a = make(&a, 1), at_b = make(&b, 2);
-    must("socket", iface_icmp_open_ident(&a, IDENT, QUEUE_PACKETS, QUEUE_OCTETS, &ping));
+    must("socket", iface_icmp_open_ident(&a, IDENT, &rooms, &ping));
     must("ping", iface_icmp_send(&a, ping, &to.address, request, sizeof request));
     must("send", iface_udp_send(&a, at_a, &to, sent, sizeof sent));
     while (hand_over(&a, &b) | hand_over(&b, &a)) {}

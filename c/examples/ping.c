@@ -49,7 +49,7 @@ int main(int argc, char **argv) {
     config.seed = (uint64_t)now_micros(), config.hardware_address[0] = 2, config.hardware_address[5] = 4;
     must("host", iface_new(&host, &config));
     must("address", iface_add_address(&host, &own, (uint8_t)atoi(argv[3])));
-    must("socket", iface_icmp_open_ident(&host, IDENT, 8, 8 * 2048, &socket));
+    must("socket", iface_icmp_open_ident(&host, IDENT, &(struct iface_rooms)IFACE_ROOMS(8, 8 * 2048), &socket));
     /* The last request has the time of the patience, and a second. */
     for (int64_t at, next = now_micros(), end = next; answered < count && (sent < count || now_micros() < end);) {
         if (sent < count && now_micros() >= next) {

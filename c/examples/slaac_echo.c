@@ -9,6 +9,7 @@
 #include "tap.h"
 
 enum { PORT = 7, QUEUE_PACKETS = 16, QUEUE_OCTETS = 16384, SECOND = 1000000 };
+static const struct iface_rooms rooms = IFACE_ROOMS(QUEUE_PACKETS, QUEUE_OCTETS);
 
 /* Prints the addresses that weren't printed yet. */
 static void tell_addresses(iface *host) {
@@ -58,7 +59,7 @@ int main(int argc, char **argv) {
     struct iface_address link_local = link_local_of(config.hardware_address);
     must("host", iface_new(&host, &config));
     must("address", iface_add_address(&host, &link_local, 64));
-    must("socket", iface_udp_open(&host, &any, QUEUE_PACKETS, QUEUE_OCTETS, &socket));
+    must("socket", iface_udp_open(&host, &any, &rooms, &socket));
     while (now_micros() < end) {
         send_all(&host, tap, &at);
         tell_addresses(&host);

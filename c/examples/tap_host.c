@@ -10,6 +10,7 @@
 #include <signal.h>
 
 enum { ECHO_PORT = 6969, QUEUE_PACKETS = 64, QUEUE_OCTETS = 65536 };
+static const struct iface_rooms rooms = IFACE_ROOMS(QUEUE_PACKETS, QUEUE_OCTETS);
 
 static struct {
     unsigned long frames, datagrams, unsent, sleeps;
@@ -40,7 +41,7 @@ static void make_host(iface *host, uint32_t *socket) {
     }
     struct iface_address gateway = address_of("192.168.69.100");
     must("route", iface_set_default_route(host, &gateway));
-    must("socket", iface_udp_open(host, &any, QUEUE_PACKETS, QUEUE_OCTETS, socket));
+    must("socket", iface_udp_open(host, &any, &rooms, socket));
 }
 
 /* Sends back each datagram that came. */

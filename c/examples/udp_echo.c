@@ -13,6 +13,7 @@
 #include <unistd.h>
 
 enum { PORT = 7, QUEUE_PACKETS = 16, QUEUE_OCTETS = 16384 };
+static const struct iface_rooms rooms = IFACE_ROOMS(QUEUE_PACKETS, QUEUE_OCTETS);
 
 static uint8_t frame[IFACE_FRAME_ROOM], out[IFACE_FRAME_ROOM], payload[QUEUE_OCTETS];
 
@@ -75,7 +76,7 @@ int main(void) {
     uint32_t socket;
     setvbuf(stdin, NULL, _IONBF, 0); /* so that no line waits where poll doesn't see it */
     if (iface_version() != IFACE_VERSION || iface_new(&host, &config) || iface_add_address(&host, &own, 24)
-        || iface_udp_open(&host, &any, QUEUE_PACKETS, QUEUE_OCTETS, &socket)) return 1;
+        || iface_udp_open(&host, &any, &rooms, &socket)) return 1;
     for (;;) {
         size_t n = 0;
         int64_t now = now_micros(), at = now;

@@ -82,10 +82,10 @@ int run(void) {
     must(iface_add_address(&host, &own[2], 64));
     must(iface_join_group(&host, &group));
     must(iface_set_default_route(&host, &gateway));
-    must(iface_udp_open(&host, &any, 8, 8192, &udp));
-    must(iface_raw_open(&host, 4, 253, 8, 8192, &raw));
-    must(iface_icmp_open_ident(&host, 0x22b, 8, 8192, &ident));
-    must(iface_icmp_open_port(&host, 7, 8, 8192, &port));
+    must(iface_udp_open(&host, &any, &(struct iface_rooms)IFACE_ROOMS(8, 8192), &udp));
+    must(iface_raw_open(&host, 4, 253, &(struct iface_rooms)IFACE_ROOMS(8, 8192), &raw));
+    must(iface_icmp_open_ident(&host, 0x22b, &(struct iface_rooms)IFACE_ROOMS(8, 8192), &ident));
+    must(iface_icmp_open_port(&host, 7, &(struct iface_rooms)IFACE_ROOMS(8, 8192), &port));
     while (take(record, 3)) {
         uint8_t kind = record[0];
         unsigned long length = record[1] | (unsigned long)record[2] << 8;

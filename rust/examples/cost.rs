@@ -9,7 +9,7 @@ use fumitorygate::phy::{Medium, MemoryDevice};
 use fumitorygate::socket::udp;
 use fumitorygate::time::Instant;
 use fumitorygate::wire::{EthernetAddress, HardwareAddress, IpAddress, IpCidr, IpEndpoint};
-use fumitorygate::{FRAME_ROOM, Host, Settings, sys};
+use fumitorygate::{FRAME_ROOM, Host, Rooms, Settings, sys};
 
 const OWN: EthernetAddress = EthernetAddress([2, 0, 0, 0, 0, 1]);
 const CIDR: IpCidr = IpCidr::new(IpAddress::v4(192, 168, 69, 1), 24);
@@ -78,6 +78,12 @@ impl Way for Raw {
         };
         let own = endpoint([192, 168, 69, 1], 4, 0).address;
         let local = endpoint([0; 4], 0, PORT);
+        let rooms = sys::iface_rooms {
+            received_packets: PACKETS,
+            received_octets: OCTETS,
+            to_send_packets: PACKETS,
+            to_send_octets: OCTETS,
+        };
         // SAFETY: as in `Host`: the handle begins as none, and all pointers are those of references to different
         // things.
         unsafe {
@@ -86,7 +92,7 @@ impl Way for Raw {
             (config.seed, config.sockets, config.hardware_address) = (1, 1, OWN.0);
             assert_eq!(sys::iface_new(&mut raw.host, &config), 0);
             assert_eq!(sys::iface_add_address(&mut raw.host, &own, 24), 0);
-            assert_eq!(sys::iface_udp_open(&mut raw.host, &local, PACKETS, OCTETS, &mut raw.socket), 0);
+            assert_eq!(sys::iface_udp_open(&mut raw.host, &local, &rooms, &mut raw.socket), 0);
         }
         raw
     }
@@ -148,7 +154,7 @@ impl Way for Safe {
         (settings.random_seed, settings.sockets) = (1, 1);
         let mut host = Host::new(&settings).unwrap();
         host.add_address(CIDR).unwrap();
-        let socket = host.udp_open(PORT.into(), PACKETS, OCTETS).unwrap();
+        let socket = host.udp_open(PORT.into(), Rooms::new(PACKETS, OCTETS)).unwrap();
         Safe { host, socket, out: [0; FRAME_ROOM] }
     }
 

@@ -15,7 +15,7 @@ use crate::sys;
 use crate::time::{Duration, Instant};
 use crate::wire::{
     EthernetAddress, HardwareAddress, IpAddress, IpCidr, IpEndpoint, IpListenEndpoint, IpProtocol, IpVersion,
-    Ipv4Address, Ipv4Cidr, Ipv6Address, Ipv6Cidr,
+    Ipv4Address, Ipv4Cidr, Ipv6Address, Ipv6Cidr, TcpControl, TcpSeqNumber,
 };
 use core::fmt;
 
@@ -191,6 +191,11 @@ fn end_to_c(end: &IpEndpoint) -> sys::iface_endpoint {
     sys::iface_endpoint { address: to_c(&end.addr), port: end.port }
 }
 
+#[inline]
+fn end_from_c(end: &sys::iface_endpoint) -> IpEndpoint {
+    IpEndpoint { addr: from_c(&end.address), port: end.port }
+}
+
 fn listen_to_c(end: &IpListenEndpoint) -> sys::iface_endpoint {
     sys::iface_endpoint { address: end.addr.as_ref().map_or(sys::IFACE_ANY, to_c), port: end.port }
 }
@@ -237,13 +242,16 @@ pub struct Settings {
     pub start: Instant,
     /// Which checksums it verifies and computes.
     pub checksum: ChecksumCapabilities,
+    /// How many frames the link takes one after the other: the window in a segment of TCP is at most what so many
+    /// carry. `None` sets no bound, and so does 0.
+    pub burst: Option<u32>,
 }
 
 /// A configuration, and room behind it for the longer one of another library: that is refused only when a host is made.
 #[repr(C)]
 struct Configured {
     config: sys::iface_config,
-    room: [u64; 58],
+    room: [u64; 57],
 }
 
 impl Settings {
@@ -257,13 +265,14 @@ impl Settings {
             start: 0,
             frame_len: 0,
             sockets: 0,
+            burst: 0,
             hardware_address: [0; 6],
             medium: 0,
             slaac: 0,
             checksums: ChecksumCapabilities::default().to_c(),
         };
-        let mut configured = Configured { config, room: [0; 58] };
-        // SAFETY: the pointer is that of a reference to a whole configuration, and to 464 octets behind it, which may
+        let mut configured = Configured { config, room: [0; 57] };
+        // SAFETY: the pointer is that of a reference to a whole configuration, and to 456 octets behind it, which may
         // be written.
         unsafe { sys::iface_config_init((&raw mut configured).cast()) };
         let config = configured.config;
@@ -277,6 +286,7 @@ impl Settings {
             reassembly_timeout: Duration::from_micros(config.reassembly_timeout),
             start: Instant::from_micros_const(config.start),
             checksum: ChecksumCapabilities::default(),
+            burst: (config.burst != 0).then_some(config.burst),
         }
     }
 
@@ -292,6 +302,7 @@ impl Settings {
             start: self.start.total_micros(),
             frame_len: self.frame_len,
             sockets: self.sockets,
+            burst: self.burst.unwrap_or(0),
             hardware_address,
             medium,
             slaac: u8::from(self.slaac),
@@ -350,6 +361,101 @@ pub struct Neighbor {
     pub expires_at: Instant,
 }
 
+/// How much a queue of a socket holds.
+#[derive(Clone, Copy, Debug, PartialEq, Eq)]
+pub struct Room {
+    /// How many packets.
+    pub packets: u32,
+    /// How many octets of them, together.
+    pub octets: u32,
+}
+
+/// How much the two queues of a socket hold.
+#[derive(Clone, Copy, Debug, PartialEq, Eq)]
+pub struct Rooms {
+    /// That for what comes.
+    pub received: Room,
+    /// That for what goes.
+    pub to_send: Room,
+}
+
+impl Rooms {
+    /// So many packets in each, with so many octets together.
+    pub const fn new(packets: u32, octets: u32) -> Rooms {
+        let room = Room { packets, octets };
+        Rooms { received: room, to_send: room }
+    }
+
+    fn to_c(self) -> sys::iface_rooms {
+        sys::iface_rooms {
+            received_packets: self.received.packets,
+            received_octets: self.received.octets,
+            to_send_packets: self.to_send.packets,
+            to_send_octets: self.to_send.octets,
+        }
+    }
+}
+
+/// A segment of TCP without its payload (RFC 9293, 3.1).
+#[derive(Clone, Copy, Debug, PartialEq, Eq)]
+pub struct Segment {
+    /// Where it came from, or goes to.
+    pub remote: IpEndpoint,
+    /// What it does to its connection.
+    pub control: TcpControl,
+    /// Its sequence number.
+    pub seq_number: TcpSeqNumber,
+    /// Its acknowledgement number, if it has one.
+    pub ack_number: Option<TcpSeqNumber>,
+    /// Its window as in the header, not scaled.
+    pub window_len: u16,
+}
+
+impl Segment {
+    /// What stands where the library is to write a segment.
+    const NONE: sys::iface_segment = sys::iface_segment {
+        remote: sys::iface_endpoint { address: NO_ADDRESS, port: 0 },
+        seq: 0,
+        ack: 0,
+        window: 0,
+        control: sys::IFACE_TCP_DATA,
+        has_ack: 0,
+    };
+
+    fn to_c(self) -> sys::iface_segment {
+        sys::iface_segment {
+            remote: end_to_c(&self.remote),
+            seq: self.seq_number.0 as u32,
+            ack: self.ack_number.map_or(0, |number| number.0 as u32),
+            window: self.window_len,
+            control: match self.control {
+                TcpControl::None => sys::IFACE_TCP_DATA,
+                TcpControl::Psh => sys::IFACE_TCP_PSH,
+                TcpControl::Syn => sys::IFACE_TCP_SYN,
+                TcpControl::Fin => sys::IFACE_TCP_FIN,
+                TcpControl::Rst => sys::IFACE_TCP_RST,
+            },
+            has_ack: u8::from(self.ack_number.is_some()),
+        }
+    }
+
+    fn from_c(segment: &sys::iface_segment) -> Segment {
+        Segment {
+            remote: end_from_c(&segment.remote),
+            control: match segment.control {
+                sys::IFACE_TCP_PSH => TcpControl::Psh,
+                sys::IFACE_TCP_SYN => TcpControl::Syn,
+                sys::IFACE_TCP_FIN => TcpControl::Fin,
+                sys::IFACE_TCP_RST => TcpControl::Rst,
+                _ => TcpControl::None,
+            },
+            seq_number: TcpSeqNumber(segment.seq as i32),
+            ack_number: (segment.has_ack != 0).then_some(TcpSeqNumber(segment.ack as i32)),
+            window_len: segment.window,
+        }
+    }
+}
+
 /// What waits in a queue of a socket, and what it holds at most.
 #[derive(Clone, Copy, Debug, PartialEq, Eq)]
 #[non_exhaustive]
@@ -405,13 +511,13 @@ pub struct Counters {
 /// ```
 /// # fn main() -> Result<(), fumitorygate::Error> {
 /// # let (now, frame, transmit) = (Instant::ZERO, [0; 60], |_: &[u8]| ());
-/// use fumitorygate::{FRAME_ROOM, Host, Settings, time::Instant, wire::EthernetAddress};
+/// use fumitorygate::{FRAME_ROOM, Host, Rooms, Settings, time::Instant, wire::EthernetAddress};
 ///
 /// let mut settings = Settings::new(EthernetAddress([2, 0, 0, 0, 0, 1]).into());
 /// settings.random_seed = 0x5eed;
 /// let mut host = Host::new(&settings)?;
 /// host.add_address("192.168.69.1/24".parse().unwrap())?;
-/// let socket = host.udp_open(7.into(), 4, 4096)?;
+/// let socket = host.udp_open(7.into(), Rooms::new(4, 4096))?;
 ///
 /// // For each frame that came:
 /// let (mut out, mut payload) = ([0; FRAME_ROOM], [0; 4096]);
@@ -835,61 +941,75 @@ impl Host {
 
     /// Opens a UDP socket at a port of one address, and returns the number that names it. It is at a port of any
     /// address, of both versions, if `local` has none, or 0.0.0.0 or ::. Datagrams to groups and broadcast addresses
-    /// come to each. Its two queues hold so many packets each, with so many octets together.
+    /// come to each.
     ///
     /// # Errors
     /// [`Error::BadPort`], [`Error::BadAddress`] if the address is a group's or 255.255.255.255, [`Error::TableFull`]
     /// if all of [`Settings::sockets`] are open, [`Error::NoMemory`].
     #[inline]
-    pub fn udp_open(&mut self, local: IpListenEndpoint, packets: u32, octets: u32) -> Result<u32, Error> {
+    pub fn udp_open(&mut self, local: IpListenEndpoint, rooms: Rooms) -> Result<u32, Error> {
         let mut socket = 0;
-        call!(self.iface_udp_open(&listen_to_c(&local), packets, octets, &mut socket))?;
+        call!(self.iface_udp_open(&listen_to_c(&local), &rooms.to_c(), &mut socket))?;
         Ok(socket)
     }
 
-    /// Opens a raw socket for whole packets of a version of IP and a protocol, with queues as
-    /// [`udp_open`](Host::udp_open)'s.
+    /// Opens a raw socket for whole packets of a version of IP and a protocol, and returns the number that names it.
     ///
     /// # Errors
     /// [`Error::TableFull`], [`Error::NoMemory`].
     #[inline]
-    pub fn raw_open(
-        &mut self,
-        version: IpVersion,
-        protocol: IpProtocol,
-        packets: u32,
-        octets: u32,
-    ) -> Result<u32, Error> {
+    pub fn raw_open(&mut self, version: IpVersion, protocol: IpProtocol, rooms: Rooms) -> Result<u32, Error> {
         let number = match version {
             IpVersion::Ipv4 => 4,
             IpVersion::Ipv6 => 6,
         };
         let mut socket = 0;
-        call!(self.iface_raw_open(number, protocol.into(), packets, octets, &mut socket))?;
+        call!(self.iface_raw_open(number, protocol.into(), &rooms.to_c(), &mut socket))?;
         Ok(socket)
     }
 
-    /// Opens an ICMP socket for echo messages of either version with an identifier, with queues as
-    /// [`udp_open`](Host::udp_open)'s.
+    /// Opens an ICMP socket for echo messages of either version with an identifier, and returns the number that names
+    /// it.
     ///
     /// # Errors
     /// [`Error::TableFull`], [`Error::NoMemory`].
     #[inline]
-    pub fn icmp_open_ident(&mut self, ident: u16, packets: u32, octets: u32) -> Result<u32, Error> {
+    pub fn icmp_open_ident(&mut self, ident: u16, rooms: Rooms) -> Result<u32, Error> {
         let mut socket = 0;
-        call!(self.iface_icmp_open_ident(ident, packets, octets, &mut socket))?;
+        call!(self.iface_icmp_open_ident(ident, &rooms.to_c(), &mut socket))?;
         Ok(socket)
     }
 
-    /// Opens an ICMP socket for port unreachables that answer datagrams from this port, with queues as
-    /// [`udp_open`](Host::udp_open)'s.
+    /// Opens an ICMP socket for port unreachables that answer datagrams from this port, and returns the number that
+    /// names it.
     ///
     /// # Errors
     /// [`Error::TableFull`], [`Error::NoMemory`].
     #[inline]
-    pub fn icmp_open_port(&mut self, port: u16, packets: u32, octets: u32) -> Result<u32, Error> {
+    pub fn icmp_open_port(&mut self, port: u16, rooms: Rooms) -> Result<u32, Error> {
         let mut socket = 0;
-        call!(self.iface_icmp_open_port(port, packets, octets, &mut socket))?;
+        call!(self.iface_icmp_open_port(port, &rooms.to_c(), &mut socket))?;
+        Ok(socket)
+    }
+
+    /// Opens a socket for segments of TCP (RFC 9293) at a port of one address, or of any as
+    /// [`udp_open`](Host::udp_open)'s, from one end alone, or from each. The library hands segments in and out, and
+    /// keeps no connection: it computes and verifies checksums, and answers by a reset what no socket takes.
+    ///
+    /// # Errors
+    /// [`Error::BadPort`], for `remote` too; [`Error::BadAddress`] if the own address is a group's or 255.255.255.255,
+    /// or the remote one unspecified; [`Error::TableFull`], [`Error::NoMemory`].
+    #[inline]
+    pub fn tcp_open(
+        &mut self,
+        local: IpListenEndpoint,
+        remote: Option<IpEndpoint>,
+        rooms: Rooms,
+    ) -> Result<u32, Error> {
+        let any = sys::iface_endpoint { address: sys::IFACE_ANY, port: 0 };
+        let remote = remote.as_ref().map_or(any, end_to_c);
+        let mut socket = 0;
+        call!(self.iface_tcp_open(&listen_to_c(&local), &remote, &rooms.to_c(), &mut socket))?;
         Ok(socket)
     }
 
@@ -902,8 +1022,7 @@ impl Host {
         call!(self.iface_close(socket))
     }
 
-    /// Sets the hop limit of the packets that a UDP or an ICMP socket sends from now on, those that wait among them: 64
-    /// at first.
+    /// Sets the hop limit of the packets that a socket sends from now on, those that wait among them: 64 at first.
     ///
     /// # Errors
     /// [`Error::BadArgument`] if it is 0, [`Error::NoSocket`], for a raw one too, whose packets have their own headers.
@@ -912,7 +1031,7 @@ impl Host {
         call!(self.iface_set_hop_limit(socket, hop_limit))
     }
 
-    /// The hop limit of the packets that a UDP or an ICMP socket sends.
+    /// The hop limit of the packets that a socket sends.
     ///
     /// # Errors
     /// [`Error::NoSocket`], for a raw one too.
@@ -964,6 +1083,35 @@ impl Host {
         call!(self.iface_raw_send(socket, packet.as_ptr(), packet.len()))
     }
 
+    /// Queues a segment from the socket's port, with its payload. Over IPv4 it has at most 4096 octets with its headers
+    /// (40), over IPv6 at most one packet of the link with its headers (60).
+    ///
+    /// # Errors
+    /// [`Error::BadPort`], [`Error::BadAddress`], [`Error::TooLong`], [`Error::QueueFull`], [`Error::NoSocket`].
+    #[inline]
+    pub fn tcp_send(&mut self, socket: u32, segment: Segment, payload: &[u8]) -> Result<(), Error> {
+        call!(self.iface_tcp_send(socket, &segment.to_c(), payload.as_ptr(), payload.len()))
+    }
+
+    /// Lets a TCP socket send nothing before this instant: [`Instant::ZERO`] at first.
+    ///
+    /// # Errors
+    /// [`Error::NoSocket`].
+    #[inline]
+    pub fn tcp_hold(&mut self, socket: u32, until: Instant) -> Result<(), Error> {
+        call!(self.iface_tcp_hold(socket, until.total_micros()))
+    }
+
+    /// Lets a TCP socket get no segment from now on: each that it would have got is answered by a reset, unless it is
+    /// one. What waits in its queues stays.
+    ///
+    /// # Errors
+    /// [`Error::NoSocket`].
+    #[inline]
+    pub fn tcp_abort(&mut self, socket: u32) -> Result<(), Error> {
+        call!(self.iface_tcp_abort(socket))
+    }
+
     /// Takes the first datagram that came: its length, and where it came from.
     ///
     /// # Errors
@@ -972,7 +1120,18 @@ impl Host {
     pub fn udp_receive(&mut self, socket: u32, out: &mut [u8]) -> Result<(usize, IpEndpoint), Error> {
         let (mut remote, mut length) = (sys::iface_endpoint { address: NO_ADDRESS, port: 0 }, 0);
         call!(self.iface_udp_receive(socket, &mut remote, out.as_mut_ptr(), out.len(), &mut length))?;
-        Ok((length, IpEndpoint { addr: from_c(&remote.address), port: remote.port }))
+        Ok((length, end_from_c(&remote)))
+    }
+
+    /// The same, but the datagram stays.
+    ///
+    /// # Errors
+    /// [`Error::Empty`], [`Error::NoRoom`], [`Error::NoSocket`].
+    #[inline]
+    pub fn udp_peek(&mut self, socket: u32, out: &mut [u8]) -> Result<(usize, IpEndpoint), Error> {
+        let (mut remote, mut length) = (sys::iface_endpoint { address: NO_ADDRESS, port: 0 }, 0);
+        call!(self.iface_udp_peek(socket, &mut remote, out.as_mut_ptr(), out.len(), &mut length))?;
+        Ok((length, end_from_c(&remote)))
     }
 
     /// Takes the first message that came, from its type on: its length, and where it came from.
@@ -986,6 +1145,17 @@ impl Host {
         Ok((length, from_c(&remote)))
     }
 
+    /// The same, but the message stays.
+    ///
+    /// # Errors
+    /// [`Error::Empty`], [`Error::NoRoom`], [`Error::NoSocket`].
+    #[inline]
+    pub fn icmp_peek(&mut self, socket: u32, out: &mut [u8]) -> Result<(usize, IpAddress), Error> {
+        let (mut remote, mut length) = (NO_ADDRESS, 0);
+        call!(self.iface_icmp_peek(socket, &mut remote, out.as_mut_ptr(), out.len(), &mut length))?;
+        Ok((length, from_c(&remote)))
+    }
+
     /// Takes the first packet that came, with its header: its length.
     ///
     /// # Errors
@@ -995,6 +1165,39 @@ impl Host {
         let mut length = 0;
         call!(self.iface_raw_receive(socket, out.as_mut_ptr(), out.len(), &mut length))?;
         Ok(length)
+    }
+
+    /// The same, but the packet stays.
+    ///
+    /// # Errors
+    /// [`Error::Empty`], [`Error::NoRoom`], [`Error::NoSocket`].
+    #[inline]
+    pub fn raw_peek(&mut self, socket: u32, out: &mut [u8]) -> Result<usize, Error> {
+        let mut length = 0;
+        call!(self.iface_raw_peek(socket, out.as_mut_ptr(), out.len(), &mut length))?;
+        Ok(length)
+    }
+
+    /// Takes the first segment that came: the length of its payload, and its header.
+    ///
+    /// # Errors
+    /// [`Error::Empty`], [`Error::NoRoom`], [`Error::NoSocket`].
+    #[inline]
+    pub fn tcp_receive(&mut self, socket: u32, out: &mut [u8]) -> Result<(usize, Segment), Error> {
+        let (mut segment, mut length) = (Segment::NONE, 0);
+        call!(self.iface_tcp_receive(socket, &mut segment, out.as_mut_ptr(), out.len(), &mut length))?;
+        Ok((length, Segment::from_c(&segment)))
+    }
+
+    /// The same, but the segment stays.
+    ///
+    /// # Errors
+    /// [`Error::Empty`], [`Error::NoRoom`], [`Error::NoSocket`].
+    #[inline]
+    pub fn tcp_peek(&mut self, socket: u32, out: &mut [u8]) -> Result<(usize, Segment), Error> {
+        let (mut segment, mut length) = (Segment::NONE, 0);
+        call!(self.iface_tcp_peek(socket, &mut segment, out.as_mut_ptr(), out.len(), &mut length))?;
+        Ok((length, Segment::from_c(&segment)))
     }
 
     /// For whom the first packet of a socket waits, and since when, as of the last round. `None` if it doesn't wait.

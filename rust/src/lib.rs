@@ -26,7 +26,9 @@ pub mod phy;
 pub mod socket;
 
 pub use checksum::{Checksum, ChecksumCapabilities};
-pub use host::{Counters, Error, FRAME_ROOM, Frame, Host, Neighbor, Queue, Queues, Route, Settings};
+pub use host::{
+    Counters, Error, FRAME_ROOM, Frame, Host, Neighbor, Queue, Queues, Room, Rooms, Route, Segment, Settings,
+};
 
 #[doc = include_str!("../API.md")]
 pub mod differences {}

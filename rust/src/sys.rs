@@ -2,7 +2,7 @@
 //!
 //! Calling any of it is `unsafe`: the header says what the caller keeps. [`Host`](crate::Host) keeps it.
 //!
-//! Sum of the header: 0x5cd00d7ca4acc25e
+//! Sum of the header: 0x44c8ce04295a3d87
 #![allow(non_camel_case_types)]
 
 use core::ffi::{c_char, c_void};
@@ -46,6 +46,17 @@ pub const IFACE_BAD_TIMEOUT: u32 = 17;
 /// `iface_new`: the library isn't of this header's version
 pub const IFACE_BAD_VERSION: u32 = 18;
 
+/// `iface_control`.
+pub const IFACE_TCP_DATA: u8 = 0;
+/// `iface_control`.
+pub const IFACE_TCP_PSH: u8 = 1;
+/// `iface_control`.
+pub const IFACE_TCP_SYN: u8 = 2;
+/// `iface_control`.
+pub const IFACE_TCP_FIN: u8 = 3;
+/// `iface_control`.
+pub const IFACE_TCP_RST: u8 = 4;
+
 /// `iface_medium`.
 pub const IFACE_ETHERNET: u8 = 0;
 /// `iface_medium`.
@@ -67,7 +78,7 @@ pub const IFACE_LAST_MOMENT: i64 = 1 << 62;
 /// The instant that stands for none.
 pub const IFACE_NEVER: i64 = i64::MAX;
 /// The version of the header.
-pub const IFACE_VERSION: u32 = 0x000e0002;
+pub const IFACE_VERSION: u32 = 0x000e0003;
 /// Any address, for the end at which a socket listens.
 pub const IFACE_ANY: iface_address = iface_address { version: 0, octets: [0; 16] };
 
@@ -109,6 +120,20 @@ pub struct iface_cidr {
     pub prefix_len: u8,
 }
 
+/// How much the two queues of a socket hold: so many packets, with so many octets together.
+#[repr(C)]
+#[derive(Clone, Copy, Debug)]
+pub struct iface_rooms {
+    /// of the queue for what comes
+    pub received_packets: u32,
+    /// `received_octets`.
+    pub received_octets: u32,
+    /// of the queue for what goes
+    pub to_send_packets: u32,
+    /// `to_send_octets`.
+    pub to_send_octets: u32,
+}
+
 /// What waits in a queue of a socket, and what it holds at most.
 #[repr(C)]
 #[derive(Clone, Copy, Debug)]
@@ -123,6 +148,24 @@ pub struct iface_queue {
     pub most_octets: u32,
     /// how many octets the first packet has, 0 where none waits
     pub first: u32,
+}
+
+/// A segment of TCP without its payload (RFC 9293, 3.1).
+#[repr(C)]
+#[derive(Clone, Copy, Debug)]
+pub struct iface_segment {
+    /// where it came from, or goes to
+    pub remote: iface_endpoint,
+    /// its sequence number
+    pub seq: u32,
+    /// its acknowledgement number, if it has one
+    pub ack: u32,
+    /// its window as in the header, not scaled
+    pub window: u16,
+    /// enum `iface_control`
+    pub control: u8,
+    /// not 0: it has an acknowledgement number
+    pub has_ack: u8,
 }
 
 /// In which directions a host computes checksums, by protocol; the link does the others.
@@ -157,6 +200,8 @@ pub struct iface_config {
     pub frame_len: u32,
     /// how many may be open at once; memory for their places is taken at once
     pub sockets: u32,
+    /// how many frames the link takes one after the other: the window in a segment of TCP is at most what so many carry; 0 sets no bound
+    pub burst: u32,
     /// on Ethernet; else it isn't read
     pub hardware_address: [u8; 6],
     /// `IFACE_ETHERNET` or `IFACE_IP`
@@ -191,12 +236,14 @@ impl iface {
 
 const _: () = assert!(size_of::<iface_address>() == 17);
 const _: () = assert!(size_of::<iface_endpoint>() == 20);
-const _: () = assert!(size_of::<iface_config>() == 56);
+const _: () = assert!(size_of::<iface_config>() == 64);
 const _: () = assert!(size_of::<iface>() == 16);
 const _: () = assert!(size_of::<iface_cidr>() == 18);
 const _: () = assert!(size_of::<iface_counts>() == 32);
 const _: () = assert!(size_of::<iface_queue>() == 20);
 const _: () = assert!(size_of::<iface_checksums>() == 5);
+const _: () = assert!(size_of::<iface_rooms>() == 16);
+const _: () = assert!(size_of::<iface_segment>() == 32);
 
 unsafe extern "C" {
     /// Writes what most programs want: frames of 1514 octets on Ethernet, 8 sockets, no addresses from routers, a patience of 3 s (three requests, a second apart: RFC 4861, 10), and 10 s for fragments. The start is 0, the seed is 0, and the hardware address all zeros: set the last two.
@@ -250,18 +297,20 @@ unsafe extern "C" {
     /// Writes the neighbour at a place of their list, from 0 on: its address, that on Ethernet, six octets, and the moment from which the latter isn't known any more. At most four stand there, by rising moments, those whose moment has passed too. Without hardware addresses there is none. NOT_THERE.
     pub fn iface_neighbor_at(host: *mut iface, place: u32, address: *mut iface_address, hardware_address: *mut u8, until: *mut i64) -> u32;
     /// UDP (RFC 768) at a port of one address. At a port of any, of both versions, if the version of local is 0 as in `IFACE_ANY`, or its address 0.0.0.0 or ::. Datagrams to groups and broadcast addresses come to each. BAD_PORT, BAD_ADDRESS (a group's, or 255.255.255.255).
-    pub fn iface_udp_open(host: *mut iface, local: *const iface_endpoint, packets: u32, octets: u32, socket: *mut u32) -> u32;
+    pub fn iface_udp_open(host: *mut iface, local: *const iface_endpoint, rooms: *const iface_rooms, socket: *mut u32) -> u32;
     /// Whole packets of a version of IP and a protocol.
-    pub fn iface_raw_open(host: *mut iface, version: u8, protocol: u8, packets: u32, octets: u32, socket: *mut u32) -> u32;
+    pub fn iface_raw_open(host: *mut iface, version: u8, protocol: u8, rooms: *const iface_rooms, socket: *mut u32) -> u32;
     /// Echo messages of either ICMP with an identifier (RFC 792, RFC 4443).
-    pub fn iface_icmp_open_ident(host: *mut iface, ident: u16, packets: u32, octets: u32, socket: *mut u32) -> u32;
+    pub fn iface_icmp_open_ident(host: *mut iface, ident: u16, rooms: *const iface_rooms, socket: *mut u32) -> u32;
     /// Port unreachables of either ICMP for datagrams of UDP from this port of the host.
-    pub fn iface_icmp_open_port(host: *mut iface, port: u16, packets: u32, octets: u32, socket: *mut u32) -> u32;
+    pub fn iface_icmp_open_port(host: *mut iface, port: u16, rooms: *const iface_rooms, socket: *mut u32) -> u32;
+    /// Segments of TCP (RFC 9293) at a port of one address, or of any, as for UDP; from one end alone, or from each one if the version of remote is 0 as in `IFACE_ANY`. The library hands segments in and out, and keeps no connection: it computes and verifies checksums, and answers by a reset what no socket takes. BAD_PORT (also the remote one), BAD_ADDRESS (also an unspecified remote one).
+    pub fn iface_tcp_open(host: *mut iface, local: *const iface_endpoint, remote: *const iface_endpoint, rooms: *const iface_rooms, socket: *mut u32) -> u32;
     /// Closes a socket of whatever kind: what waits in it is dropped. NO_SOCKET.
     pub fn iface_close(host: *mut iface, socket: u32) -> u32;
-    /// Sets the hop limit of the packets that a UDP or an ICMP socket sends from now on, those that wait among them: 64 at first. BAD_ARGUMENT (0), NO_SOCKET (also for a raw one, whose packets have their own headers).
+    /// Sets the hop limit of the packets that a socket sends from now on, those that wait among them: 64 at first. BAD_ARGUMENT (0), NO_SOCKET (also for a raw one, whose packets have their own headers).
     pub fn iface_set_hop_limit(host: *mut iface, socket: u32, hop_limit: u8) -> u32;
-    /// Writes the hop limit of the packets that a UDP or an ICMP socket sends. NO_SOCKET, as above.
+    /// Writes the hop limit of the packets that a socket sends. NO_SOCKET, as above.
     pub fn iface_hop_limit(host: *mut iface, socket: u32, hop_limit: *mut u8) -> u32;
     /// Writes what waits in the two queues of a socket of whatever kind: what was received, and what is to be sent. NO_SOCKET.
     pub fn iface_queues(host: *mut iface, socket: u32, received: *mut iface_queue, to_send: *mut iface_queue) -> u32;
@@ -271,12 +320,28 @@ unsafe extern "C" {
     pub fn iface_icmp_send(host: *mut iface, socket: u32, remote: *const iface_address, message: *const u8, message_len: usize) -> u32;
     /// A packet with its header: one that isn't of the socket's version and protocol, or is too long to be sent, is dropped later.
     pub fn iface_raw_send(host: *mut iface, socket: u32, packet: *const u8, packet_len: usize) -> u32;
+    /// A segment from the socket's port, with its payload: over IPv4 of at most 4096 octets with its headers (40), over IPv6 of at most one packet of the link with its headers (60). BAD_ARGUMENT (a control that is none), BAD_PORT, BAD_ADDRESS (unspecified), TOO_LONG.
+    pub fn iface_tcp_send(host: *mut iface, socket: u32, segment: *const iface_segment, payload: *const u8, payload_len: usize) -> u32;
+    /// A TCP socket sends nothing before this moment: 0 at first. BAD_MOMENT, NO_SOCKET.
+    pub fn iface_tcp_hold(host: *mut iface, socket: u32, until: i64) -> u32;
+    /// From now on a TCP socket gets no segment: each that it would have got is answered by a reset, unless it is one. What waits in its queues stays. NO_SOCKET.
+    pub fn iface_tcp_abort(host: *mut iface, socket: u32) -> u32;
     /// Each of these takes the first packet that came, and writes it, how long it is and where it came from. NO_SOCKET, EMPTY, NO_ROOM: then it stays. Room for the octets that the socket's queue holds is always enough.
     pub fn iface_udp_receive(host: *mut iface, socket: u32, remote: *mut iface_endpoint, out: *mut u8, room: usize, length: *mut usize) -> u32;
     /// A message of ICMP, from its type on.
     pub fn iface_icmp_receive(host: *mut iface, socket: u32, remote: *mut iface_address, out: *mut u8, room: usize, length: *mut usize) -> u32;
     /// A packet with its header.
     pub fn iface_raw_receive(host: *mut iface, socket: u32, out: *mut u8, room: usize, length: *mut usize) -> u32;
+    /// A segment, and its payload.
+    pub fn iface_tcp_receive(host: *mut iface, socket: u32, segment: *mut iface_segment, out: *mut u8, room: usize, length: *mut usize) -> u32;
+    /// Each of these writes what the call above with receive in its name does, and leaves the packet there: nothing of the host changes. NO_SOCKET, EMPTY, NO_ROOM.
+    pub fn iface_udp_peek(host: *mut iface, socket: u32, remote: *mut iface_endpoint, out: *mut u8, room: usize, length: *mut usize) -> u32;
+    /// Each of these writes what the call above with receive in its name does, and leaves the packet there: nothing of the host changes. NO_SOCKET, EMPTY, NO_ROOM.
+    pub fn iface_icmp_peek(host: *mut iface, socket: u32, remote: *mut iface_address, out: *mut u8, room: usize, length: *mut usize) -> u32;
+    /// Each of these writes what the call above with receive in its name does, and leaves the packet there: nothing of the host changes. NO_SOCKET, EMPTY, NO_ROOM.
+    pub fn iface_raw_peek(host: *mut iface, socket: u32, out: *mut u8, room: usize, length: *mut usize) -> u32;
+    /// Each of these writes what the call above with receive in its name does, and leaves the packet there: nothing of the host changes. NO_SOCKET, EMPTY, NO_ROOM.
+    pub fn iface_tcp_peek(host: *mut iface, socket: u32, segment: *mut iface_segment, out: *mut u8, room: usize, length: *mut usize) -> u32;
     /// Writes for whom the first packet of a socket waits, and since when, as of the last round. NO_SOCKET, EMPTY.
     pub fn iface_waiting(host: *mut iface, socket: u32, remote: *mut iface_address, since: *mut i64) -> u32;
     /// Writes the destination of the packet that a socket gave up last, once. NO_SOCKET, EMPTY.

@@ -2,8 +2,10 @@
 //!
 //! smoltcp's packets and their representations (`Icmpv4Packet`, `UdpRepr` and the like) aren't here: the library reads
 //! and writes them itself.
+use core::cmp::Ordering;
 use core::fmt;
 use core::net::{IpAddr, SocketAddr, SocketAddrV4, SocketAddrV6};
+use core::ops::{Add, AddAssign, Sub};
 use core::str::FromStr;
 
 pub use core::net::{Ipv4Addr as Ipv4Address, Ipv6Addr as Ipv6Address};
@@ -35,6 +37,72 @@ impl fmt::Display for IpVersion {
             IpVersion::Ipv4 => "IPv4",
             IpVersion::Ipv6 => "IPv6",
         })
+    }
+}
+
+/// What a segment of TCP does to its connection (RFC 9293, 3.1): the one of these flags that is set.
+#[derive(Clone, Copy, Debug, PartialEq, Eq, Hash)]
+pub enum TcpControl {
+    /// None is set.
+    None,
+    /// What came is to be handed on.
+    Psh,
+    /// It begins.
+    Syn,
+    /// It ends in this direction.
+    Fin,
+    /// It is reset.
+    Rst,
+}
+
+/// A sequence number of TCP, modulo 2^32 (RFC 9293, 3.4). One number is less than another if it is up to half of the
+/// range before it.
+#[derive(Clone, Copy, Debug, Default, PartialEq, Eq, Hash)]
+pub struct TcpSeqNumber(pub i32);
+
+impl fmt::Display for TcpSeqNumber {
+    fn fmt(&self, f: &mut fmt::Formatter<'_>) -> fmt::Result {
+        (self.0 as u32).fmt(f)
+    }
+}
+
+impl Add<usize> for TcpSeqNumber {
+    type Output = TcpSeqNumber;
+
+    /// The number so many octets on, modulo 2^32: where smoltcp panics at more than 2^31, this does not.
+    fn add(self, octets: usize) -> TcpSeqNumber {
+        TcpSeqNumber(self.0.wrapping_add_unsigned(octets as u32))
+    }
+}
+
+impl AddAssign<usize> for TcpSeqNumber {
+    fn add_assign(&mut self, octets: usize) {
+        *self = *self + octets;
+    }
+}
+
+impl Sub<usize> for TcpSeqNumber {
+    type Output = TcpSeqNumber;
+
+    /// The number so many octets before, modulo 2^32.
+    fn sub(self, octets: usize) -> TcpSeqNumber {
+        TcpSeqNumber(self.0.wrapping_sub_unsigned(octets as u32))
+    }
+}
+
+impl Sub<TcpSeqNumber> for TcpSeqNumber {
+    type Output = usize;
+
+    /// How many octets on it is from another, modulo 2^32: where smoltcp panics at a number before the other, this does
+    /// not.
+    fn sub(self, other: TcpSeqNumber) -> usize {
+        self.0.wrapping_sub(other.0) as u32 as usize
+    }
+}
+
+impl PartialOrd for TcpSeqNumber {
+    fn partial_cmp(&self, other: &TcpSeqNumber) -> Option<Ordering> {
+        self.0.wrapping_sub(other.0).partial_cmp(&0)
     }
 }
 

@@ -2,13 +2,13 @@
 //! from `docs/C.md`.
 mod common;
 
-use common::{Node, OWN, Seen, advertisement, arp, ethernet, ipv4, millis, settings, udp4, udp6};
+use common::{Node, OWN, Seen, advertisement, arp, ethernet, ipv4, millis, settings, tcp4, udp4, udp6};
 use fumitorygate::time::{Duration, Instant};
 use fumitorygate::wire::{
     EthernetAddress, HardwareAddress, IpAddress, IpCidr, IpEndpoint, IpListenEndpoint, IpProtocol, IpVersion,
-    Ipv4Address, Ipv6Address,
+    Ipv4Address, Ipv6Address, TcpControl, TcpSeqNumber,
 };
-use fumitorygate::{Checksum, ChecksumCapabilities, Error, FRAME_ROOM, Host, Route, Settings};
+use fumitorygate::{Checksum, ChecksumCapabilities, Error, FRAME_ROOM, Host, Room, Rooms, Route, Segment, Settings};
 
 const SELF: Ipv4Address = Ipv4Address::new(192, 168, 69, 1);
 const CIDR: IpCidr = IpCidr::new(IpAddress::v4(192, 168, 69, 1), 24);
@@ -40,6 +40,7 @@ fn the_settings_are_those_of_the_table() {
     assert_eq!(settings.sockets, 8);
     assert_eq!(settings.start, Instant::ZERO);
     assert!(!settings.slaac);
+    assert_eq!(settings.burst, None);
 }
 
 /// `docs/C.md`, Codes.
@@ -92,10 +93,10 @@ fn a_refused_call_says_why() {
     }
     assert_eq!(host.set_default_route(IpAddress::v4(10, 0, 0, 9)), Err(Error::TableFull));
     assert_eq!(host.remove_route(IpCidr::new(IpAddress::v4(172, 16, 5, 0), 24)), Err(Error::NotThere));
-    assert_eq!(host.udp_open(0.into(), 1, 1), Err(Error::BadPort));
-    let socket = host.udp_open(7.into(), 1, 8).unwrap();
+    assert_eq!(host.udp_open(0.into(), Rooms::new(1, 1)), Err(Error::BadPort));
+    let socket = host.udp_open(7.into(), Rooms::new(1, 8)).unwrap();
     assert_eq!(socket, 0);
-    assert_eq!(host.udp_open(8.into(), 1, 1), Err(Error::TableFull));
+    assert_eq!(host.udp_open(8.into(), Rooms::new(1, 1)), Err(Error::TableFull));
     let to = |address: IpAddress, port| IpEndpoint::new(address, port);
     let peer = IpAddress::v4(192, 168, 69, 2);
     assert_eq!(host.udp_send(socket, to(peer, 0), b""), Err(Error::BadPort));
@@ -242,7 +243,7 @@ fn an_address_comes_from_a_router_and_ends() {
 fn fragments_are_put_together_out_of_order() {
     let mut node = Node::new(&[CIDR]);
     let (peer, link) = neighbor(2);
-    let socket = node.host.udp_open(7.into(), 4, 64).unwrap();
+    let socket = node.host.udp_open(7.into(), Rooms::new(4, 64)).unwrap();
     let whole = udp4(peer, SELF, (9, 7), b"Hello World!");
     let (head, tail) = whole[20..].split_at(16);
     let first = ethernet(OWN, link, 0x0800, &ipv4(peer, SELF, 17, 1, 0x2000, head));
@@ -261,7 +262,7 @@ fn fragments_are_put_together_out_of_order() {
 fn fragments_wait_as_long_as_is_set() {
     let mut node = Node::new(&[CIDR]);
     let (peer, link) = neighbor(2);
-    let socket = node.host.udp_open(7.into(), 4, 64).unwrap();
+    let socket = node.host.udp_open(7.into(), Rooms::new(4, 64)).unwrap();
     let whole = udp4(peer, SELF, (9, 7), b"Hello World!");
     let (head, tail) = whole[20..].split_at(16);
     let mut now = millis(0);
@@ -285,7 +286,7 @@ fn fragments_wait_as_long_as_is_set() {
 fn addresses_that_are_routed_to_it_count_as_own() {
     let mut node = Node::new(&[CIDR]);
     let (peer, link) = neighbor(2);
-    let socket = node.host.udp_open(7.into(), 4, 64).unwrap();
+    let socket = node.host.udp_open(7.into(), Rooms::new(4, 64)).unwrap();
     node.host.add_route("10.1.0.0/16".parse().unwrap(), SELF.into()).unwrap();
     let comes = |node: &mut Node, to| {
         node.take(millis(0), &ethernet(OWN, link, 0x0800, &udp4(peer, to, (9, 7), b"x")));
@@ -306,7 +307,7 @@ fn the_hardware_address_is_the_one_that_was_set_last() {
     let mut node = Node::new(&[CIDR]);
     let (peer, link) = neighbor(2);
     let other = [2, 0, 0, 0, 0, 7];
-    let socket = node.host.udp_open(7.into(), 4, 64).unwrap();
+    let socket = node.host.udp_open(7.into(), Rooms::new(4, 64)).unwrap();
     let comes = |node: &mut Node, to| {
         node.take(millis(0), &ethernet(to, link, 0x0800, &udp4(peer, SELF, (9, 7), b"x")));
         node.host.udp_receive(socket, &mut [0; 1]).is_ok()
@@ -335,7 +336,7 @@ fn a_checksum_is_verified_and_computed_where_it_is_the_librarys() {
         let mut settings = Settings::new(HardwareAddress::Ip);
         settings.checksum.udp = checksum;
         let mut node = Node::of(&settings, &[CIDR]);
-        let socket = node.host.udp_open(7.into(), 1, 8).unwrap();
+        let socket = node.host.udp_open(7.into(), Rooms::new(1, 8)).unwrap();
         let answer = node.take(millis(0), &wrong);
         let received = node.host.udp_receive(socket, &mut [0; 8]);
         assert_eq!((answer, received.is_ok()), (None, !checksum.rx()));
@@ -373,7 +374,7 @@ fn a_host_is_in_the_groups_that_it_joined_and_in_some_others() {
 #[test]
 fn a_neighbor_that_does_not_answer_is_given_up() {
     let mut node = Node::new(&[CIDR]);
-    let socket = node.host.udp_open(7.into(), 4, 64).unwrap();
+    let socket = node.host.udp_open(7.into(), Rooms::new(4, 64)).unwrap();
     let absent = neighbor(9).0;
     assert_eq!(node.host.waiting(socket), Ok(None));
     node.host.udp_send(socket, (absent, 9).into(), b"anybody?").unwrap();
@@ -400,7 +401,7 @@ fn without_patience_a_packet_waits() {
     let mut for_ever = settings();
     for_ever.patience = Duration::ZERO;
     let mut node = Node::of(&for_ever, &[CIDR]);
-    let socket = node.host.udp_open(7.into(), 4, 64).unwrap();
+    let socket = node.host.udp_open(7.into(), Rooms::new(4, 64)).unwrap();
     node.host.udp_send(socket, (neighbor(9).0, 9).into(), b"anybody?").unwrap();
     for hour in 0..24 {
         assert_eq!(node.sends(Instant::from_secs(hour * 3600)), asks(9));
@@ -532,9 +533,9 @@ fn packets_are_sent_with_the_hop_limit_of_their_socket() {
     let mut node = Node::new(&[CIDR]);
     let (peer, link) = neighbor(2);
     fill(&mut node, 2, link, millis(0));
-    let udp = node.host.udp_open(7.into(), 4, 64).unwrap();
-    let icmp = node.host.icmp_open_ident(1, 4, 64).unwrap();
-    let raw = node.host.raw_open(IpVersion::Ipv4, IpProtocol::Unknown(253), 4, 64).unwrap();
+    let udp = node.host.udp_open(7.into(), Rooms::new(4, 64)).unwrap();
+    let icmp = node.host.icmp_open_ident(1, Rooms::new(4, 64)).unwrap();
+    let raw = node.host.raw_open(IpVersion::Ipv4, IpProtocol::Unknown(253), Rooms::new(4, 64)).unwrap();
     assert_eq!((node.host.hop_limit(udp), node.host.hop_limit(icmp)), (Ok(64), Ok(64)));
     for (udp_limit, icmp_limit) in [(64, 64), (1, 255), (255, 2)] {
         node.host.udp_send(udp, (peer, 9).into(), b"x").unwrap();
@@ -558,7 +559,7 @@ fn packets_are_sent_with_the_hop_limit_of_their_socket() {
 fn queues_tell_what_waits() {
     let mut node = Node::new(&[CIDR]);
     let (peer, link) = neighbor(2);
-    let socket = node.host.udp_open(7.into(), 3, 64).unwrap();
+    let socket = node.host.udp_open(7.into(), Rooms::new(3, 64)).unwrap();
     let told = |node: &mut Node| {
         let queues = node.host.queues(socket).unwrap();
         [queues.received, queues.to_send].map(|queue| {
@@ -588,7 +589,7 @@ fn queues_tell_what_waits() {
 fn it_is_told_once_that_sockets_may_have_changed() {
     let mut node = Node::new(&[CIDR]);
     let (peer, link) = neighbor(2);
-    let socket = node.host.udp_open(7.into(), 4, 64).unwrap();
+    let socket = node.host.udp_open(7.into(), Rooms::new(4, 64)).unwrap();
     let changed = |node: &mut Node| (node.host.sockets_changed(), node.host.sockets_changed());
     assert_eq!(changed(&mut node), (false, false));
     node.take(millis(0), &[]);
@@ -608,7 +609,7 @@ fn it_is_told_once_that_sockets_may_have_changed() {
 fn frames_are_counted() {
     let mut node = Node::new(&[CIDR]);
     let (peer, link) = neighbor(2);
-    let socket = node.host.udp_open(7.into(), 4, 64).unwrap();
+    let socket = node.host.udp_open(7.into(), Rooms::new(4, 64)).unwrap();
     let counted = |node: &mut Node| {
         let counters = node.host.counters();
         (counters.frames_in, counters.frames_out, counters.given_up, counters.no_memory)
@@ -643,7 +644,7 @@ fn a_socket_at_an_unspecified_address_is_at_any() {
     let mut node = Node::new(&[CIDR, LINK_LOCAL]);
     let at = |text: &str, port| IpListenEndpoint { addr: text.parse().ok(), port };
     for refused in ["224.0.0.1", "255.255.255.255", "ff02::1"] {
-        assert_eq!(node.host.udp_open(at(refused, 7), 4, 64), Err(Error::BadAddress));
+        assert_eq!(node.host.udp_open(at(refused, 7), Rooms::new(4, 64)), Err(Error::BadAddress));
     }
     let (peer, link) = neighbor(2);
     let peer_6 = Ipv6Address::new(0xfe80, 0, 0, 0, 0, 0, 0, 2);
@@ -652,11 +653,142 @@ fn a_socket_at_an_unspecified_address_is_at_any() {
     for (port, text, over_4, over_6) in
         [(7, "", true, true), (8, "0.0.0.0", true, true), (9, "::", true, true), (10, "192.168.69.1", true, false)]
     {
-        let socket = node.host.udp_open(at(text, port), 4, 64).unwrap();
+        let socket = node.host.udp_open(at(text, port), Rooms::new(4, 64)).unwrap();
         node.take(millis(0), &ethernet(OWN, link, 0x0800, &udp4(peer, SELF, (9, port), b"four")));
         assert_eq!(node.host.udp_receive(socket, &mut out).is_ok(), over_4);
         node.take(millis(0), &ethernet(OWN, link, 0x86dd, &udp6(peer_6, own_6, (9, port), b"six")));
         assert_eq!(node.host.udp_receive(socket, &mut out).is_ok(), over_6);
+    }
+}
+
+/// `iface.h`: each of a socket's queues holds what it is given.
+#[test]
+fn queues_are_of_two_sizes() {
+    let mut node = Node::new(&[CIDR]);
+    let rooms = Rooms { received: Room { packets: 3, octets: 500 }, to_send: Room { packets: 2, octets: 40 } };
+    let sockets = [
+        node.host.udp_open(7.into(), rooms).unwrap(),
+        node.host.raw_open(IpVersion::Ipv4, IpProtocol::Unknown(253), rooms).unwrap(),
+        node.host.icmp_open_ident(1, rooms).unwrap(),
+        node.host.icmp_open_port(7, rooms).unwrap(),
+        node.host.tcp_open(7.into(), None, rooms).unwrap(),
+    ];
+    for socket in sockets {
+        let queues = node.host.queues(socket).unwrap();
+        assert_eq!((queues.received.most_packets, queues.received.most_octets), (3, 500));
+        assert_eq!((queues.to_send.most_packets, queues.to_send.most_octets), (2, 40));
+    }
+}
+
+/// `iface.h`: what is looked at stays, and is the first one as it is taken.
+#[test]
+fn packets_are_looked_at() {
+    let mut node = Node::new(&[CIDR]);
+    let (peer, link) = neighbor(2);
+    let rooms = Rooms::new(4, 256);
+    let udp = node.host.udp_open(7.into(), rooms).unwrap();
+    let raw = node.host.raw_open(IpVersion::Ipv4, IpProtocol::Unknown(253), rooms).unwrap();
+    let icmp = node.host.icmp_open_ident(0x22b, rooms).unwrap();
+    let mut out = [0; 64];
+    assert_eq!(node.host.udp_peek(udp, &mut out), Err(Error::Empty));
+    assert_eq!(node.host.udp_peek(raw, &mut out), Err(Error::NoSocket));
+    for payload in [b"one".as_slice(), b"two"] {
+        node.take(millis(0), &ethernet(OWN, link, 0x0800, &udp4(peer, SELF, (9, 7), payload)));
+    }
+    node.take(millis(0), &ethernet(OWN, link, 0x0800, &ipv4(peer, SELF, 253, 0, 0, b"packet")));
+    let mut reply = vec![0, 0, 0, 0, 2, 0x2b, 0, 1, b'x'];
+    let check = common::sum(&reply).to_be_bytes();
+    reply[2..4].copy_from_slice(&check);
+    node.take(millis(0), &ethernet(OWN, link, 0x0800, &ipv4(peer, SELF, 1, 0, 0, &reply)));
+    for _ in 0..2 {
+        assert_eq!(node.host.udp_peek(udp, &mut out), Ok((3, IpEndpoint::new(peer.into(), 9))));
+        assert_eq!(&out[..3], b"one");
+        assert_eq!(node.host.raw_peek(raw, &mut out), Ok(26));
+        assert_eq!(&out[20..26], b"packet");
+        assert_eq!(node.host.icmp_peek(icmp, &mut out), Ok((9, peer.into())));
+        assert_eq!(out[..9], reply);
+        assert_eq!(node.host.udp_peek(udp, &mut out[..2]), Err(Error::NoRoom));
+    }
+    assert_eq!(node.host.queues(udp).unwrap().received.packets, 2);
+    for payload in [b"one", b"two"] {
+        assert_eq!(node.host.udp_receive(udp, &mut out).unwrap().0, 3);
+        assert_eq!(&out[..3], payload);
+    }
+    assert_eq!(node.host.raw_receive(raw, &mut out), Ok(26));
+    assert_eq!(node.host.raw_peek(raw, &mut out), Err(Error::Empty));
+}
+
+/// RFC 9293, 3.1 (the header) and 3.10.7.1 (a reset for a segment of no connection): a socket hands a SYN in, and one that
+/// acknowledges it out; when it holds back it sends later, and when it is aborted it answers by a reset.
+#[test]
+fn segments_are_handed_in_and_out() {
+    let mut node = Node::new(&[CIDR]);
+    let (peer, link) = neighbor(2);
+    let mut out = [0; 64];
+    let from = IpEndpoint::new(peer.into(), 1024);
+    let at = |host: &mut Host, remote| host.tcp_open(80.into(), remote, Rooms::new(4, 256));
+    assert_eq!(at(&mut node.host, Some(IpEndpoint::new(peer.into(), 0))), Err(Error::BadPort));
+    assert_eq!(at(&mut node.host, Some(IpEndpoint::new(IpAddress::v4(0, 0, 0, 0), 9))), Err(Error::BadAddress));
+    let other = at(&mut node.host, Some(IpEndpoint::new(peer.into(), 1025))).unwrap();
+    let socket = at(&mut node.host, None).unwrap();
+    fill(&mut node, 2, link, millis(0));
+    let syn = tcp4(peer, SELF, (1024, 80), (0xffff_ffff, 0), 0x02, 64240, b"");
+    assert_eq!(node.take(millis(0), &ethernet(OWN, link, 0x0800, &syn)), None);
+    let came = Segment {
+        remote: from,
+        control: TcpControl::Syn,
+        seq_number: TcpSeqNumber(-1),
+        ack_number: None,
+        window_len: 64240,
+    };
+    assert_eq!(node.host.tcp_receive(other, &mut out), Err(Error::Empty));
+    assert_eq!(node.host.tcp_peek(socket, &mut out), Ok((0, came)));
+    assert_eq!(node.host.tcp_receive(socket, &mut out), Ok((0, came)));
+    assert_eq!(node.host.tcp_peek(socket, &mut out), Err(Error::Empty));
+    let acknowledges = Segment {
+        seq_number: TcpSeqNumber(0x0102_0304),
+        ack_number: Some(came.seq_number + 1),
+        window_len: 1000,
+        ..came
+    };
+    node.host.tcp_hold(socket, millis(5)).unwrap();
+    node.host.tcp_send(socket, acknowledges, b"").unwrap();
+    assert_eq!(node.sends(millis(4)), vec![]);
+    assert_eq!(node.host.poll_at(millis(4)), Some(millis(5)));
+    let sent = node.frames(millis(5));
+    assert_eq!(sent.len(), 1);
+    assert_eq!(sent[0][34..50], [0, 80, 4, 0, 1, 2, 3, 4, 0, 0, 0, 0, 0x50, 0x12, 3, 232]);
+    node.host.tcp_send(socket, Segment { control: TcpControl::Psh, ..acknowledges }, b"hello").unwrap();
+    let sent = node.frames(millis(5));
+    assert_eq!((sent[0][47], &sent[0][54..59]), (0x18, b"hello".as_slice()));
+    node.host.tcp_abort(socket).unwrap();
+    let data = tcp4(peer, SELF, (1024, 80), (0, 0x0102_0305), 0x18, 64240, b"x");
+    let reset = node.take(millis(5), &ethernet(OWN, link, 0x0800, &data)).unwrap();
+    assert_eq!(reset[34..50], [0, 80, 4, 0, 1, 2, 3, 5, 0, 0, 0, 0, 0x50, 4, 0, 0]);
+    assert_eq!(node.host.tcp_receive(socket, &mut out), Err(Error::Empty));
+    assert_eq!(node.host.tcp_abort(9), Err(Error::NoSocket));
+    assert_eq!(node.host.set_hop_limit(socket, 9), Ok(()));
+    assert_eq!(node.host.hop_limit(socket), Ok(9));
+}
+
+/// smoltcp bounds a segment's window by so many of the device's frames as it takes at once, less the headers of IP and
+/// TCP.
+#[test]
+fn windows_are_bounded_by_bursts() {
+    let mut settings = Settings::new(HardwareAddress::Ip);
+    settings.burst = Some(2);
+    let mut node = Node::of(&settings, &[CIDR]);
+    let socket = node.host.tcp_open(80.into(), None, Rooms::new(4, 256)).unwrap();
+    for (window_len, sent) in [(2947, 2947_u16), (2948, 2948), (2949, 2948), (u16::MAX, 2948)] {
+        let segment = Segment {
+            remote: IpEndpoint::new(IpAddress::v4(192, 168, 69, 2), 9),
+            control: TcpControl::None,
+            seq_number: TcpSeqNumber(0),
+            ack_number: None,
+            window_len,
+        };
+        node.host.tcp_send(socket, segment, b"").unwrap();
+        assert_eq!(node.frames(millis(0))[0][34..36], sent.to_be_bytes());
     }
 }
 

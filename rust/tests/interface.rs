@@ -9,11 +9,11 @@ use fumitorygate::iface::{
     Config, Interface, MulticastError, PollIngressSingleResult, PollResult, Route, RouteTableFull, SocketSet,
 };
 use fumitorygate::phy::{Loopback, Medium, MemoryDevice};
-use fumitorygate::socket::{Socket, icmp, raw, udp};
+use fumitorygate::socket::{Socket, icmp, raw, segment, udp};
 use fumitorygate::time::{Duration, Instant};
 use fumitorygate::wire::{
     EthernetAddress, HardwareAddress, IpAddress, IpCidr, IpEndpoint, IpListenEndpoint, IpProtocol, IpVersion,
-    Ipv4Address, Ipv6Address,
+    Ipv4Address, Ipv6Address, TcpControl, TcpSeqNumber,
 };
 
 const SELF: Ipv4Address = Ipv4Address::new(192, 168, 69, 1);
@@ -659,19 +659,94 @@ fn the_delay_is_the_time_until_the_next_poll() {
     assert_eq!(iface.poll_delay(millis(6001), &sockets), Some(Duration::ZERO));
 }
 
-/// `API.md`: both queues of a socket get the greater.
+/// smoltcp's documentation of the four capacities.
 #[test]
-fn a_socket_has_the_greater_of_its_two_capacities() {
+fn a_socket_has_two_capacities() {
     let (small, great) = (udp::PacketBuffer::with_capacity(1, 300), udp::PacketBuffer::with_capacity(3, 200));
     let socket = udp::Socket::new(small, great);
-    assert_eq!((socket.packet_recv_capacity(), socket.packet_send_capacity()), (3, 3));
-    assert_eq!((socket.payload_recv_capacity(), socket.payload_send_capacity()), (300, 300));
+    assert_eq!((socket.packet_recv_capacity(), socket.packet_send_capacity()), (1, 3));
+    assert_eq!((socket.payload_recv_capacity(), socket.payload_send_capacity()), (300, 200));
     let (_, _, mut sockets) = interface();
     let handle = sockets.add(socket);
     let socket = sockets.get_mut::<udp::Socket>(handle);
     socket.bind(7).unwrap();
-    assert_eq!((socket.packet_recv_capacity(), socket.packet_send_capacity()), (3, 3));
-    assert_eq!((socket.payload_recv_capacity(), socket.payload_send_capacity()), (300, 300));
+    assert_eq!((socket.packet_recv_capacity(), socket.packet_send_capacity()), (1, 3));
+    assert_eq!((socket.payload_recv_capacity(), socket.payload_send_capacity()), (300, 200));
+}
+
+/// smoltcp's documentation of `peek`: nothing is taken, so the queue has no more room than before.
+#[test]
+fn what_is_looked_at_keeps_its_place() {
+    let (mut device, mut iface, mut sockets) = interface();
+    let handle = sockets.add(udp::Socket::new(udp::PacketBuffer::with_capacity(1, 300), buffer()));
+    sockets.get_mut::<udp::Socket>(handle).bind(7).unwrap();
+    for text in [b"one".as_slice(), b"two"] {
+        device.incoming.push_back(datagram(text));
+        iface.poll(millis(0), &mut device, &mut sockets);
+        assert_eq!(sockets.get_mut::<udp::Socket>(handle).peek().unwrap().0, b"one");
+    }
+    let socket = sockets.get_mut::<udp::Socket>(handle);
+    assert_eq!(socket.recv().unwrap().0, b"one");
+    assert_eq!(socket.recv(), Err(udp::RecvError::Exhausted));
+}
+
+/// `socket::segment`: over a loopback, one socket gets what another sends; one that was aborted before it came into its
+/// set answers by a reset.
+#[test]
+fn segments_go_from_socket_to_socket() {
+    let mut device = Loopback::new(Medium::Ip);
+    let mut iface = Interface::new(Config::new(HardwareAddress::Ip), &mut device, Instant::ZERO).unwrap();
+    iface.update_ip_addrs(|list| list.push(IpCidr::new(SELF.into(), 24)).unwrap()).unwrap();
+    let mut sockets = SocketSet::new(&iface);
+    let ends = [IpEndpoint::new(SELF.into(), 80), IpEndpoint::new(SELF.into(), 1024)];
+    let mut socket = segment::Socket::new(buffer(), buffer());
+    assert_eq!(socket.bind(0, None), Err(segment::BindError::Unaddressable));
+    assert_eq!(socket.bind(80, Some(IpEndpoint::new(SELF.into(), 0))), Err(segment::BindError::Unaddressable));
+    socket.bind(80, Some(ends[1])).unwrap();
+    assert_eq!(socket.bind(81, None), Err(segment::BindError::InvalidState));
+    assert_eq!((socket.local_endpoint(), socket.remote_endpoint()), (80.into(), Some(ends[1])));
+    let server = sockets.add(socket);
+    let mut socket = segment::Socket::new(buffer(), buffer());
+    socket.bind(1024, None).unwrap();
+    socket.hold_until(millis(5));
+    socket.set_hop_limit(Some(9));
+    let client = sockets.add(socket);
+    let syn = segment::Segment {
+        remote: ends[0],
+        control: TcpControl::Syn,
+        seq_number: TcpSeqNumber(7),
+        ack_number: None,
+        window_len: 1000,
+    };
+    sockets.get_mut::<segment::Socket>(client).send_slice(b"early", syn).unwrap();
+    iface.poll(millis(4), &mut device, &mut sockets);
+    iface.poll(millis(4), &mut device, &mut sockets);
+    assert!(!sockets.get::<segment::Socket>(server).can_recv());
+    iface.poll(millis(5), &mut device, &mut sockets);
+    iface.poll(millis(5), &mut device, &mut sockets);
+    let socket = sockets.get_mut::<segment::Socket>(server);
+    let came = segment::Segment { remote: ends[1], ..syn };
+    assert_eq!(socket.peek(), Ok((b"early".as_slice(), &came)));
+    assert_eq!(socket.peek_slice(&mut [0; 4]), Err(segment::RecvError::Truncated));
+    assert_eq!(socket.recv_slice(&mut [0; 5]), Ok((5, came)));
+    socket.close();
+    socket.bind(80, None).unwrap();
+    socket.abort();
+    sockets.get_mut::<segment::Socket>(client).send_slice(b"", syn).unwrap();
+    for _ in 0..3 {
+        iface.poll(millis(5), &mut device, &mut sockets);
+    }
+    let (payload, reset) = sockets.get_mut::<segment::Socket>(client).recv().unwrap();
+    // RFC 9293, 3.10.7.1: number 0, which acknowledges the SYN.
+    let wanted = segment::Segment {
+        remote: ends[0],
+        control: TcpControl::Rst,
+        seq_number: TcpSeqNumber(0),
+        ack_number: Some(TcpSeqNumber(8)),
+        window_len: 0,
+    };
+    assert_eq!((payload, reset), (b"".as_slice(), wanted));
+    assert!(!sockets.get::<segment::Socket>(server).can_recv());
 }
 
 /// Interface and sockets in threads of their own, each of which calls the host. Of two calls at a time the library

@@ -2,7 +2,7 @@
 use fumitorygate::time::{Duration, Instant};
 use fumitorygate::wire::{
     EthernetAddress, HardwareAddress, IpAddress, IpCidr, IpEndpoint, IpListenEndpoint, IpProtocol, Ipv4Address,
-    Ipv6Address, Ipv6Cidr, ParseError,
+    Ipv6Address, Ipv6Cidr, ParseError, TcpSeqNumber,
 };
 
 /// RFC 2464, 4: its example.
@@ -67,4 +67,17 @@ fn instants_stay_in_their_range() {
     assert_eq!(Instant::from_millis(1500) - Instant::from_secs(1), Duration::from_millis(500));
     assert_eq!(Instant::from_millis(1500).to_string(), "1.500s");
     assert_eq!(core::time::Duration::from(Duration::from_millis(7)), core::time::Duration::from_millis(7));
+}
+
+/// RFC 9293, 3.4: numbers are counted modulo 2^32, and compared by which is before the other.
+#[test]
+fn sequence_numbers_are_counted_modulo_2_to_the_32() {
+    let last = TcpSeqNumber(-1);
+    assert_eq!(last + 1, TcpSeqNumber(0));
+    assert_eq!(TcpSeqNumber(0) - 1, last);
+    assert_eq!(TcpSeqNumber(4) - last, 5);
+    assert!(last < TcpSeqNumber(0) && TcpSeqNumber(i32::MAX) < TcpSeqNumber(i32::MIN));
+    let mut number = TcpSeqNumber(i32::MAX);
+    number += 2;
+    assert_eq!((number, number.to_string()), (TcpSeqNumber(i32::MIN + 1), "2147483649".into()));
 }

@@ -1,7 +1,7 @@
 //! Interfaces.
 use super::{Addresses, Neighbors, RouteList, Routes, SocketSet};
 use crate::host::{Counters, Error, FRAME_ROOM, Frame, Host, Settings};
-use crate::phy::{ChecksumCapabilities, Device, Medium, RxToken, TxToken};
+use crate::phy::{Device, DeviceCapabilities, Medium, RxToken, TxToken};
 use crate::shared::Shared;
 use crate::time::{Duration, Instant};
 use crate::wire::{HardwareAddress, IpAddress, IpCidr, Ipv4Address, Ipv6Address};
@@ -43,16 +43,17 @@ impl Config {
         }
     }
 
-    fn settings(&self, frame_len: u32, checksum: ChecksumCapabilities, start: Instant) -> Settings {
+    fn settings(&self, capabilities: &DeviceCapabilities, start: Instant) -> Settings {
         let mut settings = Settings::new(self.hardware_addr);
         settings.random_seed = self.random_seed;
-        settings.frame_len = frame_len;
+        settings.frame_len = u32::try_from(capabilities.max_transmission_unit).unwrap_or(u32::MAX);
         settings.slaac = self.slaac;
         settings.sockets = self.sockets;
         settings.patience = self.patience;
         settings.reassembly_timeout = self.reassembly_timeout;
         settings.start = start;
-        settings.checksum = checksum;
+        settings.checksum = capabilities.checksum;
+        settings.burst = capabilities.max_burst_size.map(|frames| u32::try_from(frames).unwrap_or(u32::MAX));
         settings
     }
 }
@@ -151,8 +152,7 @@ impl Interface {
         if (capabilities.medium == Medium::Ip) != (config.hardware_addr == HardwareAddress::Ip) {
             return Err(Error::BadArgument);
         }
-        let frame_len = u32::try_from(capabilities.max_transmission_unit).unwrap_or(u32::MAX);
-        let host = Host::new(&config.settings(frame_len, capabilities.checksum, now))?;
+        let host = Host::new(&config.settings(&capabilities, now))?;
         Ok(Interface { host: Shared::new(host), out: Box::new([0; FRAME_ROOM]), given_up: 0 })
     }
 

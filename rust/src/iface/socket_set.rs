@@ -62,6 +62,7 @@ impl<'a> SocketSet<'a> {
     ///
     /// # Errors
     /// The socket, if it can't be opened.
+    #[expect(clippy::result_large_err, reason = "the socket is returned")]
     pub fn try_add<T: AnySocket<'a>>(&mut self, socket: T) -> Result<SocketHandle, AddError<'a>> {
         let mut socket = socket.upcast();
         if let Err(error) = socket.attach(&self.host) {

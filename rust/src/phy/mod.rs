@@ -38,6 +38,9 @@ pub struct DeviceCapabilities {
     pub max_transmission_unit: usize,
     /// Which checksums the library verifies and computes: all, unless they are set.
     pub checksum: ChecksumCapabilities,
+    /// How many frames it takes one after the other: the window in a segment of TCP is at most what so many carry.
+    /// `None` sets no bound, and so does 0.
+    pub max_burst_size: Option<usize>,
 }
 
 impl Default for DeviceCapabilities {
@@ -47,6 +50,7 @@ impl Default for DeviceCapabilities {
             medium: Medium::Ethernet,
             max_transmission_unit: crate::FRAME_ROOM,
             checksum: ChecksumCapabilities::default(),
+            max_burst_size: None,
         }
     }
 }

@@ -1,7 +1,7 @@
 //! ICMP sockets, for both versions of IP (RFC 792, RFC 4443).
 pub use super::{BindError, PacketBuffer, PacketMetadata, RecvError, SendError};
 use super::{Core, Kind, common, hop_limits};
-use crate::host::{Error, Host};
+use crate::host::{Error, Host, Rooms};
 use crate::wire::{IpAddress, IpListenEndpoint};
 use core::marker::PhantomData;
 
@@ -43,16 +43,21 @@ impl Kind for Icmp {
     type Endpoint = Open;
     type Meta = IpAddress;
 
-    fn open(host: &mut Host, endpoint: Open, packets: u32, octets: u32) -> Result<u32, Error> {
+    fn open(host: &mut Host, endpoint: Open, rooms: Rooms) -> Result<u32, Error> {
         match endpoint {
-            Open::Ident(ident) => host.icmp_open_ident(ident, packets, octets),
-            Open::Port(port) => host.icmp_open_port(port, packets, octets),
+            Open::Ident(ident) => host.icmp_open_ident(ident, rooms),
+            Open::Port(port) => host.icmp_open_port(port, rooms),
         }
     }
 
     #[inline]
     fn receive(host: &mut Host, number: u32, out: &mut [u8]) -> Result<(usize, IpAddress), Error> {
         host.icmp_receive(number, out)
+    }
+
+    #[inline]
+    fn peek(host: &mut Host, number: u32, out: &mut [u8]) -> Result<(usize, IpAddress), Error> {
+        host.icmp_peek(number, out)
     }
 }
 
@@ -126,5 +131,21 @@ impl<'a> Socket<'a> {
     #[inline]
     pub fn recv_slice(&mut self, data: &mut [u8]) -> Result<(usize, IpAddress), RecvError> {
         self.core.recv_slice(data)
+    }
+
+    /// The first message that came, which stays. smoltcp has none such.
+    ///
+    /// # Errors
+    /// [`RecvError::Exhausted`] if none came.
+    pub fn peek(&mut self) -> Result<(&[u8], &IpAddress), RecvError> {
+        self.core.peek()
+    }
+
+    /// Copies the first message that came, which stays, into a buffer, and returns its length. smoltcp has none such.
+    ///
+    /// # Errors
+    /// [`RecvError::Exhausted`] if none came, [`RecvError::Truncated`] if it is longer than the buffer.
+    pub fn peek_slice(&mut self, data: &mut [u8]) -> Result<(usize, &IpAddress), RecvError> {
+        self.core.peek_slice(data)
     }
 }

@@ -1,8 +1,8 @@
-//! Sockets: [`udp`], [`icmp`] and [`raw`].
+//! Sockets: [`udp`], [`icmp`] and [`raw`], and [`segment`] for TCP.
 //!
 //! A socket is opened when it is bound in a [`SocketSet`](crate::iface::SocketSet), or when it comes into one and was
 //! bound before. Its queues are the library's: outside a set it has none.
-use crate::host::{Error, Host, Queues};
+use crate::host::{Error, Host, Queues, Room, Rooms};
 use crate::shared::Shared;
 use crate::time::Instant;
 use crate::wire::IpAddress;
@@ -12,6 +12,7 @@ use core::marker::PhantomData;
 
 pub mod icmp;
 pub mod raw;
+pub mod segment;
 pub mod udp;
 
 /// A socket of any kind.
@@ -24,6 +25,8 @@ pub enum Socket<'a> {
     Icmp(icmp::Socket<'a>),
     /// A UDP socket.
     Udp(udp::Socket<'a>),
+    /// A socket for segments of TCP.
+    Segment(segment::Socket<'a>),
 }
 
 impl Socket<'_> {
@@ -33,6 +36,7 @@ impl Socket<'_> {
             Socket::Raw(socket) => socket.core.attach(host),
             Socket::Icmp(socket) => socket.core.attach(host),
             Socket::Udp(socket) => socket.core.attach(host),
+            Socket::Segment(socket) => socket.core.attach(host),
         }
     }
 
@@ -42,6 +46,7 @@ impl Socket<'_> {
             Socket::Raw(socket) => socket.core.detach(),
             Socket::Icmp(socket) => socket.core.detach(),
             Socket::Udp(socket) => socket.core.detach(),
+            Socket::Segment(socket) => socket.core.detach(),
         }
     }
 }
@@ -83,13 +88,10 @@ impl PacketMetadata {
     pub const EMPTY: PacketMetadata = PacketMetadata(());
 }
 
-/// How much a queue of a socket holds: so many packets, with so many octets together.
-///
-/// The queue itself is the library's, which takes the greater of a socket's two for both.
+/// How much a queue of a socket holds: so many packets, with so many octets together. The queue itself is the library's.
 #[derive(Clone, Copy, Debug, PartialEq, Eq)]
 pub struct PacketBuffer<'a> {
-    packets: u32,
-    octets: u32,
+    room: Room,
     lifetime: PhantomData<&'a mut [u8]>,
 }
 
@@ -102,7 +104,7 @@ impl<'a> PacketBuffer<'a> {
     /// So many packets, with so many octets together.
     pub fn with_capacity(packets: usize, octets: usize) -> PacketBuffer<'a> {
         let at_most = |number| u32::try_from(number).unwrap_or(u32::MAX);
-        PacketBuffer { packets: at_most(packets), octets: at_most(octets), lifetime: PhantomData }
+        PacketBuffer { room: Room { packets: at_most(packets), octets: at_most(octets) }, lifetime: PhantomData }
     }
 }
 
@@ -201,8 +203,10 @@ pub(crate) trait Kind {
     /// What is told of a packet that came.
     type Meta: Copy + fmt::Debug;
 
-    fn open(host: &mut Host, endpoint: Self::Endpoint, packets: u32, octets: u32) -> Result<u32, Error>;
+    fn open(host: &mut Host, endpoint: Self::Endpoint, rooms: Rooms) -> Result<u32, Error>;
     fn receive(host: &mut Host, number: u32, out: &mut [u8]) -> Result<(usize, Self::Meta), Error>;
+    /// As `receive`, but the packet stays.
+    fn peek(host: &mut Host, number: u32, out: &mut [u8]) -> Result<(usize, Self::Meta), Error>;
 }
 
 /// What all sockets have: what they are bound to, and at a host the number that names them.
@@ -211,14 +215,12 @@ pub(crate) struct Core<K: Kind> {
     host: Option<Shared>,
     endpoint: Option<K::Endpoint>,
     number: Option<u32>,
-    packets: u32,
-    octets: u32,
+    rooms: Rooms,
     hop_limit: Option<u8>,
     /// Where packets are read that are lent.
     buffer: Vec<u8>,
-    /// The length and origin of the packet in `buffer` that was taken from the library to be looked at, but not by the
-    /// program.
-    ahead: Option<(usize, K::Meta)>,
+    /// The origin of the packet that was looked at last, which is lent.
+    looked_at: Option<K::Meta>,
 }
 
 impl<K: Kind> Core<K> {
@@ -227,11 +229,10 @@ impl<K: Kind> Core<K> {
             host: None,
             endpoint: None,
             number: None,
-            packets: rx.packets.max(tx.packets),
-            octets: rx.octets.max(tx.octets),
+            rooms: Rooms { received: rx.room, to_send: tx.room },
             hop_limit: None,
             buffer: Vec::new(),
-            ahead: None,
+            looked_at: None,
         }
     }
 
@@ -248,14 +249,13 @@ impl<K: Kind> Core<K> {
             // It is open by this number.
             let _ = host.with(|host| host.close(number));
         }
-        self.ahead = None;
     }
 
     fn open(&mut self, host: &Shared, endpoint: K::Endpoint) -> Result<(), Error> {
-        let octets = self.octets as usize;
+        let octets = self.rooms.received.octets as usize;
         self.buffer.try_reserve_exact(octets.saturating_sub(self.buffer.len())).map_err(|_| Error::NoMemory)?;
         self.number = Some(host.with(|host| {
-            let number = K::open(host, endpoint, self.packets, self.octets)?;
+            let number = K::open(host, endpoint, self.rooms)?;
             if let Some(hop_limit) = self.hop_limit {
                 // It is open by this number, and the limit isn't 0.
                 let _ = host.set_hop_limit(number, hop_limit);
@@ -306,7 +306,7 @@ impl<K: Kind> Core<K> {
         f: impl FnOnce(&mut [u8]) -> usize,
         send: impl FnOnce(&mut Host, u32, &[u8]) -> Result<(), Error>,
     ) -> Result<usize, SendError> {
-        if max_size > self.octets as usize {
+        if max_size > self.rooms.to_send.octets as usize {
             return Err(SendError::BufferFull);
         }
         let mut buffer = alloc::vec![0; max_size];
@@ -322,7 +322,7 @@ impl<K: Kind> Core<K> {
     }
 
     fn can_recv(&self) -> bool {
-        self.ahead.is_some() || self.queues().is_some_and(|queues| queues.received.packets > 0)
+        self.queues().is_some_and(|queues| queues.received.packets > 0)
     }
 
     fn can_send(&self) -> bool {
@@ -330,8 +330,7 @@ impl<K: Kind> Core<K> {
     }
 
     fn recv_queue(&self) -> usize {
-        let ahead = self.ahead.as_ref().map_or(0, |(length, _)| *length);
-        ahead + self.queues().map_or(0, |queues| queues.received.octets as usize)
+        self.queues().map_or(0, |queues| queues.received.octets as usize)
     }
 
     fn send_queue(&self) -> usize {
@@ -345,50 +344,48 @@ impl<K: Kind> Core<K> {
         let _ = self.call(|host, number| host.set_hop_limit(number, hop_limit.unwrap_or(DEFAULT_HOP_LIMIT)));
     }
 
-    /// Has the first packet in `buffer`.
+    /// Has the first packet in `buffer`, by a call that takes it, or one that leaves it.
     #[inline]
-    fn fetch(&mut self) -> Result<(), RecvError> {
-        if self.ahead.is_none() {
-            let mut buffer = core::mem::take(&mut self.buffer);
-            let taken = self.call(|host, number| K::receive(host, number, &mut buffer));
-            self.buffer = buffer;
-            self.ahead = Some(taken.map_err(|_| RecvError::Exhausted)?);
-        }
-        Ok(())
+    fn read(
+        &mut self,
+        read: impl FnOnce(&mut Host, u32, &mut [u8]) -> Result<(usize, K::Meta), Error>,
+    ) -> Result<(usize, K::Meta), RecvError> {
+        let mut buffer = core::mem::take(&mut self.buffer);
+        let done = self.call(|host, number| read(host, number, &mut buffer));
+        self.buffer = buffer;
+        done.map_err(|_| RecvError::Exhausted)
     }
 
     #[inline]
     fn recv(&mut self) -> Result<(&[u8], K::Meta), RecvError> {
-        self.fetch()?;
-        let (length, meta) = self.ahead.take().ok_or(RecvError::Exhausted)?;
+        let (length, meta) = self.read(K::receive)?;
         Ok((self.buffer.get(..length).unwrap_or_default(), meta))
     }
 
     #[inline]
     fn recv_slice(&mut self, data: &mut [u8]) -> Result<(usize, K::Meta), RecvError> {
-        if self.ahead.is_none() {
-            // Right into the caller's buffer.
-            match self.call(|host, number| K::receive(host, number, data)) {
-                Ok(taken) => return Ok(taken),
-                Err(Error::NoRoom) => {}
-                Err(_) => return Err(RecvError::Exhausted),
+        match self.call(|host, number| K::receive(host, number, data)) {
+            Ok(taken) => Ok(taken),
+            Err(Error::NoRoom) => {
+                // It is dropped, as by smoltcp.
+                self.read(K::receive)?;
+                Err(RecvError::Truncated)
             }
+            Err(_) => Err(RecvError::Exhausted),
         }
-        let (packet, meta) = self.recv()?;
-        data.get_mut(..packet.len()).ok_or(RecvError::Truncated)?.copy_from_slice(packet);
-        Ok((packet.len(), meta))
     }
 
     fn peek(&mut self) -> Result<(&[u8], &K::Meta), RecvError> {
-        self.fetch()?;
-        let (length, meta) = self.ahead.as_ref().ok_or(RecvError::Exhausted)?;
-        Ok((self.buffer.get(..*length).unwrap_or_default(), meta))
+        let (length, meta) = self.read(K::peek)?;
+        Ok((self.buffer.get(..length).unwrap_or_default(), self.looked_at.insert(meta)))
     }
 
     fn peek_slice(&mut self, data: &mut [u8]) -> Result<(usize, &K::Meta), RecvError> {
-        let (packet, meta) = self.peek()?;
-        data.get_mut(..packet.len()).ok_or(RecvError::Truncated)?.copy_from_slice(packet);
-        Ok((packet.len(), meta))
+        match self.call(|host, number| K::peek(host, number, data)) {
+            Ok((length, meta)) => Ok((length, self.looked_at.insert(meta))),
+            Err(Error::NoRoom) => Err(RecvError::Truncated),
+            Err(_) => Err(RecvError::Exhausted),
+        }
     }
 
     fn waiting(&self) -> Option<(IpAddress, Instant)> {
@@ -406,7 +403,7 @@ impl<K: Kind> Drop for Core<K> {
     }
 }
 
-/// What the three kinds of sockets share.
+/// What the kinds of sockets share.
 macro_rules! common {
     ($kind:ident) => {
         impl<'a> crate::socket::AnySocket<'a> for Socket<'a> {
@@ -451,22 +448,22 @@ macro_rules! common {
 
             /// How many packets its queue for what comes can hold.
             pub fn packet_recv_capacity(&self) -> usize {
-                self.core.queues().map_or(self.core.packets, |queues| queues.received.most_packets) as usize
+                self.core.rooms.received.packets as usize
             }
 
             /// How many packets its queue for what goes can hold.
             pub fn packet_send_capacity(&self) -> usize {
-                self.core.queues().map_or(self.core.packets, |queues| queues.to_send.most_packets) as usize
+                self.core.rooms.to_send.packets as usize
             }
 
             /// How many octets its queue for what comes can hold.
             pub fn payload_recv_capacity(&self) -> usize {
-                self.core.queues().map_or(self.core.octets, |queues| queues.received.most_octets) as usize
+                self.core.rooms.received.octets as usize
             }
 
             /// How many octets its queue for what goes can hold.
             pub fn payload_send_capacity(&self) -> usize {
-                self.core.queues().map_or(self.core.octets, |queues| queues.to_send.most_octets) as usize
+                self.core.rooms.to_send.octets as usize
             }
 
             /// For which destination its first packet waits, since no neighbour answers for it, and since when, as of
@@ -486,7 +483,7 @@ macro_rules! common {
 }
 pub(crate) use common;
 
-/// What UDP and ICMP sockets share: raw ones send packets with headers of their own.
+/// What all but raw sockets share, which send packets with headers of their own.
 macro_rules! hop_limits {
     () => {
         impl Socket<'_> {

@@ -1,7 +1,7 @@
 //! Raw sockets, for whole packets of one version of IP and one protocol.
 pub use super::{BindError, PacketBuffer, PacketMetadata, RecvError, SendError};
 use super::{Core, Kind, common};
-use crate::host::{Error, Host};
+use crate::host::{Error, Host, Rooms};
 use crate::wire::{IpProtocol, IpVersion};
 use core::marker::PhantomData;
 
@@ -12,13 +12,18 @@ impl Kind for Raw {
     type Endpoint = (IpVersion, IpProtocol);
     type Meta = ();
 
-    fn open(host: &mut Host, endpoint: (IpVersion, IpProtocol), packets: u32, octets: u32) -> Result<u32, Error> {
-        host.raw_open(endpoint.0, endpoint.1, packets, octets)
+    fn open(host: &mut Host, endpoint: (IpVersion, IpProtocol), rooms: Rooms) -> Result<u32, Error> {
+        host.raw_open(endpoint.0, endpoint.1, rooms)
     }
 
     #[inline]
     fn receive(host: &mut Host, number: u32, out: &mut [u8]) -> Result<(usize, ()), Error> {
         host.raw_receive(number, out).map(|length| (length, ()))
+    }
+
+    #[inline]
+    fn peek(host: &mut Host, number: u32, out: &mut [u8]) -> Result<(usize, ()), Error> {
+        host.raw_peek(number, out).map(|length| (length, ()))
     }
 }
 
@@ -99,8 +104,7 @@ impl<'a> Socket<'a> {
         self.core.recv_slice(data).map(|(length, ())| length)
     }
 
-    /// The first packet that came, which stays. The library has no call that reads without taking, so it stays in the
-    /// socket itself, and the queue has room for one more.
+    /// The first packet that came, which stays.
     ///
     /// # Errors
     /// [`RecvError::Exhausted`] if none came.

@@ -1,7 +1,7 @@
 //! UDP sockets (RFC 768).
 pub use super::{BindError, PacketBuffer, PacketMetadata, RecvError, SendError};
 use super::{Core, Kind, common, hop_limits};
-use crate::host::{Error, Host};
+use crate::host::{Error, Host, Rooms};
 use crate::wire::{IpEndpoint, IpListenEndpoint};
 use core::fmt;
 use core::marker::PhantomData;
@@ -33,13 +33,18 @@ impl Kind for Udp {
     type Endpoint = IpListenEndpoint;
     type Meta = UdpMetadata;
 
-    fn open(host: &mut Host, endpoint: IpListenEndpoint, packets: u32, octets: u32) -> Result<u32, Error> {
-        host.udp_open(endpoint, packets, octets)
+    fn open(host: &mut Host, endpoint: IpListenEndpoint, rooms: Rooms) -> Result<u32, Error> {
+        host.udp_open(endpoint, rooms)
     }
 
     #[inline]
     fn receive(host: &mut Host, number: u32, out: &mut [u8]) -> Result<(usize, UdpMetadata), Error> {
         host.udp_receive(number, out).map(|(length, from)| (length, from.into()))
+    }
+
+    #[inline]
+    fn peek(host: &mut Host, number: u32, out: &mut [u8]) -> Result<(usize, UdpMetadata), Error> {
+        host.udp_peek(number, out).map(|(length, from)| (length, from.into()))
     }
 }
 
@@ -128,8 +133,7 @@ impl<'a> Socket<'a> {
         self.core.recv_slice(data)
     }
 
-    /// The first datagram that came, which stays. The library has no call that reads without taking, so it stays in the
-    /// socket itself, and the queue has room for one more.
+    /// The first datagram that came, which stays.
     ///
     /// # Errors
     /// [`RecvError::Exhausted`] if none came.

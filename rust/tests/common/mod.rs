@@ -3,7 +3,7 @@
 
 use fumitorygate::time::Instant;
 use fumitorygate::wire::{EthernetAddress, HardwareAddress, IpAddress, IpCidr, IpEndpoint, Ipv4Address, Ipv6Address};
-use fumitorygate::{FRAME_ROOM, Host, Settings};
+use fumitorygate::{FRAME_ROOM, Host, Rooms, Settings};
 
 pub const OWN: [u8; 6] = [2, 0, 0, 0, 0, 1];
 
@@ -54,6 +54,29 @@ pub fn udp4(from: Ipv4Address, to: Ipv4Address, ports: (u16, u16), payload: &[u8
     };
     datagram[6..8].copy_from_slice(&check.to_be_bytes());
     ipv4(from, to, 17, 0, 0, &datagram)
+}
+
+/// A segment without options (RFC 9293, 3.1): its ports, sequence and acknowledgement number, flags and window.
+pub fn tcp4(
+    from: Ipv4Address,
+    to: Ipv4Address,
+    ports: (u16, u16),
+    numbers: (u32, u32),
+    flags: u8,
+    window: u16,
+    payload: &[u8],
+) -> Vec<u8> {
+    let mut segment = [&ports.0.to_be_bytes()[..], &ports.1.to_be_bytes()].concat();
+    segment.extend(numbers.0.to_be_bytes());
+    segment.extend(numbers.1.to_be_bytes());
+    segment.extend([5 << 4, flags]);
+    segment.extend(window.to_be_bytes());
+    segment.extend([0; 4]);
+    segment.extend(payload);
+    let length = (segment.len() as u16).to_be_bytes();
+    let check = sum(&[&from.octets()[..], &to.octets(), &[0, 6], &length, &segment].concat());
+    segment[16..18].copy_from_slice(&check.to_be_bytes());
+    ipv4(from, to, 6, 0, 0, &segment)
 }
 
 pub fn ipv6(from: Ipv6Address, to: Ipv6Address, next: u8, hop_limit: u8, payload: &[u8]) -> Vec<u8> {
@@ -172,7 +195,7 @@ impl Node {
     /// Sends a datagram from a socket of its own, which is closed then, and tells what is sent: what upstream's tests
     /// ask by `lookup`.
     pub fn lookup(&mut self, to: impl Into<IpAddress>, now: Instant) -> Vec<Seen> {
-        let socket = self.host.udp_open(0x3000.into(), 1, 64).unwrap();
+        let socket = self.host.udp_open(0x3000.into(), Rooms::new(1, 64)).unwrap();
         self.host.udp_send(socket, IpEndpoint::new(to.into(), 9), b"lookup").unwrap();
         let all = self.sends(now);
         self.host.close(socket).unwrap();
