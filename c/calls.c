@@ -338,7 +338,7 @@ static void looks_at_packets(void) {
         wants_address("from", &from, &peer);
         wants("the message", n == 8 && memcmp(got, message + 20, 8) == 0, 1);
         must("look", iface_raw_peek(&host, raw, got, sizeof got, &n));
-        wants("the packet", n == 28 && memcmp(got, message, 28) == 0, 1);
+        wants("the packet", n == 28 && memcmp(got + 12, message + 12, 16) == 0, 1); /* the rest is written anew */
     }
     must("take", iface_icmp_receive(&host, icmp, &from, got, sizeof got, &n));
     wants("taken", iface_icmp_peek(&host, icmp, &from, got, sizeof got, &n), IFACE_EMPTY);
