@@ -13,7 +13,7 @@ pub const IFACE_OK: u32 = 0;
 pub const IFACE_NO_HOST: u32 = 1;
 /// `iface_new`: the handle owns a host already
 pub const IFACE_HAS_HOST: u32 = 2;
-/// a version of IP that is neither 4 nor 6, a prefix longer than the address, a medium, a hop limit of 0
+/// a version of IP that is neither 4 nor 6, a prefix longer than the address, a medium, a checksum, a control of a segment, a hop limit of 0
 pub const IFACE_BAD_ARGUMENT: u32 = 3;
 /// malloc or realloc refused
 pub const IFACE_NO_MEMORY: u32 = 4;
@@ -21,7 +21,7 @@ pub const IFACE_NO_MEMORY: u32 = 4;
 pub const IFACE_BAD_MTU: u32 = 5;
 /// a hardware address or an own address that can't be one
 pub const IFACE_NOT_UNICAST: u32 = 6;
-/// a moment below 0 or above 2^62, that of a host's start and of a route's end too
+/// a moment below 0 or above 2^62, that of a host's start, a route's end and a hold too
 pub const IFACE_BAD_MOMENT: u32 = 7;
 /// a destination that is unspecified, a group that is none, a socket's own that is no host's
 pub const IFACE_BAD_ADDRESS: u32 = 8;
