@@ -12,4 +12,5 @@ pub mod TimelyArrivals
 pub mod SentPieces
 pub mod TwoHosts
 pub mod RequestsWhileWaiting
+pub mod FramesOfCalls
 pub mod CallLaws

@@ -28,6 +28,7 @@ use Rattle.host_machine.proofs.Receiving.LearntNeighbors.{neighbors_came}
 use Rattle.host_machine.proofs.Receiving.ReplyLaws.{advert_told, arp_told, errors_caused, errors_v6_caused, resets_caused}
 use Rattle.host_machine.proofs.Receiving.SettingChanges.{frames_keep, reports_asked}
 use Rattle.host_machine.proofs.Receiving.WrongSums.{headers_dropped, payloads_dropped, payloads_v6_dropped}
+use Rattle.host_machine.proofs.Runs.FramesOfCalls.{egress_frames, ingress_frames}
 use Rattle.host_machine.proofs.Runs.RequestsWhileWaiting.{requests_go}
 use Rattle.host_machine.proofs.Sending.DueWork.{due_done, pieces_go}
 use Rattle.host_machine.proofs.Sending.FirstPackets.{first_echoes_go, first_packets_go}
@@ -64,6 +65,7 @@ received t answer p i = record {
   answer = answer;
   call = i;
   single = single t answer p.before p.after p.told p.notes i;
+  frames = ingress_frames t answer p.before p.after p.told p.notes i;
   serves = record {
     arp_requests = arp_served t p.before p.after p.told;
     solicitations = solicitations_served t p.before p.after p.told;
@@ -82,6 +84,7 @@ sent : (t : ℤ) (answer : PollResult) (p : Transition) → Egress t answer p.be
 sent t answer p e = record {
   answer = answer;
   call = e;
+  frames = egress_frames t answer p.before p.after p.told p.notes e;
   first_datagrams = firsts_go t answer p.before p.after p.told p.notes e;
   first_packets = first_packets_go t answer p.before p.after p.told p.notes e;
   first_echoes = first_echoes_go t answer p.before p.after p.told p.notes e;

@@ -7,7 +7,7 @@ use Rattle.host_machine.specs.declared.command.Command.TheVariants.{PollIngressS
 use Rattle.host_machine.specs.declared.results.PollIngressSingleResult.{PollIngressSingleResult}
 use Rattle.host_machine.specs.declared.results.PollResult.{PollResult}
 use Rattle.host_machine.specs.State.Note.{Note}
-use Rattle.host_machine.specs.State.Host.{Host}
+use Rattle.host_machine.specs.State.Host.{Host, at}
 use Rattle.host_machine.specs.Receiving.Reply.{Reply}
 use Rattle.host_machine.specs.Sending.Egress.{Egress}
 use Rattle.host_machine.specs.Polling.Ingress.{Ingress}
@@ -26,6 +26,7 @@ use Rattle.host_machine.specs.Laws.Restraint.Queries.{IgmpIsAsked, MldIsAsked}
 use Rattle.host_machine.specs.Laws.Restraint.Readings.{Receives}
 use Rattle.host_machine.specs.Laws.Restraint.Replies.{AdvertisesOnlyItself, SendsErrorsV6WithCause, SendsErrorsWithCause}
 use Rattle.host_machine.specs.Laws.Restraint.Replies.{SendsResetsWithCause, TellsItselfByArp}
+use Rattle.host_machine.specs.Laws.Restraint.SentFrames.{IsSentByEgress, IsSentByIngress}
 use Rattle.host_machine.specs.Laws.Restraint.Settings.{KeepsAddressesAndRoutes, KeepsAtFrame, KeepsSettings, MaySet}
 
 -- what a call at t that receives does for others
@@ -67,6 +68,7 @@ pub record IsIngress (t : ℤ) (p : Transition) : Type 0 where
   pub answer : PollIngressSingleResult
   pub call : Ingress t answer p.before p.told p.notes p.after
   pub single : (length (handed_frames p.told) ≤ 1) × (length (sent_frames p.told) ≤ 1)
+  pub frames : AllByRecursion (IsSentByIngress t p.before p.told p.after) (sent_frames p.told)
   pub serves : ServesOthers t p.before p.told p.after
   pub restrained : (frame : List ℕ) (w : Receives t frame p.before p.told p.notes p.after) →
       IsRestrained t frame w.call.response.reply p.before p.told p.notes p.after
@@ -75,6 +77,7 @@ pub record IsIngress (t : ℤ) (p : Transition) : Type 0 where
 pub record IsEgress (t : ℤ) (p : Transition) : Type 0 where
   pub answer : PollResult
   pub call : Egress t answer p.before p.told p.notes p.after
+  pub frames : AllByRecursion (IsSentByEgress (at p.before t)) (sent_frames p.told)
   pub first_datagrams : SendsFirstDatagrams t p.before p.told p.after
   pub first_packets : SendsFirstPackets t p.before p.told p.after
   pub first_echoes : SendsFirstEchoes t p.before p.told p.after

@@ -4,5 +4,6 @@ pub mod Checksums
 pub mod Neighbors
 pub mod Replies
 pub mod NextHop
+pub mod SentFrames
 pub mod Queries
 pub mod Settings
