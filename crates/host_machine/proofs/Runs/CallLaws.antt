@@ -28,7 +28,7 @@ use Rattle.host_machine.proofs.Receiving.LearntNeighbors.{neighbors_came}
 use Rattle.host_machine.proofs.Receiving.ReplyLaws.{advert_told, arp_told, errors_caused, errors_v6_caused, resets_caused}
 use Rattle.host_machine.proofs.Receiving.SettingChanges.{frames_keep, reports_asked}
 use Rattle.host_machine.proofs.Receiving.WrongSums.{headers_dropped, payloads_dropped, payloads_v6_dropped}
-use Rattle.host_machine.proofs.Runs.FramesOfCalls.{egress_frames, ingress_frames}
+use Rattle.host_machine.proofs.Runs.FramesOfCalls.{ingress_frames, sends_in_order}
 use Rattle.host_machine.proofs.Runs.RequestsWhileWaiting.{requests_go}
 use Rattle.host_machine.proofs.Sending.DueWork.{due_done, pieces_go}
 use Rattle.host_machine.proofs.Sending.FirstPackets.{first_echoes_go, first_packets_go}
@@ -81,10 +81,13 @@ received t answer p i = record {
 }
 
 sent : (t : ℤ) (answer : PollResult) (p : Transition) → Egress t answer p.before p.told p.notes p.after → IsEgress t p
-sent t answer p e = record {
+sent t answer p e = let s = sends_in_order t answer p.before p.after p.told p.notes e in record {
   answer = answer;
   call = e;
-  frames = egress_frames t answer p.before p.after p.told p.notes e;
+  frames = s.frames;
+  igmp_answer = s.igmp_answer;
+  mld_answer = s.mld_answer;
+  groups = s.groups;
   first_datagrams = firsts_go t answer p.before p.after p.told p.notes e;
   first_packets = first_packets_go t answer p.before p.after p.told p.notes e;
   first_echoes = first_echoes_go t answer p.before p.after p.told p.notes e;

@@ -22,11 +22,11 @@ use Rattle.host_machine.specs.Laws.Restraint.Checksums.{DropsWrongHeaders, Drops
 use Rattle.host_machine.specs.Laws.Restraint.Foreign.{DropsForeignPackets, DropsForeignPacketsV6, DropsFramesForOthers}
 use Rattle.host_machine.specs.Laws.Restraint.Foreign.{DropsPacketsFromNoHost, DropsPacketsFromNoHostV6}
 use Rattle.host_machine.specs.Laws.Restraint.Neighbors.{LearnsFromFrames, MayReceive, LearnsNobody}
-use Rattle.host_machine.specs.Laws.Restraint.Queries.{IgmpIsAsked, MldIsAsked}
+use Rattle.host_machine.specs.Laws.Restraint.Queries.{IgmpGoesOn, IgmpIsAsked, MakesNonePending, MldGoesOn, MldIsAsked}
 use Rattle.host_machine.specs.Laws.Restraint.Readings.{Receives}
 use Rattle.host_machine.specs.Laws.Restraint.Replies.{AdvertisesOnlyItself, SendsErrorsV6WithCause, SendsErrorsWithCause}
 use Rattle.host_machine.specs.Laws.Restraint.Replies.{SendsResetsWithCause, TellsItselfByArp}
-use Rattle.host_machine.specs.Laws.Restraint.SentFrames.{IsSentByEgress, IsSentByIngress}
+use Rattle.host_machine.specs.Laws.Restraint.SentFrames.{IsOfReply, SendsInOrder}
 use Rattle.host_machine.specs.Laws.Restraint.Settings.{KeepsAddressesAndRoutes, KeepsAtFrame, KeepsSettings, MaySet}
 
 -- what a call at t that receives does for others
@@ -62,22 +62,26 @@ pub record IsRestrained (t : ℤ) (frame : List ℕ) (reply : Option Reply) (old
   pub igmp_answers : IgmpIsAsked t frame old new
   pub mld_answers : MldIsAsked t frame old new
 
--- a call that receives, by the rules: it receives one frame at most, and sends one at most; it serves others, and is
--- restrained
+-- a call that receives, by the rules: it receives one frame at most, and sends one at most, which has its reply; it
+-- serves others, and is restrained
 pub record IsIngress (t : ℤ) (p : Transition) : Type 0 where
   pub answer : PollIngressSingleResult
   pub call : Ingress t answer p.before p.told p.notes p.after
   pub single : (length (handed_frames p.told) ≤ 1) × (length (sent_frames p.told) ≤ 1)
-  pub frames : AllByRecursion (IsSentByIngress t p.before p.told p.after) (sent_frames p.told)
+  pub frames : AllByRecursion (IsOfReply t call.response.reply p.before p.told p.after) (sent_frames p.told)
   pub serves : ServesOthers t p.before p.told p.after
   pub restrained : (frame : List ℕ) (w : Receives t frame p.before p.told p.notes p.after) →
       IsRestrained t frame w.call.response.reply p.before p.told p.notes p.after
 
--- a call that sends, by the rules: it sends what it may, and keeps the settings
+-- a call that sends, by the rules: each frame has its reason, and each report waits for its moment and is sent once; it
+-- sends what it may, and keeps the settings
 pub record IsEgress (t : ℤ) (p : Transition) : Type 0 where
   pub answer : PollResult
   pub call : Egress t answer p.before p.told p.notes p.after
-  pub frames : AllByRecursion (IsSentByEgress (at p.before t)) (sent_frames p.told)
+  pub frames : SendsInOrder (at p.before t) (sent_frames p.told) p.after
+  pub igmp_answer : IgmpGoesOn t p.before.igmp_report p.after.igmp_report
+  pub mld_answer : MldGoesOn t p.before.mld_report p.after.mld_report
+  pub groups : MakesNonePending p.before p.after
   pub first_datagrams : SendsFirstDatagrams t p.before p.told p.after
   pub first_packets : SendsFirstPackets t p.before p.told p.after
   pub first_echoes : SendsFirstEchoes t p.before p.told p.after

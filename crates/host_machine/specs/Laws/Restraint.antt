@@ -4,6 +4,6 @@ pub mod Checksums
 pub mod Neighbors
 pub mod Replies
 pub mod NextHop
-pub mod SentFrames
 pub mod Queries
+pub mod SentFrames
 pub mod Settings
