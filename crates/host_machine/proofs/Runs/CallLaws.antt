@@ -27,6 +27,7 @@ use Rattle.host_machine.proofs.Receiving.FrameRepliesV6.{pings_v6_served, solici
 use Rattle.host_machine.proofs.Receiving.LearntNeighbors.{neighbors_came}
 use Rattle.host_machine.proofs.Receiving.ReplyLaws.{advert_told, arp_told, errors_caused, errors_v6_caused, resets_caused}
 use Rattle.host_machine.proofs.Receiving.SettingChanges.{frames_keep, reports_asked}
+use Rattle.host_machine.proofs.Receiving.SocketDelivery.{raw_packets_queued, segments_queued}
 use Rattle.host_machine.proofs.Receiving.WrongSums.{headers_dropped, payloads_dropped, payloads_v6_dropped}
 use Rattle.host_machine.proofs.Runs.FramesOfCalls.{ingress_frames, sends_in_order}
 use Rattle.host_machine.proofs.Runs.RequestsWhileWaiting.{requests_go}
@@ -76,6 +77,8 @@ received t answer p i = record {
     closed_ports = ports_told t p.before p.after p.told;
     closed_ports_v6 = ports_v6_told t p.before p.after p.told;
     echo_replies = replies_queued t p.before p.after p.told;
+    raw_packets = raw_packets_queued t p.before p.after p.told;
+    segments = segments_queued t p.before p.after p.told;
   };
   restrained = λ frame w. restrained t frame p.before p.after p.told p.notes w;
 }
