@@ -6,19 +6,20 @@ use Rattle.std.proofs.lemmas.Option.{slice_get_within}
 use Rattle.std.specs.Prelude.{ℤ, pos, ◌+ℤ◌, ◌≤ℤ◌, slice_get}
 use Rattle.std.specs.Cmp.{int_cmp_is}
 use Rattle.std.specs.List.{AllByRecursion}
-use Rattle.std.specs.Option.{option_and_then}
+use Rattle.std.specs.Option.{option_and_then, option_map}
 use Rattle.std.specs.declared.cmp.Ordering.TheVariants.{Less}
 use Rattle.net_base.specs.Device.{Event, Reception, Received, Frame, Nothing, Withheld, handed_frames, sent_frames}
 use Rattle.ip_address.specs.declared.cidr.IpCidr.{IpCidr}
 use Rattle.ip_address.specs.declared.ethernet_address.EthernetAddress.{EthernetAddress}
 use Rattle.ip_address.specs.declared.hardware.HardwareAddress.TheVariants as hardware
 use Rattle.ip_address.specs.declared.ip.IpAddress.{IpAddress}
+use Rattle.ip_address.specs.declared.ip.IpAddress.TheVariants.{Ipv4}
 use Rattle.ip_address.specs.declared.ipv4.Ipv4Address.{Ipv4Address}
 use Rattle.ip_wire.specs.declared.arp.ArpRepr.{ArpRepr}
 use Rattle.group_wire.specs.declared.igmp.IgmpVersion.{IgmpVersion}
 use Rattle.group_wire.specs.declared.mld.MldRecordType.TheVariants.{ModeIsExclude}
 use Rattle.fragmentation.specs.Cuts.{Piece}
-use Rattle.group_table.specs.Groups.{count_in}
+use Rattle.group_table.specs.Groups.{count_in, ipv4_groups}
 use Rattle.group_table.specs.declared.groups.Group.{Group}
 use Rattle.group_table.specs.declared.groups.GroupState.{GroupState}
 use Rattle.group_table.specs.declared.groups.GroupState.TheVariants.{Joining, Leaving}
@@ -57,6 +58,7 @@ use Rattle.host_machine.specs.Laws.Restraint.Queries.{MldGoesOn}
 use Rattle.host_machine.specs.Laws.Restraint.Queries as queries
 use Rattle.host_machine.specs.Laws.Restraint.Readings.{Receives}
 use Rattle.host_machine.specs.Laws.Restraint.SentFrames.{SendsAs, IsOfPacket, IsOfReply, SendsInOrder, replying}
+use Rattle.host_machine.specs.Laws.Restraint.SentFrames.{IsListed, MayReport, MayReportV6}
 use Rattle.host_machine.specs.Laws.Restraint.SentFrames.{IsIgmpAnswer, IsMldAnswer, IsNextPiece, IsOfSocket, IsReport, IsSolicitation}
 use Rattle.host_machine.specs.Laws.Restraint.SentFrames as law
 use Rattle.host_machine.proofs.Polling.OneFrameCalls.{dispatched}
@@ -70,7 +72,7 @@ use Rattle.host_machine.proofs.Runs.FramesOfPackets.{Ways, as_after, as_itself, 
 use Rattle.host_machine.proofs.Runs.Walk.{sent_frames-append, taken}
 use Rattle.host_machine.proofs.Sending.DueWork.{le_not_lt}
 use Rattle.host_machine.proofs.Sending.GrantedEgress.{untouched}
-use Rattle.host_machine.proofs.Sending.GroupReports.{Was, fewer_after_join, fewer_after_leave, first_one, reports_carry}
+use Rattle.host_machine.proofs.Sending.GroupReports.{Came, Was, came_by_join, came_by_leave, came_itself, came_v4, came_v6, fewer_after_join, fewer_after_leave, first_one, reports_carry}
 use Rattle.host_machine.proofs.Sending.GroupReports.{was_before_joins, was_before_leaves, was_itself, was_pending}
 use Rattle.host_machine.proofs.Sending.ReportTimes.{joins_told_once, leaves_told_once}
 use Rattle.host_machine.proofs.Sending.SettledFields.{Settings, dispatch_leaves, response_settled}
@@ -282,50 +284,76 @@ module _ (H : Host) where
     all_told a were (multicast.UpToRefusal w) = each_told a were w
 
   -- answers to queries
-  reported_next : (K : Host) (p : Packet) → next_report K ≡ Some p → (n : IgmpVersion × Ipv4Address) × (igmp_report K.ip_addrs n.0 n.1 ≡ Some p)
-  reported_next K p e = by (next_group K K.igmp_report) e where
-    by : (o : Option (IgmpVersion × Ipv4Address)) → option_and_then (λ n. igmp_report K.ip_addrs n.0 n.1) o ≡ Some p →
-        (n : IgmpVersion × Ipv4Address) × (igmp_report K.ip_addrs n.0 n.1 ≡ Some p)
-    by None f = absurd cc
-    by (Some n) f = (n, f)
+  reported_next : (K : Host) (p : Packet) → next_report K ≡ Some p →
+      (n : IgmpVersion × Ipv4Address) × (next_group K K.igmp_report ≡ Some n) × (igmp_report K.ip_addrs n.0 n.1 ≡ Some p)
+  reported_next K p e = by (next_group K K.igmp_report) refl e where
+    by : (o : Option (IgmpVersion × Ipv4Address)) → next_group K K.igmp_report ≡ o → option_and_then (λ n. igmp_report K.ip_addrs n.0 n.1) o ≡ Some p →
+        (n : IgmpVersion × Ipv4Address) × (next_group K K.igmp_report ≡ Some n) × (igmp_report K.ip_addrs n.0 n.1 ≡ Some p)
+    by None is f = absurd cc
+    by (Some n) is f = (n, is, f)
+
+  may_report : (K : Host) (report : IgmpReportState) (n : IgmpVersion × Ipv4Address) → AllByRecursion (Came H.groups) K.groups →
+      next_group K report ≡ Some n → MayReport H.groups report n.0 n.1
+  may_report K igmp.Inactive n came e = absurd cc
+  may_report K (igmp.ToGeneralQuery version timeout interval next_index) n came e = by (slice_get (ipv4_groups K.groups) next_index) refl e where
+    by : (o : Option Ipv4Address) → slice_get (ipv4_groups K.groups) next_index ≡ o → option_map (λ g. (version, g)) o ≡ Some n →
+        (n.0 ≡ version) × IsListed H.groups (Ipv4 n.1)
+    by None is f = absurd cc
+    by (Some g) is f =
+        let same : (version, g) ≡ n = cc in
+        (sym (ap (λ x. x.0) same), subst (λ x. IsListed H.groups (Ipv4 x)) (ap (λ x. x.1) same) (came_v4 H.groups K.groups next_index g came is))
+  may_report K (igmp.ToSpecificQuery version timeout group) n came e =
+      let same : (version, group) ≡ n = cc in (sym (ap (λ x. x.0) same), sym (ap (λ x. x.1) same))
+
+  may_report_v6 : (K : Host) (report : MldReportState) → AllByRecursion (Came H.groups) K.groups →
+      has_passed (mld_timeout_of report) K.moment ≡ true → MayReportV6 H.groups report (reported_groups K report)
+  may_report_v6 K mld.Inactive came off = absurd cc
+  may_report_v6 K (mld.ToGeneralQuery timeout) came off = came_v6 H.groups K.groups came
+  may_report_v6 K (mld.ToSpecificQuery group timeout) came off = refl
 
   igmp_sent : {old new : Host} {told : List Event} {notes : List Note} → SendsAs H old → old.igmp_report ≡ H.igmp_report →
-      IgmpEgress old told notes new → Sends H (IsIgmpAnswer H) told 1 new
-  igmp_sent a s (reports.NotDue h t n e) = none_sent 1 a e (ap sent_frames t)
-  igmp_sent a s (reports.NoFurtherGroup h g t n e) =
+      AllByRecursion (Came H.groups) old.groups → IgmpEgress old told notes new → Sends H (IsIgmpAnswer H) told 1 new
+  igmp_sent a s came (reports.NotDue h t n e) = none_sent 1 a e (ap sent_frames t)
+  igmp_sent a s came (reports.NoFurtherGroup h g t n e) =
       record { still = rw e (as_kept refl refl a); why = rw t tt; few = rw t (lit≤ tt) }
-  igmp_sent a s (reports.NoAddress next h g none t n e) = none_sent 1 a e (ap sent_frames t)
-  igmp_sent a s (reports.NotGranted p h r t n e) = none_sent 1 a e (ap sent_frames t)
-  igmp_sent {old} a s (reports.Sent p outcome frames mid h r d t e) =
+  igmp_sent a s came (reports.NoAddress next h g none t n e) = none_sent 1 a e (ap sent_frames t)
+  igmp_sent a s came (reports.NotGranted p h r t n e) = none_sent 1 a e (ap sent_frames t)
+  igmp_sent {old} a s came (reports.Sent p outcome frames mid h r d t e) =
       let due = igmp_due old.igmp_report old.moment h in
       let next = reported_next old p r in
       let pending : IsPendingUntil H.igmp_report due.end = subst (λ x. IsPendingUntil x due.end) s due.pending in
       let come : due.end ≤ℤ H.moment = subst (λ x. due.end ≤ℤ x) a.moment due.come in
-      let report : igmp_report H.ip_addrs next.0.0 next.0.1 ≡ Some p = subst (λ own. igmp_report own next.0.0 next.0.1 ≡ Some p) a.addresses next.1 in
+      let report : igmp_report H.ip_addrs next.0.0 next.0.1 ≡ Some p = subst (λ own. igmp_report own next.0.0 next.0.1 ≡ Some p) a.addresses next.2 in
+      let asked : MayReport H.groups H.igmp_report next.0.0 next.0.1 =
+      subst (λ x. MayReport H.groups x next.0.0 next.0.1) s (may_report old old.igmp_report next.0 came next.1) in
       packet_sent a d (ap sent_frames t ∙ sent_frames-sends frames) (λ b. rw e (as_kept refl refl b)) (λ frame f. record {
         timeout = due.end;
         pending = pending;
         passed = come;
         version = next.0.0;
         group = next.0.1;
+        asked_for = asked;
         packet = p;
         report = report;
         sent = f;
       })
 
   mld_sent : {old new : Host} {told : List Event} {notes : List Note} → SendsAs H old → old.mld_report ≡ H.mld_report →
-      MldEgress old told notes new → Sends H (IsMldAnswer H) told 1 new
-  mld_sent a s (reports.NotYet h t n e) = none_sent 1 a e (ap sent_frames t)
-  mld_sent a s (reports.GivenUp h t n e) = record { still = rw e (as_kept refl refl a); why = rw t tt; few = rw t (lit≤ tt) }
-  mld_sent {old} a s (reports.ReportGoes outcome frames mid h d t e) =
+      AllByRecursion (Came H.groups) old.groups → MldEgress old told notes new → Sends H (IsMldAnswer H) told 1 new
+  mld_sent a s came (reports.NotYet h t n e) = none_sent 1 a e (ap sent_frames t)
+  mld_sent a s came (reports.GivenUp h t n e) = record { still = rw e (as_kept refl refl a); why = rw t tt; few = rw t (lit≤ tt) }
+  mld_sent {old} a s came (reports.ReportGoes outcome frames mid h d t e) =
       let due = mld_due old.mld_report old.moment h in
       let pending : IsMldPendingUntil H.mld_report due.end = subst (λ x. IsMldPendingUntil x due.end) s due.pending in
+      let asked : MayReportV6 H.groups H.mld_report (reported_groups old old.mld_report) =
+      subst (λ x. MayReportV6 H.groups x (reported_groups old old.mld_report)) s (may_report_v6 old old.mld_report came h) in
       let come : due.end ≤ℤ H.moment = subst (λ x. due.end ≤ℤ x) a.moment due.come in
       packet_sent a d (ap sent_frames t ∙ sent_frames-sends frames) (λ b. rw e (as_kept refl refl b)) (λ frame f. record {
         timeout = due.end;
         pending = pending;
         passed = come;
         groups = reported_groups old old.mld_report;
+        asked_for = asked;
         sent = subst (λ own. IsOfPacket H (mld_report own ModeIsExclude (reported_groups old old.mld_report)) frame) a.addresses f;
       })
 
@@ -464,8 +492,15 @@ sends_in_order t answer old new told notes e =
     let joining : AllByRecursion (Was old.groups Joining) K4.groups =
     reports_carry (λ gs hs. AllByRecursion (Was old.groups Joining) gs → AllByRecursion (Was old.groups Joining) hs) (λ gs all. all)
     (λ gs hs a f all. was_before_leaves old.groups Joining hs a (f all)) r4.begins s3.were in
-    let s5 = igmp_sent H s4.still igmp4 r5.begins in
-    let s6 = mld_sent H s5.still mld5 r6.begins in
+    let came4 : AllByRecursion (Came old.groups) K4.groups =
+    reports_carry (λ gs hs. AllByRecursion (Came old.groups) gs → AllByRecursion (Came old.groups) hs) (λ gs all. all)
+    (λ gs hs a f all. came_by_leave old.groups hs a (f all)) r4.begins
+    (reports_carry (λ gs hs. AllByRecursion (Came old.groups) gs → AllByRecursion (Came old.groups) hs) (λ gs all. all)
+    (λ gs hs a f all. came_by_join old.groups hs a (f all)) r3.begins (rw groups2 (came_itself old.groups))) in
+    let groups5 : K5.groups ≡ K4.groups =
+    igmp_leaves (λ (K : Host). K.groups) (λ H. refl) (λ H. refl) (λ H rest. refl) (λ H r. refl) r5.begins in
+    let s5 = igmp_sent H s4.still igmp4 came4 r5.begins in
+    let s6 = mld_sent H s5.still mld5 (rw groups5 came4) r6.begins in
     let s7 = sockets_sent H s6.still sockets6 r6.ends in
     let fewer_joins : count_in Joining K4.groups ≤ count_in Joining K3.groups =
     reports_carry (λ gs hs. count_in Joining hs ≤ count_in Joining gs) (λ gs. omega arith)

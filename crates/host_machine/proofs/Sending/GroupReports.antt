@@ -1,24 +1,27 @@
 -- Groups whose join or leave is pending, while reports of them are sent.
 use Rattle.std.proofs.Common.{◌≡◌, ℕ, zero, suc, ◌+◌, ◌-◌, ◌<◌, ◌≤◌, cond, Bool, true, false, List, [], ◌∷◌, length, get_or, take}
-use Rattle.std.proofs.Common.{refl, ap, ◌∙◌, Option, Some, None, arith}
+use Rattle.std.proofs.Common.{refl, ap, subst, ◌∙◌, Option, Some, None, arith}
 use Rattle.std.proofs.lemmas.List.Sums.{sum_by-set, sum_by-swap_remove}
 use Rattle.std.specs.Prelude.{find, option_map, slice_get, slice_set, slice_index_or}
-use Rattle.std.specs.List.{AllByRecursion}
+use Rattle.std.specs.List.{AllByRecursion, cons_option}
 use Rattle.ip_address.specs.declared.cidr.IpCidr.{IpCidr}
 use Rattle.ip_address.specs.declared.ip.IpAddress.{IpAddress}
+use Rattle.ip_address.specs.declared.ip.IpAddress.TheVariants.{Ipv4, Ipv6}
+use Rattle.ip_address.specs.declared.ipv4.Ipv4Address.{Ipv4Address}
 use Rattle.net_base.specs.Device.{Event}
-use Rattle.group_table.specs.Groups.{count_in, first_in, index_of, is_same_state, join_reported, join_reported_from}
+use Rattle.group_table.specs.Groups.{count_in, first_in, index_of, ipv4_groups, ipv6_groups, is_same_state, of_ipv4, of_ipv6, join_reported, join_reported_from}
 use Rattle.group_table.specs.Groups.{leave_reported, leave_reported_from, new_group, state_of, taken_out, with_state}
 use Rattle.group_table.specs.declared.groups.Group.{Group}
 use Rattle.group_table.specs.declared.groups.GroupState.{GroupState}
 use Rattle.group_table.specs.declared.groups.GroupState.TheVariants.{Joining, Joined, Leaving}
-use Rattle.group_table.proofs.GroupsLemmas.{place_within}
+use Rattle.group_table.proofs.GroupsLemmas.{addr_at_index, place_within}
 use Rattle.host_machine.specs.State.Note.{Note}
 use Rattle.host_machine.specs.State.Host.{Host}
 use Rattle.host_machine.specs.Sending.Packet.{Packet}
 use Rattle.host_machine.specs.Sending.Multicast.{ReportsEach, ReportsAll}
 use Rattle.host_machine.specs.Sending.Multicast as multicast
 use Rattle.host_machine.specs.Laws.Restraint.Queries.{HasGroup}
+use Rattle.host_machine.specs.Laws.Restraint.SentFrames.{IsListed}
 use Rattle.host_machine.proofs.Sending.SettledFields.{dispatch_leaves}
 
 -- all groups of a list
@@ -110,6 +113,51 @@ was_before_leaves base state gs a all = by (state_of gs a) where
 pub was_pending : (base gs : List Group) (state : GroupState) (a : IpAddress) → AllByRecursion (Was base state) gs → HasGroup gs a state →
     HasGroup base a state
 was_pending base gs state a all h = all_at (Was base state) gs h.0 (record { addr = a; state = state }) all h.1 refl
+
+-- a group of another table, in whatever state
+abbrev pub Came : List Group → Group → Type 0
+Came base g = IsListed base g.addr
+
+pub came_itself : (base : List Group) → AllByRecursion (Came base) base
+came_itself base = all_here (Came base) base (λ k g here. (g.state, (k, here)))
+
+pub came_by_join : (base gs : List Group) (a : IpAddress) → AllByRecursion (Came base) gs → AllByRecursion (Came base) (join_reported gs a)
+came_by_join base gs a all = by (state_of gs a) refl where
+  by : (o : Option GroupState) → state_of gs a ≡ o → AllByRecursion (Came base) (join_reported_from o gs a)
+  by None is = all
+  by (Some Joined) is = all
+  by (Some Leaving) is = all
+  by (Some Joining) is =
+      let at = place_within gs a (rw is refl) in
+      let d = new_group a in
+      let one : Came base (slice_index_or gs (index_of gs a) d) = all_index (Came base) gs (index_of gs a) d all at in
+      all_set (Came base) gs (index_of gs a) (record { addr = a; state = Joined }) all (subst (IsListed base) (addr_at_index gs a d at) one)
+
+pub came_by_leave : (base gs : List Group) (a : IpAddress) → AllByRecursion (Came base) gs → AllByRecursion (Came base) (leave_reported gs a)
+came_by_leave base gs a all = by (state_of gs a) where
+  by : (o : Option GroupState) → AllByRecursion (Came base) (leave_reported_from o gs a)
+  by None = all
+  by (Some Joining) = all
+  by (Some Joined) = all
+  by (Some Leaving) = all_out (Came base) gs a all
+
+pub came_v4 : (base gs : List Group) (k : ℕ) (a : Ipv4Address) → AllByRecursion (Came base) gs → slice_get (ipv4_groups gs) k ≡ Some a →
+    IsListed base (Ipv4 a)
+came_v4 base [] k a all e = absurd cc
+came_v4 base (g ∷ gs) k a all e = by g.addr refl k (λ j f. came_v4 base gs j a all.1 f) e where
+  by : (x : IpAddress) → g.addr ≡ x → (k : ℕ) → ((j : ℕ) → slice_get (ipv4_groups gs) j ≡ Some a → IsListed base (Ipv4 a)) →
+      slice_get (cons_option (of_ipv4 x) (ipv4_groups gs)) k ≡ Some a → IsListed base (Ipv4 a)
+  by (Ipv4 b) is zero rest f = let same : b ≡ a = cc in subst (IsListed base) (is ∙ ap (λ y. Ipv4 y) same) all.0
+  by (Ipv4 b) is (suc k) rest f = rest k f
+  by (Ipv6 b) is k rest f = rest k f
+
+pub came_v6 : (base gs : List Group) → AllByRecursion (Came base) gs → AllByRecursion (λ a. IsListed base (Ipv6 a)) (ipv6_groups gs)
+came_v6 base [] all = tt
+came_v6 base (g ∷ gs) all = by g.addr refl (came_v6 base gs all.1) where
+  by : (x : IpAddress) → g.addr ≡ x → AllByRecursion (λ a. IsListed base (Ipv6 a)) (ipv6_groups gs) →
+      AllByRecursion (λ a. IsListed base (Ipv6 a)) (cons_option (of_ipv6 x) (ipv6_groups gs))
+  by (Ipv4 b) is rest = rest
+  by (Ipv6 b) is rest = (subst (IsListed base) is all.0, rest)
 
 -- no report makes more pending
 pub fewer_after_join : (state : GroupState) → is_same_state Joined state ≡ false → (gs : List Group) (a : IpAddress) →

@@ -8,6 +8,7 @@ use Rattle.ip_address.specs.declared.cidr.IpCidr.{IpCidr}
 use Rattle.ip_address.specs.declared.ethernet_address.EthernetAddress.{EthernetAddress}
 use Rattle.ip_address.specs.declared.hardware.HardwareAddress.TheVariants as hardware
 use Rattle.ip_address.specs.declared.ip.IpAddress.{IpAddress}
+use Rattle.ip_address.specs.declared.ip.IpAddress.TheVariants.{Ipv4, Ipv6}
 use Rattle.ip_address.specs.declared.ipv4.Ipv4Address.{Ipv4Address}
 use Rattle.ip_address.specs.declared.ipv6.Ipv6Address.{Ipv6Address}
 use Rattle.ip_wire.specs.declared.arp.ArpRepr.{ArpRepr}
@@ -15,8 +16,13 @@ use Rattle.group_wire.specs.declared.igmp.IgmpVersion.{IgmpVersion}
 use Rattle.group_wire.specs.declared.mld.MldRecordType.TheVariants.{ModeIsExclude}
 use Rattle.fragmentation.specs.Cuts.{Piece}
 use Rattle.group_table.specs.Groups.{AreDistinct, count_in}
+use Rattle.group_table.specs.declared.groups.Group.{Group}
 use Rattle.group_table.specs.declared.groups.GroupState.{GroupState}
 use Rattle.group_table.specs.declared.groups.GroupState.TheVariants.{Joining, Leaving}
+use Rattle.group_table.specs.declared.report.IgmpReportState.{IgmpReportState}
+use Rattle.group_table.specs.declared.report.IgmpReportState.TheVariants as igmp
+use Rattle.group_table.specs.declared.report.MldReportState.{MldReportState}
+use Rattle.group_table.specs.declared.report.MldReportState.TheVariants as mld
 use Rattle.host_machine.specs.State.Note.{Note}
 use Rattle.host_machine.specs.State.Host.{Host, Socket}
 use Rattle.host_machine.specs.Receiving.Reply.{Reply, Arp, Ip}
@@ -88,6 +94,25 @@ pub record IsReport (state : GroupState) (packet_for : List IpCidr → IpAddress
   pub report : packet_for H.ip_addrs group ≡ Some packet
   pub sent : IsOfPacket H packet frame
 
+-- an address is that of a group in the table, in whatever state
+abbrev pub IsListed : List Group → IpAddress → Type 0
+IsListed groups a = (state : GroupState) × HasGroup groups a state
+
+-- what an answer to a query of IGMP may report: a group of the table, if the query is general; otherwise the group that
+-- it is for; in the query's version
+abbrev pub MayReport : List Group → IgmpReportState → IgmpVersion → Ipv4Address → Type 0
+MayReport groups igmp.Inactive version group = ⊥
+MayReport groups (igmp.ToGeneralQuery asked timeout interval next_index) version group =
+    (version ≡ asked) × IsListed groups (Ipv4 group)
+MayReport groups (igmp.ToSpecificQuery asked timeout asked_for) version group =
+    (version ≡ asked) × (group ≡ asked_for)
+
+-- what one to a query of MLD may report
+abbrev pub MayReportV6 : List Group → MldReportState → List Ipv6Address → Type 0
+MayReportV6 groups mld.Inactive reported = ⊥
+MayReportV6 groups (mld.ToGeneralQuery timeout) reported = AllByRecursion (λ g. IsListed groups (Ipv6 g)) reported
+MayReportV6 groups (mld.ToSpecificQuery asked_for timeout) reported = reported ≡ asked_for ∷ []
+
 -- the moment of the pending answer to a query of IGMP has come
 pub record IsIgmpAnswer (H : Host) (frame : List ℕ) : Type 0 where
   pub timeout : ℤ
@@ -95,6 +120,7 @@ pub record IsIgmpAnswer (H : Host) (frame : List ℕ) : Type 0 where
   pub passed : timeout ≤ℤ H.moment
   pub version : IgmpVersion
   pub group : Ipv4Address
+  pub asked_for : MayReport H.groups H.igmp_report version group
   pub packet : Packet
   pub report : igmp_report H.ip_addrs version group ≡ Some packet
   pub sent : IsOfPacket H packet frame
@@ -105,6 +131,7 @@ pub record IsMldAnswer (H : Host) (frame : List ℕ) : Type 0 where
   pub pending : IsMldPendingUntil H.mld_report timeout
   pub passed : timeout ≤ℤ H.moment
   pub groups : List Ipv6Address
+  pub asked_for : MayReportV6 H.groups H.mld_report groups
   pub sent : IsOfPacket H (mld_report H.ip_addrs ModeIsExclude groups) frame
 
 -- a socket offers a packet
