@@ -367,14 +367,15 @@ pub fn echo_replies_are_queued()
     ensures { EchoRepliesAreQueued }
 {}
 
-/// A whole IPv4 packet is last in the queue of each raw socket of its version and protocol that has room for it,
-/// whatever its destination. Its header is written anew, without options. It comes from a unicast address.
+/// A whole packet is last in the queue of each raw socket of its version and protocol that has room for it. Its header
+/// is written anew, without options. It comes from a unicast address: over IPv4 to any destination, over IPv6 to an
+/// address assigned to the host, without hop-by-hop options.
 pub fn raw_packets_are_queued()
     ensures { RawPacketsAreQueued }
 {}
 
-/// A segment with a right checksum is last in the queue of the first TCP socket for it, with its sender, and nothing is
-/// sent (RFC 9293 3.10.7). The socket isn't aborted and has room.
+/// A segment is last in the queue of the first TCP socket for it, with its sender, and nothing is sent (RFC 9293
+/// 3.10.7). Its checksum is right, where that is verified; the socket isn't aborted and has room.
 pub fn segments_are_queued()
     ensures { SegmentsAreQueued }
 {}

@@ -77,8 +77,10 @@ received t answer p i = record {
     closed_ports = ports_told t p.before p.after p.told;
     closed_ports_v6 = ports_v6_told t p.before p.after p.told;
     echo_replies = replies_queued t p.before p.after p.told;
-    raw_packets = raw_packets_queued t p.before p.after p.told;
-    segments = segments_queued t p.before p.after p.told;
+    raw_packets = (raw_packets_queued t p.before p.after p.told).0;
+    raw_packets_v6 = (raw_packets_queued t p.before p.after p.told).1;
+    segments = (segments_queued t p.before p.after p.told).0;
+    segments_v6 = (segments_queued t p.before p.after p.told).1;
   };
   restrained = λ frame w. restrained t frame p.before p.after p.told p.notes w;
 }

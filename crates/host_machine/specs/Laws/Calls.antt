@@ -17,7 +17,7 @@ use Rattle.host_machine.specs.Laws.Service.{AnswersPings, AnswersPingsV6}
 use Rattle.host_machine.specs.Laws.Service.{AnswersSolicitations, DoesWhatIsDue, QueuesDatagrams, QueuesDatagramsV6}
 use Rattle.host_machine.specs.Laws.Service.{QueuesEchoReplies, SendsFirstDatagrams, SendsFirstEchoes, SendsFirstPackets}
 use Rattle.host_machine.specs.Laws.Service.{SendsPieces, SendsRequests}
-use Rattle.host_machine.specs.Laws.Received.{QueuesRawPackets, QueuesSegments}
+use Rattle.host_machine.specs.Laws.Received.{QueuesRawPackets, QueuesRawPacketsV6, QueuesSegments, QueuesSegmentsV6}
 use Rattle.host_machine.specs.Laws.Unfolded.{Unfolds}
 use Rattle.host_machine.specs.Laws.Restraint.Checksums.{DropsWrongHeaders, DropsWrongPayloads, DropsWrongPayloadsV6}
 use Rattle.host_machine.specs.Laws.Restraint.Foreign.{DropsForeignPackets, DropsForeignPacketsV6, DropsFramesForOthers}
@@ -42,7 +42,9 @@ pub record ServesOthers (t : ℤ) (old : Host) (told : List Event) (new : Host) 
   pub closed_ports_v6 : AnswersClosedPortsV6 t old told new
   pub echo_replies : QueuesEchoReplies t old told new
   pub raw_packets : QueuesRawPackets t old told new
+  pub raw_packets_v6 : QueuesRawPacketsV6 t old told new
   pub segments : QueuesSegments t old told new
+  pub segments_v6 : QueuesSegmentsV6 t old told new
 
 -- what a call at t that received this frame, and answered it by this reply if any, leaves alone
 pub record IsRestrained (t : ℤ) (frame : List ℕ) (reply : Option Reply) (old : Host) (told : List Event)
