@@ -16,7 +16,7 @@ use Rattle.host_machine.specs.Laws.Ran.{Laws}
 use Rattle.host_machine.specs.declared.command.Answer.{Answer}
 use Rattle.host_laws.specs.Datagrams.{KeepsDatagrams}
 use Rattle.host_laws.specs.EndToEnd.{GetWhatWasSent}
-use Rattle.host_laws.specs.Pings.{PingsReturn}
+use Rattle.host_laws.specs.PingsInRuns.{PingsReturn}
 use Rattle.host_laws.specs.Progress.{ComeToRest}
 use Rattle.host_laws.specs.Senders.{NoSocketWritesUdp}
 use Rattle.interface.specs.Stands.{StandsFor}

@@ -43,7 +43,8 @@ use Rattle.host_machine.specs.Laws.Service.{HasPacketV4, Pings as AsksByEcho, Ha
 use Rattle.host_machine.proofs.Receiving.FrameReplies.{pings_served}
 use Rattle.host_machine.proofs.Receiving.EchoReplies.{replies_queued}
 use Rattle.host_machine.proofs.Sending.FirstPackets.{first_echoes_go}
-use Rattle.host_laws.specs.Pings.{Knows, PingsComeBack, PingsReturn, RunsReturnPings, message_frame, message_packet}
+use Rattle.host_laws.specs.Pings.{Knows, PingsComeBack, message_frame, message_packet}
+use Rattle.host_laws.specs.PingsInRuns.{PingsReturn, RunsReturnPings}
 
 -- what is read of the frame of an echo message by the host that it is for
 record ReadsEcho (far : EthernetAddress) (K : Host) (frame : List ℕ) (r : Ipv4Repr) (message : Icmpv4Repr) (octets text : List ℕ) : Type 0 where
@@ -149,7 +150,8 @@ answered : (ha hb : EthernetAddress) (a b : Ipv4Address) (hop_limit ident seq_no
 answered ha hb a b hop_limit ident seq_no octets t u A B B' told_b ka kb ident_fits seq_no_fits fits short takes =
     let request : PacketV4 = message_packet a b hop_limit (EchoRequest ident seq_no) octets in
     let asked = reads A B ha hb request (EchoRequest ident seq_no) octets refl (ident_fits, seq_no_fits) refl
-    (request_len (is_tx A.capabilities.checksum.icmpv4) (is_tx A.capabilities.checksum.ipv4) ident seq_no octets) ka.on_ethernet ka.octets kb.octets ka.headers_summed ka.messages_summed ka.bits kb.bits short
+    (request_len (is_tx A.capabilities.checksum.icmpv4) (is_tx A.capabilities.checksum.ipv4) ident seq_no octets)
+    ka.on_ethernet ka.octets kb.octets ka.headers_summed ka.messages_summed ka.bits kb.bits short
     kb.peer_is_one kb.one kb.given in
     let pings : AsksByEcho hb B (message_frame A hb request) (header_v4 request) ident seq_no octets = record {
       payload = echo_text A (EchoRequest ident seq_no) octets;
@@ -171,7 +173,8 @@ come_back ha hb a b ident seq_no octets t u v i k A A' B B' C C' told_a told_b t
     (hardware.Ethernet hb) p.sends.granted ka.on_ethernet p.sends.first p.sends.may ka.peer_is_one ka.reached p.fits_a in
     let told_by_b = answered ha hb a b hop_limit ident seq_no octets t u A B B' told_b ka kb p.ident_fits p.seq_no_fits p.fits_b p.short p.b_takes in
     let told = reads B C hb ha reply (EchoReply ident seq_no) octets refl (p.ident_fits, p.seq_no_fits) refl
-    (reply_len (is_tx B.capabilities.checksum.icmpv4) (is_tx B.capabilities.checksum.ipv4) ident seq_no octets) kb.on_ethernet kb.octets ka.octets kb.headers_summed kb.messages_summed kb.bits ka.bits p.short
+    (reply_len (is_tx B.capabilities.checksum.icmpv4) (is_tx B.capabilities.checksum.ipv4) ident seq_no octets)
+    kb.on_ethernet kb.octets ka.octets kb.headers_summed kb.messages_summed kb.bits ka.bits p.short
     kc.peer_is_one kc.one kc.given in
     let text : List ℕ = echo_text B (EchoReply ident seq_no) octets in
     let back : HasEchoReply ha C (message_frame B ha reply) (header_v4 reply) ident seq_no text = record {

@@ -19,7 +19,7 @@ ghost use Rattle.host_machine.specs.Laws.Refusals.{RefusalsLoseNothing};
 ghost use Rattle.host_machine.specs.Laws.Determined.{DispatchIsDetermined, EgressIsDetermined};
 ghost use Rattle.host_machine.specs.Laws.Determined.{IngressIsDetermined, PollIsDetermined};
 ghost use Rattle.host_machine.specs.Laws.Determined.{ReceptionIsDetermined, RunIsDetermined, StepIsDetermined};
-ghost use Rattle.host_machine.specs.Laws.Received.{RawPacketsAreQueued, SegmentsAreQueued};
+ghost use Rattle.host_machine.specs.Laws.Received.{EchoRepliesV6AreQueued, RawPacketsAreQueued, SegmentsAreQueued};
 ghost use Rattle.host_machine.specs.Laws.Service.{ArpRequestsAreAnswered, ClosedPortsAreAnswered, ClosedPortsV6AreAnswered};
 ghost use Rattle.host_machine.specs.Laws.Service.{DatagramsAreQueued, DatagramsV6AreQueued, DueIsDone};
 ghost use Rattle.host_machine.specs.Laws.Service.{EchoRepliesAreQueued, FirstDatagramsGo, FirstEchoesGo, FirstPacketsGo};
@@ -365,6 +365,11 @@ pub fn datagrams_v6_are_queued()
 /// has room. Nothing is sent.
 pub fn echo_replies_are_queued()
     ensures { EchoRepliesAreQueued }
+{}
+
+/// So is an echo reply over IPv6, to an address assigned to the host (RFC 4443 4.2).
+pub fn echo_replies_v6_are_queued()
+    ensures { EchoRepliesV6AreQueued }
 {}
 
 /// A whole packet is last in the queue of each raw socket of its version and protocol that has room for it. Its header

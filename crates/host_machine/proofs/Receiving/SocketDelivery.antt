@@ -371,7 +371,8 @@ segment_heard : {b : Bool} {r : IpRepr} {mid : Host} {payload : List ℕ} {reply
     ProcessesTcp b r mid payload reply notes taken → Responds reply taken frames more new → tcp.is_between_unspecified r ≡ false →
     IsSegment old r payload → tcp_in payload ≡ (segment, octets) → IsFirstFor old r segment octets i s →
     HasSegmentLast r segment octets i s new × (frames ≡ [])
-segment_heard {r = r} {mid} {payload} {taken = taken} {frames = frames} more new old t segment octets i s sockets capabilities message responds known is values f =
+segment_heard {r = r} {mid} {payload} {taken = taken} {frames = frames} more new old t segment octets i s sockets capabilities message responds
+    known is values f =
     let heard : Storage → Storage = to_this (raw.takes r) (raw.storage_after_delivery (is_tx old.capabilities.checksum.ipv4) r payload) in
     let first_raw : IsFirst (accepts r segment) (map heard old.sockets.places) i (Some (Tcp s)) =
     first_still (accepts r segment) heard

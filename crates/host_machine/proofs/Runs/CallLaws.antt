@@ -19,7 +19,7 @@ use Rattle.host_machine.specs.Laws.Restraint.Readings.{Receives}
 use Rattle.host_machine.specs.Laws.Calls.{IsRestrained}
 use Rattle.host_machine.proofs.Receiving.DatagramDelivery.{datagrams_queued, ports_told}
 use Rattle.host_machine.proofs.Receiving.DatagramDeliveryV6.{datagrams_v6_queued, ports_v6_told}
-use Rattle.host_machine.proofs.Receiving.EchoReplies.{replies_queued}
+use Rattle.host_machine.proofs.Receiving.EchoReplies.{replies_queued, replies_v6_queued}
 use Rattle.host_machine.proofs.Receiving.ForeignFrames.{foreign_dropped, foreign_v6_dropped, frames_for_others_dropped}
 use Rattle.host_machine.proofs.Receiving.ForeignFrames.{unheard, unheard_v6}
 use Rattle.host_machine.proofs.Receiving.FrameReplies.{arp_served, pings_served}
@@ -77,6 +77,7 @@ received t answer p i = record {
     closed_ports = ports_told t p.before p.after p.told;
     closed_ports_v6 = ports_v6_told t p.before p.after p.told;
     echo_replies = replies_queued t p.before p.after p.told;
+    echo_replies_v6 = replies_v6_queued t p.before p.after p.told;
     raw_packets = (raw_packets_queued t p.before p.after p.told).0;
     raw_packets_v6 = (raw_packets_queued t p.before p.after p.told).1;
     segments = (segments_queued t p.before p.after p.told).0;

@@ -72,7 +72,8 @@ use Rattle.host_machine.proofs.Runs.FramesOfPackets.{Ways, as_after, as_itself, 
 use Rattle.host_machine.proofs.Runs.Walk.{sent_frames-append, taken}
 use Rattle.host_machine.proofs.Sending.DueWork.{le_not_lt}
 use Rattle.host_machine.proofs.Sending.GrantedEgress.{untouched}
-use Rattle.host_machine.proofs.Sending.GroupReports.{Came, Was, came_by_join, came_by_leave, came_itself, came_v4, came_v6, fewer_after_join, fewer_after_leave, first_one, reports_carry}
+use Rattle.host_machine.proofs.Sending.GroupReports.{Came, Was, came_by_join, came_by_leave, came_itself, came_v4, came_v6}
+use Rattle.host_machine.proofs.Sending.GroupReports.{fewer_after_join, fewer_after_leave, first_one, reports_carry}
 use Rattle.host_machine.proofs.Sending.GroupReports.{was_before_joins, was_before_leaves, was_itself, was_pending}
 use Rattle.host_machine.proofs.Sending.ReportTimes.{joins_told_once, leaves_told_once}
 use Rattle.host_machine.proofs.Sending.SettledFields.{Settings, dispatch_leaves, response_settled}

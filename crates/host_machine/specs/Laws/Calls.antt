@@ -17,13 +17,15 @@ use Rattle.host_machine.specs.Laws.Service.{AnswersPings, AnswersPingsV6}
 use Rattle.host_machine.specs.Laws.Service.{AnswersSolicitations, DoesWhatIsDue, QueuesDatagrams, QueuesDatagramsV6}
 use Rattle.host_machine.specs.Laws.Service.{QueuesEchoReplies, SendsFirstDatagrams, SendsFirstEchoes, SendsFirstPackets}
 use Rattle.host_machine.specs.Laws.Service.{SendsPieces, SendsRequests}
-use Rattle.host_machine.specs.Laws.Received.{QueuesRawPackets, QueuesRawPacketsV6, QueuesSegments, QueuesSegmentsV6}
+use Rattle.host_machine.specs.Laws.Received.{QueuesEchoRepliesV6, QueuesRawPackets, QueuesRawPacketsV6}
+use Rattle.host_machine.specs.Laws.Received.{QueuesSegments, QueuesSegmentsV6}
 use Rattle.host_machine.specs.Laws.Unfolded.{Unfolds}
 use Rattle.host_machine.specs.Laws.Restraint.Checksums.{DropsWrongHeaders, DropsWrongPayloads, DropsWrongPayloadsV6}
 use Rattle.host_machine.specs.Laws.Restraint.Foreign.{DropsForeignPackets, DropsForeignPacketsV6, DropsFramesForOthers}
 use Rattle.host_machine.specs.Laws.Restraint.Foreign.{DropsPacketsFromNoHost, DropsPacketsFromNoHostV6}
 use Rattle.host_machine.specs.Laws.Restraint.Neighbors.{LearnsFromFrames, MayReceive, LearnsNobody}
-use Rattle.host_machine.specs.Laws.Restraint.Queries.{IgmpGoesOn, IgmpIsAsked, MakesNonePending, MldGoesOn, MldIsAsked}
+use Rattle.host_machine.specs.Laws.Restraint.Queries.{IgmpGoesOn, IgmpIsAsked, MakesNonePending, MldGoesOn}
+use Rattle.host_machine.specs.Laws.Restraint.Queries.{MldIsAsked}
 use Rattle.host_machine.specs.Laws.Restraint.Readings.{Receives}
 use Rattle.host_machine.specs.Laws.Restraint.Replies.{AdvertisesOnlyItself, SendsErrorsV6WithCause, SendsErrorsWithCause}
 use Rattle.host_machine.specs.Laws.Restraint.Replies.{SendsResetsWithCause, TellsItselfByArp}
@@ -41,6 +43,7 @@ pub record ServesOthers (t : ℤ) (old : Host) (told : List Event) (new : Host) 
   pub closed_ports : AnswersClosedPorts t old told new
   pub closed_ports_v6 : AnswersClosedPortsV6 t old told new
   pub echo_replies : QueuesEchoReplies t old told new
+  pub echo_replies_v6 : QueuesEchoRepliesV6 t old told new
   pub raw_packets : QueuesRawPackets t old told new
   pub raw_packets_v6 : QueuesRawPacketsV6 t old told new
   pub segments : QueuesSegments t old told new

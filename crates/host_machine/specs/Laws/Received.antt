@@ -1,5 +1,7 @@
--- What raw and TCP sockets receive: a packet, or a segment, that comes for a socket with room is last in its queue.
-use Rattle.std.specs.Prelude.{◌≡◌, ◌≢◌, ◌⊎◌, ℕ, ◌<◌, ℤ, true, false, List, [], ◌∷◌, ◌++◌, drop, length, slice_get, Some, None}
+-- What raw and TCP sockets receive, and ICMP sockets over IPv6: a packet, a segment or an echo reply that comes for a
+-- socket with room is last in its queue.
+use Rattle.std.specs.Prelude.{◌≡◌, ◌≢◌, ◌⊎◌, ℕ, ◌<◌, ℤ, true, false, List, [], ◌∷◌, ◌++◌, drop, length, slice_get}
+use Rattle.std.specs.Prelude.{Some, None}
 use Rattle.net_base.specs.Checksum.{is_rx, is_tx}
 use Rattle.net_base.specs.Device.{Event, sent_frames}
 use Rattle.ip_address.specs.Protocol.{number_of}
@@ -18,11 +20,16 @@ use Rattle.ipv6_wire.specs.declared.ipv6_packet.Ipv6Repr.{Ipv6Repr}
 use Rattle.ip_address.specs.Ipv6 as ipv6
 use Rattle.socket_base.specs.Queue.{is_room}
 use Rattle.socket_base.specs.declared.endpoint.IpEndpoint.{IpEndpoint}
+use Rattle.icmpv6_wire.specs.Icmpv6.{icmpv6_in}
+use Rattle.icmpv6_wire.specs.declared.icmpv6.Icmpv6Repr.TheVariants.{EchoReply}
+use Rattle.network_sockets.specs.Icmp.{IcmpSocket}
+use Rattle.network_sockets.specs.declared.icmp.Endpoint.TheVariants.{Ident}
 use Rattle.network_sockets.specs.Raw.{RawSocket}
 use Rattle.transport_sockets.specs.Tcp.{TcpSocket, segment_of}
-use Rattle.sockets.specs.declared.socket.SocketOf.TheVariants.{Raw, Tcp}
+use Rattle.sockets.specs.declared.socket.SocketOf.TheVariants.{Icmp, Raw, Tcp}
 use Rattle.host_machine.specs.State.Host.{Host, is_assigned}
 use Rattle.host_machine.specs.State.Addresses.{is_unicast_v4}
+use Rattle.host_machine.specs.Receiving.Icmpv6.{IsMessage}
 use Rattle.host_machine.specs.Receiving.Tcp.{IsSegment, destination_of, source_of}
 use Rattle.host_machine.specs.Laws.Service.{HasPacketV4, HasPacketV6, IsTaken, Takes}
 
@@ -139,3 +146,32 @@ QueuesSegmentsV6 t old told new =
 abbrev pub SegmentsAreQueued : Type 0
 SegmentsAreQueued = (t : ℤ) (old new : Host) (told : List Event) →
     QueuesSegments t old told new × QueuesSegmentsV6 t old told new
+
+-- Echo replies over IPv6
+
+-- the frame carries an echo reply with this identifier and this sequence number, as the octets of its message, to an
+-- address assigned to the host (RFC 4443 4.2)
+pub record HasEchoReplyV6 (own : EthernetAddress) (H : Host) (frame : List ℕ) (r : Ipv6Repr)
+    (ident seq_no : ℕ) (message : List ℕ) : Type 0 where
+  pub in_packet : HasPacketV6 own H frame r message
+  pub given : is_assigned H.ip_addrs (Ipv6 r.dst_addr) ≡ true
+  pub protocol_is : r.next_header ≡ ip_protocol.Icmpv6
+  pub is_message : IsMessage H r message
+  pub values : (icmpv6_in message).0 ≡ EchoReply ident seq_no
+
+-- an ICMP socket with that identifier, which has room for it, has it last in its queue, with its sender; and nothing is
+-- sent
+abbrev pub QueuesEchoRepliesV6 : ℤ → Host → List Event → Host → Type 0
+QueuesEchoRepliesV6 t old told new =
+    (own : EthernetAddress) (frame : List ℕ) (r : Ipv6Repr) (ident seq_no : ℕ) (message : List ℕ) (i : ℕ)
+    (s : IcmpSocket) →
+    Takes own t frame old told new → HasEchoReplyV6 own old frame r ident seq_no message →
+    slice_get old.sockets.places i ≡ Some (Some (Icmp s)) → s.endpoint ≡ Ident ident →
+    is_room s.rx (length message) ≡ true →
+    (slice_get new.sockets.places i ≡ Some (Some (Icmp (record s {
+      rx = record s.rx { packets = s.rx.packets ++ (Ipv6 r.src_addr, message) ∷ [] };
+    }))))
+    × (sent_frames told ≡ [])
+
+abbrev pub EchoRepliesV6AreQueued : Type 0
+EchoRepliesV6AreQueued = (t : ℤ) (old new : Host) (told : List Event) → QueuesEchoRepliesV6 t old told new
