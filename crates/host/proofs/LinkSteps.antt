@@ -22,6 +22,7 @@ use Rattle.host_machine.proofs.Receiving.Pieces.{IsIn, contains_in, in_left, in_
 use Rattle.host_machine.proofs.Polling.RunConcatenation.{run_laws}
 use Rattle.host_machine.proofs.Runs.TwoHosts.{run_rebuilds}
 use Rattle.host_laws.proofs.LessWork.{runs_rest}
+use Rattle.host_laws.proofs.PingsBack.{runs_return}
 use Rattle.host_laws.proofs.RunTraffic.{runs_keep_datagrams}
 use Rattle.host_laws.proofs.DatagramOrigin.{runs_get_what_was_sent}
 use Rattle.interface.specs.Stands.{StandsFor}
@@ -341,7 +342,9 @@ link_went did_a did_b m n steps done answer a a' b b' is_m is_n none_a none_b fi
     let cuts_b =
     rebuilds H went.last_a K went.last_b went.ps went.qs regular_a regular_b (run_a went.links) (run_a over) (were_sent went.links refl none_b) in
     let cuts_a =
-    rebuilds K went.last_b H went.last_a went.qs went.ps regular_b regular_a (run_a over) (run_a went.links) (were_sent over refl none_a) in record {
+    rebuilds K went.last_b H went.last_a went.qs went.ps regular_b regular_a (run_a over) (run_a went.links) (were_sent over refl none_a) in
+    let laws_a = run_laws (run_a went.links) in
+    let laws_b = run_laws (run_a over) in record {
       done = done;
       is_done = is_done';
       went = went;
@@ -349,8 +352,8 @@ link_went did_a did_b m n steps done answer a a' b b' is_m is_n none_a none_b fi
       run_b = run_a over;
       regular_a = regular_a;
       regular_b = regular_b;
-      laws_a = run_laws (run_a went.links);
-      laws_b = run_laws (run_a over);
+      laws_a = laws_a;
+      laws_b = laws_b;
       datagrams_a = runs_keep_datagrams H went.last_a went.ps (run_a went.links);
       datagrams_b = runs_keep_datagrams K went.last_b went.qs (run_a over);
       rest_a = runs_rest H went.last_a went.ps (run_a went.links);
@@ -364,4 +367,6 @@ link_went did_a did_b m n steps done answer a a' b b' is_m is_n none_a none_b fi
       gets_b =
           gets H went.last_a K went.last_b went.ps went.qs regular_a regular_b (run_a went.links) (run_a over) (were_sent went.links refl none_b);
       gets_a = gets K went.last_b H went.last_a went.qs went.ps regular_b regular_a (run_a over) (run_a went.links) (were_sent over refl none_a);
+      pings_a = runs_return H K went.ps went.qs laws_a laws_b;
+      pings_b = runs_return K H went.qs went.ps laws_b laws_a;
     }

@@ -16,6 +16,7 @@ use Rattle.host_machine.specs.Laws.Ran.{Laws}
 use Rattle.host_machine.specs.declared.command.Answer.{Answer}
 use Rattle.host_laws.specs.Datagrams.{KeepsDatagrams}
 use Rattle.host_laws.specs.EndToEnd.{GetWhatWasSent}
+use Rattle.host_laws.specs.PingsInRuns.{PingsReturn}
 use Rattle.host_laws.specs.Progress.{ComeToRest}
 use Rattle.host_laws.specs.Senders.{NoSocketWritesUdp}
 use Rattle.interface.specs.Stands.{StandsFor}
@@ -192,6 +193,8 @@ pub record LinkWent {O P : Type 0} (did_a : Owns O) (did_b : Owns P) (steps : Li
   pub few_a : RebuildsFew K H went.qs went.ps
   pub gets_b : GetsDatagrams H K went.ps went.qs
   pub gets_a : GetsDatagrams K H went.qs went.ps
+  pub pings_a : PingsReturn laws_a.calls.calls.singles laws_b.calls.calls.singles
+  pub pings_b : PingsReturn laws_b.calls.calls.singles laws_a.calls.calls.singles
 
 -- that, from all hosts that both ends stood for
 abbrev pub LinkGoes : {O P : Type 0} → Owns O → Owns P → List LinkStep → Result (Unit {0}) LinkError → Linked O →

@@ -22,4 +22,4 @@ mod QueuesAfterTurns
 mod GroupsToName
 pub mod LessWork
 mod QueuedExample
-mod PingsBack
+pub mod PingsBack

@@ -1,14 +1,17 @@
 -- A ping comes back.
-use Rattle.std.proofs.Common.{◌≡◌, ℕ, ◌+◌, ◌<◌, ◌≤◌, Bool, true, false, List, [], ◌++◌, length, drop, refl, sym, ◌∙◌, ap, subst, arith}
+use Rattle.std.proofs.Common.{◌≡◌, ℕ, zero, suc, ◌+◌, ◌<◌, ◌≤◌, Bool, true, false, List, [], ◌∷◌, ◌++◌, length, drop, refl, sym, ◌∙◌, ap, subst, Some, arith}
 use Rattle.std.proofs.lemmas.List.{append-nil, length-append}
-use Rattle.std.specs.Prelude.{◌^◌, ◌||◌, IsTrue}
+use Rattle.std.specs.Prelude.{◌^◌, ◌||◌, ℤ, IsTrue, slice_get}
+use Rattle.std.specs.List.{AllByRecursion}
 use Rattle.std.specs.Int.{w16, to_be_bytes}
 use Rattle.std.specs.Str.{bytes_eq}
 use Rattle.std.proofs.lemmas.Slice.Eq.{bytes_eq-Decides}
-use Rattle.net_base.specs.Checksum.{is_rx, is_tx}
+use Rattle.net_base.specs.Checksum.{ip_mtu_of, is_rx, is_tx}
+use Rattle.net_base.specs.Device.{Event, handed_frames, sent_frames}
 use Rattle.ip_address.specs.declared.ethernet_address.EthernetAddress.{EthernetAddress}
 use Rattle.ip_address.specs.declared.hardware.HardwareAddress.TheVariants as hardware
 use Rattle.ip_address.specs.declared.ip.IpAddress.TheVariants.{Ipv4}
+use Rattle.ip_address.specs.declared.ipv4.Ipv4Address.{Ipv4Address}
 use Rattle.ip_address.specs.EthernetAddress as ethernet
 use Rattle.ip_address.specs.Protocol.{number_of, protocol_of}
 use Rattle.ip_wire.specs.declared.ethernet.EthernetRepr.{EthernetRepr}
@@ -27,17 +30,21 @@ use Rattle.control_wire.specs.Icmpv4.{IsIcmpv4, icmpv4_in, header_len}
 use Rattle.control_wire.specs.Icmpv4 as icmpv4
 use Rattle.control_wire.proofs.Icmpv4Again as icmpv4_again
 use Rattle.socket_base.specs.Queue.{is_room}
-use Rattle.host_machine.specs.State.Host.{Host, is_assigned}
+use Rattle.host_machine.specs.declared.command.Command.TheVariants.{PollEgress, PollIngressSingle}
+use Rattle.host_machine.specs.State.Host.{Host, at, is_assigned}
 use Rattle.host_machine.specs.State.Addresses.{is_unicast_v4}
 use Rattle.host_machine.specs.Receiving.Ethernet.{is_for}
 use Rattle.host_machine.specs.Sending.Packet.{IpPayload, PacketV4, Icmpv4, header_v4, payload_len}
 use Rattle.host_machine.specs.Sending.Packet as packet
 use Rattle.host_machine.specs.Sending.Frame.{link_header, packet_text, payload_text}
-use Rattle.host_machine.specs.Laws.Service.{HasPacketV4, Pings as AsksByEcho, HasEchoReply}
+use Rattle.host_machine.specs.Polling.Run.{Transition}
+use Rattle.host_machine.specs.Laws.Calls.{IsCallOf, IsEgress, IsIngress, KeepsCallLaws}
+use Rattle.host_machine.specs.Laws.Service.{HasPacketV4, Pings as AsksByEcho, HasEchoReply, Takes}
 use Rattle.host_machine.proofs.Receiving.FrameReplies.{pings_served}
 use Rattle.host_machine.proofs.Receiving.EchoReplies.{replies_queued}
 use Rattle.host_machine.proofs.Sending.FirstPackets.{first_echoes_go}
-use Rattle.host_laws.specs.Pings.{PingsComeBack, message_frame, message_packet}
+use Rattle.host_laws.specs.Pings.{Knows, PingsComeBack, message_frame, message_packet}
+use Rattle.host_laws.specs.PingsInRuns.{PingsReturn, RunsReturnPings}
 
 -- what is read of the frame of an echo message by the host that it is for
 record ReadsEcho (far : EthernetAddress) (K : Host) (frame : List ℕ) (r : Ipv4Repr) (message : Icmpv4Repr) (octets text : List ℕ) : Type 0 where
@@ -134,18 +141,17 @@ reply_len : (a b : Bool) (ident seq_no : ℕ) (octets : List ℕ) → length (ic
 unfolding icmpv4.head_with
 reply_len a b ident seq_no octets = omega arith
 
-pub come_back : PingsComeBack
-come_back ha hb a b ident seq_no octets t u v i k A A' B B' C C' told_a told_b told_c p =
-    let hop_limit = p.sends.socket.hop_limit in
+-- B answers
+answered : (ha hb : EthernetAddress) (a b : Ipv4Address) (hop_limit ident seq_no : ℕ) (octets : List ℕ) (t u : ℤ) (A B B' : Host)
+    (told_b : List Event) →
+    Knows (at A t) ha a hb b → Knows (at B u) hb b ha a → ident < 2 ^ 16 → seq_no < 2 ^ 16 → 28 + length octets ≤ ip_mtu_of B.capabilities →
+    28 + length octets < 2 ^ 16 → Takes hb u (message_frame A hb (message_packet a b hop_limit (EchoRequest ident seq_no) octets)) B told_b B' →
+    sent_frames told_b ≡ message_frame B ha (message_packet b a 64 (EchoReply ident seq_no) octets) ∷ []
+answered ha hb a b hop_limit ident seq_no octets t u A B B' told_b ka kb ident_fits seq_no_fits fits short takes =
     let request : PacketV4 = message_packet a b hop_limit (EchoRequest ident seq_no) octets in
-    let reply : PacketV4 = message_packet b a 64 (EchoReply ident seq_no) octets in
-    let ka = p.a_knows in
-    let kb = p.b_knows in
-    let kc = p.c_knows in
-    let went = first_echoes_go t p.sends.answer A A' told_a p.sends.notes p.sends.call ha i p.sends.socket a b ident seq_no octets
-    (hardware.Ethernet hb) p.sends.granted ka.on_ethernet p.sends.first p.sends.may ka.peer_is_one ka.reached p.fits_a in
-    let asked = reads A B ha hb request (EchoRequest ident seq_no) octets refl (p.ident_fits, p.seq_no_fits) refl
-    (request_len (is_tx A.capabilities.checksum.icmpv4) (is_tx A.capabilities.checksum.ipv4) ident seq_no octets) ka.on_ethernet ka.octets kb.octets ka.headers_summed ka.messages_summed ka.bits kb.bits p.short
+    let asked = reads A B ha hb request (EchoRequest ident seq_no) octets refl (ident_fits, seq_no_fits) refl
+    (request_len (is_tx A.capabilities.checksum.icmpv4) (is_tx A.capabilities.checksum.ipv4) ident seq_no octets)
+    ka.on_ethernet ka.octets kb.octets ka.headers_summed ka.messages_summed ka.bits kb.bits short
     kb.peer_is_one kb.one kb.given in
     let pings : AsksByEcho hb B (message_frame A hb request) (header_v4 request) ident seq_no octets = record {
       payload = echo_text A (EchoRequest ident seq_no) octets;
@@ -154,10 +160,21 @@ come_back ha hb a b ident seq_no octets t u v i k A A' B B' C C' told_a told_b t
       is_message = asked.is_message;
       values = asked.values;
     } in
-    let answered = pings_served u B B' told_b hb (message_frame A hb request) (header_v4 request) ident seq_no octets (hardware.Ethernet ha)
-    p.b_takes pings kb.reached p.fits_b in
+    pings_served u B B' told_b hb (message_frame A hb request) (header_v4 request) ident seq_no octets (hardware.Ethernet ha) takes pings kb.reached fits
+
+pub come_back : PingsComeBack
+come_back ha hb a b ident seq_no octets t u v i k A A' B B' C C' told_a told_b told_c p =
+    let hop_limit = p.sends.socket.hop_limit in
+    let reply : PacketV4 = message_packet b a 64 (EchoReply ident seq_no) octets in
+    let ka = p.a_knows in
+    let kb = p.b_knows in
+    let kc = p.c_knows in
+    let went = first_echoes_go t p.sends.answer A A' told_a p.sends.notes p.sends.call ha i p.sends.socket a b ident seq_no octets
+    (hardware.Ethernet hb) p.sends.granted ka.on_ethernet p.sends.first p.sends.may ka.peer_is_one ka.reached p.fits_a in
+    let told_by_b = answered ha hb a b hop_limit ident seq_no octets t u A B B' told_b ka kb p.ident_fits p.seq_no_fits p.fits_b p.short p.b_takes in
     let told = reads B C hb ha reply (EchoReply ident seq_no) octets refl (p.ident_fits, p.seq_no_fits) refl
-    (reply_len (is_tx B.capabilities.checksum.icmpv4) (is_tx B.capabilities.checksum.ipv4) ident seq_no octets) kb.on_ethernet kb.octets ka.octets kb.headers_summed kb.messages_summed kb.bits ka.bits p.short
+    (reply_len (is_tx B.capabilities.checksum.icmpv4) (is_tx B.capabilities.checksum.ipv4) ident seq_no octets)
+    kb.on_ethernet kb.octets ka.octets kb.headers_summed kb.messages_summed kb.bits ka.bits p.short
     kc.peer_is_one kc.one kc.given in
     let text : List ℕ = echo_text B (EchoReply ident seq_no) octets in
     let back : HasEchoReply ha C (message_frame B ha reply) (header_v4 reply) ident seq_no text = record {
@@ -172,8 +189,60 @@ come_back ha hb a b ident seq_no octets t u v i k A A' B B' C C' told_a told_b t
       front = went.front;
       back = went.back;
       request = went.frames;
-      reply = answered;
+      reply = told_by_b;
       message = text;
       queued = queued.0;
       values = told.values;
     }
+
+-- by the calls of two runs
+all_at : {X : Type 0} (P : X → Type 0) (xs : List X) (k : ℕ) (x : X) → AllByRecursion P xs → slice_get xs k ≡ Some x → P x
+all_at P [] k x all e = absurd cc
+all_at P (y ∷ xs) zero x all e = let same : y ≡ x = cc in subst P same all.0
+all_at P (y ∷ xs) (suc k) x all e = all_at P xs k x all.1 e
+
+sending : (t : ℤ) (p : Transition) → p.command ≡ PollEgress t → KeepsCallLaws p → IsEgress t p
+sending t p e k = subst (λ c. IsCallOf c p) e k.call
+
+taking : (own : EthernetAddress) (t : ℤ) (frame : List ℕ) (p : Transition) → p.command ≡ PollIngressSingle t → KeepsCallLaws p →
+    handed_frames p.told ≡ frame ∷ [] → p.before.hardware_addr ≡ hardware.Ethernet own → Takes own t frame p.before p.told p.after
+taking own t frame p e k took on =
+    let i : IsIngress t p = subst (λ c. IsCallOf c p) e k.call in
+    record { answer = i.answer; notes = p.notes; call = i.call; took = took; on_ethernet = on }
+
+pub pings_return : (ps qs : List Transition) → AllByRecursion KeepsCallLaws ps → AllByRecursion KeepsCallLaws qs → PingsReturn ps qs
+pings_return ps qs keep_p keep_q ha hb a b ident seq_no octets t u v i k x y z p q r at_x at_y at_z g =
+    let e = sending t p g.sends (all_at KeepsCallLaws ps x p keep_p at_x) in
+    let b_takes = taking hb u _ q g.b_receives (all_at KeepsCallLaws qs y q keep_q at_y) g.b_took g.b_knows.on_ethernet in
+    let told = answered ha hb a b g.asking.hop_limit ident seq_no octets t u p.before q.before q.after q.told g.a_knows g.b_knows
+    g.ident_fits g.seq_no_fits g.fits_b g.short b_takes in
+    let a_takes = taking ha v (message_frame q.before ha (message_packet b a 64 (EchoReply ident seq_no) octets)) r g.a_receives
+    (all_at KeepsCallLaws ps z r keep_p at_z) (g.a_took ∙ told) g.c_knows.on_ethernet in
+    come_back ha hb a b ident seq_no octets t u v i k p.before p.after q.before q.after r.before r.after p.told q.told r.told (record {
+      a_knows = g.a_knows;
+      b_knows = g.b_knows;
+      c_knows = g.c_knows;
+      ident_fits = g.ident_fits;
+      seq_no_fits = g.seq_no_fits;
+      fits_a = g.fits_a;
+      fits_b = g.fits_b;
+      short = g.short;
+      sends = record {
+        answer = e.answer;
+        notes = p.notes;
+        call = e.call;
+        granted = g.granted;
+        socket = g.asking;
+        first = g.first;
+        may = g.may;
+      };
+      b_takes = b_takes;
+      a_takes = a_takes;
+      socket = g.socket;
+      here = g.here;
+      endpoint = g.endpoint;
+      room = g.room;
+    })
+
+pub runs_return : RunsReturnPings
+runs_return A B ps qs a b = pings_return a.calls.calls.singles b.calls.calls.singles a.calls.keep b.calls.keep

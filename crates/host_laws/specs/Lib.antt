@@ -7,3 +7,4 @@ pub mod Network
 pub mod Progress
 pub mod TwoPolls
 pub mod Pings
+pub mod PingsInRuns

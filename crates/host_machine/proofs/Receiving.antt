@@ -11,6 +11,7 @@ pub mod FrameReplies
 pub mod DatagramDelivery
 pub mod DatagramDeliveryV6
 pub mod EchoReplies
+pub mod SocketDelivery
 pub mod FrameRepliesV6
 pub mod ReceivedFrames
 pub mod ForeignFrames

@@ -12,4 +12,6 @@ pub mod TimelyArrivals
 pub mod SentPieces
 pub mod TwoHosts
 pub mod RequestsWhileWaiting
+pub mod FramesOfPackets
+pub mod FramesOfCalls
 pub mod CallLaws

@@ -15,5 +15,6 @@ pub mod DueWork
 pub mod SettledFields
 pub mod OtherSteps
 pub mod HopsByLists
+pub mod GroupReports
 pub mod ReportTimes
 pub mod FirstPackets

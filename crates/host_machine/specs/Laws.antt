@@ -13,5 +13,6 @@ pub mod TwoHosts
 pub mod Steps
 pub mod Determined
 pub mod Service
+pub mod Received
 pub mod Restraint
 pub mod Calls

@@ -19,6 +19,7 @@ ghost use Rattle.host_machine.specs.Laws.Refusals.{RefusalsLoseNothing};
 ghost use Rattle.host_machine.specs.Laws.Determined.{DispatchIsDetermined, EgressIsDetermined};
 ghost use Rattle.host_machine.specs.Laws.Determined.{IngressIsDetermined, PollIsDetermined};
 ghost use Rattle.host_machine.specs.Laws.Determined.{ReceptionIsDetermined, RunIsDetermined, StepIsDetermined};
+ghost use Rattle.host_machine.specs.Laws.Received.{EchoRepliesV6AreQueued, RawPacketsAreQueued, SegmentsAreQueued};
 ghost use Rattle.host_machine.specs.Laws.Service.{ArpRequestsAreAnswered, ClosedPortsAreAnswered, ClosedPortsV6AreAnswered};
 ghost use Rattle.host_machine.specs.Laws.Service.{DatagramsAreQueued, DatagramsV6AreQueued, DueIsDone};
 ghost use Rattle.host_machine.specs.Laws.Service.{EchoRepliesAreQueued, FirstDatagramsGo, FirstEchoesGo, FirstPacketsGo};
@@ -364,6 +365,24 @@ pub fn datagrams_v6_are_queued()
 /// has room. Nothing is sent.
 pub fn echo_replies_are_queued()
     ensures { EchoRepliesAreQueued }
+{}
+
+/// So is an echo reply over IPv6, to an address assigned to the host (RFC 4443 4.2).
+pub fn echo_replies_v6_are_queued()
+    ensures { EchoRepliesV6AreQueued }
+{}
+
+/// A whole packet is last in the queue of each raw socket of its version and protocol that has room for it. Its header
+/// is written anew, without options. It comes from a unicast address: over IPv4 to any destination, over IPv6 to an
+/// address assigned to the host, without hop-by-hop options.
+pub fn raw_packets_are_queued()
+    ensures { RawPacketsAreQueued }
+{}
+
+/// A segment is last in the queue of the first TCP socket for it, with its sender, and nothing is sent (RFC 9293
+/// 3.10.7). Its checksum is right, where that is verified; the socket isn't aborted and has room.
+pub fn segments_are_queued()
+    ensures { SegmentsAreQueued }
 {}
 
 /// A datagram for a port at which no socket listens is answered by the port unreachable error in the call that receives

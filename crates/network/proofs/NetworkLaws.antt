@@ -16,6 +16,7 @@ use Rattle.host_laws.specs.Network.{IsHost, SendsBySockets, SentBySome, WereSent
 use Rattle.interface.specs.Stands.{StandsFor}
 use Rattle.host.specs.declared.link.Host.{Host as Linked}
 use Rattle.host_laws.proofs.LessWork.{runs_rest}
+use Rattle.host_laws.proofs.PingsBack.{runs_return}
 use Rattle.host_laws.proofs.RunTraffic.{runs_keep_datagrams}
 use Rattle.host_laws.proofs.DatagramOrigin.{all_parted, runs_get_what_was_sent}
 use Rattle.host_laws.proofs.NetworkOrigin.{runs_get_what_some_sent}
@@ -330,8 +331,14 @@ module _ {O : Type 0} (did : Owns O) (first last : Network (End O)) (calls : Lis
       }
 
 pub networks_keep_laws : {O : Type 0} (did : Owns O) → NetworksKeepLaws did
-networks_keep_laws did old new calls answers goes is_new regular a s = let went = goes a s in record {
-  went = went;
-  hosts = host_goes did a went.last calls went.moves went.goes (regular_ends old.hosts a.hosts s.hosts regular) (s.wire ∙ is_new.wire)
-      (λ Q. none_queued Q old.hosts a.hosts s.hosts is_new.queued) (none_sent old.hosts a.hosts s.hosts is_new.sent);
-}
+networks_keep_laws did old new calls answers goes is_new regular a s =
+    let went = goes a s in
+    let hosts =
+    host_goes did a went.last calls went.moves went.goes (regular_ends old.hosts a.hosts s.hosts regular) (s.wire ∙ is_new.wire)
+    (λ Q. none_queued Q old.hosts a.hosts s.hosts is_new.queued) (none_sent old.hosts a.hosts s.hosts is_new.sent) in
+    record {
+      went = went;
+      hosts = hosts;
+      pings = λ i j b c at_i at_j.
+          runs_return b c (transitions_of went.moves i) (transitions_of went.moves j) (hosts i b at_i).laws (hosts j c at_j).laws;
+    }

@@ -8,6 +8,7 @@ use Rattle.host_machine.specs.Laws.Ran.{Laws}
 use Rattle.host_machine.specs.Laws.TwoHosts.{WereSent}
 use Rattle.host_machine.specs.Polling.Run.{Run}
 use Rattle.host_laws.specs.Datagrams.{KeepsDatagrams}
+use Rattle.host_laws.specs.PingsInRuns.{PingsReturn}
 use Rattle.host_laws.specs.Progress.{ComeToRest}
 use Rattle.host_laws.specs.EndToEnd.{GetWhatWasSent}
 use Rattle.host_laws.specs.Network.{GetWhatSomeSent, WereSentBySome}
@@ -58,11 +59,15 @@ pub record HostGoes {O : Type 0} (first last : Network (End O)) (calls : List Ca
       WereSent (transitions_of moves j) (transitions_of moves i) →
       GetWhatWasSent a b (transitions_of moves j) (transitions_of moves i)
 
--- what calls did, from ends that the hosts stood for; and that, of each host
+-- what calls did, from ends that the hosts stood for; and that, of each host. Pings from one host to another come back,
+-- if their frames are received
 pub record NetworkRan {O : Type 0} (did : Owns O) (calls : List Call) (answers : List Answer)
     (new : Network (Linked O)) (a : Network (End O)) : Type 0 where
   pub went : Went did calls answers new a
   pub hosts : (i : ℕ) (b : Host) → slice_get (hosts_of a) i ≡ Some b → HostGoes a went.last calls went.moves i b
+  pub pings : (i j : ℕ) (b c : Host) (at_i : slice_get (hosts_of a) i ≡ Some b)
+      (at_j : slice_get (hosts_of a) j ≡ Some c) →
+      PingsReturn (hosts i b at_i).laws.calls.calls.singles (hosts j c at_j).laws.calls.calls.singles
 
 -- that, whatever is done with a network that was new
 abbrev pub NetworksKeepLaws : {O : Type 0} → Owns O → Type 0

@@ -38,6 +38,9 @@ is_unknown_later = rw get-empty refl
 pub none_renewed : after_renewal (no_neighbors (pos 0)) sender sender_hardware (pos 60000000) ≡ no_neighbors (pos 0)
 none_renewed = rw get-empty refl
 
+pub none_renewed_v6 : after_renewal (no_neighbors (pos 0)) ipv6.sender sender_hardware (pos 60000000) ≡ no_neighbors (pos 0)
+none_renewed_v6 = rw get-empty refl
+
 pub no_neighbor_renewed : after_renewal (no_neighbors (pos 0)) sender hardware.Ip (pos 60000000) ≡ no_neighbors (pos 0)
 no_neighbor_renewed = rw get-empty refl
 

@@ -1,16 +1,17 @@
 -- The two fragments of the worked examples.
 use Rattle.std.proofs.Common.{◌≡◌, ◌∙◌, ℕ, zero, suc, ◌<◌, List, [], ◌∷◌, length, refl, inl, inr, Some, None, lit≤, arith}
-use Rattle.std.specs.Prelude.{pos}
+use Rattle.std.specs.Prelude.{pos, Bool, true, false, cond, not, if◌then◌else◌}
 use Rattle.std.specs.FinMap as map
-use Rattle.std.specs.FinMap.{get-insert, get-empty, len-empty}
+use Rattle.std.specs.FinMap.{get-insert, get-empty, len-empty, same_map}
 use Rattle.fragmentation.specs.Fragments.{no_fragments, with_one, IsRebuilt}
-use Rattle.fragmentation.specs.Keys.{key_cmp}
-use Rattle.fragmentation.specs.Slots.{Slot, live_at}
+use Rattle.fragmentation.specs.declared.key.FragKey.{FragKey}
+use Rattle.fragmentation.specs.Keys.{key_cmp, same_key}
+use Rattle.fragmentation.specs.Slots.{Slot, Slots, has_ended, live_at}
 use Rattle.fragmentation.specs.Cuts.{piece_at}
 use Rattle.host_machine.specs.Examples.ArpAndEcho.{host, no_neighbors}
 use Rattle.host_machine.specs.Examples.Fragments.{key, ten, one, two, waiting_slot}
 use Rattle.host_machine.proofs.Receiving.FewFragments.{few_kept}
-use Rattle.host_machine.proofs.State.Keys.{get-live_at, key_total}
+use Rattle.host_machine.proofs.State.Keys.{get-live_at, key_exact, key_total}
 use Rattle.host_machine.proofs.Receiving.Pieces.{IsIn, all_got, parts_of, complete}
 
 pub first_got : with_one no_fragments one ≡ waiting_slot.got
@@ -43,3 +44,16 @@ none_yet = get-empty key_cmp key
 
 pub has_room : map.len (host 0x1405 (no_neighbors (pos 0))).slots < 2
 has_room = let e : map.len (host 0x1405 (no_neighbors (pos 0))).slots ≡ 0 = len-empty key_cmp Slot in omega arith
+
+-- the slot waits on
+abbrev waiting : Slots
+waiting = map.insert map.empty key waiting_slot
+
+waits_at : (q : FragKey) (b : Bool) → map.get waiting q ≡ cond b (Some waiting_slot) None →
+    (if not (has_ended (pos 0) (map.get waiting q)) then map.get waiting q else None) ≡ map.get waiting q
+waits_at q true e = rw e refl
+waits_at q false e = rw e refl
+
+pub waits_on : live_at (pos 0) (map.insert map.empty key waiting_slot) ≡ map.insert map.empty key waiting_slot
+waits_on = same_map key_total key_exact (live_at (pos 0) waiting) waiting (λ q. get-live_at (pos 0) waiting q
+    ∙ waits_at q (same_key q key) (get-insert key_total map.empty key waiting_slot q ∙ rw get-empty refl))

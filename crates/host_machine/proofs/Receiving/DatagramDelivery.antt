@@ -38,7 +38,7 @@ use Rattle.host_machine.specs.Laws.Service.{ClosedPortsAreAnswered, DatagramsAre
 use Rattle.host_machine.proofs.Receiving.FrameReplies.{clash, goes_whole, hop_as, met, one_of, packet_served, reached_still, taken_of}
 
 -- the first place that accepts is one
-first_is_one : {test : Storage → Bool} {places : List Storage} {i j : ℕ} {p q : Storage} → IsFirst test places i p → IsFirst test places j q → i ≡ j
+pub first_is_one : {test : Storage → Bool} {places : List Storage} {i j : ℕ} {p q : Storage} → IsFirst test places i p → IsFirst test places j q → i ≡ j
 first_is_one {test} {places} {i} {j} {p} {q} f g = by (nat_lt i j) (nat_lt j i) refl refl where
   by : (b c : Bool) → nat_lt i j ≡ b → nat_lt j i ≡ c → i ≡ j
   by true c less more = absurd (clash f.accepts (g.none_before i p (grind (arith, nat_tests)) f.is_there))

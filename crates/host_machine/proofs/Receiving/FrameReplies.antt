@@ -350,7 +350,7 @@ packet_taken r f (ip.Part s p t e) may whole = absurd (clash p whole)
 packet_taken r f (ip.Completed octets mid first rest s p t w e) may whole = absurd (clash p whole)
 packet_taken r f (ip.Whole s w t) may whole = t
 
-ipv4_taken : {source : HardwareAddress} {H new : Host} {octets : List ℕ} {reply : Option Reply} {notes : List Note} (r : Ipv4Repr)
+pub ipv4_taken : {source : HardwareAddress} {H new : Host} {octets : List ℕ} {reply : Option Reply} {notes : List Note} (r : Ipv4Repr)
     (payload : List ℕ) → ProcessesIpv4 source H octets reply notes new →
     IsIpv4 (is_rx H.capabilities.checksum.ipv4) octets → (ipv4_in octets).0 ≡ r →
     is_fragment (ipv4_in octets).1 ≡ false → (ipv4_in octets).2 ≡ payload →

@@ -82,7 +82,7 @@ payload_served {r = r} {payload = payload} p w q is bare for_us =
     packet_taken r p (ipv6_taken r payload w.takes q.is_packet q.values) q.sender is bare for_us
 
 -- a message for it
-message_served : {own : EthernetAddress} {t : ℤ} {frame : List ℕ} {old new : Host} {told : List Event} {r : Ipv6Repr} {payload : List ℕ}
+pub message_served : {own : EthernetAddress} {t : ℤ} {frame : List ℕ} {old new : Host} {told : List Event} {r : Ipv6Repr} {payload : List ℕ}
     (w : WasTaken own t protocol.Ipv6 frame old told new) →
     HasPacketV6 own old frame r payload → r.next_header ≡ ip_protocol.Icmpv6 → is_for_host (without_expired old t) (Ipv6 r.dst_addr) ≡ true →
     ProcessesIcmpv6 r (met (hardware.Ethernet (header_in frame).src_addr) r payload (without_expired old t)) payload w.reply w.notes w.taken
@@ -111,7 +111,7 @@ met_found source r payload H a h found = by (is_unicast H.ip_addrs (Ipv6 r.dst_a
   by false = found
 
 -- a message, by its values, at the host that ICMP sockets left
-message_taken : {r : Ipv6Repr} {H new : Host} {payload : List ℕ} {reply : Option Reply} {notes : List Note} →
+pub message_taken : {r : Ipv6Repr} {H new : Host} {payload : List ℕ} {reply : Option Reply} {notes : List Note} →
     ProcessesIcmpv6 r H payload reply notes new → IsMessage H r payload →
     ProcessesMessage r (icmpv6_in payload).0 (icmpv6_in payload).1 (v6.host_after_delivery r payload H) reply notes new
 message_taken (v6.Malformed m d) is = absurd (m is)

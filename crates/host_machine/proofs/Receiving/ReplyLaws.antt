@@ -37,7 +37,7 @@ use Rattle.host_machine.proofs.Receiving.ReplyOrigins.{Origin, Silent, ByArp, By
 use Rattle.host_machine.proofs.Receiving.ReplyOrigins.{ByEchoV6, ByErrorV6, BySegment, frame_origin}
 
 -- the reply to a frame that a call received
-reply_origin : {t : ℤ} {frame : List ℕ} {old new : Host} {told : List Event} {notes : List Note} (w : Receives t frame old told notes new) →
+pub reply_origin : {t : ℤ} {frame : List ℕ} {old new : Host} {told : List Event} {notes : List Note} (w : Receives t frame old told notes new) →
     Origin (without_expired old t) frame w.call.response.reply
 reply_origin {t} {frame} {old} {new} {told} {notes} w = by (frame_of_call w) where
   by : (ProcessesFrame old.hardware_addr (without_expired old t) frame w.call.response.reply w.call.response.notes_taking w.call.response.taken

@@ -650,7 +650,7 @@ pub record KeepsLists (old new : Host) : Type 0 where
   pub addresses : new.ip_addrs ≡ old.ip_addrs
   pub routes : new.routes ≡ old.routes
 
-reception_lists : (H : Host) (r : Reception) (reply : Option Reply) (notes : List Note) (new : Host) →
+pub reception_lists : (H : Host) (r : Reception) (reply : Option Reply) (notes : List Note) (new : Host) →
     Takes H r reply notes new → lists_of new ≡ lists_of H
 reception_lists H Nothing reply notes new t = ap lists_of t.unchanged
 reception_lists H Withheld reply notes new t = ap lists_of t.unchanged

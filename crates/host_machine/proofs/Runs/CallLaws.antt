@@ -19,7 +19,7 @@ use Rattle.host_machine.specs.Laws.Restraint.Readings.{Receives}
 use Rattle.host_machine.specs.Laws.Calls.{IsRestrained}
 use Rattle.host_machine.proofs.Receiving.DatagramDelivery.{datagrams_queued, ports_told}
 use Rattle.host_machine.proofs.Receiving.DatagramDeliveryV6.{datagrams_v6_queued, ports_v6_told}
-use Rattle.host_machine.proofs.Receiving.EchoReplies.{replies_queued}
+use Rattle.host_machine.proofs.Receiving.EchoReplies.{replies_queued, replies_v6_queued}
 use Rattle.host_machine.proofs.Receiving.ForeignFrames.{foreign_dropped, foreign_v6_dropped, frames_for_others_dropped}
 use Rattle.host_machine.proofs.Receiving.ForeignFrames.{unheard, unheard_v6}
 use Rattle.host_machine.proofs.Receiving.FrameReplies.{arp_served, pings_served}
@@ -27,7 +27,9 @@ use Rattle.host_machine.proofs.Receiving.FrameRepliesV6.{pings_v6_served, solici
 use Rattle.host_machine.proofs.Receiving.LearntNeighbors.{neighbors_came}
 use Rattle.host_machine.proofs.Receiving.ReplyLaws.{advert_told, arp_told, errors_caused, errors_v6_caused, resets_caused}
 use Rattle.host_machine.proofs.Receiving.SettingChanges.{frames_keep, reports_asked}
+use Rattle.host_machine.proofs.Receiving.SocketDelivery.{raw_packets_queued, segments_queued}
 use Rattle.host_machine.proofs.Receiving.WrongSums.{headers_dropped, payloads_dropped, payloads_v6_dropped}
+use Rattle.host_machine.proofs.Runs.FramesOfCalls.{ingress_frames, sends_in_order}
 use Rattle.host_machine.proofs.Runs.RequestsWhileWaiting.{requests_go}
 use Rattle.host_machine.proofs.Sending.DueWork.{due_done, pieces_go}
 use Rattle.host_machine.proofs.Sending.FirstPackets.{first_echoes_go, first_packets_go}
@@ -64,6 +66,7 @@ received t answer p i = record {
   answer = answer;
   call = i;
   single = single t answer p.before p.after p.told p.notes i;
+  frames = ingress_frames t answer p.before p.after p.told p.notes i;
   serves = record {
     arp_requests = arp_served t p.before p.after p.told;
     solicitations = solicitations_served t p.before p.after p.told;
@@ -74,14 +77,23 @@ received t answer p i = record {
     closed_ports = ports_told t p.before p.after p.told;
     closed_ports_v6 = ports_v6_told t p.before p.after p.told;
     echo_replies = replies_queued t p.before p.after p.told;
+    echo_replies_v6 = replies_v6_queued t p.before p.after p.told;
+    raw_packets = (raw_packets_queued t p.before p.after p.told).0;
+    raw_packets_v6 = (raw_packets_queued t p.before p.after p.told).1;
+    segments = (segments_queued t p.before p.after p.told).0;
+    segments_v6 = (segments_queued t p.before p.after p.told).1;
   };
   restrained = λ frame w. restrained t frame p.before p.after p.told p.notes w;
 }
 
 sent : (t : ℤ) (answer : PollResult) (p : Transition) → Egress t answer p.before p.told p.notes p.after → IsEgress t p
-sent t answer p e = record {
+sent t answer p e = let s = sends_in_order t answer p.before p.after p.told p.notes e in record {
   answer = answer;
   call = e;
+  frames = s.frames;
+  igmp_answer = s.igmp_answer;
+  mld_answer = s.mld_answer;
+  groups = s.groups;
   first_datagrams = firsts_go t answer p.before p.after p.told p.notes e;
   first_packets = first_packets_go t answer p.before p.after p.told p.notes e;
   first_echoes = first_echoes_go t answer p.before p.after p.told p.notes e;

@@ -85,14 +85,14 @@ not_le x t = by (int_cmp x t) (int_ranks x t) where
   by Equal m e = absurd cc
   by Greater m e = m
 
-lt_of : (t x : ℤ) → is_lt (int_cmp t x) ≡ true → t <ℤ x
+pub lt_of : (t x : ℤ) → is_lt (int_cmp t x) ≡ true → t <ℤ x
 lt_of t x = by (int_cmp t x) (int_ranks t x) where
   by : (o : Ordering) → MatchOrdering o (t <ℤ x) (t ≡ x) (x <ℤ t) → is_lt o ≡ true → t <ℤ x
   by Less m e = m
   by Equal m e = absurd cc
   by Greater m e = absurd cc
 
-le_not_lt : (x t : ℤ) → x ≤ℤ t → is_lt (int_cmp t x) ≡ false
+pub le_not_lt : (x t : ℤ) → x ≤ℤ t → is_lt (int_cmp t x) ≡ false
 le_not_lt x t = by (int_cmp t x) (int_ranks t x) where
   by : (o : Ordering) → MatchOrdering o (t <ℤ x) (t ≡ x) (x <ℤ t) → x ≤ℤ t → is_lt o ≡ false
   by Less m e = absurd (omega (arith, ints, m, e))

@@ -1,19 +1,21 @@
 -- The next hop, the source and the hardware address of a packet, by the host's lists.
 use Rattle.std.proofs.Common.{◌≡◌, ◌≢◌, ℕ, zero, suc, ◌+◌, ◌-◌, ◌*◌, ◌/◌, ◌%◌, ◌^◌, ◌≤◌, Bool, true, false, List, []}
 use Rattle.std.proofs.Common.{◌∷◌, ◌++◌, refl, sym, ◌∙◌}
-use Rattle.std.proofs.Common.{ap, subst, inl, inr, Option, Some, None, arith}
-use Rattle.std.specs.Prelude.{ℤ, ◌≤ℤ◌, ◌<ℤ◌, ◌<◌, ◌||◌, ◌&&◌, map, slice_get, Ok, if◌then◌else◌}
+use Rattle.std.proofs.Common.{ap, subst, Option, Some, None, arith}
+use Rattle.std.specs.Prelude.{ℤ, ◌≤ℤ◌, ◌<ℤ◌, ◌==◌, ◌<◌, ◌||◌, ◌&&◌, nat_lt, map, slice_get, Ok, if◌then◌else◌}
 use Rattle.std.specs.Option.{option_and_then, option_map}
-use Rattle.std.specs.List.{AllByRecursion}
+use Rattle.std.specs.List.{AllByRecursion, list_any}
 use Rattle.std.specs.Cmp.{int_ranks}
 use Rattle.std.specs.Ordering.{int_cmp, is_le, MatchOrdering}
 use Rattle.std.specs.declared.cmp.Ordering.{Ordering}
 use Rattle.std.specs.declared.cmp.Ordering.TheVariants.{Less, Equal, Greater}
-use Rattle.std.proofs.lemmas.Bool.Decides.{Decides-eqb}
+use Rattle.std.proofs.lemmas.Bool.Decides.{Decides-eqb, nat_tests}
 use Rattle.std.proofs.lemmas.Int.{ints}
 use Rattle.std.proofs.Math.Nat.{div-le_self}
 use Rattle.std.proofs.lemmas.Nat.{div-mul-add, pow_pos}
 use Rattle.ip_address.specs.Cidr.{contains}
+use Rattle.ip_address.specs.EthernetAddress.{broadcast}
+use Rattle.ip_address.specs.Prefixes.{last_of}
 use Rattle.ip_address.specs.Ip.{is_unicast, is_unspecified}
 use Rattle.ip_address.specs.Ipv4 as ipv4_address
 use Rattle.ip_address.specs.declared.cidr.IpCidr.{IpCidr}
@@ -34,7 +36,7 @@ use Rattle.iface_tables.specs.Neighbor.{answer_of}
 use Rattle.iface_tables.specs.Route.{IsBest, IsBestAt, is_live, is_until, matches}
 use Rattle.host_machine.specs.State.Note.{Note}
 use Rattle.host_machine.specs.State.Host.{Host, in_same_network}
-use Rattle.host_machine.specs.State.Addresses.{ipv4_addr, near_addr, or_else, source_v4}
+use Rattle.host_machine.specs.State.Addresses.{ipv4_addr, is_broadcast_of, near_addr, or_else, source_v4}
 use Rattle.host_machine.specs.Sending.Packet.{Packet}
 use Rattle.host_machine.specs.Sending.Dispatch.{Outcome, IsNextHop, OnLink, ByRouter, Emits, Discovers, DispatchesByHop}
 use Rattle.host_machine.specs.Sending.Dispatch.{DispatchesEthernet, SendsOver, Dispatches}
@@ -45,7 +47,7 @@ use Rattle.host_machine.specs.Sending.Dispatch as dispatch
 use Rattle.host_machine.specs.Laws.Restraint.Foreign.{HasPrefixOf, IsNoBroadcastOf}
 use Rattle.host_machine.specs.Laws.Restraint.NextHop.{AreApart, AsksFor, GoesByHop, GroupsHaveTheirAddresses, HopIs}
 use Rattle.host_machine.specs.Laws.Restraint.NextHop.{Includes, IsGroup, IsLongest}
-use Rattle.host_machine.specs.Laws.Restraint.NextHop.{IsOfGroup, IsOneHost, IsSentTo, IsSourceFor, MayBeUsed}
+use Rattle.host_machine.specs.Laws.Restraint.NextHop.{IsOfGroup, IsOneHost, IsSentTo, IsSourceFor, IsToAll, MayBeUsed}
 use Rattle.host_machine.specs.Laws.Restraint.NextHop.{PacketsGoByHops, SourcesAreNear}
 use Rattle.host_machine.specs.Laws.Restraint.NextHop as law
 use Rattle.host_machine.specs.Laws.Restraint.Replies.{IsOneHostV4}
@@ -265,10 +267,10 @@ record IsDone (H : Host) (h : HardwareAddress) (p : Packet) (outcome : Outcome) 
 
 emitted : {id : ℕ} {p : Packet} {h : HardwareAddress} {outcome : Outcome} {H new : Host} {frames : List (List ℕ)} {notes : List Note} →
     Emits id p h outcome (with_next_id H) frames notes new → IsDone H h p outcome frames
-emitted {H = H} (dispatch.Whole fits formed o f n e) = record { ok = o; sent = rw f (inl refl, tt) }
+emitted {H = H} (dispatch.Whole fits formed o f n e) = record { ok = o; sent = rw f (law.Whole refl, tt) }
 emitted {id} {p} {h} {outcome} {H} (dispatch.InPieces q first rest is long may pieces fits formed o f n e) = record {
   ok = o;
-  sent = rw f (inr (first, first_goes (datagram_of (with_next_id H) h id q) _ first rest pieces, refl), tt);
+  sent = rw f (law.FirstPiece id q first rest is pieces (first_goes (datagram_of (with_next_id H) h id q) _ first rest pieces) refl, tt);
 }
 emitted (dispatch.TooLong long may o u) = record { ok = o; sent = rw u.silent tt }
 
@@ -392,3 +394,41 @@ groups_reached own p outcome H new frames notes d on group apart =
           let over : DispatchesEthernet H.ipv4_id own p outcome (with_next_id H) frames more new =
           subst (λ x. SendsOver H.ipv4_id x p outcome (with_next_id H) frames more new) on d in
           to_group H h over m.is
+
+-- an address of all hosts
+is_all : (own : List IpCidr) (a : Ipv4Address) (i : ℕ) (c : IpCidr) → slice_get own i ≡ Some c → is_broadcast_of c a ≡ true →
+    list_any (λ d. is_broadcast_of d a) own ≡ true
+is_all [] a i c here is = absurd cc
+is_all (d ∷ own) a zero c here is = let same : d ≡ c = cc in rw (same, is) refl
+is_all (d ∷ own) a (suc i) c here is =
+    or_right (is_broadcast_of d a) (list_any (λ e. is_broadcast_of e a) own) (is_all own a i c here is)
+
+last_is_all : (n : Ipv4Cidr) (a : Ipv4Address) → n.prefix_len < 31 →
+    a.bits ≡ n.address.bits / 2 ^ (32 - n.prefix_len) * 2 ^ (32 - n.prefix_len) + (2 ^ (32 - n.prefix_len) - 1) →
+    is_broadcast_of (cidr.Ipv4 n) a ≡ true
+last_is_all n a short same =
+    let few : nat_lt n.prefix_len 31 ≡ true = grind (arith, nat_tests) in
+    let bits : (last_of 32 n.prefix_len n.address.bits == a.bits) ≡ true = (Decides-eqb (last_of 32 n.prefix_len n.address.bits) a.bits).1 (sym same) in
+    rw (few, bits) refl
+
+all_address : (own : List IpCidr) (a : IpAddress) → IsToAll own a → multicast_hardware_addr own a ≡ Some broadcast
+all_address own _ (law.OnLink a e) = let all : (a.bits == 0xffff_ffff) ≡ true = (Decides-eqb a.bits 0xffff_ffff).1 e in rw all refl
+all_address own _ (law.OnNetwork a i n here short e) =
+    let network = or_right (ipv4_address.is_broadcast a) _ (is_all own a i (cidr.Ipv4 n) here (last_is_all n a short e)) in rw network refl
+
+pub all_reached : {own : EthernetAddress} {p : Packet} {outcome : Outcome} {H new : Host} {frames : List (List ℕ)} {notes : List Note} →
+    Dispatches p outcome H frames notes new → H.hardware_addr ≡ hardware.Ethernet own → IsToAll H.ip_addrs (destination_of p) →
+    AllByRecursion (IsSentTo H (hardware.Ethernet broadcast) p) frames
+all_reached (dispatch.ToUnspecified n o u) on all = rw u.silent tt
+all_reached {own} {p} {outcome} {H} {new} {frames} (dispatch.ToSpecified more s d n) on all =
+    let over : DispatchesEthernet H.ipv4_id own p outcome (with_next_id H) frames more new =
+    subst (λ x. SendsOver H.ipv4_id x p outcome (with_next_id H) frames more new) on d in
+    to_group H broadcast over (all_address H.ip_addrs (destination_of p) all)
+
+-- a medium without hardware addresses
+pub ip_reached : {p : Packet} {outcome : Outcome} {H new : Host} {frames : List (List ℕ)} {notes : List Note} →
+    Dispatches p outcome H frames notes new → H.hardware_addr ≡ hardware.Ip → AllByRecursion (IsSentTo H hardware.Ip p) frames
+ip_reached (dispatch.ToUnspecified n o u) on = rw u.silent tt
+ip_reached {p} {outcome} {H} {new} {frames} (dispatch.ToSpecified more s d n) on =
+    let over : Emits H.ipv4_id p hardware.Ip outcome (with_next_id H) frames more new =
+    subst (λ x. SendsOver H.ipv4_id x p outcome (with_next_id H) frames more new) on d in (emitted over).sent

@@ -1,23 +1,28 @@
 -- Answers to queries wait for their moment, and each join is told of once.
 use Rattle.std.proofs.Common.{◌≡◌, ◌+◌, ◌≤◌, Bool, true, false, List, [], ◌∷◌, ◌++◌, length, length-append, refl, sym}
 use Rattle.std.proofs.Common.{◌∙◌, ap, subst}
-use Rattle.std.proofs.Common.{Some, arith}
+use Rattle.std.proofs.Common.{Option, Some, arith}
 use Rattle.std.specs.Prelude.{ℤ, ◌<ℤ◌}
 use Rattle.std.specs.Cmp.{int_cmp_is}
 use Rattle.std.specs.declared.cmp.Ordering.TheVariants.{Less}
 use Rattle.net_base.specs.Device.{Event, Asked, sent_frames}
-use Rattle.group_table.specs.Groups.{AreDistinct, count_in, join_reported}
-use Rattle.group_table.specs.declared.groups.GroupState.TheVariants.{Joining}
+use Rattle.ip_address.specs.declared.cidr.IpCidr.{IpCidr}
+use Rattle.ip_address.specs.declared.ip.IpAddress.{IpAddress}
+use Rattle.group_table.specs.Groups.{AreDistinct, count_in, first_in}
+use Rattle.group_table.specs.declared.groups.Group.{Group}
+use Rattle.group_table.specs.declared.groups.GroupState.{GroupState}
+use Rattle.group_table.specs.declared.groups.GroupState.TheVariants.{Joining, Leaving}
 use Rattle.group_table.specs.declared.report.IgmpReportState.{IgmpReportState}
 use Rattle.group_table.specs.declared.report.IgmpReportState.TheVariants as igmp
 use Rattle.group_table.specs.declared.report.MldReportState.{MldReportState}
 use Rattle.group_table.specs.declared.report.MldReportState.TheVariants as mld
-use Rattle.group_table.proofs.GroupsCounts.{join_reports_end}
+use Rattle.group_table.proofs.GroupsCounts.{join_reports_end, leave_reports_end}
 use Rattle.group_table.proofs.GroupsLaws.{stay_distinct}
 use Rattle.host_machine.specs.State.Note.{Note}
 use Rattle.host_machine.specs.State.Host.{Host}
 use Rattle.host_machine.specs.Sending.Frame.{sends}
-use Rattle.host_machine.specs.Sending.Multicast.{ReportsEach, JoinsEgress, join_packet}
+use Rattle.host_machine.specs.Sending.Packet.{Packet}
+use Rattle.host_machine.specs.Sending.Multicast.{ReportsEach, ReportsAll, JoinsEgress, LeavesEgress}
 use Rattle.host_machine.specs.Sending.Multicast as multicast
 use Rattle.host_machine.specs.Sending.Reports.{IgmpEgress, MldEgress, has_passed, igmp_timeout_of, mld_timeout_of}
 use Rattle.host_machine.specs.Sending.Reports as reports
@@ -61,44 +66,59 @@ reports_wait H new told notes x later = (
   (λ m pending. mld_waits (mld_ahead H.mld_report H.moment x later pending) m),
 )
 
--- joins
-record ToldOnce (old : Host) (told : List Event) (mid : Host) : Type 0 where
-  distinct : AreDistinct mid.groups
-  few : length (sent_frames told) + count_in Joining mid.groups ≤ count_in Joining old.groups
+-- each report takes a group off those that are pending
+pub record ToldOnce (state : GroupState) (old : Host) (told : List Event) (new : Host) : Type 0 where
+  pub distinct : AreDistinct new.groups
+  pub few : length (sent_frames told) + count_in state new.groups ≤ count_in state old.groups
 
 more_told : (xs ys : List Event) → length (sent_frames (xs ++ ys)) ≡ length (sent_frames xs) + length (sent_frames ys)
 more_told xs ys = ap length (sent_frames-append xs ys) ∙ length-append (sent_frames xs) (sent_frames ys)
 
-told_once : {old mid : Host} {granted : Bool} {told : List Event} {notes : List Note} → AreDistinct old.groups →
-    ReportsEach Joining join_packet join_reported old granted told notes mid → ToldOnce old told mid
-told_once distinct multicast.Begins = record { distinct = distinct; few = omega arith }
-told_once distinct (multicast.Silently {mid = mid} a w f p) =
-    let before = told_once distinct w in
-    let less = join_reports_end mid.groups a before.distinct f in
-    let few = before.few in
-    record { distinct = (stay_distinct mid.groups a before.distinct).after_join_reported; few = omega (arith, few, less) }
-told_once distinct (multicast.Refused {told = told} {mid = mid} a p w f q) =
-    let before = told_once distinct w in
-    let few = before.few in
-    let more = more_told told (Asked mid.moment false ∷ []) in
-    record { distinct = before.distinct; few = omega (arith, few, more) }
-told_once {old} distinct (multicast.Reported {told = told} {mid = mid} a p outcome frames more new w f q d) =
-    let before = told_once distinct w in
-    let same : new.groups ≡ mid.groups = dispatch_leaves (λ (K : Host). K.groups) (λ H. refl) (λ H. refl) (λ H rest. refl) d in
-    let less = join_reports_end mid.groups a before.distinct f in
-    let one = dispatched d in
-    let few = before.few in
-    let sum = more_told told (Asked mid.moment true ∷ sends frames) in
-    let sent : length (sent_frames (Asked mid.moment true ∷ sends frames)) ≡ length frames = ap length (sent_frames-sends frames) in
-    let kept : AreDistinct (join_reported mid.groups a) = (stay_distinct mid.groups a before.distinct).after_join_reported in
-    let counted : length (sent_frames (told ++ Asked mid.moment true ∷ sends frames)) + count_in Joining (join_reported mid.groups a)
-    ≤ count_in Joining old.groups = omega (arith, few, less, one, sum, sent) in
-    record {
-      distinct = subst (λ gs. AreDistinct (join_reported gs a)) (sym same) kept;
-      few = subst (λ gs. length (sent_frames (told ++ Asked mid.moment true ∷ sends frames)) + count_in Joining (join_reported gs a)
-          ≤ count_in Joining old.groups) (sym same) counted;
-    }
+module _ {state : GroupState} {packet_for : List IpCidr → IpAddress → Option Packet} {after_report : List Group → IpAddress → List Group}
+    (one_less : (gs : List Group) (a : IpAddress) → AreDistinct gs → first_in state gs ≡ Some a →
+    count_in state gs ≡ count_in state (after_report gs a) + 1)
+    (stay : (gs : List Group) (a : IpAddress) → AreDistinct gs → AreDistinct (after_report gs a)) where
+  each_once : {old mid : Host} {granted : Bool} {told : List Event} {notes : List Note} → AreDistinct old.groups →
+      ReportsEach state packet_for after_report old granted told notes mid → ToldOnce state old told mid
+  each_once distinct multicast.Begins = record { distinct = distinct; few = omega arith }
+  each_once distinct (multicast.Silently {mid = mid} a w f p) =
+      let before = each_once distinct w in
+      let less = one_less mid.groups a before.distinct f in
+      let few = before.few in
+      record { distinct = stay mid.groups a before.distinct; few = omega (arith, few, less) }
+  each_once distinct (multicast.Refused {told = told} {mid = mid} a p w f q) =
+      let before = each_once distinct w in
+      let few = before.few in
+      let more = more_told told (Asked mid.moment false ∷ []) in
+      record { distinct = before.distinct; few = omega (arith, few, more) }
+  each_once {old} distinct (multicast.Reported {told = told} {mid = mid} a p outcome frames more new w f q d) =
+      let before = each_once distinct w in
+      let same : new.groups ≡ mid.groups = dispatch_leaves (λ (K : Host). K.groups) (λ H. refl) (λ H. refl) (λ H rest. refl) d in
+      let less = one_less mid.groups a before.distinct f in
+      let one = dispatched d in
+      let few = before.few in
+      let sum = more_told told (Asked mid.moment true ∷ sends frames) in
+      let sent : length (sent_frames (Asked mid.moment true ∷ sends frames)) ≡ length frames = ap length (sent_frames-sends frames) in
+      let counted : length (sent_frames (told ++ Asked mid.moment true ∷ sends frames)) + count_in state (after_report mid.groups a)
+      ≤ count_in state old.groups = omega (arith, few, less, one, sum, sent) in
+      record {
+        distinct = subst (λ gs. AreDistinct (after_report gs a)) (sym same) (stay mid.groups a before.distinct);
+        few = subst (λ gs. length (sent_frames (told ++ Asked mid.moment true ∷ sends frames)) + count_in state (after_report gs a)
+            ≤ count_in state old.groups) (sym same) counted;
+      }
+
+  all_once : {old new : Host} {told : List Event} {notes : List Note} → AreDistinct old.groups →
+      ReportsAll state packet_for after_report old told notes new → ToldOnce state old told new
+  all_once distinct (multicast.All w n) = each_once distinct w
+  all_once distinct (multicast.UpToRefusal w) = each_once distinct w
+
+pub joins_told_once : {old new : Host} {told : List Event} {notes : List Note} → AreDistinct old.groups → JoinsEgress old told notes new →
+    ToldOnce Joining old told new
+joins_told_once distinct j = all_once join_reports_end (λ gs a d. (stay_distinct gs a d).after_join_reported) distinct j
+
+pub leaves_told_once : {old new : Host} {told : List Event} {notes : List Note} → AreDistinct old.groups → LeavesEgress old told notes new →
+    ToldOnce Leaving old told new
+leaves_told_once distinct l = all_once leave_reports_end (λ gs a d. (stay_distinct gs a d).after_leave_reported) distinct l
 
 pub joins_once : JoinsAreToldOnce
-joins_once H new told notes distinct (multicast.All w n) = (told_once distinct w).few
-joins_once H new told notes distinct (multicast.UpToRefusal w) = (told_once distinct w).few
+joins_once H new told notes distinct j = (joins_told_once distinct j).few

@@ -7,7 +7,7 @@ use Rattle.host_machine.specs.declared.command.Command.TheVariants.{PollIngressS
 use Rattle.host_machine.specs.declared.results.PollIngressSingleResult.{PollIngressSingleResult}
 use Rattle.host_machine.specs.declared.results.PollResult.{PollResult}
 use Rattle.host_machine.specs.State.Note.{Note}
-use Rattle.host_machine.specs.State.Host.{Host}
+use Rattle.host_machine.specs.State.Host.{Host, at}
 use Rattle.host_machine.specs.Receiving.Reply.{Reply}
 use Rattle.host_machine.specs.Sending.Egress.{Egress}
 use Rattle.host_machine.specs.Polling.Ingress.{Ingress}
@@ -17,15 +17,19 @@ use Rattle.host_machine.specs.Laws.Service.{AnswersPings, AnswersPingsV6}
 use Rattle.host_machine.specs.Laws.Service.{AnswersSolicitations, DoesWhatIsDue, QueuesDatagrams, QueuesDatagramsV6}
 use Rattle.host_machine.specs.Laws.Service.{QueuesEchoReplies, SendsFirstDatagrams, SendsFirstEchoes, SendsFirstPackets}
 use Rattle.host_machine.specs.Laws.Service.{SendsPieces, SendsRequests}
+use Rattle.host_machine.specs.Laws.Received.{QueuesEchoRepliesV6, QueuesRawPackets, QueuesRawPacketsV6}
+use Rattle.host_machine.specs.Laws.Received.{QueuesSegments, QueuesSegmentsV6}
 use Rattle.host_machine.specs.Laws.Unfolded.{Unfolds}
 use Rattle.host_machine.specs.Laws.Restraint.Checksums.{DropsWrongHeaders, DropsWrongPayloads, DropsWrongPayloadsV6}
 use Rattle.host_machine.specs.Laws.Restraint.Foreign.{DropsForeignPackets, DropsForeignPacketsV6, DropsFramesForOthers}
 use Rattle.host_machine.specs.Laws.Restraint.Foreign.{DropsPacketsFromNoHost, DropsPacketsFromNoHostV6}
 use Rattle.host_machine.specs.Laws.Restraint.Neighbors.{LearnsFromFrames, MayReceive, LearnsNobody}
-use Rattle.host_machine.specs.Laws.Restraint.Queries.{IgmpIsAsked, MldIsAsked}
+use Rattle.host_machine.specs.Laws.Restraint.Queries.{IgmpGoesOn, IgmpIsAsked, MakesNonePending, MldGoesOn}
+use Rattle.host_machine.specs.Laws.Restraint.Queries.{MldIsAsked}
 use Rattle.host_machine.specs.Laws.Restraint.Readings.{Receives}
 use Rattle.host_machine.specs.Laws.Restraint.Replies.{AdvertisesOnlyItself, SendsErrorsV6WithCause, SendsErrorsWithCause}
 use Rattle.host_machine.specs.Laws.Restraint.Replies.{SendsResetsWithCause, TellsItselfByArp}
+use Rattle.host_machine.specs.Laws.Restraint.SentFrames.{IsOfReply, SendsInOrder}
 use Rattle.host_machine.specs.Laws.Restraint.Settings.{KeepsAddressesAndRoutes, KeepsAtFrame, KeepsSettings, MaySet}
 
 -- what a call at t that receives does for others
@@ -39,6 +43,11 @@ pub record ServesOthers (t : ℤ) (old : Host) (told : List Event) (new : Host) 
   pub closed_ports : AnswersClosedPorts t old told new
   pub closed_ports_v6 : AnswersClosedPortsV6 t old told new
   pub echo_replies : QueuesEchoReplies t old told new
+  pub echo_replies_v6 : QueuesEchoRepliesV6 t old told new
+  pub raw_packets : QueuesRawPackets t old told new
+  pub raw_packets_v6 : QueuesRawPacketsV6 t old told new
+  pub segments : QueuesSegments t old told new
+  pub segments_v6 : QueuesSegmentsV6 t old told new
 
 -- what a call at t that received this frame, and answered it by this reply if any, leaves alone
 pub record IsRestrained (t : ℤ) (frame : List ℕ) (reply : Option Reply) (old : Host) (told : List Event)
@@ -61,20 +70,26 @@ pub record IsRestrained (t : ℤ) (frame : List ℕ) (reply : Option Reply) (old
   pub igmp_answers : IgmpIsAsked t frame old new
   pub mld_answers : MldIsAsked t frame old new
 
--- a call that receives, by the rules: it receives one frame at most, and sends one at most; it serves others, and is
--- restrained
+-- a call that receives, by the rules: it receives one frame at most, and sends one at most, which has its reply; it
+-- serves others, and is restrained
 pub record IsIngress (t : ℤ) (p : Transition) : Type 0 where
   pub answer : PollIngressSingleResult
   pub call : Ingress t answer p.before p.told p.notes p.after
   pub single : (length (handed_frames p.told) ≤ 1) × (length (sent_frames p.told) ≤ 1)
+  pub frames : AllByRecursion (IsOfReply t call.response.reply p.before p.told p.after) (sent_frames p.told)
   pub serves : ServesOthers t p.before p.told p.after
   pub restrained : (frame : List ℕ) (w : Receives t frame p.before p.told p.notes p.after) →
       IsRestrained t frame w.call.response.reply p.before p.told p.notes p.after
 
--- a call that sends, by the rules: it sends what it may, and keeps the settings
+-- a call that sends, by the rules: each frame has its reason, and each report waits for its moment and is sent once; it
+-- sends what it may, and keeps the settings
 pub record IsEgress (t : ℤ) (p : Transition) : Type 0 where
   pub answer : PollResult
   pub call : Egress t answer p.before p.told p.notes p.after
+  pub frames : SendsInOrder (at p.before t) (sent_frames p.told) p.after
+  pub igmp_answer : IgmpGoesOn t p.before.igmp_report p.after.igmp_report
+  pub mld_answer : MldGoesOn t p.before.mld_report p.after.mld_report
+  pub groups : MakesNonePending p.before p.after
   pub first_datagrams : SendsFirstDatagrams t p.before p.told p.after
   pub first_packets : SendsFirstPackets t p.before p.told p.after
   pub first_echoes : SendsFirstEchoes t p.before p.told p.after

@@ -5,4 +5,5 @@ pub mod Neighbors
 pub mod Replies
 pub mod NextHop
 pub mod Queries
+pub mod SentFrames
 pub mod Settings

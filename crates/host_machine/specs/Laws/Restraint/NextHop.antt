@@ -1,7 +1,7 @@
 -- The next hop of a packet on Ethernet, said by the lists of addresses, routes and neighbours (RFC 1122 3.3.1, 2.3.2,
 -- RFC 4861 5.2, 7.2.2), the source for an IPv4 destination, and the hardware addresses of groups (RFC 1112 6.4, RFC
 -- 2464 7).
-use Rattle.std.specs.Prelude.{◌≡◌, ◌≢◌, ◌⊎◌, ℕ, ◌+◌, ◌*◌, ◌/◌, ◌%◌, ◌^◌, ◌≤◌, ◌<◌, ℤ, ◌≤ℤ◌}
+use Rattle.std.specs.Prelude.{◌≡◌, ◌≢◌, ℕ, ◌+◌, ◌-◌, ◌*◌, ◌/◌, ◌%◌, ◌^◌, ◌≤◌, ◌<◌, ℤ, ◌≤ℤ◌}
 use Rattle.std.specs.Prelude.{List, [], ◌∷◌, ◌++◌, slice_get, Option, Some, None, Ok, Err}
 use Rattle.std.specs.List.{AllByRecursion}
 use Rattle.ip_address.specs.Cidr.{prefix_len_of}
@@ -18,7 +18,7 @@ use Rattle.ip_address.specs.declared.ipv6.Ipv6Address.{Ipv6Address}
 use Rattle.ip_wire.specs.declared.arp.ArpOperation.TheVariants.{Request}
 use Rattle.icmpv6_wire.specs.declared.icmpv6.Icmpv6Repr.TheVariants.{Ndisc}
 use Rattle.icmpv6_wire.specs.declared.ndisc.NdiscRepr.TheVariants.{NeighborSolicit}
-use Rattle.fragmentation.specs.Cuts.{Piece}
+use Rattle.fragmentation.specs.Cuts.{Piece, pieces_of}
 use Rattle.iface_tables.specs.declared.neighbor.Answer.TheVariants.{Found, NotFound, RateLimited}
 use Rattle.iface_tables.specs.declared.route.Route.{Route}
 use Rattle.iface_tables.specs.Neighbor.{answer_of}
@@ -26,11 +26,11 @@ use Rattle.host_machine.specs.declared.results.DispatchError.TheVariants.{NoRout
 use Rattle.host_machine.specs.State.Note.{Note}
 use Rattle.host_machine.specs.State.Host.{Host}
 use Rattle.host_machine.specs.State.Addresses.{source_for}
-use Rattle.host_machine.specs.Sending.Packet.{Packet, Icmpv6}
+use Rattle.host_machine.specs.Sending.Packet.{Packet, PacketV4, Icmpv6}
 use Rattle.host_machine.specs.Sending.Packet as packet
 use Rattle.host_machine.specs.Sending.Frame.{arp_frame, ip_frame, piece_frame}
-use Rattle.host_machine.specs.Sending.Dispatch.{Outcome, Dispatches, destination_of}
-use Rattle.host_machine.specs.Laws.Restraint.Foreign.{HasPrefixOf}
+use Rattle.host_machine.specs.Sending.Dispatch.{Outcome, Dispatches, datagram_of, destination_of}
+use Rattle.host_machine.specs.Laws.Restraint.Foreign.{HasPrefixOf, last_address}
 use Rattle.host_machine.specs.Laws.Restraint.Neighbors.{IsNear}
 use Rattle.host_machine.specs.Laws.Restraint.Replies.{IsOneHostV4}
 
@@ -71,10 +71,12 @@ pub data HopIs (H : Host) (a : IpAddress) (hop : Option IpAddress) : Type 0 wher
   NoRouteTo : AreApart H.ip_addrs a →
       ((i : ℕ) (r : Route) → slice_get H.routes i ≡ Some r → MayBeUsed r a H.moment → ⊥) → hop ≡ None → HopIs H a hop
 
--- a frame has the packet, or a fragment of it, for this hardware address
-abbrev pub IsSentTo : Host → HardwareAddress → Packet → List ℕ → Type 0
-IsSentTo H h p frame = (frame ≡ ip_frame H h p)
-    ⊎ ((piece : Piece) × (piece.destination ≡ h) × (frame ≡ piece_frame H piece))
+-- a frame has the packet, or the first of its fragments, for this hardware address
+pub data IsSentTo (H : Host) (h : HardwareAddress) (p : Packet) (frame : List ℕ) : Type 0 where
+  Whole : frame ≡ ip_frame H h p → IsSentTo H h p frame
+  FirstPiece : (id : ℕ) (q : PacketV4) (first : Piece) (rest : List Piece) → p ≡ packet.Ipv4 q →
+      pieces_of (datagram_of H h id q) ≡ first ∷ rest → first.destination ≡ h → frame ≡ piece_frame H first →
+      IsSentTo H h p frame
 
 -- the source for an IPv4 destination: the first address in whose network it is; without one, the first IPv4 address
 pub data IsSourceFor (own : List IpCidr) (a source : Ipv4Address) : Type 0 where
@@ -165,3 +167,9 @@ GroupsHaveTheirAddresses =
     Dispatches p outcome H frames notes new → H.hardware_addr ≡ hardware.Ethernet own →
     IsGroup (destination_of p) → AreApart H.ip_addrs (destination_of p) →
     (h : EthernetAddress) × IsOfGroup (destination_of p) h × AllByRecursion (IsSentTo H (hardware.Ethernet h) p) frames
+
+-- an address of all hosts: 255.255.255.255, or that of an own network, whose bits after the prefix are ones (RFC 922 7)
+pub data IsToAll (own : List IpCidr) : IpAddress → Type 0 where
+  OnLink : (a : Ipv4Address) → a.bits ≡ 0xffff_ffff → IsToAll own (Ipv4 a)
+  OnNetwork : (a : Ipv4Address) (i : ℕ) (n : Ipv4Cidr) → slice_get own i ≡ Some (cidr.Ipv4 n) → n.prefix_len < 31 →
+      a.bits ≡ last_address (32 - n.prefix_len) n.address.bits → IsToAll own (Ipv4 a)

@@ -1,9 +1,10 @@
 -- Reports of groups: a pending answer was asked for by a query, and is due within the query's maximum response time,
 -- not before (RFC 2236 3, RFC 3810 5.1.3, 6.2); a join is told of once (RFC 2236 3, RFC 3810 6.1).
 use Rattle.std.specs.Prelude.{◌≡◌, ℕ, ◌+◌, ◌*◌, ◌/◌, ◌^◌, ◌≤◌, ℤ, pos, ◌+ℤ◌, ◌≤ℤ◌, ◌<ℤ◌, ◌==◌}
-use Rattle.std.specs.Prelude.{List, [], length, slice_index, if◌then◌else◌}
+use Rattle.std.specs.Prelude.{List, [], length, slice_get, slice_index, Some, if◌then◌else◌}
 use Rattle.net_base.specs.Checksum.{is_rx}
 use Rattle.net_base.specs.Device.{Event, sent_frames}
+use Rattle.ip_address.specs.declared.ip.IpAddress.{IpAddress}
 use Rattle.ip_address.specs.declared.ipv4.Ipv4Address.{Ipv4Address}
 use Rattle.ip_address.specs.declared.ipv6.Ipv6Address.{Ipv6Address}
 use Rattle.ip_address.specs.declared.protocol.IpProtocol.TheVariants as protocol
@@ -12,10 +13,13 @@ use Rattle.ipv6_wire.specs.Ipv6Packet.{ipv6_in}
 use Rattle.icmpv6_wire.specs.Icmpv6.{IsIcmpv6, icmpv6_in}
 use Rattle.icmpv6_wire.specs.declared.icmpv6.Icmpv6Repr.TheVariants.{Mld}
 use Rattle.group_wire.specs.Igmp.{IsIgmp, igmp_in, tenths_of}
+use Rattle.group_wire.specs.declared.igmp.IgmpVersion.{IgmpVersion}
 use Rattle.group_wire.specs.declared.igmp.IgmpRepr.TheVariants.{MembershipQuery}
 use Rattle.group_wire.specs.declared.mld.MldRepr.TheVariants.{Query}
 use Rattle.group_table.specs.Groups.{AreDistinct, count_in}
-use Rattle.group_table.specs.declared.groups.GroupState.TheVariants.{Joining}
+use Rattle.group_table.specs.declared.groups.Group.{Group}
+use Rattle.group_table.specs.declared.groups.GroupState.{GroupState}
+use Rattle.group_table.specs.declared.groups.GroupState.TheVariants.{Joining, Leaving}
 use Rattle.group_table.specs.declared.report.IgmpReportState.{IgmpReportState}
 use Rattle.group_table.specs.declared.report.IgmpReportState.TheVariants as igmp
 use Rattle.group_table.specs.declared.report.MldReportState.{MldReportState}
@@ -96,3 +100,28 @@ abbrev pub JoinsAreToldOnce : Type 0
 JoinsAreToldOnce =
     (H new : Host) (told : List Event) (notes : List Note) → AreDistinct H.groups → JoinsEgress H told notes new →
     length (sent_frames told) + count_in Joining new.groups ≤ count_in Joining H.groups
+
+-- Over a whole call that sends
+
+-- an answer to a query of IGMP after a call at t: it is as before; or its moment has come, and it is over, or goes on
+-- with the next group, an interval later or more, not before t
+pub data IgmpGoesOn (t : ℤ) (old new : IgmpReportState) : Type 0 where
+  AsBefore : new ≡ old → IgmpGoesOn t old new
+  Over : (x : ℤ) → IsPendingUntil old x → x ≤ℤ t → new ≡ igmp.Inactive → IgmpGoesOn t old new
+  NextGroup : (version : IgmpVersion) (x y : ℤ) (interval index : ℕ) →
+      old ≡ igmp.ToGeneralQuery version x interval index → x ≤ℤ t → (x +ℤ pos interval) ≤ℤ y → t ≤ℤ y →
+      new ≡ igmp.ToGeneralQuery version y interval (index + 1) → IgmpGoesOn t old new
+
+-- one to a query of MLD: it is as before; or its moment has come, and it is over
+pub data MldGoesOn (t : ℤ) (old new : MldReportState) : Type 0 where
+  AsBefore : new ≡ old → MldGoesOn t old new
+  Over : (x : ℤ) → IsMldPendingUntil old x → x ≤ℤ t → new ≡ mld.Inactive → MldGoesOn t old new
+
+-- a group is in a table, in this state
+abbrev pub HasGroup : List Group → IpAddress → GroupState → Type 0
+HasGroup groups a state = (k : ℕ) × (slice_get groups k ≡ Some (record { addr = a; state = state }))
+
+-- a group whose join, or leave, is pending after a call was one before
+pub record MakesNonePending (old new : Host) : Type 0 where
+  pub joins : (a : IpAddress) → HasGroup new.groups a Joining → HasGroup old.groups a Joining
+  pub leaves : (a : IpAddress) → HasGroup new.groups a Leaving → HasGroup old.groups a Leaving
