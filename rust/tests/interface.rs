@@ -537,7 +537,9 @@ fn sockets_tell_what_waits_in_their_queues() {
         socket.send_slice(text, (PEER, 9)).unwrap();
     }
     assert_eq!(told(&sockets, handle), (false, 0, false, 4));
-    assert_eq!(sockets.get_mut::<udp::Socket>(handle).send_slice(b"", (PEER, 9)), Err(udp::SendError::BufferFull));
+    let socket = sockets.get_mut::<udp::Socket>(handle);
+    assert_eq!(socket.send_slice(b"", (PEER, 9)), Err(udp::SendError::BufferFull));
+    assert_eq!(socket.send_with(0, (PEER, 9), |_| panic!("no room")), Err(udp::SendError::BufferFull));
     device.incoming.push_back(arp(2, PEER_LINK, PEER, OWN, SELF));
     iface.poll(millis(0), &mut device, &mut sockets);
     assert_eq!(told(&sockets, handle), (false, 0, true, 0));

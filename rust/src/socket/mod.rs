@@ -299,14 +299,16 @@ impl<K: Kind> Core<K> {
         Ok(self.call(f)?)
     }
 
-    /// Queues what `f` writes into a buffer of at most `max_size` octets, by `send`.
+    /// Queues what `f` writes into a buffer of `max_size` octets, by `send`, if there is room for so many.
     fn send_with(
         &self,
         max_size: usize,
         f: impl FnOnce(&mut [u8]) -> usize,
         send: impl FnOnce(&mut Host, u32, &[u8]) -> Result<(), Error>,
     ) -> Result<usize, SendError> {
-        if max_size > self.rooms.to_send.octets as usize {
+        let queue = self.call(Host::queues)?.to_send;
+        let room = queue.most_octets.saturating_sub(queue.octets) as usize;
+        if queue.packets >= queue.most_packets || max_size > room {
             return Err(SendError::BufferFull);
         }
         let mut buffer = alloc::vec![0; max_size];
