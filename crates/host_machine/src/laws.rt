@@ -345,7 +345,8 @@ pub fn arp_requests_are_answered()
 {}
 
 /// An IPv4 echo request is answered in the call that receives it, with its identifier, sequence number and data, if the
-/// way back to its sender is known.
+/// way back to its sender is known. On Ethernet its next hop is a known neighbour; where there are no hardware
+/// addresses, none is needed.
 pub fn pings_are_answered()
     ensures { PingsAreAnswered }
 {}

@@ -14,9 +14,7 @@ use Rattle.ip_address.specs.declared.protocol.IpProtocol.TheVariants as ip_proto
 use Rattle.ip_address.specs.EthernetAddress as ethernet
 use Rattle.ip_address.specs.Ipv6 as ipv6
 use Rattle.ip_address.specs.Protocol.{number_of}
-use Rattle.ip_wire.specs.declared.ethernet.EthernetProtocol.TheVariants as protocol
 use Rattle.ip_wire.specs.declared.ip_packet.IpRepr.TheVariants as repr
-use Rattle.ip_wire.specs.Ethernet.{header_in}
 use Rattle.ipv6_wire.specs.declared.ipv6_packet.Ipv6Repr.{Ipv6Repr}
 use Rattle.ipv6_wire.specs.Ipv6Packet.{IsIpv6, ipv6_in}
 use Rattle.icmpv6_wire.specs.Icmpv6.{icmpv6_in}
@@ -43,8 +41,8 @@ use Rattle.host_machine.specs.Receiving.Ipv6.{ProcessesIpv6, ProcessesPacket, Pr
 use Rattle.host_machine.specs.Receiving.Ipv6 as ip
 use Rattle.host_machine.specs.Sending.Dispatch.{OnLink}
 use Rattle.host_machine.specs.Receiving.Response.{Responds}
-use Rattle.host_machine.specs.Laws.Service.{HasPacketV6, IsReached, PingsV6AreAnswered, SolicitationsAreAnswered}
-use Rattle.host_machine.proofs.Receiving.FrameReplies.{WasTaken, clash, goes_whole, hop_as, learnt_found, renewed_found, taken_of}
+use Rattle.host_machine.specs.Laws.Service.{HasPacketV6, HasWay, IsReached, PingsV6AreAnswered, SolicitationsAreAnswered}
+use Rattle.host_machine.proofs.Receiving.FrameReplies.{PacketTaken, clash, goes_whole, hop_as, learnt_found, renewed_found, v6_of, way_by}
 use Rattle.host_machine.proofs.Sending.GrantedEgress.{unicast_for}
 
 -- the host before the protocol of a packet for it is looked at
@@ -72,20 +70,20 @@ ipv6_taken {source} {H} {new} {octets} {reply} {notes} r payload (ip.Read i t) i
     subst (λ v. ProcessesPacket source v.0 H v.1 reply notes new) values t
 
 -- what is done with a payload for the host, by its protocol
-pub payload_served : {own : EthernetAddress} {t : ℤ} {frame : List ℕ} {old new : Host} {told : List Event} {r : Ipv6Repr}
-    {payload : List ℕ} (p : IpProtocol) (w : WasTaken own t protocol.Ipv6 frame old told new) →
+pub payload_served : {own : HardwareAddress} {t : ℤ} {frame : List ℕ} {old new : Host} {told : List Event} {r : Ipv6Repr}
+    {payload : List ℕ} (p : IpProtocol) (w : PacketTaken ProcessesIpv6 own t frame old told new) →
     HasPacketV6 own old frame r payload → r.next_header ≡ p → (number_of p ≡ 0 → ⊥) →
     is_for_host (without_expired old t) (Ipv6 r.dst_addr) ≡ true →
     ProcessesProtocol p (raw.is_taken (repr.Ipv6 r) (without_expired old t)) r
-    (met (hardware.Ethernet (header_in frame).src_addr) r payload (without_expired old t)) payload w.reply w.notes w.taken
+    (met w.source r payload (without_expired old t)) payload w.reply w.notes w.taken
 payload_served {r = r} {payload = payload} p w q is bare for_us =
     packet_taken r p (ipv6_taken r payload w.takes q.is_packet q.values) q.sender is bare for_us
 
 -- a message for it
-pub message_served : {own : EthernetAddress} {t : ℤ} {frame : List ℕ} {old new : Host} {told : List Event} {r : Ipv6Repr} {payload : List ℕ}
-    (w : WasTaken own t protocol.Ipv6 frame old told new) →
+pub message_served : {own : HardwareAddress} {t : ℤ} {frame : List ℕ} {old new : Host} {told : List Event} {r : Ipv6Repr} {payload : List ℕ}
+    (w : PacketTaken ProcessesIpv6 own t frame old told new) →
     HasPacketV6 own old frame r payload → r.next_header ≡ ip_protocol.Icmpv6 → is_for_host (without_expired old t) (Ipv6 r.dst_addr) ≡ true →
-    ProcessesIcmpv6 r (met (hardware.Ethernet (header_in frame).src_addr) r payload (without_expired old t)) payload w.reply w.notes w.taken
+    ProcessesIcmpv6 r (met w.source r payload (without_expired old t)) payload w.reply w.notes w.taken
 message_served w q is for_us = payload_served ip_protocol.Icmpv6 w q is (λ bad. omega (arith, bad)) for_us
 
 -- a host without what is known of neighbours
@@ -119,9 +117,9 @@ message_taken (v6.Taken i t) is = t
 
 pub pings_v6_served : PingsV6AreAnswered
 pings_v6_served t old new told own frame r ident seq_no octets h w p reach fits =
-    let k = taken_of protocol.Ipv6 w p.in_packet.taken in
+    let k = v6_of own w p.in_packet.taken p.in_packet.is_packet in
     let H : Host = without_expired old t in
-    let source : HardwareAddress = hardware.Ethernet (header_in frame).src_addr in
+    let source : HardwareAddress = k.source in
     let mid : Host = met source r p.payload H in
     let echo : Packet =
     packet.Ipv6 (record { src_addr = r.dst_addr; dst_addr = r.src_addr; hop_limit = 64; payload = Icmpv6 (icmp.EchoReply ident seq_no) octets }) in
@@ -141,15 +139,15 @@ pings_v6_served t old new told own frame r ident seq_no octets h w p reach fits 
     let one = unicast_for old.ip_addrs (Ipv6 r.src_addr) p.in_packet.sender in
     let K : Host = v6.host_after_delivery r p.payload mid in
     let moment : K.moment ≡ t = ap (λ (x : Host). x.moment) same in
-    let way : IsReached K (Ipv6 r.src_addr) h = record {
-      hop = reach.hop;
-      next = hop_as {H = at old t} {K = K} addrs (ap (λ (x : Host). x.routes) same) moment reach.next;
-      known = ap (λ m. answer_of K.neighbors reach.hop m) moment ∙ met_found source r p.payload H reach.hop h reach.known;
-    } in
+    let way : HasWay own K (Ipv6 r.src_addr) h = way_by {H = at old t} own (λ near. record {
+      hop = near.hop;
+      next = hop_as {H = at old t} {K = K} addrs (ap (λ (x : Host). x.routes) same) moment near.next;
+      known = ap (λ m. answer_of K.neighbors near.hop m) moment ∙ met_found source r p.payload H near.hop h near.known;
+    }) reach in
     let short : 40 + (8 + length octets) ≤ ip_mtu_of K.capabilities =
     subst (λ c. 40 + (8 + length octets) ≤ ip_mtu_of c) (sym capabilities) (omega (arith, fits)) in
     let gone =
-    goes_whole {p = echo} own h went.1 (ap (λ (x : Host). x.hardware_addr) same ∙ w.on_ethernet) one.specified one.not_multicast way short in
+    goes_whole {p = echo} own h went.1 (ap (λ (x : Host). x.hardware_addr) same ∙ w.on_medium) one.specified one.not_multicast way short in
     k.sends_them ∙ gone.frames_are ∙ ap (λ (x : Host). ip_frame x h echo ∷ []) same
 
 -- Solicitations
@@ -219,9 +217,9 @@ or_left false y e = absurd cc
 
 pub solicitations_served : SolicitationsAreAnswered
 solicitations_served t old new told own frame r target h w s fits =
-    let k = taken_of protocol.Ipv6 w s.in_packet.taken in
+    let k = v6_of (hardware.Ethernet own) w s.in_packet.taken s.in_packet.is_packet in
     let H : Host = without_expired old t in
-    let source : HardwareAddress = hardware.Ethernet (header_in frame).src_addr in
+    let source : HardwareAddress = k.source in
     let mid : Host = met source r s.payload H in
     let K : Host = v6.host_after_delivery r s.payload mid in
     let advert : Packet = advertisement_of own r target in
@@ -236,7 +234,7 @@ solicitations_served t old new told own frame r target h w s fits =
     (has_ip_addr H (Ipv6 target)) s.for_host
     (or_left (is_assigned old.ip_addrs (Ipv6 target)) (old.any_ip && is_routed_here H (Ipv6 target)) s.target_is_own) in
     let asks : is_target K r target ≡ true = ap (λ (x : Host). is_target x r target) same ∙ asks_it in
-    let on : K.hardware_addr ≡ hardware.Ethernet own = ap (λ (x : Host). x.hardware_addr) same ∙ w.on_ethernet in
+    let on : K.hardware_addr ≡ hardware.Ethernet own = ap (λ (x : Host). x.hardware_addr) same ∙ w.on_medium in
     let adv = ndisc_hears target h asked s.by_neighbor on s.hardware s.target_is_one asks in
     let after : Host = with_neighbors K adv.learns.neighbors in
     let there : Responds (Some (Ip advert)) k.taken k.frames k.more new =
@@ -249,7 +247,7 @@ solicitations_served t old new told own frame r target h w s fits =
     let way : IsReached after (Ipv6 r.src_addr) (hardware.Ethernet h) = record { hop = Ipv6 r.src_addr; next = OnLink near refl; known = known } in
     let one = unicast_for old.ip_addrs (Ipv6 r.src_addr) s.in_packet.sender in
     let short : 72 ≤ ip_mtu_of K.capabilities = ap_le (ap (λ (x : Host). ip_mtu_of x.capabilities) same) fits in
-    let gone = goes_whole {p = advert} own (hardware.Ethernet h) went.1 on one.specified one.not_multicast way short in
+    let gone = goes_whole {p = advert} (hardware.Ethernet own) (hardware.Ethernet h) went.1 on one.specified one.not_multicast way short in
     let neighbors : new.neighbors ≡ adv.learns.neighbors = ap (λ (x : Host). x.neighbors) gone.host_is in (
       k.sends_them ∙ gone.frames_are ∙ ap (λ (x : Host). ip_frame x (hardware.Ethernet h) advert ∷ []) same,
       ap (λ n. answer_of n (Ipv6 r.src_addr) t) neighbors ∙ ap (answer_of adv.learns.neighbors (Ipv6 r.src_addr)) (sym moment) ∙ known,
