@@ -357,7 +357,8 @@ pub fn datagrams_are_queued()
     ensures { DatagramsAreQueued }
 {}
 
-/// So it is with one over IPv6.
+/// So it is with one over IPv6, after the header or after hop-by-hop options of which each is known or to be skipped
+/// (RFC 8200 4.2). The same goes for pings, closed ports, solicitations, segments and echo replies.
 pub fn datagrams_v6_are_queued()
     ensures { DatagramsV6AreQueued }
 {}

@@ -52,7 +52,7 @@ is_first H r ports octets i s h = record {
 
 pub datagrams_v6_queued : DatagramsV6AreQueued
 datagrams_v6_queued t old new told own frame r ports octets i s w d heard_by =
-    let k = v6_of own w d.in_packet.taken d.in_packet.is_packet in
+    let k = v6_of own w d.in_packet.packet.taken d.in_packet.packet.is_packet in
     let H : Host = without_expired old t in
     let source : HardwareAddress = k.source in
     let mid : Host = met source r d.payload H in
@@ -60,7 +60,7 @@ datagrams_v6_queued t old new told own frame r ports octets i s w d heard_by =
     let same : apart mid old.neighbors ≡ apart raws old.neighbors = met_apart source r d.payload H old.neighbors in
     let for_us : is_for_host H (Ipv6 r.dst_addr) ≡ true = rw d.given refl in
     let message : ProcessesUdp (raw.is_taken (repr.Ipv6 r) H) (repr.Ipv6 r) mid d.payload k.reply k.notes k.taken =
-    payload_served ip_protocol.Udp k d.in_packet d.protocol_is (λ bad. omega (arith, bad)) for_us in
+    payload_served ip_protocol.Udp k d.in_packet (λ bad. omega (arith, bad)) for_us in
     let heard : Storage →
     Storage = to_this (raw.takes (repr.Ipv6 r)) (raw.storage_after_delivery (is_tx old.capabilities.checksum.ipv4) (repr.Ipv6 r) d.payload) in
     let first_raw : IsFirst (accepts old.ip_addrs (repr.Ipv6 r) ports) raws.sockets.places i (Some (Udp s)) =
@@ -90,7 +90,7 @@ datagrams_v6_queued t old new told own frame r ports octets i s w d heard_by =
 -- a closed port
 pub ports_v6_told : ClosedPortsV6AreAnswered
 ports_v6_told t old new told own frame r ports octets h w d to_one nobody not_accepted reach fits =
-    let k = v6_of own w d.in_packet.taken d.in_packet.is_packet in
+    let k = v6_of own w d.in_packet.packet.taken d.in_packet.packet.is_packet in
     let H : Host = without_expired old t in
     let source : HardwareAddress = k.source in
     let mid : Host = met source r d.payload H in
@@ -104,7 +104,7 @@ ports_v6_told t old new told own frame r ports octets h w d to_one nobody not_ac
     }) in
     let for_us : is_for_host H (Ipv6 r.dst_addr) ≡ true = rw d.given refl in
     let message : ProcessesUdp (raw.is_taken (repr.Ipv6 r) H) (repr.Ipv6 r) mid d.payload k.reply k.notes k.taken =
-    payload_served ip_protocol.Udp k d.in_packet d.protocol_is (λ bad. omega (arith, bad)) for_us in
+    payload_served ip_protocol.Udp k d.in_packet (λ bad. omega (arith, bad)) for_us in
     let heard : Storage →
     Storage = to_this (raw.takes (repr.Ipv6 r)) (raw.storage_after_delivery (is_tx old.capabilities.checksum.ipv4) (repr.Ipv6 r) d.payload) in
     let none_raw : NoneAccepts (accepts old.ip_addrs (repr.Ipv6 r) ports) raws.sockets.places =
@@ -121,7 +121,7 @@ ports_v6_told t old new told own frame r ports octets h w d to_one nobody not_ac
     let there_it : Responds (Some (Ip error)) k.taken k.frames k.more new = subst (λ x. Responds x k.taken k.frames k.more new) replies k.responds in
     let went : Responds (Some (Ip error)) mid k.frames k.more new =
     subst (λ K. Responds (Some (Ip error)) K k.frames k.more new) was.host_is there_it in
-    let one = unicast_for old.ip_addrs (Ipv6 r.src_addr) d.in_packet.sender in
+    let one = unicast_for old.ip_addrs (Ipv6 r.src_addr) d.in_packet.packet.sender in
     let addrs : mid.ip_addrs ≡ old.ip_addrs = ap (λ (K : Host). K.ip_addrs) same in
     let moment : mid.moment ≡ t = ap (λ (x : Host). x.moment) same in
     let way : HasWay own mid (Ipv6 r.src_addr) h = way_by {H = at old t} own (λ near. record {

@@ -88,14 +88,14 @@ replies_queued t old new told own frame r ident seq_no message i s w d is_here e
 -- over IPv6
 pub replies_v6_queued : EchoRepliesV6AreQueued
 replies_v6_queued t old new told own frame r ident seq_no message i s w d is_here endpoint room =
-    let k = v6_of own w d.in_packet.taken d.in_packet.is_packet in
+    let k = v6_of own w d.in_packet.packet.taken d.in_packet.packet.is_packet in
     let H : Host = without_expired old t in
     let source : HardwareAddress = k.source in
     let mid : Host = met6 source r message H in
     let raws : Host = raw.host_after_raw_delivery (repr.Ipv6 r) message H in
     let same : apart6 mid old.neighbors ≡ apart6 raws old.neighbors = met_apart source r message H old.neighbors in
     let for_us : is_for_host H (Ipv6 r.dst_addr) ≡ true = rw d.given refl in
-    let it = message_taken (message_served k d.in_packet d.protocol_is for_us) (subst (λ (K : Host). IsMessage K r message) (sym same) d.is_message) in
+    let it = message_taken (message_served k d.in_packet for_us) (subst (λ (K : Host). IsMessage K r message) (sym same) d.is_message) in
     let dropped : IsDropped (v6.host_after_delivery r message mid) k.reply k.notes k.taken =
     subst (λ m. ProcessesMessage r m (icmpv6_in message).1 (v6.host_after_delivery r message mid) k.reply k.notes k.taken) d.values it in
     let went : Responds None k.taken k.frames k.more new = subst (λ x. Responds x k.taken k.frames k.more new) dropped.silent k.responds in

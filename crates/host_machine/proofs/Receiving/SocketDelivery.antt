@@ -65,6 +65,7 @@ use Rattle.host_machine.specs.Receiving.Udp.{ProcessesUdp}
 use Rattle.host_machine.specs.Receiving.Udp as udp
 use Rattle.host_machine.specs.Sending.Reports.{ProcessesIgmp, delay, host_after_igmp, host_after_mld_query, is_near, mld_report_for, random_after_draw}
 use Rattle.host_machine.specs.Sending.Reports as reports
+use Rattle.host_machine.specs.Laws.Service.{AfterHeader}
 use Rattle.host_machine.specs.Laws.Received.{HasSegmentLast, IsFirstFor, IsForSegments, IsRawFor, QueuesRawPackets, QueuesRawPacketsV6}
 use Rattle.host_machine.specs.Laws.Received.{QueuesSegments, QueuesSegmentsV6, RawPacketsAreQueued, SegmentsAreQueued, raw_packet}
 use Rattle.host_machine.proofs.Receiving.DatagramDelivery.{apart, first_is_one, first_still, same_bits, there}
@@ -238,7 +239,7 @@ raw_v6_queued t old new told own frame r payload i s w p given bare f =
     let H : Host = without_expired old t in
     let source : HardwareAddress = k.source in
     let for_us : is_for_host H (Ipv6 r.dst_addr) ≡ true = rw given refl in
-    let any = payload_served r.next_header k p refl bare for_us in
+    let any = payload_served r.next_header k (record { octets = payload; packet = p; carried = AfterHeader refl refl }) bare for_us in
     let x = renewal source (repr.Ipv6 r) (raw.host_after_raw_delivery (repr.Ipv6 r) payload H) in
     let at_mid : slice_get (met6 source r payload H).sockets.places i ≡ Some (Some (Raw (got (repr.Ipv6 r) payload old s))) =
     ap (λ (K : Host). slice_get K.sockets.places i) x.is ∙ raw_heard old t (repr.Ipv6 r) payload i s f in
@@ -403,7 +404,7 @@ segments_v4_queued t old new told own frame r segment octets i s w d f =
 
 segments_v6_queued : (t : ℤ) (old new : Host) (told : List Event) → QueuesSegmentsV6 t old told new
 segments_v6_queued t old new told own frame r segment octets i s w d f =
-    let k = v6_of own w d.in_packet.taken d.in_packet.is_packet in
+    let k = v6_of own w d.in_packet.packet.taken d.in_packet.packet.is_packet in
     let H : Host = without_expired old t in
     let source : HardwareAddress = k.source in
     let mid : Host = met6 source r d.payload H in
@@ -411,9 +412,9 @@ segments_v6_queued t old new told own frame r segment octets i s w d f =
     met_apart source r d.payload H old.neighbors in
     let for_us : is_for_host H (Ipv6 r.dst_addr) ≡ true = rw d.given refl in
     let message : ProcessesTcp (raw.is_taken (repr.Ipv6 r) H) (repr.Ipv6 r) mid d.payload k.reply k.notes k.taken =
-    payload_served ip_protocol.Tcp k d.in_packet d.protocol_is (λ bad. omega (arith, bad)) for_us in
+    payload_served ip_protocol.Tcp k d.in_packet (λ bad. omega (arith, bad)) for_us in
     let known : tcp.is_between_unspecified (repr.Ipv6 r) ≡ false =
-    rw ((unicast_for old.ip_addrs (Ipv6 r.src_addr) d.in_packet.sender).specified, (unicast_for old.ip_addrs (Ipv6 r.dst_addr) d.receiver).specified)
+    rw ((unicast_for old.ip_addrs (Ipv6 r.src_addr) d.in_packet.packet.sender).specified, (unicast_for old.ip_addrs (Ipv6 r.dst_addr) d.receiver).specified)
     refl in
     let x = segment_heard k.more new old t segment octets i s (ap (λ (K : Host). K.sockets) same) (ap (λ (K : Host). K.capabilities) same) message
     k.responds known d.is_segment d.values f in

@@ -31,7 +31,7 @@ use Rattle.host_machine.specs.State.Host.{Host, is_assigned}
 use Rattle.host_machine.specs.State.Addresses.{is_unicast_v4}
 use Rattle.host_machine.specs.Receiving.Icmpv6.{IsMessage}
 use Rattle.host_machine.specs.Receiving.Tcp.{IsSegment, destination_of, source_of}
-use Rattle.host_machine.specs.Laws.Service.{HasPacketV4, HasPacketV6, IsAccepted, Takes, packet_in}
+use Rattle.host_machine.specs.Laws.Service.{HasPacketV4, HasPacketV6, HasPayloadV6, IsAccepted, Takes, packet_in}
 
 -- Raw packets
 
@@ -95,10 +95,9 @@ pub record HasSegment (own : HardwareAddress) (H : Host) (frame : List ℕ) (r :
 pub record HasSegmentV6 (own : HardwareAddress) (H : Host) (frame : List ℕ) (r : Ipv6Repr)
     (segment : TcpRepr) (octets : List ℕ) : Type 0 where
   pub payload : List ℕ
-  pub in_packet : HasPacketV6 own H frame r payload
+  pub in_packet : HasPayloadV6 own H frame r ip_protocol.Tcp payload
   pub receiver : ipv6.is_unicast r.dst_addr ≡ true
   pub given : is_assigned H.ip_addrs (Ipv6 r.dst_addr) ≡ true
-  pub protocol_is : r.next_header ≡ ip_protocol.Tcp
   pub is_segment : IsSegment H (repr.Ipv6 r) payload
   pub values : tcp_in payload ≡ (segment, octets)
 
@@ -153,9 +152,8 @@ SegmentsAreQueued = (t : ℤ) (old new : Host) (told : List Event) →
 -- address assigned to the host (RFC 4443 4.2)
 pub record HasEchoReplyV6 (own : HardwareAddress) (H : Host) (frame : List ℕ) (r : Ipv6Repr)
     (ident seq_no : ℕ) (message : List ℕ) : Type 0 where
-  pub in_packet : HasPacketV6 own H frame r message
+  pub in_packet : HasPayloadV6 own H frame r ip_protocol.Icmpv6 message
   pub given : is_assigned H.ip_addrs (Ipv6 r.dst_addr) ≡ true
-  pub protocol_is : r.next_header ≡ ip_protocol.Icmpv6
   pub is_message : IsMessage H r message
   pub values : (icmpv6_in message).0 ≡ EchoReply ident seq_no
 

@@ -15,12 +15,16 @@ use Rattle.ip_address.specs.declared.ip.IpAddress.TheVariants.{Ipv4, Ipv6}
 use Rattle.ip_address.specs.declared.ipv4.Ipv4Address.{Ipv4Address}
 use Rattle.ip_address.specs.declared.ipv6.Ipv6Address.{Ipv6Address}
 use Rattle.ip_address.specs.Ipv6 as ipv6
+use Rattle.ip_address.specs.declared.protocol.IpProtocol.{IpProtocol}
 use Rattle.ip_address.specs.declared.protocol.IpProtocol.TheVariants as ip_protocol
+use Rattle.ip_address.specs.Protocol.{number_of}
 use Rattle.ip_address.specs.EthernetAddress as ethernet
 use Rattle.ip_address.specs.Ip.{is_unicast as is_one}
 use Rattle.ip_address.specs.Ipv4 as ipv4
 use Rattle.ipv6_wire.specs.declared.ipv6_packet.Ipv6Repr.{Ipv6Repr}
 use Rattle.ipv6_wire.specs.Ipv6Packet.{IsIpv6, ipv6_in}
+use Rattle.ipv6_wire.specs.HopByHop.{IsHopByHop, first_failure, hop_by_hop_in}
+use Rattle.ipv6_wire.specs.declared.hop_by_hop.Ipv6OptionFailureType.TheVariants.{Skip}
 use Rattle.icmpv6_wire.specs.Icmpv6.{icmpv6_in}
 use Rattle.icmpv6_wire.specs.declared.icmpv6.Icmpv6Repr.TheVariants as icmpv6
 use Rattle.icmpv6_wire.specs.declared.icmpv6.Icmpv6DstUnreachable.TheVariants.{PortUnreachable as PortUnreachableV6}
@@ -461,15 +465,30 @@ pub record HasPacketV6 (own : HardwareAddress) (H : Host) (frame : List ℕ)
   pub values : ipv6_in (packet_in own frame) ≡ (r, payload)
   pub sender : ipv6.is_unicast r.src_addr ≡ true
 
+-- the protocol of what an IPv6 packet carries, and its octets: the packet's payload; or what follows the hop-by-hop
+-- options that it begins with, if each of them is known or to be skipped (RFC 8200 4.2, 4.3)
+pub data IsCarried (r : Ipv6Repr) (octets : List ℕ) (p : IpProtocol) (payload : List ℕ) : Type 0 where
+  AfterHeader : r.next_header ≡ p → octets ≡ payload → IsCarried r octets p payload
+  AfterOptions : number_of r.next_header ≡ 0 → IsHopByHop octets →
+      first_failure (hop_by_hop_in octets).0.options.items ≡ Skip →
+      (hop_by_hop_in octets).0.next_header ≡ p → (hop_by_hop_in octets).1 ≡ payload →
+      IsCarried r octets p payload
+
+-- the frame carries, in an IPv6 packet with this header, a payload of this protocol
+pub record HasPayloadV6 (own : HardwareAddress) (H : Host) (frame : List ℕ)
+    (r : Ipv6Repr) (p : IpProtocol) (payload : List ℕ) : Type 0 where
+  pub octets : List ℕ
+  pub packet : HasPacketV6 own H frame r octets
+  pub carried : IsCarried r octets p payload
+
 -- an echo request with this identifier, sequence number and data (RFC 4443 4.1), to a unicast
 -- address assigned to the host
 pub record PingsV6 (own : HardwareAddress) (H : Host) (frame : List ℕ) (r : Ipv6Repr)
     (ident seq_no : ℕ) (octets : List ℕ) : Type 0 where
   pub payload : List ℕ
-  pub in_packet : HasPacketV6 own H frame r payload
+  pub in_packet : HasPayloadV6 own H frame r ip_protocol.Icmpv6 payload
   pub receiver : ipv6.is_unicast r.dst_addr ≡ true
   pub given : is_assigned H.ip_addrs (Ipv6 r.dst_addr) ≡ true
-  pub protocol_is : r.next_header ≡ ip_protocol.Icmpv6
   pub is_message : IsMessage H r payload
   pub values : icmpv6_in payload ≡ (icmpv6.EchoRequest ident seq_no, octets)
 
@@ -495,9 +514,8 @@ PingsV6AreAnswered = (t : ℤ) (old new : Host) (told : List Event) → AnswersP
 pub record HasDatagramV6 (own : HardwareAddress) (H : Host) (frame : List ℕ) (r : Ipv6Repr)
     (ports : UdpRepr) (octets : List ℕ) : Type 0 where
   pub payload : List ℕ
-  pub in_packet : HasPacketV6 own H frame r payload
+  pub in_packet : HasPayloadV6 own H frame r ip_protocol.Udp payload
   pub given : is_assigned H.ip_addrs (Ipv6 r.dst_addr) ≡ true
-  pub protocol_is : r.next_header ≡ ip_protocol.Udp
   pub is_datagram : IsDatagram H (repr.Ipv6 r) payload
   pub values : udp_in payload ≡ (ports, octets)
 
@@ -540,8 +558,7 @@ ClosedPortsV6AreAnswered = (t : ℤ) (old new : Host) (told : List Event) → An
 pub record Solicits (own : EthernetAddress) (H : Host) (frame : List ℕ) (r : Ipv6Repr) (target : Ipv6Address)
     (h : EthernetAddress) : Type 0 where
   pub payload : List ℕ
-  pub in_packet : HasPacketV6 (hardware.Ethernet own) H frame r payload
-  pub protocol_is : r.next_header ≡ ip_protocol.Icmpv6
+  pub in_packet : HasPayloadV6 (hardware.Ethernet own) H frame r ip_protocol.Icmpv6 payload
   pub is_message : IsMessage H r payload
   pub values : (icmpv6_in payload).0 ≡ icmpv6.Ndisc (NeighborSolicit target (Some h))
   pub near : in_same_network H.ip_addrs (Ipv6 r.src_addr) ≡ true
