@@ -19,6 +19,7 @@ ghost use Rattle.host_machine.specs.Laws.Refusals.{RefusalsLoseNothing};
 ghost use Rattle.host_machine.specs.Laws.Determined.{DispatchIsDetermined, EgressIsDetermined};
 ghost use Rattle.host_machine.specs.Laws.Determined.{IngressIsDetermined, PollIsDetermined};
 ghost use Rattle.host_machine.specs.Laws.Determined.{ReceptionIsDetermined, RunIsDetermined, StepIsDetermined};
+ghost use Rattle.host_machine.specs.Laws.Reassembled.{RebuiltDatagramsAreQueued};
 ghost use Rattle.host_machine.specs.Laws.Received.{EchoRepliesV6AreQueued, RawPacketsAreQueued, SegmentsAreQueued};
 ghost use Rattle.host_machine.specs.Laws.Service.{ArpRequestsAreAnswered, ClosedPortsAreAnswered, ClosedPortsV6AreAnswered};
 ghost use Rattle.host_machine.specs.Laws.Service.{DatagramsAreQueued, DatagramsV6AreQueued, DueIsDone};
@@ -361,6 +362,12 @@ pub fn datagrams_are_queued()
 /// (RFC 8200 4.2). The same goes for pings, closed ports, solicitations, segments and echo replies.
 pub fn datagrams_v6_are_queued()
     ensures { DatagramsV6AreQueued }
+{}
+
+/// So it is with a datagram over IPv4 that a fragment completes, in the call that takes the fragment (RFC 791 3.2): the
+/// call notes that it rebuilt the datagram under the fragment's key.
+pub fn rebuilt_datagrams_are_queued()
+    ensures { RebuiltDatagramsAreQueued }
 {}
 
 /// An echo reply is appended, in the call that receives it, to the queue of each ICMP socket with its identifier that

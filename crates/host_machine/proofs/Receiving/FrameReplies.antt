@@ -101,7 +101,7 @@ payload_taken {own} {H} {new} {frame} {reply} {notes} type (ethernet.Accepted l 
     subst (λ p. ProcessesEthertype own (header_in frame).src_addr H p (drop 14 frame) reply notes new) i.of_type t
 
 -- what was done with a frame, and how that was responded to
-record FrameTaken (own : HardwareAddress) (t : ℤ) (frame : List ℕ) (old : Host) (told : List Event) (new : Host) : Type 0 where
+record FrameTaken (own : HardwareAddress) (t : ℤ) (frame : List ℕ) (old : Host) (told : List Event) (all : List Note) (new : Host) : Type 0 where
   reply : Option Reply
   taken : Host
   notes : List Note
@@ -110,9 +110,10 @@ record FrameTaken (own : HardwareAddress) (t : ℤ) (frame : List ℕ) (old : Ho
   takes : ProcessesFrame own (without_expired old t) frame reply notes taken
   responds : Responds reply taken frames more new
   sends_them : sent_frames told ≡ frames
+  all_notes : all ≡ notes ++ more
 
 frame_of : {own : HardwareAddress} {t : ℤ} {frame : List ℕ} {old new : Host} {told : List Event} →
-    Takes own t frame old told new → 1 ≤ length frame → FrameTaken own t frame old told new
+    (w : Takes own t frame old told new) → 1 ≤ length frame → FrameTaken own t frame old told w.notes new
 frame_of {own} {t} {frame} {old} {new} {told} w some =
     let i = w.call in
     let only : handed_frames (Received t i.reception ∷ []) ≡ frame ∷ [] =
@@ -128,6 +129,7 @@ frame_of {own} {t} {frame} {old} {new} {told} w some =
       takes = subst (λ h. ProcessesFrame h (without_expired old t) frame i.response.reply i.response.notes_taking i.response.taken) w.on_medium any;
       responds = i.response.responds;
       sends_them = ap sent_frames i.events ∙ sent_frames-sends i.frames;
+      all_notes = i.response.all_notes;
     }
 
 -- the same of the payload of a frame on Ethernet
@@ -160,7 +162,7 @@ taken_of {own} {t} {frame} {old} {new} {told} type w is = let f = frame_of w (so
 
 -- and of the packet in a frame on either medium
 pub record PacketTaken (Processes : HardwareAddress → Host → List ℕ → Option Reply → List Note → Host → Type 0) (own : HardwareAddress)
-    (t : ℤ) (frame : List ℕ) (old : Host) (told : List Event) (new : Host) : Type 0 where
+    (t : ℤ) (frame : List ℕ) (old : Host) (told : List Event) (all : List Note) (new : Host) : Type 0 where
   pub source : HardwareAddress
   pub reply : Option Reply
   pub taken : Host
@@ -170,21 +172,25 @@ pub record PacketTaken (Processes : HardwareAddress → Host → List ℕ → Op
   pub takes : Processes source (without_expired old t) (packet_in own frame) reply notes taken
   pub responds : Responds reply taken frames more new
   pub sends_them : sent_frames told ≡ frames
+  pub all_notes : all ≡ notes ++ more
 
 pub v4_of : {t : ℤ} {frame : List ℕ} {old new : Host} {told : List Event} {checked : Bool} (own : HardwareAddress) →
-    Takes own t frame old told new → IsAccepted own protocol.Ipv4 frame → IsIpv4 checked (packet_in own frame) →
-    PacketTaken ProcessesIpv4 own t frame old told new
-v4_of {frame = frame} (hardware.Ethernet own) w is p = let k = taken_of protocol.Ipv4 w is in record {
+    (w : Takes own t frame old told new) → IsAccepted own protocol.Ipv4 frame → IsIpv4 checked (packet_in own frame) →
+    PacketTaken ProcessesIpv4 own t frame old told w.notes new
+v4_of {frame = frame} (hardware.Ethernet own) w is p = let k = frame_of w (some is.whole) in record {
   source = hardware.Ethernet (header_in frame).src_addr;
   reply = k.reply;
   taken = k.taken;
   notes = k.notes;
   more = k.more;
   frames = k.frames;
-  takes = k.takes;
+  takes = payload_taken protocol.Ipv4 k.takes is;
   responds = k.responds;
   sends_them = k.sends_them;
-}
+  all_notes = k.all_notes;
+} where
+  some : {n : ℕ} → 14 ≤ n → 1 ≤ n
+  some long = omega (arith, long)
 v4_of {t} {frame} {old} {new} {told} hardware.Ip w is p = let k = frame_of w (some p.whole) in record {
   source = hardware.Ip;
   reply = k.reply;
@@ -195,6 +201,7 @@ v4_of {t} {frame} {old} {new} {told} hardware.Ip w is p = let k = frame_of w (so
   takes = by k.takes p.version;
   responds = k.responds;
   sends_them = k.sends_them;
+  all_notes = k.all_notes;
 } where
   some : {n : ℕ} → 20 ≤ n → 1 ≤ n
   some long = omega (arith, long)
@@ -206,19 +213,22 @@ v4_of {t} {frame} {old} {new} {told} hardware.Ip w is p = let k = frame_of w (so
   by (ethernet.OtherVersion v6 v d) four = absurd (v6 four)
 
 pub v6_of : {t : ℤ} {frame : List ℕ} {old new : Host} {told : List Event} (own : HardwareAddress) →
-    Takes own t frame old told new → IsAccepted own protocol.Ipv6 frame → IsIpv6 (packet_in own frame) →
-    PacketTaken ProcessesIpv6 own t frame old told new
-v6_of {frame = frame} (hardware.Ethernet own) w is p = let k = taken_of protocol.Ipv6 w is in record {
+    (w : Takes own t frame old told new) → IsAccepted own protocol.Ipv6 frame → IsIpv6 (packet_in own frame) →
+    PacketTaken ProcessesIpv6 own t frame old told w.notes new
+v6_of {frame = frame} (hardware.Ethernet own) w is p = let k = frame_of w (some is.whole) in record {
   source = hardware.Ethernet (header_in frame).src_addr;
   reply = k.reply;
   taken = k.taken;
   notes = k.notes;
   more = k.more;
   frames = k.frames;
-  takes = k.takes;
+  takes = payload_taken protocol.Ipv6 k.takes is;
   responds = k.responds;
   sends_them = k.sends_them;
-}
+  all_notes = k.all_notes;
+} where
+  some : {n : ℕ} → 14 ≤ n → 1 ≤ n
+  some long = omega (arith, long)
 v6_of {t} {frame} {old} {new} {told} hardware.Ip w is p = let k = frame_of w (some p.whole) in record {
   source = hardware.Ip;
   reply = k.reply;
@@ -229,6 +239,7 @@ v6_of {t} {frame} {old} {new} {told} hardware.Ip w is p = let k = frame_of w (so
   takes = by k.takes p.version;
   responds = k.responds;
   sends_them = k.sends_them;
+  all_notes = k.all_notes;
 } where
   some : {n : ℕ} → 40 ≤ n → 1 ≤ n
   some long = omega (arith, long)
@@ -452,7 +463,7 @@ renewal : (source : HardwareAddress) (r : Ipv4Repr) (K : Host) → is_unicast_v4
     sender_renewed source (repr.Ipv4 r) K ≡ with_neighbors K (after_renewal K.neighbors (Ipv4 r.src_addr) source (expiry_from K.moment))
 renewal source r K one = rw one refl
 
-whole_taken : {source : HardwareAddress} {H new : Host} {payload : List ℕ} {reply : Option Reply} {notes : List Note} (r : Ipv4Repr) →
+pub whole_taken : {source : HardwareAddress} {H new : Host} {payload : List ℕ} {reply : Option Reply} {notes : List Note} (r : Ipv4Repr) →
     ProcessesDatagram source r H payload reply notes new →
     is_for_host H (Ipv4 r.dst_addr) ≡ true → is_unicast_v4 H.ip_addrs r.dst_addr ≡ true →
     ProcessesProtocol r.next_header (raw.is_taken (repr.Ipv4 r) H) r (met source r payload H) payload reply notes new
@@ -485,7 +496,7 @@ ipv4_taken {source} {H} {new} {octets} {reply} {notes} r payload (ip.Read i t) i
 
 -- what is done with a packet for the host that came whole
 pub packet_served : {own : HardwareAddress} {t : ℤ} {frame : List ℕ} {old new : Host} {told : List Event} {r : Ipv4Repr} {payload : List ℕ}
-    (w : PacketTaken ProcessesIpv4 own t frame old told new) →
+    {all : List Note} (w : PacketTaken ProcessesIpv4 own t frame old told all new) →
     HasPacketV4 own old frame r payload →
     ProcessesProtocol r.next_header (raw.is_taken (repr.Ipv4 r) (without_expired old t)) r
     (met w.source r payload (without_expired old t)) payload w.reply w.notes w.taken

@@ -85,7 +85,7 @@ ipv6_taken {source} {H} {new} {octets} {reply} {notes} r payload (ip.Read i t) i
 
 -- what is done with a payload for the host, by its protocol
 pub payload_served : {own : HardwareAddress} {t : ℤ} {frame : List ℕ} {old new : Host} {told : List Event} {r : Ipv6Repr}
-    {payload : List ℕ} (p : IpProtocol) (w : PacketTaken ProcessesIpv6 own t frame old told new) →
+    {payload : List ℕ} (p : IpProtocol) {all : List Note} (w : PacketTaken ProcessesIpv6 own t frame old told all new) →
     HasPayloadV6 own old frame r p payload → (number_of p ≡ 0 → ⊥) →
     is_for_host (without_expired old t) (Ipv6 r.dst_addr) ≡ true →
     ProcessesProtocol p (raw.is_taken (repr.Ipv6 r) (without_expired old t)) r
@@ -95,7 +95,7 @@ payload_served {r = r} p w q bare for_us =
 
 -- a message for it
 pub message_served : {own : HardwareAddress} {t : ℤ} {frame : List ℕ} {old new : Host} {told : List Event} {r : Ipv6Repr} {payload : List ℕ}
-    (w : PacketTaken ProcessesIpv6 own t frame old told new) →
+    {all : List Note} (w : PacketTaken ProcessesIpv6 own t frame old told all new) →
     HasPayloadV6 own old frame r ip_protocol.Icmpv6 payload → is_for_host (without_expired old t) (Ipv6 r.dst_addr) ≡ true →
     ProcessesIcmpv6 r (met w.source r payload (without_expired old t)) payload w.reply w.notes w.taken
 message_served w q for_us = payload_served ip_protocol.Icmpv6 w q (λ bad. omega (arith, bad)) for_us
