@@ -22,4 +22,5 @@ pub mod LearntNeighbors
 pub mod ReplyCauses
 pub mod ReplyOrigins
 pub mod ReplyLaws
+pub mod ReplyOctets
 pub mod SettingChanges

@@ -15,5 +15,6 @@ pub mod Determined
 pub mod Service
 pub mod Received
 pub mod Reassembled
+pub mod ReplyOctets
 pub mod Restraint
 pub mod Calls

@@ -20,6 +20,7 @@ ghost use Rattle.host_machine.specs.Laws.Determined.{DispatchIsDetermined, Egres
 ghost use Rattle.host_machine.specs.Laws.Determined.{IngressIsDetermined, PollIsDetermined};
 ghost use Rattle.host_machine.specs.Laws.Determined.{ReceptionIsDetermined, RunIsDetermined, StepIsDetermined};
 ghost use Rattle.host_machine.specs.Laws.Reassembled.{RebuiltDatagramsAreQueued};
+ghost use Rattle.host_machine.specs.Laws.ReplyOctets.{ArpRequestsAreAnsweredByOctets, PingsAreAnsweredByOctets};
 ghost use Rattle.host_machine.specs.Laws.Received.{EchoRepliesV6AreQueued, RawPacketsAreQueued, SegmentsAreQueued};
 ghost use Rattle.host_machine.specs.Laws.Service.{ArpRequestsAreAnswered, ClosedPortsAreAnswered, ClosedPortsV6AreAnswered};
 ghost use Rattle.host_machine.specs.Laws.Service.{DatagramsAreQueued, DatagramsV6AreQueued, DueIsDone};
@@ -350,6 +351,18 @@ pub fn arp_requests_are_answered()
 /// addresses, none is needed.
 pub fn pings_are_answered()
     ensures { PingsAreAnswered }
+{}
+
+/// On Ethernet the octets of that frame are these, by their positions. Hardware addresses and IPv4 addresses are those
+/// of the way back, the TTL is 64, the identifier, the sequence number and the data are as they came, and both checksums
+/// are right.
+pub fn pings_are_answered_by_octets()
+    ensures { PingsAreAnsweredByOctets }
+{}
+
+/// So are the octets of the frame that answers an ARP request.
+pub fn arp_requests_are_answered_by_octets()
+    ensures { ArpRequestsAreAnsweredByOctets }
 {}
 
 /// A UDP datagram over IPv4 for the host is appended, in the call that receives it, to the queue of the first socket
