@@ -161,7 +161,8 @@ answered ha hb a b hop_limit ident seq_no octets t u A B B' told_b ka kb ident_f
       is_message = asked.is_message;
       values = asked.values;
     } in
-    pings_served u B B' told_b (hardware.Ethernet hb) (message_frame A hb request) (header_v4 request) ident seq_no octets (hardware.Ethernet ha) takes pings kb.reached fits
+    pings_served u B B' told_b (hardware.Ethernet hb) (message_frame A hb request) (header_v4 request) ident seq_no octets
+    (hardware.Ethernet ha) takes pings kb.reached fits
 
 pub come_back : PingsComeBack
 come_back ha hb a b ident seq_no octets t u v i k A A' B B' C C' told_a told_b told_c p =
@@ -184,7 +185,8 @@ come_back ha hb a b ident seq_no octets t u v i k A A' B B' C C' told_a told_b t
       is_message = told.is_message;
       values = ap (λ x. x.0) told.values;
     } in
-    let queued = replies_queued v C C' told_c (hardware.Ethernet ha) (message_frame B ha reply) (header_v4 reply) ident seq_no text k p.socket p.a_takes back p.here
+    let queued = replies_queued v C C' told_c (hardware.Ethernet ha) (message_frame B ha reply) (header_v4 reply) ident seq_no text k
+    p.socket p.a_takes back p.here
     p.endpoint (ap (λ n. is_room p.socket.rx n) told.len ∙ p.room) in
     record {
       front = went.front;

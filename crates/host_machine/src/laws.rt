@@ -354,8 +354,8 @@ pub fn pings_are_answered()
 {}
 
 /// On Ethernet the octets of that frame are these, by their positions. Hardware addresses and IPv4 addresses are those
-/// of the way back, the TTL is 64, the identifier, the sequence number and the data are as they came, and both checksums
-/// are right.
+/// of the way back, and the TTL is 64. The identifier, the sequence number and the data are as they came, and both
+/// checksums are right.
 pub fn pings_are_answered_by_octets()
     ensures { PingsAreAnsweredByOctets }
 {}

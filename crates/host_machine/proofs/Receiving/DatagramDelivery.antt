@@ -161,7 +161,8 @@ has_room r ports octets s false e = absurd cc
 
 -- at a host that takes it
 pub datagram_heard : {b : Bool} {payload : List ℕ} {reply : Option Reply} {notes : List Note} {taken : Host}
-    {frames : List (List ℕ)} (source : HardwareAddress) (more : List Note) (H new : Host) (r : Ipv4Repr) (ports : UdpRepr) (octets : List ℕ) (i : ℕ) (s : UdpSocket) →
+    {frames : List (List ℕ)} (source : HardwareAddress) (more : List Note) (H new : Host) (r : Ipv4Repr)
+    (ports : UdpRepr) (octets : List ℕ) (i : ℕ) (s : UdpSocket) →
     ProcessesUdp b (repr.Ipv4 r) (met source r payload H) payload reply notes taken → Responds reply taken frames more new →
     IsDatagram H (repr.Ipv4 r) payload → udp_in payload ≡ (ports, octets) → IsAcceptedBy H (Ipv4 r.dst_addr) ports octets i s →
     IsQueued (Ipv4 r.src_addr) ports octets i s H new × (frames ≡ [])

@@ -1,4 +1,4 @@
--- What a host must do with a datagram that it received in fragments: the call that takes the last missing one queues it.
+-- What a host must do with a datagram that comes in fragments: the call that takes the last missing one queues it.
 use Rattle.std.specs.Prelude.{◌≡◌, ℕ, ℤ, true, List, [], ◌∷◌}
 use Rattle.net_base.specs.Checksum.{is_rx}
 use Rattle.net_base.specs.Device.{Event, sent_frames}
