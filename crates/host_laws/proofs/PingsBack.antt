@@ -48,7 +48,7 @@ use Rattle.host_laws.specs.PingsInRuns.{PingsReturn, RunsReturnPings}
 
 -- what is read of the frame of an echo message by the host that it is for
 record ReadsEcho (far : EthernetAddress) (K : Host) (frame : List ℕ) (r : Ipv4Repr) (message : Icmpv4Repr) (octets text : List ℕ) : Type 0 where
-  in_packet : HasPacketV4 far K frame r text
+  in_packet : HasPacketV4 (hardware.Ethernet far) K frame r text
   is_message : IsIcmpv4 (is_rx K.capabilities.checksum.icmpv4) text
   values : icmpv4_in text ≡ (message, octets)
   len : length text ≡ 8 + length octets
@@ -145,7 +145,8 @@ reply_len a b ident seq_no octets = omega arith
 answered : (ha hb : EthernetAddress) (a b : Ipv4Address) (hop_limit ident seq_no : ℕ) (octets : List ℕ) (t u : ℤ) (A B B' : Host)
     (told_b : List Event) →
     Knows (at A t) ha a hb b → Knows (at B u) hb b ha a → ident < 2 ^ 16 → seq_no < 2 ^ 16 → 28 + length octets ≤ ip_mtu_of B.capabilities →
-    28 + length octets < 2 ^ 16 → Takes hb u (message_frame A hb (message_packet a b hop_limit (EchoRequest ident seq_no) octets)) B told_b B' →
+    28 + length octets < 2 ^ 16 →
+    Takes (hardware.Ethernet hb) u (message_frame A hb (message_packet a b hop_limit (EchoRequest ident seq_no) octets)) B told_b B' →
     sent_frames told_b ≡ message_frame B ha (message_packet b a 64 (EchoReply ident seq_no) octets) ∷ []
 answered ha hb a b hop_limit ident seq_no octets t u A B B' told_b ka kb ident_fits seq_no_fits fits short takes =
     let request : PacketV4 = message_packet a b hop_limit (EchoRequest ident seq_no) octets in
@@ -153,14 +154,15 @@ answered ha hb a b hop_limit ident seq_no octets t u A B B' told_b ka kb ident_f
     (request_len (is_tx A.capabilities.checksum.icmpv4) (is_tx A.capabilities.checksum.ipv4) ident seq_no octets)
     ka.on_ethernet ka.octets kb.octets ka.headers_summed ka.messages_summed ka.bits kb.bits short
     kb.peer_is_one kb.one kb.given in
-    let pings : AsksByEcho hb B (message_frame A hb request) (header_v4 request) ident seq_no octets = record {
+    let pings : AsksByEcho (hardware.Ethernet hb) B (message_frame A hb request) (header_v4 request) ident seq_no octets = record {
       payload = echo_text A (EchoRequest ident seq_no) octets;
       in_packet = asked.in_packet;
       protocol_is = refl;
       is_message = asked.is_message;
       values = asked.values;
     } in
-    pings_served u B B' told_b hb (message_frame A hb request) (header_v4 request) ident seq_no octets (hardware.Ethernet ha) takes pings kb.reached fits
+    pings_served u B B' told_b (hardware.Ethernet hb) (message_frame A hb request) (header_v4 request) ident seq_no octets
+    (hardware.Ethernet ha) takes pings kb.reached fits
 
 pub come_back : PingsComeBack
 come_back ha hb a b ident seq_no octets t u v i k A A' B B' C C' told_a told_b told_c p =
@@ -169,7 +171,7 @@ come_back ha hb a b ident seq_no octets t u v i k A A' B B' C C' told_a told_b t
     let ka = p.a_knows in
     let kb = p.b_knows in
     let kc = p.c_knows in
-    let went = first_echoes_go t p.sends.answer A A' told_a p.sends.notes p.sends.call ha i p.sends.socket a b ident seq_no octets
+    let went = first_echoes_go t p.sends.answer A A' told_a p.sends.notes p.sends.call (hardware.Ethernet ha) i p.sends.socket a b ident seq_no octets
     (hardware.Ethernet hb) p.sends.granted ka.on_ethernet p.sends.first p.sends.may ka.peer_is_one ka.reached p.fits_a in
     let told_by_b = answered ha hb a b hop_limit ident seq_no octets t u A B B' told_b ka kb p.ident_fits p.seq_no_fits p.fits_b p.short p.b_takes in
     let told = reads B C hb ha reply (EchoReply ident seq_no) octets refl (p.ident_fits, p.seq_no_fits) refl
@@ -177,13 +179,14 @@ come_back ha hb a b ident seq_no octets t u v i k A A' B B' C C' told_a told_b t
     kb.on_ethernet kb.octets ka.octets kb.headers_summed kb.messages_summed kb.bits ka.bits p.short
     kc.peer_is_one kc.one kc.given in
     let text : List ℕ = echo_text B (EchoReply ident seq_no) octets in
-    let back : HasEchoReply ha C (message_frame B ha reply) (header_v4 reply) ident seq_no text = record {
+    let back : HasEchoReply (hardware.Ethernet ha) C (message_frame B ha reply) (header_v4 reply) ident seq_no text = record {
       in_packet = told.in_packet;
       protocol_is = refl;
       is_message = told.is_message;
       values = ap (λ x. x.0) told.values;
     } in
-    let queued = replies_queued v C C' told_c ha (message_frame B ha reply) (header_v4 reply) ident seq_no text k p.socket p.a_takes back p.here
+    let queued = replies_queued v C C' told_c (hardware.Ethernet ha) (message_frame B ha reply) (header_v4 reply) ident seq_no text k
+    p.socket p.a_takes back p.here
     p.endpoint (ap (λ n. is_room p.socket.rx n) told.len ∙ p.room) in
     record {
       front = went.front;
@@ -205,10 +208,10 @@ sending : (t : ℤ) (p : Transition) → p.command ≡ PollEgress t → KeepsCal
 sending t p e k = subst (λ c. IsCallOf c p) e k.call
 
 taking : (own : EthernetAddress) (t : ℤ) (frame : List ℕ) (p : Transition) → p.command ≡ PollIngressSingle t → KeepsCallLaws p →
-    handed_frames p.told ≡ frame ∷ [] → p.before.hardware_addr ≡ hardware.Ethernet own → Takes own t frame p.before p.told p.after
+    handed_frames p.told ≡ frame ∷ [] → p.before.hardware_addr ≡ hardware.Ethernet own → Takes (hardware.Ethernet own) t frame p.before p.told p.after
 taking own t frame p e k took on =
     let i : IsIngress t p = subst (λ c. IsCallOf c p) e k.call in
-    record { answer = i.answer; notes = p.notes; call = i.call; took = took; on_ethernet = on }
+    record { answer = i.answer; notes = p.notes; call = i.call; took = took; on_medium = on }
 
 pub pings_return : (ps qs : List Transition) → AllByRecursion KeepsCallLaws ps → AllByRecursion KeepsCallLaws qs → PingsReturn ps qs
 pings_return ps qs keep_p keep_q ha hb a b ident seq_no octets t u v i k x y z p q r at_x at_y at_z g =

@@ -77,9 +77,10 @@ pub record Pings (ha hb : EthernetAddress) (a b : Ipv4Address) (ident seq_no : �
   pub fits_b : 28 + length octets ≤ ip_mtu_of B.capabilities
   pub short : 28 + length octets < 2 ^ 16
   pub sends : SendsPing t i a b ident seq_no octets A told_a A'
-  pub b_takes : Takes hb u
+  pub b_takes : Takes (hardware.Ethernet hb) u
       (message_frame A hb (message_packet a b sends.socket.hop_limit (EchoRequest ident seq_no) octets)) B told_b B'
-  pub a_takes : Takes ha v (message_frame B ha (message_packet b a 64 (EchoReply ident seq_no) octets)) C told_c C'
+  pub a_takes : Takes (hardware.Ethernet ha) v
+      (message_frame B ha (message_packet b a 64 (EchoReply ident seq_no) octets)) C told_c C'
   pub socket : IcmpSocket
   pub here : slice_get C.sockets.places k ≡ Some (Some (Icmp socket))
   pub endpoint : socket.endpoint ≡ Ident ident

@@ -9,6 +9,7 @@ pub mod FrameReading
 pub mod FewFragments
 pub mod FrameReplies
 pub mod DatagramDelivery
+pub mod RebuiltDelivery
 pub mod DatagramDeliveryV6
 pub mod EchoReplies
 pub mod SocketDelivery
@@ -21,4 +22,5 @@ pub mod LearntNeighbors
 pub mod ReplyCauses
 pub mod ReplyOrigins
 pub mod ReplyLaws
+pub mod ReplyOctets
 pub mod SettingChanges

@@ -14,5 +14,7 @@ pub mod Steps
 pub mod Determined
 pub mod Service
 pub mod Received
+pub mod Reassembled
+pub mod ReplyOctets
 pub mod Restraint
 pub mod Calls

@@ -19,6 +19,8 @@ ghost use Rattle.host_machine.specs.Laws.Refusals.{RefusalsLoseNothing};
 ghost use Rattle.host_machine.specs.Laws.Determined.{DispatchIsDetermined, EgressIsDetermined};
 ghost use Rattle.host_machine.specs.Laws.Determined.{IngressIsDetermined, PollIsDetermined};
 ghost use Rattle.host_machine.specs.Laws.Determined.{ReceptionIsDetermined, RunIsDetermined, StepIsDetermined};
+ghost use Rattle.host_machine.specs.Laws.Reassembled.{RebuiltDatagramsAreQueued};
+ghost use Rattle.host_machine.specs.Laws.ReplyOctets.{ArpRequestsAreAnsweredByOctets, PingsAreAnsweredByOctets};
 ghost use Rattle.host_machine.specs.Laws.Received.{EchoRepliesV6AreQueued, RawPacketsAreQueued, SegmentsAreQueued};
 ghost use Rattle.host_machine.specs.Laws.Service.{ArpRequestsAreAnswered, ClosedPortsAreAnswered, ClosedPortsV6AreAnswered};
 ghost use Rattle.host_machine.specs.Laws.Service.{DatagramsAreQueued, DatagramsV6AreQueued, DueIsDone};
@@ -345,9 +347,22 @@ pub fn arp_requests_are_answered()
 {}
 
 /// An IPv4 echo request is answered in the call that receives it, with its identifier, sequence number and data, if the
-/// way back to its sender is known.
+/// way back to its sender is known. On Ethernet its next hop is a known neighbour; where there are no hardware
+/// addresses, none is needed.
 pub fn pings_are_answered()
     ensures { PingsAreAnswered }
+{}
+
+/// On Ethernet the octets of that frame are these, by their positions. Hardware addresses and IPv4 addresses are those
+/// of the way back, and the TTL is 64. The identifier, the sequence number and the data are as they came, and both
+/// checksums are right.
+pub fn pings_are_answered_by_octets()
+    ensures { PingsAreAnsweredByOctets }
+{}
+
+/// So are the octets of the frame that answers an ARP request.
+pub fn arp_requests_are_answered_by_octets()
+    ensures { ArpRequestsAreAnsweredByOctets }
 {}
 
 /// A UDP datagram over IPv4 for the host is appended, in the call that receives it, to the queue of the first socket
@@ -356,9 +371,16 @@ pub fn datagrams_are_queued()
     ensures { DatagramsAreQueued }
 {}
 
-/// So it is with one over IPv6.
+/// So it is with one over IPv6, after the header or after hop-by-hop options of which each is known or to be skipped
+/// (RFC 8200 4.2). The same goes for pings, closed ports, solicitations, segments and echo replies.
 pub fn datagrams_v6_are_queued()
     ensures { DatagramsV6AreQueued }
+{}
+
+/// So it is with a datagram over IPv4 that a fragment completes, in the call that takes the fragment (RFC 791 3.2): the
+/// call notes that it rebuilt the datagram under the fragment's key.
+pub fn rebuilt_datagrams_are_queued()
+    ensures { RebuiltDatagramsAreQueued }
 {}
 
 /// An echo reply is appended, in the call that receives it, to the queue of each ICMP socket with its identifier that

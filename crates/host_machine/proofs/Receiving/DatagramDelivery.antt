@@ -9,14 +9,11 @@ use Rattle.std.specs.Option.{option_map}
 use Rattle.net_base.specs.Checksum.{is_tx, ip_mtu_of}
 use Rattle.ip_address.specs.declared.cidr.IpCidr.{IpCidr}
 use Rattle.ip_address.specs.declared.hardware.HardwareAddress.{HardwareAddress}
-use Rattle.ip_address.specs.declared.hardware.HardwareAddress.TheVariants as hardware
 use Rattle.ip_address.specs.declared.ip.IpAddress.TheVariants.{Ipv4}
-use Rattle.ip_wire.specs.declared.ethernet.EthernetProtocol.TheVariants as protocol
 use Rattle.ip_wire.specs.declared.ipv4_packet.Ipv4Repr.{Ipv4Repr}
 use Rattle.ip_wire.specs.declared.ip_packet.IpRepr.{IpRepr}
 use Rattle.ip_wire.specs.declared.ip_packet.IpRepr.TheVariants as repr
 use Rattle.ip_wire.specs.declared.udp.UdpRepr.{UdpRepr}
-use Rattle.ip_wire.specs.Ethernet.{header_in}
 use Rattle.ip_wire.specs.Udp.{udp_in}
 use Rattle.control_wire.specs.declared.icmpv4.Icmpv4Repr.TheVariants.{DstUnreachable}
 use Rattle.control_wire.specs.declared.icmpv4.Icmpv4DstUnreachable.TheVariants.{PortUnreachable}
@@ -34,8 +31,8 @@ use Rattle.host_machine.specs.Receiving.Udp as udp
 use Rattle.host_machine.specs.Receiving.Unreachable.{port_unreachable}
 use Rattle.host_machine.specs.Receiving.Ipv4.{ProcessesProtocol}
 use Rattle.host_machine.specs.Receiving.Response.{Responds}
-use Rattle.host_machine.specs.Laws.Service.{ClosedPortsAreAnswered, DatagramsAreQueued, IsAcceptedBy}
-use Rattle.host_machine.proofs.Receiving.FrameReplies.{clash, goes_whole, hop_as, met, one_of, packet_served, reached_still, taken_of}
+use Rattle.host_machine.specs.Laws.Service.{ClosedPortsAreAnswered, DatagramsAreQueued, HasWay, IsAcceptedBy, IsQueued}
+use Rattle.host_machine.proofs.Receiving.FrameReplies.{clash, goes_whole, hop_as, met, one_of, packet_served, reached_still, v4_of, way_by}
 
 -- the first place that accepts is one
 pub first_is_one : {test : Storage → Bool} {places : List Storage} {i j : ℕ} {p q : Storage} → IsFirst test places i p → IsFirst test places j q → i ≡ j
@@ -162,21 +159,23 @@ pub has_room : (r : IpRepr) (ports : UdpRepr) (octets : List ℕ) (s : UdpSocket
 has_room r ports octets s true e = refl
 has_room r ports octets s false e = absurd cc
 
-pub datagrams_queued : DatagramsAreQueued
-datagrams_queued t old new told own frame r ports octets i s w d heard_by =
-    let k = taken_of protocol.Ipv4 w d.in_packet.taken in
-    let H : Host = without_expired old t in
-    let mid : Host = met (hardware.Ethernet (header_in frame).src_addr) r d.payload H in
-    let any = packet_served k d.in_packet in
-    let message : ProcessesUdp (raw.is_taken (repr.Ipv4 r) H) (repr.Ipv4 r) mid d.payload k.reply k.notes k.taken =
-    subst (λ q. ProcessesProtocol q (raw.is_taken (repr.Ipv4 r) H) r mid d.payload k.reply k.notes k.taken) d.protocol_is any in
+-- at a host that takes it
+pub datagram_heard : {b : Bool} {payload : List ℕ} {reply : Option Reply} {notes : List Note} {taken : Host}
+    {frames : List (List ℕ)} (source : HardwareAddress) (more : List Note) (H new : Host) (r : Ipv4Repr)
+    (ports : UdpRepr) (octets : List ℕ) (i : ℕ) (s : UdpSocket) →
+    ProcessesUdp b (repr.Ipv4 r) (met source r payload H) payload reply notes taken → Responds reply taken frames more new →
+    IsDatagram H (repr.Ipv4 r) payload → udp_in payload ≡ (ports, octets) → IsAcceptedBy H (Ipv4 r.dst_addr) ports octets i s →
+    IsQueued (Ipv4 r.src_addr) ports octets i s H new × (frames ≡ [])
+datagram_heard {payload = payload} {taken = taken} {frames = frames} source more H new r ports octets i s message responds
+    is_datagram values heard_by =
+    let mid : Host = met source r payload H in
     let heard : Storage →
-    Storage = to_this (raw.takes (repr.Ipv4 r)) (raw.storage_after_delivery (is_tx old.capabilities.checksum.ipv4) (repr.Ipv4 r) d.payload) in
-    let first : IsFirst (accepts old.ip_addrs (repr.Ipv4 r) ports) mid.sockets.places i (Some (Udp s)) =
-    first_still (accepts old.ip_addrs (repr.Ipv4 r) ports) heard (raw_apart old.ip_addrs (repr.Ipv4 r)
-    (repr.Ipv4 r) ports (is_tx old.capabilities.checksum.ipv4) d.payload) old.sockets.places (is_first old r ports octets i s heard_by) in
-    let was = udp_delivered ports octets i s message d.is_datagram d.values first in
-    let went : Responds None k.taken k.frames k.more new = subst (λ x. Responds x k.taken k.frames k.more new) was.silent k.responds in
+    Storage = to_this (raw.takes (repr.Ipv4 r)) (raw.storage_after_delivery (is_tx H.capabilities.checksum.ipv4) (repr.Ipv4 r) payload) in
+    let first : IsFirst (accepts H.ip_addrs (repr.Ipv4 r) ports) mid.sockets.places i (Some (Udp s)) =
+    first_still (accepts H.ip_addrs (repr.Ipv4 r) ports) heard (raw_apart H.ip_addrs (repr.Ipv4 r)
+    (repr.Ipv4 r) ports (is_tx H.capabilities.checksum.ipv4) payload) H.sockets.places (is_first H r ports octets i s heard_by) in
+    let was = udp_delivered ports octets i s message is_datagram values first in
+    let went : Responds None taken frames more new = subst (λ x. Responds x taken frames more new) was.silent responds in
     let places : new.sockets.places ≡ slice_set mid.sockets.places i (storage_after_delivery (repr.Ipv4 r) ports octets (Some (Udp s))) =
     ap (λ (K : Host). K.sockets.places) (went.2 ∙ was.host_is) in (
       record {
@@ -186,10 +185,27 @@ datagrams_queued t old new told own frame r ports octets i s w d heard_by =
             (has_room (repr.Ipv4 r) ports octets s _ heard_by.room);
         others = λ j other ne is. ap (λ ps. slice_get ps j) places
             ∙ apart mid.sockets.places i j (storage_after_delivery (repr.Ipv4 r) ports octets (Some (Udp s))) ne
-            ∙ slice_get-map heard old.sockets.places j ∙ ap (option_map heard) is;
+            ∙ slice_get-map heard H.sockets.places j ∙ ap (option_map heard) is;
       },
-      k.sends_them ∙ went.0,
+      went.0,
     )
+
+pub datagrams_queued : DatagramsAreQueued
+datagrams_queued t old new told own frame r ports octets i s w d heard_by =
+    let k = v4_of own w d.in_packet.taken d.in_packet.is_packet in
+    let H : Host = without_expired old t in
+    let mid : Host = met k.source r d.payload H in
+    let any = packet_served k d.in_packet in
+    let message : ProcessesUdp (raw.is_taken (repr.Ipv4 r) H) (repr.Ipv4 r) mid d.payload k.reply k.notes k.taken =
+    subst (λ q. ProcessesProtocol q (raw.is_taken (repr.Ipv4 r) H) r mid d.payload k.reply k.notes k.taken) d.protocol_is any in
+    let x = datagram_heard k.source k.more H new r ports octets i s message k.responds d.is_datagram d.values (record {
+      here = heard_by.here;
+      port = heard_by.port;
+      addr = heard_by.addr;
+      first = heard_by.first;
+      room = heard_by.room;
+    }) in
+    (record { got = x.0.got; others = x.0.others }, k.sends_them ∙ x.1)
 
 -- a closed port
 pub take_few : (n : ℕ) (xs : List ℕ) → length (take n xs) ≤ n
@@ -214,9 +230,9 @@ udp_refused ports octets (udp.NotAccepted d none rep n e) is values nobody = rec
 
 pub ports_told : ClosedPortsAreAnswered
 ports_told t old new told own frame r ports octets h w d nobody not_accepted reach fits =
-    let k = taken_of protocol.Ipv4 w d.in_packet.taken in
+    let k = v4_of own w d.in_packet.taken d.in_packet.is_packet in
     let H : Host = without_expired old t in
-    let source : HardwareAddress = hardware.Ethernet (header_in frame).src_addr in
+    let source : HardwareAddress = k.source in
     let mid : Host = met source r d.payload H in
     let error : Packet = packet.Ipv4 (record {
       src_addr = r.dst_addr;
@@ -239,9 +255,9 @@ ports_told t old new told own frame r ports octets h w d nobody not_accepted rea
     let there_it : Responds (Some (Ip error)) k.taken k.frames k.more new = subst (λ x. Responds x k.taken k.frames k.more new) replies k.responds in
     let went : Responds (Some (Ip error)) mid k.frames k.more new =
     subst (λ K. Responds (Some (Ip error)) K k.frames k.more new) was.host_is there_it in
-    let way = reached_still {H = H} source r d.payload
-    (record { hop = reach.hop; next = hop_as {H = at old t} {K = H} refl refl refl reach.next; known = reach.known }) in
+    let way : HasWay own mid (Ipv4 r.src_addr) h = way_by {H = at old t} own (λ near. reached_still {H = H} source r d.payload
+    (record { hop = near.hop; next = hop_as {H = at old t} {K = H} refl refl refl near.next; known = near.known })) reach in
     let few : length (take 528 d.payload) ≤ 528 = take_few 528 d.payload in
     let short : 20 + (28 + length (take 528 d.payload)) ≤ ip_mtu_of old.capabilities = omega (arith, fits, few) in
-    let gone = goes_whole {p = error} own h went.1 w.on_ethernet one.specified one.not_multicast way short in
+    let gone = goes_whole {p = error} own h went.1 w.on_medium one.specified one.not_multicast way short in
     k.sends_them ∙ gone.frames_are

@@ -6,13 +6,10 @@ use Rattle.std.proofs.lemmas.Option.{slice_get-map}
 use Rattle.net_base.specs.Checksum.{is_tx, ip_mtu_of}
 use Rattle.ip_address.specs.declared.cidr.IpCidr.{IpCidr}
 use Rattle.ip_address.specs.declared.hardware.HardwareAddress.{HardwareAddress}
-use Rattle.ip_address.specs.declared.hardware.HardwareAddress.TheVariants as hardware
 use Rattle.ip_address.specs.declared.ip.IpAddress.TheVariants.{Ipv6}
 use Rattle.ip_address.specs.declared.protocol.IpProtocol.TheVariants as ip_protocol
-use Rattle.ip_wire.specs.declared.ethernet.EthernetProtocol.TheVariants as protocol
 use Rattle.ip_wire.specs.declared.ip_packet.IpRepr.TheVariants as repr
 use Rattle.ip_wire.specs.declared.udp.UdpRepr.{UdpRepr}
-use Rattle.ip_wire.specs.Ethernet.{header_in}
 use Rattle.ipv6_wire.specs.declared.ipv6_packet.Ipv6Repr.{Ipv6Repr}
 use Rattle.icmpv6_wire.specs.declared.icmpv6.Icmpv6Repr.TheVariants as icmpv6
 use Rattle.icmpv6_wire.specs.declared.icmpv6.Icmpv6DstUnreachable.TheVariants.{PortUnreachable}
@@ -30,8 +27,8 @@ use Rattle.host_machine.specs.Receiving.Response.{Responds}
 use Rattle.host_machine.specs.Sending.Frame.{ip_frame}
 use Rattle.host_machine.specs.Sending.Packet.{Packet, Icmpv6}
 use Rattle.host_machine.specs.Sending.Packet as packet
-use Rattle.host_machine.specs.Laws.Service.{ClosedPortsV6AreAnswered, DatagramsV6AreQueued, IsAcceptedBy, IsReached}
-use Rattle.host_machine.proofs.Receiving.FrameReplies.{goes_whole, hop_as, taken_of}
+use Rattle.host_machine.specs.Laws.Service.{ClosedPortsV6AreAnswered, DatagramsV6AreQueued, HasWay, IsAcceptedBy}
+use Rattle.host_machine.proofs.Receiving.FrameReplies.{goes_whole, hop_as, v6_of, way_by}
 use Rattle.host_machine.proofs.Receiving.FrameRepliesV6.{apart, met, met_apart, met_found, payload_served}
 use Rattle.host_machine.proofs.Sending.GrantedEgress.{unicast_for}
 use Rattle.host_machine.proofs.Receiving.DatagramDelivery.{deaf, first_still, has_room, none_still, raw_apart, same_bits, take_few}
@@ -55,15 +52,15 @@ is_first H r ports octets i s h = record {
 
 pub datagrams_v6_queued : DatagramsV6AreQueued
 datagrams_v6_queued t old new told own frame r ports octets i s w d heard_by =
-    let k = taken_of protocol.Ipv6 w d.in_packet.taken in
+    let k = v6_of own w d.in_packet.packet.taken d.in_packet.packet.is_packet in
     let H : Host = without_expired old t in
-    let source : HardwareAddress = hardware.Ethernet (header_in frame).src_addr in
+    let source : HardwareAddress = k.source in
     let mid : Host = met source r d.payload H in
     let raws : Host = raw.host_after_raw_delivery (repr.Ipv6 r) d.payload H in
     let same : apart mid old.neighbors ≡ apart raws old.neighbors = met_apart source r d.payload H old.neighbors in
     let for_us : is_for_host H (Ipv6 r.dst_addr) ≡ true = rw d.given refl in
     let message : ProcessesUdp (raw.is_taken (repr.Ipv6 r) H) (repr.Ipv6 r) mid d.payload k.reply k.notes k.taken =
-    payload_served ip_protocol.Udp k d.in_packet d.protocol_is (λ bad. omega (arith, bad)) for_us in
+    payload_served ip_protocol.Udp k d.in_packet (λ bad. omega (arith, bad)) for_us in
     let heard : Storage →
     Storage = to_this (raw.takes (repr.Ipv6 r)) (raw.storage_after_delivery (is_tx old.capabilities.checksum.ipv4) (repr.Ipv6 r) d.payload) in
     let first_raw : IsFirst (accepts old.ip_addrs (repr.Ipv6 r) ports) raws.sockets.places i (Some (Udp s)) =
@@ -93,9 +90,9 @@ datagrams_v6_queued t old new told own frame r ports octets i s w d heard_by =
 -- a closed port
 pub ports_v6_told : ClosedPortsV6AreAnswered
 ports_v6_told t old new told own frame r ports octets h w d to_one nobody not_accepted reach fits =
-    let k = taken_of protocol.Ipv6 w d.in_packet.taken in
+    let k = v6_of own w d.in_packet.packet.taken d.in_packet.packet.is_packet in
     let H : Host = without_expired old t in
-    let source : HardwareAddress = hardware.Ethernet (header_in frame).src_addr in
+    let source : HardwareAddress = k.source in
     let mid : Host = met source r d.payload H in
     let raws : Host = raw.host_after_raw_delivery (repr.Ipv6 r) d.payload H in
     let same : apart mid old.neighbors ≡ apart raws old.neighbors = met_apart source r d.payload H old.neighbors in
@@ -107,7 +104,7 @@ ports_v6_told t old new told own frame r ports octets h w d to_one nobody not_ac
     }) in
     let for_us : is_for_host H (Ipv6 r.dst_addr) ≡ true = rw d.given refl in
     let message : ProcessesUdp (raw.is_taken (repr.Ipv6 r) H) (repr.Ipv6 r) mid d.payload k.reply k.notes k.taken =
-    payload_served ip_protocol.Udp k d.in_packet d.protocol_is (λ bad. omega (arith, bad)) for_us in
+    payload_served ip_protocol.Udp k d.in_packet (λ bad. omega (arith, bad)) for_us in
     let heard : Storage →
     Storage = to_this (raw.takes (repr.Ipv6 r)) (raw.storage_after_delivery (is_tx old.capabilities.checksum.ipv4) (repr.Ipv6 r) d.payload) in
     let none_raw : NoneAccepts (accepts old.ip_addrs (repr.Ipv6 r) ports) raws.sockets.places =
@@ -124,18 +121,18 @@ ports_v6_told t old new told own frame r ports octets h w d to_one nobody not_ac
     let there_it : Responds (Some (Ip error)) k.taken k.frames k.more new = subst (λ x. Responds x k.taken k.frames k.more new) replies k.responds in
     let went : Responds (Some (Ip error)) mid k.frames k.more new =
     subst (λ K. Responds (Some (Ip error)) K k.frames k.more new) was.host_is there_it in
-    let one = unicast_for old.ip_addrs (Ipv6 r.src_addr) d.in_packet.sender in
+    let one = unicast_for old.ip_addrs (Ipv6 r.src_addr) d.in_packet.packet.sender in
     let addrs : mid.ip_addrs ≡ old.ip_addrs = ap (λ (K : Host). K.ip_addrs) same in
     let moment : mid.moment ≡ t = ap (λ (x : Host). x.moment) same in
-    let way : IsReached mid (Ipv6 r.src_addr) h = record {
-      hop = reach.hop;
-      next = hop_as {H = at old t} {K = mid} addrs (ap (λ (x : Host). x.routes) same) moment reach.next;
-      known = ap (λ m. answer_of mid.neighbors reach.hop m) moment ∙ met_found source r d.payload H reach.hop h reach.known;
-    } in
+    let way : HasWay own mid (Ipv6 r.src_addr) h = way_by {H = at old t} own (λ near. record {
+      hop = near.hop;
+      next = hop_as {H = at old t} {K = mid} addrs (ap (λ (x : Host). x.routes) same) moment near.next;
+      known = ap (λ m. answer_of mid.neighbors near.hop m) moment ∙ met_found source r d.payload H near.hop h near.known;
+    }) reach in
     let few : length (take 1192 d.payload) ≤ 1192 = take_few 1192 d.payload in
     let capabilities : mid.capabilities ≡ old.capabilities = ap (λ (K : Host). K.capabilities) same in
     let short : 40 + (48 + length (take 1192 d.payload)) ≤ ip_mtu_of mid.capabilities =
     subst (λ c. 40 + (48 + length (take 1192 d.payload)) ≤ ip_mtu_of c) (sym capabilities) (omega (arith, fits, few)) in
     let gone =
-    goes_whole {p = error} own h went.1 (ap (λ (x : Host). x.hardware_addr) same ∙ w.on_ethernet) one.specified one.not_multicast way short in
+    goes_whole {p = error} own h went.1 (ap (λ (x : Host). x.hardware_addr) same ∙ w.on_medium) one.specified one.not_multicast way short in
     k.sends_them ∙ gone.frames_are ∙ ap (λ (x : Host). ip_frame x h error ∷ []) same

@@ -5,14 +5,11 @@ use Rattle.std.specs.Prelude.{cond, slice_get}
 use Rattle.std.specs.Option.{option_map}
 use Rattle.net_base.specs.Checksum.{is_rx, is_tx}
 use Rattle.ip_address.specs.declared.hardware.HardwareAddress.{HardwareAddress}
-use Rattle.ip_address.specs.declared.hardware.HardwareAddress.TheVariants as hardware
 use Rattle.ip_address.specs.declared.ip.IpAddress.{IpAddress}
 use Rattle.ip_address.specs.declared.ip.IpAddress.TheVariants.{Ipv4, Ipv6}
-use Rattle.ip_wire.specs.declared.ethernet.EthernetProtocol.TheVariants as protocol
 use Rattle.ip_wire.specs.declared.ipv4_packet.Ipv4Repr.{Ipv4Repr}
 use Rattle.ip_wire.specs.declared.ip_packet.IpRepr.{IpRepr}
 use Rattle.ip_wire.specs.declared.ip_packet.IpRepr.TheVariants as repr
-use Rattle.ip_wire.specs.Ethernet.{header_in}
 use Rattle.control_wire.specs.declared.icmpv4.Icmpv4Repr.TheVariants.{EchoReply}
 use Rattle.control_wire.specs.declared.icmp.IcmpRepr.{IcmpRepr}
 use Rattle.control_wire.specs.declared.icmp.IcmpRepr.TheVariants.{Ipv4 as Ipv4Message, Ipv6 as Ipv6Message}
@@ -37,7 +34,7 @@ use Rattle.host_machine.specs.Receiving.Response.{Responds}
 use Rattle.host_machine.specs.Laws.Received.{EchoRepliesV6AreQueued}
 use Rattle.host_machine.specs.Laws.Service.{EchoRepliesAreQueued}
 use Rattle.host_machine.proofs.Receiving.DatagramDelivery.{same_bits}
-use Rattle.host_machine.proofs.Receiving.FrameReplies.{met, packet_served, taken_of}
+use Rattle.host_machine.proofs.Receiving.FrameReplies.{met, packet_served, v4_of, v6_of}
 use Rattle.host_machine.proofs.Receiving.FrameRepliesV6.{apart as apart6, met as met6, met_apart, message_served, message_taken}
 
 -- raw sockets leave an ICMP socket as it is
@@ -67,9 +64,9 @@ reply_taken {r} {H} {message = message} ident seq_no (v4.Taken i rep n e) is val
 
 pub replies_queued : EchoRepliesAreQueued
 replies_queued t old new told own frame r ident seq_no message i s w d is_here endpoint room =
-    let k = taken_of protocol.Ipv4 w d.in_packet.taken in
+    let k = v4_of own w d.in_packet.taken d.in_packet.is_packet in
     let H : Host = without_expired old t in
-    let mid : Host = met (hardware.Ethernet (header_in frame).src_addr) r message H in
+    let mid : Host = met k.source r message H in
     let any = packet_served k d.in_packet in
     let it : ProcessesIcmpv4 r mid message k.reply k.notes k.taken =
     subst (λ q. ProcessesProtocol q (raw.is_taken (repr.Ipv4 r) H) r mid message k.reply k.notes k.taken) d.protocol_is any in
@@ -91,14 +88,14 @@ replies_queued t old new told own frame r ident seq_no message i s w d is_here e
 -- over IPv6
 pub replies_v6_queued : EchoRepliesV6AreQueued
 replies_v6_queued t old new told own frame r ident seq_no message i s w d is_here endpoint room =
-    let k = taken_of protocol.Ipv6 w d.in_packet.taken in
+    let k = v6_of own w d.in_packet.packet.taken d.in_packet.packet.is_packet in
     let H : Host = without_expired old t in
-    let source : HardwareAddress = hardware.Ethernet (header_in frame).src_addr in
+    let source : HardwareAddress = k.source in
     let mid : Host = met6 source r message H in
     let raws : Host = raw.host_after_raw_delivery (repr.Ipv6 r) message H in
     let same : apart6 mid old.neighbors ≡ apart6 raws old.neighbors = met_apart source r message H old.neighbors in
     let for_us : is_for_host H (Ipv6 r.dst_addr) ≡ true = rw d.given refl in
-    let it = message_taken (message_served k d.in_packet d.protocol_is for_us) (subst (λ (K : Host). IsMessage K r message) (sym same) d.is_message) in
+    let it = message_taken (message_served k d.in_packet for_us) (subst (λ (K : Host). IsMessage K r message) (sym same) d.is_message) in
     let dropped : IsDropped (v6.host_after_delivery r message mid) k.reply k.notes k.taken =
     subst (λ m. ProcessesMessage r m (icmpv6_in message).1 (v6.host_after_delivery r message mid) k.reply k.notes k.taken) d.values it in
     let went : Responds None k.taken k.frames k.more new = subst (λ x. Responds x k.taken k.frames k.more new) dropped.silent k.responds in

@@ -60,8 +60,10 @@ use Rattle.host_machine.specs.Receiving.Icmpv4.{ProcessesIcmpv4, answer_to}
 use Rattle.host_machine.specs.Receiving.Icmpv4 as icmp
 use Rattle.host_machine.specs.Receiving.Ipv4.{ProcessesIpv4, ProcessesPacket, ProcessesProtocol, ProcessesDatagram}
 use Rattle.host_machine.specs.Receiving.Ipv4 as ip
-use Rattle.host_machine.specs.Receiving.Ethernet.{is_for, ProcessesEthernet, ProcessesFrame, ProcessesEthertype}
+use Rattle.host_machine.specs.Receiving.Ethernet.{is_for, version_in, ProcessesEthernet, ProcessesFrame, ProcessesEthertype, ProcessesIp}
 use Rattle.host_machine.specs.Receiving.Ethernet as ethernet
+use Rattle.host_machine.specs.Receiving.Ipv6.{ProcessesIpv6}
+use Rattle.ipv6_wire.specs.Ipv6Packet.{IsIpv6}
 use Rattle.host_machine.specs.Sending.Dispatch.{Outcome, IsNextHop, OnLink, ByRouter, Emits, DispatchesByHop, DispatchesEthernet, SendsOver}
 use Rattle.host_machine.specs.Sending.Dispatch.{Dispatches, destination_of, group_address_v4, with_next_id, multicast_hardware_addr}
 use Rattle.host_machine.specs.Sending.Dispatch as dispatch
@@ -69,7 +71,7 @@ use Rattle.host_machine.specs.Receiving.Response.{Responds}
 use Rattle.host_machine.specs.Polling.Ingress.{Ingress}
 use Rattle.host_machine.specs.Polling.Ingress as ingress
 use Rattle.host_machine.specs.Laws.Service.{RequestFramesAreRead, request_frame, ArpRequestsAreAnswered}
-use Rattle.host_machine.specs.Laws.Service.{HasPacketV4, IsReached, IsTaken, PingsAreAnswered, Takes}
+use Rattle.host_machine.specs.Laws.Service.{HasPacketV4, HasWay, IsAccepted, IsReached, IsTaken, PingsAreAnswered, Takes, packet_in}
 use Rattle.host_machine.proofs.Receiving.Malformed.{handed_frames-received, handed_frames-sends, sent_frames-sends}
 use Rattle.host_machine.proofs.Polling.EarliestInstant.{hop_is_one}
 
@@ -79,12 +81,12 @@ clash one other = absurd cc
 -- the frame that was handed over is the one that is taken
 frame_taken : (moment : ℤ) (H : Host) (r : Reception) (frame : List ℕ) (reply : Option Reply) (notes : List Note) (new : Host) →
     ingress.Takes H r reply notes new →
-    handed_frames (Received moment r ∷ []) ≡ frame ∷ [] → 14 ≤ length frame → ProcessesFrame H.hardware_addr H frame reply notes new
+    handed_frames (Received moment r ∷ []) ≡ frame ∷ [] → 1 ≤ length frame → ProcessesFrame H.hardware_addr H frame reply notes new
 frame_taken moment H Nothing frame reply notes new t e long = absurd cc
 frame_taken moment H Withheld frame reply notes new t e long = absurd cc
 frame_taken moment H (Frame []) frame reply notes new t e long =
     let same : [] ≡ frame = cc in
-    let short : 14 ≤ length {A = ℕ} [] = subst (λ f. 14 ≤ length f) (sym same) long in
+    let short : 1 ≤ length {A = ℕ} [] = subst (λ f. 1 ≤ length f) (sym same) long in
     absurd (omega (arith, short))
 frame_taken moment H (Frame (octet ∷ octets)) frame reply notes new t e long =
     let same : octet ∷ octets ≡ frame = cc in
@@ -98,7 +100,39 @@ payload_taken type (ethernet.NotForUs l f d) i = absurd (clash i.to_host f)
 payload_taken {own} {H} {new} {frame} {reply} {notes} type (ethernet.Accepted l f t) i =
     subst (λ p. ProcessesEthertype own (header_in frame).src_addr H p (drop 14 frame) reply notes new) i.of_type t
 
--- what was done with a frame that was taken, and how that was responded to
+-- what was done with a frame, and how that was responded to
+record FrameTaken (own : HardwareAddress) (t : ℤ) (frame : List ℕ) (old : Host) (told : List Event) (all : List Note) (new : Host) : Type 0 where
+  reply : Option Reply
+  taken : Host
+  notes : List Note
+  more : List Note
+  frames : List (List ℕ)
+  takes : ProcessesFrame own (without_expired old t) frame reply notes taken
+  responds : Responds reply taken frames more new
+  sends_them : sent_frames told ≡ frames
+  all_notes : all ≡ notes ++ more
+
+frame_of : {own : HardwareAddress} {t : ℤ} {frame : List ℕ} {old new : Host} {told : List Event} →
+    (w : Takes own t frame old told new) → 1 ≤ length frame → FrameTaken own t frame old told w.notes new
+frame_of {own} {t} {frame} {old} {new} {told} w some =
+    let i = w.call in
+    let only : handed_frames (Received t i.reception ∷ []) ≡ frame ∷ [] =
+    sym (handed_frames-received t i.reception (sends i.frames) (handed_frames-sends i.frames)) ∙ sym (ap handed_frames i.events) ∙ w.took in
+    let any = frame_taken t
+    (without_expired old t) i.reception frame i.response.reply i.response.notes_taking i.response.taken i.response.takes only some in
+    record {
+      reply = i.response.reply;
+      taken = i.response.taken;
+      notes = i.response.notes_taking;
+      more = i.response.notes_responding;
+      frames = i.frames;
+      takes = subst (λ h. ProcessesFrame h (without_expired old t) frame i.response.reply i.response.notes_taking i.response.taken) w.on_medium any;
+      responds = i.response.responds;
+      sends_them = ap sent_frames i.events ∙ sent_frames-sends i.frames;
+      all_notes = i.response.all_notes;
+    }
+
+-- the same of the payload of a frame on Ethernet
 pub record WasTaken (own : EthernetAddress) (t : ℤ) (type : EthernetProtocol) (frame : List ℕ) (old : Host)
     (told : List Event) (new : Host) : Type 0 where
   pub reply : Option Reply
@@ -111,26 +145,110 @@ pub record WasTaken (own : EthernetAddress) (t : ℤ) (type : EthernetProtocol) 
   pub sends_them : sent_frames told ≡ frames
 
 pub taken_of : {own : EthernetAddress} {t : ℤ} {frame : List ℕ} {old new : Host} {told : List Event} (type : EthernetProtocol) →
-    Takes own t frame old told new → IsTaken own type frame →
+    Takes (hardware.Ethernet own) t frame old told new → IsTaken own type frame →
     WasTaken own t type frame old told new
-taken_of {own} {t} {frame} {old} {new} {told} type w is =
-    let i = w.call in
-    let only : handed_frames (Received t i.reception ∷ []) ≡ frame ∷ [] =
-    sym (handed_frames-received t i.reception (sends i.frames) (handed_frames-sends i.frames)) ∙ sym (ap handed_frames i.events) ∙ w.took in
-    let any = frame_taken t
-    (without_expired old t) i.reception frame i.response.reply i.response.notes_taking i.response.taken i.response.takes only is.whole in
-    let on : ProcessesEthernet own (without_expired old t) frame i.response.reply i.response.notes_taking i.response.taken =
-    subst (λ h. ProcessesFrame h (without_expired old t) frame i.response.reply i.response.notes_taking i.response.taken) w.on_ethernet any in
-    record {
-      reply = i.response.reply;
-      taken = i.response.taken;
-      notes = i.response.notes_taking;
-      more = i.response.notes_responding;
-      frames = i.frames;
-      takes = payload_taken type on is;
-      responds = i.response.responds;
-      sends_them = ap sent_frames i.events ∙ sent_frames-sends i.frames;
-    }
+taken_of {own} {t} {frame} {old} {new} {told} type w is = let f = frame_of w (some is.whole) in record {
+  reply = f.reply;
+  taken = f.taken;
+  notes = f.notes;
+  more = f.more;
+  frames = f.frames;
+  takes = payload_taken type f.takes is;
+  responds = f.responds;
+  sends_them = f.sends_them;
+} where
+  some : {n : ℕ} → 14 ≤ n → 1 ≤ n
+  some long = omega (arith, long)
+
+-- and of the packet in a frame on either medium
+pub record PacketTaken (Processes : HardwareAddress → Host → List ℕ → Option Reply → List Note → Host → Type 0) (own : HardwareAddress)
+    (t : ℤ) (frame : List ℕ) (old : Host) (told : List Event) (all : List Note) (new : Host) : Type 0 where
+  pub source : HardwareAddress
+  pub reply : Option Reply
+  pub taken : Host
+  pub notes : List Note
+  pub more : List Note
+  pub frames : List (List ℕ)
+  pub takes : Processes source (without_expired old t) (packet_in own frame) reply notes taken
+  pub responds : Responds reply taken frames more new
+  pub sends_them : sent_frames told ≡ frames
+  pub all_notes : all ≡ notes ++ more
+
+pub v4_of : {t : ℤ} {frame : List ℕ} {old new : Host} {told : List Event} {checked : Bool} (own : HardwareAddress) →
+    (w : Takes own t frame old told new) → IsAccepted own protocol.Ipv4 frame → IsIpv4 checked (packet_in own frame) →
+    PacketTaken ProcessesIpv4 own t frame old told w.notes new
+v4_of {frame = frame} (hardware.Ethernet own) w is p = let k = frame_of w (some is.whole) in record {
+  source = hardware.Ethernet (header_in frame).src_addr;
+  reply = k.reply;
+  taken = k.taken;
+  notes = k.notes;
+  more = k.more;
+  frames = k.frames;
+  takes = payload_taken protocol.Ipv4 k.takes is;
+  responds = k.responds;
+  sends_them = k.sends_them;
+  all_notes = k.all_notes;
+} where
+  some : {n : ℕ} → 14 ≤ n → 1 ≤ n
+  some long = omega (arith, long)
+v4_of {t} {frame} {old} {new} {told} hardware.Ip w is p = let k = frame_of w (some p.whole) in record {
+  source = hardware.Ip;
+  reply = k.reply;
+  taken = k.taken;
+  notes = k.notes;
+  more = k.more;
+  frames = k.frames;
+  takes = by k.takes p.version;
+  responds = k.responds;
+  sends_them = k.sends_them;
+  all_notes = k.all_notes;
+} where
+  some : {n : ℕ} → 20 ≤ n → 1 ≤ n
+  some long = omega (arith, long)
+
+  by : {reply : Option Reply} {notes : List Note} {taken : Host} → ProcessesIp (without_expired old t) frame reply notes taken →
+      version_in frame ≡ 4 → ProcessesIpv4 hardware.Ip (without_expired old t) frame reply notes taken
+  by (ethernet.Ipv4 v x) four = x
+  by (ethernet.Ipv6 v x) four = absurd (omega (arith, v, four))
+  by (ethernet.OtherVersion v6 v d) four = absurd (v6 four)
+
+pub v6_of : {t : ℤ} {frame : List ℕ} {old new : Host} {told : List Event} (own : HardwareAddress) →
+    (w : Takes own t frame old told new) → IsAccepted own protocol.Ipv6 frame → IsIpv6 (packet_in own frame) →
+    PacketTaken ProcessesIpv6 own t frame old told w.notes new
+v6_of {frame = frame} (hardware.Ethernet own) w is p = let k = frame_of w (some is.whole) in record {
+  source = hardware.Ethernet (header_in frame).src_addr;
+  reply = k.reply;
+  taken = k.taken;
+  notes = k.notes;
+  more = k.more;
+  frames = k.frames;
+  takes = payload_taken protocol.Ipv6 k.takes is;
+  responds = k.responds;
+  sends_them = k.sends_them;
+  all_notes = k.all_notes;
+} where
+  some : {n : ℕ} → 14 ≤ n → 1 ≤ n
+  some long = omega (arith, long)
+v6_of {t} {frame} {old} {new} {told} hardware.Ip w is p = let k = frame_of w (some p.whole) in record {
+  source = hardware.Ip;
+  reply = k.reply;
+  taken = k.taken;
+  notes = k.notes;
+  more = k.more;
+  frames = k.frames;
+  takes = by k.takes p.version;
+  responds = k.responds;
+  sends_them = k.sends_them;
+  all_notes = k.all_notes;
+} where
+  some : {n : ℕ} → 40 ≤ n → 1 ≤ n
+  some long = omega (arith, long)
+
+  by : {reply : Option Reply} {notes : List Note} {taken : Host} → ProcessesIp (without_expired old t) frame reply notes taken →
+      version_in frame ≡ 6 → ProcessesIpv6 hardware.Ip (without_expired old t) frame reply notes taken
+  by (ethernet.Ipv4 v x) six = absurd (omega (arith, v, six))
+  by (ethernet.Ipv6 v x) six = x
+  by (ethernet.OtherVersion v w d) six = absurd (w six)
 
 -- neighbours
 
@@ -261,16 +379,29 @@ ethernet_whole {id} {own} {p} {outcome} {H} {new} {frames} {notes} h (dispatch.B
     let same : hop ≡ r.hop = cc in
     by_hop_whole {hop = r.hop} h (subst (λ x. DispatchesByHop id own p x outcome (with_next_id H) frames notes new) same s) r.known short
 
+-- or where none is needed
+sends_whole : (id : ℕ) {p : Packet} {outcome : Outcome} {H new : Host} {frames : List (List ℕ)} (notes : List Note)
+    (own : HardwareAddress) (h : HardwareAddress) →
+    SendsOver id own p outcome (with_next_id H) frames notes new → multicast_hardware_addr H.ip_addrs (destination_of p) ≡ None →
+    HasWay own H (destination_of p) h → total_len p ≤ ip_mtu_of H.capabilities → GoesWhole p h outcome H frames new
+sends_whole id notes (hardware.Ethernet own) h s one r short = ethernet_whole h s one r short
+sends_whole id {p} {outcome} {H} {new} {frames} notes hardware.Ip h s one r short =
+    emits_whole (subst (λ x. Emits id p x outcome (with_next_id H) frames notes new) (sym r) s) short
+
+-- a way stays, as far as it is one by a neighbour
+pub way_by : {H K : Host} {a : IpAddress} {h : HardwareAddress} (own : HardwareAddress) → (IsReached H a h → IsReached K a h) →
+    HasWay own H a h → HasWay own K a h
+way_by (hardware.Ethernet own) f w = f w
+way_by hardware.Ip f w = w
+
 pub goes_whole : {p : Packet} {outcome : Outcome} {H new : Host} {frames : List (List ℕ)} {notes : List Note}
-    (own : EthernetAddress) (h : HardwareAddress) →
-    Dispatches p outcome H frames notes new → H.hardware_addr ≡ hardware.Ethernet own → is_unspecified (destination_of p) ≡ false →
+    (own : HardwareAddress) (h : HardwareAddress) →
+    Dispatches p outcome H frames notes new → H.hardware_addr ≡ own → is_unspecified (destination_of p) ≡ false →
     multicast_hardware_addr H.ip_addrs (destination_of p) ≡ None →
-    IsReached H (destination_of p) h → total_len p ≤ ip_mtu_of H.capabilities → GoesWhole p h outcome H frames new
+    HasWay own H (destination_of p) h → total_len p ≤ ip_mtu_of H.capabilities → GoesWhole p h outcome H frames new
 goes_whole own h (dispatch.ToUnspecified n o u) on specified one r short = absurd cc
 goes_whole {p} {outcome} {H} {new} {frames} {notes} own h (dispatch.ToSpecified more s d n) on specified one r short =
-    let over : DispatchesEthernet H.ipv4_id own p outcome (with_next_id H) frames more new =
-    subst (λ x. SendsOver H.ipv4_id x p outcome (with_next_id H) frames more new) on d in
-    ethernet_whole h over one r short
+    sends_whole H.ipv4_id more own h (subst (λ x. SendsOver H.ipv4_id x p outcome (with_next_id H) frames more new) on d) one r short
 
 -- an address of one host is neither nobody's nor that of many
 pub record IsOne (own : List IpCidr) (a : Ipv4Address) : Type 0 where
@@ -332,7 +463,7 @@ renewal : (source : HardwareAddress) (r : Ipv4Repr) (K : Host) → is_unicast_v4
     sender_renewed source (repr.Ipv4 r) K ≡ with_neighbors K (after_renewal K.neighbors (Ipv4 r.src_addr) source (expiry_from K.moment))
 renewal source r K one = rw one refl
 
-whole_taken : {source : HardwareAddress} {H new : Host} {payload : List ℕ} {reply : Option Reply} {notes : List Note} (r : Ipv4Repr) →
+pub whole_taken : {source : HardwareAddress} {H new : Host} {payload : List ℕ} {reply : Option Reply} {notes : List Note} (r : Ipv4Repr) →
     ProcessesDatagram source r H payload reply notes new →
     is_for_host H (Ipv4 r.dst_addr) ≡ true → is_unicast_v4 H.ip_addrs r.dst_addr ≡ true →
     ProcessesProtocol r.next_header (raw.is_taken (repr.Ipv4 r) H) r (met source r payload H) payload reply notes new
@@ -364,11 +495,11 @@ ipv4_taken {source} {H} {new} {octets} {reply} {notes} r payload (ip.Read i t) i
     packet_taken r (ipv4_in octets).1 at_payload may whole
 
 -- what is done with a packet for the host that came whole
-pub packet_served : {own : EthernetAddress} {t : ℤ} {frame : List ℕ} {old new : Host} {told : List Event} {r : Ipv4Repr} {payload : List ℕ}
-    (w : WasTaken own t protocol.Ipv4 frame old told new) →
+pub packet_served : {own : HardwareAddress} {t : ℤ} {frame : List ℕ} {old new : Host} {told : List Event} {r : Ipv4Repr} {payload : List ℕ}
+    {all : List Note} (w : PacketTaken ProcessesIpv4 own t frame old told all new) →
     HasPacketV4 own old frame r payload →
     ProcessesProtocol r.next_header (raw.is_taken (repr.Ipv4 r) (without_expired old t)) r
-    (met (hardware.Ethernet (header_in frame).src_addr) r payload (without_expired old t)) payload w.reply w.notes w.taken
+    (met w.source r payload (without_expired old t)) payload w.reply w.notes w.taken
 packet_served {own} {t} {frame} {old} {new} {told} {r} {payload} w p =
     let may : may_be_source old.ip_addrs r.src_addr ≡ true = rw p.sender refl in
     let for_us : is_for_host (without_expired old t) (Ipv4 r.dst_addr) ≡ true = rw p.given refl in
@@ -391,9 +522,8 @@ echo_answered {H} r ident seq_no octets (icmp.Taken i rep n e) is values from to
 
 pub pings_served : PingsAreAnswered
 pings_served t old new told own frame r ident seq_no octets h w p reach fits =
-    let k = taken_of protocol.Ipv4 w p.in_packet.taken in
-    let source : HardwareAddress = hardware.Ethernet (header_in frame).src_addr in
-    let mid : Host = met source r p.payload (without_expired old t) in
+    let k = v4_of own w p.in_packet.taken p.in_packet.is_packet in
+    let mid : Host = met k.source r p.payload (without_expired old t) in
     let any = packet_served k p.in_packet in
     let message : ProcessesIcmpv4 r mid p.payload k.reply k.notes k.taken =
     subst (λ q. ProcessesProtocol q (raw.is_taken (repr.Ipv4 r) (without_expired old t)) r mid p.payload k.reply k.notes k.taken) p.protocol_is any in
@@ -418,12 +548,13 @@ pings_served t old new told own frame r ident seq_no octets h w p reach fits =
       hop_limit = 64;
       payload = Icmpv4 (EchoReply ident seq_no) octets;
     })))) K k.frames k.more new) answered.host_is there in
-    let way = reached_still {H = without_expired old t} source r p.payload
-    (record { hop = reach.hop; next = hop_as {H = at old t} {K = without_expired old t} refl refl refl reach.next; known = reach.known }) in
-    let way_on : IsReached (icmp.host_after_delivery r p.payload mid) (Ipv4 r.src_addr) h =
-    record { hop = way.hop; next = hop_as {H = mid} {K = icmp.host_after_delivery r p.payload mid} refl refl refl way.next; known = way.known } in
+    let way : HasWay own (icmp.host_after_delivery r p.payload mid) (Ipv4 r.src_addr) h = way_by {H = at old t} own (λ near.
+    let still = reached_still {H = without_expired old t} k.source r p.payload
+    (record { hop = near.hop; next = hop_as {H = at old t} {K = without_expired old t} refl refl refl near.next; known = near.known }) in
+    record { hop = still.hop; next = hop_as {H = mid} {K = icmp.host_after_delivery r p.payload mid} refl refl refl still.next; known = still.known })
+    reach in
     let short : 20 + (8 + length octets) ≤ ip_mtu_of old.capabilities = omega (arith, fits) in
-    let gone = goes_whole own h went.1 w.on_ethernet one.specified one.not_multicast way_on short in
+    let gone = goes_whole own h went.1 w.on_medium one.specified one.not_multicast way short in
     k.sends_them ∙ gone.frames_are
 
 -- A request's frame

@@ -14,11 +14,10 @@ use Rattle.ip_address.specs.declared.protocol.IpProtocol.TheVariants as ip_proto
 use Rattle.ip_address.specs.EthernetAddress as ethernet
 use Rattle.ip_address.specs.Ipv6 as ipv6
 use Rattle.ip_address.specs.Protocol.{number_of}
-use Rattle.ip_wire.specs.declared.ethernet.EthernetProtocol.TheVariants as protocol
 use Rattle.ip_wire.specs.declared.ip_packet.IpRepr.TheVariants as repr
-use Rattle.ip_wire.specs.Ethernet.{header_in}
 use Rattle.ipv6_wire.specs.declared.ipv6_packet.Ipv6Repr.{Ipv6Repr}
 use Rattle.ipv6_wire.specs.Ipv6Packet.{IsIpv6, ipv6_in}
+use Rattle.ipv6_wire.specs.HopByHop.{hop_by_hop_in}
 use Rattle.icmpv6_wire.specs.Icmpv6.{icmpv6_in}
 use Rattle.icmpv6_wire.specs.declared.icmpv6.Icmpv6Repr.TheVariants as icmp
 use Rattle.icmpv6_wire.specs.declared.ndisc.NdiscRepr.TheVariants.{NeighborSolicit}
@@ -39,30 +38,43 @@ use Rattle.host_machine.specs.Receiving.Icmpv6 as v6
 use Rattle.host_machine.specs.Receiving.Ndisc.{ProcessesNdiscMessage, Learns, LearnsNeighbor, ProcessesNdisc, advertisement_of}
 use Rattle.host_machine.specs.Receiving.Ndisc.{is_target, answer_by, solicited_flag, has_no_unicast, usable_lladdr}
 use Rattle.host_machine.specs.Receiving.Ndisc as ndisc
-use Rattle.host_machine.specs.Receiving.Ipv6.{ProcessesIpv6, ProcessesPacket, ProcessesDatagramV6, ProcessesProtocol}
+use Rattle.host_machine.specs.Receiving.Ipv6.{ProcessesIpv6, ProcessesPacket, ProcessesHopByHop, ProcessesDatagramV6, ProcessesProtocol}
 use Rattle.host_machine.specs.Receiving.Ipv6 as ip
 use Rattle.host_machine.specs.Sending.Dispatch.{OnLink}
 use Rattle.host_machine.specs.Receiving.Response.{Responds}
-use Rattle.host_machine.specs.Laws.Service.{HasPacketV6, IsReached, PingsV6AreAnswered, SolicitationsAreAnswered}
-use Rattle.host_machine.proofs.Receiving.FrameReplies.{WasTaken, clash, goes_whole, hop_as, learnt_found, renewed_found, taken_of}
+use Rattle.host_machine.specs.Laws.Service.{AfterHeader, AfterOptions, HasPayloadV6, HasWay, IsCarried, IsReached, PingsV6AreAnswered, SolicitationsAreAnswered}
+use Rattle.host_machine.proofs.Receiving.FrameReplies.{PacketTaken, clash, goes_whole, hop_as, learnt_found, renewed_found, v6_of, way_by}
 use Rattle.host_machine.proofs.Sending.GrantedEgress.{unicast_for}
 
 -- the host before the protocol of a packet for it is looked at
 abbrev pub met : HardwareAddress → Ipv6Repr → List ℕ → Host → Host
 met source r payload H = sender_renewed source (repr.Ipv6 r) (raw.host_after_raw_delivery (repr.Ipv6 r) payload H)
 
-packet_taken : {source : HardwareAddress} {H new : Host} {payload : List ℕ} {reply : Option Reply} {notes : List Note} (r : Ipv6Repr)
-    (p : IpProtocol) → ProcessesPacket source r H payload reply notes new →
-    ipv6.is_unicast r.src_addr ≡ true → r.next_header ≡ p → (number_of p ≡ 0 → ⊥) → is_for_host H (Ipv6 r.dst_addr) ≡ true →
+accepted : {source : HardwareAddress} {r : Ipv6Repr} {p : IpProtocol} {H new : Host} {payload : List ℕ} {reply : Option Reply}
+    {notes : List Note} → ProcessesDatagramV6 source r p H payload reply notes new → is_for_host H (Ipv6 r.dst_addr) ≡ true →
+    ProcessesProtocol p (raw.is_taken (repr.Ipv6 r) H) r (met source r payload H) payload reply notes new
+accepted (ip.NotForUs n d) for_us = absurd (clash for_us n)
+accepted (ip.Accepted f on) for_us = on
+
+packet_taken : {source : HardwareAddress} {H new : Host} {octets payload : List ℕ} {reply : Option Reply} {notes : List Note} (r : Ipv6Repr)
+    (p : IpProtocol) → ProcessesPacket source r H octets reply notes new →
+    ipv6.is_unicast r.src_addr ≡ true → IsCarried r octets p payload → (number_of p ≡ 0 → ⊥) → is_for_host H (Ipv6 r.dst_addr) ≡ true →
     ProcessesProtocol p (raw.is_taken (repr.Ipv6 r) H) r (met source r payload H) payload reply notes new
 packet_taken r p (ip.FromNoHost s d) sender is bare for_us = absurd (clash sender s)
-packet_taken r p (ip.WithOptions u z t) sender is bare for_us = absurd (bare (sym (ap number_of is) ∙ z))
-packet_taken {source} {H} {new} {payload} {reply} {notes} r p (ip.Bare u z t) sender is bare for_us =
-    accepted (subst (λ x. ProcessesDatagramV6 source r x H payload reply notes new) is t) where
-      accepted : ProcessesDatagramV6 source r p H payload reply notes new →
+packet_taken r p (ip.WithOptions u z t) sender (AfterHeader is same) bare for_us = absurd (bare (sym (ap number_of is) ∙ z))
+packet_taken {source} {H} {new} {octets} {payload} {reply} {notes} r p (ip.WithOptions u z t) sender (AfterOptions zero is skip next same) bare for_us =
+    behind t where
+      behind : ProcessesHopByHop source r H octets reply notes new →
           ProcessesProtocol p (raw.is_taken (repr.Ipv6 r) H) r (met source r payload H) payload reply notes new
-      accepted (ip.NotForUs n d) = absurd (clash for_us n)
-      accepted (ip.Accepted f on) = on
+      behind (ip.MalformedOptions m d) = absurd (m is)
+      behind (ip.Discarded failure i f ne e n k) = absurd (ne (sym f ∙ skip))
+      behind (ip.Skipped i f x) =
+          accepted (subst (λ q. ProcessesDatagramV6 source r q H payload reply notes new) next
+          (subst (λ os. ProcessesDatagramV6 source r (hop_by_hop_in octets).0.next_header H os reply notes new) same x)) for_us
+packet_taken r p (ip.Bare u z t) sender (AfterOptions zero is skip next same) bare for_us = absurd (z zero)
+packet_taken {source} {H} {new} {octets} {payload} {reply} {notes} r p (ip.Bare u z t) sender (AfterHeader is same) bare for_us =
+    accepted (subst (λ q. ProcessesDatagramV6 source r q H payload reply notes new) is
+    (subst (λ os. ProcessesDatagramV6 source r r.next_header H os reply notes new) same t)) for_us
 
 ipv6_taken : {source : HardwareAddress} {H new : Host} {octets : List ℕ} {reply : Option Reply} {notes : List Note} (r : Ipv6Repr)
     (payload : List ℕ) → ProcessesIpv6 source H octets reply notes new →
@@ -72,21 +84,21 @@ ipv6_taken {source} {H} {new} {octets} {reply} {notes} r payload (ip.Read i t) i
     subst (λ v. ProcessesPacket source v.0 H v.1 reply notes new) values t
 
 -- what is done with a payload for the host, by its protocol
-pub payload_served : {own : EthernetAddress} {t : ℤ} {frame : List ℕ} {old new : Host} {told : List Event} {r : Ipv6Repr}
-    {payload : List ℕ} (p : IpProtocol) (w : WasTaken own t protocol.Ipv6 frame old told new) →
-    HasPacketV6 own old frame r payload → r.next_header ≡ p → (number_of p ≡ 0 → ⊥) →
+pub payload_served : {own : HardwareAddress} {t : ℤ} {frame : List ℕ} {old new : Host} {told : List Event} {r : Ipv6Repr}
+    {payload : List ℕ} (p : IpProtocol) {all : List Note} (w : PacketTaken ProcessesIpv6 own t frame old told all new) →
+    HasPayloadV6 own old frame r p payload → (number_of p ≡ 0 → ⊥) →
     is_for_host (without_expired old t) (Ipv6 r.dst_addr) ≡ true →
     ProcessesProtocol p (raw.is_taken (repr.Ipv6 r) (without_expired old t)) r
-    (met (hardware.Ethernet (header_in frame).src_addr) r payload (without_expired old t)) payload w.reply w.notes w.taken
-payload_served {r = r} {payload = payload} p w q is bare for_us =
-    packet_taken r p (ipv6_taken r payload w.takes q.is_packet q.values) q.sender is bare for_us
+    (met w.source r payload (without_expired old t)) payload w.reply w.notes w.taken
+payload_served {r = r} p w q bare for_us =
+    packet_taken r p (ipv6_taken r q.octets w.takes q.packet.is_packet q.packet.values) q.packet.sender q.carried bare for_us
 
 -- a message for it
-pub message_served : {own : EthernetAddress} {t : ℤ} {frame : List ℕ} {old new : Host} {told : List Event} {r : Ipv6Repr} {payload : List ℕ}
-    (w : WasTaken own t protocol.Ipv6 frame old told new) →
-    HasPacketV6 own old frame r payload → r.next_header ≡ ip_protocol.Icmpv6 → is_for_host (without_expired old t) (Ipv6 r.dst_addr) ≡ true →
-    ProcessesIcmpv6 r (met (hardware.Ethernet (header_in frame).src_addr) r payload (without_expired old t)) payload w.reply w.notes w.taken
-message_served w q is for_us = payload_served ip_protocol.Icmpv6 w q is (λ bad. omega (arith, bad)) for_us
+pub message_served : {own : HardwareAddress} {t : ℤ} {frame : List ℕ} {old new : Host} {told : List Event} {r : Ipv6Repr} {payload : List ℕ}
+    {all : List Note} (w : PacketTaken ProcessesIpv6 own t frame old told all new) →
+    HasPayloadV6 own old frame r ip_protocol.Icmpv6 payload → is_for_host (without_expired old t) (Ipv6 r.dst_addr) ≡ true →
+    ProcessesIcmpv6 r (met w.source r payload (without_expired old t)) payload w.reply w.notes w.taken
+message_served w q for_us = payload_served ip_protocol.Icmpv6 w q (λ bad. omega (arith, bad)) for_us
 
 -- a host without what is known of neighbours
 abbrev pub apart : Host → Neighbors → Host
@@ -119,14 +131,14 @@ message_taken (v6.Taken i t) is = t
 
 pub pings_v6_served : PingsV6AreAnswered
 pings_v6_served t old new told own frame r ident seq_no octets h w p reach fits =
-    let k = taken_of protocol.Ipv6 w p.in_packet.taken in
+    let k = v6_of own w p.in_packet.packet.taken p.in_packet.packet.is_packet in
     let H : Host = without_expired old t in
-    let source : HardwareAddress = hardware.Ethernet (header_in frame).src_addr in
+    let source : HardwareAddress = k.source in
     let mid : Host = met source r p.payload H in
     let echo : Packet =
     packet.Ipv6 (record { src_addr = r.dst_addr; dst_addr = r.src_addr; hop_limit = 64; payload = Icmpv6 (icmp.EchoReply ident seq_no) octets }) in
     let for_us : is_for_host H (Ipv6 r.dst_addr) ≡ true = rw p.given refl in
-    let any = message_served k p.in_packet p.protocol_is for_us in
+    let any = message_served k p.in_packet for_us in
     let same : apart mid old.neighbors ≡ apart (raw.host_after_raw_delivery (repr.Ipv6 r) p.payload H) old.neighbors =
     met_apart source r p.payload H old.neighbors in
     let capabilities : mid.capabilities ≡ old.capabilities = ap (λ (K : Host). K.capabilities) same in
@@ -138,18 +150,18 @@ pings_v6_served t old new told own frame r ident seq_no octets h w p reach fits 
     let there : Responds (Some (Ip echo)) k.taken k.frames k.more new = subst (λ x. Responds x k.taken k.frames k.more new) replies k.responds in
     let went : Responds (Some (Ip echo)) (v6.host_after_delivery r p.payload mid) k.frames k.more new =
     subst (λ K. Responds (Some (Ip echo)) K k.frames k.more new) answered.2 there in
-    let one = unicast_for old.ip_addrs (Ipv6 r.src_addr) p.in_packet.sender in
+    let one = unicast_for old.ip_addrs (Ipv6 r.src_addr) p.in_packet.packet.sender in
     let K : Host = v6.host_after_delivery r p.payload mid in
     let moment : K.moment ≡ t = ap (λ (x : Host). x.moment) same in
-    let way : IsReached K (Ipv6 r.src_addr) h = record {
-      hop = reach.hop;
-      next = hop_as {H = at old t} {K = K} addrs (ap (λ (x : Host). x.routes) same) moment reach.next;
-      known = ap (λ m. answer_of K.neighbors reach.hop m) moment ∙ met_found source r p.payload H reach.hop h reach.known;
-    } in
+    let way : HasWay own K (Ipv6 r.src_addr) h = way_by {H = at old t} own (λ near. record {
+      hop = near.hop;
+      next = hop_as {H = at old t} {K = K} addrs (ap (λ (x : Host). x.routes) same) moment near.next;
+      known = ap (λ m. answer_of K.neighbors near.hop m) moment ∙ met_found source r p.payload H near.hop h near.known;
+    }) reach in
     let short : 40 + (8 + length octets) ≤ ip_mtu_of K.capabilities =
     subst (λ c. 40 + (8 + length octets) ≤ ip_mtu_of c) (sym capabilities) (omega (arith, fits)) in
     let gone =
-    goes_whole {p = echo} own h went.1 (ap (λ (x : Host). x.hardware_addr) same ∙ w.on_ethernet) one.specified one.not_multicast way short in
+    goes_whole {p = echo} own h went.1 (ap (λ (x : Host). x.hardware_addr) same ∙ w.on_medium) one.specified one.not_multicast way short in
     k.sends_them ∙ gone.frames_are ∙ ap (λ (x : Host). ip_frame x h echo ∷ []) same
 
 -- Solicitations
@@ -219,13 +231,13 @@ or_left false y e = absurd cc
 
 pub solicitations_served : SolicitationsAreAnswered
 solicitations_served t old new told own frame r target h w s fits =
-    let k = taken_of protocol.Ipv6 w s.in_packet.taken in
+    let k = v6_of (hardware.Ethernet own) w s.in_packet.packet.taken s.in_packet.packet.is_packet in
     let H : Host = without_expired old t in
-    let source : HardwareAddress = hardware.Ethernet (header_in frame).src_addr in
+    let source : HardwareAddress = k.source in
     let mid : Host = met source r s.payload H in
     let K : Host = v6.host_after_delivery r s.payload mid in
     let advert : Packet = advertisement_of own r target in
-    let any = message_served k s.in_packet s.protocol_is (for_host_of H r.dst_addr s.for_host) in
+    let any = message_served k s.in_packet (for_host_of H r.dst_addr s.for_host) in
     let same : apart mid old.neighbors ≡ apart (raw.host_after_raw_delivery (repr.Ipv6 r) s.payload H) old.neighbors =
     met_apart source r s.payload H old.neighbors in
     let message = message_taken any (subst (λ (x : Host). IsMessage x r s.payload) (sym same) s.is_message) in
@@ -236,7 +248,7 @@ solicitations_served t old new told own frame r target h w s fits =
     (has_ip_addr H (Ipv6 target)) s.for_host
     (or_left (is_assigned old.ip_addrs (Ipv6 target)) (old.any_ip && is_routed_here H (Ipv6 target)) s.target_is_own) in
     let asks : is_target K r target ≡ true = ap (λ (x : Host). is_target x r target) same ∙ asks_it in
-    let on : K.hardware_addr ≡ hardware.Ethernet own = ap (λ (x : Host). x.hardware_addr) same ∙ w.on_ethernet in
+    let on : K.hardware_addr ≡ hardware.Ethernet own = ap (λ (x : Host). x.hardware_addr) same ∙ w.on_medium in
     let adv = ndisc_hears target h asked s.by_neighbor on s.hardware s.target_is_one asks in
     let after : Host = with_neighbors K adv.learns.neighbors in
     let there : Responds (Some (Ip advert)) k.taken k.frames k.more new =
@@ -247,9 +259,9 @@ solicitations_served t old new told own frame r target h w s fits =
     let known : answer_of adv.learns.neighbors (Ipv6 r.src_addr) K.moment ≡ Found (hardware.Ethernet h) = learnt_found K.moment adv.learns.filled in
     let near : in_same_network K.ip_addrs (Ipv6 r.src_addr) ≡ true = ap (λ (x : Host). in_same_network x.ip_addrs (Ipv6 r.src_addr)) same ∙ s.near in
     let way : IsReached after (Ipv6 r.src_addr) (hardware.Ethernet h) = record { hop = Ipv6 r.src_addr; next = OnLink near refl; known = known } in
-    let one = unicast_for old.ip_addrs (Ipv6 r.src_addr) s.in_packet.sender in
+    let one = unicast_for old.ip_addrs (Ipv6 r.src_addr) s.in_packet.packet.sender in
     let short : 72 ≤ ip_mtu_of K.capabilities = ap_le (ap (λ (x : Host). ip_mtu_of x.capabilities) same) fits in
-    let gone = goes_whole {p = advert} own (hardware.Ethernet h) went.1 on one.specified one.not_multicast way short in
+    let gone = goes_whole {p = advert} (hardware.Ethernet own) (hardware.Ethernet h) went.1 on one.specified one.not_multicast way short in
     let neighbors : new.neighbors ≡ adv.learns.neighbors = ap (λ (x : Host). x.neighbors) gone.host_is in (
       k.sends_them ∙ gone.frames_are ∙ ap (λ (x : Host). ip_frame x (hardware.Ethernet h) advert ∷ []) same,
       ap (λ n. answer_of n (Ipv6 r.src_addr) t) neighbors ∙ ap (answer_of adv.learns.neighbors (Ipv6 r.src_addr)) (sym moment) ∙ known,

@@ -9,7 +9,6 @@ use Rattle.net_base.specs.Checksum.{is_rx, is_tx}
 use Rattle.net_base.specs.Device.{Event}
 use Rattle.ip_address.specs.Protocol.{number_of}
 use Rattle.ip_address.specs.declared.hardware.HardwareAddress.{HardwareAddress}
-use Rattle.ip_address.specs.declared.hardware.HardwareAddress.TheVariants as hardware
 use Rattle.ip_address.specs.declared.ethernet_address.EthernetAddress.{EthernetAddress}
 use Rattle.ip_address.specs.declared.ip.IpAddress.{IpAddress}
 use Rattle.ip_address.specs.declared.ip.IpAddress.TheVariants.{Ipv4, Ipv6}
@@ -18,12 +17,10 @@ use Rattle.ip_address.specs.declared.protocol.IpProtocol.{IpProtocol}
 use Rattle.ip_address.specs.declared.protocol.IpVersion.{IpVersion}
 use Rattle.ip_address.specs.declared.protocol.IpVersion.TheVariants as version
 use Rattle.ip_address.specs.declared.protocol.IpProtocol.TheVariants as ip_protocol
-use Rattle.ip_wire.specs.declared.ethernet.EthernetProtocol.TheVariants as protocol
 use Rattle.ip_wire.specs.declared.ip_packet.IpRepr.{IpRepr}
 use Rattle.ip_wire.specs.declared.ip_packet.IpRepr.TheVariants as repr
 use Rattle.ip_wire.specs.declared.ipv4_packet.Ipv4Repr.{Ipv4Repr}
 use Rattle.ip_wire.specs.declared.tcp.TcpRepr.{TcpRepr}
-use Rattle.ip_wire.specs.Ethernet.{header_in}
 use Rattle.ip_wire.specs.IpPacket.{dst_addr, next_header, src_addr, version_of}
 use Rattle.ip_wire.specs.Tcp.{IsTcp, tcp_in}
 use Rattle.ip_wire.specs.Udp.{udp_in}
@@ -68,10 +65,11 @@ use Rattle.host_machine.specs.Receiving.Udp.{ProcessesUdp}
 use Rattle.host_machine.specs.Receiving.Udp as udp
 use Rattle.host_machine.specs.Sending.Reports.{ProcessesIgmp, delay, host_after_igmp, host_after_mld_query, is_near, mld_report_for, random_after_draw}
 use Rattle.host_machine.specs.Sending.Reports as reports
+use Rattle.host_machine.specs.Laws.Service.{AfterHeader}
 use Rattle.host_machine.specs.Laws.Received.{HasSegmentLast, IsFirstFor, IsForSegments, IsRawFor, QueuesRawPackets, QueuesRawPacketsV6}
 use Rattle.host_machine.specs.Laws.Received.{QueuesSegments, QueuesSegmentsV6, RawPacketsAreQueued, SegmentsAreQueued, raw_packet}
 use Rattle.host_machine.proofs.Receiving.DatagramDelivery.{apart, first_is_one, first_still, same_bits, there}
-use Rattle.host_machine.proofs.Receiving.FrameReplies.{clash, ipv4_taken, met, one_of, packet_served, taken_of}
+use Rattle.host_machine.proofs.Receiving.FrameReplies.{clash, ipv4_taken, met, one_of, packet_served, v4_of, v6_of}
 use Rattle.host_machine.proofs.Receiving.FrameRepliesV6.{apart as apart6, met as met6, met_apart, payload_served}
 use Rattle.host_machine.proofs.Sending.GrantedEgress.{unicast_for}
 use Rattle.host_machine.proofs.Receiving.ReceivedFrames.{renewal}
@@ -226,7 +224,7 @@ raw_heard old t r payload i s f =
 
 raw_v4_queued : (t : ℤ) (old new : Host) (told : List Event) → QueuesRawPackets t old told new
 raw_v4_queued t old new told own frame r payload i s w p f =
-    let k = taken_of protocol.Ipv4 w p.taken in
+    let k = v4_of own w p.taken p.is_packet in
     let may : may_be_source old.ip_addrs r.src_addr ≡ true = rw p.sender refl in
     let datagram = ipv4_taken r payload k.takes p.is_packet p.header p.whole p.behind may in
     let at_last : slice_get k.taken.sockets.places i ≡ Some (Some (Raw (got (repr.Ipv4 r) payload old s))) =
@@ -237,11 +235,11 @@ raw_v4_queued t old new told own frame r payload i s w p f =
 
 raw_v6_queued : (t : ℤ) (old new : Host) (told : List Event) → QueuesRawPacketsV6 t old told new
 raw_v6_queued t old new told own frame r payload i s w p given bare f =
-    let k = taken_of protocol.Ipv6 w p.taken in
+    let k = v6_of own w p.taken p.is_packet in
     let H : Host = without_expired old t in
-    let source : HardwareAddress = hardware.Ethernet (header_in frame).src_addr in
+    let source : HardwareAddress = k.source in
     let for_us : is_for_host H (Ipv6 r.dst_addr) ≡ true = rw given refl in
-    let any = payload_served r.next_header k p refl bare for_us in
+    let any = payload_served r.next_header k (record { octets = payload; packet = p; carried = AfterHeader refl refl }) bare for_us in
     let x = renewal source (repr.Ipv6 r) (raw.host_after_raw_delivery (repr.Ipv6 r) payload H) in
     let at_mid : slice_get (met6 source r payload H).sockets.places i ≡ Some (Some (Raw (got (repr.Ipv6 r) payload old s))) =
     ap (λ (K : Host). slice_get K.sockets.places i) x.is ∙ raw_heard old t (repr.Ipv6 r) payload i s f in
@@ -393,9 +391,9 @@ segment_heard {r = r} {mid} {payload} {taken = taken} {frames = frames} more new
 
 segments_v4_queued : (t : ℤ) (old new : Host) (told : List Event) → QueuesSegments t old told new
 segments_v4_queued t old new told own frame r segment octets i s w d f =
-    let k = taken_of protocol.Ipv4 w d.in_packet.taken in
+    let k = v4_of own w d.in_packet.taken d.in_packet.is_packet in
     let H : Host = without_expired old t in
-    let mid : Host = met (hardware.Ethernet (header_in frame).src_addr) r d.payload H in
+    let mid : Host = met k.source r d.payload H in
     let any = packet_served k d.in_packet in
     let message : ProcessesTcp (raw.is_taken (repr.Ipv4 r) H) (repr.Ipv4 r) mid d.payload k.reply k.notes k.taken =
     subst (λ q. ProcessesProtocol q (raw.is_taken (repr.Ipv4 r) H) r mid d.payload k.reply k.notes k.taken) d.protocol_is any in
@@ -406,17 +404,17 @@ segments_v4_queued t old new told own frame r segment octets i s w d f =
 
 segments_v6_queued : (t : ℤ) (old new : Host) (told : List Event) → QueuesSegmentsV6 t old told new
 segments_v6_queued t old new told own frame r segment octets i s w d f =
-    let k = taken_of protocol.Ipv6 w d.in_packet.taken in
+    let k = v6_of own w d.in_packet.packet.taken d.in_packet.packet.is_packet in
     let H : Host = without_expired old t in
-    let source : HardwareAddress = hardware.Ethernet (header_in frame).src_addr in
+    let source : HardwareAddress = k.source in
     let mid : Host = met6 source r d.payload H in
     let same : apart6 mid old.neighbors ≡ apart6 (raw.host_after_raw_delivery (repr.Ipv6 r) d.payload H) old.neighbors =
     met_apart source r d.payload H old.neighbors in
     let for_us : is_for_host H (Ipv6 r.dst_addr) ≡ true = rw d.given refl in
     let message : ProcessesTcp (raw.is_taken (repr.Ipv6 r) H) (repr.Ipv6 r) mid d.payload k.reply k.notes k.taken =
-    payload_served ip_protocol.Tcp k d.in_packet d.protocol_is (λ bad. omega (arith, bad)) for_us in
+    payload_served ip_protocol.Tcp k d.in_packet (λ bad. omega (arith, bad)) for_us in
     let known : tcp.is_between_unspecified (repr.Ipv6 r) ≡ false =
-    rw ((unicast_for old.ip_addrs (Ipv6 r.src_addr) d.in_packet.sender).specified, (unicast_for old.ip_addrs (Ipv6 r.dst_addr) d.receiver).specified)
+    rw ((unicast_for old.ip_addrs (Ipv6 r.src_addr) d.in_packet.packet.sender).specified, (unicast_for old.ip_addrs (Ipv6 r.dst_addr) d.receiver).specified)
     refl in
     let x = segment_heard k.more new old t segment octets i s (ap (λ (K : Host). K.sockets) same) (ap (λ (K : Host). K.capabilities) same) message
     k.responds known d.is_segment d.values f in

@@ -25,6 +25,7 @@ use Rattle.host_machine.proofs.Receiving.ForeignFrames.{unheard, unheard_v6}
 use Rattle.host_machine.proofs.Receiving.FrameReplies.{arp_served, pings_served}
 use Rattle.host_machine.proofs.Receiving.FrameRepliesV6.{pings_v6_served, solicitations_served}
 use Rattle.host_machine.proofs.Receiving.LearntNeighbors.{neighbors_came}
+use Rattle.host_machine.proofs.Receiving.RebuiltDelivery.{rebuilt_queued}
 use Rattle.host_machine.proofs.Receiving.ReplyLaws.{advert_told, arp_told, errors_caused, errors_v6_caused, resets_caused}
 use Rattle.host_machine.proofs.Receiving.SettingChanges.{frames_keep, reports_asked}
 use Rattle.host_machine.proofs.Receiving.SocketDelivery.{raw_packets_queued, segments_queued}
@@ -76,6 +77,7 @@ received t answer p i = record {
     datagrams_v6 = datagrams_v6_queued t p.before p.after p.told;
     closed_ports = ports_told t p.before p.after p.told;
     closed_ports_v6 = ports_v6_told t p.before p.after p.told;
+    rebuilt_datagrams = rebuilt_queued t p.before p.after p.told;
     echo_replies = replies_queued t p.before p.after p.told;
     echo_replies_v6 = replies_v6_queued t p.before p.after p.told;
     raw_packets = (raw_packets_queued t p.before p.after p.told).0;

@@ -81,7 +81,7 @@ arrivals_after : {ends : ℤ} {slots : Slots} {k : FragKey} {slot : Slot} {first
     Enters ends k slots slot first → arrivals_under key (first ++ rest) ≡ arrivals_under key rest
 arrivals_after {first = first} key rest e = arrivals_under-append key first rest ∙ rw (entered_arrival key e) refl
 
-rebuilt_after : {ends : ℤ} {slots : Slots} {k : FragKey} {slot : Slot} {first : List SlotNote} (key : FragKey) (rest : List SlotNote) →
+pub rebuilt_after : {ends : ℤ} {slots : Slots} {k : FragKey} {slot : Slot} {first : List SlotNote} (key : FragKey) (rest : List SlotNote) →
     Enters ends k slots slot first → rebuilt key (first ++ rest) ≡ rebuilt key rest
 rebuilt_after {first = first} key rest e = rebuilt-append key first rest ∙ rw (entered_rebuilt key e) refl
 

@@ -3,9 +3,7 @@ use Rattle.std.proofs.Common.{◌≡◌, ◌≤◌, ℕ, true, List, [], ◌∷�
 use Rattle.std.specs.Prelude.{slice_get}
 use Rattle.net_base.specs.Checksum.{ip_mtu_of}
 use Rattle.net_base.specs.Device.{Event, sent_frames}
-use Rattle.ip_address.specs.declared.ethernet_address.EthernetAddress.{EthernetAddress}
 use Rattle.ip_address.specs.declared.hardware.HardwareAddress.{HardwareAddress}
-use Rattle.ip_address.specs.declared.hardware.HardwareAddress.TheVariants as hardware
 use Rattle.host_machine.specs.declared.results.Turn.{Turn}
 use Rattle.host_machine.specs.State.Note.{Note}
 use Rattle.host_machine.specs.State.Host.{Host, Socket, at, no_sockets}
@@ -19,18 +17,18 @@ use Rattle.host_machine.specs.Sending.Egress as egress
 use Rattle.control_wire.specs.declared.icmpv4.Icmpv4Repr.TheVariants.{EchoRequest}
 use Rattle.sockets.specs.Kinds.{socket_after_told}
 use Rattle.sockets.specs.declared.socket.SocketOf.TheVariants.{Icmp}
-use Rattle.host_machine.specs.Laws.Service.{FirstEchoesGo, FirstPacketsGo, IsReached, MayBeAsked, all_granted}
-use Rattle.host_machine.proofs.Receiving.FrameReplies.{clash}
+use Rattle.host_machine.specs.Laws.Service.{FirstEchoesGo, FirstPacketsGo, HasWay, MayBeAsked, all_granted}
+use Rattle.host_machine.proofs.Receiving.FrameReplies.{clash, way_by}
 use Rattle.host_machine.proofs.Sending.QueueDecrease.{sent_less}
 use Rattle.std.proofs.lemmas.Option.{slice_get_within}
 use Rattle.host_machine.proofs.Sending.GrantedEgress.{SameAt, each_turn, given_parts, may_as, permitted, reached_as, same_at, same_then}
 use Rattle.host_machine.proofs.Sending.GrantedEgress.{sans, sent_frames-append, there, to_sockets, turn_goes, turn_way}
 
-served_goes : {i : ℕ} {turn : Turn} {H new : Host} {told_it : List Event} {notes : List Note} (own : EthernetAddress) (s : Socket) (p : Packet)
+served_goes : {i : ℕ} {turn : Turn} {H new : Host} {told_it : List Event} {notes : List Note} (own : HardwareAddress) (s : Socket) (p : Packet)
     (h : HardwareAddress) → Serves i turn H told_it notes new →
     slice_get H.sockets.places i ≡ Some (Some s) → MayBeAsked H i → packet_from H s ≡ Some p →
-    all_granted told_it ≡ true → H.hardware_addr ≡ hardware.Ethernet own →
-    is_unicast H.ip_addrs (destination_of p) ≡ true → IsReached H (destination_of p) h → total_len p ≤ ip_mtu_of H.capabilities →
+    all_granted told_it ≡ true → H.hardware_addr ≡ own →
+    is_unicast H.ip_addrs (destination_of p) ≡ true → HasWay own H (destination_of p) h → total_len p ≤ ip_mtu_of H.capabilities →
     (sent_frames told_it ≡ ip_frame H h p ∷ [])
     × (slice_get new.sockets.places i ≡ Some (Some (socket_after_told true (socket_after_asking H s))))
 served_goes own s p h (egress.Free f d e m y) here may is all on one r short = absurd cc
@@ -60,7 +58,7 @@ first_packets_go t answer old new told_all notes e own i s p h all on is_here fr
     let packet_is : packet_from a.mid s ≡ Some p = ap (λ (x : Host). packet_from x s) rest_is ∙ from in
     let g = served_goes own s p h a.served (same.place ∙ is_here) (may_as i rest_is same may) packet_is given_it
     (ap (λ (x : Host). x.hardware_addr) rest_is ∙ on)
-    (ap (λ (x : Host). is_unicast x.ip_addrs (destination_of p)) rest_is ∙ one) (reached_as rest_is reach)
+    (ap (λ (x : Host). is_unicast x.ip_addrs (destination_of p)) rest_is ∙ one) (way_by own (reached_as rest_is) reach)
     (subst (λ c. total_len p ≤ ip_mtu_of c) (sym (ap (λ (x : Host). x.capabilities) rest_is)) short) in
     let frame_is : ip_frame a.mid h p ≡ ip_frame old h p = ap (λ (x : Host). ip_frame x h p) rest_is in
     record {

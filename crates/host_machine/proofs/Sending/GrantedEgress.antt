@@ -58,10 +58,10 @@ use Rattle.host_machine.specs.Sending.Egress.{SocketTurn, Serves, Walks, SocketE
 use Rattle.host_machine.specs.Sending.Egress.{socket_after_asking, is_exhausted, packet_between, packet_of, packet_from, turn_of}
 use Rattle.host_machine.specs.Sending.Egress as egress
 use Rattle.host_machine.specs.Laws.Service.{FirstDatagramsGo, HasFirst, IsBetween, OverIpv4, OverIpv6}
-use Rattle.host_machine.specs.Laws.Service.{IsReached, MayBeAsked, NoWait, Over, IsKnown, all_granted}
+use Rattle.host_machine.specs.Laws.Service.{HasWay, IsReached, MayBeAsked, NoWait, Over, IsKnown, all_granted}
 use Rattle.host_machine.proofs.Polling.EarliestInstant.{known_is_one}
 use Rattle.host_machine.proofs.Receiving.Malformed.{sent_frames-sends}
-use Rattle.host_machine.proofs.Receiving.FrameReplies.{clash, goes_whole, hop_as, one_of}
+use Rattle.host_machine.proofs.Receiving.FrameReplies.{clash, goes_whole, hop_as, one_of, way_by}
 
 -- What stays of a host in a call that sends
 
@@ -493,10 +493,10 @@ pub record TurnGoes (H : Host) (s : Socket) (p : Packet) (h : HardwareAddress) (
   pub frames : sent_frames told_it ≡ ip_frame H h p ∷ []
   pub socket : s' ≡ socket_after_told true (socket_after_asking H s)
 
-pub turn_goes : {s s' : Socket} {turn : Turn} {H new : Host} {told_it : List Event} {notes : List Note} (own : EthernetAddress) (p : Packet)
+pub turn_goes : {s s' : Socket} {turn : Turn} {H new : Host} {told_it : List Event} {notes : List Note} (own : HardwareAddress) (p : Packet)
     (h : HardwareAddress) → SocketTurn s turn s' H told_it notes new →
-    packet_from H s ≡ Some p → all_granted told_it ≡ true → H.hardware_addr ≡ hardware.Ethernet own →
-    is_unicast H.ip_addrs (destination_of p) ≡ true → IsReached H (destination_of p) h →
+    packet_from H s ≡ Some p → all_granted told_it ≡ true → H.hardware_addr ≡ own →
+    is_unicast H.ip_addrs (destination_of p) ≡ true → HasWay own H (destination_of p) h →
     total_len p ≤ ip_mtu_of H.capabilities → TurnGoes H s p h s' told_it
 turn_goes own p h (egress.Silent none d e m y z) is all on one r short = absurd cc
 turn_goes own p h (egress.Refused q some d e m y z) is all on one r short = absurd (clash all (ap all_granted e))
@@ -531,11 +531,11 @@ first_left H K i s p rest f e =
     let stays : socket_after_asking H (Udp s) ≡ Udp s = ap (λ o. Udp (cond (is_none o) (udp.without_first_to_send s) s)) offers in
     ap (socket_after_told true) (here ∙ stays) ∙ ap (λ packets. Udp (record s { tx = record s.tx { packets = drop 1 packets } })) f.first
 
-served_goes : {i : ℕ} {turn : Turn} {H new : Host} {told_it : List Event} {notes : List Note} (own : EthernetAddress) (s : UdpSocket) (p : Packet)
+served_goes : {i : ℕ} {turn : Turn} {H new : Host} {told_it : List Event} {notes : List Note} (own : HardwareAddress) (s : UdpSocket) (p : Packet)
     (h : HardwareAddress) → Serves i turn H told_it notes new →
     slice_get H.sockets.places i ≡ Some (Some (Udp s)) → MayBeAsked H i → packet_from H (Udp s) ≡ Some p →
-    all_granted told_it ≡ true → H.hardware_addr ≡ hardware.Ethernet own →
-    is_unicast H.ip_addrs (destination_of p) ≡ true → IsReached H (destination_of p) h → total_len p ≤ ip_mtu_of H.capabilities →
+    all_granted told_it ≡ true → H.hardware_addr ≡ own →
+    is_unicast H.ip_addrs (destination_of p) ≡ true → HasWay own H (destination_of p) h → total_len p ≤ ip_mtu_of H.capabilities →
     (sent_frames told_it ≡ ip_frame H h p ∷ [])
     × (slice_get new.sockets.places i ≡ Some (Some (socket_after_told true (socket_after_asking H (Udp s)))))
 served_goes own s p h (egress.Free f d e m y) here may is all on one r short = absurd cc
@@ -566,7 +566,7 @@ firsts_go t answer old new told_all notes e own i s p h rest all on first may on
     ∙ first_packet (at old t) i s p rest first in
     let g = served_goes own s p h a.served (same.place ∙ first.here) (may_as i rest_is same may) packet_is given_it
     (ap (λ (x : Host). x.hardware_addr) rest_is ∙ on)
-    (ap (λ (x : Host). is_unicast x.ip_addrs (destination_of p)) rest_is ∙ one) (reached_as rest_is reach)
+    (ap (λ (x : Host). is_unicast x.ip_addrs (destination_of p)) rest_is ∙ one) (way_by own (reached_as rest_is) reach)
     (subst (λ c. total_len p ≤ ip_mtu_of c) (sym (ap (λ (x : Host). x.capabilities) rest_is)) short) in
     let frame_is : ip_frame a.mid h p ≡ ip_frame old h p = ap (λ (x : Host). ip_frame x h p) rest_is in
     record {

@@ -1,11 +1,11 @@
 -- What raw and TCP sockets receive, and ICMP sockets over IPv6: a packet, a segment or an echo reply that comes for a
 -- socket with room is last in its queue.
-use Rattle.std.specs.Prelude.{◌≡◌, ◌≢◌, ◌⊎◌, ℕ, ◌<◌, ℤ, true, false, List, [], ◌∷◌, ◌++◌, drop, length, slice_get}
+use Rattle.std.specs.Prelude.{◌≡◌, ◌≢◌, ◌⊎◌, ℕ, ◌<◌, ℤ, true, false, List, [], ◌∷◌, ◌++◌, length, slice_get}
 use Rattle.std.specs.Prelude.{Some, None}
 use Rattle.net_base.specs.Checksum.{is_rx, is_tx}
 use Rattle.net_base.specs.Device.{Event, sent_frames}
 use Rattle.ip_address.specs.Protocol.{number_of}
-use Rattle.ip_address.specs.declared.ethernet_address.EthernetAddress.{EthernetAddress}
+use Rattle.ip_address.specs.declared.hardware.HardwareAddress.{HardwareAddress}
 use Rattle.ip_address.specs.declared.ip.IpAddress.TheVariants.{Ipv6}
 use Rattle.ip_address.specs.declared.protocol.IpProtocol.TheVariants as ip_protocol
 use Rattle.ip_wire.specs.declared.ethernet.EthernetProtocol.TheVariants as protocol
@@ -31,18 +31,18 @@ use Rattle.host_machine.specs.State.Host.{Host, is_assigned}
 use Rattle.host_machine.specs.State.Addresses.{is_unicast_v4}
 use Rattle.host_machine.specs.Receiving.Icmpv6.{IsMessage}
 use Rattle.host_machine.specs.Receiving.Tcp.{IsSegment, destination_of, source_of}
-use Rattle.host_machine.specs.Laws.Service.{HasPacketV4, HasPacketV6, IsTaken, Takes}
+use Rattle.host_machine.specs.Laws.Service.{HasPacketV4, HasPacketV6, HasPayloadV6, IsAccepted, Takes, packet_in}
 
 -- Raw packets
 
 -- the frame carries a whole IPv4 packet with this header and this payload, from a unicast address, to any address
-pub record CarriesPacket (own : EthernetAddress) (H : Host) (frame : List ℕ)
+pub record CarriesPacket (own : HardwareAddress) (H : Host) (frame : List ℕ)
     (r : Ipv4Repr) (payload : List ℕ) : Type 0 where
-  pub taken : IsTaken own protocol.Ipv4 frame
-  pub is_packet : IsIpv4 (is_rx H.capabilities.checksum.ipv4) (drop 14 frame)
-  pub header : (ipv4_in (drop 14 frame)).0 ≡ r
-  pub whole : is_fragment (ipv4_in (drop 14 frame)).1 ≡ false
-  pub behind : (ipv4_in (drop 14 frame)).2 ≡ payload
+  pub taken : IsAccepted own protocol.Ipv4 frame
+  pub is_packet : IsIpv4 (is_rx H.capabilities.checksum.ipv4) (packet_in own frame)
+  pub header : (ipv4_in (packet_in own frame)).0 ≡ r
+  pub whole : is_fragment (ipv4_in (packet_in own frame)).1 ≡ false
+  pub behind : (ipv4_in (packet_in own frame)).2 ≡ payload
   pub sender : is_unicast_v4 H.ip_addrs r.src_addr ≡ true
 
 -- a packet as a raw socket gets it: its header is written anew, without options
@@ -66,13 +66,13 @@ HasRawLast old r payload i s new = slice_get new.sockets.places i ≡ Some (Some
 -- destination; over IPv6, for a packet to an address assigned to the host and without hop-by-hop options
 abbrev pub QueuesRawPackets : ℤ → Host → List Event → Host → Type 0
 QueuesRawPackets t old told new =
-    (own : EthernetAddress) (frame : List ℕ) (r : Ipv4Repr) (payload : List ℕ) (i : ℕ) (s : RawSocket) →
+    (own : HardwareAddress) (frame : List ℕ) (r : Ipv4Repr) (payload : List ℕ) (i : ℕ) (s : RawSocket) →
     Takes own t frame old told new → CarriesPacket own old frame r payload → IsRawFor old (repr.Ipv4 r) payload i s →
     HasRawLast old (repr.Ipv4 r) payload i s new
 
 abbrev pub QueuesRawPacketsV6 : ℤ → Host → List Event → Host → Type 0
 QueuesRawPacketsV6 t old told new =
-    (own : EthernetAddress) (frame : List ℕ) (r : Ipv6Repr) (payload : List ℕ) (i : ℕ) (s : RawSocket) →
+    (own : HardwareAddress) (frame : List ℕ) (r : Ipv6Repr) (payload : List ℕ) (i : ℕ) (s : RawSocket) →
     Takes own t frame old told new → HasPacketV6 own old frame r payload →
     is_assigned old.ip_addrs (Ipv6 r.dst_addr) ≡ true → number_of r.next_header ≢ 0 →
     IsRawFor old (repr.Ipv6 r) payload i s → HasRawLast old (repr.Ipv6 r) payload i s new
@@ -84,7 +84,7 @@ RawPacketsAreQueued = (t : ℤ) (old new : Host) (told : List Event) →
 -- Segments
 
 -- the frame carries a segment (RFC 9293 3.1) with this header and this payload, over IPv4 or IPv6
-pub record HasSegment (own : EthernetAddress) (H : Host) (frame : List ℕ) (r : Ipv4Repr)
+pub record HasSegment (own : HardwareAddress) (H : Host) (frame : List ℕ) (r : Ipv4Repr)
     (segment : TcpRepr) (octets : List ℕ) : Type 0 where
   pub payload : List ℕ
   pub in_packet : HasPacketV4 own H frame r payload
@@ -92,13 +92,12 @@ pub record HasSegment (own : EthernetAddress) (H : Host) (frame : List ℕ) (r :
   pub is_segment : IsSegment H (repr.Ipv4 r) payload
   pub values : tcp_in payload ≡ (segment, octets)
 
-pub record HasSegmentV6 (own : EthernetAddress) (H : Host) (frame : List ℕ) (r : Ipv6Repr)
+pub record HasSegmentV6 (own : HardwareAddress) (H : Host) (frame : List ℕ) (r : Ipv6Repr)
     (segment : TcpRepr) (octets : List ℕ) : Type 0 where
   pub payload : List ℕ
-  pub in_packet : HasPacketV6 own H frame r payload
+  pub in_packet : HasPayloadV6 own H frame r ip_protocol.Tcp payload
   pub receiver : ipv6.is_unicast r.dst_addr ≡ true
   pub given : is_assigned H.ip_addrs (Ipv6 r.dst_addr) ≡ true
-  pub protocol_is : r.next_header ≡ ip_protocol.Tcp
   pub is_segment : IsSegment H (repr.Ipv6 r) payload
   pub values : tcp_in payload ≡ (segment, octets)
 
@@ -129,7 +128,7 @@ HasSegmentLast r segment octets i s new = slice_get new.sockets.places i ≡ Som
 -- and nothing is sent
 abbrev pub QueuesSegments : ℤ → Host → List Event → Host → Type 0
 QueuesSegments t old told new =
-    (own : EthernetAddress) (frame : List ℕ) (r : Ipv4Repr) (segment : TcpRepr) (octets : List ℕ) (i : ℕ)
+    (own : HardwareAddress) (frame : List ℕ) (r : Ipv4Repr) (segment : TcpRepr) (octets : List ℕ) (i : ℕ)
     (s : TcpSocket) →
     Takes own t frame old told new → HasSegment own old frame r segment octets →
     IsFirstFor old (repr.Ipv4 r) segment octets i s →
@@ -137,7 +136,7 @@ QueuesSegments t old told new =
 
 abbrev pub QueuesSegmentsV6 : ℤ → Host → List Event → Host → Type 0
 QueuesSegmentsV6 t old told new =
-    (own : EthernetAddress) (frame : List ℕ) (r : Ipv6Repr) (segment : TcpRepr) (octets : List ℕ) (i : ℕ)
+    (own : HardwareAddress) (frame : List ℕ) (r : Ipv6Repr) (segment : TcpRepr) (octets : List ℕ) (i : ℕ)
     (s : TcpSocket) →
     Takes own t frame old told new → HasSegmentV6 own old frame r segment octets →
     IsFirstFor old (repr.Ipv6 r) segment octets i s →
@@ -151,11 +150,10 @@ SegmentsAreQueued = (t : ℤ) (old new : Host) (told : List Event) →
 
 -- the frame carries an echo reply with this identifier and this sequence number, as the octets of its message, to an
 -- address assigned to the host (RFC 4443 4.2)
-pub record HasEchoReplyV6 (own : EthernetAddress) (H : Host) (frame : List ℕ) (r : Ipv6Repr)
+pub record HasEchoReplyV6 (own : HardwareAddress) (H : Host) (frame : List ℕ) (r : Ipv6Repr)
     (ident seq_no : ℕ) (message : List ℕ) : Type 0 where
-  pub in_packet : HasPacketV6 own H frame r message
+  pub in_packet : HasPayloadV6 own H frame r ip_protocol.Icmpv6 message
   pub given : is_assigned H.ip_addrs (Ipv6 r.dst_addr) ≡ true
-  pub protocol_is : r.next_header ≡ ip_protocol.Icmpv6
   pub is_message : IsMessage H r message
   pub values : (icmpv6_in message).0 ≡ EchoReply ident seq_no
 
@@ -163,7 +161,7 @@ pub record HasEchoReplyV6 (own : EthernetAddress) (H : Host) (frame : List ℕ) 
 -- sent
 abbrev pub QueuesEchoRepliesV6 : ℤ → Host → List Event → Host → Type 0
 QueuesEchoRepliesV6 t old told new =
-    (own : EthernetAddress) (frame : List ℕ) (r : Ipv6Repr) (ident seq_no : ℕ) (message : List ℕ) (i : ℕ)
+    (own : HardwareAddress) (frame : List ℕ) (r : Ipv6Repr) (ident seq_no : ℕ) (message : List ℕ) (i : ℕ)
     (s : IcmpSocket) →
     Takes own t frame old told new → HasEchoReplyV6 own old frame r ident seq_no message →
     slice_get old.sockets.places i ≡ Some (Some (Icmp s)) → s.endpoint ≡ Ident ident →

@@ -15,12 +15,16 @@ use Rattle.ip_address.specs.declared.ip.IpAddress.TheVariants.{Ipv4, Ipv6}
 use Rattle.ip_address.specs.declared.ipv4.Ipv4Address.{Ipv4Address}
 use Rattle.ip_address.specs.declared.ipv6.Ipv6Address.{Ipv6Address}
 use Rattle.ip_address.specs.Ipv6 as ipv6
+use Rattle.ip_address.specs.declared.protocol.IpProtocol.{IpProtocol}
 use Rattle.ip_address.specs.declared.protocol.IpProtocol.TheVariants as ip_protocol
+use Rattle.ip_address.specs.Protocol.{number_of}
 use Rattle.ip_address.specs.EthernetAddress as ethernet
 use Rattle.ip_address.specs.Ip.{is_unicast as is_one}
 use Rattle.ip_address.specs.Ipv4 as ipv4
 use Rattle.ipv6_wire.specs.declared.ipv6_packet.Ipv6Repr.{Ipv6Repr}
 use Rattle.ipv6_wire.specs.Ipv6Packet.{IsIpv6, ipv6_in}
+use Rattle.ipv6_wire.specs.HopByHop.{IsHopByHop, first_failure, hop_by_hop_in}
+use Rattle.ipv6_wire.specs.declared.hop_by_hop.Ipv6OptionFailureType.TheVariants.{Skip}
 use Rattle.icmpv6_wire.specs.Icmpv6.{icmpv6_in}
 use Rattle.icmpv6_wire.specs.declared.icmpv6.Icmpv6Repr.TheVariants as icmpv6
 use Rattle.icmpv6_wire.specs.declared.icmpv6.Icmpv6DstUnreachable.TheVariants.{PortUnreachable as PortUnreachableV6}
@@ -83,14 +87,25 @@ pub record IsTaken (own : EthernetAddress) (type : EthernetProtocol) (frame : Li
   pub to_host : is_for own (header_in frame).dst_addr ≡ true
   pub of_type : (header_in frame).ethertype ≡ type
 
--- a call at t that received this frame, on Ethernet
-pub record Takes (own : EthernetAddress) (t : ℤ) (frame : List ℕ) (old : Host)
+-- the same of a frame with an IP packet in it: where there are no hardware addresses, each frame is accepted, and its
+-- type is the packet's version
+abbrev pub IsAccepted : HardwareAddress → EthernetProtocol → List ℕ → Type 0
+IsAccepted (hardware.Ethernet own) type frame = IsTaken own type frame
+IsAccepted hardware.Ip type frame = Unit {0}
+
+-- the packet in it: what follows the frame's header, or the whole frame
+abbrev pub packet_in : HardwareAddress → List ℕ → List ℕ
+packet_in (hardware.Ethernet own) frame = drop 14 frame
+packet_in hardware.Ip frame = frame
+
+-- a call at t that received this frame, of a host with this hardware address, or on a medium without any
+pub record Takes (own : HardwareAddress) (t : ℤ) (frame : List ℕ) (old : Host)
     (told : List Event) (new : Host) : Type 0 where
   pub answer : PollIngressSingleResult
   pub notes : List Note
   pub call : Ingress t answer old told notes new
   pub took : handed_frames told ≡ frame ∷ []
-  pub on_ethernet : old.hardware_addr ≡ hardware.Ethernet own
+  pub on_medium : old.hardware_addr ≡ own
 
 -- ARP
 
@@ -122,7 +137,7 @@ arp_answer own r = record {
 abbrev pub AnswersArpRequests : ℤ → Host → List Event → Host → Type 0
 AnswersArpRequests t old told new =
     (own : EthernetAddress) (frame : List ℕ) (r : ArpRepr) →
-    Takes own t frame old told new → AsksByArp own old.ip_addrs frame r →
+    Takes (hardware.Ethernet own) t frame old told new → AsksByArp own old.ip_addrs frame r →
     (sent_frames told ≡ arp_frame (arp_answer own r) ∷ [])
     × (answer_of new.neighbors (Ipv4 r.source_protocol_addr) t ≡ Found (hardware.Ethernet r.source_hardware_addr))
 
@@ -137,21 +152,26 @@ pub record IsReached (H : Host) (a : IpAddress) (h : HardwareAddress) : Type 0 w
   pub next : IsNextHop H a (Some hop)
   pub known : answer_of H.neighbors hop H.moment ≡ Found h
 
+-- so it is on Ethernet; where there are no hardware addresses, no neighbour is needed
+abbrev pub HasWay : HardwareAddress → Host → IpAddress → HardwareAddress → Type 0
+HasWay (hardware.Ethernet own) H a h = IsReached H a h
+HasWay hardware.Ip H a h = h ≡ hardware.Ip
+
 -- the frame carries a whole IPv4 packet with this header and this payload, from a unicast address, to
 -- one assigned to the host
-pub record HasPacketV4 (own : EthernetAddress) (H : Host) (frame : List ℕ)
+pub record HasPacketV4 (own : HardwareAddress) (H : Host) (frame : List ℕ)
     (r : Ipv4Repr) (payload : List ℕ) : Type 0 where
-  pub taken : IsTaken own protocol.Ipv4 frame
-  pub is_packet : IsIpv4 (is_rx H.capabilities.checksum.ipv4) (drop 14 frame)
-  pub header : (ipv4_in (drop 14 frame)).0 ≡ r
-  pub whole : is_fragment (ipv4_in (drop 14 frame)).1 ≡ false
-  pub behind : (ipv4_in (drop 14 frame)).2 ≡ payload
+  pub taken : IsAccepted own protocol.Ipv4 frame
+  pub is_packet : IsIpv4 (is_rx H.capabilities.checksum.ipv4) (packet_in own frame)
+  pub header : (ipv4_in (packet_in own frame)).0 ≡ r
+  pub whole : is_fragment (ipv4_in (packet_in own frame)).1 ≡ false
+  pub behind : (ipv4_in (packet_in own frame)).2 ≡ payload
   pub sender : is_unicast_v4 H.ip_addrs r.src_addr ≡ true
   pub receiver : is_unicast_v4 H.ip_addrs r.dst_addr ≡ true
   pub given : is_assigned H.ip_addrs (Ipv4 r.dst_addr) ≡ true
 
 -- an echo request with this identifier, sequence number and data (RFC 792)
-pub record Pings (own : EthernetAddress) (H : Host) (frame : List ℕ) (r : Ipv4Repr)
+pub record Pings (own : HardwareAddress) (H : Host) (frame : List ℕ) (r : Ipv4Repr)
     (ident seq_no : ℕ) (octets : List ℕ) : Type 0 where
   pub payload : List ℕ
   pub in_packet : HasPacketV4 own H frame r payload
@@ -163,10 +183,10 @@ pub record Pings (own : EthernetAddress) (H : Host) (frame : List ℕ) (r : Ipv4
 -- takes packets so long
 abbrev pub AnswersPings : ℤ → Host → List Event → Host → Type 0
 AnswersPings t old told new =
-    (own : EthernetAddress) (frame : List ℕ) (r : Ipv4Repr) (ident seq_no : ℕ) (octets : List ℕ)
+    (own : HardwareAddress) (frame : List ℕ) (r : Ipv4Repr) (ident seq_no : ℕ) (octets : List ℕ)
     (h : HardwareAddress) →
     Takes own t frame old told new → Pings own old frame r ident seq_no octets →
-    IsReached (at old t) (Ipv4 r.src_addr) h →
+    HasWay own (at old t) (Ipv4 r.src_addr) h →
     28 + length octets ≤ ip_mtu_of old.capabilities →
     sent_frames told ≡ ip_frame old h (packet.Ipv4 (record {
       src_addr = r.dst_addr;
@@ -181,7 +201,7 @@ PingsAreAnswered = (t : ℤ) (old new : Host) (told : List Event) → AnswersPin
 -- Datagrams
 
 -- the frame carries a datagram (RFC 768) with these ports and this payload
-pub record HasDatagram (own : EthernetAddress) (H : Host) (frame : List ℕ) (r : Ipv4Repr)
+pub record HasDatagram (own : HardwareAddress) (H : Host) (frame : List ℕ) (r : Ipv4Repr)
     (ports : UdpRepr) (octets : List ℕ) : Type 0 where
   pub payload : List ℕ
   pub in_packet : HasPacketV4 own H frame r payload
@@ -215,7 +235,7 @@ pub record IsQueued (source : IpAddress) (ports : UdpRepr) (octets : List ℕ) (
 -- the call that receives it does that, and sends nothing
 abbrev pub QueuesDatagrams : ℤ → Host → List Event → Host → Type 0
 QueuesDatagrams t old told new =
-    (own : EthernetAddress) (frame : List ℕ) (r : Ipv4Repr) (ports : UdpRepr) (octets : List ℕ) (i : ℕ)
+    (own : HardwareAddress) (frame : List ℕ) (r : Ipv4Repr) (ports : UdpRepr) (octets : List ℕ) (i : ℕ)
     (s : UdpSocket) →
     Takes own t frame old told new → HasDatagram own old frame r ports octets →
     IsAcceptedBy old (Ipv4 r.dst_addr) ports octets i s →
@@ -228,12 +248,12 @@ DatagramsAreQueued = (t : ℤ) (old new : Host) (told : List Event) → QueuesDa
 -- nothing else. The error quotes the packet's header and the first octets of its payload (RFC 1122 3.2.2.1, 4.1.3.1)
 abbrev pub AnswersClosedPorts : ℤ → Host → List Event → Host → Type 0
 AnswersClosedPorts t old told new =
-    (own : EthernetAddress) (frame : List ℕ) (r : Ipv4Repr) (ports : UdpRepr) (octets : List ℕ)
+    (own : HardwareAddress) (frame : List ℕ) (r : Ipv4Repr) (ports : UdpRepr) (octets : List ℕ)
     (h : HardwareAddress) →
     Takes own t frame old told new → (d : HasDatagram own old frame r ports octets) →
     ((k : ℕ) (other : UdpSocket) → slice_get old.sockets.places k ≡ Some (Some (Udp other)) →
     other.endpoint.port ≢ ports.dst_port) →
-    raw.is_taken (repr.Ipv4 r) old ≡ false → IsReached (at old t) (Ipv4 r.src_addr) h →
+    raw.is_taken (repr.Ipv4 r) old ≡ false → HasWay own (at old t) (Ipv4 r.src_addr) h →
     576 ≤ ip_mtu_of old.capabilities →
     sent_frames told ≡ ip_frame old h (packet.Ipv4 (record {
       src_addr = r.dst_addr;
@@ -248,7 +268,7 @@ ClosedPortsAreAnswered = (t : ℤ) (old new : Host) (told : List Event) → Answ
 -- Echo replies received
 
 -- the frame carries an echo reply with this identifier and this sequence number, as the octets of its message (RFC 792)
-pub record HasEchoReply (own : EthernetAddress) (H : Host) (frame : List ℕ) (r : Ipv4Repr)
+pub record HasEchoReply (own : HardwareAddress) (H : Host) (frame : List ℕ) (r : Ipv4Repr)
     (ident seq_no : ℕ) (message : List ℕ) : Type 0 where
   pub in_packet : HasPacketV4 own H frame r message
   pub protocol_is : r.next_header ≡ ip_protocol.Icmp
@@ -259,7 +279,7 @@ pub record HasEchoReply (own : EthernetAddress) (H : Host) (frame : List ℕ) (r
 -- sent
 abbrev pub QueuesEchoReplies : ℤ → Host → List Event → Host → Type 0
 QueuesEchoReplies t old told new =
-    (own : EthernetAddress) (frame : List ℕ) (r : Ipv4Repr) (ident seq_no : ℕ) (message : List ℕ) (i : ℕ)
+    (own : HardwareAddress) (frame : List ℕ) (r : Ipv4Repr) (ident seq_no : ℕ) (message : List ℕ) (i : ℕ)
     (s : IcmpSocket) →
     Takes own t frame old told new → HasEchoReply own old frame r ident seq_no message →
     slice_get old.sockets.places i ≡ Some (Some (Icmp s)) → s.endpoint ≡ Ident ident →
@@ -327,11 +347,11 @@ pub record Went (H : Host) (i : ℕ) (s : UdpSocket) (p : Packet) (h : HardwareA
 -- asked. Its destination must be unicast, the way to it known, and the device must take packets so long
 abbrev pub SendsFirstDatagrams : ℤ → Host → List Event → Host → Type 0
 SendsFirstDatagrams t old told new =
-    (own : EthernetAddress) (i : ℕ) (s : UdpSocket) (p : Packet) (h : HardwareAddress)
+    (own : HardwareAddress) (i : ℕ) (s : UdpSocket) (p : Packet) (h : HardwareAddress)
     (rest : List (IpEndpoint × List ℕ)) →
-    all_granted told ≡ true → old.hardware_addr ≡ hardware.Ethernet own →
+    all_granted told ≡ true → old.hardware_addr ≡ own →
     HasFirst (at old t) i s p rest → MayBeAsked (at old t) i → is_unicast old.ip_addrs (destination_of p) ≡ true →
-    IsReached (at old t) (destination_of p) h →
+    HasWay own (at old t) (destination_of p) h →
     total_len p ≤ ip_mtu_of old.capabilities → Went old i s p h rest told new
 
 abbrev pub FirstDatagramsGo : Type 0
@@ -360,10 +380,10 @@ pub record WentFirst (H : Host) (i : ℕ) (s : Socket) (p : Packet) (h : Hardwar
 -- TCP one its segment
 abbrev pub SendsFirstPackets : ℤ → Host → List Event → Host → Type 0
 SendsFirstPackets t old told new =
-    (own : EthernetAddress) (i : ℕ) (s : Socket) (p : Packet) (h : HardwareAddress) →
-    all_granted told ≡ true → old.hardware_addr ≡ hardware.Ethernet own →
+    (own : HardwareAddress) (i : ℕ) (s : Socket) (p : Packet) (h : HardwareAddress) →
+    all_granted told ≡ true → old.hardware_addr ≡ own →
     slice_get old.sockets.places i ≡ Some (Some s) → packet_from (at old t) s ≡ Some p → MayBeAsked (at old t) i →
-    is_unicast old.ip_addrs (destination_of p) ≡ true → IsReached (at old t) (destination_of p) h →
+    is_unicast old.ip_addrs (destination_of p) ≡ true → HasWay own (at old t) (destination_of p) h →
     total_len p ≤ ip_mtu_of old.capabilities → WentFirst old i s p h told new
 
 abbrev pub FirstPacketsGo : Type 0
@@ -386,11 +406,11 @@ pub record HasFirstEcho (H : Host) (i : ℕ) (s : IcmpSocket) (a b : Ipv4Address
 -- so it is sent
 abbrev pub SendsFirstEchoes : ℤ → Host → List Event → Host → Type 0
 SendsFirstEchoes t old told new =
-    (own : EthernetAddress) (i : ℕ) (s : IcmpSocket) (a b : Ipv4Address) (ident seq_no : ℕ) (octets : List ℕ)
+    (own : HardwareAddress) (i : ℕ) (s : IcmpSocket) (a b : Ipv4Address) (ident seq_no : ℕ) (octets : List ℕ)
     (h : HardwareAddress) →
-    all_granted told ≡ true → old.hardware_addr ≡ hardware.Ethernet own →
+    all_granted told ≡ true → old.hardware_addr ≡ own →
     HasFirstEcho (at old t) i s a b ident seq_no octets → MayBeAsked (at old t) i →
-    is_unicast_v4 old.ip_addrs b ≡ true → IsReached (at old t) (Ipv4 b) h →
+    is_unicast_v4 old.ip_addrs b ≡ true → HasWay own (at old t) (Ipv4 b) h →
     28 + length octets ≤ ip_mtu_of old.capabilities →
     WentFirst old i (Icmp s) (packet.Ipv4 (record {
       src_addr = a;
@@ -438,31 +458,46 @@ RequestsGo =
 -- IPv6
 
 -- the frame carries an IPv6 packet with this header and this payload, from a unicast address
-pub record HasPacketV6 (own : EthernetAddress) (H : Host) (frame : List ℕ)
+pub record HasPacketV6 (own : HardwareAddress) (H : Host) (frame : List ℕ)
     (r : Ipv6Repr) (payload : List ℕ) : Type 0 where
-  pub taken : IsTaken own protocol.Ipv6 frame
-  pub is_packet : IsIpv6 (drop 14 frame)
-  pub values : ipv6_in (drop 14 frame) ≡ (r, payload)
+  pub taken : IsAccepted own protocol.Ipv6 frame
+  pub is_packet : IsIpv6 (packet_in own frame)
+  pub values : ipv6_in (packet_in own frame) ≡ (r, payload)
   pub sender : ipv6.is_unicast r.src_addr ≡ true
+
+-- the protocol of what an IPv6 packet carries, and its octets: the packet's payload; or what follows the hop-by-hop
+-- options that it begins with, if each of them is known or to be skipped (RFC 8200 4.2, 4.3)
+pub data IsCarried (r : Ipv6Repr) (octets : List ℕ) (p : IpProtocol) (payload : List ℕ) : Type 0 where
+  AfterHeader : r.next_header ≡ p → octets ≡ payload → IsCarried r octets p payload
+  AfterOptions : number_of r.next_header ≡ 0 → IsHopByHop octets →
+      first_failure (hop_by_hop_in octets).0.options.items ≡ Skip →
+      (hop_by_hop_in octets).0.next_header ≡ p → (hop_by_hop_in octets).1 ≡ payload →
+      IsCarried r octets p payload
+
+-- the frame carries, in an IPv6 packet with this header, a payload of this protocol
+pub record HasPayloadV6 (own : HardwareAddress) (H : Host) (frame : List ℕ)
+    (r : Ipv6Repr) (p : IpProtocol) (payload : List ℕ) : Type 0 where
+  pub octets : List ℕ
+  pub packet : HasPacketV6 own H frame r octets
+  pub carried : IsCarried r octets p payload
 
 -- an echo request with this identifier, sequence number and data (RFC 4443 4.1), to a unicast
 -- address assigned to the host
-pub record PingsV6 (own : EthernetAddress) (H : Host) (frame : List ℕ) (r : Ipv6Repr)
+pub record PingsV6 (own : HardwareAddress) (H : Host) (frame : List ℕ) (r : Ipv6Repr)
     (ident seq_no : ℕ) (octets : List ℕ) : Type 0 where
   pub payload : List ℕ
-  pub in_packet : HasPacketV6 own H frame r payload
+  pub in_packet : HasPayloadV6 own H frame r ip_protocol.Icmpv6 payload
   pub receiver : ipv6.is_unicast r.dst_addr ≡ true
   pub given : is_assigned H.ip_addrs (Ipv6 r.dst_addr) ≡ true
-  pub protocol_is : r.next_header ≡ ip_protocol.Icmpv6
   pub is_message : IsMessage H r payload
   pub values : icmpv6_in payload ≡ (icmpv6.EchoRequest ident seq_no, octets)
 
 abbrev pub AnswersPingsV6 : ℤ → Host → List Event → Host → Type 0
 AnswersPingsV6 t old told new =
-    (own : EthernetAddress) (frame : List ℕ) (r : Ipv6Repr) (ident seq_no : ℕ) (octets : List ℕ)
+    (own : HardwareAddress) (frame : List ℕ) (r : Ipv6Repr) (ident seq_no : ℕ) (octets : List ℕ)
     (h : HardwareAddress) →
     Takes own t frame old told new → PingsV6 own old frame r ident seq_no octets →
-    IsReached (at old t) (Ipv6 r.src_addr) h →
+    HasWay own (at old t) (Ipv6 r.src_addr) h →
     48 + length octets ≤ ip_mtu_of old.capabilities →
     sent_frames told ≡ ip_frame old h (packet.Ipv6 (record {
       src_addr = r.dst_addr;
@@ -476,19 +511,18 @@ PingsV6AreAnswered = (t : ℤ) (old new : Host) (told : List Event) → AnswersP
 
 -- the frame carries a datagram (RFC 768, RFC 8200 8.1) with these ports and this payload, to an address assigned to the
 -- host
-pub record HasDatagramV6 (own : EthernetAddress) (H : Host) (frame : List ℕ) (r : Ipv6Repr)
+pub record HasDatagramV6 (own : HardwareAddress) (H : Host) (frame : List ℕ) (r : Ipv6Repr)
     (ports : UdpRepr) (octets : List ℕ) : Type 0 where
   pub payload : List ℕ
-  pub in_packet : HasPacketV6 own H frame r payload
+  pub in_packet : HasPayloadV6 own H frame r ip_protocol.Udp payload
   pub given : is_assigned H.ip_addrs (Ipv6 r.dst_addr) ≡ true
-  pub protocol_is : r.next_header ≡ ip_protocol.Udp
   pub is_datagram : IsDatagram H (repr.Ipv6 r) payload
   pub values : udp_in payload ≡ (ports, octets)
 
 -- it is queued as one over IPv4 is
 abbrev pub QueuesDatagramsV6 : ℤ → Host → List Event → Host → Type 0
 QueuesDatagramsV6 t old told new =
-    (own : EthernetAddress) (frame : List ℕ) (r : Ipv6Repr) (ports : UdpRepr) (octets : List ℕ) (i : ℕ)
+    (own : HardwareAddress) (frame : List ℕ) (r : Ipv6Repr) (ports : UdpRepr) (octets : List ℕ) (i : ℕ)
     (s : UdpSocket) →
     Takes own t frame old told new → HasDatagramV6 own old frame r ports octets →
     IsAcceptedBy old (Ipv6 r.dst_addr) ports octets i s →
@@ -501,13 +535,13 @@ DatagramsV6AreQueued = (t : ℤ) (old new : Host) (told : List Event) → Queues
 -- nothing else. The error quotes the packet's header and the first octets of its payload (RFC 4443 2.4, 3.1)
 abbrev pub AnswersClosedPortsV6 : ℤ → Host → List Event → Host → Type 0
 AnswersClosedPortsV6 t old told new =
-    (own : EthernetAddress) (frame : List ℕ) (r : Ipv6Repr) (ports : UdpRepr) (octets : List ℕ)
+    (own : HardwareAddress) (frame : List ℕ) (r : Ipv6Repr) (ports : UdpRepr) (octets : List ℕ)
     (h : HardwareAddress) →
     Takes own t frame old told new → (d : HasDatagramV6 own old frame r ports octets) →
     ipv6.is_unicast r.dst_addr ≡ true →
     ((k : ℕ) (other : UdpSocket) → slice_get old.sockets.places k ≡ Some (Some (Udp other)) →
     other.endpoint.port ≢ ports.dst_port) →
-    raw.is_taken (repr.Ipv6 r) old ≡ false → IsReached (at old t) (Ipv6 r.src_addr) h →
+    raw.is_taken (repr.Ipv6 r) old ≡ false → HasWay own (at old t) (Ipv6 r.src_addr) h →
     1280 ≤ ip_mtu_of old.capabilities →
     sent_frames told ≡ ip_frame old h (packet.Ipv6 (record {
       src_addr = r.dst_addr;
@@ -524,8 +558,7 @@ ClosedPortsV6AreAnswered = (t : ℤ) (old new : Host) (told : List Event) → An
 pub record Solicits (own : EthernetAddress) (H : Host) (frame : List ℕ) (r : Ipv6Repr) (target : Ipv6Address)
     (h : EthernetAddress) : Type 0 where
   pub payload : List ℕ
-  pub in_packet : HasPacketV6 own H frame r payload
-  pub protocol_is : r.next_header ≡ ip_protocol.Icmpv6
+  pub in_packet : HasPayloadV6 (hardware.Ethernet own) H frame r ip_protocol.Icmpv6 payload
   pub is_message : IsMessage H r payload
   pub values : (icmpv6_in payload).0 ≡ icmpv6.Ndisc (NeighborSolicit target (Some h))
   pub near : in_same_network H.ip_addrs (Ipv6 r.src_addr) ≡ true
@@ -540,7 +573,8 @@ pub record Solicits (own : EthernetAddress) (H : Host) (frame : List ℕ) (r : I
 abbrev pub AnswersSolicitations : ℤ → Host → List Event → Host → Type 0
 AnswersSolicitations t old told new =
     (own : EthernetAddress) (frame : List ℕ) (r : Ipv6Repr) (target : Ipv6Address) (h : EthernetAddress) →
-    Takes own t frame old told new → Solicits own old frame r target h → 72 ≤ ip_mtu_of old.capabilities →
+    Takes (hardware.Ethernet own) t frame old told new → Solicits own old frame r target h →
+    72 ≤ ip_mtu_of old.capabilities →
     (sent_frames told ≡ ip_frame old (hardware.Ethernet h) (packet.Ipv6 (record {
       src_addr = target;
       dst_addr = r.src_addr;
