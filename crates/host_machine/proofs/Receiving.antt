@@ -17,6 +17,7 @@ pub mod FrameRepliesV6
 pub mod ReceivedFrames
 pub mod ForeignFrames
 pub mod WrongSums
+pub mod WrongRebuilt
 pub mod NeighborOrigins
 pub mod LearntNeighbors
 pub mod ReplyCauses

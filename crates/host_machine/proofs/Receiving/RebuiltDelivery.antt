@@ -30,7 +30,7 @@ use Rattle.host_machine.proofs.Receiving.FrameReplies.{clash, met, v4_of, whole_
 use Rattle.host_machine.proofs.Receiving.DatagramDelivery.{datagram_heard}
 use Rattle.host_machine.proofs.Runs.FragmentArrivals.{rebuilt-append, rebuilt_after}
 
-abbrev all_of : Option (List ℕ) → List (List ℕ)
+abbrev pub all_of : Option (List ℕ) → List (List ℕ)
 all_of None = []
 all_of (Some octets) = octets ∷ []
 
@@ -45,7 +45,7 @@ rebuilt_by {f = f} key (Rebuilt slot first octets enters u w r n e) = ap (rebuil
     ∙ ap (λ b. if b then octets ∷ [] else []) (test_same key) ∙ sym (ap all_of r)
 
 -- and a part of a call that takes it, before others
-rebuilt_first : {key : FragKey} {f : Fragment} {result : Option (List ℕ)} {H new : Host} {notes : List Note} (more : List Note) →
+pub rebuilt_first : {key : FragKey} {f : Fragment} {result : Option (List ℕ)} {H new : Host} {notes : List Note} (more : List Note) →
     TakesFragment key f result H notes new → rebuilt key (slot_notes (notes ++ more)) ≡ all_of result ++ rebuilt key (slot_notes more)
 rebuilt_first {key} {notes = notes} more t = ap (rebuilt key) (slot_notes-append notes more)
     ∙ rebuilt-append key (slot_notes notes) (slot_notes more)

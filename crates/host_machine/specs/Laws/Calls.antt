@@ -28,6 +28,7 @@ use Rattle.host_machine.specs.Laws.Restraint.Neighbors.{LearnsFromFrames, MayRec
 use Rattle.host_machine.specs.Laws.Restraint.Queries.{IgmpGoesOn, IgmpIsAsked, MakesNonePending, MldGoesOn}
 use Rattle.host_machine.specs.Laws.Restraint.Queries.{MldIsAsked}
 use Rattle.host_machine.specs.Laws.Restraint.Readings.{Receives}
+use Rattle.host_machine.specs.Laws.Restraint.Rebuilt.{DropsWrongRebuiltPayloads}
 use Rattle.host_machine.specs.Laws.Restraint.Replies.{AdvertisesOnlyItself, SendsErrorsV6WithCause, SendsErrorsWithCause}
 use Rattle.host_machine.specs.Laws.Restraint.Replies.{SendsResetsWithCause, TellsItselfByArp}
 use Rattle.host_machine.specs.Laws.Restraint.SentFrames.{IsOfReply, SendsInOrder}
@@ -62,6 +63,7 @@ pub record IsRestrained (t : ℤ) (frame : List ℕ) (reply : Option Reply) (old
   pub wrong_headers : DropsWrongHeaders t frame old told notes new
   pub wrong_payloads : DropsWrongPayloads t frame old told notes new
   pub wrong_payloads_v6 : DropsWrongPayloadsV6 t frame old told notes new
+  pub wrong_rebuilt_payloads : DropsWrongRebuiltPayloads t frame old told notes new
   pub neighbors : LearnsFromFrames t frame old new
   pub settings : KeepsAtFrame frame old new
   pub arp_replies : TellsItselfByArp frame old reply
