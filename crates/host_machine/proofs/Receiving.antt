@@ -10,6 +10,7 @@ pub mod FewFragments
 pub mod FrameReplies
 pub mod DatagramDelivery
 pub mod RebuiltDelivery
+pub mod RebuiltPings
 pub mod DatagramDeliveryV6
 pub mod EchoReplies
 pub mod SocketDelivery

@@ -19,7 +19,7 @@ ghost use Rattle.host_machine.specs.Laws.Refusals.{RefusalsLoseNothing};
 ghost use Rattle.host_machine.specs.Laws.Determined.{DispatchIsDetermined, EgressIsDetermined};
 ghost use Rattle.host_machine.specs.Laws.Determined.{IngressIsDetermined, PollIsDetermined};
 ghost use Rattle.host_machine.specs.Laws.Determined.{ReceptionIsDetermined, RunIsDetermined, StepIsDetermined};
-ghost use Rattle.host_machine.specs.Laws.Reassembled.{RebuiltDatagramsAreQueued};
+ghost use Rattle.host_machine.specs.Laws.Reassembled.{RebuiltDatagramsAreQueued, RebuiltPingsAreAnswered};
 ghost use Rattle.host_machine.specs.Laws.ReplyOctets.{ArpRequestsAreAnsweredByOctets, PingsAreAnsweredByOctets};
 ghost use Rattle.host_machine.specs.Laws.Received.{EchoRepliesV6AreQueued, RawPacketsAreQueued, SegmentsAreQueued};
 ghost use Rattle.host_machine.specs.Laws.Service.{ArpRequestsAreAnswered, ClosedPortsAreAnswered, ClosedPortsV6AreAnswered};
@@ -381,6 +381,12 @@ pub fn datagrams_v6_are_queued()
 /// call notes that it rebuilt the datagram under the fragment's key.
 pub fn rebuilt_datagrams_are_queued()
     ensures { RebuiltDatagramsAreQueued }
+{}
+
+/// An echo request over IPv4 that a fragment completes is answered, too, in the call that takes the fragment, if the way
+/// back to its sender is known.
+pub fn rebuilt_pings_are_answered()
+    ensures { RebuiltPingsAreAnswered }
 {}
 
 /// An echo reply is appended, in the call that receives it, to the queue of each ICMP socket with its identifier that

@@ -53,10 +53,10 @@ rebuilt_first {key} {notes = notes} more t = ap (rebuilt key) (slot_notes-append
     ∙ ap (rebuilt key) (slot_notes-slots t.slot_notes) ∙ rebuilt_by key t.reassembles)
 
 -- the datagram that was completed, at a host with other slots
-record WasCompleted (source : HardwareAddress) (r : Ipv4Repr) (payload : List ℕ) (H : Host) (reply : Option Reply) (new : Host) : Type 0 where
-  slots : Slots
-  notes : List Note
-  takes : ProcessesDatagram source (datagram_header r payload) (with_slots H slots) payload reply notes new
+pub record WasCompleted (source : HardwareAddress) (r : Ipv4Repr) (payload : List ℕ) (H : Host) (reply : Option Reply) (new : Host) : Type 0 where
+  pub slots : Slots
+  pub notes : List Note
+  pub takes : ProcessesDatagram source (datagram_header r payload) (with_slots H slots) payload reply notes new
 
 packet_completes : {source : HardwareAddress} {H new : Host} {octets : List ℕ} {reply : Option Reply} {notes : List Note}
     (more : List Note) (r : Ipv4Repr) (f : Ipv4Fragment) (payload : List ℕ) →
@@ -80,7 +80,7 @@ packet_completes {source} {H} {new} {reply = reply} more r f payload (ip.Complet
           (subst (λ os. ProcessesDatagram source (datagram_header r os) mid os reply rest new) same w);
     }
 
-completes : {source : HardwareAddress} {H new : Host} {octets : List ℕ} {reply : Option Reply} {notes : List Note}
+pub completes : {source : HardwareAddress} {H new : Host} {octets : List ℕ} {reply : Option Reply} {notes : List Note}
     (more : List Note) (r : Ipv4Repr) (f : Ipv4Fragment) (payload : List ℕ) →
     ProcessesIpv4 source H octets reply notes new → (reply ≡ None → more ≡ []) →
     IsIpv4 (is_rx H.capabilities.checksum.ipv4) octets → (ipv4_in octets).0 ≡ r → (ipv4_in octets).1 ≡ f →

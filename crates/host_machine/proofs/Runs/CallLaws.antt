@@ -26,6 +26,7 @@ use Rattle.host_machine.proofs.Receiving.FrameReplies.{arp_served, pings_served}
 use Rattle.host_machine.proofs.Receiving.FrameRepliesV6.{pings_v6_served, solicitations_served}
 use Rattle.host_machine.proofs.Receiving.LearntNeighbors.{neighbors_came}
 use Rattle.host_machine.proofs.Receiving.RebuiltDelivery.{rebuilt_queued}
+use Rattle.host_machine.proofs.Receiving.RebuiltPings.{rebuilt_pings_served}
 use Rattle.host_machine.proofs.Receiving.ReplyLaws.{advert_told, arp_told, errors_caused, errors_v6_caused, resets_caused}
 use Rattle.host_machine.proofs.Receiving.SettingChanges.{frames_keep, reports_asked}
 use Rattle.host_machine.proofs.Receiving.SocketDelivery.{raw_packets_queued, segments_queued}
@@ -74,6 +75,7 @@ received t answer p i = record {
     arp_requests = arp_served t p.before p.after p.told;
     solicitations = solicitations_served t p.before p.after p.told;
     pings = pings_served t p.before p.after p.told;
+    rebuilt_pings = rebuilt_pings_served t p.before p.after p.told;
     pings_v6 = pings_v6_served t p.before p.after p.told;
     datagrams = datagrams_queued t p.before p.after p.told;
     datagrams_v6 = datagrams_v6_queued t p.before p.after p.told;

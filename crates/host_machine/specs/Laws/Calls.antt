@@ -19,7 +19,7 @@ use Rattle.host_machine.specs.Laws.Service.{QueuesEchoReplies, SendsFirstDatagra
 use Rattle.host_machine.specs.Laws.Service.{SendsPieces, SendsRequests}
 use Rattle.host_machine.specs.Laws.Received.{QueuesEchoRepliesV6, QueuesRawPackets, QueuesRawPacketsV6}
 use Rattle.host_machine.specs.Laws.Received.{QueuesSegments, QueuesSegmentsV6}
-use Rattle.host_machine.specs.Laws.Reassembled.{QueuesRebuiltDatagrams}
+use Rattle.host_machine.specs.Laws.Reassembled.{AnswersRebuiltPings, QueuesRebuiltDatagrams}
 use Rattle.host_machine.specs.Laws.Unfolded.{Unfolds}
 use Rattle.host_machine.specs.Laws.Restraint.Checksums.{DropsWrongHeaders, DropsWrongPayloads, DropsWrongPayloadsV6}
 use Rattle.host_machine.specs.Laws.Restraint.Foreign.{DropsForeignPackets, DropsForeignPacketsV6, DropsFramesForOthers}
@@ -39,6 +39,7 @@ pub record ServesOthers (t : ℤ) (old : Host) (told : List Event) (new : Host) 
   pub arp_requests : AnswersArpRequests t old told new
   pub solicitations : AnswersSolicitations t old told new
   pub pings : AnswersPings t old told new
+  pub rebuilt_pings : AnswersRebuiltPings t old told new
   pub pings_v6 : AnswersPingsV6 t old told new
   pub datagrams : QueuesDatagrams t old told new
   pub datagrams_v6 : QueuesDatagramsV6 t old told new
