@@ -25,4 +25,5 @@ pub mod ReplyCauses
 pub mod ReplyOrigins
 pub mod ReplyLaws
 pub mod ReplyOctets
+pub mod RequestReading
 pub mod SettingChanges

@@ -67,8 +67,8 @@ pub fn wrong_payloads_v6_are_dropped()
     ensures { WrongPayloadsV6AreDropped }
 {}
 
-/// So it is with a payload of ICMP, UDP or TCP over IPv4 that a fragment completes, in the call that takes the fragment;
-/// its slot changes too (RFC 791 3.2).
+/// So it is with a payload of ICMP, UDP or TCP over IPv4 that a fragment completes, in the call that takes the
+/// fragment, whose slot changes too (RFC 791 3.2).
 pub fn wrong_rebuilt_payloads_are_dropped()
     ensures { WrongRebuiltPayloadsAreDropped }
 {}

@@ -1,9 +1,8 @@
 -- A payload that a fragment completes, and whose checksum is wrong, is dropped.
-use Rattle.std.proofs.Common.{◌≡◌, ◌⊎◌, ℕ, true, false, List, [], ◌∷◌, ◌++◌, refl, sym, ◌∙◌, ap, subst, append_assoc}
-use Rattle.std.proofs.Common.{inl, inr, Option, Some, None}
+use Rattle.std.proofs.Common.{◌≡◌, ◌⊎◌, ℕ, true, List, [], ◌∷◌, ◌++◌, sym, ◌∙◌, ap, subst, append_assoc}
+use Rattle.std.proofs.Common.{inl, inr, Option, None}
 use Rattle.std.proofs.lemmas.List.{append-nil}
-use Rattle.std.specs.Prelude.{ℤ, map}
-use Rattle.net_base.specs.Device.{Event}
+use Rattle.std.specs.Prelude.{map}
 use Rattle.ip_address.specs.declared.hardware.HardwareAddress.{HardwareAddress}
 use Rattle.ip_address.specs.declared.ip.IpAddress.{IpAddress}
 use Rattle.ip_address.specs.declared.ip.IpAddress.TheVariants.{Ipv4}
@@ -20,7 +19,7 @@ use Rattle.host_machine.specs.Receiving.Ipv4.{ProcessesDatagram, ProcessesIpv4, 
 use Rattle.host_machine.specs.Receiving.Ipv4 as ip
 use Rattle.host_machine.specs.Laws.Arrivals.{rebuilt}
 use Rattle.host_machine.specs.Laws.Restraint.Checksums.{HasWrongSumV4}
-use Rattle.host_machine.specs.Laws.Restraint.Rebuilt.{CompletesWrongPayload, WrongRebuiltPayloadsAreDropped}
+use Rattle.host_machine.specs.Laws.Restraint.Rebuilt.{WrongRebuiltPayloadsAreDropped}
 use Rattle.host_machine.proofs.Receiving.FrameReplies.{clash}
 use Rattle.host_machine.proofs.Receiving.Malformed.{nothing_responded}
 use Rattle.host_machine.proofs.Receiving.RebuiltDelivery.{rebuilt_first}
