@@ -10,6 +10,7 @@ pub mod FewFragments
 pub mod FrameReplies
 pub mod DatagramDelivery
 pub mod RebuiltDelivery
+pub mod RebuiltPings
 pub mod DatagramDeliveryV6
 pub mod EchoReplies
 pub mod SocketDelivery
@@ -17,10 +18,12 @@ pub mod FrameRepliesV6
 pub mod ReceivedFrames
 pub mod ForeignFrames
 pub mod WrongSums
+pub mod WrongRebuilt
 pub mod NeighborOrigins
 pub mod LearntNeighbors
 pub mod ReplyCauses
 pub mod ReplyOrigins
 pub mod ReplyLaws
 pub mod ReplyOctets
+pub mod RequestReading
 pub mod SettingChanges

@@ -16,5 +16,6 @@ pub mod Service
 pub mod Received
 pub mod Reassembled
 pub mod ReplyOctets
+pub mod RequestOctets
 pub mod Restraint
 pub mod Calls

@@ -19,7 +19,8 @@ ghost use Rattle.host_machine.specs.Laws.Refusals.{RefusalsLoseNothing};
 ghost use Rattle.host_machine.specs.Laws.Determined.{DispatchIsDetermined, EgressIsDetermined};
 ghost use Rattle.host_machine.specs.Laws.Determined.{IngressIsDetermined, PollIsDetermined};
 ghost use Rattle.host_machine.specs.Laws.Determined.{ReceptionIsDetermined, RunIsDetermined, StepIsDetermined};
-ghost use Rattle.host_machine.specs.Laws.Reassembled.{RebuiltDatagramsAreQueued};
+ghost use Rattle.host_machine.specs.Laws.Reassembled.{RebuiltDatagramsAreQueued, RebuiltPingsAreAnswered};
+ghost use Rattle.host_machine.specs.Laws.RequestOctets.{PingFramesAreRead, SolicitationFramesAreRead};
 ghost use Rattle.host_machine.specs.Laws.ReplyOctets.{ArpRequestsAreAnsweredByOctets, PingsAreAnsweredByOctets};
 ghost use Rattle.host_machine.specs.Laws.Received.{EchoRepliesV6AreQueued, RawPacketsAreQueued, SegmentsAreQueued};
 ghost use Rattle.host_machine.specs.Laws.Service.{ArpRequestsAreAnswered, ClosedPortsAreAnswered, ClosedPortsV6AreAnswered};
@@ -383,6 +384,12 @@ pub fn rebuilt_datagrams_are_queued()
     ensures { RebuiltDatagramsAreQueued }
 {}
 
+/// An echo request over IPv4 that a fragment completes is answered, too, in the call that takes the fragment, if the
+/// way back to its sender is known.
+pub fn rebuilt_pings_are_answered()
+    ensures { RebuiltPingsAreAnswered }
+{}
+
 /// An echo reply is appended, in the call that receives it, to the queue of each ICMP socket with its identifier that
 /// has room. Nothing is sent.
 pub fn echo_replies_are_queued()
@@ -481,13 +488,24 @@ pub fn little_stays_due()
     ensures { LittleStaysDue }
 {}
 
+/// So it is after a poll with a budget, without frames received and with every transmit token granted. If something is
+/// still due at a moment that has passed, it is one of these four, where packets are counted from some host.
+pub fn polls_leave_little()
+    ensures { PollsLeaveLittle }
+{}
+
 /// The frame of an ARP request, octet by octet and whatever its padding, is read as such a request.
 pub fn request_frames_are_read()
     ensures { RequestFramesAreRead }
 {}
 
-/// So it is after a poll with a budget, without frames received and with every transmit token granted. If something is
-/// still due at a moment that has passed, it is one of these four, where packets are counted from some host.
-pub fn polls_leave_little()
-    ensures { PollsLeaveLittle }
+/// A frame with an echo request over IPv4, by its octets and whatever follows the packet, is read as such a request: it
+/// is to the host or to many, has right checksums, and its packet is no fragment.
+pub fn ping_frames_are_read()
+    ensures { PingFramesAreRead }
+{}
+
+/// So it is with a neighbour solicitation whose only option is the source's link-layer address.
+pub fn solicitation_frames_are_read()
+    ensures { SolicitationFramesAreRead }
 {}

@@ -9,6 +9,7 @@ ghost use Rattle.host_machine.specs.Laws.Restraint.Foreign.{PacketsFromNoHostAre
 ghost use Rattle.host_machine.specs.Laws.Restraint.Neighbors.{NeighborsComeFromFrames, OtherStepsLearnNobody};
 ghost use Rattle.host_machine.specs.Laws.Restraint.NextHop.{GroupsHaveTheirAddresses, PacketsGoByHops, SourcesAreNear};
 ghost use Rattle.host_machine.specs.Laws.Restraint.Queries.{JoinsAreToldOnce, ReportsAreAsked, ReportsWait};
+ghost use Rattle.host_machine.specs.Laws.Restraint.Rebuilt.{WrongRebuiltPayloadsAreDropped};
 ghost use Rattle.host_machine.specs.Laws.Restraint.Replies.{AdvertisementsTellItself, ArpRepliesTellItself};
 ghost use Rattle.host_machine.specs.Laws.Restraint.Replies.{ErrorsHaveCause, ErrorsV6HaveCause, ResetsHaveCause};
 ghost use Rattle.host_machine.specs.Laws.Restraint.Settings.{FramesKeepSettings, OtherStepsKeepSettings};
@@ -64,6 +65,12 @@ pub fn wrong_payloads_are_dropped()
 /// So it is with ICMPv6, UDP and TCP over IPv6, also after options (RFC 4443 2.3, RFC 8200 8.1).
 pub fn wrong_payloads_v6_are_dropped()
     ensures { WrongPayloadsV6AreDropped }
+{}
+
+/// So it is with a payload of ICMP, UDP or TCP over IPv4 that a fragment completes, in the call that takes the
+/// fragment, whose slot changes too (RFC 791 3.2).
+pub fn wrong_rebuilt_payloads_are_dropped()
+    ensures { WrongRebuiltPayloadsAreDropped }
 {}
 
 /// A call that sends changes no address, no route, no setting, and nothing of what was learnt from routers.

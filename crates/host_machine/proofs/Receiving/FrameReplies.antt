@@ -505,12 +505,12 @@ packet_served {own} {t} {frame} {old} {new} {told} {r} {payload} w p =
     let for_us : is_for_host (without_expired old t) (Ipv4 r.dst_addr) ≡ true = rw p.given refl in
     whole_taken r (ipv4_taken r payload w.takes p.is_packet p.header p.whole p.behind may) for_us p.receiver
 
-record EchoAnswered (r : Ipv4Repr) (ident seq_no : ℕ) (octets payload : List ℕ) (H : Host) (reply : Option Reply) (new : Host) : Type 0 where
-  replies : reply ≡ Some
+pub record EchoAnswered (r : Ipv4Repr) (ident seq_no : ℕ) (octets payload : List ℕ) (H : Host) (reply : Option Reply) (new : Host) : Type 0 where
+  pub replies : reply ≡ Some
       (Ip (packet.Ipv4 (record { src_addr = r.dst_addr; dst_addr = r.src_addr; hop_limit = 64; payload = Icmpv4 (EchoReply ident seq_no) octets })))
-  host_is : new ≡ icmp.host_after_delivery r payload H
+  pub host_is : new ≡ icmp.host_after_delivery r payload H
 
-echo_answered : {H new : Host} {payload : List ℕ} {reply : Option Reply} {notes : List Note} (r : Ipv4Repr) (ident seq_no : ℕ) (octets : List ℕ) →
+pub echo_answered : {H new : Host} {payload : List ℕ} {reply : Option Reply} {notes : List Note} (r : Ipv4Repr) (ident seq_no : ℕ) (octets : List ℕ) →
     ProcessesIcmpv4 r H payload reply notes new →
     IsIcmpv4 (is_rx H.capabilities.checksum.icmpv4) payload → icmpv4_in payload ≡ (EchoRequest ident seq_no, octets) →
     is_unicast_v4 H.ip_addrs r.src_addr ≡ true → is_unicast_v4 H.ip_addrs r.dst_addr ≡ true → EchoAnswered r ident seq_no octets payload H reply new

@@ -30,7 +30,7 @@ use Rattle.host_machine.proofs.Receiving.FrameReplies.{clash, met, v4_of, whole_
 use Rattle.host_machine.proofs.Receiving.DatagramDelivery.{datagram_heard}
 use Rattle.host_machine.proofs.Runs.FragmentArrivals.{rebuilt-append, rebuilt_after}
 
-abbrev all_of : Option (List ℕ) → List (List ℕ)
+abbrev pub all_of : Option (List ℕ) → List (List ℕ)
 all_of None = []
 all_of (Some octets) = octets ∷ []
 
@@ -45,7 +45,7 @@ rebuilt_by {f = f} key (Rebuilt slot first octets enters u w r n e) = ap (rebuil
     ∙ ap (λ b. if b then octets ∷ [] else []) (test_same key) ∙ sym (ap all_of r)
 
 -- and a part of a call that takes it, before others
-rebuilt_first : {key : FragKey} {f : Fragment} {result : Option (List ℕ)} {H new : Host} {notes : List Note} (more : List Note) →
+pub rebuilt_first : {key : FragKey} {f : Fragment} {result : Option (List ℕ)} {H new : Host} {notes : List Note} (more : List Note) →
     TakesFragment key f result H notes new → rebuilt key (slot_notes (notes ++ more)) ≡ all_of result ++ rebuilt key (slot_notes more)
 rebuilt_first {key} {notes = notes} more t = ap (rebuilt key) (slot_notes-append notes more)
     ∙ rebuilt-append key (slot_notes notes) (slot_notes more)
@@ -53,10 +53,10 @@ rebuilt_first {key} {notes = notes} more t = ap (rebuilt key) (slot_notes-append
     ∙ ap (rebuilt key) (slot_notes-slots t.slot_notes) ∙ rebuilt_by key t.reassembles)
 
 -- the datagram that was completed, at a host with other slots
-record WasCompleted (source : HardwareAddress) (r : Ipv4Repr) (payload : List ℕ) (H : Host) (reply : Option Reply) (new : Host) : Type 0 where
-  slots : Slots
-  notes : List Note
-  takes : ProcessesDatagram source (datagram_header r payload) (with_slots H slots) payload reply notes new
+pub record WasCompleted (source : HardwareAddress) (r : Ipv4Repr) (payload : List ℕ) (H : Host) (reply : Option Reply) (new : Host) : Type 0 where
+  pub slots : Slots
+  pub notes : List Note
+  pub takes : ProcessesDatagram source (datagram_header r payload) (with_slots H slots) payload reply notes new
 
 packet_completes : {source : HardwareAddress} {H new : Host} {octets : List ℕ} {reply : Option Reply} {notes : List Note}
     (more : List Note) (r : Ipv4Repr) (f : Ipv4Fragment) (payload : List ℕ) →
@@ -80,7 +80,7 @@ packet_completes {source} {H} {new} {reply = reply} more r f payload (ip.Complet
           (subst (λ os. ProcessesDatagram source (datagram_header r os) mid os reply rest new) same w);
     }
 
-completes : {source : HardwareAddress} {H new : Host} {octets : List ℕ} {reply : Option Reply} {notes : List Note}
+pub completes : {source : HardwareAddress} {H new : Host} {octets : List ℕ} {reply : Option Reply} {notes : List Note}
     (more : List Note) (r : Ipv4Repr) (f : Ipv4Fragment) (payload : List ℕ) →
     ProcessesIpv4 source H octets reply notes new → (reply ≡ None → more ≡ []) →
     IsIpv4 (is_rx H.capabilities.checksum.ipv4) octets → (ipv4_in octets).0 ≡ r → (ipv4_in octets).1 ≡ f →

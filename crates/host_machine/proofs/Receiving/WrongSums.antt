@@ -107,12 +107,12 @@ protocol_v6_unread b r H octets reply notes new t (law.OfUdp v wrong) = udp_unre
 protocol_v6_unread b r H octets reply notes new t (law.OfTcp v wrong) = tcp_unread t (λ i. wrong (i.sum v))
 
 -- what such a packet leaves
-record IsUnread (sender : IpAddress) (H : Host) (reply : Option Reply) (notes : List Note) (new : Host) : Type 0 where
-  neighbors : Neighbors
-  places : List Storage
-  renewed : IsRenewed sender H.moment H.neighbors neighbors
-  raw_only : AreSameButRaw H.sockets.places places
-  dropped : IsDropped (with_places (with_neighbors H neighbors) places) reply notes new
+pub record IsUnread (sender : IpAddress) (H : Host) (reply : Option Reply) (notes : List Note) (new : Host) : Type 0 where
+  pub neighbors : Neighbors
+  pub places : List Storage
+  pub renewed : IsRenewed sender H.moment H.neighbors neighbors
+  pub raw_only : AreSameButRaw H.sockets.places places
+  pub dropped : IsDropped (with_places (with_neighbors H neighbors) places) reply notes new
 
 untouched : {H new : Host} {reply : Option Reply} {notes : List Note} (sender : IpAddress) →
     IsDropped H reply notes new → IsUnread sender H reply notes new
@@ -132,7 +132,7 @@ met {H} {new} {reply} {notes} source r payload d =
       dropped = subst (λ K. IsDropped K reply notes new) i.is d;
     }
 
-datagram_unread : {source : HardwareAddress} {H new : Host} {payload : List ℕ} {reply : Option Reply} {notes : List Note} (r : Ipv4Repr) →
+pub datagram_unread : {source : HardwareAddress} {H new : Host} {payload : List ℕ} {reply : Option Reply} {notes : List Note} (r : Ipv4Repr) →
     ProcessesDatagram source r H payload reply notes new →
     HasWrongSumV4 H.capabilities.checksum (Ipv4 r.src_addr) (Ipv4 r.dst_addr) payload r.next_header → IsUnread (Ipv4 r.src_addr) H reply notes new
 datagram_unread {source} {H} {new} {payload} {reply} {notes} r (ip.NotForUs n d) wrong =

@@ -26,9 +26,11 @@ use Rattle.host_machine.proofs.Receiving.FrameReplies.{arp_served, pings_served}
 use Rattle.host_machine.proofs.Receiving.FrameRepliesV6.{pings_v6_served, solicitations_served}
 use Rattle.host_machine.proofs.Receiving.LearntNeighbors.{neighbors_came}
 use Rattle.host_machine.proofs.Receiving.RebuiltDelivery.{rebuilt_queued}
+use Rattle.host_machine.proofs.Receiving.RebuiltPings.{rebuilt_pings_served}
 use Rattle.host_machine.proofs.Receiving.ReplyLaws.{advert_told, arp_told, errors_caused, errors_v6_caused, resets_caused}
 use Rattle.host_machine.proofs.Receiving.SettingChanges.{frames_keep, reports_asked}
 use Rattle.host_machine.proofs.Receiving.SocketDelivery.{raw_packets_queued, segments_queued}
+use Rattle.host_machine.proofs.Receiving.WrongRebuilt.{rebuilt_dropped}
 use Rattle.host_machine.proofs.Receiving.WrongSums.{headers_dropped, payloads_dropped, payloads_v6_dropped}
 use Rattle.host_machine.proofs.Runs.FramesOfCalls.{ingress_frames, sends_in_order}
 use Rattle.host_machine.proofs.Runs.RequestsWhileWaiting.{requests_go}
@@ -51,6 +53,7 @@ restrained t frame old new told notes w = record {
   wrong_headers = headers_dropped t frame old new told notes w;
   wrong_payloads = payloads_dropped t frame old new told notes w;
   wrong_payloads_v6 = payloads_v6_dropped t frame old new told notes w;
+  wrong_rebuilt_payloads = rebuilt_dropped t frame old new told notes w;
   neighbors = neighbors_came t frame old new told notes w;
   settings = frames_keep t frame old new told notes w;
   arp_replies = arp_told t frame old new told notes w;
@@ -72,6 +75,7 @@ received t answer p i = record {
     arp_requests = arp_served t p.before p.after p.told;
     solicitations = solicitations_served t p.before p.after p.told;
     pings = pings_served t p.before p.after p.told;
+    rebuilt_pings = rebuilt_pings_served t p.before p.after p.told;
     pings_v6 = pings_v6_served t p.before p.after p.told;
     datagrams = datagrams_queued t p.before p.after p.told;
     datagrams_v6 = datagrams_v6_queued t p.before p.after p.told;

@@ -19,7 +19,7 @@ use Rattle.host_machine.specs.Laws.Service.{QueuesEchoReplies, SendsFirstDatagra
 use Rattle.host_machine.specs.Laws.Service.{SendsPieces, SendsRequests}
 use Rattle.host_machine.specs.Laws.Received.{QueuesEchoRepliesV6, QueuesRawPackets, QueuesRawPacketsV6}
 use Rattle.host_machine.specs.Laws.Received.{QueuesSegments, QueuesSegmentsV6}
-use Rattle.host_machine.specs.Laws.Reassembled.{QueuesRebuiltDatagrams}
+use Rattle.host_machine.specs.Laws.Reassembled.{AnswersRebuiltPings, QueuesRebuiltDatagrams}
 use Rattle.host_machine.specs.Laws.Unfolded.{Unfolds}
 use Rattle.host_machine.specs.Laws.Restraint.Checksums.{DropsWrongHeaders, DropsWrongPayloads, DropsWrongPayloadsV6}
 use Rattle.host_machine.specs.Laws.Restraint.Foreign.{DropsForeignPackets, DropsForeignPacketsV6, DropsFramesForOthers}
@@ -28,6 +28,7 @@ use Rattle.host_machine.specs.Laws.Restraint.Neighbors.{LearnsFromFrames, MayRec
 use Rattle.host_machine.specs.Laws.Restraint.Queries.{IgmpGoesOn, IgmpIsAsked, MakesNonePending, MldGoesOn}
 use Rattle.host_machine.specs.Laws.Restraint.Queries.{MldIsAsked}
 use Rattle.host_machine.specs.Laws.Restraint.Readings.{Receives}
+use Rattle.host_machine.specs.Laws.Restraint.Rebuilt.{DropsWrongRebuiltPayloads}
 use Rattle.host_machine.specs.Laws.Restraint.Replies.{AdvertisesOnlyItself, SendsErrorsV6WithCause, SendsErrorsWithCause}
 use Rattle.host_machine.specs.Laws.Restraint.Replies.{SendsResetsWithCause, TellsItselfByArp}
 use Rattle.host_machine.specs.Laws.Restraint.SentFrames.{IsOfReply, SendsInOrder}
@@ -38,6 +39,7 @@ pub record ServesOthers (t : ℤ) (old : Host) (told : List Event) (new : Host) 
   pub arp_requests : AnswersArpRequests t old told new
   pub solicitations : AnswersSolicitations t old told new
   pub pings : AnswersPings t old told new
+  pub rebuilt_pings : AnswersRebuiltPings t old told new
   pub pings_v6 : AnswersPingsV6 t old told new
   pub datagrams : QueuesDatagrams t old told new
   pub datagrams_v6 : QueuesDatagramsV6 t old told new
@@ -62,6 +64,7 @@ pub record IsRestrained (t : ℤ) (frame : List ℕ) (reply : Option Reply) (old
   pub wrong_headers : DropsWrongHeaders t frame old told notes new
   pub wrong_payloads : DropsWrongPayloads t frame old told notes new
   pub wrong_payloads_v6 : DropsWrongPayloadsV6 t frame old told notes new
+  pub wrong_rebuilt_payloads : DropsWrongRebuiltPayloads t frame old told notes new
   pub neighbors : LearnsFromFrames t frame old new
   pub settings : KeepsAtFrame frame old new
   pub arp_replies : TellsItselfByArp frame old reply

@@ -1,6 +1,9 @@
--- What a host must do with a datagram that comes in fragments: the call that takes the last missing one queues it.
-use Rattle.std.specs.Prelude.{◌≡◌, ℕ, ℤ, true, List, [], ◌∷◌}
-use Rattle.net_base.specs.Checksum.{is_rx}
+-- What a host must do with a payload that comes in fragments: the call that takes the last missing one queues a
+-- datagram, and answers an echo request.
+use Rattle.std.specs.Prelude.{◌≡◌, ◌≤◌, ℕ, ◌+◌, ℤ, true, List, [], ◌∷◌, length}
+use Rattle.control_wire.specs.declared.icmpv4.Icmpv4Repr.TheVariants.{EchoRequest, EchoReply}
+use Rattle.control_wire.specs.Icmpv4.{IsIcmpv4, icmpv4_in}
+use Rattle.net_base.specs.Checksum.{is_rx, ip_mtu_of}
 use Rattle.net_base.specs.Device.{Event, sent_frames}
 use Rattle.ip_address.specs.declared.hardware.HardwareAddress.{HardwareAddress}
 use Rattle.ip_address.specs.declared.ip.IpAddress.TheVariants.{Ipv4}
@@ -14,12 +17,15 @@ use Rattle.ip_wire.specs.Ipv4Packet.{IsIpv4, ipv4_in, is_fragment}
 use Rattle.ip_wire.specs.Udp.{udp_in}
 use Rattle.transport_sockets.specs.Udp.{UdpSocket}
 use Rattle.host_machine.specs.State.Note.{Note, slot_notes}
-use Rattle.host_machine.specs.State.Host.{Host, is_assigned}
+use Rattle.host_machine.specs.State.Host.{Host, at, is_assigned}
 use Rattle.host_machine.specs.State.Addresses.{is_unicast_v4}
 use Rattle.host_machine.specs.Receiving.Ipv4.{datagram_header, key_in}
 use Rattle.host_machine.specs.Receiving.Udp.{IsDatagram}
+use Rattle.host_machine.specs.Sending.Packet.{Icmpv4}
+use Rattle.host_machine.specs.Sending.Packet as packet
+use Rattle.host_machine.specs.Sending.Frame.{ip_frame}
 use Rattle.host_machine.specs.Laws.Arrivals.{rebuilt}
-use Rattle.host_machine.specs.Laws.Service.{IsAccepted, IsAcceptedBy, IsQueued, Takes, packet_in}
+use Rattle.host_machine.specs.Laws.Service.{HasWay, IsAccepted, IsAcceptedBy, IsQueued, Takes, packet_in}
 
 -- the frame carries a fragment with this header and these fields (RFC 791 3.1), from a unicast address, to one assigned
 -- to the host
@@ -57,3 +63,32 @@ QueuesRebuiltDatagrams t old told new =
 
 abbrev pub RebuiltDatagramsAreQueued : Type 0
 RebuiltDatagramsAreQueued = (t : ℤ) (old new : Host) (told : List Event) → QueuesRebuiltDatagrams t old told new
+
+-- so with an echo request with this identifier, sequence number and data (RFC 792)
+pub record CompletesPing (own : HardwareAddress) (H : Host) (frame : List ℕ) (notes : List Note) (r : Ipv4Repr)
+    (ident seq_no : ℕ) (octets : List ℕ) : Type 0 where
+  pub fields : Ipv4Fragment
+  pub payload : List ℕ
+  pub in_frame : HasFragment own H frame r fields
+  pub rebuilds : rebuilt (key_in r fields) (slot_notes notes) ≡ payload ∷ []
+  pub protocol_is : r.next_header ≡ ip_protocol.Icmp
+  pub is_message : IsIcmpv4 (is_rx H.capabilities.checksum.icmpv4) payload
+  pub values : icmpv4_in payload ≡ (EchoRequest ident seq_no, octets)
+
+-- it is answered as one that came in a whole packet, if the way back is known and the device takes packets so long
+abbrev pub AnswersRebuiltPings : ℤ → Host → List Event → Host → Type 0
+AnswersRebuiltPings t old told new =
+    (own : HardwareAddress) (frame : List ℕ) (r : Ipv4Repr) (ident seq_no : ℕ) (octets : List ℕ)
+    (h : HardwareAddress) →
+    (w : Takes own t frame old told new) → CompletesPing own old frame w.notes r ident seq_no octets →
+    HasWay own (at old t) (Ipv4 r.src_addr) h →
+    28 + length octets ≤ ip_mtu_of old.capabilities →
+    sent_frames told ≡ ip_frame old h (packet.Ipv4 (record {
+      src_addr = r.dst_addr;
+      dst_addr = r.src_addr;
+      hop_limit = 64;
+      payload = Icmpv4 (EchoReply ident seq_no) octets;
+    })) ∷ []
+
+abbrev pub RebuiltPingsAreAnswered : Type 0
+RebuiltPingsAreAnswered = (t : ℤ) (old new : Host) (told : List Event) → AnswersRebuiltPings t old told new

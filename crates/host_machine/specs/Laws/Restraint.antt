@@ -1,6 +1,7 @@
 pub mod Readings
 pub mod Foreign
 pub mod Checksums
+pub mod Rebuilt
 pub mod Neighbors
 pub mod Replies
 pub mod NextHop

@@ -1,0 +1,65 @@
+-- An echo request that a fragment completes is answered in the call that takes it.
+use Rattle.std.proofs.Common.{◌≡◌, ◌≤◌, ℕ, ◌+◌, true, List, [], ◌∷◌, ◌++◌, refl, sym, ◌∙◌, ap, subst, Some, None, length}
+use Rattle.std.proofs.Common.{arith}
+use Rattle.net_base.specs.Checksum.{ip_mtu_of}
+use Rattle.ip_address.specs.declared.ip.IpAddress.TheVariants.{Ipv4}
+use Rattle.ip_wire.specs.declared.ip_packet.IpRepr.TheVariants as repr
+use Rattle.ip_wire.specs.declared.ipv4_packet.Ipv4Repr.{Ipv4Repr}
+use Rattle.control_wire.specs.declared.icmpv4.Icmpv4Repr.TheVariants.{EchoReply}
+use Rattle.host_machine.specs.State.Note.{slot_notes}
+use Rattle.host_machine.specs.State.Host.{Host, at, with_slots, without_expired}
+use Rattle.host_machine.specs.State.Addresses.{is_for_host, may_be_source}
+use Rattle.host_machine.specs.Sending.Packet.{Icmpv4}
+use Rattle.host_machine.specs.Sending.Packet as packet
+use Rattle.host_machine.specs.Receiving.Icmpv4.{ProcessesIcmpv4}
+use Rattle.host_machine.specs.Receiving.Icmpv4 as icmp
+use Rattle.host_machine.specs.Receiving.Raw as raw
+use Rattle.host_machine.specs.Receiving.Reply.{Reply, Ip}
+use Rattle.host_machine.specs.Receiving.Response.{Responds}
+use Rattle.host_machine.specs.Receiving.Ipv4.{ProcessesProtocol, datagram_header, key_in}
+use Rattle.host_machine.specs.Laws.Arrivals.{rebuilt}
+use Rattle.host_machine.specs.Laws.Service.{HasWay}
+use Rattle.host_machine.specs.Laws.Reassembled.{RebuiltPingsAreAnswered}
+use Rattle.host_machine.proofs.Receiving.FrameReplies.{echo_answered, goes_whole, hop_as, met, one_of, reached_still}
+use Rattle.host_machine.proofs.Receiving.FrameReplies.{v4_of, way_by, whole_taken}
+use Rattle.host_machine.proofs.Receiving.RebuiltDelivery.{completes}
+
+abbrev reply_of : Ipv4Repr → ℕ → ℕ → List ℕ → Reply
+reply_of r ident seq_no octets = Ip (packet.Ipv4 (record {
+  src_addr = r.dst_addr;
+  dst_addr = r.src_addr;
+  hop_limit = 64;
+  payload = Icmpv4 (EchoReply ident seq_no) octets;
+}))
+
+pub rebuilt_pings_served : RebuiltPingsAreAnswered
+rebuilt_pings_served t old new told own frame r ident seq_no octets h w p reach fits =
+    let d = p.in_frame in
+    let k = v4_of own w d.taken d.is_packet in
+    let H : Host = without_expired old t in
+    let may : may_be_source old.ip_addrs r.src_addr ≡ true = rw d.sender refl in
+    let noted : rebuilt (key_in r p.fields) (slot_notes (k.notes ++ k.more)) ≡ p.payload ∷ [] =
+    ap (λ ns. rebuilt (key_in r p.fields) (slot_notes ns)) (sym k.all_notes) ∙ p.rebuilds in
+    let silent : k.reply ≡ None → k.more ≡ [] = λ none. (subst (λ x. Responds x k.taken k.frames k.more new) none k.responds).1 in
+    let c = completes k.more r p.fields p.payload k.takes silent d.is_packet d.header d.fields_are may d.part noted in
+    let K : Host = with_slots H c.slots in
+    let q : Ipv4Repr = datagram_header r p.payload in
+    let for_us : is_for_host K (Ipv4 r.dst_addr) ≡ true = rw d.given refl in
+    let any = whole_taken q c.takes for_us d.receiver in
+    let mid : Host = met k.source q p.payload K in
+    let message : ProcessesIcmpv4 q mid p.payload k.reply c.notes k.taken =
+    subst (λ x. ProcessesProtocol x (raw.is_taken (repr.Ipv4 q) K) q mid p.payload k.reply c.notes k.taken) p.protocol_is any in
+    let answered = echo_answered q ident seq_no octets message p.is_message p.values d.sender d.receiver in
+    let one = one_of old.ip_addrs r.src_addr d.sender in
+    let there : Responds (Some (reply_of r ident seq_no octets)) k.taken k.frames k.more new =
+    subst (λ x. Responds x k.taken k.frames k.more new) answered.replies k.responds in
+    let went : Responds (Some (reply_of r ident seq_no octets)) (icmp.host_after_delivery q p.payload mid) k.frames k.more new =
+    subst (λ X. Responds (Some (reply_of r ident seq_no octets)) X k.frames k.more new) answered.host_is there in
+    let way : HasWay own (icmp.host_after_delivery q p.payload mid) (Ipv4 r.src_addr) h = way_by {H = at old t} own (λ near.
+    let still = reached_still {H = K} k.source q p.payload
+    (record { hop = near.hop; next = hop_as {H = at old t} {K = K} refl refl refl near.next; known = near.known }) in
+    record { hop = still.hop; next = hop_as {H = mid} {K = icmp.host_after_delivery q p.payload mid} refl refl refl still.next; known = still.known })
+    reach in
+    let short : 20 + (8 + length octets) ≤ ip_mtu_of old.capabilities = omega (arith, fits) in
+    let gone = goes_whole own h went.1 w.on_medium one.specified one.not_multicast way short in
+    k.sends_them ∙ gone.frames_are
