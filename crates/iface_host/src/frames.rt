@@ -123,8 +123,8 @@ impl Host {
     }
 }
 
-/// Polls at a moment, by one call of each kind, and writes the first frame that is sent to the front of a buffer, where no
-/// frame waits. Answers also how many octets that has, 0 where there is none.
+/// Polls at a moment, by one call of each kind, and writes the first frame that is sent to the front of a buffer, where
+/// no frame waits. Answers also how many octets that has, 0 where there is none.
 fn poll_into(
     now: Instant,
     interface: &mut Interface,

@@ -11,8 +11,8 @@ use std::marker::Model;
 /// The device of a host: it keeps the frames that are sent, in order, until they are handed over, and has none to
 /// be received. It gives leave to send one more if memory for it is there.
 ///
-/// In contracts it is what the host's device can do, the frames that wait, the count of refusals, and whether room for one more
-/// is reserved.
+/// In contracts it is what the host's device can do, the frames that wait, the count of refusals, and whether room for
+/// one more is reserved.
 #[derive(Drop)]
 pub struct Outbox {
     alloc: Global,
