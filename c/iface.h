@@ -196,7 +196,7 @@ uint32_t iface_free(iface *host);
 
 /* ---- addresses and groups ---- */
 
-/* Adds an own address with its network, as 192.168.69.1 with 24, behind the others, and forgets all neighbours: at
+/* Adds an own address with its network, as 192.168.69.1 with 24, after the others, and forgets all neighbours: at
  * most four. On Ethernet the host joins the solicited-node group of an IPv6 address (RFC 4291, 2.7.1).
  * BAD_ARGUMENT, TABLE_FULL, NOT_UNICAST (neither unicast nor unspecified). */
 uint32_t iface_add_address(iface *host, const struct iface_address *address, uint8_t prefix_len);
@@ -267,7 +267,7 @@ uint32_t iface_set_default_route(iface *host, const struct iface_address *gatewa
 uint32_t iface_add_route(iface *host, const struct iface_address *network, uint8_t prefix_len,
                          const struct iface_address *router);
 
-/* The same up to an end: the route is used until that moment, which is included, and stays in the table behind it. With
+/* The same up to an end: the route is used until that moment, which is included, and stays in the table after it. With
  * IFACE_NEVER it has none. BAD_ARGUMENT, BAD_MOMENT, TABLE_FULL. */
 uint32_t iface_add_route_until(iface *host, const struct iface_address *network, uint8_t prefix_len,
                                const struct iface_address *router, int64_t until);
@@ -393,9 +393,9 @@ uint32_t iface_tcp_peek(iface *host, uint32_t socket, struct iface_segment *segm
 
 /* ---- packets that wait for a neighbour ----
  *
- * The first packet of a socket waits until the hardware address of its next hop is known, and those behind it with it.
+ * The first packet of a socket waits until the hardware address of its next hop is known, and those after it with it.
  * One request goes in a second, for all sockets, in turn. After config.patience the packet is given up, and so are
- * those behind it to the same address. */
+ * those after it to the same address. */
 
 /* Writes for whom the first packet of a socket waits, and since when, as of the last round. NO_SOCKET, EMPTY. */
 uint32_t iface_waiting(iface *host, uint32_t socket, struct iface_address *remote, int64_t *since);

@@ -252,7 +252,7 @@ unsafe extern "C" {
     pub fn iface_new_for(host: *mut iface, config: *const iface_config, version: u32) -> u32;
     /// Frees a host, with its sockets and the frames that wait. The handle owns none from then on. NO_HOST.
     pub fn iface_free(host: *mut iface) -> u32;
-    /// Adds an own address with its network, as 192.168.69.1 with 24, behind the others, and forgets all neighbours: at most four. On Ethernet the host joins the solicited-node group of an IPv6 address (RFC 4291, 2.7.1). BAD_ARGUMENT, TABLE_FULL, NOT_UNICAST (neither unicast nor unspecified).
+    /// Adds an own address with its network, as 192.168.69.1 with 24, after the others, and forgets all neighbours: at most four. On Ethernet the host joins the solicited-node group of an IPv6 address (RFC 4291, 2.7.1). BAD_ARGUMENT, TABLE_FULL, NOT_UNICAST (neither unicast nor unspecified).
     pub fn iface_add_address(host: *mut iface, address: *const iface_address, prefix_len: u8) -> u32;
     /// Takes out the first own address that is this one with this prefix, and forgets all neighbours. BAD_ARGUMENT, NOT_THERE.
     pub fn iface_remove_address(host: *mut iface, address: *const iface_address, prefix_len: u8) -> u32;
@@ -286,7 +286,7 @@ unsafe extern "C" {
     pub fn iface_set_default_route(host: *mut iface, gateway: *const iface_address) -> u32;
     /// Adds a route to a network by a router. The longest prefix wins, of equal ones the last. BAD_ARGUMENT, TABLE_FULL.
     pub fn iface_add_route(host: *mut iface, network: *const iface_address, prefix_len: u8, router: *const iface_address) -> u32;
-    /// The same up to an end: the route is used until that moment, which is included, and stays in the table behind it. With `IFACE_NEVER` it has none. BAD_ARGUMENT, BAD_MOMENT, TABLE_FULL.
+    /// The same up to an end: the route is used until that moment, which is included, and stays in the table after it. With `IFACE_NEVER` it has none. BAD_ARGUMENT, BAD_MOMENT, TABLE_FULL.
     pub fn iface_add_route_until(host: *mut iface, network: *const iface_address, prefix_len: u8, router: *const iface_address, until: i64) -> u32;
     /// Takes out the first route to a network. BAD_ARGUMENT, NOT_THERE.
     pub fn iface_remove_route(host: *mut iface, network: *const iface_address, prefix_len: u8) -> u32;

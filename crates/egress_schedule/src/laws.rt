@@ -2,7 +2,7 @@
 ghost use Rattle.egress_schedule.specs.Laws.{PatienceEnds, TurnsCome, TurnsStay, WaitsEndTogether};
 
 /// After a round no socket waits for a neighbour that it has waited for as long as the patience: its packet was given
-/// up. So whatever a stranger sends, a packet stops those behind it for that long at most, until the next round.
+/// up. So whatever a stranger sends, a packet stops those after it for that long at most, until the next round.
 pub fn patience_ends()
     ensures { PatienceEnds }
 {}

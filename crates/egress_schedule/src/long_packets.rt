@@ -156,7 +156,7 @@ fn next_long<L: Drop>(turn: usize, count: usize, ip_mtu: usize, sockets: &Socket
     }
 }
 
-/// The first index from one on whose socket's first packet is long; the index behind all, where none is.
+/// The first index from one on whose socket's first packet is long; the number of indices if there is none.
 fn first_long<L: Drop>(from: usize, count: usize, ip_mtu: usize, sockets: &SocketSetOf<L>) -> usize
     ensures { result ≡ first_from (has_long ip_mtu sockets.now) from (count - from) }
 {
@@ -190,7 +190,7 @@ fn first_len<L: Drop>(socket: &SocketOf<L>) -> usize
     }
 }
 
-/// The octets of a queue's first packet behind so many of headers, at most 40; 0 where there is none.
+/// The octets of a queue's first packet after so many of headers, at most 40; 0 if there is none.
 fn len_behind<M: Drop>(headers: usize, queue: &Queue<M>) -> usize
     requires { headers ≤ 40 }
     ensures { result ≡ len_behind headers (first_of queue.now.packets) }

@@ -19,7 +19,7 @@ use interface::Interface;
 use ip_wire::{IpAddress, IpCidr};
 
 impl Host {
-    /// Adds an own address with its network, behind the others, and forgets all neighbours. `TableFull` if
+    /// Adds an own address with its network, after the others, and forgets all neighbours. `TableFull` if
     /// four are there, else `NotUnicast` if one of them all is neither unicast nor unspecified.
     pub fn add_address(&mut self, cidr: IpCidr) -> Result<(), Refusal>
         ensures added { OnOk result (Follows (AddsAddress cidr) self.old self.new) }

@@ -47,7 +47,7 @@ impl Host {
 
     /// Writes the next frame that is to be sent to the front of a buffer, and answers how many octets it has. If no
     /// frame waits, a round is made at the moment before: what has ended is dropped, and each socket that has
-    /// something to send gets its turn once, behind what is due to routers; 0 says that the round sent nothing. A
+    /// something to send gets its turn once, after what is due to routers; 0 says that the round sent nothing. A
     /// packet that waited for its neighbour as long as the patience is given up, sockets that wait ask in turn, and one
     /// packet that has to be cut goes at a time.
     /// `BadMoment` if the moment is out of range, `NoRoom` if the buffer has less than 1,514 octets, `NoMemory` if

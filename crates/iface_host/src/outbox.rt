@@ -9,7 +9,7 @@ use std::collections::VecDeque;
 use std::marker::Model;
 
 /// The device of a host: it keeps the frames that are sent, in order, until they are handed over, and has none to
-/// be received. It gives leave to send one more if memory for it is there.
+/// be received. It grants a transmit token if memory for one more frame is there.
 ///
 /// In contracts it is what the host's device can do, the frames that wait, the count of refusals, and whether room for
 /// one more is reserved.
@@ -105,14 +105,14 @@ impl Outbox {
         self.capabilities
     }
 
-    /// How often leave was refused.
+    /// How many transmit tokens were refused.
     pub(crate) fn refusals(&self) -> u64
         ensures { result ≡ self.now.refusals }
     {
         self.refusals
     }
 
-    /// Gives leave to send one more frame, if memory for it is there; else the refusal is counted.
+    /// Grants a transmit token, if memory for one more frame is there; otherwise counts the refusal.
     pub(crate) fn give_leave(&mut self) -> bool
         ensures given { result ≡ true → self.new ≡ with_room true self.old }
         ensures refused { result ≡ false → self.new ≡ with_refusal_counted self.old }
@@ -137,7 +137,7 @@ impl Outbox {
         }
     }
 
-    // Counts a refused leave.
+    // Counts a refused transmit token.
     fn count_refusal(&mut self)
         ensures { self.new ≡ with_refusal_counted self.old }
     {

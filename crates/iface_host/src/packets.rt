@@ -231,7 +231,7 @@ impl Host {
         }
     }
 
-    /// Whether a payload behind a header of so many octets, in a packet of this version, isn't too long to be sent.
+    /// Whether a payload after a header of so many octets, in a packet of this version, isn't too long to be sent.
     pub(crate) fn may_send(&self, version: IpVersion, header: usize, payload: &[u8]) -> bool
         requires { header ≤ 20 }
         ensures value { result ≡ refusals.may_send self.now.ip_mtu version header (length payload.now) }

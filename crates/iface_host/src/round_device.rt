@@ -4,9 +4,9 @@ use crate::outbox::{Outbox, write_front};
 use net_base::phy::{Device, DeviceCapabilities, PacketMeta};
 use net_base::time::Instant;
 
-/// The device of a round. It has no frame to be received, and gives leave to send one more if memory for it is there.
-/// The first frame that is sent is written to the front of a buffer, if none waits and it fits; the others wait in the
-/// outbox.
+/// The device of a round. It has no frame to be received, and grants a transmit token if memory for one more frame is
+/// there. The first frame that is sent is written to the front of a buffer, if none waits and it fits; the others wait
+/// in the outbox.
 pub struct RoundDevice<'r> {
     pub(crate) outbox: &'r mut Outbox,
     pub(crate) out: &'r mut [u8],

@@ -22,7 +22,7 @@ use ip_wire::{IpAddress, IpCidr, Ipv4Address, Ipv6Address};
 use net_base::time::Instant;
 
 impl Host {
-    /// Puts a default route by a gateway behind all other routes, in place of the first of the gateway's family.
+    /// Puts a default route by a gateway after all other routes, in place of the first of the gateway's family.
     /// `TableFull` if four routes are there and none is such.
     pub fn set_default_route(&mut self, gateway: IpAddress) -> Result<(), Refusal>
         ensures set { OnOk result (Follows (SetsDefault gateway) self.old self.new) }
@@ -49,7 +49,7 @@ impl Host {
         route_in(self.interface.routes().as_slice(), index)
     }
 
-    /// Puts a route to a network by a router behind all others. It is used up to an end in microseconds, that moment
+    /// Puts a route to a network by a router after all others. It is used up to an end in microseconds, that moment
     /// included, or for good. `BadMoment` if the end is out of range, else `TableFull` if four routes are there.
     pub fn add_route(
         &mut self,
@@ -140,7 +140,7 @@ fn put_routes(interface: &mut Interface, list: ArrayVec<Route, 4>)
     interface.routes_mut().update(move |_| list);
 }
 
-/// Puts a default route of IPv4 behind all others, in place of the first one.
+/// Puts a default route of IPv4 after all others, in place of the first one.
 fn add_default_ipv4_route(
     interface: &mut Interface,
     gateway: Ipv4Address,

@@ -55,7 +55,7 @@ pub fn process_ipv6(
     process_datagram_v6(context, sockets, source, &header, protocol, rest, out);
 }
 
-/// The protocol of a packet's payload, and the payload, given what follows the packet's header: behind the hop-by-hop
+/// The protocol of a packet's payload, and the payload, given what follows the packet's header: after the hop-by-hop
 /// options, if it begins with those. `None` if the options end the packet; then the answer, if any, was built in an
 /// empty buffer. The first option that is unrecognized and not to be skipped ends it.
 #[inline(always)]

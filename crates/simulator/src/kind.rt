@@ -185,7 +185,7 @@ impl Display for Label {
     }
 }
 
-/// An octet of a frame; 0 behind its end.
+/// An octet of a frame; 0 after its end.
 fn octet(frame: &[u8], place: usize) -> u8 {
     frame.get(place).copied().unwrap_or(0)
 }

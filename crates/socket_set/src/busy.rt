@@ -5,7 +5,7 @@ ghost use Rattle.socket_set.specs.Busy.{IsClear};
 
 use std::marker::Model;
 
-/// How many places have a mark: the first. Those behind always count as busy.
+/// How many places have a mark: the first. The places after them always count as busy.
 pub(crate) const MARKED_PLACES: usize = 1_024;
 
 // How many places share a word.

@@ -5,7 +5,7 @@ ghost use Rattle.socket_set.specs.Keys.{is_candidate, key_at};
 
 use std::marker::Model;
 
-/// How many places have a key: the first. Nothing is known of those behind.
+/// How many places have a key: the first. Nothing is known of the places after them.
 pub(crate) const KEYED_PLACES: usize = 1_024;
 
 /// The key of a place of which nothing is known.
@@ -37,7 +37,7 @@ impl Model for Keys {
 }
 
 impl Keys {
-    /// Nothing is known of so many places, the first. Those behind aren't there.
+    /// The first `places` entries are unknown; there are no sockets after them.
     pub(crate) fn of(places: usize) -> Keys
         ensures { (i : ℕ) → i < places → key_at result i ≡ 0 }
     {

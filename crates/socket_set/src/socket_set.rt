@@ -345,7 +345,7 @@ impl<L: Drop> SocketSetOf<L> {
     ghost use Rattle.sockets.specs.contracts.socket.SocketOf.{the_row as socket_row};
     ghost use Rattle.socket_set.specs.contracts.socket_set.SocketSetOf.{the_row as set_row};
 
-    /// Puts a socket at the least free index, else at a new one behind all, and names it. Where no
+    /// Puts a socket at the least free index, else at a new one after all others, and names it. Where no
     /// index is free: `Full` if the set never grows, `NoMemory` if the memory for another place was
     /// refused. Both give the socket back, and then the set stays as it was. Where an index is free it takes no
     /// memory, and where memory for another one is reserved it isn't refused.
