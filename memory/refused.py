@@ -5,7 +5,7 @@ usage: refused.py [--all] [--over-gate] [--jobs N] [CRATE..]     of these crates
 
 Each test is run by itself, once for each request that is tried, and that one request is refused. It has to hold as it
 does otherwise: what was refused has been told as an error, nothing has changed, and the next call gets it. The programs
-`hostrun` and `simulate` run scripts so. They have to end as they do otherwise, or with their words for it on standard
+`hostrun`, `scenes` and `simulate` run scripts so. They have to end as they do otherwise, or with their words for it on standard
 error and their status, when they have printed a beginning of what they print otherwise.
 
 A test may make tens of thousands of requests in loops, so not all are tried. Of those that are made from one place, the
@@ -42,6 +42,7 @@ class Program(typing.NamedTuple):
 
 
 PROGRAMS = {
+    "scenes": Program(["scenes/data/*.txt"], [], 1, rb"Error: ([Oo]ut of memory|memory allocation failed)\n"),
     "hostrun": Program(["hostrun/stdin", "exchanges/data/*.txt"], [], 3, rb"out of memory\n"),
     # Each error that may be there for want of memory has words of its own.
     "simulate": Program(

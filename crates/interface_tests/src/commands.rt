@@ -1,11 +1,11 @@
 // Lists of commands, with turns of the sockets' owner among them.
 
-use crate::frames::frame;
-use crate::test_host::{ETHERNET, Host, OWN};
-use crate::words::networks;
 use interface::{Answer, Command, PollIngressSingleResult};
 use net_base::phy::Device;
 use net_base::time::Instant;
+use scene::frames::frame;
+use scene::scene_host::{ETHERNET, Host, OWN};
+use scene::words::networks;
 
 const NOTHING: Answer = Answer::PollIngressSingle(PollIngressSingleResult::None);
 

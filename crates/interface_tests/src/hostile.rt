@@ -1,196 +1,36 @@
 // Frames that are meant to do harm. What the laws say of all frames is tried here: a malformed one does nothing
 // (`malformed_is_dropped`), and fragments take two slots at most, for the time of a slot.
 
-use crate::frames::{Octets, frame};
-use crate::script::{ACQUAINTED, AT_HOME, AT_HOME_V6, Scene, each_spoilt, plays, plays_reporting};
-use crate::test_host::{ETHERNET, Host, OWN};
 use arrayvec::ArrayVec;
 use net_base::rand::Rand;
+use scene::frames::{Octets, frame};
+use scene::scene_host::{ETHERNET, Host, OWN};
+use scene::script::outlives;
 use std::process::Abort;
 
-const SCENES: &[Scene] = &[
-    // The beginnings of a frame do nothing: the frame itself is taken as if none had come.
-    Scene {
-        name: "beginnings of frames do nothing",
-        begins: AT_HOME,
-        scripts: &[
-            "begins REQUEST
-            rx REQUEST
-            ingress 0 = SocketStateChanged tx REPLY
-            begins ECHO
-            rx ECHO
-            ingress 0 = SocketStateChanged tx ECHO_REPLY
-            begins SYN
-            rx SYN
-            ingress 0 = SocketStateChanged tx RESET
-            udp 6969
-            begins HI
-            heard? 0 = none
-            rx HI
-            ingress 0 = SocketStateChanged
-            heard? 0 = c0a84564 5000 6869",
-        ],
-    },
-    Scene {
-        name: "beginnings of frames do nothing",
-        begins: AT_HOME_V6,
-        scripts: &[
-            "begins SOLICIT_1
-            rx SOLICIT_1
-            ingress 0 = SocketStateChanged tx ADVERT_1",
-        ],
-    },
-    Scene {
-        name: "fragments behind the end only take a slot",
-        begins: AT_HOME,
-        scripts: &[
-            // Neither octets nor a total are kept of them.
-            "udp 6969
-            rx BEYOND_END
-            ingress 0 = SocketStateChanged
-            rx BEHIND_END
-            ingress 0 = SocketStateChanged
-            rx HI_START
-            ingress 0 = SocketStateChanged
-            rx HI_END
-            ingress 0 = SocketStateChanged
-            heard? 0 = c0a84564 5000 6869",
-            // But their key has a slot.
-            "udp 6969
-            rx BEYOND_END
-            ingress 0 = SocketStateChanged
-            rx HI_START_8
-            ingress 0 = SocketStateChanged
-            rx HI_START_BY_101
-            ingress 0 = SocketStateChanged
-            rx HI_END_BY_101
-            ingress 0 = SocketStateChanged
-            heard? 0 = none
-            rx HI_END_8
-            ingress 0 = SocketStateChanged
-            heard? 0 = c0a84564 5000 6869",
-            // So has that of a datagram for another host.
-            "udp 6969
-            rx HO_START_TO_7
-            ingress 0 = SocketStateChanged
-            rx HI_START_8
-            ingress 0 = SocketStateChanged
-            rx HI_START
-            ingress 0 = SocketStateChanged
-            rx HI_END
-            ingress 0 = SocketStateChanged
-            heard? 0 = none",
-            // An empty last fragment ends a datagram.
-            "udp 6969
-            rx BARE_START
-            ingress 0 = SocketStateChanged
-            rx BARE_END
-            ingress 0 = SocketStateChanged
-            heard? 0 = c0a84564 5000 EMPTY",
-        ],
-    },
-    // Each octet is that of the fragment which came last.
-    Scene {
-        name: "fragments that overlap are one datagram",
-        begins: AT_HOME,
-        scripts: &[
-            "raw 253
-            rx HEAD_A
-            ingress 0 = SocketStateChanged
-            rx MIDDLE_B
-            ingress 0 = SocketStateChanged
-            heard? 0 = none
-            rx END_C
-            ingress 0 = SocketStateChanged
-            heard? 0 = ABC",
-        ],
-    },
-    // An ARP reply that nobody asked for moves a neighbour, and ends no silence.
-    Scene {
-        name: "an unasked reply moves a neighbor",
-        begins: ACQUAINTED,
-        scripts: &[
-            "udp 6969
-            send 0 c0a84532 5000 6869
-            egress 0 = None tx WHO_HAS_50
-            rx MOVED
-            ingress 0 = SocketStateChanged
-            udp 6969
-            send 1 c0a84502 5000 6869
-            egress 999_999 = None
-            udp 6969
-            send 2 c0a84564 5000 6869
-            egress 999_999 = SocketStateChanged tx HI_BACK_TO_OTHER",
-        ],
-    },
-    Scene {
-        name: "no neighbor is at a groups hardware address",
-        begins: AT_HOME_V6,
-        scripts: &[
-            "rx SOLICIT_1_AT_GROUP
-            ingress 0 = SocketStateChanged
-            udp 6969
-            send 0 fe800000000000000000000000000002 5000 6869
-            egress 0 = None tx SOLICIT_2",
-        ],
-    },
-    // A segment with a wrong checksum is heard by raw sockets, and renews its sender, which it came from.
-    Scene {
-        name: "a spoilt segment renews its sender",
-        begins: ACQUAINTED,
-        scripts: &[
-            "raw 6
-            rx SYN_UNSUMMED
-            ingress 59_000_000 = SocketStateChanged
-            heard? 0 = SYN_UNSUMMED/14
-            rx ECHO
-            ingress 118_999_999 = SocketStateChanged tx ECHO_REPLY",
-        ],
-    },
-];
+// Runs a script on a host for each bit of a frame: when the host has come as far as the first script, the frame
+// arrives with this bit changed, and is taken.
+fn each_spoilt(rt: &(impl Abort + AllocGlobal), first: &str, word: &str, second: &str) {
+    let good = frame(word).expect(rt, "a frame");
+    for place in 0..good.len() {
+        for mask in [1u8, 2, 4, 8, 16, 32, 64, 128] {
+            let bad = changed(&good, place, mask);
+            assert!(rt;
+                outlives(rt.alloc(), first, bad.as_slice(), second),
+                "octet {place} changed by {mask}"
+            );
+        }
+    }
+}
 
-const REPORTING_SCENES: &[Scene] = &[
-    Scene {
-        name: "beginnings of frames do nothing",
-        begins: "slaac
-        addr fe800000000000000000000000000001/64
-        egress 0 = None tx ASK_ROUTERS JOIN_1",
-        scripts: &[
-            "begins ADVERTISED
-            phase? = discovering 2
-            slaac_at 0 = 4_000_000",
-        ],
-    },
-    // What is wrong with a prefix says nothing of its router.
-    Scene {
-        name: "a router counts whose prefix does not",
-        begins: "slaac
-        addr fe800000000000000000000000000001/64
-        egress 0 = None tx ASK_ROUTERS JOIN_1",
-        scripts: &[
-            "rx ADVERTISED_600_129
-            ingress 0 = SocketStateChanged
-            maintain 0
-            addr? = fe800000000000000000000000000001/64
-            routes? = 00000000000000000000000000000000/0>fe800000000000000000000000000002
-            at 0 = 600_000_000",
-            // A group's prefix brings no address, not by the next change either.
-            "rx ADVERTISED_FF0E
-            ingress 0 = SocketStateChanged
-            maintain 0
-            addr? = fe800000000000000000000000000001/64
-            rx ADVERTISED_BY_3
-            ingress 1_000_000 = SocketStateChanged
-            maintain 1_000_000
-            addr? = fe800000000000000000000000000001/64",
-        ],
-    },
-];
-
-#[test]
-fn scenes(rt: HostRuntime) {
-    plays(&rt, SCENES);
-    plays_reporting(&rt, REPORTING_SCENES);
+// A frame of which one octet is changed.
+fn changed(frame: &Octets, place: usize, mask: u8) -> Octets {
+    let mut bad = ArrayVec::new();
+    for (at, octet) in frame.as_slice().iter().enumerate() {
+        let octet = if at == place { *octet ^ mask } else { *octet };
+        let _ = bad.try_push(octet);
+    }
+    bad
 }
 
 // Whatever bit of a frame was changed on its way, the good one is answered as if the bad one hadn't come.

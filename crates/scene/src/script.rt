@@ -5,44 +5,44 @@
 //! `ok`. What isn't said mustn't happen. Moments are in microseconds, addresses eight or 32 hex digits, frames
 //! names or hex (`frames`).
 //!
-//! | Call | What is done |
-//! |---|---|
-//! | `host HARDWARE MEDIUM MTU [BURST]` | the host is made anew, before it sent anything; a burst may be `max` |
-//! | `addr ADDR/LEN ..` | its addresses become these |
-//! | `addr?` `= ADDR/LEN ..` | they are these |
-//! | `own? ADDR` `= yes`, `no` | whether it takes this one for its own |
-//! | `member? ADDR` `= yes`, `no` | whether it is a member of this group |
-//! | `solicited? GROUP` `= yes`, `no` | whether this is the solicited-node group of one of its addresses |
-//! | `source? ADDR` `= ADDR` | from which address it sends to this IPv6 destination |
-//! | `join GROUP` `= ok`, `GroupTableFull`, `Unaddressable` | it joins this group |
-//! | `leave GROUP` `= ok`, `Unaddressable` | it leaves this group |
-//! | `slaac [ip\|MTU]` | the host is made anew, to take addresses from routers, on Ethernet or without hardware addresses |
-//! | `phase?` `= PHASE COUNT` | how far its search for routers is, and how many solicitations may still go |
-//! | `slaac_at T` `= T`, `none` | when something is to be done of what it learnt from routers |
-//! | `synced?` `= T` | when its addresses and routes were last brought into line with that |
-//! | `anyip` | it takes addresses for its own that are routed to it |
-//! | `hardware HARDWARE` | it gets this hardware address |
-//! | `hardware?` `= HARDWARE`, `none` | it has this one |
-//! | `routes ADDR/LEN>ROUTER[@EXPIRY] ..` | its routes become these |
-//! | `routes?` `= ADDR/LEN>ROUTER[@EXPIRY] ..` | they are these |
-//! | `gw ROUTER` `= ROUTER`, `none`, `RouteTableFull` | it gets a default route of the router's family, in place of this one |
-//! | `ungw`, `ungw6` `= ROUTER`, `none` | it loses its default route of IPv4, of IPv6 |
-//! | `timeout MICROS` `= ok`, `TimeoutTooLong` | slots for fragments stand for so long |
-//! | `timeout?` `= MICROS` | they stand for so long |
-//! | `rx FRAME ..` | a frame arrives: these, one behind the other |
-//! | `rx?` `= COUNT` | so many frames wait |
-//! | `begins FRAME` | each of its proper beginnings arrives by itself and is taken, at the origin |
-//! | `refuse [COUNT]` | the device will refuse the next question for leave, or the one behind so many |
-//! | `ingress T`, `egress T`, `poll T BUDGET`, `maintain T` | the host is polled |
-//! | `at T` `= T`, `none` | when it has to be polled again |
-//! | `delay T` `= SPAN`, `none` | how long it is until then |
-//! | `receive T FRAME` `= FRAME`, `none` | a frame is handed over, and this one is shown |
-//! | `udp PORT`, `icmp IDENT`, `raw PROTOCOL`, `tcp PORT` .. | a socket: see `kinds` |
+//! The calls:
+//!
+//! - `host HARDWARE MEDIUM MTU [BURST]`: the host is made anew, before it sent anything; a burst may be `max`
+//! - `addr ADDR/LEN ..`: its addresses become these
+//! - `addr?` `= ADDR/LEN ..`: they are these
+//! - `own? ADDR` `= yes`, `no`: whether it takes this one for its own
+//! - `member? ADDR` `= yes`, `no`: whether it is a member of this group
+//! - `solicited? GROUP` `= yes`, `no`: whether this is the solicited-node group of one of its addresses
+//! - `source? ADDR` `= ADDR`: from which address it sends to this IPv6 destination
+//! - `join GROUP` `= ok`, `GroupTableFull`, `Unaddressable`: it joins this group
+//! - `leave GROUP` `= ok`, `Unaddressable`: it leaves this group
+//! - `slaac [ip|MTU]`: the host is made anew, to take addresses from routers, on Ethernet or without hardware addresses
+//! - `phase?` `= PHASE COUNT`: how far its search for routers is, and how many solicitations may still go
+//! - `slaac_at T` `= T`, `none`: when something is to be done of what it learnt from routers
+//! - `synced?` `= T`: when its addresses and routes were last brought into line with that
+//! - `anyip`: it takes addresses for its own that are routed to it
+//! - `hardware HARDWARE`: it gets this hardware address
+//! - `hardware?` `= HARDWARE`, `none`: it has this one
+//! - `routes ADDR/LEN>ROUTER[@EXPIRY] ..`: its routes become these
+//! - `routes?` `= ADDR/LEN>ROUTER[@EXPIRY] ..`: they are these
+//! - `gw ROUTER` `= ROUTER`, `none`, `RouteTableFull`: it gets a default route of the router's family, in place of this one
+//! - `ungw`, `ungw6` `= ROUTER`, `none`: it loses its default route of IPv4, of IPv6
+//! - `timeout MICROS` `= ok`, `TimeoutTooLong`: slots for fragments stand for so long
+//! - `timeout?` `= MICROS`: they stand for so long
+//! - `rx FRAME ..`: a frame arrives: these, one behind the other
+//! - `rx?` `= COUNT`: so many frames wait
+//! - `begins FRAME`: each of its proper beginnings arrives by itself and is taken, at the origin
+//! - `refuse [COUNT]`: the device will refuse the next question for leave, or the one behind so many
+//! - `ingress T`, `egress T`, `poll T BUDGET`, `maintain T`: the host is polled
+//! - `at T` `= T`, `none`: when it has to be polled again
+//! - `delay T` `= SPAN`, `none`: how long it is until then
+//! - `receive T FRAME` `= FRAME`, `none`: a frame is handed over, and this one is shown
+//! - `udp PORT`, `icmp IDENT`, `raw PROTOCOL`, `tcp PORT` ..: a socket: see `kinds`
 
 ghost use Rattle.host_machine.specs.Polling.Step.{IsTimely};
 
 use crate::frames::{Octets, frame};
-use crate::test_host::{ETHERNET, Host, IP, OWN};
+use crate::scene_host::{ETHERNET, Host, IP, OWN};
 use crate::words::{
     Words, address_v6, any_address, count, hardware, medium, moment, networks, number, octet,
     routes, wide,
@@ -59,118 +59,42 @@ use net_base::phy::{ChecksumCapabilities, Device, DeviceCapabilities};
 use net_base::time::{Duration, Instant};
 use slaac::Phase;
 use std::alloc::Global;
-use std::process::Abort;
 
-/// Scripts that begin alike, each of which is followed on a new host.
-#[derive(Clone, Copy)]
-pub struct Scene {
-    pub name: &'static str,
-    pub begins: &'static str,
-    pub scripts: &'static [&'static str],
+/// What came of a script.
+#[derive(Clone, Copy, Debug, PartialEq, Eq)]
+pub enum Outcome<'a> {
+    /// What it says, line by line; no frame waits in the end, and none was lost.
+    AsSaid,
+    /// Something else came of this line, or it can't be read.
+    Otherwise(&'a str),
+    /// A frame waits in the end, or one that was withheld for want of memory was lost.
+    FrameLeft,
 }
 
-/// How a host comes to be at 192.168.69.1.
-pub const AT_HOME: &str = "addr c0a84501/24";
-
-/// How it also knows its neighbour.
-pub const ACQUAINTED: &str = "addr c0a84501/24
-    rx REQUEST
-    ingress 0 = SocketStateChanged tx REPLY";
-
-/// The same where its packets have at most 576 octets.
-pub const NARROW: &str = "host 020000000001 ethernet 590
-    addr c0a84501/24
-    rx REQUEST
-    ingress 0 = SocketStateChanged tx REPLY";
-
-/// How a host comes to be at fe80::1.
-pub const AT_HOME_V6: &str = "addr fe800000000000000000000000000001/64
-    egress 0 = None tx JOIN_1";
-
-/// How it also knows its neighbour fe80::2.
-pub const ACQUAINTED_V6: &str = "addr fe800000000000000000000000000001/64
-    egress 0 = None tx JOIN_1
-    rx SOLICIT_1
-    ingress 0 = SocketStateChanged tx ADVERT_1";
-
-/// Runs the scripts of scenes, each on a new host.
-pub fn plays(rt: &(impl Abort + AllocGlobal), scenes: &[Scene]) {
-    for scene in scenes {
-        for script in scene.scripts {
-            runs(rt, scene.name, scene.begins, script);
-        }
+/// Follows lines on a new host, and tells what came of them.
+pub fn play<'a>(alloc: Global, begins: &[&'a str], script: &[&'a str]) -> Outcome<'a> {
+    let Ok(mut host) = Host::new(alloc, OWN, ETHERNET) else {
+        return Outcome::FrameLeft;
+    };
+    if let Some(line) = host.first_otherwise(begins) {
+        return Outcome::Otherwise(line);
+    }
+    if let Some(line) = host.first_otherwise(script) {
+        return Outcome::Otherwise(line);
+    }
+    if host.kept && host.device.queued() == 0 {
+        Outcome::AsSaid
+    } else {
+        Outcome::FrameLeft
     }
 }
 
-/// The same where a script that comes otherwise runs again: where there is no memory for a report, it is given
-/// up, or goes behind what has to come later.
-pub fn plays_reporting(rt: &(impl Abort + AllocGlobal), scenes: &[Scene]) {
-    for scene in scenes {
-        for script in scene.scripts {
-            if !comes(rt.alloc(), scene.begins, script) {
-                runs(rt, scene.name, scene.begins, script);
-            }
-        }
-    }
-}
-
-/// Runs a script on a host for each bit of a frame: when the host has come as far as the first script, the frame
-/// arrives with this bit changed, and is taken.
-pub fn each_spoilt(rt: &(impl Abort + AllocGlobal), first: &str, word: &str, second: &str) {
-    let good = frame(word).expect(rt, "a frame");
-    for place in 0..good.len() {
-        for mask in [1u8, 2, 4, 8, 16, 32, 64, 128] {
-            let bad = changed(&good, place, mask);
-            assert!(rt;
-                outlives(rt.alloc(), first, bad.as_slice(), second),
-                "octet {place} changed by {mask}"
-            );
-        }
-    }
-}
-
-// A frame of which one octet is changed.
-fn changed(frame: &Octets, place: usize, mask: u8) -> Octets {
-    let mut bad = ArrayVec::new();
-    for (at, octet) in frame.as_slice().iter().enumerate() {
-        let octet = if at == place { *octet ^ mask } else { *octet };
-        let _ = bad.try_push(octet);
-    }
-    bad
-}
-
-// Whether a script comes as it says on a host that took a frame behind another script.
-fn outlives(alloc: Global, first: &str, bad: &[u8], second: &str) -> bool {
+/// Whether a script comes as it says on a host that took a frame after another script.
+pub fn outlives(alloc: Global, first: &str, bad: &[u8], second: &str) -> bool {
     let Ok(mut host) = Host::new(alloc, OWN, ETHERNET) else {
         return false;
     };
     host.follows(first) && host.takes(bad).is_some() && host.follows(second)
-}
-
-// Whether two parts of a script come as they say, on a new host.
-fn comes(alloc: Global, first: &str, second: &str) -> bool {
-    let Ok(mut host) = Host::new(alloc, OWN, ETHERNET) else {
-        return false;
-    };
-    host.follows(first) && host.follows(second) && host.kept && host.device.queued() == 0
-}
-
-// Runs the two parts of a named script on a new host, at which no frame may wait in the end.
-fn runs(rt: &(impl Abort + AllocGlobal), name: &str, first: &str, second: &str) {
-    let mut host = Host::new(rt.alloc(), OWN, ETHERNET).expect(rt, "a host");
-    for part in [first, second] {
-        for (number, line) in part.lines().enumerate() {
-            let outcome = host.follow(line);
-            assert!(rt;
-                outcome == Some(true),
-                "{name}, line {number} can't be read or came otherwise: {line}"
-            );
-        }
-    }
-    assert!(rt;
-        host.kept && host.device.queued() == 0,
-        "{name}: a frame waits, or was lost"
-    );
 }
 
 impl Host {
@@ -182,6 +106,16 @@ impl Host {
             }
         }
         true
+    }
+
+    // Follows lines, and returns the first of which something else came, or that can't be read.
+    fn first_otherwise<'a>(&mut self, lines: &[&'a str]) -> Option<&'a str> {
+        for line in lines {
+            if self.follow(line) != Some(true) {
+                return Some(*line);
+            }
+        }
+        None
     }
 
     // Follows a line, and says whether that came of it which had to. `None` if it isn't one.

@@ -1,23 +1,23 @@
 //! The sockets of a script. They are named by the order in which they came, from 0.
 //!
-//! | Call | What is done |
-//! |---|---|
-//! | `udp PORT` | a UDP socket |
-//! | `icmp IDENT` | an ICMP socket for echo messages |
-//! | `raw PROTOCOL`, `raw6 PROTOCOL` | a raw socket for IPv4, for IPv6 |
-//! | `tcp PORT` | a TCP socket |
-//! | `segment PORT ADDR PORT SEQ WINDOW OCTETS` | a TCP socket with a segment to send |
-//! | `send SOCKET ADDR PORT OCTETS`, `ADDR OCTETS`, `OCTETS` | a UDP, ICMP, raw socket gets this to send |
-//! | `hold SOCKET T` | a TCP socket sends nothing before then |
-//! | `abort SOCKET` | a TCP socket gives up |
-//! | `done SOCKET` | a UDP socket drops what came to it first |
-//! | `heard? SOCKET` `= ADDR PORT OCTETS`, `ADDR OCTETS`, `OCTETS`, `none` | this came to it first |
-//! | `due? SOCKET` `= Now`, `Ingress`, T | when it has to be polled again |
+//! The calls:
+//!
+//! - `udp PORT`: a UDP socket
+//! - `icmp IDENT`: an ICMP socket for echo messages
+//! - `raw PROTOCOL`, `raw6 PROTOCOL`: a raw socket for IPv4, for IPv6
+//! - `tcp PORT`: a TCP socket
+//! - `segment PORT ADDR PORT SEQ WINDOW OCTETS`: a TCP socket with a segment to send
+//! - `send SOCKET ADDR PORT OCTETS`, `ADDR OCTETS`, `OCTETS`: a UDP, ICMP, raw socket gets this to send
+//! - `hold SOCKET T`: a TCP socket sends nothing before then
+//! - `abort SOCKET`: a TCP socket gives up
+//! - `done SOCKET`: a UDP socket drops what came to it first
+//! - `heard? SOCKET` `= ADDR PORT OCTETS`, `ADDR OCTETS`, `OCTETS`, `none`: this came to it first
+//! - `due? SOCKET` `= Now`, `Ingress`, T: when it has to be polled again
 ghost use Rattle.std.specs.Prelude.{◌≡◌, ◌≢◌, IfSome, false};
 ghost use Rattle.ip_address.specs.Ip.{is_unspecified};
 
 use crate::frames::frame;
-use crate::test_host::Host;
+use crate::scene_host::Host;
 use crate::words::{Words, any_address, count, end, moment, number, octet, short};
 use ip_wire::{IpProtocol, IpVersion, TcpControl, TcpSeqNumber};
 use socket_set::by_index;
