@@ -1,0 +1,5 @@
+pub mod TransmissionLemmas
+pub mod PartLemmas
+pub mod ArrivedLemmas
+pub mod BufferLemmas
+pub mod KeptLemmas

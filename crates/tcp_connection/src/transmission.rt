@@ -1,0 +1,336 @@
+//! What a connection sends, and how far it may (RFC 9293 3.3.1).
+ghost use Rattle.std.specs.Prelude.{◌≡◌, ◌+◌, ◌-◌, ◌*◌, ◌≤◌, ◌<◌, ◌^◌, min, max, ◌++◌, length, take, IfOk, None, true, false};
+ghost use Rattle.tcp_machine.specs.Sending.{after_position, after_close, after_send, MaySend};
+ghost use Rattle.tcp_machine.specs.Windows.{tells_window, after_window};
+ghost use Rattle.tcp_machine.specs.Acknowledgements.{flight, is_believed, is_end_acknowledged, is_duplicate};
+ghost use Rattle.tcp_machine.specs.Opening.{no_transmission};
+ghost use Rattle.tcp_machine.specs.Calls.{room_to_write};
+ghost use Rattle.tcp_machine.specs.Timers.{has_unsent, is_window_closed};
+ghost use Rattle.tcp_machine.specs.Outgoing.{octets_from, piece_from, is_last};
+ghost use Rattle.tcp_connection.specs.Bounds.{last, after_part};
+
+use socket_base::octets::Octets;
+use std::alloc::{AllocError, Global};
+use std::marker::Model;
+
+/// The most octets of a ring: a window of RFC 7323 has less.
+pub const MOST_OCTETS: usize = 1 << 30;
+
+/// Positions end here.
+const LAST_POSITION: u64 = 1 << 62;
+
+/// What a connection sends: the octets that aren't acknowledged yet, how far they were sent, and the peer's window.
+///
+/// In contracts it is the machine's transmission.
+#[derive(Drop)]
+pub struct Transmission {
+    una: u64,
+    ring: Octets,
+    stop: Option<u64>,
+    top: u64,
+    edge: u64,
+    nxt: u64,
+    told_edge: u64,
+    largest_window: u64,
+    wl1: u64,
+    wl2: u64,
+    scale: u8,
+    mss: u16,
+}
+
+/// A piece of what is sent: where it begins, how many octets it has, and whether the end follows them.
+#[derive(Clone, Copy, Debug, PartialEq, Eq)]
+pub struct Part {
+    pub start: u64,
+    pub len: usize,
+    pub ends: bool,
+}
+
+impl Model for Transmission {
+    ghost use Rattle.std.specs.Prelude.{◌≡◌, ◌+◌, ◌≤◌, ◌<◌, ◌^◌, length};
+    ghost use Rattle.tcp_machine.specs.Connection as connection;
+    ghost use Rattle.tcp_connection.specs.Bounds.{IsWithin};
+
+    ghost Value = { connection.Transmission };
+
+    ghost view = { λ t. record {
+      sender = record {
+        una = t.una;
+        ring = t.ring.octets;
+        room = t.ring.limit;
+        stop = t.stop;
+        top = t.top;
+        edge = t.edge;
+      };
+      nxt = t.nxt;
+      told_edge = t.told_edge;
+      largest_window = t.largest_window;
+      wl1 = t.wl1;
+      wl2 = t.wl2;
+      scale = t.scale;
+      mss = t.mss;
+    } };
+
+    ghost invariant = { λ t. IsWithin (record {
+      una = t.una;
+      ring = t.ring.octets;
+      room = t.ring.limit;
+      stop = t.stop;
+      top = t.top;
+      edge = t.edge;
+    }) × (t.told_edge < 2 ^ 63) × (t.scale ≤ 14) × (t.nxt ≤ t.top) };
+}
+
+impl Transmission {
+    /// Before the handshake, with room for so many octets, at most 2^30. It fails exactly if the memory is refused.
+    pub fn new(alloc: Global, room: usize, mss: u16) -> Result<Transmission, AllocError>
+        requires { room ≤ 2 ^ 30 }
+        ensures { IfOk result (λ t. t ≡ no_transmission room mss) }
+    {
+        Ok(Transmission {
+            una: 1,
+            ring: Octets::new(alloc, room)?,
+            stop: None,
+            top: 1,
+            edge: 1,
+            nxt: 0,
+            told_edge: 1,
+            largest_window: 0,
+            wl1: 0,
+            wl2: 0,
+            scale: 0,
+            mss,
+        })
+    }
+
+    /// How much is on its way.
+    pub fn flight(&self) -> u64
+        ensures { result ≡ flight self.now }
+    {
+        self.nxt.saturating_sub(self.una)
+    }
+
+    /// Whether an acknowledgement is believed (RFC 5961 5.2).
+    pub fn is_believed(&self, position: u64) -> bool
+        ensures { result ≡ is_believed position self.now }
+    {
+        self.una.saturating_sub(self.largest_window) <= position && position <= self.top
+    }
+
+    /// Whether the own end is acknowledged.
+    pub fn is_end_acknowledged(&self) -> bool
+        ensures { result ≡ is_end_acknowledged self.now.sender }
+    {
+        match self.stop {
+            None => false,
+            Some(stop) => stop < self.una,
+        }
+    }
+
+    /// How many octets more are taken.
+    pub fn room_to_write(&self) -> usize
+        ensures value { result ≡ room_to_write self.now.sender }
+        ensures fits { result + length self.now.sender.ring ≤ self.now.sender.room }
+    {
+        let room = self.ring.room();
+        let held = self.ring.limit() - room;
+        let left = LAST_POSITION.saturating_sub(self.una + held as u64);
+        room.min(left as usize)
+    }
+
+    /// Whether octets, or the end, wait to be sent for the first time.
+    pub fn has_unsent(&self) -> bool
+        ensures { result ≡ has_unsent self.now.sender self.now.nxt }
+    {
+        let held = self.ring.limit() - self.ring.room();
+        self.nxt < self.una + held as u64 + u64::from(self.stop.is_some())
+    }
+
+    /// Whether all that was sent is acknowledged, and the peer's window has no room for what waits.
+    pub fn is_window_closed(&self) -> bool
+        ensures { result ≡ is_window_closed self.now }
+    {
+        self.flight() == 0 && self.has_unsent() && self.told_edge <= self.nxt
+    }
+
+    /// What an acknowledgement changes that is believed, with the window that it tells: what is acknowledged leaves the ring.
+    #[tactic(auto, using(crate::proofs::TransmissionLemmas::acknowledged))]
+    pub fn acknowledge(&mut self, position: u64, window: u64)
+        requires { window < 2 ^ 32 }
+        ensures { self.new ≡ record self.old { sender = after_position position window self.old.sender } }
+    {
+        if self.una <= position && position <= self.top {
+            let held = (self.ring.limit() - self.ring.room()) as u64;
+            self.ring.skip((position - self.una).min(held) as usize);
+            self.una = position;
+            self.edge = self.edge.max(position + window);
+        }
+    }
+
+    /// The window that a segment tells, if it is newer than what told it last.
+    pub fn take_window(&mut self, start: u64, position: u64, window: u64)
+        requires { position + window < 2 ^ 63 }
+        ensures { self.new ≡ after_window start position window self.old }
+    {
+        if self.wl1 < start || (self.wl1 == start && self.wl2 <= position) {
+            self.told_edge = position + window;
+            self.largest_window = self.largest_window.max(window);
+            self.wl1 = start;
+            self.wl2 = position;
+        }
+    }
+
+    /// The program closes: the end comes after the last octet.
+    #[tactic(auto, using(crate::proofs::TransmissionLemmas::closed))]
+    pub fn close(&mut self)
+        requires { self.old.sender.stop ≡ None }
+        ensures { self.new ≡ record self.old { sender = after_close self.old.sender } }
+    {
+        let held = (self.ring.limit() - self.ring.room()) as u64;
+        self.stop = Some(self.una + held);
+    }
+
+    /// Queues octets, which must fit.
+    #[tactic(auto, using(crate::proofs::TransmissionLemmas::written))]
+    pub fn write(&mut self, octets: &[u8])
+        requires opened { self.old.sender.stop ≡ None }
+        requires room { length octets.now ≤ room_to_write self.old.sender }
+        ensures { self.new ≡ record self.old { sender = record self.old.sender { ring = self.old.sender.ring ++ octets.now } } }
+    {
+        self.ring.append(octets);
+    }
+
+    /// The piece from a position on with so many octets at most, and the end if it follows them.
+    #[tactic(auto, using(crate::proofs::PartLemmas::part_len))]
+    pub fn part_from(&self, start: u64, most: usize) -> Part
+        requires { start ≤ self.now.sender.top }
+        ensures start { result.start ≡ start }
+        ensures len { result.len ≡ length (octets_from start most self.now.sender) }
+        ensures ends { result.ends ≡ (piece_from start most self.now.sender).ends }
+    {
+        let held = self.ring.limit() - self.ring.room();
+        let offset = (start.saturating_sub(self.una)).min(held as u64) as usize;
+        let len = most.min(held - offset);
+        Part {
+            start,
+            len,
+            ends: self.stop == Some(start + len as u64),
+        }
+    }
+
+    /// The octets of a piece, of those that aren't acknowledged.
+    #[tactic(auto, using(crate::proofs::PartLemmas::part_is, crate::proofs::PartLemmas::part_len))]
+    pub fn octets(&self, part: &Part) -> &[u8]
+        ensures { result.now ≡ octets_from part.now.start part.now.len self.now.sender }
+    {
+        let held = self.ring.limit() - self.ring.room();
+        let offset = (part.start.saturating_sub(self.una)).min(held as u64) as usize;
+        let len = part.len.min(held - offset);
+        &self.ring.first(offset + len)[offset..]
+    }
+
+    /// The peer's SYN tells its window, which isn't scaled, the scale of later ones, and the most octets of a segment to it.
+    pub fn take_syn(&mut self, window: u16, scale: u8, mss: u16)
+        requires { scale ≤ 14 }
+        ensures { self.new ≡ record self.old {
+          told_edge = 1 + window;
+          largest_window = window;
+          scale = scale;
+          mss = mss;
+          sender = record self.old.sender { edge = 1 + window };
+        } }
+    {
+        self.told_edge = 1 + u64::from(window);
+        self.largest_window = u64::from(window);
+        self.scale = scale;
+        self.mss = mss;
+        self.edge = 1 + u64::from(window);
+    }
+
+    /// A piece is sent, and the next one begins at `nxt`.
+    #[tactic(auto, using(crate::proofs::TransmissionLemmas::sent, crate::proofs::TransmissionLemmas::last_bounded))]
+    pub fn send(&mut self, part: &Part, nxt: u64)
+        requires within { after_part part.now.start part.now.len part.now.ends ≤ last self.old.sender }
+        requires nxt { nxt ≤ max self.old.sender.top (after_part part.now.start part.now.len part.now.ends) }
+        ensures { self.new ≡ record self.old {
+          nxt = nxt;
+          sender = record self.old.sender {
+            top = max self.old.sender.top (after_part part.now.start part.now.len part.now.ends);
+          };
+        } }
+    {
+        let top = self.top;
+        let after = part.start + part.len as u64 + u64::from(part.ends);
+        self.top = top.max(after);
+        self.nxt = nxt;
+    }
+
+    /// What is sent next begins at `nxt`, at most after all that was sent.
+    pub fn go_back(&mut self, nxt: u64)
+        requires { nxt ≤ self.old.sender.top }
+        ensures { self.new ≡ record self.old { nxt = nxt } }
+    {
+        self.nxt = nxt;
+    }
+
+    /// The next position to be sent.
+    pub fn nxt(&self) -> u64
+        ensures value { result ≡ self.now.nxt }
+        ensures sent { result ≤ self.now.sender.top }
+    {
+        self.nxt
+    }
+
+    /// The first position that isn't acknowledged.
+    pub fn una(&self) -> u64
+        ensures { result ≡ self.now.sender.una }
+    {
+        self.una
+    }
+
+    /// The position after all that was sent.
+    #[tactic(auto, using(crate::proofs::TransmissionLemmas::bounded))]
+    pub fn top(&self) -> u64
+        ensures value { result ≡ self.now.sender.top }
+        ensures bounded { result ≤ 2 ^ 62 + 1 }
+    {
+        self.top
+    }
+
+    /// The position of the end, once the program closed.
+    pub fn stop(&self) -> Option<u64>
+        ensures { result ≡ self.now.sender.stop }
+    {
+        self.stop
+    }
+
+    /// The edge of the window that the peer told last.
+    pub fn told_edge(&self) -> u64
+        ensures value { result ≡ self.now.told_edge }
+        ensures bounded { result < 2 ^ 63 }
+    {
+        self.told_edge
+    }
+
+    /// The largest window that the peer told.
+    pub fn largest_window(&self) -> u64
+        ensures { result ≡ self.now.largest_window }
+    {
+        self.largest_window
+    }
+
+    /// By how many bits the peer's windows are scaled.
+    pub fn scale(&self) -> u8
+        ensures value { result ≡ self.now.scale }
+        ensures bounded { result ≤ 14 }
+    {
+        self.scale
+    }
+
+    /// The most octets of a segment to the peer.
+    pub fn mss(&self) -> u16
+        ensures { result ≡ self.now.mss }
+    {
+        self.mss
+    }
+}

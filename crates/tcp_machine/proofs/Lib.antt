@@ -1,0 +1,2 @@
+mod RingLemmas
+pub mod PositionsLemmas

@@ -1,0 +1,115 @@
+-- What is acknowledged (RFC 9293 3.10.7.4, fifth check; RFC 5961 5; RFC 6298 5; RFC 5681 2).
+use Rattle.std.specs.Prelude.{ℕ, ◌+◌, ◌-◌, max, nat_lt, nat_le, ◌==◌, ◌&&◌, not, Bool, false}
+use Rattle.std.specs.Prelude.{length, Option, Some, None, if◌then◌else◌}
+use Rattle.tcp_machine.specs.Instants.{later}
+use Rattle.tcp_machine.specs.declared.timers.Timers.{Timers}
+use Rattle.tcp_machine.specs.declared.timers.Measured.{Measured}
+use Rattle.tcp_machine.specs.declared.timers.Pending.{Pending}
+use Rattle.tcp_machine.specs.declared.timers.Pending.TheVariants.{Empty, Challenge, Resend, Probe, KeepAlive, Reset}
+use Rattle.tcp_machine.specs.Pieces.{Piece}
+use Rattle.tcp_machine.specs.Sending.{Sender, after_position}
+use Rattle.tcp_machine.specs.declared.estimator.Estimator.{Estimator}
+use Rattle.tcp_machine.specs.Estimator.{after_sample}
+use Rattle.tcp_machine.specs.Congestion as congestion
+use Rattle.tcp_machine.specs.Connection.{Connection, Transmission}
+use Rattle.tcp_machine.specs.Segments.{Segment, window_in}
+use Rattle.tcp_machine.specs.Windows.{after_window}
+use Rattle.tcp_machine.specs.States.{after_end_acknowledged}
+
+-- A segment that is to be sent once: the one that tells more stays
+abbrev pub rank : Pending → ℕ
+rank Empty = 0
+rank Challenge = 1
+rank KeepAlive = 2
+rank Probe = 3
+rank Resend = 4
+rank (Reset number) = 5
+
+abbrev pub with_pending : Pending → Connection → Connection
+with_pending p c = if nat_lt (rank c.pending) (rank p) then record c { pending = p } else c
+
+-- how much is on its way
+abbrev pub flight : Transmission → ℕ
+flight t = t.nxt - t.sender.una
+
+-- An acknowledgement is believed, if it isn't older than the largest window and not above what was sent:
+-- SND.UNA - MAX.SND.WND =< SEG.ACK =< SND.NXT (RFC 5961 5.2)
+abbrev pub is_believed : ℕ → Transmission → Bool
+is_believed a t = nat_le t.sender.una (a + t.largest_window) && nat_le a t.sender.top
+
+-- a position, if there is one, is acknowledged
+abbrev pub is_acknowledged : Option ℕ → ℕ → Bool
+is_acknowledged None una = false
+is_acknowledged (Some p) una = nat_lt p una
+
+-- the own end is acknowledged
+abbrev pub is_end_acknowledged : Sender → Bool
+is_end_acknowledged s = is_acknowledged s.stop s.una
+
+-- the round trip is measured by the segment that was being timed, once its last position is acknowledged
+abbrev pub after_measured : (shortest now a : ℕ) → Option Measured → Estimator → Estimator
+after_measured shortest now a None e = e
+after_measured shortest now a (Some m) e = if nat_le m.position a then after_sample shortest (now - m.sent_at) e else e
+
+abbrev pub still_measured : ℕ → Option Measured → Option Measured
+still_measured a None = None
+still_measured a (Some m) = if nat_le m.position a then None else Some m
+
+-- The timer is off once all that was sent is acknowledged, and begins anew otherwise (RFC 6298 5.2, 5.3)
+abbrev pub timers_after_progress : (now timeout a : ℕ) → Sender → Timers → Timers
+timers_after_progress now timeout a s t = record t {
+  resend_at = if a == s.top then None else Some (later now timeout);
+  tries = 0;
+  measured = still_measured a t.measured;
+  waiting_since = if a == s.top then None else Some now;
+}
+
+-- Octets that were sent are acknowledged up to a position
+abbrev pub after_progress : (now a window : ℕ) → Connection → Connection
+after_progress now a window c =
+    let t = c.transmission in
+    let e = after_measured c.settings.shortest_timeout now a c.timers.measured c.estimator in
+    record c {
+      transmission = record t { sender = after_position a window t.sender; nxt = max t.nxt a };
+      estimator = e;
+      timers = timers_after_progress now e.timeout a t.sender c.timers;
+      congestion = congestion.after_acknowledged t.mss (a - t.sender.una) a (max t.nxt a - a) c.congestion;
+      pending = if congestion.shows_a_loss a c.congestion then Resend else c.pending;
+    }
+
+-- A segment tells nothing new: something is unacknowledged, it carries neither octets nor the end, it acknowledges what is
+-- acknowledged already, and tells the window that was told last (RFC 5681 2)
+abbrev pub is_duplicate : (a window : ℕ) → Piece → Transmission → Bool
+is_duplicate a window p t =
+    nat_lt t.sender.una t.sender.top && (length p.octets == 0) && not p.ends && (a == t.sender.una) && (a + window == t.told_edge)
+
+abbrev pub after_duplicate : (a window : ℕ) → Piece → Connection → Connection
+after_duplicate a window p c =
+    let t = c.transmission in
+    if is_duplicate a window p t then
+    record c {
+      congestion = congestion.after_duplicate t.mss a (flight t) t.sender.top c.congestion;
+      pending = if congestion.is_third a c.congestion then Resend else c.pending;
+    }
+    else record c { transmission = record t { sender = after_position a window t.sender } }
+
+-- what is acknowledged
+abbrev pub after_acked : (now a : ℕ) → Segment → Piece → Connection → Connection
+after_acked now a s p c =
+    if nat_lt c.transmission.sender.una a then after_progress now a (window_in c s) c
+    else after_duplicate a (window_in c s) p c
+
+-- then the window, if the acknowledgement isn't older than what was acknowledged already
+abbrev pub after_told : (a : ℕ) → Segment → Piece → (before now : Connection) → Connection
+after_told a s p c d =
+    if nat_le c.transmission.sender.una a
+    then record d { transmission = after_window p.start a (window_in c s) d.transmission } else d
+
+-- and then the state, if the own end is acknowledged
+abbrev pub after_end : Connection → Connection
+after_end c =
+    if is_end_acknowledged c.transmission.sender then record c { state = after_end_acknowledged c.state } else c
+
+-- what an acknowledgement that is believed changes
+abbrev pub after_acknowledgement : (now a : ℕ) → Segment → Piece → Connection → Connection
+after_acknowledgement now a s p c = after_end (after_told a s p c (after_acked now a s p c))

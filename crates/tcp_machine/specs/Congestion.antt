@@ -1,0 +1,95 @@
+-- How much may be on its way: slow start, congestion avoidance, fast retransmit and fast recovery (RFC 5681), as NewReno
+-- (RFC 6582), with the initial window of RFC 6928. All sizes are in octets.
+use Rattle.std.specs.Prelude.{ℕ, ◌+◌, ◌-◌, ◌*◌, ◌/◌, min, max, nat_lt, nat_le, ◌==◌, ◌&&◌, not, Bool, true, false}
+use Rattle.std.specs.Prelude.{if◌then◌else◌}
+use Rattle.tcp_machine.specs.declared.congestion.Congestion.{Congestion}
+
+-- more isn't useful: a window of RFC 7323 has less than 2^30 octets
+abbrev pub largest : ℕ
+largest = 1073741824
+
+-- min (10 MSS, max (2 MSS, 14,600)) (RFC 6928 2)
+abbrev pub initial_window : ℕ → ℕ
+initial_window mss = min (10 * mss) (max (2 * mss) 14600)
+
+abbrev pub new_congestion : ℕ → Congestion
+new_congestion mss = record {
+  window = initial_window mss;
+  threshold = largest;
+  duplicates = 0;
+  recover = 0;
+  is_recovering = false;
+}
+
+-- half of what is on its way, two segments at least (RFC 5681 3.1, equation 4)
+abbrev pub half_of : ℕ → ℕ → ℕ
+half_of mss flight = max (flight / 2) (2 * mss)
+
+-- the window grows by what was acknowledged, a segment at most, below the threshold, and else by a segment in a round
+-- trip (RFC 5681 3.1, equations 2 and 3)
+abbrev pub growth : ℕ → ℕ → Congestion → ℕ
+growth mss acknowledged c =
+    if nat_lt c.window c.threshold then min acknowledged mss else max 1 (mss * mss / max 1 c.window)
+
+abbrev pub grown : ℕ → ℕ → Congestion → Congestion
+grown mss acknowledged c =
+    record c { window = min largest (c.window + growth mss acknowledged c); duplicates = 0 }
+
+-- All up to `recover` is acknowledged: recovery ends, with so much on its way (RFC 6582 3.2, step 3, full, option 1)
+abbrev pub recovered : ℕ → ℕ → Congestion → Congestion
+recovered mss flight c = record c {
+  window = min c.threshold (max flight mss + mss);
+  duplicates = 0;
+  is_recovering = false;
+}
+
+-- Some of it is: what was acknowledged leaves the window, and a segment comes back into it (step 3, partial)
+abbrev pub partly_recovered : ℕ → ℕ → Congestion → Congestion
+partly_recovered mss acknowledged c = record c {
+  window = max mss (min largest (c.window - acknowledged + (if nat_le mss acknowledged then mss else 0)));
+}
+
+-- so many octets more are acknowledged, up to a position, with so much on its way then
+abbrev pub after_acknowledged : (mss acknowledged position flight : ℕ) → Congestion → Congestion
+after_acknowledged mss acknowledged position flight c =
+    if not c.is_recovering then grown mss acknowledged c
+    else if nat_le c.recover position then recovered mss flight c
+    else partly_recovered mss acknowledged c
+
+-- whether an acknowledgement that tells something new also tells of the next lost segment, which is sent again at once
+abbrev pub shows_a_loss : ℕ → Congestion → Bool
+shows_a_loss position c = c.is_recovering && nat_lt position c.recover
+
+-- whether the next acknowledgement that tells nothing new, of a position, is taken for a loss: it is the third in a
+-- row, and tells of more than was recovered before (RFC 5681 3.2, RFC 6582 3.2, step 2)
+abbrev pub is_third : ℕ → Congestion → Bool
+is_third position c = not c.is_recovering && (c.duplicates == 2) && nat_lt c.recover position
+
+-- it does: with so much on its way, up to a position (RFC 5681 3.2, steps 2 and 3; RFC 6582 3.2, step 2)
+abbrev pub after_loss : (mss flight top : ℕ) → Congestion
+after_loss mss flight top = record {
+  window = min largest (half_of mss flight + 3 * mss);
+  threshold = half_of mss flight;
+  duplicates = 3;
+  recover = top;
+  is_recovering = true;
+}
+
+-- An acknowledgement tells nothing new. In recovery each of them says that a segment has left the network (RFC 5681 3.2,
+-- step 4)
+abbrev pub after_duplicate : (mss position flight top : ℕ) → Congestion → Congestion
+after_duplicate mss position flight top c =
+    if is_third position c then after_loss mss flight top
+    else if c.is_recovering then record c { window = min largest (c.window + mss) }
+    else record c { duplicates = min 3 (c.duplicates + 1) }
+
+-- The time ran out (RFC 5681 3.1, RFC 6582 3.2, step 4). The threshold stays where the same segment was sent again by the
+-- timer before
+abbrev pub after_timeout : (is_first : Bool) → (mss flight top : ℕ) → Congestion → Congestion
+after_timeout is_first mss flight top c = record {
+  window = mss;
+  threshold = if is_first then half_of mss flight else c.threshold;
+  duplicates = 0;
+  recover = top;
+  is_recovering = false;
+}

@@ -1,0 +1,58 @@
+-- One connection (RFC 9293 3.3.1). Instants and spans are in microseconds; SYN is at position 0 of a direction.
+use Rattle.std.specs.Prelude.{ℕ, Bool, Option}
+use Rattle.tcp_machine.specs.declared.state.State.{State}
+use Rattle.tcp_machine.specs.Sending.{Sender}
+use Rattle.tcp_machine.specs.Receiving.{Receiver}
+use Rattle.tcp_machine.specs.declared.settings.Settings.{Settings}
+use Rattle.tcp_machine.specs.declared.timers.Timers.{Timers}
+use Rattle.tcp_machine.specs.declared.timers.Owed.{Owed}
+use Rattle.tcp_machine.specs.declared.timers.Pending.{Pending}
+use Rattle.tcp_machine.specs.declared.timers.Ending.{Ending}
+use Rattle.tcp_machine.specs.declared.estimator.Estimator.{Estimator}
+use Rattle.tcp_machine.specs.declared.congestion.Congestion.{Congestion}
+
+-- how often a segment is sent again before the connection is given up, where no time-out is set
+abbrev pub most_tries : ℕ
+most_tries = 12
+
+-- what a connection sends, and how far it may
+pub record Transmission : Type 0 where
+  pub sender : Sender
+  -- SND.NXT: the position to be sent next. It goes back when a time-out ends
+  pub nxt : ℕ
+  -- the edge of the window that the peer told last, and how large its window was at most
+  pub told_edge : ℕ
+  pub largest_window : ℕ
+  -- the position and the acknowledgement of the segment that told it: SND.WL1, SND.WL2
+  pub wl1 : ℕ
+  pub wl2 : ℕ
+  -- by how many bits the peer's windows are scaled, and the most octets of a segment to it
+  pub scale : ℕ
+  pub mss : ℕ
+
+-- what a connection receives, and what it told of that
+pub record Reception : Type 0 where
+  pub receiver : Receiver
+  -- the right edge of the windows told so far: it never goes back (RFC 9293 3.8.6)
+  pub promised : ℕ
+  -- by how many bits the own windows are scaled
+  pub scale : ℕ
+  pub owed : Owed
+  -- the octets in order that arrived since an acknowledgement was sent last
+  pub unacknowledged : ℕ
+
+pub record Connection : Type 0 where
+  pub state : State
+  -- whether this side opened it (RFC 9293 3.10.1)
+  pub is_active : Bool
+  -- ISS and IRS
+  pub local : ℕ
+  pub remote : ℕ
+  pub settings : Settings
+  pub transmission : Transmission
+  pub reception : Reception
+  pub estimator : Estimator
+  pub congestion : Congestion
+  pub timers : Timers
+  pub pending : Pending
+  pub ending : Option Ending

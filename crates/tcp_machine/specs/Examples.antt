@@ -1,0 +1,6 @@
+pub mod Ends
+pub mod Handshakes
+pub mod Closings
+pub mod Resets
+pub mod Timeouts
+pub mod Transfers

@@ -1,0 +1,85 @@
+-- Handshakes, by the figures of RFC 9293 3.5. The numbers are those of the figures.
+use Rattle.std.specs.Prelude.{◌≡◌, [], ◌∷◌, Some, None}
+use Rattle.tcp_machine.specs.declared.state.State.TheVariants as state
+use Rattle.tcp_machine.specs.Connection.{Connection}
+use Rattle.tcp_machine.specs.Calls.{after_writing, readable}
+use Rattle.tcp_machine.specs.Examples.Ends.{opened_by, accepted_by, ack_segment, syn_segment, reset_segment, text_segment}
+use Rattle.tcp_machine.specs.Examples.Ends.{sends, after_sending, after_segment, sent_ack, sent_syn, sent_text, sent_reset}
+
+-- Figure 6, the side that opens: SYN 100; SYN 300 with ACK 101 arrives; ACK 301, and then octets with the same number
+abbrev pub opening : Connection
+opening = after_sending 0 (opened_by 100)
+
+abbrev pub connected : Connection
+connected = after_segment 1 (syn_segment 300 (Some 101)) opening
+
+abbrev pub connected_after_ack : Connection
+connected_after_ack = after_sending 1 connected
+
+abbrev pub with_octets : Connection
+with_octets = after_writing (7 ∷ 8 ∷ []) connected_after_ack
+
+pub record BasicHandshake : Type 0 where
+  pub syn : sends 0 (opened_by 100) ≡ Some (sent_syn 100 None)
+  pub once : sends 0 opening ≡ None
+  pub established : connected.state ≡ state.Established
+  pub ack : sends 1 connected ≡ Some (sent_ack 101 301)
+  pub one_ack : sends 1 connected_after_ack ≡ None
+  pub octets : sends 1 with_octets ≡ Some (sent_text 101 301 (7 ∷ 8 ∷ []))
+
+-- Figure 6, the other side, at a listener
+abbrev pub accepting : Connection
+accepting = accepted_by 300 (syn_segment 100 None)
+
+abbrev pub asked : Connection
+asked = after_sending 0 accepting
+
+abbrev pub accepted : Connection
+accepted = after_segment 1 (ack_segment 101 301) asked
+
+pub record BasicHandshakeAccepted : Type 0 where
+  pub syn_ack : sends 0 accepting ≡ Some (sent_syn 300 (Some 101))
+  pub received : asked.state ≡ state.SynReceived
+  pub established : accepted.state ≡ state.Established
+  pub nothing_owed : sends 1 accepted ≡ None
+  pub octets : readable (after_segment 2 (text_segment 101 301 (7 ∷ 8 ∷ [])) accepted) ≡ 7 ∷ 8 ∷ []
+
+-- Figure 7: both open at once. SYN 300 arrives where SYN 100 was sent; then SYN 300 with ACK 101
+abbrev pub crossed : Connection
+crossed = after_segment 1 (syn_segment 300 None) opening
+
+abbrev pub crossed_after_syn : Connection
+crossed_after_syn = after_sending 1 crossed
+
+pub record SimultaneousOpen : Type 0 where
+  pub received : crossed.state ≡ state.SynReceived
+  pub syn_ack : sends 1 crossed ≡ Some (sent_syn 100 (Some 301))
+  pub established : (after_segment 2 (syn_segment 300 (Some 101)) crossed_after_syn).state ≡ state.Established
+
+-- Figure 8: an old SYN 90 was answered by SYN 300 with ACK 91, and that arrives where SYN 100 was sent: a reset 91 goes
+-- back, and ends what the old SYN began
+abbrev pub misled : Connection
+misled = after_segment 1 (syn_segment 300 (Some 91)) opening
+
+abbrev pub begun_by_old : Connection
+begun_by_old = after_sending 0 (accepted_by 300 (syn_segment 90 None))
+
+pub record OldDuplicateSyn : Type 0 where
+  pub waits : misled.state ≡ state.SynSent
+  pub reset : sends 1 misled ≡ Some (sent_reset 91)
+  pub ends : (after_segment 2 (reset_segment 91) begun_by_old).state ≡ state.Closed
+  -- and the true SYN-ACK still establishes
+  pub goes_on : (after_segment 3 (syn_segment 400 (Some 101)) (after_sending 1 misled)).state ≡ state.Established
+
+-- what must not be
+pub record NoHandshake : Type 0 where
+  -- the acknowledgement of another number doesn't establish, at either side
+  pub one_too_many : (after_segment 1 (syn_segment 300 (Some 102)) opening).state ≡ state.SynSent
+  pub one_too_few : (after_segment 1 (ack_segment 101 300) asked).state ≡ state.SynReceived
+  pub answered_by_reset : sends 1 (after_segment 1 (ack_segment 101 300) asked) ≡ Some (sent_reset 300)
+  -- nor does an acknowledgement without SYN, or of a SYN that wasn't sent
+  pub without_syn : (after_segment 1 (ack_segment 300 101) opening).state ≡ state.SynSent
+  pub before_syn : (after_segment 1 (syn_segment 300 (Some 101)) (opened_by 100)).state ≡ state.SynSent
+  -- a reset without the right acknowledgement ends nothing; with it the connection is refused
+  pub blind_reset : (after_segment 1 (reset_segment 300) opening).state ≡ state.SynSent
+  pub octets_wait : sends 0 (after_writing (7 ∷ []) opening) ≡ None

@@ -1,0 +1,44 @@
+-- Resets and what may be an attacker's (RFC 9293 3.5.1, figures 9 and 10; RFC 5961 3 to 5).
+use Rattle.std.specs.Prelude.{◌≡◌, [], ◌∷◌, Some, None}
+use Rattle.tcp_machine.specs.declared.timers.Ending.TheVariants.{ByPeer}
+use Rattle.tcp_machine.specs.declared.state.State.TheVariants as state
+use Rattle.tcp_machine.specs.Connection.{Connection}
+use Rattle.tcp_machine.specs.Calls.{after_abort, readable}
+use Rattle.tcp_machine.specs.Examples.Ends.{opened_by, syn_segment, reset_segment, text_segment}
+use Rattle.tcp_machine.specs.Examples.Ends.{sends, after_sending, after_segment, sent_ack, sent_reset}
+
+-- established, with the next number 300 and the peer's 100
+abbrev pub connected : Connection
+connected = after_sending 0 (after_segment 0 (syn_segment 99 (Some 300)) (after_sending 0 (opened_by 299)))
+
+-- Figure 9: the peer has crashed, and opens anew by SYN 400. It is told 100, and its reset 100 ends the old connection
+abbrev pub told_100 : Connection
+told_100 = after_segment 1 (syn_segment 400 None) connected
+
+pub record HalfOpen : Type 0 where
+  pub stays : told_100.state ≡ state.Established
+  pub ack : sends 1 told_100 ≡ Some (sent_ack 300 100)
+  pub ended : (after_segment 2 (reset_segment 100) (after_sending 1 told_100)).state ≡ state.Closed
+  pub by_peer : (after_segment 2 (reset_segment 100) (after_sending 1 told_100)).ending ≡ Some ByPeer
+  pub silent : sends 2 (after_segment 2 (reset_segment 100) (after_sending 1 told_100)) ≡ None
+
+-- an abort sends a reset of the next number
+pub record Abort : Type 0 where
+  pub closed : (after_abort connected).state ≡ state.Closed
+  pub reset : sends 1 (after_abort connected) ≡ Some (sent_reset 300)
+  pub once : sends 1 (after_sending 1 (after_abort connected)) ≡ None
+
+-- what must not be
+pub record NoReset : Type 0 where
+  -- a reset of another number ends nothing: in the window it is answered, outside of it not (RFC 5961 3.2)
+  pub in_window : (after_segment 1 (reset_segment 101) connected).state ≡ state.Established
+  pub answered : sends 1 (after_segment 1 (reset_segment 101) connected) ≡ Some (sent_ack 300 100)
+  pub outside : sends 1 (after_segment 1 (reset_segment 120) connected) ≡ None
+  pub before : sends 1 (after_segment 1 (reset_segment 99) connected) ≡ None
+  -- octets with an acknowledgement of what wasn't sent are not taken, and are answered (RFC 5961 5.2)
+  pub above : readable (after_segment 1 (text_segment 100 301 (7 ∷ [])) connected) ≡ []
+  pub told : sends 1 (after_segment 1 (text_segment 100 301 (7 ∷ [])) connected) ≡ Some (sent_ack 300 100)
+  -- nor are octets without an acknowledgement, or beyond the window
+  pub without_ack : readable (after_segment 1 (record (text_segment 100 0 (7 ∷ [])) { ack = None }) connected) ≡ []
+  pub beyond : readable (after_segment 1 (text_segment 120 300 (7 ∷ [])) connected) ≡ []
+  pub taken : readable (after_segment 1 (text_segment 100 300 (7 ∷ [])) connected) ≡ 7 ∷ []

@@ -1,0 +1,49 @@
+-- Time-outs and losses: RFC 6298 with given measurements, RFC 5681 and 6582 with segments of 1,000 octets.
+use Rattle.std.specs.Prelude.{◌≡◌, true, false}
+use Rattle.tcp_machine.specs.declared.estimator.Estimator.{Estimator}
+use Rattle.tcp_machine.specs.declared.congestion.Congestion.{Congestion}
+use Rattle.tcp_machine.specs.Estimator as estimator
+use Rattle.tcp_machine.specs.Congestion as congestion
+
+-- a first round trip of 2 s: SRTT 2 s, RTTVAR 1 s, RTO 6 s; then one of 4 s: RTTVAR 1.25 s, SRTT 2.25 s, RTO 7.25 s
+abbrev pub after_first : Estimator
+after_first = estimator.after_sample 1000000 2000000 estimator.new_estimator
+
+pub record Estimates : Type 0 where
+  pub at_first : estimator.new_estimator.timeout ≡ 1000000
+  pub first : after_first.timeout ≡ 6000000
+  pub second : (estimator.after_sample 1000000 4000000 after_first).timeout ≡ 7250000
+  pub doubled : (estimator.after_timeout after_first).timeout ≡ 12000000
+  -- a round trip of a millisecond waits for the shortest time-out, and none waits for more than a minute
+  pub shortest : (estimator.after_sample 200000 1000 estimator.new_estimator).timeout ≡ 200000
+  pub longest : (estimator.after_timeout (record after_first { timeout = 50000000 })).timeout ≡ 60000000
+
+-- Ten segments are on their way at first (RFC 6928). In slow start each acknowledged one lets two go
+abbrev pub start : Congestion
+start = congestion.new_congestion 1000
+
+-- the third duplicate with ten segments on their way: half of them and three, and the first is sent again
+abbrev pub lost : Congestion
+lost = congestion.after_duplicate 1000 1 10000 10001
+    (congestion.after_duplicate 1000 1 10000 10001 (congestion.after_duplicate 1000 1 10000 10001 start))
+
+pub record Losses : Type 0 where
+  pub initial : start.window ≡ 10000
+  pub slow_start : (congestion.after_acknowledged 1000 1000 1001 9000 start).window ≡ 11000
+  pub two_are_none : (congestion.after_duplicate 1000 1 10000 10001 (congestion.after_duplicate 1000 1 10000 10001 start)).window
+      ≡ 10000
+  pub third : lost.window ≡ 8000
+  pub threshold : lost.threshold ≡ 5000
+  pub fourth : (congestion.after_duplicate 1000 1 10000 10001 lost).window ≡ 9000
+  -- a partial acknowledgement of two segments: the window loses them and gets one back
+  pub partial : (congestion.after_acknowledged 1000 2000 2001 8000 lost).window ≡ 7000
+  pub still : (congestion.after_acknowledged 1000 2000 2001 8000 lost).is_recovering ≡ true
+  -- all of it: at most the threshold
+  pub full : (congestion.after_acknowledged 1000 10000 10001 0 lost).window ≡ 2000
+  pub over : (congestion.after_acknowledged 1000 10000 10001 0 lost).is_recovering ≡ false
+  pub timer : (congestion.after_timeout true 1000 10000 10001 start).window ≡ 1000
+  -- congestion avoidance: a segment in a round trip
+  pub avoidance : (congestion.after_acknowledged 1000 1000 1001 9000 (record start { threshold = 10000 })).window ≡ 10100
+  -- duplicates of what was recovered aren't taken for another loss (RFC 6582 3.2, step 2)
+  pub no_second : congestion.is_third 10001 (record lost { is_recovering = false; duplicates = 2 }) ≡ false
+  pub next_one : congestion.is_third 10002 (record lost { is_recovering = false; duplicates = 2 }) ≡ true

@@ -1,0 +1,107 @@
+-- What happens by itself when a timer has ended: retransmission (RFC 6298 5), probes of a closed window (RFC 9293 3.8.6.1),
+-- keep-alive (3.8.4), the user time-out (3.8.3) and TIME-WAIT (3.4.2).
+use Rattle.std.specs.Prelude.{ℕ, ◌+◌, ◌*◌, min, nat_lt, nat_le, ◌==◌, ◌&&◌, ◌||◌, not, Bool, true, false}
+use Rattle.std.specs.Prelude.{length, Option, Some, None, is_none, is_some, if◌then◌else◌}
+use Rattle.tcp_machine.specs.Instants.{later, has_passed}
+use Rattle.tcp_machine.specs.declared.timers.Timers.{Timers}
+use Rattle.tcp_machine.specs.declared.timers.Pending.TheVariants.{Probe, KeepAlive}
+use Rattle.tcp_machine.specs.declared.timers.Ending.TheVariants.{TimedOut}
+use Rattle.tcp_machine.specs.declared.state.State.{State}
+use Rattle.tcp_machine.specs.declared.state.State.TheVariants.{SynSent, SynReceived}
+use Rattle.tcp_machine.specs.Sending.{Sender}
+use Rattle.tcp_machine.specs.Estimator as estimator
+use Rattle.tcp_machine.specs.Congestion as congestion
+use Rattle.tcp_machine.specs.States.{is_synchronized, sends_octets}
+use Rattle.tcp_machine.specs.Connection.{Connection, Transmission, most_tries}
+use Rattle.tcp_machine.specs.Acknowledgements.{with_pending, flight}
+use Rattle.tcp_machine.specs.Arrivals.{ended, aborted, is_time_wait}
+
+-- the own SYN isn't acknowledged
+abbrev pub is_opening : State → Bool
+is_opening SynSent = true
+is_opening SynReceived = true
+is_opening s = false
+
+-- octets, or the end, wait to be sent for the first time
+abbrev pub has_unsent : Sender → ℕ → Bool
+has_unsent s nxt = nat_lt nxt (s.una + length s.ring + (if is_some s.stop then 1 else 0))
+
+-- all that was sent is acknowledged, and the window has no room for what waits
+abbrev pub is_window_closed : Transmission → Bool
+is_window_closed t = (flight t == 0) && has_unsent t.sender t.nxt && nat_le t.told_edge t.nxt
+
+-- The timer runs while the window is closed, too: else nothing would ever be sent again, if the peer's word that it opens
+-- is lost (RFC 9293 3.8.6.1)
+abbrev pub with_probe_timer : ℕ → Connection → Connection
+with_probe_timer now c =
+    if is_none c.timers.resend_at && sends_octets c.state && is_window_closed c.transmission
+    then record c { timers = record c.timers { resend_at = Some (later now c.estimator.timeout) } } else c
+
+abbrev pub has_waited : ℕ → Option ℕ → Option ℕ → Bool
+has_waited now None since = false
+has_waited now (Some timeout) None = false
+has_waited now (Some timeout) (Some since) = nat_le (since + timeout) now
+
+-- it is when what was sent has been unacknowledged for the user's time-out; without one after so many tries
+abbrev pub is_given_up : ℕ → Connection → Bool
+is_given_up now c =
+    has_waited now c.settings.timeout c.timers.waiting_since || (is_none c.settings.timeout && nat_le most_tries c.timers.tries)
+
+abbrev pub with_next_try : Timers → Timers
+with_next_try t = record t { resend_at = None; tries = min most_tries (t.tries + 1); measured = None }
+
+-- All from the first unacknowledged position on is sent again, and the time-out is doubled (RFC 6298 5.4 to 5.6)
+abbrev pub after_loss_of_all : Connection → Connection
+after_loss_of_all c = record c {
+  transmission = record c.transmission { nxt = if is_opening c.state then 0 else c.transmission.sender.una };
+  estimator = estimator.after_timeout c.estimator;
+  congestion =
+      congestion.after_timeout (c.timers.tries == 0) c.transmission.mss (flight c.transmission) c.transmission.sender.top
+      c.congestion;
+  timers = with_next_try c.timers;
+}
+
+-- A closed window is probed. It may stay closed for as long as the peer answers (RFC 9293 3.8.6.1), so what counts is how
+-- long nothing has arrived
+abbrev pub is_unheard : ℕ → Connection → Bool
+is_unheard now c =
+    has_waited now c.settings.timeout (Some c.timers.heard_at) || (is_none c.settings.timeout && nat_le most_tries c.timers.probes)
+
+abbrev pub after_probe_time : ℕ → Connection → Connection
+after_probe_time now c =
+    if is_unheard now c && nat_lt 0 c.timers.probes then aborted TimedOut c
+    else with_pending Probe (record c {
+      estimator = estimator.after_timeout c.estimator;
+      timers = record c.timers { resend_at = None; probes = min most_tries (c.timers.probes + 1) };
+    })
+
+abbrev pub after_resend_timer : ℕ → Connection → Connection
+after_resend_timer now c =
+    if not (has_passed c.timers.resend_at now) then c
+    else if is_window_closed c.transmission && not (is_opening c.state) then after_probe_time now c
+    else if is_given_up now c then aborted TimedOut c
+    else after_loss_of_all c
+
+-- the peer is probed after each interval in which nothing arrived, and given up after nine such probes
+abbrev pub most_probes : ℕ
+most_probes = 9
+
+abbrev pub probed_at : Option ℕ → Timers → Option ℕ
+probed_at None t = None
+probed_at (Some interval) t = Some (later t.heard_at (interval * (t.probes + 1)))
+
+abbrev pub keep_alive_at : Connection → Option ℕ
+keep_alive_at c = if is_synchronized c.state && not (is_time_wait c.state) then probed_at c.settings.keep_alive c.timers else None
+
+abbrev pub after_keep_alive : ℕ → Connection → Connection
+after_keep_alive now c =
+    if not (has_passed (keep_alive_at c) now) then c
+    else if nat_le most_probes c.timers.probes then aborted TimedOut c
+    else with_pending KeepAlive (record c { timers = record c.timers { probes = min most_tries (c.timers.probes + 1) } })
+
+abbrev pub after_time_wait : ℕ → Connection → Connection
+after_time_wait now c = if has_passed c.timers.ends_at now then ended None c else c
+
+-- all timers, at an instant
+abbrev pub after_timers : ℕ → Connection → Connection
+after_timers now c = with_probe_timer now (after_keep_alive now (after_resend_timer now (after_time_wait now c)))

@@ -1,0 +1,177 @@
+//! How much may be on its way (RFC 5681, RFC 6582, RFC 6928).
+ghost use Rattle.std.specs.Prelude.{◌≡◌};
+ghost use Rattle.tcp_machine.specs.Congestion as spec;
+
+use crate::estimator::plus_at_most;
+
+/// The largest congestion window, in octets. A window of RFC 7323 has less.
+const LARGEST: u64 = 1 << 30;
+
+/// What congestion control keeps of a connection. Sizes are in octets.
+#[derive(Clone, Copy, Debug, PartialEq, Eq)]
+pub struct Congestion {
+    /// cwnd (RFC 5681 2).
+    pub window: u64,
+    /// ssthresh (RFC 5681 2).
+    pub threshold: u64,
+    /// How many acknowledgements in a row told nothing new, up to 3.
+    pub duplicates: u64,
+    /// The position after all that had been sent when a loss was noticed last (`recover`, RFC 6582 3.2).
+    pub recover: u64,
+    /// Whether segments up to there are being recovered.
+    pub is_recovering: bool,
+}
+
+impl Congestion {
+    /// At first ten segments may be on their way (RFC 6928 2).
+    pub fn new(mss: u16) -> Congestion
+        ensures { result ≡ spec.new_congestion mss }
+    {
+        let mss = u64::from(mss);
+        Congestion {
+            window: (10 * mss).min((2 * mss).max(14_600)),
+            threshold: LARGEST,
+            duplicates: 0,
+            recover: 0,
+            is_recovering: false,
+        }
+    }
+
+    /// What is kept after `acknowledged` octets more were acknowledged, up to a position, with `flight` octets on their way
+    /// then (RFC 5681 3.1; RFC 6582 3.2, step 3).
+    pub fn after_acknowledged(
+        &self,
+        mss: u16,
+        acknowledged: u64,
+        position: u64,
+        flight: u64,
+    ) -> Congestion
+        ensures { result ≡ spec.after_acknowledged mss acknowledged position flight self.now }
+    {
+        if !self.is_recovering {
+            self.grown(mss, acknowledged)
+        } else if self.recover <= position {
+            self.recovered(mss, flight)
+        } else {
+            self.partly_recovered(mss, acknowledged)
+        }
+    }
+
+    /// Whether an acknowledgement of this position, which tells something new, also tells of the next lost segment
+    /// (RFC 6582 3.2, step 3).
+    pub fn shows_a_loss(&self, position: u64) -> bool
+        ensures { result ≡ spec.shows_a_loss position self.now }
+    {
+        self.is_recovering && position < self.recover
+    }
+
+    /// Whether the next acknowledgement of this position, which tells nothing new, is taken for a loss: it is the third in a
+    /// row (RFC 5681 3.2; RFC 6582 3.2, step 2).
+    pub fn is_third(&self, position: u64) -> bool
+        ensures { result ≡ spec.is_third position self.now }
+    {
+        !self.is_recovering && self.duplicates == 2 && self.recover < position
+    }
+
+    /// What is kept after an acknowledgement of this position that told nothing new, with `flight` octets on their way, and
+    /// all before `top` sent (RFC 5681 3.2).
+    pub fn after_duplicate(&self, mss: u16, position: u64, flight: u64, top: u64) -> Congestion
+        ensures { result ≡ spec.after_duplicate mss position flight top self.now }
+    {
+        if self.is_third(position) {
+            return after_loss(mss, flight, top);
+        }
+        if self.is_recovering {
+            return Congestion {
+                window: plus_at_most(LARGEST, self.window, u64::from(mss)),
+                ..*self
+            };
+        }
+        Congestion {
+            duplicates: plus_at_most(3, self.duplicates, 1),
+            ..*self
+        }
+    }
+
+    /// What is kept after the time ran out, with `flight` octets on their way, and all before `top` sent. The threshold
+    /// stays unless it ran out for the first time (RFC 5681 3.1; RFC 6582 3.2, step 4).
+    pub fn after_timeout(&self, is_first: bool, mss: u16, flight: u64, top: u64) -> Congestion
+        ensures { result ≡ spec.after_timeout is_first mss flight top self.now }
+    {
+        Congestion {
+            window: u64::from(mss),
+            threshold: if is_first {
+                half_of(mss, flight)
+            } else {
+                self.threshold
+            },
+            duplicates: 0,
+            recover: top,
+            is_recovering: false,
+        }
+    }
+
+    /// Slow start, and congestion avoidance from the threshold on.
+    fn grown(&self, mss: u16, acknowledged: u64) -> Congestion
+        ensures { result ≡ spec.grown mss acknowledged self.now }
+    {
+        let mss = u64::from(mss);
+        let growth = if self.window < self.threshold {
+            acknowledged.min(mss)
+        } else {
+            (mss * mss / self.window.max(1)).max(1)
+        };
+        Congestion {
+            window: plus_at_most(LARGEST, self.window, growth),
+            duplicates: 0,
+            ..*self
+        }
+    }
+
+    /// The end of recovery.
+    fn recovered(&self, mss: u16, flight: u64) -> Congestion
+        ensures { result ≡ spec.recovered mss flight self.now }
+    {
+        let mss = u64::from(mss);
+        Congestion {
+            window: plus_at_most(self.threshold, flight.max(mss), mss),
+            duplicates: 0,
+            is_recovering: false,
+            ..*self
+        }
+    }
+
+    /// Recovery goes on after a part of it was acknowledged.
+    fn partly_recovered(&self, mss: u16, acknowledged: u64) -> Congestion
+        ensures { result ≡ spec.partly_recovered mss acknowledged self.now }
+    {
+        let mss = u64::from(mss);
+        let back = if mss <= acknowledged { mss } else { 0 };
+        let left = self.window.saturating_sub(acknowledged);
+        Congestion {
+            window: plus_at_most(LARGEST, left, back).max(mss),
+            ..*self
+        }
+    }
+}
+
+/// Half of what is on its way, two segments at least (RFC 5681 3.1, equation 4).
+fn half_of(mss: u16, flight: u64) -> u64
+    ensures { result ≡ spec.half_of mss flight }
+{
+    (flight / 2).max(2 * u64::from(mss))
+}
+
+/// What is kept once a loss is noticed (RFC 5681 3.2, steps 2 and 3; RFC 6582 3.2, step 2).
+fn after_loss(mss: u16, flight: u64, top: u64) -> Congestion
+    ensures { result ≡ spec.after_loss mss flight top }
+{
+    let half = half_of(mss, flight);
+    Congestion {
+        window: plus_at_most(LARGEST, half, 3 * u64::from(mss)),
+        threshold: half,
+        duplicates: 3,
+        recover: top,
+        is_recovering: true,
+    }
+}

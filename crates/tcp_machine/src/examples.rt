@@ -1,0 +1,47 @@
+//! Worked examples of the rules, by figures and examples of the RFCs, and beside them what must not be.
+ghost use Rattle.tcp_machine.specs.Examples.Handshakes.{BasicHandshake, BasicHandshakeAccepted, SimultaneousOpen, OldDuplicateSyn, NoHandshake};
+ghost use Rattle.tcp_machine.specs.Examples.Closings.{NormalClose, NormalCloseOfOther, SimultaneousClose, NoClose};
+ghost use Rattle.tcp_machine.specs.Examples.Resets.{HalfOpen, Abort, NoReset};
+ghost use Rattle.tcp_machine.specs.Examples.Timeouts.{Estimates, Losses};
+ghost use Rattle.tcp_machine.specs.Examples.Transfers.{InOrder, OutOfOrder, Nagle, Retransmission, ClosedWindow, Wraps, SynOptions};
+
+/// Handshakes (RFC 9293 3.5, figures 6 to 8).
+pub fn handshakes()
+    ensures opening { BasicHandshake }
+    ensures accepted { BasicHandshakeAccepted }
+    ensures simultaneous { SimultaneousOpen }
+    ensures old_duplicate { OldDuplicateSyn }
+    ensures none { NoHandshake }
+{}
+
+/// Closings (RFC 9293 3.6, figures 12 and 13).
+pub fn closings()
+    ensures first { NormalClose }
+    ensures other { NormalCloseOfOther }
+    ensures simultaneous { SimultaneousClose }
+    ensures none { NoClose }
+{}
+
+/// Resets, and what brings none (RFC 9293 3.5.1, figures 9 and 10; RFC 5961).
+pub fn resets()
+    ensures half_open { HalfOpen }
+    ensures abort { Abort }
+    ensures none { NoReset }
+{}
+
+/// Time-outs and losses (RFC 6298, RFC 5681, RFC 6582).
+pub fn timeouts()
+    ensures estimates { Estimates }
+    ensures losses { Losses }
+{}
+
+/// Octets on their way (RFC 9293 3.7, 3.8; RFC 6298; RFC 7323).
+pub fn transfers()
+    ensures in_order { InOrder }
+    ensures out_of_order { OutOfOrder }
+    ensures nagle { Nagle }
+    ensures retransmission { Retransmission }
+    ensures closed_window { ClosedWindow }
+    ensures wraps { Wraps }
+    ensures options { SynOptions }
+{}
