@@ -64,7 +64,7 @@ const fn range(left: u32, right: u32) -> Option<SackRange> {
 fn options(rt: HostRuntime) {
     assert_eq!(rt; TcpOptions::new(), NONE);
     let cases: [(&[u8], TcpOptions); 20] = [
-        // those of smoltcp's tests, each alone, and in several orders
+        // each alone (RFC 9293 3.2, RFC 7323 2.2 and 3.2, RFC 2018 2 and 3), and in several orders
         (&[], NONE),
         (&[2, 4, 0x05, 0xdc], size(1500)),
         (&[3, 3, 12], scale(12)),
@@ -156,7 +156,7 @@ fn a_list_ends_at_what_is_malformed(rt: HostRuntime) {
         // the end of the list
         &[0],
         &[0, 4, 2],
-        // those of smoltcp's tests
+        // cut off: no length, fewer octets than the length says; a length below 2; known kinds
         &[12],
         &[12, 5, 1, 2],
         &[12, 1],
