@@ -151,42 +151,36 @@ fn options(rt: HostRuntime) {
 
 #[test]
 fn a_list_ends_at_what_is_malformed(rt: HostRuntime) {
-    let rests: [&[u8]; 20] = [
-        &[],
+    let lists: [&[u8]; 20] = [
+        &[2, 4, 0x05, 0xdc],
         // the end of the list
-        &[0],
-        &[0, 4, 2],
+        &[2, 4, 0x05, 0xdc, 0],
+        &[2, 4, 0x05, 0xdc, 0, 4, 2],
         // cut off: no length, fewer octets than the length says; a length below 2; known kinds
-        &[12],
-        &[12, 5, 1, 2],
-        &[12, 1],
-        &[2, 2],
-        &[3, 2],
+        &[2, 4, 0x05, 0xdc, 12],
+        &[2, 4, 0x05, 0xdc, 12, 5, 1, 2],
+        &[2, 4, 0x05, 0xdc, 12, 1],
+        &[2, 4, 0x05, 0xdc, 2, 2],
+        &[2, 4, 0x05, 0xdc, 3, 2],
         // a length of 0, also of an unknown kind
-        &[12, 0, 4, 2],
-        &[4, 0, 4, 2],
+        &[2, 4, 0x05, 0xdc, 12, 0, 4, 2],
+        &[2, 4, 0x05, 0xdc, 4, 0, 4, 2],
         // beyond the header
-        &[4],
-        &[8, 10, 0, 0, 0, 1, 0, 0, 0],
-        &[5, 18, 0, 0, 0, 1, 0, 0, 0, 2, 0, 0, 0, 3, 0, 0, 0],
+        &[2, 4, 0x05, 0xdc, 4],
+        &[2, 4, 0x05, 0xdc, 8, 10, 0, 0, 0, 1, 0, 0, 0],
+        &[
+            2, 4, 0x05, 0xdc, 5, 18, 0, 0, 0, 1, 0, 0, 0, 2, 0, 0, 0, 3, 0, 0, 0,
+        ],
         // another length than the kind has
-        &[2, 5, 1, 2, 3, 4, 2],
-        &[3, 4, 1, 2, 4, 2],
-        &[4, 3, 0, 4, 2],
-        &[5, 2, 4, 2],
-        &[5, 11, 0, 0, 0, 1, 0, 0, 0, 2, 0, 4, 2],
-        &[8, 9, 0, 0, 0, 1, 0, 0, 0, 4, 2],
-        &[8, 11, 0, 0, 0, 1, 0, 0, 0, 2, 0, 4, 2],
+        &[2, 4, 0x05, 0xdc, 2, 5, 1, 2, 3, 4, 2],
+        &[2, 4, 0x05, 0xdc, 3, 4, 1, 2, 4, 2],
+        &[2, 4, 0x05, 0xdc, 4, 3, 0, 4, 2],
+        &[2, 4, 0x05, 0xdc, 5, 2, 4, 2],
+        &[2, 4, 0x05, 0xdc, 5, 11, 0, 0, 0, 1, 0, 0, 0, 2, 0, 4, 2],
+        &[2, 4, 0x05, 0xdc, 8, 9, 0, 0, 0, 1, 0, 0, 0, 4, 2],
+        &[2, 4, 0x05, 0xdc, 8, 11, 0, 0, 0, 1, 0, 0, 0, 2, 0, 4, 2],
     ];
-    for rest in rests {
-        let mut octets = [0; 24];
-        octets[..4].copy_from_slice(&[2, 4, 0x05, 0xdc]);
-        let len = rest.len().min(20);
-        octets[4..4 + len].copy_from_slice(&rest[..len]);
-        assert_eq!(rt;
-            TcpOptions::parse(&octets[..4 + len]),
-            size(1500),
-            "{rest:?}"
-        );
+    for octets in lists {
+        assert_eq!(rt; TcpOptions::parse(octets), size(1500), "{octets:?}");
     }
 }
