@@ -139,6 +139,16 @@ sent_ranges o = take (room_after (length (front_text o))) (ranges_of o.sack_rang
 abbrev pub options_text : TcpOptions → List ℕ
 options_text o = front_text o ++ sack_text (sent_ranges o)
 
+-- the options of a segment without SYN
+abbrev pub later_options : Option TcpTimestamp → List (Option SackRange) → TcpOptions
+later_options t places = record { max_seg_size = None; window_scale = None; sack_permitted = false; sack_ranges = places; timestamp = t }
+
+-- without SYN four blocks fit, or three beside timestamps (RFC 2018 3)
+abbrev pub BlocksFit : Type 0
+BlocksFit = (places : List (Option SackRange)) (t : TcpTimestamp) →
+    (sent_ranges (later_options None places) ≡ take 4 (ranges_of places))
+    × (sent_ranges (later_options (Some t) places) ≡ take 3 (ranges_of places))
+
 -- numbers that a block can have
 abbrev pub IsRange : SackRange → Type 0
 IsRange r = (r.left.bits < 2 ^ 32) × (r.right.bits < 2 ^ 32)

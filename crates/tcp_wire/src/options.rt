@@ -49,8 +49,9 @@ pub struct TcpOptions {
     pub window_scale: Option<u8>,
     /// Whether the sender takes selective acknowledgements (RFC 2018 2).
     pub sack_permitted: bool,
-    /// What arrived out of order, in the order of the option, from the first place on (RFC 2018 3).
+    /// What the sender has received out of order, in the order of the option, from the first place on (RFC 2018 3).
     pub sack_ranges: [Option<SackRange>; 4],
+    /// The sender's clock, and the peer's (RFC 7323 3).
     pub timestamp: Option<TcpTimestamp>,
 }
 
@@ -376,3 +377,9 @@ fn timestamp_in(option: &[u8]) -> TcpTimestamp
         echo: u32_at(option, 6),
     }
 }
+
+/// Without the options of a SYN four SACK blocks fit, or three beside timestamps.
+#[tactic(auto, unfolding(crate::specs::Options::size_text, crate::specs::Options::timestamp_text, crate::specs::Options::scale_text))]
+pub fn blocks_fit()
+    ensures { spec.BlocksFit }
+{}
