@@ -184,8 +184,7 @@ fn from_pkg_config(here: &Path) -> Option<Found> {
             folder.display()
         ));
     }
-    let found = Found::in_folder(&folder.join("lib"), "iface")?;
-    Some(Found { proof: folder.join("share/doc/iface/libiface.a.proof"), ..found })
+    Found::in_folder(&folder.join("lib"), "iface")
 }
 
 fn pkg_config(what: &str) -> Option<String> {
