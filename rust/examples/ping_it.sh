@@ -2,7 +2,7 @@
 # Starts a program that is a host at 192.168.69.1 and fe80::1 on a TAP device of Linux, and pings it. The device is in a
 # network namespace of its own, so nothing else is changed, and all ends within seconds.
 #
-#   sudo ping_it.sh PROGRAM [WORD..]      PROGRAM gets `tap0 5` and the words: tap_host of C, server of Rust
+#   sudo ping_it.sh PROGRAM [WORD..]      PROGRAM gets `tap0 8` and the words: tap_host of C, server of Rust
 #
 # It needs root, unshare (util-linux), ip (iproute2), ping (iputils) and /dev/net/tun.
 set -eu
@@ -19,8 +19,9 @@ ip tuntap add dev tap0 mode tap
 ip addr add 192.168.69.100/24 dev tap0
 ip -6 addr add fe80::100/64 dev tap0 nodad
 ip link set tap0 up
-"$program" tap0 5 "$@" &
+"$program" tap0 8 "$@" &
 host=$!
+sleep 1 # until it is there
 trap 'kill $host 2>/dev/null || true' EXIT
 ping -c 3 -i 0.3 192.168.69.1
 ping -c 3 -i 0.3 fe80::1%tap0
