@@ -21,7 +21,7 @@ ip -6 addr add fe80::100/64 dev tap0 nodad
 ip link set tap0 up
 "$program" tap0 8 "$@" &
 host=$!
-sleep 1 # until it is there
+sleep 2 # until the kernel may use its link-local address
 trap 'kill $host 2>/dev/null || true' EXIT
 ping -c 3 -i 0.3 192.168.69.1
 ping -c 3 -i 0.3 fe80::1%tap0
