@@ -121,7 +121,7 @@ fn main() {
         let rest =
             if seq_no < count { Some(send_at) } else { waiting_queue.values().min().map(|from| *from + timeout) };
         let wake = [due, rest].into_iter().flatten().min();
-        phy_wait(fd, wake.map(|at| at - timestamp)).expect("wait error");
+        phy_wait(fd, wake.map(|at| at.max(timestamp) - timestamp)).expect("wait error");
     }
 
     println!("--- {remote_addr} ping statistics ---");

@@ -1,7 +1,9 @@
-//! Addresses, networks and endpoints.
+//! Addresses, networks and endpoints; and the forms of packets, by smoltcp's names.
 //!
-//! smoltcp's packets and their representations (`Icmpv4Packet`, `UdpRepr` and the like) aren't here: the library reads
-//! and writes them itself.
+//! A packet, as [`UdpPacket`], is a view of octets, by fields. A representation, as [`UdpRepr`], has the values of a
+//! packet that is well formed: `parse` reads it, `emit` writes it. These are of this crate, and no proof is about them:
+//! the library has its own, and reads and writes by these alone. They are for programs with ICMP and raw sockets, and
+//! for devices that look at frames.
 use core::cmp::Ordering;
 use core::fmt;
 use core::net::{IpAddr, SocketAddr, SocketAddrV4, SocketAddrV6};
@@ -9,6 +11,48 @@ use core::ops::{Add, AddAssign, Sub};
 use core::str::FromStr;
 
 pub use core::net::{Ipv4Addr as Ipv4Address, Ipv6Addr as Ipv6Address};
+
+#[macro_use]
+mod forms;
+mod arp;
+mod ethernet;
+mod icmpv4;
+mod icmpv6;
+mod igmp;
+mod ipv4;
+mod ipv6;
+mod pretty_print;
+mod udp;
+
+pub use arp::{ArpHardware, ArpOperation, ArpPacket, ArpRepr};
+pub use ethernet::{ETHERNET_HEADER_LEN, EthernetFrame, EthernetProtocol, EthernetRepr};
+pub use icmpv4::{
+    Icmpv4DstUnreachable, Icmpv4Message, Icmpv4Packet, Icmpv4ParamProblem, Icmpv4Redirect, Icmpv4Repr,
+    Icmpv4TimeExceeded,
+};
+pub use icmpv6::{
+    Icmpv6DstUnreachable, Icmpv6Message, Icmpv6Packet, Icmpv6ParamProblem, Icmpv6Repr, Icmpv6TimeExceeded,
+};
+pub use igmp::{IgmpMessage, IgmpPacket, IgmpRepr, IgmpVersion};
+pub use ipv4::{IPV4_HEADER_LEN, IPV4_MIN_MTU, Ipv4Packet, Ipv4Repr};
+pub use ipv6::{IPV6_HEADER_LEN, IPV6_MIN_MTU, Ipv6Packet, Ipv6Repr};
+pub use pretty_print::{PrettyPrint, PrettyPrinter};
+pub use udp::{UDP_HEADER_LEN, UdpPacket, UdpRepr};
+
+/// Octets that aren't a packet of the form that they are read as, or one with a wrong checksum.
+#[derive(Clone, Copy, Debug, PartialEq, Eq)]
+pub struct Error;
+
+impl fmt::Display for Error {
+    fn fmt(&self, f: &mut fmt::Formatter<'_>) -> fmt::Result {
+        f.write_str("wire::Error")
+    }
+}
+
+impl core::error::Error for Error {}
+
+/// What is read of a packet.
+pub type Result<T> = core::result::Result<T, Error>;
 
 /// A text that isn't what it is read as.
 #[derive(Clone, Copy, Debug, Default, PartialEq, Eq)]
@@ -106,61 +150,34 @@ impl PartialOrd for TcpSeqNumber {
     }
 }
 
-macro_rules! protocols {
-    ($($(#[$docs:meta])* $name:ident = $number:literal,)*) => {
-        /// A protocol over IP, by its number.
-        #[derive(Clone, Copy, Debug, PartialEq, Eq, PartialOrd, Ord, Hash)]
-        pub enum IpProtocol {
-            $($(#[$docs])* $name,)*
-            /// Any other number.
-            Unknown(u8),
-        }
-
-        impl From<u8> for IpProtocol {
-            fn from(number: u8) -> IpProtocol {
-                match number {
-                    $($number => IpProtocol::$name,)*
-                    other => IpProtocol::Unknown(other),
-                }
-            }
-        }
-
-        impl From<IpProtocol> for u8 {
-            fn from(protocol: IpProtocol) -> u8 {
-                match protocol {
-                    $(IpProtocol::$name => $number,)*
-                    IpProtocol::Unknown(number) => number,
-                }
-            }
-        }
-    };
-}
-
-protocols! {
-    /// Hop-by-hop options of IPv6.
-    HopByHop = 0,
-    /// ICMP.
-    Icmp = 1,
-    /// IGMP.
-    Igmp = 2,
-    /// TCP.
-    Tcp = 6,
-    /// UDP.
-    Udp = 17,
-    /// A routing header of IPv6.
-    Ipv6Route = 43,
-    /// A fragment header of IPv6.
-    Ipv6Frag = 44,
-    /// An encapsulating security payload.
-    IpSecEsp = 50,
-    /// An authentication header.
-    IpSecAh = 51,
-    /// ICMPv6.
-    Icmpv6 = 58,
-    /// Nothing behind the header.
-    Ipv6NoNxt = 59,
-    /// Destination options of IPv6.
-    Ipv6Opts = 60,
+enum_with_unknown! {
+    /// A protocol over IP, by its number.
+    pub enum IpProtocol(u8) {
+        /// Hop-by-hop options of IPv6.
+        HopByHop = 0,
+        /// ICMP.
+        Icmp = 1,
+        /// IGMP.
+        Igmp = 2,
+        /// TCP.
+        Tcp = 6,
+        /// UDP.
+        Udp = 17,
+        /// A routing header of IPv6.
+        Ipv6Route = 43,
+        /// A fragment header of IPv6.
+        Ipv6Frag = 44,
+        /// An encapsulating security payload.
+        IpSecEsp = 50,
+        /// An authentication header.
+        IpSecAh = 51,
+        /// ICMPv6.
+        Icmpv6 = 58,
+        /// Nothing behind the header.
+        Ipv6NoNxt = 59,
+        /// Destination options of IPv6.
+        Ipv6Opts = 60,
+    }
 }
 
 /// A hardware address of Ethernet.
@@ -325,7 +342,7 @@ impl From<IpAddress> for IpAddr {
 impl FromStr for IpAddress {
     type Err = ParseError;
 
-    fn from_str(text: &str) -> Result<IpAddress, ParseError> {
+    fn from_str(text: &str) -> core::result::Result<IpAddress, ParseError> {
         text.parse::<IpAddr>().map(IpAddress::from).map_err(|_| ParseError)
     }
 }
@@ -463,7 +480,7 @@ impl From<Ipv6Cidr> for IpCidr {
 impl FromStr for IpCidr {
     type Err = ParseError;
 
-    fn from_str(text: &str) -> Result<IpCidr, ParseError> {
+    fn from_str(text: &str) -> core::result::Result<IpCidr, ParseError> {
         let (address, prefix_len) = text.split_once('/').ok_or(ParseError)?;
         let address: IpAddress = address.parse()?;
         let bits = match address.version() {

@@ -46,7 +46,8 @@ impl Config {
     fn settings(&self, capabilities: &DeviceCapabilities, start: Instant) -> Settings {
         let mut settings = Settings::new(self.hardware_addr);
         settings.random_seed = self.random_seed;
-        settings.frame_len = u32::try_from(capabilities.max_transmission_unit).unwrap_or(u32::MAX);
+        // Never more than FRAME_ROOM, which has 32 bits.
+        settings.frame_len = capabilities.max_transmission_unit.min(FRAME_ROOM) as u32;
         settings.slaac = self.slaac;
         settings.sockets = self.sockets;
         settings.patience = self.patience;
@@ -424,12 +425,12 @@ impl Interface {
         self.host.with(|host| host.poll_at(timestamp))
     }
 
-    /// The time until then.
+    /// The time until then: none, if it has passed.
     ///
     /// # Panics
     /// If the sockets are another interface's.
     pub fn poll_delay(&mut self, timestamp: Instant, sockets: &SocketSet<'_>) -> Option<Duration> {
-        self.poll_at(timestamp, sockets).map(|at| at - timestamp)
+        self.poll_at(timestamp, sockets).map(|at| at.max(timestamp) - timestamp)
     }
 
     /// How many packets were given up, of all sockets, since a neighbour didn't answer. smoltcp has none such.

@@ -33,8 +33,8 @@ pub enum Medium {
 pub struct DeviceCapabilities {
     /// Its medium.
     pub medium: Medium,
-    /// The octets of its longest frame, with a header of Ethernet where there is one: 590 to 1514 there, else 576 to
-    /// 1514.
+    /// The octets of its longest frame, with a header of Ethernet where there is one: 590 or more there, else 576 or
+    /// more. Of more than 1514 no frame makes use.
     pub max_transmission_unit: usize,
     /// Which checksums the library verifies and computes: all, unless they are set.
     pub checksum: ChecksumCapabilities,
