@@ -75,9 +75,9 @@ impl Instant {
         self.0 / 1_000 % 1_000
     }
 
-    /// The microseconds behind the whole milliseconds.
+    /// The microseconds behind the whole seconds.
     pub const fn micros(&self) -> i64 {
-        self.0 % 1_000
+        self.0 % 1_000_000
     }
 }
 

@@ -66,6 +66,8 @@ fn instants_stay_in_their_range() {
     assert_eq!(Instant::from_secs(1) - Instant::from_secs(2), Duration::from_secs(1));
     assert_eq!(Instant::from_millis(1500) - Instant::from_secs(1), Duration::from_millis(500));
     assert_eq!(Instant::from_millis(1500).to_string(), "1.500s");
+    let instant = Instant::from_micros(5_674_321);
+    assert_eq!((instant.secs(), instant.millis(), instant.micros()), (5, 674, 674_321));
     assert_eq!(core::time::Duration::from(Duration::from_millis(7)), core::time::Duration::from_millis(7));
 }
 

@@ -4,12 +4,18 @@ use crate::time::Instant;
 use alloc::collections::VecDeque;
 use alloc::vec::Vec;
 
+mod fault_injector;
+mod pcap_writer;
+mod tracer;
 #[cfg(all(
     feature = "std",
     target_os = "linux",
     any(target_arch = "x86_64", target_arch = "aarch64", target_arch = "riscv64")
 ))]
 mod tuntap;
+pub use fault_injector::FaultInjector;
+pub use pcap_writer::{PcapLinkType, PcapMode, PcapSink, PcapWriter};
+pub use tracer::{Tracer, TracerDirection, TracerPacket};
 #[cfg(all(
     feature = "std",
     target_os = "linux",
