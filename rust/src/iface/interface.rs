@@ -341,7 +341,9 @@ impl Interface {
         sockets: &mut SocketSet<'_>,
     ) -> PollIngressSingleResult {
         self.check(sockets);
-        if !self.take_frame(timestamp, device) {
+        let is_taken = self.take_frame(timestamp, device);
+        sockets.wake();
+        if !is_taken {
             PollIngressSingleResult::None
         } else if self.sockets_changed() {
             PollIngressSingleResult::SocketStateChanged
@@ -366,6 +368,7 @@ impl Interface {
             let Some(len) = self.next_frame(timestamp, sockets).map(<[u8]>::len) else { break };
             tx.consume(len, |frame| frame.copy_from_slice(&self.out[..len]));
         }
+        sockets.wake();
         if self.sockets_changed() { PollResult::SocketStateChanged } else { PollResult::None }
     }
 
@@ -399,7 +402,9 @@ impl Interface {
     pub fn receive_frame(&mut self, timestamp: Instant, frame: &[u8], sockets: &mut SocketSet<'_>) -> Option<&[u8]> {
         self.check(sockets);
         let out = &mut self.out;
-        self.host.with(|host| host.receive(timestamp, frame, out)).ok()?
+        let reply = self.host.with(|host| host.receive(timestamp, frame, out));
+        sockets.wake();
+        reply.ok()?
     }
 
     /// Shows the next frame that is to be sent, if any. Where memory for a frame is refused, what waits is sent another
@@ -411,7 +416,9 @@ impl Interface {
     pub fn next_frame(&mut self, timestamp: Instant, sockets: &mut SocketSet<'_>) -> Option<&[u8]> {
         self.check(sockets);
         let out = &mut self.out;
-        self.host.with(|host| host.next(timestamp, out)).ok()?
+        let next = self.host.with(|host| host.next(timestamp, out));
+        sockets.wake();
+        next.ok()?
     }
 
     /// The instant at which it is to be polled again, if no frame comes before and no call changes it: one that has

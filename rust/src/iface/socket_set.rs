@@ -107,6 +107,13 @@ impl<'a> SocketSet<'a> {
         socket
     }
 
+    /// Wakes the tasks that wait for what sockets have.
+    #[inline]
+    pub(super) fn wake(&mut self) {
+        #[cfg(feature = "async")]
+        self.sockets.iter_mut().flatten().for_each(Socket::wake);
+    }
+
     /// The sockets with their handles.
     pub fn iter(&self) -> impl Iterator<Item = (SocketHandle, &Socket<'a>)> {
         self.sockets.iter().enumerate().filter_map(|(index, socket)| Some((SocketHandle(index), socket.as_ref()?)))

@@ -9,6 +9,8 @@ use crate::wire::IpAddress;
 use alloc::vec::Vec;
 use core::fmt;
 use core::marker::PhantomData;
+#[cfg(feature = "async")]
+use core::task::Waker;
 
 pub mod icmp;
 pub mod raw;
@@ -37,6 +39,17 @@ impl Socket<'_> {
             Socket::Icmp(socket) => socket.core.attach(host),
             Socket::Udp(socket) => socket.core.attach(host),
             Socket::Segment(socket) => socket.core.attach(host),
+        }
+    }
+
+    /// Wakes the tasks that wait for a packet, or for room, and have it.
+    #[cfg(feature = "async")]
+    pub(crate) fn wake(&mut self) {
+        match self {
+            Socket::Raw(socket) => socket.core.wake(),
+            Socket::Icmp(socket) => socket.core.wake(),
+            Socket::Udp(socket) => socket.core.wake(),
+            Socket::Segment(socket) => socket.core.wake(),
         }
     }
 
@@ -221,6 +234,23 @@ pub(crate) struct Core<K: Kind> {
     buffer: Vec<u8>,
     /// The origin of the packet that was looked at last, which is lent.
     looked_at: Option<K::Meta>,
+    #[cfg(feature = "async")]
+    wakers: Wakers,
+}
+
+/// The tasks to be woken, each once.
+#[cfg(feature = "async")]
+#[derive(Debug, Default)]
+struct Wakers {
+    recv: Option<Waker>,
+    send: Option<Waker>,
+}
+
+#[cfg(feature = "async")]
+impl Wakers {
+    fn wake(&mut self) {
+        [self.recv.take(), self.send.take()].into_iter().flatten().for_each(Waker::wake);
+    }
 }
 
 impl<K: Kind> Core<K> {
@@ -233,6 +263,18 @@ impl<K: Kind> Core<K> {
             hop_limit: None,
             buffer: Vec::new(),
             looked_at: None,
+            #[cfg(feature = "async")]
+            wakers: Wakers::default(),
+        }
+    }
+
+    #[cfg(feature = "async")]
+    fn wake(&mut self) {
+        if self.wakers.recv.is_some() && self.can_recv() {
+            self.wakers.recv.take().into_iter().for_each(Waker::wake);
+        }
+        if self.wakers.send.is_some() && self.can_send() {
+            self.wakers.send.take().into_iter().for_each(Waker::wake);
         }
     }
 
@@ -274,6 +316,8 @@ impl<K: Kind> Core<K> {
             self.open(&host, endpoint)?;
         }
         self.endpoint = Some(endpoint);
+        #[cfg(feature = "async")]
+        self.wakers.wake();
         Ok(())
     }
 
@@ -282,6 +326,8 @@ impl<K: Kind> Core<K> {
         self.detach();
         self.host = host;
         self.endpoint = None;
+        #[cfg(feature = "async")]
+        self.wakers.wake();
     }
 
     /// Calls the host, if the socket is open there.
@@ -426,6 +472,22 @@ macro_rules! common {
             /// Whether it is bound.
             pub fn is_open(&self) -> bool {
                 self.core.endpoint.is_some()
+            }
+
+            /// Sets the task that is woken when a packet has come, or the socket is bound or closed: by the interface's
+            /// polls, [`receive_frame`](crate::iface::Interface::receive_frame) and
+            /// [`next_frame`](crate::iface::Interface::next_frame). It is woken once, and may be in vain; one that was set
+            /// before isn't woken any more.
+            #[cfg(feature = "async")]
+            pub fn register_recv_waker(&mut self, waker: &core::task::Waker) {
+                self.core.wakers.recv = Some(waker.clone());
+            }
+
+            /// Sets the task that is woken when there is room for one packet more, or the socket is bound or closed: as
+            /// [`register_recv_waker`](Socket::register_recv_waker) does.
+            #[cfg(feature = "async")]
+            pub fn register_send_waker(&mut self, waker: &core::task::Waker) {
+                self.core.wakers.send = Some(waker.clone());
             }
 
             /// Whether a packet came.
