@@ -6,6 +6,12 @@ use alloc::vec::Vec;
 
 mod fault_injector;
 mod pcap_writer;
+#[cfg(all(
+    feature = "phy-raw_socket",
+    target_os = "linux",
+    any(target_arch = "x86_64", target_arch = "aarch64", target_arch = "riscv64")
+))]
+mod raw_socket;
 mod tracer;
 #[cfg(all(
     feature = "std",
@@ -15,6 +21,12 @@ mod tracer;
 mod tuntap;
 pub use fault_injector::FaultInjector;
 pub use pcap_writer::{PcapLinkType, PcapMode, PcapSink, PcapWriter};
+#[cfg(all(
+    feature = "phy-raw_socket",
+    target_os = "linux",
+    any(target_arch = "x86_64", target_arch = "aarch64", target_arch = "riscv64")
+))]
+pub use raw_socket::RawSocket;
 pub use tracer::{Tracer, TracerDirection, TracerPacket};
 #[cfg(all(
     feature = "std",
