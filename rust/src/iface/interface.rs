@@ -4,7 +4,7 @@ use crate::host::{Counters, Error, FRAME_ROOM, Frame, Host, Settings};
 use crate::phy::{Device, DeviceCapabilities, Medium, RxToken, TxToken};
 use crate::shared::Shared;
 use crate::time::{Duration, Instant};
-use crate::wire::{HardwareAddress, IpAddress, IpCidr, Ipv4Address, Ipv6Address};
+use crate::wire::{ETHERNET_HEADER_LEN, HardwareAddress, IpAddress, IpCidr, Ipv4Address, Ipv6Address};
 use alloc::boxed::Box;
 use core::fmt;
 
@@ -153,8 +153,11 @@ impl Interface {
         if (capabilities.medium == Medium::Ip) != (config.hardware_addr == HardwareAddress::Ip) {
             return Err(Error::BadArgument);
         }
-        let host = Host::new(&config.settings(&capabilities, now))?;
-        Ok(Interface { host: Shared::new(host), out: Box::new([0; FRAME_ROOM]), given_up: 0 })
+        let settings = config.settings(&capabilities, now);
+        let host = Host::new(&settings)?;
+        let header_len = if capabilities.medium == Medium::Ip { 0 } else { ETHERNET_HEADER_LEN };
+        let ip_mtu = settings.frame_len as usize - header_len;
+        Ok(Interface { host: Shared::new(host, ip_mtu), out: Box::new([0; FRAME_ROOM]), given_up: 0 })
     }
 
     /// Its hardware address.

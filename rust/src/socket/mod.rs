@@ -11,11 +11,15 @@ use core::fmt;
 use core::marker::PhantomData;
 #[cfg(feature = "async")]
 use core::task::Waker;
+use lent::Destination;
 
 pub mod icmp;
+mod lent;
 pub mod raw;
 pub mod segment;
 pub mod udp;
+
+pub use lent::Lent;
 
 /// A socket of any kind.
 #[derive(Debug)]
@@ -361,6 +365,24 @@ impl<K: Kind> Core<K> {
         let size = f(&mut buffer);
         self.send(|host, number| send(host, number, &buffer[..size]))?;
         Ok(size)
+    }
+
+    /// Lends a packet of `size` octets, to a destination, if it would be queued now.
+    fn lend(&mut self, size: usize, to: Destination) -> Result<Lent<'_>, SendError> {
+        if !to.is_addressable() {
+            return Err(SendError::Unaddressable);
+        }
+        if self.host.as_ref().is_some_and(|host| !to.may_carry(size, host.ip_mtu())) {
+            return Err(SendError::TooLong);
+        }
+        let queue = self.call(Host::queues)?.to_send;
+        if queue.packets >= queue.most_packets || size > queue.most_octets.saturating_sub(queue.octets) as usize {
+            return Err(SendError::BufferFull);
+        }
+        match (&self.host, self.number) {
+            (Some(host), Some(number)) => Ok(Lent::new(host, number, to, size)),
+            _ => Err(SendError::BufferFull),
+        }
     }
 
     /// What waits in its queues, if it is open.

@@ -1,6 +1,7 @@
 //! Raw sockets, for whole packets of one version of IP and one protocol.
+use super::lent::Destination;
 pub use super::{BindError, PacketBuffer, PacketMetadata, RecvError, SendError};
-use super::{Core, Kind, common};
+use super::{Core, Kind, Lent, common};
 use crate::host::{Error, Host, Rooms};
 use crate::wire::{IpProtocol, IpVersion};
 use core::marker::PhantomData;
@@ -69,6 +70,14 @@ impl<'a> Socket<'a> {
     #[inline]
     pub fn send_slice(&mut self, data: &[u8]) -> Result<(), SendError> {
         self.core.send(|host, number| host.raw_send(number, data))
+    }
+
+    /// Lends a packet with its header of `size` octets, which is queued when what is lent is dropped.
+    ///
+    /// # Errors
+    /// [`SendError`]: then nothing is lent.
+    pub fn send(&mut self, size: usize) -> Result<Lent<'_>, SendError> {
+        self.core.lend(size, Destination::Raw)
     }
 
     /// Queues the packet that `f` writes into a buffer of `max_size` octets, and returns how many `f` said it has.
