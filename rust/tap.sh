@@ -73,7 +73,7 @@ finish 'udp:6969 recv data: 4000 octets from 192.168.69.100'
 ip neigh flush dev tap0
 start multicast 6
 try python3 "$here/tap_peer.py" groups
-finish 'to 224.0.0.37' 'type 0x11' 'ff15::25'
+finish 'to 224.0.0.37' 'MembershipQuery' 'ff15::25'
 grep -q '224.0.0.38' "$scratch/output" && echo 'a datagram to a group that was not joined' && status=1
 
 ip neigh flush dev tap0
