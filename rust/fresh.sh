@@ -18,16 +18,19 @@ refuse() {
     exit 1
 }
 
+# PATH [NAME FEATURES]: under another name, with features.
 make_own() {
     mkdir -p "$folder/own/src"
     printf '%s\n' '[package]' 'name = "own"' 'version = "0.1.0"' 'edition = "2024"' '[dependencies]' \
-        "fumitorygate = { path = \"$1\" }" >"$folder/own/Cargo.toml"
+        "${2:-fumitorygate} = { package = \"fumitorygate\", path = \"$1\", features = [${3:-}] }" >"$folder/own/Cargo.toml"
     # The first block of Rust.
-    sed -n '/^```rust$/,/^```$/p' "$here/README.md" | sed '1d;/^```$/,$d' >"$folder/own/src/main.rs"
+    sed -n '/^```rust$/,/^```$/p' "$here/README.md" | sed '1d;/^```$/,$d' |
+        sed "s/fumitorygate/${2:-fumitorygate}/" >"$folder/own/src/main.rs"
 }
 
+# PATH WHAT [NAME FEATURES]
 try() {
-    make_own "$1"
+    make_own "$1" "${3:-}" "${4:-}"
     printed=$(cd "$folder/own" && "$cargo" run -q --offline 2>"$folder/said") ||
         { cat "$folder/said" >&2 && refuse "over $2 it failed"; }
     [ "$printed" = '127.0.0.1:7: hello' ] || refuse "over $2 it printed '$printed'"
@@ -53,6 +56,7 @@ packaged=$(echo "$folder"/fumitorygate-*)
 [ -d "$packaged/lib" ] || ./carry.sh "$packaged/lib"
 unset FUMITORYGATE_LIB_DIR
 try "$packaged" 'the package'
+try "$packaged" "the package under smoltcp's name" smoltcp '"medium-ip", "proto-ipv4", "socket-udp"'
 
 library=$packaged/lib/$target/libiface.a
 cp "$library" "$folder/kept"
