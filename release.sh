@@ -23,7 +23,7 @@ refuse() {
 version=$(sed -n 's|.*"fumitorygate \([0-9.]*\).*|\1|p' c/about.c)
 rm -rf "$folder"/fumitorygate-* "$folder/SHA256SUMS" rust/lib # (the crate would take that for what `make -C c` built)
 
-# The octets of an archive depend on the commit alone.
+# The octets of an archive depend on its files' alone.
 pack() {
     tar -C "$work" --sort=name --owner=0 --group=0 --numeric-owner --mtime="@$(git log -1 --format=%ct)" -cf - "$1" |
         gzip -n >"$folder/$1.tar.gz"

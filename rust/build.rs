@@ -157,6 +157,9 @@ fn unproved(top: &Path, library: &str) -> Option<Found> {
         return None;
     }
     make(&c, "unproved");
+    for name in fs::read_dir(top.join("crates")).into_iter().flatten().flatten() {
+        println!("cargo::rerun-if-changed={}", name.path().join("src").display());
+    }
     Found::in_folder(&c.join("build/unproved"), &format!("{library}_unproved"))
 }
 
