@@ -219,6 +219,22 @@ impl EthernetAddress {
     }
 }
 
+impl FromStr for EthernetAddress {
+    type Err = ParseError;
+
+    /// Six octets of two hex digits, with `-` or `:` between.
+    fn from_str(text: &str) -> core::result::Result<EthernetAddress, ParseError> {
+        let between = if text.contains('-') { '-' } else { ':' };
+        let mut octets = [0; 6];
+        let mut parts = text.split(between);
+        for octet in &mut octets {
+            let digits = parts.next().filter(|part| part.len() == 2 && !part.starts_with('+')).ok_or(ParseError)?;
+            *octet = u8::from_str_radix(digits, 16).map_err(|_| ParseError)?;
+        }
+        if parts.next().is_some() { Err(ParseError) } else { Ok(EthernetAddress(octets)) }
+    }
+}
+
 impl fmt::Display for EthernetAddress {
     fn fmt(&self, f: &mut fmt::Formatter<'_>) -> fmt::Result {
         let [a, b, c, d, e, g] = self.0;
@@ -387,8 +403,34 @@ macro_rules! cidr {
 
             /// Whether an address is in this network.
             pub fn contains_addr(&self, address: &$address) -> bool {
-                let mask = <$number>::MAX.checked_shl(u32::from($bits - self.prefix_len)).unwrap_or(0);
-                <$number>::from(self.address) & mask == <$number>::from(*address) & mask
+                <$number>::from(self.address) & self.mask() == <$number>::from(*address) & self.mask()
+            }
+
+            /// Whether another network is a part of this one.
+            pub fn contains_subnet(&self, subnet: &$name) -> bool {
+                self.prefix_len <= subnet.prefix_len && self.contains_addr(&subnet.address)
+            }
+
+            /// This network by its first address.
+            pub fn network(&self) -> $name {
+                $name { address: (<$number>::from(self.address) & self.mask()).into(), prefix_len: self.prefix_len }
+            }
+
+            fn mask(&self) -> $number {
+                <$number>::MAX.checked_shl(u32::from($bits - self.prefix_len)).unwrap_or(0)
+            }
+        }
+
+        impl FromStr for $name {
+            type Err = ParseError;
+
+            fn from_str(text: &str) -> core::result::Result<$name, ParseError> {
+                let (address, prefix_len) = text.split_once('/').ok_or(ParseError)?;
+                let address = address.parse().map_err(|_| ParseError)?;
+                match prefix_len.parse() {
+                    Ok(prefix_len) if prefix_len <= $bits => Ok($name { address, prefix_len }),
+                    _ => Err(ParseError),
+                }
             }
         }
 
@@ -402,6 +444,30 @@ macro_rules! cidr {
 
 cidr!(Ipv4Cidr, Ipv4Address, 32, u32);
 cidr!(Ipv6Cidr, Ipv6Address, 128, u128);
+
+impl Ipv4Cidr {
+    /// An address with a mask in place of a prefix's length.
+    ///
+    /// # Errors
+    /// [`Error`] if the mask isn't one bit or more, all of them before the first that is 0.
+    pub fn from_netmask(addr: Ipv4Address, netmask: Ipv4Address) -> Result<Ipv4Cidr> {
+        let mask = u32::from(netmask);
+        if mask == 0 || mask.leading_ones() != mask.count_ones() {
+            return Err(Error);
+        }
+        Ok(Ipv4Cidr { address: addr, prefix_len: mask.count_ones() as u8 })
+    }
+
+    /// The mask of this network.
+    pub fn netmask(&self) -> Ipv4Address {
+        self.mask().into()
+    }
+
+    /// The address to which all in this network listen. `None` if it has one or two addresses (RFC 3021).
+    pub fn broadcast(&self) -> Option<Ipv4Address> {
+        (self.prefix_len < 31).then(|| (u32::from(self.address) | !self.mask()).into())
+    }
+}
 
 impl Ipv6Cidr {
     /// The address of a prefix of 64 bits that is formed from a hardware address of Ethernet (RFC 4291, appendix A).
@@ -465,6 +531,25 @@ impl IpCidr {
     }
 }
 
+impl IpCidr {
+    /// Whether another network is a part of this one.
+    pub fn contains_subnet(&self, subnet: &IpCidr) -> bool {
+        match (self, subnet) {
+            (IpCidr::Ipv4(cidr), IpCidr::Ipv4(subnet)) => cidr.contains_subnet(subnet),
+            (IpCidr::Ipv6(cidr), IpCidr::Ipv6(subnet)) => cidr.contains_subnet(subnet),
+            _ => false,
+        }
+    }
+
+    /// This network by its first address.
+    pub fn network(&self) -> IpCidr {
+        match self {
+            IpCidr::Ipv4(cidr) => IpCidr::Ipv4(cidr.network()),
+            IpCidr::Ipv6(cidr) => IpCidr::Ipv6(cidr.network()),
+        }
+    }
+}
+
 impl From<Ipv4Cidr> for IpCidr {
     fn from(cidr: Ipv4Cidr) -> IpCidr {
         IpCidr::Ipv4(cidr)
@@ -481,16 +566,7 @@ impl FromStr for IpCidr {
     type Err = ParseError;
 
     fn from_str(text: &str) -> core::result::Result<IpCidr, ParseError> {
-        let (address, prefix_len) = text.split_once('/').ok_or(ParseError)?;
-        let address: IpAddress = address.parse()?;
-        let bits = match address.version() {
-            IpVersion::Ipv4 => 32,
-            IpVersion::Ipv6 => 128,
-        };
-        match prefix_len.parse() {
-            Ok(prefix_len) if prefix_len <= bits => Ok(IpCidr::new(address, prefix_len)),
-            _ => Err(ParseError),
-        }
+        text.parse().map(IpCidr::Ipv4).or_else(|_| text.parse().map(IpCidr::Ipv6))
     }
 }
 
@@ -540,6 +616,14 @@ impl From<SocketAddrV4> for IpEndpoint {
 impl From<SocketAddrV6> for IpEndpoint {
     fn from(address: SocketAddrV6) -> IpEndpoint {
         IpEndpoint { addr: (*address.ip()).into(), port: address.port() }
+    }
+}
+
+impl FromStr for IpEndpoint {
+    type Err = ParseError;
+
+    fn from_str(text: &str) -> core::result::Result<IpEndpoint, ParseError> {
+        text.parse::<SocketAddr>().map(IpEndpoint::from).map_err(|_| ParseError)
     }
 }
 
