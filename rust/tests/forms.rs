@@ -106,6 +106,12 @@ fn a_packet_of_ipv4() {
     packet.fill_checksum();
     packet.payload_mut().copy_from_slice(&FRAGMENT[20..]);
     assert_eq!(written, FRAGMENT);
+    // RFC 791 3.1: offsets are of 13 bits, beside the flags.
+    let mut packet = Ipv4Packet::new_unchecked(&mut written[..]);
+    packet.set_frag_offset(0x1fff * 8);
+    assert_eq!((packet.frag_offset(), packet.more_frags(), packet.dont_frag()), (0x1fff * 8, true, true));
+    packet.clear_flags();
+    assert_eq!((packet.frag_offset(), packet.more_frags(), packet.dont_frag()), (0x1fff * 8, false, false));
 }
 
 #[test]
@@ -115,10 +121,14 @@ fn what_is_no_packet_of_ipv4() {
     assert!(read(&[&FRAGMENT[..], &[0; 16]].concat()).is_ok());
     assert_eq!(read(&FRAGMENT[..29]), Err(Error));
     // Version 5, a header of 16 octets, one of 60, a length of 19, a wrong checksum.
-    for (at, value) in [(0, 0x55), (0, 0x44), (0, 0x4f), (3, 19), (11, 0)] {
+    for (at, value, is_checksum) in
+        [(0, 0x55, false), (0, 0x44, false), (0, 0x4f, false), (3, 19, false), (11, 0, true)]
+    {
         let mut other = FRAGMENT;
         other[at] = value;
         assert_eq!(read(&other), Err(Error));
+        let unverified = Ipv4Repr::parse(&Ipv4Packet::new_unchecked(&other[..]), &ChecksumCapabilities::ignored());
+        assert_eq!(unverified.is_ok(), is_checksum, "{at}: {value}");
     }
     let mut other = FRAGMENT;
     other[11] = 0;
@@ -192,8 +202,14 @@ fn what_is_no_datagram() {
     assert!(read(&none, SRC.into(), DST.into()).is_ok());
     assert_eq!(read(&none, SRC6.into(), DST6.into()), Err(Error));
     // To port 0, shorter than a header, longer than it is, a wrong checksum.
-    for changes in [&[(3, 0), (6, 0), (7, 0)][..], &[(5, 7)], &[(5, 13)], &[(7, 0)]] {
-        assert_eq!(read(&changed(changes), SRC.into(), DST.into()), Err(Error));
+    for (changes, is_checksum) in
+        [(&[(3, 0), (6, 0), (7, 0)][..], false), (&[(5, 7)], false), (&[(5, 13)], false), (&[(7, 0)], true)]
+    {
+        let octets = changed(changes);
+        assert_eq!(read(&octets, SRC.into(), DST.into()), Err(Error));
+        let unverified = UdpPacket::new_checked(&octets[..])
+            .and_then(|packet| UdpRepr::parse(&packet, &SRC.into(), &DST.into(), &ChecksumCapabilities::ignored()));
+        assert_eq!(unverified.is_ok(), is_checksum, "{changes:?}");
     }
 }
 
@@ -207,6 +223,10 @@ fn messages_that_ask_for_an_echo() {
     let mut written = [0xa5; 12];
     repr.emit(&mut Icmpv4Packet::new_unchecked(&mut written[..]), &caps());
     assert_eq!((written, repr.buffer_len()), (octets, 12));
+    written[11] ^= 1;
+    let wrong = Icmpv4Packet::new_checked(&written[..]).unwrap();
+    assert_eq!(Icmpv4Repr::parse(&wrong, &caps()), Err(Error));
+    assert!(Icmpv4Repr::parse(&wrong, &ChecksumCapabilities::ignored()).is_ok());
 
     let octets = [0x80, 0x00, 0x19, 0xb3, 0x12, 0x34, 0xab, 0xcd, 0xaa, 0x00, 0x00, 0xff];
     let repr = Icmpv6Repr::EchoRequest { ident: 0x1234, seq_no: 0xabcd, data };

@@ -64,6 +64,15 @@ fn a_file_of_frames_has_its_form() {
     let head = |link| [words(&[0xa1b2_c3d4]), version.clone(), words(&[0, 0, 65_535, link])].concat();
     let came = [words(&[2, 7, 3, 3]), vec![0xaa; 3]].concat();
     let sent = [words(&[3, 999_999, 2, 2]), vec![0xbb; 2]].concat();
+    // A reply is a frame that is sent.
+    for (mode, frames) in [(PcapMode::Both, 2), (PcapMode::RxOnly, 1), (PcapMode::TxOnly, 1)] {
+        let mut sink = Vec::new();
+        let mut device = PcapWriter::new(memory(1, 60), &mut sink, mode);
+        let (rx, tx) = device.receive(Instant::ZERO).unwrap();
+        rx.consume(|_| ());
+        tx.consume(60, |frame| frame.fill(1));
+        assert_eq!(sink.len(), 24 + frames * (16 + 60), "{mode:?}");
+    }
     assert_eq!(written(PcapMode::Both, Medium::Ethernet), [head(1), came.clone(), sent.clone()].concat());
     assert_eq!(written(PcapMode::RxOnly, Medium::Ip), [head(101), came].concat());
     assert_eq!(written(PcapMode::TxOnly, Medium::Ip), [head(101), sent].concat());

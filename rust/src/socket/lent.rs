@@ -29,6 +29,9 @@ pub(super) enum Destination {
     Raw,
 }
 
+/// The octets of the longest packet of IPv4 that is sent.
+const MAX_CUT: usize = 4096;
+
 impl Destination {
     /// Whether the library takes it.
     pub(super) fn is_addressable(&self) -> bool {
@@ -40,15 +43,13 @@ impl Destination {
     }
 
     /// Whether the library takes so many octets to it, on a link whose packets have at most `ip_mtu`: over IPv4 in a
-    /// packet of up to 4096, which goes in pieces where the link's are shorter, over IPv6 in one of the link's.
+    /// packet of up to 4096, which goes in pieces as the link's are shorter, over IPv6 in one of the link's.
     pub(super) fn may_carry(&self, size: usize, ip_mtu: usize) -> bool {
         match self {
             Destination::Raw => true,
-            Destination::Udp(IpEndpoint { addr: IpAddress::Ipv4(_), .. }) => {
-                size.saturating_add(28) <= ip_mtu.max(4096)
-            }
+            Destination::Udp(IpEndpoint { addr: IpAddress::Ipv4(_), .. }) => size.saturating_add(28) <= MAX_CUT,
             Destination::Udp(IpEndpoint { addr: IpAddress::Ipv6(_), .. }) => size.saturating_add(48) <= ip_mtu,
-            Destination::Icmp(IpAddress::Ipv4(_)) => size.saturating_add(20) <= ip_mtu.max(4096),
+            Destination::Icmp(IpAddress::Ipv4(_)) => size.saturating_add(20) <= MAX_CUT,
             Destination::Icmp(IpAddress::Ipv6(_)) => size.saturating_add(40) <= ip_mtu,
         }
     }
