@@ -236,6 +236,12 @@ fn sockets_are_closed_with_their_places() {
     let refused = sockets.try_add(raw()).unwrap_err();
     assert_eq!(refused.error, Error::TableFull);
     sockets.remove(third);
+    // `API.md`: there is no raw socket for any version or protocol.
+    for (version, protocol) in [(None, Some(IpProtocol::Igmp)), (Some(IpVersion::Ipv4), None), (None, None)] {
+        let socket = raw::Socket::new(version, protocol, buffer(), buffer());
+        assert_eq!((socket.ip_version(), socket.ip_protocol()), (version, protocol));
+        assert_eq!(sockets.try_add(socket).unwrap_err().error, Error::BadArgument);
+    }
     sockets.get_mut::<icmp::Socket>(second).bind(icmp::Endpoint::Ident(1)).unwrap();
     // A socket that is overwritten is closed, too.
     *sockets.get_mut::<udp::Socket>(first) = udp::Socket::new(buffer(), buffer());

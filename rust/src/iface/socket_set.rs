@@ -19,7 +19,7 @@ impl fmt::Display for SocketHandle {
 /// Why a socket isn't in a set, and the socket.
 #[derive(Debug)]
 pub struct AddError<'a> {
-    /// [`Error::TableFull`] or [`Error::NoMemory`].
+    /// [`Error::TableFull`], [`Error::NoMemory`], or [`Error::BadArgument`] of a raw socket for any version or protocol.
     pub error: Error,
     /// The socket.
     pub socket: Socket<'a>,
