@@ -349,7 +349,7 @@ fn any_octets_are_read_or_refused() {
         word
     };
     let none = ChecksumCapabilities::ignored();
-    for _ in 0..200_000 {
+    for _ in 0..20_000 {
         let mut octets = [0; 72];
         octets.chunks_mut(8).for_each(|chunk| chunk.copy_from_slice(&next().to_le_bytes()));
         octets[0] = [octets[0], 0x45, 0x60, 3, 11, 1, 128][next() as usize % 7];

@@ -2,7 +2,8 @@
 //! files of frames (draft-ietf-opsawg-pcap).
 #![cfg(feature = "std")]
 use fumitorygate::phy::{
-    Device, FaultInjector, Medium, MemoryDevice, PcapMode, PcapWriter, RxToken, Tracer, TracerDirection, TxToken,
+    Device, FaultInjector, FuzzInjector, Fuzzer, Medium, MemoryDevice, PcapMode, PcapWriter, RxToken, Tracer,
+    TracerDirection, TxToken,
 };
 use fumitorygate::time::{Duration, Instant};
 use std::sync::Mutex;
@@ -126,6 +127,22 @@ fn frames_that_are_too_long_or_too_many_are_dropped() {
         (0..4).for_each(|_| send(&mut device, now, &[0; 50]));
     }
     assert_eq!(device.into_inner().sent.len(), 6);
+}
+
+#[test]
+fn fuzzers_change_what_comes_and_what_was_written() {
+    struct Sets(u8);
+    impl Fuzzer for Sets {
+        fn fuzz_packet(&self, packet_data: &mut [u8]) {
+            packet_data[0] = self.0;
+        }
+    }
+    let mut device = FuzzInjector::new(memory(1, 2), Sets(3), Sets(4));
+    let (rx, tx) = device.receive(Instant::ZERO).unwrap();
+    assert_eq!(rx.consume(<[u8]>::to_vec), [4, 0]);
+    tx.consume(2, |frame| frame.fill(9));
+    send(&mut device, Instant::ZERO, &[8; 2]);
+    assert_eq!(device.into_inner().sent, [vec![3, 9], vec![3, 8]]);
 }
 
 #[test]

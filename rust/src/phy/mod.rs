@@ -5,6 +5,7 @@ use alloc::collections::VecDeque;
 use alloc::vec::Vec;
 
 mod fault_injector;
+mod fuzz_injector;
 mod pcap_writer;
 #[cfg(all(
     feature = "phy-raw_socket",
@@ -20,6 +21,7 @@ mod tracer;
 ))]
 mod tuntap;
 pub use fault_injector::FaultInjector;
+pub use fuzz_injector::{FuzzInjector, Fuzzer};
 pub use pcap_writer::{PcapLinkType, PcapMode, PcapSink, PcapWriter};
 #[cfg(all(
     feature = "phy-raw_socket",
