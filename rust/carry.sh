@@ -1,5 +1,5 @@
 #!/bin/sh
-# Copies the library to FOLDER/TARGET, as a package of the crate carries it.
+# Copies the proved library to FOLDER/TARGET, as a package of the crate carries it, with what tells of its proof.
 #
 #   carry.sh FOLDER
 #
@@ -9,10 +9,10 @@ own=$(pwd)
 cd "$(dirname "$0")"
 target=${TARGET:-$(rustc -vV | sed -n 's/^host: //p')}
 case $1 in /*) folder=$1/$target ;; *) folder=$own/$1/$target ;; esac
+from=${FUMITORYGATE_LIB_DIR:-../c/build}
 mkdir -p "$folder"
 for name in libiface.a libiface_c.a; do
-    for place in ${FUMITORYGATE_LIB_DIR:-../c/build ../crates/iface_c/out}; do
-        [ ! -e "$place/$name" ] || { cp "$place/$name" "$folder/$name" && break; }
-    done
-    [ -e "$folder/$name" ] || { echo "carry.sh: there is no $name" >&2 && exit 1; }
+    [ -e "$from/$name" ] || { echo "carry.sh: there is no $name in $from" >&2 && exit 1; }
+    ../c/proof.sh check "$from/$name"
+    cp "$from/$name" "$from/$name.proof" "$folder/"
 done

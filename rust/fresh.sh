@@ -1,45 +1,74 @@
 #!/bin/sh
 # Makes a crate in a temporary folder, with the program and the dependency of README.md, and runs it: over this folder,
-# and over this crate as it is packaged, unpacked elsewhere with the library beside it. Over a library of another header
-# the program has to say so.
+# and over this crate as it is packaged, unpacked elsewhere. Without a library the package has to say what it lacks;
+# over one that has other octets than were proved, or another header, it has to be refused.
+#
+#   fresh.sh [FOLDER]      leaves the crate in FOLDER, with the libraries that stand in lib
 set -eu
 cd "$(dirname "$0")"
 here=$(pwd)
 folder=$(mktemp -d)
 trap 'rm -rf "$folder"' EXIT
 cargo=${CARGO:-cargo}
+target=${TARGET:-$(rustc -vV | sed -n 's/^host: //p')}
+unset FUMITORYGATE_TRY
 
+refuse() {
+    echo "fresh.sh: $1" >&2
+    exit 1
+}
+
+# PATH [NAME FEATURES]: under another name, with features.
 make_own() {
     mkdir -p "$folder/own/src"
     printf '%s\n' '[package]' 'name = "own"' 'version = "0.1.0"' 'edition = "2024"' '[dependencies]' \
-        "fumitorygate = { path = \"$1\" }" >"$folder/own/Cargo.toml"
+        "${2:-fumitorygate} = { package = \"fumitorygate\", path = \"$1\", features = [${3:-}] }" >"$folder/own/Cargo.toml"
     # The first block of Rust.
-    sed -n '/^```rust$/,/^```$/p' "$here/README.md" | sed '1d;/^```$/,$d' >"$folder/own/src/main.rs"
+    sed -n '/^```rust$/,/^```$/p' "$here/README.md" | sed '1d;/^```$/,$d' |
+        sed "s/fumitorygate/${2:-fumitorygate}/" >"$folder/own/src/main.rs"
 }
 
+# PATH WHAT [NAME FEATURES]
 try() {
-    make_own "$1"
-    printed=$(cd "$folder/own" && "$cargo" run -q --offline)
-    [ "$printed" = '127.0.0.1:7: hello' ] || { echo "fresh.sh: it printed '$printed'" >&2 && exit 1; }
+    make_own "$1" "${3:-}" "${4:-}"
+    printed=$(cd "$folder/own" && "$cargo" run -q --offline 2>"$folder/said") ||
+        { cat "$folder/said" >&2 && refuse "over $2 it failed"; }
+    [ "$printed" = '127.0.0.1:7: hello' ] || refuse "over $2 it printed '$printed'"
+    ! grep UNPROVED "$folder/said" || refuse "over $2 no proof is known"
     echo "a crate of $(wc -l <"$folder/own/src/main.rs") lines, over $2: $printed"
+}
+
+# It has to fail with these words, and not in the linker.
+fails() {
+    make_own "$packaged"
+    ! said=$(cd "$folder/own" && PKG_CONFIG_PATH='' PKG_CONFIG_LIBDIR="$folder" "$cargo" run -q --offline 2>&1) || refuse "$2: it was taken"
+    case $said in
+    *'linking with'*) refuse "$2: the linker failed: $said" ;;
+    *"$1"*) echo "$2 is refused" ;;
+    *) refuse "$2: it printed '$said'" ;;
+    esac
 }
 
 try "$here" 'this folder'
 "$cargo" package -q --no-verify --allow-dirty --offline --target-dir "$folder/target"
 tar -C "$folder" -xzf "$folder"/target/package/fumitorygate-*.crate
 packaged=$(echo "$folder"/fumitorygate-*)
-./carry.sh "$packaged/lib"
+[ -d "$packaged/lib" ] || ./carry.sh "$packaged/lib"
 unset FUMITORYGATE_LIB_DIR
 try "$packaged" 'the package'
+try "$packaged" "the package under smoltcp's name" smoltcp '"medium-ip", "proto-ipv4", "socket-udp"'
+
+library=$packaged/lib/$target/libiface.a
+cp "$library" "$folder/kept"
+echo >>"$library"
+fails "isn't the library that was proved" 'a library with an octet more'
+mv "$packaged/lib" "$folder/lib"
+fails 'this package carries no library for' 'a package without a library'
+mv "$folder/lib" "$packaged/lib"
+cp "$folder/kept" "$library"
 
 # The same library under a crate whose header has the number 255.
 own=$(sed -n 's/.*define IFACE_VERSION \(0x[0-9a-f]*\)u/\1/p' ../c/iface.h)
 sed -i "s/\(pub const IFACE_VERSION: u32 =\) .*/\1 $((own | 255));/" "$packaged/src/sys.rs"
-make_own "$packaged"
-if said=$(cd "$folder/own" && "$cargo" run -q --offline 2>&1); then
-    echo "fresh.sh: a library of another header was taken" >&2 && exit 1
-fi
-case $said in
-*"OtherVersion { own: $((own | 255)), library: Some($((own))) }"*) echo 'a library of another header is refused' ;;
-*) echo "fresh.sh: over a library of another header it printed '$said'" >&2 && exit 1 ;;
-esac
+fails "OtherVersion { own: $((own | 255)), library: Some($((own))) }" 'a library of another header'
+[ -z "${1:-}" ] || cp "$folder"/target/package/fumitorygate-*.crate "$1/"

@@ -1,6 +1,7 @@
 #!/bin/bash
-# Runs ping, server, multicast and slaac on TAP devices in a network namespace of its own, against Linux's stack. It
-# changes nothing outside that namespace, and ends by itself after at most three minutes.
+# Runs ping, server, multicast and slaac on TAP devices, and trace on one of a pair of interfaces, in a network namespace
+# of its own, against Linux's stack. It changes nothing outside that namespace, and ends by itself after at most three
+# minutes.
 #
 #   tap.sh FOLDER     the folder of the built examples, of Linux
 #
@@ -72,7 +73,7 @@ finish 'udp:6969 recv data: 4000 octets from 192.168.69.100'
 ip neigh flush dev tap0
 start multicast 6
 try python3 "$here/tap_peer.py" groups
-finish 'to 224.0.0.37' 'type 0x11' 'ff15::25'
+finish 'to 224.0.0.37' 'MembershipQuery' 'ff15::25'
 grep -q '224.0.0.38' "$scratch/output" && echo 'a datagram to a group that was not joined' && status=1
 
 ip neigh flush dev tap0
@@ -81,4 +82,17 @@ try python3 "$here/tap_peer.py" router
 ip -6 addr add 2001:db8:77::100/64 dev tap0 nodad
 try ping -c 3 -i 0.2 2001:db8:77::ff:fe00:1
 finish '2001:db8:77::ff:fe00:1/64'
+
+ip link add peer0 type veth peer name raw0
+ip addr add 192.168.70.100/24 dev peer0
+ip link set peer0 up
+ip link set raw0 up promisc on
+"$folder/trace" raw0 192.168.70.1/24 "$scratch/frames.pcap" 4 >"$scratch/output" &
+running=$!
+sleep 1
+try ping -c 3 -i 0.2 192.168.70.1
+finish 'op=Reply' 'ICMPv4 echo reply id=[0-9]* seq=3 len=56'
+# RFC 792: the six messages are in the file, each behind an Ethernet header of this type.
+[ "$(grep -c 'ICMPv4 echo' "$scratch/output")" = 6 ] || { echo 'not six echo messages' && status=1; }
+[ "$(wc -c <"$scratch/frames.pcap")" -gt $((24 + 6 * (16 + 98))) ] || { echo 'too short a file of frames' && status=1; }
 exit $status

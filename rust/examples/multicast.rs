@@ -8,7 +8,10 @@ use fumitorygate::iface::{Config, Interface, SocketSet};
 use fumitorygate::phy::{Medium, TunTapInterface, wait as phy_wait};
 use fumitorygate::socket::{raw, udp};
 use fumitorygate::time::{Duration, Instant};
-use fumitorygate::wire::{EthernetAddress, IpAddress, IpCidr, IpProtocol, IpVersion, Ipv4Address, Ipv6Address};
+use fumitorygate::wire::{
+    EthernetAddress, IgmpPacket, IgmpRepr, IpAddress, IpCidr, IpProtocol, IpVersion, Ipv4Address, Ipv4Packet,
+    Ipv6Address,
+};
 use std::os::unix::io::AsRawFd;
 
 const MDNS_PORT: u16 = 8123;
@@ -41,7 +44,7 @@ fn main() {
     let raw_rx_buffer = raw::PacketBuffer::new([raw::PacketMetadata::EMPTY; 2], vec![0; 512]);
     // Will not send IGMP
     let raw_tx_buffer = raw::PacketBuffer::new([], []);
-    let raw_socket = raw::Socket::new(IpVersion::Ipv4, IpProtocol::Igmp, raw_rx_buffer, raw_tx_buffer);
+    let raw_socket = raw::Socket::new(Some(IpVersion::Ipv4), Some(IpProtocol::Igmp), raw_rx_buffer, raw_tx_buffer);
     let raw_handle = sockets.add(raw_socket);
 
     // Must fit mDNS payload of at least one packet
@@ -60,10 +63,13 @@ fn main() {
         iface.poll(timestamp, &mut device, &mut sockets);
 
         let socket = sockets.get_mut::<raw::Socket>(raw_handle);
-        while let Ok(packet) = socket.recv() {
-            // The header of IPv4 says in its first octet how long it is, in words of four octets.
-            let kind = packet[usize::from(packet[0] & 15) * 4];
-            println!("IGMP packet: {} octets, type {kind:#04x}", packet.len());
+        if socket.can_recv() {
+            // For display purposes only - normally we wouldn't process incoming IGMP packets in the application layer
+            let payload = socket.recv().unwrap();
+            let ipv4_packet = Ipv4Packet::new_checked(payload).unwrap();
+            let igmp_packet = IgmpPacket::new_checked(ipv4_packet.payload()).unwrap();
+            let igmp_repr = IgmpRepr::parse(&igmp_packet).unwrap();
+            println!("IGMP packet: {igmp_repr:?}");
         }
 
         let socket = sockets.get_mut::<udp::Socket>(udp_handle);
@@ -75,7 +81,7 @@ fn main() {
         }
 
         let delay = iface.poll_delay(timestamp, &sockets);
-        let rest = end.map(|end| end - timestamp);
+        let rest = end.map(|end| end.max(timestamp) - timestamp);
         phy_wait(fd, [delay, rest].into_iter().flatten().min()).expect("wait error");
     }
 }

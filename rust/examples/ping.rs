@@ -4,31 +4,41 @@
 //!
 //! The device is a TAP device of Linux. Own addresses: 192.168.69.1/24, fdaa::1/64, fe80::1/64.
 use fumitorygate::iface::{Config, Interface, SocketSet};
-use fumitorygate::phy::{Medium, TunTapInterface, wait as phy_wait};
+use fumitorygate::phy::{Device, Medium, TunTapInterface, wait as phy_wait};
 use fumitorygate::socket::icmp;
 use fumitorygate::time::{Duration, Instant};
-use fumitorygate::wire::{EthernetAddress, IpAddress, IpCidr, Ipv4Address, Ipv6Address};
+use fumitorygate::wire::{
+    EthernetAddress, Icmpv4Packet, Icmpv4Repr, Icmpv6Packet, Icmpv6Repr, IpAddress, IpCidr, Ipv4Address, Ipv6Address,
+};
 use std::collections::BTreeMap;
 use std::os::unix::io::AsRawFd;
 
 const IDENT: u16 = 0x22b;
 
-/// An echo request with the instant at which it goes (RFC 792, RFC 4443 4.1). The checksum is the library's.
-fn request(to: &IpAddress, seq_no: u16, now: Instant) -> Vec<u8> {
-    let kind = if matches!(to, IpAddress::Ipv4(_)) { 8 } else { 128 };
-    let mut message = vec![kind, 0, 0, 0];
-    message.extend(IDENT.to_be_bytes());
-    message.extend(seq_no.to_be_bytes());
-    message.extend(now.total_micros().to_be_bytes());
-    message.extend([0xff; 32]);
-    message
+// As smoltcp's.
+macro_rules! send_icmp_ping {
+    ( $repr_type:ident, $packet_type:ident, $ident:expr, $seq_no:expr,
+      $echo_payload:expr, $socket:expr, $remote_addr:expr ) => {{
+        let icmp_repr = $repr_type::EchoRequest { ident: $ident, seq_no: $seq_no, data: &$echo_payload };
+        let icmp_payload = $socket.send(icmp_repr.buffer_len(), $remote_addr).unwrap();
+        let icmp_packet = $packet_type::new_unchecked(icmp_payload);
+        (icmp_repr, icmp_packet)
+    }};
 }
 
-/// The number and the instant of the request that a reply answers.
-fn reply(from: &IpAddress, message: &[u8]) -> Option<(u16, Instant)> {
-    let kind = if matches!(from, IpAddress::Ipv4(_)) { 0 } else { 129 };
-    let sent_at = i64::from_be_bytes(message.get(8..16)?.try_into().ok()?);
-    (message[0] == kind).then(|| (u16::from_be_bytes([message[6], message[7]]), Instant::from_micros(sent_at)))
+macro_rules! get_icmp_pong {
+    ( $repr_type:ident, $repr:expr, $payload:expr, $waiting_queue:expr, $remote_addr:expr,
+      $timestamp:expr, $received:expr ) => {{
+        if let $repr_type::EchoReply { seq_no, data, .. } = $repr {
+            if $waiting_queue.contains_key(&seq_no) {
+                let sent_at = Instant::from_micros(i64::from_be_bytes(data[..8].try_into().unwrap()));
+                let time = ($timestamp - sent_at).total_micros();
+                println!("{} bytes from {}: icmp_seq={seq_no}, time={time}us", data.len(), $remote_addr);
+                $waiting_queue.remove(&seq_no);
+                $received += 1;
+            }
+        }
+    }};
 }
 
 fn main() {
@@ -72,7 +82,9 @@ fn main() {
     let mut send_at = Instant::ZERO;
     let mut seq_no = 0;
     let mut received = 0;
+    let mut echo_payload = [0xffu8; 40];
     let mut waiting_queue = BTreeMap::new();
+    let device_caps = device.capabilities();
 
     loop {
         let timestamp = Instant::now();
@@ -85,22 +97,44 @@ fn main() {
             send_at = timestamp;
         }
 
-        // smoltcp's asks `can_send`; here `send_slice` refuses where the queue is full.
-        if seq_no < count
-            && send_at <= timestamp
-            && socket.send_slice(&request(&remote_addr, seq_no, timestamp), remote_addr).is_ok()
-        {
+        if socket.can_send() && seq_no < count && send_at <= timestamp {
+            echo_payload[..8].copy_from_slice(&timestamp.total_micros().to_be_bytes());
+            match remote_addr {
+                IpAddress::Ipv4(_) => {
+                    let (icmp_repr, mut icmp_packet) =
+                        send_icmp_ping!(Icmpv4Repr, Icmpv4Packet, IDENT, seq_no, echo_payload, socket, remote_addr);
+                    icmp_repr.emit(&mut icmp_packet, &device_caps.checksum);
+                }
+                IpAddress::Ipv6(address) => {
+                    let (icmp_repr, mut icmp_packet) =
+                        send_icmp_ping!(Icmpv6Repr, Icmpv6Packet, IDENT, seq_no, echo_payload, socket, remote_addr);
+                    icmp_repr.emit(
+                        &iface.get_source_address_ipv6(&address),
+                        &address,
+                        &mut icmp_packet,
+                        &device_caps.checksum,
+                    );
+                }
+            }
             waiting_queue.insert(seq_no, timestamp);
             seq_no += 1;
             send_at += interval;
         }
 
-        while let Ok((payload, from)) = socket.recv() {
-            let Some((seq_no, sent_at)) = reply(&from, payload) else { continue };
-            if waiting_queue.remove(&seq_no).is_some() {
-                let (length, time) = (payload.len(), (timestamp - sent_at).total_micros());
-                println!("{length} bytes from {from}: icmp_seq={seq_no}, time={time}us");
-                received += 1;
+        if socket.can_recv() {
+            let (payload, _) = socket.recv().unwrap();
+            match remote_addr {
+                IpAddress::Ipv4(_) => {
+                    let icmp_packet = Icmpv4Packet::new_checked(&payload).unwrap();
+                    let icmp_repr = Icmpv4Repr::parse(&icmp_packet, &device_caps.checksum).unwrap();
+                    get_icmp_pong!(Icmpv4Repr, icmp_repr, payload, waiting_queue, remote_addr, timestamp, received);
+                }
+                IpAddress::Ipv6(address) => {
+                    let icmp_packet = Icmpv6Packet::new_checked(&payload).unwrap();
+                    let own = iface.get_source_address_ipv6(&address);
+                    let icmp_repr = Icmpv6Repr::parse(&address, &own, &icmp_packet, &device_caps.checksum).unwrap();
+                    get_icmp_pong!(Icmpv6Repr, icmp_repr, payload, waiting_queue, remote_addr, timestamp, received);
+                }
             }
         }
 
@@ -121,7 +155,7 @@ fn main() {
         let rest =
             if seq_no < count { Some(send_at) } else { waiting_queue.values().min().map(|from| *from + timeout) };
         let wake = [due, rest].into_iter().flatten().min();
-        phy_wait(fd, wake.map(|at| at - timestamp)).expect("wait error");
+        phy_wait(fd, wake.map(|at| at.max(timestamp) - timestamp)).expect("wait error");
     }
 
     println!("--- {remote_addr} ping statistics ---");

@@ -71,7 +71,7 @@ fn main() {
         }
 
         let delay = iface.poll_delay(timestamp, &sockets);
-        let rest = end.map(|end| end - timestamp);
+        let rest = end.map(|end| end.max(timestamp) - timestamp);
         phy_wait(fd, [delay, rest].into_iter().flatten().min()).expect("wait error");
     }
 }

@@ -11,6 +11,8 @@ use core::sync::atomic::{AtomicBool, Ordering::SeqCst};
 struct Lock {
     is_taken: AtomicBool,
     host: UnsafeCell<Host>,
+    /// The octets of the link's longest packet of IP.
+    ip_mtu: usize,
 }
 
 // SAFETY: `Shared::with` lends the host to one thread at a time, and `Host` is `Send`.
@@ -30,8 +32,13 @@ impl Drop for GivesBack<'_> {
 }
 
 impl Shared {
-    pub(crate) fn new(host: Host) -> Shared {
-        Shared(Arc::new(Lock { is_taken: AtomicBool::new(false), host: UnsafeCell::new(host) }))
+    /// A host, on a link whose longest packet of IP has so many octets.
+    pub(crate) fn new(host: Host, ip_mtu: usize) -> Shared {
+        Shared(Arc::new(Lock { is_taken: AtomicBool::new(false), host: UnsafeCell::new(host), ip_mtu }))
+    }
+
+    pub(crate) fn ip_mtu(&self) -> usize {
+        self.0.ip_mtu
     }
 
     /// Whether it is the same host.
@@ -72,7 +79,7 @@ mod tests {
     /// No two threads are in a call at a time, and a panic in one gives the host back.
     #[test]
     fn one_thread_at_a_time_has_the_host() {
-        let host = Shared::new(Host::new(&Settings::new(HardwareAddress::Ip)).unwrap());
+        let host = Shared::new(Host::new(&Settings::new(HardwareAddress::Ip)).unwrap(), 1500);
         let (inside, calls) = (AtomicUsize::new(0), AtomicUsize::new(0));
         std::thread::scope(|scope| {
             for _ in 0..4 {

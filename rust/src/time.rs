@@ -45,7 +45,8 @@ impl Instant {
         Instant::from_micros_const(secs.into().saturating_mul(1_000_000))
     }
 
-    /// The time since the first call, by the system's monotonic clock.
+    /// The time since the first call, by the system's monotonic clock. smoltcp's is the time since 1970, by the
+    /// system's clock, which may be set back.
     #[cfg(feature = "std")]
     pub fn now() -> Instant {
         use std::sync::OnceLock;
@@ -74,9 +75,9 @@ impl Instant {
         self.0 / 1_000 % 1_000
     }
 
-    /// The microseconds behind the whole milliseconds.
+    /// The microseconds behind the whole seconds.
     pub const fn micros(&self) -> i64 {
-        self.0 % 1_000
+        self.0 % 1_000_000
     }
 }
 
@@ -176,9 +177,9 @@ impl SubAssign<Duration> for Instant {
 impl Sub<Instant> for Instant {
     type Output = Duration;
 
-    /// The time from the other instant to this one: none, if the other is later.
+    /// The time between the two instants, whichever is later, as smoltcp's.
     fn sub(self, other: Instant) -> Duration {
-        Duration(u64::try_from(self.0 - other.0).unwrap_or(0))
+        Duration(self.0.abs_diff(other.0))
     }
 }
 

@@ -1,7 +1,9 @@
-//! Addresses, networks and endpoints.
+//! Addresses, networks and endpoints; and the forms of packets, by smoltcp's names.
 //!
-//! smoltcp's packets and their representations (`Icmpv4Packet`, `UdpRepr` and the like) aren't here: the library reads
-//! and writes them itself.
+//! A packet, as [`UdpPacket`], is a view of octets, by fields. A representation, as [`UdpRepr`], has the values of a
+//! packet that is well formed: `parse` reads it, `emit` writes it. These are of this crate, and no proof is about them:
+//! the library has its own, and reads and writes by these alone. They are for programs with ICMP and raw sockets, and
+//! for devices that look at frames.
 use core::cmp::Ordering;
 use core::fmt;
 use core::net::{IpAddr, SocketAddr, SocketAddrV4, SocketAddrV6};
@@ -9,6 +11,48 @@ use core::ops::{Add, AddAssign, Sub};
 use core::str::FromStr;
 
 pub use core::net::{Ipv4Addr as Ipv4Address, Ipv6Addr as Ipv6Address};
+
+#[macro_use]
+mod forms;
+mod arp;
+mod ethernet;
+mod icmpv4;
+mod icmpv6;
+mod igmp;
+mod ipv4;
+mod ipv6;
+mod pretty_print;
+mod udp;
+
+pub use arp::{ArpHardware, ArpOperation, ArpPacket, ArpRepr};
+pub use ethernet::{ETHERNET_HEADER_LEN, EthernetFrame, EthernetProtocol, EthernetRepr};
+pub use icmpv4::{
+    Icmpv4DstUnreachable, Icmpv4Message, Icmpv4Packet, Icmpv4ParamProblem, Icmpv4Redirect, Icmpv4Repr,
+    Icmpv4TimeExceeded,
+};
+pub use icmpv6::{
+    Icmpv6DstUnreachable, Icmpv6Message, Icmpv6Packet, Icmpv6ParamProblem, Icmpv6Repr, Icmpv6TimeExceeded,
+};
+pub use igmp::{IgmpMessage, IgmpPacket, IgmpRepr, IgmpVersion};
+pub use ipv4::{IPV4_HEADER_LEN, IPV4_MIN_MTU, Ipv4Packet, Ipv4Repr};
+pub use ipv6::{IPV6_HEADER_LEN, IPV6_MIN_MTU, Ipv6Packet, Ipv6Repr};
+pub use pretty_print::{PrettyPrint, PrettyPrinter};
+pub use udp::{UDP_HEADER_LEN, UdpPacket, UdpRepr};
+
+/// Octets that aren't a packet of the form that they are read as, or one with a wrong checksum.
+#[derive(Clone, Copy, Debug, PartialEq, Eq)]
+pub struct Error;
+
+impl fmt::Display for Error {
+    fn fmt(&self, f: &mut fmt::Formatter<'_>) -> fmt::Result {
+        f.write_str("wire::Error")
+    }
+}
+
+impl core::error::Error for Error {}
+
+/// What is read of a packet.
+pub type Result<T> = core::result::Result<T, Error>;
 
 /// A text that isn't what it is read as.
 #[derive(Clone, Copy, Debug, Default, PartialEq, Eq)]
@@ -106,61 +150,34 @@ impl PartialOrd for TcpSeqNumber {
     }
 }
 
-macro_rules! protocols {
-    ($($(#[$docs:meta])* $name:ident = $number:literal,)*) => {
-        /// A protocol over IP, by its number.
-        #[derive(Clone, Copy, Debug, PartialEq, Eq, PartialOrd, Ord, Hash)]
-        pub enum IpProtocol {
-            $($(#[$docs])* $name,)*
-            /// Any other number.
-            Unknown(u8),
-        }
-
-        impl From<u8> for IpProtocol {
-            fn from(number: u8) -> IpProtocol {
-                match number {
-                    $($number => IpProtocol::$name,)*
-                    other => IpProtocol::Unknown(other),
-                }
-            }
-        }
-
-        impl From<IpProtocol> for u8 {
-            fn from(protocol: IpProtocol) -> u8 {
-                match protocol {
-                    $(IpProtocol::$name => $number,)*
-                    IpProtocol::Unknown(number) => number,
-                }
-            }
-        }
-    };
-}
-
-protocols! {
-    /// Hop-by-hop options of IPv6.
-    HopByHop = 0,
-    /// ICMP.
-    Icmp = 1,
-    /// IGMP.
-    Igmp = 2,
-    /// TCP.
-    Tcp = 6,
-    /// UDP.
-    Udp = 17,
-    /// A routing header of IPv6.
-    Ipv6Route = 43,
-    /// A fragment header of IPv6.
-    Ipv6Frag = 44,
-    /// An encapsulating security payload.
-    IpSecEsp = 50,
-    /// An authentication header.
-    IpSecAh = 51,
-    /// ICMPv6.
-    Icmpv6 = 58,
-    /// Nothing behind the header.
-    Ipv6NoNxt = 59,
-    /// Destination options of IPv6.
-    Ipv6Opts = 60,
+enum_with_unknown! {
+    /// A protocol over IP, by its number.
+    pub enum IpProtocol(u8) {
+        /// Hop-by-hop options of IPv6.
+        HopByHop = 0,
+        /// ICMP.
+        Icmp = 1,
+        /// IGMP.
+        Igmp = 2,
+        /// TCP.
+        Tcp = 6,
+        /// UDP.
+        Udp = 17,
+        /// A routing header of IPv6.
+        Ipv6Route = 43,
+        /// A fragment header of IPv6.
+        Ipv6Frag = 44,
+        /// An encapsulating security payload.
+        IpSecEsp = 50,
+        /// An authentication header.
+        IpSecAh = 51,
+        /// ICMPv6.
+        Icmpv6 = 58,
+        /// Nothing behind the header.
+        Ipv6NoNxt = 59,
+        /// Destination options of IPv6.
+        Ipv6Opts = 60,
+    }
 }
 
 /// A hardware address of Ethernet.
@@ -199,6 +216,22 @@ impl EthernetAddress {
     /// Whether it is neither broadcast nor a group's.
     pub fn is_unicast(&self) -> bool {
         !(self.is_broadcast() || self.is_multicast())
+    }
+}
+
+impl FromStr for EthernetAddress {
+    type Err = ParseError;
+
+    /// Six octets of two hex digits, with `-` or `:` between.
+    fn from_str(text: &str) -> core::result::Result<EthernetAddress, ParseError> {
+        let between = if text.contains('-') { '-' } else { ':' };
+        let mut octets = [0; 6];
+        let mut parts = text.split(between);
+        for octet in &mut octets {
+            let digits = parts.next().filter(|part| part.len() == 2 && !part.starts_with('+')).ok_or(ParseError)?;
+            *octet = u8::from_str_radix(digits, 16).map_err(|_| ParseError)?;
+        }
+        if parts.next().is_some() { Err(ParseError) } else { Ok(EthernetAddress(octets)) }
     }
 }
 
@@ -325,7 +358,7 @@ impl From<IpAddress> for IpAddr {
 impl FromStr for IpAddress {
     type Err = ParseError;
 
-    fn from_str(text: &str) -> Result<IpAddress, ParseError> {
+    fn from_str(text: &str) -> core::result::Result<IpAddress, ParseError> {
         text.parse::<IpAddr>().map(IpAddress::from).map_err(|_| ParseError)
     }
 }
@@ -370,8 +403,34 @@ macro_rules! cidr {
 
             /// Whether an address is in this network.
             pub fn contains_addr(&self, address: &$address) -> bool {
-                let mask = <$number>::MAX.checked_shl(u32::from($bits - self.prefix_len)).unwrap_or(0);
-                <$number>::from(self.address) & mask == <$number>::from(*address) & mask
+                <$number>::from(self.address) & self.mask() == <$number>::from(*address) & self.mask()
+            }
+
+            /// Whether another network is a part of this one.
+            pub fn contains_subnet(&self, subnet: &$name) -> bool {
+                self.prefix_len <= subnet.prefix_len && self.contains_addr(&subnet.address)
+            }
+
+            /// This network by its first address.
+            pub fn network(&self) -> $name {
+                $name { address: (<$number>::from(self.address) & self.mask()).into(), prefix_len: self.prefix_len }
+            }
+
+            fn mask(&self) -> $number {
+                <$number>::MAX.checked_shl(u32::from($bits - self.prefix_len)).unwrap_or(0)
+            }
+        }
+
+        impl FromStr for $name {
+            type Err = ParseError;
+
+            fn from_str(text: &str) -> core::result::Result<$name, ParseError> {
+                let (address, prefix_len) = text.split_once('/').ok_or(ParseError)?;
+                let address = address.parse().map_err(|_| ParseError)?;
+                match prefix_len.parse() {
+                    Ok(prefix_len) if prefix_len <= $bits => Ok($name { address, prefix_len }),
+                    _ => Err(ParseError),
+                }
             }
         }
 
@@ -385,6 +444,30 @@ macro_rules! cidr {
 
 cidr!(Ipv4Cidr, Ipv4Address, 32, u32);
 cidr!(Ipv6Cidr, Ipv6Address, 128, u128);
+
+impl Ipv4Cidr {
+    /// An address with a mask in place of a prefix's length.
+    ///
+    /// # Errors
+    /// [`Error`] if the mask isn't one bit or more, all of them before the first that is 0.
+    pub fn from_netmask(addr: Ipv4Address, netmask: Ipv4Address) -> Result<Ipv4Cidr> {
+        let mask = u32::from(netmask);
+        if mask == 0 || mask.leading_ones() != mask.count_ones() {
+            return Err(Error);
+        }
+        Ok(Ipv4Cidr { address: addr, prefix_len: mask.count_ones() as u8 })
+    }
+
+    /// The mask of this network.
+    pub fn netmask(&self) -> Ipv4Address {
+        self.mask().into()
+    }
+
+    /// The address to which all in this network listen. `None` if it has one or two addresses (RFC 3021).
+    pub fn broadcast(&self) -> Option<Ipv4Address> {
+        (self.prefix_len < 31).then(|| (u32::from(self.address) | !self.mask()).into())
+    }
+}
 
 impl Ipv6Cidr {
     /// The address of a prefix of 64 bits that is formed from a hardware address of Ethernet (RFC 4291, appendix A).
@@ -448,6 +531,25 @@ impl IpCidr {
     }
 }
 
+impl IpCidr {
+    /// Whether another network is a part of this one.
+    pub fn contains_subnet(&self, subnet: &IpCidr) -> bool {
+        match (self, subnet) {
+            (IpCidr::Ipv4(cidr), IpCidr::Ipv4(subnet)) => cidr.contains_subnet(subnet),
+            (IpCidr::Ipv6(cidr), IpCidr::Ipv6(subnet)) => cidr.contains_subnet(subnet),
+            _ => false,
+        }
+    }
+
+    /// This network by its first address.
+    pub fn network(&self) -> IpCidr {
+        match self {
+            IpCidr::Ipv4(cidr) => IpCidr::Ipv4(cidr.network()),
+            IpCidr::Ipv6(cidr) => IpCidr::Ipv6(cidr.network()),
+        }
+    }
+}
+
 impl From<Ipv4Cidr> for IpCidr {
     fn from(cidr: Ipv4Cidr) -> IpCidr {
         IpCidr::Ipv4(cidr)
@@ -463,17 +565,8 @@ impl From<Ipv6Cidr> for IpCidr {
 impl FromStr for IpCidr {
     type Err = ParseError;
 
-    fn from_str(text: &str) -> Result<IpCidr, ParseError> {
-        let (address, prefix_len) = text.split_once('/').ok_or(ParseError)?;
-        let address: IpAddress = address.parse()?;
-        let bits = match address.version() {
-            IpVersion::Ipv4 => 32,
-            IpVersion::Ipv6 => 128,
-        };
-        match prefix_len.parse() {
-            Ok(prefix_len) if prefix_len <= bits => Ok(IpCidr::new(address, prefix_len)),
-            _ => Err(ParseError),
-        }
+    fn from_str(text: &str) -> core::result::Result<IpCidr, ParseError> {
+        text.parse().map(IpCidr::Ipv4).or_else(|_| text.parse().map(IpCidr::Ipv6))
     }
 }
 
@@ -523,6 +616,14 @@ impl From<SocketAddrV4> for IpEndpoint {
 impl From<SocketAddrV6> for IpEndpoint {
     fn from(address: SocketAddrV6) -> IpEndpoint {
         IpEndpoint { addr: (*address.ip()).into(), port: address.port() }
+    }
+}
+
+impl FromStr for IpEndpoint {
+    type Err = ParseError;
+
+    fn from_str(text: &str) -> core::result::Result<IpEndpoint, ParseError> {
+        text.parse::<SocketAddr>().map(IpEndpoint::from).map_err(|_| ParseError)
     }
 }
 

@@ -56,9 +56,34 @@ fn an_interface_is_refused_with_its_reason() {
     assert_eq!(made(own, Medium::Ethernet, 1514), Ok(()));
     assert_eq!(made(HardwareAddress::Ip, Medium::Ip, 1500), Ok(()));
     assert_eq!(made(own, Medium::Ethernet, 589), Err(Error::BadMtu));
-    assert_eq!(made(own, Medium::Ethernet, usize::MAX), Err(Error::BadMtu));
+    assert_eq!(made(own, Medium::Ethernet, 9000), Ok(()));
+    assert_eq!(made(own, Medium::Ethernet, usize::MAX), Ok(()));
+    assert_eq!(made(HardwareAddress::Ip, Medium::Ip, 65535), Ok(()));
     assert_eq!(made(EthernetAddress([1; 6]).into(), Medium::Ethernet, 1514), Err(Error::NotUnicast));
     assert_eq!(made(own, Medium::Ip, 1500), Err(Error::BadArgument));
+}
+
+/// RFC 894: a packet of 1500 octets fills a frame, whatever longer ones the device takes.
+#[test]
+fn no_frame_is_longer_than_ethernet_has_them() {
+    for (payload, frames) in [(1472, vec![1514]), (1473, vec![1514, 35])] {
+        let mut device = MemoryDevice::new(Medium::Ethernet, 9000);
+        let mut iface = Interface::new(Config::new(EthernetAddress(OWN).into()), &mut device, Instant::ZERO).unwrap();
+        iface.update_ip_addrs(|list| list.push(IpCidr::new(SELF.into(), 24)).unwrap()).unwrap();
+        let mut sockets = SocketSet::new(&iface);
+        let mut socket = udp::Socket::new(buffer(), udp::PacketBuffer::with_capacity(1, 4096));
+        socket.bind(7).unwrap();
+        let handle = sockets.add(socket);
+        device.incoming.push_back(arp(1, PEER_LINK, PEER, [0; 6], SELF));
+        iface.poll(Instant::ZERO, &mut device, &mut sockets);
+        device.sent.clear();
+        let data = vec![7; payload];
+        sockets.get_mut::<udp::Socket>(handle).send_slice(&data, (IpAddress::Ipv4(PEER), 9)).unwrap();
+        for micros in 0..3 {
+            iface.poll(Instant::from_micros(micros), &mut device, &mut sockets);
+        }
+        assert_eq!(device.sent.iter().map(Vec::len).collect::<Vec<_>>(), frames);
+    }
 }
 
 #[test]
@@ -211,6 +236,12 @@ fn sockets_are_closed_with_their_places() {
     let refused = sockets.try_add(raw()).unwrap_err();
     assert_eq!(refused.error, Error::TableFull);
     sockets.remove(third);
+    // `API.md`: there is no raw socket for any version or protocol.
+    for (version, protocol) in [(None, Some(IpProtocol::Igmp)), (Some(IpVersion::Ipv4), None), (None, None)] {
+        let socket = raw::Socket::new(version, protocol, buffer(), buffer());
+        assert_eq!((socket.ip_version(), socket.ip_protocol()), (version, protocol));
+        assert_eq!(sockets.try_add(socket).unwrap_err().error, Error::BadArgument);
+    }
     sockets.get_mut::<icmp::Socket>(second).bind(icmp::Endpoint::Ident(1)).unwrap();
     // A socket that is overwritten is closed, too.
     *sockets.get_mut::<udp::Socket>(first) = udp::Socket::new(buffer(), buffer());

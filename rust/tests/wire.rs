@@ -1,8 +1,8 @@
 //! Addresses and instants. What is expected comes from RFCs and from smoltcp's documentation.
 use fumitorygate::time::{Duration, Instant};
 use fumitorygate::wire::{
-    EthernetAddress, HardwareAddress, IpAddress, IpCidr, IpEndpoint, IpListenEndpoint, IpProtocol, Ipv4Address,
-    Ipv6Address, Ipv6Cidr, ParseError, TcpSeqNumber,
+    Error, EthernetAddress, HardwareAddress, IpAddress, IpCidr, IpEndpoint, IpListenEndpoint, IpProtocol, Ipv4Address,
+    Ipv4Cidr, Ipv6Address, Ipv6Cidr, ParseError, TcpSeqNumber,
 };
 
 /// RFC 2464, 4: its example.
@@ -44,6 +44,49 @@ fn networks_contain_their_addresses() {
     assert!(contains("::/0", "ff02::1") && !contains("::1/128", "::"));
 }
 
+/// RFC 4632 3.1; RFC 919 7, and RFC 3021 2.1 for networks of two addresses.
+#[test]
+fn networks_have_their_parts() {
+    let cidr = |text: &str| text.parse::<Ipv4Cidr>().unwrap();
+    for (own, network, netmask, broadcast) in [
+        ("192.168.69.77/24", "192.168.69.0/24", "255.255.255.0", Some("192.168.69.255")),
+        ("10.1.2.3/8", "10.0.0.0/8", "255.0.0.0", Some("10.255.255.255")),
+        ("10.1.2.3/30", "10.1.2.0/30", "255.255.255.252", Some("10.1.2.3")),
+        ("10.1.2.3/31", "10.1.2.2/31", "255.255.255.254", None),
+        ("10.1.2.3/32", "10.1.2.3/32", "255.255.255.255", None),
+        ("10.1.2.3/0", "0.0.0.0/0", "0.0.0.0", Some("255.255.255.255")),
+    ] {
+        let own = cidr(own);
+        assert_eq!((own.network(), own.netmask().to_string()), (cidr(network), netmask.to_string()));
+        assert_eq!(own.broadcast(), broadcast.map(|text| text.parse().unwrap()));
+        let made = Ipv4Cidr::from_netmask(own.address(), own.netmask());
+        assert_eq!(made.ok(), (own.prefix_len() > 0).then_some(own));
+    }
+    for mask in ["255.0.255.0", "0.255.255.255", "255.255.255.253"] {
+        assert_eq!(Ipv4Cidr::from_netmask(Ipv4Address::UNSPECIFIED, mask.parse().unwrap()), Err(Error));
+    }
+    let contains = |one: &str, other: &str| one.parse::<IpCidr>().unwrap().contains_subnet(&other.parse().unwrap());
+    assert!(contains("10.0.0.0/8", "10.1.0.0/16") && !contains("10.0.0.0/16", "10.0.0.0/8"));
+    assert!(contains("2001:db8::/32", "2001:db8:1::/48") && !contains("::/0", "0.0.0.0/0"));
+    assert_eq!("2001:db8::1/33".parse::<IpCidr>().unwrap().network().to_string(), "2001:db8::/33");
+}
+
+#[test]
+fn addresses_and_ends_are_read() {
+    for text in ["02-00-00-00-00-ff", "02:00:00:00:00:ff"] {
+        assert_eq!(text.parse(), Ok(EthernetAddress([2, 0, 0, 0, 0, 0xff])));
+    }
+    for text in
+        ["", "02-00-00-00-00", "02-00-00-00-00-ff-00", "2-00-00-00-00-ff", "02-00-00-00:00-ff", "+2-00-00-00-00-ff"]
+    {
+        assert_eq!(text.parse::<EthernetAddress>(), Err(ParseError));
+    }
+    for text in ["192.168.69.1:80", "[fe80::1]:80"] {
+        assert_eq!(text.parse::<IpEndpoint>().unwrap().to_string(), text);
+    }
+    assert_eq!("192.168.69.1".parse::<IpEndpoint>(), Err(ParseError));
+}
+
 /// RFC 790 and RFC 8200: the numbers of protocols.
 #[test]
 fn protocols_have_their_numbers() {
@@ -63,9 +106,11 @@ fn instants_stay_in_their_range() {
     assert_eq!(Instant::from_micros(i64::MAX).total_micros(), 1 << 62);
     assert_eq!(Instant::LAST + Duration::MAX, Instant::LAST);
     assert_eq!(Instant::ZERO - Duration::from_micros(1), Instant::ZERO);
-    assert_eq!(Instant::from_secs(1) - Instant::from_secs(2), Duration::ZERO);
+    assert_eq!(Instant::from_secs(1) - Instant::from_secs(2), Duration::from_secs(1));
     assert_eq!(Instant::from_millis(1500) - Instant::from_secs(1), Duration::from_millis(500));
     assert_eq!(Instant::from_millis(1500).to_string(), "1.500s");
+    let instant = Instant::from_micros(5_674_321);
+    assert_eq!((instant.secs(), instant.millis(), instant.micros()), (5, 674, 674_321));
     assert_eq!(core::time::Duration::from(Duration::from_millis(7)), core::time::Duration::from_millis(7));
 }
 

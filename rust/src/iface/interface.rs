@@ -4,7 +4,7 @@ use crate::host::{Counters, Error, FRAME_ROOM, Frame, Host, Settings};
 use crate::phy::{Device, DeviceCapabilities, Medium, RxToken, TxToken};
 use crate::shared::Shared;
 use crate::time::{Duration, Instant};
-use crate::wire::{HardwareAddress, IpAddress, IpCidr, Ipv4Address, Ipv6Address};
+use crate::wire::{ETHERNET_HEADER_LEN, HardwareAddress, IpAddress, IpCidr, Ipv4Address, Ipv6Address};
 use alloc::boxed::Box;
 use core::fmt;
 
@@ -46,7 +46,8 @@ impl Config {
     fn settings(&self, capabilities: &DeviceCapabilities, start: Instant) -> Settings {
         let mut settings = Settings::new(self.hardware_addr);
         settings.random_seed = self.random_seed;
-        settings.frame_len = u32::try_from(capabilities.max_transmission_unit).unwrap_or(u32::MAX);
+        // Never more than FRAME_ROOM, which has 32 bits.
+        settings.frame_len = capabilities.max_transmission_unit.min(FRAME_ROOM) as u32;
         settings.slaac = self.slaac;
         settings.sockets = self.sockets;
         settings.patience = self.patience;
@@ -152,8 +153,11 @@ impl Interface {
         if (capabilities.medium == Medium::Ip) != (config.hardware_addr == HardwareAddress::Ip) {
             return Err(Error::BadArgument);
         }
-        let host = Host::new(&config.settings(&capabilities, now))?;
-        Ok(Interface { host: Shared::new(host), out: Box::new([0; FRAME_ROOM]), given_up: 0 })
+        let settings = config.settings(&capabilities, now);
+        let host = Host::new(&settings)?;
+        let header_len = if capabilities.medium == Medium::Ip { 0 } else { ETHERNET_HEADER_LEN };
+        let ip_mtu = settings.frame_len as usize - header_len;
+        Ok(Interface { host: Shared::new(host, ip_mtu), out: Box::new([0; FRAME_ROOM]), given_up: 0 })
     }
 
     /// Its hardware address.
@@ -340,7 +344,9 @@ impl Interface {
         sockets: &mut SocketSet<'_>,
     ) -> PollIngressSingleResult {
         self.check(sockets);
-        if !self.take_frame(timestamp, device) {
+        let is_taken = self.take_frame(timestamp, device);
+        sockets.wake();
+        if !is_taken {
             PollIngressSingleResult::None
         } else if self.sockets_changed() {
             PollIngressSingleResult::SocketStateChanged
@@ -365,6 +371,7 @@ impl Interface {
             let Some(len) = self.next_frame(timestamp, sockets).map(<[u8]>::len) else { break };
             tx.consume(len, |frame| frame.copy_from_slice(&self.out[..len]));
         }
+        sockets.wake();
         if self.sockets_changed() { PollResult::SocketStateChanged } else { PollResult::None }
     }
 
@@ -398,7 +405,9 @@ impl Interface {
     pub fn receive_frame(&mut self, timestamp: Instant, frame: &[u8], sockets: &mut SocketSet<'_>) -> Option<&[u8]> {
         self.check(sockets);
         let out = &mut self.out;
-        self.host.with(|host| host.receive(timestamp, frame, out)).ok()?
+        let reply = self.host.with(|host| host.receive(timestamp, frame, out));
+        sockets.wake();
+        reply.ok()?
     }
 
     /// Shows the next frame that is to be sent, if any. Where memory for a frame is refused, what waits is sent another
@@ -410,7 +419,9 @@ impl Interface {
     pub fn next_frame(&mut self, timestamp: Instant, sockets: &mut SocketSet<'_>) -> Option<&[u8]> {
         self.check(sockets);
         let out = &mut self.out;
-        self.host.with(|host| host.next(timestamp, out)).ok()?
+        let next = self.host.with(|host| host.next(timestamp, out));
+        sockets.wake();
+        next.ok()?
     }
 
     /// The instant at which it is to be polled again, if no frame comes before and no call changes it: one that has
@@ -424,12 +435,12 @@ impl Interface {
         self.host.with(|host| host.poll_at(timestamp))
     }
 
-    /// The time until then.
+    /// The time until then: none, if it has passed.
     ///
     /// # Panics
     /// If the sockets are another interface's.
     pub fn poll_delay(&mut self, timestamp: Instant, sockets: &SocketSet<'_>) -> Option<Duration> {
-        self.poll_at(timestamp, sockets).map(|at| at - timestamp)
+        self.poll_at(timestamp, sockets).map(|at| at.max(timestamp) - timestamp)
     }
 
     /// How many packets were given up, of all sockets, since a neighbour didn't answer. smoltcp has none such.

@@ -19,7 +19,7 @@ impl fmt::Display for SocketHandle {
 /// Why a socket isn't in a set, and the socket.
 #[derive(Debug)]
 pub struct AddError<'a> {
-    /// [`Error::TableFull`] or [`Error::NoMemory`].
+    /// [`Error::TableFull`], [`Error::NoMemory`], or [`Error::BadArgument`] of a raw socket for any version or protocol.
     pub error: Error,
     /// The socket.
     pub socket: Socket<'a>,
@@ -105,6 +105,13 @@ impl<'a> SocketSet<'a> {
         let mut socket = taken.expect("handle does not refer to a valid socket");
         socket.detach();
         socket
+    }
+
+    /// Wakes the tasks that wait for what sockets have.
+    #[inline]
+    pub(super) fn wake(&mut self) {
+        #[cfg(feature = "async")]
+        self.sockets.iter_mut().flatten().for_each(Socket::wake);
     }
 
     /// The sockets with their handles.

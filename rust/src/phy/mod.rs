@@ -4,12 +4,32 @@ use crate::time::Instant;
 use alloc::collections::VecDeque;
 use alloc::vec::Vec;
 
+mod fault_injector;
+mod fuzz_injector;
+mod pcap_writer;
+#[cfg(all(
+    feature = "phy-raw_socket",
+    target_os = "linux",
+    any(target_arch = "x86_64", target_arch = "aarch64", target_arch = "riscv64")
+))]
+mod raw_socket;
+mod tracer;
 #[cfg(all(
     feature = "std",
     target_os = "linux",
     any(target_arch = "x86_64", target_arch = "aarch64", target_arch = "riscv64")
 ))]
 mod tuntap;
+pub use fault_injector::FaultInjector;
+pub use fuzz_injector::{FuzzInjector, Fuzzer};
+pub use pcap_writer::{PcapLinkType, PcapMode, PcapSink, PcapWriter};
+#[cfg(all(
+    feature = "phy-raw_socket",
+    target_os = "linux",
+    any(target_arch = "x86_64", target_arch = "aarch64", target_arch = "riscv64")
+))]
+pub use raw_socket::RawSocket;
+pub use tracer::{Tracer, TracerDirection, TracerPacket};
 #[cfg(all(
     feature = "std",
     target_os = "linux",
@@ -33,8 +53,8 @@ pub enum Medium {
 pub struct DeviceCapabilities {
     /// Its medium.
     pub medium: Medium,
-    /// The octets of its longest frame, with a header of Ethernet where there is one: 590 to 1514 there, else 576 to
-    /// 1514.
+    /// The octets of its longest frame, with a header of Ethernet where there is one: 590 or more there, else 576 or
+    /// more. Of more than 1514 no frame makes use.
     pub max_transmission_unit: usize,
     /// Which checksums the library verifies and computes: all, unless they are set.
     pub checksum: ChecksumCapabilities,

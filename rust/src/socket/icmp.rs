@@ -1,6 +1,7 @@
 //! ICMP sockets, for both versions of IP (RFC 792, RFC 4443).
+use super::lent::Destination;
 pub use super::{BindError, PacketBuffer, PacketMetadata, RecvError, SendError};
-use super::{Core, Kind, common, hop_limits};
+use super::{Core, Kind, Lent, common, hop_limits};
 use crate::host::{Error, Host, Rooms};
 use crate::wire::{IpAddress, IpListenEndpoint};
 use core::marker::PhantomData;
@@ -98,6 +99,14 @@ impl<'a> Socket<'a> {
     #[inline]
     pub fn send_slice(&mut self, data: &[u8], endpoint: IpAddress) -> Result<(), SendError> {
         self.core.send(|host, number| host.icmp_send(number, endpoint, data))
+    }
+
+    /// Lends a message, from its type on, of `size` octets, which is queued when what is lent is dropped.
+    ///
+    /// # Errors
+    /// [`SendError`]: then nothing is lent.
+    pub fn send(&mut self, size: usize, endpoint: IpAddress) -> Result<Lent<'_>, SendError> {
+        self.core.lend(size, Destination::Icmp(endpoint))
     }
 
     /// Queues the message that `f` writes into a buffer of `max_size` octets, and returns how many `f` said it has.

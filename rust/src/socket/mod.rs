@@ -9,11 +9,17 @@ use crate::wire::IpAddress;
 use alloc::vec::Vec;
 use core::fmt;
 use core::marker::PhantomData;
+#[cfg(feature = "async")]
+use core::task::Waker;
+use lent::Destination;
 
 pub mod icmp;
+mod lent;
 pub mod raw;
 pub mod segment;
 pub mod udp;
+
+pub use lent::Lent;
 
 /// A socket of any kind.
 #[derive(Debug)]
@@ -37,6 +43,17 @@ impl Socket<'_> {
             Socket::Icmp(socket) => socket.core.attach(host),
             Socket::Udp(socket) => socket.core.attach(host),
             Socket::Segment(socket) => socket.core.attach(host),
+        }
+    }
+
+    /// Wakes the tasks that wait for a packet, or for room, and have it.
+    #[cfg(feature = "async")]
+    pub(crate) fn wake(&mut self) {
+        match self {
+            Socket::Raw(socket) => socket.core.wake(),
+            Socket::Icmp(socket) => socket.core.wake(),
+            Socket::Udp(socket) => socket.core.wake(),
+            Socket::Segment(socket) => socket.core.wake(),
         }
     }
 
@@ -221,6 +238,23 @@ pub(crate) struct Core<K: Kind> {
     buffer: Vec<u8>,
     /// The origin of the packet that was looked at last, which is lent.
     looked_at: Option<K::Meta>,
+    #[cfg(feature = "async")]
+    wakers: Wakers,
+}
+
+/// The tasks to be woken, each once.
+#[cfg(feature = "async")]
+#[derive(Debug, Default)]
+struct Wakers {
+    recv: Option<Waker>,
+    send: Option<Waker>,
+}
+
+#[cfg(feature = "async")]
+impl Wakers {
+    fn wake(&mut self) {
+        [self.recv.take(), self.send.take()].into_iter().flatten().for_each(Waker::wake);
+    }
 }
 
 impl<K: Kind> Core<K> {
@@ -233,6 +267,18 @@ impl<K: Kind> Core<K> {
             hop_limit: None,
             buffer: Vec::new(),
             looked_at: None,
+            #[cfg(feature = "async")]
+            wakers: Wakers::default(),
+        }
+    }
+
+    #[cfg(feature = "async")]
+    fn wake(&mut self) {
+        if self.wakers.recv.is_some() && self.can_recv() {
+            self.wakers.recv.take().into_iter().for_each(Waker::wake);
+        }
+        if self.wakers.send.is_some() && self.can_send() {
+            self.wakers.send.take().into_iter().for_each(Waker::wake);
         }
     }
 
@@ -274,6 +320,8 @@ impl<K: Kind> Core<K> {
             self.open(&host, endpoint)?;
         }
         self.endpoint = Some(endpoint);
+        #[cfg(feature = "async")]
+        self.wakers.wake();
         Ok(())
     }
 
@@ -282,6 +330,8 @@ impl<K: Kind> Core<K> {
         self.detach();
         self.host = host;
         self.endpoint = None;
+        #[cfg(feature = "async")]
+        self.wakers.wake();
     }
 
     /// Calls the host, if the socket is open there.
@@ -315,6 +365,24 @@ impl<K: Kind> Core<K> {
         let size = f(&mut buffer);
         self.send(|host, number| send(host, number, &buffer[..size]))?;
         Ok(size)
+    }
+
+    /// Lends a packet of `size` octets, to a destination, if it would be queued now.
+    fn lend(&mut self, size: usize, to: Destination) -> Result<Lent<'_>, SendError> {
+        if !to.is_addressable() {
+            return Err(SendError::Unaddressable);
+        }
+        if self.host.as_ref().is_some_and(|host| !to.may_carry(size, host.ip_mtu())) {
+            return Err(SendError::TooLong);
+        }
+        let queue = self.call(Host::queues)?.to_send;
+        if queue.packets >= queue.most_packets || size > queue.most_octets.saturating_sub(queue.octets) as usize {
+            return Err(SendError::BufferFull);
+        }
+        match (&self.host, self.number) {
+            (Some(host), Some(number)) => Ok(Lent::new(host, number, to, size)),
+            _ => Err(SendError::BufferFull),
+        }
     }
 
     /// What waits in its queues, if it is open.
@@ -426,6 +494,22 @@ macro_rules! common {
             /// Whether it is bound.
             pub fn is_open(&self) -> bool {
                 self.core.endpoint.is_some()
+            }
+
+            /// Sets the task that is woken when a packet has come, or the socket is bound or closed: by the interface's
+            /// polls, [`receive_frame`](crate::iface::Interface::receive_frame) and
+            /// [`next_frame`](crate::iface::Interface::next_frame). It is woken once, and may be in vain; one that was set
+            /// before isn't woken any more.
+            #[cfg(feature = "async")]
+            pub fn register_recv_waker(&mut self, waker: &core::task::Waker) {
+                self.core.wakers.recv = Some(waker.clone());
+            }
+
+            /// Sets the task that is woken when there is room for one packet more, or the socket is bound or closed: as
+            /// [`register_recv_waker`](Socket::register_recv_waker) does.
+            #[cfg(feature = "async")]
+            pub fn register_send_waker(&mut self, waker: &core::task::Waker) {
+                self.core.wakers.send = Some(waker.clone());
             }
 
             /// Whether a packet came.

@@ -1,6 +1,7 @@
 //! Raw sockets, for whole packets of one version of IP and one protocol.
+use super::lent::Destination;
 pub use super::{BindError, PacketBuffer, PacketMetadata, RecvError, SendError};
-use super::{Core, Kind, common};
+use super::{Core, Kind, Lent, common};
 use crate::host::{Error, Host, Rooms};
 use crate::wire::{IpProtocol, IpVersion};
 use core::marker::PhantomData;
@@ -9,11 +10,12 @@ use core::marker::PhantomData;
 pub(crate) struct Raw;
 
 impl Kind for Raw {
-    type Endpoint = (IpVersion, IpProtocol);
+    type Endpoint = (Option<IpVersion>, Option<IpProtocol>);
     type Meta = ();
 
-    fn open(host: &mut Host, endpoint: (IpVersion, IpProtocol), rooms: Rooms) -> Result<u32, Error> {
-        host.raw_open(endpoint.0, endpoint.1, rooms)
+    fn open(host: &mut Host, endpoint: Self::Endpoint, rooms: Rooms) -> Result<u32, Error> {
+        let (Some(version), Some(protocol)) = endpoint else { return Err(Error::BadArgument) };
+        host.raw_open(version, protocol, rooms)
     }
 
     #[inline]
@@ -31,33 +33,36 @@ impl Kind for Raw {
 #[derive(Debug)]
 pub struct Socket<'a> {
     pub(crate) core: Core<Raw>,
-    version: IpVersion,
-    protocol: IpProtocol,
+    version: Option<IpVersion>,
+    protocol: Option<IpProtocol>,
     lifetime: PhantomData<&'a mut [u8]>,
 }
 
 common!(Raw);
 
 impl<'a> Socket<'a> {
-    /// A socket with queues for what comes and what goes, which is bound from the start.
+    /// A socket with queues for what comes and what goes, which is bound from the start, to a version of IP and a
+    /// protocol, with or without `Some`. The library has none for any version or protocol: one that is made by `None` is
+    /// refused when it comes into a set, by [`Error::BadArgument`].
     pub fn new(
-        ip_version: IpVersion,
-        ip_protocol: IpProtocol,
+        ip_version: impl Into<Option<IpVersion>>,
+        ip_protocol: impl Into<Option<IpProtocol>>,
         rx_buffer: PacketBuffer<'a>,
         tx_buffer: PacketBuffer<'a>,
     ) -> Socket<'a> {
+        let (ip_version, ip_protocol) = (ip_version.into(), ip_protocol.into());
         let mut core = Core::new(rx_buffer, tx_buffer);
         core.endpoint = Some((ip_version, ip_protocol));
         Socket { core, version: ip_version, protocol: ip_protocol, lifetime: PhantomData }
     }
 
     /// Its version of IP.
-    pub fn ip_version(&self) -> IpVersion {
+    pub fn ip_version(&self) -> Option<IpVersion> {
         self.version
     }
 
     /// Its protocol.
-    pub fn ip_protocol(&self) -> IpProtocol {
+    pub fn ip_protocol(&self) -> Option<IpProtocol> {
         self.protocol
     }
 
@@ -69,6 +74,14 @@ impl<'a> Socket<'a> {
     #[inline]
     pub fn send_slice(&mut self, data: &[u8]) -> Result<(), SendError> {
         self.core.send(|host, number| host.raw_send(number, data))
+    }
+
+    /// Lends a packet with its header of `size` octets, which is queued when what is lent is dropped.
+    ///
+    /// # Errors
+    /// [`SendError`]: then nothing is lent.
+    pub fn send(&mut self, size: usize) -> Result<Lent<'_>, SendError> {
+        self.core.lend(size, Destination::Raw)
     }
 
     /// Queues the packet that `f` writes into a buffer of `max_size` octets, and returns how many `f` said it has.

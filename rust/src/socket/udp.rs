@@ -1,6 +1,7 @@
 //! UDP sockets (RFC 768).
+use super::lent::Destination;
 pub use super::{BindError, PacketBuffer, PacketMetadata, RecvError, SendError};
-use super::{Core, Kind, common, hop_limits};
+use super::{Core, Kind, Lent, common, hop_limits};
 use crate::host::{Error, Host, Rooms};
 use crate::wire::{IpEndpoint, IpListenEndpoint};
 use core::fmt;
@@ -97,6 +98,14 @@ impl<'a> Socket<'a> {
     pub fn send_slice(&mut self, data: &[u8], meta: impl Into<UdpMetadata>) -> Result<(), SendError> {
         let remote = meta.into().endpoint;
         self.core.send(|host, number| host.udp_send(number, remote, data))
+    }
+
+    /// Lends a datagram of `size` octets, which is queued when what is lent is dropped.
+    ///
+    /// # Errors
+    /// [`SendError`]: then nothing is lent.
+    pub fn send(&mut self, size: usize, meta: impl Into<UdpMetadata>) -> Result<Lent<'_>, SendError> {
+        self.core.lend(size, Destination::Udp(meta.into().endpoint))
     }
 
     /// Queues the datagram that `f` writes into a buffer of `max_size` octets, and returns how many `f` said it has.

@@ -1,0 +1,69 @@
+#!/bin/sh
+# Makes a release in FOLDER, of the commit that is checked out: for each target an archive with the proved library, and
+# the crate that carries the libraries. Then it tries each as one who has nothing else would.
+#
+#   release.sh FOLDER
+#
+# BUILD_LIBRARY, where it is set, is handed to `make -C c`, as ./over_gate.sh after `rt ci`. It needs the Rattle kit's `rt`,
+# a C compiler, pkg-config and git; for aarch64 Debian's gcc-aarch64-linux-gnu, libc6-dev-arm64-cross and qemu-user; for
+# the crate cargo. What is skipped for want of these is said.
+set -eu
+cd "$(dirname "$0")"
+mkdir -p "$1"
+folder=$(cd "$1" && pwd)
+work=$(mktemp -d)
+trap 'rm -rf "$work" rust/lib' EXIT
+
+refuse() {
+    echo "release.sh: $1" >&2
+    exit 1
+}
+
+[ -z "$(git status --porcelain)" ] || refuse 'a release is made of a commit, and files were changed since'
+version=$(sed -n 's|.*"fumitorygate \([0-9.]*\).*|\1|p' c/about.c)
+rm -rf "$folder"/fumitorygate-* "$folder/SHA256SUMS" rust/lib # (the crate would take that for what `make -C c` built)
+
+# The octets of an archive depend on its files' alone.
+pack() {
+    tar -C "$work" --sort=name --owner=0 --group=0 --numeric-owner --mtime="@$(git log -1 --format=%ct)" -cf - "$1" |
+        gzip -n >"$folder/$1.tar.gz"
+}
+
+# TARGET BUILD COMPILER RUN MAKE'S VARIABLES..: builds, packs, unpacks elsewhere and tries the archive of a target.
+archive() {
+    target=$1 build=$2 compiler=$3 run=$4
+    shift 4
+    name=fumitorygate-$version-$target
+    place=$work/$name
+    make -C c "$build/libiface.a" "$@" ${BUILD_LIBRARY:+"BUILD_LIBRARY=$BUILD_LIBRARY"}
+    make -C c install "$@" PREFIX="$place" PC_PREFIX='$${pcfiledir}/../..'
+    cp "c/$build/libiface_c.a" "c/$build/libiface_c.a.proof" "$place/lib/"
+    mkdir "$place/examples"
+    cp c/examples/*.[ch] c/examples/*.sh c/heap.c "$place/examples/"
+    pack "$name"
+    rm -rf "$place"
+    tar -C "$work" -xzf "$folder/$name.tar.gz"
+    for library in libiface.a libiface_c.a; do c/proof.sh check "$place/lib/$library"; done
+    # shellcheck disable=SC2046
+    "$compiler" -o "$work/udp_echo" "$place/examples/udp_echo.c" \
+        $(PKG_CONFIG_PATH="$place/lib/pkgconfig" pkg-config --cflags --libs iface)
+    $run "$work/udp_echo" <crates/udp_echo/stdin | cmp - crates/udp_echo/stdout
+    ! command -v cargo >/dev/null ||
+        FUMITORYGATE_LIB_DIR="$place/lib" TARGET="$target" rust/carry.sh rust/lib
+    echo "release: $name.tar.gz, and a program over it prints what it has to"
+}
+
+archive x86_64-unknown-linux-gnu build "${CC:-cc}" ''
+if command -v aarch64-linux-gnu-gcc >/dev/null && command -v qemu-aarch64 >/dev/null; then
+    archive aarch64-unknown-linux-gnu build/aarch64-linux-gnu aarch64-linux-gnu-gcc 'qemu-aarch64 -L /usr/aarch64-linux-gnu' \
+        TARGET=aarch64-linux-gnu
+else
+    echo 'release: no aarch64-linux-gnu-gcc, or no qemu-aarch64: aarch64 is skipped'
+fi
+if command -v cargo >/dev/null; then
+    rust/fresh.sh "$folder"
+    echo "release: fumitorygate-$version.crate, for $(ls rust/lib | tr '\n' ' ')"
+else
+    echo 'release: no cargo: the crate is skipped'
+fi
+(cd "$folder" && sha256sum fumitorygate-* >SHA256SUMS && cat SHA256SUMS)
