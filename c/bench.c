@@ -1,7 +1,9 @@
 /* Has a host do one thing over and over, so that its instructions can be counted:
  *
- *   bench WORK ROUNDS      WORK: arp, echo, deliver (and read), back (delivered, read and sent back), send or poll_at
+ *   bench WORK ROUNDS [SOCKETS]      WORK: arp, echo, deliver (and read), back (delivered, read and sent back), send, next
+ *                                    (nothing to send), waiting (the same while each socket waits for a neighbour), poll_at
  *
+ * The socket of the work is the last of SOCKETS, 1 if not given.
  * valgrind --tool=callgrind counts them; the difference of two runs, divided by the rounds between them, is a call's.
  */
 #include "iface.h"
@@ -67,13 +69,23 @@ static size_t arp_request(void) {
     return sizeof request;
 }
 
+/* Has each of so many sockets wait for a neighbour that isn't there. */
+static void wait_all(iface *host, const uint32_t *sockets, long count) {
+    struct iface_endpoint absent = {{4, {192, 168, 69, 200}}, 5000};
+    size_t n = 1;
+    for (long i = 0; i < count; i++) must("send", iface_udp_send(host, sockets[i], &absent, payload, PAYLOAD));
+    while (n > 0) must("next", iface_next(host, 0, out, sizeof out, &n));
+}
+
 int main(int argc, char **argv) {
-    if (argc != 3) return 2;
-    long rounds = atol(argv[2]), octets = 0;
+    static uint32_t sockets[4096];
+    if (argc != 3 && argc != 4) return 2;
+    long rounds = atol(argv[2]), count = argc == 4 ? atol(argv[3]) : 1, octets = 0;
+    if (count < 1 || count > 4096) return 2;
     iface host = IFACE_NONE;
     struct iface_config config;
     iface_config_init(&config);
-    config.seed = 1, config.sockets = 1, config.hardware_address[0] = 2, config.hardware_address[5] = 1;
+    config.seed = 1, config.sockets = (uint32_t)count, config.hardware_address[0] = 2, config.hardware_address[5] = 1;
     struct iface_address own = {4, {192, 168, 69, 1}};
     struct iface_endpoint local = {{0, {0}}, 4000}, remote = {{4, {192, 168, 69, 100}}, 5000}, from;
     uint32_t socket;
@@ -81,15 +93,23 @@ int main(int argc, char **argv) {
     int64_t at;
     must("host", iface_new(&host, &config));
     must("address", iface_add_address(&host, &own, 24));
-    must("socket", iface_udp_open(&host, &local, &(struct iface_rooms)IFACE_ROOMS(4, 8192), &socket));
+    for (long i = 0; i < count; i++) {
+        local.port = (uint16_t)(4000 + count - 1 - i);
+        must("socket", iface_udp_open(&host, &local, &(struct iface_rooms)IFACE_ROOMS(4, 8192), &sockets[i]));
+    }
+    socket = sockets[count - 1];
     must("receive", iface_receive(&host, 0, frame, length, out, sizeof out, &n));
     must("next", iface_next(&host, 0, out, sizeof out, &n)); /* as any program asks, once before all */
-    char work = argv[1][0]; /* arp, echo, deliver, back, send, poll_at */
+    char work = argv[1][0]; /* arp, echo, deliver, back, send, next, waiting, poll_at */
+    if (work == 'w') wait_all(&host, sockets, count);
     if (work == 'e') length = echo_request();
     if (work == 'd' || work == 'b') length = datagram();
     for (long i = 0; i < rounds; i++) {
         if (work == 's') {
             must("send", iface_udp_send(&host, socket, &remote, payload, 1400));
+            must("next", iface_next(&host, 0, out, sizeof out, &n));
+            octets += (long)n;
+        } else if (work == 'n' || work == 'w') {
             must("next", iface_next(&host, 0, out, sizeof out, &n));
             octets += (long)n;
         } else if (work == 'p') {

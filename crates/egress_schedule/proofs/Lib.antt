@@ -2,3 +2,4 @@ mod First
 mod Comes
 mod Ends
 mod Unchanged
+mod Unnoted

@@ -46,6 +46,10 @@ pub record IsUnnoted (watch : Watch) : Type 0 where
   pub waiting : watch.waiting ≡ None
   pub unreachable : watch.unreachable ≡ None
 
+-- nor of any socket
+abbrev pub NoneIsNoted : List Watch → Type 0
+NoneIsNoted watches = (i : ℕ) → IsUnnoted (get_or watches i idle)
+
 -- the plan with what is written down of a socket of this wait after a round
 abbrev pub plan_after_look : ℤ → ℕ → Wait → Plan → Plan
 plan_after_look now i wait plan =

@@ -23,6 +23,7 @@ const NOBODY: IpAddress = IpAddress::Ipv4(Ipv4Address { bits: 0 });
 impl Schedule {
     /// Lets the sockets whose first packet is long not be asked, but for the one whose turn it is; that one too,
     /// while a piece is left.
+    #[inline(never)]
     pub(crate) fn set_aside<L: Drop>(
         &mut self,
         now: Instant,
@@ -120,6 +121,7 @@ impl Schedule {
     }
 
     /// Gives the sockets that weren't to be asked their own waits again.
+    #[inline(never)]
     pub(crate) fn put_all_back<L: Drop>(&mut self, sockets: &mut SocketSetOf<L>)
         ensures { planned self.new sockets.new ≡ spec.after_putting_all_back (planned self.old sockets.old) }
     {

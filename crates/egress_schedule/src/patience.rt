@@ -1,8 +1,8 @@
 //! Giving up a neighbour that doesn't answer.
 ghost use Rattle.std.specs.Prelude.{◌≡◌, false, get_or, length};
-ghost use Rattle.egress_schedule.specs.Plan.{idle, planned};
+ghost use Rattle.egress_schedule.specs.Plan.{each_of, idle, planned};
 ghost use Rattle.egress_schedule.specs.Patience as spec;
-ghost use Rattle.egress_schedule.specs.Patience.{IsUnnoted, after_alignment_at, after_giving_up};
+ghost use Rattle.egress_schedule.specs.Patience.{IsUnnoted, NoneIsNoted, after_alignment_at, after_giving_up};
 ghost use Rattle.egress_schedule.specs.Patience.{after_look_at, after_patience_at, earliest_end};
 ghost use Rattle.egress_schedule.specs.Patience.{earliest_with, plan_after_look, without_first};
 ghost use Rattle.socket_set.specs.SocketSet.{socket_at};
@@ -19,8 +19,39 @@ impl Schedule {
         ensures { planned self.new sockets.now ≡ spec.after_look now (planned self.old sockets.now) }
     {
         self.is_waiting = false;
+        if self.may_have_notes {
+            self.look_at_all(now, sockets);
+        } else {
+            self.look_at_busy(now, sockets);
+        }
+    }
+
+    /// Writes down which sockets wait.
+    #[inline(never)]
+    fn look_at_all<L: Drop>(&mut self, now: Instant, sockets: &SocketSetOf<L>)
+        ensures { planned self.new sockets.now
+            ≡ each_of (after_look_at now) (length self.old.watches) (planned self.old sockets.now) }
+    {
+        let mut has_notes = false;
         for index in 0..self.watches.len() {
             self.look_at(index, now, sockets);
+            has_notes |= self.watch(index).is_noted();
+        }
+        self.may_have_notes = has_notes;
+    }
+
+    /// The same where nothing is written down of any socket: none waits but those that may be busy.
+    #[inline(always)]
+    fn look_at_busy<L: Drop>(&mut self, now: Instant, sockets: &SocketSetOf<L>)
+        requires { NoneIsNoted self.old.watches }
+        ensures { planned self.new sockets.now
+            ≡ each_of (after_look_at now) (length self.old.watches) (planned self.old sockets.now) }
+    {
+        let count = self.watches.len().min(by_index::places(sockets));
+        let mut index = by_index::next_busy(sockets, 0);
+        while index < count {
+            self.look_at(index, now, sockets);
+            index = by_index::next_busy(sockets, index + 1);
         }
     }
 
@@ -39,10 +70,7 @@ impl Schedule {
     fn is_noted(&self, index: usize) -> bool
         ensures { result ≡ false → IsUnnoted (get_or self.now.watches index idle) }
     {
-        match self.watches.get(index) {
-            Some(watch) => watch.waiting.is_some() || watch.unreachable.is_some(),
-            None => false,
-        }
+        self.watch(index).is_noted()
     }
 
     /// Writes down whether the socket at an index waits, whose wait is this.
@@ -67,6 +95,7 @@ impl Schedule {
     }
 
     /// Lets all sockets that wait ask again at one instant, the earliest.
+    #[inline(never)]
     pub(crate) fn align<L: Drop>(&mut self, sockets: &mut SocketSetOf<L>)
         ensures { planned self.new sockets.new ≡ spec.after_alignment (planned self.old sockets.old) }
     {
@@ -108,6 +137,7 @@ impl Schedule {
     }
 
     /// Each socket whose patience has ended, or whose neighbour was just given up, gives up its first packet.
+    #[inline(never)]
     pub(crate) fn give_up<L: Drop>(&mut self, now: Instant, sockets: &mut SocketSetOf<L>)
         ensures { planned self.new sockets.new ≡ spec.after_patience now (planned self.old sockets.old) }
     {

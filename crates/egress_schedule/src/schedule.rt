@@ -25,10 +25,13 @@ pub struct Schedule {
     pub(crate) given_up: u64,
     pub(crate) is_waiting: bool,
     pub(crate) may_have_long: bool,
+    // Whether it may be written down of some socket that it waits, or whom it just gave up.
+    pub(crate) may_have_notes: bool,
 }
 
 impl Model for Schedule {
-    ghost use Rattle.std.specs.Prelude.{vec_capacity};
+    ghost use Rattle.std.specs.Prelude.{◌≡◌, false, vec_capacity};
+    ghost use Rattle.egress_schedule.specs.Patience.{NoneIsNoted};
     ghost use Rattle.egress_schedule.specs.Plan.{Plan};
 
     ghost Value = { Plan };
@@ -43,6 +46,8 @@ impl Model for Schedule {
       is_waiting = s.is_waiting;
       may_have_long = s.may_have_long;
     } };
+
+    ghost invariant = { λ s. s.may_have_notes ≡ false → NoneIsNoted s.watches.items };
 }
 
 impl Schedule {
@@ -59,6 +64,7 @@ impl Schedule {
             given_up: 0,
             is_waiting: false,
             may_have_long: false,
+            may_have_notes: false,
         })
     }
 
@@ -209,6 +215,7 @@ impl Schedule {
     pub(crate) fn set_watch(&mut self, index: usize, watch: Watch)
         ensures { self.new ≡ with_watch index watch self.old }
     {
+        self.may_have_notes |= watch.is_noted();
         if let Some(place) = self.watches.get_mut(index) {
             *place = watch;
         }

@@ -12,6 +12,7 @@ use socket_set::{Meta, SocketSetOf, by_index};
 
 impl Schedule {
     /// Lets the sockets before the one whose turn it is to ask for its neighbour wait a second more.
+    #[inline(never)]
     pub(crate) fn take_turns<L: Drop>(&mut self, now: Instant, sockets: &mut SocketSetOf<L>)
         requires { IsMoment now }
         ensures { planned self.new sockets.new ≡ spec.after_taking_turns now (planned self.old sockets.old) }

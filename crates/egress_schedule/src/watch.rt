@@ -1,5 +1,5 @@
 //! What is written down of a socket from one round to the next.
-ghost use Rattle.std.specs.Prelude.{◌≡◌};
+ghost use Rattle.std.specs.Prelude.{◌≡◌, false};
 ghost use Rattle.egress_schedule.specs.Patience as spec;
 ghost use Rattle.egress_schedule.specs.Plan.{idle};
 ghost use Rattle.egress_schedule.specs.Turns as turns;
@@ -39,6 +39,13 @@ impl Watch {
         given_up: None,
         set_aside: None,
     };
+
+    /// Whether it is written down that the socket waits, or whom it just gave up.
+    pub(crate) fn is_noted(&self) -> bool
+        ensures { result ≡ false → spec.IsUnnoted self.now }
+    {
+        self.waiting.is_some() || self.unreachable.is_some()
+    }
 }
 
 /// For whom a socket waits after a round, whose wait is this. One whose end has come is over.

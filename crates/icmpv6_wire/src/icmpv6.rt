@@ -228,30 +228,30 @@ impl Icmpv6Repr {
     {
         match self {
             Icmpv6Repr::EchoRequest { .. } | Icmpv6Repr::EchoReply { .. } => {
-                emit_parts(self, &[], &[], payload, src, dst, summed, out);
+                emit_parts_by_call(self, &[], &[], payload, src, dst, summed, out);
             }
             Icmpv6Repr::DstUnreachable { header, .. }
             | Icmpv6Repr::PktTooBig { header, .. }
             | Icmpv6Repr::TimeExceeded { header, .. }
             | Icmpv6Repr::ParamProblem { header, .. } => {
-                emit_parts(self, &header.octets(), &[], payload, src, dst, summed, out);
+                emit_parts_by_call(self, &header.octets(), &[], payload, src, dst, summed, out);
             }
             Icmpv6Repr::Ndisc(message) => {
                 let target = message.target_octets();
                 match message.option_octets() {
                     Some(option) => {
-                        emit_parts(self, &target, &option, payload, src, dst, summed, out);
+                        emit_parts_by_call(self, &target, &option, payload, src, dst, summed, out);
                     }
-                    None => emit_parts(self, &target, &[], payload, src, dst, summed, out),
+                    None => emit_parts_by_call(self, &target, &[], payload, src, dst, summed, out),
                 }
             }
             Icmpv6Repr::Router(message) => {
                 let body = message.body_octets();
-                emit_parts(self, body.as_slice(), &[], payload, src, dst, summed, out);
+                emit_parts_by_call(self, body.as_slice(), &[], payload, src, dst, summed, out);
             }
             Icmpv6Repr::Mld(message) => match message.body_octets() {
-                Some(body) => emit_parts(self, &body, &[], payload, src, dst, summed, out),
-                None => emit_parts(self, &[], &[], payload, src, dst, summed, out),
+                Some(body) => emit_parts_by_call(self, &body, &[], payload, src, dst, summed, out),
+                None => emit_parts_by_call(self, &[], &[], payload, src, dst, summed, out),
             },
         }
     }
@@ -384,6 +384,30 @@ pub fn emit_parts(
     out.append(&head_with(sum, message));
     out.append(first);
     out.append(second);
+}
+
+/// Appends a message as [`emit_parts`] does, by a call: for a message of any kind.
+#[inline(never)]
+fn emit_parts_by_call(
+    message: &Icmpv6Repr,
+    first: &[u8],
+    second: &[u8],
+    payload: &[u8],
+    src: &IpAddress,
+    dst: &IpAddress,
+    summed: bool,
+    out: &mut FrameBuffer,
+)
+    requires body { first.now ++ second.now ≡ spec.body message.now }
+    requires body_len { 8 + length first.now + length second.now ≡ spec.header_len message.now }
+    requires first_even { length first.now % 2 ≡ 0 }
+    requires second_even { length second.now % 2 ≡ 0 }
+    requires fits { spec.header_len message.now + length payload.now < 2 ^ 16 }
+    requires room { length out.old + spec.header_len message.now ≤ 1514 }
+    ensures items { out.new ++ payload.now ≡ out.old ++ spec.text summed src.now dst.now message.now payload.now }
+    ensures len { length out.new ≡ length out.old + spec.header_len message.now }
+{
+    emit_parts(message, first, second, payload, src, dst, summed, out);
 }
 
 /// The checksum of a message whose body has these two parts.

@@ -73,6 +73,16 @@ impl Outbox {
         if self.room.is_some() {
             return Ok(());
         }
+        self.make_room()
+    }
+
+    /// Reserves room for one more frame.
+    #[inline(never)]
+    fn make_room(&mut self) -> Result<(), AllocError>
+        requires { self.old.has_room ≡ false }
+        ensures reserved { OnOk result (self.new ≡ with_room true self.old) }
+        ensures refused { OnErr result (self.new ≡ self.old) }
+    {
         let room = Vec::with_capacity(self.alloc, FRAME_BUFFER_SIZE)?;
         self.frames.reserve(1)?;
         self.room = Some(room);
@@ -125,6 +135,7 @@ impl Outbox {
     }
 
     /// Keeps a frame that is sent, in the room for it.
+    #[inline(never)]
     pub(crate) fn keep(&mut self, frame: &[u8])
         requires room { self.old.has_room ≡ true }
         requires short { length frame.now ≤ 1514 }

@@ -1,6 +1,7 @@
 mod Broadcasts
 mod Building
 mod Cutting
+mod Destinations
 mod DispatchFrame
 mod FragmentTurns
 pub mod Offered

@@ -1,3 +1,4 @@
+pub mod Destination
 pub mod Multicast
 pub mod Offered
 pub mod Pieces

@@ -87,6 +87,7 @@ pub fn sync_slaac(context: &mut Context)
 }
 
 /// Synchronizes addresses and routes with the prefixes and routers learnt.
+#[inline(never)]
 fn apply_slaac(context: &mut Context)
     ensures { (sockets : SocketSet) → host_of context.new sockets ≡ with_slaac_applied (host_of context.old sockets) }
 {

@@ -1,6 +1,7 @@
 //! Where an IP packet is sent: the next hop, its hardware address, and the frame that is built for it (RFC 1122 3.3.1,
 //! RFC 826).
 ghost use Rattle.std.specs.Prelude.{◌≡◌, ◌≤◌, ◌<◌, true, false, [], length, None, Ok, Err, IfSome};
+ghost use Rattle.std.specs.Prelude.{IfOk, IfErr, OnOk};
 ghost use Rattle.net_base.specs.Checksum.{ip_mtu_of};
 ghost use Rattle.ip_address.specs.Hardware.{IsOf};
 ghost use Rattle.ip_address.specs.Ip.{is_unicast, is_unspecified};
@@ -14,6 +15,7 @@ ghost use Rattle.host_machine.specs.Sending.Packet.{IsFormed, IsWritable};
 ghost use Rattle.host_machine.specs.Sending.Packet as value;
 ghost use Rattle.host_machine.specs.Sending.Dispatch as spec;
 ghost use Rattle.iface_packet.specs.PacketValues as value_of;
+ghost use Rattle.iface_send.specs.Destination.{IsBegun, IsReached, IsRefused};
 ghost use Rattle.iface_send.specs.Refines.{RefinesBuilding};
 ghost use Rattle.iface_send.specs.Stands.{host_in, host_of};
 
@@ -27,7 +29,8 @@ use iface_packet::payload::IpPayload;
 use iface_tables::neighbor::Answer;
 use ip_wire::emit::FrameBuffer;
 use ip_wire::{
-    ArpOperation, ArpRepr, EthernetAddress, HardwareAddress, IpAddress, Ipv4Address, Ipv6Address,
+    ArpOperation, ArpRepr, EthernetAddress, EthernetProtocol, HardwareAddress, IpAddress,
+    Ipv4Address, Ipv6Address,
 };
 
 /// Builds the frame of an IP packet for the next hop towards its destination, in an empty buffer. If the buffer stays
@@ -49,75 +52,158 @@ pub fn dispatch<Q: AnyPacket>(
     requires writable { IsWritable (Q.stands_for packet.now) }
     ensures { RefinesBuilding out.new (spec.Dispatches (Q.stands_for packet.now) result) context.old context.new }
 {
-    if packet.dst_addr().is_unspecified() {
+    let dst_addr = packet.dst_addr();
+    if dst_addr.is_unspecified() {
         return Ok(());
     }
     let identification = context.ipv4_id;
     context.ipv4_id = identification.wrapping_add(1);
-    match context.hardware_addr {
-        HardwareAddress::Ethernet(own) => {
-            dispatch_ethernet(context, identification, own, packet, out)
-        }
-        HardwareAddress::Ip => {
-            emit_packet(context, identification, &HardwareAddress::Ip, packet, out);
-            Ok(())
-        }
+    if packet.total_len() > context.capabilities.ip_mtu() {
+        return dispatch_long_by_copy(context, identification, packet, out);
+    }
+    begin_frame(context, &dst_addr, out)?;
+    packet.emit(&context.capabilities, out);
+    Ok(())
+}
+
+/// Begins the frame of a packet for an address, in an empty buffer: appends the header of the link, if it has one. If
+/// the hardware address of the next hop is unknown, the request for it is built instead. Returns why the packet can't
+/// be sent yet.
+#[inline(always)]
+fn begin_frame(
+    context: &mut Context,
+    dst_addr: &IpAddress,
+    out: &mut FrameBuffer,
+) -> Result<(), DispatchError>
+    requires empty { out.old ≡ [] }
+    requires specified { is_unspecified dst_addr.now ≡ false }
+    ensures begun { OnOk result (IsBegun dst_addr.now context.old out.new) }
+    ensures unchanged { OnOk result (context.new ≡ context.old) }
+    ensures refused { IfErr result (λ error. IsRefused error dst_addr.now out.new context.old context.new) }
+{
+    match dst_addr {
+        IpAddress::Ipv4(dst_addr) => begin_frame_v4(context, *dst_addr, out),
+        IpAddress::Ipv6(dst_addr) => begin_frame_v6(context, *dst_addr, out),
     }
 }
 
-/// Builds a packet's frame over Ethernet: directly for a multicast or broadcast destination, otherwise for the next
-/// hop.
+/// Begins the frame of a packet for an IPv4 address, as [`begin_frame`] does.
+#[inline(never)]
+fn begin_frame_v4(
+    context: &mut Context,
+    dst_addr: Ipv4Address,
+    out: &mut FrameBuffer,
+) -> Result<(), DispatchError>
+    requires empty { out.old ≡ [] }
+    requires specified { is_unspecified (Ipv4 dst_addr) ≡ false }
+    ensures begun { OnOk result (IsBegun (Ipv4 dst_addr) context.old out.new) }
+    ensures unchanged { OnOk result (context.new ≡ context.old) }
+    ensures refused { IfErr result (λ error. IsRefused error (Ipv4 dst_addr) out.new context.old context.new) }
+{
+    let destination = destination_of(context, &IpAddress::Ipv4(dst_addr), out)?;
+    emit_link_header(
+        &context.hardware_addr,
+        &destination,
+        EthernetProtocol::Ipv4,
+        out,
+    );
+    Ok(())
+}
+
+/// Begins the frame of a packet for an IPv6 address, as [`begin_frame`] does.
+#[inline(never)]
+fn begin_frame_v6(
+    context: &mut Context,
+    dst_addr: Ipv6Address,
+    out: &mut FrameBuffer,
+) -> Result<(), DispatchError>
+    requires empty { out.old ≡ [] }
+    requires specified { is_unspecified (Ipv6 dst_addr) ≡ false }
+    ensures begun { OnOk result (IsBegun (Ipv6 dst_addr) context.old out.new) }
+    ensures unchanged { OnOk result (context.new ≡ context.old) }
+    ensures refused { IfErr result (λ error. IsRefused error (Ipv6 dst_addr) out.new context.old context.new) }
+{
+    let destination = destination_of(context, &IpAddress::Ipv6(dst_addr), out)?;
+    emit_link_header(
+        &context.hardware_addr,
+        &destination,
+        EthernetProtocol::Ipv6,
+        out,
+    );
+    Ok(())
+}
+
+/// The hardware address that a packet for an address is sent to: none on a medium without hardware addresses; over
+/// Ethernet that of a multicast or broadcast address, otherwise that of the next hop. If that is unknown, the request
+/// for it is built, in an empty buffer. Returns why the packet can't be sent yet.
 #[inline(always)]
-fn dispatch_ethernet<Q: AnyPacket>(
+fn destination_of(
+    context: &mut Context,
+    dst_addr: &IpAddress,
+    out: &mut FrameBuffer,
+) -> Result<HardwareAddress, DispatchError>
+    requires empty { out.old ≡ [] }
+    requires specified { is_unspecified dst_addr.now ≡ false }
+    ensures reached { IfOk result (λ destination. IsReached context.old dst_addr.now destination) }
+    ensures unchanged { OnOk result ((context.new ≡ context.old) × (out.new ≡ [])) }
+    ensures refused { IfErr result (λ error. IsRefused error dst_addr.now out.new context.old context.new) }
+{
+    let HardwareAddress::Ethernet(own) = context.hardware_addr else {
+        return Ok(HardwareAddress::Ip);
+    };
+    if let Some(many) = multicast_hardware_addr(context, dst_addr) {
+        return Ok(HardwareAddress::Ethernet(many));
+    }
+    let Some(hop) = next_hop(context, dst_addr) else {
+        return Err(DispatchError::NoRoute);
+    };
+    match context.neighbor_cache.lookup(&hop, context.moment) {
+        Answer::Found(destination) => Ok(destination),
+        Answer::RateLimited => Err(DispatchError::NeighborPending),
+        Answer::NotFound => { Err(discover_by_copy(context, own, &hop, out)) }
+    }
+}
+
+/// Dispatches a packet as [`dispatch_long`] does, with a copy of it, so that a packet that fits stores none for that
+/// call.
+#[inline(always)]
+fn dispatch_long_by_copy<Q: AnyPacket>(
     context: &mut Context,
     identification: u16,
-    own: EthernetAddress,
     packet: &Q,
     out: &mut FrameBuffer,
 ) -> Result<(), DispatchError>
-    requires own { context.old.hardware_addr ≡ HardwareAddress.Ethernet own }
     requires empty { out.old ≡ [] }
     requires specified { is_unspecified (spec.destination_of (Q.stands_for packet.now)) ≡ false }
     requires writable { IsWritable (Q.stands_for packet.now) }
+    requires long { ip_mtu_of context.old.capabilities < value.total_len (Q.stands_for packet.now) }
     ensures { RefinesBuilding out.new
-        (spec.DispatchesEthernet identification own (Q.stands_for packet.now) result) context.old context.new }
+        (spec.SendsOver identification context.old.hardware_addr (Q.stands_for packet.now) result)
+        context.old context.new }
 {
-    let dst_addr = packet.dst_addr();
-    if let Some(many) = multicast_hardware_addr(context, &dst_addr) {
-        let destination = HardwareAddress::Ethernet(many);
-        emit_packet(context, identification, &destination, packet, out);
-        return Ok(());
-    }
-    match next_hop(context, &dst_addr) {
-        Some(hop) => dispatch_by_hop(context, identification, own, packet, &hop, out),
-        None => Err(DispatchError::NoRoute),
-    }
+    dispatch_long(context, identification, &packet.as_packet(), out)
 }
 
-/// Builds a packet's frame for a next hop, or the request for the next hop's hardware address.
-#[inline(always)]
-fn dispatch_by_hop<Q: AnyPacket>(
+/// Dispatches a packet that exceeds the device's IP MTU: builds the frame of its first fragment, if it may be
+/// fragmented, or drops it. If the hardware address of the next hop is unknown, the request for it is built instead.
+#[inline(never)]
+fn dispatch_long(
     context: &mut Context,
     identification: u16,
-    own: EthernetAddress,
-    packet: &Q,
-    hop: &IpAddress,
+    packet: &Packet<'_>,
     out: &mut FrameBuffer,
 ) -> Result<(), DispatchError>
     requires empty { out.old ≡ [] }
-    requires hop { is_unicast hop.now ≡ true }
-    requires writable { IsWritable (Q.stands_for packet.now) }
+    requires specified { is_unspecified (spec.destination_of (value_of.packet packet.now)) ≡ false }
+    requires writable { IsWritable (value_of.packet packet.now) }
+    requires long { ip_mtu_of context.old.capabilities < value.total_len (value_of.packet packet.now) }
     ensures { RefinesBuilding out.new
-        (spec.DispatchesByHop identification own (Q.stands_for packet.now) hop.now result) context.old context.new }
+        (spec.SendsOver identification context.old.hardware_addr (value_of.packet packet.now) result)
+        context.old context.new }
 {
-    match context.neighbor_cache.lookup(hop, context.moment) {
-        Answer::Found(destination) => {
-            emit_packet(context, identification, &destination, packet, out);
-            Ok(())
-        }
-        Answer::RateLimited => Err(DispatchError::NeighborPending),
-        Answer::NotFound => { Err(discover_by_copy(context, own, hop, out)) }
-    }
+    let destination = destination_of(context, &packet.dst_addr(), out)?;
+    emit_long_packet(context, identification, &destination, packet, out);
+    Ok(())
 }
 
 /// Builds the request for a hardware address as [`discover_neighbor`] does, with copies, so that a packet that is sent
@@ -229,56 +315,6 @@ fn request_for(own: EthernetAddress, source: Ipv4Address, target: Ipv4Address) -
         target_hardware_addr: EthernetAddress::BROADCAST,
         target_protocol_addr: target,
     }
-}
-
-/// Builds the frame of a packet for a hardware address: of the whole packet, or of its first fragment if it exceeds the
-/// device's IP MTU. A packet that exceeds the MTU is dropped if it is longer than 4,096 octets, or IPv6 (RFC 8200 5).
-#[inline(always)]
-fn emit_packet<Q: AnyPacket>(
-    context: &mut Context,
-    identification: u16,
-    destination: &HardwareAddress,
-    packet: &Q,
-    out: &mut FrameBuffer,
-)
-    requires of_medium { IsOf context.old.capabilities.medium destination.now }
-    requires empty { out.old ≡ [] }
-    requires writable { IsWritable (Q.stands_for packet.now) }
-    ensures { RefinesBuilding out.new
-        (spec.Emits identification (Q.stands_for packet.now) destination.now (Ok tt)) context.old context.new }
-{
-    let total_len = packet.total_len();
-    if total_len <= context.capabilities.ip_mtu() {
-        emit_frame(context, destination, packet, out);
-        return;
-    }
-    emit_long_by_copy(context, identification, destination, packet, out);
-}
-
-/// Builds a frame as [`emit_long_packet`] does, with copies, so that a packet that fits stores none for that call.
-#[inline(always)]
-fn emit_long_by_copy<Q: AnyPacket>(
-    context: &mut Context,
-    identification: u16,
-    destination: &HardwareAddress,
-    packet: &Q,
-    out: &mut FrameBuffer,
-)
-    requires of_medium { IsOf context.old.capabilities.medium destination.now }
-    requires empty { out.old ≡ [] }
-    requires writable { IsWritable (Q.stands_for packet.now) }
-    requires long { ip_mtu_of context.old.capabilities < value.total_len (Q.stands_for packet.now) }
-    ensures { RefinesBuilding out.new
-        (spec.Emits identification (Q.stands_for packet.now) destination.now (Ok tt)) context.old context.new }
-{
-    let destination = *destination;
-    emit_long_packet(
-        context,
-        identification,
-        &destination,
-        &packet.as_packet(),
-        out,
-    );
 }
 
 /// Builds the frame of the first fragment of a packet that exceeds the device's IP MTU, if it may be fragmented;

@@ -27,6 +27,7 @@ pub fn send_frame<D: Device>(device: &mut D, frame: &FrameBuffer)
 }
 
 /// Sends a packet, if the device grants a transmit token. Returns whether it did.
+#[inline(never)]
 pub fn send_packet<D: Device>(
     context: &mut Context,
     device: &mut D,

@@ -22,6 +22,7 @@ use sockets::{SocketContext, icmp};
 
 /// Gives an ICMP socket its turn: dispatches the message it offers, if the device grants a transmit token, and reports
 /// the outcome to the socket.
+#[inline(never)]
 pub(crate) fn give_icmp_turn<D: Device>(
     socket: &mut icmp::Socket<'_>,
     context: &mut Context,

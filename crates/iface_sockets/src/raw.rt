@@ -154,6 +154,7 @@ fn deliver_at(
 
 /// Gives a raw socket its turn: dispatches the packet it offers, if the device grants a transmit token, and reports the
 /// outcome to the socket.
+#[inline(never)]
 pub(crate) fn give_raw_turn<D: Device>(
     socket: &mut raw::Socket<'_>,
     context: &mut Context,

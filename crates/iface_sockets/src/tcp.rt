@@ -238,6 +238,7 @@ fn deliver_at(
 
 /// Gives a TCP socket its turn: dispatches the segment it offers, if the device grants a transmit token, and reports
 /// the outcome to the socket.
+#[inline(never)]
 pub(crate) fn give_tcp_turn<D: Device>(
     socket: &mut tcp::Socket<'_>,
     context: &mut Context,

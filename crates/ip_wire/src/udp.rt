@@ -80,6 +80,7 @@ impl UdpRepr {
 
     /// Appends the header of a datagram with this payload, as [`UdpRepr::emit`] does, without the payload.
     #[inline(always)]
+    #[tactic(auto, unfolding(crate::specs::Udp::header_with))]
     pub fn emit_header(
         &self,
         src: &IpAddress,
@@ -98,7 +99,10 @@ impl UdpRepr {
         } else {
             0
         };
-        out.append(&header_with(sum, self, payload.len() as u16));
+        out.append(&self.src_port.to_be_bytes());
+        out.append(&self.dst_port.to_be_bytes());
+        out.append(&(8 + payload.len() as u16).to_be_bytes());
+        out.append(&sum.to_be_bytes());
     }
 }
 
@@ -124,20 +128,6 @@ fn sums_up(datagram: &[u8], src: &IpAddress, dst: &IpAddress) -> bool
 {
     let start = pseudo_sum(src, dst, 17, datagram.len() as u16);
     sum_with(start, datagram) == 0xffff
-}
-
-/// A header with the given checksum, before `payload_len` octets of payload.
-#[inline(always)]
-#[tactic(auto, unfolding(crate::specs::Udp::header_with))]
-fn header_with(sum: u16, repr: &UdpRepr, payload_len: u16) -> [u8; HEADER_LEN]
-    requires { 8 + payload_len < 2 ^ 16 }
-    ensures { result ≡ spec.header_with sum repr.now payload_len }
-{
-    let [s0, s1] = repr.src_port.to_be_bytes();
-    let [d0, d1] = repr.dst_port.to_be_bytes();
-    let [l0, l1] = (8 + payload_len).to_be_bytes();
-    let [c0, c1] = sum.to_be_bytes();
-    [s0, s1, d0, d1, l0, l1, c0, c1]
 }
 
 /// The checksum of a datagram.

@@ -1,6 +1,7 @@
 //! Sets of covered offsets, such as those of the octets received of a datagram (RFC 791 3.2).
 ghost use Rattle.std.specs.Prelude.{◌≡◌, ◌↔◌, ◌≤◌, ◌<◌, ◌+◌, ℕ, ◌^◌, [], ◌∷◌, ◌++◌, IsTrue};
 ghost use Rattle.std.specs.Prelude.{false, true, IsOk, IsErr, IfOk, OnOk, OnErr, length, List};
+ghost use Rattle.std.specs.Prelude.{insert, remove, slice_index_or};
 ghost use Rattle.net_base.specs.RangesLaws.{FifthTouchesNone};
 ghost use Rattle.net_base.specs.Ranges.{add_range, front, AreSeparate, range_union};
 ghost use Rattle.net_base.specs.Ranges.{places_before, IsMet, IsApart, IsUnion};
@@ -168,17 +169,44 @@ fn put_range(
         if ranges.is_full() {
             return Err(TooManyHolesError);
         }
-        ranges.insert(first, Range { start, end });
+        insert_at(ranges, first, Range { start, end });
         return Ok(());
     }
-    let met = ranges.remove(first);
+    let met = remove_at(ranges, first);
     let mut merged = range_union(Range { start, end }, met);
     while is_met(ranges.as_slice(), first, merged.end) {
-        let met = ranges.remove(first);
+        let met = remove_at(ranges, first);
         merged = range_union(merged, met);
     }
-    ranges.insert(first, merged);
+    insert_at(ranges, first, merged);
     Ok(())
+}
+
+// Inserts a range at an index. It moves those from there on one by one, since a rotation would need a long buffer.
+fn insert_at(ranges: &mut ArrayVec<Range, ASSEMBLER_MAX_SEGMENT_COUNT>, index: usize, range: Range)
+    requires in_bounds { index ≤ length ranges.old.items }
+    requires room { length ranges.old.items < 4 }
+    ensures items { ranges.new.items ≡ insert ranges.old.items index range }
+{
+    let len = ranges.len();
+    ranges.push(range);
+    let items = ranges.as_mut_slice();
+    items.copy_within(index..len, index + 1);
+    items[index] = range;
+}
+
+// Removes the range at an index, and returns it.
+fn remove_at(ranges: &mut ArrayVec<Range, ASSEMBLER_MAX_SEGMENT_COUNT>, index: usize) -> Range
+    requires { index < length ranges.old.items }
+    ensures value { result ≡ slice_index_or ranges.old.items index result }
+    ensures items { ranges.new.items ≡ remove ranges.old.items index }
+{
+    let len = ranges.len();
+    let items = ranges.as_mut_slice();
+    let range = items[index];
+    items.copy_within(index + 1..len, index);
+    let _ = ranges.pop();
+    range
 }
 
 // Whether a range that ends at `end` meets the one at index `i`.

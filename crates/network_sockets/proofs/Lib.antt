@@ -1,2 +1,1 @@
-pub mod IcmpLemmas
 pub mod RawLemmas

@@ -199,7 +199,7 @@ impl<L: Drop> SocketOf<L> {
     }
 
     /// The first message to send, if it is an echo message and has a source address.
-    #[inline(always)]
+    #[inline(never)]
     fn peek<C: SocketContext>(&self, context: &C) -> Option<Packet<'_>>
         ensures { option_map spec.value_of result ≡ spec.offered_packet (C.source_for context.now) self.now }
     {
@@ -301,25 +301,43 @@ fn is_datagram_from(port: u16, header: &IpRepr, quoted: &[u8]) -> bool
     port == u16_at(quoted, 0)
 }
 
-/// Parses octets as an echo message to a peer, by the ICMP of the peer's family. Returns the message and its data.
+/// Parses octets as an echo message to a peer, by the ICMP of the peer's family. Returns the message and its data. The
+/// checksum isn't verified.
 #[inline(always)]
-#[tactic(auto, using(crate::proofs::IcmpLemmas::is_echo_reads_v4, crate::proofs::IcmpLemmas::is_echo_reads_v6))]
 fn parse_echo<'m>(remote: &IpAddress, message: &'m [u8]) -> Option<(IcmpRepr, &'m [u8])>
     ensures { option_map spec.parts result ≡ spec.echo_to remote.now message.now }
 {
-    match remote {
-        IpAddress::Ipv4(_) => match Icmpv4Repr::parse(message, false)? {
-            (repr @ (Icmpv4Repr::EchoRequest { .. } | Icmpv4Repr::EchoReply { .. }), payload) => {
-                Some((IcmpRepr::Ipv4(repr), payload))
-            }
-            _ => None,
-        },
-        // The addresses are for the checksum, which isn't verified.
-        IpAddress::Ipv6(_) => match Icmpv6Repr::parse(message, remote, remote, false)? {
-            (repr @ (Icmpv6Repr::EchoRequest { .. } | Icmpv6Repr::EchoReply { .. }), payload) => {
-                Some((IcmpRepr::Ipv6(repr), payload))
-            }
-            _ => None,
-        },
+    if message.len() < 8 || message.len() >= 1 << 16 || message[1] != 0 {
+        return None;
+    }
+    let ident = u16_at(message, 4);
+    let seq_no = u16_at(message, 6);
+    let payload = &message[8..];
+    match (remote, message[0]) {
+        (IpAddress::Ipv4(_), 8) => {
+            Some((
+                IcmpRepr::Ipv4(Icmpv4Repr::EchoRequest { ident, seq_no }),
+                payload,
+            ))
+        }
+        (IpAddress::Ipv4(_), 0) => {
+            Some((
+                IcmpRepr::Ipv4(Icmpv4Repr::EchoReply { ident, seq_no }),
+                payload,
+            ))
+        }
+        (IpAddress::Ipv6(_), 128) => {
+            Some((
+                IcmpRepr::Ipv6(Icmpv6Repr::EchoRequest { ident, seq_no }),
+                payload,
+            ))
+        }
+        (IpAddress::Ipv6(_), 129) => {
+            Some((
+                IcmpRepr::Ipv6(Icmpv6Repr::EchoReply { ident, seq_no }),
+                payload,
+            ))
+        }
+        _ => None,
     }
 }

@@ -148,7 +148,7 @@ impl<L: Drop> SocketOf<L> {
     }
 
     /// The packet that the octets begin with, if it is of the socket's version and protocol.
-    #[inline(always)]
+    #[inline(never)]
     fn parse<'p>(&self, octets: &'p [u8]) -> Option<Packet<'p>>
         ensures { option_map spec.value_of result ≡ spec.packet_to_send self.now octets.now }
     {

@@ -21,6 +21,18 @@ pub fn pseudo_sum(src: &IpAddress, dst: &IpAddress, protocol: u8, len: u16) -> u
     if let (IpAddress::Ipv6(src), IpAddress::Ipv6(dst)) = (src, dst) {
         return quarters(src.bits) + quarters(dst.bits) + u64::from(protocol) + u64::from(len);
     }
+    mixed_sum(src, dst, protocol, len)
+}
+
+/// The same, for addresses of any two families, by their octets. No packet has addresses of two families, so this is a
+/// call.
+#[inline(never)]
+#[tactic(auto, using(crate::proofs::Pseudos::sums))]
+fn mixed_sum(src: &IpAddress, dst: &IpAddress, protocol: u8, len: u16) -> u64
+    ensures folds { (sum : ℕ) →
+        folded_sum (sum + result) ≡ folded_sum (sum + word_sum (spec.pseudo src.now dst.now protocol len)) }
+    ensures small { result < 2 ^ 40 }
+{
     let addresses = address_sum(address_sum(0, src), dst);
     u64::from(ending_sum(addresses, dst, protocol, len))
 }

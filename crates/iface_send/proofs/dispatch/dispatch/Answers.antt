@@ -1,25 +1,56 @@
-use Rattle.std.proofs.Common.{refl, sym, subst, Ok}
-use Rattle.ip_address.specs.declared.hardware.HardwareAddress.{HardwareAddress}
+use Rattle.std.proofs.Common.{◌≡◌, ◌≤◌, ℕ, List, [], ◌∷◌, ◌++◌, refl, sym, ap, ◌∙◌, subst, Ok, Err, arith, rules}
+use Rattle.ip_address.specs.declared.ip.IpAddress.{IpAddress}
+use Rattle.ip_wire.specs.declared.ethernet.EthernetProtocol.{EthernetProtocol}
+use Rattle.net_base.specs.Checksum.{ip_mtu_of}
+use Rattle.host_machine.specs.Sending.Packet.{total_len}
 use Rattle.host_machine.specs.State.Note.{OfIdentification, Identify}
-use Rattle.host_machine.specs.Sending.Dispatch.{SendsOver, ToUnspecified, ToSpecified, with_next_id}
-use Rattle.iface_send.specs.Stands.{host_in}
-use Rattle.iface_send.proofs.Building.{unsent, nothing, noting}
+use Rattle.host_machine.specs.State.Host.{no_sockets}
+use Rattle.host_machine.specs.Sending.Frame.{ip_frame, link_header, packet_text}
+use Rattle.host_machine.specs.Sending.Dispatch.{Emits, ToUnspecified, ToSpecified, Whole}
+use Rattle.iface_send.specs.declared.context.Context.{Context}
+use Rattle.iface_send.specs.Destination.{ethertype_to}
+use Rattle.iface_send.specs.Stands.{host_in, host_of}
+use Rattle.iface_send.proofs.Building.{unsent, nothing, noting, one}
+use Rattle.iface_send.proofs.Destinations.{same_ethertype, some_octets}
 use Rattle.iface_send.proofs.dispatch.dispatch.Goals as goal
 
 pub returns-then-is_unspecified : goal.returns-then-is_unspecified
-returns-then-is_unspecified g c = nothing c.requires.empty
-    (λ slots sockets. ToUnspecified (rw (← c.dst_addr.ensures, ← c.is_unspecified.ensures) c.if-is_unspecified.true) refl (unsent _))
+returns-then-is_unspecified g c = nothing c.requires.empty (λ slots sockets.
+    ToUnspecified (rw (← c.dst_addr-dst_addr.ensures, ← c.is_unspecified.ensures) c.if-is_unspecified.true) refl (unsent _))
 
-pub returns-in-Ethernet : goal.returns-in-Ethernet
-returns-in-Ethernet g c = noting (OfIdentification (Identify c.args.context.now.ipv4_id)) c.dispatch_ethernet.ensures
-    (λ slots sockets frames notes sends. ToSpecified notes (rw (← c.dst_addr.ensures, ← c.is_unspecified.ensures) c.if-is_unspecified.false)
-    (subst (λ (h : HardwareAddress). SendsOver c.args.context.now.ipv4_id h (g.Q.AnyPacket.stands_for c.args.packet.now) c.dispatch_ethernet.result
-    (with_next_id (host_in c.args.context.now slots sockets)) frames notes (host_in c.dispatch_ethernet.new.context slots sockets))
-    (sym c.in-Ethernet.is) sends) refl)
+pub returns-then-total_len-ip_mtu : goal.returns-then-total_len-ip_mtu
+returns-then-total_len-ip_mtu g c =
+    noting (OfIdentification (Identify c.args.context.now.ipv4_id)) c.dispatch_long_by_copy.ensures (λ slots sockets frames notes sends.
+    ToSpecified notes (rw (← c.dst_addr-dst_addr.ensures, ← c.is_unspecified.ensures) c.if-is_unspecified.false) sends refl)
 
-pub returns-in-Ip : goal.returns-in-Ip
-returns-in-Ip g c = noting (OfIdentification (Identify c.args.context.now.ipv4_id)) c.emit_packet.ensures
-    (λ slots sockets frames notes sends. ToSpecified notes (rw (← c.dst_addr.ensures, ← c.is_unspecified.ensures) c.if-is_unspecified.false)
-    (subst (λ (h : HardwareAddress). SendsOver c.args.context.now.ipv4_id h (g.Q.AnyPacket.stands_for c.args.packet.now) (Ok tt)
-    (with_next_id (host_in c.args.context.now slots sockets)) frames notes (host_in c.emit_packet.new.context slots sockets)) (sym c.in-Ip.is) sends)
-    refl)
+pub returns-in_err-begin_frame : goal.returns-in_err-begin_frame
+returns-in_err-begin_frame g c =
+    let same : c.from_residual.result ≡ Err c.in_err-begin_frame.field-0.0 = search rules in
+    rw same (
+    noting (OfIdentification (Identify c.args.context.now.ipv4_id))
+    (c.in_err-begin_frame.ensures.refused c.args.context.now.ipv4_id (g.Q.AnyPacket.stands_for c.args.packet.now) (sym c.dst_addr-dst_addr.ensures))
+    (λ slots sockets frames notes sends.
+    ToSpecified notes (rw (← c.dst_addr-dst_addr.ensures, ← c.is_unspecified.ensures) c.if-is_unspecified.false) sends refl))
+
+pub returns : goal.returns
+returns g c =
+    let p = g.Q.AnyPacket.stands_for c.args.packet.now in
+    let k = c.begin_frame.new.context in
+    let same = c.in_ok-begin_frame.ensures.unchanged in
+    let begun = c.in_ok-begin_frame.ensures.begun in
+    let fits : total_len p ≤ ip_mtu_of c.args.context.now.capabilities =
+    rw (← c.total_len.ensures, ← c.ip_mtu.ensures) c.if-total_len-ip_mtu.false in
+    let built : c.emit.new.out ≡ ip_frame (host_of k no_sockets) begun.destination p =
+    c.emit.ensures.items
+    ∙ ap (λ (xs : List ℕ). xs ++ packet_text k.capabilities p) (begun.header
+    ∙ ap (λ (x : Context). link_header x.hardware_addr begun.destination (ethertype_to c.dst_addr-dst_addr.result)) (sym same)
+    ∙ ap (λ (a : IpAddress). link_header k.hardware_addr begun.destination (ethertype_to a)) c.dst_addr-dst_addr.ensures
+    ∙ ap (λ (e : EthernetProtocol). link_header k.hardware_addr begun.destination e) (same_ethertype p)) in
+    one (ip_frame (host_of k no_sockets) begun.destination p) (OfIdentification (Identify c.args.context.now.ipv4_id) ∷ []) built
+    (omega (arith, c.emit.ensures.len, some_octets p)) (λ slots sockets.
+    ToSpecified [] (rw (← c.dst_addr-dst_addr.ensures, ← c.is_unspecified.ensures) c.if-is_unspecified.false)
+    (begun.reached.sends c.args.context.now.ipv4_id p (Ok tt) slots sockets (ip_frame (host_of k no_sockets) begun.destination p ∷ []) []
+    (host_in k slots sockets) (sym c.dst_addr-dst_addr.ensures)
+    (subst (λ (x : Context). Emits c.args.context.now.ipv4_id p begun.destination (Ok tt) (host_in x slots sockets)
+    (ip_frame (host_of k no_sockets) begun.destination p ∷ []) [] (host_in k slots sockets)) same
+    (Whole (subst (λ (x : Context). total_len p ≤ ip_mtu_of x.capabilities) (sym same) fits) c.emit.ensures.formed refl refl refl refl))) refl)

@@ -49,30 +49,30 @@ returns-then-not-is_met-clause-ok c =
     let e = c.places_before-first.ensures.value ∙ ap (places_before c.args.start) c.as_slice.ensures.value in
     let off : c.is_met.result ≡ false = search rules in
     let apart = rw c.as_slice-2.ensures.value at (c.is_met.ensures.apart off) in
-    c.insert.ensures.items ∙ sym (put_alone c.args.start c.args.end c.places_before-first.result c.args.ranges.now.items e c.requires.order apart)
+    c.insert_at.ensures.items ∙ sym (put_alone c.args.start c.args.end c.places_before-first.result c.args.ranges.now.items e c.requires.order apart)
 
 pub returns-clause-ok : goal.returns-clause-ok
 returns-clause-ok c =
     let e = c.places_before-first.ensures.value ∙ ap (places_before c.args.start) c.as_slice.ensures.value in
     let on : c.is_met.result ≡ true = search rules in
     let met = rw c.as_slice-2.ensures.value at (c.is_met.ensures.met on) in
-    let was = c.range_union-merged.ensures ∙ ap (range_union (record { start = c.args.start; end = c.args.end })) c.remove-met.ensures.value in
+    let was = c.range_union-merged.ensures ∙ ap (range_union (record { start = c.args.start; end = c.args.end })) c.remove_at-met.ensures.value in
     let done : c.is_met-in-loop-ranges.result ≡ false = search rules in
     let apart = rw c.as_slice-in-loop-ranges.ensures.value at (c.is_met-in-loop-ranges.ensures.apart done) in
-    c.insert-2.ensures.items
+    c.insert_at-2.ensures.items
     ∙ after_loop c.args.ranges.now.items c.loop-ranges.ranges.items c.places_before-first.result (range_union (record {
       start = c.args.start;
       end = c.args.end;
-    }) (get_or c.args.ranges.now.items c.places_before-first.result c.remove-met.result)) c.loop-ranges.merged met.within
-    (c.loop-ranges.invariant.2 ∙ ap (take c.places_before-first.result) c.remove-met.ensures.items)
-    (c.loop-ranges.invariant.3 ∙ ap (λ m. absorb m (drop c.places_before-first.result c.remove-met.new.self.items)) was
+    }) (get_or c.args.ranges.now.items c.places_before-first.result c.remove_at-met.result)) c.loop-ranges.merged met.within
+    (c.loop-ranges.invariant.2 ∙ ap (take c.places_before-first.result) c.remove_at-met.ensures.items)
+    (c.loop-ranges.invariant.3 ∙ ap (λ m. absorb m (drop c.places_before-first.result c.remove_at-met.new.ranges.items)) was
     ∙ ap (λ xs. absorb (range_union (record {
       start = c.args.start;
       end = c.args.end;
-    }) (get_or c.args.ranges.now.items c.places_before-first.result c.remove-met.result)) (drop c.places_before-first.result xs))
-    c.remove-met.ensures.items)
+    }) (get_or c.args.ranges.now.items c.places_before-first.result c.remove_at-met.result)) (drop c.places_before-first.result xs))
+    c.remove_at-met.ensures.items)
     apart
-    ∙ sym (put_met c.args.start c.args.end c.places_before-first.result c.args.ranges.now.items c.remove-met.result e c.requires.order met)
+    ∙ sym (put_met c.args.start c.args.end c.places_before-first.result c.args.ranges.now.items c.remove_at-met.result e c.requires.order met)
 
 pub returns-clause-refused : goal.returns-clause-refused
 returns-clause-refused c =
@@ -83,8 +83,8 @@ returns-clause-refused c =
       λ f. cc,
       λ h. absurd (omega (
         arith,
-        rw (put_met c.args.start c.args.end c.places_before-first.result c.args.ranges.now.items c.remove-met.result e c.requires.order met) at h,
+        rw (put_met c.args.start c.args.end c.places_before-first.result c.args.ranges.now.items c.remove_at-met.result e c.requires.order met) at h,
         length_met c.args.ranges.now.items c.places_before-first.result (range_union (record { start = c.args.start; end = c.args.end })
-            (get_or c.args.ranges.now.items c.places_before-first.result c.remove-met.result)) met.within,
+            (get_or c.args.ranges.now.items c.places_before-first.result c.remove_at-met.result)) met.within,
       )),
     )
