@@ -1,14 +1,16 @@
 -- Octets that are kept beyond what is in order.
-use Rattle.std.proofs.Common.{◌≡◌, ◌+◌, ◌-◌, ◌≤◌, ◌<◌, ℕ, zero, suc, Bool, true, false, List, [], ◌∷◌, ◌++◌, length, take, drop, min, get_or, refl, sym, ap, ◌∙◌, arith}
+use Rattle.std.proofs.Common.{◌≡◌, ◌+◌, ◌-◌, ◌≤◌, ◌<◌, ℕ, zero, suc, Bool, true, false, List, [], ◌∷◌, ◌++◌, length, take, drop}
+use Rattle.std.proofs.Common.{min, get_or, refl, sym, ap, ◌∙◌, arith}
 use Rattle.std.proofs.Common.{Option, Some, None, slice_get, inl, inr, Result, Ok, Err}
 use Rattle.std.specs.Prelude.{nat_le, nat_lt, ◌&&◌, ◌||◌, ◌==◌, ◌⊎◌, is_some, is_err, OnOk}
 use Rattle.std.proofs.lemmas.Bool.Decides.{nat_tests}
-use Rattle.std.proofs.lemmas.List.{length-take-le, length-drop, length-append, get_or-take, get_or-drop, get_or-append_right, get_or_append_left, take_min, drop_min}
+use Rattle.std.proofs.lemmas.List.{length-take-le, length-drop, length-append, get_or-take, get_or-drop, get_or-append_right}
+use Rattle.std.proofs.lemmas.List.{get_or_append_left, take_min, drop_min}
 use Rattle.net_base.specs.declared.assembler.Range.{Range}
 use Rattle.net_base.specs.Ranges.{AreSeparate, covered, front, IsUnion, add_range}
 use Rattle.net_base.specs.RangesLaws.{FifthTouchesNone}
 use Rattle.tcp_machine.specs.Ring.{octet_in, IsWritten, RingsStand}
-use Rattle.tcp_machine.specs.Receiving.{filled}
+use Rattle.tcp_machine.specs.Receiving.{Receiver, filled}
 use Rattle.tcp_connection.specs.Arrived.{has_arrived, IsArrived, receiver_of}
 use Rattle.tcp_connection.proofs.ArrivedLemmas.{window_len, before_front, at_front}
 use Rattle.tcp_connection.proofs.BufferLemmas.{in_window}
@@ -56,7 +58,8 @@ octet_some place bytes k = by (nat_le place k) refl where
 abbrev after_write : ℕ → List ℕ → List ℕ → List ℕ
 after_write at bytes items = take at items ++ (bytes ++ drop (at + length bytes) items)
 
-written_before : (at : ℕ) (bytes items : List ℕ) (k : ℕ) → at ≤ length items → k < at → get_or (after_write at bytes items) k 0 ≡ get_or items k 0
+written_before : (at : ℕ) (bytes items : List ℕ) (k : ℕ) → at ≤ length items → k < at →
+    get_or (after_write at bytes items) k 0 ≡ get_or items k 0
 written_before at bytes items k fits l =
     let len = length-take-le at items fits in
     get_or_append_left (take at items) (bytes ++ drop (at + length bytes) items) 0 k (omega (arith, len, l)) ∙ get_or-take at items k 0 l
@@ -202,6 +205,10 @@ refused_beyond law (r ∷ rs) start end s f few order many =
 pub on_ok : {T E : Type 0} {P : Type 0} (r : Result T E) → is_err r ≡ false → OnOk r P → P
 on_ok (Ok t) e p = p
 on_ok (Err x) e p = absurd cc
+
+-- octets that are kept from a position on
+abbrev pub kept_from : Receiver → ℕ → List ℕ → Receiver
+kept_from r first octets = record { base = r.base; cells = filled (first - r.base) octets r.cells; stop = r.stop }
 
 -- octets without a place change nothing
 pub filled_cut : (place n : ℕ) (octets : List ℕ) (cells : List (Option ℕ)) → length cells ≤ place + n →
