@@ -22,7 +22,7 @@ pub fn closings()
     ensures none { NoClose }
 {}
 
-/// Resets, and what brings none (RFC 9293 3.5.1, figures 9 and 10; RFC 5961).
+/// Resets, and what brings none (RFC 9293 3.5.1, figure 9; RFC 5961).
 pub fn resets()
     ensures half_open { HalfOpen }
     ensures abort { Abort }

@@ -1,4 +1,4 @@
--- Resets and what may be an attacker's (RFC 9293 3.5.1, figures 9 and 10; RFC 5961 3 to 5).
+-- Resets and what may be an attacker's (RFC 9293 3.5.1, figure 9; RFC 5961 3 to 5).
 use Rattle.std.specs.Prelude.{◌≡◌, [], ◌∷◌, Some, None}
 use Rattle.tcp_machine.specs.declared.timers.Ending.TheVariants.{ByPeer}
 use Rattle.tcp_machine.specs.declared.state.State.TheVariants as state
