@@ -1,5 +1,5 @@
-//! Parts of a host of TCP connections: a limit of what is sent in a time, and the least of many instants.
+//! Parts of a host of TCP connections: initial sequence numbers, and the least of many instants.
 #![tactic(auto)]
 
-pub mod bucket;
 pub mod deadlines;
+pub mod initial_number;

@@ -2,8 +2,8 @@
 use Rattle.std.proofs.Common.{◌≡◌, ◌≤◌, ◌+◌, ◌-◌, ◌*◌, ℕ, zero, suc, Bool, true, false, refl, ap, arith, List, [], ◌∷◌}
 use Rattle.std.specs.Prelude.{max}
 use Rattle.std.proofs.lemmas.Bool.Decides.{nat_tests}
-use Rattle.tcp_host.specs.declared.bucket.Bucket.{Bucket}
-use Rattle.tcp_host.specs.Bucket.{has_token, taken, AreWithin, so_many, FewAreTaken, AfterRest}
+use Rattle.token_bucket.specs.declared.bucket.Bucket.{Bucket}
+use Rattle.token_bucket.specs.Bucket.{has_token, taken, AreWithin, so_many, FewAreTaken, AfterRest}
 
 -- one token more, from what the later ones come to
 one_more : (k i f f' now first last room : ℕ) → f' ≡ max f now + i → f - now + i ≤ room → first ≤ now → now ≤ last →

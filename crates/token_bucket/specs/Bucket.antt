@@ -1,7 +1,7 @@
 -- A token bucket. A token comes each interval, as long as fewer are there than its depth.
 use Rattle.std.specs.Prelude.{◌≡◌, ℕ, zero, suc, ◌+◌, ◌-◌, ◌*◌, ◌≤◌, max, nat_le, Bool, if◌then◌else◌}
 use Rattle.std.specs.Prelude.{List, [], ◌∷◌}
-use Rattle.tcp_host.specs.declared.bucket.Bucket.{Bucket}
+use Rattle.token_bucket.specs.declared.bucket.Bucket.{Bucket}
 
 -- a token is there, if those that are missing and one more are not more than all
 abbrev pub has_token : ℕ → Bucket → Bool

@@ -1,8 +1,8 @@
 //! A limit of how much is sent in a time, as challenge acknowledgements (RFC 5961 7) and ICMPv6 errors (RFC 4443 2.4 f)
 //! have one: a token bucket.
 ghost use Rattle.std.specs.Prelude.{◌≡◌};
-ghost use Rattle.tcp_host.specs.Bucket as spec;
-ghost use Rattle.tcp_host.specs.Bucket.{AfterRest, FewAreTaken};
+ghost use Rattle.token_bucket.specs.Bucket as spec;
+ghost use Rattle.token_bucket.specs.Bucket.{AfterRest, FewAreTaken};
 
 /// A bucket of tokens. A token comes each interval, as long as fewer are there than the depth.
 ///
