@@ -1,0 +1,184 @@
+//! Which frames a host gets to see.
+ghost use Rattle.std.specs.Prelude.{◌≡◌, None};
+ghost use Rattle.net_base.specs.Time.{IsMoment};
+ghost use Rattle.guard.specs.Guard as spec;
+ghost use Rattle.guard.specs.Kind as kind;
+ghost use Rattle.token_bucket.specs.Bucket.{has_token, after_take};
+
+use crate::kind::{Kind, kind_of};
+use iface_tables::neighbor::Cache;
+use ip_address::{IpAddress, IpCidr};
+use net_base::time::Instant;
+use token_bucket::bucket::Bucket;
+
+/// How long an answer to a request for a hardware address is expected, in microseconds.
+const ANSWER_TIME: u64 = 3_000_000;
+
+/// Why a frame is dropped.
+#[derive(Clone, Copy, Debug, PartialEq, Eq)]
+pub enum Reason {
+    /// An ARP packet or a neighbour message claims an address of the host (RFC 5227 2.4, RFC 4862 5.4.4).
+    OwnAddress,
+    /// An IP packet has an address of the host as its source.
+    OwnSource,
+    /// An ARP packet or a neighbour message of somebody that isn't known, beyond the rate of these.
+    NewNeighbor,
+    /// An IP packet from somebody of an own network that isn't known, for whose answer the host would have to ask, beyond the
+    /// rate of these.
+    Discovery,
+    /// A query of IGMP or MLD, beyond the rate of these.
+    Query,
+}
+
+/// A request for a hardware address that was sent.
+#[derive(Clone, Copy, Debug, PartialEq, Eq)]
+pub struct Asked {
+    /// The address that was asked for.
+    pub target: IpAddress,
+    /// When, in microseconds.
+    pub at: u64,
+}
+
+/// What a guard keeps: three rates, and for whom the host asked last.
+#[derive(Clone, Copy, Debug, PartialEq, Eq)]
+pub struct Guard {
+    /// How many neighbours that aren't known may make themselves known.
+    pub neighbors: Bucket,
+    /// For how many packets of neighbours that aren't known the host may ask.
+    pub discoveries: Bucket,
+    /// How many queries are answered.
+    pub queries: Bucket,
+    /// For whom the host asked last.
+    pub asked: Option<Asked>,
+}
+
+impl Guard {
+    /// A guard that lets through, of those that aren't known, two neighbours in a second, a packet in two seconds, and a query in
+    /// a second.
+    pub const fn new() -> Guard
+        ensures { result ≡ spec.new_guard }
+    {
+        Guard {
+            neighbors: Bucket::new(500_000, 2),
+            discoveries: Bucket::new(2_000_000, 1),
+            queries: Bucket::new(1_000_000, 1),
+            asked: None,
+        }
+    }
+
+    /// Judges a frame that came at an instant, for a host with these addresses and neighbours. Returns why the host may not see
+    /// it; `None` if it may.
+    pub fn judge(
+        &mut self,
+        now: Instant,
+        frame: &[u8],
+        own: &[IpCidr],
+        neighbors: &Cache,
+    ) -> Option<Reason>
+        ensures reason { result ≡ spec.reason_of now (kind.kind_of frame.now) own.now neighbors.now self.old }
+        ensures guard { self.new ≡ spec.after_judging now (kind.kind_of frame.now) own.now neighbors.now self.old }
+    {
+        match kind_of(frame) {
+            Kind::Neighbor { sender, target } => {
+                if is_own(own, &sender) || is_one_own(own, target) {
+                    return Some(Reason::OwnAddress);
+                }
+                if self.expects(now, &sender, neighbors) {
+                    return None;
+                }
+                take(&mut self.neighbors, now, Reason::NewNeighbor)
+            }
+            Kind::Query => take(&mut self.queries, now, Reason::Query),
+            Kind::Packet { sender } => {
+                if is_own(own, &sender) {
+                    return Some(Reason::OwnSource);
+                }
+                if !is_near(own, &sender) || self.expects(now, &sender, neighbors) {
+                    return None;
+                }
+                take(&mut self.discoveries, now, Reason::Discovery)
+            }
+            Kind::Other => None,
+        }
+    }
+
+    /// Tells that the host asked for the hardware address of `target` at an instant.
+    pub fn note_asked(&mut self, now: Instant, target: IpAddress)
+        ensures { self.new ≡ spec.after_asking now target self.old }
+    {
+        self.asked = Some(Asked {
+            target,
+            at: micros(now),
+        });
+    }
+
+    /// Whether somebody is known, or was asked for, or has no address yet.
+    fn expects(&self, now: Instant, sender: &IpAddress, neighbors: &Cache) -> bool
+        ensures { result ≡ spec.is_expected now sender.now neighbors.now self.now }
+    {
+        sender.is_unspecified() || is_known(neighbors, sender, now) || self.asked_for(now, sender)
+    }
+
+    /// Whether the host asked for somebody last, and not long ago.
+    fn asked_for(&self, now: Instant, sender: &IpAddress) -> bool
+        ensures { result ≡ spec.was_asked now sender.now self.now.asked }
+    {
+        match self.asked {
+            None => false,
+            Some(asked) => {
+                asked.target == *sender && micros(now) <= asked.at.saturating_add(ANSWER_TIME)
+            }
+        }
+    }
+}
+
+/// The microseconds of an instant; 0 before the origin.
+fn micros(now: Instant) -> u64
+    ensures { result ≡ spec.micros now }
+{
+    let micros = now.total_micros();
+    if micros < 0 { 0 } else { micros as u64 }
+}
+
+/// Takes a token, if there is one; otherwise returns the reason.
+fn take(bucket: &mut Bucket, now: Instant, reason: Reason) -> Option<Reason>
+    ensures reason { result ≡ spec.reason_unless (has_token (spec.micros now) bucket.old) reason }
+    ensures bucket { bucket.new ≡ after_take (spec.micros now) bucket.old }
+{
+    if bucket.take(micros(now)) {
+        None
+    } else {
+        Some(reason)
+    }
+}
+
+/// Whether an address is one of the host's.
+fn is_own(own: &[IpCidr], address: &IpAddress) -> bool
+    ensures { result ≡ spec.is_own own.now address.now }
+{
+    own.iter().any(|cidr| cidr.address() == *address)
+}
+
+/// Whether an address, if there is one, is one of the host's.
+fn is_one_own(own: &[IpCidr], address: Option<IpAddress>) -> bool
+    ensures { result ≡ spec.is_one_own own.now address }
+{
+    match address {
+        None => false,
+        Some(address) => is_own(own, &address),
+    }
+}
+
+/// Whether an address is in a network of the host's.
+fn is_near(own: &[IpCidr], address: &IpAddress) -> bool
+    ensures { result ≡ spec.is_near own.now address.now }
+{
+    own.iter().any(|cidr| cidr.contains_addr(address))
+}
+
+/// Whether the hardware address of somebody is known.
+fn is_known(neighbors: &Cache, address: &IpAddress, now: Instant) -> bool
+    ensures { result ≡ spec.is_known neighbors.now address.now now }
+{
+    address.is_unicast() && neighbors.lookup(address, now).found()
+}
