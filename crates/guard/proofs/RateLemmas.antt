@@ -1,21 +1,31 @@
 -- Few strangers pass a guard.
-use Rattle.std.proofs.Common.{◌≡◌, ◌≤◌, ◌+◌, ◌-◌, ◌*◌, ℕ, suc, Bool, true, false, refl, inl, inr, subst, arith, List, [], ◌∷◌, pos}
-use Rattle.std.specs.Prelude.{◌⊎◌, max, is_none, not, ◌||◌, ◌&&◌, Some, None, if◌then◌else◌}
+use Rattle.std.proofs.Common.{◌≡◌, ◌≤◌, ◌+◌, ◌-◌, ◌*◌, ℕ, suc, Bool, true, false, refl, inl, inr, subst, arith, List, [], ◌∷◌, pos, ℤ}
+use Rattle.std.specs.Prelude.{◌⊎◌, max, is_none, not, ◌||◌, ◌&&◌, Some, None, if◌then◌else◌, Option}
 use Rattle.std.proofs.lemmas.Bool.Decides.{nat_tests}
 use Rattle.token_bucket.specs.declared.bucket.Bucket.{Bucket}
 use Rattle.token_bucket.specs.Bucket.{has_token, after_take}
 use Rattle.guard.specs.declared.guard.Guard.{Guard}
+use Rattle.guard.specs.declared.guard.Noted.{Noted}
+use Rattle.ip_address.specs.declared.ip.IpAddress.{IpAddress}
 use Rattle.guard.specs.declared.guard.Reason.{Reason}
 use Rattle.guard.specs.declared.guard.Reason.TheVariants as reason
 use Rattle.guard.specs.declared.kind.Kind.{Kind}
-use Rattle.guard.specs.declared.kind.Kind.TheVariants.{Neighbor, Query, Packet, Other}
+use Rattle.guard.specs.declared.kind.Kind.TheVariants.{Neighbor, Query, Router, Packet, Other}
 use Rattle.guard.specs.Kind.{kind_of}
-use Rattle.guard.specs.Guard.{reason_of, reason_unless, after_judging, is_own, is_one_own, is_near, is_expected}
+use Rattle.guard.specs.Guard.{reason_of, reason_unless, after_judging, is_own, is_one_own, is_near, is_expected, after_router, is_heard, is_last, micros}
 use Rattle.guard.specs.Laws.{Arrival, AreWithin, passes, after, passed, is_strange, asks, is_query, is_strange_kind, asks_kind, is_query_kind, FewNeighborsPass, FewDiscoveriesPass, FewQueriesPass}
 
 -- a bucket after a token was taken
 abbrev less : ℕ → Bucket → Bucket
 less now b = record b { full_at = max b.full_at now + b.interval }
+
+-- hearing a router changes no rate
+same_rates : (now : ℤ) (a : IpAddress) (g : Guard) → (rate : Guard → Bucket) →
+    ((n : Option Noted) → rate (record g { router = n }) ≡ rate g) → rate (after_router now a g) ≡ rate g
+same_rates now a g rate same = by (is_last a g.router || not (is_heard now a g.router)) where
+  by : (t : Bool) → rate (if t then g else record g { router = Some (record { address = a; at = micros now }) }) ≡ rate g
+  by true = refl
+  by false = same (Some (record { address = a; at = micros now }))
 
 -- what passes takes a token, and what doesn't changes nothing
 abbrev TakesToken : (now : ℕ) → (passes : Bool) → (old new : Bucket) → Type 0
@@ -77,6 +87,7 @@ neighbor_by (Neighbor sender target) a g =
     neighbor_takes (is_own a.own sender || is_one_own a.own target) (is_expected (pos a.at) sender a.known g) (has_token a.at g.neighbors)
     a.at g refl reason.OwnAddress reason.NewNeighbor
 neighbor_by Query a g = inr (refl, refl)
+neighbor_by (Router sender) a g = inr (refl, same_rates (pos a.at) sender g (λ h. h.neighbors) (λ n. refl))
 neighbor_by (Packet sender) a g =
     inr (
       refl,
@@ -114,6 +125,7 @@ packet_by (Neighbor sender target) a g =
           (has_token a.at g.neighbors) a.at g,
     )
 packet_by Query a g = inr (refl, refl)
+packet_by (Router sender) a g = inr (refl, same_rates (pos a.at) sender g (λ h. h.discoveries) (λ n. refl))
 packet_by (Packet sender) a g =
     packet_takes (is_own a.own sender) (is_near a.own sender) (is_expected (pos a.at) sender a.known g) (has_token a.at g.discoveries)
     a.at g refl reason.OwnSource reason.Discovery
@@ -143,6 +155,7 @@ query_by (Neighbor sender target) a g =
           (after_take a.at g.neighbors) g,
     )
 query_by Query a g = query_takes (has_token a.at g.queries) a.at g.queries refl reason.Query
+query_by (Router sender) a g = inr (refl, same_rates (pos a.at) sender g (λ h. h.queries) (λ n. refl))
 query_by (Packet sender) a g =
     inr (
       refl,

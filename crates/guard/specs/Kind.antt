@@ -5,7 +5,7 @@ use Rattle.ip_address.specs.declared.ip.IpAddress.{IpAddress}
 use Rattle.ip_address.specs.declared.ip.IpAddress.TheVariants.{Ipv4, Ipv6}
 use Rattle.ipv6_wire.specs.Ipv6Packet.{address_at}
 use Rattle.guard.specs.declared.kind.Kind.{Kind}
-use Rattle.guard.specs.declared.kind.Kind.TheVariants.{Neighbor, Query, Packet, Other}
+use Rattle.guard.specs.declared.kind.Kind.TheVariants.{Neighbor, Query, Router, Packet, Other}
 
 -- the octet at an offset; 0 behind the last one
 abbrev pub octet_at : List ℕ → ℕ → ℕ
@@ -31,10 +31,11 @@ message_of frame =
 abbrev pub target_at : List ℕ → ℕ → Option IpAddress
 target_at frame at = if nat_lt (length frame) (at + 16) then None else Some (Ipv6 (address_at frame at))
 
--- by its type (RFC 3810 5.1; RFC 4861 4.3, 4.4)
+-- by its type (RFC 3810 5.1; RFC 4861 4.2, 4.3, 4.4)
 abbrev pub kind_of_message : (type at : ℕ) → (sender : IpAddress) → List ℕ → Kind
 kind_of_message type at sender frame =
     if type == 130 then Query
+    else if type == 134 then Router sender
     else if type == 135 then Neighbor sender None
     else if type == 136 then Neighbor sender (target_at frame (at + 8))
     else Packet sender

@@ -4,7 +4,7 @@ use Rattle.ip_address.specs.declared.cidr.IpCidr.{IpCidr}
 use Rattle.iface_tables.specs.Neighbor.{Neighbors}
 use Rattle.guard.specs.declared.guard.Guard.{Guard}
 use Rattle.guard.specs.declared.kind.Kind.{Kind}
-use Rattle.guard.specs.declared.kind.Kind.TheVariants.{Neighbor, Query, Packet, Other}
+use Rattle.guard.specs.declared.kind.Kind.TheVariants.{Neighbor, Query, Router, Packet, Other}
 use Rattle.guard.specs.Kind.{kind_of}
 use Rattle.guard.specs.Guard.{reason_of, after_judging, is_expected, is_near}
 
@@ -25,6 +25,7 @@ after a g = after_judging (pos a.at) (kind_of a.frame) a.own a.known g
 abbrev pub is_strange_kind : Kind → Arrival → Guard → Bool
 is_strange_kind (Neighbor sender target) a g = not (is_expected (pos a.at) sender a.known g)
 is_strange_kind Query a g = false
+is_strange_kind (Router sender) a g = false
 is_strange_kind (Packet sender) a g = false
 is_strange_kind Other a g = false
 
@@ -35,6 +36,7 @@ is_strange a g = is_strange_kind (kind_of a.frame) a g
 abbrev pub asks_kind : Kind → Arrival → Guard → Bool
 asks_kind (Neighbor sender target) a g = false
 asks_kind Query a g = false
+asks_kind (Router sender) a g = false
 asks_kind (Packet sender) a g = is_near a.own sender && not (is_expected (pos a.at) sender a.known g)
 asks_kind Other a g = false
 
@@ -44,6 +46,7 @@ asks a g = asks_kind (kind_of a.frame) a g
 abbrev pub is_query_kind : Kind → Bool
 is_query_kind (Neighbor sender target) = false
 is_query_kind Query = true
+is_query_kind (Router sender) = false
 is_query_kind (Packet sender) = false
 is_query_kind Other = false
 

@@ -1,3 +1,4 @@
 pub mod Kind
 pub mod Guard
+pub mod Answers
 pub mod Laws

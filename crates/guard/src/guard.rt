@@ -14,6 +14,9 @@ use token_bucket::bucket::Bucket;
 /// How long an answer to a request for a hardware address is expected, in microseconds.
 const ANSWER_TIME: u64 = 3_000_000;
 
+/// How long another router isn't heard after one was let through, in microseconds.
+const ROUTER_TIME: u64 = 60_000_000;
+
 /// Why a frame is dropped.
 #[derive(Clone, Copy, Debug, PartialEq, Eq)]
 pub enum Reason {
@@ -28,18 +31,20 @@ pub enum Reason {
     Discovery,
     /// A query of IGMP or MLD, beyond the rate of these.
     Query,
+    /// A router advertisement of another router than the one that was heard last, too early after it.
+    Router,
 }
 
-/// A request for a hardware address that was sent.
+/// For whom the host asked, or which router it heard.
 #[derive(Clone, Copy, Debug, PartialEq, Eq)]
-pub struct Asked {
-    /// The address that was asked for.
-    pub target: IpAddress,
+pub struct Noted {
+    /// The address.
+    pub address: IpAddress,
     /// When, in microseconds.
     pub at: u64,
 }
 
-/// What a guard keeps: three rates, and for whom the host asked last.
+/// What a guard keeps: three rates, for whom the host asked last, and which router it heard last.
 #[derive(Clone, Copy, Debug, PartialEq, Eq)]
 pub struct Guard {
     /// How many neighbours that aren't known may make themselves known.
@@ -49,12 +54,14 @@ pub struct Guard {
     /// How many queries are answered.
     pub queries: Bucket,
     /// For whom the host asked last.
-    pub asked: Option<Asked>,
+    pub asked: Option<Noted>,
+    /// Which router was let through last, and when it was let through as another one for the first time.
+    pub router: Option<Noted>,
 }
 
 impl Guard {
-    /// A guard that lets through, of those that aren't known, two neighbours in a second, a packet in two seconds, and a query in
-    /// a second.
+    /// A guard that lets through, of those that aren't known, two neighbours in a second and a packet in two seconds; a query in a
+    /// second; and another router in a minute.
     pub const fn new() -> Guard
         ensures { result ≡ spec.new_guard }
     {
@@ -63,6 +70,7 @@ impl Guard {
             discoveries: Bucket::new(2_000_000, 1),
             queries: Bucket::new(1_000_000, 1),
             asked: None,
+            router: None,
         }
     }
 
@@ -89,6 +97,7 @@ impl Guard {
                 take(&mut self.neighbors, now, Reason::NewNeighbor)
             }
             Kind::Query => take(&mut self.queries, now, Reason::Query),
+            Kind::Router { sender } => self.judge_router(now, sender),
             Kind::Packet { sender } => {
                 if is_own(own, &sender) {
                     return Some(Reason::OwnSource);
@@ -106,10 +115,30 @@ impl Guard {
     pub fn note_asked(&mut self, now: Instant, target: IpAddress)
         ensures { self.new ≡ spec.after_asking now target self.old }
     {
-        self.asked = Some(Asked {
-            target,
+        self.asked = Some(Noted {
+            address: target,
             at: micros(now),
         });
+    }
+
+    /// Judges a router advertisement: that of the router which was heard last passes, and that of another one a minute after that
+    /// one was let through.
+    fn judge_router(&mut self, now: Instant, sender: IpAddress) -> Option<Reason>
+        ensures reason { result ≡ spec.reason_of_router now sender self.old.router }
+        ensures guard { self.new ≡ spec.after_router now sender self.old }
+    {
+        let last = self.router;
+        match last {
+            Some(last) if last.address == sender => None,
+            Some(last) if micros(now) < last.at.saturating_add(ROUTER_TIME) => Some(Reason::Router),
+            _ => {
+                self.router = Some(Noted {
+                    address: sender,
+                    at: micros(now),
+                });
+                None
+            }
+        }
     }
 
     /// Whether somebody is known, or was asked for, or has no address yet.
@@ -126,7 +155,7 @@ impl Guard {
         match self.asked {
             None => false,
             Some(asked) => {
-                asked.target == *sender && micros(now) <= asked.at.saturating_add(ANSWER_TIME)
+                asked.address == *sender && micros(now) <= asked.at.saturating_add(ANSWER_TIME)
             }
         }
     }
@@ -141,7 +170,7 @@ fn micros(now: Instant) -> u64
 }
 
 /// Takes a token, if there is one; otherwise returns the reason.
-fn take(bucket: &mut Bucket, now: Instant, reason: Reason) -> Option<Reason>
+pub(crate) fn take<R: Copy + Drop>(bucket: &mut Bucket, now: Instant, reason: R) -> Option<R>
     ensures reason { result ≡ spec.reason_unless (has_token (spec.micros now) bucket.old) reason }
     ensures bucket { bucket.new ≡ after_take (spec.micros now) bucket.old }
 {

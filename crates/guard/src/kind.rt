@@ -18,6 +18,11 @@ pub enum Kind {
     },
     /// A query of IGMP (RFC 2236 2) or of MLD (RFC 3810 5.1).
     Query,
+    /// A router advertisement (RFC 4861 4.2).
+    Router {
+        /// Who sends it.
+        sender: IpAddress,
+    },
     /// Any other IP packet.
     Packet {
         /// Its source.
@@ -70,6 +75,7 @@ fn kind_of_ipv6(frame: &[u8]) -> Kind
     };
     match octet_at(frame, message) {
         130 => Kind::Query,
+        134 => Kind::Router { sender },
         135 => Kind::Neighbor {
             sender,
             target: None,
@@ -83,7 +89,7 @@ fn kind_of_ipv6(frame: &[u8]) -> Kind
 }
 
 /// Where a frame with an IPv6 packet has a message of ICMPv6: behind the header, or behind a header of hop-by-hop options.
-fn message_of(frame: &[u8]) -> Option<usize>
+pub(crate) fn message_of(frame: &[u8]) -> Option<usize>
     requires { 42 ≤ length frame.now }
     ensures { result ≡ spec.message_of frame.now }
 {
@@ -116,7 +122,7 @@ fn ipv4_at(frame: &[u8], at: usize) -> IpAddress
 }
 
 /// The octet at an offset; 0 behind the last one.
-fn octet_at(frame: &[u8], at: usize) -> u8
+pub(crate) fn octet_at(frame: &[u8], at: usize) -> u8
     ensures { result ≡ spec.octet_at frame.now at }
 {
     match frame.get(at) {

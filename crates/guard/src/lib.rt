@@ -5,8 +5,10 @@
 //! laws hold as they are.
 #![tactic(auto)]
 
+pub mod answers;
 pub mod guard;
 pub mod kind;
 pub mod laws;
 
+pub use answers::{Answer, Answers};
 pub use guard::{Guard, Reason};
