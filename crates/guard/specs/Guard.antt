@@ -100,5 +100,7 @@ after_judging now (Packet sender) own known g =
     else record g { discoveries = after_take (micros now) g.discoveries }
 after_judging now Other own known g = g
 
-abbrev pub after_asking : ℤ → IpAddress → Guard → Guard
-after_asking now target g = record g { asked = Some (record { address = target; at = micros now }) }
+-- a request for a hardware address was sent, or another frame
+abbrev pub after_asking : ℤ → Option IpAddress → Guard → Guard
+after_asking now None g = g
+after_asking now (Some target) g = record g { asked = Some (record { address = target; at = micros now }) }

@@ -55,3 +55,16 @@ kind_of frame =
     else if u16_at frame 12 == 0x0800 then kind_of_ipv4 frame
     else if u16_at frame 12 == 0x86dd then kind_of_ipv6 frame
     else Other
+
+-- for whom a neighbour solicitation asks (RFC 4861 4.3)
+abbrev pub solicited_at : Option ℕ → List ℕ → Option IpAddress
+solicited_at None frame = None
+solicited_at (Some at) frame = if octet_at frame at == 135 then target_at frame (at + 8) else None
+
+-- for whom an ARP request (RFC 826) or a solicitation asks
+abbrev pub asked_in : List ℕ → Option IpAddress
+asked_in frame =
+    if nat_lt (length frame) 42 then None
+    else if u16_at frame 12 == 0x0806 then (if octet_at frame 21 == 1 then Some (ipv4_at frame 38) else None)
+    else if u16_at frame 12 == 0x86dd then solicited_at (message_of frame) frame
+    else None

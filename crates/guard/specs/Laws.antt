@@ -1,12 +1,16 @@
 -- What a guard promises, whatever frames come.
-use Rattle.std.specs.Prelude.{ℕ, suc, ◌+◌, ◌-◌, ◌*◌, ◌≤◌, ◌&&◌, not, Bool, true, false, pos, List, [], ◌∷◌, is_none, if◌then◌else◌}
+use Rattle.std.specs.Prelude.{◌≡◌, ℕ, suc, ◌+◌, ◌-◌, ◌*◌, ◌≤◌, ◌&&◌, not, Bool, true, false, pos, List, [], ◌∷◌, is_none, if◌then◌else◌, ◌≢◌, ◌<◌, ◌⊎◌, length, Some}
 use Rattle.ip_address.specs.declared.cidr.IpCidr.{IpCidr}
 use Rattle.iface_tables.specs.Neighbor.{Neighbors}
 use Rattle.guard.specs.declared.guard.Guard.{Guard}
 use Rattle.guard.specs.declared.kind.Kind.{Kind}
 use Rattle.guard.specs.declared.kind.Kind.TheVariants.{Neighbor, Query, Router, Packet, Other}
-use Rattle.guard.specs.Kind.{kind_of}
-use Rattle.guard.specs.Guard.{reason_of, after_judging, is_expected, is_near}
+use Rattle.wire_base.specs.Octets.{u16_at}
+use Rattle.ip_address.specs.declared.ip.IpAddress.{IpAddress}
+use Rattle.socket_base.specs.Source.{is_same}
+use Rattle.guard.specs.declared.guard.Reason.TheVariants as reason
+use Rattle.guard.specs.Kind.{kind_of, octet_at, ipv4_at}
+use Rattle.guard.specs.Guard.{reason_of, after_judging, is_expected, is_near, is_own, is_known, is_last, is_heard, reason_of_router, after_router}
 
 -- a frame that comes to a host: when, with what octets, and what addresses and neighbours the host has then
 pub record Arrival : Type 0 where
@@ -81,3 +85,37 @@ abbrev pub FewQueriesPass : Type 0
 FewQueriesPass =
     (g : Guard) (first last : ℕ) (arrivals : List Arrival) → first ≤ last → AreWithin first last arrivals →
     passed is_query g arrivals * g.queries.interval ≤ (last - first) + g.queries.depth * g.queries.interval
+
+-- A frame that is neither an ARP packet nor an IP packet passes, and changes nothing
+abbrev pub OthersPass : Type 0
+OthersPass =
+    (a : Arrival) (g : Guard) → u16_at a.frame 12 ≢ 0x0806 → u16_at a.frame 12 ≢ 0x0800 → u16_at a.frame 12 ≢ 0x86dd →
+    (passes a g ≡ true) × (after a g ≡ g)
+
+-- A packet of IPv4 but for IGMP passes, and changes nothing, if its source isn't an own address and is known, or isn't in an own
+-- network
+abbrev pub KnownPass : Type 0
+KnownPass =
+    (a : Arrival) (g : Guard) → 42 ≤ length a.frame → u16_at a.frame 12 ≡ 0x0800 → octet_at a.frame 23 ≢ 2 →
+    is_own a.own (ipv4_at a.frame 26) ≡ false →
+    (is_known a.known (ipv4_at a.frame 26) (pos a.at) ≡ true) ⊎ (is_near a.own (ipv4_at a.frame 26) ≡ false) →
+    (passes a g ≡ true) × (after a g ≡ g)
+
+-- An ARP packet of a known neighbour passes, and changes nothing, if it doesn't claim an own address
+abbrev pub KnownArpPass : Type 0
+KnownArpPass =
+    (a : Arrival) (g : Guard) → 42 ≤ length a.frame → u16_at a.frame 12 ≡ 0x0806 → is_own a.own (ipv4_at a.frame 28) ≡ false →
+    is_known a.known (ipv4_at a.frame 28) (pos a.at) ≡ true → (passes a g ≡ true) × (after a g ≡ g)
+
+-- An ARP packet that claims an own address doesn't pass
+abbrev pub OwnAddressesStay : Type 0
+OwnAddressesStay =
+    (a : Arrival) (g : Guard) → 42 ≤ length a.frame → u16_at a.frame 12 ≡ 0x0806 → is_own a.own (ipv4_at a.frame 28) ≡ true →
+    (passes a g ≡ false) × (after a g ≡ g)
+
+-- After a router's advertisement passed, that of another one doesn't for a minute
+abbrev pub RoutersStay : Type 0
+RoutersStay =
+    (first second : ℕ) (a b : IpAddress) (g : Guard) → is_last a g.router ≡ false → is_heard (pos first) a g.router ≡ true →
+    is_same a b ≡ false → second < first + 60000000 →
+    reason_of_router (pos second) b (after_router (pos first) a g).router ≡ Some reason.Router

@@ -5,7 +5,7 @@ ghost use Rattle.guard.specs.Guard as spec;
 ghost use Rattle.guard.specs.Kind as kind;
 ghost use Rattle.token_bucket.specs.Bucket.{has_token, after_take};
 
-use crate::kind::{Kind, kind_of};
+use crate::kind::{Kind, asked_in, kind_of};
 use iface_tables::neighbor::Cache;
 use ip_address::{IpAddress, IpCidr};
 use net_base::time::Instant;
@@ -111,14 +111,17 @@ impl Guard {
         }
     }
 
-    /// Tells that the host asked for the hardware address of `target` at an instant.
-    pub fn note_asked(&mut self, now: Instant, target: IpAddress)
-        ensures { self.new ≡ spec.after_asking now target self.old }
+    /// Notes a frame that the host sends at an instant: if it asks for a hardware address, the answer is expected for three
+    /// seconds.
+    pub fn note_sent(&mut self, now: Instant, frame: &[u8])
+        ensures { self.new ≡ spec.after_asking now (kind.asked_in frame.now) self.old }
     {
-        self.asked = Some(Noted {
-            address: target,
-            at: micros(now),
-        });
+        if let Some(address) = asked_in(frame) {
+            self.asked = Some(Noted {
+                address,
+                at: micros(now),
+            });
+        }
     }
 
     /// Judges a router advertisement: that of the router which was heard last passes, and that of another one a minute after that

@@ -88,6 +88,33 @@ fn kind_of_ipv6(frame: &[u8]) -> Kind
     }
 }
 
+/// For whose hardware address a frame asks, if it is an ARP request (RFC 826) or a neighbour solicitation (RFC 4861 4.3).
+pub fn asked_in(frame: &[u8]) -> Option<IpAddress>
+    ensures { result ≡ spec.asked_in frame.now }
+{
+    if frame.len() < 42 {
+        return None;
+    }
+    match u16_at(frame, 12) {
+        0x0806 if frame[21] == 1 => Some(ipv4_at(frame, 38)),
+        0x86dd => solicited_in(frame),
+        _ => None,
+    }
+}
+
+/// For whose hardware address a frame with an IPv6 packet asks.
+fn solicited_in(frame: &[u8]) -> Option<IpAddress>
+    requires { 42 ≤ length frame.now }
+    ensures { result ≡ spec.solicited_at (spec.message_of frame.now) frame.now }
+{
+    let message = message_of(frame)?;
+    if octet_at(frame, message) == 135 {
+        target_at(frame, message + 8)
+    } else {
+        None
+    }
+}
+
 /// Where a frame with an IPv6 packet has a message of ICMPv6: behind the header, or behind a header of hop-by-hop options.
 pub(crate) fn message_of(frame: &[u8]) -> Option<usize>
     requires { 42 ≤ length frame.now }
@@ -100,7 +127,7 @@ pub(crate) fn message_of(frame: &[u8]) -> Option<usize>
     }
 }
 
-/// The address that an advertisement tells of, at an offset.
+/// The address that a neighbour message is about, at an offset.
 fn target_at(frame: &[u8], at: usize) -> Option<IpAddress>
     requires { at ≤ 4096 }
     ensures { result ≡ spec.target_at frame.now at }
