@@ -1,6 +1,6 @@
 #!/usr/bin/env python3
-"""Tests the pages: that each link leads to a file and to a heading there, that tables and lines aren't too long, and
-that the lists of CONTRIBUTING.md name the files that such a change touches.
+"""Tests the pages: that each link leads to a file and to a heading there, that tables and lines aren't too long, that the
+lists of CONTRIBUTING.md name the files that such a change touches, and that THEOREM.md has each law, and no other.
 
 usage: pages.py            names what is wrong; its status is 1 if something is
        pages.py --words    prints how many words each page has
@@ -47,6 +47,9 @@ def test_links(page, text, texts):
             yield f"{link} leads nowhere"
         elif heading and to in texts and heading not in headings(texts[to]):
             yield f"{link}: no such heading"
+    for name in re.findall(r"`([A-Z]+\.md)`", text):
+        if name not in {other.name for other in texts}:
+            yield f"there is no page {name}"
 
 
 def test_lines(text):
@@ -89,6 +92,24 @@ def test_lists(text):
             yield f"'{heading}' lacks {name}"
 
 
+def test_laws(text):
+    """Names each law that THEOREM.md lacks, and each that it has and that stands nowhere."""
+    code = {path: path.read_text(encoding="utf-8") for path in TOP.glob("crates/*/src/*.rt")}
+    specs = {path: path.read_text(encoding="utf-8") for path in TOP.glob("crates/*/specs/**/*.antt")}
+    of_laws = "\n".join(found for path, found in specs.items()
+                        if "Laws" in path.parts or path.parts[-3] == "host_laws" and path.name != "TwoPolls.antt")
+    for crate in ("host_machine", "host_laws"):
+        for path, source in sorted(code.items()):
+            if path.parts[-3] == crate:
+                for name, law in re.findall(r"^pub fn (\w+)\(\)\n    ensures { (\w+) }", source, re.M):
+                    if f"abbrev pub {law} :" in of_laws and f"`{name}`" not in text:
+                        yield f"there is no law {name}"
+    words = set(re.findall(r"\w+", "\n".join([*code.values(), *specs.values()])))
+    tables = re.search(r"^## The laws$(.*?)^## ", text, re.M | re.S).group(1)
+    for cell in re.findall(r"^\|(.*?)\|", tables, re.M):
+        yield from (f"{name} is no law" for name in re.findall(r"`(\w+)`", cell) if name not in words)
+
+
 def main(arguments):
     """Tests the pages, or counts their words."""
     texts = {page: page.read_text(encoding="utf-8") for page in PAGES}
@@ -101,7 +122,8 @@ def main(arguments):
         found = list(test_links(page, text, texts))
         found += [] if page.name in OF_ANY_LENGTH else test_lines(text)
         problems += [f"{page.relative_to(TOP)}: {problem}" for problem in found]
-    problems += [f"docs/CONTRIBUTING.md: {problem}" for problem in test_lists(texts[TOP / "docs" / "CONTRIBUTING.md"])]
+    for name, test in (("CONTRIBUTING.md", test_lists), ("THEOREM.md", test_laws)):
+        problems += [f"docs/{name}: {problem}" for problem in test(texts[TOP / "docs" / name])]
     print("\n".join(problems + [f"{len(texts)} pages, {len(problems) or 'no'} problems"]))
     return bool(problems)
 
