@@ -1,0 +1,70 @@
+-- What a frame is to a guard, by its octets: 14 of Ethernet, then ARP (RFC 826), IPv4 (RFC 791 3.1) or IPv6 (RFC 8200 3).
+use Rattle.std.specs.Prelude.{ℕ, ◌+◌, ◌*◌, ◌%◌, nat_lt, ◌==◌, ◌&&◌, Bool, List, length, get_or, Option, Some, None, if◌then◌else◌}
+use Rattle.wire_base.specs.Octets.{u16_at, u32_at}
+use Rattle.ip_address.specs.declared.ip.IpAddress.{IpAddress}
+use Rattle.ip_address.specs.declared.ip.IpAddress.TheVariants.{Ipv4, Ipv6}
+use Rattle.ipv6_wire.specs.Ipv6Packet.{address_at}
+use Rattle.guard.specs.declared.kind.Kind.{Kind}
+use Rattle.guard.specs.declared.kind.Kind.TheVariants.{Neighbor, Query, Router, Packet, Other}
+
+-- the octet at an offset; 0 behind the last one
+abbrev pub octet_at : List ℕ → ℕ → ℕ
+octet_at frame at = get_or frame at 0
+
+abbrev pub ipv4_at : List ℕ → ℕ → IpAddress
+ipv4_at frame at = Ipv4 (record { bits = u32_at frame at })
+
+-- a query of IGMP: protocol 2, and behind the header the type 0x11 (RFC 2236 2)
+abbrev pub is_igmp_query : List ℕ → Bool
+is_igmp_query frame = (octet_at frame 23 == 2) && (octet_at frame (14 + octet_at frame 14 % 16 * 4) == 0x11)
+
+abbrev pub kind_of_ipv4 : List ℕ → Kind
+kind_of_ipv4 frame = if is_igmp_query frame then Query else Packet (ipv4_at frame 26)
+
+-- where a message of ICMPv6 is: next header 58, or that behind a header of hop-by-hop options (RFC 8200 4.3)
+abbrev pub message_of : List ℕ → Option ℕ
+message_of frame =
+    if octet_at frame 20 == 58 then Some 54
+    else if (octet_at frame 20 == 0) && (octet_at frame 54 == 58) then Some (62 + octet_at frame 55 * 8)
+    else None
+
+abbrev pub target_at : List ℕ → ℕ → Option IpAddress
+target_at frame at = if nat_lt (length frame) (at + 16) then None else Some (Ipv6 (address_at frame at))
+
+-- by its type (RFC 3810 5.1; RFC 4861 4.2, 4.3, 4.4)
+abbrev pub kind_of_message : (type at : ℕ) → (sender : IpAddress) → List ℕ → Kind
+kind_of_message type at sender frame =
+    if type == 130 then Query
+    else if type == 134 then Router sender
+    else if type == 135 then Neighbor sender None
+    else if type == 136 then Neighbor sender (target_at frame (at + 8))
+    else Packet sender
+
+abbrev pub kind_at : Option ℕ → (sender : IpAddress) → List ℕ → Kind
+kind_at None sender frame = Packet sender
+kind_at (Some at) sender frame = kind_of_message (octet_at frame at) at sender frame
+
+abbrev pub kind_of_ipv6 : List ℕ → Kind
+kind_of_ipv6 frame = kind_at (message_of frame) (Ipv6 (address_at frame 22)) frame
+
+-- a frame of fewer than 42 octets has none of these
+abbrev pub kind_of : List ℕ → Kind
+kind_of frame =
+    if nat_lt (length frame) 42 then Other
+    else if u16_at frame 12 == 0x0806 then Neighbor (ipv4_at frame 28) None
+    else if u16_at frame 12 == 0x0800 then kind_of_ipv4 frame
+    else if u16_at frame 12 == 0x86dd then kind_of_ipv6 frame
+    else Other
+
+-- for whom a neighbour solicitation asks (RFC 4861 4.3)
+abbrev pub solicited_at : Option ℕ → List ℕ → Option IpAddress
+solicited_at None frame = None
+solicited_at (Some at) frame = if octet_at frame at == 135 then target_at frame (at + 8) else None
+
+-- for whom an ARP request (RFC 826) or a solicitation asks
+abbrev pub asked_in : List ℕ → Option IpAddress
+asked_in frame =
+    if nat_lt (length frame) 42 then None
+    else if u16_at frame 12 == 0x0806 then (if octet_at frame 21 == 1 then Some (ipv4_at frame 38) else None)
+    else if u16_at frame 12 == 0x86dd then solicited_at (message_of frame) frame
+    else None

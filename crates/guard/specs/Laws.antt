@@ -1,0 +1,121 @@
+-- What a guard promises, whatever frames come.
+use Rattle.std.specs.Prelude.{◌≡◌, ℕ, suc, ◌+◌, ◌-◌, ◌*◌, ◌≤◌, ◌&&◌, not, Bool, true, false, pos, List, [], ◌∷◌, is_none, if◌then◌else◌, ◌≢◌, ◌<◌, ◌⊎◌, length, Some}
+use Rattle.ip_address.specs.declared.cidr.IpCidr.{IpCidr}
+use Rattle.iface_tables.specs.Neighbor.{Neighbors}
+use Rattle.guard.specs.declared.guard.Guard.{Guard}
+use Rattle.guard.specs.declared.kind.Kind.{Kind}
+use Rattle.guard.specs.declared.kind.Kind.TheVariants.{Neighbor, Query, Router, Packet, Other}
+use Rattle.wire_base.specs.Octets.{u16_at}
+use Rattle.ip_address.specs.declared.ip.IpAddress.{IpAddress}
+use Rattle.socket_base.specs.Source.{is_same}
+use Rattle.guard.specs.declared.guard.Reason.TheVariants as reason
+use Rattle.guard.specs.Kind.{kind_of, octet_at, ipv4_at}
+use Rattle.guard.specs.Guard.{reason_of, after_judging, is_expected, is_near, is_own, is_known, is_last, is_heard, reason_of_router, after_router}
+
+-- a frame that comes to a host: when, with what octets, and what addresses and neighbours the host has then
+pub record Arrival : Type 0 where
+  pub at : ℕ
+  pub frame : List ℕ
+  pub own : List IpCidr
+  pub known : Neighbors
+
+abbrev pub passes : Arrival → Guard → Bool
+passes a g = is_none (reason_of (pos a.at) (kind_of a.frame) a.own a.known g)
+
+abbrev pub after : Arrival → Guard → Guard
+after a g = after_judging (pos a.at) (kind_of a.frame) a.own a.known g
+
+-- it is an ARP packet or a neighbour message of somebody that the host doesn't expect
+abbrev pub is_strange_kind : Kind → Arrival → Guard → Bool
+is_strange_kind (Neighbor sender target) a g = not (is_expected (pos a.at) sender a.known g)
+is_strange_kind Query a g = false
+is_strange_kind (Router sender) a g = false
+is_strange_kind (Packet sender) a g = false
+is_strange_kind Other a g = false
+
+abbrev pub is_strange : Arrival → Guard → Bool
+is_strange a g = is_strange_kind (kind_of a.frame) a g
+
+-- it is an IP packet of somebody near that the host doesn't expect
+abbrev pub asks_kind : Kind → Arrival → Guard → Bool
+asks_kind (Neighbor sender target) a g = false
+asks_kind Query a g = false
+asks_kind (Router sender) a g = false
+asks_kind (Packet sender) a g = is_near a.own sender && not (is_expected (pos a.at) sender a.known g)
+asks_kind Other a g = false
+
+abbrev pub asks : Arrival → Guard → Bool
+asks a g = asks_kind (kind_of a.frame) a g
+
+abbrev pub is_query_kind : Kind → Bool
+is_query_kind (Neighbor sender target) = false
+is_query_kind Query = true
+is_query_kind (Router sender) = false
+is_query_kind (Packet sender) = false
+is_query_kind Other = false
+
+abbrev pub is_query : Arrival → Guard → Bool
+is_query a g = is_query_kind (kind_of a.frame)
+
+-- how many of some arrivals, one after another, are of a sort and pass
+abbrev pub passed : (Arrival → Guard → Bool) → Guard → List Arrival → ℕ
+passed sort g [] = 0
+passed sort g (a ∷ later) = if sort a g && passes a g then suc (passed sort (after a g) later) else passed sort (after a g) later
+
+-- all come from a first instant to a last one
+abbrev pub AreWithin : ℕ → ℕ → List Arrival → Type 0
+AreWithin first last [] = Unit {0}
+AreWithin first last (a ∷ later) = (first ≤ a.at) × (a.at ≤ last) × AreWithin first last later
+
+-- Of ARP packets and neighbour messages of strangers so many pass in a time: as many as the rate's depth, and one for each
+-- of its intervals
+abbrev pub FewNeighborsPass : Type 0
+FewNeighborsPass =
+    (g : Guard) (first last : ℕ) (arrivals : List Arrival) → first ≤ last → AreWithin first last arrivals →
+    passed is_strange g arrivals * g.neighbors.interval ≤ (last - first) + g.neighbors.depth * g.neighbors.interval
+
+-- likewise of packets for whose answer the host would have to ask
+abbrev pub FewDiscoveriesPass : Type 0
+FewDiscoveriesPass =
+    (g : Guard) (first last : ℕ) (arrivals : List Arrival) → first ≤ last → AreWithin first last arrivals →
+    passed asks g arrivals * g.discoveries.interval ≤ (last - first) + g.discoveries.depth * g.discoveries.interval
+
+-- and of queries
+abbrev pub FewQueriesPass : Type 0
+FewQueriesPass =
+    (g : Guard) (first last : ℕ) (arrivals : List Arrival) → first ≤ last → AreWithin first last arrivals →
+    passed is_query g arrivals * g.queries.interval ≤ (last - first) + g.queries.depth * g.queries.interval
+
+-- A frame that is neither an ARP packet nor an IP packet passes, and changes nothing
+abbrev pub OthersPass : Type 0
+OthersPass =
+    (a : Arrival) (g : Guard) → u16_at a.frame 12 ≢ 0x0806 → u16_at a.frame 12 ≢ 0x0800 → u16_at a.frame 12 ≢ 0x86dd →
+    (passes a g ≡ true) × (after a g ≡ g)
+
+-- A packet of IPv4 but for IGMP passes, and changes nothing, if its source isn't an own address and is known, or isn't in an own
+-- network
+abbrev pub KnownPass : Type 0
+KnownPass =
+    (a : Arrival) (g : Guard) → 42 ≤ length a.frame → u16_at a.frame 12 ≡ 0x0800 → octet_at a.frame 23 ≢ 2 →
+    is_own a.own (ipv4_at a.frame 26) ≡ false →
+    (is_known a.known (ipv4_at a.frame 26) (pos a.at) ≡ true) ⊎ (is_near a.own (ipv4_at a.frame 26) ≡ false) →
+    (passes a g ≡ true) × (after a g ≡ g)
+
+-- An ARP packet of a known neighbour passes, and changes nothing, if it doesn't claim an own address
+abbrev pub KnownArpPass : Type 0
+KnownArpPass =
+    (a : Arrival) (g : Guard) → 42 ≤ length a.frame → u16_at a.frame 12 ≡ 0x0806 → is_own a.own (ipv4_at a.frame 28) ≡ false →
+    is_known a.known (ipv4_at a.frame 28) (pos a.at) ≡ true → (passes a g ≡ true) × (after a g ≡ g)
+
+-- An ARP packet that claims an own address doesn't pass
+abbrev pub OwnAddressesStay : Type 0
+OwnAddressesStay =
+    (a : Arrival) (g : Guard) → 42 ≤ length a.frame → u16_at a.frame 12 ≡ 0x0806 → is_own a.own (ipv4_at a.frame 28) ≡ true →
+    (passes a g ≡ false) × (after a g ≡ g)
+
+-- After a router's advertisement passed, that of another one doesn't for a minute
+abbrev pub RoutersStay : Type 0
+RoutersStay =
+    (first second : ℕ) (a b : IpAddress) (g : Guard) → is_last a g.router ≡ false → is_heard (pos first) a g.router ≡ true →
+    is_same a b ≡ false → second < first + 60000000 →
+    reason_of_router (pos second) b (after_router (pos first) a g).router ≡ Some reason.Router

@@ -1,0 +1,4 @@
+pub mod Kind
+pub mod Guard
+pub mod Answers
+pub mod Laws

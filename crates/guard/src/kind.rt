@@ -1,0 +1,159 @@
+//! What a frame is to a guard, by its octets.
+ghost use Rattle.std.specs.Prelude.{◌≡◌, ◌+◌, ◌≤◌, length};
+ghost use Rattle.guard.specs.Kind as spec;
+
+use ip_address::{IpAddress, Ipv4Address};
+use ipv6_wire::ipv6_packet::address_at;
+use wire_base::octets::{u16_at, u32_at};
+
+/// What a frame is.
+#[derive(Clone, Copy, Debug, PartialEq, Eq)]
+pub enum Kind {
+    /// An ARP packet (RFC 826), or a neighbour solicitation or advertisement (RFC 4861 4.3, 4.4).
+    Neighbor {
+        /// Who sends it.
+        sender: IpAddress,
+        /// Of an advertisement: whose hardware address it tells.
+        target: Option<IpAddress>,
+    },
+    /// A query of IGMP (RFC 2236 2) or of MLD (RFC 3810 5.1).
+    Query,
+    /// A router advertisement (RFC 4861 4.2).
+    Router {
+        /// Who sends it.
+        sender: IpAddress,
+    },
+    /// Any other IP packet.
+    Packet {
+        /// Its source.
+        sender: IpAddress,
+    },
+    /// Anything else.
+    Other,
+}
+
+/// The kind of an Ethernet frame.
+pub fn kind_of(frame: &[u8]) -> Kind
+    ensures { result ≡ spec.kind_of frame.now }
+{
+    if frame.len() < 42 {
+        return Kind::Other;
+    }
+    match u16_at(frame, 12) {
+        0x0806 => Kind::Neighbor {
+            sender: ipv4_at(frame, 28),
+            target: None,
+        },
+        0x0800 => kind_of_ipv4(frame),
+        0x86dd => kind_of_ipv6(frame),
+        _ => Kind::Other,
+    }
+}
+
+/// The kind of a frame with an IPv4 packet.
+fn kind_of_ipv4(frame: &[u8]) -> Kind
+    requires { 42 ≤ length frame.now }
+    ensures { result ≡ spec.kind_of_ipv4 frame.now }
+{
+    let message = 14 + usize::from(frame[14] % 16) * 4;
+    if frame[23] == 2 && octet_at(frame, message) == 0x11 {
+        return Kind::Query;
+    }
+    Kind::Packet {
+        sender: ipv4_at(frame, 26),
+    }
+}
+
+/// The kind of a frame with an IPv6 packet.
+fn kind_of_ipv6(frame: &[u8]) -> Kind
+    requires { 42 ≤ length frame.now }
+    ensures { result ≡ spec.kind_of_ipv6 frame.now }
+{
+    let sender = IpAddress::Ipv6(address_at(frame, 22));
+    let Some(message) = message_of(frame) else {
+        return Kind::Packet { sender };
+    };
+    match octet_at(frame, message) {
+        130 => Kind::Query,
+        134 => Kind::Router { sender },
+        135 => Kind::Neighbor {
+            sender,
+            target: None,
+        },
+        136 => Kind::Neighbor {
+            sender,
+            target: target_at(frame, message + 8),
+        },
+        _ => Kind::Packet { sender },
+    }
+}
+
+/// For whose hardware address a frame asks, if it is an ARP request (RFC 826) or a neighbour solicitation (RFC 4861 4.3).
+pub fn asked_in(frame: &[u8]) -> Option<IpAddress>
+    ensures { result ≡ spec.asked_in frame.now }
+{
+    if frame.len() < 42 {
+        return None;
+    }
+    match u16_at(frame, 12) {
+        0x0806 if frame[21] == 1 => Some(ipv4_at(frame, 38)),
+        0x86dd => solicited_in(frame),
+        _ => None,
+    }
+}
+
+/// For whose hardware address a frame with an IPv6 packet asks.
+fn solicited_in(frame: &[u8]) -> Option<IpAddress>
+    requires { 42 ≤ length frame.now }
+    ensures { result ≡ spec.solicited_at (spec.message_of frame.now) frame.now }
+{
+    let message = message_of(frame)?;
+    if octet_at(frame, message) == 135 {
+        target_at(frame, message + 8)
+    } else {
+        None
+    }
+}
+
+/// Where a frame with an IPv6 packet has a message of ICMPv6: behind the header, or behind a header of hop-by-hop options.
+pub(crate) fn message_of(frame: &[u8]) -> Option<usize>
+    requires { 42 ≤ length frame.now }
+    ensures { result ≡ spec.message_of frame.now }
+{
+    match frame[20] {
+        58 => Some(54),
+        0 if octet_at(frame, 54) == 58 => Some(62 + usize::from(octet_at(frame, 55)) * 8),
+        _ => None,
+    }
+}
+
+/// The address that a neighbour message is about, at an offset.
+fn target_at(frame: &[u8], at: usize) -> Option<IpAddress>
+    requires { at ≤ 4096 }
+    ensures { result ≡ spec.target_at frame.now at }
+{
+    if frame.len() < at + 16 {
+        return None;
+    }
+    Some(IpAddress::Ipv6(address_at(frame, at)))
+}
+
+/// The IPv4 address at an offset.
+fn ipv4_at(frame: &[u8], at: usize) -> IpAddress
+    requires { at + 4 ≤ length frame.now }
+    ensures { result ≡ spec.ipv4_at frame.now at }
+{
+    IpAddress::Ipv4(Ipv4Address {
+        bits: u32_at(frame, at),
+    })
+}
+
+/// The octet at an offset; 0 behind the last one.
+pub(crate) fn octet_at(frame: &[u8], at: usize) -> u8
+    ensures { result ≡ spec.octet_at frame.now at }
+{
+    match frame.get(at) {
+        Some(octet) => *octet,
+        None => 0,
+    }
+}

@@ -1,0 +1,44 @@
+//! What a guard promises, whatever frames come, each law as the contract of an empty function.
+ghost use Rattle.guard.specs.Laws.{FewNeighborsPass, FewDiscoveriesPass, FewQueriesPass, KnownArpPass, KnownPass, OthersPass, OwnAddressesStay, RoutersStay};
+
+/// Of ARP packets and neighbour messages of somebody that isn't known and wasn't asked for, so many pass from one instant to another:
+/// as many as the rate's depth, and one for each of its intervals. So a neighbour whom the host hears every second isn't evicted
+/// by them from four places, as long as that is two in a second.
+pub fn few_neighbors_pass()
+    ensures { FewNeighborsPass }
+{}
+
+/// Likewise of IP packets from somebody of an own network that isn't known, for whose answer the host would have to ask.
+pub fn few_discoveries_pass()
+    ensures { FewDiscoveriesPass }
+{}
+
+/// Likewise of queries of IGMP and MLD.
+pub fn few_queries_pass()
+    ensures { FewQueriesPass }
+{}
+
+/// A frame that is neither an ARP packet nor an IP packet passes.
+pub fn others_pass()
+    ensures { OthersPass }
+{}
+
+/// A packet of IPv4 other than IGMP passes, if its source isn't an own address, and is known or in no own network.
+pub fn known_pass()
+    ensures { KnownPass }
+{}
+
+/// An ARP packet of a known neighbour passes, if it doesn't claim an own address.
+pub fn known_arp_pass()
+    ensures { KnownArpPass }
+{}
+
+/// An ARP packet that claims an own address doesn't pass.
+pub fn own_addresses_stay()
+    ensures { OwnAddressesStay }
+{}
+
+/// After a router's advertisement passed as that of another one, the next other one waits for a minute.
+pub fn routers_stay()
+    ensures { RoutersStay }
+{}
