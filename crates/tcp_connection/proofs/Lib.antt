@@ -3,3 +3,4 @@ pub mod PartLemmas
 pub mod ArrivedLemmas
 pub mod BufferLemmas
 pub mod KeptLemmas
+pub mod GapLemmas

@@ -1,2 +1,4 @@
 pub mod Bounds
 pub mod Arrived
+pub mod Segments
+pub mod Asked

@@ -1,5 +1,14 @@
 //! One connection of TCP (RFC 9293), apart from the host that it belongs to.
 #![tactic(auto)]
 
+pub mod calls;
+pub mod connection;
+pub mod endings;
+pub mod getters;
+pub mod instants;
+pub mod opening;
 pub mod receive_buffer;
+pub mod reception;
+pub mod segment;
+pub mod states;
 pub mod transmission;

@@ -103,6 +103,32 @@ impl Transmission {
         })
     }
 
+    /// As before the handshake once more, with the same room. It takes no memory.
+    pub fn clear(&mut self, mss: u16)
+        ensures { self.new ≡ no_transmission self.old.sender.room mss }
+    {
+        let held = self.ring.limit() - self.ring.room();
+        self.ring.skip(held);
+        self.una = 1;
+        self.stop = None;
+        self.top = 1;
+        self.edge = 1;
+        self.nxt = 0;
+        self.told_edge = 1;
+        self.largest_window = 0;
+        self.wl1 = 0;
+        self.wl2 = 0;
+        self.scale = 0;
+        self.mss = mss;
+    }
+
+    /// How many octets are held: written, and not acknowledged.
+    pub fn held(&self) -> usize
+        ensures { result ≡ length self.now.sender.ring }
+    {
+        self.ring.limit() - self.ring.room()
+    }
+
     /// How much is on its way.
     pub fn flight(&self) -> u64
         ensures { result ≡ flight self.now }
@@ -282,8 +308,10 @@ impl Transmission {
     }
 
     /// The first position that isn't acknowledged.
+    #[tactic(auto, using(crate::proofs::TransmissionLemmas::una_bounded))]
     pub fn una(&self) -> u64
-        ensures { result ≡ self.now.sender.una }
+        ensures value { result ≡ self.now.sender.una }
+        ensures bounded { result ≤ 2 ^ 62 + 1 }
     {
         self.una
     }
