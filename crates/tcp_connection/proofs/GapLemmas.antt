@@ -9,7 +9,7 @@ use Rattle.tcp_machine.specs.Ring.{cells_from, cells_of, RingsStand}
 use Rattle.tcp_machine.specs.Receiving.{in_order}
 use Rattle.tcp_machine.specs.Arrivals.{is_any_held, has_gap}
 use Rattle.tcp_connection.specs.Arrived.{syn, has_arrived, IsArrived, IsFurthest, receiver_of}
-use Rattle.tcp_connection.proofs.ArrivedLemmas.{at_front, next_of, window_len, syn_alone}
+use Rattle.tcp_connection.proofs.ArrivedLemmas.{next_of, window_len, syn_alone}
 
 pub syn_furthest : IsFurthest 1 syn
 syn_furthest = record { begun = omega arith; reached = refl; last = λ p l. syn_alone p l }

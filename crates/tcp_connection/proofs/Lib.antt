@@ -4,3 +4,5 @@ pub mod ArrivedLemmas
 pub mod BufferLemmas
 pub mod KeptLemmas
 pub mod GapLemmas
+pub mod WindowLemmas
+pub mod ActionLemmas

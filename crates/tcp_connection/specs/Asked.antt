@@ -1,5 +1,5 @@
 -- What a host asks of a connection, besides its events.
-use Rattle.std.specs.Prelude.{ℕ, Bool, nat_lt, ◌&&◌, ◌||◌, length, is_none, None}
+use Rattle.std.specs.Prelude.{ℕ, Bool, nat_lt, ◌&&◌, ◌||◌, length, is_none}
 use Rattle.tcp_machine.specs.Connection.{Connection}
 use Rattle.tcp_machine.specs.States.{may_write, takes_octets}
 use Rattle.tcp_machine.specs.Calls.{taken, readable}

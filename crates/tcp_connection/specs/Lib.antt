@@ -2,3 +2,7 @@ pub mod Bounds
 pub mod Arrived
 pub mod Segments
 pub mod Asked
+pub mod Parts
+pub mod Pieces
+pub mod Actions
+pub mod Sent

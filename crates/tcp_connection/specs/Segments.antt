@@ -1,5 +1,6 @@
 -- Segments as the machine has them.
 use Rattle.std.specs.Prelude.{ℕ, List}
+use Rattle.tcp_machine.specs.Pieces.{Piece}
 use Rattle.tcp_machine.specs.Segments as machine
 use Rattle.tcp_connection.specs.declared.segment.Segment.{Segment}
 
@@ -15,3 +16,7 @@ segment_of s octets = record {
   octets = octets;
   options = record { mss = s.mss; scale = s.scale };
 }
+
+-- the piece that it carries, from a position on
+abbrev pub piece_of : ℕ → Segment → List ℕ → Piece
+piece_of start s octets = record { start = start; octets = octets; ends = s.fin }

@@ -9,7 +9,7 @@ ghost use Rattle.tcp_machine.specs.Arrivals as arrivals;
 use tcp_machine::timers::Owed;
 
 /// Later than any instant that is given: a span that ends there never ends.
-const NEVER: u64 = 1 << 63;
+pub(crate) const NEVER: u64 = 1 << 63;
 
 /// A span after an instant.
 pub fn later(now: u64, span: u64) -> u64

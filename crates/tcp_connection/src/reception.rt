@@ -165,6 +165,28 @@ impl Reception {
         self.receiver.consume(count);
     }
 
+    /// Whether a piece is acceptable (RFC 9293 3.10.7.4, first check).
+    pub fn is_acceptable(&self, start: u64, octets: &[u8], ends: bool) -> bool
+        requires start { start < 2 ^ 63 }
+        requires octets { length octets.now < 2 ^ 32 }
+        ensures { result ≡ receiving.is_acceptable self.now.receiver
+            (record { start = start; octets = octets.now; ends = ends }) }
+    {
+        let after = start + octets.len() as u64 + u64::from(ends);
+        if start < after {
+            self.is_in_window(start) || self.is_in_window(after - 1)
+        } else {
+            self.is_in_window(start) || start == self.receiver.expected()
+        }
+    }
+
+    // Whether a position is in the window: RCV.NXT =< position < RCV.NXT + RCV.WND.
+    fn is_in_window(&self, position: u64) -> bool
+        ensures { result ≡ receiving.is_in_window self.now.receiver position }
+    {
+        self.receiver.expected() <= position && position < self.receiver.edge()
+    }
+
     /// A piece arrives. Returns whether it was taken; it is left, and nothing changes, as [`ReceiveBuffer::take`] says.
     pub fn take(
         &mut self,
