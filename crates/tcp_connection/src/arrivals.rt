@@ -128,7 +128,9 @@ impl Connection {
         ensures { self.new ≡ arrivals.after_reset (record { start = start; octets = []; ends = false }) self.old }
     {
         if start != self.reception.expected() {
-            self.add_pending(Pending::Challenge);
+            if self.reception.is_in_window(start) {
+                self.add_pending(Pending::Challenge);
+            }
         } else if self.is_active && is_syn_received(self.state) {
             self.end(Some(Ending::Refused));
         } else {

@@ -53,7 +53,7 @@ impl Connection {
         ensures { self.new ≡ arrivals.aborted why self.old }
     {
         let is_known = is_synchronized(self.state) || is_syn_received(self.state);
-        let number = number_at(self.local, self.transmission.nxt());
+        let number = number_at(self.local, self.transmission.empty_position());
         self.end(Some(why));
         if is_known {
             self.pending = Pending::Reset(number);

@@ -29,9 +29,9 @@ pub enum Action {
     SendAgain(Part),
     /// A probe of a closed window.
     SendProbe(Part),
-    /// An empty segment before the next position.
+    /// An empty segment before the position of an acknowledgement alone.
     SendKeepAlive,
-    /// An empty segment at the next position.
+    /// An acknowledgement alone, after all that was sent.
     SendAck,
 }
 
@@ -199,8 +199,10 @@ impl Connection {
                     ..self.header_at(part.start)
                 }
             }
-            Action::SendKeepAlive => self.header_at(self.transmission.nxt().saturating_sub(1)),
-            Action::SendAck => self.header_at(self.transmission.nxt()),
+            Action::SendKeepAlive => {
+                self.header_at(self.transmission.empty_position().saturating_sub(1))
+            }
+            Action::SendAck => self.header_at(self.transmission.empty_position()),
         }
     }
 

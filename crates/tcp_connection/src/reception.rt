@@ -176,12 +176,14 @@ impl Reception {
         if start < after {
             self.is_in_window(start) || self.is_in_window(after - 1)
         } else {
-            self.is_in_window(start) || start == self.receiver.expected()
+            self.is_in_window(start)
+                || start == self.receiver.edge()
+                || start == self.receiver.expected()
         }
     }
 
-    // Whether a position is in the window: RCV.NXT =< position < RCV.NXT + RCV.WND.
-    fn is_in_window(&self, position: u64) -> bool
+    /// Whether a position is in the window: RCV.NXT =< position < RCV.NXT + RCV.WND.
+    pub fn is_in_window(&self, position: u64) -> bool
         ensures { result ≡ receiving.is_in_window self.now.receiver position }
     {
         self.receiver.expected() <= position && position < self.receiver.edge()

@@ -2,7 +2,7 @@
 ghost use Rattle.std.specs.Prelude.{◌≡◌, ◌+◌, ◌-◌, ◌*◌, ◌≤◌, ◌<◌, ◌^◌, min, max, ◌++◌, length, take, IfOk, None, true, false};
 ghost use Rattle.tcp_machine.specs.Sending.{after_position, after_close, after_send, MaySend};
 ghost use Rattle.tcp_machine.specs.Windows.{tells_window, after_window};
-ghost use Rattle.tcp_machine.specs.Acknowledgements.{flight, is_believed, is_end_acknowledged, is_duplicate};
+ghost use Rattle.tcp_machine.specs.Acknowledgements.{flight, empty_position, is_believed, is_end_acknowledged, is_duplicate};
 ghost use Rattle.tcp_machine.specs.Opening.{no_transmission};
 ghost use Rattle.tcp_machine.specs.Calls.{room_to_write};
 ghost use Rattle.tcp_machine.specs.Timers.{has_unsent, is_window_closed};
@@ -341,6 +341,14 @@ impl Transmission {
         ensures bounded { result ≤ 2 ^ 62 + 1 }
     {
         self.top
+    }
+
+    /// Where an empty segment stands: after all that was sent within the peer's window.
+    #[tactic(auto, using(crate::proofs::TransmissionLemmas::bounded))]
+    pub fn empty_position(&self) -> u64
+        ensures { result ≡ empty_position self.now }
+    {
+        self.nxt.max(self.top.min(self.edge))
     }
 
     /// The position of the end, once the program closed.
