@@ -1,8 +1,9 @@
 -- Challenges are a second apart, ten by ten.
-use Rattle.std.proofs.Common.{◌≡◌, ◌+◌, ◌≤◌, ◌<◌, ℕ, zero, suc, Bool, true, false, List, [], ◌∷◌, ◌++◌, length, drop, get_or, refl, sym, ap, ◌∙◌, subst, arith, append_assoc}
+use Rattle.std.proofs.Common.{◌≡◌, ◌+◌, ◌≤◌, ◌<◌, ℕ, zero, suc, Bool, true, false, List, []}
+use Rattle.std.proofs.Common.{◌∷◌, ◌++◌, length, drop, get_or, refl, sym, ap, ◌∙◌, subst, arith, append_assoc}
 use Rattle.std.specs.Prelude.{nat_le, nat_lt, if◌then◌else◌}
 use Rattle.std.proofs.lemmas.Bool.Decides.{nat_tests}
-use Rattle.std.proofs.lemmas.List.{length-append, get_or_at}
+use Rattle.std.proofs.lemmas.List.{length-append, length-drop, get_or_at}
 use Rattle.tcp_host.specs.Challenges.{may_send, with_sent, sent_at, second}
 
 -- of eleven in a row the last is a second or more after the first
@@ -48,7 +49,7 @@ allowed now sent later l may rest = by (nat_lt (length sent) 10) refl where
       let old : nat_le (get_or sent 0 0 + second) now ≡ true =
       sym (ap (λ (b : Bool). if b then true else nat_le (get_or sent 0 0 + second) now) e) ∙ may in
       let o : get_or sent 0 0 + second ≤ now = grind (arith, nat_tests, old) in
-      let left = Rattle.std.proofs.lemmas.List.length-drop 1 sent in
+      let left = length-drop 1 sent in
       let n = length-append (drop 1 sent) (now ∷ []) in
       subst Goal (sym e)
       (after_ten now sent (sent_at (drop 1 sent ++ now ∷ []) later) full o (rest (drop 1 sent ++ now ∷ []) (omega (arith, n, left, full))))

@@ -1,8 +1,8 @@
-use Rattle.std.proofs.Common.{◌≡◌, ◌+◌, ◌/◌, ◌≤◌, ◌<◌, ℕ, length, drop}
+use Rattle.std.proofs.Common.{◌≡◌, ◌+◌, ◌/◌, ◌≤◌, ◌<◌, ℕ, List, length, drop}
 use Rattle.tcp_host.specs.Alarms.{IsTournamentBut}
 use Rattle.tcp_host.proofs.alarms.settle.Given as goal
 
-pub record Settling (places node : ℕ) (nodes first : Rattle.std.proofs.Common.List ℕ) : Type 0 where
+pub record Settling (places node : ℕ) (nodes first : List ℕ) : Type 0 where
   pub len : length nodes ≡ places + places
   pub some : 1 ≤ node
   pub within : node < places + places
